@@ -1,0 +1,10 @@
+pub mod Graph
+pub mod Reach
+pub mod State
+pub mod Placement
+pub mod Pause
+pub mod Sweep
+pub mod Step
+pub mod Lawful
+pub mod Report
+pub mod Script
