@@ -5,7 +5,7 @@
 //! or mark lists: those belong to the crates above, which prove that what they do is a step.
 //!
 //! The parts: `Kind` and `Value` (fields and what they hold), `Command`, `Want`, `Line` and `Refusal` (what a
-//! script asks and what a report answers), `Phase`. The definitions stand in `specs/`, to be read in this order:
+//! script asks and what a report answers), `Phase`, `NoMemory`. The definitions stand in `specs/`, to be read in this order:
 //! `Graph`, `Reach`, `State`, `Placement`, `Pause`, `Sweep`, `Step`, `Lawful`, `Report`, `Script`.
 //!
 //! What is proved: reach is closed, holds the roots and lies in every closed set that holds them.
@@ -17,11 +17,13 @@
 mod command;
 mod graph;
 mod line;
+mod memory;
 mod phase;
 mod reach;
 
 pub use command::{Command, Want};
 pub use graph::{Kind, Value};
 pub use line::{Line, Refusal};
+pub use memory::NoMemory;
 pub use phase::Phase;
 pub use reach::reach_is_least;

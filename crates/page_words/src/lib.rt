@@ -1,13 +1,27 @@
-// A library with one function.
+//! # The heap's words
+//!
+//! What it is: the words of a heap, with a start bit for each and a stop word, and the mutator's seat, through which
+//! each of them is read and written. Objects are published, marked, claimed and retracted here, one word at a time.
+//!
+//! The parts: `Words` (what threads would share: so far the number of words), `MutatorSeat` (the words, and the view
+//! of them that contracts see: bodies, filled words, marked, traced and dead places), and the calls on both.
+//!
+//! | address | word |
+//! |---|---|
+//! | below the count | the heap's words; an object is a header, a serial number, and its fields |
+//! | from the count on | a start bit for each word of the heap, 64 to a word, the lowest bit first |
+//! | after these | the stop word: 0 while marking goes on |
+//!
+//! What is proved: each call answers the word that the view tells, and changes the view as its clause says. The words
+//! and the view belong together after each call: headers, serial numbers, fields, filled words, start bits and the stop
+//! word match, and bodies lie apart.
+//!
+//! What is only tested or not said: a word that belongs to no object and was not filled may be anything.
 #![tactic(auto)]
 
-ghost use Rattle.std.specs.Prelude.{◌≡◌};
-ghost use Rattle.page_words.specs.Echo.{echo_of};
+mod mutator;
+mod views;
+mod words;
 
-// The `ensures` clause is the contract: what `echo` returns is `echo_of` of its argument, a definition
-// in `specs/Echo.antt`, which a caller's clause can cite too.
-pub fn echo(x: usize) -> usize
-    ensures { result ≡ echo_of x }
-{
-    x
-}
+pub use mutator::MutatorSeat;
+pub use words::Words;

@@ -1,0 +1,140 @@
+-- What the mutator's seat knows of the words, and how each call changes that.
+use Rattle.std.specs.Prelude.{◌≡◌, ℕ, ◌+◌, ◌*◌, ◌/◌, ◌%◌, ◌^◌, ◌<◌, ◌≤◌, ◌↔◌, ◌==◌, ◌||◌, ◌&&◌, not, nat_le, nat_lt, Bool, true, false, List, [], ◌∷◌, ◌++◌, length, map, filter, if◌then◌else◌, slice_index, Contains, All}
+use Rattle.std.specs.List.{list_any}
+use Rattle.page_words.specs.Bodies.{Body, end_of, IsPlace, IsInBody, IsFieldWord, IsReference, with_word, IsWhole}
+
+-- a word that was filled outside the bodies
+pub record Filled : Type 0 where
+  pub address : ℕ
+  pub word : ℕ
+
+-- the view: the number of the heap's words, whether marking goes on, the published bodies in the order in which they
+-- were published, the filled words, and the places that are marked, traced and dead
+pub record SeatView : Type 0 where
+  pub count : ℕ
+  pub on : Bool
+  pub bodies : List Body
+  pub filled : List Filled
+  pub marked : List ℕ
+  pub traced : List ℕ
+  pub dead : List ℕ
+
+abbrev pub holds : List ℕ → ℕ → Bool
+holds places a = list_any (λ p. p == a) places
+
+abbrev pub without : List ℕ → ℕ → List ℕ
+without places a = filter (λ p. not (p == a)) places
+
+-- ---- the heap's words, then a bit for each of them, 64 to a word, then the stop word
+
+abbrev pub bitmap_at : ℕ → ℕ → ℕ
+bitmap_at count a = count + a / 64
+
+abbrev pub stop_at : ℕ → ℕ
+stop_at count = count + count / 64
+
+abbrev pub bit_of : Bool → ℕ
+bit_of b = if b then 1 else 0
+
+-- bit 0 live, bit 1 mark, bit 2 traced, bits 3 to 16 the type, bits 17 to 42 the size
+abbrev pub header_word : Bool → Bool → Bool → ℕ → ℕ → ℕ
+header_word live mark traced ty size = bit_of live + 2 * bit_of mark + 4 * bit_of traced + 8 * ty + 131072 * size
+
+abbrev pub header_of : SeatView → Body → ℕ
+header_of v b = header_word true (holds v.marked b.place) (holds v.traced b.place) b.ty b.size
+
+-- w is the word at a, as far as the view tells
+pub record IsWordAt (v : SeatView) (a w : ℕ) : Type 0 where
+  pub header : (b : Body) → Contains v.bodies b → b.place ≡ a → w ≡ header_of v b
+  pub serial : (b : Body) → Contains v.bodies b → b.place + 1 ≡ a → w ≡ b.serial
+  pub field : (b : Body) (i : ℕ) → Contains v.bodies b → i < length b.fields → b.place + 2 + i ≡ a → w ≡ slice_index b.fields i
+  pub filled : (f : Filled) → Contains v.filled f → f.address ≡ a → w ≡ f.word
+  pub start : (p : ℕ) → p < v.count → bitmap_at v.count p ≡ a → (w / 2 ^ (p % 64) % 2 ≡ 1) ↔ IsPlace v.bodies p
+
+-- ---- what the calls change
+
+-- the word at a was filled, in place of an older one
+abbrev pub filled_with : SeatView → ℕ → ℕ → SeatView
+filled_with v a w =
+    record v { filled = record { address = a; word = w } ∷ filter (λ f. not (f.address == a)) v.filled }
+
+-- the field word at a was stored
+abbrev pub stored : SeatView → ℕ → ℕ → SeatView
+stored v a w = record v { bodies = map (with_word a w) v.bodies }
+
+-- the body's words were filled: a header that is live, unmarked and untraced, the serial number, and null fields
+pub record IsReady (v : SeatView) (b : Body) : Type 0 where
+  pub header : Contains v.filled (record { address = b.place; word = header_word true false false b.ty b.size })
+  pub serial : Contains v.filled (record { address = b.place + 1; word = b.serial })
+  pub fields : (i : ℕ) → i < length b.fields → Contains v.filled (record { address = b.place + 2 + i; word = 0 })
+  pub null : All (λ w. w ≡ 0) b.fields
+  pub whole : IsWhole v.count b
+  pub apart : (a : ℕ) → b.place ≤ a → a < end_of b → IsInBody v.bodies a → ⊥
+
+-- the body was published, and its words are no longer filled ones
+abbrev pub published : SeatView → Body → SeatView
+published v b =
+    record v {
+      bodies = v.bodies ++ b ∷ [];
+      filled = filter (λ f. not (nat_le b.place f.address && nat_lt f.address (end_of b))) v.filled;
+    }
+
+-- the dead body at a is no longer there
+abbrev pub retracted : SeatView → ℕ → SeatView
+retracted v a = record v { bodies = filter (λ b. not (b.place == a)) v.bodies; dead = without v.dead a }
+
+abbrev pub marked_at : SeatView → ℕ → SeatView
+marked_at v a = record v { marked = if holds v.marked a then v.marked else v.marked ++ a ∷ [] }
+
+-- the body at a is marked and not yet traced
+abbrev pub is_grey : SeatView → ℕ → Bool
+is_grey v a = holds v.marked a && not (holds v.traced a)
+
+abbrev pub claimed_at : SeatView → ℕ → SeatView
+claimed_at v a = record v { traced = if is_grey v a then v.traced ++ a ∷ [] else v.traced }
+
+abbrev pub unmarked_at : SeatView → ℕ → SeatView
+unmarked_at v a = record v { marked = without v.marked a; traced = without v.traced a }
+
+-- nothing is marked, traced or dead
+pub record IsQuiet (v : SeatView) : Type 0 where
+  pub off : v.on ≡ false
+  pub marked : v.marked ≡ []
+  pub traced : v.traced ≡ []
+  pub dead : v.dead ≡ []
+
+abbrev pub begun : SeatView → SeatView
+begun v = record v { on = true }
+
+-- the places of the bodies that are not marked
+abbrev pub unmarked_places : SeatView → List ℕ
+unmarked_places v = filter (λ a. not (holds v.marked a)) (map (λ b. b.place) v.bodies)
+
+-- marking ends, and what is not marked is dead
+abbrev pub ended : SeatView → SeatView
+ended v = record v { on = false; dead = unmarked_places v }
+
+-- the stop word was set: to stop ends marking, and not to stop begins it
+abbrev pub stop_set : SeatView → Bool → SeatView
+stop_set v true = ended v
+stop_set v false = begun v
+
+-- marking begins from a quiet heap, and ends while it goes on
+abbrev pub MaySetStop : SeatView → Bool → Type 0
+MaySetStop v true = v.on ≡ true
+MaySetStop v false = IsQuiet v
+
+-- the view of new words: all are 0 and nothing is published
+abbrev pub empty_view : ℕ → SeatView
+empty_view count = record { count = count; on = false; bodies = []; filled = []; marked = []; traced = []; dead = [] }
+
+-- what is true of every seat's view
+pub record IsView (v : SeatView) : Type 0 where
+  pub whole : All (IsWhole v.count) v.bodies
+  pub apart :
+      (b c : Body) (a : ℕ) → Contains v.bodies b → Contains v.bodies c → b.place ≤ a → a < end_of b → c.place ≤ a → a < end_of c
+      → b ≡ c
+  pub filled_outside : (f : Filled) → Contains v.filled f → (f.address < v.count) × (IsInBody v.bodies f.address → ⊥)
+  pub marked_are_bodies : (a : ℕ) → holds v.marked a ≡ true → IsPlace v.bodies a
+  pub traced_are_marked : (a : ℕ) → holds v.traced a ≡ true → holds v.marked a ≡ true
+  pub dead_are_unmarked : (a : ℕ) → holds v.dead a ≡ true → IsPlace v.bodies a × (holds v.marked a ≡ false)

@@ -1,0 +1,36 @@
+// The mutator's seat: the words, and the view of them that contracts see.
+
+ghost use Rattle.page_words.specs.Seat.{IsView};
+
+use crate::views::SeatViews;
+use ghost_values::GhostValue;
+use std::marker::Model;
+
+/// The right of the one mutator to read and write the words. It stays on the mutator's thread.
+#[derive(Drop)]
+pub struct MutatorSeat {
+    pub(crate) words: Vec<u64>,
+    pub(crate) view: GhostValue<SeatViews>,
+}
+
+impl Model for MutatorSeat {
+    ghost use Rattle.page_words.specs.Seat.{SeatView};
+
+    ghost Value = { SeatView };
+
+    ghost use Rattle.page_words.specs.Ties.{Ties};
+
+    ghost view = { λ s. s.view.value };
+
+    ghost invariant = { λ s. Ties s.words.items s.view.value };
+}
+
+impl MutatorSeat {
+    /// What is true of every view: bodies lie apart and within the heap, and what is marked, traced or dead is a body.
+    /// Whoever calls this has the law. It reads nothing.
+    pub fn bodies_lie_apart(&self)
+        ensures { IsView self.now }
+    {
+        let _words = &self.words;
+    }
+}

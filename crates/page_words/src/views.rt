@@ -1,0 +1,92 @@
+// The view of a seat, and how each call changes it. All of it is for contracts alone.
+
+ghost use Rattle.std.specs.Prelude.{◌≡◌, Bool};
+ghost use Rattle.page_words.specs.Bodies.{Body};
+ghost use Rattle.page_words.specs.Seat.{empty_view, filled_with, stored, published, retracted, marked_at, claimed_at, unmarked_at, stop_set};
+
+use ghost_values::GhostValue;
+use std::marker::Model;
+
+/// A view. It is never made.
+#[derive(Drop)]
+pub struct SeatViews {
+    none: u8,
+}
+
+impl Model for SeatViews {
+    ghost use Rattle.page_words.specs.Seat.{SeatView, empty_view};
+
+    ghost Value = { SeatView };
+
+    ghost view = { λ s. empty_view s.none };
+}
+
+/// What a change looks at: the view, an address, and a word.
+#[derive(Drop)]
+struct About<'a> {
+    view: &'a GhostValue<SeatViews>,
+    a: u32,
+    w: u64,
+}
+
+pub fn empty(count: u32) -> GhostValue<SeatViews>
+    ensures { result.value ≡ empty_view count }
+{
+    GhostValue::chosen(&count)
+}
+
+pub fn filled(view: &GhostValue<SeatViews>, a: u32, w: u64) -> GhostValue<SeatViews>
+    ensures { result.value ≡ filled_with view.now.value a w }
+{
+    GhostValue::chosen(&About { view, a, w })
+}
+
+pub fn stored(view: &GhostValue<SeatViews>, a: u32, w: u64) -> GhostValue<SeatViews>
+    ensures { result.value ≡ stored view.now.value a w }
+{
+    GhostValue::chosen(&About { view, a, w })
+}
+
+pub fn published(view: &GhostValue<SeatViews>) -> GhostValue<SeatViews>
+    ghost body: { Body }
+    ensures { result.value ≡ published view.now.value body }
+{
+    GhostValue::chosen(&About { view, a: 0, w: 0 })
+}
+
+pub fn retracted(view: &GhostValue<SeatViews>, a: u32) -> GhostValue<SeatViews>
+    ensures { result.value ≡ retracted view.now.value a }
+{
+    GhostValue::chosen(&About { view, a, w: 0 })
+}
+
+pub fn marked(view: &GhostValue<SeatViews>, a: u32) -> GhostValue<SeatViews>
+    ensures { result.value ≡ marked_at view.now.value a }
+{
+    GhostValue::chosen(&About { view, a, w: 0 })
+}
+
+pub fn claimed(view: &GhostValue<SeatViews>, a: u32) -> GhostValue<SeatViews>
+    ensures { result.value ≡ claimed_at view.now.value a }
+{
+    GhostValue::chosen(&About { view, a, w: 0 })
+}
+
+pub fn unmarked(view: &GhostValue<SeatViews>, a: u32) -> GhostValue<SeatViews>
+    ensures { result.value ≡ unmarked_at view.now.value a }
+{
+    GhostValue::chosen(&About { view, a, w: 0 })
+}
+
+/// What setting the stop word looks at.
+#[derive(Drop)]
+struct AboutStop<'a> {
+    view: &'a GhostValue<SeatViews>,
+    on: bool,
+}
+
+pub fn stop_set(view: &GhostValue<SeatViews>, on: bool) -> GhostValue<SeatViews>
+    ensures { result.value ≡ stop_set view.now.value on }
+{
+    GhostValue::chosen(&AboutStop { view, on })
+}

@@ -1,0 +1,168 @@
+// The calls on words and seat. Each reads or writes one word, or sets a bit of one.
+
+ghost use Rattle.std.specs.Prelude.{◌≡◌, ◌≤◌, ◌<◌, ◌&&◌, not, true, false, Contains, IfOk};
+ghost use Rattle.page_words.specs.Bodies.{Body, IsPlace, IsInBody, IsFieldWord, IsReference};
+ghost use Rattle.page_words.specs.Seat.{empty_view, holds, stop_at, header_word, IsWordAt, IsReady, MaySetStop, filled_with, stored, published, retracted, marked_at, claimed_at, unmarked_at, is_grey, stop_set};
+ghost use Rattle.page_words.specs.Ties.{IsCount};
+
+use crate::mutator::MutatorSeat;
+use crate::views;
+use gc_graph::NoMemory;
+use std::alloc::Global;
+use std::marker::Model;
+
+const TRACED: u64 = 4;
+
+const MARKED_AND_TRACED: u64 = 6;
+
+/// The words that markers and mutator share. So far the mutator's seat holds them, and this tells how many there are.
+#[derive(Drop)]
+pub struct Words {
+    count: u32,
+}
+
+impl Model for Words {
+    ghost use Rattle.std.specs.Prelude.{ℕ};
+    ghost use Rattle.page_words.specs.Ties.{IsCount};
+
+    ghost Value = { ℕ };
+
+    ghost view = { λ w. w.count };
+
+    ghost invariant = { λ w. IsCount w.count };
+}
+
+impl Words {
+    /// The words of a heap, all 0, and the one seat of its mutator. Want of memory is free.
+    pub fn new(alloc: Global, count: u32) -> Result<(Words, MutatorSeat), NoMemory>
+        requires { IsCount count }
+        ensures words { IfOk result (λ made. made.0 ≡ count) }
+        ensures view { IfOk result (λ made. made.1 ≡ empty_view count) }
+    {
+        let length = count as usize + count as usize / 64 + 1;
+        let mut words = vec![in alloc; 0u64; length]?;
+        words[length - 1] = 1;
+        let view = views::empty(count);
+        Ok((Words { count }, MutatorSeat { words, view }))
+    }
+
+    /// How many words the heap has.
+    pub fn count(&self) -> u32
+        ensures count { result ≡ self.now }
+        ensures valid { IsCount self.now }
+    {
+        self.count
+    }
+
+    /// The word at an address of the heap, of the bitmap, or of the stop word.
+    pub fn load(&self, seat: &mut MutatorSeat, a: u32) -> u64
+        requires heap { seat.old.count ≡ self.now }
+        requires address { a ≤ stop_at seat.old.count }
+        ensures word { IsWordAt seat.old a result }
+        ensures view { seat.new ≡ seat.old }
+    {
+        seat.words[a as usize]
+    }
+
+    /// Writes a word that belongs to no object.
+    pub fn fill(&self, seat: &mut MutatorSeat, a: u32, w: u64)
+        requires heap { seat.old.count ≡ self.now }
+        requires address { a < seat.old.count }
+        requires outside { IsInBody seat.old.bodies a → ⊥ }
+        ensures { seat.new ≡ filled_with seat.old a w }
+    {
+        seat.words[a as usize] = w;
+        seat.view = views::filled(&seat.view, a, w);
+    }
+
+    /// Writes a reference into a field word of an object.
+    pub fn store(&self, seat: &mut MutatorSeat, a: u32, w: u64)
+        requires heap { seat.old.count ≡ self.now }
+        requires field { IsFieldWord seat.old.bodies a }
+        requires reference { IsReference seat.old.bodies w }
+        ensures { seat.new ≡ stored seat.old a w }
+    {
+        seat.words[a as usize] = w;
+        seat.view = views::stored(&seat.view, a, w);
+    }
+
+    /// Sets the start bit of an object whose words were filled.
+    pub fn publish(&self, seat: &mut MutatorSeat, a: u32)
+        ghost body: { Body }
+        requires heap { seat.old.count ≡ self.now }
+        requires place { body.place ≡ a }
+        requires ready { IsReady seat.old body }
+        ensures { seat.new ≡ published seat.old body }
+    {
+        let at = (self.count + a / 64) as usize;
+        seat.words[at] |= 1u64 << (a % 64);
+        seat.view = views::published(&seat.view);
+    }
+
+    /// Clears the start bit of a dead object, while no marking goes on.
+    pub fn retract(&self, seat: &mut MutatorSeat, a: u32)
+        requires heap { seat.old.count ≡ self.now }
+        requires off { seat.old.on ≡ false }
+        requires dead { holds seat.old.dead a ≡ true }
+        ensures { seat.new ≡ retracted seat.old a }
+    {
+        let at = (self.count + a / 64) as usize;
+        seat.words[at] &= !(1u64 << (a % 64));
+        seat.view = views::retracted(&seat.view, a);
+    }
+
+    /// Marks an object while marking goes on. True where this call set the mark.
+    pub fn mark(&self, seat: &mut MutatorSeat, a: u32) -> bool
+        requires heap { seat.old.count ≡ self.now }
+        requires on { seat.old.on ≡ true }
+        requires place { IsPlace seat.old.bodies a }
+        ensures fresh { result ≡ not (holds seat.old.marked a) }
+        ensures view { seat.new ≡ marked_at seat.old a }
+    {
+        let header = seat.words[a as usize];
+        seat.words[a as usize] = header | 2;
+        seat.view = views::marked(&seat.view, a);
+        header & 2 == 0
+    }
+
+    /// Claims a marked object for tracing. `header` is its header word with the mark and without the traced bit. True
+    /// where the object was marked and not yet traced; this call has then set the traced bit.
+    pub fn claim(&self, seat: &mut MutatorSeat, a: u32, header: u64) -> bool
+        requires heap { seat.old.count ≡ self.now }
+        requires on { seat.old.on ≡ true }
+        requires place { IsPlace seat.old.bodies a }
+        requires header { (b : Body) → Contains seat.old.bodies b → b.place ≡ a → header ≡ header_word true true false b.ty b.size }
+        ensures grey { result ≡ is_grey seat.old a }
+        ensures view { seat.new ≡ claimed_at seat.old a }
+    {
+        let found = seat.words[a as usize] == header;
+        if found {
+            seat.words[a as usize] = header | TRACED;
+        }
+        seat.view = views::claimed(&seat.view, a);
+        found
+    }
+
+    /// Clears the mark and the traced bit of an object, while no marking goes on.
+    pub fn unmark(&self, seat: &mut MutatorSeat, a: u32)
+        requires heap { seat.old.count ≡ self.now }
+        requires off { seat.old.on ≡ false }
+        requires place { IsPlace seat.old.bodies a }
+        ensures { seat.new ≡ unmarked_at seat.old a }
+    {
+        let header = seat.words[a as usize];
+        seat.words[a as usize] = header & !MARKED_AND_TRACED;
+        seat.view = views::unmarked(&seat.view, a);
+    }
+
+    /// Sets the stop word: `false` begins marking on a quiet heap, `true` ends it, and what is not marked is then dead.
+    pub fn set_stop(&self, seat: &mut MutatorSeat, on: bool)
+        requires heap { seat.old.count ≡ self.now }
+        requires allowed { MaySetStop seat.old on }
+        ensures { seat.new ≡ stop_set seat.old on }
+    {
+        let at = (self.count + self.count / 64) as usize;
+        seat.words[at] = u64::from(on);
+        seat.view = views::stop_set(&seat.view, on);
+    }
+}
