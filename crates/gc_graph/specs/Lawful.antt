@@ -3,6 +3,8 @@ use Rattle.std.specs.Prelude.{◌≡◌, ℕ, ◌<◌, List, [], ◌∷◌, ⊤}
 use Rattle.gc_graph.specs.declared.command.Command.{Command}
 use Rattle.gc_graph.specs.declared.command.Command.TheVariants as C
 use Rattle.gc_graph.specs.declared.line.Line.{Line}
+use Rattle.gc_graph.specs.declared.phase.Phase.{Phase}
+use Rattle.gc_graph.specs.declared.phase.Phase.TheVariants.{Idle}
 use Rattle.gc_graph.specs.declared.line.Line.TheVariants as L
 use Rattle.gc_graph.specs.State.{Setup, State, empty_state, objects_of, used_of}
 use Rattle.gc_graph.specs.Placement.{extents_of, IsUsedPages}
@@ -30,7 +32,17 @@ IsAllowed types (C.Drop p) = p < 256
 IsAllowed types (C.GcNow want) = ⊤
 IsAllowed types C.SweepAll = ⊤
 
+-- a new object wants all pages swept
+abbrev pub IsTimely : Phase → Command → Type 0
+IsTimely phase (C.New p t e) = phase ≡ Idle
+IsTimely phase (C.Set p f q) = ⊤
+IsTimely phase (C.SetNull p f) = ⊤
+IsTimely phase (C.Get p f q) = ⊤
+IsTimely phase (C.Drop p) = ⊤
+IsTimely phase (C.GcNow want) = ⊤
+IsTimely phase C.SweepAll = ⊤
+
 -- the last line of a report counts what is not finalised: objects, their words, and the pages that hold one
 abbrev pub IsEndLine : Setup → State → Line → Type 0
 IsEndLine setup s line =
-    (pages : ℕ) × IsUsedPages setup (extents_of s.nodes) pages × (line ≡ L.End (objects_of s.nodes) (used_of s.nodes) pages)
+    (pages : ℕ) × IsUsedPages setup.shape (extents_of s.nodes) pages × (line ≡ L.End (objects_of s.nodes) (used_of s.nodes) pages)

@@ -1,6 +1,7 @@
 pub mod Graph
 pub mod Reach
 pub mod State
+pub mod Valid
 pub mod Placement
 pub mod Pause
 pub mod Sweep

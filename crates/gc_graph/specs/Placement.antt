@@ -1,6 +1,6 @@
 -- Where a new object goes.
 use Rattle.std.specs.Prelude.{◌≡◌, ◌⊎◌, ℕ, ◌+◌, ◌*◌, ◌/◌, ◌<◌, ◌≤◌, nat_lt, nat_le, Bool, true, false, List, [], ◌∷◌, length, Option, Some, None, if◌then◌else◌, Contains, slice_index_or, count_by}
-use Rattle.gc_graph.specs.State.{Setup, Node, is_there, size_of}
+use Rattle.gc_graph.specs.State.{Shape, Node, is_there, size_of}
 
 -- the words of an object: the address of the first, and how many
 pub record Extent : Type 0 where
@@ -39,21 +39,21 @@ pub record IsRun (page_words : ℕ) (extents : List Extent) (size page a : ℕ) 
   pub free : (x : ℕ) → a ≤ x → x < a + size → IsTaken extents x → ⊥
 
 -- an object of the size fits at a, in a page of its bucket
-abbrev pub Fits : Setup → List Extent → ℕ → ℕ → Type 0
-Fits setup extents size a = (page : ℕ) × (page < setup.pages) × IsRun setup.page_words extents size page a
+abbrev pub Fits : Shape → List Extent → ℕ → ℕ → Type 0
+Fits shape extents size a = (page : ℕ) × (page < shape.pages) × IsRun shape.page_words extents size page a
 
 -- some object has a word in the page
-abbrev pub UsesPage : Setup → List Extent → ℕ → Type 0
-UsesPage setup extents page =
-    (a : ℕ) × (page * setup.page_words ≤ a) × (a < (page + 1) * setup.page_words) × IsTaken extents a
+abbrev pub UsesPage : Shape → List Extent → ℕ → Type 0
+UsesPage shape extents page =
+    (a : ℕ) × (page * shape.page_words ≤ a) × (a < (page + 1) * shape.page_words) × IsTaken extents a
 
-abbrev pub IsEmptyPage : Setup → List Extent → ℕ → Type 0
-IsEmptyPage setup extents page = UsesPage setup extents page → ⊥
+abbrev pub IsEmptyPage : Shape → List Extent → ℕ → Type 0
+IsEmptyPage shape extents page = UsesPage shape extents page → ⊥
 
 -- a is the first word of a page that holds no object
-abbrev pub StartsEmptyPage : Setup → List Extent → ℕ → Type 0
-StartsEmptyPage setup extents a =
-    (page : ℕ) × (page < setup.pages) × (a ≡ page * setup.page_words) × IsEmptyPage setup extents page
+abbrev pub StartsEmptyPage : Shape → List Extent → ℕ → Type 0
+StartsEmptyPage shape extents a =
+    (page : ℕ) × (page < shape.pages) × (a ≡ page * shape.page_words) × IsEmptyPage shape extents page
 
 abbrev pub IsLowest : (ℕ → Type 0) → ℕ → Type 0
 IsLowest P a = P a × ((b : ℕ) → b < a → P b → ⊥)
@@ -63,17 +63,17 @@ IsNowhere P = (a : ℕ) → P a → ⊥
 
 -- the place of a new object that is at most half a page, where all pages are swept: the lowest address at which it
 -- fits in a page of its bucket; else the first word of the lowest empty page; else none
-abbrev pub IsPlaceFor : Setup → List Extent → ℕ → Option ℕ → Type 0
-IsPlaceFor setup extents size (Some a) =
-    IsLowest (Fits setup extents size) a
-    ⊎ (IsNowhere (Fits setup extents size) × IsLowest (StartsEmptyPage setup extents) a)
-IsPlaceFor setup extents size None =
-    IsNowhere (Fits setup extents size) × IsNowhere (StartsEmptyPage setup extents)
+abbrev pub IsPlaceFor : Shape → List Extent → ℕ → Option ℕ → Type 0
+IsPlaceFor shape extents size (Some a) =
+    IsLowest (Fits shape extents size) a
+    ⊎ (IsNowhere (Fits shape extents size) × IsLowest (StartsEmptyPage shape extents) a)
+IsPlaceFor shape extents size None =
+    IsNowhere (Fits shape extents size) × IsNowhere (StartsEmptyPage shape extents)
 
 -- n pages hold a word of an object: a flag for each page tells whether it does, and n flags are set
-pub record IsUsedPages (setup : Setup) (extents : List Extent) (n : ℕ) : Type 0 where
+pub record IsUsedPages (shape : Shape) (extents : List Extent) (n : ℕ) : Type 0 where
   pub flags : List Bool
-  pub whole : length flags ≡ setup.pages
-  pub used : (page : ℕ) → slice_index_or flags page false ≡ true → UsesPage setup extents page
-  pub empty : (page : ℕ) → page < setup.pages → slice_index_or flags page false ≡ false → IsEmptyPage setup extents page
+  pub whole : length flags ≡ shape.pages
+  pub used : (page : ℕ) → slice_index_or flags page false ≡ true → UsesPage shape extents page
+  pub empty : (page : ℕ) → page < shape.pages → slice_index_or flags page false ≡ false → IsEmptyPage shape extents page
   pub count : n ≡ count_by (λ flag. flag) flags

@@ -1,5 +1,5 @@
 -- The grammar of a script: which lines are of a built form, and what they say.
-use Rattle.std.specs.Prelude.{◌≡◌, ◌⊎◌, ℕ, ◌+◌, ◌-◌, ◌*◌, ◌^◌, ◌<◌, ◌==◌, ◌&&◌, ◌||◌, not, nat_lt, nat_le, Bool, true, false, List, [], ◌∷◌, length, take, filter, fold, Option, Some, None, if◌then◌else◌, codes, slice_index, slice_index_or}
+use Rattle.std.specs.Prelude.{◌≡◌, ◌⊎◌, ℕ, ◌+◌, ◌-◌, ◌*◌, ◌^◌, ◌<◌, ◌==◌, ◌&&◌, ◌||◌, not, nat_lt, nat_le, Bool, true, false, List, [], ◌∷◌, length, take, filter, fold, Option, Some, None, if◌then◌else◌, codes, slice_get, slice_index, slice_index_or}
 use Rattle.std.specs.List.{list_all, list_any, filter_map, slice_split}
 use Rattle.std.specs.Cmp.Lexicographic.{pointwise}
 use Rattle.gc_graph.specs.declared.command.Command.{Command}
@@ -185,3 +185,8 @@ IsTooLong bytes = (16777216 < length bytes) ⊎ (1000000 < length (lines_of byte
 
 abbrev pub IsInLimits : List ℕ → Type 0
 IsInLimits bytes = IsTooLong bytes → ⊥
+
+-- no object is made while a sweep is open
+abbrev pub AreTimely : List Command → Type 0
+AreTimely commands =
+    (i p t e : ℕ) → slice_get commands i ≡ Some (C.New p t e) → is_sweep_open (take i commands) ≡ false

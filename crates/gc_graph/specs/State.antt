@@ -4,10 +4,14 @@ use Rattle.gc_graph.specs.declared.phase.Phase.{Phase}
 use Rattle.gc_graph.specs.declared.phase.Phase.TheVariants.{Idle}
 use Rattle.gc_graph.specs.Graph.{Object, no_object}
 
--- what the options and the script fix: the pages, the words of a page, and the number of strong fields of each type
-pub record Setup : Type 0 where
+-- how many pages a heap has, and how many words a page
+pub record Shape : Type 0 where
   pub pages : ℕ
   pub page_words : ℕ
+
+-- what the options and the script fix: the shape of the heap, and the number of strong fields of each type
+pub record Setup : Type 0 where
+  pub shape : Shape
   pub types : List ℕ
 
 -- a node is live until a pause condemns it, then dead, and gone once it is finalised

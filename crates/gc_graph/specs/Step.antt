@@ -53,7 +53,7 @@ pub record IsFull (old : State) (lines : List Line) (new : State) : Type 0 where
 -- new: the object is made at the place that placement gives, or the heap is full
 pub record StepNew (setup : Setup) (old : State) (p t : ℕ) (lines : List Line) (new : State) : Type 0 where
   pub place : Option ℕ
-  pub placed : IsPlaceFor setup (extents_of old.nodes) (size_of_type setup t) place
+  pub placed : IsPlaceFor setup.shape (extents_of old.nodes) (size_of_type setup t) place
   pub done : MatchOption place (IsFull old lines new) (λ a. IsMade setup old p t a lines new)
 
 abbrev pub field_count : Node → ℕ
@@ -122,7 +122,7 @@ StepGcNow old lines new = ((lines ≡ L.Memory ∷ []) × (new ≡ answered old)
 pub record IsSwept (setup : Setup) (old : State) (lines : List Line) (new : State) : Type 0 where
   pub numbers : List ℕ
   pub finalised : IsDeadInOrder old.nodes numbers
-  pub lines_are : lines ≡ finalise_lines numbers ++ L.Swept setup.pages ∷ []
+  pub lines_are : lines ≡ finalise_lines numbers ++ L.Swept setup.shape.pages ∷ []
   pub after : new ≡ answered (swept old numbers)
 
 -- sweep all: refused where no sweep is open

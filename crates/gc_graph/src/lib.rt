@@ -6,7 +6,7 @@
 //!
 //! The parts: `Kind` and `Value` (fields and what they hold), `Command`, `Want`, `Line` and `Refusal` (what a
 //! script asks and what a report answers), `Phase`, `NoMemory`. The definitions stand in `specs/`, to be read in this order:
-//! `Graph`, `Reach`, `State`, `Placement`, `Pause`, `Sweep`, `Step`, `Lawful`, `Report`, `Script`.
+//! `Graph`, `Reach`, `State`, `Valid`, `Placement`, `Pause`, `Sweep`, `Step`, `Lawful`, `Report`, `Script`.
 //!
 //! What is proved: reach is closed, holds the roots and lies in every closed set that holds them.
 //!

@@ -1,13 +1,41 @@
-// A library with one function.
+//! # Scripts, reports and devices
+//!
+//! What it is: the text at the edge of the heap. A script's bytes come from a source and become
+//! commands; the lines of a report become bytes and go to a sink. No handle of the machine is used.
+//!
+//! The parts: `Source` and `Sink` (devices that may fail), `ListSource`, `ListSink`, `SteadySource`
+//! and `SteadySink` (devices in memory), `read_whole` (all that a source has left), `read_script`
+//! (a script's commands, or its first faulty line), `line_count`, `put` and `print_line` (text to a
+//! sink).
+//!
+//! What is proved: a script that is read is what the grammar of `gc_graph` says of its bytes, and a
+//! fault names the first line that is of no built form. What is printed is the text of the report's
+//! line. A device's failure is answered only where its count of faults has risen, and after it a
+//! beginning of the text was written.
+//!
+//! What is only tested or not said: that memory suffices, in how many writes a line goes out, and
+//! how long a call takes.
 #![tactic(auto)]
 
-ghost use Rattle.std.specs.Prelude.{◌≡◌};
-ghost use Rattle.heap_script.specs.Echo.{echo_of};
+mod commands;
+mod cuts;
+mod devices;
+mod lines;
+mod list_devices;
+mod numbers;
+mod printing;
+mod reading;
+mod script;
+mod steady_devices;
+#[cfg(test)]
+mod tests;
+mod words;
 
-// The `ensures` clause is the contract: what `echo` returns is `echo_of` of its argument, a definition
-// in `specs/Echo.antt`, which a caller's clause can cite too.
-pub fn echo(x: usize) -> usize
-    ensures { result ≡ echo_of x }
-{
-    x
-}
+pub use devices::{Failed, Sink, Source};
+pub use gc_graph::NoMemory;
+pub use lines::line_count;
+pub use list_devices::{ListSink, ListSource};
+pub use printing::{print_line, put};
+pub use reading::{ReadError, read_whole};
+pub use script::{Script, ScriptFault, read_script};
+pub use steady_devices::{SteadySink, SteadySource};

@@ -1,5 +1,5 @@
 -- The objects of a heap, as the words of each tell them.
-use Rattle.std.specs.Prelude.{◌≡◌, ◌⊎◌, ℕ, ◌+◌, ◌<◌, ◌≤◌, List, [], ◌∷◌, length, map, if◌then◌else◌, ◌&&◌, nat_le, nat_lt, ◌-◌, ◌^◌, slice_set, Contains}
+use Rattle.std.specs.Prelude.{◌≡◌, ◌⊎◌, ℕ, ◌+◌, ◌<◌, ◌≤◌, List, length, if◌then◌else◌, ◌&&◌, nat_le, nat_lt, ◌-◌, ◌^◌, slice_set, Contains}
 
 -- a body: the address of its header, its type, its size in words, its serial number, and its field words
 pub record Body : Type 0 where

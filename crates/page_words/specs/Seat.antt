@@ -1,7 +1,7 @@
 -- What the mutator's seat knows of the words, and how each call changes that.
-use Rattle.std.specs.Prelude.{◌≡◌, ℕ, ◌+◌, ◌*◌, ◌/◌, ◌%◌, ◌^◌, ◌<◌, ◌≤◌, ◌↔◌, ◌==◌, ◌||◌, ◌&&◌, not, nat_le, nat_lt, Bool, true, false, List, [], ◌∷◌, ◌++◌, length, map, filter, if◌then◌else◌, slice_index, Contains, All}
+use Rattle.std.specs.Prelude.{◌≡◌, ℕ, ◌+◌, ◌*◌, ◌/◌, ◌%◌, ◌^◌, ◌<◌, ◌≤◌, ◌↔◌, ◌==◌, ◌&&◌, not, nat_le, nat_lt, Bool, true, false, List, [], ◌∷◌, ◌++◌, length, map, filter, if◌then◌else◌, slice_index, Contains, All}
 use Rattle.std.specs.List.{list_any}
-use Rattle.page_words.specs.Bodies.{Body, end_of, IsPlace, IsInBody, IsFieldWord, IsReference, with_word, IsWhole}
+use Rattle.page_words.specs.Bodies.{Body, end_of, IsPlace, IsInBody, with_word, IsWhole}
 
 -- a word that was filled outside the bodies
 pub record Filled : Type 0 where
@@ -130,6 +130,7 @@ empty_view count = record { count = count; on = false; bodies = []; filled = [];
 
 -- what is true of every seat's view
 pub record IsView (v : SeatView) : Type 0 where
+  pub count : v.count ≤ 2 ^ 24
   pub whole : All (IsWhole v.count) v.bodies
   pub apart :
       (b c : Body) (a : ℕ) → Contains v.bodies b → Contains v.bodies c → b.place ≤ a → a < end_of b → c.place ≤ a → a < end_of c
@@ -138,3 +139,4 @@ pub record IsView (v : SeatView) : Type 0 where
   pub marked_are_bodies : (a : ℕ) → holds v.marked a ≡ true → IsPlace v.bodies a
   pub traced_are_marked : (a : ℕ) → holds v.traced a ≡ true → holds v.marked a ≡ true
   pub dead_are_unmarked : (a : ℕ) → holds v.dead a ≡ true → IsPlace v.bodies a × (holds v.marked a ≡ false)
+  pub dead_only_while_off : v.on ≡ true → v.dead ≡ []

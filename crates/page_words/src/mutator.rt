@@ -26,8 +26,8 @@ impl Model for MutatorSeat {
 }
 
 impl MutatorSeat {
-    /// What is true of every view: bodies lie apart and within the heap, and what is marked, traced or dead is a body.
-    /// Whoever calls this has the law. It reads nothing.
+    /// What is true of every view: bodies lie apart and within the heap, and what is marked, traced
+    /// or dead is a body. Whoever calls this has the law. It reads nothing.
     pub fn bodies_lie_apart(&self)
         ensures { IsView self.now }
     {

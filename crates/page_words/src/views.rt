@@ -2,7 +2,8 @@
 
 ghost use Rattle.std.specs.Prelude.{◌≡◌, Bool};
 ghost use Rattle.page_words.specs.Bodies.{Body};
-ghost use Rattle.page_words.specs.Seat.{empty_view, filled_with, stored, published, retracted, marked_at, claimed_at, unmarked_at, stop_set};
+ghost use Rattle.page_words.specs.Seat.{empty_view, filled_with, stored, published, retracted};
+ghost use Rattle.page_words.specs.Seat.{marked_at, claimed_at, unmarked_at, stop_set};
 
 use ghost_values::GhostValue;
 use std::marker::Model;

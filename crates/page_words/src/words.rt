@@ -2,7 +2,10 @@
 
 ghost use Rattle.std.specs.Prelude.{◌≡◌, ◌≤◌, ◌<◌, ◌&&◌, not, true, false, Contains, IfOk};
 ghost use Rattle.page_words.specs.Bodies.{Body, IsPlace, IsInBody, IsFieldWord, IsReference};
-ghost use Rattle.page_words.specs.Seat.{empty_view, holds, stop_at, header_word, IsWordAt, IsReady, MaySetStop, filled_with, stored, published, retracted, marked_at, claimed_at, unmarked_at, is_grey, stop_set};
+ghost use Rattle.page_words.specs.Seat.{empty_view, holds, stop_at, header_word, IsWordAt};
+ghost use Rattle.page_words.specs.Seat.{IsReady, MaySetStop, filled_with, stored, published};
+ghost use Rattle.page_words.specs.Seat.{retracted, marked_at, claimed_at, unmarked_at, is_grey};
+ghost use Rattle.page_words.specs.Seat.{stop_set};
 ghost use Rattle.page_words.specs.Ties.{IsCount};
 
 use crate::mutator::MutatorSeat;
@@ -15,7 +18,8 @@ const TRACED: u64 = 4;
 
 const MARKED_AND_TRACED: u64 = 6;
 
-/// The words that markers and mutator share. So far the mutator's seat holds them, and this tells how many there are.
+/// The words that markers and mutator share. So far the mutator's seat holds them, and this tells
+/// how many there are.
 #[derive(Drop)]
 pub struct Words {
     count: u32,
@@ -61,7 +65,8 @@ impl Words {
         ensures word { IsWordAt seat.old a result }
         ensures view { seat.new ≡ seat.old }
     {
-        seat.words[a as usize]
+        let address = a as usize;
+        seat.words[address]
     }
 
     /// Writes a word that belongs to no object.
@@ -82,7 +87,8 @@ impl Words {
         requires reference { IsReference seat.old.bodies w }
         ensures { seat.new ≡ stored seat.old a w }
     {
-        seat.words[a as usize] = w;
+        let field = a as usize;
+        seat.words[field] = w;
         seat.view = views::stored(&seat.view, a, w);
     }
 
@@ -112,6 +118,7 @@ impl Words {
     }
 
     /// Marks an object while marking goes on. True where this call set the mark.
+    #[tactic(auto, using(crate::proofs::Marks::mark_is_fresh))]
     pub fn mark(&self, seat: &mut MutatorSeat, a: u32) -> bool
         requires heap { seat.old.count ≡ self.now }
         requires on { seat.old.on ≡ true }
@@ -125,13 +132,16 @@ impl Words {
         header & 2 == 0
     }
 
-    /// Claims a marked object for tracing. `header` is its header word with the mark and without the traced bit. True
-    /// where the object was marked and not yet traced; this call has then set the traced bit.
+    /// Claims a marked object for tracing. `header` is its header word with the mark and without
+    /// the traced bit. True where the object was marked and not yet traced; this call has then set
+    /// the traced bit.
+    #[tactic(auto, using(crate::proofs::Marks::found_is_grey))]
     pub fn claim(&self, seat: &mut MutatorSeat, a: u32, header: u64) -> bool
         requires heap { seat.old.count ≡ self.now }
         requires on { seat.old.on ≡ true }
         requires place { IsPlace seat.old.bodies a }
-        requires header { (b : Body) → Contains seat.old.bodies b → b.place ≡ a → header ≡ header_word true true false b.ty b.size }
+        requires header { (b : Body) → Contains seat.old.bodies b → b.place ≡ a
+            → header ≡ header_word true true false b.ty b.size }
         ensures grey { result ≡ is_grey seat.old a }
         ensures view { seat.new ≡ claimed_at seat.old a }
     {
@@ -155,7 +165,8 @@ impl Words {
         seat.view = views::unmarked(&seat.view, a);
     }
 
-    /// Sets the stop word: `false` begins marking on a quiet heap, `true` ends it, and what is not marked is then dead.
+    /// Sets the stop word: `false` begins marking on a quiet heap, `true` ends it, and what is not
+    /// marked is then dead.
     pub fn set_stop(&self, seat: &mut MutatorSeat, on: bool)
         requires heap { seat.old.count ≡ self.now }
         requires allowed { MaySetStop seat.old on }

@@ -1,0 +1,125 @@
+-- What stays true of the types and commands with one more line.
+use Rattle.std.proofs.Common.{◌≡◌, ℕ, ◌≤◌, true, false, not, cond, Some, None, List, [], ◌∷◌, ◌++◌, length, sym, ap, ◌∙◌, subst, inl, inr, arith}
+use Rattle.std.specs.Prelude.{All, ⊤}
+use Rattle.std.proofs.lemmas.Bool.{true≢false, cases_Bool, cond-true, cond-false, and_parts}
+use Rattle.std.proofs.lemmas.List.{append-nil, length-append}
+use Rattle.std.proofs.lemmas.List.Elements.{All-nil, All-push, All-weaker}
+use Rattle.gc_graph.specs.declared.command.Command.{Command}
+use Rattle.gc_graph.specs.declared.command.Command.TheVariants as C
+use Rattle.gc_graph.specs.Lawful.{IsAllowed}
+use Rattle.gc_graph.specs.Script.{words_of, is_header}
+use Rattle.heap_script.specs.declared.lines.Past.{Past}
+use Rattle.heap_script.specs.declared.lines.LineKind.{LineKind}
+use Rattle.heap_script.specs.declared.lines.LineKind.TheVariants as K
+use Rattle.heap_script.specs.Past.{past_of, may_stand, kind_of, after, types_in, commands_in}
+use Rattle.heap_script.proofs.LineKinds.{Says, HasKind, kind_has, kind_says, header_says, some_is_not_none, some_same}
+use Rattle.heap_script.proofs.Ranges.{command_allowed}
+use Rattle.heap_script.proofs.MoreLines.{past_more}
+
+-- ---- the kind that was found
+
+found : (line : List ℕ) (kind : LineKind) → cond (is_header line) (Some K.Header) None ≡ Some kind → (is_header line ≡ true) × (K.Header ≡ kind)
+found line kind e =
+    elim (cases_Bool (is_header line)) [
+      | inl so ↦ (so, some_same K.Header kind (sym (cond-true (is_header line) (Some K.Header) None so) ∙ e))
+      | inr off ↦ absurd (some_is_not_none kind (sym e ∙ cond-false (is_header line) (Some K.Header) None off))
+    ]
+
+pub says_at : (before : List (List ℕ)) (line : List ℕ) (kind : LineKind) → kind_of (past_of before) line ≡ Some kind → Says line kind
+says_at [] line kind e = let f = found line kind e in subst (Says line) f.1 (header_says line f.0)
+says_at (header ∷ before) line kind e =
+    kind_says (past_of (header ∷ before)) line kind (kind_has (past_of (header ∷ before)) line kind e)
+
+pub past_at : (before : List (List ℕ)) (line : List ℕ) (kind : LineKind) → kind_of (past_of before) line ≡ Some kind
+    → past_of (before ++ line ∷ []) ≡ after (past_of before) kind
+past_at [] line kind e = ap (after (past_of [])) (found line kind e).1
+past_at (header ∷ before) line kind e = past_more header before line kind (kind_has (past_of (header ∷ before)) line kind e)
+
+-- a type line comes while nothing stands but the header, and a command may stand
+abbrev pub IsPlaced : Past → LineKind → Type 0
+IsPlaced past K.Header = ⊤
+IsPlaced past K.Blank = ⊤
+IsPlaced past K.TypeLine = past.bare ≡ true
+IsPlaced past (K.Order command) = (IsAllowed 1 command) × (may_stand past command ≡ true)
+
+has_placed : (past : Past) (line : List ℕ) (kind : LineKind) → HasKind past line kind → IsPlaced past kind
+has_placed past line K.Header has = absurd has
+has_placed past line K.Blank has = tt
+has_placed past line K.TypeLine has = has.1
+has_placed past line (K.Order command) has = (command_allowed (words_of line) command has.0, has.1)
+
+pub placed_at : (before : List (List ℕ)) (line : List ℕ) (kind : LineKind) → kind_of (past_of before) line ≡ Some kind
+    → IsPlaced (past_of before) kind
+placed_at [] line kind e = subst (IsPlaced (past_of [])) (found line kind e).1 tt
+placed_at (header ∷ before) line kind e =
+    has_placed (past_of (header ∷ before)) line kind (kind_has (past_of (header ∷ before)) line kind e)
+
+-- ---- what is kept of the facts
+
+allowed_with : (n m : ℕ) (command : Command) → n ≤ m → IsAllowed n command → IsAllowed m command
+allowed_with n m (C.New p t e) le h = (h.0, omega (arith, h.1), h.2)
+allowed_with n m (C.Set p f q) le h = h
+allowed_with n m (C.SetNull p f) le h = h
+allowed_with n m (C.Get p f q) le h = h
+allowed_with n m (C.Drop p) le h = h
+allowed_with n m (C.GcNow want) le h = h
+allowed_with n m C.SweepAll le h = h
+
+-- a command that may stand is allowed by the types that there are
+stands_allowed : (past : Past) (n : ℕ) (command : Command) → n ≡ cond past.typed 1 0 → may_stand past command ≡ true → IsAllowed 1 command → IsAllowed n command
+stands_allowed past n (C.New p t e) counted may h =
+    let typed : past.typed ≡ true = (and_parts past.typed (not past.sweeping) may).0 in
+    let one : 1 ≡ n = sym (counted ∙ ap (λ b. cond b 1 0) typed) in
+    subst (λ k. IsAllowed k (C.New p t e)) one h
+stands_allowed past n (C.Set p f q) counted may h = h
+stands_allowed past n (C.SetNull p f) counted may h = h
+stands_allowed past n (C.Get p f q) counted may h = h
+stands_allowed past n (C.Drop p) counted may h = h
+stands_allowed past n (C.GcNow want) counted may h = h
+stands_allowed past n C.SweepAll counted may h = h
+
+same_allowed : (types : List ℕ) (commands : List Command) → All (IsAllowed (length types)) commands
+    → All (IsAllowed (length (types ++ []))) (commands ++ [])
+same_allowed types commands h =
+    subst (λ (ts : List ℕ). All (IsAllowed (length ts)) (commands ++ [])) (sym (append-nil types))
+    (subst (λ (cs : List Command). All (IsAllowed (length types)) cs) (sym (append-nil commands)) h)
+
+pub allowed_more : (past : Past) (types : List ℕ) (commands : List Command) (kind : LineKind) → IsPlaced past kind
+    → length types ≡ cond past.typed 1 0 → All (IsAllowed (length types)) commands
+    → All (IsAllowed (length (types ++ types_in kind))) (commands ++ commands_in kind)
+allowed_more past types commands K.Header placed counted h = same_allowed types commands h
+allowed_more past types commands K.Blank placed counted h = same_allowed types commands h
+allowed_more past types commands K.TypeLine placed counted h =
+    subst (λ (cs : List Command). All (IsAllowed (length (types ++ 1 ∷ []))) cs) (sym (append-nil commands))
+    (All-weaker (IsAllowed (length types)) (IsAllowed (length (types ++ 1 ∷ [])))
+    (λ c. allowed_with (length types) (length (types ++ 1 ∷ [])) c (omega (arith, length-append types (1 ∷ [])))) commands h)
+allowed_more past types commands (K.Order command) placed counted h =
+    subst (λ (ts : List ℕ). All (IsAllowed (length ts)) (commands ++ command ∷ [])) (sym (append-nil types))
+    (All-push (IsAllowed (length types)) commands command h (stands_allowed past (length types) command counted placed.1 placed.0))
+
+pub counted_more : (past : Past) (types : List ℕ) (kind : LineKind) → IsPlaced past kind → (past.bare ≡ true → past.typed ≡ false)
+    → length types ≡ cond past.typed 1 0 → length (types ++ types_in kind) ≡ cond (after past kind).typed 1 0
+counted_more past types K.Header placed bare counted = ap length (append-nil types) ∙ counted
+counted_more past types K.Blank placed bare counted = ap length (append-nil types) ∙ counted
+counted_more past types K.TypeLine placed bare counted =
+    let none : length types ≡ 0 = counted ∙ ap (λ b. cond b 1 0) (bare placed) in
+    omega (arith, length-append types (1 ∷ []), none)
+counted_more past types (K.Order command) placed bare counted = ap length (append-nil types) ∙ counted
+
+pub bare_more : (past : Past) (kind : LineKind) → (past.bare ≡ true → past.typed ≡ false) → (after past kind).bare ≡ true → (after past kind).typed ≡ false
+bare_more past K.Header bare e = bare e
+bare_more past K.Blank bare e = bare e
+bare_more past K.TypeLine bare e = absurd (true≢false (sym e))
+bare_more past (K.Order command) bare e = absurd (true≢false (sym e))
+
+pub small_types : (kind : LineKind) → All (λ n. n ≤ 64) (types_in kind)
+small_types K.Header = All-nil (λ n. n ≤ 64)
+small_types K.Blank = All-nil (λ n. n ≤ 64)
+small_types K.TypeLine = All-push (λ n. n ≤ 64) [] 1 (All-nil (λ n. n ≤ 64)) (omega arith)
+small_types (K.Order command) = All-nil (λ n. n ≤ 64)
+
+pub few_commands : (kind : LineKind) → length (commands_in kind) ≤ 1
+few_commands K.Header = omega arith
+few_commands K.Blank = omega arith
+few_commands K.TypeLine = omega arith
+few_commands (K.Order command) = omega arith

@@ -1,0 +1,67 @@
+-- What the lines before say, and of which kind the next one is.
+use Rattle.std.specs.Prelude.{ℕ, ◌&&◌, not, Bool, true, false, List, [], ◌∷◌, Option, Some, None, if◌then◌else◌}
+use Rattle.std.specs.List.{list_all, list_any}
+use Rattle.gc_graph.specs.declared.command.Command.{Command}
+use Rattle.gc_graph.specs.declared.command.Command.TheVariants as C
+use Rattle.gc_graph.specs.Script.{is_header, is_blank, is_type_line, command_of, commands_of, opens_sweep, is_sweep_open}
+use Rattle.heap_script.specs.declared.lines.Past.{Past}
+use Rattle.heap_script.specs.declared.lines.LineKind.{LineKind}
+use Rattle.heap_script.specs.declared.lines.LineKind.TheVariants as K
+
+-- what the lines before say
+abbrev pub past_of : List (List ℕ) → Past
+past_of [] = record { headed = false; bare = true; typed = false; sweeping = false }
+past_of (header ∷ before) = record {
+  headed = true;
+  bare = list_all is_blank before;
+  typed = list_any is_type_line before;
+  sweeping = is_sweep_open (commands_of before);
+}
+
+-- a new object wants the type line, and no open sweep
+abbrev pub may_stand : Past → Command → Bool
+may_stand past (C.New p t e) = past.typed && not past.sweeping
+may_stand past (C.Set p f q) = true
+may_stand past (C.SetNull p f) = true
+may_stand past (C.Get p f q) = true
+may_stand past (C.Drop p) = true
+may_stand past (C.GcNow want) = true
+may_stand past C.SweepAll = true
+
+abbrev pub order_of : Past → Option Command → Option LineKind
+order_of past None = None
+order_of past (Some command) = if may_stand past command then Some (K.Order command) else None
+
+abbrev pub kind_after_header : Past → List ℕ → Option LineKind
+kind_after_header past line =
+    if is_blank line then Some K.Blank
+    else if is_type_line line && past.bare then Some K.TypeLine
+    else order_of past (command_of line)
+
+-- the kind of a line, where it is of a built form
+abbrev pub kind_of : Past → List ℕ → Option LineKind
+kind_of past line =
+    if past.headed then kind_after_header past line
+    else if is_header line then Some K.Header
+    else None
+
+-- what the lines say with one more
+abbrev pub after : Past → LineKind → Past
+after past K.Header = record past { headed = true }
+after past K.Blank = past
+after past K.TypeLine = record past { bare = false; typed = true }
+after past (K.Order command) = record past { bare = false; sweeping = opens_sweep past.sweeping command }
+
+-- the type that a line declares
+abbrev pub types_in : LineKind → List ℕ
+types_in K.Header = []
+types_in K.Blank = []
+types_in K.TypeLine = 1 ∷ []
+types_in (K.Order command) = []
+
+-- the command that stands on a line
+abbrev pub commands_in : LineKind → List Command
+commands_in K.Header = []
+commands_in K.Blank = []
+commands_in K.TypeLine = []
+commands_in (K.Order command) = command ∷ []
