@@ -6,11 +6,12 @@ pub enum Want {
     Precise,
 }
 
-/// One line of a script. A slot is below 256, a type is the number of its type line, and a field counts from 0.
+/// One line of a script. A slot is below 256, a type is the number of its type line, and a field
+/// counts from 0.
 ///
 /// | command | line | |
 /// |---|---|---|
-/// | `New` | `new p t` | makes an object of type t and puts it into slot p; `e` extra words, which are 0 |
+/// | `New` | `new p t` | makes an object of type t, and puts it into slot p; `e` is 0 |
 /// | `Set` | `set p f q` | field f of slot p's object gets what slot q holds |
 /// | `SetNull` | `set p f -` | the field becomes null |
 /// | `Get` | `get p f q` | slot q gets what field f of slot p's object holds |

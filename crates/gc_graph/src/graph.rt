@@ -6,7 +6,7 @@
 /// |---|---|---|
 /// | `Strong` | one reference, which is traced | `Member`, `include/cppgc/member.h` |
 /// | `Weak` | one reference, which keeps nothing | `WeakMember`, `include/cppgc/member.h` |
-/// | `Pair` | a key and a value, which is kept only with the key | `EphemeronPair`, `include/cppgc/ephemeron-pair.h` |
+/// | `Pair` | a key and its value | `EphemeronPair`, `include/cppgc/ephemeron-pair.h` |
 /// | `Plain` | one number | a field that isn't traced |
 #[derive(Clone, Copy, Debug, PartialEq, Eq, Drop)]
 pub enum Kind {

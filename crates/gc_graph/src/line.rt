@@ -11,7 +11,8 @@ pub enum Refusal {
     Field,
 }
 
-/// One line of a report. `k` is a node, `a` an address in words, `n` objects, `u` words and `g` pages.
+/// One line of a report. `k` is a node, `a` an address in words, `n` objects, `u` words and `g`
+/// pages.
 #[derive(Clone, Copy, Debug, PartialEq, Eq, Drop)]
 pub enum Line {
     TypeLine {

@@ -1,13 +1,14 @@
 //! # Ghost values
 //!
-//! What it is: a field that contracts see and that has no bytes. The heap keeps its list of objects and its graph
-//! in such fields, so that a clause can speak of them while the running program holds words alone.
+//! What it is: a field that contracts see and that has no bytes. The heap keeps its list of
+//! objects and its graph in such fields, so that a clause can speak of them while the running
+//! program holds words alone.
 //!
-//! The parts: `GhostValue<T>`, whose `value` is what contracts see of a `T`, and `GhostValue::chosen`, by which
-//! the caller's proof picks that value.
+//! The parts: `GhostValue<T>`, whose `value` is what contracts see of a `T`, and
+//! `GhostValue::chosen`, by which the caller's proof picks that value.
 //!
-//! What is proved: a new value is the one that the caller picked. A ghost value says nothing by itself: the
-//! invariant of the type that holds it ties it to what the program keeps.
+//! What is proved: a new value is the one that the caller picked. A ghost value says nothing by
+//! itself: the invariant of the type that holds it ties it to what the program keeps.
 //!
 //! What is only tested or not said: nothing.
 #![tactic(auto)]

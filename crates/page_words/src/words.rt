@@ -1,6 +1,7 @@
 // The calls on words and seat. Each reads or writes one word, or sets a bit of one.
 
-ghost use Rattle.std.specs.Prelude.{◌≡◌, ◌≤◌, ◌<◌, ◌&&◌, not, true, false, Contains, IfOk};
+ghost use Rattle.std.specs.Prelude.{◌≡◌, ◌≤◌, ◌<◌, ◌&&◌};
+ghost use Rattle.std.specs.Prelude.{not, true, false, Contains, IfOk};
 ghost use Rattle.page_words.specs.Bodies.{Body, IsPlace, IsInBody, IsFieldWord, IsReference};
 ghost use Rattle.page_words.specs.Seat.{empty_view, holds, stop_at, header_word, IsWordAt};
 ghost use Rattle.page_words.specs.Seat.{IsReady, MaySetStop, filled_with, stored, published};

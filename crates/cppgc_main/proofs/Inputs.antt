@@ -1,0 +1,38 @@
+-- Input that was read, and the limits that it keeps.
+use Rattle.std.proofs.Common.{◌≡◌, ℕ, ◌≤◌, List, length, take, drop, Option, Some, None, ap, ◌∙◌, inl, inr, arith}
+use Rattle.std.specs.Prelude.{All, min}
+use Rattle.std.proofs.lemmas.List.{take_all, drop_all, length-take}
+use Rattle.std.proofs.lemmas.Bool.{cases_lt}
+use Rattle.gc_graph.specs.Lawful.{IsAllowed}
+use Rattle.gc_graph.specs.Script.{Script, IsScript, lines_of, IsInLimits}
+use Rattle.heap_script.specs.Devices.{IsReadFrom}
+use Rattle.cppgc_main.specs.Setting.{IsRunnable}
+use Rattle.cppgc_main.specs.Headline.{IsReadWhole}
+use Rattle.cppgc_main.proofs.Timely.{script_is_timely}
+
+pub in_limits : (bytes : List ℕ) → length bytes ≤ 16777216 → length (lines_of bytes) ≤ 1000000 → IsInLimits bytes
+in_limits bytes few low (inl over) = absurd (omega arith)
+in_limits bytes few low (inr over) = absurd (omega arith)
+
+-- fewer bytes than were asked for are all that there were
+all_of : (old bytes : List ℕ) → bytes ≡ take 16777217 old → length bytes ≤ 16777216 → bytes ≡ old
+all_of old bytes is few =
+    let asked : length bytes ≡ min 16777217 (length old) = ap length is ∙ length-take 16777217 old in
+    is ∙ take_all 16777217 old (omega arith)
+
+few_in_limits : (bytes : List ℕ) → IsInLimits bytes → length bytes ≤ 16777216
+few_in_limits bytes limits =
+    elim (cases_lt 16777216 (length bytes)) [ inl over ↦ absurd (limits (inl over)) | inr few ↦ few ]
+
+pub read_whole_of : (old new : Option (List ℕ)) (bytes : List ℕ) → IsReadFrom old new 16777216 bytes → IsInLimits bytes → IsReadWhole old new bytes
+read_whole_of None new bytes read limits = read
+read_whole_of (Some old) new bytes read limits =
+    let few : length bytes ≤ 16777216 = few_in_limits bytes limits in
+    let all : bytes ≡ old = all_of old bytes read.0 few in
+    (all, read.1 ∙ ap Some (ap (λ (b : List ℕ). drop (length b) old) all ∙ drop_all (length old) old (omega arith)))
+
+pub script_is_runnable : (bytes : List ℕ) (script : Script) → IsScript bytes script → All (λ n. n ≤ 64) script.types
+    → length script.types ≤ 1 → All (IsAllowed (length script.types)) script.commands → length script.commands ≤ 1000000
+    → IsRunnable script
+script_is_runnable bytes script is small one allowed few =
+    record { small = small; one = one; allowed = allowed; few = few; timely = script_is_timely bytes script is }

@@ -1,0 +1,73 @@
+-- Text that is written piece by piece.
+use Rattle.std.proofs.Common.{◌≡◌, ℕ, zero, suc, ◌+◌, ◌<◌, ◌≤◌, List, [], ◌∷◌, ◌++◌, length, take, drop, Option, Some, None, refl, sym, ap, ◌∙◌, subst, arith}
+use Rattle.std.specs.List.{slice_get}
+use Rattle.std.proofs.lemmas.List.{append-nil, append_assoc, take-append-drop, take_all}
+use Rattle.std.proofs.lemmas.Grind.{flat_map-append}
+use Rattle.gc_graph.specs.declared.line.Line.{Line}
+use Rattle.gc_graph.specs.declared.line.Line.TheVariants as L
+use Rattle.gc_graph.specs.Report.{line_bytes, lines_bytes, type_lines}
+use Rattle.heap_script.specs.Devices.{Grew, GrewByFront}
+
+pub grew_by_none : (a : Option (List ℕ)) → Grew a a []
+grew_by_none None = refl
+grew_by_none (Some old) = ap Some (sym (append-nil old))
+
+pub same_grew : (a b : Option (List ℕ)) → b ≡ a → Grew a b []
+same_grew a b e = subst (λ o. Grew a o []) (sym e) (grew_by_none a)
+
+pub grew : (a b c : Option (List ℕ)) (s t : List ℕ) → Grew a b s → Grew b c t → Grew a c (s ++ t)
+grew None b c s t x y = subst (λ o. Grew o c t) x y
+grew (Some old) b c s t x y = subst (λ o. Grew o c t) x y ∙ ap Some (append_assoc old s t)
+
+pub grew_front : (a b c : Option (List ℕ)) (s t : List ℕ) → Grew a b s → GrewByFront b c t → GrewByFront a c (s ++ t)
+grew_front a b c s t x y = (s ++ y.0, y.1, ap (λ u. s ++ u) y.2 ∙ sym (append_assoc s y.0 y.1), grew a b c s y.0 x y.3)
+
+pub longer : (a c : Option (List ℕ)) (s t : List ℕ) → GrewByFront a c s → GrewByFront a c (s ++ t)
+longer a c s t y = (y.0, y.1 ++ t, ap (λ u. u ++ t) y.2 ∙ append_assoc y.0 y.1 t, y.3)
+
+-- ---- lines
+
+module _ {X : Type 0} where
+  take_at_get : (xs : List X) (i : ℕ) (x : X) → slice_get xs i ≡ Some x → take (suc i) xs ≡ take i xs ++ x ∷ []
+  take_at_get [] i x e = cc
+  take_at_get (y ∷ ys) zero x e = ap (λ z. z ∷ []) (let q : y ≡ x = cc in q)
+  take_at_get (y ∷ ys) (suc i) x e = ap (λ zs. y ∷ zs) (take_at_get ys i x e)
+
+one_line : (line : Line) → lines_bytes (line ∷ []) ≡ line_bytes line
+one_line line = append-nil (line_bytes line)
+
+lines_to : (lines : List Line) (i : ℕ) (line : Line) → slice_get lines i ≡ Some line
+    → lines_bytes (take (suc i) lines) ≡ lines_bytes (take i lines) ++ line_bytes line
+lines_to lines i line e =
+    ap lines_bytes (take_at_get lines i line e)
+    ∙ flat_map-append line_bytes (take i lines) (line ∷ [])
+    ∙ ap (λ u. lines_bytes (take i lines) ++ u) (one_line line)
+
+pub line_more : (a b c : Option (List ℕ)) (lines : List Line) (i j : ℕ) (line : Line) → slice_get lines i ≡ Some line → i + 1 ≡ j
+    → Grew a b (lines_bytes (take i lines)) → Grew b c (line_bytes line) → Grew a c (lines_bytes (take j lines))
+line_more a b c lines i j line e next x y =
+    let s : j ≡ suc i = omega arith in
+    subst (λ u. Grew a c u) (sym (ap (λ k. lines_bytes (take k lines)) s ∙ lines_to lines i line e)) (grew a b c _ _ x y)
+
+pub line_fails : (a b c : Option (List ℕ)) (lines : List Line) (i : ℕ) (line : Line) → slice_get lines i ≡ Some line
+    → Grew a b (lines_bytes (take i lines)) → GrewByFront b c (line_bytes line) → GrewByFront a c (lines_bytes lines)
+line_fails a b c lines i line e x y =
+    let whole : lines_bytes lines ≡ lines_bytes (take (suc i) lines) ++ lines_bytes (drop (suc i) lines) =
+    ap lines_bytes (sym (take-append-drop (suc i) lines)) ∙ flat_map-append line_bytes (take (suc i) lines) (drop (suc i) lines) in
+    let front : GrewByFront a c (lines_bytes (take (suc i) lines)) =
+    subst (λ u. GrewByFront a c u) (sym (lines_to lines i line e)) (grew_front a b c _ _ x y) in
+    subst (λ u. GrewByFront a c u) (sym whole) (longer a c _ _ front)
+
+pub lines_whole : (a b : Option (List ℕ)) (lines : List Line) (i : ℕ) → length lines ≤ i → Grew a b (lines_bytes (take i lines))
+    → Grew a b (lines_bytes lines)
+lines_whole a b lines i le x = subst (λ (ls : List Line). Grew a b (lines_bytes ls)) (take_all i lines le) x
+
+-- a single type has a single line
+pub one_type : (types : List ℕ) → length types ≤ 1 → 0 < length types → lines_bytes (type_lines 0 types) ≡ line_bytes (L.TypeLine 0)
+one_type [] one some = absurd (omega arith)
+one_type (x ∷ []) one some = one_line (L.TypeLine 0)
+one_type (x ∷ y ∷ more) one some = absurd (omega arith)
+
+pub no_type : (types : List ℕ) → length types ≡ 0 → lines_bytes (type_lines 0 types) ≡ []
+no_type [] none = refl
+no_type (x ∷ more) none = absurd (omega arith)

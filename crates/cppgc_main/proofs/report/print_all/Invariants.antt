@@ -1,0 +1,13 @@
+use Rattle.std.proofs.Common.{◌≡◌, ◌≤◌, false, take}
+use Rattle.cppgc_main.specs.Printed.{IsPrintedRun}
+use Rattle.cppgc_main.proofs.report.print_all.Given as goal
+
+abbrev pub invariant-loop-command : goal.invariant-loop-command
+invariant-loop-command g l = record {
+  setup : l.heap.setup ≡ l.initial.heap.setup;
+  ordinal : l.heap.state.ordinal ≡ l.command-index;
+  opened : l.heap.closed ≡ false;
+  later : g.K.Sink.faults l.initial.sink ≤ g.K.Sink.faults l.sink;
+  printed : IsPrintedRun l.initial.heap.setup (take l.command-index l.commands)
+      (g.K.Sink.written l.initial.sink) (g.K.Sink.written l.sink) l.heap.state;
+}

@@ -1,0 +1,5 @@
+pub mod Setting
+pub mod Printed
+pub mod Headline
+pub mod Statuses
+pub mod Counting

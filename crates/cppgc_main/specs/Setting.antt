@@ -1,0 +1,17 @@
+-- The heap that the program makes, and the scripts that it can run.
+use Rattle.std.specs.Prelude.{ℕ, ◌≤◌, List, length, All}
+use Rattle.gc_graph.specs.State.{Setup}
+use Rattle.gc_graph.specs.Lawful.{IsAllowed}
+use Rattle.gc_graph.specs.Script.{Script, AreTimely}
+
+-- a heap of 64 pages of 16,384 words, with the types of the script
+abbrev pub setup_of : List ℕ → Setup
+setup_of types = record { shape = record { pages = 64; page_words = 16384 }; types = types }
+
+-- the commands can be given to such a heap, one after the other
+pub record IsRunnable (script : Script) : Type 0 where
+  pub small : All (λ n. n ≤ 64) script.types
+  pub one : length script.types ≤ 1
+  pub allowed : All (IsAllowed (length script.types)) script.commands
+  pub few : length script.commands ≤ 1000000
+  pub timely : AreTimely script.commands

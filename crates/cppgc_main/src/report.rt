@@ -1,0 +1,108 @@
+// The report of a script, printed while its commands are done.
+
+ghost use Rattle.std.specs.Prelude.{◌≡◌, ◌+◌, ◌<◌, ◌≤◌, true};
+ghost use Rattle.std.specs.Prelude.{false, [], length, All, OnOk, OnErr};
+ghost use Rattle.gc_graph.specs.State.{empty_state};
+ghost use Rattle.gc_graph.specs.Step.{Step};
+ghost use Rattle.gc_graph.specs.Lawful.{IsAllowed, IsTimely, IsEndLine};
+ghost use Rattle.gc_graph.specs.Report.{lines_bytes, type_lines};
+ghost use Rattle.gc_graph.specs.Script.{AreTimely};
+ghost use Rattle.heap_script.specs.Causes.{HasCause};
+ghost use Rattle.heap_script.specs.Devices.{Writes};
+ghost use Rattle.cppgc_main.specs.Setting.{setup_of, IsRunnable};
+ghost use Rattle.cppgc_main.specs.Printed.{IsPrintedRun, IsPartRun};
+ghost use Rattle.cppgc_main.specs.Headline.{IsWholeRun, IsCutShort};
+
+use gc_graph::{Command, Line};
+use heap_engine::Heap;
+use heap_script::{Failed, Script, Sink, print_line};
+
+/// Does the commands of the script on a new heap, prints its report, and closes the heap.
+pub(crate) fn print_report<K: Sink>(
+    heap: &mut Heap,
+    script: &Script,
+    sink: &mut K,
+) -> Result<(), Failed>
+    requires runnable { IsRunnable script.now }
+    requires setup { heap.old.setup ≡ setup_of script.now.types }
+    requires start { heap.old.state ≡ empty_state }
+    requires opened { heap.old.closed ≡ false }
+    ensures done { OnOk result
+        (IsWholeRun script.now (K.written sink.old) (K.written sink.new) heap.new) }
+    ensures part { OnErr result
+        (IsCutShort script.now (K.written sink.old) (K.written sink.new)) }
+    ensures cause { HasCause (K.faults sink.old) (K.faults sink.new) result }
+{
+    match print_types(script.types(), sink) {
+        Ok(()) => {}
+        Err(failed) => return Err(failed),
+    }
+    match print_all(heap, script.commands(), sink) {
+        Ok(()) => {}
+        Err(failed) => return Err(failed),
+    }
+    let end = heap.close();
+    print_line(&end, sink)
+}
+
+/// Prints a line for each type.
+fn print_types<K: Sink>(types: &[u32], sink: &mut K) -> Result<(), Failed>
+    requires one { length types.now ≤ 1 }
+    ensures bytes { Writes (K.written sink.old) (K.written sink.new)
+        (lines_bytes (type_lines 0 types.now)) result }
+    ensures cause { HasCause (K.faults sink.old) (K.faults sink.new) result }
+{
+    if types.is_empty() {
+        return Ok(());
+    }
+    print_line(&Line::TypeLine { t: 0 }, sink)
+}
+
+/// Does the commands in order, and prints each outcome.
+fn print_all<K: Sink>(heap: &mut Heap, commands: &[Command], sink: &mut K) -> Result<(), Failed>
+    requires start { heap.old.state ≡ empty_state }
+    requires opened { heap.old.closed ≡ false }
+    requires allowed { All (IsAllowed (length heap.old.setup.types)) commands.now }
+    requires few { length commands.now ≤ 1000000 }
+    requires timely { AreTimely commands.now }
+    ensures done { OnOk result (IsPrintedRun heap.old.setup commands.now
+        (K.written sink.old) (K.written sink.new) heap.new.state) }
+    ensures part { OnErr result (IsPartRun heap.old.setup commands.now
+        (K.written sink.old) (K.written sink.new)) }
+    ensures setup { heap.new.setup ≡ heap.old.setup }
+    ensures count { OnOk result (heap.new.state.ordinal ≡ length commands.now) }
+    ensures cause { HasCause (K.faults sink.old) (K.faults sink.new) result }
+{
+    for command in commands {
+        match print_outcome(heap, command, sink) {
+            Ok(()) => {}
+            Err(failed) => return Err(failed),
+        }
+    }
+    Ok(())
+}
+
+/// Does a command, and prints the lines of its outcome.
+fn print_outcome<K: Sink>(heap: &mut Heap, command: &Command, sink: &mut K) -> Result<(), Failed>
+    requires few { heap.old.state.ordinal < 1000000 }
+    requires opened { heap.old.closed ≡ false }
+    requires allowed { IsAllowed (length heap.old.setup.types) command.now }
+    requires timely { IsTimely heap.old.state.phase command.now }
+    ensures step { Step heap.old.setup heap.old.state command.now heap.new.lines heap.new.state }
+    ensures bytes { Writes (K.written sink.old) (K.written sink.new)
+        (lines_bytes heap.new.lines) result }
+    ensures ordinal { heap.new.state.ordinal ≡ heap.old.state.ordinal + 1 }
+    ensures setup { heap.new.setup ≡ heap.old.setup }
+    ensures closed { heap.new.closed ≡ false }
+    ensures cause { HasCause (K.faults sink.old) (K.faults sink.new) result }
+{
+    let count = heap.act(command);
+    for index in 0..count {
+        let line = heap.line(index);
+        match print_line(&line, sink) {
+            Ok(()) => {}
+            Err(failed) => return Err(failed),
+        }
+    }
+    Ok(())
+}

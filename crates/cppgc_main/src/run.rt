@@ -1,0 +1,122 @@
+// One run of the program: from the bytes of a script to its report.
+
+ghost use Rattle.std.specs.Prelude.{◌≡◌, ◌↔◌, ℕ, ◌<◌};
+ghost use Rattle.std.specs.Prelude.{◌≤◌, [], length, None, MatchOption};
+ghost use Rattle.heap_script.specs.Causes.{Rose};
+ghost use Rattle.heap_script.specs.Devices.{Grew};
+ghost use Rattle.cppgc_main.specs.Setting.{IsRunnable};
+ghost use Rattle.cppgc_main.specs.Headline.{RunsScript, RunsBytes, status_of_fault, IsUntouched};
+ghost use Rattle.cppgc_main.specs.Headline.{IsDone, IsStopped, IsTooLongInput, IsFaultyInput};
+
+use super::report::print_report;
+use super::status::Status;
+use heap_engine::{Config, Heap};
+use heap_script::{
+    ReadError, Script, ScriptFault, Sink, Source, line_count, read_script, read_whole,
+};
+use std::alloc::Global;
+
+const MOST_BYTES: usize = 16_777_216;
+
+const MOST_LINES: usize = 1_000_000;
+
+const SHAPE: Config = Config {
+    pages: 64,
+    page_words: 16_384,
+};
+
+/// Reads a script, runs it on one heap, and writes its report. When memory is wanting is free.
+pub fn run<S: Source, K: Sink>(
+    alloc: Global,
+    words: &[String],
+    source: &mut S,
+    sink: &mut K,
+    kept: &mut Option<Heap>,
+) -> Status
+    requires { kept.old ≡ None }
+    ensures done { result ≡ Status.Done → MatchOption kept.new ⊥ (λ heap. IsDone
+        (S.left source.old) (S.left source.new) (K.written sink.old) (K.written sink.new) heap) }
+    ensures stopped { result ≡ Status.WriteFault → IsStopped
+        (S.left source.old) (S.left source.new) (K.written sink.old) (K.written sink.new) }
+    ensures too_long { result ≡ Status.TooLong →
+        IsTooLongInput (S.left source.old) (S.left source.new) }
+    ensures script { (line reason : ℕ) → result ≡ Status.Script line reason →
+        (reason ≡ 9) × IsFaultyInput (S.left source.old) (S.left source.new) line }
+    ensures usage { (result ≡ Status.Usage) ↔ (0 < length words.now) }
+    ensures source_untouched { result ≡ Status.Usage → IsUntouched
+        (S.left source.old) (S.left source.new) (S.faults source.old) (S.faults source.new) }
+    ensures sink_untouched { result ≡ Status.Usage → IsUntouched
+        (K.written sink.old) (K.written sink.new) (K.faults sink.old) (K.faults sink.new) }
+    ensures read_fault { result ≡ Status.ReadFault →
+        Rose (S.faults source.old) (S.faults source.new) }
+    ensures write_fault { result ≡ Status.WriteFault →
+        Rose (K.faults sink.old) (K.faults sink.new) }
+    ensures source_faults { S.faults source.old ≤ S.faults source.new }
+    ensures sink_faults { K.faults sink.old ≤ K.faults sink.new }
+    ensures silent { ¬ (result ≡ Status.Done) → ¬ (result ≡ Status.WriteFault) →
+        Grew (K.written sink.old) (K.written sink.new) [] }
+    ensures kept { ¬ (result ≡ Status.Done) → kept.new ≡ None }
+{
+    if !words.is_empty() {
+        return Status::Usage;
+    }
+    match read_whole(alloc, source, MOST_BYTES) {
+        Ok(bytes) => run_bytes(alloc, &bytes, sink, kept),
+        Err(ReadError::Fault) => Status::ReadFault,
+        Err(ReadError::Memory) => Status::NoMemory,
+    }
+}
+
+/// Runs the script that the bytes are.
+fn run_bytes<K: Sink>(alloc: Global, bytes: &[u8], sink: &mut K, kept: &mut Option<Heap>) -> Status
+    requires { kept.old ≡ None }
+    ensures answer { RunsBytes bytes.now (K.written sink.old) (K.written sink.new) kept.new result }
+    ensures fault { result ≡ Status.WriteFault → Rose (K.faults sink.old) (K.faults sink.new) }
+    ensures later { K.faults sink.old ≤ K.faults sink.new }
+{
+    if bytes.len() > MOST_BYTES || line_count(bytes) > MOST_LINES {
+        return Status::TooLong;
+    }
+    match read_script(alloc, bytes) {
+        Ok(script) => run_script(alloc, &script, sink, kept),
+        Err(fault) => status_of(fault),
+    }
+}
+
+fn status_of(fault: ScriptFault) -> Status
+    ensures { result ≡ status_of_fault fault }
+{
+    if fault.reason == 0 {
+        return Status::NoMemory;
+    }
+    Status::Script {
+        line: fault.line,
+        reason: fault.reason,
+    }
+}
+
+/// Runs a script on a heap of its own.
+fn run_script<K: Sink>(
+    alloc: Global,
+    script: &Script,
+    sink: &mut K,
+    kept: &mut Option<Heap>,
+) -> Status
+    requires empty { kept.old ≡ None }
+    requires runnable { IsRunnable script.now }
+    ensures answer { RunsScript script.now
+        (K.written sink.old) (K.written sink.new) kept.new result }
+    ensures fault { result ≡ Status.WriteFault → Rose (K.faults sink.old) (K.faults sink.new) }
+    ensures later { K.faults sink.old ≤ K.faults sink.new }
+{
+    match Heap::new(alloc, SHAPE, script.types()) {
+        Ok(mut heap) => match print_report(&mut heap, script, sink) {
+            Ok(()) => {
+                *kept = Some(heap);
+                Status::Done
+            }
+            Err(_) => Status::WriteFault,
+        },
+        Err(_) => Status::NoMemory,
+    }
+}

@@ -1,0 +1,64 @@
+// Runs over devices in memory. Each expected value was written by hand.
+
+ghost use Rattle.std.specs.Prelude.{◌≤◌};
+
+mod adapters;
+mod collections;
+mod devices;
+mod limits;
+mod reports;
+mod scripts;
+mod statuses;
+
+use super::run::run;
+use super::status::Status;
+use heap_script::{ListSink, ListSource, NoMemory};
+use std::alloc::Global;
+
+/// How devices behave: they move at most so many bytes a call, and one call each fails, or none
+/// where the number is 0.
+#[derive(Clone, Copy, Drop)]
+struct DeviceSetup {
+    most: usize,
+    bad_read: u32,
+    bad_write: u32,
+    room: usize,
+}
+
+/// What a run left.
+#[derive(Drop)]
+struct Trial {
+    status: Status,
+    sink: ListSink,
+    is_kept: bool,
+}
+
+const STEADY: DeviceSetup = DeviceSetup {
+    most: 1_000_000,
+    bad_read: 0,
+    bad_write: 0,
+    room: 1_000_000,
+};
+
+fn try_with(alloc: Global, script: Vec<u8>, devices: DeviceSetup) -> Result<Trial, NoMemory>
+    requires { 1 ≤ devices.most }
+{
+    let bad_reads = Vec::from_slice(alloc, &[devices.bad_read])?;
+    let bad_writes = Vec::from_slice(alloc, &[devices.bad_write])?;
+    let mut source = ListSource::new(script, devices.most, bad_reads);
+    let mut sink = ListSink::new(alloc, devices.most, bad_writes);
+    sink.reserve(devices.room)?;
+    let words: [String; 0] = [];
+    let mut kept = None;
+    let status = run(alloc, &words, &mut source, &mut sink, &mut kept);
+    let is_kept = kept.is_some();
+    Ok(Trial {
+        status,
+        sink,
+        is_kept,
+    })
+}
+
+fn try_script(alloc: Global, script: &[u8]) -> Result<Trial, NoMemory> {
+    try_with(alloc, Vec::from_slice(alloc, script)?, STEADY)
+}

@@ -1,0 +1,139 @@
+-- What a slot names, and where the fields of its object are.
+use Rattle.std.proofs.Common.{◌≡◌, ℕ, ◌+◌, ◌-◌, ◌<◌, ◌≤◌, List, length, get_or, Option, Some, None, Ok, Err, option_map, refl, sym, ap, ◌∙◌, subst, inl, inr, arith, ltb, Result}
+use mathlib.Core.Logic.{◌⊎◌}
+use Rattle.std.specs.Prelude.{MatchOption, MatchBool}
+use Rattle.std.specs.List.{Contains}
+use Rattle.std.specs.Option.{ForSome}
+use Rattle.std.proofs.lemmas.Bool.{cases_lt, cases_Bool, lt-ltb, le-ltb, ltb-true}
+use Rattle.std.proofs.lemmas.List.{get_or-map, get_or_past}
+use Rattle.std.proofs.lemmas.List.Elements.{All-get_or}
+use Rattle.gc_graph.specs.declared.line.Refusal.{Refusal}
+use Rattle.gc_graph.specs.declared.line.Refusal.TheVariants as R
+use Rattle.gc_graph.specs.State.{Setup, State, Node, node_at, size_of, IsLive}
+use Rattle.gc_graph.specs.Valid.{IsValid}
+use Rattle.gc_graph.specs.Step.{slot_at, field_count, content_of}
+use Rattle.page_words.specs.Bodies.{Body, IsPlace}
+use Rattle.page_words.specs.Seat.{SeatView}
+use Rattle.heap_engine.specs.Nodes.{place_of, body_of}
+use Rattle.heap_engine.specs.Inner.{Holds, HoldsSlotsOf, IsFieldOf}
+use Rattle.heap_engine.proofs.NodePlaces.{live_is_there, node_body}
+use Rattle.heap_engine.proofs.FieldNodes.{IsNamed, live_below, live_typed, fields_counted}
+
+-- ---- slots
+
+pub slot_live : (setup : Setup) (s : State) (p : ℕ) → IsValid setup s → ForSome (slot_at s p) (IsLive s.nodes)
+slot_live setup s p valid =
+    elim (cases_lt p (length s.slots)) [
+      | inl low ↦ All-get_or (λ slot. ForSome slot (IsLive s.nodes)) s.slots p None low valid.slots
+      | inr past ↦ λ n is. (let never : None ≡ Some n = sym (get_or_past s.slots p None past) ∙ is in cc)
+    ]
+
+content_named : (nodes : List Node) (slot : Option ℕ) → ForSome slot (IsLive nodes) → IsNamed nodes (content_of slot)
+content_named nodes None live = (tt, tt)
+content_named nodes (Some n) live = (live n refl, live_below nodes n (live n refl))
+
+pub slot_named : (setup : Setup) (s : State) (q : ℕ) → IsValid setup s → IsNamed s.nodes (content_of (slot_at s q))
+slot_named setup s q valid = content_named s.nodes (slot_at s q) (slot_live setup s q valid)
+
+-- a slot holds the place of what it names
+pub slot_item : (s : State) (slots : List (Option ℕ)) (p : ℕ) (item : Option ℕ) → HoldsSlotsOf s slots → p < 256 → item ≡ get_or slots p item
+    → item ≡ option_map (place_of s.nodes) (slot_at s p)
+slot_item s slots p item h low is =
+    is ∙ ap (λ l. get_or l p item) h.places
+    ∙ get_or-map (λ (slot : Option ℕ). option_map (place_of s.nodes) slot) s.slots p None item (omega (arith, h.count))
+
+placed : (place : ℕ → ℕ) (slot : Option ℕ) (a : ℕ) → option_map place slot ≡ Some a → (n : ℕ) × (slot ≡ Some n) × (place n ≡ a)
+placed place None a e = cc
+placed place (Some n) a e = (n, refl, (let same : place n ≡ a = cc in same))
+
+pub slot_names : (setup : Setup) (s : State) (slots : List (Option ℕ)) (p : ℕ) (item : Option ℕ) (a : ℕ) → IsValid setup s → HoldsSlotsOf s slots → p < 256
+    → item ≡ get_or slots p item → item ≡ Some a → (n : ℕ) × (slot_at s p ≡ Some n) × (place_of s.nodes n ≡ a) × IsLive s.nodes n
+slot_names setup s slots p item a valid h low at is =
+    let named = placed (place_of s.nodes) (slot_at s p) a (sym (slot_item s slots p item h low at) ∙ is) in
+    (named.0, named.1, named.2, slot_live setup s p valid named.0 named.1)
+
+pub slot_is_place : (setup : Setup) (s : State) (v : SeatView) (slots : List (Option ℕ)) (p : ℕ) (item : Option ℕ) (a : ℕ) → Holds setup s v → HoldsSlotsOf s slots → p < 256
+    → item ≡ get_or slots p item → item ≡ Some a → IsPlace v.bodies a
+slot_is_place setup s v slots p item a h named low at is =
+    let slot = slot_names setup s slots p item a h.valid named low at is in
+    (body_of (place_of s.nodes) slot.0 (node_at s.nodes slot.0), node_body s.nodes v slot.0 h.held.bodies (live_is_there s.nodes slot.0 slot.3), slot.2)
+
+-- ---- fields
+
+-- one of three: for a null slot, for a field of the slot's object, and for a field that it has not
+abbrev pub OnField : State → Option ℕ → ℕ → Type 0 → (ℕ → Type 0) → Type 0 → Type 0
+OnField s slot f none Done past = MatchOption slot none (λ n. MatchBool (ltb f (field_count (node_at s.nodes n))) (Done n) past)
+
+pub on_field : (s : State) (slot : Option ℕ) (f n : ℕ) (none : Type 0) (Done : ℕ → Type 0) (past : Type 0) → slot ≡ Some n
+    → f < field_count (node_at s.nodes n) → Done n → OnField s slot f none Done past
+on_field s slot f n none Done past is low done =
+    subst (λ x. OnField s x f none Done past) (sym is)
+    (subst (λ b. MatchBool b (Done n) past) (sym (lt-ltb f (field_count (node_at s.nodes n)) low)) done)
+
+pub past_fields : (s : State) (slot : Option ℕ) (f n : ℕ) (none : Type 0) (Done : ℕ → Type 0) (past : Type 0) → slot ≡ Some n
+    → field_count (node_at s.nodes n) ≤ f → past → OnField s slot f none Done past
+past_fields s slot f n none Done past is high done =
+    subst (λ x. OnField s x f none Done past) (sym is)
+    (subst (λ b. MatchBool b (Done n) past) (sym (le-ltb f (field_count (node_at s.nodes n)) high)) done)
+
+pub which_field : (s : State) (slot : Option ℕ) (f : ℕ) (none : Type 0) (Done : ℕ → Type 0) (past : Type 0) → OnField s slot f none Done past
+    → none ⊎ (((n : ℕ) × (slot ≡ Some n) × (f < field_count (node_at s.nodes n)) × Done n) ⊎ past)
+which_field s None f none Done past h = inl h
+which_field s (Some n) f none Done past h =
+    elim (cases_Bool (ltb f (field_count (node_at s.nodes n)))) [
+      | inl low ↦ inr (inl (n, refl, ltb-true f (field_count (node_at s.nodes n)) low, subst (λ b. MatchBool b (Done n) past) low h))
+      | inr high ↦ inr (inr (subst (λ b. MatchBool b (Done n) past) high h))
+    ]
+
+-- the node that slot p names, with its field f at the address
+pub record Found (s : State) (p f a : ℕ) : Type 0 where
+  pub node : ℕ
+  pub slot : slot_at s p ≡ Some node
+  pub live : IsLive s.nodes node
+  pub low : f < length (node_at s.nodes node).object.values
+  pub at : a ≡ place_of s.nodes node + 2 + f
+
+pub found_field : (setup : Setup) (s old : State) (p f a : ℕ) → IsValid setup s → s ≡ old → IsFieldOf old p f (Ok a) → Found s p f a
+found_field setup s old p f a valid same_state told =
+    let is : IsFieldOf s p f (Ok a) = subst (λ (t : State). IsFieldOf t p f (Ok a)) (sym same_state) told in
+    let answer : Result ℕ Refusal = Ok a in
+    elim (which_field s (slot_at s p) f (answer ≡ Err R.Null) (λ n. answer ≡ Ok (place_of s.nodes n + 2 + f)) (answer ≡ Err R.Field) is) [
+      | inl null ↦ absurd (never a R.Null null)
+      | inr rest ↦ elim rest [
+        | inl here ↦
+            (let live : IsLive s.nodes here.0 = slot_live setup s p valid here.0 here.1 in
+            record {
+              node = here.0;
+              slot = here.1;
+              live = live;
+              low = omega (arith, here.2, fields_counted setup (node_at s.nodes here.0) (live_typed setup s here.0 valid live));
+              at = same a (place_of s.nodes here.0 + 2 + f) here.3;
+            })
+        | inr past ↦ absurd (never a R.Field past)
+      ]
+    ] where
+      never : (a : ℕ) (why : Refusal) → (let answer : Result ℕ Refusal = Ok a in answer ≡ Err why) → ⊥
+      never a why e = cc
+
+      same : (a b : ℕ) → (let answer : Result ℕ Refusal = Ok a in answer ≡ Ok b) → a ≡ b
+      same a b e = cc
+
+-- what is answered for a slot that isn't null
+pub is_field : (setup : Setup) (s : State) (v : SeatView) (slots : List (Option ℕ)) (p f : ℕ) (item : Option ℕ) (a size : ℕ) (answer : Result ℕ Refusal)
+    → Holds setup s v → HoldsSlotsOf s slots → p < 256 → item ≡ get_or slots p item → item ≡ Some a
+    → ((b : Body) → Contains v.bodies b → b.place ≡ a → size ≡ b.size)
+    → ((f < size - 2) × (answer ≡ Ok (a + 2 + f))) ⊎ ((size - 2 ≤ f) × (answer ≡ Err R.Field)) → IsFieldOf s p f answer
+is_field setup s v slots p f item a size answer h named low at is sizes told =
+    let slot = slot_names setup s slots p item a h.valid named low at is in
+    let n : ℕ = slot.0 in
+    let node : Node = node_at s.nodes n in
+    let words : size ≡ size_of node = sizes (body_of (place_of s.nodes) n node) (node_body s.nodes v n h.held.bodies (live_is_there s.nodes n slot.3)) slot.2 in
+    let typed = live_typed setup s n h.valid slot.3 in
+    let count : field_count node ≡ length node.object.values = fields_counted setup node typed in
+    let extra : node.object.extra ≡ 0 = typed.extra in
+    elim told [
+      | inl here ↦ on_field s (slot_at s p) f n (answer ≡ Err R.Null) (λ m. answer ≡ Ok (place_of s.nodes m + 2 + f)) (answer ≡ Err R.Field) slot.1
+          (omega (arith, here.0, words, count, extra)) (here.1 ∙ ap (λ x. Ok (x + 2 + f)) (sym slot.2))
+      | inr past ↦ past_fields s (slot_at s p) f n (answer ≡ Err R.Null) (λ m. answer ≡ Ok (place_of s.nodes m + 2 + f)) (answer ≡ Err R.Field) slot.1
+          (omega (arith, past.0, words, count, extra)) past.1
+    ]

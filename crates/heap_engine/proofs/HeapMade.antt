@@ -1,0 +1,213 @@
+-- A new object is a new node.
+use Rattle.std.proofs.Common.{◌≡◌, ℕ, zero, suc, ◌+◌, ◌-◌, ◌*◌, ◌<◌, ◌≤◌, false, List, [], ◌∷◌, ◌++◌, length, get_or, set, map, replicate, Option, Some, None, option_map, refl, sym, ap, ◌∙◌, subst, inl, inr, arith, cond}
+use mathlib.Core.Logic.{◌⊎◌}
+use Rattle.std.specs.List.{All, sum_by}
+use Rattle.std.specs.Option.{ForSome}
+use Rattle.std.proofs.lemmas.Bool.{cases_lt, cases_Bool}
+use Rattle.std.proofs.lemmas.List.{map-set, length-set, length_push, length-replicate, get_or_append_left, get_or_push, get_or_past}
+use Rattle.std.proofs.lemmas.List.Elements.{All-head, All-tail, All-get_or, All-push, All-set, All-weaker, All-same, All-replicate}
+use Rattle.std.proofs.lemmas.List.Sums.{sum_by_push, sum_by-le, count_by-le-length}
+use Rattle.gc_graph.specs.declared.phase.Phase.TheVariants.{Idle}
+use Rattle.gc_graph.specs.declared.graph.Kind.TheVariants.{Strong}
+use Rattle.gc_graph.specs.declared.graph.Value.{Value}
+use Rattle.gc_graph.specs.declared.graph.Value.TheVariants.{Null, Ref, Word}
+use Rattle.gc_graph.specs.State.{Setup, State, Node, node_at, no_node, is_there, is_dead, size_of, IsLive, used_of}
+use Rattle.gc_graph.specs.State.Life.{Live, Dead}
+use Rattle.gc_graph.specs.Valid.{IsTyped, IsValid, NamesBelow, NamesLive, HasNamesBelow}
+use Rattle.page_words.specs.Bodies.{Body}
+use Rattle.page_words.specs.Seat.{SeatView, IsQuiet, holds}
+use Rattle.heap_engine.specs.Space.{IsInOnePage, HasRoom, Occupies, new_body}
+use Rattle.heap_engine.specs.Nodes.{place_of, word_of, body_of, bodies_of, IsThere, IsHeld}
+use Rattle.heap_engine.specs.View.{places_of}
+use Rattle.heap_engine.specs.Changes.{fresh_node, made_state}
+use Rattle.heap_engine.specs.Inner.{Holds, HasMarks, IsTallied, HoldsSlotsOf, AreTypes}
+use Rattle.heap_engine.proofs.NodeBodies.{bodies-push, length-bodies, used-bodies}
+use Rattle.heap_engine.proofs.NodeChanges.{bodies-places}
+use Rattle.heap_engine.proofs.NodePlaces.{there_below, live_is_there}
+use Rattle.heap_engine.proofs.NodeLives.{live_if_there}
+
+-- ---- one more node
+
+pub node-old : (nodes : List Node) (x : Node) (n : ℕ) → n < length nodes → node_at (nodes ++ x ∷ []) n ≡ node_at nodes n
+node-old nodes x n low = get_or_append_left nodes (x ∷ []) no_node n low
+
+pub node-new : (nodes : List Node) (x : Node) → node_at (nodes ++ x ∷ []) (length nodes) ≡ x
+node-new nodes x = get_or_push nodes x no_node (length nodes) refl
+
+old_or_new : (nodes : List Node) (x : Node) (n : ℕ) → IsThere (nodes ++ x ∷ []) n → (n < length nodes) ⊎ (n ≡ length nodes)
+old_or_new nodes x n there =
+    elim (cases_lt n (length nodes)) [
+      | inl low ↦ inl low
+      | inr high ↦ inr (omega (arith, there_below (nodes ++ x ∷ []) n there, length_push nodes x))
+    ]
+
+live_on : (nodes : List Node) (x : Node) (n : ℕ) → IsLive nodes n → IsLive (nodes ++ x ∷ []) n
+live_on nodes x n live = ap (λ (y : Node). y.life) (node-old nodes x n (there_below nodes n (live_is_there nodes n live))) ∙ live
+
+names_on : (nodes : List Node) (x : Node) (v : Value) → NamesLive nodes v → NamesLive (nodes ++ x ∷ []) v
+names_on nodes x Null names = tt
+names_on nodes x (Ref n) names = live_on nodes x n names
+names_on nodes x (Word w) names = tt
+
+below_on : (low high : ℕ) (v : Value) → low ≤ high → NamesBelow low v → NamesBelow high v
+below_on low high Null le below = tt
+below_on low high (Ref n) le below = omega (arith, below)
+below_on low high (Word w) le below = below
+
+null_words : (f : ℕ → ℕ) (fields : ℕ) → map (word_of f) (replicate fields Null) ≡ replicate fields 0
+null_words f zero = refl
+null_words f (suc fields) = ap (λ ws. 0 ∷ ws) (null_words f fields)
+
+body_is_new : (f : ℕ → ℕ) (k ty fields place : ℕ) → body_of f k (fresh_node ty fields place) ≡ new_body place ty (2 + fields) k
+body_is_new f k ty fields place =
+    let size : size_of (fresh_node ty fields place) ≡ 2 + fields = omega (arith, length-replicate fields Null) in
+    let count : fields ≡ 2 + fields - 2 = omega arith in
+    ap (λ n. (let b : Body = record { place = place; ty = ty; size = n; serial = k; fields = map (word_of f) (replicate fields Null) } in b)) size
+    ∙ ap (λ ws. (let b : Body = record { place = place; ty = ty; size = 2 + fields; serial = k; fields = ws } in b)) (null_words f fields ∙ ap (λ n. replicate n 0) count)
+
+held_made : (setup : Setup) (s : State) (v new : SeatView) (ty fields place : ℕ) → IsValid setup s → s.phase ≡ Idle → IsQuiet v → IsHeld s.nodes v
+    → Occupies v new (new_body place ty (2 + fields) (length s.nodes)) → IsHeld (s.nodes ++ fresh_node ty fields place ∷ []) new
+held_made setup s v new ty fields place valid idle quiet held occupies =
+    let x : Node = fresh_node ty fields place in
+    let after : List Node = s.nodes ++ x ∷ [] in
+    let number : 0 + length s.nodes ≡ length s.nodes = omega arith in
+    let bodies : bodies_of after ≡ bodies_of s.nodes ++ new_body place ty (2 + fields) (length s.nodes) ∷ [] =
+    bodies-push (place_of after) 0 s.nodes x refl
+    ∙ ap (λ bs. bs ++ body_of (place_of after) (0 + length s.nodes) x ∷ [])
+    (bodies-places (place_of after) (place_of s.nodes) (length s.nodes) 0 s.nodes (λ n low. ap (λ (y : Node). y.place) (node-old s.nodes x n low)) valid.named)
+    ∙ ap (λ b. bodies_of s.nodes ++ b ∷ []) (ap (λ k. body_of (place_of after) k x) number ∙ body_is_new (place_of after) (length s.nodes) ty fields place) in
+    record {
+      bodies = occupies.bodies ∙ ap (λ bs. bs ++ new_body place ty (2 + fields) (length s.nodes) ∷ []) held.bodies ∙ sym bodies;
+      dead = λ n there.
+          let none : holds new.dead (place_of after n) ≡ false = ap (λ l. holds l (place_of after n)) (occupies.dead ∙ quiet.dead) in
+          let alive : is_dead (node_at after n).life ≡ false = elim (old_or_new s.nodes x n there) [
+            | inl low ↦ (let same : (node_at after n).life ≡ (node_at s.nodes n).life = ap (λ (y : Node). y.life) (node-old s.nodes x n low) in
+                ap is_dead (same ∙ live_if_there (node_at s.nodes n).life (sym (ap is_there same) ∙ there) (valid.idle idle n)))
+            | inr last ↦ ap (λ k. is_dead (node_at after k).life) last ∙ ap (λ (y : Node). is_dead y.life) (node-new s.nodes x)
+          ] in
+          none ∙ sym alive;
+    }
+
+valid_made : (setup : Setup) (s : State) (p ty fields place : ℕ) → IsValid setup s → ty < length setup.types → fields ≡ get_or setup.types ty 0
+    → IsValid setup (made_state s p ty fields place)
+valid_made setup s p ty fields place valid known is =
+    let x : Node = fresh_node ty fields place in
+    let after : List Node = s.nodes ++ x ∷ [] in
+    let long : length after ≡ length s.nodes + 1 = length_push s.nodes x in
+    let typed : IsTyped setup x = record {
+      ty = known;
+      extra = refl;
+      kinds = ap (λ n. replicate n Strong) is;
+      values = length-replicate fields Null ∙ is;
+    } in
+    record {
+      typed = All-push (IsTyped setup) s.nodes x valid.typed typed;
+      named = All-push (HasNamesBelow (length after)) s.nodes x
+          (All-weaker (HasNamesBelow (length s.nodes)) (HasNamesBelow (length after))
+          (λ (y : Node) below. All-weaker (NamesBelow (length s.nodes)) (NamesBelow (length after)) (λ v b. below_on (length s.nodes) (length after) v (omega arith) b) y.object.values below)
+          s.nodes valid.named)
+          (All-replicate (NamesBelow (length after)) fields Null tt);
+      references = λ n live.
+          elim (old_or_new s.nodes x n (live_is_there after n live)) [
+            | inl low ↦ (let same : node_at after n ≡ node_at s.nodes n = node-old s.nodes x n low in
+                subst (λ (y : Node). All (NamesLive after) y.object.values) (sym same)
+                (All-weaker (NamesLive s.nodes) (NamesLive after) (names_on s.nodes x) (node_at s.nodes n).object.values
+                (valid.references n (sym (ap (λ (y : Node). y.life) same) ∙ live))))
+            | inr last ↦ subst (λ (y : Node). All (NamesLive after) y.object.values) (sym (ap (node_at after) last ∙ node-new s.nodes x))
+                (All-replicate (NamesLive after) fields Null tt)
+          ];
+      slots = All-set (λ slot. ForSome slot (IsLive after)) s.slots p (Some (length s.nodes))
+          (λ m e. subst (IsLive after) (let q : length s.nodes ≡ m = cc in q) (ap (λ (y : Node). y.life) (node-new s.nodes x)))
+          (All-weaker (λ slot. ForSome slot (IsLive s.nodes)) (λ slot. ForSome slot (IsLive after)) (λ slot names m e. live_on s.nodes x m (names m e)) s.slots valid.slots);
+      idle = λ e n dead.
+          elim (old_or_new s.nodes x n (ap is_there dead)) [
+            | inl low ↦ valid.idle e n (sym (ap (λ (y : Node). y.life) (node-old s.nodes x n low)) ∙ dead)
+            | inr last ↦ never (sym (ap (λ k. (node_at after k).life) last ∙ ap (λ (y : Node). y.life) (node-new s.nodes x)) ∙ dead)
+          ];
+    } where
+      never : {P : Type 0} → Live ≡ Dead → P
+      never e = cc
+
+quiet_if_idle : (s : State) (v : SeatView) → s.phase ≡ Idle → HasMarks s.phase v → IsQuiet v
+quiet_if_idle s v idle marks = subst (λ ph. HasMarks ph v) idle marks
+
+pub holds_made : (setup : Setup) (s : State) (v new : SeatView) (p ty fields place : ℕ) → Holds setup s v → s.phase ≡ Idle → ty < length setup.types
+    → fields ≡ get_or setup.types ty 0 → HasRoom setup.shape v.bodies (2 + fields) place → Occupies v new (new_body place ty (2 + fields) (length s.nodes))
+    → Holds setup (made_state s p ty fields place) new
+holds_made setup s v new p ty fields place h idle known is room occupies =
+    let quiet : IsQuiet v = quiet_if_idle s v idle h.marks in
+    record {
+      seat = occupies.count ∙ h.seat;
+      off = occupies.on ∙ h.off;
+      held = held_made setup s v new ty fields place h.valid idle quiet h.held occupies;
+      valid = valid_made setup s p ty fields place h.valid known is;
+      marks = subst (λ ph. HasMarks ph new) (sym idle)
+          (record { off = occupies.on ∙ quiet.off; marked = occupies.marked ∙ quiet.marked; traced = occupies.traced ∙ quiet.traced; dead = occupies.dead ∙ quiet.dead });
+      paged = All-same (IsInOnePage setup.shape.page_words) new.bodies (v.bodies ++ new_body place ty (2 + fields) (length s.nodes) ∷ []) occupies.bodies
+          (All-push (IsInOnePage setup.shape.page_words) v.bodies (new_body place ty (2 + fields) (length s.nodes)) h.paged (room.0, room.2.first, room.2.last));
+    }
+
+-- ---- slots and counts
+
+places_on : (nodes : List Node) (x : Node) (slots : List (Option ℕ)) → All (λ slot. ForSome slot (IsLive nodes)) slots → places_of (nodes ++ x ∷ []) slots ≡ places_of nodes slots
+places_on nodes x [] live = refl
+places_on nodes x (None ∷ slots) live = ap (λ l. None ∷ l) (places_on nodes x slots (All-tail (λ slot. ForSome slot (IsLive nodes)) None slots live))
+places_on nodes x (Some n ∷ slots) live =
+    let is : IsLive nodes n = All-head (λ slot. ForSome slot (IsLive nodes)) (Some n) slots live n refl in
+    ap (λ p. Some p ∷ places_of (nodes ++ x ∷ []) slots) (ap (λ (y : Node). y.place) (node-old nodes x n (there_below nodes n (live_is_there nodes n is))))
+    ∙ ap (λ l. Some (place_of nodes n) ∷ l) (places_on nodes x slots (All-tail (λ slot. ForSome slot (IsLive nodes)) (Some n) slots live))
+
+pub slots_made : (setup : Setup) (s : State) (slots : List (Option ℕ)) (p ty fields place : ℕ) → IsValid setup s → HoldsSlotsOf s slots
+    → HoldsSlotsOf (made_state s p ty fields place) (set slots p (Some place))
+slots_made setup s slots p ty fields place valid h =
+    let x : Node = fresh_node ty fields place in
+    let after : List Node = s.nodes ++ x ∷ [] in
+    record {
+      places = ap (λ l. set l p (Some place)) h.places
+          ∙ sym (map-set (λ (slot : Option ℕ). option_map (place_of after) slot) s.slots p (Some (length s.nodes))
+          ∙ ap (λ l. set l p (Some (place_of after (length s.nodes)))) (places_on s.nodes x s.slots valid.slots)
+          ∙ ap (λ a. set (places_of s.nodes s.slots) p (Some a)) (ap (λ (y : Node). y.place) (node-new s.nodes x)));
+      count = length-set s.slots p (Some (length s.nodes)) ∙ h.count;
+    }
+
+pub tallied_made : (s : State) (v new : SeatView) (p ty fields place objects used made : ℕ) → IsTallied s v objects used made → s.ordinal < 1000000
+    → Occupies v new (new_body place ty (2 + fields) (length s.nodes)) → IsTallied (made_state s p ty fields place) new (objects + 1) (used + (2 + fields)) (made + 1)
+tallied_made s v new p ty fields place objects used made c few occupies =
+    let b : Body = new_body place ty (2 + fields) (length s.nodes) in
+    let x : Node = fresh_node ty fields place in
+    record {
+      objects_are = omega (arith, c.objects_are, ap length occupies.bodies, length_push v.bodies b);
+      words_are = omega (arith, c.words_are, ap (sum_by (λ (y : Body). y.size)) occupies.bodies, sum_by_push (λ (y : Body). y.size) v.bodies b);
+      numbers_are = omega (arith, c.numbers_are, length_push s.nodes x);
+      few = omega (arith, c.few, length_push s.nodes x);
+      most = omega (arith, few);
+    }
+
+-- ---- bounds
+
+pub objects_few : (s : State) (v : SeatView) (objects used made : ℕ) → IsHeld s.nodes v → IsTallied s v objects used made → objects ≤ 1000000
+objects_few s v objects used made held c =
+    omega (arith, c.objects_are, ap length held.bodies, length-bodies (place_of s.nodes) 0 s.nodes, count_by-le-length (λ (n : Node). is_there n.life) s.nodes, c.few, c.most)
+
+pub type_fields : (types : List ℕ) (t : ℕ) → AreTypes types → get_or types t 0 ≤ 64
+type_fields types t are =
+    elim (cases_lt t (length types)) [
+      | inl low ↦ All-get_or (λ n. n ≤ 64) types t 0 low are.fields
+      | inr past ↦ omega (arith, get_or_past types t 0 past)
+    ]
+
+node_size : (setup : Setup) (x : Node) → AreTypes setup.types → IsTyped setup x → cond (is_there x.life) (size_of x) 0 ≤ 66
+node_size setup x are typed =
+    let size : size_of x ≤ 66 = omega (arith, typed.values, typed.extra, type_fields setup.types x.object.ty are) in
+    elim (cases_Bool (is_there x.life)) [
+      | inl present ↦ subst (λ b. cond b (size_of x) 0 ≤ 66) (sym present) size
+      | inr gone ↦ subst (λ b. cond b (size_of x) 0 ≤ 66) (sym gone) (omega arith)
+    ]
+
+pub used_few : (setup : Setup) (s : State) (v : SeatView) (objects used made : ℕ) → AreTypes setup.types → IsValid setup s → IsHeld s.nodes v → IsTallied s v objects used made
+    → used ≤ 66000000
+used_few setup s v objects used made are valid held c =
+    let most : used_of s.nodes ≤ length s.nodes * 66 =
+    sum_by-le (λ (n : Node). cond (is_there n.life) (size_of n) 0) 66 s.nodes
+    (All-weaker (IsTyped setup) (λ (n : Node). cond (is_there n.life) (size_of n) 0 ≤ 66) (λ n typed. node_size setup n are typed) s.nodes valid.typed) in
+    omega (arith, most, c.words_are, ap (sum_by (λ (b : Body). b.size)) held.bodies, used-bodies (place_of s.nodes) 0 s.nodes, c.few, c.most)

@@ -1,0 +1,52 @@
+-- The size in a header word, and the shape's bounds.
+use Rattle.std.proofs.Common.{◌≡◌, ℕ, ◌+◌, ◌*◌, ◌/◌, ◌%◌, ◌^◌, bit_or, ◌<◌, ◌≤◌, Bool, true, false, List, refl, sym, ap, ◌∙◌, arith, eqb, IsTrue, ◌↔◌}
+use Rattle.std.specs.List.{Contains}
+use Rattle.std.proofs.lemmas.Bool.{eqb-true, eq-eqb}
+use Rattle.std.proofs.lemmas.Grind.{or_after_shift}
+use Rattle.std.proofs.lemmas.Nat.{or_shifted}
+use Rattle.gc_graph.specs.Placement.{bucket_of}
+use Rattle.page_words.specs.Bodies.{Body, IsPlace, IsWhole}
+use Rattle.page_words.specs.Seat.{SeatView, IsView, IsWordAt, header_word, holds}
+use Rattle.heap_engine.specs.Space.{StartsBucket}
+use Rattle.heap_engine.proofs.PlaceBodies.{whole_body, body_size}
+
+pub header_bits : (ty size : ℕ) → ty < 16384 → size < 2 ^ 26
+    → bit_or (bit_or (size * 131072 % 18446744073709551616) (ty * 8 % 18446744073709551616)) 1 ≡ header_word true false false ty size
+header_bits ty size small few =
+    let kept : ty * 8 % 18446744073709551616 ≡ ty * 8 = omega arith in
+    let upper : bit_or (size * 131072 % 18446744073709551616) (ty * 8) ≡ size * 131072 + ty * 8 =
+    or_after_shift size 131072 18446744073709551616 (ty * 8) refl (omega arith) (omega arith) in
+    let joined : size * 131072 + ty * 8 ≡ (size * 16384 + ty) * 2 ^ 3 = omega arith in
+    let whole : bit_or ((size * 16384 + ty) * 2 ^ 3) 1 ≡ (size * 16384 + ty) * 2 ^ 3 + 1 = or_shifted (size * 16384 + ty) 3 1 (omega arith) in
+    let sum : (size * 16384 + ty) * 2 ^ 3 + 1 ≡ header_word true false false ty size = omega arith in
+    ap (λ low. bit_or (bit_or (size * 131072 % 18446744073709551616) low) 1) kept ∙ ap (λ high. bit_or high 1) (upper ∙ joined) ∙ whole ∙ sum
+
+header_size : (live mark traced : Bool) (ty size : ℕ) → ty < 16384 → header_word live mark traced ty size / 131072 ≡ size
+header_size true true true ty size l = omega arith
+header_size true true false ty size l = omega arith
+header_size true false true ty size l = omega arith
+header_size true false false ty size l = omega arith
+header_size false true true ty size l = omega arith
+header_size false true false ty size l = omega arith
+header_size false false true ty size l = omega arith
+header_size false false false ty size l = omega arith
+
+pub size_in_header : (v : SeatView) (a w : ℕ) (b : Body) → IsView v → IsWordAt v a w → Contains v.bodies b → b.place ≡ a → w / 131072 ≡ b.size
+size_in_header v a w b view word has at =
+    let whole : IsWhole v.count b = whole_body v.count v.bodies b view.whole has in
+    ap (λ n. n / 131072) (word.header b has at) ∙ header_size true (holds v.marked b.place) (holds v.traced b.place) b.ty b.size whole.ty
+
+pub size_bounds : (v : SeatView) (a w : ℕ) → IsView v → IsWordAt v a w → IsPlace v.bodies a
+    → (2 ≤ w / 131072) × (w / 131072 < 2 ^ 26) × (a + w / 131072 ≤ v.count)
+size_bounds v a w view word start =
+    let whole : IsWhole v.count start.0 = whole_body v.count v.bodies start.0 view.whole start.1 in
+    let at : start.0.place ≡ a = start.2 in
+    let size : w / 131072 ≡ start.0.size = size_in_header v a w start.0 view word start.1 at in
+    (omega (arith, body_size v.count v.bodies start.0 view.whole start.1), omega (arith, whole.size), omega (arith, whole.inside))
+
+pub bucket_at_start : (page_words : ℕ) (bodies : List Body) (bucket a size : ℕ) → IsPlace bodies a
+    → ((b : Body) → Contains bodies b → b.place ≡ a → size ≡ b.size) → IsTrue (eqb (bucket_of page_words size) bucket) ↔ StartsBucket page_words bodies bucket a
+bucket_at_start page_words bodies bucket a size start says = (
+  (λ yes. (start.0, start.1, start.2, ap (bucket_of page_words) (sym (says start.0 start.1 start.2)) ∙ eqb-true _ _ yes)),
+  (λ starts. eq-eqb _ _ (ap (bucket_of page_words) (says starts.0 starts.1 starts.2) ∙ starts.3)),
+)

@@ -1,0 +1,55 @@
+use Rattle.std.proofs.Common.{◌≡◌, ◌<◌, sym, ap, ◌∙◌, subst, arith}
+use Rattle.gc_graph.specs.State.{State}
+use Rattle.gc_graph.specs.Step.{slot_at, content_of}
+use Rattle.page_words.specs.Bodies.{IsReference}
+use Rattle.heap_engine.specs.Sound.{setup_of}
+use Rattle.heap_engine.specs.View.{View}
+use Rattle.heap_engine.specs.Nodes.{place_of, word_of}
+use Rattle.heap_engine.specs.Inner.{Outcome, reference_to}
+use Rattle.heap_engine.proofs.FieldPlaces.{Found, found_field, slot_item, slot_named}
+use Rattle.heap_engine.proofs.FieldSteps.{field_is_word, value_is_reference, slot_word, field_stored}
+use Rattle.heap_engine.proofs.heap.Heap.set.Goals as goal
+
+pub store_field-requires-clause-field : goal.store_field-requires-clause-field
+store_field-requires-clause-field c =
+    let s : State = c.self.inside.state.value in
+    let found : Found s c.args.p c.args.f c.in-Ok.a =
+    found_field (setup_of c.self.inside) s c.args.self.now.state c.args.p c.args.f c.in-Ok.a c.self.invariant.holds.valid
+    (ap (λ (h : View). h.state) (c.self.view_is ∙ c.in-Ok.ensures.same)) c.in-Ok.ensures.field in
+    field_is_word s.nodes c.self.inside.seat c.in-Ok.a found.node c.args.f c.self.invariant.holds.held.bodies found.live found.at found.low
+
+pub store_field-requires-clause-reference : goal.store_field-requires-clause-reference
+store_field-requires-clause-reference c =
+    let s : State = c.self.inside.state.value in
+    let word : c.reference_of-reference.result ≡ word_of (place_of s.nodes) (content_of (slot_at s c.args.q)) =
+    c.reference_of-reference.ensures
+    ∙ ap reference_to (slot_item s c.self.inside.slots.items c.args.q c.index.result.now c.self.invariant.slots c.requires.content c.index.ensures)
+    ∙ slot_word (place_of s.nodes) (slot_at s c.args.q) in
+    subst (IsReference c.self.inside.seat.bodies) (sym word)
+    (value_is_reference s.nodes c.self.inside.seat (content_of (slot_at s c.args.q)) c.self.invariant.holds.held.bodies
+    (slot_named (setup_of c.self.inside) s c.args.q c.self.invariant.holds.valid))
+
+pub invariant_of-self : goal.invariant_of-self
+invariant_of-self c =
+    let s : State = c.self.inside.state.value in
+    let old : s ≡ c.args.self.now.state = ap (λ (h : View). h.state) (c.self.view_is ∙ c.in-Ok.ensures.same) in
+    let word : c.reference_of-reference.result ≡ word_of (place_of s.nodes) (content_of (slot_at s c.args.q)) =
+    c.reference_of-reference.ensures
+    ∙ ap reference_to (slot_item s c.self.inside.slots.items c.args.q c.index.result.now c.self.invariant.slots c.requires.content c.index.ensures)
+    ∙ slot_word (place_of s.nodes) (slot_at s c.args.q) in
+    let found : Found s c.args.p c.args.f c.in-Ok.a =
+    found_field (setup_of c.self.inside) s c.args.self.now.state c.args.p c.args.f c.in-Ok.a c.self.invariant.holds.valid old c.in-Ok.ensures.field in
+    let few : s.ordinal < 1000000 = subst (λ (x : State). x.ordinal < 1000000) (sym old) c.requires.few in
+    let kept = field_stored (setup_of c.self.inside) s c.stored.result.value c.self.inside.seat c.store_field.new.seat c.args.p c.args.f c.in-Ok.a
+    c.reference_of-reference.result (content_of (slot_at s c.args.q)) c.self.inside.slots.items c.self.inside.objects c.self.inside.used c.self.inside.made
+    c.bodies_lie_apart.ensures c.self.invariant.holds c.self.invariant.tallied c.self.invariant.slots few found
+    (slot_named (setup_of c.self.inside) s c.args.q c.self.invariant.holds.valid) word c.store_field.ensures c.stored.ensures in
+    record {
+      types = c.self.invariant.types;
+      phase = c.self.invariant.phase ∙ kept.phase;
+      holds = kept.holds;
+      tallied = kept.tallied;
+      slots = kept.slots;
+      grey = c.self.invariant.grey;
+      room = omega (arith, c.self.invariant.room, ap (λ (o : Outcome). o.room) c.end.ensures, ap (λ (o : Outcome). o.room) c.begin.ensures);
+    }

@@ -1,0 +1,14 @@
+use Rattle.std.proofs.Common.{◌+◌, ◌-◌, ◌*◌, None, length}
+use Rattle.heap_engine.specs.Marking.{IsCounted, IsTricolour, MarksOn, GrowsWithin}
+use Rattle.heap_engine.proofs.marking.MarkList.drain.Given as goal
+
+abbrev pub invariant-loop-place : goal.invariant-loop-place
+invariant-loop-place l = record {
+  counted : IsCounted l.seat l.self;
+  tricolour : IsTricolour None l.seat l.self.places;
+  kept : MarksOn l.initial.seat l.seat;
+  grows : GrowsWithin l.initial.seat l.seat;
+}
+
+abbrev pub decreases-loop-place : goal.decreases-loop-place
+decreases-loop-place l = length l.self.places + 2 * (length l.seat.bodies - l.self.marked)

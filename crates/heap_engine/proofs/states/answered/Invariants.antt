@@ -1,0 +1,5 @@
+use Rattle.gc_graph.specs.Step.{answered}
+use Rattle.heap_engine.proofs.states.answered.Given as goal
+
+abbrev pub ghost-chosen : goal.ghost-chosen
+ghost-chosen a = answered a.about.now.state.now.value

@@ -1,0 +1,125 @@
+// Collections and sweeps.
+
+ghost use Rattle.std.specs.Prelude.{◌≡◌, ◌+◌, ◌-◌, ◌*◌, ◌^◌};
+ghost use Rattle.std.specs.Prelude.{◌<◌, ◌≤◌, false, [], length, All};
+ghost use Rattle.std.specs.Prelude.{sum_by};
+ghost use Rattle.gc_graph.specs.declared.phase.Phase.TheVariants.{Sweeping};
+ghost use Rattle.gc_graph.specs.Step.{StepGcNow, StepSweepAll, IsSwept};
+ghost use Rattle.heap_engine.specs.Space.{IsSeatOf, word_count};
+ghost use Rattle.heap_engine.specs.Marking.{PlacesDiffer};
+ghost use Rattle.heap_engine.specs.Sweeping.{IsSweptView, AreDeadSerials};
+ghost use Rattle.heap_engine.specs.Inner.{HasMarks};
+
+use crate::heap::Heap;
+use crate::outcome::Outcome;
+use crate::space::Space;
+use crate::states;
+use gc_graph::{Line, Phase, Refusal};
+use page_words::MutatorSeat;
+
+impl Heap {
+    /// A whole collection: an open sweep is ended, what the slots reach is kept, and the other
+    /// objects are condemned.
+    pub(crate) fn collect(&mut self)
+        requires few { self.old.state.ordinal < 1000000 }
+        ensures step { StepGcNow self.old.state self.new.lines self.new.state }
+        ensures ordinal { self.new.state.ordinal ≡ self.old.state.ordinal + 1 }
+        ensures setup { self.new.setup ≡ self.old.setup }
+        ensures closed { self.new.closed ≡ self.old.closed }
+    {
+        self.outcome.begin();
+        // The mark list's room is taken before anything else is done, so that marking can't fail.
+        if self.grey.reserve(self.objects).is_err() {
+            self.outcome.end(Line::Memory);
+            self.state = states::answered(&self.state);
+            return;
+        }
+        self.seat.bodies_lie_apart();
+        let words = end_sweep(self.phase, &self.space, &mut self.seat, &mut self.outcome);
+        self.objects -= self.outcome.finalised();
+        self.used -= words;
+        self.state = states::swept(&self.state, &self.outcome);
+        self.seat.bodies_lie_apart();
+        gc_graph::reach_is_least();
+        self.grey
+            .mark_reachable(&self.space, &mut self.seat, &self.slots);
+        self.state = states::paused(&self.state, &self.seat);
+        self.phase = Phase::Sweeping;
+        self.outcome.end(pause_line(self.objects, self.grey.marked(), self.grey.traced()));
+        self.state = states::answered(&self.state);
+    }
+
+    /// Ends the open sweep, or refuses where none is open.
+    pub(crate) fn sweep_all(&mut self)
+        requires few { self.old.state.ordinal < 1000000 }
+        ensures step { StepSweepAll self.old.setup self.old.state.phase
+            self.old.state self.new.lines self.new.state }
+        ensures ordinal { self.new.state.ordinal ≡ self.old.state.ordinal + 1 }
+        ensures setup { self.new.setup ≡ self.old.setup }
+        ensures closed { self.new.closed ≡ self.old.closed }
+    {
+        match self.phase {
+            Phase::Idle => self.refuse(Refusal::Phase),
+            Phase::Sweeping => self.finish_sweep(),
+        }
+    }
+
+    /// Ends the open sweep.
+    fn finish_sweep(&mut self)
+        requires few { self.old.state.ordinal < 1000000 }
+        requires sweeping { self.old.state.phase ≡ Sweeping }
+        ensures step { IsSwept self.old.setup self.old.state self.new.lines self.new.state }
+        ensures ordinal { self.new.state.ordinal ≡ self.old.state.ordinal + 1 }
+        ensures setup { self.new.setup ≡ self.old.setup }
+        ensures closed { self.new.closed ≡ self.old.closed }
+    {
+        self.outcome.begin();
+        self.seat.bodies_lie_apart();
+        let words = end_sweep(self.phase, &self.space, &mut self.seat, &mut self.outcome);
+        self.objects -= self.outcome.finalised();
+        self.used -= words;
+        self.phase = Phase::Idle;
+        self.state = states::swept(&self.state, &self.outcome);
+        let pages = self.space.pages();
+        self.outcome.end(Line::Swept { c: pages });
+        self.state = states::answered(&self.state);
+    }
+}
+
+/// Ends an open sweep, and answers how many words the finalised objects had.
+fn end_sweep(phase: Phase, space: &Space, seat: &mut MutatorSeat, outcome: &mut Outcome) -> u32
+    requires heap { IsSeatOf space.now seat.old }
+    requires off { seat.old.on ≡ false }
+    requires marks { HasMarks phase seat.old }
+    requires differ { PlacesDiffer seat.old.bodies }
+    requires total { sum_by (λ b. b.size) seat.old.bodies < 2 ^ 32 }
+    requires serials { All (λ b. b.serial < 2 ^ 32) seat.old.bodies }
+    requires numbers { outcome.old.numbers ≡ [] }
+    requires room { word_count space.now ≤ 2 * outcome.old.room }
+    ensures swept { IsSweptView seat.old seat.new }
+    ensures numbers { AreDeadSerials seat.old outcome.new.numbers }
+    ensures objects { length outcome.new.numbers + length seat.new.bodies ≡ length seat.old.bodies }
+    ensures words { result + sum_by (λ b. b.size) seat.new.bodies
+        ≡ sum_by (λ b. b.size) seat.old.bodies }
+    ensures last { outcome.new.last ≡ outcome.old.last }
+    ensures kept { outcome.new.room ≡ outcome.old.room }
+{
+    match phase {
+        Phase::Idle => 0,
+        Phase::Sweeping => outcome.sweep(space, seat),
+    }
+}
+
+/// The line of a pause that kept so many of the objects.
+fn pause_line(objects: u32, kept: u32, traced: u32) -> Line
+    requires { kept ≤ objects }
+    ensures { result ≡ Line.Pause kept (objects - kept) 0 traced false }
+{
+    Line::Pause {
+        kept,
+        dead: objects - kept,
+        crew: 0,
+        traced,
+        walked: false,
+    }
+}

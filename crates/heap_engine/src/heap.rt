@@ -1,0 +1,157 @@
+// A heap that does commands. Each command is one step of the graph; the files beside this one do
+// them.
+
+ghost use Rattle.std.specs.Prelude.{◌≡◌, ◌+◌, ◌<◌, ◌≤◌, true};
+ghost use Rattle.std.specs.Prelude.{false, [], length, Some, None, IfOk};
+ghost use Rattle.std.specs.Prelude.{All, slice_get, replicate};
+ghost use Rattle.gc_graph.specs.State.{empty_state};
+ghost use Rattle.gc_graph.specs.Step.{Step};
+ghost use Rattle.gc_graph.specs.Lawful.{IsAllowed, IsTimely, IsEndLine};
+ghost use Rattle.heap_engine.specs.Space.{IsShape};
+
+use crate::marking::MarkList;
+use crate::outcome::Outcome;
+use crate::space::Space;
+use crate::states::{self, States};
+use gc_graph::{Command, Line, NoMemory, Phase};
+use ghost_values::GhostValue;
+use page_words::MutatorSeat;
+use std::alloc::Global;
+use std::marker::Model;
+
+const SLOTS: u32 = 256;
+
+/// How many pages a heap has, and how many words a page.
+#[derive(Clone, Copy, Debug, PartialEq, Eq, Drop)]
+pub struct Config {
+    pub pages: u32,
+    pub page_words: u32,
+}
+
+/// A heap. It belongs to one thread (`include/cppgc/heap.h`).
+#[derive(Drop)]
+pub struct Heap {
+    pub(crate) space: Space,
+    pub(crate) seat: MutatorSeat,
+    pub(crate) types: Vec<u32>,
+    /// The place of what each slot names.
+    pub(crate) slots: Vec<Option<u32>>,
+    pub(crate) phase: Phase,
+    /// How many objects are not finalised, and how many words they have.
+    pub(crate) objects: u32,
+    pub(crate) used: u32,
+    /// How many numbers were given out.
+    pub(crate) made: u32,
+    pub(crate) grey: MarkList,
+    pub(crate) outcome: Outcome,
+    pub(crate) closed: bool,
+    pub(crate) state: GhostValue<States>,
+}
+
+impl Model for Heap {
+    ghost use Rattle.heap_engine.specs.View.{View};
+
+    ghost Value = { View };
+
+    ghost use Rattle.heap_engine.specs.Sound.{view_of, IsSound};
+
+    ghost view = { view_of };
+
+    ghost invariant = { IsSound };
+}
+
+impl Heap {
+    /// An empty heap, which takes all the memory that its commands need but for collections. Want
+    /// of memory is free.
+    pub fn new(alloc: Global, config: Config, types: &[u32]) -> Result<Heap, NoMemory>
+        requires shape { IsShape (record { pages = config.pages; page_words = config.page_words }) }
+        requires types { All (λ n. n ≤ 64) types.now }
+        requires few { length types.now < 16384 }
+        ensures setup { IfOk result (λ h. h.setup ≡ record {
+          shape = record { pages = config.pages; page_words = config.page_words };
+          types = types.now;
+        }) }
+        ensures state { IfOk result (λ h. h.state ≡ empty_state) }
+        ensures lines { IfOk result (λ h. h.lines ≡ []) }
+        ensures closed { IfOk result (λ h. h.closed ≡ false) }
+    {
+        let (space, seat) = Space::new(alloc, config.pages, config.page_words)?;
+        let words = space.word_count();
+        let outcome = Outcome::new(alloc, words as usize / 2 + 1)?;
+        let types = Vec::from_slice(alloc, types)?;
+        let slots = empty_slots(alloc)?;
+        Ok(Heap {
+            space,
+            seat,
+            types,
+            slots,
+            phase: Phase::Idle,
+            objects: 0,
+            used: 0,
+            made: 0,
+            grey: MarkList::new(alloc),
+            outcome,
+            closed: false,
+            state: states::empty(),
+        })
+    }
+
+    /// Does one command, and answers how many lines its outcome has.
+    pub fn act(&mut self, command: &Command) -> u32
+        requires few { self.old.state.ordinal < 1000000 }
+        requires opened { self.old.closed ≡ false }
+        requires allowed { IsAllowed (length self.old.setup.types) command.now }
+        requires timely { IsTimely self.old.state.phase command.now }
+        ensures step { Step self.old.setup self.old.state command.now
+            self.new.lines self.new.state }
+        ensures count { result ≡ length self.new.lines }
+        ensures ordinal { self.new.state.ordinal ≡ self.old.state.ordinal + 1 }
+        ensures setup { self.new.setup ≡ self.old.setup }
+        ensures closed { self.new.closed ≡ false }
+    {
+        match *command {
+            Command::New { p, t, e: _ } => self.new_object(p, t),
+            Command::Set { p, f, q } => self.set(p, f, q),
+            Command::SetNull { p, f } => self.set_null(p, f),
+            Command::Get { p, f, q } => self.get(p, f, q),
+            Command::Drop { p } => self.drop_slot(p),
+            Command::GcNow { want: _ } => self.collect(),
+            Command::SweepAll => self.sweep_all(),
+        }
+        self.outcome.count()
+    }
+
+    /// A line of the last outcome.
+    pub fn line(&mut self, index: u32) -> Line
+        requires { index < length self.old.lines }
+        ensures line { slice_get self.old.lines index ≡ Some result }
+        ensures same { self.new ≡ self.old }
+    {
+        self.outcome.line(index)
+    }
+
+    /// Ends the heap's run, and answers the line that counts what is not finalised.
+    pub fn close(&mut self) -> Line
+        ensures line { IsEndLine self.old.setup self.old.state result }
+        ensures same { self.new ≡ record self.old { closed = true } }
+    {
+        let pages = self.space.used_pages(&mut self.seat);
+        self.closed = true;
+        Line::End {
+            n: self.objects,
+            u: self.used,
+            g: pages,
+        }
+    }
+}
+
+/// The slots of an empty heap.
+fn empty_slots(alloc: Global) -> Result<Vec<Option<u32>>, NoMemory>
+    ensures { IfOk result (λ v. v.items ≡ replicate 256 None) }
+{
+    let mut slots = Vec::with_capacity(alloc, SLOTS as usize)?;
+    for _slot in 0..SLOTS {
+        slots.push_reserved(None);
+    }
+    Ok(slots)
+}

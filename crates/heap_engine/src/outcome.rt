@@ -1,0 +1,121 @@
+// The outcome of a command: finalised nodes, and then at most one more line. It takes no memory
+// after it was made.
+
+ghost use Rattle.std.specs.Prelude.{◌≡◌, ◌+◌, ◌*◌, ◌^◌, ◌<◌};
+ghost use Rattle.std.specs.Prelude.{◌≤◌, false, [], length, Some, None};
+ghost use Rattle.std.specs.Prelude.{IfOk, All, sum_by, slice_get};
+ghost use Rattle.page_words.specs.Bodies.{Body};
+ghost use Rattle.heap_engine.specs.Space.{IsSeatOf, word_count};
+ghost use Rattle.heap_engine.specs.Marking.{PlacesDiffer};
+ghost use Rattle.heap_engine.specs.Sweeping.{IsJudged, IsSweptView, AreDeadSerials};
+ghost use Rattle.heap_engine.specs.Inner.{lines_of};
+
+use crate::space::Space;
+use gc_graph::{Line, NoMemory};
+use page_words::MutatorSeat;
+use std::alloc::Global;
+use std::marker::Model;
+
+/// The lines of the last command.
+#[derive(Drop)]
+pub struct Outcome {
+    finalised: Vec<u32>,
+    last: Option<Line>,
+}
+
+impl Model for Outcome {
+    ghost use Rattle.std.specs.Prelude.{◌^◌, ◌≤◌, length, vec_capacity};
+    ghost use Rattle.heap_engine.specs.Inner.{Outcome as Printed};
+
+    ghost Value = { Printed };
+
+    ghost view = { λ o. record {
+      numbers = o.finalised.items;
+      last = o.last;
+      room = vec_capacity o.finalised;
+    } };
+
+    ghost invariant = { λ o. length o.finalised.items ≤ 2 ^ 24 };
+}
+
+impl Outcome {
+    /// An outcome without lines, with room for so many finalised nodes. Want of memory is free.
+    pub fn new(alloc: Global, room: usize) -> Result<Outcome, NoMemory>
+        ensures numbers { IfOk result (λ o. o.numbers ≡ []) }
+        ensures last { IfOk result (λ o. o.last ≡ None) }
+        ensures room { IfOk result (λ o. o.room ≡ room) }
+    {
+        let finalised = Vec::with_capacity(alloc, room)?;
+        Ok(Outcome {
+            finalised,
+            last: None,
+        })
+    }
+
+    /// Forgets the lines.
+    pub fn begin(&mut self)
+        ensures { self.new ≡ record self.old { numbers = []; last = None } }
+    {
+        self.finalised.clear();
+        self.last = None;
+    }
+
+    /// Adds the last line.
+    pub fn end(&mut self, line: Line)
+        ensures { self.new ≡ record self.old { last = Some line } }
+    {
+        self.last = Some(line);
+    }
+
+    /// Sweeps all pages: the finalised nodes are the lines. Answers how many words their objects
+    /// had.
+    pub fn sweep(&mut self, space: &Space, seat: &mut MutatorSeat) -> u32
+        requires heap { IsSeatOf space.now seat.old }
+        requires off { seat.old.on ≡ false }
+        requires judged { IsJudged seat.old }
+        requires differ { PlacesDiffer seat.old.bodies }
+        requires total { sum_by (λ b. b.size) seat.old.bodies < 2 ^ 32 }
+        requires serials { All (λ b. b.serial < 2 ^ 32) seat.old.bodies }
+        requires empty { self.old.numbers ≡ [] }
+        requires room { word_count space.now ≤ 2 * self.old.room }
+        ensures swept { IsSweptView seat.old seat.new }
+        ensures numbers { AreDeadSerials seat.old self.new.numbers }
+        ensures objects { length self.new.numbers + length seat.new.bodies
+            ≡ length seat.old.bodies }
+        ensures words { result + sum_by (λ b. b.size) seat.new.bodies
+            ≡ sum_by (λ b. b.size) seat.old.bodies }
+        ensures last { self.new.last ≡ self.old.last }
+        ensures kept { self.new.room ≡ self.old.room }
+    {
+        space.shape_is_valid();
+        space.sweep_all(seat, &mut self.finalised)
+    }
+
+    /// How many nodes were finalised.
+    pub fn finalised(&self) -> u32
+        ensures { result ≡ length self.now.numbers }
+    {
+        self.finalised.len() as u32
+    }
+
+    /// How many lines there are.
+    pub fn count(&self) -> u32
+        ensures { result ≡ length (lines_of self.now) }
+    {
+        self.finalised.len() as u32 + u32::from(self.last.is_some())
+    }
+
+    /// A line of the outcome.
+    pub fn line(&self, index: u32) -> Line
+        requires { index < length (lines_of self.now) }
+        ensures { slice_get (lines_of self.now) index ≡ Some result }
+    {
+        match self.finalised.get(index as usize) {
+            Some(number) => Line::Finalise { k: *number },
+            None => match self.last {
+                Some(line) => line,
+                None => unreachable!(),
+            },
+        }
+    }
+}
