@@ -7,58 +7,59 @@ use Rattle.cppgc_main.specs.declared.status.Status.{Status}
 use Rattle.cppgc_main.specs.declared.status.Status.TheVariants as S
 use Rattle.cppgc_main.specs.Headline.{RunsBytes, RunsScript, IsDone, IsStopped, IsTooLongInput, IsFaultyInput}
 use Rattle.cppgc_main.proofs.Inputs.{read_whole_of}
+use Rattle.gc_graph.specs.State.{Shape}
 use Rattle.gc_graph.specs.Script.{Script, IsScript, IsInLimits}
 
 -- an answer to the script is one to its bytes
-pub bytes_of_script : (bytes : List ℕ) (script : Script) (w z : Option (List ℕ)) (kept : Option View) (status : Status) → IsInLimits bytes
-    → IsScript bytes script → RunsScript script w z kept status → RunsBytes bytes w z kept status
-bytes_of_script bytes script w z kept S.Done limits is answer = (script, limits, is, answer)
-bytes_of_script bytes script w z kept S.WriteFault limits is answer = (script, limits, is, answer.0, answer.1)
-bytes_of_script bytes script w z kept S.NoMemory limits is answer = answer
-bytes_of_script bytes script w z kept S.TooLong limits is answer = absurd answer
-bytes_of_script bytes script w z kept (S.Script line reason) limits is answer = absurd answer
-bytes_of_script bytes script w z kept S.ReadFault limits is answer = absurd answer
-bytes_of_script bytes script w z kept S.Usage limits is answer = absurd answer
+pub bytes_of_script : (shape : Shape) (bytes : List ℕ) (script : Script) (w z : Option (List ℕ)) (kept : Option View) (status : Status) → IsInLimits bytes
+    → IsScript bytes script → RunsScript shape script w z kept status → RunsBytes shape bytes w z kept status
+bytes_of_script shape bytes script w z kept S.Done limits is answer = (script, limits, is, answer)
+bytes_of_script shape bytes script w z kept S.WriteFault limits is answer = (script, limits, is, answer.0, answer.1)
+bytes_of_script shape bytes script w z kept S.NoMemory limits is answer = answer
+bytes_of_script shape bytes script w z kept S.TooLong limits is answer = absurd answer
+bytes_of_script shape bytes script w z kept (S.Script line reason) limits is answer = absurd answer
+bytes_of_script shape bytes script w z kept S.ReadFault limits is answer = absurd answer
+bytes_of_script shape bytes script w z kept S.Usage limits is answer = absurd answer
 
 -- the bytes with which a run was answered were read
-pub record Answers (lo ln w z : Option (List ℕ)) (kept : Option View) (status : Status) : Type 0 where
+pub record Answers (shape : Shape) (lo ln w z : Option (List ℕ)) (kept : Option View) (status : Status) : Type 0 where
   pub bytes : List ℕ
   pub read : IsReadFrom lo ln 16777216 bytes
-  pub answer : RunsBytes bytes w z kept status
+  pub answer : RunsBytes shape bytes w z kept status
 
-done_of : (lo ln w z : Option (List ℕ)) (kept : Option View) (bytes : List ℕ) → IsReadFrom lo ln 16777216 bytes
-    → RunsBytes bytes w z kept S.Done → MatchOption kept ⊥ (λ heap. IsDone lo ln w z heap)
-done_of lo ln w z None bytes read answer = answer.3
-done_of lo ln w z (Some heap) bytes read answer = record {
+done_of : (shape : Shape) (lo ln w z : Option (List ℕ)) (kept : Option View) (bytes : List ℕ) → IsReadFrom lo ln 16777216 bytes
+    → RunsBytes shape bytes w z kept S.Done → MatchOption kept ⊥ (λ heap. IsDone shape lo ln w z heap)
+done_of shape lo ln w z None bytes read answer = answer.3
+done_of shape lo ln w z (Some heap) bytes read answer = record {
   script = answer.0;
   input = record { bytes = bytes; whole = read_whole_of lo ln bytes read answer.1; limits = answer.1; grammar = answer.2 };
   run = answer.3;
 }
 
-pub answers_done : (lo ln w z : Option (List ℕ)) (kept : Option View) (status : Status) → Answers lo ln w z kept status → status ≡ S.Done
-    → MatchOption kept ⊥ (λ heap. IsDone lo ln w z heap)
-answers_done lo ln w z kept status a is = done_of lo ln w z kept a.bytes a.read (subst (RunsBytes a.bytes w z kept) is a.answer)
+pub answers_done : (shape : Shape) (lo ln w z : Option (List ℕ)) (kept : Option View) (status : Status) → Answers shape lo ln w z kept status → status ≡ S.Done
+    → MatchOption kept ⊥ (λ heap. IsDone shape lo ln w z heap)
+answers_done shape lo ln w z kept status a is = done_of shape lo ln w z kept a.bytes a.read (subst (RunsBytes shape a.bytes w z kept) is a.answer)
 
-pub answers_stopped : (lo ln w z : Option (List ℕ)) (kept : Option View) (status : Status) → Answers lo ln w z kept status → status ≡ S.WriteFault
-    → IsStopped lo ln w z
-answers_stopped lo ln w z kept status a is =
-    let answer = subst (RunsBytes a.bytes w z kept) is a.answer in
+pub answers_stopped : (shape : Shape) (lo ln w z : Option (List ℕ)) (kept : Option View) (status : Status) → Answers shape lo ln w z kept status → status ≡ S.WriteFault
+    → IsStopped shape lo ln w z
+answers_stopped shape lo ln w z kept status a is =
+    let answer = subst (RunsBytes shape a.bytes w z kept) is a.answer in
     record {
       script = answer.0;
       input = record { bytes = a.bytes; whole = read_whole_of lo ln a.bytes a.read answer.1; limits = answer.1; grammar = answer.2 };
       run = answer.4;
     }
 
-pub answers_too_long : (lo ln w z : Option (List ℕ)) (kept : Option View) (status : Status) → Answers lo ln w z kept status → status ≡ S.TooLong
+pub answers_too_long : (shape : Shape) (lo ln w z : Option (List ℕ)) (kept : Option View) (status : Status) → Answers shape lo ln w z kept status → status ≡ S.TooLong
     → IsTooLongInput lo ln
-answers_too_long lo ln w z kept status a is =
-    let answer = subst (RunsBytes a.bytes w z kept) is a.answer in
+answers_too_long shape lo ln w z kept status a is =
+    let answer = subst (RunsBytes shape a.bytes w z kept) is a.answer in
     record { bytes = a.bytes; read = a.read; long = answer.2 }
 
-pub answers_script : (lo ln w z : Option (List ℕ)) (kept : Option View) (status : Status) → Answers lo ln w z kept status
+pub answers_script : (shape : Shape) (lo ln w z : Option (List ℕ)) (kept : Option View) (status : Status) → Answers shape lo ln w z kept status
     → (line reason : ℕ) → status ≡ S.Script line reason → (reason ≡ 9) × IsFaultyInput lo ln line
-answers_script lo ln w z kept status a line reason is =
-    let answer = subst (RunsBytes a.bytes w z kept) is a.answer in (
+answers_script shape lo ln w z kept status a line reason is =
+    let answer = subst (RunsBytes shape a.bytes w z kept) is a.answer in (
       answer.2,
       record {
         bytes = a.bytes;
@@ -70,37 +71,37 @@ answers_script lo ln w z kept status a line reason is =
       },
     )
 
-pub answers_no_usage : (lo ln w z : Option (List ℕ)) (kept : Option View) (status : Status) → Answers lo ln w z kept status → status ≡ S.Usage → ⊥
-answers_no_usage lo ln w z kept status a is = subst (RunsBytes a.bytes w z kept) is a.answer
+pub answers_no_usage : (shape : Shape) (lo ln w z : Option (List ℕ)) (kept : Option View) (status : Status) → Answers shape lo ln w z kept status → status ≡ S.Usage → ⊥
+answers_no_usage shape lo ln w z kept status a is = subst (RunsBytes shape a.bytes w z kept) is a.answer
 
-pub answers_no_read_fault : (lo ln w z : Option (List ℕ)) (kept : Option View) (status : Status) → Answers lo ln w z kept status
+pub answers_no_read_fault : (shape : Shape) (lo ln w z : Option (List ℕ)) (kept : Option View) (status : Status) → Answers shape lo ln w z kept status
     → status ≡ S.ReadFault → ⊥
-answers_no_read_fault lo ln w z kept status a is = subst (RunsBytes a.bytes w z kept) is a.answer
+answers_no_read_fault shape lo ln w z kept status a is = subst (RunsBytes shape a.bytes w z kept) is a.answer
 
-silent_of : (bytes : List ℕ) (w z : Option (List ℕ)) (kept : Option View) (status : Status) → RunsBytes bytes w z kept status
+silent_of : (shape : Shape) (bytes : List ℕ) (w z : Option (List ℕ)) (kept : Option View) (status : Status) → RunsBytes shape bytes w z kept status
     → ¬ (status ≡ S.Done) → ¬ (status ≡ S.WriteFault) → Grew w z []
-silent_of bytes w z kept S.Done answer not_done not_stopped = absurd (not_done refl)
-silent_of bytes w z kept S.WriteFault answer not_done not_stopped = absurd (not_stopped refl)
-silent_of bytes w z kept S.NoMemory answer not_done not_stopped = answer.1
-silent_of bytes w z kept S.TooLong answer not_done not_stopped = answer.1
-silent_of bytes w z kept (S.Script line reason) answer not_done not_stopped = answer.1
-silent_of bytes w z kept S.ReadFault answer not_done not_stopped = absurd answer
-silent_of bytes w z kept S.Usage answer not_done not_stopped = absurd answer
+silent_of shape bytes w z kept S.Done answer not_done not_stopped = absurd (not_done refl)
+silent_of shape bytes w z kept S.WriteFault answer not_done not_stopped = absurd (not_stopped refl)
+silent_of shape bytes w z kept S.NoMemory answer not_done not_stopped = answer.1
+silent_of shape bytes w z kept S.TooLong answer not_done not_stopped = answer.1
+silent_of shape bytes w z kept (S.Script line reason) answer not_done not_stopped = answer.1
+silent_of shape bytes w z kept S.ReadFault answer not_done not_stopped = absurd answer
+silent_of shape bytes w z kept S.Usage answer not_done not_stopped = absurd answer
 
-pub answers_silent : (lo ln w z : Option (List ℕ)) (kept : Option View) (status : Status) → Answers lo ln w z kept status
+pub answers_silent : (shape : Shape) (lo ln w z : Option (List ℕ)) (kept : Option View) (status : Status) → Answers shape lo ln w z kept status
     → ¬ (status ≡ S.Done) → ¬ (status ≡ S.WriteFault) → Grew w z []
-answers_silent lo ln w z kept status a = silent_of a.bytes w z kept status a.answer
+answers_silent shape lo ln w z kept status a = silent_of shape a.bytes w z kept status a.answer
 
-kept_of : (bytes : List ℕ) (w z : Option (List ℕ)) (kept : Option View) (status : Status) → RunsBytes bytes w z kept status
+kept_of : (shape : Shape) (bytes : List ℕ) (w z : Option (List ℕ)) (kept : Option View) (status : Status) → RunsBytes shape bytes w z kept status
     → ¬ (status ≡ S.Done) → kept ≡ None
-kept_of bytes w z kept S.Done answer not_done = absurd (not_done refl)
-kept_of bytes w z kept S.WriteFault answer not_done = answer.3
-kept_of bytes w z kept S.NoMemory answer not_done = answer.0
-kept_of bytes w z kept S.TooLong answer not_done = answer.0
-kept_of bytes w z kept (S.Script line reason) answer not_done = answer.0
-kept_of bytes w z kept S.ReadFault answer not_done = absurd answer
-kept_of bytes w z kept S.Usage answer not_done = absurd answer
+kept_of shape bytes w z kept S.Done answer not_done = absurd (not_done refl)
+kept_of shape bytes w z kept S.WriteFault answer not_done = answer.3
+kept_of shape bytes w z kept S.NoMemory answer not_done = answer.0
+kept_of shape bytes w z kept S.TooLong answer not_done = answer.0
+kept_of shape bytes w z kept (S.Script line reason) answer not_done = answer.0
+kept_of shape bytes w z kept S.ReadFault answer not_done = absurd answer
+kept_of shape bytes w z kept S.Usage answer not_done = absurd answer
 
-pub answers_kept : (lo ln w z : Option (List ℕ)) (kept : Option View) (status : Status) → Answers lo ln w z kept status
+pub answers_kept : (shape : Shape) (lo ln w z : Option (List ℕ)) (kept : Option View) (status : Status) → Answers shape lo ln w z kept status
     → ¬ (status ≡ S.Done) → kept ≡ None
-answers_kept lo ln w z kept status a = kept_of a.bytes w z kept status a.answer
+answers_kept shape lo ln w z kept status a = kept_of shape a.bytes w z kept status a.answer

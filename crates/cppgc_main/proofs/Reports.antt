@@ -1,10 +1,10 @@
 -- Reports that are written part by part: the type lines, the outcomes, and the end line.
-use Rattle.std.proofs.Common.{◌≡◌, ℕ, true, List, [], length, take, Option, refl, sym, ◌∙◌, subst, inl, inr, arith}
+use Rattle.std.proofs.Common.{◌≡◌, ℕ, true, List, [], length, take, Option, ap, refl, sym, ◌∙◌, subst, inl, inr, arith}
 use Rattle.std.specs.Prelude.{Result, Ok, Err, OnOk, OnErr}
 use Rattle.std.proofs.lemmas.List.{take_all}
 use Rattle.gc_graph.specs.declared.command.Command.{Command}
 use Rattle.gc_graph.specs.declared.line.Line.{Line}
-use Rattle.gc_graph.specs.State.{empty_state}
+use Rattle.gc_graph.specs.State.{Setup, Shape, empty_state}
 use Rattle.gc_graph.specs.Lawful.{IsLawful, IsEndLine}
 use Rattle.gc_graph.specs.Report.{line_bytes, lines_bytes, type_lines, outcomes_bytes}
 use Rattle.gc_graph.specs.Script.{Script}
@@ -16,42 +16,45 @@ use Rattle.cppgc_main.specs.Headline.{IsWholeRun, IsCutShort}
 use Rattle.cppgc_main.proofs.Writing.{grew, grew_front, longer}
 use Rattle.cppgc_main.proofs.Printing.{printed_none}
 
+pub setup_is : (setup : Setup) (types : List ℕ) → setup.types ≡ types → setup ≡ setup_of setup.shape types
+setup_is setup types is = ap (λ ts. setup_of setup.shape ts) is
+
 -- the heap that did all the commands of the script
-pub record HasRun (script : Script) (x y : Option (List ℕ)) (old mid : View) : Type 0 where
-  pub setup : old.setup ≡ setup_of script.types
+pub record HasRun (shape : Shape) (script : Script) (x y : Option (List ℕ)) (old mid : View) : Type 0 where
+  pub setup : old.setup ≡ setup_of shape script.types
   pub same : mid.setup ≡ old.setup
   pub run : IsPrintedRun old.setup script.commands x y mid.state
 
 -- the same in words of the script alone
-run_of : (script : Script) (x y : Option (List ℕ)) (old mid : View) → HasRun script x y old mid
-    → IsPrintedRun (setup_of script.types) script.commands x y mid.state
-run_of script x y old mid has = subst (λ s. IsPrintedRun s script.commands x y mid.state) has.setup has.run
+run_of : (shape : Shape) (script : Script) (x y : Option (List ℕ)) (old mid : View) → HasRun shape script x y old mid
+    → IsPrintedRun (setup_of shape script.types) script.commands x y mid.state
+run_of shape script x y old mid has = subst (λ s. IsPrintedRun s script.commands x y mid.state) has.setup has.run
 
-end_of : (script : Script) (x y : Option (List ℕ)) (old mid : View) (end : Line) → HasRun script x y old mid
-    → IsEndLine mid.setup mid.state end → IsEndLine (setup_of script.types) mid.state end
-end_of script x y old mid end has ended = subst (λ s. IsEndLine s mid.state end) (has.same ∙ has.setup) ended
+end_of : (shape : Shape) (script : Script) (x y : Option (List ℕ)) (old mid : View) (end : Line) → HasRun shape script x y old mid
+    → IsEndLine mid.setup mid.state end → IsEndLine (setup_of shape script.types) mid.state end
+end_of shape script x y old mid end has ended = subst (λ s. IsEndLine s mid.state end) (has.same ∙ has.setup) ended
 
-pub whole_run : (script : Script) (w x y z : Option (List ℕ)) (old mid heap : View) (end : Line)
-    → Grew w x (lines_bytes (type_lines 0 script.types)) → HasRun script x y old mid → mid.state.ordinal ≡ length script.commands
+pub whole_run : (shape : Shape) (script : Script) (w x y z : Option (List ℕ)) (old mid heap : View) (end : Line)
+    → Grew w x (lines_bytes (type_lines 0 script.types)) → HasRun shape script x y old mid → mid.state.ordinal ≡ length script.commands
     → IsEndLine mid.setup mid.state end → heap ≡ record mid { closed = true } → Grew y z (line_bytes end)
-    → IsWholeRun script w z heap
-whole_run script w x y z old mid heap end types has count ended is last =
-    let run = run_of script x y old mid has in
-    subst (λ (h : View). IsWholeRun script w z h) (sym is) (record {
+    → IsWholeRun shape script w z heap
+whole_run shape script w x y z old mid heap end types has count ended is last =
+    let run = run_of shape script x y old mid has in
+    subst (λ (h : View). IsWholeRun shape script w z h) (sym is) (record {
       outcomes = run.outcomes;
       end = end;
       lawful = run.lawful;
-      ended = end_of script x y old mid end has ended;
+      ended = end_of shape script x y old mid end has ended;
       report = grew w y z _ _ (grew w x y _ _ types run.written) last;
       setup = has.same ∙ has.setup;
       closed = refl;
       count = count;
     })
 
-pub cut_in_types : (script : Script) (w x : Option (List ℕ)) → GrewByFront w x (lines_bytes (type_lines 0 script.types)) → IsCutShort script w x
-cut_in_types script w x front =
-    let none : IsPrintedRun (setup_of script.types) (take 0 script.commands) x x empty_state =
-    printed_none (setup_of script.types) script.commands x empty_state refl in
+pub cut_in_types : (shape : Shape) (script : Script) (w x : Option (List ℕ)) → GrewByFront w x (lines_bytes (type_lines 0 script.types)) → IsCutShort shape script w x
+cut_in_types shape script w x front =
+    let none : IsPrintedRun (setup_of shape script.types) (take 0 script.commands) x x empty_state =
+    printed_none (setup_of shape script.types) script.commands x empty_state refl in
     record {
       number = 0;
       within = omega arith;
@@ -63,9 +66,9 @@ cut_in_types script w x front =
       written = longer w x _ [] (longer w x _ (outcomes_bytes none.outcomes) front);
     }
 
-pub cut_in_outcomes : (script : Script) (w x y : Option (List ℕ)) (old : View) → Grew w x (lines_bytes (type_lines 0 script.types))
-    → old.setup ≡ setup_of script.types → IsPartRun old.setup script.commands x y → IsCutShort script w y
-cut_in_outcomes script w x y old types setup part =
+pub cut_in_outcomes : (shape : Shape) (script : Script) (w x y : Option (List ℕ)) (old : View) → Grew w x (lines_bytes (type_lines 0 script.types))
+    → old.setup ≡ setup_of shape script.types → IsPartRun old.setup script.commands x y → IsCutShort shape script w y
+cut_in_outcomes shape script w x y old types setup part =
     let run = subst (λ s. IsPartRun s script.commands x y) setup part in
     record {
       number = run.number;
@@ -78,35 +81,35 @@ cut_in_outcomes script w x y old types setup part =
       written = longer w y _ [] (grew_front w x y _ _ types run.written);
     }
 
-pub cut_in_end : (script : Script) (w x y z : Option (List ℕ)) (old mid : View) (end : Line)
-    → Grew w x (lines_bytes (type_lines 0 script.types)) → HasRun script x y old mid
-    → IsEndLine mid.setup mid.state end → GrewByFront y z (line_bytes end) → IsCutShort script w z
-cut_in_end script w x y z old mid end types has ended last =
-    let run = run_of script x y old mid has in
+pub cut_in_end : (shape : Shape) (script : Script) (w x y z : Option (List ℕ)) (old mid : View) (end : Line)
+    → Grew w x (lines_bytes (type_lines 0 script.types)) → HasRun shape script x y old mid
+    → IsEndLine mid.setup mid.state end → GrewByFront y z (line_bytes end) → IsCutShort shape script w z
+cut_in_end shape script w x y z old mid end types has ended last =
+    let run = run_of shape script x y old mid has in
     record {
       number = length script.commands;
       within = omega arith;
       outcomes = run.outcomes;
       state = mid.state;
-      lawful = subst (λ (ks : List Command). IsLawful (setup_of script.types) ks run.outcomes mid.state)
+      lawful = subst (λ (ks : List Command). IsLawful (setup_of shape script.types) ks run.outcomes mid.state)
           (sym (take_all (length script.commands) script.commands (omega arith))) run.lawful;
       ending = line_bytes end;
-      ends = inr (refl, (end, end_of script x y old mid end has ended, refl));
+      ends = inr (refl, (end, end_of shape script x y old mid end has ended, refl));
       written = grew_front w y z _ _ (grew w x y _ _ types run.written) last;
     }
 
 -- ---- the end line is written or not
 
-pub whole_at_end : {T E : Type 0} (script : Script) (w x y z : Option (List ℕ)) (old mid heap : View) (end : Line) (result : Result T E)
-    → Grew w x (lines_bytes (type_lines 0 script.types)) → HasRun script x y old mid → mid.state.ordinal ≡ length script.commands
+pub whole_at_end : {T E : Type 0} (shape : Shape) (script : Script) (w x y z : Option (List ℕ)) (old mid heap : View) (end : Line) (result : Result T E)
+    → Grew w x (lines_bytes (type_lines 0 script.types)) → HasRun shape script x y old mid → mid.state.ordinal ≡ length script.commands
     → IsEndLine mid.setup mid.state end → heap ≡ record mid { closed = true } → Writes y z (line_bytes end) result
-    → OnOk result (IsWholeRun script w z heap)
-whole_at_end script w x y z old mid heap end (Ok u) types has count ended is last =
-    whole_run script w x y z old mid heap end types has count ended is last
-whole_at_end script w x y z old mid heap end (Err e) types has count ended is last = tt
+    → OnOk result (IsWholeRun shape script w z heap)
+whole_at_end shape script w x y z old mid heap end (Ok u) types has count ended is last =
+    whole_run shape script w x y z old mid heap end types has count ended is last
+whole_at_end shape script w x y z old mid heap end (Err e) types has count ended is last = tt
 
-pub cut_at_end : {T E : Type 0} (script : Script) (w x y z : Option (List ℕ)) (old mid : View) (end : Line) (result : Result T E)
-    → Grew w x (lines_bytes (type_lines 0 script.types)) → HasRun script x y old mid → IsEndLine mid.setup mid.state end
-    → Writes y z (line_bytes end) result → OnErr result (IsCutShort script w z)
-cut_at_end script w x y z old mid end (Ok u) types has ended last = tt
-cut_at_end script w x y z old mid end (Err e) types has ended last = cut_in_end script w x y z old mid end types has ended last
+pub cut_at_end : {T E : Type 0} (shape : Shape) (script : Script) (w x y z : Option (List ℕ)) (old mid : View) (end : Line) (result : Result T E)
+    → Grew w x (lines_bytes (type_lines 0 script.types)) → HasRun shape script x y old mid → IsEndLine mid.setup mid.state end
+    → Writes y z (line_bytes end) result → OnErr result (IsCutShort shape script w z)
+cut_at_end shape script w x y z old mid end (Ok u) types has ended last = tt
+cut_at_end shape script w x y z old mid end (Err e) types has ended last = cut_in_end shape script w x y z old mid end types has ended last

@@ -1,7 +1,7 @@
 -- What the program answers, and what it has read and written by then.
 use Rattle.std.specs.Prelude.{◌≡◌, ℕ, ◌+◌, ◌≤◌, ◌==◌, if◌then◌else◌, true, List, [], ◌++◌, length, take, Option, Some, None, MatchOption}
 use Rattle.gc_graph.specs.declared.line.Line.{Line}
-use Rattle.gc_graph.specs.State.{State}
+use Rattle.gc_graph.specs.State.{Shape, State}
 use Rattle.gc_graph.specs.Lawful.{IsLawful, IsEndLine}
 use Rattle.gc_graph.specs.Report.{type_lines, lines_bytes, outcomes_bytes, report_of}
 use Rattle.gc_graph.specs.Script.{Script, IsScript, IsFaultyAt, IsTooLong, IsInLimits}
@@ -16,25 +16,25 @@ use Rattle.cppgc_main.specs.Printed.{IsEnding}
 -- ---- one script
 
 -- a lawful run of the whole script led to this heap, which is closed, and its report was written
-pub record IsWholeRun (script : Script) (before after : Option (List ℕ)) (heap : View) : Type 0 where
+pub record IsWholeRun (shape : Shape) (script : Script) (before after : Option (List ℕ)) (heap : View) : Type 0 where
   pub outcomes : List (List Line)
   pub end : Line
-  pub lawful : IsLawful (setup_of script.types) script.commands outcomes heap.state
-  pub ended : IsEndLine (setup_of script.types) heap.state end
+  pub lawful : IsLawful (setup_of shape script.types) script.commands outcomes heap.state
+  pub ended : IsEndLine (setup_of shape script.types) heap.state end
   pub report : Grew before after (report_of script.types outcomes end)
-  pub setup : heap.setup ≡ setup_of script.types
+  pub setup : heap.setup ≡ setup_of shape script.types
   pub closed : heap.closed ≡ true
   pub count : heap.state.ordinal ≡ length script.commands
 
 -- a beginning of the report of a lawful run of the first commands was written
-pub record IsCutShort (script : Script) (before after : Option (List ℕ)) : Type 0 where
+pub record IsCutShort (shape : Shape) (script : Script) (before after : Option (List ℕ)) : Type 0 where
   pub number : ℕ
   pub within : number ≤ length script.commands
   pub outcomes : List (List Line)
   pub state : State
-  pub lawful : IsLawful (setup_of script.types) (take number script.commands) outcomes state
+  pub lawful : IsLawful (setup_of shape script.types) (take number script.commands) outcomes state
   pub ending : List ℕ
-  pub ends : IsEnding (setup_of script.types) script.commands number state ending
+  pub ends : IsEnding (setup_of shape script.types) script.commands number state ending
   pub written : GrewByFront before after (lines_bytes (type_lines 0 script.types) ++ outcomes_bytes outcomes ++ ending)
 
 -- ---- the whole of the input
@@ -52,16 +52,16 @@ pub record IsScriptInput (old new : Option (List ℕ)) (script : Script) : Type 
   pub grammar : IsScript bytes script
 
 -- the input was a script; it was run, and this heap and the report came of it
-pub record IsDone (left_before left_after before after : Option (List ℕ)) (heap : View) : Type 0 where
+pub record IsDone (shape : Shape) (left_before left_after before after : Option (List ℕ)) (heap : View) : Type 0 where
   pub script : Script
   pub input : IsScriptInput left_before left_after script
-  pub run : IsWholeRun script before after heap
+  pub run : IsWholeRun shape script before after heap
 
 -- the input was a script, and of its report only a beginning was written
-pub record IsStopped (left_before left_after before after : Option (List ℕ)) : Type 0 where
+pub record IsStopped (shape : Shape) (left_before left_after before after : Option (List ℕ)) : Type 0 where
   pub script : Script
   pub input : IsScriptInput left_before left_after script
-  pub run : IsCutShort script before after
+  pub run : IsCutShort shape script before after
 
 -- the input, read up to the first byte past the limit, has too many bytes or lines
 pub record IsTooLongInput (old new : Option (List ℕ)) : Type 0 where
@@ -87,27 +87,27 @@ pub record IsUntouched (told_before told_after : Option (List ℕ)) (faults_befo
 -- ---- what the parts of the program answer
 
 -- what comes of a script that was read
-abbrev pub RunsScript : Script → Option (List ℕ) → Option (List ℕ) → Option View → Status → Type 0
-RunsScript script before after kept S.Done = MatchOption kept ⊥ (λ heap. IsWholeRun script before after heap)
-RunsScript script before after kept S.WriteFault = (kept ≡ None) × IsCutShort script before after
-RunsScript script before after kept S.NoMemory = (kept ≡ None) × Grew before after []
-RunsScript script before after kept S.TooLong = ⊥
-RunsScript script before after kept (S.Script line reason) = ⊥
-RunsScript script before after kept S.ReadFault = ⊥
-RunsScript script before after kept S.Usage = ⊥
+abbrev pub RunsScript : Shape → Script → Option (List ℕ) → Option (List ℕ) → Option View → Status → Type 0
+RunsScript shape script before after kept S.Done = MatchOption kept ⊥ (λ heap. IsWholeRun shape script before after heap)
+RunsScript shape script before after kept S.WriteFault = (kept ≡ None) × IsCutShort shape script before after
+RunsScript shape script before after kept S.NoMemory = (kept ≡ None) × Grew before after []
+RunsScript shape script before after kept S.TooLong = ⊥
+RunsScript shape script before after kept (S.Script line reason) = ⊥
+RunsScript shape script before after kept S.ReadFault = ⊥
+RunsScript shape script before after kept S.Usage = ⊥
 
 -- what comes of bytes that were read up to the first past the limit
-abbrev pub RunsBytes : List ℕ → Option (List ℕ) → Option (List ℕ) → Option View → Status → Type 0
-RunsBytes bytes before after kept S.Done =
-    (script : Script) × IsInLimits bytes × IsScript bytes script × MatchOption kept ⊥ (λ heap. IsWholeRun script before after heap)
-RunsBytes bytes before after kept S.WriteFault =
-    (script : Script) × IsInLimits bytes × IsScript bytes script × (kept ≡ None) × IsCutShort script before after
-RunsBytes bytes before after kept S.NoMemory = (kept ≡ None) × Grew before after []
-RunsBytes bytes before after kept S.TooLong = (kept ≡ None) × Grew before after [] × IsTooLong bytes
-RunsBytes bytes before after kept (S.Script line reason) =
+abbrev pub RunsBytes : Shape → List ℕ → Option (List ℕ) → Option (List ℕ) → Option View → Status → Type 0
+RunsBytes shape bytes before after kept S.Done =
+    (script : Script) × IsInLimits bytes × IsScript bytes script × MatchOption kept ⊥ (λ heap. IsWholeRun shape script before after heap)
+RunsBytes shape bytes before after kept S.WriteFault =
+    (script : Script) × IsInLimits bytes × IsScript bytes script × (kept ≡ None) × IsCutShort shape script before after
+RunsBytes shape bytes before after kept S.NoMemory = (kept ≡ None) × Grew before after []
+RunsBytes shape bytes before after kept S.TooLong = (kept ≡ None) × Grew before after [] × IsTooLong bytes
+RunsBytes shape bytes before after kept (S.Script line reason) =
     (kept ≡ None) × Grew before after [] × (reason ≡ 9) × IsInLimits bytes × ((i : ℕ) × (line ≡ i + 1) × IsFaultyAt bytes i)
-RunsBytes bytes before after kept S.ReadFault = ⊥
-RunsBytes bytes before after kept S.Usage = ⊥
+RunsBytes shape bytes before after kept S.ReadFault = ⊥
+RunsBytes shape bytes before after kept S.Usage = ⊥
 
 -- want of memory, or the line that is of no built form
 abbrev pub status_of_fault : ScriptFault → Status

@@ -1,12 +1,20 @@
 -- The heap that the program makes, and the scripts that it can run.
 use Rattle.std.specs.Prelude.{ℕ, ◌≤◌, List, length, All}
-use Rattle.gc_graph.specs.State.{Setup}
+use Rattle.gc_graph.specs.State.{Setup, Shape}
 use Rattle.gc_graph.specs.Lawful.{IsAllowed}
 use Rattle.gc_graph.specs.Script.{Script, AreTimely}
+use Rattle.heap_engine.specs.declared.heap.Config.{Config}
 
--- a heap of 64 pages of 16,384 words, with the types of the script
-abbrev pub setup_of : List ℕ → Setup
-setup_of types = record { shape = record { pages = 64; page_words = 16384 }; types = types }
+-- 64 pages of 16,384 words
+abbrev pub default_shape : Shape
+default_shape = record { pages = 64; page_words = 16384 }
+
+abbrev pub shape_of : Config → Shape
+shape_of config = record { pages = config.pages; page_words = config.page_words }
+
+-- a heap of the shape, with the types of a script
+abbrev pub setup_of : Shape → List ℕ → Setup
+setup_of shape types = record { shape = shape; types = types }
 
 -- the commands can be given to such a heap, one after the other
 pub record IsRunnable (script : Script) : Type 0 where

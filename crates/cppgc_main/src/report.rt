@@ -9,7 +9,7 @@ ghost use Rattle.gc_graph.specs.Report.{lines_bytes, type_lines};
 ghost use Rattle.gc_graph.specs.Script.{AreTimely};
 ghost use Rattle.heap_script.specs.Causes.{HasCause};
 ghost use Rattle.heap_script.specs.Devices.{Writes};
-ghost use Rattle.cppgc_main.specs.Setting.{setup_of, IsRunnable};
+ghost use Rattle.cppgc_main.specs.Setting.{IsRunnable};
 ghost use Rattle.cppgc_main.specs.Printed.{IsPrintedRun, IsPartRun};
 ghost use Rattle.cppgc_main.specs.Headline.{IsWholeRun, IsCutShort};
 
@@ -24,13 +24,15 @@ pub(crate) fn print_report<K: Sink>(
     sink: &mut K,
 ) -> Result<(), Failed>
     requires runnable { IsRunnable script.now }
-    requires setup { heap.old.setup ≡ setup_of script.now.types }
+    requires types { heap.old.setup.types ≡ script.now.types }
     requires start { heap.old.state ≡ empty_state }
     requires opened { heap.old.closed ≡ false }
     ensures done { OnOk result
-        (IsWholeRun script.now (K.written sink.old) (K.written sink.new) heap.new) }
+        (IsWholeRun heap.old.setup.shape script.now
+        (K.written sink.old) (K.written sink.new) heap.new) }
     ensures part { OnErr result
-        (IsCutShort script.now (K.written sink.old) (K.written sink.new)) }
+        (IsCutShort heap.old.setup.shape script.now
+        (K.written sink.old) (K.written sink.new)) }
     ensures cause { HasCause (K.faults sink.old) (K.faults sink.new) result }
 {
     match print_types(script.types(), sink) {

@@ -4,7 +4,8 @@ ghost use Rattle.std.specs.Prelude.{◌≡◌, ◌↔◌, ℕ, ◌<◌};
 ghost use Rattle.std.specs.Prelude.{◌≤◌, [], length, None, MatchOption};
 ghost use Rattle.heap_script.specs.Causes.{Rose};
 ghost use Rattle.heap_script.specs.Devices.{Grew};
-ghost use Rattle.cppgc_main.specs.Setting.{IsRunnable};
+ghost use Rattle.heap_engine.specs.Space.{IsShape};
+ghost use Rattle.cppgc_main.specs.Setting.{default_shape, shape_of, IsRunnable};
 ghost use Rattle.cppgc_main.specs.Headline.{RunsScript, RunsBytes, status_of_fault, IsUntouched};
 ghost use Rattle.cppgc_main.specs.Headline.{IsDone, IsStopped, IsTooLongInput, IsFaultyInput};
 
@@ -20,7 +21,7 @@ const MOST_BYTES: usize = 16_777_216;
 
 const MOST_LINES: usize = 1_000_000;
 
-const SHAPE: Config = Config {
+const DEFAULT: Config = Config {
     pages: 64,
     page_words: 16_384,
 };
@@ -34,9 +35,9 @@ pub fn run<S: Source, K: Sink>(
     kept: &mut Option<Heap>,
 ) -> Status
     requires { kept.old ≡ None }
-    ensures done { result ≡ Status.Done → MatchOption kept.new ⊥ (λ heap. IsDone
+    ensures done { result ≡ Status.Done → MatchOption kept.new ⊥ (λ heap. IsDone default_shape
         (S.left source.old) (S.left source.new) (K.written sink.old) (K.written sink.new) heap) }
-    ensures stopped { result ≡ Status.WriteFault → IsStopped
+    ensures stopped { result ≡ Status.WriteFault → IsStopped default_shape
         (S.left source.old) (S.left source.new) (K.written sink.old) (K.written sink.new) }
     ensures too_long { result ≡ Status.TooLong →
         IsTooLongInput (S.left source.old) (S.left source.new) }
@@ -61,16 +62,24 @@ pub fn run<S: Source, K: Sink>(
         return Status::Usage;
     }
     match read_whole(alloc, source, MOST_BYTES) {
-        Ok(bytes) => run_bytes(alloc, &bytes, sink, kept),
+        Ok(bytes) => run_bytes(alloc, DEFAULT, &bytes, sink, kept),
         Err(ReadError::Fault) => Status::ReadFault,
         Err(ReadError::Memory) => Status::NoMemory,
     }
 }
 
-/// Runs the script that the bytes are.
-fn run_bytes<K: Sink>(alloc: Global, bytes: &[u8], sink: &mut K, kept: &mut Option<Heap>) -> Status
-    requires { kept.old ≡ None }
-    ensures answer { RunsBytes bytes.now (K.written sink.old) (K.written sink.new) kept.new result }
+/// Runs the script that the bytes are, on a heap of this shape.
+pub(crate) fn run_bytes<K: Sink>(
+    alloc: Global,
+    config: Config,
+    bytes: &[u8],
+    sink: &mut K,
+    kept: &mut Option<Heap>,
+) -> Status
+    requires empty { kept.old ≡ None }
+    requires shape { IsShape (shape_of config) }
+    ensures answer { RunsBytes (shape_of config) bytes.now
+        (K.written sink.old) (K.written sink.new) kept.new result }
     ensures fault { result ≡ Status.WriteFault → Rose (K.faults sink.old) (K.faults sink.new) }
     ensures later { K.faults sink.old ≤ K.faults sink.new }
 {
@@ -78,7 +87,7 @@ fn run_bytes<K: Sink>(alloc: Global, bytes: &[u8], sink: &mut K, kept: &mut Opti
         return Status::TooLong;
     }
     match read_script(alloc, bytes) {
-        Ok(script) => run_script(alloc, &script, sink, kept),
+        Ok(script) => run_script(alloc, config, &script, sink, kept),
         Err(fault) => status_of(fault),
     }
 }
@@ -98,18 +107,20 @@ fn status_of(fault: ScriptFault) -> Status
 /// Runs a script on a heap of its own.
 fn run_script<K: Sink>(
     alloc: Global,
+    config: Config,
     script: &Script,
     sink: &mut K,
     kept: &mut Option<Heap>,
 ) -> Status
     requires empty { kept.old ≡ None }
+    requires shape { IsShape (shape_of config) }
     requires runnable { IsRunnable script.now }
-    ensures answer { RunsScript script.now
+    ensures answer { RunsScript (shape_of config) script.now
         (K.written sink.old) (K.written sink.new) kept.new result }
     ensures fault { result ≡ Status.WriteFault → Rose (K.faults sink.old) (K.faults sink.new) }
     ensures later { K.faults sink.old ≤ K.faults sink.new }
 {
-    match Heap::new(alloc, SHAPE, script.types()) {
+    match Heap::new(alloc, config, script.types()) {
         Ok(mut heap) => match print_report(&mut heap, script, sink) {
             Ok(()) => {
                 *kept = Some(heap);
