@@ -1,7 +1,10 @@
 // Long chains and rings, and a heap that is full.
 
-use super::{DeviceSetup, STEADY, try_script, try_with};
+use super::try_script;
+use crate::run::run_bytes;
 use crate::status::Status;
+use heap_engine::Config;
+use heap_script::ListSink;
 use std::alloc::{AllocError, Global};
 use std::fmt::Write;
 use std::test::Fail;
@@ -61,23 +64,26 @@ fn ring_that_nothing_names_dies(rt: HostRuntime) -> Result<(), Fail> {
     Ok(())
 }
 
-// 64 pages hold 5,461 objects of three words each.
-const MOST: u32 = 349_504;
+// A page of 256 words holds 85 objects of three words each.
+const SMALL: Config = Config {
+    pages: 1,
+    page_words: 256,
+};
 
 fn overfull(alloc: Global) -> Result<Case, AllocError> {
     let mut script = String::from_str(alloc, "oilpan 1\ntype S\n")?;
     let mut report = String::from_str(alloc, "type 0\n")?;
-    for number in 0..MOST {
+    for number in 0..85u32 {
         script.push_str("new 0 0\n")?;
-        let place = number / 5461 * 16_384 + number % 5461 * 3;
+        let place = 3 * number;
         write!(report, "node {number} at {place}\n")?;
     }
     script.push_str("new 0 0\ndrop 0\ngc now precise\nsweep all\nnew 0 0\n")?;
-    report.push_str("full\nok\npause kept 0 dead 349504 crew 0 traced 0 walked 0\n")?;
-    for number in 0..MOST {
+    report.push_str("full\nok\npause kept 0 dead 85 crew 0 traced 0 walked 0\n")?;
+    for number in 0..85u32 {
         write!(report, "finalise {number}\n")?;
     }
-    report.push_str("swept to 64\nnode 349504 at 0\nend objects 1 used 3 pages 1\n")?;
+    report.push_str("swept to 1\nnode 85 at 0\nend objects 1 used 3 pages 1\n")?;
     Ok(Case { script, report })
 }
 
@@ -85,12 +91,11 @@ fn overfull(alloc: Global) -> Result<Case, AllocError> {
 fn full_heap_answers_full_until_it_is_swept(rt: HostRuntime) -> Result<(), Fail> {
     let alloc = rt.alloc();
     let Case { script, report } = overfull(alloc)?;
-    let devices = DeviceSetup {
-        room: 20_000_000,
-        ..STEADY
-    };
-    let trial = try_with(alloc, Vec::from_slice(alloc, script.as_bytes())?, devices)?;
-    assert_eq!(rt; trial.status, Status::Done);
-    assert!(rt; trial.sink.bytes() == report.as_bytes());
+    let mut sink = ListSink::new(alloc, 1_000_000, Vec::new(alloc));
+    sink.reserve(1_000_000)?;
+    let mut kept = None;
+    let status = run_bytes(alloc, SMALL, script.as_bytes(), &mut sink, &mut kept);
+    assert_eq!(rt; status, Status::Done);
+    assert!(rt; sink.bytes() == report.as_bytes());
     Ok(())
 }
