@@ -5,6 +5,7 @@ use Rattle.heap_script.specs.Devices.{Grew, IsReadFrom}
 use Rattle.heap_engine.specs.View.{View}
 use Rattle.cppgc_main.specs.declared.status.Status.{Status}
 use Rattle.cppgc_main.specs.declared.status.Status.TheVariants as S
+use Rattle.cppgc_main.specs.Options.{shape_asked}
 use Rattle.cppgc_main.specs.Headline.{RunsBytes, RunsScript, IsDone, IsStopped, IsTooLongInput, IsFaultyInput}
 use Rattle.cppgc_main.proofs.Inputs.{read_whole_of}
 use Rattle.gc_graph.specs.State.{Shape}
@@ -27,24 +28,28 @@ pub record Answers (shape : Shape) (lo ln w z : Option (List ℕ)) (kept : Optio
   pub read : IsReadFrom lo ln 16777216 bytes
   pub answer : RunsBytes shape bytes w z kept status
 
-done_of : (shape : Shape) (lo ln w z : Option (List ℕ)) (kept : Option View) (bytes : List ℕ) → IsReadFrom lo ln 16777216 bytes
-    → RunsBytes shape bytes w z kept S.Done → MatchOption kept ⊥ (λ heap. IsDone shape lo ln w z heap)
-done_of shape lo ln w z None bytes read answer = answer.3
-done_of shape lo ln w z (Some heap) bytes read answer = record {
+done_of : (words : List (List ℕ)) (shape : Shape) → shape_asked words ≡ Some shape → (lo ln w z : Option (List ℕ)) (kept : Option View) (bytes : List ℕ) → IsReadFrom lo ln 16777216 bytes
+    → RunsBytes shape bytes w z kept S.Done → MatchOption kept ⊥ (λ heap. IsDone words lo ln w z heap)
+done_of words shape asked lo ln w z None bytes read answer = answer.3
+done_of words shape asked lo ln w z (Some heap) bytes read answer = record {
+  shape = shape;
+  asked = asked;
   script = answer.0;
   input = record { bytes = bytes; whole = read_whole_of lo ln bytes read answer.1; limits = answer.1; grammar = answer.2 };
   run = answer.3;
 }
 
-pub answers_done : (shape : Shape) (lo ln w z : Option (List ℕ)) (kept : Option View) (status : Status) → Answers shape lo ln w z kept status → status ≡ S.Done
-    → MatchOption kept ⊥ (λ heap. IsDone shape lo ln w z heap)
-answers_done shape lo ln w z kept status a is = done_of shape lo ln w z kept a.bytes a.read (subst (RunsBytes shape a.bytes w z kept) is a.answer)
+pub answers_done : (words : List (List ℕ)) (shape : Shape) → shape_asked words ≡ Some shape → (lo ln w z : Option (List ℕ)) (kept : Option View) (status : Status) → Answers shape lo ln w z kept status → status ≡ S.Done
+    → MatchOption kept ⊥ (λ heap. IsDone words lo ln w z heap)
+answers_done words shape asked lo ln w z kept status a is = done_of words shape asked lo ln w z kept a.bytes a.read (subst (RunsBytes shape a.bytes w z kept) is a.answer)
 
-pub answers_stopped : (shape : Shape) (lo ln w z : Option (List ℕ)) (kept : Option View) (status : Status) → Answers shape lo ln w z kept status → status ≡ S.WriteFault
-    → IsStopped shape lo ln w z
-answers_stopped shape lo ln w z kept status a is =
+pub answers_stopped : (words : List (List ℕ)) (shape : Shape) → shape_asked words ≡ Some shape → (lo ln w z : Option (List ℕ)) (kept : Option View) (status : Status) → Answers shape lo ln w z kept status → status ≡ S.WriteFault
+    → IsStopped words lo ln w z
+answers_stopped words shape asked lo ln w z kept status a is =
     let answer = subst (RunsBytes shape a.bytes w z kept) is a.answer in
     record {
+      shape = shape;
+      asked = asked;
       script = answer.0;
       input = record { bytes = a.bytes; whole = read_whole_of lo ln a.bytes a.read answer.1; limits = answer.1; grammar = answer.2 };
       run = answer.4;

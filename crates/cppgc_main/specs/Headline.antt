@@ -10,6 +10,7 @@ use Rattle.heap_script.specs.declared.script.ScriptFault.{ScriptFault}
 use Rattle.heap_engine.specs.View.{View}
 use Rattle.cppgc_main.specs.declared.status.Status.{Status}
 use Rattle.cppgc_main.specs.declared.status.Status.TheVariants as S
+use Rattle.cppgc_main.specs.Options.{shape_asked}
 use Rattle.cppgc_main.specs.Setting.{setup_of}
 use Rattle.cppgc_main.specs.Printed.{IsEnding}
 
@@ -51,14 +52,18 @@ pub record IsScriptInput (old new : Option (List ℕ)) (script : Script) : Type 
   pub limits : IsInLimits bytes
   pub grammar : IsScript bytes script
 
--- the input was a script; it was run, and this heap and the report came of it
-pub record IsDone (shape : Shape) (left_before left_after before after : Option (List ℕ)) (heap : View) : Type 0 where
+-- the words asked for a shape and the input was a script; it was run, and this heap and the report came of it
+pub record IsDone (words : List (List ℕ)) (left_before left_after before after : Option (List ℕ)) (heap : View) : Type 0 where
+  pub shape : Shape
+  pub asked : shape_asked words ≡ Some shape
   pub script : Script
   pub input : IsScriptInput left_before left_after script
   pub run : IsWholeRun shape script before after heap
 
--- the input was a script, and of its report only a beginning was written
-pub record IsStopped (shape : Shape) (left_before left_after before after : Option (List ℕ)) : Type 0 where
+-- the words asked for a shape and the input was a script, and of its report only a beginning was written
+pub record IsStopped (words : List (List ℕ)) (left_before left_after before after : Option (List ℕ)) : Type 0 where
+  pub shape : Shape
+  pub asked : shape_asked words ≡ Some shape
   pub script : Script
   pub input : IsScriptInput left_before left_after script
   pub run : IsCutShort shape script before after

@@ -1,4 +1,5 @@
 pub mod Setting
+pub mod Options
 pub mod Printed
 pub mod Headline
 pub mod Statuses

@@ -1,14 +1,16 @@
 // One run of the program: from the bytes of a script to its report.
 
 ghost use Rattle.std.specs.Prelude.{◌≡◌, ◌↔◌, ℕ, ◌<◌};
-ghost use Rattle.std.specs.Prelude.{◌≤◌, [], length, None, MatchOption};
+ghost use Rattle.std.specs.Prelude.{◌≤◌, [], length, map, string_bytes, None, MatchOption};
 ghost use Rattle.heap_script.specs.Causes.{Rose};
 ghost use Rattle.heap_script.specs.Devices.{Grew};
 ghost use Rattle.heap_engine.specs.Space.{IsShape};
-ghost use Rattle.cppgc_main.specs.Setting.{default_shape, shape_of, IsRunnable};
+ghost use Rattle.cppgc_main.specs.Options.{shape_asked};
+ghost use Rattle.cppgc_main.specs.Setting.{shape_of, IsRunnable};
 ghost use Rattle.cppgc_main.specs.Headline.{RunsScript, RunsBytes, status_of_fault, IsUntouched};
 ghost use Rattle.cppgc_main.specs.Headline.{IsDone, IsStopped, IsTooLongInput, IsFaultyInput};
 
+use super::options::config_asked;
 use super::report::print_report;
 use super::status::Status;
 use heap_engine::{Config, Heap};
@@ -21,11 +23,6 @@ const MOST_BYTES: usize = 16_777_216;
 
 const MOST_LINES: usize = 1_000_000;
 
-const DEFAULT: Config = Config {
-    pages: 64,
-    page_words: 16_384,
-};
-
 /// Reads a script, runs it on one heap, and writes its report. When memory is wanting is free.
 pub fn run<S: Source, K: Sink>(
     alloc: Global,
@@ -35,15 +32,15 @@ pub fn run<S: Source, K: Sink>(
     kept: &mut Option<Heap>,
 ) -> Status
     requires { kept.old ≡ None }
-    ensures done { result ≡ Status.Done → MatchOption kept.new ⊥ (λ heap. IsDone default_shape
+    ensures done { result ≡ Status.Done → MatchOption kept.new ⊥ (λ heap. IsDone (map string_bytes words.now)
         (S.left source.old) (S.left source.new) (K.written sink.old) (K.written sink.new) heap) }
-    ensures stopped { result ≡ Status.WriteFault → IsStopped default_shape
+    ensures stopped { result ≡ Status.WriteFault → IsStopped (map string_bytes words.now)
         (S.left source.old) (S.left source.new) (K.written sink.old) (K.written sink.new) }
     ensures too_long { result ≡ Status.TooLong →
         IsTooLongInput (S.left source.old) (S.left source.new) }
     ensures script { (line reason : ℕ) → result ≡ Status.Script line reason →
         (reason ≡ 9) × IsFaultyInput (S.left source.old) (S.left source.new) line }
-    ensures usage { (result ≡ Status.Usage) ↔ (0 < length words.now) }
+    ensures usage { (result ≡ Status.Usage) ↔ (shape_asked (map string_bytes words.now) ≡ None) }
     ensures source_untouched { result ≡ Status.Usage → IsUntouched
         (S.left source.old) (S.left source.new) (S.faults source.old) (S.faults source.new) }
     ensures sink_untouched { result ≡ Status.Usage → IsUntouched
@@ -58,11 +55,12 @@ pub fn run<S: Source, K: Sink>(
         Grew (K.written sink.old) (K.written sink.new) [] }
     ensures kept { ¬ (result ≡ Status.Done) → kept.new ≡ None }
 {
-    if !words.is_empty() {
-        return Status::Usage;
-    }
+    let config = match config_asked(words) {
+        Some(config) => config,
+        None => return Status::Usage,
+    };
     match read_whole(alloc, source, MOST_BYTES) {
-        Ok(bytes) => run_bytes(alloc, DEFAULT, &bytes, sink, kept),
+        Ok(bytes) => run_bytes(alloc, config, &bytes, sink, kept),
         Err(ReadError::Fault) => Status::ReadFault,
         Err(ReadError::Memory) => Status::NoMemory,
     }

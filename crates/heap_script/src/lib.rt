@@ -35,6 +35,7 @@ pub use devices::{Failed, Sink, Source};
 pub use gc_graph::NoMemory;
 pub use lines::line_count;
 pub use list_devices::{ListSink, ListSource};
+pub use numbers::number_below;
 pub use printing::{print_line, put};
 pub use reading::{ReadError, read_whole};
 pub use script::{Script, ScriptFault, read_script};

@@ -5,7 +5,7 @@ ghost use Rattle.std.specs.Prelude.{Some, None, if◌then◌else◌};
 ghost use Rattle.gc_graph.specs.Script.{is_number, value_after, number_below as below};
 
 /// The number that a word is, where it is one below the limit.
-pub(crate) fn number_below(limit: u32, word: &[u8]) -> Option<u32>
+pub fn number_below(limit: u32, word: &[u8]) -> Option<u32>
     ensures { result ≡ below limit word.now }
 {
     match number(word) {
