@@ -6,13 +6,14 @@ mod adapters;
 mod collections;
 mod devices;
 mod limits;
+mod options;
 mod reports;
 mod scripts;
 mod statuses;
 
 use super::run::run;
 use super::status::Status;
-use heap_script::{ListSink, ListSource, NoMemory};
+use heap_script::{ListSink, ListSource, NoMemory, read_whole};
 use std::alloc::Global;
 
 /// How devices behave: they move at most so many bytes a call, and one call each fails, or none
@@ -30,6 +31,7 @@ struct DeviceSetup {
 struct Trial {
     status: Status,
     sink: ListSink,
+    left: Option<Vec<u8>>,
     is_kept: bool,
 }
 
@@ -40,23 +42,38 @@ const STEADY: DeviceSetup = DeviceSetup {
     room: 1_000_000,
 };
 
-fn try_with(alloc: Global, script: Vec<u8>, devices: DeviceSetup) -> Result<Trial, NoMemory>
+fn try_on(
+    alloc: Global,
+    words: &[&str],
+    script: Vec<u8>,
+    devices: DeviceSetup,
+) -> Result<Trial, NoMemory>
     requires { 1 ≤ devices.most }
 {
+    let mut owned = Vec::new(alloc);
+    for word in words {
+        owned.push(String::from_str(alloc, word)?)?;
+    }
     let bad_reads = Vec::from_slice(alloc, &[devices.bad_read])?;
     let bad_writes = Vec::from_slice(alloc, &[devices.bad_write])?;
     let mut source = ListSource::new(script, devices.most, bad_reads);
     let mut sink = ListSink::new(alloc, devices.most, bad_writes);
     sink.reserve(devices.room)?;
-    let words: [String; 0] = [];
     let mut kept = None;
-    let status = run(alloc, &words, &mut source, &mut sink, &mut kept);
-    let is_kept = kept.is_some();
+    let status = run(alloc, &owned, &mut source, &mut sink, &mut kept);
+    let left = read_whole(alloc, &mut source, 1000).ok();
     Ok(Trial {
         status,
         sink,
-        is_kept,
+        left,
+        is_kept: kept.is_some(),
     })
+}
+
+fn try_with(alloc: Global, script: Vec<u8>, devices: DeviceSetup) -> Result<Trial, NoMemory>
+    requires { 1 ≤ devices.most }
+{
+    try_on(alloc, &[], script, devices)
 }
 
 fn try_script(alloc: Global, script: &[u8]) -> Result<Trial, NoMemory> {

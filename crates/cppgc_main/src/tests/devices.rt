@@ -1,7 +1,11 @@
 // Devices that fail at each call in turn.
 
+ghost use Rattle.std.specs.Prelude.{◌≤◌};
+
 use super::{DeviceSetup, STEADY, try_with};
 use crate::status::Status;
+use std::alloc::Global;
+use std::process::Abort;
 use std::test::Fail;
 
 const SCRIPT: &[u8] = b"oilpan 1\ntype S\nnew 0 0\ndrop 0\ngc now precise\nsweep all\n";
@@ -16,7 +20,7 @@ const LINE_ENDS: [usize; 7] = [7, 19, 22, 67, 78, 90, 119];
 #[test]
 fn failed_read_is_answered_and_nothing_is_written(rt: HostRuntime) -> Result<(), Fail> {
     let alloc = rt.alloc();
-    for (most, calls) in [(1, 57), (1_000_000, 2)] {
+    for (most, calls) in [(1, 57), (8, 8), (1_000_000, 2)] {
         for bad_read in 1..=calls {
             let devices = DeviceSetup {
                 most,
@@ -50,20 +54,54 @@ fn failed_write_leaves_what_was_written_before(rt: HostRuntime) -> Result<(), Fa
     Ok(())
 }
 
-#[test]
-fn each_line_goes_out_in_one_write(rt: HostRuntime) -> Result<(), Fail> {
-    let alloc = rt.alloc();
+// The lengths of the report after each of its pieces, where each line goes out by sevens.
+const SEVENS: [usize; 18] = [
+    7, 14, 19, 22, 29, 36, 43, 50, 57, 64, 67, 74, 78, 85, 90, 97, 104, 111,
+];
+
+// What was written before each call that fails is all the pieces before it.
+fn fail_each_write(rt: &impl Abort, alloc: Global, most: usize, ends: &[usize]) -> Result<(), Fail>
+    requires { 1 ≤ most }
+{
     let mut before = 0;
-    for (end, bad_write) in LINE_ENDS.into_iter().zip(1u32..) {
+    for (end, bad_write) in ends.iter().zip(1u32..) {
         let devices = DeviceSetup {
+            most,
             bad_write,
             ..STEADY
         };
         let trial = try_with(alloc, Vec::from_slice(alloc, SCRIPT)?, devices)?;
-        assert_eq!(rt; trial.status, Status::WriteFault, "line {bad_write}");
+        assert_eq!(rt; trial.status, Status::WriteFault, "call {bad_write}");
         let written = REPORT.get(..before).unwrap_or(b"");
-        assert_eq!(rt; trial.sink.bytes(), written, "line {bad_write}");
-        before = end;
+        assert_eq!(rt; trial.sink.bytes(), written, "call {bad_write}");
+        before = *end;
+    }
+    Ok(())
+}
+
+#[test]
+fn each_line_goes_out_in_one_write(rt: HostRuntime) -> Result<(), Fail> {
+    fail_each_write(&rt, rt.alloc(), 1_000_000, &LINE_ENDS)
+}
+
+#[test]
+fn each_line_goes_out_by_sevens(rt: HostRuntime) -> Result<(), Fail> {
+    fail_each_write(&rt, rt.alloc(), 7, &SEVENS)
+}
+
+#[test]
+fn room_that_ends_is_a_failed_write(rt: HostRuntime) -> Result<(), Fail> {
+    let alloc = rt.alloc();
+    for room in 0..REPORT.len() {
+        let devices = DeviceSetup {
+            most: 1,
+            room,
+            ..STEADY
+        };
+        let trial = try_with(alloc, Vec::from_slice(alloc, SCRIPT)?, devices)?;
+        assert_eq!(rt; trial.status, Status::WriteFault, "room {room}");
+        let written = REPORT.get(..room).unwrap_or(b"");
+        assert_eq!(rt; trial.sink.bytes(), written, "room {room}");
     }
     Ok(())
 }
