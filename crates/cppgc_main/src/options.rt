@@ -3,7 +3,8 @@
 ghost use Rattle.std.specs.Prelude.{◌≡◌, ◌≤◌, true, map, option_map, string_bytes, IfSome};
 ghost use Rattle.gc_graph.specs.Script.{number_below as below};
 ghost use Rattle.heap_engine.specs.Space.{IsShape};
-ghost use Rattle.cppgc_main.specs.Options.{shape_asked, shape_of_four, some_pages, power_of_two, is_page_size};
+ghost use Rattle.cppgc_main.specs.Options.{shape_asked, shape_of_four, some_pages};
+ghost use Rattle.cppgc_main.specs.Options.{power_of_two, is_page_size};
 ghost use Rattle.cppgc_main.specs.Setting.{shape_of};
 
 use heap_engine::Config;
@@ -48,7 +49,7 @@ fn config_of(first: &[u8], second: &[u8], third: &[u8], fourth: &[u8]) -> Option
     }
 }
 
-/// From 1 to 1,024 pages.
+/// The number of pages that a word names: from 1 to 1,024.
 fn pages_of(word: &[u8]) -> Option<u32>
     ensures number { result ≡ some_pages (below 1025 word.now) }
     ensures range { IfSome result (λ n. (1 ≤ n) × (n ≤ 1024)) }
@@ -59,7 +60,7 @@ fn pages_of(word: &[u8]) -> Option<u32>
     }
 }
 
-/// A power of two from 256 to 16,384 words.
+/// The size of a page that a word names: a power of two from 256 to 16,384.
 fn page_words_of(word: &[u8]) -> Option<u32>
     ensures number { result ≡ power_of_two (below 16385 word.now) }
     ensures power { IfSome result (λ n. is_page_size n ≡ true) }
