@@ -5,7 +5,8 @@ use Rattle.std.specs.List.{list_all, list_any}
 use Rattle.std.specs.Cmp.Lexicographic.{bytes_decides}
 use Rattle.std.proofs.lemmas.Bool.{and_parts, and_right, true≢false, not-true, ne_eqb}
 use Rattle.gc_graph.specs.declared.command.Command.TheVariants as C
-use Rattle.gc_graph.specs.Script.{is_text, is_pair_of, words_of, is_header, is_blank, is_type_line, command_of, command_of_words, with_one, slot_of, may_follow, is_built, commands_of, is_sweep_open}
+use Rattle.gc_graph.specs.Words.{is_text, words_of, is_blank}
+use Rattle.heap_script.specs.Built.{is_pair_of, is_header, is_type_line, command_of, command_of_words, with_one, slot_of, may_follow, is_built, commands_of, is_sweep_open}
 
 -- ---- the header
 

@@ -4,11 +4,14 @@ use Rattle.std.specs.Prelude.{All, min}
 use Rattle.std.proofs.lemmas.List.{take_all, drop_all, length-take}
 use Rattle.std.proofs.lemmas.Bool.{cases_lt}
 use Rattle.gc_graph.specs.Lawful.{IsAllowed}
-use Rattle.gc_graph.specs.Script.{Script, IsScript, lines_of, IsInLimits}
+use Rattle.gc_graph.specs.Words.{lines_of}
+use Rattle.gc_graph.specs.Script.{IsInLimits}
+use Rattle.heap_script.specs.Built.{BuiltScript, IsBuiltScript}
 use Rattle.heap_script.specs.Devices.{IsReadFrom}
 use Rattle.cppgc_main.specs.Setting.{IsRunnable}
 use Rattle.cppgc_main.specs.Headline.{IsReadWhole}
 use Rattle.cppgc_main.proofs.Timely.{script_is_timely}
+use Rattle.cppgc_main.proofs.Built.{script_is_built}
 
 pub in_limits : (bytes : List ℕ) → length bytes ≤ 16777216 → length (lines_of bytes) ≤ 1000000 → IsInLimits bytes
 in_limits bytes few low (inl over) = absurd (omega arith)
@@ -31,8 +34,8 @@ read_whole_of (Some old) new bytes read limits =
     let all : bytes ≡ old = all_of old bytes read.0 few in
     (all, read.1 ∙ ap Some (ap (λ (b : List ℕ). drop (length b) old) all ∙ drop_all (length old) old (omega arith)))
 
-pub script_is_runnable : (bytes : List ℕ) (script : Script) → IsScript bytes script → All (λ n. n ≤ 64) script.types
+pub script_is_runnable : (bytes : List ℕ) (script : BuiltScript) → IsBuiltScript bytes script → All (λ n. n ≤ 64) script.types
     → length script.types ≤ 1 → All (IsAllowed (length script.types)) script.commands → length script.commands ≤ 1000000
     → IsRunnable script
 script_is_runnable bytes script is small one allowed few =
-    record { small = small; one = one; allowed = allowed; few = few; timely = script_is_timely bytes script is }
+    record { small = small; one = one; allowed = allowed; few = few; built = script_is_built bytes script is; timely = script_is_timely bytes script is }

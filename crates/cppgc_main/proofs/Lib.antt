@@ -1,8 +1,9 @@
 pub mod Writing
-pub mod Printing
 pub mod Phases
+pub mod Printing
 pub mod Grammar
 pub mod Timely
+pub mod Built
 pub mod Reports
 pub mod Inputs
 pub mod Outcomes

@@ -9,18 +9,19 @@ use Rattle.cppgc_main.specs.Options.{shape_asked}
 use Rattle.cppgc_main.specs.Headline.{RunsBytes, RunsScript, IsDone, IsStopped, IsTooLongInput, IsFaultyInput}
 use Rattle.cppgc_main.proofs.Inputs.{read_whole_of}
 use Rattle.gc_graph.specs.State.{Shape}
-use Rattle.gc_graph.specs.Script.{Script, IsScript, IsInLimits}
+use Rattle.gc_graph.specs.Script.{IsScript, IsInLimits}
+use Rattle.heap_script.specs.Built.{BuiltScript, IsBuiltScript, script_of}
 
 -- an answer to the script is one to its bytes
-pub bytes_of_script : (shape : Shape) (bytes : List ℕ) (script : Script) (w z : Option (List ℕ)) (kept : Option View) (status : Status) → IsInLimits bytes
-    → IsScript bytes script → RunsScript shape script w z kept status → RunsBytes shape bytes w z kept status
-bytes_of_script shape bytes script w z kept S.Done limits is answer = (script, limits, is, answer)
-bytes_of_script shape bytes script w z kept S.WriteFault limits is answer = (script, limits, is, answer.0, answer.1)
-bytes_of_script shape bytes script w z kept S.NoMemory limits is answer = answer
-bytes_of_script shape bytes script w z kept S.TooLong limits is answer = absurd answer
-bytes_of_script shape bytes script w z kept (S.Script line reason) limits is answer = absurd answer
-bytes_of_script shape bytes script w z kept S.ReadFault limits is answer = absurd answer
-bytes_of_script shape bytes script w z kept S.Usage limits is answer = absurd answer
+pub bytes_of_script : (shape : Shape) (bytes : List ℕ) (script : BuiltScript) (w z : Option (List ℕ)) (kept : Option View) (status : Status) → IsInLimits bytes
+    → IsScript 0 bytes (script_of script) → IsBuiltScript bytes script → RunsScript shape script w z kept status → RunsBytes shape bytes w z kept status
+bytes_of_script shape bytes script w z kept S.Done limits whole is answer = (script, limits, record { whole = whole; built = is }, answer)
+bytes_of_script shape bytes script w z kept S.WriteFault limits whole is answer = (script, limits, record { whole = whole; built = is }, answer.0, answer.1)
+bytes_of_script shape bytes script w z kept S.NoMemory limits whole is answer = answer
+bytes_of_script shape bytes script w z kept S.TooLong limits whole is answer = absurd answer
+bytes_of_script shape bytes script w z kept (S.Script line reason) limits whole is answer = absurd answer
+bytes_of_script shape bytes script w z kept S.ReadFault limits whole is answer = absurd answer
+bytes_of_script shape bytes script w z kept S.Usage limits whole is answer = absurd answer
 
 -- the bytes with which a run was answered were read
 pub record Answers (shape : Shape) (lo ln w z : Option (List ℕ)) (kept : Option View) (status : Status) : Type 0 where

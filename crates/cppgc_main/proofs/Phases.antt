@@ -1,87 +1,125 @@
 -- The phase of a heap after commands: where no sweep is open, it is idle.
-use Rattle.std.proofs.Common.{◌≡◌, ℕ, zero, suc, ◌<◌, Bool, true, false, List, [], ◌∷◌, length, take, get_or, Option, Some, None, refl, ap, ◌∙◌, arith}
+use Rattle.std.proofs.Common.{◌≡◌, ℕ, zero, suc, ◌+◌, ◌<◌, Bool, true, false, List, [], ◌∷◌, length, take, get_or, Option, Some, None, refl, sym, ap, ◌∙◌, subst, inl, inr, arith, cond}
 use Rattle.std.specs.Prelude.{MatchOption, MatchBool, nat_lt}
-use Rattle.std.specs.List.{slice_get, fold}
-use Rattle.std.proofs.lemmas.Bool.{true≢false}
+use Rattle.std.specs.List.{All, slice_get}
+use Rattle.std.proofs.lemmas.Bool.{true≢false, eq-eqb}
+use Rattle.std.proofs.lemmas.List.{take_more}
+use Rattle.std.proofs.lemmas.List.Elements.{All-get_or}
+use Rattle.std.proofs.lemmas.List.Sums.{fold-append}
 use Rattle.gc_graph.specs.declared.phase.Phase.{Phase}
-use Rattle.gc_graph.specs.declared.phase.Phase.TheVariants.{Idle, Sweeping}
+use Rattle.gc_graph.specs.declared.phase.Phase.TheVariants.{Idle, Marking, Sweeping}
 use Rattle.gc_graph.specs.declared.command.Command.{Command}
 use Rattle.gc_graph.specs.declared.command.Command.TheVariants as C
 use Rattle.gc_graph.specs.declared.line.Line.{Line}
 use Rattle.gc_graph.specs.declared.line.Refusal.TheVariants as R
+use Rattle.gc_graph.specs.declared.region.Entry.{Entry}
 use Rattle.gc_graph.specs.declared.graph.Value.{Value}
 use Rattle.gc_graph.specs.declared.graph.Value.TheVariants.{Null, Ref, Word}
-use Rattle.gc_graph.specs.State.{Setup, State, empty_state, node_at}
-use Rattle.gc_graph.specs.Step.{Step, IsFull, IsMade, IsRefused, IsStored, IsRead, StepSweepAll, slot_at, field_count, content_of, value_at}
-use Rattle.gc_graph.specs.Lawful.{Run, IsTimely}
-use Rattle.gc_graph.specs.Script.{opens_sweep, is_sweep_open, AreTimely}
+use Rattle.gc_graph.specs.State.{Setup, State, node_at}
+use Rattle.gc_graph.specs.Fields.{field_count, kind_of_field, is_reference}
+use Rattle.gc_graph.specs.May.{read_node}
+use Rattle.gc_graph.specs.Outcomes.{answered, IsRefused, slot_at}
+use Rattle.gc_graph.specs.Sweep.{SweepsIn, IsSweep}
+use Rattle.gc_graph.specs.CycleSteps.{IsSwept, StepSweepAll, is_marking, is_sweeping}
+use Rattle.gc_graph.specs.ObjectSteps.{IsFull, IsMade, IsRead, StepNew, StepSet, StepGet}
+use Rattle.gc_graph.specs.Step.{Step}
+use Rattle.heap_engine.specs.Built.{IsBuilt}
+use Rattle.heap_script.specs.Built.{opens_sweep, is_sweep_open, AreTimely}
 
 -- ---- one command
 
-made_keeps : (setup : Setup) (old new : State) (p t : ℕ) (lines : List Line) (place : Option ℕ)
-    → MatchOption place (IsFull old lines new) (λ a. IsMade setup old p t a lines new) → new.phase ≡ old.phase
-made_keeps setup old new p t lines None done = ap (λ (s : State). s.phase) done.after
-made_keeps setup old new p t lines (Some a) done = ap (λ (s : State). s.phase) done.after
+made_keeps : (setup : Setup) (mid new : State) (p t e : ℕ) (numbers : List ℕ) (lines : List Line) (place : Option ℕ)
+    → MatchOption place (IsFull mid numbers lines new) (λ a. IsMade setup mid p t e numbers lines new a) → new.phase ≡ mid.phase
+made_keeps setup mid new p t e numbers lines None done = ap (λ (s : State). s.phase) done.after
+made_keeps setup mid new p t e numbers lines (Some a) done = ap (λ (s : State). s.phase) done.after
 
-tested_keeps : (old new : State) (lines : List Line) (test : Bool) (Done : Type 0) → (Done → new.phase ≡ old.phase)
-    → MatchBool test Done (IsRefused R.Field old lines new) → new.phase ≡ old.phase
-tested_keeps old new lines true Done keeps done = keeps done
-tested_keeps old new lines false Done keeps done = ap (λ (s : State). s.phase) done.1
+-- while the heap is idle, placement sweeps nothing
+new_keeps : (setup : Setup) (old new : State) (p t e : ℕ) (lines : List Line) → old.phase ≡ Idle → StepNew setup old p t e lines new → new.phase ≡ old.phase
+new_keeps setup old new p t e lines idle (inl wants) = ap (λ (s : State). s.phase) wants.1.1
+new_keeps setup old new p t e lines idle (inr made) =
+    let swept = subst (λ (ph : Phase). SweepsIn ph setup.shape old made.placed.pages made.numbers made.mid) idle made.placed.swept in
+    made_keeps setup made.mid new p t e made.numbers lines made.place made.done ∙ ap (λ (s : State). s.phase) swept.1
+
+refused_keeps : (old new : State) (lines : List Line) (test : Bool) (Done Refused : Type 0) → (Done → new.phase ≡ old.phase) → (Refused → new.phase ≡ old.phase)
+    → MatchBool test Done Refused → new.phase ≡ old.phase
+refused_keeps old new lines true Done Refused keeps leaves done = keeps done
+refused_keeps old new lines false Done Refused keeps leaves done = leaves done
 
 field_keeps : (old new : State) (f : ℕ) (lines : List Line) (Done : ℕ → Type 0) (slot : Option ℕ) → ((n : ℕ) → Done n → new.phase ≡ old.phase)
     → MatchOption slot (IsRefused R.Null old lines new)
-    (λ n. MatchBool (nat_lt f (field_count (node_at old.nodes n))) (Done n) (IsRefused R.Field old lines new))
+    (λ n. MatchBool (nat_lt f (field_count (node_at old.nodes n)))
+    (MatchBool (is_reference (kind_of_field (node_at old.nodes n).object f)) (Done n) (IsRefused R.Kind old lines new))
+    (IsRefused R.Field old lines new))
     → new.phase ≡ old.phase
 field_keeps old new f lines Done None keeps done = ap (λ (s : State). s.phase) done.1
 field_keeps old new f lines Done (Some n) keeps done =
-    tested_keeps old new lines (nat_lt f (field_count (node_at old.nodes n))) (Done n) (keeps n) done
+    refused_keeps old new lines (nat_lt f (field_count (node_at old.nodes n))) _ (IsRefused R.Field old lines new)
+    (refused_keeps old new lines (is_reference (kind_of_field (node_at old.nodes n).object f)) (Done n) (IsRefused R.Kind old lines new) (keeps n)
+    (λ refused. ap (λ (s : State). s.phase) refused.1))
+    (λ refused. ap (λ (s : State). s.phase) refused.1) done
 
-read_keeps : (old new : State) (value : Value) (q : ℕ) (lines : List Line) → IsRead old value q lines new → new.phase ≡ old.phase
-read_keeps old new Null q lines done = ap (λ (s : State). s.phase) done.1
-read_keeps old new (Ref n) q lines done = ap (λ (s : State). s.phase) done.1
-read_keeps old new (Word n) q lines done = absurd done
+read_node_keeps : (weak : Bool) (s : State) (n : ℕ) → (read_node weak s n).phase ≡ s.phase
+read_node_keeps true s n = refl
+read_node_keeps false s n = refl
 
-sweep_ends : (setup : Setup) (phase : Phase) (old new : State) (lines : List Line) → old.phase ≡ phase
-    → StepSweepAll setup phase old lines new → new.phase ≡ Idle
-sweep_ends setup Idle old new lines is done = ap (λ (s : State). s.phase) done.1 ∙ is
-sweep_ends setup Sweeping old new lines is done = ap (λ (s : State). s.phase) done.after
+read_keeps : (weak : Bool) (old new : State) (value : Value) (q : ℕ) (lines : List Line) → IsRead weak old value q lines new → new.phase ≡ old.phase
+read_keeps weak old new Null q lines done = ap (λ (s : State). s.phase) done.1
+read_keeps weak old new (Ref n) q lines done = ap (λ (s : State). s.phase) done.1 ∙ read_node_keeps weak old n
+read_keeps weak old new (Word n) q lines done = absurd done
+
+set_keeps : (old new : State) (p f : ℕ) (value : Value) (lines : List Line) → StepSet old p f value lines new → new.phase ≡ old.phase
+set_keeps old new p f value lines step = field_keeps old new f lines _ (slot_at old p) (λ n done. ap (λ (s : State). s.phase) done.1) step
+
+get_keeps : (old new : State) (p f q : ℕ) (lines : List Line) → StepGet old p f q lines new → new.phase ≡ old.phase
+get_keeps old new p f q lines step = field_keeps old new f lines _ (slot_at old p) (λ n done. read_keeps _ old new _ q lines done) step
+
+-- where marking doesn't go on, the heap is idle after the sweep of all pages
+sweep_ends : (setup : Setup) (old new : State) (lines : List Line) (phase : Phase) → old.phase ≡ phase → is_marking phase ≡ false
+    → StepSweepAll setup old lines new → new.phase ≡ Idle
+sweep_ends setup old new lines Idle is calm step =
+    let refused : IsRefused R.Phase old lines new =
+    subst (λ (ph : Phase). MatchBool (is_sweeping ph) (IsSwept setup old setup.shape.pages lines new) (IsRefused R.Phase old lines new)) is step in
+    ap (λ (s : State). s.phase) refused.1 ∙ is
+sweep_ends setup old new lines Marking is calm step = absurd (true≢false calm)
+sweep_ends setup old new lines Sweeping is calm step =
+    let done : IsSwept setup old setup.shape.pages lines new =
+    subst (λ (ph : Phase). MatchBool (is_sweeping ph) (IsSwept setup old setup.shape.pages lines new) (IsRefused R.Phase old lines new)) is step in
+    let swept : IsSweep setup.shape old setup.shape.pages done.numbers done.swept =
+    subst (λ (ph : Phase). SweepsIn ph setup.shape old setup.shape.pages done.numbers done.swept) is done.goes in
+    ap (λ (s : State). s.phase) (done.after ∙ ap answered swept.after)
+    ∙ ap (λ b. cond b Idle Sweeping) (eq-eqb setup.shape.pages setup.shape.pages refl)
 
 -- a heap is idle where no sweep is open
-abbrev IsIdleUnless : Bool → State → Type 0
+abbrev pub IsIdleUnless : Bool → State → Type 0
 IsIdleUnless opened s = opened ≡ false → s.phase ≡ Idle
 
-step_phase : (setup : Setup) (old new : State) (command : Command) (lines : List Line) (opened : Bool) → IsIdleUnless opened old
-    → Step setup old command lines new → IsIdleUnless (opens_sweep opened command) new
-step_phase setup old new (C.New p t e) lines opened idle step =
-    λ off. made_keeps setup old new p t lines step.place step.done ∙ idle off
-step_phase setup old new (C.Set p f q) lines opened idle step =
-    λ off. field_keeps old new f lines (λ n. IsStored old n f (content_of (slot_at old q)) lines new) (slot_at old p)
-    (λ n done. ap (λ (s : State). s.phase) done.1) step ∙ idle off
-step_phase setup old new (C.SetNull p f) lines opened idle step =
-    λ off. field_keeps old new f lines (λ n. IsStored old n f Null lines new) (slot_at old p)
-    (λ n done. ap (λ (s : State). s.phase) done.1) step ∙ idle off
-step_phase setup old new (C.Get p f q) lines opened idle step =
-    λ off. field_keeps old new f lines (λ n. IsRead old (value_at (node_at old.nodes n) f) q lines new) (slot_at old p)
-    (λ n done. read_keeps old new (value_at (node_at old.nodes n) f) q lines done) step ∙ idle off
-step_phase setup old new (C.Drop p) lines opened idle step = λ off. ap (λ (s : State). s.phase) step.1 ∙ idle off
-step_phase setup old new (C.GcNow want) lines opened idle step = λ off. absurd (true≢false off)
-step_phase setup old new C.SweepAll lines opened idle step = λ off. sweep_ends setup old.phase old new lines refl step
+step_phase : (setup : Setup) (old new : State) (command : Command) (piece : List Entry) (lines : List Line) (opened : Bool) → is_marking old.phase ≡ false
+    → IsBuilt Idle command → IsIdleUnless opened old → Step setup old command piece lines new → IsIdleUnless (opens_sweep opened command) new
+step_phase setup old new (C.New p t e) piece lines opened calm built idle step = λ off. new_keeps setup old new p t e lines (idle off) step.1 ∙ idle off
+step_phase setup old new (C.Set p f q) piece lines opened calm built idle step = λ off. set_keeps old new p f _ lines step.1 ∙ idle off
+step_phase setup old new (C.SetNull p f) piece lines opened calm built idle step = λ off. set_keeps old new p f Null lines step.1 ∙ idle off
+step_phase setup old new (C.Get p f q) piece lines opened calm built idle step = λ off. get_keeps old new p f q lines step.1 ∙ idle off
+step_phase setup old new (C.Drop p) piece lines opened calm built idle step = λ off. ap (λ (s : State). s.phase) step.1.1 ∙ idle off
+step_phase setup old new (C.GcNow want) piece lines opened calm built idle step = λ off. absurd (true≢false off)
+step_phase setup old new C.SweepAll piece lines opened calm built idle step = λ off. sweep_ends setup old new lines old.phase refl calm step.1
+step_phase setup old new command piece lines opened calm built idle step = absurd built
 
--- ---- a run of commands
+-- ---- the commands in order
 
-run_phase : (setup : Setup) (old new : State) (commands : List Command) (outcomes : List (List Line)) (opened : Bool) → IsIdleUnless opened old
-    → Run setup old commands outcomes new → IsIdleUnless (fold opens_sweep opened commands) new
-run_phase setup old new [] [] opened idle run = λ off. ap (λ (s : State). s.phase) run ∙ idle off
-run_phase setup old new [] (o ∷ os) opened idle run = absurd run
-run_phase setup old new (k ∷ ks) [] opened idle run = absurd run
-run_phase setup old new (k ∷ ks) (o ∷ os) opened idle run =
-    run_phase setup run.0 new ks os (opens_sweep opened k) (step_phase setup old run.0 k o opened idle run.1) run.2
+sweep_open_more : (commands : List Command) (i : ℕ) (d : Command) → i < length commands
+    → is_sweep_open (take (i + 1) commands) ≡ opens_sweep (is_sweep_open (take i commands)) (get_or commands i d)
+sweep_open_more commands i d low =
+    ap is_sweep_open (take_more commands i d low) ∙ fold-append opens_sweep false (take i commands) (get_or commands i d ∷ [])
 
-pub idle_after : (setup : Setup) (new : State) (commands : List Command) (outcomes : List (List Line))
-    → Run setup empty_state commands outcomes new → is_sweep_open commands ≡ false → new.phase ≡ Idle
-idle_after setup new commands outcomes run off = run_phase setup empty_state new commands outcomes false (λ _. refl) run off
+-- one command more was done
+pub idle_more : (setup : Setup) (mid new : State) (commands : List Command) (i : ℕ) (d : Command) (piece : List Entry) (lines : List Line) → i < length commands
+    → All (IsBuilt Idle) commands → is_marking mid.phase ≡ false → IsIdleUnless (is_sweep_open (take i commands)) mid
+    → Step setup mid (get_or commands i d) piece lines new → IsIdleUnless (is_sweep_open (take (i + 1) commands)) new
+idle_more setup mid new commands i d piece lines low built calm idle step =
+    subst (λ b. IsIdleUnless b new) (sym (sweep_open_more commands i d low))
+    (step_phase setup mid new (get_or commands i d) piece lines (is_sweep_open (take i commands)) calm (All-get_or (IsBuilt Idle) commands i d low built) idle step)
 
--- ---- the next command is timely
+-- ---- the next command can be done
 
 module _ {X : Type 0} where
   get_at : (xs : List X) (i : ℕ) (d : X) → i < length xs → slice_get xs i ≡ Some (get_or xs i d)
@@ -89,20 +127,18 @@ module _ {X : Type 0} where
   get_at (x ∷ xs) zero d low = refl
   get_at (x ∷ xs) (suc i) d low = get_at xs i d (omega arith)
 
-timely_case : (setup : Setup) (commands : List Command) (i : ℕ) (state : State) (outcomes : List (List Line)) (command : Command)
-    → AreTimely commands → Run setup empty_state (take i commands) outcomes state → slice_get commands i ≡ Some command
-    → IsTimely state.phase command
-timely_case setup commands i state outcomes (C.New p t e) timely run at =
-    idle_after setup state (take i commands) outcomes run (timely i p t e at)
-timely_case setup commands i state outcomes (C.Set p f q) timely run at = tt
-timely_case setup commands i state outcomes (C.SetNull p f) timely run at = tt
-timely_case setup commands i state outcomes (C.Get p f q) timely run at = tt
-timely_case setup commands i state outcomes (C.Drop p) timely run at = tt
-timely_case setup commands i state outcomes (C.GcNow want) timely run at = tt
-timely_case setup commands i state outcomes C.SweepAll timely run at = tt
+built_case : (commands : List Command) (i : ℕ) (state : State) (command : Command) → AreTimely commands
+    → IsIdleUnless (is_sweep_open (take i commands)) state → slice_get commands i ≡ Some command → IsBuilt Idle command → IsBuilt state.phase command
+built_case commands i state (C.New p t e) timely idle at built = (built.0, idle (timely i p t e at))
+built_case commands i state (C.Set p f q) timely idle at built = built
+built_case commands i state (C.SetNull p f) timely idle at built = built
+built_case commands i state (C.Get p f q) timely idle at built = built
+built_case commands i state (C.Drop p) timely idle at built = built
+built_case commands i state (C.GcNow want) timely idle at built = built
+built_case commands i state C.SweepAll timely idle at built = built
+built_case commands i state command timely idle at built = absurd built
 
-pub timely_next : (setup : Setup) (commands : List Command) (i : ℕ) (d : Command) (state : State) (outcomes : List (List Line))
-    → i < length commands → AreTimely commands → Run setup empty_state (take i commands) outcomes state
-    → IsTimely state.phase (get_or commands i d)
-timely_next setup commands i d state outcomes low timely run =
-    timely_case setup commands i state outcomes (get_or commands i d) timely run (get_at commands i d low)
+pub built_next : (commands : List Command) (i : ℕ) (d : Command) (state : State) → i < length commands → All (IsBuilt Idle) commands → AreTimely commands
+    → IsIdleUnless (is_sweep_open (take i commands)) state → IsBuilt state.phase (get_or commands i d)
+built_next commands i d state low built timely idle =
+    built_case commands i state (get_or commands i d) timely idle (get_at commands i d low) (All-get_or (IsBuilt Idle) commands i d low built)

@@ -1,60 +1,85 @@
--- Lawful runs that are printed command by command.
-use Rattle.std.proofs.Common.{◌≡◌, ℕ, ◌+◌, ◌<◌, List, [], ◌∷◌, ◌++◌, length, take, get_or, Option, refl, sym, ap, ◌∙◌, subst, arith}
-use Rattle.std.proofs.lemmas.List.{append-nil, take_more, take_all}
+-- Runs that are printed command by command, and why they are lawful.
+use Rattle.std.proofs.Common.{◌≡◌, ℕ, zero, suc, ◌+◌, ◌<◌, List, [], ◌∷◌, ◌++◌, length, take, get_or, Option, Some, refl, sym, ap, ◌∙◌, subst, arith}
+use Rattle.std.specs.List.{All, Contains, slice_get}
+use Rattle.std.proofs.lemmas.List.{append-nil, map-append, take_more, take_all}
+use Rattle.std.proofs.lemmas.List.Elements.{All-head, All-tail}
 use Rattle.std.proofs.lemmas.Grind.{flat_map-append}
 use Rattle.gc_graph.specs.declared.command.Command.{Command}
-use Rattle.gc_graph.specs.declared.line.Line.{Line}
+use Rattle.gc_graph.specs.declared.command.Command.TheVariants as C
+use Rattle.gc_graph.specs.declared.phase.Phase.TheVariants.{Idle}
 use Rattle.gc_graph.specs.State.{Setup, State, empty_state}
 use Rattle.gc_graph.specs.Step.{Step}
-use Rattle.gc_graph.specs.Lawful.{Run, IsLawful, IsTimely}
-use Rattle.gc_graph.specs.Script.{AreTimely}
+use Rattle.heap_engine.specs.Built.{IsBuilt}
+use Rattle.gc_graph.specs.HistoryLaw.{RunsAreReplayed}
+use Rattle.gc_graph.specs.Lawful.{Outcome, Run, IsLawful, history_of, last_state}
 use Rattle.gc_graph.specs.Report.{lines_bytes, outcomes_bytes}
 use Rattle.heap_script.specs.Devices.{Grew, GrewByFront}
-use Rattle.cppgc_main.specs.Printed.{IsPrintedRun, IsPartRun}
+use Rattle.heap_engine.specs.View.{View}
+use Rattle.cppgc_main.specs.Printed.{IsPrintedRun, IsPartRun, printed_lines}
 use Rattle.cppgc_main.proofs.Writing.{grew_by_none, grew, grew_front}
-use Rattle.cppgc_main.proofs.Phases.{timely_next}
 
-run_more : (setup : Setup) (old mid new : State) (commands : List Command) (outcomes : List (List Line)) (command : Command) (outcome : List Line)
-    → Run setup old commands outcomes mid → Step setup mid command outcome new
-    → Run setup old (commands ++ command ∷ []) (outcomes ++ outcome ∷ []) new
-run_more setup old mid new [] [] command outcome r s = (new, subst (λ m. Step setup m command outcome new) r s, refl)
-run_more setup old mid new [] (o ∷ os) command outcome r s = absurd r
-run_more setup old mid new (k ∷ ks) [] command outcome r s = absurd r
-run_more setup old mid new (k ∷ ks) (o ∷ os) command outcome r s = (r.0, r.1, run_more setup r.0 mid new ks os command outcome r.2 s)
+-- what came of the last command
+abbrev pub outcome_of : View → Outcome
+outcome_of heap = record { lines = heap.lines; piece = heap.piece; state = heap.state }
 
-outcomes_more : (outcomes : List (List Line)) (outcome : List Line) → outcomes_bytes (outcomes ++ outcome ∷ []) ≡ outcomes_bytes outcomes ++ lines_bytes outcome
+-- ---- one outcome more
+
+abbrev StepTo : Setup → State → Command → Outcome → Type 0
+StepTo setup old command outcome = Step setup old command outcome.piece outcome.lines outcome.state
+
+run_more : (setup : Setup) (old : State) (commands : List Command) (outcomes : List Outcome) (command : Command) (outcome : Outcome)
+    → Run setup old commands outcomes → StepTo setup (last_state old outcomes) command outcome
+    → Run setup old (commands ++ command ∷ []) (outcomes ++ outcome ∷ [])
+run_more setup old [] [] command outcome r s = (s, tt)
+run_more setup old [] (o ∷ os) command outcome r s = absurd r
+run_more setup old (k ∷ ks) [] command outcome r s = absurd r
+run_more setup old (k ∷ ks) (o ∷ os) command outcome r s = (r.0, run_more setup o.state ks os command outcome r.1 s)
+
+last_more : (old : State) (outcomes : List Outcome) (outcome : Outcome) → last_state old (outcomes ++ outcome ∷ []) ≡ outcome.state
+last_more old [] outcome = refl
+last_more old (o ∷ os) outcome = last_more o.state os outcome
+
+outcomes_more : (outcomes : List Outcome) (outcome : Outcome)
+    → outcomes_bytes (printed_lines (outcomes ++ outcome ∷ [])) ≡ outcomes_bytes (printed_lines outcomes) ++ lines_bytes outcome.lines
 outcomes_more outcomes outcome =
-    flat_map-append lines_bytes outcomes (outcome ∷ []) ∙ ap (λ u. outcomes_bytes outcomes ++ u) (append-nil (lines_bytes outcome))
+    ap outcomes_bytes (map-append (λ (o : Outcome). o.lines) outcomes (outcome ∷ []))
+    ∙ flat_map-append lines_bytes (printed_lines outcomes) (outcome.lines ∷ [])
+    ∙ ap (λ u. outcomes_bytes (printed_lines outcomes) ++ u) (append-nil (lines_bytes outcome.lines))
 
-lawful_more : (setup : Setup) (mid new : State) (commands : List Command) (i : ℕ) (d : Command) (outcomes : List (List Line)) (outcome : List Line)
-    → i < length commands → IsLawful setup (take i commands) outcomes mid → Step setup mid (get_or commands i d) outcome new
-    → IsLawful setup (take (i + 1) commands) (outcomes ++ outcome ∷ []) new
-lawful_more setup mid new commands i d outcomes outcome low lawful step =
-    subst (λ ks. IsLawful setup ks (outcomes ++ outcome ∷ []) new) (sym (take_more commands i d low))
-    (run_more setup empty_state mid new (take i commands) outcomes (get_or commands i d) outcome lawful step)
+run_on : (setup : Setup) (mid : State) (commands : List Command) (i : ℕ) (d : Command) (outcomes : List Outcome) (outcome : Outcome)
+    → i < length commands → Run setup empty_state (take i commands) outcomes → mid ≡ last_state empty_state outcomes
+    → StepTo setup mid (get_or commands i d) outcome → Run setup empty_state (take (i + 1) commands) (outcomes ++ outcome ∷ [])
+run_on setup mid commands i d outcomes outcome low run last step =
+    subst (λ (ks : List Command). Run setup empty_state ks (outcomes ++ outcome ∷ [])) (sym (take_more commands i d low))
+    (run_more setup empty_state (take i commands) outcomes (get_or commands i d) outcome run
+    (subst (λ (s : State). StepTo setup s (get_or commands i d) outcome) last step))
 
 -- one command more was done and printed; d stands for what a read past the end would give
-pub printed_more : (setup : Setup) (mid new : State) (commands : List Command) (i : ℕ) (d : Command) (outcome : List Line) (x y z : Option (List ℕ))
-    → i < length commands → IsPrintedRun setup (take i commands) x y mid → Step setup mid (get_or commands i d) outcome new
-    → Grew y z (lines_bytes outcome) → IsPrintedRun setup (take (i + 1) commands) x z new
-printed_more setup mid new commands i d outcome x y z low run step more = record {
-  outcomes = run.outcomes ++ outcome ∷ [];
-  lawful = lawful_more setup mid new commands i d run.outcomes outcome low run.lawful step;
-  written = subst (λ u. Grew x z u) (sym (outcomes_more run.outcomes outcome)) (grew x y z _ _ run.written more);
+pub printed_more : (setup : Setup) (mid : State) (heap : View) (commands : List Command) (i : ℕ) (d : Command) (x y z : Option (List ℕ))
+    → i < length commands → IsPrintedRun setup (take i commands) x y mid → Step setup mid (get_or commands i d) heap.piece heap.lines heap.state
+    → heap.state.running ≡ [] → Grew y z (lines_bytes heap.lines) → IsPrintedRun setup (take (i + 1) commands) x z heap.state
+printed_more setup mid heap commands i d x y z low run step alone more = record {
+  outcomes = run.outcomes ++ outcome_of heap ∷ [];
+  run = run_on setup mid commands i d run.outcomes (outcome_of heap) low run.run run.last step;
+  last = sym (last_more empty_state run.outcomes (outcome_of heap));
+  alone = alone;
+  written = subst (λ u. Grew x z u) (sym (outcomes_more run.outcomes (outcome_of heap))) (grew x y z _ _ run.written more);
 }
 
 -- one command more was done, and the printing of its outcome failed
-pub printed_part : (setup : Setup) (mid new : State) (commands : List Command) (i : ℕ) (d : Command) (outcome : List Line) (x y z : Option (List ℕ))
-    → i < length commands → IsPrintedRun setup (take i commands) x y mid → Step setup mid (get_or commands i d) outcome new
-    → GrewByFront y z (lines_bytes outcome) → IsPartRun setup commands x z
-printed_part setup mid new commands i d outcome x y z low run step more = record {
+pub printed_part : (setup : Setup) (mid : State) (heap : View) (commands : List Command) (i : ℕ) (d : Command) (x y z : Option (List ℕ))
+    → i < length commands → IsPrintedRun setup (take i commands) x y mid → Step setup mid (get_or commands i d) heap.piece heap.lines heap.state
+    → heap.state.running ≡ [] → GrewByFront y z (lines_bytes heap.lines) → IsPartRun setup commands x z
+printed_part setup mid heap commands i d x y z low run step alone more = record {
   number = i + 1;
   within = omega arith;
-  outcomes = run.outcomes ++ outcome ∷ [];
-  state = new;
-  lawful = lawful_more setup mid new commands i d run.outcomes outcome low run.lawful step;
-  written = subst (λ u. GrewByFront x z u) (sym (outcomes_more run.outcomes outcome)) (grew_front x y z _ _ run.written more);
+  outcomes = run.outcomes ++ outcome_of heap ∷ [];
+  run = run_on setup mid commands i d run.outcomes (outcome_of heap) low run.run run.last step;
+  alone = ap (λ (s : State). s.running) (last_more empty_state run.outcomes (outcome_of heap)) ∙ alone;
+  written = subst (λ u. GrewByFront x z u) (sym (outcomes_more run.outcomes (outcome_of heap))) (grew_front x y z _ _ run.written more);
 }
+
+-- ---- none, and all
 
 take_none : {X : Type 0} (xs : List X) → take 0 xs ≡ []
 take_none [] = refl
@@ -64,7 +89,9 @@ pub printed_none : (setup : Setup) (commands : List Command) (x : Option (List �
     → IsPrintedRun setup (take 0 commands) x x state
 printed_none setup commands x state is = record {
   outcomes = [];
-  lawful = subst (λ (ks : List Command). IsLawful setup ks [] state) (sym (take_none commands)) is;
+  run = subst (λ (ks : List Command). Run setup empty_state ks []) (sym (take_none commands)) tt;
+  last = is;
+  alone = ap (λ (s : State). s.running) is;
   written = grew_by_none x;
 }
 
@@ -73,6 +100,23 @@ pub printed_all : (setup : Setup) (commands : List Command) (i : ℕ) (x y : Opt
 printed_all setup commands i x y state all run =
     subst (λ (ks : List Command). IsPrintedRun setup ks x y state) (take_all i commands (omega arith)) run
 
-pub timely_run : (setup : Setup) (commands : List Command) (i : ℕ) (d : Command) (x y : Option (List ℕ)) (state : State) → i < length commands
-    → AreTimely commands → IsPrintedRun setup (take i commands) x y state → IsTimely state.phase (get_or commands i d)
-timely_run setup commands i d x y state low timely run = timely_next setup commands i d state run.outcomes low timely run.lawful
+-- ---- lawful runs
+
+at_of_get : {X : Type 0} (P : X → Type 0) (xs : List X) (i : ℕ) (x : X) → All P xs → slice_get xs i ≡ Some x → P x
+at_of_get P [] i x all at = absurd (let never : ⊥ = cc in never)
+at_of_get P (y ∷ xs) zero x all at = subst P (let same : y ≡ x = cc in same) (All-head P y xs all)
+at_of_get P (y ∷ xs) (suc i) x all at = at_of_get P xs i x (All-tail P y xs all) at
+
+-- where the built commands left no thread running, the run is lawful
+pub lawful_run : (setup : Setup) (commands : List Command) (outcomes : List Outcome) → RunsAreReplayed → All (IsBuilt Idle) commands
+    → Run setup empty_state commands outcomes → (last_state empty_state outcomes).running ≡ []
+    → IsLawful setup commands outcomes (history_of outcomes)
+lawful_run setup commands outcomes law built run alone = record {
+  run = run;
+  pieces = refl;
+  legal = (law setup commands outcomes run).legal;
+  unjoined = λ j there. absurd (none_in j (subst (λ (js : List ℕ). Contains js j) alone there));
+  published = λ g i outcome joins at. absurd (at_of_get (IsBuilt Idle) commands g C.ThreadsGo built joins.go);
+} where
+  none_in : (j : ℕ) → Contains [] j → ⊥
+  none_in j there = omega (arith, there.1)

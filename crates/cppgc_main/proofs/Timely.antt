@@ -5,7 +5,8 @@ use Rattle.std.proofs.lemmas.List.{append-nil, append_assoc}
 use Rattle.std.proofs.lemmas.List.Elements.{filter_map-append}
 use Rattle.gc_graph.specs.declared.command.Command.{Command}
 use Rattle.gc_graph.specs.declared.command.Command.TheVariants as C
-use Rattle.gc_graph.specs.Script.{Script, lines_of, command_of, commands_of, is_built, is_sweep_open, is_built_at, IsScript, AreTimely}
+use Rattle.gc_graph.specs.Words.{lines_of}
+use Rattle.heap_script.specs.Built.{BuiltScript, command_of, commands_of, is_built, is_sweep_open, is_built_at, IsBuiltScript, AreTimely}
 use Rattle.cppgc_main.proofs.Grammar.{header_holds_none, made_while_closed}
 
 -- the lines after these ones are of built forms
@@ -36,7 +37,7 @@ more_by before line command is =
     filter_map-append command_of before (line ∷ [])
     ∙ ap (λ (o : Option Command). commands_of before ++ filter_map (λ (p : Option Command). p) (o ∷ [])) is
 
-commands_by : (rest : List (List ℕ)) (line : List ℕ) (command : Option Command) → command_of line ≡ command
+pub commands_by : (rest : List (List ℕ)) (line : List ℕ) (command : Option Command) → command_of line ≡ command
     → commands_of (line ∷ rest) ≡ filter_map (λ (o : Option Command). o) (command ∷ []) ++ commands_of rest
 commands_by rest line command is = filter_map-append command_of (line ∷ []) rest
     ∙ ap (λ (o : Option Command). filter_map (λ (p : Option Command). p) (o ∷ []) ++ commands_of rest) is
@@ -83,6 +84,6 @@ built_timely (header ∷ rest) head built =
     subst (λ (cs : List Command). AreTimely cs) (sym (commands_by rest header None (header_holds_none header head)))
     (timely_lines header [] rest (λ j low. built (suc j) (omega arith)))
 
-pub script_is_timely : (bytes : List ℕ) (script : Script) → IsScript bytes script → AreTimely script.commands
+pub script_is_timely : (bytes : List ℕ) (script : BuiltScript) → IsBuiltScript bytes script → AreTimely script.commands
 script_is_timely bytes script is =
     subst (λ (cs : List Command). AreTimely cs) (sym is.commands) (built_timely (lines_of bytes) is.header is.built)

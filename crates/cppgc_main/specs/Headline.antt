@@ -1,10 +1,12 @@
 -- What the program answers, and what it has read and written by then.
 use Rattle.std.specs.Prelude.{◌≡◌, ℕ, ◌+◌, ◌≤◌, ◌==◌, if◌then◌else◌, true, List, [], ◌++◌, length, take, Option, Some, None, MatchOption}
 use Rattle.gc_graph.specs.declared.line.Line.{Line}
-use Rattle.gc_graph.specs.State.{Shape, State}
-use Rattle.gc_graph.specs.Lawful.{IsLawful, IsEndLine}
+use Rattle.gc_graph.specs.declared.region.Entry.{Entry}
+use Rattle.gc_graph.specs.State.{Shape, empty_state}
+use Rattle.gc_graph.specs.Lawful.{Outcome, IsLawful, IsEndLine, last_state}
 use Rattle.gc_graph.specs.Report.{type_lines, lines_bytes, outcomes_bytes, report_of}
-use Rattle.gc_graph.specs.Script.{Script, IsScript, IsFaultyAt, IsTooLong, IsInLimits}
+use Rattle.gc_graph.specs.Script.{IsScript, IsTooLong, IsInLimits}
+use Rattle.heap_script.specs.Built.{BuiltScript, IsBuiltScript, IsFaultyAt, script_of}
 use Rattle.heap_script.specs.Devices.{Grew, GrewByFront, IsReadFrom}
 use Rattle.heap_script.specs.declared.script.ScriptFault.{ScriptFault}
 use Rattle.heap_engine.specs.View.{View}
@@ -12,31 +14,34 @@ use Rattle.cppgc_main.specs.declared.status.Status.{Status}
 use Rattle.cppgc_main.specs.declared.status.Status.TheVariants as S
 use Rattle.cppgc_main.specs.Options.{shape_asked}
 use Rattle.cppgc_main.specs.Setting.{setup_of}
-use Rattle.cppgc_main.specs.Printed.{IsEnding}
+use Rattle.cppgc_main.specs.Printed.{IsEnding, printed_lines}
 
 -- ---- one script
 
 -- a lawful run of the whole script led to this heap, which is closed, and its report was written
-pub record IsWholeRun (shape : Shape) (script : Script) (before after : Option (List ℕ)) (heap : View) : Type 0 where
-  pub outcomes : List (List Line)
+pub record IsWholeRun (shape : Shape) (script : BuiltScript) (before after : Option (List ℕ)) (heap : View) : Type 0 where
+  pub outcomes : List Outcome
+  pub history : List Entry
   pub end : Line
-  pub lawful : IsLawful (setup_of shape script.types) script.commands outcomes heap.state
+  pub lawful : IsLawful (setup_of shape script.types) script.commands outcomes history
+  pub state : heap.state ≡ last_state empty_state outcomes
   pub ended : IsEndLine (setup_of shape script.types) heap.state end
-  pub report : Grew before after (report_of script.types outcomes end)
+  pub report : Grew before after (report_of script.types (printed_lines outcomes) end)
   pub setup : heap.setup ≡ setup_of shape script.types
   pub closed : heap.closed ≡ true
   pub count : heap.state.ordinal ≡ length script.commands
 
 -- a beginning of the report of a lawful run of the first commands was written
-pub record IsCutShort (shape : Shape) (script : Script) (before after : Option (List ℕ)) : Type 0 where
+pub record IsCutShort (shape : Shape) (script : BuiltScript) (before after : Option (List ℕ)) : Type 0 where
   pub number : ℕ
   pub within : number ≤ length script.commands
-  pub outcomes : List (List Line)
-  pub state : State
-  pub lawful : IsLawful (setup_of shape script.types) (take number script.commands) outcomes state
+  pub outcomes : List Outcome
+  pub history : List Entry
+  pub lawful : IsLawful (setup_of shape script.types) (take number script.commands) outcomes history
   pub ending : List ℕ
-  pub ends : IsEnding (setup_of shape script.types) script.commands number state ending
-  pub written : GrewByFront before after (lines_bytes (type_lines 0 script.types) ++ outcomes_bytes outcomes ++ ending)
+  pub ends : IsEnding (setup_of shape script.types) script.commands number (last_state empty_state outcomes) ending
+  pub written :
+      GrewByFront before after (lines_bytes (type_lines 0 script.types) ++ outcomes_bytes (printed_lines outcomes) ++ ending)
 
 -- ---- the whole of the input
 
@@ -45,18 +50,23 @@ abbrev pub IsReadWhole : Option (List ℕ) → Option (List ℕ) → List ℕ �
 IsReadWhole None new bytes = new ≡ None
 IsReadWhole (Some old) new bytes = (bytes ≡ old) × (new ≡ Some [])
 
+-- the bytes are a script of the whole grammar, which uses no callbacks, and each line is of a form that is read
+pub record IsReadScript (bytes : List ℕ) (script : BuiltScript) : Type 0 where
+  pub whole : IsScript 0 bytes (script_of script)
+  pub built : IsBuiltScript bytes script
+
 -- the input was read to its end, and it is a script within the limits
-pub record IsScriptInput (old new : Option (List ℕ)) (script : Script) : Type 0 where
+pub record IsScriptInput (old new : Option (List ℕ)) (script : BuiltScript) : Type 0 where
   pub bytes : List ℕ
   pub whole : IsReadWhole old new bytes
   pub limits : IsInLimits bytes
-  pub grammar : IsScript bytes script
+  pub grammar : IsReadScript bytes script
 
 -- the words asked for a shape and the input was a script; it was run, and this heap and the report came of it
 pub record IsDone (words : List (List ℕ)) (left_before left_after before after : Option (List ℕ)) (heap : View) : Type 0 where
   pub shape : Shape
   pub asked : shape_asked words ≡ Some shape
-  pub script : Script
+  pub script : BuiltScript
   pub input : IsScriptInput left_before left_after script
   pub run : IsWholeRun shape script before after heap
 
@@ -64,7 +74,7 @@ pub record IsDone (words : List (List ℕ)) (left_before left_after before after
 pub record IsStopped (words : List (List ℕ)) (left_before left_after before after : Option (List ℕ)) : Type 0 where
   pub shape : Shape
   pub asked : shape_asked words ≡ Some shape
-  pub script : Script
+  pub script : BuiltScript
   pub input : IsScriptInput left_before left_after script
   pub run : IsCutShort shape script before after
 
@@ -92,7 +102,7 @@ pub record IsUntouched (told_before told_after : Option (List ℕ)) (faults_befo
 -- ---- what the parts of the program answer
 
 -- what comes of a script that was read
-abbrev pub RunsScript : Shape → Script → Option (List ℕ) → Option (List ℕ) → Option View → Status → Type 0
+abbrev pub RunsScript : Shape → BuiltScript → Option (List ℕ) → Option (List ℕ) → Option View → Status → Type 0
 RunsScript shape script before after kept S.Done = MatchOption kept ⊥ (λ heap. IsWholeRun shape script before after heap)
 RunsScript shape script before after kept S.WriteFault = (kept ≡ None) × IsCutShort shape script before after
 RunsScript shape script before after kept S.NoMemory = (kept ≡ None) × Grew before after []
@@ -104,9 +114,9 @@ RunsScript shape script before after kept S.Usage = ⊥
 -- what comes of bytes that were read up to the first past the limit
 abbrev pub RunsBytes : Shape → List ℕ → Option (List ℕ) → Option (List ℕ) → Option View → Status → Type 0
 RunsBytes shape bytes before after kept S.Done =
-    (script : Script) × IsInLimits bytes × IsScript bytes script × MatchOption kept ⊥ (λ heap. IsWholeRun shape script before after heap)
+    (script : BuiltScript) × IsInLimits bytes × IsReadScript bytes script × MatchOption kept ⊥ (λ heap. IsWholeRun shape script before after heap)
 RunsBytes shape bytes before after kept S.WriteFault =
-    (script : Script) × IsInLimits bytes × IsScript bytes script × (kept ≡ None) × IsCutShort shape script before after
+    (script : BuiltScript) × IsInLimits bytes × IsReadScript bytes script × (kept ≡ None) × IsCutShort shape script before after
 RunsBytes shape bytes before after kept S.NoMemory = (kept ≡ None) × Grew before after []
 RunsBytes shape bytes before after kept S.TooLong = (kept ≡ None) × Grew before after [] × IsTooLong bytes
 RunsBytes shape bytes before after kept (S.Script line reason) =

@@ -2,7 +2,7 @@
 use Rattle.std.specs.Prelude.{ℕ, ◌==◌, ◌&&◌, Bool, List, [], ◌∷◌, Option, Some, None, if◌then◌else◌, codes}
 use Rattle.std.specs.List.{list_any}
 use Rattle.gc_graph.specs.State.{Shape}
-use Rattle.gc_graph.specs.Script.{is_text, number_below}
+use Rattle.gc_graph.specs.Words.{is_text, number_below}
 use Rattle.cppgc_main.specs.Setting.{default_shape}
 
 -- from 1 to 1,024 pages

@@ -1,8 +1,11 @@
 -- The heap that the program makes, and the scripts that it can run.
-use Rattle.std.specs.Prelude.{ℕ, ◌≤◌, List, length, All}
+use Rattle.std.specs.Prelude.{ℕ, ◌≤◌, List, [], length, map, All}
+use Rattle.gc_graph.specs.declared.phase.Phase.TheVariants.{Idle}
 use Rattle.gc_graph.specs.State.{Setup, Shape}
+use Rattle.gc_graph.specs.Fields.{strong_type}
+use Rattle.heap_engine.specs.Built.{IsBuilt}
 use Rattle.gc_graph.specs.Lawful.{IsAllowed}
-use Rattle.gc_graph.specs.Script.{Script, AreTimely}
+use Rattle.heap_script.specs.Built.{BuiltScript, AreTimely}
 use Rattle.heap_engine.specs.declared.heap.Config.{Config}
 
 -- 64 pages of 16,384 words
@@ -12,14 +15,15 @@ default_shape = record { pages = 64; page_words = 16384 }
 abbrev pub shape_of : Config → Shape
 shape_of config = record { pages = config.pages; page_words = config.page_words }
 
--- a heap of the shape, with the types of a script
+-- a heap of the shape without markers, with the types of a script, which have strong fields alone
 abbrev pub setup_of : Shape → List ℕ → Setup
-setup_of shape types = record { shape = shape; types = types }
+setup_of shape types = record { shape = shape; markers = 0; types = map strong_type types; callbacks = [] }
 
 -- the commands can be given to such a heap, one after the other
-pub record IsRunnable (script : Script) : Type 0 where
+pub record IsRunnable (script : BuiltScript) : Type 0 where
   pub small : All (λ n. n ≤ 64) script.types
   pub one : length script.types ≤ 1
   pub allowed : All (IsAllowed (length script.types)) script.commands
   pub few : length script.commands ≤ 1000000
+  pub built : All (IsBuilt Idle) script.commands
   pub timely : AreTimely script.commands

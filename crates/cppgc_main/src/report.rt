@@ -4,12 +4,15 @@ ghost use Rattle.std.specs.Prelude.{◌≡◌, ◌+◌, ◌<◌, ◌≤◌, true
 ghost use Rattle.std.specs.Prelude.{false, [], length, All, OnOk, OnErr};
 ghost use Rattle.gc_graph.specs.State.{empty_state};
 ghost use Rattle.gc_graph.specs.Step.{Step};
-ghost use Rattle.gc_graph.specs.Lawful.{IsAllowed, IsTimely, IsEndLine};
+ghost use Rattle.heap_engine.specs.Built.{IsBuilt};
+ghost use Rattle.gc_graph.specs.CycleSteps.{is_marking};
+ghost use Rattle.gc_graph.specs.Lawful.{IsAllowed};
 ghost use Rattle.gc_graph.specs.Report.{lines_bytes, type_lines};
-ghost use Rattle.gc_graph.specs.Script.{AreTimely};
+ghost use Rattle.heap_script.specs.Built.{AreTimely};
 ghost use Rattle.heap_script.specs.Causes.{HasCause};
 ghost use Rattle.heap_script.specs.Devices.{Writes};
-ghost use Rattle.cppgc_main.specs.Setting.{IsRunnable};
+ghost use Rattle.gc_graph.specs.declared.phase.Phase.TheVariants.{Idle};
+ghost use Rattle.cppgc_main.specs.Setting.{IsRunnable, setup_of};
 ghost use Rattle.cppgc_main.specs.Printed.{IsPrintedRun, IsPartRun};
 ghost use Rattle.cppgc_main.specs.Headline.{IsWholeRun, IsCutShort};
 
@@ -24,7 +27,7 @@ pub(crate) fn print_report<K: Sink>(
     sink: &mut K,
 ) -> Result<(), Failed>
     requires runnable { IsRunnable script.now }
-    requires types { heap.old.setup.types ≡ script.now.types }
+    requires setup { heap.old.setup ≡ setup_of heap.old.setup.shape script.now.types }
     requires start { heap.old.state ≡ empty_state }
     requires opened { heap.old.closed ≡ false }
     ensures done { OnOk result
@@ -35,6 +38,7 @@ pub(crate) fn print_report<K: Sink>(
         (K.written sink.old) (K.written sink.new)) }
     ensures cause { HasCause (K.faults sink.old) (K.faults sink.new) result }
 {
+    gc_graph::runs_are_replayed();
     match print_types(script.types(), sink) {
         Ok(()) => {}
         Err(failed) => return Err(failed),
@@ -66,6 +70,7 @@ fn print_all<K: Sink>(heap: &mut Heap, commands: &[Command], sink: &mut K) -> Re
     requires opened { heap.old.closed ≡ false }
     requires allowed { All (IsAllowed (length heap.old.setup.types)) commands.now }
     requires few { length commands.now ≤ 1000000 }
+    requires built { All (IsBuilt Idle) commands.now }
     requires timely { AreTimely commands.now }
     ensures done { OnOk result (IsPrintedRun heap.old.setup commands.now
         (K.written sink.old) (K.written sink.new) heap.new.state) }
@@ -89,8 +94,11 @@ fn print_outcome<K: Sink>(heap: &mut Heap, command: &Command, sink: &mut K) -> R
     requires few { heap.old.state.ordinal < 1000000 }
     requires opened { heap.old.closed ≡ false }
     requires allowed { IsAllowed (length heap.old.setup.types) command.now }
-    requires timely { IsTimely heap.old.state.phase command.now }
-    ensures step { Step heap.old.setup heap.old.state command.now heap.new.lines heap.new.state }
+    requires built { IsBuilt heap.old.state.phase command.now }
+    ensures step { Step heap.old.setup heap.old.state command.now
+        heap.new.piece heap.new.lines heap.new.state }
+    ensures calm { is_marking heap.new.state.phase ≡ false }
+    ensures alone { heap.new.state.running ≡ [] }
     ensures bytes { Writes (K.written sink.old) (K.written sink.new)
         (lines_bytes heap.new.lines) result }
     ensures ordinal { heap.new.state.ordinal ≡ heap.old.state.ordinal + 1 }

@@ -88,6 +88,12 @@ closed_times-keeps : (n : ℕ) (g : List Object) (s : List Bool) → length s �
 closed_times-keeps zero g s e k h = h
 closed_times-keeps (suc n) g s e k h = closing-keeps g (closed_times n g s) (length-closed_times n g s e) k (closed_times-keeps n g s e k h)
 
+pub reach_length : (g : List Object) (roots : List ℕ) → length (Reach g roots) ≡ length g
+unfolding Reach
+reach_length g roots =
+    length-closed_times (length g) g (set_of (λ k. list_any (λ r. eqb r k) roots) (length g))
+    (length-map-range_with_len (λ k. list_any (λ r. eqb r k) roots) 0 (length g))
+
 pub reach_law : ReachIsLeast
 unfolding Reach
 reach_law g roots within roots_in =

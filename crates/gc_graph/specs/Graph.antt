@@ -6,7 +6,8 @@ use Rattle.gc_graph.specs.declared.graph.Kind.TheVariants.{Strong, Pair}
 use Rattle.gc_graph.specs.declared.graph.Value.{Value}
 use Rattle.gc_graph.specs.declared.graph.Value.TheVariants.{Ref}
 
--- an object of the graph: its type, its extra words, the kinds of its fields, and one value for each word of them
+-- an object of the graph: its type, how many extra words it has, the kinds of its declared fields, and one value for
+-- each word of these and for each extra word (`include/cppgc/garbage-collected.h`, `allocation.h`)
 pub record Object : Type 0 where
   pub ty : ℕ
   pub extra : ℕ
@@ -20,7 +21,7 @@ no_object = record { ty = 0; extra = 0; kinds = []; values = [] }
 abbrev pub object_at : List Object → ℕ → Object
 object_at graph n = slice_index_or graph n no_object
 
--- strong edges: the targets of the strong fields that aren't null
+-- strong edges: the targets of the strong fields that aren't null (`Member`, `include/cppgc/member.h`)
 abbrev pub strong_targets : List Kind → List Value → List ℕ
 strong_targets (Strong ∷ kinds) (Ref t ∷ values) = t ∷ strong_targets kinds values
 strong_targets (Pair ∷ kinds) (key ∷ value ∷ values) = strong_targets kinds values
@@ -28,7 +29,8 @@ strong_targets (kind ∷ kinds) (value ∷ values) = strong_targets kinds values
 strong_targets (kind ∷ kinds) [] = []
 strong_targets [] values = []
 
--- pair edges: the keys and values of the pairs in which neither is null
+-- pair edges: the keys and values of the pairs in which neither is null (`EphemeronPair`,
+-- `include/cppgc/ephemeron-pair.h`)
 abbrev pub pair_targets : List Kind → List Value → List (ℕ × ℕ)
 pair_targets (Pair ∷ kinds) (Ref key ∷ Ref value ∷ values) = (key, value) ∷ pair_targets kinds values
 pair_targets (Pair ∷ kinds) (key ∷ value ∷ values) = pair_targets kinds values
@@ -46,12 +48,21 @@ IsIn set n = has set n ≡ true
 abbrev pub IsWithin : List Bool → List Bool → Type 0
 IsWithin set other = (n : ℕ) → IsIn set n → IsIn other n
 
--- the object leads to n: by a strong edge, or by a pair edge whose key is in the set
-abbrev pub leads_to : List Bool → Object → ℕ → Bool
-leads_to set object n =
+-- the object leads to n: by a strong edge, or by a pair edge whose key passes the test
+abbrev pub leads_by : (ℕ → Bool) → Object → ℕ → Bool
+leads_by test object n =
     list_any (λ t. t == n) (strong_targets object.kinds object.values)
-    || list_any (λ p. has set p.0 && (p.1 == n)) (pair_targets object.kinds object.values)
+    || list_any (λ p. test p.0 && (p.1 == n)) (pair_targets object.kinds object.values)
+
+-- what passes the test is closed: it has what the strong fields of what passes name, and the value of each of their
+-- pairs whose key passes
+abbrev pub ClosesUnder : List Object → (ℕ → Bool) → Type 0
+ClosesUnder graph test = (m n : ℕ) → test m ≡ true → leads_by test (object_at graph m) n ≡ true → test n ≡ true
+
+-- the object leads to n, where the set tells which keys count
+abbrev pub leads_to : List Bool → Object → ℕ → Bool
+leads_to set = leads_by (has set)
 
 -- closed: it holds what its members' strong fields name, and the value of each of their pairs whose key it holds
 abbrev pub IsClosed : List Object → List Bool → Type 0
-IsClosed graph set = (m n : ℕ) → IsIn set m → leads_to set (object_at graph m) n ≡ true → IsIn set n
+IsClosed graph set = ClosesUnder graph (has set)

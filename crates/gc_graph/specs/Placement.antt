@@ -1,6 +1,7 @@
--- Where a new object goes.
+-- Where a new object goes (heap partitioning, `include/cppgc/README.md`).
 use Rattle.std.specs.Prelude.{◌≡◌, ◌⊎◌, ℕ, ◌+◌, ◌*◌, ◌/◌, ◌<◌, ◌≤◌, nat_lt, nat_le, Bool, true, false, List, [], ◌∷◌, length, Option, Some, None, if◌then◌else◌, Contains, slice_index_or, count_by}
-use Rattle.gc_graph.specs.State.{Shape, Node, is_there, size_of}
+use Rattle.gc_graph.specs.State.{Shape, State, Node, is_there, size_of}
+use Rattle.gc_graph.specs.Sweep.{swept_pages, SweepsTo}
 
 -- the words of an object: the address of the first, and how many
 pub record Extent : Type 0 where
@@ -38,9 +39,10 @@ pub record IsRun (page_words : ℕ) (extents : List Extent) (size page a : ℕ) 
   pub last : a + size ≤ (page + 1) * page_words
   pub free : (x : ℕ) → a ≤ x → x < a + size → IsTaken extents x → ⊥
 
--- an object of the size fits at a, in a page of its bucket
-abbrev pub Fits : Shape → List Extent → ℕ → ℕ → Type 0
-Fits shape extents size a = (page : ℕ) × (page < shape.pages) × IsRun shape.page_words extents size page a
+-- an object of the size, which isn't large, fits at a, in a page of its bucket among the first so many
+abbrev pub Fits : Shape → ℕ → List Extent → ℕ → ℕ → Type 0
+Fits shape pages extents size a =
+    (size ≤ shape.page_words / 2) × ((page : ℕ) × (page < pages) × IsRun shape.page_words extents size page a)
 
 -- some object has a word in the page
 abbrev pub UsesPage : Shape → List Extent → ℕ → Type 0
@@ -50,10 +52,18 @@ UsesPage shape extents page =
 abbrev pub IsEmptyPage : Shape → List Extent → ℕ → Type 0
 IsEmptyPage shape extents page = UsesPage shape extents page → ⊥
 
--- a is the first word of a page that holds no object
-abbrev pub StartsEmptyPage : Shape → List Extent → ℕ → Type 0
-StartsEmptyPage shape extents a =
-    (page : ℕ) × (page < shape.pages) × (a ≡ page * shape.page_words) × IsEmptyPage shape extents page
+-- n pages are enough for the size, and no fewer are
+abbrev pub IsPageCount : ℕ → ℕ → ℕ → Type 0
+IsPageCount page_words size n = (size ≤ n * page_words) × (n * page_words < size + page_words)
+
+-- a is the first word of a run of pages that hold no object and are just enough for the size
+pub record StartsEmptyRun (shape : Shape) (extents : List Extent) (size a : ℕ) : Type 0 where
+  pub page : ℕ
+  pub count : ℕ
+  pub enough : IsPageCount shape.page_words size count
+  pub within : page + count ≤ shape.pages
+  pub first : a ≡ page * shape.page_words
+  pub empty : (i : ℕ) → i < count → IsEmptyPage shape extents (page + i)
 
 abbrev pub IsLowest : (ℕ → Type 0) → ℕ → Type 0
 IsLowest P a = P a × ((b : ℕ) → b < a → P b → ⊥)
@@ -61,14 +71,26 @@ IsLowest P a = P a × ((b : ℕ) → b < a → P b → ⊥)
 abbrev pub IsNowhere : (ℕ → Type 0) → Type 0
 IsNowhere P = (a : ℕ) → P a → ⊥
 
--- the place of a new object that is at most half a page, where all pages are swept: the lowest address at which it
--- fits in a page of its bucket; else the first word of the lowest empty page; else none
-abbrev pub IsPlaceFor : Shape → List Extent → ℕ → Option ℕ → Type 0
-IsPlaceFor shape extents size (Some a) =
-    IsLowest (Fits shape extents size) a
-    ⊎ (IsNowhere (Fits shape extents size) × IsLowest (StartsEmptyPage shape extents) a)
-IsPlaceFor shape extents size None =
-    IsNowhere (Fits shape extents size) × IsNowhere (StartsEmptyPage shape extents)
+-- the place of a new object, where the first so many pages are swept: the lowest address at which it fits in these;
+-- else, where they are all, the first word of the lowest empty run of pages; else none
+abbrev pub IsPlaceFor : Shape → ℕ → List Extent → ℕ → Option ℕ → Type 0
+IsPlaceFor shape pages extents size (Some a) =
+    IsLowest (Fits shape pages extents size) a
+    ⊎ ((pages ≡ shape.pages) × IsNowhere (Fits shape pages extents size) × IsLowest (StartsEmptyRun shape extents size) a)
+IsPlaceFor shape pages extents size None =
+    (pages ≡ shape.pages) × IsNowhere (Fits shape pages extents size) × IsNowhere (StartsEmptyRun shape extents size)
+
+-- placement: pages are swept one by one until the object fits in those that are swept, or all are; this is the state
+-- then, with the numbers that were finalised on the way, and the place
+pub record IsPlacement (shape : Shape) (old : State) (size : ℕ) (numbers : List ℕ) (mid : State) (place : Option ℕ) : Type 0 where
+  pub pages : ℕ
+  pub forward : swept_pages shape old ≤ pages
+  pub within : pages ≤ shape.pages
+  pub swept : SweepsTo shape old pages numbers mid
+  pub wanted :
+      (fewer : ℕ) (before : List ℕ) (s : State) → swept_pages shape old ≤ fewer → fewer < pages → SweepsTo shape old fewer before s
+      → IsNowhere (Fits shape fewer (extents_of s.nodes) size)
+  pub placed : IsPlaceFor shape pages (extents_of mid.nodes) size place
 
 -- n pages hold a word of an object: a flag for each page tells whether it does, and n flags are set
 pub record IsUsedPages (shape : Shape) (extents : List Extent) (n : ℕ) : Type 0 where

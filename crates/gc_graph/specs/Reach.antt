@@ -1,4 +1,4 @@
--- What the roots reach.
+-- What the roots reach (atomic, incremental and concurrent garbage collection, `include/cppgc/README.md`).
 use Rattle.std.specs.Prelude.{◌≡◌, ℕ, zero, suc, ◌==◌, ◌&&◌, ◌||◌, ◌<◌, Bool, true, false, List, length, map}
 use Rattle.std.specs.List.{list_any, range_with_len}
 use Rattle.gc_graph.specs.Graph.{Object, object_at, has, IsIn, IsWithin, IsClosed, leads_to}

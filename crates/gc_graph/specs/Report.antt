@@ -5,18 +5,79 @@ use Rattle.gc_graph.specs.declared.line.Line.{Line}
 use Rattle.gc_graph.specs.declared.line.Line.TheVariants as L
 use Rattle.gc_graph.specs.declared.line.Refusal.{Refusal}
 use Rattle.gc_graph.specs.declared.line.Refusal.TheVariants as R
+use Rattle.gc_graph.specs.declared.region.Entry.{Entry}
+use Rattle.gc_graph.specs.declared.region.Op.{Op}
+use Rattle.gc_graph.specs.declared.region.Op.TheVariants as O
+use Rattle.gc_graph.specs.declared.region.Reply.{Reply}
+use Rattle.gc_graph.specs.declared.region.Reply.TheVariants as A
 
 abbrev pub newline : List ℕ
 newline = 10 ∷ []
+
+-- ---- the words that a line may end with
 
 abbrev pub refusal_text : Refusal → List ℕ
 refusal_text R.Phase = codes "phase"
 refusal_text R.Null = codes "null"
 refusal_text R.Field = codes "field"
+refusal_text R.Kind = codes "kind"
+refusal_text R.Stack = codes "stack"
+refusal_text R.Empty = codes "empty"
 
 abbrev pub digit_of : Bool → List ℕ
 digit_of true = codes "1"
 digit_of false = codes "0"
+
+-- whether a step found nothing more to trace
+abbrev pub done_text : Bool → List ℕ
+done_text true = codes "done"
+done_text false = codes "more"
+
+-- how many objects are there, how many words they use, and on how many pages
+abbrev pub totals_text : ℕ → ℕ → ℕ → List ℕ
+totals_text n u g = codes "objects " ++ decimal n ++ codes " used " ++ decimal u ++ codes " pages " ++ decimal g
+
+-- ---- the region
+
+-- what a call on the region answered
+abbrev pub reply_text : Reply → List ℕ
+reply_text A.Done = codes "done"
+reply_text (A.Node k) = codes "node " ++ decimal k
+reply_text A.Null = codes "null"
+reply_text A.NoMemory = codes "memory"
+
+-- what was done to the region's slots
+abbrev pub op_text : Op → List ℕ
+op_text (O.Export x k) = codes "export " ++ decimal x ++ codes " " ++ decimal k
+op_text (O.Import x) = codes "import " ++ decimal x
+op_text O.Start = codes "start"
+op_text (O.Pause cleared) = codes "pause " ++ decimal cleared
+op_text (O.Copy x y) = codes "copy " ++ decimal x ++ codes " " ++ decimal y
+op_text (O.Clear x) = codes "clear " ++ decimal x
+op_text (O.Weaken x) = codes "weaken " ++ decimal x
+op_text (O.Upgrade x y) = codes "upgrade " ++ decimal x ++ codes " " ++ decimal y
+
+-- an entry of the region's history
+abbrev pub entry_text : Entry → List ℕ
+entry_text entry = codes "entry " ++ decimal entry.thread ++ codes " " ++ op_text entry.op ++ codes " " ++ reply_text entry.reply
+
+-- the totals that a thread has seen: ordinal, objects, used words and finalisations
+abbrev pub seen_text : ℕ → ℕ → ℕ → ℕ → List ℕ
+seen_text o n u f = decimal o ++ codes " " ++ decimal n ++ codes " " ++ decimal u ++ codes " " ++ decimal f
+
+-- ---- lines
+
+-- what a pause found
+abbrev pub pause_text : ℕ → ℕ → ℕ → ℕ → Bool → List ℕ
+pause_text kept dead crew traced walked =
+    codes "pause kept " ++ decimal kept ++ codes " dead " ++ decimal dead ++ codes " crew " ++ decimal crew
+    ++ codes " traced " ++ decimal traced ++ codes " walked " ++ digit_of walked
+
+-- a whole run in one line
+abbrev pub summary_text : ℕ → ℕ → ℕ → ℕ → ℕ → ℕ → List ℕ
+summary_text c y n u f full =
+    codes "summary commands " ++ decimal c ++ codes " cycles " ++ decimal y ++ codes " objects " ++ decimal n
+    ++ codes " used " ++ decimal u ++ codes " finalised " ++ decimal f ++ codes " full " ++ decimal full
 
 -- the text of a line, without its end
 abbrev pub line_text : Line → List ℕ
@@ -28,12 +89,22 @@ line_text (L.Refused why) = codes "refused " ++ refusal_text why
 line_text L.Fine = codes "ok"
 line_text (L.Node k) = codes "node " ++ decimal k
 line_text L.Null = codes "null"
-line_text (L.Pause kept dead crew traced walked) =
-    codes "pause kept " ++ decimal kept ++ codes " dead " ++ decimal dead ++ codes " crew " ++ decimal crew
-    ++ codes " traced " ++ decimal traced ++ codes " walked " ++ digit_of walked
+line_text (L.Word n) = codes "word " ++ decimal n
+line_text L.Started = codes "started"
+line_text (L.Step t done) = codes "step traced " ++ decimal t ++ codes " " ++ done_text done
+line_text (L.Pause kept dead crew traced walked) = pause_text kept dead crew traced walked
+line_text (L.Prefinalise k c) = codes "prefinalise " ++ decimal k ++ codes " " ++ decimal c
 line_text (L.Finalise k) = codes "finalise " ++ decimal k
 line_text (L.Swept c) = codes "swept to " ++ decimal c
-line_text (L.End n u g) = codes "end objects " ++ decimal n ++ codes " used " ++ decimal u ++ codes " pages " ++ decimal g
+line_text (L.Objects n u g) = totals_text n u g
+line_text L.Queued = codes "queued"
+line_text (L.Going m) = codes "going " ++ decimal m
+line_text (L.Reply j reply) = codes "reply " ++ decimal j ++ codes " " ++ reply_text reply
+line_text (L.ReplyTotals j o n u f) = codes "reply " ++ decimal j ++ codes " totals " ++ seen_text o n u f
+line_text (L.Entry entry) = entry_text entry
+line_text (L.Joined m) = codes "joined " ++ decimal m
+line_text (L.End n u g) = codes "end " ++ totals_text n u g
+line_text (L.Summary c y n u f full) = summary_text c y n u f full
 
 abbrev pub line_bytes : Line → List ℕ
 line_bytes line = line_text line ++ newline

@@ -1,183 +1,14 @@
--- The grammar of a script: which lines are of a built form, and what they say.
-use Rattle.std.specs.Prelude.{◌≡◌, ◌⊎◌, ℕ, ◌+◌, ◌-◌, ◌*◌, ◌^◌, ◌<◌, ◌==◌, ◌&&◌, ◌||◌, not, nat_lt, nat_le, Bool, true, false, List, [], ◌∷◌, length, take, filter, fold, Option, Some, None, if◌then◌else◌, codes, slice_get, slice_index, slice_index_or}
-use Rattle.std.specs.List.{list_all, list_any, filter_map, slice_split}
+-- The grammar of a script: its lines in their order, what they say, and which line is the first faulty one.
+use Rattle.std.specs.Prelude.{◌≡◌, ◌⊎◌, ℕ, ◌+◌, ◌<◌, ◌&&◌, ◌||◌, not, Bool, true, false, List, [], ◌∷◌, length, take, drop, fold, count_by, Option, Some, None, if◌then◌else◌, codes, slice_index_or}
+use Rattle.std.specs.List.{list_all, list_any, filter_map}
 use Rattle.std.specs.Cmp.Lexicographic.{pointwise}
 use Rattle.gc_graph.specs.declared.command.Command.{Command}
-use Rattle.gc_graph.specs.declared.command.Command.TheVariants as C
-use Rattle.gc_graph.specs.declared.command.Want.TheVariants.{Precise}
+use Rattle.gc_graph.specs.State.{ObjectType}
+use Rattle.gc_graph.specs.Words.{lines_of, words_of, is_text, is_blank}
+use Rattle.gc_graph.specs.Reasons.{Reason, number_of, Bounds, first_is, rest_of, reason_of_words, command_of_words, type_of_words}
+use Rattle.gc_graph.specs.Reasons.Reason.{Header, Order, Section}
 
--- ---- lines, words and numbers
-
--- the parts between separators, less an empty last one
-abbrev pub lines_of_parts : List (List ℕ) → List (List ℕ)
-lines_of_parts [] = []
-lines_of_parts (last ∷ []) = if length last == 0 then [] else last ∷ []
-lines_of_parts (line ∷ next ∷ more) = line ∷ lines_of_parts (next ∷ more)
-
--- the lines of a script end with the byte 10, which the last one may lack
-abbrev pub lines_of : List ℕ → List (List ℕ)
-lines_of bytes = lines_of_parts (slice_split (λ b. b == 10) bytes)
-
--- the words of a line stand between spaces
-abbrev pub words_of : List ℕ → List (List ℕ)
-words_of line = filter (λ word. not (length word == 0)) (slice_split (λ b. b == 32) line)
-
-abbrev pub is_text : List ℕ → List ℕ → Bool
-is_text word text = pointwise ◌==◌ word text
-
-abbrev pub is_digit : ℕ → Bool
-is_digit b = nat_le 48 b && nat_le b 57
-
--- the value of digits that follow a value
-abbrev pub value_after : ℕ → List ℕ → ℕ
-value_after n [] = n
-value_after n (b ∷ bytes) = value_after (n * 10 + (b - 48)) bytes
-
--- digits without a leading zero, or the single digit 0, with a value of 64 bits
-abbrev pub is_number : List ℕ → Bool
-is_number word =
-    not (length word == 0) && (not (nat_lt 1 (length word) && (slice_index word 0 == 48))
-    && (list_all is_digit word && nat_lt (value_after 0 word) (2 ^ 64)))
-
--- the number that a word is, where it is one below the limit
-abbrev pub number_below : ℕ → List ℕ → Option ℕ
-number_below limit word = if is_number word && nat_lt (value_after 0 word) limit then Some (value_after 0 word) else None
-
--- ---- commands
-
-abbrev pub slot_of : List ℕ → Option ℕ
-slot_of word = number_below 256 word
-
--- one type line at most may stand, so a type is 0
-abbrev pub type_of : List ℕ → Option ℕ
-type_of word = number_below 1 word
-
-abbrev pub field_of : List ℕ → Option ℕ
-field_of word = number_below 67108864 word
-
-abbrev pub with_one : (ℕ → Command) → Option ℕ → Option Command
-with_one make (Some a) = Some (make a)
-with_one make None = None
-
-abbrev pub with_two : (ℕ → ℕ → Command) → Option ℕ → Option ℕ → Option Command
-with_two make (Some a) (Some b) = Some (make a b)
-with_two make None b = None
-with_two make (Some a) None = None
-
-abbrev pub with_three : (ℕ → ℕ → ℕ → Command) → Option ℕ → Option ℕ → Option ℕ → Option Command
-with_three make (Some a) b c = with_two (make a) b c
-with_three make None b c = None
-
--- drop p; sweep all
-abbrev pub command_of_two : List ℕ → List ℕ → Option Command
-command_of_two first second =
-    if is_text first (codes "drop") then with_one (λ p. C.Drop p) (slot_of second)
-    else if is_text first (codes "sweep") && is_text second (codes "all") then Some C.SweepAll
-    else None
-
--- new p t; gc now precise
-abbrev pub command_of_three : List ℕ → List ℕ → List ℕ → Option Command
-command_of_three first second third =
-    if is_text first (codes "new") then with_two (λ p t. C.New p t 0) (slot_of second) (type_of third)
-    else if is_text first (codes "gc") && (is_text second (codes "now") && is_text third (codes "precise")) then Some (C.GcNow Precise)
-    else None
-
--- set p f -; set p f q; get p f q
-abbrev pub command_of_four : List ℕ → List ℕ → List ℕ → List ℕ → Option Command
-command_of_four first second third fourth =
-    if is_text first (codes "set") && is_text fourth (codes "-") then with_two (λ p f. C.SetNull p f) (slot_of second) (field_of third)
-    else if is_text first (codes "set") then with_three (λ p f q. C.Set p f q) (slot_of second) (field_of third) (slot_of fourth)
-    else if is_text first (codes "get") then with_three (λ p f q. C.Get p f q) (slot_of second) (field_of third) (slot_of fourth)
-    else None
-
-abbrev pub command_of_words : List (List ℕ) → Option Command
-command_of_words [] = None
-command_of_words (first ∷ []) = None
-command_of_words (first ∷ second ∷ []) = command_of_two first second
-command_of_words (first ∷ second ∷ third ∷ []) = command_of_three first second third
-command_of_words (first ∷ second ∷ third ∷ fourth ∷ []) = command_of_four first second third fourth
-command_of_words (first ∷ second ∷ third ∷ fourth ∷ fifth ∷ more) = None
-
-abbrev pub command_of : List ℕ → Option Command
-command_of line = command_of_words (words_of line)
-
--- ---- lines in their order
-
-abbrev pub is_blank : List ℕ → Bool
-is_blank line = length (words_of line) == 0
-
--- the words are these two
-abbrev pub is_pair_of : List ℕ → List ℕ → List (List ℕ) → Bool
-is_pair_of first second words = pointwise is_text words (first ∷ second ∷ [])
-
-abbrev pub is_header : List ℕ → Bool
-is_header line = is_pair_of (codes "oilpan") (codes "1") (words_of line)
-
-abbrev pub is_type_line : List ℕ → Bool
-is_type_line line = is_pair_of (codes "type") (codes "S") (words_of line)
-
--- the commands that stand on the lines
-abbrev pub commands_of : List (List ℕ) → List Command
-commands_of lines = filter_map command_of lines
-
--- the type line declares a type with one strong field
-abbrev pub types_of : List (List ℕ) → List ℕ
-types_of lines = filter_map (λ line. if is_type_line line then Some 1 else None) lines
-
-abbrev pub opens_sweep : Bool → Command → Bool
-opens_sweep before (C.GcNow want) = true
-opens_sweep before C.SweepAll = false
-opens_sweep before (C.New p t e) = before
-opens_sweep before (C.Set p f q) = before
-opens_sweep before (C.SetNull p f) = before
-opens_sweep before (C.Get p f q) = before
-opens_sweep before (C.Drop p) = before
-
--- a collection stands among the commands, with no end of the sweep after it
-abbrev pub is_sweep_open : List Command → Bool
-is_sweep_open commands = fold opens_sweep false commands
-
--- a new object wants the type line before it, and no open sweep
-abbrev pub may_follow : List (List ℕ) → Command → Bool
-may_follow before (C.New p t e) = list_any is_type_line before && not (is_sweep_open (commands_of before))
-may_follow before (C.Set p f q) = true
-may_follow before (C.SetNull p f) = true
-may_follow before (C.Get p f q) = true
-may_follow before (C.Drop p) = true
-may_follow before (C.GcNow want) = true
-may_follow before C.SweepAll = true
-
-abbrev pub holds_command : List (List ℕ) → Option Command → Bool
-holds_command before None = false
-holds_command before (Some command) = may_follow before command
-
--- the line is of a built form, after those before it: the header comes first; then blank lines stand anywhere,
--- the type line before any command, and the commands after that
-abbrev pub is_built : List (List ℕ) → List ℕ → Bool
-is_built [] line = is_header line
-is_built (header ∷ before) line =
-    is_blank line || ((is_type_line line && list_all is_blank before) || holds_command before (command_of line))
-
-abbrev pub is_built_at : List (List ℕ) → ℕ → Bool
-is_built_at lines i = is_built (take i lines) (slice_index_or lines i [])
-
--- what a script says: the number of strong fields of each type, and the commands
-pub record Script : Type 0 where
-  pub types : List ℕ
-  pub commands : List Command
-
--- the bytes are a script: the header stands, and each line is of a built form
-pub record IsScript (bytes : List ℕ) (script : Script) : Type 0 where
-  pub header : is_built_at (lines_of bytes) 0 ≡ true
-  pub built : (i : ℕ) → i < length (lines_of bytes) → is_built_at (lines_of bytes) i ≡ true
-  pub types : script.types ≡ types_of (lines_of bytes)
-  pub commands : script.commands ≡ commands_of (lines_of bytes)
-
--- line i + 1 is the first that is of no built form; a missing first line counts as one
-pub record IsFaultyAt (bytes : List ℕ) (i : ℕ) : Type 0 where
-  pub there : (i ≡ 0) ⊎ (i < length (lines_of bytes))
-  pub faulty : is_built_at (lines_of bytes) i ≡ false
-  pub before : (j : ℕ) → j < i → is_built_at (lines_of bytes) j ≡ true
+-- ---- limits
 
 -- over 16,777,216 bytes or over 1,000,000 lines
 abbrev pub IsTooLong : List ℕ → Type 0
@@ -186,7 +17,117 @@ IsTooLong bytes = (16777216 < length bytes) ⊎ (1000000 < length (lines_of byte
 abbrev pub IsInLimits : List ℕ → Type 0
 IsInLimits bytes = IsTooLong bytes → ⊥
 
--- no object is made while a sweep is open
-abbrev pub AreTimely : List Command → Type 0
-AreTimely commands =
-    (i p t e : ℕ) → slice_get commands i ≡ Some (C.New p t e) → is_sweep_open (take i commands) ≡ false
+-- ---- kinds of lines
+
+abbrev pub is_header : List ℕ → Bool
+is_header line = pointwise is_text (words_of line) (codes "oilpan" ∷ codes "1" ∷ [])
+
+abbrev pub is_type : List ℕ → Bool
+is_type line = first_is (codes "type") (words_of line)
+
+-- a line with words that isn't of a type
+abbrev pub is_command : List ℕ → Bool
+is_command line = not (is_blank line) && not (is_type line)
+
+abbrev pub is_order : List (List ℕ) → Bool
+is_order words = first_is (codes "at") words
+
+abbrev pub is_go : List (List ℕ) → Bool
+is_go words = first_is (codes "threads") words && first_is (codes "go") (rest_of words)
+
+abbrev pub is_join : List (List ℕ) → Bool
+is_join words = first_is (codes "threads") words && first_is (codes "join") (rest_of words)
+
+-- ---- sections
+
+-- of the threads of the script: no order waits and none runs, orders wait, or they run
+pub data Threads : Type 0 where
+  AtRest : Threads
+  Waiting : Threads
+  Going : Threads
+
+abbrev pub are_at_rest : Threads → Bool
+are_at_rest AtRest = true
+are_at_rest Waiting = false
+are_at_rest Going = false
+
+abbrev pub are_waiting : Threads → Bool
+are_waiting AtRest = false
+are_waiting Waiting = true
+are_waiting Going = false
+
+abbrev pub are_going : Threads → Bool
+are_going AtRest = false
+are_going Waiting = false
+are_going Going = true
+
+-- the threads after a line with these words
+abbrev pub threads_after : Threads → List (List ℕ) → Threads
+threads_after threads words =
+    if is_order words then Waiting
+    else if is_go words then Going
+    else if is_join words then AtRest
+    else threads
+
+abbrev pub threads_of : List (List ℕ) → Threads
+threads_of lines = fold (λ threads line. threads_after threads (words_of line)) AtRest lines
+
+-- an order while they run; `threads go` where no order waits; `threads join` where none run; and the last line with words,
+-- where the threads aren't at rest after it
+abbrev pub breaks_section : Threads → List (List ℕ) → Bool → Bool
+breaks_section threads words last =
+    (is_order words && are_going threads)
+    || ((is_go words && not (are_waiting threads))
+    || ((is_join words && not (are_going threads))
+    || (last && not (are_at_rest (threads_after threads words)))))
+
+-- ---- the reason of a line
+
+-- the lowest reason of a line after the header, from the lines before, its words, and whether it is the last with words
+abbrev pub reason_by_order : ℕ → List (List ℕ) → List (List ℕ) → Bool → Option Reason → Option Reason
+reason_by_order callbacks before words last (Some reason) = Some reason
+reason_by_order callbacks before words last None =
+    if first_is (codes "type") words && list_any is_command before then Some Order
+    else if breaks_section (threads_of before) words last then Some Section
+    else None
+
+abbrev pub bounds_after : ℕ → List (List ℕ) → Bounds
+bounds_after callbacks before = record { types = count_by is_type before; callbacks = callbacks }
+
+-- the lowest reason that a line has, from the lines before it and after it
+abbrev pub reason_of : ℕ → List (List ℕ) → List ℕ → List (List ℕ) → Option Reason
+reason_of callbacks [] line after = if is_header line then None else Some Header
+reason_of callbacks (header ∷ before) line after =
+    if is_blank line then None
+    else reason_by_order callbacks before (words_of line) (list_all is_blank after)
+    (reason_of_words (bounds_after callbacks before) (words_of line))
+
+-- line i + 1; a missing first line counts as one
+abbrev pub reason_at : ℕ → List (List ℕ) → ℕ → Option Reason
+reason_at callbacks lines i = reason_of callbacks (take i lines) (slice_index_or lines i []) (drop (i + 1) lines)
+
+-- ---- scripts
+
+-- what a script says
+pub record Script : Type 0 where
+  pub types : List ObjectType
+  pub commands : List Command
+
+-- the bytes are a script that can use so many callbacks, and it says this
+pub record IsScript (callbacks : ℕ) (bytes : List ℕ) (script : Script) : Type 0 where
+  pub header : reason_at callbacks (lines_of bytes) 0 ≡ None
+  pub faultless : (i : ℕ) → i < length (lines_of bytes) → reason_at callbacks (lines_of bytes) i ≡ None
+  pub types : script.types ≡ filter_map (λ line. type_of_words (words_of line)) (lines_of bytes)
+  pub commands : script.commands ≡ filter_map (λ line. command_of_words (words_of line)) (lines_of bytes)
+
+-- line i + 1 is the first that has a reason, and this is the lowest that it has
+pub record IsFirstFault (callbacks : ℕ) (bytes : List ℕ) (i : ℕ) (reason : Reason) : Type 0 where
+  pub faulty : reason_at callbacks (lines_of bytes) i ≡ Some reason
+  pub before : (j : ℕ) → j < i → reason_at callbacks (lines_of bytes) j ≡ None
+
+-- the line and the number of the reason why the bytes are no script; over the limits it is line 0 and reason 8
+abbrev pub IsFault : ℕ → List ℕ → ℕ → ℕ → Type 0
+IsFault callbacks bytes line reason =
+    (IsTooLong bytes × (line ≡ 0) × (reason ≡ 8))
+    ⊎ (IsInLimits bytes
+    × ((i : ℕ) × (why : Reason) × (line ≡ i + 1) × (reason ≡ number_of why) × IsFirstFault callbacks bytes i why))

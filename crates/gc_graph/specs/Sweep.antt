@@ -1,13 +1,28 @@
--- The end of a sweep: which nodes are finalised, and in which order.
-use Rattle.std.specs.Prelude.{ℕ, ◌+◌, ◌<◌, List, length, map, slice_index, All, Contains}
-use Rattle.gc_graph.specs.declared.phase.Phase.TheVariants.{Idle}
-use Rattle.gc_graph.specs.State.{State, Node, Life, node_at, IsDead}
+-- Sweeping: which nodes are finalised, and in which order (lazy and concurrent sweeping, `include/cppgc/README.md`).
+use Rattle.std.specs.Prelude.{◌≡◌, ℕ, ◌+◌, ◌*◌, ◌<◌, ◌==◌, nat_lt, List, [], length, map, slice_index, All, Contains, if◌then◌else◌}
+use Rattle.gc_graph.specs.declared.phase.Phase.{Phase}
+use Rattle.gc_graph.specs.declared.phase.Phase.TheVariants.{Idle, Marking, Sweeping}
+use Rattle.gc_graph.specs.State.{Shape, State, Node, Life, node_at, IsDead}
 use Rattle.gc_graph.specs.State.Life.{Live, Dead, Gone}
 
--- the dead nodes, each once, from the lowest place to the highest
-pub record IsDeadInOrder (nodes : List Node) (numbers : List ℕ) : Type 0 where
-  pub dead : All (IsDead nodes) numbers
-  pub whole : (n : ℕ) → IsDead nodes n → Contains numbers n
+-- while no sweep is open all pages count as swept
+abbrev pub pages_swept_in : Phase → ℕ → ℕ → ℕ
+pages_swept_in Idle pages cursor = pages
+pages_swept_in Marking pages cursor = pages
+pages_swept_in Sweeping pages cursor = cursor
+
+abbrev pub swept_pages : Shape → State → ℕ
+swept_pages shape s = pages_swept_in s.phase shape.pages s.cursor
+
+-- the node is dead, and its place lies below the address
+pub record IsDeadBelow (nodes : List Node) (limit n : ℕ) : Type 0 where
+  pub dead : IsDead nodes n
+  pub below : (node_at nodes n).place < limit
+
+-- the dead nodes whose places lie below the address, each once, from the lowest place to the highest
+pub record AreDeadInOrder (nodes : List Node) (limit : ℕ) (numbers : List ℕ) : Type 0 where
+  pub dead : All (IsDeadBelow nodes limit) numbers
+  pub whole : (n : ℕ) → IsDeadBelow nodes limit n → Contains numbers n
   pub ascending :
       (i j : ℕ) → i < j → j < length numbers
       → (node_at nodes (slice_index numbers i)).place < (node_at nodes (slice_index numbers j)).place
@@ -17,10 +32,37 @@ buried Live = Live
 buried Dead = Gone
 buried Gone = Gone
 
--- a dead node that is finalised leaves the graph
-abbrev pub finalise : Node → Node
-finalise node = record node { life = buried node.life }
+-- a dead node whose place lies below the address is finalised, and leaves the graph
+abbrev pub finalise : ℕ → Node → Node
+finalise limit node = if nat_lt node.place limit then record node { life = buried node.life } else node
 
--- the state after all pages are swept, in which these nodes were finalised
-abbrev pub swept : State → List ℕ → State
-swept s numbers = record s { nodes = map finalise s.nodes; phase = Idle; finalised = s.finalised + length numbers }
+-- a sweep of all pages is over
+abbrev pub phase_at : Shape → ℕ → Phase
+phase_at shape pages = if pages == shape.pages then Idle else Sweeping
+
+-- the state after the first so many pages are swept, in which these nodes were finalised
+abbrev pub swept_to : Shape → State → ℕ → List ℕ → State
+swept_to shape s pages numbers = record s {
+  nodes = map (finalise (pages * shape.page_words)) s.nodes;
+  phase = phase_at shape pages;
+  cursor = pages;
+  finalised = s.finalised + length numbers;
+}
+
+-- the open sweep goes on until the first so many pages are swept
+pub record IsSweep (shape : Shape) (old : State) (pages : ℕ) (numbers : List ℕ) (new : State) : Type 0 where
+  pub finalised : AreDeadInOrder old.nodes (pages * shape.page_words) numbers
+  pub after : new ≡ swept_to shape old pages numbers
+
+-- where no sweep is open there is nothing to do
+abbrev pub SweepsIn : Phase → Shape → State → ℕ → List ℕ → State → Type 0
+SweepsIn Idle shape old pages numbers new = (numbers ≡ []) × (new ≡ old)
+SweepsIn Marking shape old pages numbers new = (numbers ≡ []) × (new ≡ old)
+SweepsIn Sweeping shape old pages numbers new = IsSweep shape old pages numbers new
+
+abbrev pub SweepsTo : Shape → State → ℕ → List ℕ → State → Type 0
+SweepsTo shape old pages numbers new = SweepsIn old.phase shape old pages numbers new
+
+-- an open sweep is ended
+abbrev pub EndsSweep : Shape → State → List ℕ → State → Type 0
+EndsSweep shape old numbers new = SweepsTo shape old shape.pages numbers new

@@ -5,27 +5,46 @@
 //! here knows of words, mark bits or mark lists: those belong to the crates above, which prove
 //! that what they do is a step.
 //!
-//! The parts: `Kind` and `Value` (fields and what they hold), `Command`, `Want`, `Line` and
-//! `Refusal` (what a script asks and what a report answers), `Phase`, `NoMemory`. The definitions
-//! stand in `specs/`, to be read in this order: `Graph`, `Reach`, `State`, `Valid`, `Placement`,
-//! `Pause`, `Sweep`, `Step`, `Lawful`, `Report`, `Script`.
+//! The parts: `Kind` and `Value` (fields and what they hold), `Command`, `Order` and `Want` (what a
+//! script asks), `Line` and `Refusal` (what a report answers), `Entry`, `Op` and `Reply` (the
+//! region's history), `Action` and `ActionKind` (what prefinalizers do), `Phase`, `NoMemory`;
+//! `Graph` and `reach_check`, by which a program checks a set of nodes; `laws`. The definitions
+//! stand in `specs/`, to be read in the order of `specs/Lib.antt`.
 //!
-//! What is proved: reach is closed, holds the roots and lies in every closed set that holds them.
+//! What is proved: the laws of `reach` and `laws`, each the contract of a function that does
+//! nothing, and that `reach_check` is true exactly where a set holds the roots and is closed.
 //!
 //! What is only tested or not said: the definitions are what a reader has to believe. The tests
 //! of the program compare them with reports that were written by hand.
 #![tactic(auto)]
 
+mod action;
+mod checking;
 mod command;
 mod graph;
+mod graphs;
+mod laws;
 mod line;
+mod members;
 mod memory;
 mod phase;
 mod reach;
+mod region;
+#[cfg(test)]
+mod tests;
 
-pub use command::{Command, Want};
+pub use action::{Action, ActionKind};
+pub use checking::reach_check;
+pub use command::{Command, Order, Want};
 pub use graph::{Kind, Value};
+pub use graphs::Graph;
+pub use laws::{
+    empty_is_valid, lines_read_back, may_is_bounded, memory_leaves_all, pause_bounds_meet,
+    placement_is_free, refused_leaves_all, replies_are_of_one_thread, report_reads_back,
+    runs_are_replayed, step_keeps_valid, sweeps_finalise_dead,
+};
 pub use line::{Line, Refusal};
 pub use memory::NoMemory;
 pub use phase::Phase;
 pub use reach::reach_is_least;
+pub use region::{Entry, Op, Reply};

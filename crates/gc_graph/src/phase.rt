@@ -1,8 +1,9 @@
 // Where a heap stands in its cycle.
 
-/// `Sweeping` lasts from a pause until all pages are swept.
+/// `Marking` lasts from a start to its pause, `Sweeping` from a pause until all pages are swept.
 #[derive(Clone, Copy, Debug, PartialEq, Eq, Drop)]
 pub enum Phase {
     Idle,
+    Marking,
     Sweeping,
 }

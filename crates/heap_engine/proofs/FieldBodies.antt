@@ -7,7 +7,7 @@ use Rattle.std.proofs.lemmas.List.{map-set}
 use Rattle.std.proofs.lemmas.List.Sums.{sum_by-cons}
 use Rattle.gc_graph.specs.declared.graph.Value.{Value}
 use Rattle.gc_graph.specs.State.{Node, node_at, is_there, size_of}
-use Rattle.gc_graph.specs.Step.{with_value}
+use Rattle.gc_graph.specs.Fields.{with_value}
 use Rattle.page_words.specs.Bodies.{Body, end_of, with_word}
 use Rattle.page_words.specs.Seat.{SeatView, IsView}
 use Rattle.heap_engine.specs.Nodes.{place_of, word_of, body_of, bodies_from, bodies_of, IsThere}

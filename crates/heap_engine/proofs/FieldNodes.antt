@@ -8,8 +8,10 @@ use Rattle.gc_graph.specs.declared.graph.Kind.TheVariants.{Strong}
 use Rattle.gc_graph.specs.declared.graph.Value.{Value}
 use Rattle.gc_graph.specs.declared.graph.Value.TheVariants.{Null, Ref, Word}
 use Rattle.gc_graph.specs.State.{Setup, State, Node, node_at, no_node, size_of, IsLive}
-use Rattle.gc_graph.specs.Valid.{IsTyped, IsValid, NamesBelow, NamesLive, HasNamesBelow, fields_of}
-use Rattle.gc_graph.specs.Step.{answered, field_count, with_value}
+use Rattle.gc_graph.specs.Valid.{IsReferenceBelow, NamesLive}
+use Rattle.heap_engine.specs.Plain.{IsStrong, IsPlainState, HasNamesBelow, fields_of}
+use Rattle.gc_graph.specs.Fields.{field_count, with_value}
+use Rattle.gc_graph.specs.Outcomes.{answered}
 use Rattle.heap_engine.specs.Nodes.{place_of}
 use Rattle.heap_engine.proofs.NodePlaces.{live_is_there, there_below}
 
@@ -47,45 +49,45 @@ All-field P (y ∷ nodes) (suc n) f x (suc m) here all = All-field P nodes n f x
 pub live_below : (nodes : List Node) (n : ℕ) → IsLive nodes n → n < length nodes
 live_below nodes n live = there_below nodes n (live_is_there nodes n live)
 
-pub live_typed : (setup : Setup) (s : State) (n : ℕ) → IsValid setup s → IsLive s.nodes n → IsTyped setup (node_at s.nodes n)
-live_typed setup s n valid live = All-get_or (IsTyped setup) s.nodes n no_node (live_below s.nodes n live) valid.typed
+pub live_typed : (setup : Setup) (s : State) (n : ℕ) → IsPlainState setup s → IsLive s.nodes n → IsStrong setup (node_at s.nodes n)
+live_typed setup s n valid live = All-get_or (IsStrong setup) s.nodes n no_node (live_below s.nodes n live) valid.typed
 
-pub fields_counted : (setup : Setup) (node : Node) → IsTyped setup node → field_count node ≡ length node.object.values
+pub fields_counted : (setup : Setup) (node : Node) → IsStrong setup node → field_count node ≡ length node.object.values
 fields_counted setup node typed =
     omega (arith, ap length typed.kinds, length-replicate (fields_of setup node) Strong, typed.extra, typed.values)
 
-typed_field : (setup : Setup) (node : Node) (f : ℕ) (x : Value) → IsTyped setup node → IsTyped setup (with_value node f x)
+typed_field : (setup : Setup) (node : Node) (f : ℕ) (x : Value) → IsStrong setup node → IsStrong setup (with_value node f x)
 typed_field setup node f x typed =
     record { ty = typed.ty; extra = typed.extra; kinds = typed.kinds; values = length-set node.object.values f x ∙ typed.values }
 
 pub size_field : (node : Node) (f : ℕ) (x : Value) → size_of (with_value node f x) ≡ size_of node
-size_field node f x = ap (λ n. 2 + n + node.object.extra) (length-set node.object.values f x)
+size_field node f x = ap (λ n. 2 + n) (length-set node.object.values f x)
 
 -- ---- a valid state stays so
 
 -- the value is null or names a live node
 abbrev pub IsNamed : List Node → Value → Type 0
-IsNamed nodes x = NamesLive nodes x × NamesBelow (length nodes) x
+IsNamed nodes x = NamesLive nodes x × IsReferenceBelow (length nodes) x
 
 names_still : (nodes new : List Node) (x : Value) → ((m : ℕ) → (node_at new m).life ≡ (node_at nodes m).life) → NamesLive nodes x → NamesLive new x
 names_still nodes new Null same names = tt
 names_still nodes new (Ref m) same names = same m ∙ names
 names_still nodes new (Word w) same names = names
 
-pub named_field : (setup : Setup) (s : State) (n f : ℕ) (x : Value) → IsValid setup s → IsLive s.nodes n → IsNamed s.nodes x
+pub named_field : (setup : Setup) (s : State) (n f : ℕ) (x : Value) → IsPlainState setup s → IsLive s.nodes n → IsNamed s.nodes x
     → All (HasNamesBelow (length s.nodes)) (with_field s.nodes n f x)
 named_field setup s n f x valid live names =
     All-set (HasNamesBelow (length s.nodes)) s.nodes n (with_value (node_at s.nodes n) f x)
-    (All-set (NamesBelow (length s.nodes)) (node_at s.nodes n).object.values f x names.1
+    (All-set (IsReferenceBelow (length s.nodes)) (node_at s.nodes n).object.values f x names.1
     (All-get_or (HasNamesBelow (length s.nodes)) s.nodes n no_node (live_below s.nodes n live) valid.named)) valid.named
 
-pub valid_field : (setup : Setup) (s : State) (n f : ℕ) (x : Value) → IsValid setup s → IsLive s.nodes n → IsNamed s.nodes x
-    → IsValid setup (answered (record s { nodes = with_field s.nodes n f x }))
+pub valid_field : (setup : Setup) (s : State) (n f : ℕ) (x : Value) → IsPlainState setup s → IsLive s.nodes n → IsNamed s.nodes x
+    → IsPlainState setup (answered (record s { nodes = with_field s.nodes n f x }))
 valid_field setup s n f x valid live names =
     let new : List Node = with_field s.nodes n f x in
     let same : (m : ℕ) → (node_at new m).life ≡ (node_at s.nodes m).life = life-field s.nodes n f x in
     record {
-      typed = All-set (IsTyped setup) s.nodes n (with_value (node_at s.nodes n) f x)
+      typed = All-set (IsStrong setup) s.nodes n (with_value (node_at s.nodes n) f x)
           (typed_field setup (node_at s.nodes n) f x (live_typed setup s n valid live)) valid.typed;
       named = subst (λ bound. All (HasNamesBelow bound) new) (sym (length-field s.nodes n f x)) (named_field setup s n f x valid live names);
       references = λ m is. All-field (NamesLive new) s.nodes n f x m (names_still s.nodes new x same names.0)
@@ -94,4 +96,6 @@ valid_field setup s n f x valid live names =
       slots = All-weaker (λ slot. ForSome slot (IsLive s.nodes)) (λ slot. ForSome slot (IsLive new))
           (λ slot old m is. same m ∙ old m is) s.slots valid.slots;
       idle = λ idle m dead. valid.idle idle m (sym (same m) ∙ dead);
+      calm = valid.calm;
+      unused = valid.unused;
     }

@@ -10,8 +10,9 @@ use Rattle.std.proofs.lemmas.List.Elements.{All-get_or}
 use Rattle.gc_graph.specs.declared.line.Refusal.{Refusal}
 use Rattle.gc_graph.specs.declared.line.Refusal.TheVariants as R
 use Rattle.gc_graph.specs.State.{Setup, State, Node, node_at, size_of, IsLive}
-use Rattle.gc_graph.specs.Valid.{IsValid}
-use Rattle.gc_graph.specs.Step.{slot_at, field_count, content_of}
+use Rattle.heap_engine.specs.Plain.{IsPlainState}
+use Rattle.gc_graph.specs.Fields.{field_count, content_of}
+use Rattle.gc_graph.specs.Outcomes.{slot_at}
 use Rattle.page_words.specs.Bodies.{Body, IsPlace}
 use Rattle.page_words.specs.Seat.{SeatView}
 use Rattle.heap_engine.specs.Nodes.{place_of, body_of}
@@ -21,7 +22,7 @@ use Rattle.heap_engine.proofs.FieldNodes.{IsNamed, live_below, live_typed, field
 
 -- ---- slots
 
-pub slot_live : (setup : Setup) (s : State) (p : ℕ) → IsValid setup s → ForSome (slot_at s p) (IsLive s.nodes)
+pub slot_live : (setup : Setup) (s : State) (p : ℕ) → IsPlainState setup s → ForSome (slot_at s p) (IsLive s.nodes)
 slot_live setup s p valid =
     elim (cases_lt p (length s.slots)) [
       | inl low ↦ All-get_or (λ slot. ForSome slot (IsLive s.nodes)) s.slots p None low valid.slots
@@ -32,7 +33,7 @@ content_named : (nodes : List Node) (slot : Option ℕ) → ForSome slot (IsLive
 content_named nodes None live = (tt, tt)
 content_named nodes (Some n) live = (live n refl, live_below nodes n (live n refl))
 
-pub slot_named : (setup : Setup) (s : State) (q : ℕ) → IsValid setup s → IsNamed s.nodes (content_of (slot_at s q))
+pub slot_named : (setup : Setup) (s : State) (q : ℕ) → IsPlainState setup s → IsNamed s.nodes (content_of (slot_at s q))
 slot_named setup s q valid = content_named s.nodes (slot_at s q) (slot_live setup s q valid)
 
 -- a slot holds the place of what it names
@@ -46,7 +47,7 @@ placed : (place : ℕ → ℕ) (slot : Option ℕ) (a : ℕ) → option_map plac
 placed place None a e = cc
 placed place (Some n) a e = (n, refl, (let same : place n ≡ a = cc in same))
 
-pub slot_names : (setup : Setup) (s : State) (slots : List (Option ℕ)) (p : ℕ) (item : Option ℕ) (a : ℕ) → IsValid setup s → HoldsSlotsOf s slots → p < 256
+pub slot_names : (setup : Setup) (s : State) (slots : List (Option ℕ)) (p : ℕ) (item : Option ℕ) (a : ℕ) → IsPlainState setup s → HoldsSlotsOf s slots → p < 256
     → item ≡ get_or slots p item → item ≡ Some a → (n : ℕ) × (slot_at s p ≡ Some n) × (place_of s.nodes n ≡ a) × IsLive s.nodes n
 slot_names setup s slots p item a valid h low at is =
     let named = placed (place_of s.nodes) (slot_at s p) a (sym (slot_item s slots p item h low at) ∙ is) in
@@ -93,7 +94,7 @@ pub record Found (s : State) (p f a : ℕ) : Type 0 where
   pub low : f < length (node_at s.nodes node).object.values
   pub at : a ≡ place_of s.nodes node + 2 + f
 
-pub found_field : (setup : Setup) (s old : State) (p f a : ℕ) → IsValid setup s → s ≡ old → IsFieldOf old p f (Ok a) → Found s p f a
+pub found_field : (setup : Setup) (s old : State) (p f a : ℕ) → IsPlainState setup s → s ≡ old → IsFieldOf old p f (Ok a) → Found s p f a
 found_field setup s old p f a valid same_state told =
     let is : IsFieldOf s p f (Ok a) = subst (λ (t : State). IsFieldOf t p f (Ok a)) (sym same_state) told in
     let answer : Result ℕ Refusal = Ok a in

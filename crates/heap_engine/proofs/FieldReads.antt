@@ -9,12 +9,14 @@ use Rattle.gc_graph.specs.declared.graph.Value.TheVariants.{Null, Ref, Word}
 use Rattle.gc_graph.specs.declared.line.Refusal.{Refusal}
 use Rattle.gc_graph.specs.declared.line.Refusal.TheVariants as R
 use Rattle.gc_graph.specs.State.{Setup, State, Node, node_at, no_node, IsLive}
-use Rattle.gc_graph.specs.Valid.{IsValid, NamesBelow, NamesLive, HasNamesBelow}
-use Rattle.gc_graph.specs.Step.{answered, with_slot, slot_at, value_at}
+use Rattle.gc_graph.specs.Valid.{IsReferenceBelow, NamesLive}
+use Rattle.heap_engine.specs.Plain.{IsPlainState, HasNamesBelow}
+use Rattle.gc_graph.specs.Fields.{value_at, target_of}
+use Rattle.gc_graph.specs.Outcomes.{answered, with_slot, slot_at}
 use Rattle.page_words.specs.Bodies.{Body, IsWhole}
 use Rattle.page_words.specs.Seat.{SeatView, IsWordAt, IsView}
 use Rattle.heap_engine.specs.Nodes.{place_of, word_of, body_of}
-use Rattle.heap_engine.specs.Changes.{target_of, read_from, read_state}
+use Rattle.heap_engine.specs.Changes.{read_from, read_state}
 use Rattle.heap_engine.specs.Inner.{Holds, IsTallied, HoldsSlotsOf, IsFieldOf}
 use Rattle.heap_engine.proofs.NodePlaces.{live_is_there, node_body}
 use Rattle.heap_engine.proofs.HeapSlots.{holds_slot, slots_set, tallied_on}
@@ -26,11 +28,11 @@ use Rattle.heap_engine.proofs.FieldPlaces.{Found, found_field, OnField, on_field
 abbrev pub target_in : List Node → Value → Option (ℕ × ℕ)
 target_in nodes x = option_map (λ m. (place_of nodes m, m)) (target_of x)
 
-pub field_named : (setup : Setup) (s : State) (n f : ℕ) → IsValid setup s → IsLive s.nodes n → f < length (node_at s.nodes n).object.values
+pub field_named : (setup : Setup) (s : State) (n f : ℕ) → IsPlainState setup s → IsLive s.nodes n → f < length (node_at s.nodes n).object.values
     → IsNamed s.nodes (value_at (node_at s.nodes n) f)
 field_named setup s n f valid live low = (
   All-get_or (NamesLive s.nodes) (node_at s.nodes n).object.values f Null low (valid.references n live),
-  All-get_or (NamesBelow (length s.nodes)) (node_at s.nodes n).object.values f Null low
+  All-get_or (IsReferenceBelow (length s.nodes)) (node_at s.nodes n).object.values f Null low
       (All-get_or (HasNamesBelow (length s.nodes)) s.nodes n no_node (live_below s.nodes n live) valid.named),
 )
 
@@ -126,7 +128,7 @@ abbrev pub AnswersTarget : State → ℕ → ℕ → Result (Option (ℕ × ℕ)
 AnswersTarget s p f answer =
     OnField s (slot_at s p) f (answer ≡ Err R.Null) (λ n. answer ≡ Ok (target_in s.nodes (value_at (node_at s.nodes n) f))) (answer ≡ Err R.Field)
 
-pub answers_target : (setup : Setup) (s : State) (p f a : ℕ) (target : Option (ℕ × ℕ)) → IsValid setup s → (found : Found s p f a)
+pub answers_target : (setup : Setup) (s : State) (p f a : ℕ) (target : Option (ℕ × ℕ)) → IsPlainState setup s → (found : Found s p f a)
     → target_in s.nodes (value_at (node_at s.nodes found.node) f) ≡ target → AnswersTarget s p f (Ok target)
 answers_target setup s p f a target valid found is =
     let answer : Result (Option (ℕ × ℕ)) Refusal = Ok target in
@@ -151,7 +153,7 @@ content_place : (place : ℕ → ℕ) (content : Option ℕ)
 content_place place None = refl
 content_place place (Some m) = refl
 
-pub reads_into : (setup : Setup) (s old t : State) (p f q : ℕ) (target : Option (ℕ × ℕ)) → IsValid setup s → s ≡ old → AnswersTarget old p f (Ok target)
+pub reads_into : (setup : Setup) (s old t : State) (p f q : ℕ) (target : Option (ℕ × ℕ)) → IsPlainState setup s → s ≡ old → AnswersTarget old p f (Ok target)
     → t ≡ read_state s p f q → (content : Option ℕ) × ReadsInto s t q target content
 reads_into setup s old t p f q target valid same_state told step =
     let answer : Result (Option (ℕ × ℕ)) Refusal = Ok target in

@@ -5,11 +5,12 @@ use Rattle.std.proofs.lemmas.Bool.{cond_both}
 use Rattle.std.proofs.lemmas.List.{length-map}
 use Rattle.std.proofs.lemmas.List.Elements.{All-map, All-weaker}
 use Rattle.gc_graph.specs.declared.phase.Phase.{Phase}
-use Rattle.gc_graph.specs.declared.phase.Phase.TheVariants.{Idle, Sweeping}
+use Rattle.gc_graph.specs.declared.phase.Phase.TheVariants.{Idle, Marking, Sweeping}
 use Rattle.gc_graph.specs.declared.graph.Value.{Value}
 use Rattle.gc_graph.specs.declared.graph.Value.TheVariants.{Null, Ref, Word}
 use Rattle.gc_graph.specs.State.{Setup, State, Node, node_at, is_there, is_dead, IsLive}
-use Rattle.gc_graph.specs.Step.{answered, content_of}
+use Rattle.gc_graph.specs.Fields.{content_of}
+use Rattle.gc_graph.specs.Outcomes.{answered}
 use Rattle.heap_engine.specs.Changes.{stored_in, stored_state}
 use Rattle.page_words.specs.Bodies.{Body, with_word, IsFieldWord, IsReference}
 use Rattle.page_words.specs.Seat.{SeatView, IsView, holds, stored}
@@ -50,6 +51,7 @@ slot_word place (Some n) = refl
 
 marks_stored : (phase : Phase) (v : SeatView) (a w : ℕ) → HasMarks phase v → HasMarks phase (stored v a w)
 marks_stored Idle v a w quiet = record { off = quiet.off; marked = quiet.marked; traced = quiet.traced; dead = quiet.dead }
+marks_stored Marking v a w quiet = record { off = quiet.off; marked = quiet.marked; traced = quiet.traced; dead = quiet.dead }
 marks_stored Sweeping v a w judged = λ b there.
     let from = Contains-map_some (with_word a w) v.bodies b there in
     subst (λ p. holds v.dead p ≡ not (holds v.marked p)) (sym (place-word a w from.0) ∙ ap (λ (c : Body). c.place) from.2) (judged from.0 from.1)

@@ -4,7 +4,7 @@ use Rattle.std.specs.Option.{ForSome}
 use Rattle.std.proofs.lemmas.List.{length-replicate}
 use Rattle.std.proofs.lemmas.List.Elements.{All-replicate}
 use Rattle.gc_graph.specs.State.{Setup, empty_state, IsLive}
-use Rattle.gc_graph.specs.Valid.{IsValid}
+use Rattle.heap_engine.specs.Plain.{IsPlainState}
 use Rattle.page_words.specs.Seat.{empty_view}
 use Rattle.heap_engine.specs.Space.{word_count}
 use Rattle.heap_engine.specs.View.{places_of}
@@ -17,13 +17,15 @@ null_places (suc n) = ap (λ l. None ∷ l) (null_places n)
 pub slots_empty : (slots : List (Option ℕ)) → slots ≡ replicate 256 None → HoldsSlotsOf empty_state slots
 slots_empty slots is = record { places = is ∙ null_places 256; count = length-replicate {A = Option ℕ} 256 None }
 
-valid_empty : (setup : Setup) → IsValid setup empty_state
+valid_empty : (setup : Setup) → IsPlainState setup empty_state
 valid_empty setup = record {
   typed = λ k d low. absurd (omega arith);
   named = λ k d low. absurd (omega arith);
   references = λ n live. cc;
   slots = All-replicate (λ slot. ForSome slot (IsLive [])) 256 None (λ n e. cc);
   idle = λ e n dead. cc;
+  calm = refl;
+  unused = record { weak_null = refl; stack_empty = refl; region_null = refl; none_registered = refl; none_running = refl };
 }
 
 pub holds_empty : (setup : Setup) → Holds setup empty_state (empty_view (word_count setup.shape))

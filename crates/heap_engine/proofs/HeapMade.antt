@@ -4,16 +4,18 @@ use mathlib.Core.Logic.{◌⊎◌}
 use Rattle.std.specs.List.{All, sum_by}
 use Rattle.std.specs.Option.{ForSome}
 use Rattle.std.proofs.lemmas.Bool.{cases_lt, cases_Bool}
-use Rattle.std.proofs.lemmas.List.{map-set, length-set, length_push, length-replicate, get_or_append_left, get_or_push, get_or_past}
+use Rattle.std.proofs.lemmas.List.{length-map, map-set, length-set, length_push, length-replicate, get_or_append_left, get_or_push, get_or_past}
 use Rattle.std.proofs.lemmas.List.Elements.{All-head, All-tail, All-get_or, All-push, All-set, All-weaker, All-same, All-replicate}
 use Rattle.std.proofs.lemmas.List.Sums.{sum_by_push, sum_by-le, count_by-le-length}
 use Rattle.gc_graph.specs.declared.phase.Phase.TheVariants.{Idle}
 use Rattle.gc_graph.specs.declared.graph.Kind.TheVariants.{Strong}
 use Rattle.gc_graph.specs.declared.graph.Value.{Value}
 use Rattle.gc_graph.specs.declared.graph.Value.TheVariants.{Null, Ref, Word}
-use Rattle.gc_graph.specs.State.{Setup, State, Node, node_at, no_node, is_there, is_dead, size_of, IsLive, used_of}
+use Rattle.gc_graph.specs.State.{Setup, State, ObjectType, Node, type_at, no_type, node_at, no_node, is_there, is_dead, size_of, IsLive, used_of}
 use Rattle.gc_graph.specs.State.Life.{Live, Dead}
-use Rattle.gc_graph.specs.Valid.{IsTyped, IsValid, NamesBelow, NamesLive, HasNamesBelow}
+use Rattle.gc_graph.specs.Valid.{IsReferenceBelow, NamesLive}
+use Rattle.heap_engine.specs.Plain.{IsStrong, IsPlainState, HasNamesBelow}
+use Rattle.gc_graph.specs.Fields.{strong_type}
 use Rattle.page_words.specs.Bodies.{Body}
 use Rattle.page_words.specs.Seat.{SeatView, IsQuiet, holds}
 use Rattle.heap_engine.specs.Space.{IsInOnePage, HasRoom, Occupies, new_body}
@@ -49,7 +51,7 @@ names_on nodes x Null names = tt
 names_on nodes x (Ref n) names = live_on nodes x n names
 names_on nodes x (Word w) names = tt
 
-below_on : (low high : ℕ) (v : Value) → low ≤ high → NamesBelow low v → NamesBelow high v
+below_on : (low high : ℕ) (v : Value) → low ≤ high → IsReferenceBelow low v → IsReferenceBelow high v
 below_on low high Null le below = tt
 below_on low high (Ref n) le below = omega (arith, below)
 below_on low high (Word w) le below = below
@@ -65,7 +67,7 @@ body_is_new f k ty fields place =
     ap (λ n. (let b : Body = record { place = place; ty = ty; size = n; serial = k; fields = map (word_of f) (replicate fields Null) } in b)) size
     ∙ ap (λ ws. (let b : Body = record { place = place; ty = ty; size = 2 + fields; serial = k; fields = ws } in b)) (null_words f fields ∙ ap (λ n. replicate n 0) count)
 
-held_made : (setup : Setup) (s : State) (v new : SeatView) (ty fields place : ℕ) → IsValid setup s → s.phase ≡ Idle → IsQuiet v → IsHeld s.nodes v
+held_made : (setup : Setup) (s : State) (v new : SeatView) (ty fields place : ℕ) → IsPlainState setup s → s.phase ≡ Idle → IsQuiet v → IsHeld s.nodes v
     → Occupies v new (new_body place ty (2 + fields) (length s.nodes)) → IsHeld (s.nodes ++ fresh_node ty fields place ∷ []) new
 held_made setup s v new ty fields place valid idle quiet held occupies =
     let x : Node = fresh_node ty fields place in
@@ -88,25 +90,26 @@ held_made setup s v new ty fields place valid idle quiet held occupies =
           none ∙ sym alive;
     }
 
-valid_made : (setup : Setup) (s : State) (p ty fields place : ℕ) → IsValid setup s → ty < length setup.types → fields ≡ get_or setup.types ty 0
-    → IsValid setup (made_state s p ty fields place)
+valid_made : (setup : Setup) (s : State) (p ty fields place : ℕ) → IsPlainState setup s → ty < length setup.types → type_at setup ty ≡ strong_type fields
+    → IsPlainState setup (made_state s p ty fields place)
 valid_made setup s p ty fields place valid known is =
     let x : Node = fresh_node ty fields place in
     let after : List Node = s.nodes ++ x ∷ [] in
     let long : length after ≡ length s.nodes + 1 = length_push s.nodes x in
-    let typed : IsTyped setup x = record {
+    let counted : fields ≡ length (type_at setup ty).kinds = sym (ap (λ (o : ObjectType). length o.kinds) is ∙ length-replicate fields Strong) in
+    let typed : IsStrong setup x = record {
       ty = known;
       extra = refl;
-      kinds = ap (λ n. replicate n Strong) is;
-      values = length-replicate fields Null ∙ is;
+      kinds = ap (λ n. replicate n Strong) counted;
+      values = length-replicate fields Null ∙ counted;
     } in
     record {
-      typed = All-push (IsTyped setup) s.nodes x valid.typed typed;
+      typed = All-push (IsStrong setup) s.nodes x valid.typed typed;
       named = All-push (HasNamesBelow (length after)) s.nodes x
           (All-weaker (HasNamesBelow (length s.nodes)) (HasNamesBelow (length after))
-          (λ (y : Node) below. All-weaker (NamesBelow (length s.nodes)) (NamesBelow (length after)) (λ v b. below_on (length s.nodes) (length after) v (omega arith) b) y.object.values below)
+          (λ (y : Node) below. All-weaker (IsReferenceBelow (length s.nodes)) (IsReferenceBelow (length after)) (λ v b. below_on (length s.nodes) (length after) v (omega arith) b) y.object.values below)
           s.nodes valid.named)
-          (All-replicate (NamesBelow (length after)) fields Null tt);
+          (All-replicate (IsReferenceBelow (length after)) fields Null tt);
       references = λ n live.
           elim (old_or_new s.nodes x n (live_is_there after n live)) [
             | inl low ↦ (let same : node_at after n ≡ node_at s.nodes n = node-old s.nodes x n low in
@@ -124,6 +127,8 @@ valid_made setup s p ty fields place valid known is =
             | inl low ↦ valid.idle e n (sym (ap (λ (y : Node). y.life) (node-old s.nodes x n low)) ∙ dead)
             | inr last ↦ never (sym (ap (λ k. (node_at after k).life) last ∙ ap (λ (y : Node). y.life) (node-new s.nodes x)) ∙ dead)
           ];
+      calm = valid.calm;
+      unused = valid.unused;
     } where
       never : {P : Type 0} → Live ≡ Dead → P
       never e = cc
@@ -132,7 +137,7 @@ quiet_if_idle : (s : State) (v : SeatView) → s.phase ≡ Idle → HasMarks s.p
 quiet_if_idle s v idle marks = subst (λ ph. HasMarks ph v) idle marks
 
 pub holds_made : (setup : Setup) (s : State) (v new : SeatView) (p ty fields place : ℕ) → Holds setup s v → s.phase ≡ Idle → ty < length setup.types
-    → fields ≡ get_or setup.types ty 0 → HasRoom setup.shape v.bodies (2 + fields) place → Occupies v new (new_body place ty (2 + fields) (length s.nodes))
+    → type_at setup ty ≡ strong_type fields → HasRoom setup.shape v.bodies (2 + fields) place → Occupies v new (new_body place ty (2 + fields) (length s.nodes))
     → Holds setup (made_state s p ty fields place) new
 holds_made setup s v new p ty fields place h idle known is room occupies =
     let quiet : IsQuiet v = quiet_if_idle s v idle h.marks in
@@ -157,7 +162,7 @@ places_on nodes x (Some n ∷ slots) live =
     ap (λ p. Some p ∷ places_of (nodes ++ x ∷ []) slots) (ap (λ (y : Node). y.place) (node-old nodes x n (there_below nodes n (live_is_there nodes n is))))
     ∙ ap (λ l. Some (place_of nodes n) ∷ l) (places_on nodes x slots (All-tail (λ slot. ForSome slot (IsLive nodes)) (Some n) slots live))
 
-pub slots_made : (setup : Setup) (s : State) (slots : List (Option ℕ)) (p ty fields place : ℕ) → IsValid setup s → HoldsSlotsOf s slots
+pub slots_made : (setup : Setup) (s : State) (slots : List (Option ℕ)) (p ty fields place : ℕ) → IsPlainState setup s → HoldsSlotsOf s slots
     → HoldsSlotsOf (made_state s p ty fields place) (set slots p (Some place))
 slots_made setup s slots p ty fields place valid h =
     let x : Node = fresh_node ty fields place in
@@ -196,18 +201,40 @@ type_fields types t are =
       | inr past ↦ omega (arith, get_or_past types t 0 past)
     ]
 
-node_size : (setup : Setup) (x : Node) → AreTypes setup.types → IsTyped setup x → cond (is_there x.life) (size_of x) 0 ≤ 66
+-- a type has at most 64 fields
+abbrev pub HasFewFields : Setup → Type 0
+HasFewFields setup = (t : ℕ) → length (type_at setup t).kinds ≤ 64
+
+-- the types of a heap have strong fields alone, as many as the numbers say
+pub type_is : (types : List ℕ) (t : ℕ) → get_or (map strong_type types) t no_type ≡ strong_type (get_or types t 0)
+type_is [] t = refl
+type_is (n ∷ types) zero = refl
+type_is (n ∷ types) (suc t) = type_is types t
+
+pub type_known : (types : List ℕ) (t : ℕ) → t < length (map strong_type types) → t < length types
+type_known types t low = omega (arith, length-map types strong_type)
+
+pub few_fields : (types : List ℕ) → AreTypes types → (t : ℕ) → length (get_or (map strong_type types) t no_type).kinds ≤ 64
+few_fields types are t =
+    omega (
+      arith,
+      ap (λ (o : ObjectType). length o.kinds) (type_is types t),
+      length-replicate (get_or types t 0) Strong,
+      type_fields types t are,
+    )
+
+node_size : (setup : Setup) (x : Node) → HasFewFields setup → IsStrong setup x → cond (is_there x.life) (size_of x) 0 ≤ 66
 node_size setup x are typed =
-    let size : size_of x ≤ 66 = omega (arith, typed.values, typed.extra, type_fields setup.types x.object.ty are) in
+    let size : size_of x ≤ 66 = omega (arith, typed.values, are x.object.ty) in
     elim (cases_Bool (is_there x.life)) [
       | inl present ↦ subst (λ b. cond b (size_of x) 0 ≤ 66) (sym present) size
       | inr gone ↦ subst (λ b. cond b (size_of x) 0 ≤ 66) (sym gone) (omega arith)
     ]
 
-pub used_few : (setup : Setup) (s : State) (v : SeatView) (objects used made : ℕ) → AreTypes setup.types → IsValid setup s → IsHeld s.nodes v → IsTallied s v objects used made
+pub used_few : (setup : Setup) (s : State) (v : SeatView) (objects used made : ℕ) → HasFewFields setup → IsPlainState setup s → IsHeld s.nodes v → IsTallied s v objects used made
     → used ≤ 66000000
 used_few setup s v objects used made are valid held c =
     let most : used_of s.nodes ≤ length s.nodes * 66 =
     sum_by-le (λ (n : Node). cond (is_there n.life) (size_of n) 0) 66 s.nodes
-    (All-weaker (IsTyped setup) (λ (n : Node). cond (is_there n.life) (size_of n) 0 ≤ 66) (λ n typed. node_size setup n are typed) s.nodes valid.typed) in
+    (All-weaker (IsStrong setup) (λ (n : Node). cond (is_there n.life) (size_of n) 0 ≤ 66) (λ n typed. node_size setup n are typed) s.nodes valid.typed) in
     omega (arith, most, c.words_are, ap (sum_by (λ (b : Body). b.size)) held.bodies, used-bodies (place_of s.nodes) 0 s.nodes, c.few, c.most)

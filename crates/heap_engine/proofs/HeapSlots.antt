@@ -5,21 +5,25 @@ use Rattle.std.specs.Option.{ForSome}
 use Rattle.std.proofs.lemmas.List.{map-set, length-set}
 use Rattle.std.proofs.lemmas.List.Elements.{All-set}
 use Rattle.gc_graph.specs.State.{Setup, State, Node, node_at, IsLive, IsDead}
-use Rattle.gc_graph.specs.Valid.{IsValid, IsTyped, HasNamesBelow, NamesLive}
-use Rattle.gc_graph.specs.Step.{answered, with_slot}
+use Rattle.gc_graph.specs.Valid.{NamesLive}
+use Rattle.heap_engine.specs.Plain.{AreUnused, IsPlainState, IsStrong, HasNamesBelow}
+use Rattle.gc_graph.specs.Outcomes.{answered, with_slot}
+use Rattle.gc_graph.specs.CycleSteps.{is_marking}
 use Rattle.page_words.specs.Seat.{SeatView}
 use Rattle.heap_engine.specs.Nodes.{place_of, IsHeld}
 use Rattle.heap_engine.specs.View.{places_of}
 use Rattle.heap_engine.specs.Inner.{Holds, HasMarks, IsTallied, HoldsSlotsOf}
 
 -- the slot names a live node, or none
-pub valid_slot : (setup : Setup) (s : State) (p : ℕ) (content : Option ℕ) → IsValid setup s → ForSome content (IsLive s.nodes) → IsValid setup (answered (with_slot s p content))
+pub valid_slot : (setup : Setup) (s : State) (p : ℕ) (content : Option ℕ) → IsPlainState setup s → ForSome content (IsLive s.nodes) → IsPlainState setup (answered (with_slot s p content))
 valid_slot setup s p content valid live = record {
   typed = valid.typed;
   named = valid.named;
   references = valid.references;
   slots = All-set (λ slot. ForSome slot (IsLive s.nodes)) s.slots p content live valid.slots;
   idle = valid.idle;
+  calm = valid.calm;
+  unused = valid.unused;
 }
 
 pub holds_slot : (setup : Setup) (s : State) (v : SeatView) (p : ℕ) (content : Option ℕ) → Holds setup s v → ForSome content (IsLive s.nodes)
@@ -57,28 +61,32 @@ holds_answered setup s v h = record {
   seat = h.seat;
   off = h.off;
   held = record { bodies = h.held.bodies; dead = h.held.dead };
-  valid = record { typed = h.valid.typed; named = h.valid.named; references = h.valid.references; slots = h.valid.slots; idle = h.valid.idle };
+  valid = record { typed = h.valid.typed; named = h.valid.named; references = h.valid.references; slots = h.valid.slots; idle = h.valid.idle; calm = h.valid.calm; unused = h.valid.unused };
   marks = h.marks;
   paged = h.paged;
 }
 
 -- nothing but counts of the state changed
-pub holds_counted : (setup : Setup) (s t : State) (v : SeatView) → Holds setup s v → t.nodes ≡ s.nodes → t.slots ≡ s.slots → t.phase ≡ s.phase → Holds setup t v
-holds_counted setup s t v h nodes slots phase = record {
+pub holds_counted : (setup : Setup) (s t : State) (v : SeatView) → Holds setup s v → t.nodes ≡ s.nodes → t.slots ≡ s.slots → t.phase ≡ s.phase
+    → AreUnused t.weak t.stack t.region t.registrations t.running → Holds setup t v
+holds_counted setup s t v h nodes slots phase unused = record {
   seat = h.seat;
   off = h.off;
   held = subst (λ (ns : List Node). IsHeld ns v) (sym nodes) h.held;
-  valid = valid_counted setup s t h.valid nodes slots phase;
+  valid = valid_counted setup s t h.valid nodes slots phase unused;
   marks = subst (λ ph. HasMarks ph v) (sym phase) h.marks;
   paged = h.paged;
 } where
-  valid_counted : (setup : Setup) (s t : State) → IsValid setup s → t.nodes ≡ s.nodes → t.slots ≡ s.slots → t.phase ≡ s.phase → IsValid setup t
-  valid_counted setup s t valid nodes slots phase = record {
-    typed = subst (λ (ns : List Node). All (IsTyped setup) ns) (sym nodes) valid.typed;
+  valid_counted : (setup : Setup) (s t : State) → IsPlainState setup s → t.nodes ≡ s.nodes → t.slots ≡ s.slots → t.phase ≡ s.phase
+      → AreUnused t.weak t.stack t.region t.registrations t.running → IsPlainState setup t
+  valid_counted setup s t valid nodes slots phase unused = record {
+    typed = subst (λ (ns : List Node). All (IsStrong setup) ns) (sym nodes) valid.typed;
     named = subst (λ (ns : List Node). All (HasNamesBelow (length ns)) ns) (sym nodes) valid.named;
     references = subst (λ (ns : List Node). (n : ℕ) → IsLive ns n → All (NamesLive ns) (node_at ns n).object.values) (sym nodes) valid.references;
     slots = subst (λ (ns : List Node). All (λ slot. ForSome slot (IsLive ns)) t.slots) (sym nodes) (subst (λ l. All (λ slot. ForSome slot (IsLive s.nodes)) l) (sym slots) valid.slots);
     idle = λ e. subst (λ (ns : List Node). (n : ℕ) → IsDead ns n → ⊥) (sym nodes) (valid.idle (sym phase ∙ e));
+    calm = ap is_marking phase ∙ valid.calm;
+    unused = unused;
   }
 
 pub slots_counted : (s t : State) (slots : List (Option ℕ)) → HoldsSlotsOf s slots → t.nodes ≡ s.nodes → t.slots ≡ s.slots → HoldsSlotsOf t slots

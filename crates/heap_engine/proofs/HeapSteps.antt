@@ -7,10 +7,11 @@ use Rattle.gc_graph.specs.declared.phase.Phase.TheVariants.{Idle}
 use Rattle.gc_graph.specs.declared.graph.Value.{Value}
 use Rattle.gc_graph.specs.declared.graph.Value.TheVariants.{Null, Ref, Word}
 use Rattle.gc_graph.specs.Reach.{ReachIsLeast}
-use Rattle.gc_graph.specs.State.{Setup, State, Node, node_at, no_node, IsLive}
-use Rattle.gc_graph.specs.Valid.{NamesBelow, NamesLive, HasNamesBelow}
-use Rattle.gc_graph.specs.Pause.{IsKept, paused, condemn}
-use Rattle.gc_graph.specs.Sweep.{swept, finalise}
+use Rattle.gc_graph.specs.State.{Shape, Setup, State, Node, node_at, no_node, IsLive}
+use Rattle.gc_graph.specs.Valid.{IsReferenceBelow, NamesLive}
+use Rattle.heap_engine.specs.Plain.{HasNamesBelow}
+use Rattle.gc_graph.specs.Pause.{condemn}
+use Rattle.heap_engine.specs.Changes.{ended_state, collected_state, bury}
 use Rattle.page_words.specs.Bodies.{Body, IsPlace, IsReference}
 use Rattle.page_words.specs.Seat.{SeatView, IsView, IsQuiet, holds}
 use Rattle.heap_engine.specs.Space.{IsInOnePage}
@@ -21,13 +22,13 @@ use Rattle.heap_engine.specs.View.{kept_of, places_of}
 use Rattle.heap_engine.specs.Inner.{Holds, HoldsSlotsOf}
 use Rattle.heap_engine.proofs.NodePlaces.{live_is_there, node_body, body_node, Contains-map_some}
 use Rattle.heap_engine.proofs.NodeLives.{place-condemn, place-finalise, live_if_there}
-use Rattle.heap_engine.proofs.KeptNodes.{kept_from, keeps_reached, slot_place}
+use Rattle.heap_engine.proofs.KeptNodes.{KeepsReached, kept_from, keeps_reached, slot_place}
 use Rattle.heap_engine.proofs.PauseSteps.{held_condemned, valid_paused, judged_after}
 use Rattle.heap_engine.proofs.NodeSweeps.{held_swept, valid_swept}
 
 -- ---- sweeping
 
-pub holds_swept : (setup : Setup) (s : State) (v new : SeatView) (numbers : List ℕ) → Holds setup s v → IsSweptView v new → Holds setup (swept s numbers) new
+pub holds_swept : (setup : Setup) (s : State) (v new : SeatView) (numbers : List ℕ) → Holds setup s v → IsSweptView v new → Holds setup (ended_state setup.shape s numbers) new
 holds_swept setup s v new numbers h sweeps = record {
   seat = sweeps.count ∙ h.seat;
   off = sweeps.off;
@@ -71,13 +72,13 @@ places-same f g [] same = refl
 places-same f g (None ∷ slots) same = ap (λ l. None ∷ l) (places-same f g slots same)
 places-same f g (Some n ∷ slots) same = ap (λ p. Some p ∷ map (λ (slot : Option ℕ). option_map f slot) slots) (same n) ∙ ap (λ l. Some (g n) ∷ l) (places-same f g slots same)
 
-pub slots_swept : (s : State) (numbers : List ℕ) (slots : List (Option ℕ)) → HoldsSlotsOf s slots → HoldsSlotsOf (swept s numbers) slots
-slots_swept s numbers slots h = record {
-  places = h.places ∙ sym (places-same (place_of (map finalise s.nodes)) (place_of s.nodes) s.slots (place-finalise s.nodes));
+pub slots_swept : (shape : Shape) (s : State) (numbers : List ℕ) (slots : List (Option ℕ)) → HoldsSlotsOf s slots → HoldsSlotsOf (ended_state shape s numbers) slots
+slots_swept shape s numbers slots h = record {
+  places = h.places ∙ sym (places-same (place_of (map bury s.nodes)) (place_of s.nodes) s.slots (place-finalise s.nodes));
   count = h.count;
 }
 
-pub slots_paused : (s : State) (kept : List Bool) (slots : List (Option ℕ)) → HoldsSlotsOf s slots → HoldsSlotsOf (paused s kept) slots
+pub slots_paused : (s : State) (kept : List Bool) (slots : List (Option ℕ)) → HoldsSlotsOf s slots → HoldsSlotsOf (collected_state s kept) slots
 slots_paused s kept slots h = record {
   places = h.places ∙ sym (places-same (place_of (condemn kept s.nodes)) (place_of s.nodes) s.slots (place-condemn kept s.nodes));
   count = h.count;
@@ -111,9 +112,9 @@ references_hold setup s v h idle b w there field =
     let live : IsLive s.nodes node.0 = live_if_there (node_at s.nodes node.0).life node.2 (h.valid.idle idle node.0) in
     let word = Contains-map_some (word_of (place_of s.nodes)) (node_at s.nodes node.0).object.values w (subst (λ ws. Contains ws w) (ap (λ (c : Body). c.fields) node.3) field) in
     named setup s v h word.0 w (All-contains (NamesLive s.nodes) (node_at s.nodes node.0).object.values word.0 (h.valid.references node.0 live) word.1)
-    (All-contains (NamesBelow (length s.nodes)) (node_at s.nodes node.0).object.values word.0
+    (All-contains (IsReferenceBelow (length s.nodes)) (node_at s.nodes node.0).object.values word.0
     (All-get_or (HasNamesBelow (length s.nodes)) s.nodes node.0 no_node node.1 h.valid.named) word.1) word.2 where
-      named : (setup : Setup) (s : State) (v : SeatView) → Holds setup s v → (x : Value) (w : ℕ) → NamesLive s.nodes x → NamesBelow (length s.nodes) x
+      named : (setup : Setup) (s : State) (v : SeatView) → Holds setup s v → (x : Value) (w : ℕ) → NamesLive s.nodes x → IsReferenceBelow (length s.nodes) x
           → word_of (place_of s.nodes) x ≡ w → IsReference v.bodies w
       named setup s v h Null w live below is = inl (sym is)
       named setup s v h (Ref n) w live below is =
@@ -132,9 +133,9 @@ serials_fit setup s v h few =
 
 pub holds_paused : (setup : Setup) (s : State) (v new : SeatView) (slots : List (Option ℕ)) → ReachIsLeast → IsView v → Holds setup s v → s.phase ≡ Idle → HoldsSlotsOf s slots
     → MarksReachable slots v new
-    → IsKept s (kept_of (holds new.marked) s.nodes) × Holds setup (paused s (kept_of (holds new.marked) s.nodes)) new
+    → KeepsReached s (kept_of (holds new.marked) s.nodes) × Holds setup (collected_state s (kept_of (holds new.marked) s.nodes)) new
 holds_paused setup s v new slots law view h idle named marks =
-    let keeps : IsKept s (kept_of (holds new.marked) s.nodes) = keeps_reached setup s v new slots law view h.valid h.held.bodies named.places marks in (
+    let keeps : KeepsReached s (kept_of (holds new.marked) s.nodes) = keeps_reached setup s v new slots law view h.valid h.held.bodies named.places marks in (
       keeps,
       record {
         seat = marks.count ∙ h.seat;

@@ -6,11 +6,11 @@ use Rattle.std.proofs.lemmas.Bool.{true≢false, cases_lt, and_parts, and_from, 
 use Rattle.std.proofs.lemmas.List.{get_or_past, length-map}
 use Rattle.std.proofs.lemmas.List.Elements.{All-contains, All-get_or}
 use Rattle.gc_graph.specs.declared.graph.Value.TheVariants.{Ref}
-use Rattle.gc_graph.specs.Graph.{Object, object_at, has, IsIn, IsClosed, leads_to}
+use Rattle.gc_graph.specs.Graph.{Object, object_at, has, IsIn, IsWithin, IsClosed, leads_to}
 use Rattle.gc_graph.specs.Reach.{Reach, RefersWithin, AreNodes, HoldsAll, IsLeastClosed, ReachIsLeast, any_below}
-use Rattle.gc_graph.specs.State.{Setup, State, Node, node_at, no_node, graph_of, slot_targets, roots_of, is_live, IsLive}
-use Rattle.gc_graph.specs.Valid.{IsTyped, IsValid, NamesBelow, NamesLive, HasNamesBelow}
-use Rattle.gc_graph.specs.Pause.{IsKept}
+use Rattle.gc_graph.specs.State.{Setup, State, Node, node_at, no_node, graph_of, slot_targets, is_live, IsLive}
+use Rattle.gc_graph.specs.Valid.{IsReferenceBelow, NamesLive}
+use Rattle.heap_engine.specs.Plain.{IsStrong, IsPlainState, HasNamesBelow}
 use Rattle.page_words.specs.Bodies.{Body}
 use Rattle.page_words.specs.Seat.{SeatView, IsView, holds}
 use Rattle.heap_engine.specs.Marking.{LeadsTo, IsClosedUnder, HoldsSlots, MarksReachable}
@@ -18,6 +18,12 @@ use Rattle.heap_engine.specs.Nodes.{place_of, word_of, body_of, bodies_of}
 use Rattle.heap_engine.specs.View.{kept_of, places_of}
 use Rattle.heap_engine.proofs.MarkCounts.{Contains-cons_cases, Contains-cons, Contains-head}
 use Rattle.heap_engine.proofs.NodePlaces.{live_is_there, live_is_live, is_live_life, there_below, node_body, body_node, same_node, object-at, leads_names, names_lead, word_names, Contains-map, Contains-map_some}
+
+-- the set is closed, and it is what the strong slots reach
+pub record KeepsReached (s : State) (kept : List Bool) : Type 0 where
+  pub closed : IsClosed (graph_of s.nodes) kept
+  pub reached : IsWithin (Reach (graph_of s.nodes) (slot_targets s.slots)) kept
+  pub bounded : IsWithin kept (Reach (graph_of s.nodes) (slot_targets s.slots))
 
 pub has-kept : (marked : ℕ → Bool) (nodes : List Node) (n : ℕ) → has (kept_of marked nodes) n ≡ (is_live (node_at nodes n).life && marked (place_of nodes n))
 has-kept marked [] n = refl
@@ -31,6 +37,9 @@ kept_parts marked nodes n is =
 
 pub kept_from : (marked : ℕ → Bool) (nodes : List Node) (n : ℕ) → IsLive nodes n → marked (place_of nodes n) ≡ true → IsIn (kept_of marked nodes) n
 kept_from marked nodes n live is = has-kept marked nodes n ∙ and_from _ _ (live_is_live nodes n live) is
+
+pub kept_low : (marked : ℕ → Bool) (nodes : List Node) (n : ℕ) → IsIn (kept_of marked nodes) n → n < length nodes
+kept_low marked nodes n is = there_below nodes n (live_is_there nodes n (kept_parts marked nodes n is).0)
 
 -- ---- some number below a bound
 
@@ -90,11 +99,11 @@ place_slot nodes (Some m ∷ slots) p c =
 
 -- ---- edges of nodes and references of bodies
 
-typed_at : (setup : Setup) (s : State) (n : ℕ) → IsValid setup s → n < length s.nodes → IsTyped setup (node_at s.nodes n)
-typed_at setup s n valid low = All-get_or (IsTyped setup) s.nodes n no_node low valid.typed
+typed_at : (setup : Setup) (s : State) (n : ℕ) → IsPlainState setup s → n < length s.nodes → IsStrong setup (node_at s.nodes n)
+typed_at setup s n valid low = All-get_or (IsStrong setup) s.nodes n no_node low valid.typed
 
 -- an edge of a live node leads to a live node, and its body to that one's place
-pub edge_leads : (setup : Setup) (s : State) (v : SeatView) (flags : List Bool) (m n : ℕ) → IsValid setup s → v.bodies ≡ bodies_of s.nodes → IsLive s.nodes m
+pub edge_leads : (setup : Setup) (s : State) (v : SeatView) (flags : List Bool) (m n : ℕ) → IsPlainState setup s → v.bodies ≡ bodies_of s.nodes → IsLive s.nodes m
     → leads_to flags (object_at (graph_of s.nodes) m) n ≡ true → IsLive s.nodes n × LeadsTo v.bodies (place_of s.nodes m) (place_of s.nodes n)
 edge_leads setup s v flags m n valid held live leads =
     let low : m < length s.nodes = there_below s.nodes m (live_is_there s.nodes m live) in
@@ -110,7 +119,7 @@ edge_leads setup s v flags m n valid held live leads =
     )
 
 -- what the body of a live node names is the place of a node to which an edge leads
-pub leads_edge : (setup : Setup) (s : State) (v : SeatView) (flags : List Bool) (m q : ℕ) → IsView v → IsValid setup s → v.bodies ≡ bodies_of s.nodes → IsLive s.nodes m
+pub leads_edge : (setup : Setup) (s : State) (v : SeatView) (flags : List Bool) (m q : ℕ) → IsView v → IsPlainState setup s → v.bodies ≡ bodies_of s.nodes → IsLive s.nodes m
     → LeadsTo v.bodies (place_of s.nodes m) q → (n : ℕ) × IsLive s.nodes n × (place_of s.nodes n ≡ q) × (leads_to flags (object_at (graph_of s.nodes) m) n ≡ true)
 leads_edge setup s v flags m q view valid held live leads =
     let w = body_node s.nodes v leads.0 held leads.1 in
@@ -122,7 +131,7 @@ leads_edge setup s v flags m q view valid held live leads =
     let field = Contains-map_some (word_of (place_of s.nodes)) (node_at s.nodes m).object.values (q + 1) word in
     let below : HasNamesBelow (length s.nodes) (node_at s.nodes m) = All-get_or (HasNamesBelow (length s.nodes)) s.nodes m no_node low valid.named in
     let target = word_names (place_of s.nodes) (length s.nodes) q field.0
-    (All-contains (NamesBelow (length s.nodes)) (node_at s.nodes m).object.values field.0 below field.1) field.2 in
+    (All-contains (IsReferenceBelow (length s.nodes)) (node_at s.nodes m).object.values field.0 below field.1) field.2 in
     let named : Contains (node_at s.nodes m).object.values (Ref target.0) = subst (λ x. Contains (node_at s.nodes m).object.values x) target.1 field.1 in (
       target.0,
       All-contains (NamesLive s.nodes) (node_at s.nodes m).object.values (Ref target.0) (valid.references m live) named,
@@ -132,62 +141,62 @@ leads_edge setup s v flags m q view valid held live leads =
 
 -- ---- the law of reach, applied
 
-refers_within : (setup : Setup) (s : State) → IsValid setup s → RefersWithin (graph_of s.nodes)
+pub refers_within : (setup : Setup) (s : State) → IsPlainState setup s → RefersWithin (graph_of s.nodes)
 refers_within setup s valid flags m n leads =
     elim (cases_lt m (length s.nodes)) [
       | inl low ↦
           (let named : Contains (node_at s.nodes m).object.values (Ref n) =
           leads_names setup (node_at s.nodes m) flags n (typed_at setup s m valid low) (subst (λ o. leads_to flags o n ≡ true) (object-at s.nodes m) leads) in
           let below : n < length s.nodes =
-          All-contains (NamesBelow (length s.nodes)) (node_at s.nodes m).object.values (Ref n)
+          All-contains (IsReferenceBelow (length s.nodes)) (node_at s.nodes m).object.values (Ref n)
           (All-get_or (HasNamesBelow (length s.nodes)) s.nodes m no_node low valid.named) named in
           omega (arith, below, length-map s.nodes (λ (x : Node). x.object)))
       | inr past ↦ absurd (true≢false (sym leads ∙ ap (λ o. leads_to flags o n) (object-at s.nodes m ∙ ap (λ (x : Node). x.object) (get_or_past s.nodes m no_node past))))
     ]
 
-slot_live : (setup : Setup) (s : State) (n : ℕ) → IsValid setup s → Contains s.slots (Some n) → IsLive s.nodes n
+slot_live : (setup : Setup) (s : State) (n : ℕ) → IsPlainState setup s → Contains s.slots (Some n) → IsLive s.nodes n
 slot_live setup s n valid c = All-contains (λ slot. ForSome slot (IsLive s.nodes)) s.slots (Some n) valid.slots c n refl
 
-are_nodes : (setup : Setup) (s : State) → IsValid setup s → AreNodes (graph_of s.nodes) (roots_of s)
+pub are_nodes : (setup : Setup) (s : State) → IsPlainState setup s → AreNodes (graph_of s.nodes) (slot_targets s.slots)
 are_nodes setup s valid n root =
     omega (arith, there_below s.nodes n (live_is_there s.nodes n (slot_live setup s n valid (slot_of_root s.slots n root))), length-map s.nodes (λ (x : Node). x.object))
 
 -- the test of places that holds of the places of reached live nodes
 reached_place : State → ℕ → Bool
-reached_place s p = any_below (λ n. is_live (node_at s.nodes n).life && (eqb (place_of s.nodes n) p && has (Reach (graph_of s.nodes) (roots_of s)) n)) (length s.nodes)
+reached_place s p = any_below (λ n. is_live (node_at s.nodes n).life && (eqb (place_of s.nodes n) p && has (Reach (graph_of s.nodes) (slot_targets s.slots)) n)) (length s.nodes)
 
-reached_from : (s : State) (n : ℕ) → IsLive s.nodes n → IsIn (Reach (graph_of s.nodes) (roots_of s)) n → reached_place s (place_of s.nodes n) ≡ true
+reached_from : (s : State) (n : ℕ) → IsLive s.nodes n → IsIn (Reach (graph_of s.nodes) (slot_targets s.slots)) n → reached_place s (place_of s.nodes n) ≡ true
 unfolding reached_place
 reached_from s n live is =
     any_below_from _ (length s.nodes) n (there_below s.nodes n (live_is_there s.nodes n live))
     (and_from _ _ (live_is_live s.nodes n live) (and_from _ _ (eq-eqb (place_of s.nodes n) (place_of s.nodes n) refl) is))
 
-reached_some : (s : State) (p : ℕ) → reached_place s p ≡ true → (n : ℕ) × IsLive s.nodes n × (place_of s.nodes n ≡ p) × IsIn (Reach (graph_of s.nodes) (roots_of s)) n
+reached_some : (s : State) (p : ℕ) → reached_place s p ≡ true → (n : ℕ) × IsLive s.nodes n × (place_of s.nodes n ≡ p) × IsIn (Reach (graph_of s.nodes) (slot_targets s.slots)) n
 unfolding reached_place
 reached_some s p h =
-    let w = any_below_some (λ n. is_live (node_at s.nodes n).life && (eqb (place_of s.nodes n) p && has (Reach (graph_of s.nodes) (roots_of s)) n)) (length s.nodes) h in
+    let w = any_below_some (λ n. is_live (node_at s.nodes n).life && (eqb (place_of s.nodes n) p && has (Reach (graph_of s.nodes) (slot_targets s.slots)) n)) (length s.nodes) h in
     let live = and_parts (is_live (node_at s.nodes w.0).life) _ w.1 in
-    let rest = and_parts (eqb (place_of s.nodes w.0) p) (has (Reach (graph_of s.nodes) (roots_of s)) w.0) live.1 in
+    let rest = and_parts (eqb (place_of s.nodes w.0) p) (has (Reach (graph_of s.nodes) (slot_targets s.slots)) w.0) live.1 in
     (w.0, is_live_life (node_at s.nodes w.0).life live.0, eqb-true (place_of s.nodes w.0) p rest.0, rest.1)
 
-pub keeps_reached : (setup : Setup) (s : State) (v new : SeatView) (slots : List (Option ℕ)) → ReachIsLeast → IsView v → IsValid setup s → v.bodies ≡ bodies_of s.nodes
-    → slots ≡ places_of s.nodes s.slots → MarksReachable slots v new → IsKept s (kept_of (holds new.marked) s.nodes)
+pub keeps_reached : (setup : Setup) (s : State) (v new : SeatView) (slots : List (Option ℕ)) → ReachIsLeast → IsView v → IsPlainState setup s → v.bodies ≡ bodies_of s.nodes
+    → slots ≡ places_of s.nodes s.slots → MarksReachable slots v new → KeepsReached s (kept_of (holds new.marked) s.nodes)
 keeps_reached setup s v new slots law view valid held named marks =
     let g : List Object = graph_of s.nodes in
     let kept : List Bool = kept_of (holds new.marked) s.nodes in
-    let least : IsLeastClosed g (roots_of s) (Reach g (roots_of s)) = law g (roots_of s) (refers_within setup s valid) (are_nodes setup s valid) in
+    let least : IsLeastClosed g (slot_targets s.slots) (Reach g (slot_targets s.slots)) = law g (slot_targets s.slots) (refers_within setup s valid) (are_nodes setup s valid) in
     let closed : IsClosed g kept = λ m n is leads.
     let parts = kept_parts (holds new.marked) s.nodes m is in
     let edge = edge_leads setup s v kept m n valid held parts.0 leads in
     kept_from (holds new.marked) s.nodes n edge.0
     (marks.closed (place_of s.nodes m) (place_of s.nodes n) parts.1 (subst (λ bs. LeadsTo bs (place_of s.nodes m) (place_of s.nodes n)) (sym marks.bodies) edge.1)) in
-    let roots_kept : HoldsAll kept (roots_of s) = λ n root.
+    let roots_kept : HoldsAll kept (slot_targets s.slots) = λ n root.
     let slot : Contains s.slots (Some n) = slot_of_root s.slots n root in
     kept_from (holds new.marked) s.nodes n (slot_live setup s n valid slot)
     (marks.roots (place_of s.nodes n) (subst (λ l. Contains l (Some (place_of s.nodes n))) (sym named) (slot_place s.nodes s.slots n slot))) in
     let test_closed : IsClosedUnder new.bodies (reached_place s) = λ p q is leads.
     let w = reached_some s p is in
-    let edge = leads_edge setup s v (Reach g (roots_of s)) w.0 q view valid held w.1
+    let edge = leads_edge setup s v (Reach g (slot_targets s.slots)) w.0 q view valid held w.1
     (subst (λ x. LeadsTo v.bodies x q) (sym w.2) (subst (λ bs. LeadsTo bs p q) marks.bodies leads)) in
     subst (λ x. reached_place s x ≡ true) edge.2 (reached_from s edge.0 edge.1 (least.closed w.0 edge.0 w.3 edge.3)) in
     let test_slots : HoldsSlots (reached_place s) slots = λ p c.
@@ -200,5 +209,5 @@ keeps_reached setup s v new slots law view valid held named marks =
       bounded = λ n is.
           let parts = kept_parts (holds new.marked) s.nodes n is in
           let w = reached_some s (place_of s.nodes n) (marks.least (reached_place s) test_closed test_slots (place_of s.nodes n) parts.1) in
-          subst (λ m. IsIn (Reach g (roots_of s)) m) (same_node s.nodes v w.0 n view held (live_is_there s.nodes w.0 w.1) (live_is_there s.nodes n parts.0) w.2) w.3;
+          subst (λ m. IsIn (Reach g (slot_targets s.slots)) m) (same_node s.nodes v w.0 n view held (live_is_there s.nodes w.0 w.1) (live_is_there s.nodes n parts.0) w.2) w.3;
     }

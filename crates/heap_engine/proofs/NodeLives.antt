@@ -7,7 +7,8 @@ use Rattle.gc_graph.specs.Graph.{has}
 use Rattle.gc_graph.specs.State.{Node, Life, node_at, is_there, is_live, is_dead, IsDead, objects_of}
 use Rattle.gc_graph.specs.State.Life.{Live, Dead, Gone}
 use Rattle.gc_graph.specs.Pause.{judged, condemn, live_count, dead_count}
-use Rattle.gc_graph.specs.Sweep.{buried, finalise}
+use Rattle.gc_graph.specs.Sweep.{buried}
+use Rattle.heap_engine.specs.Changes.{bury}
 use Rattle.page_words.specs.Bodies.{Body}
 use Rattle.heap_engine.specs.Nodes.{place_of, body_of, bodies_from, IsThere}
 use Rattle.heap_engine.specs.View.{kept_of}
@@ -51,17 +52,17 @@ length-condemn (flag ∷ kept) (x ∷ nodes) = ap suc (length-condemn kept nodes
 
 -- ---- finalised
 
-pub life-finalise : (nodes : List Node) (n : ℕ) → (node_at (map finalise nodes) n).life ≡ buried (node_at nodes n).life
+pub life-finalise : (nodes : List Node) (n : ℕ) → (node_at (map bury nodes) n).life ≡ buried (node_at nodes n).life
 life-finalise [] n = refl
 life-finalise (x ∷ nodes) zero = refl
 life-finalise (x ∷ nodes) (suc n) = life-finalise nodes n
 
-pub object-finalise : (nodes : List Node) (n : ℕ) → (node_at (map finalise nodes) n).object ≡ (node_at nodes n).object
+pub object-finalise : (nodes : List Node) (n : ℕ) → (node_at (map bury nodes) n).object ≡ (node_at nodes n).object
 object-finalise [] n = refl
 object-finalise (x ∷ nodes) zero = refl
 object-finalise (x ∷ nodes) (suc n) = object-finalise nodes n
 
-pub place-finalise : (nodes : List Node) (n : ℕ) → place_of (map finalise nodes) n ≡ place_of nodes n
+pub place-finalise : (nodes : List Node) (n : ℕ) → place_of (map bury nodes) n ≡ place_of nodes n
 place-finalise [] n = refl
 place-finalise (x ∷ nodes) zero = refl
 place-finalise (x ∷ nodes) (suc n) = place-finalise nodes n
@@ -119,7 +120,7 @@ there_buried Live there = refl
 there_buried Dead there = refl
 there_buried Gone there = there
 
-pub there-finalise : (nodes : List Node) (n : ℕ) → IsThere (map finalise nodes) n → IsThere nodes n
+pub there-finalise : (nodes : List Node) (n : ℕ) → IsThere (map bury nodes) n → IsThere nodes n
 there-finalise nodes n there = there_buried (node_at nodes n).life (sym (ap is_there (life-finalise nodes n)) ∙ there)
 
 -- ---- counts

@@ -10,7 +10,8 @@ use Rattle.gc_graph.specs.declared.graph.Value.TheVariants.{Null, Ref, Word}
 use Rattle.gc_graph.specs.Graph.{object_at, strong_targets, pair_targets, leads_to}
 use Rattle.gc_graph.specs.State.{Setup, Node, Life, node_at, no_node, graph_of, is_there, is_live, IsLive}
 use Rattle.gc_graph.specs.State.Life.{Live, Dead, Gone}
-use Rattle.gc_graph.specs.Valid.{IsTyped, NamesBelow}
+use Rattle.gc_graph.specs.Valid.{IsReferenceBelow}
+use Rattle.heap_engine.specs.Plain.{IsStrong}
 use Rattle.page_words.specs.Bodies.{Body}
 use Rattle.page_words.specs.Seat.{SeatView, IsView}
 use Rattle.heap_engine.specs.Marking.{PlacesDiffer}
@@ -138,7 +139,7 @@ no_pairs (suc k) [] = refl
 no_pairs (suc k) (v ∷ vs) = no_pairs k vs
 
 -- a typed object leads to what one of its values names
-pub leads_names : (setup : Setup) (node : Node) (flags : List Bool) (n : ℕ) → IsTyped setup node → leads_to flags node.object n ≡ true → Contains node.object.values (Ref n)
+pub leads_names : (setup : Setup) (node : Node) (flags : List Bool) (n : ℕ) → IsStrong setup node → leads_to flags node.object n ≡ true → Contains node.object.values (Ref n)
 leads_names setup node flags n typed leads =
     elim (or_cases _ _ leads) [
       | inl strong ↦ named_strong _ n node.object.values typed.values
@@ -147,12 +148,12 @@ leads_names setup node flags n typed leads =
           (ap (λ ks. pair_targets ks node.object.values) typed.kinds ∙ no_pairs _ node.object.values)))
     ]
 
-pub names_lead : (setup : Setup) (node : Node) (flags : List Bool) (n : ℕ) → IsTyped setup node → Contains node.object.values (Ref n) → leads_to flags node.object n ≡ true
+pub names_lead : (setup : Setup) (node : Node) (flags : List Bool) (n : ℕ) → IsStrong setup node → Contains node.object.values (Ref n) → leads_to flags node.object n ≡ true
 names_lead setup node flags n typed named =
     or_left _ _ (subst (λ ks. list_any (λ t. eqb t n) (strong_targets ks node.object.values) ≡ true) (sym typed.kinds) (strong_named _ n node.object.values typed.values named))
 
 -- a field word that isn't null is a reference to a named node's place
-pub word_names : (f : ℕ → ℕ) (bound q : ℕ) (v : Value) → NamesBelow bound v → word_of f v ≡ q + 1 → (n : ℕ) × (v ≡ Ref n) × (f n ≡ q)
+pub word_names : (f : ℕ → ℕ) (bound q : ℕ) (v : Value) → IsReferenceBelow bound v → word_of f v ≡ q + 1 → (n : ℕ) × (v ≡ Ref n) × (f n ≡ q)
 word_names f bound q Null below e = absurd (omega arith)
 word_names f bound q (Ref n) below e = (n, refl, omega arith)
 word_names f bound q (Word w) below e = absurd below

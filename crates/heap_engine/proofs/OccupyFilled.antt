@@ -7,7 +7,8 @@ use Rattle.std.proofs.lemmas.List.Elements.{All-replicate}
 use Rattle.std.proofs.Math.Nat.{mul-le-mul_right}
 use Rattle.gc_graph.specs.State.{Shape}
 use Rattle.page_words.specs.Bodies.{Body, IsInBody}
-use Rattle.page_words.specs.Seat.{Filled, SeatView, IsReady, filled_with, header_word}
+use Rattle.object_headers.specs.Layout.{header_word}
+use Rattle.page_words.specs.Seat.{Filled, SeatView, IsReady, filled_with}
 use Rattle.heap_engine.specs.Space.{HasNulls, HasRoom, IsSeatOf, new_body}
 use Rattle.heap_engine.proofs.PlaceBodies.{contains_later, contains_first, taken_by_body}
 

@@ -10,12 +10,14 @@ use Rattle.gc_graph.specs.declared.graph.Value.TheVariants.{Null, Ref, Word}
 use Rattle.gc_graph.specs.Graph.{Object, has, IsIn, IsClosed, leads_to}
 use Rattle.gc_graph.specs.State.{Setup, State, Node, node_at, no_node, graph_of, is_live, is_dead, IsLive}
 use Rattle.gc_graph.specs.State.Life.{Live}
-use Rattle.gc_graph.specs.Valid.{IsTyped, IsValid, NamesBelow, NamesLive, HasNamesBelow}
-use Rattle.gc_graph.specs.Pause.{judged, condemn, paused}
+use Rattle.gc_graph.specs.Valid.{IsReferenceBelow, NamesLive}
+use Rattle.heap_engine.specs.Plain.{IsStrong, IsPlainState, HasNamesBelow}
+use Rattle.gc_graph.specs.Pause.{judged, condemn}
 use Rattle.page_words.specs.Bodies.{Body}
 use Rattle.page_words.specs.Seat.{SeatView, holds, unmarked_places}
 use Rattle.heap_engine.specs.Nodes.{place_of, body_of, bodies_of, IsThere, IsHeld}
 use Rattle.heap_engine.specs.View.{kept_of}
+use Rattle.heap_engine.specs.Changes.{collected_state}
 use Rattle.heap_engine.specs.Marking.{MarksReachable}
 use Rattle.heap_engine.specs.Sweeping.{IsJudged}
 use Rattle.heap_engine.proofs.NodeChanges.{bodies-places, bodies-condemn}
@@ -74,7 +76,7 @@ judged_after slots v new marks b there = dead_if_unmarked new b marks.dead there
 
 -- ---- the words hold the condemned nodes
 
-pub held_condemned : (setup : Setup) (s : State) (slots : List (Option ℕ)) (v new : SeatView) → IsValid setup s → s.phase ≡ Idle → IsHeld s.nodes v → MarksReachable slots v new
+pub held_condemned : (setup : Setup) (s : State) (slots : List (Option ℕ)) (v new : SeatView) → IsPlainState setup s → s.phase ≡ Idle → IsHeld s.nodes v → MarksReachable slots v new
     → IsHeld (condemn (kept_of (holds new.marked) s.nodes) s.nodes) new
 held_condemned setup s slots v new valid idle held marks =
     let kept : List Bool = kept_of (holds new.marked) s.nodes in
@@ -99,30 +101,30 @@ held_condemned setup s slots v new valid idle held marks =
 
 -- ---- the state stays valid
 
-typed-object : (setup : Setup) (x y : Node) → y.object ≡ x.object → IsTyped setup x → IsTyped setup y
+typed-object : (setup : Setup) (x y : Node) → y.object ≡ x.object → IsStrong setup x → IsStrong setup y
 typed-object setup x y same typed =
-    subst (λ (o : Object). (let z : Node = record { object = o; place = y.place; life = y.life } in IsTyped setup z)) (sym same)
+    subst (λ (o : Object). (let z : Node = record { object = o; place = y.place; life = y.life } in IsStrong setup z)) (sym same)
     (record { ty = typed.ty; extra = typed.extra; kinds = typed.kinds; values = typed.values })
 
-pub valid_paused : (setup : Setup) (s : State) (kept : List Bool) → IsValid setup s → IsClosed (graph_of s.nodes) kept
-    → ((n : ℕ) → Contains s.slots (Some n) → IsIn kept n) → IsValid setup (paused s kept)
+pub valid_paused : (setup : Setup) (s : State) (kept : List Bool) → IsPlainState setup s → IsClosed (graph_of s.nodes) kept
+    → ((n : ℕ) → Contains s.slots (Some n) → IsIn kept n) → IsPlainState setup (collected_state s kept)
 valid_paused setup s kept valid closed roots =
     let after : List Node = condemn kept s.nodes in
     let long : length after ≡ length s.nodes = length-condemn kept s.nodes in
     let live_after : (n : ℕ) → IsLive s.nodes n → IsIn kept n → IsLive after n =
     λ n live is. life-condemn kept s.nodes n ∙ ap (λ b. judged b (node_at s.nodes n).life) is ∙ live in
     record {
-      typed = All-from_get_or (IsTyped setup) after no_node
+      typed = All-from_get_or (IsStrong setup) after no_node
           (λ n low. typed-object setup (node_at s.nodes n) (node_at after n) (object-condemn kept s.nodes n)
-          (All-get_or (IsTyped setup) s.nodes n no_node (subst (λ l. n < l) long low) valid.typed));
+          (All-get_or (IsStrong setup) s.nodes n no_node (subst (λ l. n < l) long low) valid.typed));
       named = All-from_get_or (HasNamesBelow (length after)) after no_node
-          (λ n low. subst (λ (o : Object). All (NamesBelow (length after)) o.values) (sym (object-condemn kept s.nodes n))
-          (subst (λ l. All (NamesBelow l) (node_at s.nodes n).object.values) (sym long)
+          (λ n low. subst (λ (o : Object). All (IsReferenceBelow (length after)) o.values) (sym (object-condemn kept s.nodes n))
+          (subst (λ l. All (IsReferenceBelow l) (node_at s.nodes n).object.values) (sym long)
           (All-get_or (HasNamesBelow (length s.nodes)) s.nodes n no_node (subst (λ l. n < l) long low) valid.named)));
       references = λ n live.
           let was = judged_live (has kept n) (node_at s.nodes n).life (sym (life-condemn kept s.nodes n) ∙ live) in
           let low : n < length s.nodes = there_below s.nodes n (live_is_there s.nodes n was.1) in
-          let typed : IsTyped setup (node_at s.nodes n) = All-get_or (IsTyped setup) s.nodes n no_node low valid.typed in
+          let typed : IsStrong setup (node_at s.nodes n) = All-get_or (IsStrong setup) s.nodes n no_node low valid.typed in
           subst (λ (o : Object). All (NamesLive after) o.values) (sym (object-condemn kept s.nodes n))
           (λ k d inside. named_after setup s kept n (get_or (node_at s.nodes n).object.values k d) closed live_after was.0 typed
           (valid.references n was.1 k d inside)
@@ -130,10 +132,12 @@ valid_paused setup s kept valid closed roots =
       slots = λ k d inside m is.
           live_after m (valid.slots k d inside m is) (roots m (k, inside, get_or_default s.slots k (Some m) d inside ∙ is));
       idle = λ e. cc;
+      calm = refl;
+      unused = valid.unused;
     } where
       named_after : (setup : Setup) (s : State) (kept : List Bool) (n : ℕ) (v : Value) → IsClosed (graph_of s.nodes) kept
           → ((m : ℕ) → IsLive s.nodes m → IsIn kept m → IsLive (condemn kept s.nodes) m)
-          → has kept n ≡ true → IsTyped setup (node_at s.nodes n) → NamesLive s.nodes v → Contains (node_at s.nodes n).object.values v → NamesLive (condemn kept s.nodes) v
+          → has kept n ≡ true → IsStrong setup (node_at s.nodes n) → NamesLive s.nodes v → Contains (node_at s.nodes n).object.values v → NamesLive (condemn kept s.nodes) v
       named_after setup s kept n Null closed live_after is typed names there = tt
       named_after setup s kept n (Word w) closed live_after is typed names there = tt
       named_after setup s kept n (Ref m) closed live_after is typed names there =

@@ -1,27 +1,15 @@
 -- The size in a header word, and the shape's bounds.
-use Rattle.std.proofs.Common.{◌≡◌, ℕ, ◌+◌, ◌*◌, ◌/◌, ◌%◌, ◌^◌, bit_or, ◌<◌, ◌≤◌, Bool, true, false, List, refl, sym, ap, ◌∙◌, arith, eqb, IsTrue, ◌↔◌}
+use Rattle.std.proofs.Common.{◌≡◌, ℕ, ◌+◌, ◌/◌, ◌^◌, ◌<◌, ◌≤◌, Bool, true, false, List, sym, ap, ◌∙◌, arith, eqb, IsTrue, ◌↔◌}
 use Rattle.std.specs.List.{Contains}
 use Rattle.std.proofs.lemmas.Bool.{eqb-true, eq-eqb}
-use Rattle.std.proofs.lemmas.Grind.{or_after_shift}
-use Rattle.std.proofs.lemmas.Nat.{or_shifted}
 use Rattle.gc_graph.specs.Placement.{bucket_of}
 use Rattle.page_words.specs.Bodies.{Body, IsPlace, IsWhole}
-use Rattle.page_words.specs.Seat.{SeatView, IsView, IsWordAt, header_word, holds}
+use Rattle.object_headers.specs.Layout.{header_word}
+use Rattle.page_words.specs.Seat.{SeatView, IsView, IsWordAt, holds}
 use Rattle.heap_engine.specs.Space.{StartsBucket}
 use Rattle.heap_engine.proofs.PlaceBodies.{whole_body, body_size}
 
-pub header_bits : (ty size : ℕ) → ty < 16384 → size < 2 ^ 26
-    → bit_or (bit_or (size * 131072 % 18446744073709551616) (ty * 8 % 18446744073709551616)) 1 ≡ header_word true false false ty size
-header_bits ty size small few =
-    let kept : ty * 8 % 18446744073709551616 ≡ ty * 8 = omega arith in
-    let upper : bit_or (size * 131072 % 18446744073709551616) (ty * 8) ≡ size * 131072 + ty * 8 =
-    or_after_shift size 131072 18446744073709551616 (ty * 8) refl (omega arith) (omega arith) in
-    let joined : size * 131072 + ty * 8 ≡ (size * 16384 + ty) * 2 ^ 3 = omega arith in
-    let whole : bit_or ((size * 16384 + ty) * 2 ^ 3) 1 ≡ (size * 16384 + ty) * 2 ^ 3 + 1 = or_shifted (size * 16384 + ty) 3 1 (omega arith) in
-    let sum : (size * 16384 + ty) * 2 ^ 3 + 1 ≡ header_word true false false ty size = omega arith in
-    ap (λ low. bit_or (bit_or (size * 131072 % 18446744073709551616) low) 1) kept ∙ ap (λ high. bit_or high 1) (upper ∙ joined) ∙ whole ∙ sum
-
-header_size : (live mark traced : Bool) (ty size : ℕ) → ty < 16384 → header_word live mark traced ty size / 131072 ≡ size
+pub header_size : (live mark traced : Bool) (ty size : ℕ) → ty < 16384 → header_word live mark traced ty size / 131072 ≡ size
 header_size true true true ty size l = omega arith
 header_size true true false ty size l = omega arith
 header_size true false true ty size l = omega arith

@@ -155,7 +155,7 @@ judged_at v now a numbers judged swept start =
     ∙ subst (λ x. holds v.dead x ≡ not (holds v.marked x)) start.2 (judged start.0 (was_there v now a numbers start.0 swept start.1))
     ∙ ap not (sym (swept.marked.rest a (omega arith)))
 
-body_below : (v : SeatView) (b : Body) → IsView v → Contains v.bodies b → b.place < v.count
+pub body_below : (v : SeatView) (b : Body) → IsView v → Contains v.bodies b → b.place < v.count
 body_below v b view there =
     let whole : IsWhole v.count b = whole_body v.count v.bodies b view.whole there in
     omega (arith, whole.inside, body_size v.count v.bodies b view.whole there)

@@ -1,11 +1,18 @@
 -- The states after the commands, as functions of the numbers that the code has at hand.
-use Rattle.std.specs.Prelude.{ℕ, ◌+◌, [], ◌∷◌, ◌++◌, length, replicate, Option, Some, None, slice_set}
+use Rattle.std.specs.Prelude.{ℕ, ◌+◌, Bool, List, [], ◌∷◌, ◌++◌, length, map, replicate, Option, Some, None, slice_set}
 use Rattle.gc_graph.specs.declared.graph.Kind.TheVariants.{Strong}
 use Rattle.gc_graph.specs.declared.graph.Value.{Value}
-use Rattle.gc_graph.specs.declared.graph.Value.TheVariants.{Null, Ref, Word}
-use Rattle.gc_graph.specs.State.{State, Node, node_at}
+use Rattle.gc_graph.specs.declared.graph.Value.TheVariants.{Null}
+use Rattle.gc_graph.specs.declared.phase.Phase.{Phase}
+use Rattle.gc_graph.specs.declared.phase.Phase.TheVariants.{Idle, Marking, Sweeping}
+use Rattle.gc_graph.specs.State.{Shape, State, Node, node_at, graph_of, roots_of}
 use Rattle.gc_graph.specs.State.Life.{Live}
-use Rattle.gc_graph.specs.Step.{answered, with_slot, slot_at, value_at, with_value}
+use Rattle.gc_graph.specs.Fields.{value_at, with_value, target_of}
+use Rattle.gc_graph.specs.Reach.{Reach}
+use Rattle.gc_graph.specs.Sweep.{buried}
+use Rattle.gc_graph.specs.Pause.{condemn}
+use Rattle.gc_graph.specs.Outcomes.{answered, with_slot, slot_at}
+use Rattle.heap_engine.specs.View.{start_entry, pause_entry}
 
 -- a new node with so many strong fields
 abbrev pub fresh_node : ℕ → ℕ → ℕ → Node
@@ -27,11 +34,6 @@ stored_in s (Some n) f value = answered (record s { nodes = slice_set s.nodes n 
 abbrev pub stored_state : State → ℕ → ℕ → Value → State
 stored_state s p f value = stored_in s (slot_at s p) f value
 
-abbrev pub target_of : Value → Option ℕ
-target_of Null = None
-target_of (Ref n) = Some n
-target_of (Word w) = None
-
 -- slot q gets what the field of the node that the slot names holds
 abbrev pub read_from : State → Option ℕ → ℕ → ℕ → State
 read_from s None f q = answered s
@@ -39,3 +41,34 @@ read_from s (Some n) f q = answered (with_slot s q (target_of (value_at (node_at
 
 abbrev pub read_state : State → ℕ → ℕ → ℕ → State
 read_state s p f q = read_from s (slot_at s p) f q
+
+-- a dead node is gone
+abbrev pub bury : Node → Node
+bury node = record node { life = buried node.life }
+
+-- the cursor after a sweep of all pages, which stays as it is where no sweep was open
+abbrev pub cursor_after : Phase → ℕ → ℕ → ℕ
+cursor_after Idle pages cursor = cursor
+cursor_after Marking pages cursor = cursor
+cursor_after Sweeping pages cursor = pages
+
+-- an open sweep was ended, in which these nodes were finalised
+abbrev pub ended_state : Shape → State → List ℕ → State
+ended_state shape s numbers = record s {
+  nodes = map bury s.nodes;
+  phase = Idle;
+  cursor = cursor_after s.phase shape.pages s.cursor;
+  finalised = s.finalised + length numbers;
+}
+
+-- a collection was started, and its pause kept this set
+abbrev pub collected_state : State → List Bool → State
+collected_state s kept = record s {
+  nodes = condemn kept s.nodes;
+  phase = Sweeping;
+  cursor = 0;
+  may = Reach (graph_of s.nodes) (roots_of s);
+  traced = 0;
+  unprinted = (s.unprinted ++ start_entry ∷ []) ++ pause_entry ∷ [];
+  pauses = s.pauses + 1;
+}

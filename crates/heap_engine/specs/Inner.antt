@@ -2,18 +2,19 @@
 use Rattle.std.specs.Prelude.{◌≡◌, ℕ, ◌+◌, ◌<◌, ◌≤◌, false, List, ◌++◌, length, Option, Some, None, All, sum_by, MatchOption, MatchBool, nat_lt, Result, Ok, Err}
 use Rattle.std.specs.Option.{option_to_list}
 use Rattle.gc_graph.specs.declared.phase.Phase.{Phase}
-use Rattle.gc_graph.specs.declared.phase.Phase.TheVariants.{Idle, Sweeping}
+use Rattle.gc_graph.specs.declared.phase.Phase.TheVariants.{Idle, Marking, Sweeping}
 use Rattle.gc_graph.specs.declared.line.Line.{Line}
 use Rattle.gc_graph.specs.declared.line.Refusal.{Refusal}
 use Rattle.gc_graph.specs.declared.line.Refusal.TheVariants as R
 use Rattle.gc_graph.specs.State.{Setup, State, node_at}
-use Rattle.gc_graph.specs.Valid.{IsValid}
-use Rattle.gc_graph.specs.Step.{finalise_lines, slot_at, field_count}
+use Rattle.gc_graph.specs.Fields.{field_count}
+use Rattle.gc_graph.specs.Outcomes.{finalise_lines, slot_at}
 use Rattle.page_words.specs.Bodies.{Body}
 use Rattle.page_words.specs.Seat.{SeatView, IsQuiet}
 use Rattle.heap_engine.specs.Space.{IsSeatOf, IsPaged}
 use Rattle.heap_engine.specs.Sweeping.{IsJudged}
 use Rattle.heap_engine.specs.Nodes.{place_of, IsHeld}
+use Rattle.heap_engine.specs.Plain.{IsPlainState}
 use Rattle.heap_engine.specs.View.{places_of}
 
 -- the outcome of a command: the finalised nodes, and then at most one more line; and for how many nodes there is room
@@ -25,9 +26,11 @@ pub record Outcome : Type 0 where
 abbrev pub lines_of : Outcome → List Line
 lines_of o = finalise_lines o.numbers ++ option_to_list o.last
 
--- nothing is marked while the heap is idle, and during a sweep each object is marked or dead
+-- nothing is marked while the heap is idle, and during a sweep each object is marked or dead; marking never goes on
+-- between commands
 abbrev pub HasMarks : Phase → SeatView → Type 0
 HasMarks Idle v = IsQuiet v
+HasMarks Marking v = IsQuiet v
 HasMarks Sweeping v = IsJudged v
 
 -- the words hold the state
@@ -35,7 +38,7 @@ pub record Holds (setup : Setup) (s : State) (v : SeatView) : Type 0 where
   pub seat : IsSeatOf setup.shape v
   pub off : v.on ≡ false
   pub held : IsHeld s.nodes v
-  pub valid : IsValid setup s
+  pub valid : IsPlainState setup s
   pub marks : HasMarks s.phase v
   pub paged : IsPaged setup.shape v.bodies
 

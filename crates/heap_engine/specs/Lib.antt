@@ -3,6 +3,8 @@ pub mod Marking
 pub mod Sweeping
 pub mod Nodes
 pub mod View
+pub mod Plain
 pub mod Inner
 pub mod Changes
 pub mod Sound
+pub mod Built

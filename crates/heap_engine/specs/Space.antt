@@ -2,7 +2,7 @@
 use Rattle.std.specs.Prelude.{◌≡◌, ◌⊎◌, ℕ, ◌+◌, ◌-◌, ◌*◌, ◌<◌, ◌≤◌, ◌==◌, true, List, [], ◌∷◌, ◌++◌, map, replicate, Contains, All}
 use Rattle.std.specs.List.{list_any}
 use Rattle.gc_graph.specs.State.{Shape}
-use Rattle.gc_graph.specs.Placement.{Extent, IsTaken, IsRun, bucket_of}
+use Rattle.gc_graph.specs.Placement.{Extent, IsTaken, IsRun, IsEmptyPage, bucket_of}
 use Rattle.page_words.specs.Bodies.{Body, end_of, IsPlace}
 use Rattle.page_words.specs.Seat.{SeatView, Filled}
 
@@ -45,6 +45,15 @@ IsEndAt bodies a before after =
 -- an object of the size fits at a, in this page, which has its bucket
 abbrev pub FitsIn : Shape → List Body → ℕ → ℕ → ℕ → Type 0
 FitsIn shape bodies size page a = IsRun shape.page_words (extents_of_bodies bodies) size page a
+
+-- an object of the size fits at a, in a page of its bucket
+abbrev pub FitsInSome : Shape → List Body → ℕ → ℕ → Type 0
+FitsInSome shape bodies size a = (page : ℕ) × (page < shape.pages) × FitsIn shape bodies size page a
+
+-- a is the first word of a page that holds no object
+abbrev pub StartsEmptyPage : Shape → List Body → ℕ → Type 0
+StartsEmptyPage shape bodies a =
+    (page : ℕ) × (page < shape.pages) × (a ≡ page * shape.page_words) × IsEmptyPage shape (extents_of_bodies bodies) page
 
 -- free words from a, within the page
 pub record IsGap (shape : Shape) (bodies : List Body) (size page a : ℕ) : Type 0 where

@@ -4,7 +4,8 @@ ghost use Rattle.std.specs.Prelude.{◌≡◌, ◌+◌, ◌-◌, ◌*◌, ◌^�
 ghost use Rattle.std.specs.Prelude.{◌<◌, ◌≤◌, false, [], length, All};
 ghost use Rattle.std.specs.Prelude.{sum_by};
 ghost use Rattle.gc_graph.specs.declared.phase.Phase.TheVariants.{Sweeping};
-ghost use Rattle.gc_graph.specs.Step.{StepGcNow, StepSweepAll, IsSwept};
+ghost use Rattle.gc_graph.specs.declared.command.Want.TheVariants.{Precise};
+ghost use Rattle.gc_graph.specs.CycleSteps.{StepGcNow, StepSweepAll, IsSwept};
 ghost use Rattle.heap_engine.specs.Space.{IsSeatOf, word_count};
 ghost use Rattle.heap_engine.specs.Marking.{PlacesDiffer};
 ghost use Rattle.heap_engine.specs.Sweeping.{IsSweptView, AreDeadSerials};
@@ -22,7 +23,8 @@ impl Heap {
     /// objects are condemned.
     pub(crate) fn collect(&mut self)
         requires few { self.old.state.ordinal < 1000000 }
-        ensures step { StepGcNow self.old.state self.new.lines self.new.state }
+        ensures step { StepGcNow self.old.setup Precise self.old.state self.new.piece
+            self.new.lines self.new.state }
         ensures ordinal { self.new.state.ordinal ≡ self.old.state.ordinal + 1 }
         ensures setup { self.new.setup ≡ self.old.setup }
         ensures closed { self.new.closed ≡ self.old.closed }
@@ -38,12 +40,12 @@ impl Heap {
         let words = end_sweep(self.phase, &self.space, &mut self.seat, &mut self.outcome);
         self.objects -= self.outcome.finalised();
         self.used -= words;
-        self.state = states::swept(&self.state, &self.outcome);
+        self.state = states::ended(&self.state, &self.space, &self.outcome);
         self.seat.bodies_lie_apart();
         gc_graph::reach_is_least();
         self.grey
             .mark_reachable(&self.space, &mut self.seat, &self.slots);
-        self.state = states::paused(&self.state, &self.seat);
+        self.state = states::collected(&self.state, &self.seat);
         self.phase = Phase::Sweeping;
         self.outcome.end(pause_line(self.objects, self.grey.marked(), self.grey.traced()));
         self.state = states::answered(&self.state);
@@ -52,14 +54,14 @@ impl Heap {
     /// Ends the open sweep, or refuses where none is open.
     pub(crate) fn sweep_all(&mut self)
         requires few { self.old.state.ordinal < 1000000 }
-        ensures step { StepSweepAll self.old.setup self.old.state.phase
-            self.old.state self.new.lines self.new.state }
+        ensures step { StepSweepAll self.old.setup self.old.state self.new.lines self.new.state }
+        ensures piece { self.new.piece ≡ [] }
         ensures ordinal { self.new.state.ordinal ≡ self.old.state.ordinal + 1 }
         ensures setup { self.new.setup ≡ self.old.setup }
         ensures closed { self.new.closed ≡ self.old.closed }
     {
         match self.phase {
-            Phase::Idle => self.refuse(Refusal::Phase),
+            Phase::Idle | Phase::Marking => self.refuse(Refusal::Phase),
             Phase::Sweeping => self.finish_sweep(),
         }
     }
@@ -68,7 +70,9 @@ impl Heap {
     fn finish_sweep(&mut self)
         requires few { self.old.state.ordinal < 1000000 }
         requires sweeping { self.old.state.phase ≡ Sweeping }
-        ensures step { IsSwept self.old.setup self.old.state self.new.lines self.new.state }
+        ensures step { IsSwept self.old.setup self.old.state self.old.setup.shape.pages
+            self.new.lines self.new.state }
+        ensures piece { self.new.piece ≡ [] }
         ensures ordinal { self.new.state.ordinal ≡ self.old.state.ordinal + 1 }
         ensures setup { self.new.setup ≡ self.old.setup }
         ensures closed { self.new.closed ≡ self.old.closed }
@@ -79,7 +83,7 @@ impl Heap {
         self.objects -= self.outcome.finalised();
         self.used -= words;
         self.phase = Phase::Idle;
-        self.state = states::swept(&self.state, &self.outcome);
+        self.state = states::ended(&self.state, &self.space, &self.outcome);
         let pages = self.space.pages();
         self.outcome.end(Line::Swept { c: pages });
         self.state = states::answered(&self.state);
@@ -105,7 +109,7 @@ fn end_sweep(phase: Phase, space: &Space, seat: &mut MutatorSeat, outcome: &mut 
     ensures kept { outcome.new.room ≡ outcome.old.room }
 {
     match phase {
-        Phase::Idle => 0,
+        Phase::Idle | Phase::Marking => 0,
         Phase::Sweeping => outcome.sweep(space, seat),
     }
 }

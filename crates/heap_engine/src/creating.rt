@@ -1,8 +1,9 @@
 // New objects, and slots that let go of theirs.
 
-ghost use Rattle.std.specs.Prelude.{◌≡◌, ◌+◌, ◌<◌, length};
+ghost use Rattle.std.specs.Prelude.{◌≡◌, ◌+◌, ◌<◌, [], length};
 ghost use Rattle.gc_graph.specs.declared.phase.Phase.TheVariants.{Idle};
-ghost use Rattle.gc_graph.specs.Step.{StepNew, StepDrop};
+ghost use Rattle.gc_graph.specs.ObjectSteps.{StepNew};
+ghost use Rattle.gc_graph.specs.HandleSteps.{StepDrop};
 
 use crate::heap::Heap;
 use crate::states;
@@ -15,7 +16,8 @@ impl Heap {
         requires slot { p < 256 }
         requires ty { t < length self.old.setup.types }
         requires swept { self.old.state.phase ≡ Idle }
-        ensures step { StepNew self.old.setup self.old.state p t self.new.lines self.new.state }
+        ensures step { StepNew self.old.setup self.old.state p t 0 self.new.lines self.new.state }
+        ensures piece { self.new.piece ≡ [] }
         ensures ordinal { self.new.state.ordinal ≡ self.old.state.ordinal + 1 }
         ensures setup { self.new.setup ≡ self.old.setup }
         ensures closed { self.new.closed ≡ self.old.closed }
@@ -49,6 +51,7 @@ impl Heap {
         requires few { self.old.state.ordinal < 1000000 }
         requires slot { p < 256 }
         ensures step { StepDrop self.old.state p self.new.lines self.new.state }
+        ensures piece { self.new.piece ≡ [] }
         ensures ordinal { self.new.state.ordinal ≡ self.old.state.ordinal + 1 }
         ensures setup { self.new.setup ≡ self.old.setup }
         ensures closed { self.new.closed ≡ self.old.closed }

@@ -1,18 +1,18 @@
 // Reads and writes of fields (`include/cppgc/member.h`).
 
-ghost use Rattle.std.specs.Prelude.{◌≡◌, ◌+◌, ◌<◌, nat_lt, Ok, Err, option_map};
+ghost use Rattle.std.specs.Prelude.{◌≡◌, ◌+◌, ◌<◌, [], nat_lt, Ok, Err, option_map};
 ghost use Rattle.std.specs.Prelude.{MatchOption, MatchBool};
 ghost use Rattle.gc_graph.specs.declared.graph.Value.TheVariants.{Null};
 ghost use Rattle.gc_graph.specs.declared.line.Line.TheVariants as L;
 ghost use Rattle.gc_graph.specs.declared.line.Refusal.TheVariants as R;
 ghost use Rattle.gc_graph.specs.State.{node_at};
-ghost use Rattle.gc_graph.specs.Step.{StepSet, StepGet, IsRefused, slot_at, content_of};
-ghost use Rattle.gc_graph.specs.Step.{field_count, value_at};
+ghost use Rattle.gc_graph.specs.Fields.{field_count, value_at, content_of, target_of};
+ghost use Rattle.gc_graph.specs.Outcomes.{IsRefused, slot_at};
+ghost use Rattle.gc_graph.specs.ObjectSteps.{StepSet, StepGet};
 ghost use Rattle.page_words.specs.Bodies.{IsFieldWord, IsReference};
 ghost use Rattle.page_words.specs.Seat.{IsWordAt, stored};
 ghost use Rattle.heap_engine.specs.Space.{IsSeatOf, word_count};
 ghost use Rattle.heap_engine.specs.Nodes.{place_of};
-ghost use Rattle.heap_engine.specs.Changes.{target_of};
 ghost use Rattle.heap_engine.specs.Inner.{IsFieldOf, reference_to};
 
 use crate::heap::Heap;
@@ -29,6 +29,7 @@ impl Heap {
         requires content { q < 256 }
         ensures step { StepSet self.old.state p f (content_of (slot_at self.old.state q))
             self.new.lines self.new.state }
+        ensures piece { self.new.piece ≡ [] }
         ensures ordinal { self.new.state.ordinal ≡ self.old.state.ordinal + 1 }
         ensures setup { self.new.setup ≡ self.old.setup }
         ensures closed { self.new.closed ≡ self.old.closed }
@@ -51,6 +52,7 @@ impl Heap {
         requires few { self.old.state.ordinal < 1000000 }
         requires slot { p < 256 }
         ensures step { StepSet self.old.state p f Null self.new.lines self.new.state }
+        ensures piece { self.new.piece ≡ [] }
         ensures ordinal { self.new.state.ordinal ≡ self.old.state.ordinal + 1 }
         ensures setup { self.new.setup ≡ self.old.setup }
         ensures closed { self.new.closed ≡ self.old.closed }
@@ -73,6 +75,7 @@ impl Heap {
         requires slot { p < 256 }
         requires into { q < 256 }
         ensures step { StepGet self.old.state p f q self.new.lines self.new.state }
+        ensures piece { self.new.piece ≡ [] }
         ensures ordinal { self.new.state.ordinal ≡ self.old.state.ordinal + 1 }
         ensures setup { self.new.setup ≡ self.old.setup }
         ensures closed { self.new.closed ≡ self.old.closed }
@@ -92,6 +95,7 @@ impl Heap {
     pub(crate) fn refuse(&mut self, why: Refusal)
         requires few { self.old.state.ordinal < 1000000 }
         ensures step { IsRefused why self.old.state self.new.lines self.new.state }
+        ensures piece { self.new.piece ≡ [] }
         ensures ordinal { self.new.state.ordinal ≡ self.old.state.ordinal + 1 }
         ensures setup { self.new.setup ≡ self.old.setup }
         ensures closed { self.new.closed ≡ self.old.closed }

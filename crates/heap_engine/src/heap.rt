@@ -3,10 +3,13 @@
 
 ghost use Rattle.std.specs.Prelude.{◌≡◌, ◌+◌, ◌<◌, ◌≤◌, true};
 ghost use Rattle.std.specs.Prelude.{false, [], length, Some, None, IfOk};
-ghost use Rattle.std.specs.Prelude.{All, slice_get, replicate};
+ghost use Rattle.std.specs.Prelude.{All, map, slice_get, replicate};
 ghost use Rattle.gc_graph.specs.State.{empty_state};
+ghost use Rattle.gc_graph.specs.Fields.{strong_type};
+ghost use Rattle.gc_graph.specs.CycleSteps.{is_marking};
 ghost use Rattle.gc_graph.specs.Step.{Step};
-ghost use Rattle.gc_graph.specs.Lawful.{IsAllowed, IsTimely, IsEndLine};
+ghost use Rattle.heap_engine.specs.Built.{IsBuilt};
+ghost use Rattle.gc_graph.specs.Lawful.{IsAllowed, IsEndLine};
 ghost use Rattle.heap_engine.specs.Space.{IsShape};
 
 use crate::marking::MarkList;
@@ -69,7 +72,9 @@ impl Heap {
         requires few { length types.now < 16384 }
         ensures setup { IfOk result (λ h. h.setup ≡ record {
           shape = record { pages = config.pages; page_words = config.page_words };
-          types = types.now;
+          markers = 0;
+          types = map strong_type types.now;
+          callbacks = [];
         }) }
         ensures state { IfOk result (λ h. h.state ≡ empty_state) }
         ensures lines { IfOk result (λ h. h.lines ≡ []) }
@@ -101,10 +106,12 @@ impl Heap {
         requires few { self.old.state.ordinal < 1000000 }
         requires opened { self.old.closed ≡ false }
         requires allowed { IsAllowed (length self.old.setup.types) command.now }
-        requires timely { IsTimely self.old.state.phase command.now }
+        requires built { IsBuilt self.old.state.phase command.now }
         ensures step { Step self.old.setup self.old.state command.now
-            self.new.lines self.new.state }
+            self.new.piece self.new.lines self.new.state }
         ensures count { result ≡ length self.new.lines }
+        ensures calm { is_marking self.new.state.phase ≡ false }
+        ensures alone { self.new.state.running ≡ [] }
         ensures ordinal { self.new.state.ordinal ≡ self.old.state.ordinal + 1 }
         ensures setup { self.new.setup ≡ self.old.setup }
         ensures closed { self.new.closed ≡ false }
@@ -117,6 +124,29 @@ impl Heap {
             Command::Drop { p } => self.drop_slot(p),
             Command::GcNow { want: _ } => self.collect(),
             Command::SweepAll => self.sweep_all(),
+            Command::Pair { .. }
+            | Command::PairNull { .. }
+            | Command::Put { .. }
+            | Command::Word { .. }
+            | Command::Key { .. }
+            | Command::Val { .. }
+            | Command::Copy { .. }
+            | Command::Weak { .. }
+            | Command::Read { .. }
+            | Command::Push { .. }
+            | Command::PushPlain { .. }
+            | Command::Pop
+            | Command::Peek { .. }
+            | Command::GcStart
+            | Command::GcStep { .. }
+            | Command::GcFinish { .. }
+            | Command::Sweep { .. }
+            | Command::Stat
+            | Command::Export { .. }
+            | Command::Import { .. }
+            | Command::At { .. }
+            | Command::ThreadsGo
+            | Command::ThreadsJoin => unreachable!(),
         }
         self.outcome.count()
     }

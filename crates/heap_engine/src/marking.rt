@@ -15,6 +15,7 @@ ghost use Rattle.heap_engine.specs.Marking.{HasSize, LeadsTo, marked_count};
 
 use crate::space::Space;
 use gc_graph::NoMemory;
+use object_headers::{with_mark, with_traced};
 use page_words::{MutatorSeat, Words};
 use std::alloc::Global;
 use std::marker::Model;
@@ -202,7 +203,7 @@ impl MarkList {
     {
         seat.bodies_lie_apart();
         let header = words.load(seat, place);
-        let claimed = words.claim(seat, place, grey_header(header));
+        let claimed = words.claim(seat, place, with_traced(with_mark(header, true), false));
         if claimed {
             self.traced += 1;
         }
@@ -277,12 +278,4 @@ impl MarkList {
             self.marked += 1;
         }
     }
-}
-
-/// The header with the mark and without the traced bit.
-fn grey_header(header: u64) -> u64
-    requires { header < 2 ^ 43 }
-    ensures { result ≡ header / 8 * 8 + 3 }
-{
-    header / 8 * 8 + 3
 }

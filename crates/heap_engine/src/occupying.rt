@@ -1,11 +1,11 @@
 // A new object in free words.
 
-ghost use Rattle.std.specs.Prelude.{◌≡◌, ◌+◌, ◌-◌, ◌^◌, ◌<◌, ◌≤◌, true, false};
+ghost use Rattle.std.specs.Prelude.{◌≡◌, ◌+◌, ◌-◌, ◌^◌, ◌<◌, ◌≤◌};
 ghost use Rattle.page_words.specs.Bodies.{Body};
-ghost use Rattle.page_words.specs.Seat.{header_word};
 ghost use Rattle.heap_engine.specs.Space.{IsSeatOf, HasRoom, HasNulls, Occupies, new_body};
 
 use crate::space::Space;
+use object_headers::Header;
 use page_words::MutatorSeat;
 
 impl Space {
@@ -39,17 +39,9 @@ impl Space {
     {
         self.shape_is_valid();
         // Nobody sees these words before the object is published.
-        self.words.fill(seat, a, live_header(ty, size));
+        self.words
+            .fill(seat, a, Header::pack(true, false, false, ty, size));
         self.words.fill(seat, a + 1, u64::from(serial));
         self.words.publish(seat, a);
     }
-}
-
-/// The header word of an object that is neither marked nor traced.
-fn live_header(ty: u32, size: u32) -> u64
-    requires ty { ty < 16384 }
-    requires size { size < 2 ^ 26 }
-    ensures { result ≡ header_word true false false ty size }
-{
-    u64::from(size) << 17 | u64::from(ty) << 3 | 1
 }

@@ -2,10 +2,11 @@
 
 ghost use Rattle.std.specs.Prelude.{◌≡◌, ◌/◌, ◌<◌, ◌≤◌};
 ghost use Rattle.std.specs.Prelude.{◌↔◌, IsTrue, IfSome, IfNone};
-ghost use Rattle.gc_graph.specs.Placement.{HasBucket, UsesPage, Fits, StartsEmptyPage, IsPlaceFor};
+ghost use Rattle.gc_graph.specs.Placement.{HasBucket, UsesPage, IsPlaceFor};
 ghost use Rattle.gc_graph.specs.Placement.{IsUsedPages, IsLowest, IsNowhere, bucket_of};
 ghost use Rattle.heap_engine.specs.Space.{IsSeatOf, IsPaged, IsGap, HasRoom, FitsIn, IsEndAt};
-ghost use Rattle.heap_engine.specs.Space.{StartsBucket, extents_of_bodies, word_count};
+ghost use Rattle.heap_engine.specs.Space.{FitsInSome, StartsEmptyPage, StartsBucket};
+ghost use Rattle.heap_engine.specs.Space.{extents_of_bodies, word_count};
 
 use crate::space::{Space, bucket_of};
 use page_words::MutatorSeat;
@@ -17,7 +18,8 @@ impl Space {
         requires paged { IsPaged self.now seat.old.bodies }
         requires some { 0 < size }
         requires small { size ≤ self.now.page_words / 2 }
-        ensures place { IsPlaceFor self.now (extents_of_bodies seat.old.bodies) size result }
+        ensures place { IsPlaceFor self.now self.now.pages (extents_of_bodies seat.old.bodies)
+            size result }
         ensures room { IfSome result (HasRoom self.now seat.old.bodies size) }
         ensures view { seat.new ≡ seat.old }
     {
@@ -48,10 +50,8 @@ impl Space {
         requires heap { IsSeatOf self.now seat.old }
         requires paged { IsPaged self.now seat.old.bodies }
         requires some { 0 < size }
-        ensures found { IfSome result
-            (IsLowest (Fits self.now (extents_of_bodies seat.old.bodies) size)) }
-        ensures none { IfNone result
-            (IsNowhere (Fits self.now (extents_of_bodies seat.old.bodies) size)) }
+        ensures found { IfSome result (IsLowest (FitsInSome self.now seat.old.bodies size)) }
+        ensures none { IfNone result (IsNowhere (FitsInSome self.now seat.old.bodies size)) }
         ensures view { seat.new ≡ seat.old }
     {
         for page in 0..self.pages {
@@ -83,10 +83,8 @@ impl Space {
     fn find_empty(&self, seat: &mut MutatorSeat) -> Option<u32>
         requires heap { IsSeatOf self.now seat.old }
         requires paged { IsPaged self.now seat.old.bodies }
-        ensures found { IfSome result
-            (IsLowest (StartsEmptyPage self.now (extents_of_bodies seat.old.bodies))) }
-        ensures none { IfNone result
-            (IsNowhere (StartsEmptyPage self.now (extents_of_bodies seat.old.bodies))) }
+        ensures found { IfSome result (IsLowest (StartsEmptyPage self.now seat.old.bodies)) }
+        ensures none { IfNone result (IsNowhere (StartsEmptyPage self.now seat.old.bodies)) }
         ensures view { seat.new ≡ seat.old }
     {
         for page in 0..self.pages {

@@ -8,6 +8,7 @@ ghost use Rattle.page_words.specs.Seat.{empty_view};
 ghost use Rattle.heap_engine.specs.Space.{IsShape, IsSeatOf, word_count};
 
 use gc_graph::NoMemory;
+use object_headers::Header;
 use page_words::{MutatorSeat, Words};
 use std::alloc::Global;
 use std::marker::Model;
@@ -92,7 +93,10 @@ impl Space {
         ensures view { seat.new ≡ seat.old }
     {
         seat.bodies_lie_apart();
-        (self.words.load(seat, a) >> 17) as u32
+        match Header::read(self.words.load(seat, a)) {
+            Some(header) => header.size,
+            None => unreachable!("an object starts here"),
+        }
     }
 }
 

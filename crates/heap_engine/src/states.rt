@@ -1,16 +1,17 @@
 // The state of the graph, and how each command changes it. All of it is for contracts alone.
 
-ghost use Rattle.std.specs.Prelude.{◌≡◌, ◌++◌, ◌∷◌, [], Some, None, length};
-ghost use Rattle.gc_graph.specs.State.{empty_state, State};
-ghost use Rattle.gc_graph.specs.Step.{answered, with_slot, new_node, slot_at, content_of};
-ghost use Rattle.gc_graph.specs.Pause.{paused};
-ghost use Rattle.gc_graph.specs.Sweep.{swept};
+ghost use Rattle.std.specs.Prelude.{◌≡◌, None};
+ghost use Rattle.gc_graph.specs.State.{empty_state};
+ghost use Rattle.gc_graph.specs.Fields.{content_of};
+ghost use Rattle.gc_graph.specs.Outcomes.{answered, with_slot, slot_at};
 ghost use Rattle.gc_graph.specs.declared.graph.Value.TheVariants.{Null};
 ghost use Rattle.page_words.specs.Seat.{holds};
 ghost use Rattle.heap_engine.specs.View.{kept_of};
 ghost use Rattle.heap_engine.specs.Changes.{made_state, full_state, stored_state, read_state};
+ghost use Rattle.heap_engine.specs.Changes.{ended_state, collected_state};
 
 use crate::outcome::Outcome;
+use crate::space::Space;
 use ghost_values::GhostValue;
 use page_words::MutatorSeat;
 use std::marker::Model;
@@ -125,29 +126,35 @@ pub fn read(state: &GhostValue<States>, p: u32, f: u32, q: u32) -> GhostValue<St
     GhostValue::chosen(&About { state, p, f, q })
 }
 
-/// What a pause looks at.
+/// What a collection looks at.
 #[derive(Drop)]
-struct AboutPause<'a> {
+struct AboutMarks<'a> {
     state: &'a GhostValue<States>,
     seat: &'a MutatorSeat,
 }
 
-pub fn paused(state: &GhostValue<States>, seat: &MutatorSeat) -> GhostValue<States>
+/// What is marked was kept.
+pub fn collected(state: &GhostValue<States>, seat: &MutatorSeat) -> GhostValue<States>
     ensures { result.value
-        ≡ paused state.now.value (kept_of (holds seat.now.marked) state.now.value.nodes) }
+        ≡ collected_state state.now.value (kept_of (holds seat.now.marked) state.now.value.nodes) }
 {
-    GhostValue::chosen(&AboutPause { state, seat })
+    GhostValue::chosen(&AboutMarks { state, seat })
 }
 
 /// What a sweep looks at.
 #[derive(Drop)]
 struct AboutSweep<'a> {
     state: &'a GhostValue<States>,
+    space: &'a Space,
     outcome: &'a Outcome,
 }
 
-pub fn swept(state: &GhostValue<States>, outcome: &Outcome) -> GhostValue<States>
-    ensures { result.value ≡ swept state.now.value outcome.now.numbers }
+pub fn ended(state: &GhostValue<States>, space: &Space, outcome: &Outcome) -> GhostValue<States>
+    ensures { result.value ≡ ended_state space.now state.now.value outcome.now.numbers }
 {
-    GhostValue::chosen(&AboutSweep { state, outcome })
+    GhostValue::chosen(&AboutSweep {
+        state,
+        space,
+        outcome,
+    })
 }

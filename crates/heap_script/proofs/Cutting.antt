@@ -6,7 +6,8 @@ use Rattle.std.proofs.lemmas.List.Splits.{slice_split_first, slice_split_none, l
 use Rattle.std.proofs.lemmas.List.Sums.{fails_before_first, position_or_len_is}
 use Rattle.std.proofs.lemmas.Bool.{cond-true, cond-false, and_right, not_from_false, ne_eqb, eq-eqb, eqb-true, eqb-false}
 use Rattle.std.proofs.Math.Bool.{and-true}
-use Rattle.gc_graph.specs.Script.{lines_of, lines_of_parts, words_of, is_blank, is_text, is_pair_of, command_of, command_of_words, command_of_two, command_of_three, command_of_four}
+use Rattle.gc_graph.specs.Words.{lines_of, lines_of_parts, words_of, is_blank, is_text}
+use Rattle.heap_script.specs.Built.{is_pair_of, command_of, command_of_words, command_of_two, command_of_three, command_of_four}
 use Rattle.heap_script.specs.Cuts.{IsCut}
 use Rattle.heap_script.specs.Words.{IsFirstWord}
 

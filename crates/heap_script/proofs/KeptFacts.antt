@@ -7,7 +7,8 @@ use Rattle.std.proofs.lemmas.List.Elements.{All-nil, All-push, All-weaker}
 use Rattle.gc_graph.specs.declared.command.Command.{Command}
 use Rattle.gc_graph.specs.declared.command.Command.TheVariants as C
 use Rattle.gc_graph.specs.Lawful.{IsAllowed}
-use Rattle.gc_graph.specs.Script.{words_of, is_header}
+use Rattle.gc_graph.specs.Words.{words_of}
+use Rattle.heap_script.specs.Built.{is_header}
 use Rattle.heap_script.specs.declared.lines.Past.{Past}
 use Rattle.heap_script.specs.declared.lines.LineKind.{LineKind}
 use Rattle.heap_script.specs.declared.lines.LineKind.TheVariants as K
@@ -58,12 +59,7 @@ placed_at (header ∷ before) line kind e =
 
 allowed_with : (n m : ℕ) (command : Command) → n ≤ m → IsAllowed n command → IsAllowed m command
 allowed_with n m (C.New p t e) le h = (h.0, omega (arith, h.1), h.2)
-allowed_with n m (C.Set p f q) le h = h
-allowed_with n m (C.SetNull p f) le h = h
-allowed_with n m (C.Get p f q) le h = h
-allowed_with n m (C.Drop p) le h = h
-allowed_with n m (C.GcNow want) le h = h
-allowed_with n m C.SweepAll le h = h
+allowed_with n m command le h = h
 
 -- a command that may stand is allowed by the types that there are
 stands_allowed : (past : Past) (n : ℕ) (command : Command) → n ≡ cond past.typed 1 0 → may_stand past command ≡ true → IsAllowed 1 command → IsAllowed n command
@@ -71,12 +67,7 @@ stands_allowed past n (C.New p t e) counted may h =
     let typed : past.typed ≡ true = (and_parts past.typed (not past.sweeping) may).0 in
     let one : 1 ≡ n = sym (counted ∙ ap (λ b. cond b 1 0) typed) in
     subst (λ k. IsAllowed k (C.New p t e)) one h
-stands_allowed past n (C.Set p f q) counted may h = h
-stands_allowed past n (C.SetNull p f) counted may h = h
-stands_allowed past n (C.Get p f q) counted may h = h
-stands_allowed past n (C.Drop p) counted may h = h
-stands_allowed past n (C.GcNow want) counted may h = h
-stands_allowed past n C.SweepAll counted may h = h
+stands_allowed past n command counted may h = h
 
 same_allowed : (types : List ℕ) (commands : List Command) → All (IsAllowed (length types)) commands
     → All (IsAllowed (length (types ++ []))) (commands ++ [])

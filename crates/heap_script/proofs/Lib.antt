@@ -1,8 +1,12 @@
+pub mod CommandsAgree
 pub mod Cutting
+pub mod FormsAgree
 pub mod KeptFacts
 pub mod LineKinds
+pub mod LinesBefore
 pub mod MoreLines
 pub mod Pieces
 pub mod Progress
 pub mod Ranges
 pub mod Values
+pub mod WholeGrammar

@@ -7,7 +7,8 @@ use Rattle.std.proofs.lemmas.Bool.{and_parts, and_right, true≢false, cases_Boo
 use Rattle.std.proofs.lemmas.List.{nil_from_length}
 use Rattle.gc_graph.specs.declared.command.Command.{Command}
 use Rattle.gc_graph.specs.declared.command.Command.TheVariants as C
-use Rattle.gc_graph.specs.Script.{is_text, is_pair_of, words_of, is_header, is_blank, is_type_line, command_of, command_of_words, may_follow, holds_command, is_built, commands_of, is_sweep_open}
+use Rattle.gc_graph.specs.Words.{is_text, words_of, is_blank}
+use Rattle.heap_script.specs.Built.{is_pair_of, is_header, is_type_line, command_of, command_of_words, may_follow, holds_command, is_built, commands_of, is_sweep_open}
 use Rattle.heap_script.specs.declared.lines.Past.{Past}
 use Rattle.heap_script.specs.declared.lines.LineKind.{LineKind}
 use Rattle.heap_script.specs.declared.lines.LineKind.TheVariants as K
@@ -16,7 +17,7 @@ use Rattle.heap_script.specs.Past.{past_of, may_stand, order_of, kind_after_head
 -- ---- lines of two words
 
 -- words that pass as a pair are the pair
-pair_words : (first second : List ℕ) (words : List (List ℕ)) → is_pair_of first second words ≡ true → words ≡ first ∷ second ∷ []
+pub pair_words : (first second : List ℕ) (words : List (List ℕ)) → is_pair_of first second words ≡ true → words ≡ first ∷ second ∷ []
 pair_words first second [] e = absurd (true≢false (sym e))
 pair_words first second (x ∷ []) e = absurd (true≢false (sym e ∙ and_right (is_text x first) false refl))
 pair_words first second (x ∷ y ∷ []) e =
@@ -152,12 +153,7 @@ may_follow_is : (header : List ℕ) (before : List (List ℕ)) (command : Comman
     → may_follow before command ≡ is_some (cond (may_stand (past_of (header ∷ before)) command) (Some (K.Order command)) None)
 may_follow_is header before (C.New p t e) =
     chosen_is_some (list_any is_type_line before && not (is_sweep_open (commands_of before))) (K.Order (C.New p t e))
-may_follow_is header before (C.Set p f q) = refl
-may_follow_is header before (C.SetNull p f) = refl
-may_follow_is header before (C.Get p f q) = refl
-may_follow_is header before (C.Drop p) = refl
-may_follow_is header before (C.GcNow want) = refl
-may_follow_is header before C.SweepAll = refl
+may_follow_is header before command = refl
 
 holds_is : (header : List ℕ) (before : List (List ℕ)) (command : Option Command)
     → holds_command before command ≡ is_some (order_of (past_of (header ∷ before)) command)

@@ -5,7 +5,8 @@ use Rattle.std.proofs.lemmas.List.Elements.{filter_map-append}
 use Rattle.std.proofs.lemmas.List.Folds.{list_all-append, list_any-append}
 use Rattle.std.proofs.lemmas.List.Sums.{fold-append}
 use Rattle.gc_graph.specs.declared.command.Command.{Command}
-use Rattle.gc_graph.specs.Script.{is_blank, is_type_line, command_of, commands_of, types_of, opens_sweep, is_sweep_open}
+use Rattle.gc_graph.specs.Words.{is_blank}
+use Rattle.heap_script.specs.Built.{is_type_line, command_of, commands_of, types_of, opens_sweep, is_sweep_open}
 use Rattle.heap_script.specs.declared.lines.Past.{Past}
 use Rattle.heap_script.specs.declared.lines.LineKind.{LineKind}
 use Rattle.heap_script.specs.declared.lines.LineKind.TheVariants as K

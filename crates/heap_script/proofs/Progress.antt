@@ -5,7 +5,8 @@ use Rattle.std.proofs.lemmas.List.{take_more, take_all, drop_more, length-drop, 
 use Rattle.std.proofs.lemmas.List.Elements.{All-nil, All-append}
 use Rattle.gc_graph.specs.declared.command.Command.{Command}
 use Rattle.gc_graph.specs.Lawful.{IsAllowed}
-use Rattle.gc_graph.specs.Script.{lines_of, commands_of, types_of, is_built, is_built_at, IsScript, IsFaultyAt}
+use Rattle.gc_graph.specs.Words.{lines_of}
+use Rattle.heap_script.specs.Built.{commands_of, types_of, is_built, is_built_at, IsBuiltScript, IsFaultyAt}
 use Rattle.heap_script.specs.declared.lines.Past.{Past}
 use Rattle.heap_script.specs.declared.lines.LineKind.{LineKind}
 use Rattle.heap_script.specs.Past.{past_of, kind_of, after, types_in, commands_in}
@@ -98,7 +99,7 @@ faulty_line bytes more i past types commands line read e none = record {
 
 pub all_read : (bytes : List ℕ) (i : ℕ) (past : Past) (types : List ℕ) (commands : List Command)
     → IsReadTo (lines_of bytes) i past types commands → drop i (lines_of bytes) ≡ [] → 0 < i
-    → IsScript bytes (record { types = types; commands = commands })
+    → IsBuiltScript bytes (record { types = types; commands = commands })
 all_read bytes i past types commands read e some =
     let end : length (lines_of bytes) ≤ i = omega (arith, length-drop i (lines_of bytes), ap length e) in
     let whole : take i (lines_of bytes) ≡ lines_of bytes = take_all i (lines_of bytes) end in

@@ -1,12 +1,13 @@
 -- The numbers of a command that was read are in their ranges.
-use Rattle.std.proofs.Common.{◌≡◌, ℕ, ◌<◌, ◌&&◌, Bool, true, false, cond, Option, Some, None, List, [], ◌∷◌, refl, subst}
+use Rattle.std.proofs.Common.{◌≡◌, ℕ, ◌<◌, ◌&&◌, Bool, true, false, cond, Option, Some, None, List, [], ◌∷◌, refl, subst, arith}
 use Rattle.std.specs.Prelude.{IfSome, codes, nat_lt}
 use Rattle.std.proofs.lemmas.Bool.{and_parts, ltb-true}
 use Rattle.gc_graph.specs.declared.command.Command.{Command}
 use Rattle.gc_graph.specs.declared.command.Command.TheVariants as C
 use Rattle.gc_graph.specs.declared.command.Want.TheVariants.{Precise}
 use Rattle.gc_graph.specs.Lawful.{IsAllowed}
-use Rattle.gc_graph.specs.Script.{is_text, is_number, value_after, number_below, slot_of, type_of, field_of, with_one, with_two, with_three, command_of_two, command_of_three, command_of_four, command_of_words}
+use Rattle.gc_graph.specs.Words.{is_text, is_number, value_after, number_below}
+use Rattle.heap_script.specs.Built.{slot_of, type_of, field_of, with_one, with_two, with_three, command_of_two, command_of_three, command_of_four, command_of_words}
 
 -- ---- what holds of the value that an option may have
 
@@ -56,7 +57,7 @@ two_allowed a b =
 three_allowed : (a b d : List ℕ) → IfSome (command_of_three a b d) (IsAllowed 1)
 three_allowed a b d =
     chosen (IsAllowed 1) (is_text a (codes "new")) _ _
-    (by_two (IsAllowed 1) (λ p t. C.New p t 0) (λ n. n < 256) (λ n. n < 1) (slot_of b) (type_of d) (slot_low b) (is_below 1 d) (λ x y l m. (l, m, refl)))
+    (by_two (IsAllowed 1) (λ p t. C.New p t 0) (λ n. n < 256) (λ n. n < 1) (slot_of b) (type_of d) (slot_low b) (is_below 1 d) (λ x y l m. (l, m, omega arith)))
     (chosen (IsAllowed 1) (is_text a (codes "gc") && (is_text b (codes "now") && is_text d (codes "precise"))) (Some (C.GcNow Precise)) None tt tt)
 
 four_allowed : (a b d e : List ℕ) → IfSome (command_of_four a b d e) (IsAllowed 1)

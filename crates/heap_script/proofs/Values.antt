@@ -3,7 +3,7 @@ use Rattle.std.proofs.Common.{◌≡◌, ℕ, ◌+◌, ◌-◌, ◌*◌, ◌<◌
 use Rattle.std.specs.List.{list_all}
 use Rattle.std.proofs.lemmas.List.{drop_more, drop_all}
 use Rattle.std.proofs.lemmas.Bool.{and_from, not_from_false, cond-true, lt-ltb}
-use Rattle.gc_graph.specs.Script.{is_digit, is_number, value_after}
+use Rattle.gc_graph.specs.Words.{is_digit, is_number, value_after}
 
 -- digits only make the value greater
 pub value_after-ge : (n : ℕ) (bs : List ℕ) → n ≤ value_after n bs

@@ -1,6 +1,6 @@
 -- Why a script was not read.
 use Rattle.std.specs.Prelude.{◌≡◌, ℕ, ◌+◌, ◌⊎◌, List}
-use Rattle.gc_graph.specs.Script.{IsFaultyAt}
+use Rattle.heap_script.specs.Built.{IsFaultyAt}
 use Rattle.heap_script.specs.declared.script.ScriptFault.{ScriptFault}
 
 -- memory was wanting, or the line is the first that is of no built form

@@ -1,3 +1,4 @@
+pub mod Built
 pub mod Cuts
 pub mod Causes
 pub mod Devices

@@ -3,7 +3,8 @@ use Rattle.std.specs.Prelude.{ℕ, ◌&&◌, not, Bool, true, false, List, [], �
 use Rattle.std.specs.List.{list_all, list_any}
 use Rattle.gc_graph.specs.declared.command.Command.{Command}
 use Rattle.gc_graph.specs.declared.command.Command.TheVariants as C
-use Rattle.gc_graph.specs.Script.{is_header, is_blank, is_type_line, command_of, commands_of, opens_sweep, is_sweep_open}
+use Rattle.gc_graph.specs.Words.{is_blank}
+use Rattle.heap_script.specs.Built.{is_header, is_type_line, command_of, commands_of, opens_sweep, is_sweep_open}
 use Rattle.heap_script.specs.declared.lines.Past.{Past}
 use Rattle.heap_script.specs.declared.lines.LineKind.{LineKind}
 use Rattle.heap_script.specs.declared.lines.LineKind.TheVariants as K
@@ -21,12 +22,7 @@ past_of (header ∷ before) = record {
 -- a new object wants the type line, and no open sweep
 abbrev pub may_stand : Past → Command → Bool
 may_stand past (C.New p t e) = past.typed && not past.sweeping
-may_stand past (C.Set p f q) = true
-may_stand past (C.SetNull p f) = true
-may_stand past (C.Get p f q) = true
-may_stand past (C.Drop p) = true
-may_stand past (C.GcNow want) = true
-may_stand past C.SweepAll = true
+may_stand past command = true
 
 abbrev pub order_of : Past → Option Command → Option LineKind
 order_of past None = None

@@ -1,6 +1,6 @@
 -- The words of a line, one after the other.
 use Rattle.std.specs.Prelude.{◌≡◌, ℕ, ◌<◌, List, [], ◌∷◌, length}
-use Rattle.gc_graph.specs.Script.{words_of}
+use Rattle.gc_graph.specs.Words.{words_of}
 
 -- the first word of a line, empty where there is none, and what follows it
 pub record IsFirstWord (line word rest : List ℕ) : Type 0 where

@@ -1,7 +1,7 @@
 // The commands of a script.
 
 ghost use Rattle.std.specs.Prelude.{◌≡◌};
-ghost use Rattle.gc_graph.specs.Script as spec;
+ghost use Rattle.heap_script.specs.Built as spec;
 
 use super::numbers::number_below;
 use super::words::{is_text, next_word};

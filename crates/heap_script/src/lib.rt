@@ -20,15 +20,18 @@
 mod commands;
 mod cuts;
 mod devices;
+mod line_text;
 mod lines;
 mod list_devices;
 mod numbers;
 mod printing;
 mod reading;
+mod region_text;
 mod script;
 mod steady_devices;
 #[cfg(test)]
 mod tests;
+mod text;
 mod words;
 
 pub use devices::{Failed, Sink, Source};

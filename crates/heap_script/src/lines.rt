@@ -1,7 +1,7 @@
 // The lines of a script, and of which kind each is.
 
 ghost use Rattle.std.specs.Prelude.{◌≡◌, ◌<◌, [], ◌∷◌, length};
-ghost use Rattle.gc_graph.specs.Script.{lines_of};
+ghost use Rattle.gc_graph.specs.Words.{lines_of};
 ghost use Rattle.heap_script.specs.Past as spec;
 
 use super::commands::command_of;

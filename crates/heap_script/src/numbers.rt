@@ -2,7 +2,7 @@
 
 ghost use Rattle.std.specs.Prelude.{◌≡◌, ◌==◌, ◌&&◌, ◌<◌, length, nat_lt, slice_index};
 ghost use Rattle.std.specs.Prelude.{Some, None, if◌then◌else◌};
-ghost use Rattle.gc_graph.specs.Script.{is_number, value_after, number_below as below};
+ghost use Rattle.gc_graph.specs.Words.{is_number, value_after, number_below as below};
 
 /// The number that a word is, where it is one below the limit.
 pub fn number_below(limit: u32, word: &[u8]) -> Option<u32>

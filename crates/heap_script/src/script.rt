@@ -1,8 +1,10 @@
 // A script, and how it is read.
 
-ghost use Rattle.std.specs.Prelude.{◌≡◌, ◌≤◌, ◌++◌, length, IfOk, IfErr, IsTrue, All};
+ghost use Rattle.std.specs.Prelude.{◌≡◌, ℕ, ◌≤◌, ◌++◌, length, IfOk, IfErr, IsTrue, All};
 ghost use Rattle.gc_graph.specs.Lawful.{IsAllowed};
-ghost use Rattle.gc_graph.specs.Script.{lines_of, IsScript};
+ghost use Rattle.gc_graph.specs.Script.{IsScript};
+ghost use Rattle.gc_graph.specs.Words.{lines_of};
+ghost use Rattle.heap_script.specs.Built.{IsBuiltScript, script_of};
 ghost use Rattle.heap_script.specs.Past as spec;
 ghost use Rattle.heap_script.specs.Faults.{IsFaultOf};
 
@@ -24,9 +26,9 @@ pub struct Script {
 }
 
 impl Model for Script {
-    ghost use Rattle.gc_graph.specs.Script as grammar;
+    ghost use Rattle.heap_script.specs.Built as grammar;
 
-    ghost Value = { grammar.Script };
+    ghost Value = { grammar.BuiltScript };
 
     ghost view = { λ s. record { types = s.types.items; commands = s.commands.items } };
 }
@@ -66,7 +68,9 @@ impl ScriptFault {
 /// counts as one. When memory is wanting is free.
 pub fn read_script(alloc: Global, bytes: &[u8]) -> Result<Script, ScriptFault>
     requires { length (lines_of bytes.now) ≤ 1000000 }
-    ensures script { IfOk result (IsScript bytes.now) }
+    ensures script { IfOk result (IsBuiltScript bytes.now) }
+    ensures whole { IfOk result (λ s. (callbacks : ℕ) →
+        IsScript callbacks bytes.now (script_of s)) }
     ensures fault { IfErr result (λ f. IsFaultOf bytes.now f) }
     ensures allowed { IfOk result (λ s. All (IsAllowed (length s.types)) s.commands) }
     ensures few { IfOk result (λ s. length s.commands ≤ 1000000) }

@@ -1,7 +1,9 @@
-// Each public call once. The expected values are by hand, from the grammar and the report's forms.
+// Each public call once. The expected values are by hand, from the grammar.
+
+mod printing;
 
 use super::*;
-use gc_graph::{Command, Line, Refusal, Want};
+use gc_graph::{Command, Want};
 use std::alloc::Global;
 use std::test::Fail;
 
@@ -66,48 +68,6 @@ fn first_faulty_line_is_named(rt: HostRuntime) {
         first_fault(alloc, b"oilpan 1\ndrop 0\r\nsweep all\n"),
         (2, 9)
     );
-}
-
-const REPORT: &[u8] =
-    b"type 0\nnode 1 at 4294967295\nfull\nmemory\nrefused phase\nrefused null\nrefused field\nok\n\
-node 7\nnull\npause kept 1 dead 2 crew 0 traced 3 walked 1\nfinalise 12\nswept to 90\n\
-end objects 4 used 5 pages 6\n";
-
-#[test]
-fn report_lines_are_printed(rt: HostRuntime) -> Result<(), Fail> {
-    let alloc = rt.alloc();
-    let mut sink = ListSink::new(alloc, 5, Vec::new(alloc));
-    sink.reserve(1000)?;
-    let lines = [
-        Line::TypeLine { t: 0 },
-        Line::Placed {
-            k: 1,
-            a: 4_294_967_295,
-        },
-        Line::Full,
-        Line::Memory,
-        Line::Refused(Refusal::Phase),
-        Line::Refused(Refusal::Null),
-        Line::Refused(Refusal::Field),
-        Line::Fine,
-        Line::Node { k: 7 },
-        Line::Null,
-        Line::Pause {
-            kept: 1,
-            dead: 2,
-            crew: 0,
-            traced: 3,
-            walked: true,
-        },
-        Line::Finalise { k: 12 },
-        Line::Swept { c: 90 },
-        Line::End { n: 4, u: 5, g: 6 },
-    ];
-    for line in lines.iter() {
-        print_line(line, &mut sink)?;
-    }
-    assert_eq!(rt; sink.bytes(), REPORT);
-    Ok(())
 }
 
 #[test]

@@ -1,7 +1,8 @@
 // The words of a line.
 
 ghost use Rattle.std.specs.Prelude.{◌≡◌, ◌<◌, length};
-ghost use Rattle.gc_graph.specs.Script as spec;
+ghost use Rattle.gc_graph.specs.Words as spec;
+ghost use Rattle.heap_script.specs.Built.{is_pair_of};
 ghost use Rattle.heap_script.specs.Words.{IsFirstWord};
 
 use super::cuts::cut;
@@ -39,7 +40,7 @@ pub(crate) fn is_blank(line: &[u8]) -> bool
 /// Whether the words of a line are these two.
 #[tactic(auto, using(crate::proofs::Cutting::pairs))]
 pub(crate) fn is_pair(line: &[u8], first: &[u8], second: &[u8]) -> bool
-    ensures { result ≡ spec.is_pair_of first.now second.now (spec.words_of line.now) }
+    ensures { result ≡ is_pair_of first.now second.now (spec.words_of line.now) }
 {
     let (one, rest) = next_word(line);
     let (two, rest) = next_word(rest);

@@ -1,13 +1,14 @@
 -- Marking, claiming and unmarking keep words and view together.
-use Rattle.std.proofs.Common.{◌≡◌, ℕ, List, [], ◌∷◌, ◌++◌, get_or, set, true, false, not, eqb, bit_and, bit_or, refl, sym, ap, ◌∙◌, subst, inl, inr, arith, Contains}
+use Rattle.std.proofs.Common.{◌≡◌, ℕ, Bool, List, [], ◌∷◌, ◌++◌, get_or, set, true, false, not, eqb, refl, sym, ap, ◌∙◌, subst, inl, inr, arith, Contains}
 use Rattle.std.proofs.lemmas.Bool.{cases_eq, and_parts, cond-true, cond-false, both_ways}
 use Rattle.std.proofs.lemmas.List.{get_or_read}
 use Rattle.page_words.specs.Bodies.{Body, IsPlace}
-use Rattle.page_words.specs.Seat.{SeatView, IsView, holds, without, header_word, header_of, marked_at, claimed_at, unmarked_at, is_grey}
+use Rattle.object_headers.specs.Layout.{header_word}
+use Rattle.page_words.specs.Seat.{SeatView, IsView, holds, without, header_of, marked_at, claimed_at, unmarked_at, is_grey}
 use Rattle.page_words.specs.Ties.{Ties}
 use Rattle.page_words.proofs.Members.{added, added_is_held, others_held_after_addition, pushed_is_held, others_held_after_push, removed_is_not_held, others_held_after_removal, holds_none}
-use Rattle.page_words.proofs.Places.{whole_body, place_within}
-use Rattle.page_words.proofs.Headers.{set_mark, has_mark, set_traced, is_grey_header, clear_marks}
+use Rattle.page_words.proofs.Places.{place_within}
+use Rattle.page_words.proofs.Headers.{is_marked_header, is_grey_header}
 use Rattle.page_words.proofs.Remarked.{remarked, ties_remarked}
 
 -- what a read of a header tells
@@ -18,6 +19,10 @@ header_read words v a h t at read b hb same =
     get_or_read words a h (omega (arith, t.length_is)) read 0 ∙ ap (λ x. get_or words x 0) (sym same) ∙ t.headers_match b hb
 
 -- ---- mark
+
+-- w is the header h with its mark set
+abbrev pub MarksHeader : ℕ → ℕ → Type 0
+MarksHeader h w = (live mark traced : Bool) (ty size : ℕ) → h ≡ header_word live mark traced ty size → w ≡ header_word live true traced ty size
 
 marked_view : (v : SeatView) (a : ℕ) → IsView v → IsPlace v.bodies a → v.on ≡ true → IsView (marked_at v a)
 marked_view v a is at on = record {
@@ -37,26 +42,27 @@ marked_view v a is at on = record {
   dead_only_while_off = is.dead_only_while_off;
 }
 
-pub marks : (words : List ℕ) (v : SeatView) (a h : ℕ) → Ties words v → IsPlace v.bodies a → v.on ≡ true → h ≡ get_or words a h
-    → Ties (set words a (bit_or h 2)) (marked_at v a)
-marks words v a h t at on read = ties_remarked words v (added v.marked a) v.traced a (bit_or h 2) t (record {
+pub marks : (words : List ℕ) (v : SeatView) (a h w : ℕ) → Ties words v → IsPlace v.bodies a → v.on ≡ true → h ≡ get_or words a h → MarksHeader h w
+    → Ties (set words a w) (marked_at v a)
+marks words v a h w t at on read marks_h = ties_remarked words v (added v.marked a) v.traced a w t (record {
   place = at;
   view = marked_view v a t.bodies_lie_apart at on;
   header = λ b hb same.
-      ap (λ n. bit_or n 2) (header_read words v a h t at read b hb same)
-      ∙ set_mark (holds v.marked b.place) (holds v.traced b.place) b.ty b.size
+      marks_h true (holds v.marked b.place) (holds v.traced b.place) b.ty b.size (header_read words v a h t at read b hb same)
       ∙ ap (λ m. header_word true m (holds v.traced b.place) b.ty b.size)
       (sym (ap (λ p. holds (added v.marked a) p) same ∙ added_is_held v.marked a));
   other_marks = λ x other. others_held_after_addition v.marked a x other;
   other_traced = λ x other. refl;
 })
 
-pub mark_is_fresh : (words : List ℕ) (v : SeatView) (a h : ℕ) → Ties words v → IsPlace v.bodies a → h ≡ get_or words a h
-    → eqb (bit_and h 2) 0 ≡ not (holds v.marked a)
-mark_is_fresh words v a h t at read =
+pub mark_is_fresh : (words : List ℕ) (v : SeatView) (a h w : ℕ) → Ties words v → IsPlace v.bodies a → h ≡ get_or words a h → MarksHeader h w
+    → not (eqb h w) ≡ not (holds v.marked a)
+mark_is_fresh words v a h w t at read marks_h =
     let b : Body = at.0 in
-    ap (λ n. eqb (bit_and n 2) 0) (header_read words v a h t at read b at.1 at.2)
-    ∙ has_mark (holds v.marked b.place) (holds v.traced b.place) b.ty b.size ∙ ap (λ p. not (holds v.marked p)) at.2
+    let is : h ≡ header_of v b = header_read words v a h t at read b at.1 at.2 in
+    ap not
+    (ap (λ n. eqb n w) is ∙ ap (eqb (header_of v b)) (marks_h true (holds v.marked b.place) (holds v.traced b.place) b.ty b.size is)
+    ∙ is_marked_header (holds v.marked b.place) (holds v.traced b.place) b.ty b.size ∙ ap (holds v.marked) at.2)
 
 -- ---- claim
 
@@ -83,18 +89,22 @@ claimed_view v a is grey = record {
   dead_only_while_off = is.dead_only_while_off;
 }
 
-pub claims_grey : (words : List ℕ) (v : SeatView) (a header : ℕ) → Ties words v → IsPlace v.bodies a
+-- w is the header h with its traced bit set
+abbrev pub ClaimsHeader : ℕ → ℕ → Type 0
+ClaimsHeader h w = (live mark traced : Bool) (ty size : ℕ) → h ≡ header_word live mark traced ty size → w ≡ header_word live mark true ty size
+
+pub claims_grey : (words : List ℕ) (v : SeatView) (a header w : ℕ) → Ties words v → IsPlace v.bodies a
     → ((b : Body) → Contains v.bodies b → b.place ≡ a → header ≡ header_word true true false b.ty b.size) → is_grey v a ≡ true
-    → Ties (set words a (bit_or header 4)) (claimed_at v a)
-claims_grey words v a header t at form grey =
+    → ClaimsHeader header w → Ties (set words a w) (claimed_at v a)
+claims_grey words v a header w t at form grey claims_h =
     let traced = v.traced ++ a ∷ [] in
     let marked : holds v.marked a ≡ true = (and_parts (holds v.marked a) (not (holds v.traced a)) grey).0 in
-    subst (λ all. Ties (set words a (bit_or header 4)) (remarked v v.marked all)) (sym (cond-true (is_grey v a) traced v.traced grey))
-    (ties_remarked words v v.marked traced a (bit_or header 4) t (record {
+    subst (λ all. Ties (set words a w) (remarked v v.marked all)) (sym (cond-true (is_grey v a) traced v.traced grey))
+    (ties_remarked words v v.marked traced a w t (record {
       place = at;
       view = claimed_view v a t.bodies_lie_apart grey;
       header = λ b hb same.
-          ap (λ n. bit_or n 4) (form b hb same) ∙ set_traced b.ty b.size
+          claims_h true true false b.ty b.size (form b hb same)
           ∙ ap (λ m. header_word true m true b.ty b.size) (sym (ap (holds v.marked) same ∙ marked))
           ∙ ap (λ m. header_word true (holds v.marked b.place) m b.ty b.size) (sym (ap (holds traced) same ∙ pushed_is_held v.traced a));
       other_marks = λ x other. refl;
@@ -133,15 +143,18 @@ unmarked_view v a is =
       dead_only_while_off = is.dead_only_while_off;
     }
 
-pub unmarks : (words : List ℕ) (v : SeatView) (a h : ℕ) → Ties words v → IsPlace v.bodies a → h ≡ get_or words a h
-    → Ties (set words a (bit_and h 18446744073709551609)) (unmarked_at v a)
-unmarks words v a h t at read =
-    ties_remarked words v (without v.marked a) (without v.traced a) a (bit_and h 18446744073709551609) t (record {
+-- w is the header h with neither mark nor traced bit
+abbrev pub ClearsHeader : ℕ → ℕ → Type 0
+ClearsHeader h w = (live mark traced : Bool) (ty size : ℕ) → h ≡ header_word live mark traced ty size → w ≡ header_word live false false ty size
+
+pub unmarks : (words : List ℕ) (v : SeatView) (a h w : ℕ) → Ties words v → IsPlace v.bodies a → h ≡ get_or words a h → ClearsHeader h w
+    → Ties (set words a w) (unmarked_at v a)
+unmarks words v a h w t at read clears_h =
+    ties_remarked words v (without v.marked a) (without v.traced a) a w t (record {
       place = at;
       view = unmarked_view v a t.bodies_lie_apart;
-      header = λ b hb same. let whole = whole_body v t.bodies_lie_apart b hb in
-          ap (λ n. bit_and n 18446744073709551609) (header_read words v a h t at read b hb same)
-          ∙ clear_marks (holds v.marked b.place) (holds v.traced b.place) b.ty b.size whole.ty whole.size
+      header = λ b hb same.
+          clears_h true (holds v.marked b.place) (holds v.traced b.place) b.ty b.size (header_read words v a h t at read b hb same)
           ∙ ap (λ m. header_word true m false b.ty b.size) (sym (ap (holds (without v.marked a)) same ∙ removed_is_not_held v.marked a))
           ∙ ap (λ m. header_word true (holds (without v.marked a) b.place) m b.ty b.size)
           (sym (ap (holds (without v.traced a)) same ∙ removed_is_not_held v.traced a));

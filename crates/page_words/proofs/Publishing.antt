@@ -6,7 +6,8 @@ use Rattle.std.proofs.lemmas.Bool.{cases_eq}
 use Rattle.std.proofs.lemmas.List.{length-set, get_or-set_same, get_or_read}
 use Rattle.std.proofs.lemmas.List.Elements.{Contains-push}
 use Rattle.page_words.specs.Bodies.{Body, IsPlace}
-use Rattle.page_words.specs.Seat.{SeatView, IsView, IsReady, holds, header_word, header_of, bitmap_at, stop_at, published}
+use Rattle.object_headers.specs.Layout.{header_word}
+use Rattle.page_words.specs.Seat.{SeatView, IsView, IsReady, holds, header_of, bitmap_at, stop_at, published}
 use Rattle.page_words.specs.Ties.{Ties}
 use Rattle.page_words.proofs.Places.{bitmap_below_stop, later_word_kept, heap_matches}
 use Rattle.page_words.proofs.Bits.{with_bit, bit_is_set, others_kept_by_set, other_start_kept}

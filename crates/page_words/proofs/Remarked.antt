@@ -4,7 +4,8 @@ use mathlib.Core.Logic.{◌↔◌}
 use Rattle.std.proofs.lemmas.Bool.{cases_eq}
 use Rattle.std.proofs.lemmas.List.{length-set, get_or-set_same, get_or-set_other}
 use Rattle.page_words.specs.Bodies.{Body, IsPlace}
-use Rattle.page_words.specs.Seat.{SeatView, IsView, holds, header_word, header_of, bitmap_at, stop_at}
+use Rattle.object_headers.specs.Layout.{header_word}
+use Rattle.page_words.specs.Seat.{SeatView, IsView, holds, header_of, bitmap_at, stop_at}
 use Rattle.page_words.specs.Ties.{Ties}
 use Rattle.page_words.proofs.Places.{whole_body, two_words, same_offset, place_within, later_word_kept}
 

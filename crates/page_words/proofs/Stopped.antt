@@ -4,7 +4,8 @@ use mathlib.Core.Logic.{◌↔◌}
 use Rattle.std.proofs.lemmas.Bool.{false≢true, not-true}
 use Rattle.std.proofs.lemmas.List.{length-set, get_or-set_same}
 use Rattle.page_words.specs.Bodies.{Body, IsPlace}
-use Rattle.page_words.specs.Seat.{SeatView, IsView, MaySetStop, holds, bit_of, bitmap_at, stop_at, begun, ended, stop_set, unmarked_places}
+use Rattle.object_headers.specs.Layout.{bit_of}
+use Rattle.page_words.specs.Seat.{SeatView, IsView, MaySetStop, holds, bitmap_at, stop_at, begun, ended, stop_set, unmarked_places}
 use Rattle.page_words.specs.Ties.{Ties}
 use Rattle.page_words.proofs.Members.{in_from_holds, was_in, has_passed, comes_from}
 use Rattle.page_words.proofs.Places.{bitmap_below_stop, earlier_word_kept, heap_matches}

@@ -1,6 +1,7 @@
 -- What the mutator's seat knows of the words, and how each call changes that.
-use Rattle.std.specs.Prelude.{◌≡◌, ℕ, ◌+◌, ◌*◌, ◌/◌, ◌%◌, ◌^◌, ◌<◌, ◌≤◌, ◌↔◌, ◌==◌, ◌&&◌, not, nat_le, nat_lt, Bool, true, false, List, [], ◌∷◌, ◌++◌, length, map, filter, if◌then◌else◌, slice_index, Contains, All}
+use Rattle.std.specs.Prelude.{◌≡◌, ℕ, ◌+◌, ◌/◌, ◌%◌, ◌^◌, ◌<◌, ◌≤◌, ◌↔◌, ◌==◌, ◌&&◌, not, nat_le, nat_lt, Bool, true, false, List, [], ◌∷◌, ◌++◌, length, map, filter, if◌then◌else◌, slice_index, Contains, All}
 use Rattle.std.specs.List.{list_any}
+use Rattle.object_headers.specs.Layout.{header_word}
 use Rattle.page_words.specs.Bodies.{Body, end_of, IsPlace, IsInBody, with_word, IsWhole}
 
 -- a word that was filled outside the bodies
@@ -33,13 +34,7 @@ bitmap_at count a = count + a / 64
 abbrev pub stop_at : ℕ → ℕ
 stop_at count = count + count / 64
 
-abbrev pub bit_of : Bool → ℕ
-bit_of b = if b then 1 else 0
-
--- bit 0 live, bit 1 mark, bit 2 traced, bits 3 to 16 the type, bits 17 to 42 the size
-abbrev pub header_word : Bool → Bool → Bool → ℕ → ℕ → ℕ
-header_word live mark traced ty size = bit_of live + 2 * bit_of mark + 4 * bit_of traced + 8 * ty + 131072 * size
-
+-- the header word of a published body
 abbrev pub header_of : SeatView → Body → ℕ
 header_of v b = header_word true (holds v.marked b.place) (holds v.traced b.place) b.ty b.size
 

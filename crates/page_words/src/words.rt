@@ -3,7 +3,8 @@
 ghost use Rattle.std.specs.Prelude.{◌≡◌, ◌≤◌, ◌<◌, ◌&&◌};
 ghost use Rattle.std.specs.Prelude.{not, true, false, Contains, IfOk};
 ghost use Rattle.page_words.specs.Bodies.{Body, IsPlace, IsInBody, IsFieldWord, IsReference};
-ghost use Rattle.page_words.specs.Seat.{empty_view, holds, stop_at, header_word, IsWordAt};
+ghost use Rattle.object_headers.specs.Layout.{header_word};
+ghost use Rattle.page_words.specs.Seat.{empty_view, holds, stop_at, IsWordAt};
 ghost use Rattle.page_words.specs.Seat.{IsReady, MaySetStop, filled_with, stored, published};
 ghost use Rattle.page_words.specs.Seat.{retracted, marked_at, claimed_at, unmarked_at, is_grey};
 ghost use Rattle.page_words.specs.Seat.{stop_set};
@@ -12,12 +13,9 @@ ghost use Rattle.page_words.specs.Ties.{IsCount};
 use crate::mutator::MutatorSeat;
 use crate::views;
 use gc_graph::NoMemory;
+use object_headers::{with_mark, with_traced};
 use std::alloc::Global;
 use std::marker::Model;
-
-const TRACED: u64 = 4;
-
-const MARKED_AND_TRACED: u64 = 6;
 
 /// The words that markers and mutator share. So far the mutator's seat holds them, and this tells
 /// how many there are.
@@ -128,9 +126,10 @@ impl Words {
         ensures view { seat.new ≡ marked_at seat.old a }
     {
         let header = seat.words[a as usize];
-        seat.words[a as usize] = header | 2;
+        let marked = with_mark(header, true);
+        seat.words[a as usize] = marked;
         seat.view = views::marked(&seat.view, a);
-        header & 2 == 0
+        header != marked
     }
 
     /// Claims a marked object for tracing. `header` is its header word with the mark and without
@@ -148,7 +147,7 @@ impl Words {
     {
         let found = seat.words[a as usize] == header;
         if found {
-            seat.words[a as usize] = header | TRACED;
+            seat.words[a as usize] = with_traced(header, true);
         }
         seat.view = views::claimed(&seat.view, a);
         found
@@ -162,7 +161,7 @@ impl Words {
         ensures { seat.new ≡ unmarked_at seat.old a }
     {
         let header = seat.words[a as usize];
-        seat.words[a as usize] = header & !MARKED_AND_TRACED;
+        seat.words[a as usize] = with_traced(with_mark(header, false), false);
         seat.view = views::unmarked(&seat.view, a);
     }
 

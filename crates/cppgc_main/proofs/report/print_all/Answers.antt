@@ -1,24 +1,29 @@
 use Rattle.std.proofs.Common.{rules}
-use Rattle.cppgc_main.proofs.Printing.{printed_more, printed_part, timely_run}
+use Rattle.cppgc_main.proofs.Printing.{printed_more, printed_part}
+use Rattle.cppgc_main.proofs.Phases.{idle_more, built_next}
 use Rattle.cppgc_main.proofs.report.print_all.Goals as goal
 
-pub print_outcome-requires-clause-timely : goal.print_outcome-requires-clause-timely
-print_outcome-requires-clause-timely g c =
-    timely_run c.args.heap.now.setup c.args.commands.now c.loop-command.command-index _ _ _ c.loop-command.heap.state c.loop-command-test.true
-    c.requires.timely c.loop-command.invariant.printed
+pub print_outcome-requires-clause-built : goal.print_outcome-requires-clause-built
+print_outcome-requires-clause-built g c =
+    built_next c.args.commands.now c.loop-command.command-index _ c.loop-command.heap.state c.loop-command-test.true c.requires.built c.requires.timely
+    c.loop-command.invariant.idle
 
 pub returns-in-Err-clause-part : goal.returns-in-Err-clause-part
 returns-in-Err-clause-part g c =
-    printed_part c.args.heap.now.setup c.loop-command.heap.state _ c.args.commands.now c.loop-command.command-index _ _ _ _ _ c.loop-command-test.true
-    c.loop-command.invariant.printed (rw c.loop-command.invariant.setup at c.print_outcome.ensures.step) c.in-Err.ensures.bytes
+    printed_part c.args.heap.now.setup c.loop-command.heap.state c.print_outcome.new.heap c.args.commands.now c.loop-command.command-index _ _ _ _ c.loop-command-test.true
+    c.loop-command.invariant.printed (rw c.loop-command.invariant.setup at c.print_outcome.ensures.step) c.print_outcome.ensures.alone c.in-Err.ensures.bytes
 
 pub loop-command-preserved : goal.loop-command-preserved
 loop-command-preserved g c = record {
   setup = search rules;
   ordinal = search rules;
+  calm = c.print_outcome.ensures.calm;
+  idle =
+      idle_more c.loop-command.heap.setup c.loop-command.heap.state c.print_outcome.new.heap.state c.args.commands.now c.loop-command.command-index _ _ _ c.loop-command-test.true
+      c.requires.built c.loop-command.invariant.calm c.loop-command.invariant.idle c.print_outcome.ensures.step;
   opened = search rules;
   later = search rules;
   printed =
-      printed_more c.args.heap.now.setup c.loop-command.heap.state _ c.args.commands.now c.loop-command.command-index _ _ _ _ _ c.loop-command-test.true
-      c.loop-command.invariant.printed (rw c.loop-command.invariant.setup at c.print_outcome.ensures.step) c.in-Ok.ensures.bytes;
+      printed_more c.args.heap.now.setup c.loop-command.heap.state c.print_outcome.new.heap c.args.commands.now c.loop-command.command-index _ _ _ _ c.loop-command-test.true
+      c.loop-command.invariant.printed (rw c.loop-command.invariant.setup at c.print_outcome.ensures.step) c.print_outcome.ensures.alone c.in-Ok.ensures.bytes;
 }

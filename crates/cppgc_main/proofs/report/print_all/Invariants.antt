@@ -1,4 +1,7 @@
 use Rattle.std.proofs.Common.{◌≡◌, ◌≤◌, false, take}
+use Rattle.gc_graph.specs.CycleSteps.{is_marking}
+use Rattle.heap_script.specs.Built.{is_sweep_open}
+use Rattle.cppgc_main.proofs.Phases.{IsIdleUnless}
 use Rattle.cppgc_main.specs.Printed.{IsPrintedRun}
 use Rattle.cppgc_main.proofs.report.print_all.Given as goal
 
@@ -6,6 +9,8 @@ abbrev pub invariant-loop-command : goal.invariant-loop-command
 invariant-loop-command g l = record {
   setup : l.heap.setup ≡ l.initial.heap.setup;
   ordinal : l.heap.state.ordinal ≡ l.command-index;
+  calm : is_marking l.heap.state.phase ≡ false;
+  idle : IsIdleUnless (is_sweep_open (take l.command-index l.commands)) l.heap.state;
   opened : l.heap.closed ≡ false;
   later : g.K.Sink.faults l.initial.sink ≤ g.K.Sink.faults l.sink;
   printed : IsPrintedRun l.initial.heap.setup (take l.command-index l.commands)

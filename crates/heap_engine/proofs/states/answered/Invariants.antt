@@ -1,4 +1,4 @@
-use Rattle.gc_graph.specs.Step.{answered}
+use Rattle.gc_graph.specs.Outcomes.{answered}
 use Rattle.heap_engine.proofs.states.answered.Given as goal
 
 abbrev pub ghost-chosen : goal.ghost-chosen

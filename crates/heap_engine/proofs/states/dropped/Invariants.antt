@@ -1,5 +1,5 @@
 use Rattle.std.proofs.Common.{None}
-use Rattle.gc_graph.specs.Step.{answered, with_slot}
+use Rattle.gc_graph.specs.Outcomes.{answered, with_slot}
 use Rattle.heap_engine.proofs.states.dropped.Given as goal
 
 abbrev pub ghost-chosen : goal.ghost-chosen

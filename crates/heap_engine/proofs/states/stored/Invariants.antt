@@ -1,4 +1,5 @@
-use Rattle.gc_graph.specs.Step.{content_of, slot_at}
+use Rattle.gc_graph.specs.Fields.{content_of}
+use Rattle.gc_graph.specs.Outcomes.{slot_at}
 use Rattle.heap_engine.specs.Changes.{stored_state}
 use Rattle.heap_engine.proofs.states.stored.Given as goal
 

@@ -1,5 +1,5 @@
 use Rattle.std.proofs.Common.{◌≡◌, ◌+◌, ◌≤◌, length}
-use Rattle.gc_graph.specs.Script.{lines_of}
+use Rattle.gc_graph.specs.Words.{lines_of}
 use Rattle.heap_script.proofs.lines.line_count.Given as goal
 
 abbrev pub invariant-loop-rest : goal.invariant-loop-rest

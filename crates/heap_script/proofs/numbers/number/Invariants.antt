@@ -1,6 +1,6 @@
 use Rattle.std.proofs.Common.{◌≡◌, ◌<◌, ◌^◌, drop}
 use Rattle.std.specs.List.{list_all}
-use Rattle.gc_graph.specs.Script.{is_digit, value_after}
+use Rattle.gc_graph.specs.Words.{is_digit, value_after}
 use Rattle.heap_script.proofs.numbers.number.Given as goal
 
 abbrev pub invariant-loop-byte : goal.invariant-loop-byte

@@ -1,8 +1,9 @@
 use Rattle.std.proofs.Common.{◌≡◌, ◌++◌, ◌∙◌, sym, inr, arith, rules}
-use Rattle.gc_graph.specs.Script.{lines_of}
+use Rattle.gc_graph.specs.Words.{lines_of}
 use Rattle.heap_script.specs.Past.{types_in, commands_in}
 use Rattle.heap_script.proofs.Cutting.{no_lines}
 use Rattle.heap_script.proofs.Progress.{faulty_line, rest_is, one_line_kept, all_read}
+use Rattle.heap_script.proofs.WholeGrammar.{built_is_whole}
 use Rattle.heap_script.proofs.script.read_script.Goals as goal
 
 pub returns-in-None-clause-fault : goal.returns-in-None-clause-fault
@@ -23,3 +24,8 @@ loop-rest-preserved c =
 pub returns-clause-script : goal.returns-clause-script
 returns-clause-script c =
     all_read _ _ _ _ _ c.loop-rest.invariant.read (c.loop-rest.invariant.left ∙ no_lines c.loop-rest.rest.now (search rules)) (omega arith)
+
+pub returns-clause-whole : goal.returns-clause-whole
+returns-clause-whole c callbacks =
+    built_is_whole callbacks _ _
+    (all_read _ _ _ _ _ c.loop-rest.invariant.read (c.loop-rest.invariant.left ∙ no_lines c.loop-rest.rest.now (search rules)) (omega arith))

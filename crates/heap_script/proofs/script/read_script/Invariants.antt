@@ -1,5 +1,5 @@
 use Rattle.std.proofs.Common.{◌≡◌, length, drop}
-use Rattle.gc_graph.specs.Script.{lines_of}
+use Rattle.gc_graph.specs.Words.{lines_of}
 use Rattle.heap_script.proofs.Progress.{IsReadTo}
 use Rattle.heap_script.proofs.script.read_script.Given as goal
 

@@ -1,5 +1,5 @@
 use Rattle.std.proofs.Common.{◌≡◌, length}
-use Rattle.gc_graph.specs.Script.{words_of}
+use Rattle.gc_graph.specs.Words.{words_of}
 use Rattle.heap_script.proofs.words.next_word.Given as goal
 
 abbrev pub invariant-loop-rest : goal.invariant-loop-rest

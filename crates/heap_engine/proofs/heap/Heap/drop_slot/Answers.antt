@@ -1,6 +1,6 @@
 use Rattle.std.proofs.Common.{◌≡◌, None, refl, sym, ap, ◌∙◌, subst, arith, set}
 use Rattle.gc_graph.specs.State.{State, Setup}
-use Rattle.gc_graph.specs.Step.{answered, with_slot}
+use Rattle.gc_graph.specs.Outcomes.{answered, with_slot}
 use Rattle.heap_engine.specs.Sound.{setup_of}
 use Rattle.heap_engine.specs.Inner.{Outcome, Holds, IsTallied, HoldsSlotsOf}
 use Rattle.heap_engine.proofs.HeapSlots.{holds_slot, slots_set, tallied_on}

@@ -1,13 +1,13 @@
 use Rattle.std.proofs.Common.{◌≡◌, ℕ, ◌-◌, ◌<◌, List, Some, length, refl, sym, ap, ◌∙◌, subst, arith}
 use Rattle.gc_graph.specs.declared.line.Line.TheVariants as L
 use Rattle.gc_graph.specs.State.{State, Setup}
-use Rattle.gc_graph.specs.Step.{answered}
-use Rattle.gc_graph.specs.Sweep.{swept}
+use Rattle.gc_graph.specs.Outcomes.{answered}
 use Rattle.page_words.specs.Seat.{SeatView}
+use Rattle.heap_engine.specs.Changes.{ended_state}
 use Rattle.heap_engine.specs.Sound.{setup_of}
 use Rattle.heap_engine.specs.Inner.{Outcome, Holds, IsTallied, HoldsSlotsOf, lines_of}
 use Rattle.heap_engine.proofs.NodePlaces.{places_differ}
-use Rattle.heap_engine.proofs.NodeSweeps.{dead_in_order}
+use Rattle.heap_engine.proofs.EndSteps.{ends_sweep}
 use Rattle.heap_engine.proofs.HeapSteps.{holds_swept, slots_swept, serials_fit}
 use Rattle.heap_engine.proofs.HeapSlots.{holds_answered, slots_counted, tallied_on}
 use Rattle.heap_engine.proofs.HeapTallies.{tallied_swept}
@@ -30,8 +30,8 @@ invariant_of-self c =
     let setup : Setup = setup_of c.self.inside in
     let numbers : List ℕ = c.end_sweep-words.new.outcome.numbers in
     let few : s.ordinal < 1000000 = rw (← c.self.view_is) at c.requires.few in
-    let t : State = swept s numbers in
-    let to : answered t ≡ c.answered.result.value = sym (c.answered.ensures ∙ ap answered c.swept.ensures) in
+    let t : State = ended_state setup.shape s numbers in
+    let to : answered t ≡ c.answered.result.value = sym (c.answered.ensures ∙ ap answered c.ended.ensures) in
     let count : c.self.inside.objects - length numbers ≡ c.self.inside.objects - c.finalised.result = ap (λ n. c.self.inside.objects - n) (sym c.finalised.ensures) in
     record {
       types = c.self.invariant.types;
@@ -41,10 +41,10 @@ invariant_of-self c =
       tallied = subst (λ (x : State). IsTallied x new (c.self.inside.objects - c.finalised.result) (c.self.inside.used - c.end_sweep-words.result) c.self.inside.made) to
           (subst (λ n. IsTallied (answered t) new n (c.self.inside.used - c.end_sweep-words.result) c.self.inside.made) count
           (tallied_on t (answered t) new (c.self.inside.objects - length numbers) (c.self.inside.used - c.end_sweep-words.result) c.self.inside.made
-          (tallied_swept s v new numbers c.self.inside.objects c.self.inside.used c.self.inside.made c.end_sweep-words.result c.self.invariant.tallied
+          (tallied_swept setup.shape s v new numbers c.self.inside.objects c.self.inside.used c.self.inside.made c.end_sweep-words.result c.self.invariant.tallied
           c.end_sweep-words.ensures.objects c.end_sweep-words.ensures.words) few refl refl));
       slots = subst (λ (x : State). HoldsSlotsOf x c.self.inside.slots.items) to
-          (slots_counted t (answered t) c.self.inside.slots.items (slots_swept s numbers c.self.inside.slots.items c.self.invariant.slots) refl refl);
+          (slots_counted t (answered t) c.self.inside.slots.items (slots_swept setup.shape s numbers c.self.inside.slots.items c.self.invariant.slots) refl refl);
       grey = c.self.invariant.grey;
       room = omega (arith, c.self.invariant.room, ap (λ (o : Outcome). o.room) c.end.ensures, c.end_sweep-words.ensures.kept, ap (λ (o : Outcome). o.room) c.begin.ensures);
     }
@@ -53,9 +53,11 @@ pub returns-clause-step : goal.returns-clause-step
 returns-clause-step c =
     let s : State = c.self.inside.state.value in
     let numbers : List ℕ = c.end_sweep-words.new.outcome.numbers in
+    let setup : Setup = setup_of c.self.inside in
     rw (← c.self.view_is) (record {
       numbers = numbers;
-      finalised = dead_in_order s c.self.inside.seat numbers c.self.invariant.holds.held c.end_sweep-words.ensures.numbers;
+      swept = ended_state setup.shape s numbers;
+      goes = ends_sweep setup s c.self.inside.seat numbers c.bodies_lie_apart.ensures c.self.invariant.holds c.end_sweep-words.ensures.numbers;
       lines_are = ap lines_of c.end.ensures ∙ ap (λ n. lines_of (record c.end_sweep-words.new.outcome { last = Some (L.Swept n) })) c.pages-pages.ensures;
-      after = c.answered.ensures ∙ ap answered c.swept.ensures;
+      after = c.answered.ensures ∙ ap answered c.ended.ensures;
     })

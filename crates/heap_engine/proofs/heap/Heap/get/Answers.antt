@@ -1,9 +1,12 @@
-use Rattle.std.proofs.Common.{◌≡◌, ◌<◌, sym, ap, ◌∙◌, subst, arith}
+use Rattle.std.proofs.Common.{◌≡◌, ◌<◌, [], Some, sym, ap, ◌∙◌, subst, arith}
 use Rattle.gc_graph.specs.State.{State}
+use Rattle.gc_graph.specs.declared.line.Line.{Line}
+use Rattle.gc_graph.specs.ObjectSteps.{StepGet}
 use Rattle.heap_engine.specs.Sound.{setup_of}
 use Rattle.heap_engine.specs.View.{View}
-use Rattle.heap_engine.specs.Inner.{Outcome}
+use Rattle.heap_engine.specs.Inner.{Outcome, lines_of}
 use Rattle.heap_engine.proofs.FieldReads.{slot_read}
+use Rattle.heap_engine.proofs.FieldAnswers.{step_get}
 use Rattle.heap_engine.proofs.heap.Heap.get.Goals as goal
 
 pub invariant_of-self : goal.invariant_of-self
@@ -23,3 +26,14 @@ invariant_of-self c =
       grey = c.self.invariant.grey;
       room = omega (arith, c.self.invariant.room, ap (λ (o : Outcome). o.room) c.end.ensures, ap (λ (o : Outcome). o.room) c.begin.ensures);
     }
+
+pub returns-in-Ok-clause-step : goal.returns-in-Ok-clause-step
+returns-in-Ok-clause-step c =
+    let s : State = c.self.inside.state.value in
+    let old : s ≡ c.args.self.now.state = ap (λ (h : View). h.state) (c.self.view_is ∙ c.in-Ok.ensures.same) in
+    let line : Line = c.line_of.result in
+    let outcome : c.end.new.self ≡ record { numbers = []; last = Some line; room = c.self.inside.outcome.room } =
+    c.end.ensures ∙ ap (λ (o : Outcome). record o { last = Some line }) c.begin.ensures in
+    subst (λ (y : State). StepGet y c.args.p c.args.f c.args.q (lines_of c.end.new.self) c.read.result.value) old
+    (step_get (setup_of c.self.inside) s c.args.self.now.state c.read.result.value c.args.p c.args.f c.args.q c.in-Ok.target line (lines_of c.end.new.self)
+    c.self.invariant.holds.valid old c.in-Ok.ensures.target c.line_of.ensures (ap lines_of outcome) c.read.ensures)

@@ -1,5 +1,6 @@
-use Rattle.std.proofs.Common.{◌≡◌, sym, ap, ◌∙◌, subst, arith}
+use Rattle.std.proofs.Common.{◌≡◌, [], map, sym, ap, ◌∙◌, subst, arith}
 use Rattle.gc_graph.specs.State.{State, Setup, Shape, empty_state}
+use Rattle.gc_graph.specs.Fields.{strong_type}
 use Rattle.page_words.specs.Seat.{SeatView, empty_view}
 use Rattle.heap_engine.specs.Space.{word_count}
 use Rattle.heap_engine.specs.Inner.{Holds, IsTallied, HoldsSlotsOf, AreTypes}
@@ -9,7 +10,7 @@ use Rattle.heap_engine.proofs.heap.Heap.new.Goals as goal
 pub invariant_of-result : goal.invariant_of-result
 invariant_of-result c =
     let shape : Shape = c.in_ok-space.space in
-    let setup : Setup = record { shape = shape; types = c.in_ok-types.types.items } in
+    let setup : Setup = record { shape = shape; markers = 0; types = map strong_type c.in_ok-types.types.items; callbacks = [] } in
     let seat : c.in_ok-space.seat ≡ empty_view (word_count shape) = c.in_ok-space.ensures.view ∙ ap (λ (s : Shape). empty_view (word_count s)) (sym c.in_ok-space.ensures.shape) in
     let state : empty_state ≡ c.empty.result.value = sym c.empty.ensures in
     record {

@@ -2,7 +2,8 @@ use Rattle.std.proofs.Common.{rules, ◌≡◌, ℕ, ◌+◌, ◌<◌, ◌^◌, 
 use Rattle.std.proofs.lemmas.List.{get_or_default}
 use Rattle.gc_graph.specs.declared.line.Line.TheVariants as L
 use Rattle.gc_graph.specs.declared.phase.Phase.TheVariants.{Idle}
-use Rattle.gc_graph.specs.State.{State, Setup}
+use Rattle.gc_graph.specs.State.{State, Setup, type_at}
+use Rattle.gc_graph.specs.Fields.{strong_type}
 use Rattle.page_words.specs.Seat.{SeatView}
 use Rattle.heap_engine.specs.Space.{Occupies, HasRoom, new_body}
 use Rattle.heap_engine.specs.Changes.{made_state, full_state}
@@ -10,13 +11,13 @@ use Rattle.heap_engine.specs.Sound.{setup_of}
 use Rattle.heap_engine.specs.Inner.{Outcome, Holds, IsTallied, HoldsSlotsOf, lines_of}
 use Rattle.heap_engine.proofs.Shapes.{shape_words}
 use Rattle.heap_engine.proofs.HeapSlots.{holds_counted, slots_counted, tallied_on}
-use Rattle.heap_engine.proofs.HeapMade.{holds_made, slots_made, tallied_made, objects_few, used_few, type_fields}
+use Rattle.heap_engine.proofs.HeapMade.{holds_made, slots_made, tallied_made, objects_few, used_few, type_fields, type_is, type_known, few_fields}
 use Rattle.heap_engine.proofs.NewSteps.{step_made, step_full}
 use Rattle.heap_engine.proofs.heap.Heap.new_object.Goals as goal
 
 pub find_place-requires-clause-small : goal.find_place-requires-clause-small
 find_place-requires-clause-small c =
-    let known : c.args.t < length c.self.inside.types.items = rw (← c.self.view_is) at c.requires.ty in
+    let known : c.args.t < length c.self.inside.types.items = type_known c.self.inside.types.items c.args.t (rw (← c.self.view_is) at c.requires.ty) in
     let fields : c.index-fields.result.now ≡ get_or c.self.inside.types.items c.args.t 0 =
     c.index-fields.ensures ∙ get_or_default c.self.inside.types.items c.args.t c.index-fields.result.now 0 known in
     omega (arith, fields, type_fields c.self.inside.types.items c.args.t c.self.invariant.types, shape_words c.self.inside.space c.shape_is_valid.ensures)
@@ -29,7 +30,7 @@ overflow_add-self-in-Some c =
 
 pub overflow_add-self-in-Some-3 : goal.overflow_add-self-in-Some-3
 overflow_add-self-in-Some-3 c =
-    let known : c.args.t < length c.self.inside.types.items = rw (← c.self.view_is) at c.requires.ty in
+    let known : c.args.t < length c.self.inside.types.items = type_known c.self.inside.types.items c.args.t (rw (← c.self.view_is) at c.requires.ty) in
     let fields : c.index-fields.result.now ≡ get_or c.self.inside.types.items c.args.t 0 =
     c.index-fields.ensures ∙ get_or_default c.self.inside.types.items c.args.t c.index-fields.result.now 0 known in
     let few : c.self.inside.used + (2 + c.index-fields.result.now) < 2 ^ 32 =
@@ -37,8 +38,8 @@ overflow_add-self-in-Some-3 c =
       arith,
       fields,
       type_fields c.self.inside.types.items c.args.t c.self.invariant.types,
-      used_few (setup_of c.self.inside) c.self.inside.state.value c.self.inside.seat c.self.inside.objects c.self.inside.used c.self.inside.made c.self.invariant.types
-          c.self.invariant.holds.valid c.self.invariant.holds.held c.self.invariant.tallied,
+      used_few (setup_of c.self.inside) c.self.inside.state.value c.self.inside.seat c.self.inside.objects c.self.inside.used c.self.inside.made
+          (few_fields c.self.inside.types.items c.self.invariant.types) c.self.invariant.holds.valid c.self.invariant.holds.held c.self.invariant.tallied,
     ) in
     search rules
 
@@ -48,8 +49,9 @@ invariant_of-self c =
     let v : SeatView = c.self.inside.seat in
     let setup : Setup = setup_of c.self.inside in
     let n : ℕ = c.index-fields.result.now in
-    let known : c.args.t < length c.self.inside.types.items = rw (← c.self.view_is) at c.requires.ty in
+    let known : c.args.t < length c.self.inside.types.items = type_known c.self.inside.types.items c.args.t (rw (← c.self.view_is) at c.requires.ty) in
     let fields : n ≡ get_or c.self.inside.types.items c.args.t 0 = c.index-fields.ensures ∙ get_or_default c.self.inside.types.items c.args.t n 0 known in
+    let is : type_at setup c.args.t ≡ strong_type n = type_is c.self.inside.types.items c.args.t ∙ ap strong_type (sym fields) in
     let few : s.ordinal < 1000000 = rw (← c.self.view_is) at c.requires.few in
     let idle : s.phase ≡ Idle = rw (← c.self.view_is) at c.requires.swept in
     let room : HasRoom setup.shape v.bodies (2 + n) c.in-Some.place = c.in-Some.ensures.room in
@@ -61,7 +63,7 @@ invariant_of-self c =
       types = c.self.invariant.types;
       phase = c.self.invariant.phase ∙ ap (λ (x : State). x.phase) to;
       holds = subst (λ (x : State). Holds setup x c.occupy.new.seat) to
-          (holds_made setup s v c.occupy.new.seat c.args.p c.args.t n c.in-Some.place c.self.invariant.holds idle known fields room occupies);
+          (holds_made setup s v c.occupy.new.seat c.args.p c.args.t n c.in-Some.place c.self.invariant.holds idle (rw (← c.self.view_is) at c.requires.ty) is room occupies);
       tallied = subst (λ (x : State). IsTallied x c.occupy.new.seat (c.self.inside.objects + 1) (c.self.inside.used + (2 + n)) (c.self.inside.made + 1)) to
           (tallied_made s v c.occupy.new.seat c.args.p c.args.t n c.in-Some.place c.self.inside.objects c.self.inside.used c.self.inside.made c.self.invariant.tallied few occupies);
       slots = subst (λ (x : State). HoldsSlotsOf x (set c.self.inside.slots.items c.args.p (Some c.in-Some.place))) to
@@ -81,7 +83,7 @@ invariant_of-self-in-None c =
       types = c.self.invariant.types;
       phase = c.self.invariant.phase ∙ ap (λ (x : State). x.phase) to;
       holds = subst (λ (x : State). Holds setup x c.find_place.new.seat) to
-          (subst (λ (w : SeatView). Holds setup (full_state s) w) same (holds_counted setup s (full_state s) c.self.inside.seat c.self.invariant.holds refl refl refl));
+          (subst (λ (w : SeatView). Holds setup (full_state s) w) same (holds_counted setup s (full_state s) c.self.inside.seat c.self.invariant.holds refl refl refl c.self.invariant.holds.valid.unused));
       tallied = subst (λ (x : State). IsTallied x c.find_place.new.seat c.self.inside.objects c.self.inside.used c.self.inside.made) to
           (subst (λ (w : SeatView). IsTallied (full_state s) w c.self.inside.objects c.self.inside.used c.self.inside.made) same
           (tallied_on s (full_state s) c.self.inside.seat c.self.inside.objects c.self.inside.used c.self.inside.made c.self.invariant.tallied few refl refl));
@@ -95,22 +97,28 @@ pub returns-in-Some-clause-step : goal.returns-in-Some-clause-step
 returns-in-Some-clause-step c =
     let s : State = c.self.inside.state.value in
     let n : ℕ = c.index-fields.result.now in
-    let known : c.args.t < length c.self.inside.types.items = rw (← c.self.view_is) at c.requires.ty in
+    let known : c.args.t < length c.self.inside.types.items = type_known c.self.inside.types.items c.args.t (rw (← c.self.view_is) at c.requires.ty) in
     let fields : n ≡ get_or c.self.inside.types.items c.args.t 0 = c.index-fields.ensures ∙ get_or_default c.self.inside.types.items c.args.t n 0 known in
+    let setup : Setup = setup_of c.self.inside in
+    let is : type_at setup c.args.t ≡ strong_type n = type_is c.self.inside.types.items c.args.t ∙ ap strong_type (sym fields) in
+    let idle : s.phase ≡ Idle = rw (← c.self.view_is) at c.requires.swept in
     let outcome : c.end.new.self ≡ record { numbers = []; last = Some (L.Placed c.self.inside.made c.in-Some.place); room = c.self.inside.outcome.room } =
     c.end.ensures ∙ ap (λ (o : Outcome). record o { last = Some (L.Placed c.self.inside.made c.in-Some.place) }) c.begin.ensures in
     rw (← c.self.view_is)
-    (step_made (setup_of c.self.inside) s c.made.result.value c.self.inside.seat (lines_of c.end.new.self) c.args.p c.args.t n c.in-Some.place c.self.invariant.holds.held fields
+    (step_made setup s c.made.result.value c.self.inside.seat (lines_of c.end.new.self) c.args.p c.args.t n c.in-Some.place idle c.self.invariant.holds.held is
     c.in-Some.ensures.place (ap lines_of outcome ∙ ap (λ k. L.Placed k c.in-Some.place ∷ []) c.self.invariant.tallied.numbers_are) c.made.ensures)
 
 pub returns-in-None-clause-step : goal.returns-in-None-clause-step
 returns-in-None-clause-step c =
     let s : State = c.self.inside.state.value in
     let n : ℕ = c.index-fields.result.now in
-    let known : c.args.t < length c.self.inside.types.items = rw (← c.self.view_is) at c.requires.ty in
+    let known : c.args.t < length c.self.inside.types.items = type_known c.self.inside.types.items c.args.t (rw (← c.self.view_is) at c.requires.ty) in
     let fields : n ≡ get_or c.self.inside.types.items c.args.t 0 = c.index-fields.ensures ∙ get_or_default c.self.inside.types.items c.args.t n 0 known in
+    let setup : Setup = setup_of c.self.inside in
+    let is : type_at setup c.args.t ≡ strong_type n = type_is c.self.inside.types.items c.args.t ∙ ap strong_type (sym fields) in
+    let idle : s.phase ≡ Idle = rw (← c.self.view_is) at c.requires.swept in
     let outcome : c.end-in-None.new.self ≡ record { numbers = []; last = Some L.Full; room = c.self.inside.outcome.room } =
     c.end-in-None.ensures ∙ ap (λ (o : Outcome). record o { last = Some L.Full }) c.begin.ensures in
     rw (← c.self.view_is)
-    (step_full (setup_of c.self.inside) s c.full.result.value c.self.inside.seat (lines_of c.end-in-None.new.self) c.args.p c.args.t n c.self.invariant.holds.held fields
+    (step_full setup s c.full.result.value c.self.inside.seat (lines_of c.end-in-None.new.self) c.args.p c.args.t n idle c.self.invariant.holds.held is
     c.in-None.ensures.place (ap lines_of outcome) c.full.ensures)

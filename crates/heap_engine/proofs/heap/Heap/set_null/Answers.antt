@@ -1,11 +1,14 @@
-use Rattle.std.proofs.Common.{◌≡◌, ◌<◌, refl, sym, ap, ◌∙◌, subst, arith}
+use Rattle.std.proofs.Common.{◌≡◌, ◌<◌, [], Some, refl, sym, ap, ◌∙◌, subst, arith}
 use Rattle.gc_graph.specs.State.{State}
 use Rattle.gc_graph.specs.declared.graph.Value.TheVariants.{Null}
+use Rattle.gc_graph.specs.declared.line.Line.TheVariants as L
+use Rattle.gc_graph.specs.ObjectSteps.{StepSet}
 use Rattle.heap_engine.specs.Sound.{setup_of}
 use Rattle.heap_engine.specs.View.{View}
-use Rattle.heap_engine.specs.Inner.{Outcome}
+use Rattle.heap_engine.specs.Inner.{Outcome, lines_of}
 use Rattle.heap_engine.proofs.FieldPlaces.{Found, found_field}
 use Rattle.heap_engine.proofs.FieldSteps.{field_is_word, field_stored}
+use Rattle.heap_engine.proofs.FieldAnswers.{step_set}
 use Rattle.heap_engine.proofs.heap.Heap.set_null.Goals as goal
 
 pub store_field-requires-clause-field : goal.store_field-requires-clause-field
@@ -36,3 +39,15 @@ invariant_of-self c =
       grey = c.self.invariant.grey;
       room = omega (arith, c.self.invariant.room, ap (λ (o : Outcome). o.room) c.end.ensures, ap (λ (o : Outcome). o.room) c.begin.ensures);
     }
+
+pub returns-in-Ok-clause-step : goal.returns-in-Ok-clause-step
+returns-in-Ok-clause-step c =
+    let s : State = c.self.inside.state.value in
+    let old : s ≡ c.args.self.now.state = ap (λ (h : View). h.state) (c.self.view_is ∙ c.in-Ok.ensures.same) in
+    let found : Found s c.args.p c.args.f c.in-Ok.a =
+    found_field (setup_of c.self.inside) s c.args.self.now.state c.args.p c.args.f c.in-Ok.a c.self.invariant.holds.valid old c.in-Ok.ensures.field in
+    let outcome : c.end.new.self ≡ record { numbers = []; last = Some L.Fine; room = c.self.inside.outcome.room } =
+    c.end.ensures ∙ ap (λ (o : Outcome). record o { last = Some L.Fine }) c.begin.ensures in
+    subst (λ (y : State). StepSet y c.args.p c.args.f Null (lines_of c.end.new.self) c.nulled.result.value) old
+    (step_set (setup_of c.self.inside) s c.nulled.result.value c.args.p c.args.f c.in-Ok.a Null (lines_of c.end.new.self)
+    c.self.invariant.holds.valid found (ap lines_of outcome) c.nulled.ensures)

@@ -1,6 +1,7 @@
 use Rattle.std.proofs.Common.{◌≡◌, ℕ, ◌+◌, ◌-◌, ◌^◌, ◌<◌, ◌≤◌, true, false, ap, ◌∙◌, sym, subst, arith, rules}
 use Rattle.page_words.specs.Bodies.{IsInBody}
-use Rattle.page_words.specs.Seat.{IsReady, filled_with, header_word}
+use Rattle.object_headers.specs.Layout.{header_word}
+use Rattle.page_words.specs.Seat.{IsReady, filled_with}
 use Rattle.heap_engine.specs.Space.{HasNulls, HasRoom, IsSeatOf, new_body, word_count}
 use Rattle.heap_engine.proofs.OccupyFilled.{head_filled, ready_to_publish, room_is_free}
 use Rattle.heap_engine.proofs.space.Space.head_and_publish.Goals as goal
@@ -30,8 +31,8 @@ publish-requires g c =
     let body : g.body ≡ new_body c.args.a c.args.ty c.args.size c.args.serial = search rules in
     let header : ℕ = header_word true false false c.args.ty c.args.size in
     let head : c.fill-2.new.seat ≡ filled_with (filled_with c.args.seat.now c.args.a header) (c.args.a + 1) c.args.serial =
-    head_filled c.args.seat.now c.fill.new.seat c.fill-2.new.seat c.args.a header c.args.serial c.live_header.result c.from.result
-    c.live_header.ensures c.from.ensures c.fill.ensures c.fill-2.ensures in
+    head_filled c.args.seat.now c.fill.new.seat c.fill-2.new.seat c.args.a header c.args.serial c.pack.result c.from.result
+    c.pack.ensures c.from.ensures c.fill.ensures c.fill-2.ensures in
     let ready : IsReady c.fill-2.new.seat (new_body c.args.a c.args.ty c.args.size c.args.serial) =
     subst (λ v. IsReady v (new_body c.args.a c.args.ty c.args.size c.args.serial)) (sym head)
     (ready_to_publish c.args.self.now c.args.seat.now c.args.a c.args.ty c.args.size c.args.serial seat room small least most nulls) in (

@@ -2,7 +2,8 @@ use Rattle.std.proofs.Common.{rules, ◌≡◌, sym, subst, ◌∙◌, eqb, true
 use Rattle.std.proofs.lemmas.Bool.{eq-eqb, ne_eqb}
 use Rattle.page_words.specs.declared.mutator.MutatorSeat.TheInside.{Inside}
 use Rattle.page_words.specs.Bodies.{Body, IsPlace}
-use Rattle.page_words.specs.Seat.{SeatView, is_grey, claimed_at, header_word}
+use Rattle.object_headers.specs.Layout.{header_word}
+use Rattle.page_words.specs.Seat.{SeatView, is_grey, claimed_at}
 use Rattle.page_words.specs.Ties.{Ties}
 use Rattle.page_words.proofs.Marks.{claims_grey, passes_over_others, found_is_grey}
 use Rattle.page_words.proofs.words.Words.claim.Goals as goal
@@ -23,8 +24,8 @@ invariant_of-seat c =
     subst (Ties c.if-found.seat-inside.words.items) (sym c.claimed.ensures)
     (elim c.if-found.branch [
       | then-found w ↦ subst (λ (s : Inside). Ties s.words.items (claimed_at s.view.value a)) (sym w.seat-inside-is)
-          (claims_grey words v a c.args.header c.seat.invariant place form
-          (sym grey ∙ eq-eqb c.index.result.now c.args.header w.if-found.true))
+          (claims_grey words v a c.args.header w.with_traced.result c.seat.invariant place form
+          (sym grey ∙ eq-eqb c.index.result.now c.args.header w.if-found.true) w.with_traced.ensures.header)
       | else-found w ↦ subst (λ (s : Inside). Ties s.words.items (claimed_at s.view.value a)) (sym w.seat-inside-is)
           (passes_over_others words v a c.seat.invariant (sym grey ∙ ne_eqb c.index.result.now c.args.header w.if-found.false))
     ])

@@ -1,0 +1,284 @@
+-- Each step's piece of the history is legal, and the region's slots follow it.
+use Rattle.std.proofs.Common.{◌≡◌, ℕ, ◌+◌, nat_lt, length, Bool, true, false, List, [], refl, sym, ap, ◌∙◌, subst, inl, inr}
+use Rattle.gc_graph.specs.declared.command.Command.{Command}
+use Rattle.gc_graph.specs.declared.command.Command.TheVariants as C
+use Rattle.gc_graph.specs.declared.command.Want.{Want}
+use Rattle.gc_graph.specs.declared.graph.Kind.{Kind}
+use Rattle.gc_graph.specs.declared.graph.Value.{Value}
+use Rattle.gc_graph.specs.declared.graph.Value.TheVariants.{Null, Ref, Word}
+use Rattle.gc_graph.specs.declared.line.Line.{Line}
+use Rattle.gc_graph.specs.declared.line.Refusal.{Refusal}
+use Rattle.gc_graph.specs.declared.line.Refusal.TheVariants as R
+use Rattle.gc_graph.specs.declared.region.Entry.{Entry}
+use Rattle.gc_graph.specs.declared.region.Op.{Op}
+use Rattle.gc_graph.specs.declared.region.Op.TheVariants as O
+use Rattle.std.specs.Bool.{MatchBool}
+use Rattle.std.specs.List.{slice_get}
+use Rattle.gc_graph.specs.State.{Setup, State, StackWord, Node, node_at, size_of}
+use Rattle.gc_graph.specs.Fields.{kind_of_field, value_at, with_value, content_of, is_reference, is_weak, is_pair, is_plain}
+use Rattle.gc_graph.specs.State.StackWord.{Pointer, Number}
+use Rattle.gc_graph.specs.May.{read_node}
+use Rattle.gc_graph.specs.Sweep.{SweepsTo}
+use Rattle.gc_graph.specs.History.{IsLegalFrom, replayed, started_after}
+use Rattle.gc_graph.specs.Outcomes.{answered, IsRefused, IsMemory, took, slot_at, weak_slot_at}
+use Rattle.gc_graph.specs.ObjectSteps.{AtField, first_word, part_of, with_node, IsChanged, StepNew, StepWord, IsNumber, IsRead}
+use Rattle.gc_graph.specs.HandleSteps.{IsDone, pushed, IsPushed, IsPeeked}
+use Rattle.gc_graph.specs.CycleSteps.{is_marking, is_sweeping, is_stack_refused, IsStart, IsBegun, StepGcStart, IsPause, StepGcFinish, IsCollection, StepGcNow, StepSweepTo}
+use Rattle.gc_graph.specs.RegionSteps.{TakesOwn, StepExport, StepImport, StepThreadsJoin}
+use Rattle.gc_graph.specs.Step.{Step}
+use Rattle.gc_graph.proofs.StepCases.{match_option, match_bool, at_field}
+use Rattle.gc_graph.proofs.HistoryLaws.{Follows, quiet, follows-append, started_through, owned, took-region, took-phase, others_start_nothing, sweep_follows}
+
+-- the new state is one with the same slots and phase
+from_state : (old new x : State) (piece : List Entry) → piece ≡ [] → new ≡ x → x.region ≡ old.region → x.phase ≡ old.phase → Follows old piece new
+from_state old new x piece p e r f =
+    quiet old new piece p (ap (λ (s : State). s.region) e ∙ r) (ap (λ (s : State). is_marking s.phase) e ∙ ap is_marking f)
+
+refused_follows : (old new : State) (piece : List Entry) (lines : List Line) (why : Refusal) → piece ≡ [] → IsRefused why old lines new → Follows old piece new
+refused_follows old new piece lines why p h = from_state old new (answered old) piece p h.1 refl refl
+
+memory_follows : (old new : State) (piece : List Entry) (lines : List Line) → piece ≡ [] → IsMemory old lines new → Follows old piece new
+memory_follows old new piece lines p h = from_state old new (answered old) piece p h.1 refl refl
+
+read_region : (weak : Bool) (s : State) (n : ℕ) → (read_node weak s n).region ≡ s.region
+read_region true s n = refl
+read_region false s n = refl
+
+read_phase : (weak : Bool) (s : State) (n : ℕ) → (read_node weak s n).phase ≡ s.phase
+read_phase true s n = refl
+read_phase false s n = refl
+
+read_follows : (weak : Bool) (old new : State) (piece : List Entry) (value : Value) (q : ℕ) (lines : List Line) → piece ≡ [] → IsRead weak old value q lines new
+    → Follows old piece new
+read_follows weak old new piece Null q lines p h = from_state old new _ piece p h.1 refl refl
+read_follows weak old new piece (Ref n) q lines p h = from_state old new _ piece p h.1 (read_region weak old n) (read_phase weak old n)
+read_follows weak old new piece (Word w) q lines p h = absurd h
+
+changed_follows : (old new : State) (piece : List Entry) (n : ℕ) (node : Node) (lines : List Line) → piece ≡ [] → IsChanged old n node lines new → Follows old piece new
+changed_follows old new piece n node lines p h = from_state old new (answered (with_node old n node)) piece p h.1 refl refl
+
+number_follows : (old new : State) (piece : List Entry) (value : Value) (lines : List Line) → piece ≡ [] → IsNumber old value lines new → Follows old piece new
+number_follows old new piece Null lines p h = absurd h
+number_follows old new piece (Ref n) lines p h = absurd h
+number_follows old new piece (Word w) lines p h = from_state old new _ piece p h.1 refl refl
+
+-- a write to a field, and a read of one
+write_follows : (allowed : Kind → Bool) (old new : State) (p f : ℕ) (piece : List Entry) (lines : List Line) (node : ℕ → Node) → piece ≡ []
+    → AtField allowed old p f lines new (λ n. IsChanged old n (node n) lines new) → Follows old piece new
+write_follows allowed old new p f piece lines node none h =
+    at_field allowed old new p f lines (λ n. IsChanged old n (node n) lines new) (Follows old piece new)
+    (λ n d. changed_follows old new piece n (node n) lines none d) (λ why r. refused_follows old new piece lines why none r) h
+
+fetch_follows : (allowed : Kind → Bool) (old new : State) (p f q : ℕ) (piece : List Entry) (lines : List Line) (weak : ℕ → Bool) (value : ℕ → Value) → piece ≡ []
+    → AtField allowed old p f lines new (λ n. IsRead (weak n) old (value n) q lines new) → Follows old piece new
+fetch_follows allowed old new p f q piece lines weak value none h =
+    at_field allowed old new p f lines (λ n. IsRead (weak n) old (value n) q lines new) (Follows old piece new)
+    (λ n d. read_follows (weak n) old new piece (value n) q lines none d) (λ why r. refused_follows old new piece lines why none r) h
+
+word_follows : (old new : State) (p f : ℕ) (piece : List Entry) (lines : List Line) → piece ≡ [] → StepWord old p f lines new → Follows old piece new
+word_follows old new p f piece lines none h =
+    at_field is_plain old new p f lines (λ n. IsNumber old (value_at (node_at old.nodes n) (first_word old n f)) lines new) (Follows old piece new)
+    (λ n d. number_follows old new piece (value_at (node_at old.nodes n) (first_word old n f)) lines none d)
+    (λ why r. refused_follows old new piece lines why none r) h
+
+pushed_follows : (old new : State) (piece : List Entry) (word : StackWord) (lines : List Line) → piece ≡ [] → IsPushed old word lines new → Follows old piece new
+pushed_follows old new piece word lines p h =
+    match_bool (nat_lt (length old.stack) 1024) (IsDone (pushed old word) lines new) (IsRefused R.Stack old lines new) (Follows old piece new)
+    (λ d. from_state old new _ piece p d.1 refl refl) (refused_follows old new piece lines R.Stack p) h
+
+peeked_follows : (old new : State) (piece : List Entry) (word : StackWord) (q : ℕ) (lines : List Line) → piece ≡ [] → IsPeeked old word q lines new → Follows old piece new
+peeked_follows old new piece (Pointer n o) q lines p h = from_state old new _ piece p h.1 refl refl
+peeked_follows old new piece (Number w) q lines p h = refused_follows old new piece lines _ p h
+
+sweeps : (setup : Setup) (old mid : State) (pages : ℕ) (numbers : List ℕ) → SweepsTo setup.shape old pages numbers mid
+    → (mid.region ≡ old.region) × (is_marking mid.phase ≡ is_marking old.phase)
+sweeps setup old mid pages numbers h =
+    let both = sweep_follows old.phase setup.shape old pages numbers mid h in
+    (both.0, both.1 refl)
+
+after_sweep : (setup : Setup) (old mid new x : State) (pages : ℕ) (numbers : List ℕ) (piece : List Entry) → piece ≡ []
+    → SweepsTo setup.shape old pages numbers mid → new ≡ x → x.region ≡ mid.region → x.phase ≡ mid.phase → Follows old piece new
+after_sweep setup old mid new x pages numbers piece p h e r f =
+    let s = sweeps setup old mid pages numbers h in
+    quiet old new piece p (ap (λ (s : State). s.region) e ∙ r ∙ s.0) (ap (λ (s : State). is_marking s.phase) e ∙ ap is_marking f ∙ s.1)
+
+new_follows : (setup : Setup) (old new : State) (p t e : ℕ) (piece : List Entry) (lines : List Line) → piece ≡ [] → StepNew setup old p t e lines new
+    → Follows old piece new
+new_follows setup old new p t e piece lines none h =
+    elim h [
+      | inl memory ↦ memory_follows old new piece lines none memory.1
+      | inr made ↦
+          match_option made.place _ _ _
+          (λ full. after_sweep setup old made.mid new _ made.placed.pages made.numbers piece none made.placed.swept full.after refl refl)
+          (λ a done. after_sweep setup old made.mid new _ made.placed.pages made.numbers piece none made.placed.swept done.after refl refl)
+          made.done
+    ]
+
+-- ---- the cycle
+
+start_follows : (setup : Setup) (old swept new : State) (numbers : List ℕ) (piece : List Entry) → is_marking old.phase ≡ false
+    → SweepsTo setup.shape old setup.shape.pages numbers swept → IsStart setup swept piece new → Follows old piece new
+start_follows setup old swept new numbers piece off ended start =
+    let s = sweeps setup old swept setup.shape.pages numbers ended in record {
+      legal = subst (λ r. IsLegalFrom r (is_marking old.phase) piece) s.0 (subst (λ b. IsLegalFrom swept.region b piece) (sym off) start.legal);
+      slots = ap (λ (s : State). s.region) start.after ∙ took-region swept piece ∙ ap (λ r. replayed r piece) s.0;
+      started =
+          ap (λ (s : State). is_marking s.phase) start.after
+          ∙ sym (ap (started_through (is_marking old.phase)) start.piece_is ∙ owned swept (is_marking old.phase) start.before _ start.others);
+    }
+
+pause_follows : (setup : Setup) (markers : ℕ) (want : Want) (old new : State) (piece : List Entry) (lines : List Line) → is_marking old.phase ≡ true
+    → IsPause setup markers want old piece lines new → Follows old piece new
+pause_follows setup markers want old new piece lines on pause = record {
+  legal = subst (λ b. IsLegalFrom old.region b piece) (sym on) pause.legal;
+  slots = ap (λ (s : State). s.region) pause.after ∙ took-region old piece;
+  started =
+      ap (λ (s : State). is_marking s.phase) pause.after
+      ∙ sym (ap (started_through (is_marking old.phase)) pause.piece_is ∙ owned old (is_marking old.phase) pause.before _ pause.others);
+}
+
+answered_follows : (old mid new : State) (piece : List Entry) → new ≡ answered mid → Follows old piece mid → Follows old piece new
+answered_follows old mid new piece e f = record {
+  legal = f.legal;
+  slots = ap (λ (s : State). s.region) e ∙ f.slots;
+  started = ap (λ (s : State). is_marking s.phase) e ∙ f.started;
+}
+
+begun_follows : (setup : Setup) (old new : State) (piece : List Entry) (lines : List Line) → is_marking old.phase ≡ false → IsBegun setup old piece lines new
+    → Follows old piece new
+begun_follows setup old new piece lines off b =
+    answered_follows old b.started new piece b.after (start_follows setup old b.swept b.started b.numbers piece off b.ended b.start)
+
+collection_follows : (setup : Setup) (want : Want) (old new : State) (piece : List Entry) (lines : List Line) → is_marking old.phase ≡ false
+    → IsCollection setup want old piece lines new → Follows old piece new
+collection_follows setup want old new piece lines off c =
+    let first : Follows old c.first c.started = start_follows setup old c.swept c.started c.numbers c.first off c.ended c.start in
+    let on : is_marking c.started.phase ≡ true = ap (λ (s : State). is_marking s.phase) c.start.after in
+    let second : Follows c.started c.second c.paused = pause_follows setup 0 want c.started c.paused c.second c.pause_lines on c.pause in
+    answered_follows old c.paused new piece c.after
+    (subst (λ es. Follows old es c.paused) (sym c.piece_is) (follows-append old c.started c.paused c.first c.second first second))
+
+-- a test and what follows from either answer
+by_test : (b : Bool) (A B Q : Type 0) → ((b ≡ true) → A → Q) → ((b ≡ false) → B → Q) → MatchBool b A B → Q
+by_test true A B Q holds fails m = holds refl m
+by_test false A B Q holds fails m = fails refl m
+
+gc_start_follows : (setup : Setup) (old new : State) (piece : List Entry) (lines : List Line) → StepGcStart setup old piece lines new → Follows old piece new
+gc_start_follows setup old new piece lines h =
+    by_test (is_marking old.phase) _ _ _ (λ on r. refused_follows old new piece lines R.Phase r.0 r.1)
+    (λ off rest. elim rest [
+      | inl memory ↦ memory_follows old new piece lines memory.0 memory.1
+      | inr begun ↦ begun_follows setup old new piece lines off begun
+    ]) h
+
+gc_finish_follows : (setup : Setup) (want : Want) (old new : State) (piece : List Entry) (lines : List Line) → StepGcFinish setup want old piece lines new
+    → Follows old piece new
+gc_finish_follows setup want old new piece lines h =
+    by_test (is_marking old.phase) _ _ _
+    (λ on rest. match_bool (is_stack_refused want old.stack) _ _ _ (λ r. refused_follows old new piece lines R.Stack r.0 r.1)
+    (λ f. answered_follows old f.0 new piece f.2 (pause_follows setup setup.markers want old f.0 piece lines on f.1)) rest)
+    (λ off r. refused_follows old new piece lines R.Phase r.0 r.1) h
+
+gc_now_follows : (setup : Setup) (want : Want) (old new : State) (piece : List Entry) (lines : List Line) → StepGcNow setup want old piece lines new
+    → Follows old piece new
+gc_now_follows setup want old new piece lines h =
+    by_test (is_marking old.phase) _ _ _ (λ on r. refused_follows old new piece lines R.Phase r.0 r.1)
+    (λ off rest. match_bool (is_stack_refused want old.stack) _ _ _ (λ r. refused_follows old new piece lines R.Stack r.0 r.1)
+    (λ more. elim more [
+      | inl memory ↦ memory_follows old new piece lines memory.0 memory.1
+      | inr c ↦ collection_follows setup want old new piece lines off c
+    ]) rest) h
+
+sweep_to_follows : (setup : Setup) (old new : State) (pages : ℕ) (piece : List Entry) (lines : List Line) → piece ≡ [] → StepSweepTo setup old pages lines new
+    → Follows old piece new
+sweep_to_follows setup old new pages piece lines none h =
+    match_bool (is_sweeping old.phase) _ _ _ (λ s. after_sweep setup old s.swept new _ pages s.numbers piece none s.goes s.after refl refl)
+    (refused_follows old new piece lines R.Phase none) h
+
+-- ---- the region
+
+own_follows : (old new : State) (op : Op) (piece before : List Entry) → TakesOwn old op piece before → started_after (is_marking old.phase) op ≡ is_marking old.phase
+    → new.region ≡ (took old piece).region → new.phase ≡ (took old piece).phase → Follows old piece new
+own_follows old new op piece before takes still r p = record {
+  legal = takes.legal;
+  slots = r ∙ took-region old piece;
+  started =
+      ap is_marking (p ∙ took-phase old piece)
+      ∙ sym (ap (started_through (is_marking old.phase)) takes.piece_is ∙ owned old (is_marking old.phase) before _ takes.others ∙ still);
+}
+
+export_follows : (old new : State) (p x : ℕ) (piece : List Entry) (lines : List Line) → StepExport old p x piece lines new → Follows old piece new
+export_follows old new p x piece lines h =
+    match_option (slot_at old p) _ _ _ (λ r. refused_follows old new piece lines R.Null r.0 r.1)
+    (λ n done. elim done [
+      | inl memory ↦ memory_follows old new piece lines memory.0 memory.1
+      | inr e ↦ own_follows old new (O.Export x n) piece e.before e.takes refl (ap (λ (s : State). s.region) e.after) (ap (λ (s : State). s.phase) e.after)
+    ]) h
+
+import_follows : (old new : State) (x p : ℕ) (piece : List Entry) (lines : List Line) → StepImport old x p piece lines new → Follows old piece new
+import_follows old new x p piece lines h = elim h [
+  | inl memory ↦ memory_follows old new piece lines memory.0 memory.1
+  | inr i ↦ own_follows old new (O.Import x) piece i.before i.takes refl (ap (λ (s : State). s.region) i.after) (ap (λ (s : State). s.phase) i.after)
+]
+
+join_follows : (old new : State) (piece : List Entry) (lines : List Line) → StepThreadsJoin old piece lines new → Follows old piece new
+join_follows old new piece lines h = record {
+  legal = h.legal;
+  slots = ap (λ (s : State). s.region) h.after ∙ took-region old piece;
+  started =
+      ap (λ (s : State). is_marking s.phase) h.after ∙ ap is_marking (took-phase old piece)
+      ∙ sym (others_start_nothing old (is_marking old.phase) piece h.others);
+}
+
+-- ---- every command
+
+pub step_follows : (setup : Setup) (old new : State) (command : Command) (piece : List Entry) (lines : List Line) → Step setup old command piece lines new
+    → Follows old piece new
+step_follows setup old new (C.New p t e) piece lines h = new_follows setup old new p t e piece lines h.0 h.1
+step_follows setup old new (C.Set p f q) piece lines h =
+    write_follows is_reference old new p f piece lines (λ n. with_value (node_at old.nodes n) (first_word old n f) (content_of (slot_at old q))) h.0 h.1
+step_follows setup old new (C.SetNull p f) piece lines h =
+    write_follows is_reference old new p f piece lines (λ n. with_value (node_at old.nodes n) (first_word old n f) Null) h.0 h.1
+step_follows setup old new (C.Pair p f k v) piece lines h =
+    write_follows is_pair old new p f piece lines
+    (λ n. with_value (with_value (node_at old.nodes n) (first_word old n f) (part_of (slot_at old k) (slot_at old v))) (first_word old n f + 1) (part_of (slot_at old v) (slot_at old k)))
+    h.0 h.1
+step_follows setup old new (C.PairNull p f) piece lines h =
+    write_follows is_pair old new p f piece lines (λ n. with_value (with_value (node_at old.nodes n) (first_word old n f) Null) (first_word old n f + 1) Null) h.0 h.1
+step_follows setup old new (C.Put p f w) piece lines h =
+    write_follows is_plain old new p f piece lines (λ n. with_value (node_at old.nodes n) (first_word old n f) (Word w)) h.0 h.1
+step_follows setup old new (C.Word p f) piece lines h = word_follows old new p f piece lines h.0 h.1
+step_follows setup old new (C.Get p f q) piece lines h =
+    fetch_follows is_reference old new p f q piece lines (λ n. is_weak (kind_of_field (node_at old.nodes n).object f)) (λ n. value_at (node_at old.nodes n) (first_word old n f)) h.0 h.1
+step_follows setup old new (C.Key p f q) piece lines h =
+    fetch_follows is_pair old new p f q piece lines (λ n. true) (λ n. value_at (node_at old.nodes n) (first_word old n f)) h.0 h.1
+step_follows setup old new (C.Val p f q) piece lines h =
+    fetch_follows is_pair old new p f q piece lines (λ n. true) (λ n. value_at (node_at old.nodes n) (first_word old n f + 1)) h.0 h.1
+step_follows setup old new (C.Copy p q) piece lines h = from_state old new _ piece h.0 h.1.1 refl refl
+step_follows setup old new (C.Drop p) piece lines h = from_state old new _ piece h.0 h.1.1 refl refl
+step_follows setup old new (C.Weak w p) piece lines h = from_state old new _ piece h.0 h.1.1 refl refl
+step_follows setup old new (C.Read w p) piece lines h = read_follows true old new piece (content_of (weak_slot_at old w)) p lines h.0 h.1
+step_follows setup old new (C.Push p o) piece lines h =
+    match_option (slot_at old p) _ _ _ (λ r. refused_follows old new piece lines R.Null h.0 r)
+    (λ n m. match_bool (nat_lt o (size_of (node_at old.nodes n))) (IsPushed old (Pointer n o) lines new) (IsRefused R.Field old lines new) (Follows old piece new)
+    (λ d. pushed_follows old new piece (Pointer n o) lines h.0 d) (λ r. refused_follows old new piece lines R.Field h.0 r) m) h.1
+step_follows setup old new (C.PushPlain n) piece lines h = pushed_follows old new piece (Number n) lines h.0 h.1
+step_follows setup old new C.Pop piece lines h =
+    match_bool (nat_lt 0 (length old.stack)) _ _ _ (λ d. from_state old new _ piece h.0 d.1 refl refl) (refused_follows old new piece lines R.Empty h.0) h.1
+step_follows setup old new (C.Peek i q) piece lines h =
+    match_option (slice_get old.stack i) _ _ _ (refused_follows old new piece lines R.Empty h.0) (λ word m. peeked_follows old new piece word q lines h.0 m) h.1
+step_follows setup old new C.GcStart piece lines h = gc_start_follows setup old new piece lines h
+step_follows setup old new (C.GcStep n) piece lines h =
+    match_bool (is_marking old.phase) _ _ _ (λ t. from_state old new _ piece h.0 t.after refl refl) (refused_follows old new piece lines R.Phase h.0) h.1
+step_follows setup old new (C.GcFinish want) piece lines h = gc_finish_follows setup want old new piece lines h
+step_follows setup old new (C.GcNow want) piece lines h = gc_now_follows setup want old new piece lines h
+step_follows setup old new (C.Sweep n) piece lines h = sweep_to_follows setup old new _ piece lines h.0 h.1
+step_follows setup old new C.SweepAll piece lines h = sweep_to_follows setup old new _ piece lines h.0 h.1
+step_follows setup old new C.Stat piece lines h = from_state old new _ piece h.0 h.1.3 refl refl
+step_follows setup old new (C.Export p x) piece lines h = export_follows old new p x piece lines h
+step_follows setup old new (C.Import x p) piece lines h = import_follows old new x p piece lines h
+step_follows setup old new (C.At j order) piece lines h =
+    elim h.1 [ inl memory ↦ memory_follows old new piece lines h.0 memory | inr d ↦ from_state old new _ piece h.0 d.1 refl refl ]
+step_follows setup old new C.ThreadsGo piece lines h =
+    elim h.1 [ inl d ↦ from_state old new _ piece h.0 d.1 refl refl | inr d ↦ from_state old new _ piece h.0 d.1 refl refl ]
+step_follows setup old new C.ThreadsJoin piece lines h = join_follows old new piece lines h

@@ -1,0 +1,167 @@
+-- A weak read: the set that it leaves is closed, holds what it held, and holds the node that was read.
+use Rattle.std.proofs.Common.{◌≡◌, ℕ, zero, suc, ◌+◌, ◌-◌, ◌<◌, ◌≤◌, ◌==◌, ◌&&◌, Bool, true, false, true≢false, List, [], ◌∷◌, ◌++◌, length, All, refl, sym, ap, ◌∙◌, subst, inl, inr, arith, eqb-true, eq-eqb}
+use Rattle.std.specs.List.{list_any}
+use Rattle.std.proofs.lemmas.Bool.{or_cases, or_left, or_right, and_parts, cases_lt}
+use Rattle.std.proofs.lemmas.List.{get_or_past, length-map}
+use Rattle.std.proofs.lemmas.List.Folds.{list_any-append}
+use Rattle.std.proofs.lemmas.List.Elements.{All-nil, All-cons, All-weaker, All-append}
+use Rattle.gc_graph.specs.declared.graph.Kind.{Kind}
+use Rattle.gc_graph.specs.declared.graph.Kind.TheVariants.{Strong, Weak, Pair, Plain}
+use Rattle.gc_graph.specs.declared.graph.Value.{Value}
+use Rattle.gc_graph.specs.declared.graph.Value.TheVariants.{Null, Ref, Word}
+use Rattle.gc_graph.specs.declared.phase.Phase.{Phase}
+use Rattle.gc_graph.specs.declared.phase.Phase.TheVariants.{Idle, Marking, Sweeping}
+use Rattle.gc_graph.specs.Graph.{Object, has, IsIn, leads_to}
+use Rattle.gc_graph.specs.Reach.{Reach, RefersWithin, AreNodes, IsLeastClosed}
+use Rattle.gc_graph.specs.State.{Setup, State, Node, no_node, node_at, IsLive, graph_of}
+use Rattle.gc_graph.specs.State.Life.{Live, Gone}
+use Rattle.gc_graph.specs.May.{members, members_from, may_with_read, weakly_read}
+use Rattle.gc_graph.specs.Valid.{HaveKinds, IsTyped}
+use Rattle.gc_graph.proofs.Reaching.{reach_law, reach_length}
+use Rattle.gc_graph.proofs.Follows.{AnyStrong, AnyPair, object_of_node, follow_from}
+use Rattle.gc_graph.proofs.Sound.{slot_weaker, word_weaker, region_weaker, MayHas, IsRoot, MayFollows, IsSound, found, kinds_at}
+
+-- ---- typed nodes refer to nodes
+
+any_below : (bound n m : ℕ) → m < bound → (m == n) ≡ true → n < bound
+any_below bound n m l e = subst (λ k. k < bound) (eqb-true m n e) l
+
+pub strong_below : (bound n : ℕ) (kinds : List Kind) (values : List Value) → HaveKinds bound kinds values → AnyStrong n kinds values ≡ true → n < bound
+strong_below bound n [] values h e = absurd (true≢false (sym e))
+strong_below bound n (Strong ∷ kinds) [] h e = absurd h
+strong_below bound n (Weak ∷ kinds) [] h e = absurd h
+strong_below bound n (Pair ∷ kinds) [] h e = absurd h
+strong_below bound n (Plain ∷ kinds) [] h e = absurd h
+strong_below bound n (Strong ∷ kinds) (Null ∷ xs) h e = strong_below bound n kinds xs h.1 e
+strong_below bound n (Strong ∷ kinds) (Word w ∷ xs) h e = absurd h.0
+strong_below bound n (Strong ∷ kinds) (Ref m ∷ xs) h e =
+    elim (or_cases (m == n) (AnyStrong n kinds xs) e) [ inl here ↦ any_below bound n m h.0 here | inr rest ↦ strong_below bound n kinds xs h.1 rest ]
+strong_below bound n (Weak ∷ kinds) (x ∷ xs) h e = strong_below bound n kinds xs h.1 e
+strong_below bound n (Pair ∷ kinds) (x ∷ []) h e = absurd h
+strong_below bound n (Pair ∷ kinds) (x ∷ y ∷ xs) h e = strong_below bound n kinds xs h.3 e
+strong_below bound n (Plain ∷ kinds) (x ∷ xs) h e = strong_below bound n kinds xs h.1 e
+
+pub pair_below : (bound n : ℕ) (set : List Bool) (kinds : List Kind) (values : List Value) → HaveKinds bound kinds values → AnyPair set n kinds values ≡ true → n < bound
+pair_below bound n set [] values h e = absurd (true≢false (sym e))
+pair_below bound n set (Strong ∷ kinds) [] h e = absurd h
+pair_below bound n set (Weak ∷ kinds) [] h e = absurd h
+pair_below bound n set (Pair ∷ kinds) [] h e = absurd h
+pair_below bound n set (Plain ∷ kinds) [] h e = absurd h
+pair_below bound n set (Strong ∷ kinds) (x ∷ xs) h e = pair_below bound n set kinds xs h.1 e
+pair_below bound n set (Weak ∷ kinds) (x ∷ xs) h e = pair_below bound n set kinds xs h.1 e
+pair_below bound n set (Plain ∷ kinds) (x ∷ xs) h e = pair_below bound n set kinds xs h.1 e
+pair_below bound n set (Pair ∷ kinds) (x ∷ []) h e = absurd h
+pair_below bound n set (Pair ∷ kinds) (Null ∷ y ∷ xs) h e = pair_below bound n set kinds xs h.3 e
+pair_below bound n set (Pair ∷ kinds) (Word w ∷ y ∷ xs) h e = absurd h.0
+pair_below bound n set (Pair ∷ kinds) (Ref k ∷ Null ∷ xs) h e = pair_below bound n set kinds xs h.3 e
+pair_below bound n set (Pair ∷ kinds) (Ref k ∷ Word w ∷ xs) h e = absurd h.1
+pair_below bound n set (Pair ∷ kinds) (Ref k ∷ Ref m ∷ xs) h e =
+    elim (or_cases (has set k && (m == n)) (AnyPair set n kinds xs) e) [
+      | inl here ↦ any_below bound n m h.1 (and_parts (has set k) (m == n) here).1
+      | inr rest ↦ pair_below bound n set kinds xs h.3 rest
+    ]
+
+pub refers_within : (setup : Setup) (nodes : List Node) → All (IsTyped setup (length nodes)) nodes → RefersWithin (graph_of nodes)
+refers_within setup nodes typed set m n e =
+    let o : Object = (node_at nodes m).object in
+    let leads : leads_to set o n ≡ true = subst (λ x. leads_to set x n ≡ true) (object_of_node nodes m) e in
+    let kinds : HaveKinds (length nodes) o.kinds o.values = kinds_at setup nodes typed m in
+    let long : length (graph_of nodes) ≡ length nodes = length-map nodes (λ (x : Node). x.object) in
+    let below : n < length nodes =
+    elim (or_cases (AnyStrong n o.kinds o.values) (AnyPair set n o.kinds o.values) leads) [
+      | inl strong ↦ strong_below (length nodes) n o.kinds o.values kinds strong
+      | inr pair ↦ pair_below (length nodes) n set o.kinds o.values kinds pair
+    ] in
+    omega arith
+
+pub below_if_live : (nodes : List Node) (n : ℕ) → IsLive nodes n → n < length nodes
+below_if_live nodes n live =
+    elim (cases_lt n (length nodes)) [
+      | inl l ↦ l
+      | inr p ↦ (let gone : Gone ≡ Live = ap (λ (x : Node). x.life) (sym (get_or_past nodes n no_node p)) ∙ live in cc)
+    ]
+
+-- ---- the members of a set
+
+members_above : (n : ℕ) (set : List Bool) → All (λ k. (n ≤ k) × (has set (k - n) ≡ true)) (members_from n set)
+members_above n [] = All-nil (λ k. (n ≤ k) × (has [] (k - n) ≡ true))
+members_above n (true ∷ set) =
+    All-cons (λ k. (n ≤ k) × (has (true ∷ set) (k - n) ≡ true)) n _
+    (omega arith, (let z : n - n ≡ 0 = omega arith in ap (has (true ∷ set)) z))
+    (All-weaker (λ k. (suc n ≤ k) × (has set (k - suc n) ≡ true)) (λ k. (n ≤ k) × (has (true ∷ set) (k - n) ≡ true))
+    (λ k h. (let l = h.0 in omega arith, (let l = h.0 in let z : k - n ≡ suc (k - suc n) = omega arith in ap (has (true ∷ set)) z ∙ h.1))) _ (members_above (suc n) set))
+members_above n (false ∷ set) =
+    All-weaker (λ k. (suc n ≤ k) × (has set (k - suc n) ≡ true)) (λ k. (n ≤ k) × (has (false ∷ set) (k - n) ≡ true))
+    (λ k h. (let l = h.0 in omega arith, (let l = h.0 in let z : k - n ≡ suc (k - suc n) = omega arith in ap (has (false ∷ set)) z ∙ h.1))) _ (members_above (suc n) set)
+
+pub members_in : (set : List Bool) → All (IsIn set) (members set)
+members_in set =
+    All-weaker (λ k. (0 ≤ k) × (has set (k - 0) ≡ true)) (IsIn set) (λ k h. let z : k ≡ k - 0 = omega arith in ap (has set) z ∙ h.1) _ (members_above 0 set)
+
+found_from : (n : ℕ) (set : List Bool) (j k : ℕ) → n + j ≡ k → IsIn set j → list_any (λ r. r == k) (members_from n set) ≡ true
+found_from n [] j k e h = absurd (true≢false (sym h))
+found_from n (true ∷ set) zero k e h = or_left (n == k) _ (let same : n ≡ k = omega arith in eq-eqb n k same)
+found_from n (true ∷ set) (suc j) k e h = or_right (n == k) _ (found_from (suc n) set j k (omega arith) h)
+found_from n (false ∷ set) zero k e h = absurd (true≢false (sym h))
+found_from n (false ∷ set) (suc j) k e h = found_from (suc n) set j k (omega arith) h
+
+pub member_found : (set : List Bool) (k : ℕ) → IsIn set k → list_any (λ r. r == k) (members set) ≡ true
+member_found set k h = found_from 0 set k k (omega arith) h
+
+pub in_below : (set : List Bool) (k : ℕ) → IsIn set k → k < length set
+in_below set k h = elim (cases_lt k (length set)) [ inl l ↦ l | inr p ↦ absurd (true≢false (sym h ∙ get_or_past set k false p)) ]
+
+-- ---- the read
+
+pub record IsReadSet (nodes : List Node) (phase : Phase) (may after : List Bool) (n : ℕ) : Type 0 where
+  pub follows : MayFollows phase nodes after
+  pub more : (k : ℕ) → MayHas phase may k → MayHas phase after k
+  pub read : MayHas phase after n
+
+pub read_set : (setup : Setup) (nodes : List Node) (phase : Phase) (may : List Bool) (n : ℕ) → All (IsTyped setup (length nodes)) nodes
+    → IsLive nodes n → MayFollows phase nodes may → IsReadSet nodes phase may (may_with_read phase (graph_of nodes) may n) n
+read_set setup nodes Idle may n typed live h = record { follows = tt; more = λ k i. tt; read = tt }
+read_set setup nodes Sweeping may n typed live h = record { follows = tt; more = λ k i. tt; read = tt }
+read_set setup nodes Marking may n typed live h =
+    let g : List Object = graph_of nodes in
+    let roots : List ℕ = members may ++ n ∷ [] in
+    let long : length g ≡ length nodes = length-map nodes (λ (x : Node). x.object) in
+    let whole : length may ≡ length nodes = h.whole in
+    let are : AreNodes g roots =
+    found (λ k. k < length g) roots
+    (All-append (λ k. k < length g) (members may) (n ∷ [])
+    (All-weaker (IsIn may) (λ k. k < length g) (λ k i. let l = in_below may k i in omega arith) (members may) (members_in may))
+    (All-cons (λ k. k < length g) n [] (let l = below_if_live nodes n live in omega arith) (All-nil (λ k. k < length g)))) in
+    let law : IsLeastClosed g roots (Reach g roots) = reach_law g roots (refers_within setup nodes typed) are in
+    record {
+      follows = record {
+        follows = follow_from nodes (Reach g roots) (λ m. (length nodes, kinds_at setup nodes typed m)) law.closed;
+        whole = reach_length g roots ∙ long;
+      };
+      more = λ k i. law.roots_in k (list_any-append (λ r. r == k) (members may) (n ∷ []) ∙ or_left _ _ (member_found may k i));
+      read = law.roots_in n (list_any-append (λ r. r == n) (members may) (n ∷ []) ∙ or_right (list_any (λ r. r == n) (members may)) _ (or_left (n == n) _ (eq-eqb n n refl)));
+    }
+
+-- the state is sound with a set that holds more
+pub grown : (setup : Setup) (s : State) (after : List Bool) → IsSound setup s → ((k : ℕ) → MayHas s.phase s.may k → MayHas s.phase after k)
+    → MayFollows s.phase s.nodes after → IsSound setup (record s { may = after })
+grown setup s after g more follows =
+    let wider : (k : ℕ) → IsRoot s.nodes s.phase s.may k → IsRoot s.nodes s.phase after k = (λ k r. record { live = r.live; in_may = more k r.in_may }) in
+    record {
+      heap = g.heap;
+      slots = λ k d l. slot_weaker (IsRoot s.nodes s.phase s.may) (IsRoot s.nodes s.phase after) wider _ (g.slots k d l);
+      weak = g.weak;
+      stack = λ k d l. word_weaker (IsRoot s.nodes s.phase s.may) (IsRoot s.nodes s.phase after) wider _ (g.stack k d l);
+      region = λ k d l.
+          region_weaker (IsRoot s.nodes s.phase s.may) (IsLive s.nodes) (IsRoot s.nodes s.phase after) (IsLive s.nodes) wider (λ n h. h) _ (g.region k d l);
+      registered = g.registered;
+      settled = g.settled;
+      may = follows;
+    }
+
+pub read_sound : (setup : Setup) (s : State) (n : ℕ) → IsSound setup s → IsLive s.nodes n
+    → IsSound setup (weakly_read s n) × IsRoot s.nodes s.phase (weakly_read s n).may n
+read_sound setup s n g live =
+    let r : IsReadSet s.nodes s.phase s.may (may_with_read s.phase (graph_of s.nodes) s.may n) n =
+    read_set setup s.nodes s.phase s.may n g.heap.typed live g.may in
+    (grown setup s (may_with_read s.phase (graph_of s.nodes) s.may n) g r.more r.follows, record { live = live; in_may = r.read })

@@ -1,0 +1,23 @@
+-- The laws of the region's history.
+use Rattle.std.specs.Prelude.{◌≡◌, ℕ, List, take, Some, slice_get}
+use Rattle.gc_graph.specs.declared.command.Command.{Command}
+use Rattle.gc_graph.specs.declared.region.Entry.{Entry}
+use Rattle.gc_graph.specs.State.{Setup, empty_state}
+use Rattle.gc_graph.specs.History.{IsLegal, replay, reply_of}
+use Rattle.gc_graph.specs.Lawful.{Outcome, Run, last_state, history_of}
+
+-- the replies of a legal history are those that one thread would be given
+abbrev pub RepliesAreOfOneThread : Type 0
+RepliesAreOfOneThread =
+    (history : List Entry) (i : ℕ) (entry : Entry) → IsLegal history → slice_get history i ≡ Some entry
+    → entry.reply ≡ reply_of (replay (take i history)) entry.op
+
+-- the pieces of a run make a legal history, and replaying it gives the region's slots
+pub record IsReplayed (outcomes : List Outcome) : Type 0 where
+  pub legal : IsLegal (history_of outcomes)
+  pub slots : replay (history_of outcomes) ≡ (last_state empty_state outcomes).region
+
+abbrev pub RunsAreReplayed : Type 0
+RunsAreReplayed =
+    (setup : Setup) (commands : List Command) (outcomes : List Outcome) → Run setup empty_state commands outcomes
+    → IsReplayed outcomes

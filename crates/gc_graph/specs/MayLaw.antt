@@ -1,0 +1,82 @@
+-- The laws of what may be kept.
+use Rattle.std.specs.Prelude.{◌≡◌, ◌⊎◌, ℕ, ◌<◌, ◌≤◌, nat_lt, Bool, false, List, [], ◌∷◌, ◌++◌, length, filter, Option, Some, None, if◌then◌else◌, All}
+use Rattle.std.specs.Option.{option_to_list}
+use Rattle.gc_graph.specs.declared.command.Command.{Command}
+use Rattle.gc_graph.specs.declared.command.Command.TheVariants as C
+use Rattle.gc_graph.specs.declared.command.Want.{Want}
+use Rattle.gc_graph.specs.declared.line.Line.{Line}
+use Rattle.gc_graph.specs.declared.line.Line.TheVariants as L
+use Rattle.gc_graph.specs.declared.phase.Phase.TheVariants.{Marking}
+use Rattle.gc_graph.specs.declared.region.Entry.{Entry}
+use Rattle.gc_graph.specs.Graph.{IsIn, IsWithin}
+use Rattle.gc_graph.specs.Reach.{Reach}
+use Rattle.gc_graph.specs.State.{Setup, State, RegionSlot, node_at, graph_of, roots_of}
+use Rattle.gc_graph.specs.Fields.{kind_of_field, is_weak}
+use Rattle.gc_graph.specs.May.{members, hits_for}
+use Rattle.gc_graph.specs.History.{region_after, read_by}
+use Rattle.gc_graph.specs.Outcomes.{slot_at}
+use Rattle.gc_graph.specs.Valid.{IsValid}
+use Rattle.gc_graph.specs.Lawful.{Outcome, Run, last_state, IsAllowed}
+
+-- the lower bound of a pause lies within its upper bound: what the roots and the hits reach, and what they and the nodes
+-- that may be kept reach
+abbrev pub PauseBoundsMeet : Type 0
+PauseBoundsMeet =
+    (setup : Setup) (s : State) (want : Want) → IsValid setup s → s.phase ≡ Marking
+    → IsWithin (Reach (graph_of s.nodes) (roots_of s ++ hits_for want s)) (Reach (graph_of s.nodes) (members s.may ++ hits_for want s))
+
+-- ---- the nodes that were read weakly
+
+-- the node that a read told
+abbrev pub told : List Line → List ℕ
+told (L.Node n ∷ []) = n ∷ []
+told lines = []
+
+abbrev pub is_weak_field : State → Option ℕ → ℕ → Bool
+is_weak_field s None f = false
+is_weak_field s (Some n) f = is_weak (kind_of_field (node_at s.nodes n).object f)
+
+-- through a weak field, a pair or a weak slot
+abbrev pub own_reads : State → Command → List Line → List ℕ
+own_reads old (C.Get p f q) lines = if is_weak_field old (slot_at old p) f then told lines else []
+own_reads old (C.Key p f q) lines = told lines
+own_reads old (C.Val p f q) lines = told lines
+own_reads old (C.Read w p) lines = told lines
+own_reads old command lines = []
+
+-- through a weak slot of the region
+abbrev pub entry_reads : List RegionSlot → List Entry → List ℕ
+entry_reads region [] = []
+entry_reads region (entry ∷ entries) = option_to_list (read_by region entry.op) ++ entry_reads (region_after region entry.op) entries
+
+abbrev pub run_reads : State → List Command → List Outcome → List ℕ
+run_reads old [] outcomes = []
+run_reads old (command ∷ commands) [] = []
+run_reads old (command ∷ commands) (outcome ∷ outcomes) =
+    own_reads old command outcome.lines ++ entry_reads old.region outcome.piece ++ run_reads outcome.state commands outcomes
+
+-- ---- what may be kept is bounded
+
+-- those of the nodes that were there at the start
+abbrev pub old_ones : State → List ℕ → List ℕ
+old_ones start nodes = filter (λ n. nat_lt n (length start.nodes)) nodes
+
+-- each node that may be kept is new since the start, or was reached in the start's graph from the start's roots and the
+-- nodes that were read weakly since
+abbrev pub IsBoundedBy : State → List ℕ → State → Type 0
+IsBoundedBy start reads s =
+    (n : ℕ) → IsIn s.may n
+    → (length start.nodes ≤ n) ⊎ IsIn (Reach (graph_of start.nodes) (roots_of start ++ old_ones start reads)) n
+
+-- a collection has just started
+pub record HasStarted (setup : Setup) (start : State) : Type 0 where
+  pub valid : IsValid setup start
+  pub marking : start.phase ≡ Marking
+  pub may : start.may ≡ Reach (graph_of start.nodes) (roots_of start)
+
+abbrev pub MayIsBounded : Type 0
+MayIsBounded =
+    (setup : Setup) (start : State) (commands : List Command) (outcomes : List Outcome) → 0 < setup.shape.pages
+    → HasStarted setup start → All (IsAllowed (length setup.types)) commands → Run setup start commands outcomes
+    → All (λ (o : Outcome). o.state.phase ≡ Marking) outcomes
+    → IsBoundedBy start (run_reads start commands outcomes) (last_state start outcomes)

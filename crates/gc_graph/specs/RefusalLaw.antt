@@ -1,0 +1,66 @@
+-- The law of refusals and of want of memory: what they leave as it was.
+use Rattle.std.specs.Prelude.{◌≡◌, ◌≢◌, true, List, [], ◌∷◌, ⊤}
+use Rattle.gc_graph.specs.declared.command.Command.{Command}
+use Rattle.gc_graph.specs.declared.command.Command.TheVariants as C
+use Rattle.gc_graph.specs.declared.line.Line.{Line}
+use Rattle.gc_graph.specs.declared.line.Line.TheVariants as L
+use Rattle.gc_graph.specs.declared.line.Refusal.{Refusal}
+use Rattle.gc_graph.specs.declared.region.Entry.{Entry}
+use Rattle.gc_graph.specs.State.{Setup, State, type_at}
+use Rattle.gc_graph.specs.Outcomes.{answered}
+use Rattle.gc_graph.specs.Step.{Step}
+
+-- a refused command takes nothing of the history, and changes nothing but the count of commands
+abbrev pub RefusedLeavesAll : Type 0
+RefusedLeavesAll =
+    (setup : Setup) (old new : State) (command : Command) (piece : List Entry) (lines : List Line) (why : Refusal)
+    → Step setup old command piece lines new → lines ≡ L.Refused why ∷ [] → (piece ≡ []) × (new ≡ answered old)
+
+-- the commands that may want memory
+abbrev pub MayWantMemory : Setup → Command → Type 0
+MayWantMemory setup (C.New p t e) = (type_at setup t).prefinalizers ≢ []
+MayWantMemory setup C.GcStart = ⊤
+MayWantMemory setup (C.GcNow want) = ⊤
+MayWantMemory setup (C.Export p x) = ⊤
+MayWantMemory setup (C.Import x p) = ⊤
+MayWantMemory setup (C.At j order) = ⊤
+MayWantMemory setup C.ThreadsGo = ⊤
+MayWantMemory setup (C.Set p f q) = ⊥
+MayWantMemory setup (C.SetNull p f) = ⊥
+MayWantMemory setup (C.Pair p f k v) = ⊥
+MayWantMemory setup (C.PairNull p f) = ⊥
+MayWantMemory setup (C.Put p f n) = ⊥
+MayWantMemory setup (C.Word p f) = ⊥
+MayWantMemory setup (C.Get p f q) = ⊥
+MayWantMemory setup (C.Key p f q) = ⊥
+MayWantMemory setup (C.Val p f q) = ⊥
+MayWantMemory setup (C.Copy p q) = ⊥
+MayWantMemory setup (C.Drop p) = ⊥
+MayWantMemory setup (C.Weak w p) = ⊥
+MayWantMemory setup (C.Read w p) = ⊥
+MayWantMemory setup (C.Push p o) = ⊥
+MayWantMemory setup (C.PushPlain n) = ⊥
+MayWantMemory setup C.Pop = ⊥
+MayWantMemory setup (C.Peek i q) = ⊥
+MayWantMemory setup (C.GcStep n) = ⊥
+MayWantMemory setup (C.GcFinish want) = ⊥
+MayWantMemory setup (C.Sweep n) = ⊥
+MayWantMemory setup C.SweepAll = ⊥
+MayWantMemory setup C.Stat = ⊥
+MayWantMemory setup C.ThreadsJoin = ⊥
+
+-- after `threads go` the threads are awaited, though none was started
+abbrev pub told_to_go : Command → State → State
+told_to_go C.ThreadsGo s = record s { awaiting = true }
+told_to_go command s = s
+
+-- memory is wanted by these commands alone, and then nothing but the count of commands has changed
+pub record IsLeftAlone (setup : Setup) (command : Command) (old : State) (piece : List Entry) (new : State) : Type 0 where
+  pub wanted : MayWantMemory setup command
+  pub taken : piece ≡ []
+  pub after : new ≡ answered (told_to_go command old)
+
+abbrev pub MemoryLeavesAll : Type 0
+MemoryLeavesAll =
+    (setup : Setup) (old new : State) (command : Command) (piece : List Entry) (lines : List Line)
+    → Step setup old command piece lines new → lines ≡ L.Memory ∷ [] → IsLeftAlone setup command old piece new

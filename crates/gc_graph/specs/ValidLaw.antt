@@ -1,0 +1,19 @@
+-- The laws of valid states.
+use Rattle.std.specs.Prelude.{◌<◌, List, length}
+use Rattle.gc_graph.specs.declared.command.Command.{Command}
+use Rattle.gc_graph.specs.declared.line.Line.{Line}
+use Rattle.gc_graph.specs.declared.region.Entry.{Entry}
+use Rattle.gc_graph.specs.State.{Setup, State, empty_state}
+use Rattle.gc_graph.specs.Step.{Step}
+use Rattle.gc_graph.specs.Valid.{IsValid}
+use Rattle.gc_graph.specs.Lawful.{IsAllowed}
+
+-- a step of a command whose numbers are in their ranges keeps a state valid
+abbrev pub StepKeepsValid : Type 0
+StepKeepsValid =
+    (setup : Setup) (old new : State) (command : Command) (piece : List Entry) (lines : List Line) → 0 < setup.shape.pages
+    → IsAllowed (length setup.types) command → IsValid setup old → Step setup old command piece lines new → IsValid setup new
+
+-- a heap without objects is valid
+abbrev pub EmptyIsValid : Type 0
+EmptyIsValid = (setup : Setup) → IsValid setup empty_state

@@ -1,0 +1,32 @@
+// What prefinalizers do (`include/cppgc/prefinalizer.h`).
+
+/// What a prefinalizer does to the object that field `link` of the dying object names.
+///
+/// | action | |
+/// |---|---|
+/// | `Nothing` | nothing |
+/// | `Clear` | its field `field` becomes null |
+/// | `Add` | the amount is added to its plain word `field`, modulo 2^64 |
+#[derive(Clone, Copy, Debug, PartialEq, Eq, Drop)]
+pub enum Action {
+    Nothing,
+    Clear { link: u32, field: u32 },
+    Add { link: u32, field: u32, amount: u64 },
+}
+
+/// Which action a callback answers, from the shown words of the dying object: a plain word as it
+/// is, a reference as 0 where it is null and as 1 where not.
+///
+/// | kind | action |
+/// |---|---|
+/// | `Nothing`, `Clear`, `Add` | that one |
+/// | `AddOwn` | adds shown word `from`, or 0 where there is none |
+/// | `ClearIf` | clears where shown word `word` is there and isn't 0 |
+#[derive(Clone, Copy, Debug, PartialEq, Eq, Drop)]
+pub enum ActionKind {
+    Nothing,
+    Clear { link: u32, field: u32 },
+    Add { link: u32, field: u32, amount: u64 },
+    AddOwn { link: u32, field: u32, from: u32 },
+    ClearIf { link: u32, field: u32, word: u32 },
+}

@@ -1,0 +1,72 @@
+// The laws of the definitions. Whoever calls one of these has its law; none of them does anything.
+
+ghost use Rattle.gc_graph.specs.HistoryLaw.{RepliesAreOfOneThread, RunsAreReplayed};
+ghost use Rattle.gc_graph.specs.MayLaw.{MayIsBounded, PauseBoundsMeet};
+ghost use Rattle.gc_graph.specs.PlacementLaw.{PlacementIsFree, SweepsFinaliseDead};
+ghost use Rattle.gc_graph.specs.ReadBack.{LinesReadBack, ReportReadsBack};
+ghost use Rattle.gc_graph.specs.RefusalLaw.{RefusedLeavesAll, MemoryLeavesAll};
+ghost use Rattle.gc_graph.specs.ValidLaw.{EmptyIsValid, StepKeepsValid};
+
+/// A heap without objects is valid.
+pub fn empty_is_valid()
+    ensures { EmptyIsValid }
+{}
+
+/// Each step of a command whose numbers are in their ranges keeps a state valid; while marking goes
+/// on, what may be kept stays closed and holds the roots.
+pub fn step_keeps_valid()
+    ensures { StepKeepsValid }
+{}
+
+/// While marking goes on, what may be kept is new since the start, or was reached in the start's
+/// graph from its roots and the nodes that were read weakly since.
+pub fn may_is_bounded()
+    ensures { MayIsBounded }
+{}
+
+/// What a pause has to keep, it may keep.
+pub fn pause_bounds_meet()
+    ensures { PauseBoundsMeet }
+{}
+
+/// A refused command changes nothing but the count of commands.
+pub fn refused_leaves_all()
+    ensures { RefusedLeavesAll }
+{}
+
+/// A command that answered `memory` may do so, and changes nothing but the count of commands. After
+/// `threads go` the threads are awaited besides, though none was started.
+pub fn memory_leaves_all()
+    ensures { MemoryLeavesAll }
+{}
+
+/// A new object's words lie in one page or fill whole pages, and no object that is not finalised has
+/// one of them.
+pub fn placement_is_free()
+    ensures { PlacementIsFree }
+{}
+
+/// The sweep of all pages finalises each dead node once, in the order of their addresses.
+pub fn sweeps_finalise_dead()
+    ensures { SweepsFinaliseDead }
+{}
+
+/// Each reply of a legal history is the one that a region of one thread gives at that point.
+pub fn replies_are_of_one_thread()
+    ensures { RepliesAreOfOneThread }
+{}
+
+/// The pieces of a run make a legal history, whose replay gives the region's slots.
+pub fn runs_are_replayed()
+    ensures { RunsAreReplayed }
+{}
+
+/// A text of lines whose numbers have 64 bits is read back into these lines.
+pub fn lines_read_back()
+    ensures { LinesReadBack }
+{}
+
+/// A report is read back into the lines of the types, of the outcomes in order, and of the end.
+pub fn report_reads_back()
+    ensures { ReportReadsBack }
+{}

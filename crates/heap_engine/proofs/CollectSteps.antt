@@ -1,0 +1,177 @@
+-- A collection is a step of the graph.
+use Rattle.std.proofs.Common.{◌≡◌, ℕ, zero, suc, ◌+◌, ◌<◌, Bool, true, false, List, [], ◌∷◌, ◌++◌, length, map, replicate, Option, None, refl, sym, ap, ◌∙◌, subst, inl, inr, arith, eqb}
+use mathlib.Core.Logic.{◌⊎◌}
+use Rattle.std.specs.Prelude.{MatchBool}
+use Rattle.std.specs.List.{All, list_any}
+use Rattle.std.proofs.lemmas.Bool.{true≢false, or_cases, or_left, or_right, eqb-true, eq-eqb}
+use Rattle.std.proofs.lemmas.List.{append-nil, length-map}
+use Rattle.gc_graph.specs.declared.command.Want.TheVariants.{Precise}
+use Rattle.gc_graph.specs.declared.line.Line.{Line}
+use Rattle.gc_graph.specs.declared.region.Entry.{Entry}
+use Rattle.gc_graph.specs.declared.region.Op.TheVariants as O
+use Rattle.gc_graph.specs.Graph.{Object, IsIn, IsWithin}
+use Rattle.gc_graph.specs.Reach.{Reach, AreNodes, RefersWithin, ReachIsLeast}
+use Rattle.gc_graph.specs.State.{Setup, State, Node, RegionSlot, Registration, graph_of, roots_of, slot_targets, stack_targets, strong_region_targets}
+use Rattle.gc_graph.specs.State.RegionSlot.{Vacant}
+use Rattle.gc_graph.specs.May.{members, members_from, marking}
+use Rattle.gc_graph.specs.History.{cleared_by, NamesWeakSlots}
+use Rattle.gc_graph.specs.Pause.{IsKept, condemn, clear_slot, is_dead_at, dying_slots, clear_fields, run_order, prefinalised, prefinalise_lines, live_count, paused}
+use Rattle.gc_graph.specs.Outcomes.{answered, finalise_lines, took, owner_entry}
+use Rattle.gc_graph.specs.Sweep.{EndsSweep}
+use Rattle.gc_graph.specs.CycleSteps.{IsStart, IsPause, IsCollection, StepGcNow, WantsMemory, is_marking, is_stack_refused}
+use Rattle.heap_engine.specs.View.{start_entry, pause_entry}
+use Rattle.heap_engine.specs.Plain.{AreUnused, IsStrong, IsPlainState}
+use Rattle.heap_engine.specs.Changes.{collected_state}
+use Rattle.heap_engine.proofs.KeptNodes.{KeepsReached}
+use Rattle.heap_engine.proofs.StrongFields.{clears_nothing}
+use Rattle.heap_engine.proofs.HeapTallies.{pause_line}
+
+-- ---- the members of a set
+
+in_members : (k : ℕ) (set : List Bool) (n : ℕ) → IsIn set n → list_any (λ r. eqb r (k + n)) (members_from k set) ≡ true
+in_members k [] n is = absurd (true≢false (sym is))
+in_members k (true ∷ set) zero is = or_left _ _ (eq-eqb k (k + 0) (omega arith))
+in_members k (true ∷ set) (suc n) is =
+    or_right (eqb k (k + suc n)) _
+    (subst (λ m. list_any (λ r. eqb r m) (members_from (suc k) set) ≡ true) (let e : suc k + n ≡ k + suc n = omega arith in e) (in_members (suc k) set n is))
+in_members k (false ∷ set) zero is = absurd (true≢false (sym is))
+in_members k (false ∷ set) (suc n) is =
+    subst (λ m. list_any (λ r. eqb r m) (members_from (suc k) set) ≡ true) (let e : suc k + n ≡ k + suc n = omega arith in e) (in_members (suc k) set n is)
+
+member_in : (k : ℕ) (set : List Bool) (m : ℕ) → list_any (λ r. eqb r m) (members_from k set) ≡ true → (n : ℕ) × (m ≡ k + n) × IsIn set n
+member_in k [] m h = absurd (true≢false (sym h))
+member_in k (true ∷ set) m h =
+    elim (or_cases (eqb k m) (list_any (λ r. eqb r m) (members_from (suc k) set)) h) [
+      | inl here ↦ (let e : m ≡ k + 0 = omega (arith, eqb-true k m here) in (0, e, refl))
+      | inr later ↦ (let w = member_in (suc k) set m later in (suc w.0, omega (arith, w.1), w.2))
+    ]
+member_in k (false ∷ set) m h = (let w = member_in (suc k) set m h in (suc w.0, omega (arith, w.1), w.2))
+
+-- ---- the roots, and what may be kept
+
+no_region_targets : (n : ℕ) → strong_region_targets (replicate n Vacant) ≡ []
+no_region_targets zero = refl
+no_region_targets (suc n) = no_region_targets n
+
+plain_roots : (s : State) → AreUnused s.weak s.stack s.region s.registrations s.running → roots_of s ≡ slot_targets s.slots
+plain_roots s unused =
+    ap (λ k. slot_targets s.slots ++ stack_targets k ++ strong_region_targets s.region) unused.stack_empty
+    ∙ ap (λ ts. slot_targets s.slots ++ [] ++ ts) (ap strong_region_targets unused.region_null ∙ no_region_targets 32)
+    ∙ append-nil (slot_targets s.slots ++ []) ∙ append-nil (slot_targets s.slots)
+
+-- the state in which a collection that was just started pauses
+abbrev pub started_state : State → State
+started_state s = marking (took s (start_entry ∷ []))
+
+pub pause_keeps : (s : State) (kept : List Bool) → ReachIsLeast → RefersWithin (graph_of s.nodes) → AreUnused s.weak s.stack s.region s.registrations s.running
+    → ((n : ℕ) → IsIn kept n → n < length s.nodes) → KeepsReached s kept → IsKept (took (started_state s) []) [] kept
+pause_keeps s kept law refers unused low keeps =
+    let g : List Object = graph_of s.nodes in
+    let roots : roots_of s ≡ slot_targets s.slots = plain_roots s unused in
+    let may : List Bool = Reach g (roots_of s) in
+    let same : may ≡ Reach g (slot_targets s.slots) = ap (Reach g) roots in
+    let nodes : AreNodes g (members may) = λ m root.
+    let w = member_in 0 may m root in
+    let is : IsIn kept w.0 = keeps.reached w.0 (subst (λ set. IsIn set w.0) same w.2) in
+    omega (arith, low w.0 is, w.1, length-map s.nodes (λ (x : Node). x.object)) in
+    let least = law g (members may) refers nodes in
+    record {
+      closed = keeps.closed;
+      reached = subst (λ rs. IsWithin (Reach g rs) kept) (sym (append-nil (roots_of s))) (subst (λ set. IsWithin set kept) (sym same) keeps.reached);
+      bounded = λ n is.
+          subst (λ ms. IsIn (Reach g ms) n) (sym (append-nil (members may)))
+          (least.roots_in n
+          (subst (λ m. list_any (λ r. eqb r m) (members may) ≡ true) (let e : 0 + n ≡ n = omega arith in e)
+          (in_members 0 may n (subst (λ set. IsIn set n) (sym same) (keeps.bounded n is)))));
+    }
+
+-- ---- what isn't used stays so
+
+nulls_stay : (dead : ℕ → Bool) (n : ℕ) → replicate n None ≡ map (clear_slot dead) (replicate n None)
+nulls_stay dead zero = refl
+nulls_stay dead (suc n) = ap (λ l. None ∷ l) (nulls_stay dead n)
+
+vacant_stay : (n : ℕ) → replicate n Vacant ≡ cleared_by 0 (replicate n Vacant)
+vacant_stay zero = refl
+vacant_stay (suc n) = ap (λ l. Vacant ∷ l) (vacant_stay n)
+
+names_none : (n : ℕ) → NamesWeakSlots 0 (replicate n Vacant)
+names_none zero = refl
+names_none (suc n) = (λ odd. absurd (omega (arith, odd)), names_none n)
+
+none_dying : (nodes : List Node) (region : List RegionSlot) → region ≡ replicate 32 Vacant → 0 ≡ dying_slots nodes region
+none_dying nodes region is = sym (ap (dying_slots nodes) is)
+
+-- the state after a collection is the one of the pause
+pub collected_is : (setup : Setup) (s : State) (kept : List Bool) → AreUnused s.weak s.stack s.region s.registrations s.running → All (IsStrong setup) (condemn kept s.nodes)
+    → collected_state s kept ≡ paused setup (took (started_state s) (pause_entry ∷ [])) kept
+collected_is setup s kept unused strong =
+    let c : List Node = condemn kept s.nodes in
+    let dead : ℕ → Bool = is_dead_at c in
+    let build : List Node → List (Option ℕ) → List RegionSlot → List Registration → State = λ nodes weak region registrations.
+    record (collected_state s kept) { nodes = nodes; weak = weak; region = region; registrations = registrations } in
+    let weak : s.weak ≡ map (clear_slot dead) s.weak = unused.weak_null ∙ nulls_stay dead 64 ∙ sym (ap (map (clear_slot dead)) unused.weak_null) in
+    let region : s.region ≡ cleared_by 0 s.region = unused.region_null ∙ vacant_stay 32 ∙ sym (ap (cleared_by 0) unused.region_null) in
+    let left : List Registration → List Registration = λ rs. (paused setup (record (took (started_state s) (pause_entry ∷ [])) { registrations = rs }) kept).registrations in
+    let registered : s.registrations ≡ left s.registrations = unused.none_registered ∙ sym (ap left unused.none_registered) in
+    let nodes : c ≡ prefinalised setup.callbacks (run_order c s.registrations) (clear_fields c) =
+    sym (ap (λ rs. prefinalised setup.callbacks (run_order c rs) (clear_fields c)) unused.none_registered ∙ clears_nothing setup dead c strong) in
+    ap (λ ns. build ns s.weak s.region s.registrations) nodes
+    ∙ ap (λ w. build (prefinalised setup.callbacks (run_order c s.registrations) (clear_fields c)) w s.region s.registrations) weak
+    ∙ ap (λ g. build (prefinalised setup.callbacks (run_order c s.registrations) (clear_fields c)) (map (clear_slot dead) s.weak) g s.registrations) region
+    ∙ ap (build (prefinalised setup.callbacks (run_order c s.registrations) (clear_fields c)) (map (clear_slot dead) s.weak) (cleared_by 0 s.region)) registered
+
+-- ---- the collection
+
+starts : (setup : Setup) (s : State) → IsStart setup s (start_entry ∷ []) (started_state s)
+starts setup s = record { before = []; others = λ k d low. absurd (omega arith); piece_is = refl; legal = (refl, tt, tt); after = refl }
+
+pauses : (setup : Setup) (s : State) (kept : List Bool) → AreUnused s.weak s.stack s.region s.registrations s.running → All (IsStrong setup) (condemn kept s.nodes)
+    → IsKept (took (started_state s) []) [] kept
+    → IsPause setup 0 Precise (started_state s) (pause_entry ∷ []) (pause_line (condemn kept s.nodes) ∷ []) (collected_state s kept)
+pauses setup s kept unused strong keeps =
+    let c : List Node = condemn kept s.nodes in
+    record {
+      before = [];
+      others = λ k d low. absurd (omega arith);
+      kept = kept;
+      keeps = keeps;
+      piece_is = ap (λ mask. owner_entry (started_state s) (O.Pause mask) ∷ []) (none_dying c s.region unused.region_null);
+      legal = (refl, (refl, subst (NamesWeakSlots 0) (sym unused.region_null) (names_none 32)), tt);
+      crew = 0;
+      traced = live_count c;
+      walked = false;
+      crew_is = λ none. refl;
+      counted = omega arith;
+      lines_are = ap (λ rs. pause_line c ∷ prefinalise_lines (run_order c rs)) (sym unused.none_registered);
+      after = collected_is setup s kept unused strong;
+    }
+
+on_false : (b : Bool) (P Q : Type 0) → b ≡ false → Q → MatchBool b P Q
+on_false b P Q is q = subst (λ x. MatchBool x P Q) (sym is) q
+
+-- where marking doesn't go on and the stack is empty, gc now wants memory or collects
+pub collects_or_not : (setup : Setup) (s : State) (piece : List Entry) (lines : List Line) (new : State) → IsPlainState setup s
+    → WantsMemory s piece lines new ⊎ IsCollection setup Precise s piece lines new → StepGcNow setup Precise s piece lines new
+collects_or_not setup s piece lines new valid done =
+    on_false (is_marking s.phase) _ _ valid.calm (on_false (is_stack_refused Precise s.stack) _ _ (ap (is_stack_refused Precise) valid.unused.stack_empty) done)
+
+pub step_collected : (setup : Setup) (s t new : State) (numbers : List ℕ) (kept : List Bool) (piece : List Entry) (lines : List Line) → EndsSweep setup.shape s numbers t
+    → AreUnused t.weak t.stack t.region t.registrations t.running → All (IsStrong setup) (condemn kept t.nodes) → IsKept (took (started_state t) []) [] kept
+    → piece ≡ start_entry ∷ pause_entry ∷ [] → lines ≡ finalise_lines numbers ++ pause_line (condemn kept t.nodes) ∷ [] → new ≡ answered (collected_state t kept)
+    → IsCollection setup Precise s piece lines new
+step_collected setup s t new numbers kept piece lines ended unused strong keeps taken printed after = record {
+  numbers = numbers;
+  swept = t;
+  ended = ended;
+  first = start_entry ∷ [];
+  started = started_state t;
+  start = starts setup t;
+  second = pause_entry ∷ [];
+  pause_lines = pause_line (condemn kept t.nodes) ∷ [];
+  paused = collected_state t kept;
+  pause = pauses setup t kept unused strong keeps;
+  piece_is = taken;
+  lines_are = printed;
+  after = after;
+}

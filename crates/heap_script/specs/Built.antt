@@ -1,0 +1,143 @@
+-- The forms of lines that the program can read, and what they say.
+use Rattle.std.specs.Prelude.{◌≡◌, ◌⊎◌, ℕ, ◌<◌, ◌&&◌, ◌||◌, not, Bool, true, false, List, [], ◌∷◌, length, take, fold, map, Option, Some, None, if◌then◌else◌, codes, slice_get, slice_index_or}
+use Rattle.std.specs.List.{list_all, list_any, filter_map}
+use Rattle.std.specs.Cmp.Lexicographic.{pointwise}
+use Rattle.gc_graph.specs.declared.command.Command.{Command}
+use Rattle.gc_graph.specs.declared.command.Command.TheVariants as C
+use Rattle.gc_graph.specs.declared.command.Want.TheVariants.{Precise}
+use Rattle.gc_graph.specs.Fields.{strong_type}
+use Rattle.gc_graph.specs.Script.{Script}
+use Rattle.gc_graph.specs.Words.{lines_of, words_of, is_text, is_blank, number_below}
+
+-- ---- commands
+
+abbrev pub slot_of : List ℕ → Option ℕ
+slot_of word = number_below 256 word
+
+-- one type line at most may stand, so a type is 0
+abbrev pub type_of : List ℕ → Option ℕ
+type_of word = number_below 1 word
+
+abbrev pub field_of : List ℕ → Option ℕ
+field_of word = number_below 67108864 word
+
+abbrev pub with_one : (ℕ → Command) → Option ℕ → Option Command
+with_one make (Some a) = Some (make a)
+with_one make None = None
+
+abbrev pub with_two : (ℕ → ℕ → Command) → Option ℕ → Option ℕ → Option Command
+with_two make (Some a) (Some b) = Some (make a b)
+with_two make None b = None
+with_two make (Some a) None = None
+
+abbrev pub with_three : (ℕ → ℕ → ℕ → Command) → Option ℕ → Option ℕ → Option ℕ → Option Command
+with_three make (Some a) b c = with_two (make a) b c
+with_three make None b c = None
+
+-- drop p; sweep all
+abbrev pub command_of_two : List ℕ → List ℕ → Option Command
+command_of_two first second =
+    if is_text first (codes "drop") then with_one (λ p. C.Drop p) (slot_of second)
+    else if is_text first (codes "sweep") && is_text second (codes "all") then Some C.SweepAll
+    else None
+
+-- new p t; gc now precise
+abbrev pub command_of_three : List ℕ → List ℕ → List ℕ → Option Command
+command_of_three first second third =
+    if is_text first (codes "new") then with_two (λ p t. C.New p t 0) (slot_of second) (type_of third)
+    else if is_text first (codes "gc") && (is_text second (codes "now") && is_text third (codes "precise")) then Some (C.GcNow Precise)
+    else None
+
+-- set p f -; set p f q; get p f q
+abbrev pub command_of_four : List ℕ → List ℕ → List ℕ → List ℕ → Option Command
+command_of_four first second third fourth =
+    if is_text first (codes "set") && is_text fourth (codes "-") then with_two (λ p f. C.SetNull p f) (slot_of second) (field_of third)
+    else if is_text first (codes "set") then with_three (λ p f q. C.Set p f q) (slot_of second) (field_of third) (slot_of fourth)
+    else if is_text first (codes "get") then with_three (λ p f q. C.Get p f q) (slot_of second) (field_of third) (slot_of fourth)
+    else None
+
+abbrev pub command_of_words : List (List ℕ) → Option Command
+command_of_words [] = None
+command_of_words (first ∷ []) = None
+command_of_words (first ∷ second ∷ []) = command_of_two first second
+command_of_words (first ∷ second ∷ third ∷ []) = command_of_three first second third
+command_of_words (first ∷ second ∷ third ∷ fourth ∷ []) = command_of_four first second third fourth
+command_of_words (first ∷ second ∷ third ∷ fourth ∷ fifth ∷ more) = None
+
+abbrev pub command_of : List ℕ → Option Command
+command_of line = command_of_words (words_of line)
+
+-- ---- lines in their order
+
+-- the words are these two
+abbrev pub is_pair_of : List ℕ → List ℕ → List (List ℕ) → Bool
+is_pair_of first second words = pointwise is_text words (first ∷ second ∷ [])
+
+abbrev pub is_header : List ℕ → Bool
+is_header line = is_pair_of (codes "oilpan") (codes "1") (words_of line)
+
+abbrev pub is_type_line : List ℕ → Bool
+is_type_line line = is_pair_of (codes "type") (codes "S") (words_of line)
+
+-- the commands that stand on the lines
+abbrev pub commands_of : List (List ℕ) → List Command
+commands_of lines = filter_map command_of lines
+
+-- the type line declares a type with one strong field
+abbrev pub types_of : List (List ℕ) → List ℕ
+types_of lines = filter_map (λ line. if is_type_line line then Some 1 else None) lines
+
+abbrev pub opens_sweep : Bool → Command → Bool
+opens_sweep before (C.GcNow want) = true
+opens_sweep before C.SweepAll = false
+opens_sweep before command = before
+
+-- a collection stands among the commands, with no end of the sweep after it
+abbrev pub is_sweep_open : List Command → Bool
+is_sweep_open commands = fold opens_sweep false commands
+
+-- a new object wants the type line before it, and no open sweep
+abbrev pub may_follow : List (List ℕ) → Command → Bool
+may_follow before (C.New p t e) = list_any is_type_line before && not (is_sweep_open (commands_of before))
+may_follow before command = true
+
+abbrev pub holds_command : List (List ℕ) → Option Command → Bool
+holds_command before None = false
+holds_command before (Some command) = may_follow before command
+
+-- the line is of a built form, after those before it: the header comes first; then blank lines stand anywhere,
+-- the type line before any command, and the commands after that
+abbrev pub is_built : List (List ℕ) → List ℕ → Bool
+is_built [] line = is_header line
+is_built (header ∷ before) line =
+    is_blank line || ((is_type_line line && list_all is_blank before) || holds_command before (command_of line))
+
+abbrev pub is_built_at : List (List ℕ) → ℕ → Bool
+is_built_at lines i = is_built (take i lines) (slice_index_or lines i [])
+
+-- what a script of these forms says: the number of strong fields of each type, and the commands
+pub record BuiltScript : Type 0 where
+  pub types : List ℕ
+  pub commands : List Command
+
+-- the bytes are such a script: the header stands, and each line is of a built form
+pub record IsBuiltScript (bytes : List ℕ) (script : BuiltScript) : Type 0 where
+  pub header : is_built_at (lines_of bytes) 0 ≡ true
+  pub built : (i : ℕ) → i < length (lines_of bytes) → is_built_at (lines_of bytes) i ≡ true
+  pub types : script.types ≡ types_of (lines_of bytes)
+  pub commands : script.commands ≡ commands_of (lines_of bytes)
+
+-- line i + 1 is the first that is of no built form; a missing first line counts as one
+pub record IsFaultyAt (bytes : List ℕ) (i : ℕ) : Type 0 where
+  pub there : (i ≡ 0) ⊎ (i < length (lines_of bytes))
+  pub faulty : is_built_at (lines_of bytes) i ≡ false
+  pub before : (j : ℕ) → j < i → is_built_at (lines_of bytes) j ≡ true
+
+-- the same, as the whole grammar says it: types of strong fields alone
+abbrev pub script_of : BuiltScript → Script
+script_of built = record { types = map strong_type built.types; commands = built.commands }
+
+-- no object is made while a sweep is open
+abbrev pub AreTimely : List Command → Type 0
+AreTimely commands =
+    (i p t e : ℕ) → slice_get commands i ≡ Some (C.New p t e) → is_sweep_open (take i commands) ≡ false

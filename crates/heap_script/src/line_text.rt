@@ -1,0 +1,156 @@
+// The text of each line of a report.
+
+ghost use Rattle.std.specs.Prelude.{◌≡◌, ◌+◌, ◌≤◌, ◌++◌, length, codes, decimal};
+ghost use Rattle.arrayvec.specs.ArrayVec.{array_vec_len};
+ghost use Rattle.gc_graph.specs.Report.{line_text, line_bytes, refusal_text, done_text};
+ghost use Rattle.gc_graph.specs.Report.{pause_text, totals_text, summary_text};
+
+use super::region_text::{add_entry, add_reply, add_seen};
+use super::text::{Text, add, add_named, add_wide};
+use arrayvec::ArrayVec;
+use gc_graph::{Line, Refusal};
+
+/// A line with its end.
+pub(crate) fn text_of(line: &Line) -> Text
+    ensures { result.items ≡ line_bytes line.now }
+{
+    let mut text = ArrayVec::new();
+    add_line(&mut text, line);
+    add(&mut text, b"\n");
+    text
+}
+
+fn add_line(text: &mut Text, line: &Line)
+    requires { array_vec_len text.old ≡ 0 }
+    ensures items { text.new.items ≡ text.old.items ++ line_text line.now }
+    ensures len { array_vec_len text.new ≤ 200 }
+{
+    match *line {
+        Line::TypeLine { t } => add_named(text, b"type ", t),
+        Line::Placed { k, a } => add_placed(text, k, a),
+        Line::Full => add(text, b"full"),
+        Line::Memory => add(text, b"memory"),
+        Line::Refused(why) => add_refusal(text, why),
+        Line::Fine => add(text, b"ok"),
+        Line::Node { k } => add_named(text, b"node ", k),
+        Line::Null => add(text, b"null"),
+        Line::Word { n } => add_wide(text, b"word ", n),
+        Line::Started => add(text, b"started"),
+        Line::Step { t, done } => add_step(text, t, done),
+        Line::Pause {
+            kept,
+            dead,
+            crew,
+            traced,
+            walked,
+        } => add_pause(text, kept, dead, crew, traced, walked),
+        Line::Prefinalise { k, c } => add_prefinalise(text, k, c),
+        Line::Finalise { k } => add_named(text, b"finalise ", k),
+        Line::Swept { c } => add_named(text, b"swept to ", c),
+        Line::Objects { n, u, g } => add_totals(text, b"", n, u, g),
+        Line::Queued => add(text, b"queued"),
+        Line::Going { m } => add_named(text, b"going ", m),
+        Line::Reply { j, reply } => add_reply(text, j, reply),
+        Line::ReplyTotals { j, o, n, u, f } => add_seen(text, j, o, n, u, f),
+        Line::Entry(entry) => add_entry(text, entry),
+        Line::Joined { m } => add_named(text, b"joined ", m),
+        Line::End { n, u, g } => add_totals(text, b"end ", n, u, g),
+        Line::Summary {
+            c,
+            y,
+            n,
+            u,
+            f,
+            full,
+        } => add_summary(text, c, y, n, u, f, full),
+    }
+}
+
+fn add_placed(text: &mut Text, k: u32, a: u32)
+    requires { array_vec_len text.old ≡ 0 }
+    ensures items { text.new.items ≡ text.old.items ++ line_text (Line.Placed k a) }
+    ensures len { array_vec_len text.new ≤ 200 }
+{
+    add_named(text, b"node ", k);
+    add_named(text, b" at ", a);
+}
+
+fn add_refusal(text: &mut Text, why: Refusal)
+    requires { array_vec_len text.old ≡ 0 }
+    ensures items { text.new.items ≡ text.old.items ++ (codes "refused " ++ refusal_text why) }
+    ensures len { array_vec_len text.new ≤ 200 }
+{
+    add(text, b"refused ");
+    match why {
+        Refusal::Phase => add(text, b"phase"),
+        Refusal::Null => add(text, b"null"),
+        Refusal::Field => add(text, b"field"),
+        Refusal::Kind => add(text, b"kind"),
+        Refusal::Stack => add(text, b"stack"),
+        Refusal::Empty => add(text, b"empty"),
+    }
+}
+
+fn add_step(text: &mut Text, t: u32, done: bool)
+    requires { array_vec_len text.old ≡ 0 }
+    ensures items { text.new.items ≡ text.old.items ++ line_text (Line.Step t done) }
+    ensures len { array_vec_len text.new ≤ 200 }
+{
+    add_named(text, b"step traced ", t);
+    if done {
+        add(text, b" done");
+    } else {
+        add(text, b" more");
+    }
+}
+
+fn add_pause(text: &mut Text, kept: u32, dead: u32, crew: u32, traced: u32, walked: bool)
+    requires { array_vec_len text.old ≡ 0 }
+    ensures items { text.new.items ≡ text.old.items ++ pause_text kept dead crew traced walked }
+    ensures len { array_vec_len text.new ≤ 200 }
+{
+    add_named(text, b"pause kept ", kept);
+    add_named(text, b" dead ", dead);
+    add_named(text, b" crew ", crew);
+    add_named(text, b" traced ", traced);
+    add(text, b" walked ");
+    if walked {
+        add(text, b"1");
+    } else {
+        add(text, b"0");
+    }
+}
+
+fn add_prefinalise(text: &mut Text, k: u32, c: u32)
+    requires { array_vec_len text.old ≡ 0 }
+    ensures items { text.new.items ≡ text.old.items ++ line_text (Line.Prefinalise k c) }
+    ensures len { array_vec_len text.new ≤ 200 }
+{
+    add_named(text, b"prefinalise ", k);
+    add_named(text, b" ", c);
+}
+
+fn add_totals(text: &mut Text, name: &[u8], n: u32, u: u32, g: u32)
+    requires empty { array_vec_len text.old ≡ 0 }
+    requires short { length name.now ≤ 10 }
+    ensures items { text.new.items ≡ text.old.items ++ (name.now ++ totals_text n u g) }
+    ensures len { array_vec_len text.new ≤ 200 }
+{
+    add(text, name);
+    add_named(text, b"objects ", n);
+    add_named(text, b" used ", u);
+    add_named(text, b" pages ", g);
+}
+
+fn add_summary(text: &mut Text, c: u64, y: u64, n: u64, u: u64, f: u64, full: u64)
+    requires { array_vec_len text.old ≡ 0 }
+    ensures items { text.new.items ≡ text.old.items ++ summary_text c y n u f full }
+    ensures len { array_vec_len text.new ≤ 200 }
+{
+    add_wide(text, b"summary commands ", c);
+    add_wide(text, b" cycles ", y);
+    add_wide(text, b" objects ", n);
+    add_wide(text, b" used ", u);
+    add_wide(text, b" finalised ", f);
+    add_wide(text, b" full ", full);
+}
