@@ -9,7 +9,7 @@ use Rattle.gc_graph.specs.declared.command.Want.TheVariants.{Precise}
 use Rattle.gc_graph.specs.declared.phase.Phase.TheVariants.{Idle}
 use Rattle.heap_engine.specs.Built.{IsBuilt}
 use Rattle.gc_graph.specs.Words.{is_text, lines_of, words_of}
-use Rattle.heap_script.specs.Built.{BuiltScript, IsBuiltScript, command_of, command_of_words, commands_of, slot_of, type_of, field_of, with_one, with_two, with_three}
+use Rattle.heap_script.specs.Built.{BuiltScript, IsBuiltScript, command_of, command_of_words, commands_of, slot_of, type_number_of, field_of, extra_of, with_one, with_two, with_three}
 use Rattle.cppgc_main.proofs.Timely.{commands_by}
 
 -- if there is a command, it is built
@@ -36,21 +36,23 @@ three make (Some n) b c built = two (make n) b c (built n)
 
 words_built : (words : List (List ℕ)) → BuiltIfAny (command_of_words words)
 words_built [] = tt
-words_built (a ∷ []) = tt
+words_built (a ∷ []) = either (is_text a (codes "stat")) (Some C.Stat) None tt tt
 words_built (a ∷ b ∷ []) =
     either (is_text a (codes "drop")) (with_one (λ p. C.Drop p) (slot_of b)) _ (one (λ p. C.Drop p) (slot_of b) (λ p. tt))
     (either (is_text a (codes "sweep") && is_text b (codes "all")) (Some C.SweepAll) None tt tt)
 words_built (a ∷ b ∷ c ∷ []) =
-    either (is_text a (codes "new")) (with_two (λ p t. C.New p t 0) (slot_of b) (type_of c)) _
-    (two (λ p t. C.New p t 0) (slot_of b) (type_of c) (λ p t. (refl, refl)))
+    either (is_text a (codes "new")) (with_two (λ p t. C.New p t 0) (slot_of b) (type_number_of c)) _
+    (two (λ p t. C.New p t 0) (slot_of b) (type_number_of c) (λ p t. refl))
     (either (is_text a (codes "gc") && (is_text b (codes "now") && is_text c (codes "precise"))) (Some (C.GcNow Precise)) None tt tt)
 words_built (a ∷ b ∷ c ∷ d ∷ []) =
     either (is_text a (codes "set") && is_text d (codes "-")) (with_two (λ p f. C.SetNull p f) (slot_of b) (field_of c)) _
     (two (λ p f. C.SetNull p f) (slot_of b) (field_of c) (λ p f. tt))
     (either (is_text a (codes "set")) (with_three (λ p f q. C.Set p f q) (slot_of b) (field_of c) (slot_of d)) _
     (three (λ p f q. C.Set p f q) (slot_of b) (field_of c) (slot_of d) (λ p f q. tt))
-    (either (is_text a (codes "get")) (with_three (λ p f q. C.Get p f q) (slot_of b) (field_of c) (slot_of d)) None
-    (three (λ p f q. C.Get p f q) (slot_of b) (field_of c) (slot_of d) (λ p f q. tt)) tt))
+    (either (is_text a (codes "get")) (with_three (λ p f q. C.Get p f q) (slot_of b) (field_of c) (slot_of d)) _
+    (three (λ p f q. C.Get p f q) (slot_of b) (field_of c) (slot_of d) (λ p f q. tt))
+    (either (is_text a (codes "new")) (with_three (λ p t e. C.New p t e) (slot_of b) (type_number_of c) (extra_of d)) None
+    (three (λ p t e. C.New p t e) (slot_of b) (type_number_of c) (extra_of d) (λ p t e. refl)) tt)))
 words_built (a ∷ b ∷ c ∷ d ∷ e ∷ more) = tt
 
 line_more : (rest : List (List ℕ)) (line : List ℕ) (command : Option Command) → command_of line ≡ command → BuiltIfAny command

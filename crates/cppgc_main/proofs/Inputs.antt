@@ -35,7 +35,7 @@ read_whole_of (Some old) new bytes read limits =
     (all, read.1 ∙ ap Some (ap (λ (b : List ℕ). drop (length b) old) all ∙ drop_all (length old) old (omega arith)))
 
 pub script_is_runnable : (bytes : List ℕ) (script : BuiltScript) → IsBuiltScript bytes script → All (λ n. n ≤ 64) script.types
-    → length script.types ≤ 1 → All (IsAllowed (length script.types)) script.commands → length script.commands ≤ 1000000
+    → length script.types ≤ 16383 → All (IsAllowed (length script.types)) script.commands → length script.commands ≤ 1000000
     → IsRunnable script
-script_is_runnable bytes script is small one allowed few =
-    record { small = small; one = one; allowed = allowed; few = few; built = script_is_built bytes script is; timely = script_is_timely bytes script is }
+script_is_runnable bytes script is small sorts allowed few =
+    record { small = small; sorts = sorts; allowed = allowed; few = few; built = script_is_built bytes script is; timely = script_is_timely bytes script is }

@@ -102,6 +102,7 @@ step_phase setup old new (C.Get p f q) piece lines opened calm built idle step =
 step_phase setup old new (C.Drop p) piece lines opened calm built idle step = λ off. ap (λ (s : State). s.phase) step.1.1 ∙ idle off
 step_phase setup old new (C.GcNow want) piece lines opened calm built idle step = λ off. absurd (true≢false off)
 step_phase setup old new C.SweepAll piece lines opened calm built idle step = λ off. sweep_ends setup old new lines old.phase refl calm step.1
+step_phase setup old new C.Stat piece lines opened calm built idle step = λ off. ap (λ (s : State). s.phase) step.1.3 ∙ idle off
 step_phase setup old new command piece lines opened calm built idle step = absurd built
 
 -- ---- the commands in order
@@ -129,13 +130,14 @@ module _ {X : Type 0} where
 
 built_case : (commands : List Command) (i : ℕ) (state : State) (command : Command) → AreTimely commands
     → IsIdleUnless (is_sweep_open (take i commands)) state → slice_get commands i ≡ Some command → IsBuilt Idle command → IsBuilt state.phase command
-built_case commands i state (C.New p t e) timely idle at built = (built.0, idle (timely i p t e at))
+built_case commands i state (C.New p t e) timely idle at built = idle (timely i p t e at)
 built_case commands i state (C.Set p f q) timely idle at built = built
 built_case commands i state (C.SetNull p f) timely idle at built = built
 built_case commands i state (C.Get p f q) timely idle at built = built
 built_case commands i state (C.Drop p) timely idle at built = built
 built_case commands i state (C.GcNow want) timely idle at built = built
 built_case commands i state C.SweepAll timely idle at built = built
+built_case commands i state C.Stat timely idle at built = built
 built_case commands i state command timely idle at built = absurd built
 
 pub built_next : (commands : List Command) (i : ℕ) (d : Command) (state : State) → i < length commands → All (IsBuilt Idle) commands → AreTimely commands

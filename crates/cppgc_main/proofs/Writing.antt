@@ -62,12 +62,13 @@ pub lines_whole : (a b : Option (List ℕ)) (lines : List Line) (i : ℕ) → le
     → Grew a b (lines_bytes lines)
 lines_whole a b lines i le x = subst (λ (ls : List Line). Grew a b (lines_bytes ls)) (take_all i lines le) x
 
--- a single type has a single line
-pub one_type : (types : List ℕ) → length types ≤ 1 → 0 < length types → lines_bytes (type_lines 0 types) ≡ line_bytes (L.TypeLine 0)
-one_type [] one some = absurd (omega arith)
-one_type (x ∷ []) one some = one_line (L.TypeLine 0)
-one_type (x ∷ y ∷ more) one some = absurd (omega arith)
+-- ---- type lines
 
-pub no_type : (types : List ℕ) → length types ≡ 0 → lines_bytes (type_lines 0 types) ≡ []
-no_type [] none = refl
-no_type (x ∷ more) none = absurd (omega arith)
+pub type_line_at : (types : List ℕ) (i t n : ℕ) → i < length types → t + i ≡ n → slice_get (type_lines t types) i ≡ Some (L.TypeLine n)
+type_line_at [] i t n low is = absurd (omega arith)
+type_line_at (x ∷ types) zero t n low is = ap (λ k. Some (L.TypeLine k)) (let same : t ≡ n = omega arith in same)
+type_line_at (x ∷ types) (suc i) t n low is = type_line_at types i (t + 1) n (omega arith) (omega arith)
+
+pub type_line_count : (types : List ℕ) (t : ℕ) → length (type_lines t types) ≡ length types
+type_line_count [] t = refl
+type_line_count (x ∷ types) t = omega (arith, type_line_count types (t + 1))

@@ -22,7 +22,7 @@ setup_of shape types = record { shape = shape; markers = 0; types = map strong_t
 -- the commands can be given to such a heap, one after the other
 pub record IsRunnable (script : BuiltScript) : Type 0 where
   pub small : All (λ n. n ≤ 64) script.types
-  pub one : length script.types ≤ 1
+  pub sorts : length script.types ≤ 16383
   pub allowed : All (IsAllowed (length script.types)) script.commands
   pub few : length script.commands ≤ 1000000
   pub built : All (IsBuilt Idle) script.commands

@@ -53,15 +53,19 @@ pub(crate) fn print_report<K: Sink>(
 
 /// Prints a line for each type.
 fn print_types<K: Sink>(types: &[u32], sink: &mut K) -> Result<(), Failed>
-    requires one { length types.now ≤ 1 }
+    requires few { length types.now ≤ 16383 }
     ensures bytes { Writes (K.written sink.old) (K.written sink.new)
         (lines_bytes (type_lines 0 types.now)) result }
     ensures cause { HasCause (K.faults sink.old) (K.faults sink.new) result }
 {
-    if types.is_empty() {
-        return Ok(());
+    for index in 0..types.len() {
+        let line = Line::TypeLine { t: index as u32 };
+        match print_line(&line, sink) {
+            Ok(()) => {}
+            Err(failed) => return Err(failed),
+        }
     }
-    print_line(&Line::TypeLine { t: 0 }, sink)
+    Ok(())
 }
 
 /// Does the commands in order, and prints each outcome.

@@ -3,13 +3,16 @@
 ghost use Rattle.std.specs.Prelude.{◌≤◌};
 
 mod adapters;
+mod buckets;
 mod collections;
 mod devices;
+mod large;
 mod limits;
 mod options;
 mod reports;
 mod scripts;
 mod statuses;
+mod types;
 
 use super::run::run;
 use super::status::Status;
@@ -78,4 +81,10 @@ fn try_with(alloc: Global, script: Vec<u8>, devices: DeviceSetup) -> Result<Tria
 
 fn try_script(alloc: Global, script: &[u8]) -> Result<Trial, NoMemory> {
     try_with(alloc, Vec::from_slice(alloc, script)?, STEADY)
+}
+
+// On a heap of so many pages of 256 words.
+fn try_small(alloc: Global, pages: &str, script: &[u8]) -> Result<Trial, NoMemory> {
+    let words = ["--pages", pages, "--page-words", "256"];
+    try_on(alloc, &words, Vec::from_slice(alloc, script)?, STEADY)
 }

@@ -5,6 +5,7 @@ mod HistoryLaws
 mod StepFollows
 mod Histories
 mod Refusals
+mod FullHeaps
 mod Places
 mod Sweeps
 pub mod Listed

@@ -10,10 +10,10 @@ use Rattle.gc_graph.specs.declared.phase.Phase.{Phase}
 use Rattle.gc_graph.specs.declared.phase.Phase.TheVariants.{Idle, Marking, Sweeping}
 use Rattle.gc_graph.specs.Graph.{Object, IsIn}
 use Rattle.gc_graph.specs.Reach.{Reach, RefersWithin, AreNodes, IsLeastClosed}
-use Rattle.gc_graph.specs.State.{State, Node, graph_of, roots_of}
+use Rattle.gc_graph.specs.State.{Setup, State, Node, graph_of, roots_of}
 use Rattle.gc_graph.specs.May.{members, is_hit, hits_for}
-use Rattle.gc_graph.specs.Valid.{IsMay, HasMay}
-use Rattle.gc_graph.specs.MayLaw.{PauseBoundsMeet}
+use Rattle.gc_graph.specs.Valid.{IsMay, HasMay, IsValid}
+use Rattle.gc_graph.specs.MayLaw.{BoundsMeet}
 use Rattle.gc_graph.proofs.Reaching.{reach_law}
 use Rattle.gc_graph.proofs.Sound.{found}
 use Rattle.gc_graph.proofs.WeakReads.{refers_within, members_in, member_found, in_below}
@@ -52,8 +52,8 @@ may_of Idle s e h = cc
 may_of Marking s e h = h
 may_of Sweeping s e h = cc
 
-pub pause_bounds_meet : PauseBoundsMeet
-pause_bounds_meet setup s want valid on n reached =
+pub bounds_meet : (setup : Setup) (s : State) (want : Want) → IsValid setup s → s.phase ≡ Marking → BoundsMeet s want
+bounds_meet setup s want valid on n reached =
     let may : IsMay s = may_of s.phase s on valid.may_kept in
     let g : List Object = graph_of s.nodes in
     let hits : List ℕ = hits_for want s in

@@ -1,5 +1,5 @@
 -- The bound of what may be kept, command by command and over runs.
-use Rattle.std.proofs.Common.{◌≡◌, nat_lt, ℕ, ◌+◌, ◌<◌, true, List, [], ◌∷◌, ◌++◌, length, All, None, refl, sym, subst, inl, inr, arith, append_assoc}
+use Rattle.std.proofs.Common.{◌≡◌, nat_lt, ℕ, ◌+◌, ◌<◌, true, List, [], ◌∷◌, ◌++◌, length, All, None, refl, sym, ap, ◌∙◌, subst, inl, inr, arith, append_assoc}
 use Rattle.std.specs.List.{slice_get}
 use Rattle.std.proofs.lemmas.List.{append-nil}
 use Rattle.std.proofs.lemmas.List.Elements.{All-head, All-tail}
@@ -8,27 +8,30 @@ use Rattle.gc_graph.specs.declared.command.Command.TheVariants as C
 use Rattle.gc_graph.specs.declared.graph.Value.TheVariants.{Null}
 use Rattle.gc_graph.specs.declared.line.Line.{Line}
 use Rattle.gc_graph.specs.declared.line.Refusal.TheVariants as R
-use Rattle.gc_graph.specs.declared.phase.Phase.TheVariants.{Marking}
+use Rattle.gc_graph.specs.declared.phase.Phase.TheVariants.{Idle, Marking}
 use Rattle.gc_graph.specs.declared.region.Entry.{Entry}
 use Rattle.gc_graph.specs.State.{Setup, State, node_at, size_of, IsLive, graph_of, roots_of}
 use Rattle.gc_graph.specs.Graph.{IsIn}
 use Rattle.gc_graph.specs.Reach.{Reach}
 use Rattle.gc_graph.specs.State.StackWord.{Pointer, Number}
 use Rattle.gc_graph.specs.Fields.{content_of}
-use Rattle.gc_graph.specs.Outcomes.{IsRefused, slot_at, weak_slot_at}
+use Rattle.gc_graph.specs.Outcomes.{IsRefused, slot_at, weak_slot_at, took}
 use Rattle.gc_graph.specs.ObjectSteps.{first_word}
 use Rattle.gc_graph.specs.HandleSteps.{IsPushed}
-use Rattle.gc_graph.specs.CycleSteps.{is_marking}
+use Rattle.gc_graph.specs.CycleSteps.{IsStart, is_marking}
 use Rattle.gc_graph.specs.Step.{Step}
 use Rattle.gc_graph.specs.Valid.{IsValid}
 use Rattle.gc_graph.specs.ValidLaw.{StepKeepsValid}
 use Rattle.gc_graph.specs.Lawful.{Outcome, Run, last_state, IsAllowed}
-use Rattle.gc_graph.specs.MayLaw.{HasStarted, own_reads, entry_reads, run_reads, MayIsBounded}
+use Rattle.gc_graph.specs.MayLaw.{HasStarted, StartsHaveStarted, own_reads, entry_reads, run_reads, MayIsBounded, PauseBoundsMeet}
 use Rattle.gc_graph.proofs.StepCases.{match_option, match_bool}
-use Rattle.gc_graph.proofs.Sound.{IsSound, sound_from, kinds_at}
+use Rattle.gc_graph.proofs.Sound.{IsSound, sound_from, valid_from, kinds_at}
 use Rattle.gc_graph.proofs.ValidHandles.{slot_root, slot_names}
 use Rattle.gc_graph.proofs.Since.{own_since}
-use Rattle.gc_graph.proofs.MayEntries.{More, more_first, more_second, more_none, Kept, same_kept}
+use Rattle.gc_graph.proofs.MayBounds.{bounds_meet}
+use Rattle.gc_graph.proofs.ValidRegion.{others_sound, took_phase}
+use Rattle.gc_graph.proofs.ValidCycles.{start_sound}
+use Rattle.gc_graph.proofs.MayEntries.{More, more_first, more_second, more_none, Kept, same_kept, took_kept}
 use Rattle.gc_graph.proofs.MayRuns.{Goes, still, refused, memory, slot_since, parts_since, set_goes, pair_goes, put_goes, word_goes, value_goes, get_goes, part_goes, content_live, push_goes, peek_goes, sweep_goes, start_goes, now_goes, finish_goes, new_goes, export_goes, import_goes, join_goes}
 
 module _ (setup : Setup) (start : State) (begun : HasStarted setup start) where
@@ -142,8 +145,45 @@ module _ (setup : Setup) (start : State) (begun : HasStarted setup start) where
         (subst (λ set. IsIn set n) begun.may i));
   }
 
+-- marking goes on after a run, and its last state is valid
+run_marking : (old : State) (outcomes : List Outcome) → old.phase ≡ Marking → All (λ (o : Outcome). o.state.phase ≡ Marking) outcomes
+    → (last_state old outcomes).phase ≡ Marking
+run_marking old [] on going = on
+run_marking old (o ∷ os) on going =
+    run_marking o.state os (All-head (λ (x : Outcome). x.state.phase ≡ Marking) o os going) (All-tail (λ (x : Outcome). x.state.phase ≡ Marking) o os going)
+
+run_valid : StepKeepsValid → (setup : Setup) → 0 < setup.shape.pages → (old : State) (commands : List Command) (outcomes : List Outcome)
+    → IsValid setup old → All (IsAllowed (length setup.types)) commands → Run setup old commands outcomes → IsValid setup (last_state old outcomes)
+run_valid law setup some old [] [] valid allowed run = valid
+run_valid law setup some old [] (o ∷ os) valid allowed run = absurd run
+run_valid law setup some old (c ∷ cs) [] valid allowed run = absurd run
+run_valid law setup some old (c ∷ cs) (o ∷ os) valid allowed run =
+    run_valid law setup some o.state cs os
+    (law setup old o.state c o.piece o.lines some (All-head (IsAllowed (length setup.types)) c cs allowed) valid run.0)
+    (All-tail (IsAllowed (length setup.types)) c cs allowed) run.1
+
 pub may_is_bounded : StepKeepsValid → MayIsBounded
-may_is_bounded law setup start commands outcomes some begun allowed run going =
-    let kept = run_goes setup start begun law some start commands outcomes begun.marking begun.valid allowed run going [] (run_reads start commands outcomes)
-    (more_none (run_reads start commands outcomes)) (λ k e. e) (begun_kept setup start begun) in
-    kept.bounded
+may_is_bounded law setup start commands outcomes before some begun allowed run going others =
+    let last : State = last_state start outcomes in
+    let reads : List ℕ = run_reads start commands outcomes in
+    let more : List ℕ = entry_reads last.region before in
+    let kept : Kept setup start begun (reads ++ more) last =
+    run_goes setup start begun law some start commands outcomes begun.marking begun.valid allowed run going [] (reads ++ more)
+    (more_none (reads ++ more)) (more_first reads more (reads ++ more) (λ k e. e)) (begun_kept setup start begun) in
+    let sound : IsSound setup last = sound_from setup last (run_valid law setup some start commands outcomes begun.valid allowed run) in
+    let after : Kept setup start begun (reads ++ more) (took last before) =
+    took_kept setup start begun (reads ++ more) (reads ++ more) last before (run_marking start outcomes begun.marking going) (λ k d l. (others k d l).1)
+    sound (λ k e. e) (more_second reads more (reads ++ more) (λ k e. e)) kept in
+    after.bounded
+
+pub pause_bounds_meet : PauseBoundsMeet
+pause_bounds_meet setup s before want valid on others =
+    bounds_meet setup (took s before) want (valid_from setup (took s before) (others_sound setup s before others (sound_from setup s valid)))
+    (took_phase s before ∙ on)
+
+pub starts_have_started : StartsHaveStarted
+starts_have_started setup swept new piece valid idle h = record {
+  valid = valid_from setup new (start_sound setup swept new piece (sound_from setup swept valid) idle h);
+  marking = ap (λ (s : State). s.phase) h.after;
+  may = subst (λ (s : State). s.may ≡ Reach (graph_of s.nodes) (roots_of s)) (sym h.after) refl;
+}

@@ -80,7 +80,7 @@ module _ (setup : Setup) (s : State) (g : IsSound setup s) where
     };
   }
 
-start_sound : (setup : Setup) (swept new : State) (piece : List Entry) → IsSound setup swept → swept.phase ≡ Idle → IsStart setup swept piece new → IsSound setup new
+pub start_sound : (setup : Setup) (swept new : State) (piece : List Entry) → IsSound setup swept → swept.phase ≡ Idle → IsStart setup swept piece new → IsSound setup new
 start_sound setup swept new piece g idle h =
     let mid : State = took swept h.before in
     let sound : IsSound setup mid = others_sound setup swept h.before h.others g in

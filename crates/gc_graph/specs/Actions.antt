@@ -11,7 +11,7 @@ use Rattle.gc_graph.specs.declared.graph.Value.TheVariants.{Null, Ref, Word}
 use Rattle.gc_graph.specs.State.{Node, node_at}
 use Rattle.gc_graph.specs.Fields.{field_words, field_count, kind_of_field, word_of_field, value_at, with_value, target_of}
 
--- a plain word is shown as it is, and a reference as 0 where it is null and as 1 where not
+-- a plain word is shown as it is; 0 stands for a null reference, and 1 for any other
 abbrev pub shown : Value → ℕ
 shown Null = 0
 shown (Ref n) = 1

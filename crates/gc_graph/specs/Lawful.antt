@@ -1,5 +1,5 @@
 -- Runs of whole scripts.
-use Rattle.std.specs.Prelude.{◌≡◌, ℕ, ◌<◌, ◌≤◌, List, [], ◌∷◌, take, Some, slice_get, Contains, ⊤}
+use Rattle.std.specs.Prelude.{◌≡◌, ℕ, ◌^◌, ◌<◌, ◌≤◌, List, [], ◌∷◌, take, Some, slice_get, Contains, ⊤}
 use Rattle.std.specs.List.{flat_map}
 use Rattle.gc_graph.specs.declared.command.Command.{Command}
 use Rattle.gc_graph.specs.declared.command.Command.TheVariants as C
@@ -96,7 +96,7 @@ IsAllowed types (C.Set p f q) = (p < 256) × (f < 67108864) × (q < 256)
 IsAllowed types (C.SetNull p f) = (p < 256) × (f < 67108864)
 IsAllowed types (C.Pair p f k v) = (p < 256) × (f < 67108864) × (k < 256) × (v < 256)
 IsAllowed types (C.PairNull p f) = (p < 256) × (f < 67108864)
-IsAllowed types (C.Put p f n) = (p < 256) × (f < 67108864)
+IsAllowed types (C.Put p f n) = (p < 256) × (f < 67108864) × (n < 2 ^ 64)
 IsAllowed types (C.Word p f) = (p < 256) × (f < 67108864)
 IsAllowed types (C.Get p f q) = (p < 256) × (f < 67108864) × (q < 256)
 IsAllowed types (C.Key p f q) = (p < 256) × (f < 67108864) × (q < 256)
@@ -106,14 +106,14 @@ IsAllowed types (C.Drop p) = p < 256
 IsAllowed types (C.Weak w p) = (w < 64) × (p < 256)
 IsAllowed types (C.Read w p) = (w < 64) × (p < 256)
 IsAllowed types (C.Push p o) = (p < 256) × (o < 67108864)
-IsAllowed types (C.PushPlain n) = ⊤
+IsAllowed types (C.PushPlain n) = n < 2 ^ 64
 IsAllowed types C.Pop = ⊤
 IsAllowed types (C.Peek i q) = (i < 1024) × (q < 256)
 IsAllowed types C.GcStart = ⊤
-IsAllowed types (C.GcStep n) = 1 ≤ n
+IsAllowed types (C.GcStep n) = (1 ≤ n) × (n < 2 ^ 32)
 IsAllowed types (C.GcFinish want) = ⊤
 IsAllowed types (C.GcNow want) = ⊤
-IsAllowed types (C.Sweep n) = 1 ≤ n
+IsAllowed types (C.Sweep n) = (1 ≤ n) × (n < 2 ^ 32)
 IsAllowed types C.SweepAll = ⊤
 IsAllowed types C.Stat = ⊤
 IsAllowed types (C.Export p x) = (p < 256) × (x < 32)

@@ -6,7 +6,7 @@ use Rattle.gc_graph.specs.declared.command.Command.TheVariants as C
 use Rattle.gc_graph.specs.declared.command.Want.{Want}
 use Rattle.gc_graph.specs.declared.line.Line.{Line}
 use Rattle.gc_graph.specs.declared.line.Line.TheVariants as L
-use Rattle.gc_graph.specs.declared.phase.Phase.TheVariants.{Marking}
+use Rattle.gc_graph.specs.declared.phase.Phase.TheVariants.{Idle, Marking}
 use Rattle.gc_graph.specs.declared.region.Entry.{Entry}
 use Rattle.gc_graph.specs.Graph.{IsIn, IsWithin}
 use Rattle.gc_graph.specs.Reach.{Reach}
@@ -14,16 +14,22 @@ use Rattle.gc_graph.specs.State.{Setup, State, RegionSlot, node_at, graph_of, ro
 use Rattle.gc_graph.specs.Fields.{kind_of_field, is_weak}
 use Rattle.gc_graph.specs.May.{members, hits_for}
 use Rattle.gc_graph.specs.History.{region_after, read_by}
-use Rattle.gc_graph.specs.Outcomes.{slot_at}
+use Rattle.gc_graph.specs.Outcomes.{slot_at, took, AreOthers}
+use Rattle.gc_graph.specs.CycleSteps.{IsStart}
 use Rattle.gc_graph.specs.Valid.{IsValid}
 use Rattle.gc_graph.specs.Lawful.{Outcome, Run, last_state, IsAllowed}
 
--- the lower bound of a pause lies within its upper bound: what the roots and the hits reach, and what they and the nodes
--- that may be kept reach
+-- the lower bound of a pause lies within its upper bound: what the roots and the hits reach, and what the nodes that may
+-- be kept and the hits reach
+abbrev pub BoundsMeet : State → Want → Type 0
+BoundsMeet s want =
+    IsWithin (Reach (graph_of s.nodes) (roots_of s ++ hits_for want s)) (Reach (graph_of s.nodes) (members s.may ++ hits_for want s))
+
+-- so it is at each pause, after the entries of other threads that its piece has before the owner's
 abbrev pub PauseBoundsMeet : Type 0
 PauseBoundsMeet =
-    (setup : Setup) (s : State) (want : Want) → IsValid setup s → s.phase ≡ Marking
-    → IsWithin (Reach (graph_of s.nodes) (roots_of s ++ hits_for want s)) (Reach (graph_of s.nodes) (members s.may ++ hits_for want s))
+    (setup : Setup) (s : State) (before : List Entry) (want : Want) → IsValid setup s → s.phase ≡ Marking → AreOthers s before
+    → BoundsMeet (took s before) want
 
 -- ---- the nodes that were read weakly
 
@@ -74,9 +80,20 @@ pub record HasStarted (setup : Setup) (start : State) : Type 0 where
   pub marking : start.phase ≡ Marking
   pub may : start.may ≡ Reach (graph_of start.nodes) (roots_of start)
 
+-- so it has after the start of a collection, before which no sweep is open
+abbrev pub StartsHaveStarted : Type 0
+StartsHaveStarted =
+    (setup : Setup) (swept new : State) (piece : List Entry) → IsValid setup swept → swept.phase ≡ Idle → IsStart setup swept piece new
+    → HasStarted setup new
+
+-- the nodes that were read weakly in a run, and then by other threads
+abbrev pub reads_until : State → List Command → List Outcome → List Entry → List ℕ
+reads_until start commands outcomes before = run_reads start commands outcomes ++ entry_reads (last_state start outcomes).region before
+
+-- up to each pause: the commands, and then the entries of other threads that its piece has before the owner's
 abbrev pub MayIsBounded : Type 0
 MayIsBounded =
-    (setup : Setup) (start : State) (commands : List Command) (outcomes : List Outcome) → 0 < setup.shape.pages
+    (setup : Setup) (start : State) (commands : List Command) (outcomes : List Outcome) (before : List Entry) → 0 < setup.shape.pages
     → HasStarted setup start → All (IsAllowed (length setup.types)) commands → Run setup start commands outcomes
-    → All (λ (o : Outcome). o.state.phase ≡ Marking) outcomes
-    → IsBoundedBy start (run_reads start commands outcomes) (last_state start outcomes)
+    → All (λ (o : Outcome). o.state.phase ≡ Marking) outcomes → AreOthers (last_state start outcomes) before
+    → IsBoundedBy start (reads_until start commands outcomes before) (took (last_state start outcomes) before)

@@ -1,5 +1,5 @@
--- The law of refusals and of want of memory: what they leave as it was.
-use Rattle.std.specs.Prelude.{◌≡◌, ◌≢◌, true, List, [], ◌∷◌, ⊤}
+-- The laws of refusals, of want of memory and of a full heap: what they leave as it was.
+use Rattle.std.specs.Prelude.{◌≡◌, ◌≢◌, ℕ, ◌+◌, true, List, [], ◌∷◌, ◌++◌, Contains, ⊤}
 use Rattle.gc_graph.specs.declared.command.Command.{Command}
 use Rattle.gc_graph.specs.declared.command.Command.TheVariants as C
 use Rattle.gc_graph.specs.declared.line.Line.{Line}
@@ -7,7 +7,8 @@ use Rattle.gc_graph.specs.declared.line.Line.TheVariants as L
 use Rattle.gc_graph.specs.declared.line.Refusal.{Refusal}
 use Rattle.gc_graph.specs.declared.region.Entry.{Entry}
 use Rattle.gc_graph.specs.State.{Setup, State, type_at}
-use Rattle.gc_graph.specs.Outcomes.{answered}
+use Rattle.gc_graph.specs.Outcomes.{answered, finalise_lines}
+use Rattle.gc_graph.specs.Sweep.{EndsSweep}
 use Rattle.gc_graph.specs.Step.{Step}
 
 -- a refused command takes nothing of the history, and changes nothing but the count of commands
@@ -64,3 +65,17 @@ abbrev pub MemoryLeavesAll : Type 0
 MemoryLeavesAll =
     (setup : Setup) (old new : State) (command : Command) (piece : List Entry) (lines : List Line)
     → Step setup old command piece lines new → lines ≡ L.Memory ∷ [] → IsLeftAlone setup command old piece new
+
+-- no object was made: an open sweep was ended, which finalised these, and one more answer was `full`
+pub record IsLeftFull (setup : Setup) (old : State) (piece : List Entry) (lines : List Line) (new : State) : Type 0 where
+  pub numbers : List ℕ
+  pub swept : State
+  pub ended : EndsSweep setup.shape old numbers swept
+  pub lines_are : lines ≡ finalise_lines numbers ++ L.Full ∷ []
+  pub taken : piece ≡ []
+  pub after : new ≡ answered (record swept { full = swept.full + 1 })
+
+abbrev pub FullLeavesRest : Type 0
+FullLeavesRest =
+    (setup : Setup) (old new : State) (p t e : ℕ) (piece : List Entry) (lines : List Line)
+    → Step setup old (C.New p t e) piece lines new → Contains lines L.Full → IsLeftFull setup old piece lines new

@@ -116,10 +116,10 @@ abbrev pub outcomes_bytes : List (List Line) → List ℕ
 outcomes_bytes outcomes = flat_map lines_bytes outcomes
 
 -- a line for each type line of the script
-abbrev pub type_lines : ℕ → List ℕ → List Line
+abbrev pub type_lines : {T : Type 0} → ℕ → List T → List Line
 type_lines t [] = []
 type_lines t (type ∷ types) = L.TypeLine t ∷ type_lines (t + 1) types
 
 -- the report of a run: the type lines, the outcomes in order, and the end line
-abbrev pub report_of : List ℕ → List (List Line) → Line → List ℕ
+abbrev pub report_of : {T : Type 0} → List T → List (List Line) → Line → List ℕ
 report_of types outcomes end = lines_bytes (type_lines 0 types) ++ outcomes_bytes outcomes ++ line_bytes end

@@ -6,7 +6,7 @@ use Rattle.gc_graph.specs.declared.command.Command.{Command}
 use Rattle.gc_graph.specs.State.{ObjectType}
 use Rattle.gc_graph.specs.Words.{lines_of, words_of, is_text, is_blank}
 use Rattle.gc_graph.specs.Reasons.{Reason, number_of, Bounds, first_is, rest_of, reason_of_words, command_of_words, type_of_words}
-use Rattle.gc_graph.specs.Reasons.Reason.{Header, Order, Section}
+use Rattle.gc_graph.specs.Reasons.Reason.{Header, Order, Section, TooLong}
 
 -- ---- limits
 
@@ -84,9 +84,9 @@ breaks_section threads words last =
 -- ---- the reason of a line
 
 -- the lowest reason of a line after the header, from the lines before, its words, and whether it is the last with words
-abbrev pub reason_by_order : ℕ → List (List ℕ) → List (List ℕ) → Bool → Option Reason → Option Reason
-reason_by_order callbacks before words last (Some reason) = Some reason
-reason_by_order callbacks before words last None =
+abbrev pub reason_by_order : List (List ℕ) → List (List ℕ) → Bool → Option Reason → Option Reason
+reason_by_order before words last (Some reason) = Some reason
+reason_by_order before words last None =
     if first_is (codes "type") words && list_any is_command before then Some Order
     else if breaks_section (threads_of before) words last then Some Section
     else None
@@ -99,7 +99,7 @@ abbrev pub reason_of : ℕ → List (List ℕ) → List ℕ → List (List ℕ) 
 reason_of callbacks [] line after = if is_header line then None else Some Header
 reason_of callbacks (header ∷ before) line after =
     if is_blank line then None
-    else reason_by_order callbacks before (words_of line) (list_all is_blank after)
+    else reason_by_order before (words_of line) (list_all is_blank after)
     (reason_of_words (bounds_after callbacks before) (words_of line))
 
 -- line i + 1; a missing first line counts as one
@@ -115,6 +115,7 @@ pub record Script : Type 0 where
 
 -- the bytes are a script that can use so many callbacks, and it says this
 pub record IsScript (callbacks : ℕ) (bytes : List ℕ) (script : Script) : Type 0 where
+  pub limits : IsInLimits bytes
   pub header : reason_at callbacks (lines_of bytes) 0 ≡ None
   pub faultless : (i : ℕ) → i < length (lines_of bytes) → reason_at callbacks (lines_of bytes) i ≡ None
   pub types : script.types ≡ filter_map (λ line. type_of_words (words_of line)) (lines_of bytes)
@@ -128,6 +129,6 @@ pub record IsFirstFault (callbacks : ℕ) (bytes : List ℕ) (i : ℕ) (reason :
 -- the line and the number of the reason why the bytes are no script; over the limits it is line 0 and reason 8
 abbrev pub IsFault : ℕ → List ℕ → ℕ → ℕ → Type 0
 IsFault callbacks bytes line reason =
-    (IsTooLong bytes × (line ≡ 0) × (reason ≡ 8))
+    (IsTooLong bytes × (line ≡ 0) × (reason ≡ number_of TooLong))
     ⊎ (IsInLimits bytes
     × ((i : ℕ) × (why : Reason) × (line ≡ i + 1) × (reason ≡ number_of why) × IsFirstFault callbacks bytes i why))

@@ -25,7 +25,7 @@ IsPlainWord Null = ⊥
 IsPlainWord (Ref n) = ⊥
 IsPlainWord (Word w) = ⊤
 
--- both words of a pair are null, or neither is
+-- a pair has no null word beside one that isn't null
 abbrev pub ArePaired : Value → Value → Type 0
 ArePaired Null value = value ≡ Null
 ArePaired (Ref n) value = value ≢ Null

@@ -15,7 +15,7 @@ pub enum Action {
 }
 
 /// Which action a callback answers, from the shown words of the dying object: a plain word as it
-/// is, a reference as 0 where it is null and as 1 where not.
+/// is, 0 for a null reference and 1 for any other.
 ///
 /// | kind | action |
 /// |---|---|

@@ -1,10 +1,10 @@
 // The laws of the definitions. Whoever calls one of these has its law; none of them does anything.
 
 ghost use Rattle.gc_graph.specs.HistoryLaw.{RepliesAreOfOneThread, RunsAreReplayed};
-ghost use Rattle.gc_graph.specs.MayLaw.{MayIsBounded, PauseBoundsMeet};
+ghost use Rattle.gc_graph.specs.MayLaw.{StartsHaveStarted, MayIsBounded, PauseBoundsMeet};
 ghost use Rattle.gc_graph.specs.PlacementLaw.{PlacementIsFree, SweepsFinaliseDead};
 ghost use Rattle.gc_graph.specs.ReadBack.{LinesReadBack, ReportReadsBack};
-ghost use Rattle.gc_graph.specs.RefusalLaw.{RefusedLeavesAll, MemoryLeavesAll};
+ghost use Rattle.gc_graph.specs.RefusalLaw.{RefusedLeavesAll, MemoryLeavesAll, FullLeavesRest};
 ghost use Rattle.gc_graph.specs.ValidLaw.{EmptyIsValid, StepKeepsValid};
 
 /// A heap without objects is valid.
@@ -18,10 +18,11 @@ pub fn step_keeps_valid()
     ensures { StepKeepsValid }
 {}
 
-/// While marking goes on, what may be kept is new since the start, or was reached in the start's
-/// graph from its roots and the nodes that were read weakly since.
+/// While marking goes on, and at the pause, what may be kept is new since the start, or was reached
+/// in the start's graph from its roots and the nodes that were read weakly since.
 pub fn may_is_bounded()
-    ensures { MayIsBounded }
+    ensures starts { StartsHaveStarted }
+    ensures bound { MayIsBounded }
 {}
 
 /// What a pause has to keep, it may keep.
@@ -40,8 +41,14 @@ pub fn memory_leaves_all()
     ensures { MemoryLeavesAll }
 {}
 
-/// A new object's words lie in one page or fill whole pages, and no object that is not finalised has
-/// one of them.
+/// A new object that found the heap full ends an open sweep, raises the count of these answers, and
+/// changes nothing else.
+pub fn full_leaves_rest()
+    ensures { FullLeavesRest }
+{}
+
+/// A new object's words lie in one page or fill whole pages, and no object that is not finalised
+/// has one of them.
 pub fn placement_is_free()
     ensures { PlacementIsFree }
 {}

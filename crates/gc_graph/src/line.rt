@@ -20,7 +20,9 @@ pub enum Refusal {
 }
 
 /// One line of a report. `k` is a node, `a` an address in words, `c` a callback or a cursor, `j` a
-/// thread, `m` threads, `n` objects, `u` words and `g` pages.
+/// thread, `m` threads, `n` objects, `u` words and `g` pages. `t` is a type, or in `Step` how many
+/// objects were traced; in `Word` `n` is the word. The totals that a thread saw have the number `o`
+/// of the commands before, and `f` finalisations.
 #[derive(Clone, Copy, Debug, PartialEq, Eq, Drop)]
 pub enum Line {
     TypeLine {

@@ -10,7 +10,7 @@ use Rattle.gc_graph.specs.State.Life.{Live, Dead, Gone}
 use Rattle.gc_graph.specs.CycleSteps.{is_marking}
 use Rattle.gc_graph.specs.Sweep.{buried, finalise, phase_at, IsDeadBelow, AreDeadInOrder, SweepsIn, EndsSweep}
 use Rattle.page_words.specs.Seat.{SeatView, IsView}
-use Rattle.heap_engine.specs.Space.{word_count}
+use Rattle.page_space.specs.Pages.{word_count}
 use Rattle.heap_engine.specs.Sweeping.{AreDeadSerials}
 use Rattle.heap_engine.specs.Nodes.{place_of, body_of, IsHeld}
 use Rattle.heap_engine.specs.Plain.{IsPlainState}
@@ -86,6 +86,6 @@ ends_in setup s v numbers Sweeping view count valid held serials is calm =
           ∙ ap (build (map (finalise limit) s.nodes) (phase_at setup.shape setup.shape.pages)) cursor;
     }
 
-pub ends_sweep : (setup : Setup) (s : State) (v : SeatView) (numbers : List ℕ) → IsView v → Holds setup s v → AreDeadSerials v numbers
+pub ends_sweep : (setup : Setup) (s : State) (v : SeatView) (numbers : List ℕ) → IsView v → v.count ≡ word_count setup.shape → Holds setup s v → AreDeadSerials v numbers
     → EndsSweep setup.shape s numbers (ended_state setup.shape s numbers)
-ends_sweep setup s v numbers view h serials = ends_in setup s v numbers s.phase view h.seat h.valid h.held serials refl h.valid.calm
+ends_sweep setup s v numbers view count h serials = ends_in setup s v numbers s.phase view count h.valid h.held serials refl h.valid.calm

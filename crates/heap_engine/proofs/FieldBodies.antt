@@ -1,10 +1,8 @@
 -- The bodies after a store into a field word.
 use Rattle.std.proofs.Common.{◌≡◌, ℕ, zero, suc, ◌+◌, ◌-◌, ◌<◌, ◌≤◌, Bool, true, false, ◌&&◌, List, [], ◌∷◌, length, set, map, refl, sym, ap, ◌∙◌, inl, inr, arith, leb, ltb}
 use mathlib.Core.Logic.{◌⊎◌}
-use Rattle.std.specs.List.{sum_by}
 use Rattle.std.proofs.lemmas.Bool.{true≢false, cases_Bool, and_from, le-leb, lt-ltb, lt-leb, le-ltb, cond-true, cond-false, cond_both, cases_lt}
 use Rattle.std.proofs.lemmas.List.{map-set}
-use Rattle.std.proofs.lemmas.List.Sums.{sum_by-cons}
 use Rattle.gc_graph.specs.declared.graph.Value.{Value}
 use Rattle.gc_graph.specs.State.{Node, node_at, is_there, size_of}
 use Rattle.gc_graph.specs.Fields.{with_value}
@@ -21,21 +19,10 @@ has_word a b = leb (b.place + 2) a && ltb a (end_of b)
 abbrev rewritten : ℕ → ℕ → Body → Body
 rewritten a w b = record b { fields = set b.fields (a - (b.place + 2)) w }
 
--- ---- place and size stay
+-- ---- the place stays
 
 pub place-word : (a w : ℕ) (b : Body) → (with_word a w b).place ≡ b.place
 place-word a w b = cond_both (has_word a b) (rewritten a w b) b (λ c. c.place ≡ b.place) (λ _. refl) (λ _. refl)
-
-pub size-word : (a w : ℕ) (b : Body) → (with_word a w b).size ≡ b.size
-size-word a w b = cond_both (has_word a b) (rewritten a w b) b (λ c. c.size ≡ b.size) (λ _. refl) (λ _. refl)
-
-pub sizes-word : (a w : ℕ) (bodies : List Body) → sum_by (λ (b : Body). b.size) (map (with_word a w) bodies) ≡ sum_by (λ (b : Body). b.size) bodies
-sizes-word a w [] = refl
-sizes-word a w (b ∷ bodies) =
-    sum_by-cons (λ (c : Body). c.size) (with_word a w b) (map (with_word a w) bodies)
-    ∙ ap (λ n. n + sum_by (λ (c : Body). c.size) (map (with_word a w) bodies)) (size-word a w b)
-    ∙ ap (λ n. b.size + n) (sizes-word a w bodies)
-    ∙ sym (sum_by-cons (λ (c : Body). c.size) b bodies)
 
 -- ---- one body alone changes
 

@@ -1,15 +1,16 @@
 -- The nodes after a field got a value.
-use Rattle.std.proofs.Common.{◌≡◌, ℕ, zero, suc, ◌+◌, ◌<◌, List, [], ◌∷◌, length, set, refl, sym, ap, ◌∙◌, subst, arith}
+use Rattle.std.proofs.Common.{◌≡◌, ℕ, zero, suc, ◌+◌, ◌<◌, List, [], ◌∷◌, length, get_or, set, refl, sym, ap, ◌∙◌, subst, inl, inr, arith}
 use Rattle.std.specs.List.{All}
 use Rattle.std.specs.Option.{ForSome}
-use Rattle.std.proofs.lemmas.List.{length-set, length-replicate}
+use Rattle.std.proofs.lemmas.Bool.{cases_eq}
+use Rattle.std.proofs.lemmas.List.{length-set, length-replicate, get_or-set_same, get_or-set_other}
 use Rattle.std.proofs.lemmas.List.Elements.{All-set, All-get_or, All-weaker}
 use Rattle.gc_graph.specs.declared.graph.Kind.TheVariants.{Strong}
 use Rattle.gc_graph.specs.declared.graph.Value.{Value}
 use Rattle.gc_graph.specs.declared.graph.Value.TheVariants.{Null, Ref, Word}
 use Rattle.gc_graph.specs.State.{Setup, State, Node, node_at, no_node, size_of, IsLive}
-use Rattle.gc_graph.specs.Valid.{IsReferenceBelow, NamesLive}
-use Rattle.heap_engine.specs.Plain.{IsStrong, IsPlainState, HasNamesBelow, fields_of}
+use Rattle.gc_graph.specs.Valid.{IsPlainWord, NamesLive}
+use Rattle.heap_engine.specs.Plain.{IsStrong, IsPlainState, IsPointer, HasNamesBelow, NamesBelow, fields_of}
 use Rattle.gc_graph.specs.Fields.{field_count, with_value}
 use Rattle.gc_graph.specs.Outcomes.{answered}
 use Rattle.heap_engine.specs.Nodes.{place_of}
@@ -54,11 +55,24 @@ live_typed setup s n valid live = All-get_or (IsStrong setup) s.nodes n no_node 
 
 pub fields_counted : (setup : Setup) (node : Node) → IsStrong setup node → field_count node ≡ length node.object.values
 fields_counted setup node typed =
-    omega (arith, ap length typed.kinds, length-replicate (fields_of setup node) Strong, typed.extra, typed.values)
+    omega (arith, ap length typed.kinds, length-replicate (fields_of setup node) Strong, typed.values)
 
-typed_field : (setup : Setup) (node : Node) (f : ℕ) (x : Value) → IsStrong setup node → IsStrong setup (with_value node f x)
-typed_field setup node f x typed =
-    record { ty = typed.ty; extra = typed.extra; kinds = typed.kinds; values = length-set node.object.values f x ∙ typed.values }
+typed_field : (setup : Setup) (node : Node) (f : ℕ) (x : Value) → IsStrong setup node → f < fields_of setup node → IsPointer x → IsStrong setup (with_value node f x)
+typed_field setup node f x typed low pointer =
+    let long : length (set node.object.values f x) ≡ length node.object.values = length-set node.object.values f x in
+    record {
+      ty = typed.ty;
+      kinds = typed.kinds;
+      values = long ∙ typed.values;
+      pointers = λ i field. elim (cases_eq i f) [
+        | inl here ↦ subst IsPointer
+            (sym (ap (λ k. get_or (set node.object.values f x) k Null) here ∙ get_or-set_same node.object.values f x Null (omega (arith, low, typed.values)))) pointer
+        | inr other ↦ subst IsPointer (sym (get_or-set_other node.object.values f i x Null other)) (typed.pointers i field)
+      ];
+      plain = λ i extra inside.
+          let other : i ≡ f → ⊥ = λ e. omega (arith, extra, low, e) in
+          subst IsPlainWord (sym (get_or-set_other node.object.values f i x Null other)) (typed.plain i extra (omega (arith, inside, long)));
+    }
 
 pub size_field : (node : Node) (f : ℕ) (x : Value) → size_of (with_value node f x) ≡ size_of node
 size_field node f x = ap (λ n. 2 + n) (length-set node.object.values f x)
@@ -67,7 +81,7 @@ size_field node f x = ap (λ n. 2 + n) (length-set node.object.values f x)
 
 -- the value is null or names a live node
 abbrev pub IsNamed : List Node → Value → Type 0
-IsNamed nodes x = NamesLive nodes x × IsReferenceBelow (length nodes) x
+IsNamed nodes x = NamesLive nodes x × NamesBelow (length nodes) x × IsPointer x
 
 names_still : (nodes new : List Node) (x : Value) → ((m : ℕ) → (node_at new m).life ≡ (node_at nodes m).life) → NamesLive nodes x → NamesLive new x
 names_still nodes new Null same names = tt
@@ -78,17 +92,17 @@ pub named_field : (setup : Setup) (s : State) (n f : ℕ) (x : Value) → IsPlai
     → All (HasNamesBelow (length s.nodes)) (with_field s.nodes n f x)
 named_field setup s n f x valid live names =
     All-set (HasNamesBelow (length s.nodes)) s.nodes n (with_value (node_at s.nodes n) f x)
-    (All-set (IsReferenceBelow (length s.nodes)) (node_at s.nodes n).object.values f x names.1
+    (All-set (NamesBelow (length s.nodes)) (node_at s.nodes n).object.values f x names.1
     (All-get_or (HasNamesBelow (length s.nodes)) s.nodes n no_node (live_below s.nodes n live) valid.named)) valid.named
 
-pub valid_field : (setup : Setup) (s : State) (n f : ℕ) (x : Value) → IsPlainState setup s → IsLive s.nodes n → IsNamed s.nodes x
-    → IsPlainState setup (answered (record s { nodes = with_field s.nodes n f x }))
-valid_field setup s n f x valid live names =
+pub valid_field : (setup : Setup) (s : State) (n f : ℕ) (x : Value) → IsPlainState setup s → IsLive s.nodes n → f < fields_of setup (node_at s.nodes n)
+    → IsNamed s.nodes x → IsPlainState setup (answered (record s { nodes = with_field s.nodes n f x }))
+valid_field setup s n f x valid live field names =
     let new : List Node = with_field s.nodes n f x in
     let same : (m : ℕ) → (node_at new m).life ≡ (node_at s.nodes m).life = life-field s.nodes n f x in
     record {
       typed = All-set (IsStrong setup) s.nodes n (with_value (node_at s.nodes n) f x)
-          (typed_field setup (node_at s.nodes n) f x (live_typed setup s n valid live)) valid.typed;
+          (typed_field setup (node_at s.nodes n) f x (live_typed setup s n valid live) field names.2) valid.typed;
       named = subst (λ bound. All (HasNamesBelow bound) new) (sym (length-field s.nodes n f x)) (named_field setup s n f x valid live names);
       references = λ m is. All-field (NamesLive new) s.nodes n f x m (names_still s.nodes new x same names.0)
           (All-weaker (NamesLive s.nodes) (NamesLive new) (λ y. names_still s.nodes new y same) (node_at s.nodes m).object.values

@@ -1,9 +1,5 @@
 -- A heap after a store into a field.
 use Rattle.std.proofs.Common.{◌≡◌, ℕ, ◌+◌, ◌<◌, not, List, length, Option, Some, None, option_map, refl, sym, ap, ◌∙◌, subst, inl, inr, arith}
-use Rattle.std.specs.List.{All}
-use Rattle.std.proofs.lemmas.Bool.{cond_both}
-use Rattle.std.proofs.lemmas.List.{length-map}
-use Rattle.std.proofs.lemmas.List.Elements.{All-map, All-weaker}
 use Rattle.gc_graph.specs.declared.phase.Phase.{Phase}
 use Rattle.gc_graph.specs.declared.phase.Phase.TheVariants.{Idle, Marking, Sweeping}
 use Rattle.gc_graph.specs.declared.graph.Value.{Value}
@@ -11,18 +7,18 @@ use Rattle.gc_graph.specs.declared.graph.Value.TheVariants.{Null, Ref, Word}
 use Rattle.gc_graph.specs.State.{Setup, State, Node, node_at, is_there, is_dead, IsLive}
 use Rattle.gc_graph.specs.Fields.{content_of}
 use Rattle.gc_graph.specs.Outcomes.{answered}
+use Rattle.heap_engine.specs.Plain.{fields_of}
 use Rattle.heap_engine.specs.Changes.{stored_in, stored_state}
 use Rattle.page_words.specs.Bodies.{Body, with_word, IsFieldWord, IsReference}
 use Rattle.page_words.specs.Seat.{SeatView, IsView, holds, stored}
-use Rattle.heap_engine.specs.Space.{IsInOnePage}
 use Rattle.heap_engine.specs.Nodes.{place_of, word_of, body_of, bodies_of, IsHeld}
 use Rattle.heap_engine.specs.Inner.{Holds, HasMarks, IsTallied, HoldsSlotsOf, reference_to}
 use Rattle.heap_engine.proofs.NodePlaces.{live_is_there, node_body, Contains-map_some}
 use Rattle.heap_engine.proofs.NodeChanges.{bodies-places}
 use Rattle.heap_engine.proofs.HeapSteps.{places-same}
 use Rattle.heap_engine.proofs.FieldNodes.{IsNamed, with_field, place-field, life-field, length-field, named_field, valid_field}
-use Rattle.heap_engine.proofs.FieldPlaces.{Found}
-use Rattle.heap_engine.proofs.FieldBodies.{place-word, sizes-word, bodies_stored}
+use Rattle.heap_engine.proofs.FieldPlaces.{Found, found_strong}
+use Rattle.heap_engine.proofs.FieldBodies.{place-word, bodies_stored}
 
 -- the state after the field got the value
 abbrev pub state_with : State → ℕ → ℕ → Value → State
@@ -40,7 +36,7 @@ pub value_is_reference : (nodes : List Node) (v : SeatView) (x : Value) → v.bo
 value_is_reference nodes v Null held names = inl refl
 value_is_reference nodes v (Ref n) held names =
     inr (body_of (place_of nodes) n (node_at nodes n), node_body nodes v n held (live_is_there nodes n names.0), refl)
-value_is_reference nodes v (Word w) held names = absurd names.1
+value_is_reference nodes v (Word w) held names = absurd names.2
 
 -- what a slot holds, as a word
 pub slot_word : (place : ℕ → ℕ) (slot : Option ℕ) → reference_to (option_map place slot) ≡ word_of place (content_of slot)
@@ -55,12 +51,6 @@ marks_stored Marking v a w quiet = record { off = quiet.off; marked = quiet.mark
 marks_stored Sweeping v a w judged = λ b there.
     let from = Contains-map_some (with_word a w) v.bodies b there in
     subst (λ p. holds v.dead p ≡ not (holds v.marked p)) (sym (place-word a w from.0) ∙ ap (λ (c : Body). c.place) from.2) (judged from.0 from.1)
-
-paged_stored : (page_words : ℕ) (v : SeatView) (a w : ℕ) → All (IsInOnePage page_words) v.bodies → All (IsInOnePage page_words) (stored v a w).bodies
-paged_stored page_words v a w paged =
-    All-map (IsInOnePage page_words) (with_word a w) v.bodies
-    (All-weaker (IsInOnePage page_words) (λ b. IsInOnePage page_words (with_word a w b))
-    (λ b one. cond_both _ _ b (IsInOnePage page_words) (λ _. one) (λ _. one)) v.bodies paged)
 
 held_stored : (setup : Setup) (s : State) (v : SeatView) (a n f : ℕ) (x : Value) → IsView v → Holds setup s v → IsLive s.nodes n
     → a ≡ place_of s.nodes n + 2 + f → f < length (node_at s.nodes n).object.values → IsNamed s.nodes x
@@ -78,22 +68,17 @@ held_stored setup s v a n f x view h live at low names =
 -- ---- the heap
 
 pub holds_stored : (setup : Setup) (s : State) (v : SeatView) (a n f : ℕ) (x : Value) → IsView v → Holds setup s v → IsLive s.nodes n
-    → a ≡ place_of s.nodes n + 2 + f → f < length (node_at s.nodes n).object.values → IsNamed s.nodes x
+    → a ≡ place_of s.nodes n + 2 + f → f < length (node_at s.nodes n).object.values → f < fields_of setup (node_at s.nodes n) → IsNamed s.nodes x
     → Holds setup (state_with s n f x) (stored v a (word_of (place_of s.nodes) x))
-holds_stored setup s v a n f x view h live at low names = record {
-  seat = h.seat;
+holds_stored setup s v a n f x view h live at low field names = record {
   off = h.off;
   held = held_stored setup s v a n f x view h live at low names;
-  valid = valid_field setup s n f x h.valid live names;
+  valid = valid_field setup s n f x h.valid live field names;
   marks = marks_stored s.phase v a (word_of (place_of s.nodes) x) h.marks;
-  paged = paged_stored setup.shape.page_words v a (word_of (place_of s.nodes) x) h.paged;
 }
 
-pub tallied_stored : (s : State) (v : SeatView) (a w n f : ℕ) (x : Value) (objects used made : ℕ) → IsTallied s v objects used made → s.ordinal < 1000000
-    → IsTallied (state_with s n f x) (stored v a w) objects used made
-tallied_stored s v a w n f x objects used made c few = record {
-  objects_are = c.objects_are ∙ sym (length-map v.bodies (with_word a w));
-  words_are = c.words_are ∙ sym (sizes-word a w v.bodies);
+pub tallied_stored : (s : State) (n f : ℕ) (x : Value) (made : ℕ) → IsTallied s made → s.ordinal < 1000000 → IsTallied (state_with s n f x) made
+tallied_stored s n f x made c few = record {
   numbers_are = c.numbers_are ∙ sym (length-field s.nodes n f x);
   few = omega (arith, c.few, length-field s.nodes n f x);
   most = omega (arith, few);
@@ -106,25 +91,23 @@ slots_stored s n f x slots h = record {
 }
 
 -- the heap holds the state after a command
-pub record HoldsNext (setup : Setup) (s t : State) (new : SeatView) (named : List (Option ℕ)) (objects used made : ℕ) : Type 0 where
+pub record HoldsNext (setup : Setup) (s t : State) (new : SeatView) (named : List (Option ℕ)) (made : ℕ) : Type 0 where
   pub phase : s.phase ≡ t.phase
   pub holds : Holds setup t new
-  pub tallied : IsTallied t new objects used made
+  pub tallied : IsTallied t made
   pub slots : HoldsSlotsOf t named
 
-pub field_stored : (setup : Setup) (s t : State) (v new : SeatView) (p f a w : ℕ) (x : Value) (slots : List (Option ℕ)) (objects used made : ℕ)
-    → IsView v → Holds setup s v → IsTallied s v objects used made → HoldsSlotsOf s slots → s.ordinal < 1000000 → Found s p f a → IsNamed s.nodes x
-    → w ≡ word_of (place_of s.nodes) x → new ≡ stored v a w → t ≡ stored_state s p f x → HoldsNext setup s t new slots objects used made
-field_stored setup s t v new p f a w x slots objects used made view h c named few found names word store step =
+pub field_stored : (setup : Setup) (s t : State) (v new : SeatView) (p f a w : ℕ) (x : Value) (slots : List (Option ℕ)) (made : ℕ)
+    → IsView v → Holds setup s v → IsTallied s made → HoldsSlotsOf s slots → s.ordinal < 1000000 → Found s p f a → IsNamed s.nodes x
+    → w ≡ word_of (place_of s.nodes) x → new ≡ stored v a w → t ≡ stored_state s p f x → HoldsNext setup s t new slots made
+field_stored setup s t v new p f a w x slots made view h c named few found names word store step =
     let n : ℕ = found.node in
     let to : state_with s n f x ≡ t = sym (step ∙ ap (λ slot. stored_in s slot f x) found.slot) in
     let seat : stored v a (word_of (place_of s.nodes) x) ≡ new = sym (store ∙ ap (stored v a) word) in
     record {
       phase = ap (λ (y : State). y.phase) to;
       holds = subst (λ (y : State). Holds setup y new) to
-          (subst (Holds setup (state_with s n f x)) seat (holds_stored setup s v a n f x view h found.live found.at found.low names));
-      tallied = subst (λ (y : State). IsTallied y new objects used made) to
-          (subst (λ u. IsTallied (state_with s n f x) u objects used made) seat
-          (tallied_stored s v a (word_of (place_of s.nodes) x) n f x objects used made c few));
+          (subst (Holds setup (state_with s n f x)) seat (holds_stored setup s v a n f x view h found.live found.at found.low (found_strong setup s p f a h.valid found) names));
+      tallied = subst (λ (y : State). IsTallied y made) to (tallied_stored s n f x made c few);
       slots = subst (λ (y : State). HoldsSlotsOf y slots) to (slots_stored s n f x slots named);
     }

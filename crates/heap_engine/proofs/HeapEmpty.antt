@@ -6,7 +6,7 @@ use Rattle.std.proofs.lemmas.List.Elements.{All-replicate}
 use Rattle.gc_graph.specs.State.{Setup, empty_state, IsLive}
 use Rattle.heap_engine.specs.Plain.{IsPlainState}
 use Rattle.page_words.specs.Seat.{empty_view}
-use Rattle.heap_engine.specs.Space.{word_count}
+use Rattle.page_space.specs.Pages.{word_count}
 use Rattle.heap_engine.specs.View.{places_of}
 use Rattle.heap_engine.specs.Inner.{Holds, IsTallied, HoldsSlotsOf}
 
@@ -30,13 +30,11 @@ valid_empty setup = record {
 
 pub holds_empty : (setup : Setup) → Holds setup empty_state (empty_view (word_count setup.shape))
 holds_empty setup = record {
-  seat = refl;
   off = refl;
   held = record { bodies = refl; dead = λ n there. cc };
   valid = valid_empty setup;
   marks = record { off = refl; marked = refl; traced = refl; dead = refl };
-  paged = λ k d low. absurd (omega arith);
 }
 
-pub tallied_empty : (count : ℕ) → IsTallied empty_state (empty_view count) 0 0 0
-tallied_empty count = record { objects_are = refl; words_are = refl; numbers_are = refl; few = omega arith; most = omega arith }
+pub tallied_empty : IsTallied empty_state 0
+tallied_empty = record { numbers_are = refl; few = omega arith; most = omega arith }

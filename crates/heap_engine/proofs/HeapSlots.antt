@@ -29,12 +29,10 @@ valid_slot setup s p content valid live = record {
 pub holds_slot : (setup : Setup) (s : State) (v : SeatView) (p : ℕ) (content : Option ℕ) → Holds setup s v → ForSome content (IsLive s.nodes)
     → Holds setup (answered (with_slot s p content)) v
 holds_slot setup s v p content h live = record {
-  seat = h.seat;
   off = h.off;
   held = record { bodies = h.held.bodies; dead = h.held.dead };
   valid = valid_slot setup s p content h.valid live;
   marks = h.marks;
-  paged = h.paged;
 }
 
 pub slots_set : (s : State) (slots : List (Option ℕ)) (p : ℕ) (content place : Option ℕ) → HoldsSlotsOf s slots → place ≡ option_map (place_of s.nodes) content
@@ -46,36 +44,25 @@ slots_set s slots p content place h is = record {
 }
 
 -- one command more
-pub tallied_on : (s t : State) (v : SeatView) (objects used made : ℕ) → IsTallied s v objects used made → s.ordinal < 1000000 → t.ordinal ≡ s.ordinal + 1
-    → length t.nodes ≡ length s.nodes → IsTallied t v objects used made
-tallied_on s t v objects used made c few on same = record {
-  objects_are = c.objects_are;
-  words_are = c.words_are;
-  numbers_are = c.numbers_are ∙ sym same;
-  few = omega (arith, c.few, on, same);
-  most = omega (arith, few, on);
-}
+pub tallied_on : (s t : State) (made : ℕ) → IsTallied s made → s.ordinal < 1000000 → t.ordinal ≡ s.ordinal + 1 → length t.nodes ≡ length s.nodes → IsTallied t made
+tallied_on s t made c few on same = record { numbers_are = c.numbers_are ∙ sym same; few = omega (arith, c.few, on, same); most = omega (arith, few, on) }
 
 pub holds_answered : (setup : Setup) (s : State) (v : SeatView) → Holds setup s v → Holds setup (answered s) v
 holds_answered setup s v h = record {
-  seat = h.seat;
   off = h.off;
   held = record { bodies = h.held.bodies; dead = h.held.dead };
   valid = record { typed = h.valid.typed; named = h.valid.named; references = h.valid.references; slots = h.valid.slots; idle = h.valid.idle; calm = h.valid.calm; unused = h.valid.unused };
   marks = h.marks;
-  paged = h.paged;
 }
 
 -- nothing but counts of the state changed
 pub holds_counted : (setup : Setup) (s t : State) (v : SeatView) → Holds setup s v → t.nodes ≡ s.nodes → t.slots ≡ s.slots → t.phase ≡ s.phase
     → AreUnused t.weak t.stack t.region t.registrations t.running → Holds setup t v
 holds_counted setup s t v h nodes slots phase unused = record {
-  seat = h.seat;
   off = h.off;
   held = subst (λ (ns : List Node). IsHeld ns v) (sym nodes) h.held;
   valid = valid_counted setup s t h.valid nodes slots phase unused;
   marks = subst (λ ph. HasMarks ph v) (sym phase) h.marks;
-  paged = h.paged;
 } where
   valid_counted : (setup : Setup) (s t : State) → IsPlainState setup s → t.nodes ≡ s.nodes → t.slots ≡ s.slots → t.phase ≡ s.phase
       → AreUnused t.weak t.stack t.region t.registrations t.running → IsPlainState setup t

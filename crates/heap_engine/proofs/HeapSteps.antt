@@ -2,25 +2,28 @@
 use Rattle.std.proofs.Common.{◌≡◌, ℕ, ◌<◌, ◌≤◌, ◌^◌, Bool, true, false, not, List, [], ◌∷◌, length, get_or, map, filter, Option, Some, None, option_map, refl, sym, ap, ◌∙◌, subst, inl, inr, arith}
 use Rattle.std.specs.List.{All, Contains}
 use Rattle.std.specs.Option.{ForSome}
-use Rattle.std.proofs.lemmas.List.Elements.{All-get_or, All-contains, All-cons, All-head, All-tail, All-filter, All-same, All-from_get_or, Contains-get_or}
+use Rattle.std.proofs.lemmas.List.{get_or-map, length-map}
+use Rattle.std.proofs.lemmas.List.Elements.{All-get_or, All-contains, All-cons, All-head, All-tail, All-same, All-from_get_or, Contains-get_or}
 use Rattle.gc_graph.specs.declared.phase.Phase.TheVariants.{Idle}
 use Rattle.gc_graph.specs.declared.graph.Value.{Value}
 use Rattle.gc_graph.specs.declared.graph.Value.TheVariants.{Null, Ref, Word}
 use Rattle.gc_graph.specs.Reach.{ReachIsLeast}
 use Rattle.gc_graph.specs.State.{Shape, Setup, State, Node, node_at, no_node, IsLive}
-use Rattle.gc_graph.specs.Valid.{IsReferenceBelow, NamesLive}
-use Rattle.heap_engine.specs.Plain.{HasNamesBelow}
+use Rattle.gc_graph.specs.Fields.{value_at}
+use Rattle.gc_graph.specs.Valid.{NamesLive}
+use Rattle.heap_engine.specs.Plain.{IsStrong, IsPointer, fields_of}
 use Rattle.gc_graph.specs.Pause.{condemn}
 use Rattle.heap_engine.specs.Changes.{ended_state, collected_state, bury}
 use Rattle.page_words.specs.Bodies.{Body, IsPlace, IsReference}
 use Rattle.page_words.specs.Seat.{SeatView, IsView, IsQuiet, holds}
-use Rattle.heap_engine.specs.Space.{IsInOnePage}
-use Rattle.heap_engine.specs.Marking.{AreReferences, MarksReachable}
+use Rattle.page_space.specs.Space.{SpaceView, IsSpaceOver, IsSpaceOf, extents_of_bodies}
+use Rattle.heap_engine.specs.Marking.{AreReferences, fields_by, MarksReachable}
 use Rattle.heap_engine.specs.Sweeping.{IsSweptView, AreDeadSerials, no_body}
 use Rattle.heap_engine.specs.Nodes.{place_of, word_of, body_of, bodies_of}
 use Rattle.heap_engine.specs.View.{kept_of, places_of}
 use Rattle.heap_engine.specs.Inner.{Holds, HoldsSlotsOf}
-use Rattle.heap_engine.proofs.NodePlaces.{live_is_there, node_body, body_node, Contains-map_some}
+use Rattle.heap_engine.proofs.NodePlaces.{live_is_there, node_body, body_node}
+use Rattle.heap_engine.proofs.StrongFields.{HaveFields}
 use Rattle.heap_engine.proofs.NodeLives.{place-condemn, place-finalise, live_if_there}
 use Rattle.heap_engine.proofs.KeptNodes.{KeepsReached, kept_from, keeps_reached, slot_place}
 use Rattle.heap_engine.proofs.PauseSteps.{held_condemned, valid_paused, judged_after}
@@ -30,13 +33,10 @@ use Rattle.heap_engine.proofs.NodeSweeps.{held_swept, valid_swept}
 
 pub holds_swept : (setup : Setup) (s : State) (v new : SeatView) (numbers : List ℕ) → Holds setup s v → IsSweptView v new → Holds setup (ended_state setup.shape s numbers) new
 holds_swept setup s v new numbers h sweeps = record {
-  seat = sweeps.count ∙ h.seat;
   off = sweeps.off;
   held = held_swept setup s v new h.valid h.held sweeps;
   valid = valid_swept setup s numbers h.valid;
   marks = record { off = sweeps.off; marked = sweeps.marked; traced = sweeps.traced; dead = sweeps.dead };
-  paged = All-same (IsInOnePage setup.shape.page_words) new.bodies (filter (λ (b : Body). not (holds v.dead b.place)) v.bodies) sweeps.bodies
-      (All-filter (λ (b : Body). not (holds v.dead b.place)) (IsInOnePage setup.shape.page_words) v.bodies h.paged);
 }
 
 filter_all : (bodies : List Body) → filter (λ (b : Body). true) bodies ≡ bodies
@@ -105,21 +105,42 @@ slots_are_places setup s v slots h named =
 
 -- ---- bodies
 
--- where no node is dead, each field word is null or names a body
-pub references_hold : (setup : Setup) (s : State) (v : SeatView) → Holds setup s v → s.phase ≡ Idle → AreReferences v.bodies
-references_hold setup s v h idle b w there field =
-    let node = body_node s.nodes v b h.held.bodies there in
-    let live : IsLive s.nodes node.0 = live_if_there (node_at s.nodes node.0).life node.2 (h.valid.idle idle node.0) in
-    let word = Contains-map_some (word_of (place_of s.nodes)) (node_at s.nodes node.0).object.values w (subst (λ ws. Contains ws w) (ap (λ (c : Body). c.fields) node.3) field) in
-    named setup s v h word.0 w (All-contains (NamesLive s.nodes) (node_at s.nodes node.0).object.values word.0 (h.valid.references node.0 live) word.1)
-    (All-contains (IsReferenceBelow (length s.nodes)) (node_at s.nodes node.0).object.values word.0
-    (All-get_or (HasNamesBelow (length s.nodes)) s.nodes node.0 no_node node.1 h.valid.named) word.1) word.2 where
-      named : (setup : Setup) (s : State) (v : SeatView) → Holds setup s v → (x : Value) (w : ℕ) → NamesLive s.nodes x → IsReferenceBelow (length s.nodes) x
-          → word_of (place_of s.nodes) x ≡ w → IsReference v.bodies w
-      named setup s v h Null w live below is = inl (sym is)
-      named setup s v h (Ref n) w live below is =
-          inr (body_of (place_of s.nodes) n (node_at s.nodes n), node_body s.nodes v n h.held.bodies (live_is_there s.nodes n live), sym is)
-      named setup s v h (Word x) w live below is = absurd below
+-- where no node is dead, each field of a body is null or names a body
+pub references_hold : (setup : Setup) (types : List ℕ) (s : State) (v : SeatView) → HaveFields setup types → Holds setup s v → s.phase ≡ Idle → AreReferences types v.bodies
+references_hold setup types s v have h idle = record {
+  typed = λ b there.
+      let node = body_node s.nodes v b h.held.bodies there in
+      let typed : IsStrong setup (node_at s.nodes node.0) = All-get_or (IsStrong setup) s.nodes node.0 no_node node.1 h.valid.typed in
+      omega (arith, typed.ty, ap (λ (c : Body). c.ty) node.3, have.count);
+  whole = λ b there.
+      let node = body_node s.nodes v b h.held.bodies there in
+      let x : Node = node_at s.nodes node.0 in
+      let typed : IsStrong setup x = All-get_or (IsStrong setup) s.nodes node.0 no_node node.1 h.valid.typed in
+      omega (
+        arith,
+        typed.values,
+        have.fields x.object.ty,
+        ap (fields_by types) node.3,
+        ap (λ (c : Body). length c.fields) node.3,
+        length-map x.object.values (word_of (place_of s.nodes)),
+      );
+  named = λ b i there low.
+      let node = body_node s.nodes v b h.held.bodies there in
+      let x : Node = node_at s.nodes node.0 in
+      let typed : IsStrong setup x = All-get_or (IsStrong setup) s.nodes node.0 no_node node.1 h.valid.typed in
+      let live : IsLive s.nodes node.0 = live_if_there x.life node.2 (h.valid.idle idle node.0) in
+      let field : i < fields_of setup x = omega (arith, low, ap (fields_by types) node.3, have.fields x.object.ty) in
+      let inside : i < length x.object.values = omega (arith, field, typed.values) in
+      named setup s v h (value_at x i) (get_or b.fields i 0) (All-get_or (NamesLive s.nodes) x.object.values i Null inside (h.valid.references node.0 live))
+      (typed.pointers i field)
+      (sym (ap (λ (c : Body). get_or c.fields i 0) node.3 ∙ get_or-map (word_of (place_of s.nodes)) x.object.values i Null 0 inside));
+} where
+  named : (setup : Setup) (s : State) (v : SeatView) → Holds setup s v → (x : Value) (w : ℕ) → NamesLive s.nodes x → IsPointer x
+      → word_of (place_of s.nodes) x ≡ w → IsReference v.bodies w
+  named setup s v h Null w live pointer is = inl (sym is)
+  named setup s v h (Ref n) w live pointer is =
+      inr (body_of (place_of s.nodes) n (node_at s.nodes n), node_body s.nodes v n h.held.bodies (live_is_there s.nodes n live), sym is)
+  named setup s v h (Word x) w live pointer is = absurd pointer
 
 -- serial numbers are numbers of nodes
 pub serials_fit : (setup : Setup) (s : State) (v : SeatView) → Holds setup s v → length s.nodes ≤ 1000000 → All (λ (b : Body). b.serial < 2 ^ 32) v.bodies
@@ -131,20 +152,24 @@ serials_fit setup s v h few =
 
 -- ---- the pause
 
-pub holds_paused : (setup : Setup) (s : State) (v new : SeatView) (slots : List (Option ℕ)) → ReachIsLeast → IsView v → Holds setup s v → s.phase ≡ Idle → HoldsSlotsOf s slots
-    → MarksReachable slots v new
+pub holds_paused : (setup : Setup) (types : List ℕ) (s : State) (v new : SeatView) (slots : List (Option ℕ)) → HaveFields setup types → ReachIsLeast → IsView v → Holds setup s v → s.phase ≡ Idle → HoldsSlotsOf s slots
+    → MarksReachable types slots v new
     → KeepsReached s (kept_of (holds new.marked) s.nodes) × Holds setup (collected_state s (kept_of (holds new.marked) s.nodes)) new
-holds_paused setup s v new slots law view h idle named marks =
-    let keeps : KeepsReached s (kept_of (holds new.marked) s.nodes) = keeps_reached setup s v new slots law view h.valid h.held.bodies named.places marks in (
+holds_paused setup types s v new slots have law view h idle named marks =
+    let keeps : KeepsReached s (kept_of (holds new.marked) s.nodes) = keeps_reached setup types s v new slots have law view h.valid h.held.bodies named.places marks in (
       keeps,
       record {
-        seat = marks.count ∙ h.seat;
         off = marks.off;
-        held = held_condemned setup s slots v new h.valid idle h.held marks;
+        held = held_condemned setup s types slots v new h.valid idle h.held marks;
         valid = valid_paused setup s (kept_of (holds new.marked) s.nodes) h.valid keeps.closed
             (λ n slot. kept_from (holds new.marked) s.nodes n (All-contains (λ x. ForSome x (IsLive s.nodes)) s.slots (Some n) h.valid.slots slot n refl)
             (marks.roots (place_of s.nodes n) (subst (λ l. Contains l (Some (place_of s.nodes n))) (sym named.places) (slot_place s.nodes s.slots n slot))));
-        marks = judged_after slots v new marks;
-        paged = All-same (IsInOnePage setup.shape.page_words) new.bodies v.bodies marks.bodies h.paged;
+        marks = judged_after types slots v new marks;
       },
     )
+
+-- marking leaves the space's objects where they are
+pub space_marked : (space : SpaceView) (types : List ℕ) (slots : List (Option ℕ)) (v new : SeatView) → MarksReachable types slots v new → IsSpaceOf space v → IsSpaceOf space new
+space_marked space types slots v new marks is =
+    subst (λ count. IsSpaceOver space count (extents_of_bodies new.bodies)) (sym marks.count)
+    (subst (λ bodies. IsSpaceOver space v.count (extents_of_bodies bodies)) (sym marks.bodies) is)

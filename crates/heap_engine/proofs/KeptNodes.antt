@@ -1,23 +1,25 @@
 -- What marking kept, as a set of nodes: exactly what the roots reach.
-use Rattle.std.proofs.Common.{◌≡◌, ℕ, zero, suc, ◌+◌, ◌<◌, Bool, true, ◌&&◌, List, [], ◌∷◌, length, map, Option, Some, None, refl, sym, ap, ◌∙◌, subst, inl, inr, arith, eqb}
+use Rattle.std.proofs.Common.{◌≡◌, ℕ, zero, suc, ◌+◌, ◌<◌, Bool, true, ◌&&◌, List, [], ◌∷◌, length, get_or, Option, Some, None, refl, sym, ap, ◌∙◌, subst, inl, inr, arith, eqb}
 use Rattle.std.specs.List.{Contains, list_any}
 use Rattle.std.specs.Option.{ForSome}
 use Rattle.std.proofs.lemmas.Bool.{true≢false, cases_lt, and_parts, and_from, or_cases, or_left, or_right, eqb-true, eq-eqb}
-use Rattle.std.proofs.lemmas.List.{get_or_past, length-map}
+use Rattle.std.proofs.lemmas.List.{get_or_past, get_or-map, length-map}
 use Rattle.std.proofs.lemmas.List.Elements.{All-contains, All-get_or}
-use Rattle.gc_graph.specs.declared.graph.Value.TheVariants.{Ref}
+use Rattle.gc_graph.specs.declared.graph.Value.TheVariants.{Null}
 use Rattle.gc_graph.specs.Graph.{Object, object_at, has, IsIn, IsWithin, IsClosed, leads_to}
 use Rattle.gc_graph.specs.Reach.{Reach, RefersWithin, AreNodes, HoldsAll, IsLeastClosed, ReachIsLeast, any_below}
 use Rattle.gc_graph.specs.State.{Setup, State, Node, node_at, no_node, graph_of, slot_targets, is_live, IsLive}
-use Rattle.gc_graph.specs.Valid.{IsReferenceBelow, NamesLive}
-use Rattle.heap_engine.specs.Plain.{IsStrong, IsPlainState, HasNamesBelow}
+use Rattle.gc_graph.specs.Fields.{value_at}
+use Rattle.gc_graph.specs.Valid.{NamesLive}
+use Rattle.heap_engine.specs.Plain.{IsStrong, IsPlainState, HasNamesBelow, NamesBelow, fields_of}
 use Rattle.page_words.specs.Bodies.{Body}
 use Rattle.page_words.specs.Seat.{SeatView, IsView, holds}
-use Rattle.heap_engine.specs.Marking.{LeadsTo, IsClosedUnder, HoldsSlots, MarksReachable}
+use Rattle.heap_engine.specs.Marking.{fields_by, LeadsTo, IsClosedUnder, HoldsSlots, MarksReachable}
 use Rattle.heap_engine.specs.Nodes.{place_of, word_of, body_of, bodies_of}
 use Rattle.heap_engine.specs.View.{kept_of, places_of}
 use Rattle.heap_engine.proofs.MarkCounts.{Contains-cons_cases, Contains-cons, Contains-head}
-use Rattle.heap_engine.proofs.NodePlaces.{live_is_there, live_is_live, is_live_life, there_below, node_body, body_node, same_node, object-at, leads_names, names_lead, word_names, Contains-map, Contains-map_some}
+use Rattle.heap_engine.proofs.NodePlaces.{live_is_there, live_is_live, is_live_life, there_below, node_body, body_node, same_node, object-at, leads_names, names_lead, word_names}
+use Rattle.heap_engine.proofs.StrongFields.{HaveFields}
 
 -- the set is closed, and it is what the strong slots reach
 pub record KeepsReached (s : State) (kept : List Bool) : Type 0 where
@@ -103,40 +105,47 @@ typed_at : (setup : Setup) (s : State) (n : ℕ) → IsPlainState setup s → n 
 typed_at setup s n valid low = All-get_or (IsStrong setup) s.nodes n no_node low valid.typed
 
 -- an edge of a live node leads to a live node, and its body to that one's place
-pub edge_leads : (setup : Setup) (s : State) (v : SeatView) (flags : List Bool) (m n : ℕ) → IsPlainState setup s → v.bodies ≡ bodies_of s.nodes → IsLive s.nodes m
-    → leads_to flags (object_at (graph_of s.nodes) m) n ≡ true → IsLive s.nodes n × LeadsTo v.bodies (place_of s.nodes m) (place_of s.nodes n)
-edge_leads setup s v flags m n valid held live leads =
+pub edge_leads : (setup : Setup) (types : List ℕ) (s : State) (v : SeatView) (flags : List Bool) (m n : ℕ) → HaveFields setup types → IsPlainState setup s
+    → v.bodies ≡ bodies_of s.nodes → IsLive s.nodes m → leads_to flags (object_at (graph_of s.nodes) m) n ≡ true
+    → IsLive s.nodes n × LeadsTo types v.bodies (place_of s.nodes m) (place_of s.nodes n)
+edge_leads setup types s v flags m n have valid held live leads =
+    let node : Node = node_at s.nodes m in
     let low : m < length s.nodes = there_below s.nodes m (live_is_there s.nodes m live) in
-    let named : Contains (node_at s.nodes m).object.values (Ref n) =
-    leads_names setup (node_at s.nodes m) flags n (typed_at setup s m valid low) (subst (λ o. leads_to flags o n ≡ true) (object-at s.nodes m) leads) in (
-      All-contains (NamesLive s.nodes) (node_at s.nodes m).object.values (Ref n) (valid.references m live) named,
+    let typed : IsStrong setup node = typed_at setup s m valid low in
+    let named = leads_names setup node flags n typed (subst (λ o. leads_to flags o n ≡ true) (object-at s.nodes m) leads) in
+    let inside : named.0 < length node.object.values = omega (arith, typed.values, named.1) in (
+      subst (NamesLive s.nodes) named.2 (All-get_or (NamesLive s.nodes) node.object.values named.0 Null inside (valid.references m live)),
       (
-        body_of (place_of s.nodes) m (node_at s.nodes m),
+        body_of (place_of s.nodes) m node,
+        named.0,
         node_body s.nodes v m held (live_is_there s.nodes m live),
         refl,
-        Contains-map (word_of (place_of s.nodes)) (node_at s.nodes m).object.values (Ref n) named,
+        omega (arith, named.1, have.fields node.object.ty),
+        get_or-map (word_of (place_of s.nodes)) node.object.values named.0 Null 0 inside ∙ ap (word_of (place_of s.nodes)) named.2,
       ),
     )
 
 -- what the body of a live node names is the place of a node to which an edge leads
-pub leads_edge : (setup : Setup) (s : State) (v : SeatView) (flags : List Bool) (m q : ℕ) → IsView v → IsPlainState setup s → v.bodies ≡ bodies_of s.nodes → IsLive s.nodes m
-    → LeadsTo v.bodies (place_of s.nodes m) q → (n : ℕ) × IsLive s.nodes n × (place_of s.nodes n ≡ q) × (leads_to flags (object_at (graph_of s.nodes) m) n ≡ true)
-leads_edge setup s v flags m q view valid held live leads =
-    let w = body_node s.nodes v leads.0 held leads.1 in
-    let same : w.0 ≡ m = same_node s.nodes v w.0 m view held w.2 (live_is_there s.nodes m live) (sym (ap (λ (b : Body). b.place) w.3) ∙ leads.2) in
+pub leads_edge : (setup : Setup) (types : List ℕ) (s : State) (v : SeatView) (flags : List Bool) (m q : ℕ) → HaveFields setup types → IsView v → IsPlainState setup s
+    → v.bodies ≡ bodies_of s.nodes → IsLive s.nodes m → LeadsTo types v.bodies (place_of s.nodes m) q
+    → (n : ℕ) × IsLive s.nodes n × (place_of s.nodes n ≡ q) × (leads_to flags (object_at (graph_of s.nodes) m) n ≡ true)
+leads_edge setup types s v flags m q have view valid held live leads =
+    let node : Node = node_at s.nodes m in
+    let i : ℕ = leads.1 in
+    let w = body_node s.nodes v leads.0 held leads.2 in
+    let same : w.0 ≡ m = same_node s.nodes v w.0 m view held w.2 (live_is_there s.nodes m live) (sym (ap (λ (b : Body). b.place) w.3) ∙ leads.3) in
+    let is : leads.0 ≡ body_of (place_of s.nodes) m node = w.3 ∙ ap (λ k. body_of (place_of s.nodes) k (node_at s.nodes k)) same in
     let low : m < length s.nodes = there_below s.nodes m (live_is_there s.nodes m live) in
-    let word : Contains (map (word_of (place_of s.nodes)) (node_at s.nodes m).object.values) (q + 1) =
-    subst (λ i. Contains (map (word_of (place_of s.nodes)) (node_at s.nodes i).object.values) (q + 1)) same
-    (subst (λ ws. Contains ws (q + 1)) (ap (λ (b : Body). b.fields) w.3) leads.3) in
-    let field = Contains-map_some (word_of (place_of s.nodes)) (node_at s.nodes m).object.values (q + 1) word in
-    let below : HasNamesBelow (length s.nodes) (node_at s.nodes m) = All-get_or (HasNamesBelow (length s.nodes)) s.nodes m no_node low valid.named in
-    let target = word_names (place_of s.nodes) (length s.nodes) q field.0
-    (All-contains (IsReferenceBelow (length s.nodes)) (node_at s.nodes m).object.values field.0 below field.1) field.2 in
-    let named : Contains (node_at s.nodes m).object.values (Ref target.0) = subst (λ x. Contains (node_at s.nodes m).object.values x) target.1 field.1 in (
+    let typed : IsStrong setup node = typed_at setup s m valid low in
+    let field : i < fields_of setup node = omega (arith, leads.4, ap (fields_by types) is, have.fields node.object.ty) in
+    let inside : i < length node.object.values = omega (arith, field, typed.values) in
+    let word : word_of (place_of s.nodes) (value_at node i) ≡ q + 1 =
+    sym (get_or-map (word_of (place_of s.nodes)) node.object.values i Null 0 inside) ∙ sym (ap (λ (b : Body). get_or b.fields i 0) is) ∙ leads.5 in
+    let target = word_names (place_of s.nodes) q (value_at node i) (typed.pointers i field) word in (
       target.0,
-      All-contains (NamesLive s.nodes) (node_at s.nodes m).object.values (Ref target.0) (valid.references m live) named,
+      subst (NamesLive s.nodes) target.1 (All-get_or (NamesLive s.nodes) node.object.values i Null inside (valid.references m live)),
       target.2,
-      subst (λ o. leads_to flags o target.0 ≡ true) (sym (object-at s.nodes m)) (names_lead setup (node_at s.nodes m) flags target.0 (typed_at setup s m valid low) named),
+      subst (λ o. leads_to flags o target.0 ≡ true) (sym (object-at s.nodes m)) (names_lead setup node flags target.0 i typed field target.1),
     )
 
 -- ---- the law of reach, applied
@@ -145,11 +154,14 @@ pub refers_within : (setup : Setup) (s : State) → IsPlainState setup s → Ref
 refers_within setup s valid flags m n leads =
     elim (cases_lt m (length s.nodes)) [
       | inl low ↦
-          (let named : Contains (node_at s.nodes m).object.values (Ref n) =
-          leads_names setup (node_at s.nodes m) flags n (typed_at setup s m valid low) (subst (λ o. leads_to flags o n ≡ true) (object-at s.nodes m) leads) in
+          (let node : Node = node_at s.nodes m in
+          let typed : IsStrong setup node = typed_at setup s m valid low in
+          let named = leads_names setup node flags n typed (subst (λ o. leads_to flags o n ≡ true) (object-at s.nodes m) leads) in
+          let inside : named.0 < length node.object.values = omega (arith, typed.values, named.1) in
           let below : n < length s.nodes =
-          All-contains (IsReferenceBelow (length s.nodes)) (node_at s.nodes m).object.values (Ref n)
-          (All-get_or (HasNamesBelow (length s.nodes)) s.nodes m no_node low valid.named) named in
+          subst (NamesBelow (length s.nodes)) named.2
+          (All-get_or (NamesBelow (length s.nodes)) node.object.values named.0 Null inside
+          (All-get_or (HasNamesBelow (length s.nodes)) s.nodes m no_node low valid.named)) in
           omega (arith, below, length-map s.nodes (λ (x : Node). x.object)))
       | inr past ↦ absurd (true≢false (sym leads ∙ ap (λ o. leads_to flags o n) (object-at s.nodes m ∙ ap (λ (x : Node). x.object) (get_or_past s.nodes m no_node past))))
     ]
@@ -179,25 +191,25 @@ reached_some s p h =
     let rest = and_parts (eqb (place_of s.nodes w.0) p) (has (Reach (graph_of s.nodes) (slot_targets s.slots)) w.0) live.1 in
     (w.0, is_live_life (node_at s.nodes w.0).life live.0, eqb-true (place_of s.nodes w.0) p rest.0, rest.1)
 
-pub keeps_reached : (setup : Setup) (s : State) (v new : SeatView) (slots : List (Option ℕ)) → ReachIsLeast → IsView v → IsPlainState setup s → v.bodies ≡ bodies_of s.nodes
-    → slots ≡ places_of s.nodes s.slots → MarksReachable slots v new → KeepsReached s (kept_of (holds new.marked) s.nodes)
-keeps_reached setup s v new slots law view valid held named marks =
+pub keeps_reached : (setup : Setup) (types : List ℕ) (s : State) (v new : SeatView) (slots : List (Option ℕ)) → HaveFields setup types → ReachIsLeast → IsView v → IsPlainState setup s → v.bodies ≡ bodies_of s.nodes
+    → slots ≡ places_of s.nodes s.slots → MarksReachable types slots v new → KeepsReached s (kept_of (holds new.marked) s.nodes)
+keeps_reached setup types s v new slots have law view valid held named marks =
     let g : List Object = graph_of s.nodes in
     let kept : List Bool = kept_of (holds new.marked) s.nodes in
     let least : IsLeastClosed g (slot_targets s.slots) (Reach g (slot_targets s.slots)) = law g (slot_targets s.slots) (refers_within setup s valid) (are_nodes setup s valid) in
     let closed : IsClosed g kept = λ m n is leads.
     let parts = kept_parts (holds new.marked) s.nodes m is in
-    let edge = edge_leads setup s v kept m n valid held parts.0 leads in
+    let edge = edge_leads setup types s v kept m n have valid held parts.0 leads in
     kept_from (holds new.marked) s.nodes n edge.0
-    (marks.closed (place_of s.nodes m) (place_of s.nodes n) parts.1 (subst (λ bs. LeadsTo bs (place_of s.nodes m) (place_of s.nodes n)) (sym marks.bodies) edge.1)) in
+    (marks.closed (place_of s.nodes m) (place_of s.nodes n) parts.1 (subst (λ bs. LeadsTo types bs (place_of s.nodes m) (place_of s.nodes n)) (sym marks.bodies) edge.1)) in
     let roots_kept : HoldsAll kept (slot_targets s.slots) = λ n root.
     let slot : Contains s.slots (Some n) = slot_of_root s.slots n root in
     kept_from (holds new.marked) s.nodes n (slot_live setup s n valid slot)
     (marks.roots (place_of s.nodes n) (subst (λ l. Contains l (Some (place_of s.nodes n))) (sym named) (slot_place s.nodes s.slots n slot))) in
-    let test_closed : IsClosedUnder new.bodies (reached_place s) = λ p q is leads.
+    let test_closed : IsClosedUnder types new.bodies (reached_place s) = λ p q is leads.
     let w = reached_some s p is in
-    let edge = leads_edge setup s v (Reach g (slot_targets s.slots)) w.0 q view valid held w.1
-    (subst (λ x. LeadsTo v.bodies x q) (sym w.2) (subst (λ bs. LeadsTo bs p q) marks.bodies leads)) in
+    let edge = leads_edge setup types s v (Reach g (slot_targets s.slots)) w.0 q have view valid held w.1
+    (subst (λ x. LeadsTo types v.bodies x q) (sym w.2) (subst (λ bs. LeadsTo types bs p q) marks.bodies leads)) in
     subst (λ x. reached_place s x ≡ true) edge.2 (reached_from s edge.0 edge.1 (least.closed w.0 edge.0 w.3 edge.3)) in
     let test_slots : HoldsSlots (reached_place s) slots = λ p c.
     let w = place_slot s.nodes s.slots p (subst (λ l. Contains l (Some p)) named c) in

@@ -1,17 +1,9 @@
-pub mod Shapes
 pub mod MarkLists
 pub mod MarkCounts
 pub mod MarkSteps
 pub mod MarkLoops
 pub mod MarkEnds
 mod PlaceBodies
-mod PlaceHeader
-mod PageSpan
-mod PageUse
-mod PageCount
-mod GapWalk
-mod PlaceFound
-mod OccupyFilled
 pub mod NodeBodies
 pub mod NodeChanges
 pub mod NodePlaces
@@ -24,7 +16,6 @@ pub mod SweepNumbers
 pub mod SweepSteps
 pub mod NodeSweeps
 pub mod HeapSteps
-pub mod SweepCounts
 pub mod HeapSlots
 pub mod HeapMade
 pub mod StrongFields

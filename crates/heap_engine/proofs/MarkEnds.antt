@@ -37,8 +37,8 @@ counted_begin v u g h quiet begins differ empty room few fresh =
       few = few;
     }))
 
-pub black_or_white : (v : SeatView) → IsView v → IsTricolour None v [] → (p : ℕ) → holds v.traced p ≡ holds v.marked p
-black_or_white v view t p =
+pub black_or_white : (types : List ℕ) (v : SeatView) → IsView v → IsTricolour types None v [] → (p : ℕ) → holds v.traced p ≡ holds v.marked p
+black_or_white types v view t p =
     elim (cases_Bool (holds v.marked p)) [
       | inl marked ↦ elim (t.marked_are_known p marked) [
         | inl traced ↦ traced ∙ sym marked
@@ -50,19 +50,19 @@ black_or_white v view t p =
       ]
     ]
 
-pub all_traced : (v : SeatView) → IsView v → IsTricolour None v [] → traced_count v ≡ marked_count v
-all_traced v view t = count_agrees v.bodies (holds v.traced) (holds v.marked) (black_or_white v view t)
+pub all_traced : (types : List ℕ) (v : SeatView) → IsView v → IsTricolour types None v [] → traced_count v ≡ marked_count v
+all_traced types v view t = count_agrees v.bodies (holds v.traced) (holds v.marked) (black_or_white types v view t)
 
 -- from the quiet view v, through what the slots name (w) and what that leads to (x), to the end of marking
-pub marks_reachable : (slots : List (Option ℕ)) (v u w x y : SeatView) → IsQuiet v → u ≡ begun v → MarksOn u w
+pub marks_reachable : (types : List ℕ) (slots : List (Option ℕ)) (v u w x y : SeatView) → IsQuiet v → u ≡ begun v → MarksOn u w
     → ((p : ℕ) → Contains slots (Some p) → holds w.marked p ≡ true)
     → ((p : ℕ) → holds w.marked p ≡ true → (holds u.marked p ≡ true) ⊎ Contains slots (Some p))
-    → MarksOn w x → IsTricolour None x [] → GrowsWithin w x → y ≡ ended x → MarksReachable slots v y
-marks_reachable slots v u w x y quiet begins named roots only led t grows ends =
+    → MarksOn w x → IsTricolour types None x [] → GrowsWithin types w x → y ≡ ended x → MarksReachable types slots v y
+marks_reachable types slots v u w x y quiet begins named roots only led t grows ends =
     let none : (p : ℕ) → holds u.marked p ≡ true → ⊥ =
     λ p marked. true≢false (sym marked ∙ ap (λ (z : SeatView). holds z.marked p) begins ∙ ap (λ l. holds l p) quiet.marked) in
     let bodies : x.bodies ≡ v.bodies = led.bodies ∙ named.bodies ∙ ap (λ (z : SeatView). z.bodies) begins in
-    subst (λ (z : SeatView). MarksReachable slots v z) (sym ends) (record {
+    subst (λ (z : SeatView). MarksReachable types slots v z) (sym ends) (record {
       count = led.count ∙ named.count ∙ ap (λ (z : SeatView). z.count) begins;
       off = refl;
       bodies = bodies;
@@ -72,7 +72,7 @@ marks_reachable slots v u w x y quiet begins named roots only led t grows ends =
         | inr listed ↦ absurd (omega (arith, listed.1))
       ];
       least = λ test closed held p marked.
-          grows test (subst (λ bs. IsClosedUnder bs test) led.bodies closed)
+          grows test (subst (λ bs. IsClosedUnder types bs test) led.bodies closed)
           (λ q early. elim (only q early) [ inl before ↦ absurd (none q before) | inr slot ↦ held q slot ]) p marked;
       dead = refl;
     })

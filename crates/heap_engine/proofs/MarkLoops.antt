@@ -1,13 +1,13 @@
 -- The steps of the loops that mark.
-use Rattle.std.proofs.Common.{◌≡◌, ℕ, ◌+◌, ◌-◌, ◌<◌, ◌≤◌, true, List, [], ◌∷◌, ◌++◌, length, get_or, take, refl, sym, ap, ◌∙◌, subst, inl, inr, arith}
+use Rattle.std.proofs.Common.{◌≡◌, ℕ, ◌+◌, ◌<◌, true, List, [], ◌∷◌, ◌++◌, length, get_or, take, refl, sym, ap, ◌∙◌, subst, inl, inr, arith}
 use mathlib.Core.Logic.{◌⊎◌}
 use Rattle.std.specs.List.{Contains}
-use Rattle.std.proofs.lemmas.List.{take_more, get_or_default}
-use Rattle.std.proofs.lemmas.List.Elements.{All-contains, Contains-get_or, Contains-append_left, Contains-push, Contains-push_cases}
+use Rattle.std.proofs.lemmas.List.{take_more}
+use Rattle.std.proofs.lemmas.List.Elements.{All-contains, Contains-append_left, Contains-push, Contains-push_cases}
 use Rattle.std.specs.List.{All}
 use Rattle.page_words.specs.Bodies.{Body, IsWhole, IsReference}
 use Rattle.page_words.specs.Seat.{SeatView, IsWordAt, IsView, holds}
-use Rattle.heap_engine.specs.Marking.{MarksOn, GrowsWithin, IsClosedUnder, LeadsTo, HasSize, AreReferences}
+use Rattle.heap_engine.specs.Marking.{MarksOn, GrowsWithin, IsClosedUnder, LeadsTo, HasFields, AreReferences, fields_by}
 
 module _ {X : Type 0} where
   pub Contains-take_more_cases : (xs : List X) (i : ℕ) (d x : X) → i < length xs → Contains (take (i + 1) xs) x → Contains (take i xs) x ⊎ (get_or xs i d ≡ x)
@@ -31,41 +31,38 @@ MarksOn-then a b c x y = record {
 pub MarksOn-same : (a : SeatView) → MarksOn a a
 MarksOn-same a = record { count = refl; on = refl; bodies = refl; marked = λ p h. h }
 
-pub GrowsWithin-then : (a b c : SeatView) → b.bodies ≡ a.bodies → GrowsWithin a b → GrowsWithin b c → GrowsWithin a c
-GrowsWithin-then a b c same x y test closed held p marked =
-    y test (subst (λ bodies. IsClosedUnder bodies test) (sym same) closed) (x test closed held) p marked
+pub GrowsWithin-then : (types : List ℕ) (a b c : SeatView) → b.bodies ≡ a.bodies → GrowsWithin types a b → GrowsWithin types b c → GrowsWithin types a c
+GrowsWithin-then types a b c same x y test closed held p marked =
+    y test (subst (λ bodies. IsClosedUnder types bodies test) (sym same) closed) (x test closed held) p marked
 
 -- one more target of an object that was marked
-pub GrowsWithin-target : (a b c : SeatView) (place : ℕ) → GrowsWithin a b → holds a.marked place ≡ true
-    → ((p : ℕ) → holds c.marked p ≡ true → (holds b.marked p ≡ true) ⊎ LeadsTo a.bodies place p) → GrowsWithin a c
-GrowsWithin-target a b c place x hand only test closed held p marked =
+pub GrowsWithin-target : (types : List ℕ) (a b c : SeatView) (place : ℕ) → GrowsWithin types a b → holds a.marked place ≡ true
+    → ((p : ℕ) → holds c.marked p ≡ true → (holds b.marked p ≡ true) ⊎ LeadsTo types a.bodies place p) → GrowsWithin types a c
+GrowsWithin-target types a b c place x hand only test closed held p marked =
     elim (only p marked) [ inl old ↦ x test closed held p old | inr led ↦ closed place p (held place hand) led ]
 
--- the address of a body's word is one of the heap
-pub body_address : (v : SeatView) (place size i : ℕ) → IsView v → HasSize v.bodies place size → i < size → place + i < v.count
-body_address v place size i view has low =
-    let whole : IsWhole v.count has.0 = All-contains (IsWhole v.count) v.bodies has.0 view.whole has.1 in
-    omega (arith, whole.inside, has.2, has.3)
+-- the address of a body's field is one of the heap
+pub field_address : (types : List ℕ) (v : SeatView) (place fields i : ℕ) → All (IsWhole v.count) v.bodies → AreReferences types v.bodies
+    → HasFields types v.bodies place fields → i < fields → place + 2 + i < v.count
+field_address types v place fields i all refers has low =
+    let whole : IsWhole v.count has.0 = All-contains (IsWhole v.count) v.bodies has.0 all has.1 in
+    omega (arith, whole.inside, whole.fields, refers.whole has.0 has.1, has.2, has.3)
 
--- the word that a body has at one of its field words
-pub field_word : (v : SeatView) (b : Body) (place i w : ℕ) → All (IsWhole v.count) v.bodies → Contains v.bodies b → b.place ≡ place → 2 ≤ i → i < b.size
-    → IsWordAt v (place + i) w → (i - 2 < length b.fields) × (w ≡ get_or b.fields (i - 2) 0)
-field_word v b place i w all there at first low word =
-    let whole : IsWhole v.count b = All-contains (IsWhole v.count) v.bodies b all there in
-    let inside : i - 2 < length b.fields = omega (arith, whole.fields) in
-    (inside, word.field b (i - 2) there inside (omega (arith, at)))
+-- the word that a body has at one of its fields
+pub field_word : (types : List ℕ) (v : SeatView) (place fields i w : ℕ) → AreReferences types v.bodies → (has : HasFields types v.bodies place fields) → i < fields
+    → IsWordAt v (place + 2 + i) w → w ≡ get_or has.0.fields i 0
+field_word types v place fields i w refers has low word =
+    word.field has.0 i has.1 (omega (arith, refers.whole has.0 has.1, has.3)) (ap (λ a. a + 2 + i) has.2)
 
-pub field_is_reference : (v : SeatView) (place size i w : ℕ) → All (IsWhole v.count) v.bodies → AreReferences v.bodies → HasSize v.bodies place size → 2 ≤ i → i < size
-    → IsWordAt v (place + i) w → IsReference v.bodies w
-field_is_reference v place size i w all refers has first low word =
-    let at = field_word v has.0 place i w all has.1 has.2 first (omega (arith, has.3)) word in
-    refers has.0 w has.1 (subst (λ x. Contains has.0.fields x) (sym at.1) (Contains-get_or has.0.fields (i - 2) 0 at.0))
+pub field_is_reference : (types : List ℕ) (v : SeatView) (place fields i w : ℕ) → AreReferences types v.bodies → HasFields types v.bodies place fields → i < fields
+    → IsWordAt v (place + 2 + i) w → IsReference v.bodies w
+field_is_reference types v place fields i w refers has low word =
+    subst (IsReference v.bodies) (sym (field_word types v place fields i w refers has low word)) (refers.named has.0 i has.1 (omega (arith, has.3)))
 
-pub field_leads : (v : SeatView) (place size i w q : ℕ) → All (IsWhole v.count) v.bodies → HasSize v.bodies place size → 2 ≤ i → i < size
-    → IsWordAt v (place + i) w → w ≡ q + 1 → LeadsTo v.bodies place q
-field_leads v place size i w q all has first low word named =
-    let at = field_word v has.0 place i w all has.1 has.2 first (omega (arith, has.3)) word in
-    (has.0, has.1, has.2, subst (λ x. Contains has.0.fields x) (sym at.1 ∙ named) (Contains-get_or has.0.fields (i - 2) 0 at.0))
+pub field_leads : (types : List ℕ) (v : SeatView) (place fields i w q : ℕ) → AreReferences types v.bodies → HasFields types v.bodies place fields → i < fields
+    → IsWordAt v (place + 2 + i) w → w ≡ q + 1 → LeadsTo types v.bodies place q
+field_leads types v place fields i w q refers has low word named =
+    (has.0, i, has.1, has.2, omega (arith, has.3), sym (field_word types v place fields i w refers has low word) ∙ named)
 
 -- one body alone has the place
 pub same_body : (v : SeatView) (b c : Body) → IsView v → Contains v.bodies b → Contains v.bodies c → b.place ≡ c.place → b ≡ c
@@ -74,9 +71,9 @@ same_body v b c view b_there c_there same =
     let c_whole : IsWhole v.count c = All-contains (IsWhole v.count) v.bodies c view.whole c_there in
     view.apart b c b.place b_there c_there (omega arith) (omega (arith, b_whole.fields)) (omega (arith, same)) (omega (arith, same, c_whole.fields))
 
-pub led_field : (v : SeatView) (b : Body) (place size q : ℕ) → IsView v → HasSize v.bodies place size → Contains v.bodies b → b.place ≡ place
-    → (field : Contains b.fields (q + 1)) → (field.0 + 2 < size) × (get_or b.fields field.0 0 ≡ q + 1)
-led_field v b place size q view has there at field =
-    let whole : IsWhole v.count b = All-contains (IsWhole v.count) v.bodies b view.whole there in
-    let one : b ≡ has.0 = same_body v b has.0 view there has.1 (at ∙ sym has.2) in
-    (omega (arith, field.1, whole.fields, ap (λ (x : Body). x.size) one, has.3), get_or_default b.fields field.0 0 (q + 1) field.1 ∙ field.2)
+-- what leads from the place does so from one of the fields of the body there
+pub led_field : (types : List ℕ) (v : SeatView) (place fields q : ℕ) → IsView v → (has : HasFields types v.bodies place fields) → LeadsTo types v.bodies place q
+    → (i : ℕ) × (i < fields) × (get_or has.0.fields i 0 ≡ q + 1)
+led_field types v place fields q view has leads =
+    let one : leads.0 ≡ has.0 = same_body v leads.0 has.0 view leads.2 has.1 (leads.3 ∙ sym has.2) in
+    (leads.1, omega (arith, leads.4, ap (λ (x : Body). fields_by types x) one, has.3), ap (λ (x : Body). get_or x.fields leads.1 0) (sym one) ∙ leads.5)

@@ -17,6 +17,10 @@ with_mark v a = record v { marked = v.marked ++ a ∷ [] }
 fresh_is : (v new : SeatView) (a : ℕ) → new ≡ marked_at v a → holds v.marked a ≡ false → new ≡ with_mark v a
 fresh_is v new a is fresh = is ∙ ap (λ m. record v { marked = m }) (cond-false (holds v.marked a) v.marked (v.marked ++ a ∷ []) fresh)
 
+-- a marked object is marked again
+pub marked_again : (v new : SeatView) (a : ℕ) → new ≡ marked_at v a → holds v.marked a ≡ true → new ≡ v
+marked_again v new a is marked = is ∙ ap (λ m. record v { marked = m }) (cond-true (holds v.marked a) v.marked (v.marked ++ a ∷ []) marked)
+
 claim_is : (v new : SeatView) (a : ℕ) → new ≡ claimed_at v a → is_grey v a ≡ true → new ≡ record v { traced = v.traced ++ a ∷ [] }
 claim_is v new a is grey = is ∙ ap (λ l. record v { traced = l }) (cond-true (is_grey v a) (v.traced ++ a ∷ []) v.traced grey)
 
@@ -53,9 +57,9 @@ counted_mark v new g h a is fresh place counted places marked traced room =
     })
 
 pub tricolour_mark : (v new : SeatView) (before after : List ℕ) (a : ℕ) → new ≡ marked_at v a → holds v.marked a ≡ false → after ≡ before ++ a ∷ []
-    → (hand : Option ℕ) → IsTricolour hand v before → IsTricolour hand new after
-tricolour_mark v new before after a is fresh pushed hand t =
-    subst (λ w. IsTricolour hand w after) (sym (fresh_is v new a is fresh)) (subst (λ l. IsTricolour hand (with_mark v a) l) (sym pushed) (record {
+    → (types : List ℕ) (hand : Option ℕ) → IsTricolour types hand v before → IsTricolour types hand new after
+tricolour_mark v new before after a is fresh pushed types hand t =
+    subst (λ w. IsTricolour types hand w after) (sym (fresh_is v new a is fresh)) (subst (λ l. IsTricolour types hand (with_mark v a) l) (sym pushed) (record {
       listed_are_marked = λ p listed. elim (Contains-push_cases before a p listed) [
         | inl old ↦ holds_push_old v.marked a p (t.listed_are_marked p old)
         | inr same ↦ subst (λ q. holds (v.marked ++ a ∷ []) q ≡ true) same (holds_push_new v.marked a)
@@ -81,10 +85,10 @@ counted_claim v new g h a is grey place counted places marked traced room =
       few = counted.few;
     })
 
-pub tricolour_claim : (v new : SeatView) (places : List ℕ) (a : ℕ) → new ≡ claimed_at v a → is_grey v a ≡ true
-    → IsTricolour None v (places ++ a ∷ []) → IsTricolour (Some a) new places
-tricolour_claim v new places a is grey t =
-    subst (λ w. IsTricolour (Some a) w places) (sym (claim_is v new a is grey)) (record {
+pub tricolour_claim : (types : List ℕ) (v new : SeatView) (places : List ℕ) (a : ℕ) → new ≡ claimed_at v a → is_grey v a ≡ true
+    → IsTricolour types None v (places ++ a ∷ []) → IsTricolour types (Some a) new places
+tricolour_claim types v new places a is grey t =
+    subst (λ w. IsTricolour types (Some a) w places) (sym (claim_is v new a is grey)) (record {
       listed_are_marked = λ p listed. t.listed_are_marked p (Contains-append_left places (a ∷ []) p listed);
       marked_are_known = λ p marked. elim (t.marked_are_known p marked) [
         | inl traced ↦ inl (holds_push_old v.traced a p traced)
@@ -100,12 +104,12 @@ tricolour_claim v new places a is grey t =
     })
 
 -- an object that can't be claimed was traced before
-pub tricolour_past : (v new : SeatView) (places : List ℕ) (a : ℕ) → new ≡ claimed_at v a → is_grey v a ≡ false
-    → IsTricolour None v (places ++ a ∷ []) → IsTricolour None new places
-tricolour_past v new places a is black t =
+pub tricolour_past : (types : List ℕ) (v new : SeatView) (places : List ℕ) (a : ℕ) → new ≡ claimed_at v a → is_grey v a ≡ false
+    → IsTricolour types None v (places ++ a ∷ []) → IsTricolour types None new places
+tricolour_past types v new places a is black t =
     let same : new ≡ v = is ∙ ap (λ l. record v { traced = l }) (cond-false (is_grey v a) (v.traced ++ a ∷ []) v.traced black) in
     let traced_before : holds v.traced a ≡ true = was_traced v a black (t.listed_are_marked a (Contains-push places a)) in
-    subst (λ w. IsTricolour None w places) (sym same) (record {
+    subst (λ w. IsTricolour types None w places) (sym same) (record {
       listed_are_marked = λ p listed. t.listed_are_marked p (Contains-append_left places (a ∷ []) p listed);
       marked_are_known = λ p marked. elim (t.marked_are_known p marked) [
         | inl traced ↦ inl traced
@@ -118,13 +122,13 @@ tricolour_past v new places a is black t =
     })
 
 -- the fields of the object in hand were read
-pub tricolour_done : (v : SeatView) (places : List ℕ) (a : ℕ) → ((q : ℕ) → LeadsTo v.bodies a q → holds v.marked q ≡ true)
-    → IsTricolour (Some a) v places → IsTricolour None v places
-tricolour_done v places a done t = record {
+pub tricolour_done : (types : List ℕ) (v : SeatView) (places : List ℕ) (a : ℕ) → ((q : ℕ) → LeadsTo types v.bodies a q → holds v.marked q ≡ true)
+    → IsTricolour types (Some a) v places → IsTricolour types None v places
+tricolour_done types v places a done t = record {
   listed_are_marked = t.listed_are_marked;
   marked_are_known = t.marked_are_known;
   traced_lead_to_marked = λ p q traced other leads. elim (cases_eq a p) [
-    | inl same ↦ done q (subst (λ x. LeadsTo v.bodies x q) (sym same) leads)
+    | inl same ↦ done q (subst (λ x. LeadsTo types v.bodies x q) (sym same) leads)
     | inr elsewhere ↦ t.traced_lead_to_marked p q traced (λ e. elsewhere (let is : a ≡ p = cc in is)) leads
   ];
 }

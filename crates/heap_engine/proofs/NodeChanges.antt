@@ -7,8 +7,7 @@ use Rattle.gc_graph.specs.declared.graph.Value.{Value}
 use Rattle.gc_graph.specs.declared.graph.Value.TheVariants.{Null, Ref, Word}
 use Rattle.gc_graph.specs.State.{Node, Life, node_at, is_there, is_dead, size_of}
 use Rattle.gc_graph.specs.State.Life.{Live, Dead, Gone}
-use Rattle.gc_graph.specs.Valid.{IsReferenceBelow}
-use Rattle.heap_engine.specs.Plain.{HasNamesBelow}
+use Rattle.heap_engine.specs.Plain.{HasNamesBelow, NamesBelow}
 use Rattle.gc_graph.specs.Pause.{judged, condemn}
 use Rattle.gc_graph.specs.Sweep.{buried}
 use Rattle.heap_engine.specs.Changes.{bury}
@@ -16,18 +15,18 @@ use Rattle.page_words.specs.Bodies.{Body}
 use Rattle.heap_engine.specs.Nodes.{word_of, body_of, bodies_from, IsThere}
 use Rattle.heap_engine.proofs.NodeBodies.{bodies-there, bodies-gone}
 
-word-places : (f g : ℕ → ℕ) (bound : ℕ) (v : Value) → ((n : ℕ) → n < bound → f n ≡ g n) → IsReferenceBelow bound v → word_of f v ≡ word_of g v
+word-places : (f g : ℕ → ℕ) (bound : ℕ) (v : Value) → ((n : ℕ) → n < bound → f n ≡ g n) → NamesBelow bound v → word_of f v ≡ word_of g v
 word-places f g bound Null same below = refl
 word-places f g bound (Ref n) same below = ap (λ p. p + 1) (same n below)
 word-places f g bound (Word w) same below = refl
 
-words-places : (f g : ℕ → ℕ) (bound : ℕ) (vs : List Value) → ((n : ℕ) → n < bound → f n ≡ g n) → All (IsReferenceBelow bound) vs → map (word_of f) vs ≡ map (word_of g) vs
+words-places : (f g : ℕ → ℕ) (bound : ℕ) (vs : List Value) → ((n : ℕ) → n < bound → f n ≡ g n) → All (NamesBelow bound) vs → map (word_of f) vs ≡ map (word_of g) vs
 words-places f g bound [] same below = refl
 words-places f g bound (v ∷ vs) same below =
-    ap (λ w. w ∷ map (word_of f) vs) (word-places f g bound v same (All-head (IsReferenceBelow bound) v vs below))
-    ∙ ap (λ ws. word_of g v ∷ ws) (words-places f g bound vs same (All-tail (IsReferenceBelow bound) v vs below))
+    ap (λ w. w ∷ map (word_of f) vs) (word-places f g bound v same (All-head (NamesBelow bound) v vs below))
+    ∙ ap (λ ws. word_of g v ∷ ws) (words-places f g bound vs same (All-tail (NamesBelow bound) v vs below))
 
-body-places : (f g : ℕ → ℕ) (bound k : ℕ) (x : Node) → ((n : ℕ) → n < bound → f n ≡ g n) → All (IsReferenceBelow bound) x.object.values → body_of f k x ≡ body_of g k x
+body-places : (f g : ℕ → ℕ) (bound k : ℕ) (x : Node) → ((n : ℕ) → n < bound → f n ≡ g n) → All (NamesBelow bound) x.object.values → body_of f k x ≡ body_of g k x
 body-places f g bound k x same below =
     ap (λ ws. let b : Body = record { place = x.place; ty = x.object.ty; size = size_of x; serial = k; fields = ws } in b) (words-places f g bound x.object.values same below)
 

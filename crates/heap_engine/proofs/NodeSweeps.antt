@@ -7,8 +7,8 @@ use Rattle.gc_graph.specs.declared.graph.Value.{Value}
 use Rattle.gc_graph.specs.declared.graph.Value.TheVariants.{Null, Ref, Word}
 use Rattle.gc_graph.specs.Graph.{Object}
 use Rattle.gc_graph.specs.State.{Setup, State, Node, node_at, no_node, is_there, is_dead, IsLive, IsDead}
-use Rattle.gc_graph.specs.Valid.{IsReferenceBelow, NamesLive}
-use Rattle.heap_engine.specs.Plain.{IsStrong, IsPlainState, HasNamesBelow}
+use Rattle.gc_graph.specs.Valid.{NamesLive}
+use Rattle.heap_engine.specs.Plain.{IsStrong, IsPlainState, HasNamesBelow, NamesBelow}
 use Rattle.gc_graph.specs.Sweep.{buried, IsDeadBelow, AreDeadInOrder}
 use Rattle.heap_engine.specs.Changes.{bury, ended_state}
 use Rattle.page_words.specs.Bodies.{Body}
@@ -26,7 +26,7 @@ held_swept setup s v new valid held sweeps =
     let places : bodies_from (place_of s.nodes) 0 after ≡ bodies_of after =
     sym (bodies-places (place_of after) (place_of s.nodes) (length s.nodes) 0 after (λ n low. place-finalise s.nodes n)
     (All-from_get_or (HasNamesBelow (length s.nodes)) after no_node
-    (λ n low. subst (λ (o : Object). All (IsReferenceBelow (length s.nodes)) o.values) (sym (object-finalise s.nodes n))
+    (λ n low. subst (λ (o : Object). All (NamesBelow (length s.nodes)) o.values) (sym (object-finalise s.nodes n))
     (All-get_or (HasNamesBelow (length s.nodes)) s.nodes n no_node (subst (λ l. n < l) (length-map s.nodes bury) low) valid.named)))) in
     record {
       bodies = sweeps.bodies ∙ ap (filter (λ (b : Body). not (holds v.dead b.place))) held.bodies
@@ -85,8 +85,8 @@ valid_swept setup s numbers valid =
           (λ n low. typed-object setup (node_at s.nodes n) (node_at after n) (object-finalise s.nodes n)
           (All-get_or (IsStrong setup) s.nodes n no_node (subst (λ l. n < l) long low) valid.typed));
       named = All-from_get_or (HasNamesBelow (length after)) after no_node
-          (λ n low. subst (λ (o : Object). All (IsReferenceBelow (length after)) o.values) (sym (object-finalise s.nodes n))
-          (subst (λ l. All (IsReferenceBelow l) (node_at s.nodes n).object.values) (sym long)
+          (λ n low. subst (λ (o : Object). All (NamesBelow (length after)) o.values) (sym (object-finalise s.nodes n))
+          (subst (λ l. All (NamesBelow l) (node_at s.nodes n).object.values) (sym long)
           (All-get_or (HasNamesBelow (length s.nodes)) s.nodes n no_node (subst (λ l. n < l) long low) valid.named)));
       references = λ n live.
           let was : IsLive s.nodes n = buried_live (node_at s.nodes n).life (sym (life-finalise s.nodes n) ∙ live) in
@@ -105,4 +105,4 @@ valid_swept setup s numbers valid =
       typed-object : (setup : Setup) (x y : Node) → y.object ≡ x.object → IsStrong setup x → IsStrong setup y
       typed-object setup x y same typed =
           subst (λ (o : Object). (let z : Node = record { object = o; place = y.place; life = y.life } in IsStrong setup z)) (sym same)
-          (record { ty = typed.ty; extra = typed.extra; kinds = typed.kinds; values = typed.values })
+          (record { ty = typed.ty; kinds = typed.kinds; values = typed.values; pointers = typed.pointers; plain = typed.plain })

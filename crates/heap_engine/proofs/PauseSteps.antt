@@ -10,8 +10,9 @@ use Rattle.gc_graph.specs.declared.graph.Value.TheVariants.{Null, Ref, Word}
 use Rattle.gc_graph.specs.Graph.{Object, has, IsIn, IsClosed, leads_to}
 use Rattle.gc_graph.specs.State.{Setup, State, Node, node_at, no_node, graph_of, is_live, is_dead, IsLive}
 use Rattle.gc_graph.specs.State.Life.{Live}
-use Rattle.gc_graph.specs.Valid.{IsReferenceBelow, NamesLive}
-use Rattle.heap_engine.specs.Plain.{IsStrong, IsPlainState, HasNamesBelow}
+use Rattle.gc_graph.specs.Fields.{value_at}
+use Rattle.gc_graph.specs.Valid.{NamesLive}
+use Rattle.heap_engine.specs.Plain.{IsStrong, IsPlainState, HasNamesBelow, NamesBelow}
 use Rattle.gc_graph.specs.Pause.{judged, condemn}
 use Rattle.page_words.specs.Bodies.{Body}
 use Rattle.page_words.specs.Seat.{SeatView, holds, unmarked_places}
@@ -21,7 +22,7 @@ use Rattle.heap_engine.specs.Changes.{collected_state}
 use Rattle.heap_engine.specs.Marking.{MarksReachable}
 use Rattle.heap_engine.specs.Sweeping.{IsJudged}
 use Rattle.heap_engine.proofs.NodeChanges.{bodies-places, bodies-condemn}
-use Rattle.heap_engine.proofs.NodePlaces.{node_body, there_below, live_is_there, object-at, names_lead, Contains-map}
+use Rattle.heap_engine.proofs.NodePlaces.{node_body, there_below, live_is_there, object-at, names_lead, names_in_field, Contains-map}
 use Rattle.heap_engine.proofs.NodeLives.{life-condemn, object-condemn, place-condemn, length-condemn, there-condemn, live_if_there, judged_live, dead_judged}
 use Rattle.heap_engine.proofs.KeptNodes.{has-kept}
 
@@ -71,14 +72,14 @@ dead_if_unmarked v b is there =
       and-true true = refl
       and-true false = refl
 
-pub judged_after : (slots : List (Option ℕ)) (v new : SeatView) → MarksReachable slots v new → IsJudged new
-judged_after slots v new marks b there = dead_if_unmarked new b marks.dead there
+pub judged_after : (types : List ℕ) (slots : List (Option ℕ)) (v new : SeatView) → MarksReachable types slots v new → IsJudged new
+judged_after types slots v new marks b there = dead_if_unmarked new b marks.dead there
 
 -- ---- the words hold the condemned nodes
 
-pub held_condemned : (setup : Setup) (s : State) (slots : List (Option ℕ)) (v new : SeatView) → IsPlainState setup s → s.phase ≡ Idle → IsHeld s.nodes v → MarksReachable slots v new
+pub held_condemned : (setup : Setup) (s : State) (types : List ℕ) (slots : List (Option ℕ)) (v new : SeatView) → IsPlainState setup s → s.phase ≡ Idle → IsHeld s.nodes v → MarksReachable types slots v new
     → IsHeld (condemn (kept_of (holds new.marked) s.nodes) s.nodes) new
-held_condemned setup s slots v new valid idle held marks =
+held_condemned setup s types slots v new valid idle held marks =
     let kept : List Bool = kept_of (holds new.marked) s.nodes in
     let after : List Node = condemn kept s.nodes in
     let same : bodies_of after ≡ bodies_of s.nodes =
@@ -104,7 +105,7 @@ held_condemned setup s slots v new valid idle held marks =
 typed-object : (setup : Setup) (x y : Node) → y.object ≡ x.object → IsStrong setup x → IsStrong setup y
 typed-object setup x y same typed =
     subst (λ (o : Object). (let z : Node = record { object = o; place = y.place; life = y.life } in IsStrong setup z)) (sym same)
-    (record { ty = typed.ty; extra = typed.extra; kinds = typed.kinds; values = typed.values })
+    (record { ty = typed.ty; kinds = typed.kinds; values = typed.values; pointers = typed.pointers; plain = typed.plain })
 
 pub valid_paused : (setup : Setup) (s : State) (kept : List Bool) → IsPlainState setup s → IsClosed (graph_of s.nodes) kept
     → ((n : ℕ) → Contains s.slots (Some n) → IsIn kept n) → IsPlainState setup (collected_state s kept)
@@ -118,28 +119,29 @@ valid_paused setup s kept valid closed roots =
           (λ n low. typed-object setup (node_at s.nodes n) (node_at after n) (object-condemn kept s.nodes n)
           (All-get_or (IsStrong setup) s.nodes n no_node (subst (λ l. n < l) long low) valid.typed));
       named = All-from_get_or (HasNamesBelow (length after)) after no_node
-          (λ n low. subst (λ (o : Object). All (IsReferenceBelow (length after)) o.values) (sym (object-condemn kept s.nodes n))
-          (subst (λ l. All (IsReferenceBelow l) (node_at s.nodes n).object.values) (sym long)
+          (λ n low. subst (λ (o : Object). All (NamesBelow (length after)) o.values) (sym (object-condemn kept s.nodes n))
+          (subst (λ l. All (NamesBelow l) (node_at s.nodes n).object.values) (sym long)
           (All-get_or (HasNamesBelow (length s.nodes)) s.nodes n no_node (subst (λ l. n < l) long low) valid.named)));
       references = λ n live.
           let was = judged_live (has kept n) (node_at s.nodes n).life (sym (life-condemn kept s.nodes n) ∙ live) in
           let low : n < length s.nodes = there_below s.nodes n (live_is_there s.nodes n was.1) in
           let typed : IsStrong setup (node_at s.nodes n) = All-get_or (IsStrong setup) s.nodes n no_node low valid.typed in
           subst (λ (o : Object). All (NamesLive after) o.values) (sym (object-condemn kept s.nodes n))
-          (λ k d inside. named_after setup s kept n (get_or (node_at s.nodes n).object.values k d) closed live_after was.0 typed
-          (valid.references n was.1 k d inside)
-          (k, inside, get_or_default (node_at s.nodes n).object.values k (get_or (node_at s.nodes n).object.values k d) d inside));
+          (λ k d inside. named_after setup s kept n k (get_or (node_at s.nodes n).object.values k d) closed live_after was.0 typed
+          (valid.references n was.1 k d inside) inside (get_or_default (node_at s.nodes n).object.values k Null d inside));
       slots = λ k d inside m is.
           live_after m (valid.slots k d inside m is) (roots m (k, inside, get_or_default s.slots k (Some m) d inside ∙ is));
       idle = λ e. cc;
       calm = refl;
       unused = valid.unused;
     } where
-      named_after : (setup : Setup) (s : State) (kept : List Bool) (n : ℕ) (v : Value) → IsClosed (graph_of s.nodes) kept
+      named_after : (setup : Setup) (s : State) (kept : List Bool) (n i : ℕ) (v : Value) → IsClosed (graph_of s.nodes) kept
           → ((m : ℕ) → IsLive s.nodes m → IsIn kept m → IsLive (condemn kept s.nodes) m)
-          → has kept n ≡ true → IsStrong setup (node_at s.nodes n) → NamesLive s.nodes v → Contains (node_at s.nodes n).object.values v → NamesLive (condemn kept s.nodes) v
-      named_after setup s kept n Null closed live_after is typed names there = tt
-      named_after setup s kept n (Word w) closed live_after is typed names there = tt
-      named_after setup s kept n (Ref m) closed live_after is typed names there =
+          → has kept n ≡ true → IsStrong setup (node_at s.nodes n) → NamesLive s.nodes v → i < length (node_at s.nodes n).object.values → value_at (node_at s.nodes n) i ≡ v
+          → NamesLive (condemn kept s.nodes) v
+      named_after setup s kept n i Null closed live_after is typed names low at = tt
+      named_after setup s kept n i (Word w) closed live_after is typed names low at = tt
+      named_after setup s kept n i (Ref m) closed live_after is typed names low at =
           live_after m names
-          (closed n m is (subst (λ (o : Object). leads_to kept o m ≡ true) (sym (object-at s.nodes n)) (names_lead setup (node_at s.nodes n) kept m typed there)))
+          (closed n m is (subst (λ (o : Object). leads_to kept o m ≡ true) (sym (object-at s.nodes n)) (names_lead setup (node_at s.nodes n) kept m i typed
+          (names_in_field setup (node_at s.nodes n) m i typed low at) at)))

@@ -12,9 +12,9 @@ abbrev pub IsPrecise : Want → Type 0
 IsPrecise Precise = Unit {0}
 IsPrecise Conservative = ⊥
 
--- objects without extra words, their strong fields, slots, and whole collections; a new object wants all pages swept
+-- objects, their strong fields, slots, whole collections and totals; a new object wants all pages swept
 abbrev pub IsBuilt : Phase → Command → Type 0
-IsBuilt phase (C.New p t e) = (e ≡ 0) × (phase ≡ Idle)
+IsBuilt phase (C.New p t e) = phase ≡ Idle
 IsBuilt phase (C.Set p f q) = Unit {0}
 IsBuilt phase (C.SetNull p f) = Unit {0}
 IsBuilt phase (C.Get p f q) = Unit {0}
@@ -38,7 +38,7 @@ IsBuilt phase C.GcStart = ⊥
 IsBuilt phase (C.GcStep n) = ⊥
 IsBuilt phase (C.GcFinish want) = ⊥
 IsBuilt phase (C.Sweep n) = ⊥
-IsBuilt phase C.Stat = ⊥
+IsBuilt phase C.Stat = Unit {0}
 IsBuilt phase (C.Export p x) = ⊥
 IsBuilt phase (C.Import x p) = ⊥
 IsBuilt phase (C.At j order) = ⊥

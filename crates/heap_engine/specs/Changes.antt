@@ -2,7 +2,7 @@
 use Rattle.std.specs.Prelude.{ℕ, ◌+◌, Bool, List, [], ◌∷◌, ◌++◌, length, map, replicate, Option, Some, None, slice_set}
 use Rattle.gc_graph.specs.declared.graph.Kind.TheVariants.{Strong}
 use Rattle.gc_graph.specs.declared.graph.Value.{Value}
-use Rattle.gc_graph.specs.declared.graph.Value.TheVariants.{Null}
+use Rattle.gc_graph.specs.declared.graph.Value.TheVariants.{Null, Word}
 use Rattle.gc_graph.specs.declared.phase.Phase.{Phase}
 use Rattle.gc_graph.specs.declared.phase.Phase.TheVariants.{Idle, Marking, Sweeping}
 use Rattle.gc_graph.specs.State.{Shape, State, Node, node_at, graph_of, roots_of}
@@ -14,14 +14,23 @@ use Rattle.gc_graph.specs.Pause.{condemn}
 use Rattle.gc_graph.specs.Outcomes.{answered, with_slot, slot_at}
 use Rattle.heap_engine.specs.View.{start_entry, pause_entry}
 
--- a new node with so many strong fields
-abbrev pub fresh_node : ℕ → ℕ → ℕ → Node
-fresh_node ty fields place =
-    record { object = record { ty = ty; extra = 0; kinds = replicate fields Strong; values = replicate fields Null }; place = place; life = Live }
+-- a new node with so many strong fields and so many extra words
+abbrev pub fresh_node : ℕ → ℕ → ℕ → ℕ → Node
+fresh_node ty fields extra place =
+    record {
+      object = record {
+        ty = ty;
+        extra = extra;
+        kinds = replicate fields Strong;
+        values = replicate fields Null ++ replicate extra (Word 0);
+      };
+      place = place;
+      life = Live;
+    }
 
-abbrev pub made_state : State → ℕ → ℕ → ℕ → ℕ → State
-made_state s p ty fields place =
-    answered (with_slot (record s { nodes = s.nodes ++ fresh_node ty fields place ∷ [] }) p (Some (length s.nodes)))
+abbrev pub made_state : State → ℕ → ℕ → ℕ → ℕ → ℕ → State
+made_state s p ty fields extra place =
+    answered (with_slot (record s { nodes = s.nodes ++ fresh_node ty fields extra place ∷ [] }) p (Some (length s.nodes)))
 
 abbrev pub full_state : State → State
 full_state s = answered (record s { full = s.full + 1 })

@@ -1,5 +1,5 @@
--- What is true of every heap: the words hold the state, and what is counted is so.
-use Rattle.std.specs.Prelude.{◌≡◌, ℕ, ◌+◌, ◌<◌, ◌≤◌, false, List, ◌++◌, length, Option, Some, None, All, sum_by, MatchOption, MatchBool, nat_lt, Result, Ok, Err}
+-- What is true of every heap: the words hold the state, and no number is given out twice.
+use Rattle.std.specs.Prelude.{◌≡◌, ℕ, ◌+◌, ◌<◌, ◌≤◌, false, List, ◌++◌, length, Option, Some, None, All, MatchOption, MatchBool, nat_lt, Result, Ok, Err}
 use Rattle.std.specs.Option.{option_to_list}
 use Rattle.gc_graph.specs.declared.phase.Phase.{Phase}
 use Rattle.gc_graph.specs.declared.phase.Phase.TheVariants.{Idle, Marking, Sweeping}
@@ -7,11 +7,9 @@ use Rattle.gc_graph.specs.declared.line.Line.{Line}
 use Rattle.gc_graph.specs.declared.line.Refusal.{Refusal}
 use Rattle.gc_graph.specs.declared.line.Refusal.TheVariants as R
 use Rattle.gc_graph.specs.State.{Setup, State, node_at}
-use Rattle.gc_graph.specs.Fields.{field_count}
+use Rattle.gc_graph.specs.Fields.{field_count, kind_of_field, is_reference}
 use Rattle.gc_graph.specs.Outcomes.{finalise_lines, slot_at}
-use Rattle.page_words.specs.Bodies.{Body}
 use Rattle.page_words.specs.Seat.{SeatView, IsQuiet}
-use Rattle.heap_engine.specs.Space.{IsSeatOf, IsPaged}
 use Rattle.heap_engine.specs.Sweeping.{IsJudged}
 use Rattle.heap_engine.specs.Nodes.{place_of, IsHeld}
 use Rattle.heap_engine.specs.Plain.{IsPlainState}
@@ -35,17 +33,13 @@ HasMarks Sweeping v = IsJudged v
 
 -- the words hold the state
 pub record Holds (setup : Setup) (s : State) (v : SeatView) : Type 0 where
-  pub seat : IsSeatOf setup.shape v
   pub off : v.on ≡ false
   pub held : IsHeld s.nodes v
   pub valid : IsPlainState setup s
   pub marks : HasMarks s.phase v
-  pub paged : IsPaged setup.shape v.bodies
 
--- the counts of objects, of their words, and of the numbers given out
-pub record IsTallied (s : State) (v : SeatView) (objects used made : ℕ) : Type 0 where
-  pub objects_are : objects ≡ length v.bodies
-  pub words_are : used ≡ sum_by (λ (b : Body). b.size) v.bodies
+-- how many numbers were given out
+pub record IsTallied (s : State) (made : ℕ) : Type 0 where
   pub numbers_are : made ≡ length s.nodes
   pub few : length s.nodes ≤ s.ordinal
   pub most : s.ordinal ≤ 1000000
@@ -64,7 +58,9 @@ pub record AreTypes (types : List ℕ) : Type 0 where
 abbrev pub IsFieldOf : State → ℕ → ℕ → Result ℕ Refusal → Type 0
 IsFieldOf s p f answer =
     MatchOption (slot_at s p) (answer ≡ Err R.Null)
-    (λ n. MatchBool (nat_lt f (field_count (node_at s.nodes n))) (answer ≡ Ok (place_of s.nodes n + 2 + f)) (answer ≡ Err R.Field))
+    (λ n. MatchBool (nat_lt f (field_count (node_at s.nodes n)))
+    (MatchBool (is_reference (kind_of_field (node_at s.nodes n).object f)) (answer ≡ Ok (place_of s.nodes n + 2 + f)) (answer ≡ Err R.Kind))
+    (answer ≡ Err R.Field))
 
 -- the reference word of what a slot holds
 abbrev pub reference_to : Option ℕ → ℕ

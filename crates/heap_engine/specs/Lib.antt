@@ -1,4 +1,3 @@
-pub mod Space
 pub mod Marking
 pub mod Sweeping
 pub mod Nodes

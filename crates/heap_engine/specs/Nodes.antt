@@ -1,8 +1,9 @@
 -- Which body each node has in the words.
-use Rattle.std.specs.Prelude.{◌≡◌, ℕ, suc, ◌+◌, List, [], ◌∷◌, map, if◌then◌else◌, true}
+use Rattle.std.specs.Prelude.{◌≡◌, ℕ, suc, ◌+◌, List, [], ◌∷◌, map, if◌then◌else◌}
 use Rattle.gc_graph.specs.declared.graph.Value.{Value}
 use Rattle.gc_graph.specs.declared.graph.Value.TheVariants.{Null, Ref, Word}
 use Rattle.gc_graph.specs.State.{Node, node_at, is_there, is_dead, size_of}
+pub use Rattle.gc_graph.specs.Valid.{IsThere}
 use Rattle.page_words.specs.Bodies.{Body}
 use Rattle.page_words.specs.Seat.{SeatView, holds}
 
@@ -28,9 +29,6 @@ bodies_from place n (node ∷ nodes) =
 -- the bodies of the nodes that are there, in the order of their numbers
 abbrev pub bodies_of : List Node → List Body
 bodies_of nodes = bodies_from (place_of nodes) 0 nodes
-
-abbrev pub IsThere : List Node → ℕ → Type 0
-IsThere nodes n = is_there (node_at nodes n).life ≡ true
 
 -- the words hold the nodes: the bodies are theirs, and the dead ones are the dead nodes'
 pub record IsHeld (nodes : List Node) (v : SeatView) : Type 0 where

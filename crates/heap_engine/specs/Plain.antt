@@ -1,25 +1,42 @@
--- The states that the heap comes to so far: all fields are strong, and the parts that no command changes stand as at first.
-use Rattle.std.specs.Prelude.{◌≡◌, ℕ, ◌<◌, false, List, [], length, replicate, Option, None, All}
+-- The states that the heap comes to so far: all fields are strong, extra words are plain, and the parts that no command
+-- changes stand as at first.
+use Rattle.std.specs.Prelude.{◌≡◌, ℕ, ◌+◌, ◌<◌, ◌≤◌, false, List, [], length, replicate, Option, None, All, ⊤}
 use Rattle.std.specs.Option.{ForSome}
 use Rattle.gc_graph.specs.declared.phase.Phase.TheVariants.{Idle}
 use Rattle.gc_graph.specs.declared.graph.Kind.TheVariants.{Strong}
+use Rattle.gc_graph.specs.declared.graph.Value.{Value}
+use Rattle.gc_graph.specs.declared.graph.Value.TheVariants.{Null, Ref, Word}
 use Rattle.gc_graph.specs.State.{Setup, State, Node, StackWord, RegionSlot, Registration, node_at, type_at, IsLive, IsDead}
 use Rattle.gc_graph.specs.State.RegionSlot.{Vacant}
+use Rattle.gc_graph.specs.Fields.{value_at}
 use Rattle.gc_graph.specs.CycleSteps.{is_marking}
-use Rattle.gc_graph.specs.Valid.{IsReferenceBelow, NamesLive}
+use Rattle.gc_graph.specs.Valid.{IsPlainWord, NamesLive}
 
 abbrev pub fields_of : Setup → Node → ℕ
 fields_of setup node = length (type_at setup node.object.ty).kinds
 
--- the object has the strong fields of its type, one word for each, and no extra words
+-- null or a reference
+abbrev pub IsPointer : Value → Type 0
+IsPointer Null = ⊤
+IsPointer (Ref n) = ⊤
+IsPointer (Word w) = ⊥
+
+-- it names no node, or one whose number is below the bound
+abbrev pub NamesBelow : ℕ → Value → Type 0
+NamesBelow bound Null = ⊤
+NamesBelow bound (Ref n) = n < bound
+NamesBelow bound (Word w) = ⊤
+
+-- the object has the strong fields of its type, one word for each, and then its extra words, which are plain
 pub record IsStrong (setup : Setup) (node : Node) : Type 0 where
   pub ty : node.object.ty < length setup.types
-  pub extra : node.object.extra ≡ 0
   pub kinds : node.object.kinds ≡ replicate (fields_of setup node) Strong
-  pub values : length node.object.values ≡ fields_of setup node
+  pub values : length node.object.values ≡ fields_of setup node + node.object.extra
+  pub pointers : (i : ℕ) → i < fields_of setup node → IsPointer (value_at node i)
+  pub plain : (i : ℕ) → fields_of setup node ≤ i → i < length node.object.values → IsPlainWord (value_at node i)
 
 abbrev pub HasNamesBelow : ℕ → Node → Type 0
-HasNamesBelow bound node = All (IsReferenceBelow bound) node.object.values
+HasNamesBelow bound node = All (NamesBelow bound) node.object.values
 
 -- weak slots and region slots are null, the stack is empty, no prefinalizer is registered, and no thread runs
 pub record AreUnused

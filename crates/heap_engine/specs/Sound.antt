@@ -3,12 +3,13 @@ use Rattle.std.specs.Prelude.{◌≡◌, ◌*◌, ◌≤◌, [], map}
 use Rattle.gc_graph.specs.State.{Setup}
 use Rattle.gc_graph.specs.Fields.{strong_type}
 use Rattle.heap_engine.specs.declared.heap.Heap.TheInside.{Inside}
-use Rattle.heap_engine.specs.Space.{word_count}
+use Rattle.page_space.specs.Pages.{word_count}
+use Rattle.page_space.specs.Space.{IsSpaceOf}
 use Rattle.heap_engine.specs.View.{View, piece_of}
 use Rattle.heap_engine.specs.Inner.{lines_of, Holds, IsTallied, HoldsSlotsOf, AreTypes}
 
 abbrev pub setup_of : Inside → Setup
-setup_of h = record { shape = h.space; markers = 0; types = map strong_type h.types.items; callbacks = [] }
+setup_of h = record { shape = h.space.shape; markers = 0; types = map strong_type h.types.items; callbacks = [] }
 
 abbrev pub view_of : Inside → View
 view_of h =
@@ -16,9 +17,10 @@ view_of h =
 
 pub record IsSound (h : Inside) : Type 0 where
   pub types : AreTypes h.types.items
+  pub space : IsSpaceOf h.space h.seat
   pub phase : h.phase ≡ h.state.value.phase
   pub holds : Holds (setup_of h) h.state.value h.seat
-  pub tallied : IsTallied h.state.value h.seat h.objects h.used h.made
+  pub tallied : IsTallied h.state.value h.made
   pub slots : HoldsSlotsOf h.state.value h.slots.items
   pub grey : h.grey.places ≡ []
-  pub room : word_count h.space ≤ 2 * h.outcome.room
+  pub room : word_count h.space.shape ≤ 2 * h.outcome.room

@@ -1,21 +1,20 @@
 // Collections and sweeps.
 
 ghost use Rattle.std.specs.Prelude.{◌≡◌, ◌+◌, ◌-◌, ◌*◌, ◌^◌};
-ghost use Rattle.std.specs.Prelude.{◌<◌, ◌≤◌, false, [], length, All};
-ghost use Rattle.std.specs.Prelude.{sum_by};
+ghost use Rattle.std.specs.Prelude.{◌<◌, ◌≤◌, false, [], All};
 ghost use Rattle.gc_graph.specs.declared.phase.Phase.TheVariants.{Sweeping};
 ghost use Rattle.gc_graph.specs.declared.command.Want.TheVariants.{Precise};
 ghost use Rattle.gc_graph.specs.CycleSteps.{StepGcNow, StepSweepAll, IsSwept};
-ghost use Rattle.heap_engine.specs.Space.{IsSeatOf, word_count};
-ghost use Rattle.heap_engine.specs.Marking.{PlacesDiffer};
+ghost use Rattle.page_space.specs.Pages.{word_count};
+ghost use Rattle.page_space.specs.Space.{IsSpaceOf};
 ghost use Rattle.heap_engine.specs.Sweeping.{IsSweptView, AreDeadSerials};
 ghost use Rattle.heap_engine.specs.Inner.{HasMarks};
 
 use crate::heap::Heap;
 use crate::outcome::Outcome;
-use crate::space::Space;
 use crate::states;
 use gc_graph::{Line, Phase, Refusal};
+use page_space::Space;
 use page_words::MutatorSeat;
 
 impl Heap {
@@ -31,23 +30,26 @@ impl Heap {
     {
         self.outcome.begin();
         // The mark list's room is taken before anything else is done, so that marking can't fail.
-        if self.grey.reserve(self.objects).is_err() {
+        if self.grey.reserve(self.space.objects()).is_err() {
             self.outcome.end(Line::Memory);
             self.state = states::answered(&self.state);
             return;
         }
         self.seat.bodies_lie_apart();
-        let words = end_sweep(self.phase, &self.space, &mut self.seat, &mut self.outcome);
-        self.objects -= self.outcome.finalised();
-        self.used -= words;
+        end_sweep(
+            self.phase,
+            &mut self.space,
+            &mut self.seat,
+            &mut self.outcome,
+        );
         self.state = states::ended(&self.state, &self.space, &self.outcome);
         self.seat.bodies_lie_apart();
         gc_graph::reach_is_least();
-        self.grey
-            .mark_reachable(&self.space, &mut self.seat, &self.slots);
+        self.grey.mark_reachable(self.space.words(), &mut self.seat, &self.types, &self.slots);
         self.state = states::collected(&self.state, &self.seat);
         self.phase = Phase::Sweeping;
-        self.outcome.end(pause_line(self.objects, self.grey.marked(), self.grey.traced()));
+        let objects = self.space.objects();
+        self.outcome.end(pause_line(objects, self.grey.marked(), self.grey.traced()));
         self.state = states::answered(&self.state);
     }
 
@@ -79,9 +81,12 @@ impl Heap {
     {
         self.outcome.begin();
         self.seat.bodies_lie_apart();
-        let words = end_sweep(self.phase, &self.space, &mut self.seat, &mut self.outcome);
-        self.objects -= self.outcome.finalised();
-        self.used -= words;
+        end_sweep(
+            self.phase,
+            &mut self.space,
+            &mut self.seat,
+            &mut self.outcome,
+        );
         self.phase = Phase::Idle;
         self.state = states::ended(&self.state, &self.space, &self.outcome);
         let pages = self.space.pages();
@@ -90,26 +95,23 @@ impl Heap {
     }
 }
 
-/// Ends an open sweep, and answers how many words the finalised objects had.
-fn end_sweep(phase: Phase, space: &Space, seat: &mut MutatorSeat, outcome: &mut Outcome) -> u32
-    requires heap { IsSeatOf space.now seat.old }
+/// Ends an open sweep.
+fn end_sweep(phase: Phase, space: &mut Space, seat: &mut MutatorSeat, outcome: &mut Outcome)
+    requires space { IsSpaceOf space.old seat.old }
     requires off { seat.old.on ≡ false }
     requires marks { HasMarks phase seat.old }
-    requires differ { PlacesDiffer seat.old.bodies }
-    requires total { sum_by (λ b. b.size) seat.old.bodies < 2 ^ 32 }
     requires serials { All (λ b. b.serial < 2 ^ 32) seat.old.bodies }
     requires numbers { outcome.old.numbers ≡ [] }
-    requires room { word_count space.now ≤ 2 * outcome.old.room }
+    requires room { word_count space.old.shape ≤ 2 * outcome.old.room }
     ensures swept { IsSweptView seat.old seat.new }
     ensures numbers { AreDeadSerials seat.old outcome.new.numbers }
-    ensures objects { length outcome.new.numbers + length seat.new.bodies ≡ length seat.old.bodies }
-    ensures words { result + sum_by (λ b. b.size) seat.new.bodies
-        ≡ sum_by (λ b. b.size) seat.old.bodies }
+    ensures space { IsSpaceOf space.new seat.new }
+    ensures shape { space.new.shape ≡ space.old.shape }
     ensures last { outcome.new.last ≡ outcome.old.last }
     ensures kept { outcome.new.room ≡ outcome.old.room }
 {
     match phase {
-        Phase::Idle | Phase::Marking => 0,
+        Phase::Idle | Phase::Marking => {}
         Phase::Sweeping => outcome.sweep(space, seat),
     }
 }

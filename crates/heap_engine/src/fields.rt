@@ -6,20 +6,20 @@ ghost use Rattle.gc_graph.specs.declared.graph.Value.TheVariants.{Null};
 ghost use Rattle.gc_graph.specs.declared.line.Line.TheVariants as L;
 ghost use Rattle.gc_graph.specs.declared.line.Refusal.TheVariants as R;
 ghost use Rattle.gc_graph.specs.State.{node_at};
-ghost use Rattle.gc_graph.specs.Fields.{field_count, value_at, content_of, target_of};
+ghost use Rattle.gc_graph.specs.Fields.{field_count, kind_of_field, is_reference, value_at};
+ghost use Rattle.gc_graph.specs.Fields.{content_of, target_of};
 ghost use Rattle.gc_graph.specs.Outcomes.{IsRefused, slot_at};
 ghost use Rattle.gc_graph.specs.ObjectSteps.{StepSet, StepGet};
 ghost use Rattle.page_words.specs.Bodies.{IsFieldWord, IsReference};
 ghost use Rattle.page_words.specs.Seat.{IsWordAt, stored};
-ghost use Rattle.heap_engine.specs.Space.{IsSeatOf, word_count};
 ghost use Rattle.heap_engine.specs.Nodes.{place_of};
 ghost use Rattle.heap_engine.specs.Inner.{IsFieldOf, reference_to};
 
 use crate::heap::Heap;
-use crate::space::Space;
+use crate::marking::type_at;
 use crate::states;
 use gc_graph::{Line, Refusal};
-use page_words::MutatorSeat;
+use page_words::{MutatorSeat, Words};
 
 impl Heap {
     /// Field f of slot p's object gets what slot q holds.
@@ -38,7 +38,8 @@ impl Heap {
             Ok(a) => {
                 let reference = reference_of(self.slots[q as usize]);
                 self.seat.bodies_lie_apart();
-                self.space.store_field(&mut self.seat, a, reference);
+                self.space.lasts_while_objects_stay();
+                store_field(self.space.words(), &mut self.seat, a, reference);
                 self.outcome.begin();
                 self.outcome.end(Line::Fine);
                 self.state = states::stored(&self.state, p, f, q);
@@ -60,7 +61,8 @@ impl Heap {
         match self.field_at(p, f) {
             Ok(a) => {
                 self.seat.bodies_lie_apart();
-                self.space.store_field(&mut self.seat, a, 0);
+                self.space.lasts_while_objects_stay();
+                store_field(self.space.words(), &mut self.seat, a, 0);
                 self.outcome.begin();
                 self.outcome.end(Line::Fine);
                 self.state = states::nulled(&self.state, p, f);
@@ -105,7 +107,8 @@ impl Heap {
         self.state = states::answered(&self.state);
     }
 
-    /// The address of field f of slot p's object. A null slot is told before a missing field.
+    /// The address of field f of slot p's object. A null slot is told before a missing field, and
+    /// this before an extra word, which is of another kind.
     fn field_at(&mut self, p: u32, f: u32) -> Result<u32, Refusal>
         requires { p < 256 }
         ensures field { IsFieldOf self.old.state p f result }
@@ -116,11 +119,15 @@ impl Heap {
         };
         self.seat.bodies_lie_apart();
         let size = self.space.size_at(&mut self.seat, place);
-        if f < size - 2 {
-            Ok(place + 2 + f)
-        } else {
-            Err(Refusal::Field)
+        if f >= size - 2 {
+            return Err(Refusal::Field);
         }
+        let ty = type_at(self.space.words(), &mut self.seat, place);
+        let fields = self.types[ty as usize];
+        if f >= fields {
+            return Err(Refusal::Kind);
+        }
+        Ok(place + 2 + f)
     }
 
     /// The place and the number of what field f of slot p's object names.
@@ -128,43 +135,43 @@ impl Heap {
         requires { p < 256 }
         ensures target { MatchOption (slot_at self.old.state p) (result ≡ Err R.Null)
             (λ n. MatchBool (nat_lt f (field_count (node_at self.old.state.nodes n)))
+            (MatchBool (is_reference (kind_of_field (node_at self.old.state.nodes n).object f))
             (result ≡ Ok (option_map (λ m. (place_of self.old.state.nodes m, m))
             (target_of (value_at (node_at self.old.state.nodes n) f))))
+            (result ≡ Err R.Kind))
             (result ≡ Err R.Field)) }
         ensures same { self.new ≡ self.old }
     {
         let a = self.field_at(p, f)?;
         self.seat.bodies_lie_apart();
-        let reference = self.space.word_at(&mut self.seat, a);
+        let reference = word_at(self.space.words(), &mut self.seat, a);
         if reference == 0 {
             return Ok(None);
         }
         let place = (reference - 1) as u32;
-        let number = self.space.word_at(&mut self.seat, place + 1) as u32;
+        let number = word_at(self.space.words(), &mut self.seat, place + 1) as u32;
         Ok(Some((place, number)))
     }
 }
 
-impl Space {
-    /// The word at an address of the heap.
-    fn word_at(&self, seat: &mut MutatorSeat, a: u32) -> u64
-        requires heap { IsSeatOf self.now seat.old }
-        requires address { a < word_count self.now }
-        ensures word { IsWordAt seat.old a result }
-        ensures view { seat.new ≡ seat.old }
-    {
-        self.words.load(seat, a)
-    }
+/// The word at an address of the heap.
+fn word_at(words: &Words, seat: &mut MutatorSeat, a: u32) -> u64
+    requires heap { seat.old.count ≡ words.now }
+    requires address { a < seat.old.count }
+    ensures word { IsWordAt seat.old a result }
+    ensures view { seat.new ≡ seat.old }
+{
+    words.load(seat, a)
+}
 
-    /// Writes a reference into a field word of an object.
-    fn store_field(&self, seat: &mut MutatorSeat, a: u32, reference: u64)
-        requires heap { IsSeatOf self.now seat.old }
-        requires field { IsFieldWord seat.old.bodies a }
-        requires reference { IsReference seat.old.bodies reference }
-        ensures { seat.new ≡ stored seat.old a reference }
-    {
-        self.words.store(seat, a, reference);
-    }
+/// Writes a reference into a field word of an object.
+fn store_field(words: &Words, seat: &mut MutatorSeat, a: u32, reference: u64)
+    requires heap { seat.old.count ≡ words.now }
+    requires field { IsFieldWord seat.old.bodies a }
+    requires reference { IsReference seat.old.bodies reference }
+    ensures { seat.new ≡ stored seat.old a reference }
+{
+    words.store(seat, a, reference);
 }
 
 /// The reference word of what a slot holds.

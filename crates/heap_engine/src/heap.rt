@@ -10,14 +10,14 @@ ghost use Rattle.gc_graph.specs.CycleSteps.{is_marking};
 ghost use Rattle.gc_graph.specs.Step.{Step};
 ghost use Rattle.heap_engine.specs.Built.{IsBuilt};
 ghost use Rattle.gc_graph.specs.Lawful.{IsAllowed, IsEndLine};
-ghost use Rattle.heap_engine.specs.Space.{IsShape};
+ghost use Rattle.page_space.specs.Pages.{IsShape};
 
 use crate::marking::MarkList;
 use crate::outcome::Outcome;
-use crate::space::Space;
 use crate::states::{self, States};
 use gc_graph::{Command, Line, NoMemory, Phase};
 use ghost_values::GhostValue;
+use page_space::Space;
 use page_words::MutatorSeat;
 use std::alloc::Global;
 use std::marker::Model;
@@ -40,9 +40,6 @@ pub struct Heap {
     /// The place of what each slot names.
     pub(crate) slots: Vec<Option<u32>>,
     pub(crate) phase: Phase,
-    /// How many objects are not finalised, and how many words they have.
-    pub(crate) objects: u32,
-    pub(crate) used: u32,
     /// How many numbers were given out.
     pub(crate) made: u32,
     pub(crate) grey: MarkList,
@@ -91,8 +88,6 @@ impl Heap {
             types,
             slots,
             phase: Phase::Idle,
-            objects: 0,
-            used: 0,
             made: 0,
             grey: MarkList::new(alloc),
             outcome,
@@ -101,7 +96,7 @@ impl Heap {
         })
     }
 
-    /// Does one command, and answers how many lines its outcome has.
+    /// Runs a command. The answer is the number of lines that `line` then tells.
     pub fn act(&mut self, command: &Command) -> u32
         requires few { self.old.state.ordinal < 1000000 }
         requires opened { self.old.closed ≡ false }
@@ -117,13 +112,14 @@ impl Heap {
         ensures closed { self.new.closed ≡ false }
     {
         match *command {
-            Command::New { p, t, e: _ } => self.new_object(p, t),
+            Command::New { p, t, e } => self.new_object(p, t, e),
             Command::Set { p, f, q } => self.set(p, f, q),
             Command::SetNull { p, f } => self.set_null(p, f),
             Command::Get { p, f, q } => self.get(p, f, q),
             Command::Drop { p } => self.drop_slot(p),
             Command::GcNow { want: _ } => self.collect(),
             Command::SweepAll => self.sweep_all(),
+            Command::Stat => self.stat(),
             Command::Pair { .. }
             | Command::PairNull { .. }
             | Command::Put { .. }
@@ -141,7 +137,6 @@ impl Heap {
             | Command::GcStep { .. }
             | Command::GcFinish { .. }
             | Command::Sweep { .. }
-            | Command::Stat
             | Command::Export { .. }
             | Command::Import { .. }
             | Command::At { .. }
@@ -165,13 +160,9 @@ impl Heap {
         ensures line { IsEndLine self.old.setup self.old.state result }
         ensures same { self.new ≡ record self.old { closed = true } }
     {
-        let pages = self.space.used_pages(&mut self.seat);
+        let (n, u, g) = self.totals();
         self.closed = true;
-        Line::End {
-            n: self.objects,
-            u: self.used,
-            g: pages,
-        }
+        Line::End { n, u, g }
     }
 }
 

@@ -1,19 +1,19 @@
 //! # The heap engine
 //!
-//! What it is: a heap that does commands. It keeps its objects in the words of `page_words`, and
+//! What it is: a heap that does commands. It keeps its objects in the pages of `page_space`, and
 //! each command is one step of the graph that `gc_graph` defines.
 //!
-//! The parts: `Heap` with `new`, `act`, `line` and `close`, and `Config`. Inside, `space` (the
-//! pages), `placing` and `occupying` (where a new object goes, and its words), `marking` (what
-//! the slots reach), `sweeping` (what was dead), `creating`, `fields` and `collecting` (the
-//! commands), `outcome` (the lines of the last one), and `states` (the state of the graph, for
-//! contracts alone). The next level down is `page_words`.
+//! The parts: `Heap` with `new`, `act`, `line` and `close`, and `Config`. Inside, `marking` (what
+//! the slots reach), `sweeping` (what was dead), `creating`, `fields`, `collecting` and `totals`
+//! (the commands), `outcome` (the lines of the last one), and `states` (the state of the graph,
+//! for contracts alone). The next levels down are `page_space` and `page_words`.
 //!
 //! What is proved: `act` is a step from the heap's own state to its new state, for every command
 //! that is allowed, and its lines are those of the step. Each node that is not finalised is the
-//! object with its number, type, size, place and field words. A collection keeps exactly what the
-//! slots reach. Refusals and a full heap are answered exactly where the step says so; a
-//! collection alone may want memory, and then nothing has changed.
+//! object with its number, type, size, place, field words and extra words. A collection keeps
+//! exactly what the slots reach, and never reads an extra word. Refusals and a full heap are
+//! answered exactly where the step says so; a collection alone may want memory, and then nothing
+//! has changed.
 //!
 //! What is only tested or not said: that memory suffices, and how long a command takes.
 #![tactic(auto)]
@@ -23,11 +23,9 @@ mod creating;
 mod fields;
 mod heap;
 mod marking;
-mod occupying;
 mod outcome;
-mod placing;
-mod space;
 mod states;
 mod sweeping;
+mod totals;
 
 pub use heap::{Config, Heap};

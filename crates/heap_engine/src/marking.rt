@@ -6,16 +6,14 @@ ghost use Rattle.std.specs.Prelude.{◌≡◌, ◌⊎◌, ℕ, ◌+◌, ◌*◌,
 ghost use Rattle.std.specs.Prelude.{◌^◌, ◌<◌, ◌≤◌, true, [], ◌∷◌, ◌++◌};
 ghost use Rattle.std.specs.Prelude.{length, Some, None, MatchOption, OnOk, Contains, All};
 ghost use Rattle.std.specs.Option.{ForSome};
-ghost use Rattle.page_words.specs.Bodies.{IsPlace, IsReference};
+ghost use Rattle.page_words.specs.Bodies.{Body, IsPlace, IsReference};
 ghost use Rattle.page_words.specs.Seat.{holds, is_grey, claimed_at, IsQuiet};
-ghost use Rattle.heap_engine.specs.Space.{IsSeatOf};
 ghost use Rattle.heap_engine.specs.Marking.{PlacesDiffer, AreReferences, IsCounted, IsTricolour};
 ghost use Rattle.heap_engine.specs.Marking.{KeepsTricolour, MarksOn, GrowsWithin, MarksReachable};
-ghost use Rattle.heap_engine.specs.Marking.{HasSize, LeadsTo, marked_count};
+ghost use Rattle.heap_engine.specs.Marking.{HasFields, LeadsTo, marked_count};
 
-use crate::space::Space;
 use gc_graph::NoMemory;
-use object_headers::{with_mark, with_traced};
+use object_headers::{Header, with_mark, with_traced};
 use page_words::{MutatorSeat, Words};
 use std::alloc::Global;
 use std::marker::Model;
@@ -80,26 +78,32 @@ impl MarkList {
     }
 
     /// Marks exactly the objects that the slots reach, and traces each of them once.
-    pub fn mark_reachable(&mut self, space: &Space, seat: &mut MutatorSeat, slots: &[Option<u32>])
-        requires heap { IsSeatOf space.now seat.old }
+    pub fn mark_reachable(
+        &mut self,
+        words: &Words,
+        seat: &mut MutatorSeat,
+        types: &[u32],
+        slots: &[Option<u32>],
+    )
+        requires heap { seat.old.count ≡ words.now }
         requires quiet { IsQuiet seat.old }
         requires slots { All (λ slot. ForSome slot (IsPlace seat.old.bodies)) slots.now }
-        requires references { AreReferences seat.old.bodies }
+        requires references { AreReferences types.now seat.old.bodies }
         requires differ { PlacesDiffer seat.old.bodies }
         requires empty { self.old.places ≡ [] }
         requires room { length seat.old.bodies ≤ self.old.room }
         requires few { length seat.old.bodies < 2 ^ 32 }
-        ensures marks { MarksReachable slots.now seat.old seat.new }
+        ensures marks { MarksReachable types.now slots.now seat.old seat.new }
         ensures places { self.new.places ≡ [] }
         ensures marked { self.new.marked ≡ marked_count seat.new }
         ensures traced { self.new.traced ≡ self.new.marked }
     {
         self.begin();
-        space.words.set_stop(seat, false);
-        self.mark_slots(&space.words, seat, slots);
-        self.drain(space, seat);
+        words.set_stop(seat, false);
+        self.mark_slots(words, seat, slots);
+        self.drain(words, seat, types);
         seat.bodies_lie_apart();
-        space.words.set_stop(seat, true);
+        words.set_stop(seat, true);
     }
 
     fn begin(&mut self)
@@ -143,19 +147,19 @@ impl MarkList {
     }
 
     /// Traces each listed object, until none is left.
-    fn drain(&mut self, space: &Space, seat: &mut MutatorSeat)
-        requires heap { IsSeatOf space.now seat.old }
-        requires references { AreReferences seat.old.bodies }
+    fn drain(&mut self, words: &Words, seat: &mut MutatorSeat, types: &[u32])
+        requires heap { seat.old.count ≡ words.now }
+        requires references { AreReferences types.now seat.old.bodies }
         requires counted { IsCounted seat.old self.old }
-        requires tricolour { IsTricolour None seat.old self.old.places }
+        requires tricolour { IsTricolour types.now None seat.old self.old.places }
         ensures counted { IsCounted seat.new self.new }
-        ensures tricolour { IsTricolour None seat.new [] }
+        ensures tricolour { IsTricolour types.now None seat.new [] }
         ensures places { self.new.places ≡ [] }
         ensures kept { MarksOn seat.old seat.new }
-        ensures grows { GrowsWithin seat.old seat.new }
+        ensures grows { GrowsWithin types.now seat.old seat.new }
     {
         while let Some(place) = self.take() {
-            self.trace(space, seat, place);
+            self.trace(words, seat, types, place);
         }
     }
 
@@ -170,23 +174,23 @@ impl MarkList {
     }
 
     /// Claims a listed object, and marks and lists the targets of its fields.
-    fn trace(&mut self, space: &Space, seat: &mut MutatorSeat, place: u32)
-        requires heap { IsSeatOf space.now seat.old }
-        requires references { AreReferences seat.old.bodies }
+    fn trace(&mut self, words: &Words, seat: &mut MutatorSeat, types: &[u32], place: u32)
+        requires heap { seat.old.count ≡ words.now }
+        requires references { AreReferences types.now seat.old.bodies }
         requires counted { IsCounted seat.old self.old }
-        requires tricolour { IsTricolour None seat.old (self.old.places ++ place ∷ []) }
+        requires tricolour { IsTricolour types.now None seat.old (self.old.places ++ place ∷ []) }
         ensures counted { IsCounted seat.new self.new }
-        ensures tricolour { IsTricolour None seat.new self.new.places }
+        ensures tricolour { IsTricolour types.now None seat.new self.new.places }
         ensures kept { MarksOn seat.old seat.new }
-        ensures grows { GrowsWithin seat.old seat.new }
+        ensures grows { GrowsWithin types.now seat.old seat.new }
         ensures pushed { length self.new.places + self.old.marked
             ≡ length self.old.places + self.new.marked }
         ensures grew { self.old.marked ≤ self.new.marked }
     {
         seat.bodies_lie_apart();
-        if self.claim(&space.words, seat, place) {
-            let size = space.size_at(seat, place);
-            self.mark_fields(space, seat, place, size);
+        if self.claim(words, seat, place) {
+            let ty = type_at(words, seat, place);
+            self.mark_fields(words, seat, types, place, types[ty as usize]);
         }
     }
 
@@ -210,28 +214,34 @@ impl MarkList {
         claimed
     }
 
-    /// Marks and lists the targets of an object's fields.
-    fn mark_fields(&mut self, space: &Space, seat: &mut MutatorSeat, place: u32, size: u32)
-        requires heap { IsSeatOf space.now seat.old }
-        requires references { AreReferences seat.old.bodies }
-        requires size { HasSize seat.old.bodies place size }
+    /// Marks and lists the targets of an object's fields. Its extra words are never read.
+    fn mark_fields(
+        &mut self,
+        words: &Words,
+        seat: &mut MutatorSeat,
+        types: &[u32],
+        place: u32,
+        fields: u32,
+    )
+        requires heap { seat.old.count ≡ words.now }
+        requires references { AreReferences types.now seat.old.bodies }
+        requires fields { HasFields types.now seat.old.bodies place fields }
         requires counted { IsCounted seat.old self.old }
         requires hand { holds seat.old.marked place ≡ true }
         ensures counted { IsCounted seat.new self.new }
         ensures tricolour { KeepsTricolour seat.old self.old seat.new self.new }
         ensures kept { MarksOn seat.old seat.new }
-        ensures targets { (q : ℕ) → LeadsTo seat.old.bodies place q
+        ensures targets { (q : ℕ) → LeadsTo types.now seat.old.bodies place q
             → holds seat.new.marked q ≡ true }
-        ensures grows { GrowsWithin seat.old seat.new }
+        ensures grows { GrowsWithin types.now seat.old seat.new }
         ensures pushed { length self.new.places + self.old.marked
             ≡ length self.old.places + self.new.marked }
         ensures grew { self.old.marked ≤ self.new.marked }
     {
         seat.bodies_lie_apart();
-        space.shape_is_valid();
-        for i in 2..size {
-            let reference = space.words.load(seat, place + i);
-            self.mark_reference(&space.words, seat, reference);
+        for i in 0..fields {
+            let reference = words.load(seat, place + 2 + i);
+            self.mark_reference(words, seat, reference);
         }
     }
 
@@ -277,5 +287,19 @@ impl MarkList {
             self.places.push_reserved(place);
             self.marked += 1;
         }
+    }
+}
+
+/// The type of the object that starts at an address.
+pub(crate) fn type_at(words: &Words, seat: &mut MutatorSeat, a: u32) -> u32
+    requires heap { seat.old.count ≡ words.now }
+    requires start { IsPlace seat.old.bodies a }
+    ensures ty { (b : Body) → Contains seat.old.bodies b → b.place ≡ a → result ≡ b.ty }
+    ensures view { seat.new ≡ seat.old }
+{
+    seat.bodies_lie_apart();
+    match Header::read(words.load(seat, a)) {
+        Some(header) => header.ty,
+        None => unreachable!("an object starts here"),
     }
 }

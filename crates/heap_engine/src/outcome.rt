@@ -3,15 +3,16 @@
 
 ghost use Rattle.std.specs.Prelude.{◌≡◌, ◌+◌, ◌*◌, ◌^◌, ◌<◌};
 ghost use Rattle.std.specs.Prelude.{◌≤◌, false, [], length, Some, None};
-ghost use Rattle.std.specs.Prelude.{IfOk, All, sum_by, slice_get};
+ghost use Rattle.std.specs.Prelude.{IfOk, All, slice_get};
 ghost use Rattle.page_words.specs.Bodies.{Body};
-ghost use Rattle.heap_engine.specs.Space.{IsSeatOf, word_count};
-ghost use Rattle.heap_engine.specs.Marking.{PlacesDiffer};
+ghost use Rattle.page_space.specs.Pages.{word_count};
+ghost use Rattle.page_space.specs.Space.{IsSpaceOf};
 ghost use Rattle.heap_engine.specs.Sweeping.{IsJudged, IsSweptView, AreDeadSerials};
 ghost use Rattle.heap_engine.specs.Inner.{lines_of};
 
-use crate::space::Space;
+use crate::sweeping::sweep_pages;
 use gc_graph::{Line, NoMemory};
+use page_space::Space;
 use page_words::MutatorSeat;
 use std::alloc::Global;
 use std::marker::Model;
@@ -67,35 +68,23 @@ impl Outcome {
         self.last = Some(line);
     }
 
-    /// Sweeps all pages: the finalised nodes are the lines. Answers how many words their objects
-    /// had.
-    pub fn sweep(&mut self, space: &Space, seat: &mut MutatorSeat) -> u32
-        requires heap { IsSeatOf space.now seat.old }
+    /// Sweeps all pages: the finalised nodes are the lines.
+    pub fn sweep(&mut self, space: &mut Space, seat: &mut MutatorSeat)
+        requires space { IsSpaceOf space.old seat.old }
         requires off { seat.old.on ≡ false }
         requires judged { IsJudged seat.old }
-        requires differ { PlacesDiffer seat.old.bodies }
-        requires total { sum_by (λ b. b.size) seat.old.bodies < 2 ^ 32 }
         requires serials { All (λ b. b.serial < 2 ^ 32) seat.old.bodies }
         requires empty { self.old.numbers ≡ [] }
-        requires room { word_count space.now ≤ 2 * self.old.room }
+        requires room { word_count space.old.shape ≤ 2 * self.old.room }
         ensures swept { IsSweptView seat.old seat.new }
         ensures numbers { AreDeadSerials seat.old self.new.numbers }
-        ensures objects { length self.new.numbers + length seat.new.bodies
-            ≡ length seat.old.bodies }
-        ensures words { result + sum_by (λ b. b.size) seat.new.bodies
-            ≡ sum_by (λ b. b.size) seat.old.bodies }
+        ensures space { IsSpaceOf space.new seat.new }
+        ensures shape { space.new.shape ≡ space.old.shape }
         ensures last { self.new.last ≡ self.old.last }
         ensures kept { self.new.room ≡ self.old.room }
     {
-        space.shape_is_valid();
-        space.sweep_all(seat, &mut self.finalised)
-    }
-
-    /// How many nodes were finalised.
-    pub fn finalised(&self) -> u32
-        ensures { result ≡ length self.now.numbers }
-    {
-        self.finalised.len() as u32
+        seat.bodies_lie_apart();
+        sweep_pages(space, seat, &mut self.finalised);
     }
 
     /// How many lines there are.

@@ -11,8 +11,8 @@ ghost use Rattle.heap_engine.specs.Changes.{made_state, full_state, stored_state
 ghost use Rattle.heap_engine.specs.Changes.{ended_state, collected_state};
 
 use crate::outcome::Outcome;
-use crate::space::Space;
 use ghost_values::GhostValue;
+use page_space::Space;
 use page_words::MutatorSeat;
 use std::marker::Model;
 
@@ -67,21 +67,23 @@ pub fn full(state: &GhostValue<States>) -> GhostValue<States>
     })
 }
 
-/// A new node has `f` fields.
+/// A new node has so many fields and extra words.
 pub fn made(
     state: &GhostValue<States>,
     p: u32,
     ty: u32,
     fields: u32,
+    extra: u32,
     place: u32,
 ) -> GhostValue<States>
-    ensures { result.value ≡ made_state state.now.value p ty fields place }
+    ensures { result.value ≡ made_state state.now.value p ty fields extra place }
 {
     GhostValue::chosen(&AboutNew {
         state,
         p,
         ty,
         fields,
+        extra,
         place,
     })
 }
@@ -93,6 +95,7 @@ struct AboutNew<'a> {
     p: u32,
     ty: u32,
     fields: u32,
+    extra: u32,
     place: u32,
 }
 
@@ -150,7 +153,7 @@ struct AboutSweep<'a> {
 }
 
 pub fn ended(state: &GhostValue<States>, space: &Space, outcome: &Outcome) -> GhostValue<States>
-    ensures { result.value ≡ ended_state space.now state.now.value outcome.now.numbers }
+    ensures { result.value ≡ ended_state space.now.shape state.now.value outcome.now.numbers }
 {
     GhostValue::chosen(&AboutSweep {
         state,

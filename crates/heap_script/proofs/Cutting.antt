@@ -7,7 +7,7 @@ use Rattle.std.proofs.lemmas.List.Sums.{fails_before_first, position_or_len_is}
 use Rattle.std.proofs.lemmas.Bool.{cond-true, cond-false, and_right, not_from_false, ne_eqb, eq-eqb, eqb-true, eqb-false}
 use Rattle.std.proofs.Math.Bool.{and-true}
 use Rattle.gc_graph.specs.Words.{lines_of, lines_of_parts, words_of, is_blank, is_text}
-use Rattle.heap_script.specs.Built.{is_pair_of, command_of, command_of_words, command_of_two, command_of_three, command_of_four}
+use Rattle.heap_script.specs.Built.{is_pair_of, command_of, command_of_words, command_of_one, command_of_two, command_of_three, command_of_four}
 use Rattle.heap_script.specs.Cuts.{IsCut}
 use Rattle.heap_script.specs.Words.{IsFirstWord}
 
@@ -124,8 +124,8 @@ not_empty [] e = absurd (eqb-false 0 0 e refl)
 not_empty (b ∷ word) e = omega arith
 
 pub one_word : (line one rest two next : List ℕ) → IsFirstWord line one rest → IsFirstWord rest two next → (length two == 0) ≡ true
-    → (words_of line ≡ []) ⊎ (words_of line ≡ one ∷ [])
-one_word line [] rest two next first second none = inl (first.none refl)
+    → ((words_of line ≡ []) × (one ≡ [])) ⊎ (words_of line ≡ one ∷ [])
+one_word line [] rest two next first second none = inl (first.none refl, refl)
 one_word line (b ∷ one) rest two next first second none =
     inr (first.some (omega arith) ∙ ap (λ ws. (b ∷ one) ∷ ws) (second.none (eqb-true _ _ none)))
 
@@ -144,9 +144,12 @@ one_more line word rest first some = first.some (not_empty word some)
 -- ---- commands, by the words that were found
 
 pub command_of_one_word : (line one rest two next : List ℕ) → IsFirstWord line one rest → IsFirstWord rest two next → (length two == 0) ≡ true
-    → command_of line ≡ None
+    → command_of line ≡ command_of_one one
 command_of_one_word line one rest two next a b none =
-    elim (one_word line one rest two next a b none) [ inl e ↦ ap command_of_words e | inr e ↦ ap command_of_words e ]
+    elim (one_word line one rest two next a b none) [
+      | inl e ↦ ap command_of_words e.0 ∙ ap command_of_one (sym e.1)
+      | inr e ↦ ap command_of_words e
+    ]
 
 pub command_of_two_words : (line one rest two next three last : List ℕ) → IsFirstWord line one rest → IsFirstWord rest two next
     → IsFirstWord next three last → (length two == 0) ≡ false → (length three == 0) ≡ true → command_of line ≡ command_of_two one two
@@ -191,7 +194,7 @@ pub pair_of_one : (line one rest two next first second : List ℕ) → IsFirstWo
     → is_pair_of first second (words_of line) ≡ false
 pair_of_one line one rest two next first second a b none =
     elim (one_word line one rest two next a b none) [
-      | inl e ↦ ap (is_pair_of first second) e
+      | inl e ↦ ap (is_pair_of first second) e.0
       | inr e ↦ ap (is_pair_of first second) e ∙ and_right (is_text one first) false refl
     ]
 

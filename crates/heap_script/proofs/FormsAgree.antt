@@ -1,7 +1,7 @@
 -- A command of a form that is read is one of the whole table, and it has no reason against it.
-use Rattle.std.proofs.Common.{◌≡◌, ℕ, suc, ◌<◌, ◌≤◌, ◌==◌, ◌&&◌, ◌||◌, Bool, true, false, not, cond, Option, Some, None, List, [], ◌∷◌, length, refl, sym, ap, ◌∙◌, inl, inr, arith}
+use Rattle.std.proofs.Common.{◌≡◌, ℕ, suc, ◌<◌, ◌==◌, ◌&&◌, ◌||◌, Bool, true, false, not, cond, Option, Some, None, List, [], ◌∷◌, length, refl, sym, ap, ◌∙◌, inl, inr, arith}
 use Rattle.std.specs.Prelude.{codes, nat_lt, nat_le, is_some, unwrap_or, ⊤}
-use Rattle.std.proofs.lemmas.Bool.{and_parts, and_right, true≢false, cases_Bool, cond-true, cond-false, and_from, le-leb, ltb-true, lt-ltb}
+use Rattle.std.proofs.lemmas.Bool.{and_parts, and_right, true≢false, cases_Bool, cond-true, cond-false, and_from, le-leb, lt-ltb}
 use Rattle.gc_graph.specs.declared.command.Command.{Command}
 use Rattle.gc_graph.specs.declared.command.Command.TheVariants as C
 use Rattle.gc_graph.specs.declared.command.Want.TheVariants.{Precise}
@@ -102,10 +102,12 @@ inside limit word low =
 good_number : (bounds : Bounds) (limit : ℕ) (word : List ℕ) (n : ℕ) → IsBelow limit word n → IsGood bounds (Number 0 limit) word
 good_number bounds limit word n below = record { known = refl; right = ap not below.number; inside = inside limit word below.low }
 
-good_type : (bounds : Bounds) (word : List ℕ) (n : ℕ) → 1 ≤ bounds.types → IsBelow 1 word n → IsGood bounds TypeNumber word
-good_type bounds word n some below =
-    let low : value_of word < 1 = ltb-true (value_of word) 1 below.low in
-    record { known = refl; right = ap not below.number; inside = inside bounds.types word (lt-ltb (value_of word) bounds.types (omega arith)) }
+good_type : (bounds : Bounds) (limit : ℕ) (word : List ℕ) (n : ℕ) → n < bounds.types → IsBelow limit word n → IsGood bounds TypeNumber word
+good_type bounds limit word n there below = record {
+  known = refl;
+  right = ap not below.number;
+  inside = inside bounds.types word (lt-ltb (value_of word) bounds.types (omega (arith, below.value)));
+}
 
 either_true : (a b : Bool) → b ≡ true → (a || b) ≡ true
 either_true true b e = refl
@@ -126,9 +128,9 @@ pub record Agrees (bounds : Bounds) (words : List (List ℕ)) (command : Command
   pub calm : threads_after AtRest words ≡ AtRest
   pub quiet : (last : Bool) → breaks_section AtRest words last ≡ false
 
--- a new object wants a type
+-- a new object wants its type
 abbrev pub Wants : ℕ → Command → Type 0
-Wants types (C.New p t e) = 1 ≤ types
+Wants types (C.New p t e) = t < types
 Wants types command = ⊤
 
 pub drop_agrees : (bounds : Bounds) (b : List ℕ) (p : ℕ) → IsBelow 256 b p → Agrees bounds (codes "drop" ∷ b ∷ []) (C.Drop p)
@@ -161,11 +163,34 @@ now_agrees bounds = record {
   quiet = λ last. and_right last false refl;
 }
 
-pub new_agrees : (bounds : Bounds) (b d : List ℕ) (p t : ℕ) → 1 ≤ bounds.types → IsBelow 256 b p → IsBelow 1 d t
+pub stat_agrees : (bounds : Bounds) → Agrees bounds (codes "stat" ∷ []) C.Stat
+stat_agrees bounds = record {
+  reason = refl;
+  says = refl;
+  no_type = refl;
+  other = refl;
+  calm = refl;
+  quiet = λ last. and_right last false refl;
+}
+
+pub new_agrees : (bounds : Bounds) (b d : List ℕ) (p t : ℕ) → t < bounds.types → IsBelow 256 b p → IsBelow 16383 d t
     → Agrees bounds (codes "new" ∷ b ∷ d ∷ []) (C.New p t 0)
-new_agrees bounds b d p t some at of = record {
-  reason = no_reason bounds (codes "new" ∷ b ∷ d ∷ []) _ _ refl (good_number bounds 256 b p at, (good_type bounds d t some of, tt)) refl refl refl;
+new_agrees bounds b d p t there at of = record {
+  reason = no_reason bounds (codes "new" ∷ b ∷ d ∷ []) _ _ refl (good_number bounds 256 b p at, (good_type bounds 16383 d t there of, tt)) refl refl refl;
   says = ap (λ n. Some (C.New n (value_of d) 0)) at.value ∙ ap (λ n. Some (C.New p n 0)) of.value;
+  no_type = refl;
+  other = refl;
+  calm = refl;
+  quiet = λ last. and_right last false refl;
+}
+
+pub new_with_agrees : (bounds : Bounds) (b d e : List ℕ) (p t x : ℕ) → t < bounds.types → IsBelow 256 b p → IsBelow 16383 d t → IsBelow 33554433 e x
+    → Agrees bounds (codes "new" ∷ b ∷ d ∷ e ∷ []) (C.New p t x)
+new_with_agrees bounds b d e p t x there at of extra = record {
+  reason = no_reason bounds (codes "new" ∷ b ∷ d ∷ e ∷ []) _ _ refl
+      (good_number bounds 256 b p at, (good_type bounds 16383 d t there of, (good_number bounds 33554433 e x extra, tt))) refl refl refl;
+  says = ap (λ n. Some (C.New n (value_of d) (value_of e))) at.value ∙ ap (λ n. Some (C.New p n (value_of e))) of.value
+      ∙ ap (λ n. Some (C.New p t n)) extra.value;
   no_type = refl;
   other = refl;
   calm = refl;

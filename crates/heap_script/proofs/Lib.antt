@@ -8,5 +8,7 @@ pub mod MoreLines
 pub mod Pieces
 pub mod Progress
 pub mod Ranges
+pub mod TypeLines
+pub mod TypesAgree
 pub mod Values
 pub mod WholeGrammar

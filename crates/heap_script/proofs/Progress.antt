@@ -1,5 +1,5 @@
 -- A script that is read line by line.
-use Rattle.std.proofs.Common.{◌≡◌, ℕ, ◌+◌, ◌<◌, ◌≤◌, true, false, cond, Option, Some, None, List, [], ◌∷◌, ◌++◌, length, get_or, take, drop, refl, sym, ap, ◌∙◌, subst, inl, inr, arith, below_more}
+use Rattle.std.proofs.Common.{◌≡◌, ℕ, ◌+◌, ◌<◌, ◌≤◌, true, Option, Some, None, List, [], ◌∷◌, ◌++◌, length, get_or, take, drop, refl, sym, ap, ◌∙◌, subst, inl, inr, arith, below_more}
 use Rattle.std.specs.Prelude.{is_some, All}
 use Rattle.std.proofs.lemmas.List.{take_more, take_all, drop_more, length-drop, length-append}
 use Rattle.std.proofs.lemmas.List.Elements.{All-nil, All-append}
@@ -12,7 +12,7 @@ use Rattle.heap_script.specs.declared.lines.LineKind.{LineKind}
 use Rattle.heap_script.specs.Past.{past_of, kind_of, after, types_in, commands_in}
 use Rattle.heap_script.proofs.LineKinds.{Says, built_by_kind}
 use Rattle.heap_script.proofs.MoreLines.{types_more, commands_more}
-use Rattle.heap_script.proofs.KeptFacts.{IsPlaced, says_at, past_at, placed_at, allowed_more, counted_more, bare_more, small_types, few_commands}
+use Rattle.heap_script.proofs.KeptFacts.{IsPlaced, says_at, past_at, placed_at, allowed_more, counted_more, sorts_more, small_types, few_commands}
 
 -- ---- the reading so far
 
@@ -25,9 +25,9 @@ pub record IsReadTo (lines : List (List ℕ)) (i : ℕ) (past : Past) (types : L
   pub commands_are : commands ≡ commands_of (take i lines)
   pub few : length commands ≤ i
   pub allowed : All (IsAllowed (length types)) commands
-  pub counted : length types ≡ cond past.typed 1 0
+  pub counted : length types ≡ past.types
+  pub sorts : past.types ≤ 16383
   pub small : All (λ n. n ≤ 64) types
-  pub bare : past.bare ≡ true → past.typed ≡ false
 
 pub begun : (lines : List (List ℕ)) → IsReadTo lines 0 (past_of []) [] []
 begun lines = record {
@@ -39,8 +39,8 @@ begun lines = record {
   few = omega arith;
   allowed = All-nil (IsAllowed 0);
   counted = refl;
+  sorts = omega arith;
   small = All-nil (λ n. n ≤ 64);
-  bare = λ _. refl;
 }
 
 -- ---- one step, and the ends
@@ -84,9 +84,9 @@ one_line_more lines more i past types commands line kind read e kind_is =
           ∙ sym (commands_more (take i lines) line kind says) ∙ ap commands_of (sym next);
       few = omega (arith, length-append commands (commands_in kind), few_commands kind, read.few);
       allowed = allowed_more past types commands kind placed read.counted read.allowed;
-      counted = counted_more past types kind placed read.bare read.counted;
-      small = All-append (λ n. n ≤ 64) types (types_in kind) read.small (small_types kind);
-      bare = bare_more past kind read.bare;
+      counted = counted_more past types kind read.counted;
+      sorts = sorts_more past kind placed read.sorts;
+      small = All-append (λ n. n ≤ 64) types (types_in kind) read.small (small_types past kind placed);
     }
 
 pub faulty_line : (bytes : List ℕ) (more : List (List ℕ)) (i : ℕ) (past : Past) (types : List ℕ) (commands : List Command) (line : List ℕ)

@@ -1,8 +1,8 @@
 -- A script of the forms that are read is a script of the whole grammar.
 use Rattle.std.proofs.Common.{◌≡◌, ℕ, zero, suc, ◌+◌, ◌<◌, ◌≤◌, ◌&&◌, Bool, true, false, cond, Option, Some, None, List, [], ◌∷◌, length, get_or, take, drop, refl, sym, ap, ◌∙◌, arith}
-use Rattle.std.specs.Prelude.{codes, nat_le, map, count_by, is_some}
+use Rattle.std.specs.Prelude.{codes, nat_lt, map, count_by, is_some}
 use Rattle.std.specs.List.{list_all, list_any, filter_map, cons_option}
-use Rattle.std.proofs.lemmas.Bool.{and_parts, and_right, true≢false, cond-true, cond-false, lt-leb}
+use Rattle.std.proofs.lemmas.Bool.{and_parts, and_right, true≢false, cond-true, cond-false, ltb-true}
 use Rattle.std.proofs.lemmas.List.Sums.{fold_more}
 use Rattle.gc_graph.specs.declared.command.Command.{Command}
 use Rattle.gc_graph.specs.declared.command.Command.TheVariants as C
@@ -12,18 +12,19 @@ use Rattle.gc_graph.specs.Words.{lines_of, words_of, is_blank}
 use Rattle.gc_graph.specs.Reasons as R
 use Rattle.gc_graph.specs.Reasons.{Reason, Bounds, first_is, reason_of_words, type_of_words}
 use Rattle.gc_graph.specs.Reasons.Reason.{Order, Section}
-use Rattle.gc_graph.specs.Script.{is_type, is_command, Threads, threads_after, threads_of, breaks_section, reason_by_order, bounds_after, reason_of, reason_at, IsScript}
+use Rattle.gc_graph.specs.Script.{is_type, is_command, Threads, threads_after, threads_of, breaks_section, reason_by_order, bounds_after, reason_of, reason_at, IsInLimits, IsScript}
 use Rattle.gc_graph.specs.Script.Threads.{AtRest}
 use Rattle.heap_script.specs.declared.lines.Past.{Past}
 use Rattle.heap_script.specs.declared.lines.LineKind.{LineKind}
 use Rattle.heap_script.specs.declared.lines.LineKind.TheVariants as K
-use Rattle.heap_script.specs.Past.{past_of, may_stand, kind_of}
+use Rattle.heap_script.specs.Past.{past_of, may_declare, may_stand, kind_of}
 use Rattle.heap_script.specs.Built as B
-use Rattle.heap_script.specs.Built.{BuiltScript, IsBuiltScript, is_built, is_built_at, is_header, is_type_line, is_pair_of, script_of}
-use Rattle.heap_script.proofs.LineKinds.{pair_words, HasKind, kind_has, type_line_says, command_says, built_by_kind}
+use Rattle.heap_script.specs.Built.{BuiltScript, IsBuiltScript, is_built, is_built_at, is_header, is_early, type_of, types_of, script_of}
+use Rattle.heap_script.proofs.LineKinds.{pair_words, type_words, HasKind, kind_has, type_line_says, command_says, built_by_kind}
 use Rattle.heap_script.proofs.FormsAgree.{Agrees, Wants}
 use Rattle.heap_script.proofs.CommandsAgree.{words_agree}
-use Rattle.heap_script.proofs.LinesBefore.{words_of_blank, no_types, no_commands, type_of_type_line, some_types}
+use Rattle.heap_script.proofs.LinesBefore.{words_of_blank, types_counted, types_counted_early, no_commands}
+use Rattle.heap_script.proofs.TypesAgree.{type_has_no_reason, type_says}
 
 -- ---- the reason of a line
 
@@ -37,53 +38,56 @@ no_reason_by_order callbacks header before line after some none order section =
     let late : Bool = first_is (codes "type") (words_of line) && list_any is_command before in
     let broken : Bool = breaks_section (threads_of before) (words_of line) last in
     cond-false (is_blank line) None
-    (reason_by_order callbacks before (words_of line) last (reason_of_words (bounds_after callbacks before) (words_of line))) some
-    ∙ ap (reason_by_order callbacks before (words_of line) last) none
+    (reason_by_order before (words_of line) last (reason_of_words (bounds_after callbacks before) (words_of line))) some
+    ∙ ap (reason_by_order before (words_of line) last) none
     ∙ cond-false late (Some Order) (cond broken (Some Section) None) order
     ∙ cond-false broken (Some Section) None section
+
+-- the type of the whole grammar
+abbrev typed : Option ℕ → Option ObjectType
+typed None = None
+typed (Some n) = Some (strong_type n)
 
 -- what a line of a built form is in the whole grammar
 pub record IsInWhole (before : List (List ℕ)) (line : List ℕ) : Type 0 where
   pub reason : (callbacks : ℕ) (header : List ℕ) (after : List (List ℕ)) → reason_of callbacks (header ∷ before) line after ≡ None
   pub command : R.command_of_words (words_of line) ≡ B.command_of line
-  pub type : type_of_words (words_of line) ≡ cond (is_type_line line) (Some (strong_type 1)) None
+  pub type : type_of_words (words_of line) ≡ typed (type_of line)
   pub calm : threads_after AtRest (words_of line) ≡ AtRest
 
 -- the words say the same in both
 abbrev type_by : List (List ℕ) → Option ObjectType
-type_by words = cond (is_pair_of (codes "type") (codes "S") words) (Some (strong_type 1)) None
+type_by words = typed (B.type_of_words words)
 
 blank_in_whole : (before : List (List ℕ)) (line : List ℕ) → is_blank line ≡ true → IsInWhole before line
 blank_in_whole before line blank =
     let none : words_of line ≡ [] = words_of_blank line blank in
     record {
       reason = λ callbacks header after. cond-true (is_blank line) None
-          (reason_by_order callbacks before (words_of line) (list_all is_blank after) (reason_of_words (bounds_after callbacks before) (words_of line))) blank;
+          (reason_by_order before (words_of line) (list_all is_blank after) (reason_of_words (bounds_after callbacks before) (words_of line))) blank;
       command = ap R.command_of_words none ∙ sym (ap B.command_of_words none);
       type = ap type_of_words none ∙ sym (ap type_by none);
       calm = ap (threads_after AtRest) none;
     }
 
--- few types are few enough
-few : (types : ℕ) → types ≡ 0 → nat_le 16383 types ≡ false
-few types none = lt-leb 16383 types (omega (arith, none))
-
-type_in_whole : (before : List (List ℕ)) (line : List ℕ) → is_type_line line ≡ true → list_all is_blank before ≡ true → threads_of before ≡ AtRest
-    → IsInWhole before line
-type_in_whole before line is bare rest =
-    let are : words_of line ≡ codes "type" ∷ codes "S" ∷ [] = type_of_type_line line is in
+type_in_whole : (header : List ℕ) (before : List (List ℕ)) (line : List ℕ) (n : ℕ) → type_of line ≡ Some n
+    → may_declare (past_of (header ∷ before)) ≡ true → threads_of before ≡ AtRest → IsInWhole before line
+type_in_whole header before line n is may rest =
+    let t = type_words (words_of line) n is in
+    let parts = and_parts (list_all is_early before) (nat_lt (length (types_of before)) 16383) may in
+    let low : length (types_of before) < 16383 = ltb-true (length (types_of before)) 16383 parts.1 in
+    let room : count_by is_type before < 16383 = omega (arith, types_counted_early before parts.0) in
     record {
       reason = λ callbacks header after.
           let last : Bool = list_all is_blank after in
-          no_reason_by_order callbacks header before line after (type_line_says line is).blank
-          (ap (reason_of_words (bounds_after callbacks before)) are
-          ∙ ap (λ (b : Bool). cond b (Some R.Reason.Range) None) (few (count_by is_type before) (no_types before bare)))
-          (and_right (first_is (codes "type") (words_of line)) (list_any is_command before) (no_commands before bare))
+          no_reason_by_order callbacks header before line after (type_line_says line n is).blank
+          (ap (reason_of_words (bounds_after callbacks before)) t.1 ∙ type_has_no_reason (bounds_after callbacks before) t.0 n room t.2)
+          (and_right (first_is (codes "type") (words_of line)) (list_any is_command before) (no_commands before parts.0))
           (ap (λ (t : Threads). breaks_section t (words_of line) last) rest
-          ∙ ap (λ (ws : List (List ℕ)). breaks_section AtRest ws last) are ∙ and_right last false refl);
-      command = ap R.command_of_words are ∙ sym (ap B.command_of_words are);
-      type = ap type_of_words are ∙ sym (ap type_by are);
-      calm = ap (threads_after AtRest) are;
+          ∙ ap (λ (ws : List (List ℕ)). breaks_section AtRest ws last) t.1 ∙ and_right last false refl);
+      command = ap R.command_of_words t.1 ∙ sym (ap B.command_of_words t.1);
+      type = ap type_of_words t.1 ∙ type_says t.0 n t.2 ∙ sym (ap typed is);
+      calm = ap (threads_after AtRest) t.1;
     }
 
 order_in_whole : (before : List (List ℕ)) (line : List ℕ) (c : Command) → B.command_of line ≡ Some c → threads_of before ≡ AtRest
@@ -97,20 +101,22 @@ order_in_whole before line c is rest agrees =
           (ap (λ (b : Bool). b && list_any is_command before) (agrees callbacks).other)
           (ap (λ (t : Threads). breaks_section t (words_of line) last) rest ∙ (agrees callbacks).quiet last);
       command = (agrees 0).says ∙ sym is;
-      type = (agrees 0).no_type ∙ sym (cond-false (is_type_line line) (Some (strong_type 1)) None says.type);
+      type = (agrees 0).no_type ∙ sym (ap typed says.type);
       calm = (agrees 0).calm;
     }
 
 -- a command that may stand has the type that it wants
 wanted : (header : List ℕ) (before : List (List ℕ)) (c : Command) → may_stand (past_of (header ∷ before)) c ≡ true → Wants (count_by is_type before) c
-wanted header before (C.New p t e) may = some_types before (and_parts (list_any is_type_line before) _ may).0
+wanted header before (C.New p t e) may =
+    let low : t < length (types_of before) = ltb-true t (length (types_of before)) (and_parts (nat_lt t (length (types_of before))) _ may).0 in
+    omega (arith, types_counted before)
 wanted header before command may = tt
 
 kind_in_whole : (header : List ℕ) (before : List (List ℕ)) (line : List ℕ) (kind : LineKind) → HasKind (past_of (header ∷ before)) line kind
     → threads_of before ≡ AtRest → IsInWhole before line
 kind_in_whole header before line K.Header has rest = absurd has
 kind_in_whole header before line K.Blank has rest = blank_in_whole before line has
-kind_in_whole header before line K.TypeLine has rest = type_in_whole before line has.0 has.1 rest
+kind_in_whole header before line (K.TypeLine n) has rest = type_in_whole header before line n has.0 has.1 rest
 kind_in_whole header before line (K.Order c) has rest =
     order_in_whole before line c has.0 rest
     (λ callbacks. words_agree (bounds_after callbacks before) (words_of line) c (wanted header before c has.1) has.0)
@@ -157,16 +163,14 @@ same_said f g (line ∷ lines) each =
 
 -- ---- the whole law
 
-one_type : (b : Bool) (types : List ℕ)
-    → map strong_type (cons_option (cond b (Some 1) None) types) ≡ cons_option (cond b (Some (strong_type 1)) None) (map strong_type types)
-one_type true types = refl
-one_type false types = refl
+one_type : (type : Option ℕ) (types : List ℕ) → map strong_type (cons_option type types) ≡ cons_option (typed type) (map strong_type types)
+one_type None types = refl
+one_type (Some n) types = refl
 
-types_same : (lines : List (List ℕ)) → map strong_type (B.types_of lines) ≡ filter_map (λ l. cond (is_type_line l) (Some (strong_type 1)) None) lines
+types_same : (lines : List (List ℕ)) → map strong_type (types_of lines) ≡ filter_map (λ l. typed (type_of l)) lines
 types_same [] = refl
 types_same (line ∷ lines) =
-    one_type (is_type_line line) (B.types_of lines)
-    ∙ ap (λ ts. cons_option (cond (is_type_line line) (Some (strong_type 1)) None) ts) (types_same lines)
+    one_type (type_of line) (types_of lines) ∙ ap (λ ts. cons_option (typed (type_of line)) ts) (types_same lines)
 
 -- the header says nothing in either
 header_words : (header : List ℕ) → is_header header ≡ true → words_of header ≡ codes "oilpan" ∷ codes "1" ∷ []
@@ -175,13 +179,13 @@ header_words header e = pair_words (codes "oilpan") (codes "1") (words_of header
 pub record IsWholeScript (callbacks : ℕ) (lines : List (List ℕ)) : Type 0 where
   pub header : reason_at callbacks lines 0 ≡ None
   pub faultless : (i : ℕ) → i < length lines → reason_at callbacks lines i ≡ None
-  pub types : map strong_type (B.types_of lines) ≡ filter_map (λ l. type_of_words (words_of l)) lines
+  pub types : map strong_type (types_of lines) ≡ filter_map (λ l. type_of_words (words_of l)) lines
   pub commands : B.commands_of lines ≡ filter_map (λ l. R.command_of_words (words_of l)) lines
 
 abbrev Alike : List (List ℕ) → ℕ → Type 0
 Alike lines i =
     (R.command_of_words (words_of (get_or lines i [])) ≡ B.command_of (get_or lines i []))
-    × (type_of_words (words_of (get_or lines i [])) ≡ cond (is_type_line (get_or lines i [])) (Some (strong_type 1)) None)
+    × (type_of_words (words_of (get_or lines i [])) ≡ typed (type_of (get_or lines i [])))
 
 alike : (header : List ℕ) (rest : List (List ℕ)) → is_header header ≡ true → AreBuilt header rest → (i : ℕ) → i < length (header ∷ rest) → Alike (header ∷ rest) i
 alike header rest headed built zero low =
@@ -205,15 +209,17 @@ whole_lines callbacks (header ∷ rest) headed built =
     record {
       header = faultless callbacks header rest headed after 0 (omega arith);
       faultless = faultless callbacks header rest headed after;
-      types = types_same (header ∷ rest) ∙ same_said (λ l. cond (is_type_line l) (Some (strong_type 1)) None) (λ l. type_of_words (words_of l)) (header ∷ rest)
+      types = types_same (header ∷ rest) ∙ same_said (λ l. typed (type_of l)) (λ l. type_of_words (words_of l)) (header ∷ rest)
           (λ i low. sym (alike header rest headed after i low).1);
       commands = same_said B.command_of (λ l. R.command_of_words (words_of l)) (header ∷ rest) (λ i low. sym (alike header rest headed after i low).0);
     }
 
-pub built_is_whole : (callbacks : ℕ) (bytes : List ℕ) (built : BuiltScript) → IsBuiltScript bytes built → IsScript callbacks bytes (script_of built)
-built_is_whole callbacks bytes built is =
+pub built_is_whole : (callbacks : ℕ) (bytes : List ℕ) (built : BuiltScript) → IsInLimits bytes → IsBuiltScript bytes built
+    → IsScript callbacks bytes (script_of built)
+built_is_whole callbacks bytes built limits is =
     let whole = whole_lines callbacks (lines_of bytes) is.header is.built in
     record {
+      limits = limits;
       header = whole.header;
       faultless = whole.faultless;
       types = ap (map strong_type) is.types ∙ whole.types;

@@ -15,7 +15,7 @@ pub(crate) fn command_of(line: &[u8]) -> Option<Command>
     let (first, rest) = next_word(line);
     let (second, rest) = next_word(rest);
     if second.is_empty() {
-        return None;
+        return command_of_one(first);
     }
     let (third, rest) = next_word(rest);
     if third.is_empty() {
@@ -30,6 +30,15 @@ pub(crate) fn command_of(line: &[u8]) -> Option<Command>
         return None;
     }
     command_of_four(first, second, third, fourth)
+}
+
+fn command_of_one(first: &[u8]) -> Option<Command>
+    ensures { result ≡ spec.command_of_one first.now }
+{
+    if is_text(first, b"stat") {
+        return Some(Command::Stat);
+    }
+    None
 }
 
 fn command_of_two(first: &[u8], second: &[u8]) -> Option<Command>
@@ -50,7 +59,7 @@ fn command_of_three(first: &[u8], second: &[u8], third: &[u8]) -> Option<Command
 {
     if is_text(first, b"new") {
         let p = slot_of(second)?;
-        let t = number_below(1, third)?;
+        let t = type_number_of(third)?;
         return Some(Command::New { p, t, e: 0 });
     }
     if is_text(first, b"gc") && is_text(second, b"now") && is_text(third, b"precise") {
@@ -81,6 +90,12 @@ fn command_of_four(first: &[u8], second: &[u8], third: &[u8], fourth: &[u8]) -> 
         let q = slot_of(fourth)?;
         return Some(Command::Get { p, f, q });
     }
+    if is_text(first, b"new") {
+        let p = slot_of(second)?;
+        let t = type_number_of(third)?;
+        let e = extra_of(fourth)?;
+        return Some(Command::New { p, t, e });
+    }
     None
 }
 
@@ -94,4 +109,16 @@ fn field_of(word: &[u8]) -> Option<u32>
     ensures { result ≡ spec.field_of word.now }
 {
     number_below(67_108_864, word)
+}
+
+fn type_number_of(word: &[u8]) -> Option<u32>
+    ensures { result ≡ spec.type_number_of word.now }
+{
+    number_below(16_383, word)
+}
+
+fn extra_of(word: &[u8]) -> Option<u32>
+    ensures { result ≡ spec.extra_of word.now }
+{
+    number_below(33_554_433, word)
 }

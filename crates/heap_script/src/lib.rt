@@ -32,6 +32,7 @@ mod steady_devices;
 #[cfg(test)]
 mod tests;
 mod text;
+mod types;
 mod words;
 
 pub use devices::{Failed, Sink, Source};

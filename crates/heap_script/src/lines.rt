@@ -1,21 +1,25 @@
 // The lines of a script, and of which kind each is.
 
-ghost use Rattle.std.specs.Prelude.{◌≡◌, ◌<◌, [], ◌∷◌, length};
+ghost use Rattle.std.specs.Prelude.{◌≡◌, ◌<◌, ◌≤◌, [], ◌∷◌, length};
 ghost use Rattle.gc_graph.specs.Words.{lines_of};
 ghost use Rattle.heap_script.specs.Past as spec;
 
 use super::commands::command_of;
 use super::cuts::cut;
+use super::types::type_of;
 use super::words::{is_blank, is_pair};
 use gc_graph::Command;
 
-/// What the lines before say: the header stood, nothing but blank lines stood after it, a type line
-/// stood, and a sweep is open.
+// As many as `GCInfoTable` of cppgc numbers.
+const MOST_TYPES: u32 = 16_383;
+
+/// What the lines before say: the header stood, no command stood after it, so many types were
+/// declared, and a sweep is open.
 #[derive(Clone, Copy, Drop)]
 pub(crate) struct Past {
     pub(crate) headed: bool,
     pub(crate) bare: bool,
-    pub(crate) typed: bool,
+    pub(crate) types: u32,
     pub(crate) sweeping: bool,
 }
 
@@ -23,7 +27,7 @@ pub(crate) struct Past {
 pub(crate) enum LineKind {
     Header,
     Blank,
-    TypeLine,
+    TypeLine(u32),
     Order(Command),
 }
 
@@ -34,7 +38,7 @@ impl Past {
         Past {
             headed: false,
             bare: true,
-            typed: false,
+            types: 0,
             sweeping: false,
         }
     }
@@ -53,8 +57,9 @@ impl Past {
         if is_blank(line) {
             return Some(LineKind::Blank);
         }
-        if is_pair(line, b"type", b"S") && self.bare {
-            return Some(LineKind::TypeLine);
+        match type_of(line) {
+            Some(fields) if self.may_declare() => return Some(LineKind::TypeLine(fields)),
+            _ => {}
         }
         match command_of(line) {
             Some(command) if self.may_stand(command) => Some(LineKind::Order(command)),
@@ -62,17 +67,24 @@ impl Past {
         }
     }
 
+    fn may_declare(self) -> bool
+        ensures { result ≡ spec.may_declare self }
+    {
+        self.bare && self.types < MOST_TYPES
+    }
+
     fn may_stand(self, command: Command) -> bool
         ensures { result ≡ spec.may_stand self command }
     {
         match command {
-            Command::New { .. } => self.typed && !self.sweeping,
+            Command::New { t, .. } => t < self.types && !self.sweeping,
             _ => true,
         }
     }
 
     /// What the lines say with one more.
     pub(crate) fn after(self, kind: LineKind) -> Past
+        requires few { self.types ≤ 16383 }
         ensures { result ≡ spec.after self kind }
     {
         match kind {
@@ -81,9 +93,8 @@ impl Past {
                 ..self
             },
             LineKind::Blank => self,
-            LineKind::TypeLine => Past {
-                bare: false,
-                typed: true,
+            LineKind::TypeLine(_) => Past {
+                types: self.types + 1,
                 ..self
             },
             LineKind::Order(command) => Past {

@@ -41,6 +41,8 @@ impl Model for ListSource {
 }
 
 impl ListSource {
+    /// All bytes are still to come, at most `most` of them a call; `fail` lists the calls that
+    /// fail.
     pub fn new(bytes: Vec<u8>, most: usize, fail: Vec<u32>) -> ListSource
         requires { 1 ≤ most }
         ensures { result ≡ record {
@@ -118,6 +120,8 @@ impl Model for ListSink {
 }
 
 impl ListSink {
+    /// Nothing is taken yet, and there is no room. At most `most` bytes go a call; `fail` lists the
+    /// calls that fail.
     pub fn new(alloc: Global, most: usize, fail: Vec<u32>) -> ListSink
         requires { 1 ≤ most }
         ensures { result ≡ record {

@@ -2,7 +2,7 @@
 
 ghost use Rattle.std.specs.Prelude.{◌≡◌, ℕ, ◌≤◌, ◌++◌, length, IfOk, IfErr, IsTrue, All};
 ghost use Rattle.gc_graph.specs.Lawful.{IsAllowed};
-ghost use Rattle.gc_graph.specs.Script.{IsScript};
+ghost use Rattle.gc_graph.specs.Script.{IsInLimits, IsScript};
 ghost use Rattle.gc_graph.specs.Words.{lines_of};
 ghost use Rattle.heap_script.specs.Built.{IsBuiltScript, script_of};
 ghost use Rattle.heap_script.specs.Past as spec;
@@ -34,12 +34,14 @@ impl Model for Script {
 }
 
 impl Script {
+    /// The number of strong fields of each type, by the type's number.
     pub fn types(&self) -> &[u32]
         ensures { result.now ≡ self.now.types }
     {
         self.types.as_slice()
     }
 
+    /// The commands in the order of their lines.
     pub fn commands(&self) -> &[Command]
         ensures { result.now ≡ self.now.commands }
     {
@@ -47,7 +49,8 @@ impl Script {
     }
 }
 
-/// Why a script was not read: 0 is want of memory, 9 is a line of no built form.
+/// Why a script was not read: 0 is want of memory, 9 is a line of no built form. Lines are counted
+/// from 1.
 #[derive(Debug, Drop, Error)]
 #[error("line {line}: reason {reason}")]
 pub struct ScriptFault {
@@ -69,13 +72,13 @@ impl ScriptFault {
 pub fn read_script(alloc: Global, bytes: &[u8]) -> Result<Script, ScriptFault>
     requires { length (lines_of bytes.now) ≤ 1000000 }
     ensures script { IfOk result (IsBuiltScript bytes.now) }
-    ensures whole { IfOk result (λ s. (callbacks : ℕ) →
+    ensures whole { IfOk result (λ s. IsInLimits bytes.now → (callbacks : ℕ) →
         IsScript callbacks bytes.now (script_of s)) }
     ensures fault { IfErr result (λ f. IsFaultOf bytes.now f) }
     ensures allowed { IfOk result (λ s. All (IsAllowed (length s.types)) s.commands) }
     ensures few { IfOk result (λ s. length s.commands ≤ 1000000) }
     ensures types { IfOk result (λ s. All (λ n. n ≤ 64) s.types) }
-    ensures one { IfOk result (λ s. length s.types ≤ 1) }
+    ensures sorts { IfOk result (λ s. length s.types ≤ 16383) }
 {
     let mut past = Past::new();
     let mut types = Vec::new(alloc);
@@ -109,7 +112,7 @@ fn keep(kind: LineKind, types: &mut Vec<u32>, commands: &mut Vec<Command>) -> bo
         commands.new.items ≡ commands.old.items ++ spec.commands_in kind }
 {
     match kind {
-        LineKind::TypeLine => types.push(1).is_ok(),
+        LineKind::TypeLine(fields) => types.push(fields).is_ok(),
         LineKind::Order(command) => commands.push(command).is_ok(),
         LineKind::Header | LineKind::Blank => true,
     }

@@ -26,6 +26,7 @@ impl Model for SteadySource {
 }
 
 impl SteadySource {
+    /// All bytes are still to come.
     pub fn new(bytes: Vec<u8>) -> SteadySource
         ensures { result ≡ bytes.items }
     {
@@ -58,6 +59,7 @@ impl Source for SteadySource {
 pub struct SteadySink;
 
 impl SteadySink {
+    /// A sink that takes each piece whole.
     pub fn new() -> SteadySink {
         SteadySink
     }

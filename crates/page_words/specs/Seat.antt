@@ -119,7 +119,7 @@ abbrev pub MaySetStop : SeatView → Bool → Type 0
 MaySetStop v true = v.on ≡ true
 MaySetStop v false = IsQuiet v
 
--- the view of new words: all are 0 and nothing is published
+-- the view of new words: nothing is published, filled or marked, and no marking goes on
 abbrev pub empty_view : ℕ → SeatView
 empty_view count = record { count = count; on = false; bodies = []; filled = []; marked = []; traced = []; dead = [] }
 

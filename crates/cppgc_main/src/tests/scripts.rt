@@ -4,7 +4,7 @@ use super::try_script;
 use crate::status::Status;
 use std::test::Fail;
 
-const FAULTY: [(&str, &[u8], u32); 18] = [
+const FAULTY: [(&str, &[u8], u32); 21] = [
     ("empty input", b"", 1),
     ("no header", b"type S\nnew 0 0\n", 1),
     ("a blank line before the header", b"\noilpan 1\n", 1),
@@ -14,7 +14,14 @@ const FAULTY: [(&str, &[u8], u32); 18] = [
     ("slot 256", b"oilpan 1\ntype S\nnew 0 0\ndrop 256\n", 4),
     ("type 1", b"oilpan 1\ntype S\nnew 0 1\n", 3),
     ("field 67108864", b"oilpan 1\nget 0 67108864 0\n", 2),
-    ("a second type line", b"oilpan 1\ntype S\n\ntype S\n", 4),
+    ("a weak field", b"oilpan 1\ntype S\n\ntype SW\n", 4),
+    ("a prefinalizer", b"oilpan 1\ntype S pre 0\n", 2),
+    (
+        "too many extra words",
+        b"oilpan 1\ntype S\nnew 0 0 33554433\n",
+        3,
+    ),
+    ("a total of something", b"oilpan 1\nstat 0\n", 2),
     (
         "a type line after a command",
         b"oilpan 1\ndrop 0\ntype S\n",

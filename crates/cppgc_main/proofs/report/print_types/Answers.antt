@@ -1,10 +1,27 @@
-use Rattle.std.proofs.Common.{sym, subst, rules, ◌<◌, length}
-use Rattle.heap_script.specs.Devices.{Writes}
-use Rattle.cppgc_main.proofs.Writing.{one_type}
+use Rattle.std.proofs.Common.{◌<◌, ◌≤◌, length, refl, rules, arith}
+use Rattle.gc_graph.specs.declared.line.Line.TheVariants as L
+use Rattle.gc_graph.specs.Report.{type_lines}
+use Rattle.cppgc_main.proofs.Writing.{line_more, line_fails, lines_whole, type_line_at, type_line_count}
 use Rattle.cppgc_main.proofs.report.print_types.Goals as goal
+
+pub returns-in-Err-clause-bytes : goal.returns-in-Err-clause-bytes
+returns-in-Err-clause-bytes g c =
+    let low : c.loop-index.index < length c.args.types.now = search rules in
+    line_fails _ _ _ (type_lines 0 c.args.types.now) c.loop-index.index (L.TypeLine c.loop-index.index)
+    (type_line_at c.args.types.now c.loop-index.index 0 c.loop-index.index low (omega arith))
+    c.loop-index.invariant.printed c.in-Err.ensures.bytes
+
+pub loop-index-preserved : goal.loop-index-preserved
+loop-index-preserved g c =
+    let low : c.loop-index.index < length c.args.types.now = search rules in
+    record {
+      later = search rules;
+      printed = line_more _ _ _ (type_lines 0 c.args.types.now) c.loop-index.index _ (L.TypeLine c.loop-index.index)
+          (type_line_at c.args.types.now c.loop-index.index 0 c.loop-index.index low (omega arith)) refl c.loop-index.invariant.printed c.in-Ok.ensures.bytes;
+    }
 
 pub returns-clause-bytes : goal.returns-clause-bytes
 returns-clause-bytes g c =
-    let some : 0 < length c.args.types.now = search rules in
-    subst (λ t. Writes (g.K.Sink.written c.args.sink.now) (g.K.Sink.written c.print_line.new.sink) t c.print_line.result)
-    (sym (one_type c.args.types.now c.requires.one some)) c.print_line.ensures.bytes
+    let end : length (type_lines 0 c.args.types.now) ≤ c.loop-index.index =
+    omega (arith, type_line_count c.args.types.now 0) in
+    lines_whole _ _ (type_lines 0 c.args.types.now) c.loop-index.index end c.loop-index.invariant.printed

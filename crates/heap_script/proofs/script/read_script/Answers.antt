@@ -26,6 +26,6 @@ returns-clause-script c =
     all_read _ _ _ _ _ c.loop-rest.invariant.read (c.loop-rest.invariant.left ∙ no_lines c.loop-rest.rest.now (search rules)) (omega arith)
 
 pub returns-clause-whole : goal.returns-clause-whole
-returns-clause-whole c callbacks =
-    built_is_whole callbacks _ _
+returns-clause-whole c limits callbacks =
+    built_is_whole callbacks _ _ limits
     (all_read _ _ _ _ _ c.loop-rest.invariant.read (c.loop-rest.invariant.left ∙ no_lines c.loop-rest.rest.now (search rules)) (omega arith))

@@ -1,4 +1,4 @@
-use Rattle.std.proofs.Common.{◌≡◌, ℕ, sym, subst, refl}
+use Rattle.std.proofs.Common.{◌≡◌, sym, subst, refl}
 use Rattle.gc_graph.specs.declared.command.Command.{Command}
 use Rattle.gc_graph.specs.declared.command.Command.TheVariants as C
 use Rattle.gc_graph.specs.declared.command.Want.{Want}
@@ -7,10 +7,9 @@ use Rattle.gc_graph.specs.State.{Setup, State}
 use Rattle.gc_graph.specs.Step.{Step}
 use Rattle.heap_engine.specs.Built.{IsBuilt, IsPrecise}
 use Rattle.gc_graph.specs.CycleSteps.{StepGcNow}
-use Rattle.gc_graph.specs.ObjectSteps.{StepNew}
 use Rattle.heap_engine.specs.View.{View}
 use Rattle.heap_engine.proofs.heap.Heap.act.Goals as goal
-use Rattle.heap_engine.proofs.heap.Heap.act.Goals.{in-New, in-Set, in-SetNull, in-Get, in-Drop, in-GcNow, in-SweepAll}
+use Rattle.heap_engine.proofs.heap.Heap.act.Goals.{in-New, in-Set, in-SetNull, in-Get, in-Drop, in-GcNow, in-SweepAll, in-Stat}
 
 -- the step of the command that it is, to the heap that there is
 done_by : (setup : Setup) (s : State) (known command : Command) (heap new : View) → command ≡ known → heap ≡ new
@@ -29,12 +28,8 @@ returns-clause-step c =
     let s : State = c.args.self.now.state in
     let heap : View = c.match-command.self in
     elim c.match-command.branch [
-      | in-New w ↦
-          (let built : IsBuilt s.phase (C.New w.in-New.p w.in-New.t w.in-New.e) = subst (λ (k : Command). IsBuilt s.phase k) w.in-New.is c.requires.built in
-          done_by setup s (C.New w.in-New.p w.in-New.t w.in-New.e) c.args.command.now heap w.new_object.new.self w.in-New.is w.self-is (
-            w.new_object.ensures.piece,
-            subst (λ (e : ℕ). StepNew setup s w.in-New.p w.in-New.t e w.new_object.new.self.lines w.new_object.new.self.state) (sym built.0) w.new_object.ensures.step,
-          ))
+      | in-New w ↦ done_by setup s (C.New w.in-New.p w.in-New.t w.in-New.e) c.args.command.now heap w.new_object.new.self w.in-New.is w.self-is
+          (w.new_object.ensures.piece, w.new_object.ensures.step)
       | in-Set w ↦ done_by setup s (C.Set w.in-Set.p w.in-Set.f w.in-Set.q) c.args.command.now heap w.set.new.self w.in-Set.is w.self-is
           (w.set.ensures.piece, w.set.ensures.step)
       | in-SetNull w ↦ done_by setup s (C.SetNull w.in-SetNull.p w.in-SetNull.f) c.args.command.now heap w.set_null.new.self w.in-SetNull.is w.self-is
@@ -50,6 +45,7 @@ returns-clause-step c =
           w.collect.ensures.step))
       | in-SweepAll w ↦ done_by setup s C.SweepAll c.args.command.now heap w.sweep_all.new.self w.in-SweepAll.is w.self-is
           (w.sweep_all.ensures.piece, w.sweep_all.ensures.step)
+      | in-Stat w ↦ done_by setup s C.Stat c.args.command.now heap w.stat.new.self w.in-Stat.is w.self-is (w.stat.ensures.piece, w.stat.ensures.step)
     ]
 
 pub returns-clause-calm : goal.returns-clause-calm

@@ -15,11 +15,12 @@ invariant_of-self c =
     let few = rw (← c.self.view_is) at c.requires.few in
     record {
       types = c.self.invariant.types;
+      space = c.self.invariant.space;
       phase = c.self.invariant.phase ∙ ap (λ (x : State). x.phase) to;
       holds = subst (λ (x : State). Holds setup x c.self.inside.seat) to
           (holds_slot setup s c.self.inside.seat c.args.p None c.self.invariant.holds (λ n e. cc));
-      tallied = subst (λ (x : State). IsTallied x c.self.inside.seat c.self.inside.objects c.self.inside.used c.self.inside.made) to
-          (tallied_on s t c.self.inside.seat c.self.inside.objects c.self.inside.used c.self.inside.made c.self.invariant.tallied few refl refl);
+      tallied = subst (λ (x : State). IsTallied x c.self.inside.made) to
+          (tallied_on s t c.self.inside.made c.self.invariant.tallied few refl refl);
       slots = subst (λ (x : State). HoldsSlotsOf x (set c.self.inside.slots.items c.args.p None)) to
           (slots_set s c.self.inside.slots.items c.args.p None None c.self.invariant.slots refl);
       grey = c.self.invariant.grey;

@@ -1,22 +1,73 @@
-use Rattle.std.proofs.Common.{inl, inr, subst}
+use Rattle.std.proofs.Common.{◌≡◌, ℕ, ◌+◌, List, Ok, Err, get_or, refl, ◌∙◌, subst, arith}
+use Rattle.std.proofs.lemmas.List.{get_or_default}
+use Rattle.gc_graph.specs.declared.line.Refusal.TheVariants as R
+use Rattle.gc_graph.specs.State.{Setup, State}
+use Rattle.page_words.specs.Seat.{SeatView}
 use Rattle.heap_engine.specs.Sound.{setup_of}
 use Rattle.heap_engine.specs.View.{View}
 use Rattle.heap_engine.specs.Inner.{IsFieldOf}
-use Rattle.heap_engine.proofs.FieldPlaces.{slot_is_place, is_field}
+use Rattle.heap_engine.proofs.HeapMade.{have_fields}
+use Rattle.heap_engine.proofs.FieldPlaces.{IsNode, slot_is_place, slot_node, field_there, extra_there, no_field}
 use Rattle.heap_engine.proofs.heap.Heap.field_at.Goals as goal
-use Rattle.heap_engine.proofs.heap.Heap.field_at.Goals.{then-f-size, else-f-size}
 
 pub size_at-size-requires-clause-start : goal.size_at-size-requires-clause-start
 size_at-size-requires-clause-start c =
     slot_is_place (setup_of c.self.inside) c.self.inside.state.value c.self.inside.seat c.self.inside.slots.items c.args.p c.index.result.now c.in-Some.place
     c.self.invariant.holds c.self.invariant.slots c.requires c.index.ensures c.in-Some.is
 
+pub returns-then-f-size-clause-field : goal.returns-then-f-size-clause-field
+returns-then-f-size-clause-field c =
+    subst (λ (h : View). IsFieldOf h.state c.args.p c.args.f (Err R.Field)) c.self.view_is
+    (no_field (setup_of c.self.inside) c.self.inside.state.value c.self.inside.seat c.self.inside.slots.items c.args.p c.args.f c.index.result.now c.in-Some.place
+    c.size_at-size.result (Err R.Field) c.self.invariant.holds c.self.invariant.slots c.requires c.index.ensures c.in-Some.is c.size_at-size.ensures.size
+    c.if-f-size.true refl)
+
+pub type_at-ty-requires-clause-start : goal.type_at-ty-requires-clause-start
+type_at-ty-requires-clause-start c =
+    rw c.size_at-size.ensures.view
+    (slot_is_place (setup_of c.self.inside) c.self.inside.state.value c.self.inside.seat c.self.inside.slots.items c.args.p c.index.result.now c.in-Some.place
+    c.self.invariant.holds c.self.invariant.slots c.requires c.index.ensures c.in-Some.is)
+
+pub index-fields-requires : goal.index-fields-requires
+index-fields-requires c =
+    let s : State = c.self.inside.state.value in
+    let v : SeatView = c.self.inside.seat in
+    let setup : Setup = setup_of c.self.inside in
+    let types : List ℕ = c.self.inside.types.items in
+    let is : IsNode setup types s c.args.p c.in-Some.place c.size_at-size.result c.type_at-ty.result =
+    slot_node setup types s v c.self.inside.slots.items c.args.p c.index.result.now c.in-Some.place c.size_at-size.result c.type_at-ty.result
+    (have_fields c.self.inside.space.shape types) c.self.invariant.holds c.self.invariant.slots c.requires c.index.ensures c.in-Some.is c.size_at-size.ensures.size
+    (rw c.size_at-size.ensures.view at c.type_at-ty.ensures.ty) in
+    omega (arith, is.known)
+
+pub returns-then-f-fields-clause-field : goal.returns-then-f-fields-clause-field
+returns-then-f-fields-clause-field c =
+    let s : State = c.self.inside.state.value in
+    let v : SeatView = c.self.inside.seat in
+    let setup : Setup = setup_of c.self.inside in
+    let types : List ℕ = c.self.inside.types.items in
+    let is : IsNode setup types s c.args.p c.in-Some.place c.size_at-size.result c.type_at-ty.result =
+    slot_node setup types s v c.self.inside.slots.items c.args.p c.index.result.now c.in-Some.place c.size_at-size.result c.type_at-ty.result
+    (have_fields c.self.inside.space.shape types) c.self.invariant.holds c.self.invariant.slots c.requires c.index.ensures c.in-Some.is c.size_at-size.ensures.size
+    (rw c.size_at-size.ensures.view at c.type_at-ty.ensures.ty) in
+    let fields : c.index-fields.result.now ≡ get_or types c.type_at-ty.result 0 =
+    c.index-fields.ensures ∙ get_or_default types c.type_at-ty.result c.index-fields.result.now 0 is.known in
+    subst (λ (h : View). IsFieldOf h.state c.args.p c.args.f (Err R.Kind)) c.self.view_is
+    (extra_there setup types s c.args.p c.args.f c.in-Some.place c.size_at-size.result c.type_at-ty.result (Err R.Kind) is c.if-f-size.false
+    (omega (arith, c.if-f-fields.true, fields)) refl)
+
 pub returns-clause-field : goal.returns-clause-field
 returns-clause-field c =
-    subst (λ (h : View). IsFieldOf h.state c.args.p c.args.f c.if-f-size.result) c.self.view_is
-    (is_field (setup_of c.self.inside) c.self.inside.state.value c.self.inside.seat c.self.inside.slots.items c.args.p c.args.f c.index.result.now c.in-Some.place
-    c.size_at-size.result c.if-f-size.result c.self.invariant.holds c.self.invariant.slots c.requires c.index.ensures c.in-Some.is c.size_at-size.ensures.size
-    (elim c.if-f-size.branch [
-      | then-f-size w ↦ inl (w.if-f-size.true, w.result-is)
-      | else-f-size w ↦ inr (w.if-f-size.false, w.result-is)
-    ]))
+    let s : State = c.self.inside.state.value in
+    let v : SeatView = c.self.inside.seat in
+    let setup : Setup = setup_of c.self.inside in
+    let types : List ℕ = c.self.inside.types.items in
+    let is : IsNode setup types s c.args.p c.in-Some.place c.size_at-size.result c.type_at-ty.result =
+    slot_node setup types s v c.self.inside.slots.items c.args.p c.index.result.now c.in-Some.place c.size_at-size.result c.type_at-ty.result
+    (have_fields c.self.inside.space.shape types) c.self.invariant.holds c.self.invariant.slots c.requires c.index.ensures c.in-Some.is c.size_at-size.ensures.size
+    (rw c.size_at-size.ensures.view at c.type_at-ty.ensures.ty) in
+    let fields : c.index-fields.result.now ≡ get_or types c.type_at-ty.result 0 =
+    c.index-fields.ensures ∙ get_or_default types c.type_at-ty.result c.index-fields.result.now 0 is.known in
+    subst (λ (h : View). IsFieldOf h.state c.args.p c.args.f (Ok (c.in-Some.place + 2 + c.args.f))) c.self.view_is
+    (field_there setup types s c.args.p c.args.f c.in-Some.place c.size_at-size.result c.type_at-ty.result (Ok (c.in-Some.place + 2 + c.args.f)) is c.if-f-size.false
+    (omega (arith, c.if-f-fields.false, fields)) refl)

@@ -15,10 +15,11 @@ invariant_of-self c =
     let old : s ≡ c.args.self.now.state = ap (λ (h : View). h.state) (c.self.view_is ∙ c.in-Ok.ensures.same) in
     let few : s.ordinal < 1000000 = subst (λ (x : State). x.ordinal < 1000000) (sym old) c.requires.few in
     let kept = slot_read (setup_of c.self.inside) s c.args.self.now.state c.read.result.value c.self.inside.seat c.args.p c.args.f c.args.q c.in-Ok.target
-    c.place_in.result c.self.inside.slots.items c.self.inside.objects c.self.inside.used c.self.inside.made c.self.invariant.holds c.self.invariant.tallied
+    c.place_in.result c.self.inside.slots.items c.self.inside.made c.self.invariant.holds c.self.invariant.tallied
     c.self.invariant.slots few old c.in-Ok.ensures.target c.place_in.ensures c.read.ensures in
     record {
       types = c.self.invariant.types;
+      space = c.self.invariant.space;
       phase = c.self.invariant.phase ∙ kept.phase;
       holds = kept.holds;
       tallied = kept.tallied;

@@ -5,43 +5,32 @@ use Rattle.gc_graph.specs.declared.phase.Phase.TheVariants.{Idle}
 use Rattle.gc_graph.specs.State.{State, Setup, type_at}
 use Rattle.gc_graph.specs.Fields.{strong_type}
 use Rattle.page_words.specs.Seat.{SeatView}
-use Rattle.heap_engine.specs.Space.{Occupies, HasRoom, new_body}
+use Rattle.page_space.specs.Pages.{word_count}
+use Rattle.page_space.specs.Space.{IsSpaceOf}
+use Rattle.page_space.specs.Occupying.{Occupies, new_body}
 use Rattle.heap_engine.specs.Changes.{made_state, full_state}
 use Rattle.heap_engine.specs.Sound.{setup_of}
 use Rattle.heap_engine.specs.Inner.{Outcome, Holds, IsTallied, HoldsSlotsOf, lines_of}
-use Rattle.heap_engine.proofs.Shapes.{shape_words}
 use Rattle.heap_engine.proofs.HeapSlots.{holds_counted, slots_counted, tallied_on}
-use Rattle.heap_engine.proofs.HeapMade.{holds_made, slots_made, tallied_made, objects_few, used_few, type_fields, type_is, type_known, few_fields}
+use Rattle.heap_engine.proofs.HeapMade.{holds_made, slots_made, tallied_made, type_fields, type_is, type_known}
 use Rattle.heap_engine.proofs.NewSteps.{step_made, step_full}
 use Rattle.heap_engine.proofs.heap.Heap.new_object.Goals as goal
 
-pub find_place-requires-clause-small : goal.find_place-requires-clause-small
-find_place-requires-clause-small c =
+pub overflow_add-size-2 : goal.overflow_add-size-2
+overflow_add-size-2 c =
     let known : c.args.t < length c.self.inside.types.items = type_known c.self.inside.types.items c.args.t (rw (← c.self.view_is) at c.requires.ty) in
     let fields : c.index-fields.result.now ≡ get_or c.self.inside.types.items c.args.t 0 =
     c.index-fields.ensures ∙ get_or_default c.self.inside.types.items c.args.t c.index-fields.result.now 0 known in
-    omega (arith, fields, type_fields c.self.inside.types.items c.args.t c.self.invariant.types, shape_words c.self.inside.space c.shape_is_valid.ensures)
-
-pub overflow_add-self-in-Some : goal.overflow_add-self-in-Some
-overflow_add-self-in-Some c =
-    let few : c.self.inside.objects + 1 < 2 ^ 32 =
-    omega (arith, objects_few c.self.inside.state.value c.self.inside.seat c.self.inside.objects c.self.inside.used c.self.inside.made c.self.invariant.holds.held c.self.invariant.tallied) in
+    let low : 2 + c.index-fields.result.now + c.args.extra < 2 ^ 32 =
+    omega (arith, fields, type_fields c.self.inside.types.items c.args.t c.self.invariant.types, c.requires.extra) in
     search rules
 
-pub overflow_add-self-in-Some-3 : goal.overflow_add-self-in-Some-3
-overflow_add-self-in-Some-3 c =
+pub find_place-requires-clause-most : goal.find_place-requires-clause-most
+find_place-requires-clause-most c =
     let known : c.args.t < length c.self.inside.types.items = type_known c.self.inside.types.items c.args.t (rw (← c.self.view_is) at c.requires.ty) in
     let fields : c.index-fields.result.now ≡ get_or c.self.inside.types.items c.args.t 0 =
     c.index-fields.ensures ∙ get_or_default c.self.inside.types.items c.args.t c.index-fields.result.now 0 known in
-    let few : c.self.inside.used + (2 + c.index-fields.result.now) < 2 ^ 32 =
-    omega (
-      arith,
-      fields,
-      type_fields c.self.inside.types.items c.args.t c.self.invariant.types,
-      used_few (setup_of c.self.inside) c.self.inside.state.value c.self.inside.seat c.self.inside.objects c.self.inside.used c.self.inside.made
-          (few_fields c.self.inside.types.items c.self.invariant.types) c.self.invariant.holds.valid c.self.invariant.holds.held c.self.invariant.tallied,
-    ) in
-    search rules
+    omega (arith, fields, type_fields c.self.inside.types.items c.args.t c.self.invariant.types, c.requires.extra)
 
 pub invariant_of-self : goal.invariant_of-self
 invariant_of-self c =
@@ -54,22 +43,23 @@ invariant_of-self c =
     let is : type_at setup c.args.t ≡ strong_type n = type_is c.self.inside.types.items c.args.t ∙ ap strong_type (sym fields) in
     let few : s.ordinal < 1000000 = rw (← c.self.view_is) at c.requires.few in
     let idle : s.phase ≡ Idle = rw (← c.self.view_is) at c.requires.swept in
-    let room : HasRoom setup.shape v.bodies (2 + n) c.in-Some.place = c.in-Some.ensures.room in
-    let occupies : Occupies v c.occupy.new.seat (new_body c.in-Some.place c.args.t (2 + n) (length s.nodes)) =
-    subst (λ k. Occupies v c.occupy.new.seat (new_body c.in-Some.place c.args.t (2 + n) k)) c.self.invariant.tallied.numbers_are
-    (subst (λ (w : SeatView). Occupies w c.occupy.new.seat (new_body c.in-Some.place c.args.t (2 + n) c.self.inside.made)) c.find_place.ensures.view c.occupy.ensures) in
-    let to : made_state s c.args.p c.args.t n c.in-Some.place ≡ c.made.result.value = sym c.made.ensures in
+    let occupies : Occupies v c.occupy.new.seat (new_body c.in-Some.place c.args.t (2 + n + c.args.extra) (length s.nodes)) =
+    subst (λ k. Occupies v c.occupy.new.seat (new_body c.in-Some.place c.args.t (2 + n + c.args.extra) k)) c.self.invariant.tallied.numbers_are
+    (subst (λ (w : SeatView). Occupies w c.occupy.new.seat (new_body c.in-Some.place c.args.t (2 + n + c.args.extra) c.self.inside.made)) c.find_place.ensures.view c.occupy.ensures.occupied) in
+    let to : made_state s c.args.p c.args.t n c.args.extra c.in-Some.place ≡ c.made.result.value = sym c.made.ensures in
+    let same_setup : setup ≡ record setup { shape = c.occupy.new.self.shape } = ap (λ sh. (let st : Setup = record setup { shape = sh } in st)) (sym c.occupy.ensures.shape) in
     record {
       types = c.self.invariant.types;
+      space = c.occupy.ensures.space;
       phase = c.self.invariant.phase ∙ ap (λ (x : State). x.phase) to;
-      holds = subst (λ (x : State). Holds setup x c.occupy.new.seat) to
-          (holds_made setup s v c.occupy.new.seat c.args.p c.args.t n c.in-Some.place c.self.invariant.holds idle (rw (← c.self.view_is) at c.requires.ty) is room occupies);
-      tallied = subst (λ (x : State). IsTallied x c.occupy.new.seat (c.self.inside.objects + 1) (c.self.inside.used + (2 + n)) (c.self.inside.made + 1)) to
-          (tallied_made s v c.occupy.new.seat c.args.p c.args.t n c.in-Some.place c.self.inside.objects c.self.inside.used c.self.inside.made c.self.invariant.tallied few occupies);
+      holds = subst (λ st. Holds st c.made.result.value c.occupy.new.seat) same_setup (subst (λ (x : State). Holds setup x c.occupy.new.seat) to
+          (holds_made setup s v c.occupy.new.seat c.args.p c.args.t n c.args.extra c.in-Some.place c.self.invariant.holds idle (rw (← c.self.view_is) at c.requires.ty) is occupies));
+      tallied = subst (λ (x : State). IsTallied x (c.self.inside.made + 1)) to
+          (tallied_made s c.args.p c.args.t n c.args.extra c.in-Some.place c.self.inside.made c.self.invariant.tallied few);
       slots = subst (λ (x : State). HoldsSlotsOf x (set c.self.inside.slots.items c.args.p (Some c.in-Some.place))) to
-          (slots_made setup s c.self.inside.slots.items c.args.p c.args.t n c.in-Some.place c.self.invariant.holds.valid c.self.invariant.slots);
+          (slots_made setup s c.self.inside.slots.items c.args.p c.args.t n c.args.extra c.in-Some.place c.self.invariant.holds.valid c.self.invariant.slots);
       grey = c.self.invariant.grey;
-      room = omega (arith, c.self.invariant.room, ap (λ (o : Outcome). o.room) c.end.ensures, ap (λ (o : Outcome). o.room) c.begin.ensures);
+      room = omega (arith, c.self.invariant.room, ap (λ (o : Outcome). o.room) c.end.ensures, ap (λ (o : Outcome). o.room) c.begin.ensures, ap word_count c.occupy.ensures.shape);
     }
 
 pub invariant_of-self-in-None : goal.invariant_of-self-in-None
@@ -81,12 +71,12 @@ invariant_of-self-in-None c =
     let to : full_state s ≡ c.full.result.value = sym c.full.ensures in
     record {
       types = c.self.invariant.types;
+      space = subst (IsSpaceOf c.self.inside.space) same c.self.invariant.space;
       phase = c.self.invariant.phase ∙ ap (λ (x : State). x.phase) to;
       holds = subst (λ (x : State). Holds setup x c.find_place.new.seat) to
           (subst (λ (w : SeatView). Holds setup (full_state s) w) same (holds_counted setup s (full_state s) c.self.inside.seat c.self.invariant.holds refl refl refl c.self.invariant.holds.valid.unused));
-      tallied = subst (λ (x : State). IsTallied x c.find_place.new.seat c.self.inside.objects c.self.inside.used c.self.inside.made) to
-          (subst (λ (w : SeatView). IsTallied (full_state s) w c.self.inside.objects c.self.inside.used c.self.inside.made) same
-          (tallied_on s (full_state s) c.self.inside.seat c.self.inside.objects c.self.inside.used c.self.inside.made c.self.invariant.tallied few refl refl));
+      tallied = subst (λ (x : State). IsTallied x c.self.inside.made) to
+          (tallied_on s (full_state s) c.self.inside.made c.self.invariant.tallied few refl refl);
       slots = subst (λ (x : State). HoldsSlotsOf x c.self.inside.slots.items) to
           (slots_counted s (full_state s) c.self.inside.slots.items c.self.invariant.slots refl refl);
       grey = c.self.invariant.grey;
@@ -105,7 +95,7 @@ returns-in-Some-clause-step c =
     let outcome : c.end.new.self ≡ record { numbers = []; last = Some (L.Placed c.self.inside.made c.in-Some.place); room = c.self.inside.outcome.room } =
     c.end.ensures ∙ ap (λ (o : Outcome). record o { last = Some (L.Placed c.self.inside.made c.in-Some.place) }) c.begin.ensures in
     rw (← c.self.view_is)
-    (step_made setup s c.made.result.value c.self.inside.seat (lines_of c.end.new.self) c.args.p c.args.t n c.in-Some.place idle c.self.invariant.holds.held is
+    (step_made setup s c.made.result.value c.self.inside.seat (lines_of c.end.new.self) c.args.p c.args.t n c.args.extra c.in-Some.place idle c.self.invariant.holds.held is
     c.in-Some.ensures.place (ap lines_of outcome ∙ ap (λ k. L.Placed k c.in-Some.place ∷ []) c.self.invariant.tallied.numbers_are) c.made.ensures)
 
 pub returns-in-None-clause-step : goal.returns-in-None-clause-step
@@ -120,5 +110,5 @@ returns-in-None-clause-step c =
     let outcome : c.end-in-None.new.self ≡ record { numbers = []; last = Some L.Full; room = c.self.inside.outcome.room } =
     c.end-in-None.ensures ∙ ap (λ (o : Outcome). record o { last = Some L.Full }) c.begin.ensures in
     rw (← c.self.view_is)
-    (step_full setup s c.full.result.value c.self.inside.seat (lines_of c.end-in-None.new.self) c.args.p c.args.t n idle c.self.invariant.holds.held is
+    (step_full setup s c.full.result.value c.self.inside.seat (lines_of c.end-in-None.new.self) c.args.p c.args.t n c.args.extra idle c.self.invariant.holds.held is
     c.in-None.ensures.place (ap lines_of outcome) c.full.ensures)

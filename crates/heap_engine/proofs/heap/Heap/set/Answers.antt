@@ -5,6 +5,7 @@ use Rattle.gc_graph.specs.Outcomes.{slot_at}
 use Rattle.gc_graph.specs.declared.line.Line.TheVariants as L
 use Rattle.gc_graph.specs.ObjectSteps.{StepSet}
 use Rattle.page_words.specs.Bodies.{IsReference}
+use Rattle.page_space.specs.Space.{IsSpaceOf}
 use Rattle.heap_engine.specs.Sound.{setup_of}
 use Rattle.heap_engine.specs.View.{View}
 use Rattle.heap_engine.specs.Nodes.{place_of, word_of}
@@ -45,11 +46,12 @@ invariant_of-self c =
     found_field (setup_of c.self.inside) s c.args.self.now.state c.args.p c.args.f c.in-Ok.a c.self.invariant.holds.valid old c.in-Ok.ensures.field in
     let few : s.ordinal < 1000000 = subst (λ (x : State). x.ordinal < 1000000) (sym old) c.requires.few in
     let kept = field_stored (setup_of c.self.inside) s c.stored.result.value c.self.inside.seat c.store_field.new.seat c.args.p c.args.f c.in-Ok.a
-    c.reference_of-reference.result (content_of (slot_at s c.args.q)) c.self.inside.slots.items c.self.inside.objects c.self.inside.used c.self.inside.made
+    c.reference_of-reference.result (content_of (slot_at s c.args.q)) c.self.inside.slots.items c.self.inside.made
     c.bodies_lie_apart.ensures c.self.invariant.holds c.self.invariant.tallied c.self.invariant.slots few found
     (slot_named (setup_of c.self.inside) s c.args.q c.self.invariant.holds.valid) word c.store_field.ensures c.stored.ensures in
     record {
       types = c.self.invariant.types;
+      space = subst (IsSpaceOf c.self.inside.space) (sym c.store_field.ensures) (c.lasts_while_objects_stay.ensures.store c.self.inside.seat c.in-Ok.a c.reference_of-reference.result c.self.invariant.space);
       phase = c.self.invariant.phase ∙ kept.phase;
       holds = kept.holds;
       tallied = kept.tallied;

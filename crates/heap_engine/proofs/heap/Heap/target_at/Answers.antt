@@ -13,8 +13,7 @@ word_at-reference-requires-clause-address c =
     let old : s ≡ c.args.self.now.state = ap (λ (h : View). h.state) (c.self.view_is ∙ c.in_ok-a.ensures.same) in
     let found : Found s c.args.p c.args.f c.in_ok-a.a =
     found_field (setup_of c.self.inside) s c.args.self.now.state c.args.p c.args.f c.in_ok-a.a c.self.invariant.holds.valid old c.in_ok-a.ensures.field in
-    subst (λ count. c.in_ok-a.a < count) c.self.invariant.holds.seat
-    (found_address (setup_of c.self.inside) s c.self.inside.seat c.args.p c.args.f c.in_ok-a.a c.bodies_lie_apart.ensures c.self.invariant.holds found)
+    found_address (setup_of c.self.inside) s c.self.inside.seat c.args.p c.args.f c.in_ok-a.a c.bodies_lie_apart.ensures c.self.invariant.holds found
 
 pub returns-then-reference-eq0-clause-target : goal.returns-then-reference-eq0-clause-target
 returns-then-reference-eq0-clause-target c =
@@ -56,7 +55,7 @@ word_at-number-requires-clause-address c =
     let low : c.word_at-reference.result < c.self.inside.seat.count =
     head_address s c.self.inside.seat names.0.node c.args.f c.word_at-reference.result names.1 c.bodies_lie_apart.ensures names.2 in
     let some : c.word_at-reference.result - 1 + 1 ≡ c.word_at-reference.result = omega (arith, names.2.word) in
-    subst (λ count. c.word_at-reference.result - 1 + 1 < count) c.self.invariant.holds.seat (omega (arith, low, some))
+    rw c.word_at-reference.ensures.view (omega (arith, low, some))
 
 pub overflow_cast-number : goal.overflow_cast-number
 overflow_cast-number c =
@@ -68,7 +67,7 @@ overflow_cast-number c =
     let number : c.word_at-number.result ≡ names.1 =
     head_number s c.self.inside.seat names.0.node c.args.f c.word_at-reference.result names.1 (c.word_at-reference.result - 1 + 1) c.word_at-number.result
     names.2 some (subst (λ (v : SeatView). IsWordAt v (c.word_at-reference.result - 1 + 1) c.word_at-number.result) c.word_at-reference.ensures.view c.word_at-number.ensures.word) in
-    let fits = number_fits s c.self.inside.seat c.self.inside.objects c.self.inside.used c.self.inside.made names.1 c.self.invariant.tallied names.2.live in
+    let fits = number_fits s c.self.inside.made names.1 c.self.invariant.tallied names.2.live in
     omega (arith, number, fits)
 
 pub returns-clause-target : goal.returns-clause-target

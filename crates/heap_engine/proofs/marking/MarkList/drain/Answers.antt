@@ -23,5 +23,5 @@ loop-place-preserved c = record {
   counted = c.trace.ensures.counted;
   tricolour = c.trace.ensures.tricolour;
   kept = MarksOn-then c.args.seat.now c.loop-place.seat c.trace.new.seat c.loop-place.invariant.kept c.trace.ensures.kept;
-  grows = GrowsWithin-then c.args.seat.now c.loop-place.seat c.trace.new.seat c.loop-place.invariant.kept.bodies c.loop-place.invariant.grows c.trace.ensures.grows;
+  grows = GrowsWithin-then c.args.types.now c.args.seat.now c.loop-place.seat c.trace.new.seat c.loop-place.invariant.kept.bodies c.loop-place.invariant.grows c.trace.ensures.grows;
 }

@@ -5,9 +5,9 @@ use Rattle.heap_engine.proofs.marking.MarkList.drain.Given as goal
 abbrev pub invariant-loop-place : goal.invariant-loop-place
 invariant-loop-place l = record {
   counted : IsCounted l.seat l.self;
-  tricolour : IsTricolour None l.seat l.self.places;
+  tricolour : IsTricolour l.types None l.seat l.self.places;
   kept : MarksOn l.initial.seat l.seat;
-  grows : GrowsWithin l.initial.seat l.seat;
+  grows : GrowsWithin l.types l.initial.seat l.seat;
 }
 
 abbrev pub decreases-loop-place : goal.decreases-loop-place

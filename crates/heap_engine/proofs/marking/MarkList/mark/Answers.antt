@@ -1,8 +1,8 @@
-use Rattle.std.proofs.Common.{rules, ◌≡◌, ◌+◌, ◌<◌, ◌^◌, false, length, arith, ◌∙◌, sym, ap, [], ◌∷◌, ◌++◌}
-use Rattle.std.proofs.lemmas.Bool.{not-true}
-use Rattle.page_words.specs.Seat.{holds}
-use Rattle.heap_engine.specs.Marking.{Grey}
-use Rattle.heap_engine.proofs.MarkSteps.{some_unmarked, counted_mark, tricolour_mark}
+use Rattle.std.proofs.Common.{rules, ◌≡◌, ◌+◌, ◌<◌, ◌^◌, false, length, arith, ◌∙◌, sym, ap, subst, [], ◌∷◌, ◌++◌}
+use Rattle.std.proofs.lemmas.Bool.{not-true, not-false}
+use Rattle.page_words.specs.Seat.{SeatView, holds}
+use Rattle.heap_engine.specs.Marking.{Grey, IsTricolour}
+use Rattle.heap_engine.proofs.MarkSteps.{marked_again, some_unmarked, counted_mark, tricolour_mark}
 use Rattle.heap_engine.proofs.marking.MarkList.mark.Goals as goal
 
 pub push_reserved-requires : goal.push_reserved-requires
@@ -35,3 +35,9 @@ returns-then-mark-clause-tricolour c =
     let fresh : holds c.args.seat.now.marked c.args.place ≡ false = not-true _ (sym c.mark.ensures.fresh ∙ c.if-mark.true) in
     tricolour_mark c.args.seat.now _ c.args.self.now.places _ c.args.place c.mark.ensures.view fresh
     (c.push_reserved.ensures.items ∙ ap (λ (g : Grey). g.places ++ c.args.place ∷ []) c.self.view_is)
+
+pub returns-else-mark-clause-tricolour : goal.returns-else-mark-clause-tricolour
+returns-else-mark-clause-tricolour c types hand t =
+    let same : c.mark.new.seat ≡ c.args.seat.now = marked_again c.args.seat.now c.mark.new.seat c.args.place c.mark.ensures.view
+    (not-false _ (sym c.mark.ensures.fresh ∙ c.if-mark.false)) in
+    subst (λ (v : SeatView). IsTricolour types hand v c.args.self.now.places) (sym same) t

@@ -11,9 +11,9 @@ invariant-loop-i l = record {
   tricolour : KeepsTricolour l.initial.seat l.initial.self l.seat l.self;
   kept : MarksOn l.initial.seat l.seat;
   targets :
-      (b : Body) (j q : ℕ) → Contains l.initial.seat.bodies b → b.place ≡ l.place → j + 2 < l.i → j < length b.fields → get_or b.fields j 0 ≡ q + 1
+      (b : Body) (j q : ℕ) → Contains l.initial.seat.bodies b → b.place ≡ l.place → j < l.i → get_or b.fields j 0 ≡ q + 1
       → holds l.seat.marked q ≡ true;
-  grows : GrowsWithin l.initial.seat l.seat;
+  grows : GrowsWithin l.types l.initial.seat l.seat;
   pushed : length l.self.places + l.initial.self.marked ≡ length l.initial.self.places + l.self.marked;
   grew : l.initial.self.marked ≤ l.self.marked;
 }

@@ -1,8 +1,8 @@
-use Rattle.std.proofs.Common.{◌≡◌, true, false, sym, ◌∙◌, Some, None, subst}
+use Rattle.std.proofs.Common.{◌≡◌, true, false, sym, ◌∙◌, ap, get_or, Some, None, subst, arith}
 use Rattle.std.proofs.lemmas.List.Elements.{Contains-push}
 use Rattle.page_words.specs.Bodies.{IsPlace}
 use Rattle.page_words.specs.Seat.{is_grey, claimed_at, SeatView}
-use Rattle.heap_engine.specs.Marking.{IsTricolour, LeadsTo, GrowsWithin}
+use Rattle.heap_engine.specs.Marking.{IsTricolour, AreReferences, LeadsTo, GrowsWithin}
 use Rattle.heap_engine.proofs.MarkSteps.{tricolour_claim, tricolour_past, tricolour_done}
 use Rattle.heap_engine.proofs.marking.MarkList.trace.Goals as goal
 
@@ -10,40 +10,48 @@ pub claim-requires-clause-place : goal.claim-requires-clause-place
 claim-requires-clause-place c =
     c.bodies_lie_apart.ensures.marked_are_bodies c.args.place (c.requires.tricolour.listed_are_marked c.args.place (Contains-push c.args.self.now.places c.args.place))
 
-pub size_at-size-requires-clause-start : goal.size_at-size-requires-clause-start
-size_at-size-requires-clause-start c =
+pub type_at-ty-requires-clause-start : goal.type_at-ty-requires-clause-start
+type_at-ty-requires-clause-start c =
     rw c.claim.ensures.view
     (c.bodies_lie_apart.ensures.marked_are_bodies c.args.place (c.requires.tricolour.listed_are_marked c.args.place (Contains-push c.args.self.now.places c.args.place)))
 
 pub mark_fields-requires-clause-references : goal.mark_fields-requires-clause-references
-mark_fields-requires-clause-references c = rw (c.size_at-size.ensures.view, c.claim.ensures.view) c.requires.references
+mark_fields-requires-clause-references c = rw (c.type_at-ty.ensures.view, c.claim.ensures.view) c.requires.references
 
-pub mark_fields-requires-clause-size : goal.mark_fields-requires-clause-size
-mark_fields-requires-clause-size c =
+pub bounds-types-ty : goal.bounds-types-ty
+bounds-types-ty c =
     let place : IsPlace c.claim.new.seat.bodies c.args.place = rw c.claim.ensures.view
     (c.bodies_lie_apart.ensures.marked_are_bodies c.args.place (c.requires.tricolour.listed_are_marked c.args.place (Contains-push c.args.self.now.places c.args.place))) in
-    rw c.size_at-size.ensures.view (place.0, place.1, place.2, sym (c.size_at-size.ensures.size place.0 place.1 place.2))
+    let refers : AreReferences c.args.types.now c.claim.new.seat.bodies = rw c.claim.ensures.view c.requires.references in
+    omega (arith, refers.typed place.0 place.1, c.type_at-ty.ensures.ty place.0 place.1 place.2)
+
+pub mark_fields-requires-clause-fields : goal.mark_fields-requires-clause-fields
+mark_fields-requires-clause-fields c =
+    let place : IsPlace c.claim.new.seat.bodies c.args.place = rw c.claim.ensures.view
+    (c.bodies_lie_apart.ensures.marked_are_bodies c.args.place (c.requires.tricolour.listed_are_marked c.args.place (Contains-push c.args.self.now.places c.args.place))) in
+    rw c.type_at-ty.ensures.view
+    (place.0, place.1, place.2, ap (λ t. get_or c.args.types.now t 0) (sym (c.type_at-ty.ensures.ty place.0 place.1 place.2)))
 
 pub returns-then-claim-clause-tricolour : goal.returns-then-claim-clause-tricolour
 returns-then-claim-clause-tricolour c =
     let grey : is_grey c.args.seat.now c.args.place ≡ true = sym c.claim.ensures.grey ∙ c.if-claim.true in
-    let claimed : IsTricolour (Some c.args.place) c.claim.new.seat c.claim.new.self.places =
-    subst (λ places. IsTricolour (Some c.args.place) c.claim.new.seat places) (sym c.claim.ensures.places)
-    (tricolour_claim c.args.seat.now c.claim.new.seat c.args.self.now.places c.args.place c.claim.ensures.view grey c.requires.tricolour) in
-    let read : c.size_at-size.new.seat ≡ c.claim.new.seat = c.size_at-size.ensures.view in
-    let in_hand : IsTricolour (Some c.args.place) c.mark_fields.new.seat c.mark_fields.new.self.places =
-    c.mark_fields.ensures.tricolour (Some c.args.place) (subst (λ (v : SeatView). IsTricolour (Some c.args.place) v c.claim.new.self.places) (sym read) claimed) in
-    tricolour_done c.mark_fields.new.seat c.mark_fields.new.self.places c.args.place
-    (λ q leads. c.mark_fields.ensures.targets q (subst (λ bodies. LeadsTo bodies c.args.place q) c.mark_fields.ensures.kept.bodies leads)) in_hand
+    let claimed : IsTricolour c.args.types.now (Some c.args.place) c.claim.new.seat c.claim.new.self.places =
+    subst (λ places. IsTricolour c.args.types.now (Some c.args.place) c.claim.new.seat places) (sym c.claim.ensures.places)
+    (tricolour_claim c.args.types.now c.args.seat.now c.claim.new.seat c.args.self.now.places c.args.place c.claim.ensures.view grey c.requires.tricolour) in
+    let read : c.type_at-ty.new.seat ≡ c.claim.new.seat = c.type_at-ty.ensures.view in
+    let in_hand : IsTricolour c.args.types.now (Some c.args.place) c.mark_fields.new.seat c.mark_fields.new.self.places =
+    c.mark_fields.ensures.tricolour c.args.types.now (Some c.args.place) (subst (λ (v : SeatView). IsTricolour c.args.types.now (Some c.args.place) v c.claim.new.self.places) (sym read) claimed) in
+    tricolour_done c.args.types.now c.mark_fields.new.seat c.mark_fields.new.self.places c.args.place
+    (λ q leads. c.mark_fields.ensures.targets q (subst (λ bodies. LeadsTo c.args.types.now bodies c.args.place q) c.mark_fields.ensures.kept.bodies leads)) in_hand
 
 pub returns-then-claim-clause-grows : goal.returns-then-claim-clause-grows
 returns-then-claim-clause-grows c =
-    let same : c.size_at-size.new.seat ≡ claimed_at c.args.seat.now c.args.place = c.size_at-size.ensures.view ∙ c.claim.ensures.view in
-    let grows : GrowsWithin c.size_at-size.new.seat c.mark_fields.new.seat = c.mark_fields.ensures.grows in
-    subst (λ (v : SeatView). GrowsWithin v c.mark_fields.new.seat) same grows
+    let same : c.type_at-ty.new.seat ≡ claimed_at c.args.seat.now c.args.place = c.type_at-ty.ensures.view ∙ c.claim.ensures.view in
+    let grows : GrowsWithin c.args.types.now c.type_at-ty.new.seat c.mark_fields.new.seat = c.mark_fields.ensures.grows in
+    subst (λ (v : SeatView). GrowsWithin c.args.types.now v c.mark_fields.new.seat) same grows
 
 pub returns-else-claim-clause-tricolour : goal.returns-else-claim-clause-tricolour
 returns-else-claim-clause-tricolour c =
     let black : is_grey c.args.seat.now c.args.place ≡ false = sym c.claim.ensures.grey ∙ c.if-claim.false in
-    subst (λ places. IsTricolour None c.claim.new.seat places) (sym c.claim.ensures.places)
-    (tricolour_past c.args.seat.now c.claim.new.seat c.args.self.now.places c.args.place c.claim.ensures.view black c.requires.tricolour)
+    subst (λ places. IsTricolour c.args.types.now None c.claim.new.seat places) (sym c.claim.ensures.places)
+    (tricolour_past c.args.types.now c.args.seat.now c.claim.new.seat c.args.self.now.places c.args.place c.claim.ensures.view black c.requires.tricolour)

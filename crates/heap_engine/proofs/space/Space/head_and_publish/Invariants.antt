@@ -1,4 +1,0 @@
-use Rattle.heap_engine.proofs.space.Space.head_and_publish.Given as goal
-
-abbrev pub ghost-publish : goal.ghost-publish
-ghost-publish g a = g.body

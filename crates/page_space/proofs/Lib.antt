@@ -1,0 +1,17 @@
+mod Shapes
+mod PageSpan
+mod Tables
+mod PlaceBodies
+mod PlaceHeader
+mod OccupyFilled
+mod GapWalk
+mod PlaceFound
+mod EmptyRuns
+mod FreeWords
+mod Extents
+mod GoodPlaces
+mod Joined
+mod Left
+mod UsedPages
+mod SeatExtents
+mod Bounds

@@ -1,0 +1,26 @@
+-- A new object in free words.
+use Rattle.std.specs.Prelude.{◌≡◌, ℕ, ◌+◌, ◌-◌, ◌<◌, ◌≤◌, List, [], ◌∷◌, ◌++◌, replicate, Contains}
+use Rattle.page_words.specs.Bodies.{Body, IsInBody}
+use Rattle.page_words.specs.Seat.{SeatView, Filled}
+
+-- words of the heap from a that belong to no object
+pub record IsRoom (v : SeatView) (size a : ℕ) : Type 0 where
+  pub inside : a + size ≤ v.count
+  pub free : (x : ℕ) → a ≤ x → x < a + size → IsInBody v.bodies x → ⊥
+
+-- a new body: its type, size and serial number, and null fields
+abbrev pub new_body : ℕ → ℕ → ℕ → ℕ → Body
+new_body a ty size serial = record { place = a; ty = ty; size = size; serial = serial; fields = replicate (size - 2) 0 }
+
+-- so many words from `first` were filled with null
+abbrev pub HasNulls : List Filled → ℕ → ℕ → Type 0
+HasNulls filled first count = (i : ℕ) → i < count → Contains filled (record { address = first + i; word = 0 })
+
+-- the body joined the others, and marking is as before
+pub record Occupies (old new : SeatView) (b : Body) : Type 0 where
+  pub count : new.count ≡ old.count
+  pub on : new.on ≡ old.on
+  pub bodies : new.bodies ≡ old.bodies ++ b ∷ []
+  pub marked : new.marked ≡ old.marked
+  pub traced : new.traced ≡ old.traced
+  pub dead : new.dead ≡ old.dead

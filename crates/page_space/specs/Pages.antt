@@ -1,0 +1,45 @@
+-- The pages of a heap: the objects with a word in each, and what a table tells of them.
+use Rattle.std.specs.Prelude.{◌≡◌, ℕ, zero, suc, ◌+◌, ◌-◌, ◌/◌, ◌≤◌, ◌==◌, [], ◌∷◌, ◌&&◌, nat_lt, nat_le, Bool, true, List, if◌then◌else◌, count_by}
+use Rattle.std.specs.List.{list_any}
+use Rattle.gc_graph.specs.State.{Shape}
+use Rattle.gc_graph.specs.Placement.{Extent}
+pub use Rattle.gc_graph.specs.Valid.{word_count}
+
+-- from 1 to 1,024 pages; a page has a power of two from 256 to 16,384 words
+pub record IsShape (shape : Shape) : Type 0 where
+  pub some : 1 ≤ shape.pages
+  pub most : shape.pages ≤ 1024
+  pub power : list_any (λ n. n == shape.page_words) (256 ∷ 512 ∷ 1024 ∷ 2048 ∷ 4096 ∷ 8192 ∷ 16384 ∷ []) ≡ true
+
+-- n is one of the numbers from first up to, and without, end
+abbrev pub is_between : ℕ → ℕ → ℕ → Bool
+is_between first end n = nat_le first n && nat_lt n end
+
+-- the page of an object's first word, and the page after that of its last word
+abbrev pub first_page : ℕ → Extent → ℕ
+first_page page_words e = e.place / page_words
+
+abbrev pub page_after : ℕ → Extent → ℕ
+page_after page_words e = (e.place + e.size - 1) / page_words + 1
+
+-- the object has a word in the page
+abbrev pub is_in_page : ℕ → ℕ → Extent → Bool
+is_in_page page_words page e = is_between (first_page page_words e) (page_after page_words e) page
+
+-- for each page, how many objects have a word in it, and the bucket of these
+pub record PageTable : Type 0 where
+  pub objects : List ℕ
+  pub buckets : List ℕ
+
+-- how many pages some object has a word in
+abbrev pub count_in_use : List ℕ → ℕ
+count_in_use objects = count_by (λ n. nat_lt 0 n) objects
+
+-- the word at a belongs to the object
+abbrev pub covers : ℕ → Extent → Bool
+covers a e = nat_le e.place a && nat_lt a (e.place + e.size)
+
+-- how many of the first n words belong to no object
+abbrev pub free_words : List Extent → ℕ → ℕ
+free_words extents zero = 0
+free_words extents (suc n) = free_words extents n + (if list_any (covers n) extents then 0 else 1)

@@ -1,0 +1,108 @@
+-- A space: the pages of a heap over the bodies in its words.
+use Rattle.std.specs.Prelude.{◌≡◌, ◌⊎◌, ℕ, ◌+◌, ◌*◌, ◌/◌, ◌<◌, ◌≤◌, true, List, [], ◌∷◌, length, map, count_by, sum_by, slice_index, Contains, All, ⊤}
+use Rattle.gc_graph.specs.State.{Shape}
+use Rattle.gc_graph.specs.Placement.{Extent, IsTaken, IsRun, UsesPage, IsEmptyPage, Fits, StartsEmptyRun, bucket_of}
+use Rattle.gc_graph.specs.PlacementLaw.{LiesInPage, TakesPages}
+use Rattle.page_words.specs.Bodies.{Body, end_of, IsPlace}
+use Rattle.page_words.specs.Seat.{SeatView}
+use Rattle.page_space.specs.Pages.{PageTable, word_count, is_in_page, free_words}
+
+-- what a space keeps beside the words: its shape, how many objects it has and how many words these, and its table
+pub record SpaceView : Type 0 where
+  pub shape : Shape
+  pub objects : ℕ
+  pub used : ℕ
+  pub table : PageTable
+
+-- the seat is that of words of this shape
+abbrev pub IsSeatOf : SpaceView → SeatView → Type 0
+IsSeatOf space v = v.count ≡ word_count space.shape
+
+-- the words of a body, and those of each
+abbrev pub extent_of : Body → Extent
+extent_of b = record { place = b.place; size = b.size }
+
+abbrev pub extents_of_bodies : List Body → List Extent
+extents_of_bodies bodies = map extent_of bodies
+
+-- each object has a place of its own
+abbrev pub PlacesDiffer : List Extent → Type 0
+PlacesDiffer [] = ⊤
+PlacesDiffer (e ∷ extents) = All (λ d. d.place ≡ e.place → ⊥) extents × PlacesDiffer extents
+
+-- an object of at most half a page lies in one page; a larger one starts a page and takes no more pages than it needs
+abbrev pub IsPlacedWell : Shape → Extent → Type 0
+IsPlacedWell shape e =
+    ((e.size ≤ shape.page_words / 2) × LiesInPage shape e.size e.place)
+    ⊎ ((shape.page_words / 2 < e.size) × TakesPages shape e.size e.place)
+
+-- the space belongs to words with these objects
+pub record IsSpaceOver (space : SpaceView) (count : ℕ) (extents : List Extent) : Type 0 where
+  pub seat : count ≡ word_count space.shape
+  pub differ : PlacesDiffer extents
+  -- a header and a serial number
+  pub sizes : (e : Extent) → Contains extents e → 2 ≤ e.size
+  pub placed : (e : Extent) → Contains extents e → IsPlacedWell space.shape e
+  -- objects that share a page are of one bucket, and a large one shares none
+  pub shared :
+      (page : ℕ) (d e : Extent) → Contains extents d → Contains extents e → is_in_page space.shape.page_words page d ≡ true
+      → is_in_page space.shape.page_words page e ≡ true
+      → bucket_of space.shape.page_words d.size ≡ bucket_of space.shape.page_words e.size
+  pub alone :
+      (page : ℕ) (d e : Extent) → Contains extents d → Contains extents e → is_in_page space.shape.page_words page d ≡ true
+      → is_in_page space.shape.page_words page e ≡ true → bucket_of space.shape.page_words e.size ≡ 4 → d ≡ e
+  -- the counts and the table are right
+  pub objects : space.objects ≡ length extents
+  pub used : space.used ≡ sum_by (λ e. e.size) extents
+  -- each word is free or belongs to one object
+  pub free : free_words extents count + sum_by (λ e. e.size) extents ≡ count
+  pub held :
+      (page : ℕ) → page < space.shape.pages
+      → slice_index space.table.objects page ≡ count_by (is_in_page space.shape.page_words page) extents
+  pub buckets :
+      (page : ℕ) (e : Extent) → Contains extents e → is_in_page space.shape.page_words page e ≡ true
+      → slice_index space.table.buckets page ≡ bucket_of space.shape.page_words e.size
+
+-- the space belongs to the words of the seat
+abbrev pub IsSpaceOf : SpaceView → SeatView → Type 0
+IsSpaceOf space v = IsSpaceOver space v.count (extents_of_bodies v.bodies)
+
+-- an object of the size, which isn't large, fits at a, in a page of its bucket, from the one page up to the other
+abbrev pub FitsBetween : Shape → ℕ → ℕ → List Extent → ℕ → ℕ → Type 0
+FitsBetween shape from to extents size a =
+    (size ≤ shape.page_words / 2)
+    × ((page : ℕ) × (from ≤ page) × (page < to) × IsRun shape.page_words extents size page a)
+
+-- a new object of the size may go to a: it fits there in a page of its bucket, or an empty run of pages starts there
+abbrev pub IsFreePlace : Shape → List Extent → ℕ → ℕ → Type 0
+IsFreePlace shape extents size a = Fits shape shape.pages extents size a ⊎ StartsEmptyRun shape extents size a
+
+-- a is a place, and not below from
+abbrev pub IsPlaceFrom : List Body → ℕ → ℕ → Type 0
+IsPlaceFrom bodies from a = (from ≤ a) × IsPlace bodies a
+
+-- the end of the object that starts at a, or what was before where none does
+abbrev pub IsEndAt : List Body → ℕ → ℕ → ℕ → Type 0
+IsEndAt bodies a before after =
+    ((b : Body) × Contains bodies b × (b.place ≡ a) × (after ≡ end_of b)) ⊎ ((IsPlace bodies a → ⊥) × (after ≡ before))
+
+-- free words from a, within the page
+pub record IsGap (shape : Shape) (bodies : List Body) (size page a : ℕ) : Type 0 where
+  pub first : page * shape.page_words ≤ a
+  pub last : a + size ≤ (page + 1) * shape.page_words
+  pub free : (x : ℕ) → a ≤ x → x < a + size → IsTaken (extents_of_bodies bodies) x → ⊥
+
+-- each body with a word in the page lies in the page
+abbrev pub HoldsWhole : Shape → List Body → ℕ → Type 0
+HoldsWhole shape bodies page =
+    (b : Body) (a : ℕ) → Contains bodies b → b.place ≤ a → a < end_of b → page * shape.page_words ≤ a
+    → a < (page + 1) * shape.page_words → (page * shape.page_words ≤ b.place) × (end_of b ≤ (page + 1) * shape.page_words)
+
+-- an object of the size fits at a, in this page, which has its bucket
+abbrev pub FitsIn : Shape → List Body → ℕ → ℕ → ℕ → Type 0
+FitsIn shape bodies size page a = IsRun shape.page_words (extents_of_bodies bodies) size page a
+
+-- the page after this one where it holds an object, or what was before
+abbrev pub SinceEmpty : Shape → List Extent → ℕ → ℕ → ℕ → Type 0
+SinceEmpty shape extents page before after =
+    (UsesPage shape extents page × (after ≡ page + 1)) ⊎ (IsEmptyPage shape extents page × (after ≡ before))

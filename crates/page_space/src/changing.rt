@@ -1,0 +1,89 @@
+// A new object in free words, and a dead one that goes.
+
+ghost use Rattle.std.specs.Prelude.{◌≡◌, ◌+◌, ◌-◌, ◌^◌, ◌<◌, ◌≤◌, false, true};
+ghost use Rattle.page_words.specs.Bodies.{Body};
+ghost use Rattle.page_words.specs.Seat.{holds, retracted};
+ghost use Rattle.page_space.specs.Space.{IsSeatOf, IsSpaceOf, IsFreePlace, extents_of_bodies};
+ghost use Rattle.page_space.specs.Occupying.{IsRoom, HasNulls, Occupies, new_body};
+
+use crate::space::{Space, bucket_of};
+use object_headers::Header;
+use page_words::MutatorSeat;
+
+impl Space {
+    /// Writes an object whose fields are null to a free place, and publishes it.
+    pub fn occupy(&mut self, seat: &mut MutatorSeat, a: u32, ty: u32, size: u32, serial: u32)
+        requires space { IsSpaceOf self.old seat.old }
+        requires place { IsFreePlace self.old.shape (extents_of_bodies seat.old.bodies) size a }
+        requires ty { ty < 16384 }
+        requires least { 2 ≤ size }
+        requires most { size < 2 ^ 26 }
+        ensures occupied { Occupies seat.old seat.new (new_body a ty size serial) }
+        ensures space { IsSpaceOf self.new seat.new }
+        ensures shape { self.new.shape ≡ self.old.shape }
+    {
+        seat.bodies_lie_apart();
+        self.shape_is_valid();
+        self.write_object(seat, a, ty, size, serial);
+        self.objects += 1;
+        self.used += size;
+        let after = (a + size - 1) / self.page_words + 1;
+        let bucket = bucket_of(self.page_words, size);
+        self.table.enter(a / self.page_words, after, bucket);
+    }
+
+    /// Takes a dead object away, while no marking goes on.
+    pub fn free(&mut self, seat: &mut MutatorSeat, a: u32)
+        requires space { IsSpaceOf self.old seat.old }
+        requires off { seat.old.on ≡ false }
+        requires dead { holds seat.old.dead a ≡ true }
+        ensures freed { seat.new ≡ retracted seat.old a }
+        ensures space { IsSpaceOf self.new seat.new }
+        ensures shape { self.new.shape ≡ self.old.shape }
+    {
+        seat.bodies_lie_apart();
+        self.shape_is_valid();
+        let size = self.size_at(seat, a);
+        self.words.retract(seat, a);
+        self.objects -= 1;
+        self.used -= size;
+        let after = (a + size - 1) / self.page_words + 1;
+        self.table.leave(a / self.page_words, after);
+    }
+
+    /// Writes an object whose fields are null into free words, and publishes it.
+    fn write_object(&self, seat: &mut MutatorSeat, a: u32, ty: u32, size: u32, serial: u32)
+        requires heap { IsSeatOf self.now seat.old }
+        requires room { IsRoom seat.old size a }
+        requires ty { ty < 16384 }
+        requires least { 2 ≤ size }
+        requires most { size < 2 ^ 26 }
+        ensures { Occupies seat.old seat.new (new_body a ty size serial) }
+    {
+        self.shape_is_valid();
+        for i in 2..size {
+            self.words.fill(seat, a + i, 0);
+        }
+        self.head_and_publish(seat, a, ty, size, serial);
+    }
+
+    /// Writes header and serial number before an object's null fields, and publishes it.
+    fn head_and_publish(&self, seat: &mut MutatorSeat, a: u32, ty: u32, size: u32, serial: u32)
+        ghost body: { Body }
+        requires heap { IsSeatOf self.now seat.old }
+        requires body { body ≡ new_body a ty size serial }
+        requires room { IsRoom seat.old size a }
+        requires ty { ty < 16384 }
+        requires least { 2 ≤ size }
+        requires most { size < 2 ^ 26 }
+        requires fields { HasNulls seat.old.filled (a + 2) (size - 2) }
+        ensures { Occupies seat.old seat.new body }
+    {
+        self.shape_is_valid();
+        // Nobody sees these words before the object is published.
+        self.words
+            .fill(seat, a, Header::pack(true, false, false, ty, size));
+        self.words.fill(seat, a + 1, u64::from(serial));
+        self.words.publish(seat, a);
+    }
+}

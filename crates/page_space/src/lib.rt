@@ -1,0 +1,37 @@
+//! # The pages of a heap
+//!
+//! What it is: where objects lie in the heap's words. Objects of one bucket share pages, and a
+//! large one has pages of its own. New objects are placed here, and dead ones taken away.
+//!
+//! The parts: `Space` with `new`, `find` and `find_empty` (where a new object goes), `occupy` and
+//! `free` (an object that comes or goes), `next_object`, `page_bucket` and the readers of one
+//! object, and `objects`, `used` and `pages_in_use`, which are kept as counts. Inside, a table
+//! tells of each page how many objects have a word in it, and their bucket. The next level down
+//! is `page_words`.
+//!
+//! | size in words | bucket |
+//! |---|---|
+//! | 2 to 3 | 0 |
+//! | 4 to 7 | 1 |
+//! | 8 to 15 | 2 |
+//! | 16 to half a page | 3 |
+//! | more | 4, large: it starts a page and takes as many pages as it needs |
+//!
+//! What is proved: `find` and `find_empty` answer the lowest place, and none exactly where there
+//! is none. `occupy` publishes an object whose fields are null, and `free` takes one away. After
+//! each of them small objects lie in one page, large ones share none, and the counts are right.
+//!
+//! What is only tested or not said: that `Space::new` succeeds where there is memory is tested.
+//! How long a search takes is not said.
+#![tactic(auto)]
+
+mod changing;
+mod placing;
+mod reading;
+mod space;
+mod table;
+
+pub use space::Space;
+
+#[cfg(test)]
+mod tests;

@@ -1,0 +1,170 @@
+// The pages of a heap over its words.
+
+ghost use Rattle.std.specs.Prelude.{◌≡◌, ℕ, ◌*◌, ◌<◌};
+ghost use Rattle.std.specs.Prelude.{◌↔◌, IfOk, Some, None, length, sum_by};
+ghost use Rattle.gc_graph.specs.Placement.{HasBucket, IsEmptyPage, IsUsedPages, bucket_of};
+ghost use Rattle.page_words.specs.Seat.{SeatView, empty_view, stored};
+ghost use Rattle.page_space.specs.Pages.{IsShape, word_count};
+ghost use Rattle.page_space.specs.Space.{IsSpaceOf, extents_of_bodies};
+
+use crate::table::Table;
+use gc_graph::NoMemory;
+use page_words::{MutatorSeat, Words};
+use std::alloc::Global;
+use std::marker::Model;
+
+/// The pages of a heap over its words, which belong to the mutator's thread. Addresses and sizes
+/// are in words. See "Heap partitioning" in `include/cppgc/README.md`.
+#[derive(Drop)]
+pub struct Space {
+    pub(crate) words: Words,
+    pub(crate) pages: u32,
+    pub(crate) page_words: u32,
+    pub(crate) objects: u32,
+    pub(crate) used: u32,
+    pub(crate) table: Table,
+}
+
+impl Model for Space {
+    ghost use Rattle.std.specs.Prelude.{◌≡◌, length};
+    ghost use Rattle.page_space.specs.Pages.{IsShape, word_count};
+    ghost use Rattle.page_space.specs.Space.{SpaceView};
+
+    ghost Value = { SpaceView };
+
+    ghost view = { λ s. record {
+      shape = record { pages = s.pages; page_words = s.page_words };
+      objects = s.objects;
+      used = s.used;
+      table = s.table;
+    } };
+
+    ghost invariant = { λ s. IsShape (record { pages = s.pages; page_words = s.page_words })
+        × (s.words ≡ word_count (record { pages = s.pages; page_words = s.page_words }))
+        × (length s.table.objects ≡ s.pages) × (length s.table.buckets ≡ s.pages) };
+}
+
+impl Space {
+    /// Pages without objects, and the seat of their words. Want of memory is free.
+    pub fn new(alloc: Global, pages: u32, page_words: u32) -> Result<(Space, MutatorSeat), NoMemory>
+        requires { IsShape (record { pages = pages; page_words = page_words }) }
+        ensures space { IfOk result (λ made. IsSpaceOf made.0 made.1) }
+        ensures shape { IfOk result (λ made.
+            made.0.shape ≡ record { pages = pages; page_words = page_words }) }
+        ensures view { IfOk result (λ made. made.1 ≡ empty_view (pages * page_words)) }
+    {
+        let (words, seat) = Words::new(alloc, pages * page_words)?;
+        let table = Table::new(alloc, pages)?;
+        let space = Space {
+            words,
+            pages,
+            page_words,
+            objects: 0,
+            used: 0,
+            table,
+        };
+        Ok((space, seat))
+    }
+
+    /// The shape is one that a heap can have. Whoever calls this has the law.
+    pub fn shape_is_valid(&self)
+        ensures { IsShape self.now.shape }
+    {
+        let _pages = &self.pages;
+    }
+
+    /// A space belongs to the words of the seat as long as the objects' places and sizes stay, as
+    /// they do under a store. Whoever calls this has the law.
+    pub fn lasts_while_objects_stay(&self)
+        ensures objects { (old new : SeatView) → new.count ≡ old.count
+            → extents_of_bodies new.bodies ≡ extents_of_bodies old.bodies
+            → IsSpaceOf self.now old → IsSpaceOf self.now new }
+        ensures store { (v : SeatView) (a w : ℕ) → IsSpaceOf self.now v
+            → IsSpaceOf self.now (stored v a w) }
+    {
+        let _pages = &self.pages;
+    }
+
+    /// The words of the heap.
+    pub fn words(&self) -> &Words
+        ensures { result.now ≡ word_count self.now.shape }
+    {
+        &self.words
+    }
+
+    /// How many pages there are.
+    pub fn pages(&self) -> u32
+        ensures { result ≡ self.now.shape.pages }
+    {
+        self.pages
+    }
+
+    /// How many words a page has.
+    pub fn page_words(&self) -> u32
+        ensures { result ≡ self.now.shape.page_words }
+    {
+        self.page_words
+    }
+
+    /// How many words the pages have.
+    pub fn word_count(&self) -> u32
+        ensures { result ≡ word_count self.now.shape }
+    {
+        self.pages * self.page_words
+    }
+
+    /// How many objects there are.
+    pub fn objects(&self) -> u32
+        ensures { (v : SeatView) → IsSpaceOf self.now v → result ≡ length v.bodies }
+    {
+        self.objects
+    }
+
+    /// How many words the objects have.
+    pub fn used(&self) -> u32
+        ensures { (v : SeatView) → IsSpaceOf self.now v
+            → result ≡ sum_by (λ b. b.size) v.bodies }
+    {
+        self.used
+    }
+
+    /// How many pages hold a word of an object.
+    pub fn pages_in_use(&self) -> u32
+        ensures { (v : SeatView) → IsSpaceOf self.now v
+            → IsUsedPages self.now.shape (extents_of_bodies v.bodies) result }
+    {
+        self.shape_is_valid();
+        self.table.in_use()
+    }
+
+    /// The bucket of the objects with a word in the page: 0 to 3, or 4 for a large one.
+    pub fn page_bucket(&self, seat: &mut MutatorSeat, page: u32) -> Option<u32>
+        requires space { IsSpaceOf self.now seat.old }
+        requires page { page < self.now.shape.pages }
+        ensures bucket { (bucket : ℕ) → (result ≡ Some bucket)
+            ↔ HasBucket self.now.shape.page_words (extents_of_bodies seat.old.bodies) page bucket }
+        ensures none { (result ≡ None)
+            ↔ IsEmptyPage self.now.shape (extents_of_bodies seat.old.bodies) page }
+        ensures view { seat.new ≡ seat.old }
+    {
+        self.shape_is_valid();
+        if self.table.objects_in(page) == 0 {
+            None
+        } else {
+            Some(self.table.bucket_of_page(page))
+        }
+    }
+}
+
+/// The bucket of a size: objects of one bucket share pages.
+pub fn bucket_of(page_words: u32, size: u32) -> u32
+    ensures { result ≡ bucket_of page_words size }
+{
+    match size {
+        large if large > page_words / 2 => 4,
+        16.. => 3,
+        8.. => 2,
+        4.. => 1,
+        _ => 0,
+    }
+}

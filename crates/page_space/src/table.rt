@@ -1,0 +1,134 @@
+// What is known of each page: how many objects have a word in it, and their bucket.
+
+ghost use Rattle.std.specs.Prelude.{◌≡◌, ℕ, ◌+◌, ◌-◌, ◌^◌, ◌<◌, ◌≤◌, true};
+ghost use Rattle.std.specs.Prelude.{IfOk, if◌then◌else◌, length, slice_index, slice_set, replicate};
+ghost use Rattle.page_space.specs.Pages.{is_between, count_in_use};
+
+use gc_graph::NoMemory;
+use std::alloc::Global;
+use std::marker::Model;
+
+/// For each page, how many objects have a word in it, and the bucket of these.
+#[derive(Drop)]
+pub struct Table {
+    objects: Vec<u32>,
+    buckets: Vec<u32>,
+    in_use: u32,
+}
+
+impl Model for Table {
+    ghost use Rattle.std.specs.Prelude.{◌≡◌, ◌≤◌, length};
+    ghost use Rattle.page_space.specs.Pages.{PageTable, count_in_use};
+
+    ghost Value = { PageTable };
+
+    ghost view = { λ t. record { objects = t.objects.items; buckets = t.buckets.items } };
+
+    ghost invariant = { λ t. (t.in_use ≡ count_in_use t.objects.items)
+        × (length t.buckets.items ≡ length t.objects.items) × (length t.objects.items ≤ 1024) };
+}
+
+impl Table {
+    /// Pages without objects. Want of memory is free.
+    pub fn new(alloc: Global, pages: u32) -> Result<Table, NoMemory>
+        requires { pages ≤ 1024 }
+        ensures objects { IfOk result (λ t. t.objects ≡ replicate pages 0) }
+        ensures buckets { IfOk result (λ t. t.buckets ≡ replicate pages 0) }
+    {
+        let objects = vec![in alloc; 0u32; pages as usize]?;
+        let buckets = vec![in alloc; 0u32; pages as usize]?;
+        Ok(Table {
+            objects,
+            buckets,
+            in_use: 0,
+        })
+    }
+
+    /// How many pages hold a word of an object.
+    pub fn in_use(&self) -> u32
+        ensures { result ≡ count_in_use self.now.objects }
+    {
+        self.in_use
+    }
+
+    /// How many objects have a word in the page.
+    pub fn objects_in(&self, page: u32) -> u32
+        requires page { page < length self.now.objects }
+        ensures { result ≡ slice_index self.now.objects page }
+    {
+        self.objects[page as usize]
+    }
+
+    /// The bucket of the page, if it holds a word of an object.
+    pub fn bucket_of_page(&self, page: u32) -> u32
+        requires page { page < length self.now.objects }
+        ensures { result ≡ slice_index self.now.buckets page }
+    {
+        self.buckets[page as usize]
+    }
+
+    /// Counts an object of the bucket in the pages from `first` up to `end`.
+    pub fn enter(&mut self, first: u32, end: u32, bucket: u32)
+        requires order { first ≤ end }
+        requires end { end ≤ length self.old.objects }
+        requires buckets { end ≤ length self.old.buckets }
+        requires room { (page : ℕ) → slice_index self.old.objects page < 2 ^ 32 - 1 }
+        ensures size { length self.new.objects ≡ length self.old.objects }
+        ensures sizes { length self.new.buckets ≡ length self.old.buckets }
+        ensures objects { (page : ℕ) → slice_index self.new.objects page
+            ≡ slice_index self.old.objects page + (if is_between first end page then 1 else 0) }
+        ensures buckets { (page : ℕ) → slice_index self.new.buckets page
+            ≡ (if is_between first end page then bucket else slice_index self.old.buckets page) }
+    {
+        for page in first..end {
+            self.enter_page(page, bucket);
+        }
+    }
+
+    /// Takes an object out of the counts of the pages from `first` up to `end`.
+    pub fn leave(&mut self, first: u32, end: u32)
+        requires order { first ≤ end }
+        requires end { end ≤ length self.old.objects }
+        requires some { (page : ℕ) → is_between first end page ≡ true
+            → 0 < slice_index self.old.objects page }
+        ensures size { length self.new.objects ≡ length self.old.objects }
+        ensures objects { (page : ℕ) → slice_index self.old.objects page
+            ≡ slice_index self.new.objects page + (if is_between first end page then 1 else 0) }
+        ensures buckets { self.new.buckets ≡ self.old.buckets }
+    {
+        for page in first..end {
+            self.leave_page(page);
+        }
+    }
+
+    fn enter_page(&mut self, page: u32, bucket: u32)
+        requires page { page < length self.old.objects }
+        requires room { slice_index self.old.objects page < 2 ^ 32 - 1 }
+        ensures objects { self.new.objects
+            ≡ slice_set self.old.objects page (slice_index self.old.objects page + 1) }
+        ensures buckets { self.new.buckets ≡ slice_set self.old.buckets page bucket }
+    {
+        let at = page as usize;
+        let before = self.objects[at];
+        if before == 0 {
+            self.in_use += 1;
+        }
+        self.objects[at] = before + 1;
+        self.buckets[at] = bucket;
+    }
+
+    fn leave_page(&mut self, page: u32)
+        requires page { page < length self.old.objects }
+        requires some { 0 < slice_index self.old.objects page }
+        ensures objects { self.new.objects
+            ≡ slice_set self.old.objects page (slice_index self.old.objects page - 1) }
+        ensures buckets { self.new.buckets ≡ self.old.buckets }
+    {
+        let at = page as usize;
+        let after = self.objects[at] - 1;
+        if after == 0 {
+            self.in_use -= 1;
+        }
+        self.objects[at] = after;
+    }
+}
