@@ -51,6 +51,18 @@ impl Space {
         self.table.leave(a / self.page_words, after);
     }
 
+    /// Looks at a page again, from which objects went or may have gone. No answer changes: it is
+    /// for the time that the next searches take.
+    pub fn survey(&mut self, seat: &mut MutatorSeat, page: u32)
+        requires space { IsSpaceOf self.old seat.old }
+        requires page { page < self.old.shape.pages }
+        ensures space { IsSpaceOf self.new seat.new }
+        ensures shape { self.new.shape ≡ self.old.shape }
+        ensures view { seat.new ≡ seat.old }
+    {
+        let _words = self.words.load(seat, page * self.page_words);
+    }
+
     /// Writes an object whose fields are null into free words, and publishes it.
     fn write_object(&self, seat: &mut MutatorSeat, a: u32, ty: u32, size: u32, serial: u32)
         requires heap { IsSeatOf self.now seat.old }
