@@ -8,6 +8,7 @@ use Rattle.std.proofs.Math.Nat.{mul-le-mul_right}
 use Rattle.gc_graph.specs.State.{Shape}
 use Rattle.gc_graph.specs.Placement.{Extent, Covers}
 use Rattle.page_space.specs.Pages.{PageTable, is_in_page, word_count, free_words}
+use Rattle.page_space.specs.Gaps.{GapTable, KnowsGaps}
 use Rattle.page_space.specs.Space.{SpaceView, IsSpaceOver}
 use Rattle.page_space.proofs.PageSpan.{in_page_word}
 use Rattle.page_space.proofs.PlaceBodies.{contains_first, contains_later}
@@ -51,9 +52,9 @@ all_free : (n : ℕ) → free_words [] n ≡ n
 all_free zero = refl
 all_free (suc n) = omega (arith, all_free n)
 
-pub empty_space : (shape : Shape) (count : ℕ) (table : PageTable) → count ≡ word_count shape → table.objects ≡ replicate shape.pages 0
-    → IsSpaceOver (record { shape = shape; objects = 0; used = 0; table = table }) count []
-empty_space shape count table whole zeros = record {
+pub empty_space : (shape : Shape) (count : ℕ) (table : PageTable) (gaps : GapTable) → count ≡ word_count shape → table.objects ≡ replicate shape.pages 0
+    → KnowsGaps shape [] gaps → IsSpaceOver (record { shape = shape; objects = 0; used = 0; table = table; gaps = gaps }) count []
+empty_space shape count table gaps whole zeros knows = record {
   seat = whole;
   differ = tt;
   sizes = λ e there. absurd (omega (arith, there.1));
@@ -65,4 +66,5 @@ empty_space shape count table whole zeros = record {
   free = omega (arith, all_free count);
   held = λ page within. ap (λ xs. get_or xs page 0) zeros ∙ get_or-replicate shape.pages page 0 0 within;
   buckets = λ page e there _. absurd (omega (arith, there.1));
+  gaps = knows;
 }

@@ -8,6 +8,7 @@ use Rattle.std.proofs.lemmas.List.Sums.{sum_by_push}
 use Rattle.gc_graph.specs.State.{Shape}
 use Rattle.gc_graph.specs.Placement.{Extent, Covers, IsTaken, bucket_of}
 use Rattle.page_space.specs.Pages.{PageTable, is_in_page, free_words}
+use Rattle.page_space.specs.Gaps.{GapTable, KnowsGaps}
 use Rattle.page_space.specs.Space.{SpaceView, IsSpaceOver, IsPlacedWell}
 use Rattle.page_space.proofs.FreeWords.{TakesMore, free_differs}
 use Rattle.page_space.proofs.Extents.{any_from_taken, any_none, any_same, differ_push}
@@ -42,10 +43,10 @@ takes_more shape es e good = record {
   above = λ x high. any_same (es ++ e ∷ []) es x (λ taken. not_new es e x (λ c. let last : x < e.place + e.size = c.1 in omega arith) taken) (taken_push es e x);
 }
 
-pub joined : (space : SpaceView) (count : ℕ) (es : List Extent) (e : Extent) (table : PageTable) → IsSpaceOver space count es → 2 ≤ e.size
-    → IsGoodPlace space.shape es e → Enters space.shape.page_words e space.table table
-    → IsSpaceOver (record { shape = space.shape; objects = space.objects + 1; used = space.used + e.size; table = table }) count (es ++ e ∷ [])
-joined space count es e table over some good enters =
+pub joined : (space : SpaceView) (count : ℕ) (es : List Extent) (e : Extent) (table : PageTable) (gaps : GapTable) → IsSpaceOver space count es → 2 ≤ e.size
+    → IsGoodPlace space.shape es e → Enters space.shape.page_words e space.table table → KnowsGaps space.shape (es ++ e ∷ []) gaps
+    → IsSpaceOver (record { shape = space.shape; objects = space.objects + 1; used = space.used + e.size; table = table; gaps = gaps }) count (es ++ e ∷ [])
+joined space count es e table gaps over some good enters knows =
     let w : ℕ = space.shape.page_words in
     record {
       seat = over.seat;
@@ -107,4 +108,5 @@ joined space count es e table over some good enters =
             enters.buckets page ∙ ap (λ t. cond t (bucket_of w e.size) (get_or space.table.buckets page 0)) (ap (is_in_page w page) new ∙ d_in)
             ∙ ap (λ (f : Extent). bucket_of w f.size) new
       ];
+      gaps = knows;
     }

@@ -1,10 +1,14 @@
+mod GapSearch
+mod KnownGaps
+mod WalkSteps
+mod StartBits
+mod TreeNodes
 mod Shapes
 mod PageSpan
 mod Tables
 mod PlaceBodies
 mod PlaceHeader
 mod OccupyFilled
-mod GapWalk
 mod PlaceFound
 mod EmptyRuns
 mod FreeWords

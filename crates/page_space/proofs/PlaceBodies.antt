@@ -54,10 +54,6 @@ place_in_body count bodies a whole h =
     let at : h.0.place ≡ a = h.2 in
     (h.0, h.1, omega arith, omega (arith, body_size count bodies h.0 whole h.1))
 
--- no object starts from low up to high
-abbrev pub HasNoStart : List Body → ℕ → ℕ → Type 0
-HasNoStart bodies low high = (a : ℕ) → low ≤ a → a < high → IsPlace bodies a → ⊥
-
 -- what holds of no number below a and not of a holds of no number up to a
 pub none_until : (P : ℕ → Type 0) (low a : ℕ) → ((x : ℕ) → low ≤ x → x < a → P x → ⊥) → (P a → ⊥) → (x : ℕ) → low ≤ x → x < a + 1 → P x → ⊥
 none_until P low a before here x above below p =

@@ -1,26 +1,27 @@
 -- From the pages to the place of a new object.
-use Rattle.std.proofs.Common.{◌≡◌, ℕ, Bool, ◌+◌, ◌*◌, ◌/◌, ◌<◌, ◌≤◌, true, false, cond, leb, List, Option, Some, None, sym, ap, ◌∙◌, subst, inl, inr, arith, ltb}
+use Rattle.std.proofs.Common.{◌≡◌, ℕ, Bool, ◌+◌, ◌*◌, ◌/◌, ◌<◌, ◌≤◌, min, true, false, cond, leb, List, Option, Some, None, sym, ap, ◌∙◌, subst, inl, inr, arith, ltb}
 use Rattle.std.specs.List.{Contains}
 use Rattle.std.specs.Option.{IfNone}
-use Rattle.std.proofs.lemmas.Bool.{cases_order, cases_Bool, ltb-true, lt-ltb}
+use Rattle.std.proofs.lemmas.Bool.{cases_order, cases_lt, cases_Bool, ltb-true, lt-ltb, le-leb}
 use Rattle.gc_graph.specs.State.{Shape}
 use Rattle.gc_graph.specs.Placement.{Extent, HasBucket, IsLowest, IsNowhere, bucket_of}
 use Rattle.page_words.specs.Bodies.{Body, end_of}
 use Rattle.page_space.specs.Pages.{is_in_page}
-use Rattle.page_space.specs.Space.{SpaceView, IsSpaceOver, FitsIn, FitsBetween, IsGap, HoldsWhole, extent_of, extents_of_bodies}
+use Rattle.page_space.specs.Space.{SpaceView, IsSpaceOver, FitsIn, FitsBetween, HoldsWhole, extent_of, extents_of_bodies}
+use Rattle.page_space.specs.Gaps.{IsGap}
 use Rattle.page_space.proofs.PageSpan.{page_before, same_page, in_page_from}
 use Rattle.page_space.proofs.PlaceBodies.{contains_map}
 
 run_of_gap : (shape : Shape) (bodies : List Body) (size page a : ℕ)
-    → HasBucket shape.page_words (extents_of_bodies bodies) page (bucket_of shape.page_words size) → IsGap shape bodies size page a → FitsIn shape bodies size page a
+    → HasBucket shape.page_words (extents_of_bodies bodies) page (bucket_of shape.page_words size) → IsGap shape (extents_of_bodies bodies) size page a → FitsIn shape bodies size page a
 run_of_gap shape bodies size page a bucket gap = record { bucket = bucket; first = gap.first; last = gap.last; free = gap.free }
 
-gap_of_run : (shape : Shape) (bodies : List Body) (size page a : ℕ) → FitsIn shape bodies size page a → IsGap shape bodies size page a
+pub gap_of_run : (shape : Shape) (bodies : List Body) (size page a : ℕ) → FitsIn shape bodies size page a → IsGap shape (extents_of_bodies bodies) size page a
 gap_of_run shape bodies size page a run = record { first = run.first; last = run.last; free = run.free }
 
 pub fits_in_found : (shape : Shape) (bodies : List Body) (size page a : ℕ)
     → HasBucket shape.page_words (extents_of_bodies bodies) page (bucket_of shape.page_words size)
-    → IsLowest (IsGap shape bodies size page) a → IsLowest (FitsIn shape bodies size page) a
+    → IsLowest (IsGap shape (extents_of_bodies bodies) size page) a → IsLowest (FitsIn shape bodies size page) a
 fits_in_found shape bodies size page a bucket low = (
   run_of_gap shape bodies size page a bucket low.0,
   (λ b before run. low.1 b before (gap_of_run shape bodies size page b run)),
@@ -30,7 +31,7 @@ pub if_none_then : (r : Option ℕ) (P Q : Type 0) → IfNone r P → (P → Q) 
 if_none_then None P Q p f = f p
 if_none_then (Some a) P Q p f = tt
 
-pub fits_in_none : (shape : Shape) (bodies : List Body) (size page : ℕ) → IsNowhere (IsGap shape bodies size page) → IsNowhere (FitsIn shape bodies size page)
+pub fits_in_none : (shape : Shape) (bodies : List Body) (size page : ℕ) → IsNowhere (IsGap shape (extents_of_bodies bodies) size page) → IsNowhere (FitsIn shape bodies size page)
 fits_in_none shape bodies size page none a run = none a (gap_of_run shape bodies size page a run)
 
 pub fits_found : (shape : Shape) (bodies : List Body) (from to size page a : ℕ) → 2 ≤ size → size ≤ shape.page_words / 2 → from ≤ page → page < to
@@ -94,4 +95,23 @@ page_holds_whole space count bodies size page some over small has b a there from
           let here : lies.1.page ≡ page = same_page w lies.1.page page a (omega arith) (omega arith) first last in
           subst (λ p. (p * w ≤ b.place) × (end_of b ≤ (p + 1) * w)) here (low, high))
       | inr takes ↦ absurd (small_bucket w size small (sym same ∙ large_bucket w e.size takes.0))
+    ]
+
+middle_bucket : (w size : ℕ) → size ≤ w / 2 → 16 ≤ size → bucket_of w size ≡ 3
+middle_bucket w size small least =
+    let not_large : ltb (w / 2) size ≡ false = elim (cases_Bool (ltb (w / 2) size)) [
+      | inl holds ↦ absurd (let over : w / 2 < size = ltb-true (w / 2) size holds in omega arith)
+      | inr clear ↦ clear
+    ] in
+    ap (λ t. cond t 4 (cond (leb 16 size) 3 (cond (leb 8 size) 2 (cond (leb 4 size) 1 0)))) not_large
+    ∙ ap (λ t. cond t 3 (cond (leb 8 size) 2 (cond (leb 4 size) 1 0))) (le-leb 16 size least)
+
+-- sizes from 63 on to half a page are of one bucket
+pub bucket_remembered : (w size remembered : ℕ) → 256 ≤ w → size ≤ w / 2 → remembered ≡ min size 63 → bucket_of w remembered ≡ bucket_of w size
+bucket_remembered w size remembered words small is =
+    elim (cases_lt 63 size) [
+      | inl more ↦
+          (let e : remembered ≡ 63 = omega arith in
+          ap (bucket_of w) e ∙ middle_bucket w 63 (omega arith) (omega arith) ∙ sym (middle_bucket w size small (omega arith)))
+      | inr few ↦ ap (bucket_of w) (let e : remembered ≡ size = omega arith in e)
     ]

@@ -1,3 +1,6 @@
+pub mod Gaps
+pub mod Trees
+pub mod Walks
 pub mod Pages
 pub mod Space
 pub mod Occupying

@@ -6,13 +6,16 @@ use Rattle.gc_graph.specs.PlacementLaw.{LiesInPage, TakesPages}
 use Rattle.page_words.specs.Bodies.{Body, end_of, IsPlace}
 use Rattle.page_words.specs.Seat.{SeatView}
 use Rattle.page_space.specs.Pages.{PageTable, word_count, is_in_page, free_words}
+use Rattle.page_space.specs.Gaps.{GapTable, KnowsGaps}
 
--- what a space keeps beside the words: its shape, how many objects it has and how many words these, and its table
+-- what a space keeps beside the words: its shape, how many objects it has and how many words these, its table, and what
+-- it remembers of its gaps
 pub record SpaceView : Type 0 where
   pub shape : Shape
   pub objects : ℕ
   pub used : ℕ
   pub table : PageTable
+  pub gaps : GapTable
 
 -- the seat is that of words of this shape
 abbrev pub IsSeatOf : SpaceView → SeatView → Type 0
@@ -62,6 +65,7 @@ pub record IsSpaceOver (space : SpaceView) (count : ℕ) (extents : List Extent)
   pub buckets :
       (page : ℕ) (e : Extent) → Contains extents e → is_in_page space.shape.page_words page e ≡ true
       → slice_index space.table.buckets page ≡ bucket_of space.shape.page_words e.size
+  pub gaps : KnowsGaps space.shape extents space.gaps
 
 -- the space belongs to the words of the seat
 abbrev pub IsSpaceOf : SpaceView → SeatView → Type 0
@@ -81,16 +85,9 @@ IsFreePlace shape extents size a = Fits shape shape.pages extents size a ⊎ Sta
 abbrev pub IsPlaceFrom : List Body → ℕ → ℕ → Type 0
 IsPlaceFrom bodies from a = (from ≤ a) × IsPlace bodies a
 
--- the end of the object that starts at a, or what was before where none does
-abbrev pub IsEndAt : List Body → ℕ → ℕ → ℕ → Type 0
-IsEndAt bodies a before after =
-    ((b : Body) × Contains bodies b × (b.place ≡ a) × (after ≡ end_of b)) ⊎ ((IsPlace bodies a → ⊥) × (after ≡ before))
-
--- free words from a, within the page
-pub record IsGap (shape : Shape) (bodies : List Body) (size page a : ℕ) : Type 0 where
-  pub first : page * shape.page_words ≤ a
-  pub last : a + size ≤ (page + 1) * shape.page_words
-  pub free : (x : ℕ) → a ≤ x → x < a + size → IsTaken (extents_of_bodies bodies) x → ⊥
+-- no object starts from low up to high
+abbrev pub HasNoStart : List Body → ℕ → ℕ → Type 0
+HasNoStart bodies low high = (a : ℕ) → low ≤ a → a < high → IsPlace bodies a → ⊥
 
 -- each body with a word in the page lies in the page
 abbrev pub HoldsWhole : Shape → List Body → ℕ → Type 0

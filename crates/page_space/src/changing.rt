@@ -1,12 +1,16 @@
 // A new object in free words, and a dead one that goes.
 
-ghost use Rattle.std.specs.Prelude.{◌≡◌, ◌+◌, ◌-◌, ◌^◌, ◌<◌, ◌≤◌, false, true};
+ghost use Rattle.std.specs.Prelude.{◌≡◌, ℕ, ◌+◌, ◌-◌, ◌^◌, ◌<◌, ◌≤◌, false, true};
+ghost use Rattle.std.specs.Prelude.{length, slice_index};
 ghost use Rattle.page_words.specs.Bodies.{Body};
 ghost use Rattle.page_words.specs.Seat.{holds, retracted};
+ghost use Rattle.page_space.specs.Pages.{word_count};
 ghost use Rattle.page_space.specs.Space.{IsSeatOf, IsSpaceOf, IsFreePlace, extents_of_bodies};
 ghost use Rattle.page_space.specs.Occupying.{IsRoom, HasNulls, Occupies, new_body};
 
+use crate::gaps::Gaps;
 use crate::space::{Space, bucket_of};
+use crate::table::Table;
 use object_headers::Header;
 use page_words::MutatorSeat;
 
@@ -22,14 +26,36 @@ impl Space {
         ensures space { IsSpaceOf self.new seat.new }
         ensures shape { self.new.shape ≡ self.old.shape }
     {
+        self.place(seat, a, ty, size, serial);
+        let page_words = self.page_words;
+        if size <= page_words / 2 {
+            self.look_around(seat, a, size);
+            self.pass_by(seat, size, a / page_words);
+        }
+    }
+
+    /// The same, without a look at what is left of the gap.
+    fn place(&mut self, seat: &mut MutatorSeat, a: u32, ty: u32, size: u32, serial: u32)
+        requires space { IsSpaceOf self.old seat.old }
+        requires place { IsFreePlace self.old.shape (extents_of_bodies seat.old.bodies) size a }
+        requires ty { ty < 16384 }
+        requires least { 2 ≤ size }
+        requires most { size < 2 ^ 26 }
+        ensures occupied { Occupies seat.old seat.new (new_body a ty size serial) }
+        ensures inside { a + size ≤ word_count self.old.shape }
+        ensures space { IsSpaceOf self.new seat.new }
+        ensures shape { self.new.shape ≡ self.old.shape }
+    {
         seat.bodies_lie_apart();
         self.shape_is_valid();
         self.write_object(seat, a, ty, size, serial);
         self.objects += 1;
         self.used += size;
+        let page = a / self.page_words;
         let after = (a + size - 1) / self.page_words + 1;
         let bucket = bucket_of(self.page_words, size);
-        self.table.enter(a / self.page_words, after, bucket);
+        lower_where_empty(&mut self.gaps, &self.table, page);
+        self.table.enter(page, after, bucket);
     }
 
     /// Takes a dead object away, while no marking goes on.
@@ -49,18 +75,7 @@ impl Space {
         self.used -= size;
         let after = (a + size - 1) / self.page_words + 1;
         self.table.leave(a / self.page_words, after);
-    }
-
-    /// Looks at a page again, from which objects went or may have gone. No answer changes: it is
-    /// for the time that the next searches take.
-    pub fn survey(&mut self, seat: &mut MutatorSeat, page: u32)
-        requires space { IsSpaceOf self.old seat.old }
-        requires page { page < self.old.shape.pages }
-        ensures space { IsSpaceOf self.new seat.new }
-        ensures shape { self.new.shape ≡ self.old.shape }
-        ensures view { seat.new ≡ seat.old }
-    {
-        let _words = self.words.load(seat, page * self.page_words);
+        self.gaps.forget(a / self.page_words, after);
     }
 
     /// Writes an object whose fields are null into free words, and publishes it.
@@ -97,5 +112,19 @@ impl Space {
             .fill(seat, a, Header::pack(true, false, false, ty, size));
         self.words.fill(seat, a + 1, u64::from(serial));
         self.words.publish(seat, a);
+    }
+}
+
+/// A page is worth a look for each size where it holds no object.
+fn lower_where_empty(gaps: &mut Gaps, table: &Table, page: u32)
+    requires { page < length table.now.objects }
+    ensures pages { gaps.new.pages ≡ gaps.old.pages }
+    ensures surveyed { gaps.new.surveyed ≡ gaps.old.surveyed }
+    ensures lower { (size : ℕ) → slice_index gaps.new.first size ≤ slice_index gaps.old.first size }
+    ensures empty { slice_index table.now.objects page ≡ 0 → (size : ℕ)
+        → slice_index gaps.new.first size ≤ page }
+{
+    if table.objects_in(page) == 0 {
+        gaps.lower(page);
     }
 }

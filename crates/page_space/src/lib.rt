@@ -26,10 +26,14 @@
 #![tactic(auto)]
 
 mod changing;
+mod gaps;
 mod placing;
 mod reading;
 mod space;
+mod surveying;
 mod table;
+mod tree;
+mod walking;
 
 pub use space::Space;
 

@@ -1,13 +1,17 @@
-// Where a new object goes: a plain search over start bits and headers, page by page.
+// Where a new object goes: to the lowest gap of a page of its bucket. Pages and blocks whose bounds
+// say that no such gap begins there are passed over.
 
-ghost use Rattle.std.specs.Prelude.{◌≡◌, ◌/◌, ◌^◌, ◌<◌, ◌≤◌};
+ghost use Rattle.std.specs.Prelude.{◌≡◌, ◌*◌, ◌/◌, ◌^◌, ◌<◌, ◌≤◌, true};
 ghost use Rattle.std.specs.Prelude.{◌↔◌, IsTrue, IfSome, IfNone};
 ghost use Rattle.gc_graph.specs.Placement.{StartsEmptyRun, IsPageCount, HasBucket};
 ghost use Rattle.gc_graph.specs.Placement.{IsLowest, IsNowhere, bucket_of};
-ghost use Rattle.page_space.specs.Space.{IsSeatOf, IsSpaceOf, FitsBetween, FitsIn, IsGap};
+ghost use Rattle.page_space.specs.Space.{IsSpaceOf, FitsBetween, FitsIn};
 ghost use Rattle.page_space.specs.Space.{HoldsWhole, SinceEmpty};
 ghost use Rattle.page_space.specs.Space.{IsFreePlace, extents_of_bodies};
+ghost use Rattle.page_space.specs.Gaps.{IsGap, is_surveyed};
+ghost use Rattle.page_space.specs.Walks.{BeginsIn};
 
+use crate::gaps::LARGEST_REMEMBERED;
 use crate::space::{Space, bucket_of};
 use page_words::MutatorSeat;
 
@@ -29,7 +33,9 @@ impl Space {
         if size > self.page_words / 2 {
             return None;
         }
-        for page in from..to {
+        // Pages below have no room for the size, as earlier looks told.
+        let first = self.gaps.first_for(size.min(LARGEST_REMEMBERED));
+        for page in from.max(first)..to {
             if let Some(a) = self.find_in(seat, page, size) {
                 return Some(a);
             }
@@ -106,7 +112,7 @@ impl Space {
     }
 
     /// Whether the page holds a word of an object of the bucket.
-    fn has_bucket(&self, seat: &mut MutatorSeat, page: u32, bucket: u32) -> bool
+    pub(crate) fn has_bucket(&self, seat: &mut MutatorSeat, page: u32, bucket: u32) -> bool
         requires space { IsSpaceOf self.now seat.old }
         requires page { page < self.now.shape.pages }
         ensures bucket { IsTrue result
@@ -119,26 +125,93 @@ impl Space {
         }
     }
 
-    /// The lowest run of free words of the size in a page whose bodies all lie in it.
+    /// The lowest gap of the size in a page whose bodies all lie in it.
     fn gap_in(&self, seat: &mut MutatorSeat, page: u32, size: u32) -> Option<u32>
-        requires heap { IsSeatOf self.now seat.old }
+        requires space { IsSpaceOf self.now seat.old }
         requires whole { HoldsWhole self.now.shape seat.old.bodies page }
         requires page { page < self.now.shape.pages }
         requires some { 2 ≤ size }
-        ensures found { IfSome result (IsLowest (IsGap self.now.shape seat.old.bodies size page)) }
-        ensures none { IfNone result (IsNowhere (IsGap self.now.shape seat.old.bodies size page)) }
+        requires small { size ≤ self.now.shape.page_words / 2 }
+        ensures found { IfSome result (IsLowest
+            (IsGap self.now.shape (extents_of_bodies seat.old.bodies) size page)) }
+        ensures none { IfNone result (IsNowhere
+            (IsGap self.now.shape (extents_of_bodies seat.old.bodies) size page)) }
         ensures view { seat.new ≡ seat.old }
     {
-        seat.bodies_lie_apart();
+        if !self.gaps.is_surveyed(page) {
+            return self.gap_in_words(seat, page, size);
+        }
+        if self.gaps.most(page) < size {
+            return None;
+        }
+        self.gap_in_blocks(seat, page, size)
+    }
+
+    /// The same for a page that was not surveyed: from object to object through all of it.
+    fn gap_in_words(&self, seat: &mut MutatorSeat, page: u32, size: u32) -> Option<u32>
+        requires space { IsSpaceOf self.now seat.old }
+        requires whole { HoldsWhole self.now.shape seat.old.bodies page }
+        requires page { page < self.now.shape.pages }
+        requires some { 2 ≤ size }
+        requires small { size ≤ self.now.shape.page_words / 2 }
+        ensures found { IfSome result (IsLowest
+            (IsGap self.now.shape (extents_of_bodies seat.old.bodies) size page)) }
+        ensures none { IfNone result (IsNowhere
+            (IsGap self.now.shape (extents_of_bodies seat.old.bodies) size page)) }
+        ensures view { seat.new ≡ seat.old }
+    {
+        self.shape_is_valid();
         let start = page * self.page_words;
-        // The words from `free` up to the address at hand belong to no object.
-        let mut free = start;
-        for a in start..start + self.page_words {
-            free = self.end_at(seat, a, free);
-            if free <= a && a + 1 - free == size {
-                return Some(free);
+        self.gap_from(seat, page, start, start + self.page_words, size)
+    }
+
+    /// The same for a page that was surveyed: only in blocks in which such a gap may begin.
+    fn gap_in_blocks(&self, seat: &mut MutatorSeat, page: u32, size: u32) -> Option<u32>
+        requires space { IsSpaceOf self.now seat.old }
+        requires surveyed { is_surveyed self.now.gaps page ≡ true }
+        requires whole { HoldsWhole self.now.shape seat.old.bodies page }
+        requires page { page < self.now.shape.pages }
+        requires some { 2 ≤ size }
+        requires small { size ≤ self.now.shape.page_words / 2 }
+        ensures found { IfSome result (IsLowest
+            (IsGap self.now.shape (extents_of_bodies seat.old.bodies) size page)) }
+        ensures none { IfNone result (IsNowhere
+            (IsGap self.now.shape (extents_of_bodies seat.old.bodies) size page)) }
+        ensures view { seat.new ≡ seat.old }
+    {
+        self.shape_is_valid();
+        for k in self.gaps.first_at_least(page, size)..self.blocks() {
+            if let Some(a) = self.gap_in_block(seat, page, k, size) {
+                return Some(a);
             }
         }
         None
+    }
+
+    /// The lowest gap of the size that begins in a block.
+    fn gap_in_block(&self, seat: &mut MutatorSeat, page: u32, k: u32, size: u32) -> Option<u32>
+        requires space { IsSpaceOf self.now seat.old }
+        requires surveyed { is_surveyed self.now.gaps page ≡ true }
+        requires whole { HoldsWhole self.now.shape seat.old.bodies page }
+        requires page { page < self.now.shape.pages }
+        requires block { 64 * k < self.now.shape.page_words }
+        requires some { 2 ≤ size }
+        requires small { size ≤ self.now.shape.page_words / 2 }
+        ensures found { IfSome result (IsLowest
+            (BeginsIn self.now.shape (extents_of_bodies seat.old.bodies) size page k)) }
+        ensures none { IfNone result (IsNowhere
+            (BeginsIn self.now.shape (extents_of_bodies seat.old.bodies) size page k)) }
+        ensures view { seat.new ≡ seat.old }
+    {
+        self.shape_is_valid();
+        if self.gaps.bound(page, k) < size {
+            return None;
+        }
+        let start = page * self.page_words + 64 * k;
+        let from = self.first_left(seat, page, k);
+        if from >= start + 64 {
+            return None;
+        }
+        self.gap_from(seat, page, from, start + 64, size)
     }
 }

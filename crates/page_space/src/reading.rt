@@ -1,12 +1,12 @@
 // Where objects start, and what their headers tell.
 
-ghost use Rattle.std.specs.Prelude.{◌≡◌, ◌+◌, ◌^◌, ◌<◌};
+ghost use Rattle.std.specs.Prelude.{◌≡◌, ◌+◌, ◌*◌, ◌^◌, ◌<◌};
 ghost use Rattle.std.specs.Prelude.{◌≤◌, ◌↔◌, IsTrue, IfSome, IfNone, Contains, All};
 ghost use Rattle.gc_graph.specs.Placement.{IsLowest, IsNowhere};
 ghost use Rattle.page_words.specs.Bodies.{Body, IsPlace};
 ghost use Rattle.page_words.specs.Seat.{holds};
 ghost use Rattle.page_space.specs.Pages.{word_count};
-ghost use Rattle.page_space.specs.Space.{IsSeatOf, IsPlaceFrom, IsEndAt};
+ghost use Rattle.page_space.specs.Space.{IsSeatOf, IsPlaceFrom, HasNoStart};
 
 use crate::space::Space;
 use object_headers::Header;
@@ -21,9 +21,54 @@ impl Space {
         ensures view { seat.new ≡ seat.old }
     {
         seat.bodies_lie_apart();
-        for a in from..self.word_count() {
-            if self.is_start(seat, a) {
-                return Some(a);
+        let end = self.word_count();
+        if from >= end {
+            return None;
+        }
+        let place = self.start_from(seat, from, end);
+        if place < end { Some(place) } else { None }
+    }
+
+    /// The lowest place from an address up to, and without, `end`, or `end`. It looks at 64 start
+    /// bits at a time.
+    pub(crate) fn start_from(&self, seat: &mut MutatorSeat, from: u32, end: u32) -> u32
+        requires heap { IsSeatOf self.now seat.old }
+        requires order { from ≤ end }
+        requires end { end ≤ word_count self.now.shape }
+        ensures none { HasNoStart seat.old.bodies from result }
+        ensures within { result ≤ end }
+        ensures start { result < end → IsPlace seat.old.bodies result }
+        ensures low { from ≤ result }
+        ensures view { seat.new ≡ seat.old }
+    {
+        self.shape_is_valid();
+        let mut at = from;
+        while at < end {
+            let bits = self.words.load(seat, self.words.count() + at / 64) >> (at % 64);
+            if bits != 0 {
+                return (at + bits.trailing_zeros()).min(end);
+            }
+            at = at / 64 * 64 + 64;
+        }
+        end
+    }
+
+    /// The highest place in the words from 64 times `first` up to, and without, 64 times `end`.
+    pub(crate) fn last_start(&self, seat: &mut MutatorSeat, first: u32, end: u32) -> Option<u32>
+        requires heap { IsSeatOf self.now seat.old }
+        requires end { 64 * end ≤ word_count self.now.shape }
+        ensures found { IfSome result (λ p. IsPlace seat.old.bodies p × (64 * first ≤ p)
+            × (p < 64 * end) × HasNoStart seat.old.bodies (p + 1) (64 * end)) }
+        ensures none { IfNone result (HasNoStart seat.old.bodies (64 * first) (64 * end)) }
+        ensures view { seat.new ≡ seat.old }
+    {
+        self.shape_is_valid();
+        let mut word = end;
+        while word > first {
+            word -= 1;
+            let bits = self.words.load(seat, self.words.count() + word);
+            if bits != 0 {
+                return Some(64 * word + bits.ilog2());
             }
         }
         None
@@ -53,21 +98,6 @@ impl Space {
         match Header::read(self.words.load(seat, a)) {
             Some(header) => header.size,
             None => unreachable!("an object starts here"),
-        }
-    }
-
-    /// The end of the object that starts at an address of the heap, or what was before.
-    pub(crate) fn end_at(&self, seat: &mut MutatorSeat, a: u32, before: u32) -> u32
-        requires heap { IsSeatOf self.now seat.old }
-        requires address { a < word_count self.now.shape }
-        ensures end { IsEndAt seat.old.bodies a before result }
-        ensures view { seat.new ≡ seat.old }
-    {
-        self.shape_is_valid();
-        if self.is_start(seat, a) {
-            a + self.size_at(seat, a)
-        } else {
-            before
         }
     }
 

@@ -1,12 +1,13 @@
 // The pages of a heap over its words.
 
-ghost use Rattle.std.specs.Prelude.{◌≡◌, ℕ, ◌*◌, ◌<◌};
+ghost use Rattle.std.specs.Prelude.{◌≡◌, ℕ, ◌*◌, ◌^◌, ◌<◌, ◌≤◌};
 ghost use Rattle.std.specs.Prelude.{◌↔◌, IfOk, Some, None, length, sum_by};
 ghost use Rattle.gc_graph.specs.Placement.{HasBucket, IsEmptyPage, IsUsedPages, bucket_of};
 ghost use Rattle.page_words.specs.Seat.{SeatView, empty_view, stored};
-ghost use Rattle.page_space.specs.Pages.{IsShape, word_count};
+ghost use Rattle.page_space.specs.Pages.{IsShape, IsPageWords, word_count};
 ghost use Rattle.page_space.specs.Space.{IsSpaceOf, extents_of_bodies};
 
+use crate::gaps::Gaps;
 use crate::table::Table;
 use gc_graph::NoMemory;
 use page_words::{MutatorSeat, Words};
@@ -23,10 +24,12 @@ pub struct Space {
     pub(crate) objects: u32,
     pub(crate) used: u32,
     pub(crate) table: Table,
+    pub(crate) gaps: Gaps,
 }
 
 impl Model for Space {
-    ghost use Rattle.std.specs.Prelude.{◌≡◌, length};
+    ghost use Rattle.std.specs.Prelude.{◌≡◌, ◌/◌, length};
+    ghost use Rattle.page_space.specs.Gaps.{HasBlocks};
     ghost use Rattle.page_space.specs.Pages.{IsShape, word_count};
     ghost use Rattle.page_space.specs.Space.{SpaceView};
 
@@ -37,11 +40,13 @@ impl Model for Space {
       objects = s.objects;
       used = s.used;
       table = s.table;
+      gaps = s.gaps;
     } };
 
     ghost invariant = { λ s. IsShape (record { pages = s.pages; page_words = s.page_words })
         × (s.words ≡ word_count (record { pages = s.pages; page_words = s.page_words }))
-        × (length s.table.objects ≡ s.pages) × (length s.table.buckets ≡ s.pages) };
+        × (length s.table.objects ≡ s.pages) × (length s.table.buckets ≡ s.pages)
+        × (length s.gaps.pages ≡ s.pages) × HasBlocks s.gaps.pages (s.page_words / 64) };
 }
 
 impl Space {
@@ -55,6 +60,7 @@ impl Space {
     {
         let (words, seat) = Words::new(alloc, pages * page_words)?;
         let table = Table::new(alloc, pages)?;
+        let gaps = Gaps::new(alloc, pages, depth_of(page_words))?;
         let space = Space {
             words,
             pages,
@@ -62,6 +68,7 @@ impl Space {
             objects: 0,
             used: 0,
             table,
+            gaps,
         };
         Ok((space, seat))
     }
@@ -166,5 +173,22 @@ pub fn bucket_of(page_words: u32, size: u32) -> u32
         8.. => 2,
         4.. => 1,
         _ => 0,
+    }
+}
+
+/// Which power of two the number of blocks of 64 words is.
+fn depth_of(page_words: u32) -> u32
+    requires { IsPageWords page_words }
+    ensures depth { 64 * 2 ^ result ≡ page_words }
+    ensures few { result ≤ 8 }
+{
+    match page_words {
+        256 => 2,
+        512 => 3,
+        1024 => 4,
+        2048 => 5,
+        4096 => 6,
+        8192 => 7,
+        _ => 8,
     }
 }

@@ -40,6 +40,7 @@ leave-requires-clause-some c page in_page =
       objects = c.self.inside.objects;
       used = c.self.inside.used;
       table = c.self.inside.table;
+      gaps = c.self.inside.gaps;
     } in
     let over : IsSpaceOver space c.args.seat.now.count (extents_of_bodies c.args.seat.now.bodies) =
     subst (λ s. IsSpaceOver s c.args.seat.now.count (extents_of_bodies c.args.seat.now.bodies)) (sym c.self.view_is) c.requires.space in
@@ -58,15 +59,23 @@ returns-clause-space c =
       objects = c.self.inside.objects;
       used = c.self.inside.used;
       table = c.self.inside.table;
+      gaps = c.self.inside.gaps;
     } in
     let over : IsSpaceOver space c.args.seat.now.count (extents_of_bodies c.args.seat.now.bodies) =
     subst (λ s. IsSpaceOver s c.args.seat.now.count (extents_of_bodies c.args.seat.now.bodies)) (sym c.self.view_is) c.requires.space in
     let now : IsSpaceOver
-    (record { shape = space.shape; objects = space.objects - 1; used = space.used - c.size_at-size.result; table = c.leave.new.self })
+    (record { shape = space.shape; objects = space.objects - 1; used = space.used - c.size_at-size.result; table = c.leave.new.self; gaps = c.forget.new.self })
     c.args.seat.now.count (filter (others c.args.a) es) =
-    left space c.args.seat.now.count es e c.leave.new.self over (seat_apart c.args.seat.now c.bodies_lie_apart.ensures) there
+    left space c.args.seat.now.count es e c.leave.new.self c.forget.new.self (omega (arith, (shape_words space.shape c.self.invariant.0).0)) over (seat_apart c.args.seat.now c.bodies_lie_apart.ensures) there
     (omega (arith, c.size_at-size.ensures.inside, c.requires.space.seat))
-    (record { objects = c.leave.ensures.objects; buckets = c.leave.ensures.buckets }) in
+    (record { objects = c.leave.ensures.objects; buckets = c.leave.ensures.buckets })
+    (record {
+      pages = c.forget.ensures.pages;
+      forgotten = c.forget.ensures.forgotten;
+      fewer = c.forget.ensures.fewer;
+      lower = c.forget.ensures.lower;
+      kept = c.forget.ensures.kept;
+    }) in
     let read : c.size_at-size.new.seat ≡ c.args.seat.now = c.size_at-size.ensures.view in
     let count : c.retract.new.seat.count ≡ c.args.seat.now.count = ap (λ v. v.count) c.retract.ensures ∙ ap (λ v. v.count) read in
     let extents : extents_of_bodies c.retract.new.seat.bodies ≡ filter (others c.args.a) es =

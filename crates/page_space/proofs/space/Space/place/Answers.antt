@@ -8,8 +8,9 @@ use Rattle.page_space.proofs.Shapes.{shape_words}
 use Rattle.page_space.proofs.PlaceBodies.{taken_by_body}
 use Rattle.page_space.proofs.GoodPlaces.{IsGoodPlace, good_place}
 use Rattle.page_space.proofs.Joined.{joined}
+use Rattle.page_space.proofs.KnownGaps.{knows_joined}
 use Rattle.page_space.proofs.Bounds.{few_objects, held_fits}
-use Rattle.page_space.proofs.space.Space.occupy.Goals as goal
+use Rattle.page_space.proofs.space.Space.place.Goals as goal
 
 pub write_object-requires-clause-room : goal.write_object-requires-clause-room
 write_object-requires-clause-room c =
@@ -39,6 +40,7 @@ enter-requires-clause-room c page =
       objects = c.self.inside.objects;
       used = c.self.inside.used;
       table = c.self.inside.table;
+      gaps = c.self.inside.gaps;
     } in
     let over : IsSpaceOver space c.args.seat.now.count (extents_of_bodies c.args.seat.now.bodies) =
     subst (λ s. IsSpaceOver s c.args.seat.now.count (extents_of_bodies c.args.seat.now.bodies)) (sym c.self.view_is) c.requires.space in
@@ -51,6 +53,7 @@ returns-clause-space c =
       objects = c.self.inside.objects;
       used = c.self.inside.used;
       table = c.self.inside.table;
+      gaps = c.self.inside.gaps;
     } in
     let es : List Extent = extents_of_bodies c.args.seat.now.bodies in
     let e : Extent = record { place = c.args.a; size = c.args.size } in
@@ -61,15 +64,21 @@ returns-clause-space c =
     let words = shape_words space.shape c.self.invariant.0 in
     let good : IsGoodPlace space.shape es e = good_place space c.args.seat.now.count es e (omega (arith, words.0)) (omega arith) over place in
     let now : IsSpaceOver
-    (record { shape = space.shape; objects = space.objects + 1; used = space.used + c.args.size; table = c.enter.new.self })
+    (record { shape = space.shape; objects = space.objects + 1; used = space.used + c.args.size; table = c.enter.new.self; gaps = c.lower_where_empty.new.gaps })
     c.args.seat.now.count (es ++ e ∷ []) =
-    joined space c.args.seat.now.count es e c.enter.new.self over c.requires.least good
+    joined space c.args.seat.now.count es e c.enter.new.self c.lower_where_empty.new.gaps over c.requires.least good
     (record {
       objects = c.enter.ensures.objects;
       buckets = λ page.
           c.enter.ensures.buckets page
           ∙ ap (λ k. cond (is_in_page space.shape.page_words page e) k (get_or space.table.buckets page 0)) c.bucket_of-bucket.ensures;
-    }) in
+    })
+    (knows_joined space c.args.seat.now.count es e c.lower_where_empty.new.gaps words.0 over good (record {
+      pages = c.lower_where_empty.ensures.pages;
+      surveyed = c.lower_where_empty.ensures.surveyed;
+      lower = c.lower_where_empty.ensures.lower;
+      empty = c.lower_where_empty.ensures.empty;
+    })) in
     let count : c.write_object.new.seat.count ≡ c.args.seat.now.count = c.write_object.ensures.count in
     let extents : extents_of_bodies c.write_object.new.seat.bodies ≡ es ++ e ∷ [] =
     ap extents_of_bodies c.write_object.ensures.bodies

@@ -1,0 +1,50 @@
+-- What a space remembers of its gaps, the words of a page that belong to no object.
+use Rattle.std.specs.Prelude.{◌≡◌, ℕ, ◌+◌, ◌*◌, ◌<◌, ◌≤◌, true, false, Bool, List, [], length, slice_index, slice_index_or}
+use Rattle.gc_graph.specs.State.{Shape}
+use Rattle.gc_graph.specs.Placement.{Extent, IsTaken, HasBucket, bucket_of}
+
+-- for each page how long a gap can be that begins in each of its blocks, and whether these bounds hold; and for each
+-- size up to 63 the lowest page worth a look
+pub record GapTable : Type 0 where
+  pub pages : List (List ℕ)
+  pub surveyed : List Bool
+  pub first : List ℕ
+
+abbrev pub bounds_at : GapTable → ℕ → List ℕ
+bounds_at gaps page = slice_index_or gaps.pages page []
+
+abbrev pub bound_at : GapTable → ℕ → ℕ → ℕ
+bound_at gaps page k = slice_index (bounds_at gaps page) k
+
+-- each page has so many blocks
+abbrev pub HasBlocks : List (List ℕ) → ℕ → Type 0
+HasBlocks pages blocks = (page : ℕ) → page < length pages → length (slice_index_or pages page []) ≡ blocks
+
+abbrev pub is_surveyed : GapTable → ℕ → Bool
+is_surveyed gaps page = slice_index_or gaps.surveyed page false
+
+-- words from a, within the page, that belong to no object
+pub record IsGap (shape : Shape) (extents : List Extent) (size page a : ℕ) : Type 0 where
+  pub first : page * shape.page_words ≤ a
+  pub last : a + size ≤ (page + 1) * shape.page_words
+  pub free : (x : ℕ) → a ≤ x → x < a + size → IsTaken extents x → ⊥
+
+-- a page has blocks of 64 words; a lies in block k of the page
+abbrev pub IsInBlock : Shape → ℕ → ℕ → ℕ → Type 0
+IsInBlock shape page k a = (page * shape.page_words + 64 * k ≤ a) × (a < page * shape.page_words + 64 * k + 64)
+
+-- no gap that begins in block k of the page is longer than its bound
+abbrev pub IsBounded : Shape → List Extent → GapTable → ℕ → ℕ → Type 0
+IsBounded shape extents gaps page k = (size a : ℕ) → IsGap shape extents size page a → IsInBlock shape page k a → size ≤ bound_at gaps page k
+
+-- each block's bound is below the size
+abbrev pub IsTooFull : GapTable → ℕ → ℕ → Type 0
+IsTooFull gaps page size = (k : ℕ) → bound_at gaps page k < size
+
+-- the bounds of the pages that were surveyed hold; and a page below the lowest one worth a look for a size, if it has
+-- the size's bucket, was surveyed and has no gap so long
+pub record KnowsGaps (shape : Shape) (extents : List Extent) (gaps : GapTable) : Type 0 where
+  pub bounded : (page k : ℕ) → is_surveyed gaps page ≡ true → IsBounded shape extents gaps page k
+  pub worth :
+      (page size : ℕ) → size ≤ 63 → page < slice_index gaps.first size → HasBucket shape.page_words extents page (bucket_of shape.page_words size)
+      → (is_surveyed gaps page ≡ true) × IsTooFull gaps page size

@@ -1,0 +1,226 @@
+// Bounds for the gaps of a page, worked out from its objects, and the lowest page worth a look.
+
+ghost use Rattle.std.specs.Prelude.{◌≡◌, ℕ, ◌+◌, ◌*◌, ◌/◌, ◌<◌, ◌≤◌, true, false};
+ghost use Rattle.gc_graph.specs.Placement.{HasBucket, bucket_of};
+ghost use Rattle.page_space.specs.Pages.{word_count};
+ghost use Rattle.page_space.specs.Space.{IsSpaceOf, extents_of_bodies};
+ghost use Rattle.page_space.specs.Gaps.{IsBounded, IsTooFull, is_surveyed, bound_at};
+ghost use Rattle.page_space.specs.Walks.{BeginsIn, EndsBy};
+
+use crate::gaps::LARGEST_REMEMBERED;
+use crate::space::{Space, bucket_of};
+use page_words::MutatorSeat;
+
+impl Space {
+    /// Looks at a page again from which objects went, so that the next searches there look where
+    /// a gap of the size may be. Their answers are the same.
+    pub fn survey(&mut self, seat: &mut MutatorSeat, page: u32)
+        requires space { IsSpaceOf self.old seat.old }
+        requires page { page < self.old.shape.pages }
+        ensures space { IsSpaceOf self.new seat.new }
+        ensures shape { self.new.shape ≡ self.old.shape }
+        ensures view { seat.new ≡ seat.old }
+    {
+        if self.table.objects_in(page) == 0 {
+            return;
+        }
+        if self.gaps.is_surveyed(page) {
+            return;
+        }
+        let blocks = self.blocks();
+        self.refresh(seat, page, 0, blocks);
+        self.confirm(seat, page);
+    }
+
+    /// The bounds of a page hold: it was surveyed.
+    fn confirm(&mut self, seat: &mut MutatorSeat, page: u32)
+        requires space { IsSpaceOf self.old seat.old }
+        requires page { page < self.old.shape.pages }
+        requires unknown { is_surveyed self.old.gaps page ≡ false }
+        requires bounded { (k : ℕ) → 64 * k < self.old.shape.page_words → IsBounded self.old.shape
+            (extents_of_bodies seat.old.bodies) self.old.gaps page k }
+        ensures space { IsSpaceOf self.new seat.new }
+        ensures shape { self.new.shape ≡ self.old.shape }
+        ensures view { seat.new ≡ seat.old }
+    {
+        self.gaps.set_surveyed(page);
+    }
+
+    /// After a new object of at most half a page: bounds for the gaps about it.
+    pub(crate) fn look_around(&mut self, seat: &mut MutatorSeat, a: u32, size: u32)
+        requires space { IsSpaceOf self.old seat.old }
+        requires inside { a + size ≤ word_count self.old.shape }
+        requires some { 2 ≤ size }
+        ensures space { IsSpaceOf self.new seat.new }
+        ensures shape { self.new.shape ≡ self.old.shape }
+        ensures view { seat.new ≡ seat.old }
+    {
+        self.shape_is_valid();
+        let page = a / self.page_words;
+        if self.gaps.is_surveyed(page) {
+            let first = a % self.page_words / 64;
+            let end = (a + size - 1) % self.page_words / 64 + 1;
+            self.refresh(seat, page, first, end);
+        } else {
+            self.survey(seat, page);
+        }
+    }
+
+    /// Works out bounds for the blocks of a page from `from` up to, and without, `to`.
+    fn refresh(&mut self, seat: &mut MutatorSeat, page: u32, from: u32, to: u32)
+        requires space { IsSpaceOf self.old seat.old }
+        requires page { page < self.old.shape.pages }
+        requires to { 64 * to ≤ self.old.shape.page_words }
+        requires next { IsBounded self.old.shape (extents_of_bodies seat.old.bodies)
+            self.old.gaps page to }
+        ensures bounded { (k : ℕ) → from ≤ k → k < to → IsBounded self.new.shape
+            (extents_of_bodies seat.new.bodies) self.new.gaps page k }
+        ensures surveyed { self.new.gaps.surveyed ≡ self.old.gaps.surveyed }
+        ensures space { IsSpaceOf self.new seat.new }
+        ensures shape { self.new.shape ≡ self.old.shape }
+        ensures view { seat.new ≡ seat.old }
+    {
+        let mut k = to;
+        while k > from {
+            k -= 1;
+            self.refresh_block(seat, page, k);
+        }
+    }
+
+    /// Works out a bound for one block, where the next one's holds.
+    fn refresh_block(&mut self, seat: &mut MutatorSeat, page: u32, k: u32)
+        requires space { IsSpaceOf self.old seat.old }
+        requires page { page < self.old.shape.pages }
+        requires block { 64 * k < self.old.shape.page_words }
+        requires next { IsBounded self.old.shape (extents_of_bodies seat.old.bodies)
+            self.old.gaps page (k + 1) }
+        ensures bounded { IsBounded self.new.shape (extents_of_bodies seat.new.bodies)
+            self.new.gaps page k }
+        ensures kept { (j : ℕ) → IsBounded self.old.shape (extents_of_bodies seat.old.bodies)
+            self.old.gaps page j → IsBounded self.new.shape (extents_of_bodies seat.new.bodies)
+            self.new.gaps page j }
+        ensures surveyed { self.new.gaps.surveyed ≡ self.old.gaps.surveyed }
+        ensures space { IsSpaceOf self.new seat.new }
+        ensures shape { self.new.shape ≡ self.old.shape }
+        ensures view { seat.new ≡ seat.old }
+    {
+        let longest = self.longest_in(seat, page, k);
+        let bound = self.tightened(page, k, longest);
+        self.gaps.set_bound(page, k, bound);
+    }
+
+    /// The lesser of a new bound and the old one, where the old one holds.
+    fn tightened(&self, page: u32, k: u32, bound: u32) -> u32
+        requires page { page < self.now.shape.pages }
+        requires block { 64 * k < self.now.shape.page_words }
+        ensures less { is_surveyed self.now.gaps page ≡ true → result ≤ bound_at self.now.gaps page k }
+        ensures least { (n : ℕ) → n ≤ bound → (is_surveyed self.now.gaps page ≡ true
+            → n ≤ bound_at self.now.gaps page k) → n ≤ result }
+    {
+        if self.gaps.is_surveyed(page) {
+            bound.min(self.gaps.bound(page, k))
+        } else {
+            bound
+        }
+    }
+
+    /// A bound for the gaps that begin in a block.
+    fn longest_in(&self, seat: &mut MutatorSeat, page: u32, k: u32) -> u32
+        requires space { IsSpaceOf self.now seat.old }
+        requires page { page < self.now.shape.pages }
+        requires block { 64 * k < self.now.shape.page_words }
+        requires next { IsBounded self.now.shape (extents_of_bodies seat.old.bodies)
+            self.now.gaps page (k + 1) }
+        ensures bound { (size a : ℕ) → BeginsIn self.now.shape
+            (extents_of_bodies seat.old.bodies) size page k a → size ≤ result }
+        ensures view { seat.new ≡ seat.old }
+    {
+        self.shape_is_valid();
+        let until = page * self.page_words + 64 * k + 64;
+        let from = self.first_left(seat, page, k);
+        if from >= until {
+            return 0;
+        }
+        let limit = self.limit_of(seat, page, k);
+        self.longest_from(seat, page, from, until, limit)
+    }
+
+    /// An address by which each gap ends that begins in a block: where an object starts in the
+    /// next block, or as far as the gaps of that block go.
+    fn limit_of(&self, seat: &mut MutatorSeat, page: u32, k: u32) -> u32
+        requires space { IsSpaceOf self.now seat.old }
+        requires page { page < self.now.shape.pages }
+        requires block { 64 * k < self.now.shape.page_words }
+        requires next { IsBounded self.now.shape (extents_of_bodies seat.old.bodies)
+            self.now.gaps page (k + 1) }
+        ensures least { page * self.now.shape.page_words + 64 * k + 64 ≤ result }
+        ensures ends { EndsBy self.now.shape (extents_of_bodies seat.old.bodies) page
+            (page * self.now.shape.page_words + 64 * k)
+            (page * self.now.shape.page_words + 64 * k + 64) result }
+        ensures view { seat.new ≡ seat.old }
+    {
+        self.shape_is_valid();
+        let until = page * self.page_words + 64 * k + 64;
+        let end = (page + 1) * self.page_words;
+        if until == end {
+            return end;
+        }
+        let next = self.start_from(seat, until, until + 64);
+        if next < until + 64 {
+            return next;
+        }
+        until.saturating_add(self.gaps.bound(page, k + 1))
+    }
+
+    /// Passes by the pages below this one that have no room for the size, from the next search on.
+    pub(crate) fn pass_by(&mut self, seat: &mut MutatorSeat, size: u32, page: u32)
+        requires space { IsSpaceOf self.old seat.old }
+        requires page { page < self.old.shape.pages }
+        ensures space { IsSpaceOf self.new seat.new }
+        ensures shape { self.new.shape ≡ self.old.shape }
+        ensures view { seat.new ≡ seat.old }
+    {
+        let remembered = size.min(LARGEST_REMEMBERED);
+        let first = self.gaps.first_for(remembered);
+        if first < page {
+            let worth = self.first_worth(seat, first, page, remembered);
+            self.gaps.set_first(remembered, worth);
+        }
+    }
+
+    /// The first page worth a look for a small size, from `from` up to `to`, or `to`.
+    fn first_worth(&self, seat: &mut MutatorSeat, from: u32, to: u32, size: u32) -> u32
+        requires space { IsSpaceOf self.now seat.old }
+        requires to { to < self.now.shape.pages }
+        ensures passed { (page : ℕ) → from ≤ page → page < result → HasBucket
+            self.now.shape.page_words (extents_of_bodies seat.old.bodies) page
+            (bucket_of self.now.shape.page_words size)
+            → (is_surveyed self.now.gaps page ≡ true) × IsTooFull self.now.gaps page size }
+        ensures view { seat.new ≡ seat.old }
+    {
+        for page in from..to {
+            if self.is_worth(seat, page, size) {
+                return page;
+            }
+        }
+        to
+    }
+
+    /// Whether a page of the bucket of a small size may have room for it.
+    fn is_worth(&self, seat: &mut MutatorSeat, page: u32, size: u32) -> bool
+        requires space { IsSpaceOf self.now seat.old }
+        requires page { page < self.now.shape.pages }
+        ensures worth { result ≡ false → HasBucket self.now.shape.page_words
+            (extents_of_bodies seat.old.bodies) page (bucket_of self.now.shape.page_words size)
+            → (is_surveyed self.now.gaps page ≡ true) × IsTooFull self.now.gaps page size }
+        ensures view { seat.new ≡ seat.old }
+    {
+        if !self.has_bucket(seat, page, bucket_of(self.page_words, size)) {
+            return false;
+        }
+        if !self.gaps.is_surveyed(page) {
+            return true;
+        }
+        self.gaps.most(page) >= size
+    }
+}

@@ -1,0 +1,118 @@
+// From object to object through the words of a page.
+
+ghost use Rattle.std.specs.Prelude.{◌≡◌, ℕ, ◌+◌, ◌*◌, ◌/◌, ◌<◌, ◌≤◌, IfSome, IfNone};
+ghost use Rattle.gc_graph.specs.Placement.{IsLowest, IsNowhere};
+ghost use Rattle.page_words.specs.Bodies.{IsInBody};
+ghost use Rattle.page_space.specs.Pages.{word_count};
+ghost use Rattle.page_space.specs.Space.{IsSeatOf, HoldsWhole, extents_of_bodies};
+ghost use Rattle.page_space.specs.Gaps.{IsGap};
+ghost use Rattle.page_space.specs.Walks.{IsEdge, BeginsBetween, EndsBy};
+
+use crate::space::Space;
+use page_words::MutatorSeat;
+
+impl Space {
+    /// How many blocks of 64 words a page has.
+    pub(crate) fn blocks(&self) -> u32
+        ensures { 64 * result ≡ self.now.shape.page_words }
+    {
+        self.shape_is_valid();
+        self.page_words / 64
+    }
+
+    /// The first word from a block on that belongs to no object which begins before the block.
+    pub(crate) fn first_left(&self, seat: &mut MutatorSeat, page: u32, k: u32) -> u32
+        requires heap { IsSeatOf self.now seat.old }
+        requires page { page < self.now.shape.pages }
+        requires block { 64 * k < self.now.shape.page_words }
+        ensures from { page * self.now.shape.page_words + 64 * k ≤ result }
+        ensures inside { result ≤ word_count self.now.shape }
+        ensures taken { (x : ℕ) → page * self.now.shape.page_words + 64 * k ≤ x → x < result
+            → IsInBody seat.old.bodies x }
+        ensures edge { HoldsWhole self.now.shape seat.old.bodies page
+            → IsEdge seat.old.bodies result }
+        ensures view { seat.new ≡ seat.old }
+    {
+        self.shape_is_valid();
+        seat.bodies_lie_apart();
+        let first = page * self.blocks();
+        let start = 64 * (first + k);
+        match self.last_start(seat, first, first + k) {
+            Some(place) => start.max(place + self.size_at(seat, place)),
+            None => start,
+        }
+    }
+
+    /// The lowest gap of the size in a page that begins from `from` up to, and without, `until`.
+    pub(crate) fn gap_from(
+        &self,
+        seat: &mut MutatorSeat,
+        page: u32,
+        from: u32,
+        until: u32,
+        size: u32,
+    ) -> Option<u32>
+        requires heap { IsSeatOf self.now seat.old }
+        requires page { page < self.now.shape.pages }
+        requires from { page * self.now.shape.page_words ≤ from }
+        requires edge { IsEdge seat.old.bodies from }
+        requires some { 1 ≤ size }
+        requires small { size ≤ self.now.shape.page_words }
+        requires until { until ≤ word_count self.now.shape }
+        ensures found { IfSome result (IsLowest (BeginsBetween self.now.shape
+            (extents_of_bodies seat.old.bodies) size page from until)) }
+        ensures none { IfNone result (IsNowhere (BeginsBetween self.now.shape
+            (extents_of_bodies seat.old.bodies) size page from until)) }
+        ensures view { seat.new ≡ seat.old }
+    {
+        self.shape_is_valid();
+        seat.bodies_lie_apart();
+        let end = (page + 1) * self.page_words;
+        let mut free = from;
+        while free < until {
+            if free + size > end {
+                return None;
+            }
+            let next = self.start_from(seat, free, free + size);
+            if next == free + size {
+                return Some(free);
+            }
+            free = next + self.size_at(seat, next);
+        }
+        None
+    }
+
+    /// A bound for the gaps of a page that begin from `from` up to, and without, `until`, and end
+    /// by `limit`.
+    pub(crate) fn longest_from(
+        &self,
+        seat: &mut MutatorSeat,
+        page: u32,
+        from: u32,
+        until: u32,
+        limit: u32,
+    ) -> u32
+        requires heap { IsSeatOf self.now seat.old }
+        requires until { until ≤ word_count self.now.shape }
+        requires limit { until ≤ limit }
+        requires ends { EndsBy self.now.shape (extents_of_bodies seat.old.bodies)
+            page from until limit }
+        ensures bound { (size a : ℕ) → BeginsBetween self.now.shape
+            (extents_of_bodies seat.old.bodies) size page from until a → size ≤ result }
+        ensures view { seat.new ≡ seat.old }
+    {
+        self.shape_is_valid();
+        seat.bodies_lie_apart();
+        let mut longest = 0u32;
+        let mut free = from;
+        while free < until {
+            let next = self.start_from(seat, free, until);
+            if next == until {
+                return longest.max(limit - free);
+            }
+            longest = longest.max(next - free);
+            free = next + self.size_at(seat, next);
+        }
+        longest
+    }
+}
