@@ -74,7 +74,7 @@ pub stays_below : (a : ℕ) (dead : List ℕ) (b : Body) → b.place < a → sta
 stays_below a dead b low = ap (λ t. not (t && holds dead b.place)) (lt-ltb b.place a low)
 
 -- no body from a up to the next address is dead
-pub left_same : (a next : ℕ) (dead : List ℕ) (bodies : List Body) → a < next
+pub left_same : (a next : ℕ) (dead : List ℕ) (bodies : List Body) → a ≤ next
     → ((b : Body) → Contains bodies b → a ≤ b.place → b.place < next → holds dead b.place ≡ false)
     → filter (stays a dead) bodies ≡ filter (stays next dead) bodies
 left_same a next dead bodies further alive = filter_same (stays a dead) (stays next dead) bodies (λ b there. elim (cases_lt b.place a) [

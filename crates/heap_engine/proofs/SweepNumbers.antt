@@ -32,7 +32,7 @@ none_below v = record {
 }
 
 -- no body from a up to the next address is dead
-pub dead_past : (v : SeatView) (a next : ℕ) (numbers : List ℕ) → a < next
+pub dead_past : (v : SeatView) (a next : ℕ) (numbers : List ℕ) → a ≤ next
     → ((b : Body) → Contains v.bodies b → a ≤ b.place → b.place < next → holds v.dead b.place ≡ false)
     → AreDeadBelow v a numbers → AreDeadBelow v next numbers
 dead_past v a next numbers further alive so_far = record {

@@ -36,32 +36,29 @@ pub holds_nothing : (places : List ℕ) → ((x : ℕ) → holds places x ≡ fa
 holds_nothing [] none = refl
 holds_nothing (p ∷ places) none = absurd (true≢false (sym (or_left (eqb p p) (holds places p) (eq-eqb p p refl)) ∙ none p))
 
--- one address is swept, and before the next no place was held
-pub cleared_on : (a next : ℕ) (before now new : List ℕ) → IsClearedBelow a before now
-    → ((x : ℕ) → a < x → x < next → holds before x ≡ false)
-    → ((x : ℕ) → (x ≡ a → ⊥) → holds new x ≡ holds now x) → holds new a ≡ false → a < next → IsClearedBelow next before new
-cleared_on a next before now new cleared inside others gone further = record {
-  below = λ x low. elim (cases_lt x a) [
-    | inl early ↦ others x (λ e. omega arith) ∙ cleared.below x early
-    | inr late ↦ elim (cases_eq x a) [
-      | inl here ↦ subst (λ y. holds new y ≡ false) (sym here) gone
-      | inr elsewhere ↦
-          (let between : a < x = omega (arith, elsewhere) in
-          others x elsewhere ∙ cleared.rest x late ∙ inside x between low)
-    ]
-  ];
-  rest = λ x high. others x (λ e. omega arith) ∙ cleared.rest x (omega arith);
+-- from a up to the next address no place was held
+pub cleared_past : (a next : ℕ) (before now : List ℕ) → IsClearedBelow a before now
+    → ((x : ℕ) → a ≤ x → x < next → holds before x ≡ false) → a ≤ next → IsClearedBelow next before now
+cleared_past a next before now cleared none further = record {
+  below = λ x low. elim (cases_lt x a) [ inl early ↦ cleared.below x early | inr late ↦ cleared.rest x late ∙ none x late low ];
+  rest = λ x high. cleared.rest x (omega arith);
 }
 
--- where nothing is held at a
-pub cleared_past : (a next : ℕ) (before now : List ℕ) → IsClearedBelow a before now
-    → ((x : ℕ) → a < x → x < next → holds before x ≡ false) → holds now a ≡ false → a < next → IsClearedBelow next before now
-cleared_past a next before now cleared inside gone further = cleared_on a next before now now cleared inside (λ x apart. refl) gone further
-
+-- a is swept, and before the next no place was held
 pub cleared_without : (a next : ℕ) (before now : List ℕ) → IsClearedBelow a before now
     → ((x : ℕ) → a < x → x < next → holds before x ≡ false) → a < next → IsClearedBelow next before (without now a)
-cleared_without a next before now cleared inside further =
-    cleared_on a next before now (without now a) cleared inside (without_other now a) (without_same now a) further
+cleared_without a next before now cleared inside further = record {
+  below = λ x low. elim (cases_lt x a) [
+    | inl early ↦ without_other now a x (λ e. omega arith) ∙ cleared.below x early
+    | inr late ↦ elim (cases_eq x a) [
+      | inl here ↦ subst (λ y. holds (without now a) y ≡ false) (sym here) (without_same now a)
+      | inr elsewhere ↦
+          (let between : a < x = omega (arith, elsewhere) in
+          without_other now a x elsewhere ∙ cleared.rest x late ∙ inside x between low)
+    ]
+  ];
+  rest = λ x high. without_other now a x (λ e. omega arith) ∙ cleared.rest x (omega arith);
+}
 
 -- at the first address all is as before
 pub cleared_none : (places : List ℕ) → IsClearedBelow 0 places places

@@ -1,6 +1,6 @@
 -- Sweeping over the bodies of a heap.
 use Rattle.std.specs.Prelude.{◌≡◌, ◌⊎◌, ℕ, ◌<◌, true, false, not, List, [], ◌∷◌, ◌++◌, length, map, filter, slice_index_or, Contains, All}
-use Rattle.page_words.specs.Bodies.{Body, IsPlace}
+use Rattle.page_words.specs.Bodies.{Body}
 use Rattle.page_words.specs.Seat.{SeatView, holds, unmarked_at, retracted}
 
 -- each body is dead or marked, and not both
@@ -28,39 +28,27 @@ pub record AreDeadSerials (v : SeatView) (numbers : List ℕ) : Type 0 where
   pub ascending :
       (i j : ℕ) → i < j → j < length dead → (slice_index_or dead i no_body).place < (slice_index_or dead j no_body).place
 
--- ---- what sweeping does at one address; the step is how many words to go on
+-- ---- what sweeping does at the place of one object; size is that of the object
 
--- a body that starts there is dead or marked, and not both
-abbrev pub IsJudgedAt : ℕ → SeatView → Type 0
-IsJudgedAt a v = IsPlace v.bodies a → holds v.dead a ≡ not (holds v.marked a)
-
--- no body starts there: all is as before
-pub record PassesBy (a : ℕ) (old : SeatView) (before : List ℕ) (new : SeatView) (after : List ℕ) (step : ℕ) : Type 0 where
-  pub none : IsPlace old.bodies a → ⊥
-  pub view : new ≡ old
-  pub numbers : after ≡ before
-  pub one : step ≡ 1
-
--- a marked body starts there: its mark is cleared
-pub record Keeps (a : ℕ) (old : SeatView) (before : List ℕ) (new : SeatView) (after : List ℕ) (step : ℕ) : Type 0 where
+-- the body is marked: its mark is cleared
+pub record Keeps (a : ℕ) (old : SeatView) (before : List ℕ) (new : SeatView) (after : List ℕ) (size : ℕ) : Type 0 where
   pub body : Body
   pub there : Contains old.bodies body
   pub place : body.place ≡ a
   pub marked : holds old.marked a ≡ true
   pub view : new ≡ unmarked_at old a
   pub numbers : after ≡ before
-  pub size : step ≡ body.size
+  pub size_is : size ≡ body.size
 
--- a dead body starts there: it is no longer there, and its number joins the others
-pub record Finalises (a : ℕ) (old : SeatView) (before : List ℕ) (new : SeatView) (after : List ℕ) (step : ℕ) : Type 0 where
+-- the body is dead: it is no longer there, and its number joins the others
+pub record Finalises (a : ℕ) (old : SeatView) (before : List ℕ) (new : SeatView) (after : List ℕ) (size : ℕ) : Type 0 where
   pub body : Body
   pub there : Contains old.bodies body
   pub place : body.place ≡ a
   pub dead : holds old.dead a ≡ true
   pub view : new ≡ retracted old a
   pub numbers : after ≡ before ++ body.serial ∷ []
-  pub size : step ≡ body.size
+  pub size_is : size ≡ body.size
 
 abbrev pub Sweeps : ℕ → SeatView → List ℕ → SeatView → List ℕ → ℕ → Type 0
-Sweeps a old before new after step =
-    PassesBy a old before new after step ⊎ (Keeps a old before new after step ⊎ Finalises a old before new after step)
+Sweeps a old before new after size = Keeps a old before new after size ⊎ Finalises a old before new after size

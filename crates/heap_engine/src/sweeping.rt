@@ -1,12 +1,12 @@
 // Sweeping: dead objects are finalised in address order, and the marks of the others cleared.
 
 ghost use Rattle.std.specs.Prelude.{◌≡◌, ◌+◌, ◌*◌, ◌^◌, ◌<◌};
-ghost use Rattle.std.specs.Prelude.{◌≤◌, false, [], length, All, vec_capacity};
-ghost use Rattle.page_words.specs.Bodies.{Body};
+ghost use Rattle.std.specs.Prelude.{◌≤◌, false, not, [], length, All, vec_capacity};
+ghost use Rattle.page_words.specs.Bodies.{Body, IsPlace};
+ghost use Rattle.page_words.specs.Seat.{holds};
 ghost use Rattle.page_space.specs.Pages.{word_count};
 ghost use Rattle.page_space.specs.Space.{IsSpaceOf};
-ghost use Rattle.heap_engine.specs.Sweeping.{IsJudged, IsSweptView, AreDeadSerials, IsJudgedAt};
-ghost use Rattle.heap_engine.specs.Sweeping.{Sweeps};
+ghost use Rattle.heap_engine.specs.Sweeping.{IsJudged, IsSweptView, AreDeadSerials, Sweeps};
 
 use page_space::Space;
 use page_words::MutatorSeat;
@@ -28,31 +28,29 @@ pub fn sweep_pages(space: &mut Space, seat: &mut MutatorSeat, finalised: &mut Ve
     ensures room { vec_capacity finalised.new ≡ vec_capacity finalised.old }
 {
     seat.bodies_lie_apart();
-    let count = space.word_count();
-    let mut a = 0;
-    while a < count {
-        a += sweep_at(space, seat, a, finalised);
+    let mut from = 0;
+    // From object to object and not from word to word: the time is to grow with the objects.
+    while let Some(a) = space.next_object(seat, from) {
+        from = a + sweep_object(space, seat, a, finalised);
     }
+    survey_pages(space, seat);
 }
 
-/// Sweeps the object that starts at an address, if one does. Answers how many words to go on.
-fn sweep_at(space: &mut Space, seat: &mut MutatorSeat, a: u32, finalised: &mut Vec<u32>) -> u32
+/// Sweeps the object that starts at an address. Answers its size.
+fn sweep_object(space: &mut Space, seat: &mut MutatorSeat, a: u32, finalised: &mut Vec<u32>) -> u32
     requires space { IsSpaceOf space.old seat.old }
-    requires address { a < word_count space.old.shape }
+    requires start { IsPlace seat.old.bodies a }
     requires off { seat.old.on ≡ false }
-    requires judged { IsJudgedAt a seat.old }
+    requires judged { holds seat.old.dead a ≡ not (holds seat.old.marked a) }
     requires serials { All (λ b. b.serial < 2 ^ 32) seat.old.bodies }
     requires room { length finalised.old.items < vec_capacity finalised.old }
     ensures swept { Sweeps a seat.old finalised.old.items seat.new finalised.new.items result }
     ensures space { IsSpaceOf space.new seat.new }
     ensures shape { space.new.shape ≡ space.old.shape }
-    ensures least { 1 ≤ result }
+    ensures least { 2 ≤ result }
     ensures inside { a + result ≤ word_count space.old.shape }
     ensures room { vec_capacity finalised.new ≡ vec_capacity finalised.old }
 {
-    if !space.is_start(seat, a) {
-        return 1;
-    }
     let size = space.size_at(seat, a);
     if space.is_marked(seat, a) {
         space.words().unmark(seat, a);
@@ -61,4 +59,18 @@ fn sweep_at(space: &mut Space, seat: &mut MutatorSeat, a: u32, finalised: &mut V
         space.free(seat, a);
     }
     size
+}
+
+/// Looks at each page again, from which objects may have gone.
+fn survey_pages(space: &mut Space, seat: &mut MutatorSeat)
+    requires space { IsSpaceOf space.old seat.old }
+    ensures space { IsSpaceOf space.new seat.new }
+    ensures shape { space.new.shape ≡ space.old.shape }
+    ensures view { seat.new ≡ seat.old }
+{
+    for page in 0..space.pages() {
+        // Objects may have left gaps in the page. It is looked through once here, so that the
+        // next searches for a place take less time.
+        space.survey(seat, page);
+    }
 }
