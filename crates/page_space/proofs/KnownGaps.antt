@@ -1,12 +1,12 @@
 -- What is known of gaps, where objects come or go and where the bounds change.
-use Rattle.std.proofs.Common.{◌≡◌, ◌≢◌, ℕ, ◌+◌, ◌*◌, ◌/◌, ◌<◌, ◌≤◌, Bool, true, false, List, [], ◌∷◌, ◌++◌, length, get_or, set, replicate, refl, sym, ap, ◌∙◌, subst, inl, inr, arith}
+use Rattle.std.proofs.Common.{◌≡◌, ◌≢◌, ℕ, ◌+◌, ◌*◌, ◌/◌, ◌<◌, ◌≤◌, Bool, true, false, List, [], ◌∷◌, ◌++◌, length, get_or, set, replicate, sym, ap, ◌∙◌, subst, inl, inr, arith}
 use Rattle.std.specs.List.{Contains, filter}
-use Rattle.std.proofs.lemmas.Bool.{cases_eq, cases_lt, cases_Bool, true≢false, false≢true}
+use Rattle.std.proofs.lemmas.Bool.{cases_eq, cases_lt, true≢false, false≢true}
 use Rattle.std.proofs.lemmas.List.{get_or_past, get_or-replicate, length-replicate, length-set, get_or-set_same, get_or-set_other}
 use Rattle.std.proofs.lemmas.List.Elements.{Contains-append_left, Contains-push_cases}
 use Rattle.gc_graph.specs.State.{Shape}
-use Rattle.gc_graph.specs.Placement.{Extent, Covers, IsTaken, HasBucket, bucket_of}
-use Rattle.page_space.specs.Pages.{PageTable, is_in_page}
+use Rattle.gc_graph.specs.Placement.{Extent, Covers, HasBucket, bucket_of}
+use Rattle.page_space.specs.Pages.{is_in_page}
 use Rattle.page_space.specs.Gaps.{GapTable, bounds_at, bound_at, is_surveyed, IsGap, IsInBlock, IsBounded, HasBlocks, IsTooFull, KnowsGaps}
 use Rattle.page_space.specs.Space.{SpaceView, IsSpaceOver}
 use Rattle.page_space.proofs.PageSpan.{next_page, same_page, in_page_from, in_page_word, page_is}

@@ -1,5 +1,5 @@
 -- The steps of a walk from object to object.
-use Rattle.std.proofs.Common.{◌≡◌, ℕ, ◌+◌, ◌-◌, ◌*◌, ◌<◌, ◌≤◌, List, sym, ap, ◌∙◌, subst, ◌⊎◌, inl, inr, arith}
+use Rattle.std.proofs.Common.{◌≡◌, ℕ, ◌+◌, ◌*◌, ◌<◌, ◌≤◌, ap, ◌⊎◌, inl, inr, arith}
 use Rattle.std.specs.List.{Contains}
 use Rattle.std.proofs.lemmas.Bool.{cases_lt}
 use Rattle.gc_graph.specs.State.{Shape}
@@ -9,7 +9,6 @@ use Rattle.page_words.specs.Seat.{SeatView, IsView}
 use Rattle.page_space.specs.Space.{HasNoStart, HoldsWhole, extents_of_bodies}
 use Rattle.page_space.specs.Gaps.{IsGap}
 use Rattle.page_space.specs.Walks.{IsEdge}
-use Rattle.page_space.proofs.PageSpan.{next_page}
 use Rattle.page_space.proofs.PlaceBodies.{body_size, body_of_taken, taken_by_body}
 
 -- an object that begins in the words of another one is that one

@@ -1,7 +1,7 @@
 -- A space: the pages of a heap over the bodies in its words.
 use Rattle.std.specs.Prelude.{◌≡◌, ◌⊎◌, ℕ, ◌+◌, ◌*◌, ◌/◌, ◌<◌, ◌≤◌, true, List, [], ◌∷◌, length, map, count_by, sum_by, slice_index, Contains, All, ⊤}
 use Rattle.gc_graph.specs.State.{Shape}
-use Rattle.gc_graph.specs.Placement.{Extent, IsTaken, IsRun, UsesPage, IsEmptyPage, Fits, StartsEmptyRun, bucket_of}
+use Rattle.gc_graph.specs.Placement.{Extent, IsRun, UsesPage, IsEmptyPage, Fits, StartsEmptyRun, bucket_of}
 use Rattle.gc_graph.specs.PlacementLaw.{LiesInPage, TakesPages}
 use Rattle.page_words.specs.Bodies.{Body, end_of, IsPlace}
 use Rattle.page_words.specs.Seat.{SeatView}

@@ -1,4 +1,4 @@
-use Rattle.std.proofs.Common.{◌≡◌, ◌^◌, ◌≤◌, length, vec_capacity}
+use Rattle.std.proofs.Common.{◌≡◌, ◌^◌, length, vec_capacity}
 use Rattle.page_space.specs.Gaps.{HasBlocks}
 use Rattle.page_space.proofs.gaps.trees.Given as goal
 

@@ -1,7 +1,6 @@
-use Rattle.std.proofs.Common.{◌≡◌, ℕ, ◌+◌, ◌*◌, ◌<◌, ◌≤◌, ap, ◌∙◌, sym, subst, ◌⊎◌, inl, inr, arith}
+use Rattle.std.proofs.Common.{◌≡◌, ℕ, ◌+◌, ◌*◌, ◌<◌, ◌≤◌, ap, ◌⊎◌, inl, inr, arith}
 use Rattle.std.proofs.lemmas.Bool.{cases_lt}
 use Rattle.page_words.specs.Bodies.{Body, IsPlace}
-use Rattle.page_space.specs.Space.{HasNoStart}
 use Rattle.page_space.proofs.PageSpan.{next_page}
 use Rattle.page_space.proofs.WalkSteps.{edge_after_last, edge_of_page}
 use Rattle.page_space.proofs.space.Space.first_left.Goals as goal

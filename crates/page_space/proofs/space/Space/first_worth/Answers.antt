@@ -1,8 +1,7 @@
 use Rattle.std.proofs.Common.{◌≡◌, ◌∙◌, inl, inr, arith}
 use Rattle.std.proofs.lemmas.Bool.{cases_eq}
-use Rattle.std.proofs.Common.{subst, sym, true, ◌<◌}
+use Rattle.std.proofs.Common.{subst, sym, true}
 use Rattle.gc_graph.specs.Placement.{HasBucket, bucket_of}
-use Rattle.page_words.specs.Seat.{SeatView}
 use Rattle.page_space.specs.Gaps.{IsTooFull, is_surveyed}
 use Rattle.page_space.specs.Space.{extents_of_bodies}
 use Rattle.page_space.proofs.space.Space.first_worth.Goals as goal

@@ -1,8 +1,7 @@
-use Rattle.std.proofs.Common.{◌≡◌, ℕ, ◌+◌, ◌*◌, ◌<◌, ◌≤◌, ap, ◌∙◌, sym, subst, inl, inr, arith}
+use Rattle.std.proofs.Common.{◌≡◌, ◌+◌, ◌*◌, ◌<◌, ◌≤◌, ap, ◌∙◌, sym, subst, inl, inr, arith}
 use Rattle.std.proofs.lemmas.Bool.{cases_lt}
 use Rattle.page_words.specs.Bodies.{Body, IsPlace}
-use Rattle.page_space.specs.Space.{HasNoStart, extents_of_bodies}
-use Rattle.page_space.specs.Gaps.{IsGap}
+use Rattle.page_space.specs.Space.{HasNoStart}
 use Rattle.page_space.proofs.WalkSteps.{edge_moves, gap_here, gap_ends}
 use Rattle.page_space.proofs.space.Space.gap_from.Goals as goal
 

@@ -1,8 +1,7 @@
-use Rattle.std.proofs.Common.{◌≡◌, ℕ, ◌+◌, ◌*◌, ◌<◌, ◌≤◌, refl, below_more, ap, sym, ◌∙◌, subst, inl, inr, arith}
+use Rattle.std.proofs.Common.{refl, below_more, ap, sym, ◌∙◌, subst, arith}
 use Rattle.gc_graph.specs.Placement.{IsNowhere}
 use Rattle.page_words.specs.Seat.{SeatView}
 use Rattle.page_space.specs.Space.{IsSpaceOf, HoldsWhole, extents_of_bodies}
-use Rattle.page_space.specs.Gaps.{bound_at}
 use Rattle.page_space.specs.Walks.{BeginsIn}
 use Rattle.page_space.proofs.GapSearch.{found_in_block, in_no_block}
 use Rattle.page_space.proofs.space.Space.gap_in_blocks.Goals as goal

@@ -1,4 +1,4 @@
-use Rattle.std.proofs.Common.{◌≡◌, ◌+◌, ◌*◌, ◌<◌, ap, arith}
+use Rattle.std.proofs.Common.{◌+◌, ◌*◌, ap, arith}
 use Rattle.page_space.specs.Space.{extents_of_bodies}
 use Rattle.page_space.specs.Gaps.{IsGap}
 use Rattle.page_space.specs.Walks.{BeginsBetween}

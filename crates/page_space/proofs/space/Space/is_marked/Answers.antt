@@ -1,4 +1,4 @@
-use Rattle.std.proofs.Common.{◌≡◌, ◌≤◌, Bool, false, Option, Some, None, ap, ◌∙◌, arith}
+use Rattle.std.proofs.Common.{◌≤◌, Bool, false, Option, Some, None, ap, ◌∙◌, arith}
 use Rattle.object_headers.specs.declared.header.Header.{Header}
 use Rattle.page_words.specs.Bodies.{Body, IsWhole}
 use Rattle.page_words.specs.Seat.{holds}

@@ -1,7 +1,6 @@
 use Rattle.std.proofs.Common.{◌≡◌, ℕ, ◌+◌, ◌-◌, ◌*◌, ◌/◌, ◌%◌, ◌^◌, ◌<◌, ◌≤◌, ap, ◌∙◌, sym, subst, inl, inr, arith}
 use Rattle.std.proofs.lemmas.Bool.{cases_lt}
-use Rattle.page_words.specs.Bodies.{IsPlace}
-use Rattle.page_words.specs.Seat.{SeatView, IsWordAt}
+use Rattle.page_words.specs.Seat.{IsWordAt}
 use Rattle.page_space.specs.Pages.{word_count}
 use Rattle.page_space.proofs.StartBits.{IsBitsAt, IsLastPlace, no_bits, highest_bit}
 use Rattle.page_space.proofs.space.Space.last_start.Goals as goal

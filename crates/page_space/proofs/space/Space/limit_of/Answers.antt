@@ -1,8 +1,8 @@
-use Rattle.std.proofs.Common.{◌≡◌, ℕ, ◌+◌, ◌-◌, ◌*◌, ◌<◌, ◌≤◌, ap, sym, ◌∙◌, subst, inl, inr, arith}
+use Rattle.std.proofs.Common.{◌≡◌, ℕ, ◌+◌, ◌-◌, ◌*◌, ◌≤◌, ap, ◌∙◌, inl, inr, arith}
 use Rattle.std.proofs.lemmas.Bool.{cases_lt}
 use Rattle.page_words.specs.Bodies.{Body, IsPlace}
 use Rattle.page_space.specs.Gaps.{IsGap, bound_at}
-use Rattle.page_space.specs.Space.{extent_of, extents_of_bodies}
+use Rattle.page_space.specs.Space.{extent_of}
 use Rattle.page_space.proofs.Shapes.{shape_words, word_count_fits}
 use Rattle.page_space.proofs.PageSpan.{next_page, page_before}
 use Rattle.page_space.proofs.WalkSteps.{place_taken}

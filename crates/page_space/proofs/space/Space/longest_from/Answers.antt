@@ -1,8 +1,6 @@
-use Rattle.std.proofs.Common.{◌≡◌, ℕ, ◌+◌, ◌*◌, ◌<◌, ◌≤◌, ap, ◌∙◌, sym, subst, inl, inr, arith}
+use Rattle.std.proofs.Common.{◌≡◌, ◌+◌, ◌∙◌, subst, inl, inr, arith}
 use Rattle.std.proofs.lemmas.Bool.{cases_lt}
 use Rattle.page_words.specs.Bodies.{Body, IsPlace}
-use Rattle.page_space.specs.Space.{extents_of_bodies}
-use Rattle.page_space.specs.Gaps.{IsGap}
 use Rattle.page_space.proofs.WalkSteps.{gap_ends}
 use Rattle.page_space.proofs.space.Space.longest_from.Goals as goal
 

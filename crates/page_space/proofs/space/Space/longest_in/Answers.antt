@@ -1,8 +1,7 @@
-use Rattle.std.proofs.Common.{◌≡◌, ℕ, ◌+◌, ◌*◌, ◌<◌, ◌≤◌, ap, sym, ◌∙◌, subst, inl, inr, arith}
+use Rattle.std.proofs.Common.{◌≡◌, ◌+◌, ◌*◌, ap, sym, ◌∙◌, subst, inl, inr, arith}
 use Rattle.std.proofs.lemmas.Bool.{cases_lt}
 use Rattle.page_words.specs.Seat.{SeatView}
 use Rattle.page_space.specs.Gaps.{IsBounded}
-use Rattle.page_space.specs.Walks.{EndsBy}
 use Rattle.page_space.specs.Space.{extents_of_bodies}
 use Rattle.page_space.proofs.PlaceBodies.{taken_by_body}
 use Rattle.page_space.proofs.space.Space.longest_in.Goals as goal

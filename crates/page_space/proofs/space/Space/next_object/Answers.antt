@@ -1,5 +1,5 @@
-use Rattle.std.proofs.Common.{◌≡◌, ◌<◌, ◌≤◌, arith}
-use Rattle.page_words.specs.Bodies.{IsPlace, IsWhole}
+use Rattle.std.proofs.Common.{◌≡◌, ◌<◌, arith}
+use Rattle.page_words.specs.Bodies.{IsWhole}
 use Rattle.page_space.proofs.PlaceBodies.{body_size, whole_body}
 use Rattle.page_space.proofs.space.Space.next_object.Goals as goal
 

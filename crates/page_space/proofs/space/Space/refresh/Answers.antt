@@ -1,6 +1,5 @@
-use Rattle.std.proofs.Common.{◌≡◌, ℕ, ◌+◌, ◌-◌, ◌<◌, ◌≤◌, refl, ap, sym, ◌∙◌, subst, inl, inr, arith}
+use Rattle.std.proofs.Common.{◌≡◌, ◌+◌, ◌-◌, refl, ◌∙◌, subst, inl, inr, arith}
 use Rattle.std.proofs.lemmas.Bool.{cases_eq}
-use Rattle.page_words.specs.Seat.{SeatView}
 use Rattle.page_space.specs.Gaps.{IsBounded}
 use Rattle.page_space.specs.Space.{extents_of_bodies}
 use Rattle.page_space.proofs.space.Space.refresh.Goals as goal

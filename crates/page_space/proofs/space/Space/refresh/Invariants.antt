@@ -1,4 +1,4 @@
-use Rattle.std.proofs.Common.{◌≡◌, ℕ, ◌<◌, ◌≤◌}
+use Rattle.std.proofs.Common.{◌≡◌, ℕ, ◌≤◌}
 use Rattle.page_space.specs.Gaps.{IsBounded}
 use Rattle.page_space.specs.Space.{IsSpaceOf, extents_of_bodies}
 use Rattle.page_space.proofs.space.Space.refresh.Given as goal

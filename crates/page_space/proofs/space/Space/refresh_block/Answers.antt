@@ -1,8 +1,8 @@
-use Rattle.std.proofs.Common.{◌≡◌, ℕ, ◌+◌, ◌*◌, ◌/◌, ◌<◌, ◌≤◌, true, length, ap, sym, ◌∙◌, subst, refl, inl, inr, arith}
+use Rattle.std.proofs.Common.{◌≡◌, ℕ, ◌/◌, ◌≤◌, true, length, ap, sym, ◌∙◌, subst, arith}
 use Rattle.gc_graph.specs.State.{Shape}
 use Rattle.page_words.specs.Seat.{SeatView}
-use Rattle.page_space.specs.Gaps.{GapTable, HasBlocks, IsBounded, IsGap, IsInBlock, KnowsGaps, bound_at, bounds_at, is_surveyed}
-use Rattle.page_space.specs.Space.{IsSpaceOver, extents_of_bodies}
+use Rattle.page_space.specs.Gaps.{GapTable, HasBlocks, IsBounded, IsGap, IsInBlock, bound_at, is_surveyed}
+use Rattle.page_space.specs.Space.{extents_of_bodies}
 use Rattle.page_space.proofs.Shapes.{shape_words}
 use Rattle.page_space.proofs.KnownGaps.{SetsBound, others_stay, bound_set, bound_here, bounded_still, blocks_kept}
 use Rattle.page_space.proofs.space.Space.refresh_block.Goals as goal

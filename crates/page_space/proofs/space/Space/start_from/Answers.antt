@@ -1,9 +1,9 @@
-use Rattle.std.proofs.Common.{◌≡◌, ℕ, ◌+◌, ◌*◌, ◌/◌, ◌%◌, ◌^◌, ◌<◌, ◌≤◌, ap, ◌∙◌, sym, subst, refl, inl, inr, arith}
+use Rattle.std.proofs.Common.{◌≡◌, ℕ, ◌+◌, ◌/◌, ◌%◌, ◌^◌, ap, ◌∙◌, sym, subst, refl, inl, inr, arith}
 use Rattle.std.specs.Int.{trailing_zeros}
 use mir.Syntax.{w64}
 use Rattle.std.proofs.lemmas.Bool.{cases_lt}
 use Rattle.page_words.specs.Bodies.{IsPlace}
-use Rattle.page_words.specs.Seat.{SeatView, IsWordAt}
+use Rattle.page_words.specs.Seat.{IsWordAt}
 use Rattle.page_space.specs.Pages.{word_count}
 use Rattle.page_space.proofs.StartBits.{IsBitsAt, IsNextPlace, no_bits, lowest_bit}
 use Rattle.page_space.proofs.space.Space.start_from.Goals as goal

@@ -1,4 +1,4 @@
-use Rattle.std.proofs.Common.{◌≡◌, ◌*◌, ◌<◌, ◌≤◌, ap, sym, ◌∙◌, subst, arith}
+use Rattle.std.proofs.Common.{ap, arith}
 use Rattle.page_space.specs.Space.{extents_of_bodies}
 use Rattle.page_space.proofs.KnownGaps.{bounded_past}
 use Rattle.page_space.proofs.space.Space.survey.Goals as goal

@@ -1,4 +1,4 @@
-use Rattle.std.proofs.Common.{◌≡◌, ap, arith}
+use Rattle.std.proofs.Common.{ap, arith}
 use Rattle.page_space.proofs.Shapes.{shape_words}
 use Rattle.page_space.proofs.space.Space.tightened.Goals as goal
 

@@ -1,5 +1,5 @@
 use Rattle.std.proofs.Common.{◌≡◌, ℕ, ◌+◌, ◌*◌, ◌/◌, ◌<◌, ◌≤◌, length, get_or, set, max, drop, ap, sym, ◌∙◌, subst, arith}
-use Rattle.std.proofs.lemmas.List.{length-set, drop-set-lt, drop-set-add, get_or-drop, get_or_read, length-drop}
+use Rattle.std.proofs.lemmas.List.{length-set, drop-set-lt, drop-set-add, get_or_read}
 use Rattle.page_space.proofs.TreeNodes.{IsHeaped, heaped_up}
 use Rattle.page_space.proofs.tree.Tree.set.Goals as goal
 
