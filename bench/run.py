@@ -1,7 +1,7 @@
 #!/usr/bin/env python3
 """Runs the program on loads of its own, and prints a line a figure: a name and a value.
 
-The program is built first, if it is not built yet. README.md beside this file says how to read the figures.
+README.md beside this file says how to read the figures. The status is 1 if one is over its bar.
 """
 
 import os
@@ -10,125 +10,180 @@ import shutil
 import subprocess
 import sys
 import tempfile
-import time
 
-HERE = os.path.dirname(os.path.abspath(__file__))
-ROOT = os.path.dirname(HERE)
-PROGRAM = os.path.join(ROOT, "crates", "cppgc_main", "out", "cppgc_main")
+# No compiled files beside the scripts.
+sys.dont_write_bytecode = True
 
+import loads
+from loads import COLLECTION, SWEEP
 
-def script(types, lines):
-    return "\n".join(["oilpan 1", *("type " + it for it in types), *lines]) + "\n"
+ROOT = os.path.dirname(os.path.dirname(os.path.abspath(__file__)))
+CRATE = os.path.join(ROOT, "crates", "cppgc_main")
+PROGRAM = os.path.join(CRATE, "out", "cppgc_main")
+TRIES = 5
 
-
-def filling(n):
-    """New objects of 3 words, into a heap that fills."""
-    return script(["S"], ["new 0 0"] * n)
-
-
-def mixed(n):
-    """Objects of 3 to 40 words in a list; each tenth is dropped, and each 5,000 are collected and swept."""
-    lines, head = [], 0
-    for i in range(n):
-        extra = i * 7 % 38
-        if i % 10 == 9:
-            lines.append(f"new 2 0 {extra}")
-        else:
-            lines += [f"new {1 - head} 0 {extra}", f"set {1 - head} 0 {head}"]
-            head = 1 - head
-        if i % 5000 == 4999:
-            lines += ["drop 2", "gc now precise", "sweep all"]
-    return script(["S"], lines)
+RATIO_BAR = 2.3
+NEW_BAR = 2500
+COLLECTION_BAR = 400
+SWEPT_WORD_BAR = 60
+FINALISED_BAR = 400
 
 
-def live_list(n, collections):
-    """A list of n objects, and then collections of it."""
-    lines = []
-    for i in range(n):
-        lines += [f"new {i % 2} 0", f"set {i % 2} 0 {1 - i % 2}"]
-    return script(["S"], lines + ["gc now precise"] * collections)
+class Figures:
+    """Prints figures, and keeps those that are over their bars."""
+
+    def __init__(self):
+        self.over = []
+
+    def tell(self, name, value, bar=None):
+        shown = f"{value:.3f}" if value < 100 else f"{value:.0f}"
+        print(name, shown, flush=True)
+        if bar is not None and value > bar:
+            self.over.append(f"bench: {name} is {shown}, and its bar is {bar}")
+
+    def end(self):
+        for line in self.over:
+            print(line, file=sys.stderr)
+        sys.exit(1 if self.over else 0)
 
 
-def holes(n, wanted):
-    """Pages full of objects of 4 words in lists, every second one dropped, and then objects of 7 words."""
-    lines = []
-    for i in range(n):
-        lines += [f"new {i % 2} 0", f"set {i % 2} 0 {1 - i % 2}", "new 2 0"]
-    lines += ["drop 2", "gc now precise", "sweep all"]
-    return script(["SS"], lines + ["new 3 0 3"] * wanted)
+class Script:
+    """A load's script in a file of its own."""
+
+    def __init__(self, folder, load):
+        self.load = load
+        self.command = [PROGRAM, *load.options()]
+        descriptor, self.path = tempfile.mkstemp(dir=folder)
+        with os.fdopen(descriptor, "wb") as file:
+            file.write(load.script())
+
+    def check(self):
+        """Ends the bench if the report isn't what the load says."""
+        with open(self.path, "rb") as script:
+            report = subprocess.run(self.command, stdin=script, stdout=subprocess.PIPE, check=True)
+        lines = report.stdout.decode().splitlines()
+        for text, wanted in self.load.tells.items():
+            found = sum(line.startswith(text) for line in lines)
+            if found != wanted:
+                sys.exit(f"bench: {found} lines of a report begin with '{text}', and not {wanted}")
+
+    def seconds(self):
+        """The processor's time for one run."""
+        with open(self.path, "rb") as script:
+            process = subprocess.Popen(self.command, stdin=script, stdout=subprocess.DEVNULL)
+        _, status, usage = os.wait4(process.pid, 0)
+        process.returncode = status
+        if status != 0:
+            sys.exit("bench: the program failed")
+        return usage.ru_utime + usage.ru_stime
+
+    def instructions(self):
+        """How many instructions one run takes, by callgrind."""
+        valgrind = ["valgrind", "--tool=callgrind", "--callgrind-out-file=/dev/null"]
+        with open(self.path, "rb") as script:
+            told = subprocess.run(
+                [*valgrind, *self.command],
+                stdin=script, stdout=subprocess.DEVNULL, stderr=subprocess.PIPE, check=True,
+            ).stderr.decode(errors="replace")
+        return int(re.search(r"Collected : (\d+)", told).group(1))
 
 
-def tree(depth):
-    """A tree of that depth, and one collection."""
-    lines = []
+class Bench:
+    """The loads at one scale: `count` objects, and twice as many."""
 
-    def build(d, side):
-        at = 2 * d + side
-        if d == 0:
-            lines.append(f"new {at} 0")
-            return
-        build(d - 1, 0)
-        build(d - 1, 1)
-        lines.extend([f"new {at} 0", f"set {at} 0 {2 * d - 2}", f"set {at} 1 {2 * d - 1}"])
+    def __init__(self, folder, scale):
+        self.folder = folder
+        self.figures = Figures()
+        self.every = max(1, int(5_000 * scale))
+        self.count = 10 * self.every
+        self.page_words = loads.scaled_page_words(scale)
 
-    build(depth, 0)
-    lines += [f"drop {at}" for at in range(2 * depth)]
-    return script(["SS"], lines + ["gc now precise"])
+    def ratio(self, name, load):
+        """The times of a load of one size and of twice that, the least of several tries each."""
+        small, large = (Script(self.folder, load(times)) for times in (1, 2))
+        small.check()
+        large.check()
+        tries = [(small.seconds(), large.seconds()) for _ in range(TRIES)]
+        least_small, least_large = (min(times) for times in zip(*tries))
+        self.figures.tell(f"{name}_seconds", least_large)
+        self.figures.tell(f"{name}_ratio", least_large / least_small, RATIO_BAR)
+
+    def instructions(self, load):
+        return Script(self.folder, load).instructions()
+
+    def filling(self, times):
+        return loads.filling(times * self.count, 2 * self.count)
+
+    def mixed(self, times):
+        return loads.mixed(times * self.count, self.every, 2 * self.count)
+
+    def live_list(self, times, collections=20):
+        return loads.live_list(times * self.count, 2 * self.count, collections)
+
+    def holes(self, times, share=40):
+        """`share` times as many objects of 7 words as there is room for are wanted."""
+        pages = 32 * times
+        wanted = share * loads.holes_room(pages, self.page_words)
+        return loads.holes(pages, self.page_words, wanted)
+
+    def tree(self, times):
+        return loads.tree(times * self.count).then(COLLECTION)
+
+    def times(self):
+        for name in ("filling", "mixed", "live_list", "holes", "tree"):
+            self.ratio(name, getattr(self, name))
+
+    def news(self):
+        """What a line `new` costs: while the heap fills, in the mixed load, and where there are holes."""
+        tell = self.figures.tell
+        more = self.instructions(self.filling(2)) - self.instructions(self.filling(1))
+        tell("filling_instructions_per_new", more / self.count, NEW_BAR)
+        mixed, count = self.mixed(1), self.every
+        more = self.instructions(mixed.then(*loads.mixed_news(count))) - self.instructions(mixed)
+        tell("mixed_instructions_per_new", more / count, NEW_BAR)
+        none, placed, full = (self.instructions(self.holes(1, share)) for share in (0, 1, 2))
+        room = loads.holes_room(32, self.page_words)
+        tell("holes_instructions_per_new_placed", (placed - none) / room, NEW_BAR)
+        tell("holes_instructions_per_new_full", (full - placed) / room, NEW_BAR)
+
+    def collections(self):
+        """What a collection costs for each live object."""
+        swept = self.live_list(1, 1).then(SWEEP)
+        more = self.instructions(swept.then(COLLECTION)) - self.instructions(swept)
+        self.figures.tell("live_list_instructions_per_live_object", more / self.count, COLLECTION_BAR)
+        more = self.instructions(self.tree(1)) - self.instructions(loads.tree(self.count))
+        self.figures.tell("tree_instructions_per_live_object", more / self.count, COLLECTION_BAR)
+
+    def sweeps(self):
+        """What a sweep costs, with few objects to finalise and with many."""
+        few, many = loads.live_objects(self.count), loads.dead_objects(self.count)
+        more = self.instructions(few.then(SWEEP)) - self.instructions(few)
+        self.figures.tell("sweep_instructions_per_heap_word", more / few.heap_words(), SWEPT_WORD_BAR)
+        more = self.instructions(many.then(SWEEP)) - self.instructions(many)
+        self.figures.tell("sweep_instructions_per_finalised_object", more / self.count, FINALISED_BAR)
 
 
-def seconds(text, words=()):
-    """The least time of three runs."""
-    least = None
-    for _ in range(3):
-        begin = time.perf_counter()
-        subprocess.run([PROGRAM, *words], input=text.encode(), stdout=subprocess.DEVNULL, check=True)
-        took = time.perf_counter() - begin
-        least = took if least is None else min(least, took)
-    return least
-
-
-def instructions(text, words=()):
-    """How many instructions a run takes, by callgrind."""
-    with tempfile.TemporaryDirectory() as room:
-        told = subprocess.run(
-            ["valgrind", "--tool=callgrind", f"--callgrind-out-file={room}/out", PROGRAM, *words],
-            input=text.encode(), stdout=subprocess.DEVNULL, stderr=subprocess.PIPE, check=True,
-        ).stderr.decode(errors="replace")
-    return int(re.search(r"Collected : (\d+)", told).group(1))
-
-
-def built():
-    if not os.access(PROGRAM, os.X_OK):
-        folder = os.path.join(ROOT, "crates", "cppgc_main")
-        subprocess.run(["rt", "run"], cwd=folder, stdin=subprocess.DEVNULL, stdout=subprocess.DEVNULL, stderr=subprocess.DEVNULL)
-    if not os.access(PROGRAM, os.X_OK):
+def build():
+    """Builds the program, if it isn't built from the sources as they are, and runs it once."""
+    if shutil.which("rt"):
+        run = subprocess.run(["rt", "run"], cwd=CRATE, input=b"oilpan 1\n", capture_output=True)
+    else:
+        run = subprocess.run([PROGRAM], input=b"oilpan 1\n", capture_output=True)
+    if run.returncode != 0:
         sys.exit("bench: the program could not be built; run rt check in crates/cppgc_main")
-
-
-def figure(name, value):
-    print(f"{name} {value:.3f}" if isinstance(value, float) else f"{name} {value}", flush=True)
-
-
-def ratio(name, small, large, words=()):
-    a, b = seconds(small, words), seconds(large, words)
-    figure(f"{name}_seconds", b)
-    figure(f"{name}_ratio", b / a)
 
 
 def main():
     scale = float(sys.argv[1]) if len(sys.argv) > 1 else 1.0
-    n = int(50_000 * scale)
-    built()
-    ratio("filling", filling(n), filling(2 * n))
-    ratio("mixed", mixed(n), mixed(2 * n), ("--pages", "1024", "--page-words", "16384"))
-    ratio("live_list", live_list(n, 20), live_list(2 * n, 20))
-    ratio("holes", holes(n, n // 10), holes(n, n // 5))
-    ratio("tree", tree(14), tree(15))
-    if shutil.which("valgrind"):
-        few, more = instructions(filling(n // 10)), instructions(filling(n // 5))
-        figure("instructions_per_new", (more - few) / (n // 10))
-        one, three = instructions(live_list(n // 5, 1)), instructions(live_list(n // 5, 3))
-        figure("instructions_per_live_object_and_collection", (three - one) / 2 / (n // 5))
+    build()
+    with tempfile.TemporaryDirectory() as folder:
+        bench = Bench(folder, scale)
+        bench.times()
+        if shutil.which("valgrind"):
+            bench.news()
+            bench.collections()
+            bench.sweeps()
+    bench.figures.end()
 
 
 if __name__ == "__main__":

@@ -3,6 +3,10 @@
 ghost use Rattle.std.specs.Prelude.{◌≡◌, IfOk};
 ghost use Rattle.page_words.specs.Seat.{IsQuiet};
 
+mod aged;
+mod histories;
+mod plain;
+
 use crate::space::Space;
 use gc_graph::NoMemory;
 use page_words::MutatorSeat;

@@ -1,0 +1,24 @@
+use Rattle.std.proofs.Common.{◌≡◌, ℕ, not, List, [], ◌∷◌, ◌++◌, refl, ap, sym, ◌∙◌, subst, map, filter, append-nil, arith}
+use Rattle.std.proofs.lemmas.Grind.{common_steps}
+use Rattle.page_words.specs.Bodies.{Body}
+use Rattle.page_words.specs.Seat.{SeatView, holds, begun, ended}
+use Rattle.page_space.specs.Space.{IsSpaceOf}
+use Rattle.page_space.proofs.tests.aged.Aged.condemn.Goals as goal
+
+all_unmarked : (places : List ℕ) → filter (λ a. not (holds [] a)) places ≡ places
+all_unmarked [] = refl
+all_unmarked (a ∷ places) = ap (λ l. a ∷ l) (all_unmarked places)
+
+pub invariant_of-self : goal.invariant_of-self
+invariant_of-self c =
+    let over : c.set_stop-then-is_empty.new.seat ≡ ended (begun c.self.inside.seat) = c.set_stop-then-is_empty.ensures ∙ ap ended c.set_stop.ensures in
+    let none : c.self.inside.dead.items ≡ [] = grind (arith, common_steps) in
+    let left : c.swap.new.y.items ≡ [] = cc in
+    let places : map (λ (b : Body). b.place) c.self.inside.seat.bodies ≡ c.swap.new.x.items = cc in (
+      subst (λ (v : SeatView). IsSpaceOf c.self.inside.space v) (sym over) c.self.invariant.0,
+      ap (λ (v : SeatView). v.on) over,
+      ap (λ (v : SeatView). v.marked) over ∙ c.self.invariant.2,
+      ap (λ (v : SeatView). v.traced) over ∙ c.self.invariant.3,
+      ap (λ (v : SeatView). v.dead) over ∙ ap (λ marked. filter (λ a. not (holds marked a)) (map (λ (b : Body). b.place) c.self.inside.seat.bodies)) c.self.invariant.2 ∙ all_unmarked _ ∙ places,
+      ap (λ (v : SeatView). map (λ (b : Body). b.place) v.bodies) over ∙ places ∙ sym (append-nil c.swap.new.x.items) ∙ ap (λ l. c.swap.new.x.items ++ l) (sym left),
+    )

@@ -1,0 +1,26 @@
+use Rattle.std.proofs.Common.{◌≡◌, ℕ, true, false, not, List, [], ◌∷◌, ◌++◌, refl, ap, sym, ◌∙◌, map, filter, eqb, cond}
+use Rattle.std.proofs.lemmas.List.Elements.{filter-append}
+use Rattle.page_words.specs.Bodies.{Body}
+use Rattle.page_words.specs.Seat.{SeatView, retracted, without}
+use Rattle.page_space.proofs.tests.aged.Aged.free.Goals as goal
+
+places_without : (bodies : List Body) (a : ℕ) → map (λ (b : Body). b.place) (filter (λ b. not (eqb b.place a)) bodies) ≡ without (map (λ (b : Body). b.place) bodies) a
+places_without [] a = refl
+places_without (b ∷ bodies) a = elim (not (eqb b.place a)) as (λ t. map (λ (d : Body). d.place) (cond t (b ∷ filter (λ d. not (eqb d.place a)) bodies) (filter (λ d. not (eqb d.place a)) bodies))
+    ≡ cond t (b.place ∷ without (map (λ (d : Body). d.place) bodies) a) (without (map (λ (d : Body). d.place) bodies) a)) [
+      | true ↦ ap (λ l. b.place ∷ l) (places_without bodies a)
+      | false ↦ places_without bodies a
+    ]
+
+pub invariant_of-self : goal.invariant_of-self
+invariant_of-self c =
+    let a = c.index-place.result.now in
+    let freed : c.free.new.seat ≡ retracted c.self.inside.seat a = c.free.ensures.freed in (
+      c.free.ensures.space,
+      ap (λ (v : SeatView). v.on) freed ∙ c.self.invariant.1,
+      ap (λ (v : SeatView). v.marked) freed ∙ c.self.invariant.2,
+      ap (λ (v : SeatView). v.traced) freed ∙ c.self.invariant.3,
+      ap (λ (v : SeatView). v.dead) freed ∙ ap (λ places. without places a) c.self.invariant.4 ∙ sym c.leave_out.ensures,
+      ap (λ (v : SeatView). map (λ (b : Body). b.place) v.bodies) freed ∙ places_without c.self.inside.seat.bodies a ∙ ap (λ places. without places a) c.self.invariant.5
+          ∙ filter-append (λ p. not (eqb p a)) c.self.inside.dead.items c.self.inside.young.items ∙ sym (ap (λ places. places ++ c.leave_out-2.new.places.items) c.leave_out.ensures ∙ ap (λ places. without c.self.inside.dead.items a ++ places) c.leave_out-2.ensures),
+    )
