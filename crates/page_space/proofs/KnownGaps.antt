@@ -5,9 +5,9 @@ use Rattle.std.proofs.lemmas.Bool.{cases_eq, cases_lt, true≢false, false≢tru
 use Rattle.std.proofs.lemmas.List.{get_or_past, get_or-replicate, length-replicate, length-set, get_or-set_same, get_or-set_other}
 use Rattle.std.proofs.lemmas.List.Elements.{Contains-append_left, Contains-push_cases}
 use Rattle.gc_graph.specs.State.{Shape}
-use Rattle.gc_graph.specs.Placement.{Extent, Covers, HasBucket, bucket_of}
+use Rattle.gc_graph.specs.Placement.{Extent, Covers, IsTaken, HasBucket, bucket_of}
 use Rattle.page_space.specs.Pages.{is_in_page}
-use Rattle.page_space.specs.Gaps.{GapTable, bounds_at, bound_at, is_surveyed, IsGap, IsInBlock, IsBounded, HasBlocks, IsTooFull, KnowsGaps}
+use Rattle.page_space.specs.Gaps.{GapTable, bounds_at, bound_at, is_surveyed, IsGap, IsInBlock, IsBounded, HasBlocks, IsFullBelow, IsTooFull, KnowsGaps}
 use Rattle.page_space.specs.Space.{SpaceView, IsSpaceOver}
 use Rattle.page_space.proofs.PageSpan.{next_page, same_page, in_page_from, in_page_word, page_is}
 use Rattle.page_space.proofs.PlaceFound.{small_bucket, large_bucket}
@@ -27,6 +27,7 @@ pub nothing_known : (shape : Shape) (es : List Extent) (gaps : GapTable) (n m : 
     → KnowsGaps shape es gaps
 nothing_known shape es gaps n m surveyed first = record {
   bounded = λ page k is. absurd (false≢true (sym (ap (λ xs. get_or xs page false) surveyed ∙ same_in {X = Bool} n page false) ∙ is));
+  low = λ page is. absurd (false≢true (sym (ap (λ xs. get_or xs page false) surveyed ∙ same_in {X = Bool} n page false) ∙ is));
   worth = λ page size small low. absurd (omega (arith, ap (λ xs. get_or xs size 0) first, same_in {X = ℕ} m size 0));
 }
 
@@ -67,6 +68,7 @@ pub record SetsBound (old new : GapTable) (page k bound : ℕ) : Type 0 where
   pub block : k < length (bounds_at old page)
   pub bounds : (bounds_at new page) ≡ set (bounds_at old page) k bound
   pub others : (q : ℕ) → q ≢ page → bounds_at new q ≡ bounds_at old q
+  pub low : new.low ≡ old.low
   pub surveyed : new.surveyed ≡ old.surveyed
   pub first : new.first ≡ old.first
   pub less : is_surveyed old page ≡ true → bound ≤ bound_at old page k
@@ -106,6 +108,7 @@ bound_set shape es old new page k bound sets holds knows =
                 (bounded_still shape es old new page k bound j sets holds (subst (λ p. IsBounded shape es old p j) here was))
             | inr there ↦ (λ size a gap block. omega (arith, ap (λ b. get_or b j 0) (sets.others q there), was size a gap block))
           ];
+      low = λ q is. subst (λ xs. IsFullBelow shape es q (get_or xs q 0)) (sym sets.low) (knows.low q (sym (same q) ∙ is));
       worth = λ q size small low bucket.
           let was = knows.worth q size small (omega (arith, ap (λ xs. get_or xs size 0) sets.first)) bucket in
           elim (cases_eq q page) [
@@ -132,9 +135,10 @@ bound_set shape es old new page k bound sets holds knows =
     }
 
 pub page_confirmed : (shape : Shape) (es : List Extent) (old new : GapTable) (page : ℕ) → new.pages ≡ old.pages
+    → ((q : ℕ) → q ≢ page → get_or new.low q 0 ≡ get_or old.low q 0)
     → ((q : ℕ) → q ≢ page → is_surveyed new q ≡ is_surveyed old q) → new.first ≡ old.first → is_surveyed old page ≡ false
-    → ((k : ℕ) → IsBounded shape es old page k) → KnowsGaps shape es old → KnowsGaps shape es new
-page_confirmed shape es old new page pages there first unknown all knows =
+    → ((k : ℕ) → IsBounded shape es old page k) → IsFullBelow shape es page (get_or new.low page 0) → KnowsGaps shape es old → KnowsGaps shape es new
+page_confirmed shape es old new page pages lows there first unknown all full knows =
     let bounds = λ (q : ℕ). let e : bounds_at new q ≡ bounds_at old q = ap (λ xs. get_or xs q []) pages in e in
     record {
       bounded = λ q j is size a gap block. elim (cases_eq q page) [
@@ -147,6 +151,10 @@ page_confirmed shape es old new page pages there first unknown all knows =
             )
         | inr other ↦ omega (arith, ap (λ b. get_or b j 0) (bounds q), knows.bounded q j (sym (there q other) ∙ is) size a gap block)
       ];
+      low = λ q is. elim (cases_eq q page) [
+        | inl here ↦ subst (λ p. IsFullBelow shape es p (get_or new.low p 0)) (sym here) full
+        | inr other ↦ subst (IsFullBelow shape es q) (sym (lows q other)) (knows.low q (sym (there q other) ∙ is))
+      ];
       worth = λ q size small low bucket.
           let was = knows.worth q size small (omega (arith, ap (λ xs. get_or xs size 0) first)) bucket in
           elim (cases_eq q page) [
@@ -155,17 +163,36 @@ page_confirmed shape es old new page pages there first unknown all knows =
           ];
     }
 
--- the lowest page worth a look for a size was set, past pages that aren't
-pub first_set : (shape : Shape) (es : List Extent) (old new : GapTable) (size first : ℕ) → new.pages ≡ old.pages → new.surveyed ≡ old.surveyed
-    → get_or new.first size 0 ≡ first → ((n : ℕ) → n ≢ size → get_or new.first n 0 ≡ get_or old.first n 0)
-    → ((q : ℕ) → q < first → HasBucket shape.page_words es q (bucket_of shape.page_words size)
-    → (is_surveyed old q ≡ true) × IsTooFull old q size)
-    → KnowsGaps shape es old → KnowsGaps shape es new
-first_set shape es old new size first pages surveyed is rest passed knows =
+-- the lowest word of a page that may be free was set
+pub low_set : (shape : Shape) (es : List Extent) (old new : GapTable) (page : ℕ) → new.pages ≡ old.pages
+    → ((q : ℕ) → q ≢ page → get_or new.low q 0 ≡ get_or old.low q 0) → new.surveyed ≡ old.surveyed → new.first ≡ old.first
+    → IsFullBelow shape es page (get_or new.low page 0) → KnowsGaps shape es old → KnowsGaps shape es new
+low_set shape es old new page pages lows surveyed first full knows =
     let bounds = λ (q : ℕ). let e : bounds_at new q ≡ bounds_at old q = ap (λ xs. get_or xs q []) pages in e in
     let same = λ (q : ℕ). let e : is_surveyed new q ≡ is_surveyed old q = ap (λ xs. get_or xs q false) surveyed in e in
     record {
       bounded = λ q j h n a gap block. omega (arith, ap (λ b. get_or b j 0) (bounds q), knows.bounded q j (sym (same q) ∙ h) n a gap block);
+      low = λ q h. elim (cases_eq q page) [
+        | inl here ↦ subst (λ p. IsFullBelow shape es p (get_or new.low p 0)) (sym here) full
+        | inr other ↦ subst (IsFullBelow shape es q) (sym (lows q other)) (knows.low q (sym (same q) ∙ h))
+      ];
+      worth = λ q n small below bucket.
+          let was = knows.worth q n small (omega (arith, ap (λ xs. get_or xs n 0) first)) bucket in
+          (same q ∙ was.0, (λ j. omega (arith, ap (λ b. get_or b j 0) (bounds q), was.1 j)));
+    }
+
+-- the lowest page worth a look for a size was set, past pages that aren't
+pub first_set : (shape : Shape) (es : List Extent) (old new : GapTable) (size first : ℕ) → new.pages ≡ old.pages → new.low ≡ old.low → new.surveyed ≡ old.surveyed
+    → get_or new.first size 0 ≡ first → ((n : ℕ) → n ≢ size → get_or new.first n 0 ≡ get_or old.first n 0)
+    → ((q : ℕ) → q < first → HasBucket shape.page_words es q (bucket_of shape.page_words size)
+    → (is_surveyed old q ≡ true) × IsTooFull old q size)
+    → KnowsGaps shape es old → KnowsGaps shape es new
+first_set shape es old new size first pages lows surveyed is rest passed knows =
+    let bounds = λ (q : ℕ). let e : bounds_at new q ≡ bounds_at old q = ap (λ xs. get_or xs q []) pages in e in
+    let same = λ (q : ℕ). let e : is_surveyed new q ≡ is_surveyed old q = ap (λ xs. get_or xs q false) surveyed in e in
+    record {
+      bounded = λ q j h n a gap block. omega (arith, ap (λ b. get_or b j 0) (bounds q), knows.bounded q j (sym (same q) ∙ h) n a gap block);
+      low = λ q h. subst (λ xs. IsFullBelow shape es q (get_or xs q 0)) (sym lows) (knows.low q (sym (same q) ∙ h));
       worth = λ q n small low bucket. elim (cases_eq n size) [
         | inl here ↦
             (let past = passed q (omega (arith, ap (λ i. get_or new.first i 0) here)) (subst (λ m. HasBucket shape.page_words es q (bucket_of shape.page_words m)) here bucket) in
@@ -198,6 +225,7 @@ blocks_kept old new page k bound n sets count has q within =
 -- a page without objects is worth a look for each size
 pub record LowersWhereEmpty (old new : GapTable) (objects page : ℕ) : Type 0 where
   pub pages : new.pages ≡ old.pages
+  pub low : new.low ≡ old.low
   pub surveyed : new.surveyed ≡ old.surveyed
   pub lower : (size : ℕ) → get_or new.first size 0 ≤ get_or old.first size 0
   pub empty : objects ≡ 0 → (size : ℕ) → get_or new.first size 0 ≤ page
@@ -221,10 +249,10 @@ own_page shape es e q a size some small good bucket covers low high =
     ]
 
 pub knows_joined : (space : SpaceView) (count : ℕ) (es : List Extent) (e : Extent) (gaps : GapTable) → 256 ≤ space.shape.page_words
-    → IsSpaceOver space count es → IsGoodPlace space.shape es e
+    → 2 ≤ e.size → IsSpaceOver space count es → IsGoodPlace space.shape es e
     → LowersWhereEmpty space.gaps gaps (get_or space.table.objects (e.place / space.shape.page_words) 0) (e.place / space.shape.page_words)
     → KnowsGaps space.shape (es ++ e ∷ []) gaps
-knows_joined space count es e gaps words over good lowers =
+knows_joined space count es e gaps words large over good lowers =
     let w : ℕ = space.shape.page_words in
     let bounds = λ (q : ℕ). let b : bounds_at gaps q ≡ bounds_at space.gaps q = ap (λ xs. get_or xs q []) lowers.pages in b in
     let same = λ (q : ℕ). let s : is_surveyed gaps q ≡ is_surveyed space.gaps q = ap (λ xs. get_or xs q false) lowers.surveyed in s in
@@ -239,6 +267,20 @@ knows_joined space count es e gaps words over good lowers =
               free = λ x low high taken. gap.free x low high (taken.0, Contains-append_left es (e ∷ []) taken.0 taken.1, taken.2);
             }) block,
           );
+      low = λ q is.
+          let was : IsFullBelow space.shape es q (get_or space.gaps.low q 0) = over.gaps.low q (sym (same q) ∙ is) in
+          subst (λ xs. IsFullBelow space.shape (es ++ e ∷ []) q (get_or xs q 0)) (sym lowers.low) (record {
+            within = was.within;
+            full = λ x from below.
+                let taken : IsTaken es x = was.full x from below in
+                (taken.0, Contains-append_left es (e ∷ []) taken.0 taken.1, taken.2);
+            ends = λ d there from below. elim (Contains-push_cases es e d there) [
+              | inl old ↦ was.ends d old from below
+              | inr new ↦
+                  (let at : e.place ≡ d.place = ap (λ (f : Extent). f.place) new in
+                  absurd (good.free d.place (omega arith, omega arith) (was.full d.place from below)))
+            ];
+          });
       worth = λ q size small low bucket.
           let before : q < get_or space.gaps.first size 0 = omega (arith, lowers.lower size) in
           let so = λ (old : HasBucket w es q (bucket_of w size)).
@@ -271,6 +313,7 @@ knows_joined space count es e gaps words over good lowers =
 
 pub record Forgets (w : ℕ) (e : Extent) (old new : GapTable) : Type 0 where
   pub pages : new.pages ≡ old.pages
+  pub low : new.low ≡ old.low
   pub forgotten : (q : ℕ) → is_in_page w q e ≡ true → is_surveyed new q ≡ false
   pub fewer : (q : ℕ) → is_surveyed new q ≡ true → is_surveyed old q ≡ true
   pub lower : (size : ℕ) → get_or new.first size 0 ≤ get_or old.first size 0
@@ -300,6 +343,21 @@ knows_left shape es e old new words knows one forgets =
               ];
             }) block,
           );
+      low = λ q is.
+          let was : IsFullBelow shape es q (get_or old.low q 0) = knows.low q (forgets.fewer q is) in
+          subst (λ xs. IsFullBelow shape (filter (others e.place) es) q (get_or xs q 0)) (sym forgets.low) (record {
+            within = was.within;
+            full = λ x from below.
+                let taken : IsTaken es x = was.full x from below in
+                elim (cases_eq taken.0.place e.place) [
+                  | inl own ↦
+                      (let covers : Covers e x = subst (λ (d : Extent). Covers d x) (one taken.0 taken.1 own) taken.2 in
+                      let last : get_or old.low q 0 ≤ (q + 1) * w = was.within in
+                      absurd (true≢false (sym is ∙ forgets.forgotten q (in_page_from w q e x words covers from (omega arith)))))
+                  | inr other ↦ (taken.0, contains_filter es e.place taken.0 other taken.1, taken.2)
+                ];
+            ends = λ d there from below. was.ends d (from_filter es e.place d there).0 from below;
+          });
       worth = λ q size small low bucket.
           let was = knows.worth q size small (omega (arith, forgets.lower size))
           (bucket.0, bucket.1, (from_filter es e.place bucket.0 bucket.2).0, bucket.3, bucket.4, bucket.5, bucket.6) in

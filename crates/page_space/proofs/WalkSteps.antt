@@ -3,13 +3,14 @@ use Rattle.std.proofs.Common.{◌≡◌, ℕ, ◌+◌, ◌*◌, ◌<◌, ◌≤�
 use Rattle.std.specs.List.{Contains}
 use Rattle.std.proofs.lemmas.Bool.{cases_lt}
 use Rattle.gc_graph.specs.State.{Shape}
-use Rattle.gc_graph.specs.Placement.{IsTaken}
+use Rattle.gc_graph.specs.Placement.{Extent, IsTaken}
 use Rattle.page_words.specs.Bodies.{Body, end_of, IsPlace, IsInBody}
 use Rattle.page_words.specs.Seat.{SeatView, IsView}
-use Rattle.page_space.specs.Space.{HasNoStart, HoldsWhole, extents_of_bodies}
-use Rattle.page_space.specs.Gaps.{IsGap}
+use Rattle.page_space.specs.Space.{HasNoStart, HoldsWhole, extents_of_bodies, extent_of}
+use Rattle.page_space.specs.Gaps.{IsGap, IsFullBelow}
 use Rattle.page_space.specs.Walks.{IsEdge}
-use Rattle.page_space.proofs.PlaceBodies.{body_size, body_of_taken, taken_by_body}
+use Rattle.page_space.proofs.PageSpan.{next_page}
+use Rattle.page_space.proofs.PlaceBodies.{body_size, body_of_taken, body_of_extent, contains_map, taken_by_body}
 
 -- an object that begins in the words of another one is that one
 pub one_in : (v : SeatView) (b c : Body) → IsView v → Contains v.bodies b → Contains v.bodies c → c.place ≤ b.place → b.place < end_of c → b ≡ c
@@ -104,4 +105,60 @@ edge_of_page v shape page at view whole low inside none b there before =
         | inr apart ↦ omega arith
       ]
       | inr later ↦ absurd (none b.place later before (b, there, (let e : b.place ≡ b.place = omega arith in e)))
+    ]
+
+-- what is full up to an object's place is full up to its end
+pub full_on : (v : SeatView) (from full next : ℕ) (c : Body) → IsView v → ((x : ℕ) → from ≤ x → x < full → IsInBody v.bodies x)
+    → ((b : Body) → Contains v.bodies b → from ≤ b.place → b.place < full → end_of b ≤ full) → Contains v.bodies c → c.place ≡ full → next ≡ full + c.size
+    → ((x : ℕ) → from ≤ x → x < next → IsInBody v.bodies x) × ((b : Body) → Contains v.bodies b → from ≤ b.place → b.place < next → end_of b ≤ next)
+full_on v from full next c view taken ends there at is = (
+  (λ x low high. elim (cases_lt x full) [
+    | inl before ↦ taken x low before
+    | inr after ↦ (c, there, omega arith, omega arith)
+  ]),
+  (λ b b_there low high. elim (cases_lt b.place full) [
+    | inl before ↦ omega (arith, ends b b_there low before)
+    | inr after ↦ omega (arith, ap end_of (one_in v b c view b_there there (omega arith) (omega arith)))
+  ]),
+)
+
+-- the same, told of extents
+pub full_below : (v : SeatView) (shape : Shape) (page from low : ℕ) → low ≤ (page + 1) * shape.page_words
+    → ((x : ℕ) → page * shape.page_words ≤ x → x < from → IsTaken (extents_of_bodies v.bodies) x)
+    → ((e : Extent) → Contains (extents_of_bodies v.bodies) e → page * shape.page_words ≤ e.place → e.place < from → e.place + e.size ≤ from)
+    → from ≤ low → ((x : ℕ) → from ≤ x → x < low → IsInBody v.bodies x)
+    → ((b : Body) → Contains v.bodies b → from ≤ b.place → b.place < low → end_of b ≤ low)
+    → IsFullBelow shape (extents_of_bodies v.bodies) page low
+full_below v shape page from low within full_before ends_before order full ends = record {
+  within = within;
+  full = λ x first below. elim (cases_lt x from) [
+    | inl before ↦ full_before x first before
+    | inr after ↦ taken_by_body v.bodies x (full x after below)
+  ];
+  ends = λ e there first below. elim (cases_lt e.place from) [
+    | inl before ↦ omega (arith, ends_before e there first before)
+    | inr after ↦
+        (let b : (b : Body) × Contains v.bodies b × (extent_of b ≡ e) = body_of_extent v.bodies e there in
+        let place : b.0.place ≡ e.place = ap (λ (d : Extent). d.place) b.2 in
+        let size : b.0.size ≡ e.size = ap (λ (d : Extent). d.size) b.2 in
+        omega (arith, ends b.0 b.1 (omega arith) (omega arith)))
+  ];
+}
+
+-- and read off again
+pub full_words : (v : SeatView) (shape : Shape) (page low start : ℕ) → IsFullBelow shape (extents_of_bodies v.bodies) page low
+    → page * shape.page_words ≤ start → (x : ℕ) → start ≤ x → x < low → IsInBody v.bodies x
+full_words v shape page low start full first x from below = body_of_taken v.bodies x (full.full x (omega arith) below)
+
+pub full_edge : (v : SeatView) (shape : Shape) (page low : ℕ) → IsView v → HoldsWhole shape v.bodies page → 0 < shape.page_words
+    → page * shape.page_words ≤ low → IsFullBelow shape (extents_of_bodies v.bodies) page low → IsEdge v.bodies low
+full_edge v shape page low view whole some first full b there before =
+    elim (cases_lt b.place (page * shape.page_words)) [
+      | inl earlier ↦
+          omega (
+            arith,
+            edge_of_page v shape page (page * shape.page_words) view whole (omega arith) (omega (arith, next_page shape.page_words page))
+                (λ x from below. absurd (omega arith)) b there earlier,
+          )
+      | inr later ↦ full.ends (extent_of b) (contains_map extent_of v.bodies b there) later before
     ]

@@ -1,12 +1,13 @@
 -- What a space remembers of its gaps, the words of a page that belong to no object.
-use Rattle.std.specs.Prelude.{◌≡◌, ℕ, ◌+◌, ◌*◌, ◌<◌, ◌≤◌, true, false, Bool, List, [], length, slice_index, slice_index_or}
+use Rattle.std.specs.Prelude.{◌≡◌, ℕ, ◌+◌, ◌*◌, ◌<◌, ◌≤◌, true, false, Bool, List, [], length, slice_index, slice_index_or, Contains}
 use Rattle.gc_graph.specs.State.{Shape}
 use Rattle.gc_graph.specs.Placement.{Extent, IsTaken, HasBucket, bucket_of}
 
--- for each page how long a gap can be that begins in each of its blocks, and whether these bounds hold; and for each
--- size up to 63 the lowest page worth a look
+-- for each page how long a gap can be that begins in each of its blocks, the lowest word that may be free, and whether
+-- these hold; and for each size up to 63 the lowest page worth a look
 pub record GapTable : Type 0 where
   pub pages : List (List ℕ)
+  pub low : List ℕ
   pub surveyed : List Bool
   pub first : List ℕ
 
@@ -37,14 +38,21 @@ IsInBlock shape page k a = (page * shape.page_words + 64 * k ≤ a) × (a < page
 abbrev pub IsBounded : Shape → List Extent → GapTable → ℕ → ℕ → Type 0
 IsBounded shape extents gaps page k = (size a : ℕ) → IsGap shape extents size page a → IsInBlock shape page k a → size ≤ bound_at gaps page k
 
+-- each word of the page below the address belongs to an object, and none of these goes past it
+pub record IsFullBelow (shape : Shape) (extents : List Extent) (page low : ℕ) : Type 0 where
+  pub within : low ≤ (page + 1) * shape.page_words
+  pub full : (x : ℕ) → page * shape.page_words ≤ x → x < low → IsTaken extents x
+  pub ends : (e : Extent) → Contains extents e → page * shape.page_words ≤ e.place → e.place < low → e.place + e.size ≤ low
+
 -- each block's bound is below the size
 abbrev pub IsTooFull : GapTable → ℕ → ℕ → Type 0
 IsTooFull gaps page size = (k : ℕ) → bound_at gaps page k < size
 
--- the bounds of the pages that were surveyed hold; and a page below the lowest one worth a look for a size, if it has
+-- the bounds and lowest words of the pages that were surveyed hold; and a page below the lowest one worth a look for a size, if it has
 -- the size's bucket, was surveyed and has no gap so long
 pub record KnowsGaps (shape : Shape) (extents : List Extent) (gaps : GapTable) : Type 0 where
   pub bounded : (page k : ℕ) → is_surveyed gaps page ≡ true → IsBounded shape extents gaps page k
+  pub low : (page : ℕ) → is_surveyed gaps page ≡ true → IsFullBelow shape extents page (slice_index gaps.low page)
   pub worth :
       (page size : ℕ) → size ≤ 63 → page < slice_index gaps.first size → HasBucket shape.page_words extents page (bucket_of shape.page_words size)
       → (is_surveyed gaps page ≡ true) × IsTooFull gaps page size

@@ -119,6 +119,7 @@ impl Space {
 fn lower_where_empty(gaps: &mut Gaps, table: &Table, page: u32)
     requires { page < length table.now.objects }
     ensures pages { gaps.new.pages ≡ gaps.old.pages }
+    ensures low { gaps.new.low ≡ gaps.old.low }
     ensures surveyed { gaps.new.surveyed ≡ gaps.old.surveyed }
     ensures lower { (size : ℕ) → slice_index gaps.new.first size ≤ slice_index gaps.old.first size }
     ensures empty { slice_index table.now.objects page ≡ 0 → (size : ℕ)

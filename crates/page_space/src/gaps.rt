@@ -13,11 +13,12 @@ use std::marker::Model;
 /// The sizes from this one on share what is remembered of the lowest page.
 pub const LARGEST_REMEMBERED: u32 = 63;
 
-/// For each page the bounds of its blocks, and whether they hold; for each size up to 63 the
-/// lowest page worth a look.
+/// For each page the bounds of its blocks, its lowest word that may be free, and whether these
+/// hold; for each size up to 63 the lowest page worth a look.
 #[derive(Drop)]
 pub struct Gaps {
     pages: Vec<Tree>,
+    low: Vec<u32>,
     surveyed: Vec<bool>,
     first: Vec<u32>,
 }
@@ -30,11 +31,13 @@ impl Model for Gaps {
 
     ghost view = { λ g. record {
       pages = g.pages.items;
+      low = g.low.items;
       surveyed = g.surveyed.items;
       first = g.first.items;
     } };
 
-    ghost invariant = { λ g. (length g.surveyed.items ≡ length g.pages.items)
+    ghost invariant = { λ g. (length g.low.items ≡ length g.pages.items)
+        × (length g.surveyed.items ≡ length g.pages.items)
         × (length g.first.items ≡ 64) };
 }
 
@@ -47,17 +50,19 @@ impl Gaps {
         ensures surveyed { IfOk result (λ g. g.surveyed ≡ replicate pages false) }
         ensures first { IfOk result (λ g. g.first ≡ replicate 64 0) }
     {
+        let low = vec![in alloc; 0u32; pages as usize]?;
         let surveyed = vec![in alloc; false; pages as usize]?;
         let first = vec![in alloc; 0u32; LARGEST_REMEMBERED as usize + 1]?;
         let pages = trees(alloc, pages, depth)?;
         Ok(Gaps {
             pages,
+            low,
             surveyed,
             first,
         })
     }
 
-    /// Whether the bounds of a page hold.
+    /// Whether what is told of a page holds.
     pub fn is_surveyed(&self, page: u32) -> bool
         requires { page < length self.now.pages }
         ensures { result ≡ is_surveyed self.now page }
@@ -99,27 +104,50 @@ impl Gaps {
             ≡ slice_set (bounds_at self.old page) k bound }
         ensures others { (q : ℕ) → q ≢ page → bounds_at self.new q ≡ bounds_at self.old q }
         ensures pages { length self.new.pages ≡ length self.old.pages }
+        ensures low { self.new.low ≡ self.old.low }
         ensures surveyed { self.new.surveyed ≡ self.old.surveyed }
         ensures first { self.new.first ≡ self.old.first }
     {
         self.pages[page as usize].set(k, bound);
     }
 
-    /// The bounds of a page hold from now on.
+    /// The lowest word of a page that may be free.
+    pub fn low(&self, page: u32) -> u32
+        requires { page < length self.now.pages }
+        ensures { result ≡ slice_index self.now.low page }
+    {
+        self.low[page as usize]
+    }
+
+    /// Changes the lowest word of a page that may be free.
+    pub fn set_low(&mut self, page: u32, low: u32)
+        requires { page < length self.old.pages }
+        ensures here { slice_index self.new.low page ≡ low }
+        ensures there { (q : ℕ) → q ≢ page → slice_index self.new.low q ≡ slice_index self.old.low q }
+        ensures pages { self.new.pages ≡ self.old.pages }
+        ensures surveyed { self.new.surveyed ≡ self.old.surveyed }
+        ensures first { self.new.first ≡ self.old.first }
+    {
+        self.low[page as usize] = low;
+    }
+
+    /// What is told of a page holds from now on.
     pub fn set_surveyed(&mut self, page: u32)
         requires { page < length self.old.pages }
         ensures surveyed { is_surveyed self.new page ≡ true }
         ensures others { (q : ℕ) → q ≢ page → is_surveyed self.new q ≡ is_surveyed self.old q }
         ensures pages { self.new.pages ≡ self.old.pages }
+        ensures low { self.new.low ≡ self.old.low }
         ensures first { self.new.first ≡ self.old.first }
     {
         self.surveyed[page as usize] = true;
     }
 
-    /// The bounds of the pages from `first` up to `end` hold no longer, and these are worth a look.
+    /// What is told of the pages from `first` up to `end` holds no longer, and these are worth a look.
     pub fn forget(&mut self, first: u32, end: u32)
         requires { end ≤ length self.old.pages }
         ensures pages { self.new.pages ≡ self.old.pages }
+        ensures low { self.new.low ≡ self.old.low }
         ensures forgotten { (page : ℕ) → is_between first end page ≡ true
             → is_surveyed self.new page ≡ false }
         ensures fewer { (page : ℕ) → is_surveyed self.new page ≡ true
@@ -137,6 +165,7 @@ impl Gaps {
     fn forget_page(&mut self, page: u32)
         requires { page < length self.old.pages }
         ensures pages { self.new.pages ≡ self.old.pages }
+        ensures low { self.new.low ≡ self.old.low }
         ensures forgotten { is_surveyed self.new page ≡ false }
         ensures fewer { (q : ℕ) → is_surveyed self.new q ≡ true → is_surveyed self.old q ≡ true }
         ensures lower { (size : ℕ) → slice_index self.new.first size
@@ -153,6 +182,7 @@ impl Gaps {
     /// A page is worth a look for each size.
     pub fn lower(&mut self, page: u32)
         ensures pages { self.new.pages ≡ self.old.pages }
+        ensures low { self.new.low ≡ self.old.low }
         ensures surveyed { self.new.surveyed ≡ self.old.surveyed }
         ensures lower { (size : ℕ) → slice_index self.new.first size
             ≤ slice_index self.old.first size }
@@ -178,6 +208,7 @@ impl Gaps {
         ensures others { (n : ℕ) → n ≢ size → slice_index self.new.first n
             ≡ slice_index self.old.first n }
         ensures pages { self.new.pages ≡ self.old.pages }
+        ensures low { self.new.low ≡ self.old.low }
         ensures surveyed { self.new.surveyed ≡ self.old.surveyed }
     {
         self.first[size as usize] = page;

@@ -4,7 +4,7 @@ ghost use Rattle.std.specs.Prelude.{◌≡◌, ℕ, ◌+◌, ◌*◌, ◌/◌, �
 ghost use Rattle.gc_graph.specs.Placement.{HasBucket, bucket_of};
 ghost use Rattle.page_space.specs.Pages.{word_count};
 ghost use Rattle.page_space.specs.Space.{IsSpaceOf, extents_of_bodies};
-ghost use Rattle.page_space.specs.Gaps.{IsBounded, IsTooFull, is_surveyed, bound_at};
+ghost use Rattle.page_space.specs.Gaps.{IsBounded, IsFullBelow, IsTooFull, is_surveyed, bound_at};
 ghost use Rattle.page_space.specs.Walks.{BeginsIn, EndsBy};
 
 use crate::gaps::LARGEST_REMEMBERED;
@@ -29,21 +29,43 @@ impl Space {
         }
         let blocks = self.blocks();
         self.refresh(seat, page, 0, blocks);
-        self.confirm(seat, page);
+        let start = page * 64 * blocks;
+        let low = self.full_from(seat, start, start + 64 * blocks);
+        self.confirm(seat, page, low);
     }
 
-    /// The bounds of a page hold: it was surveyed.
-    fn confirm(&mut self, seat: &mut MutatorSeat, page: u32)
+    /// The bounds of a page and its lowest word that may be free hold: it was surveyed.
+    fn confirm(&mut self, seat: &mut MutatorSeat, page: u32, low: u32)
         requires space { IsSpaceOf self.old seat.old }
         requires page { page < self.old.shape.pages }
         requires unknown { is_surveyed self.old.gaps page ≡ false }
         requires bounded { (k : ℕ) → 64 * k < self.old.shape.page_words → IsBounded self.old.shape
             (extents_of_bodies seat.old.bodies) self.old.gaps page k }
+        requires low { IsFullBelow self.old.shape (extents_of_bodies seat.old.bodies) page low }
         ensures space { IsSpaceOf self.new seat.new }
         ensures shape { self.new.shape ≡ self.old.shape }
         ensures view { seat.new ≡ seat.old }
     {
+        self.gaps.set_low(page, low);
         self.gaps.set_surveyed(page);
+    }
+
+    /// After a new object at the lowest word of a page that may be free: the first word after it
+    /// that belongs to no object.
+    fn fill_up(&mut self, seat: &mut MutatorSeat, page: u32, a: u32)
+        requires space { IsSpaceOf self.old seat.old }
+        requires page { page < self.old.shape.pages }
+        requires surveyed { is_surveyed self.old.gaps page ≡ true }
+        ensures space { IsSpaceOf self.new seat.new }
+        ensures surveyed { self.new.gaps.surveyed ≡ self.old.gaps.surveyed }
+        ensures shape { self.new.shape ≡ self.old.shape }
+        ensures view { seat.new ≡ seat.old }
+    {
+        if self.gaps.low(page) == a {
+            let end = (page + 1) * 64 * self.blocks();
+            let low = self.full_from(seat, a, end);
+            self.gaps.set_low(page, low);
+        }
     }
 
     /// After a new object of at most half a page: bounds for the gaps about it.
@@ -60,6 +82,7 @@ impl Space {
         if self.gaps.is_surveyed(page) {
             let first = a % self.page_words / 64;
             let end = (a + size - 1) % self.page_words / 64 + 1;
+            self.fill_up(seat, page, a);
             self.refresh(seat, page, first, end);
         } else {
             self.survey(seat, page);

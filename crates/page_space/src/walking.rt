@@ -1,10 +1,10 @@
 // From object to object through the words of a page.
 
-ghost use Rattle.std.specs.Prelude.{◌≡◌, ℕ, ◌+◌, ◌*◌, ◌/◌, ◌<◌, ◌≤◌, IfSome, IfNone};
+ghost use Rattle.std.specs.Prelude.{◌≡◌, ℕ, ◌+◌, ◌*◌, ◌/◌, ◌<◌, ◌≤◌, IfSome, IfNone, Contains};
 ghost use Rattle.gc_graph.specs.Placement.{IsLowest, IsNowhere};
-ghost use Rattle.page_words.specs.Bodies.{IsInBody};
+ghost use Rattle.page_words.specs.Bodies.{Body, IsInBody, end_of};
 ghost use Rattle.page_space.specs.Pages.{word_count};
-ghost use Rattle.page_space.specs.Space.{IsSeatOf, HoldsWhole, extents_of_bodies};
+ghost use Rattle.page_space.specs.Space.{IsSeatOf, IsSpaceOf, HoldsWhole, extents_of_bodies};
 ghost use Rattle.page_space.specs.Gaps.{IsGap};
 ghost use Rattle.page_space.specs.Walks.{IsEdge, BeginsBetween, EndsBy};
 
@@ -20,8 +20,31 @@ impl Space {
         self.page_words / 64
     }
 
-    /// The first word from a block on that belongs to no object which begins before the block.
+    /// The first word from a block on that belongs to no object which begins before the block, or a
+    /// later one up to which all words belong to objects.
     pub(crate) fn first_left(&self, seat: &mut MutatorSeat, page: u32, k: u32) -> u32
+        requires space { IsSpaceOf self.now seat.old }
+        requires page { page < self.now.shape.pages }
+        requires block { 64 * k < self.now.shape.page_words }
+        ensures from { page * self.now.shape.page_words + 64 * k ≤ result }
+        ensures taken { (x : ℕ) → page * self.now.shape.page_words + 64 * k ≤ x → x < result
+            → IsInBody seat.old.bodies x }
+        ensures edge { HoldsWhole self.now.shape seat.old.bodies page
+            → IsEdge seat.old.bodies result }
+        ensures view { seat.new ≡ seat.old }
+    {
+        seat.bodies_lie_apart();
+        let low = self.gaps.low(page);
+        let start = page * 64 * self.blocks() + 64 * k;
+        if start <= low && self.gaps.is_surveyed(page) {
+            low
+        } else {
+            self.end_before(seat, page, k)
+        }
+    }
+
+    /// The first word from a block on that belongs to no object which begins before the block.
+    fn end_before(&self, seat: &mut MutatorSeat, page: u32, k: u32) -> u32
         requires heap { IsSeatOf self.now seat.old }
         requires page { page < self.now.shape.pages }
         requires block { 64 * k < self.now.shape.page_words }
@@ -41,6 +64,35 @@ impl Space {
             Some(place) => start.max(place + self.size_at(seat, place)),
             None => start,
         }
+    }
+
+    /// The end of the objects that follow one another without a gap from an address on, up to an
+    /// address.
+    pub(crate) fn full_from(&self, seat: &mut MutatorSeat, from: u32, end: u32) -> u32
+        requires heap { IsSeatOf self.now seat.old }
+        requires order { from ≤ end }
+        requires end { end ≤ word_count self.now.shape }
+        ensures from { from ≤ result }
+        ensures within { result ≤ end }
+        ensures taken { (x : ℕ) → from ≤ x → x < result → IsInBody seat.old.bodies x }
+        ensures ends { (b : Body) → Contains seat.old.bodies b → from ≤ b.place
+            → b.place < result → end_of b ≤ result }
+        ensures view { seat.new ≡ seat.old }
+    {
+        self.shape_is_valid();
+        seat.bodies_lie_apart();
+        let mut full = from;
+        while full < end {
+            if !self.is_start(seat, full) {
+                return full;
+            }
+            let next = full + self.size_at(seat, full);
+            if next > end {
+                return full;
+            }
+            full = next;
+        }
+        full
     }
 
     /// The lowest gap of the size in a page that begins from `from` up to, and without, `until`.

@@ -1,39 +1,24 @@
-use Rattle.std.proofs.Common.{◌≡◌, ℕ, ◌+◌, ◌*◌, ◌<◌, ◌≤◌, ap, ◌⊎◌, inl, inr, arith}
-use Rattle.std.proofs.lemmas.Bool.{cases_lt}
-use Rattle.page_words.specs.Bodies.{Body, IsPlace}
-use Rattle.page_space.proofs.PageSpan.{next_page}
-use Rattle.page_space.proofs.WalkSteps.{edge_after_last, edge_of_page}
+use Rattle.std.proofs.Common.{◌≡◌, ℕ, ◌+◌, ◌*◌, ◌<◌, ◌≤◌, true, get_or, ap, sym, subst, ◌∙◌, arith}
+use Rattle.page_space.specs.Gaps.{IsFullBelow, is_surveyed}
+use Rattle.page_space.specs.Space.{extents_of_bodies}
+use Rattle.page_space.proofs.WalkSteps.{full_words, full_edge}
 use Rattle.page_space.proofs.space.Space.first_left.Goals as goal
+use Rattle.page_space.proofs.space.Space.first_left.Goals.{Then-is_surveyed}
 
-pub returns-in-Some-clause-taken : goal.returns-in-Some-clause-taken
-returns-in-Some-clause-taken c x low high =
-    let found = c.in-Some.ensures.found in
-    let start : IsPlace c.args.seat.now.bodies c.in-Some.place = found.0 in
-    let b : Body = start.0 in
-    let at : b.place ≡ c.in-Some.place = start.2 in
-    let sizes = rw c.last_start.ensures.view at c.size_at.ensures.size in
-    let size_is : c.size_at.result ≡ b.size = sizes b start.1 start.2 in
-    let page : c.args.page * (64 * c.blocks-2.result) ≡ c.args.page * c.args.self.now.shape.page_words = ap (λ n. c.args.page * n) c.blocks-2.ensures in
-    let before : c.in-Some.place < 64 * (c.args.page * c.blocks-2.result + c.args.k) = found.2 in
-    (b, start.1, omega arith, omega (arith, c.max.ensures))
+full : (c : Then-is_surveyed) → IsFullBelow c.args.self.now.shape (extents_of_bodies c.args.seat.now.bodies) c.args.page c.low-low.result
+full c =
+    let same : c.low-low.result ≡ get_or c.args.self.now.gaps.low c.args.page 0 = c.low-low.ensures ∙ ap (λ s. get_or s.gaps.low c.args.page 0) c.self.view_is in
+    let surveyed : is_surveyed c.args.self.now.gaps c.args.page ≡ true =
+    sym (ap (λ s. is_surveyed s.gaps c.args.page) c.self.view_is) ∙ sym c.is_surveyed.ensures ∙ c.if-is_surveyed.true in
+    subst (IsFullBelow c.args.self.now.shape (extents_of_bodies c.args.seat.now.bodies) c.args.page) (sym same) (c.requires.space.gaps.low c.args.page surveyed)
 
-pub returns-in-Some-clause-edge : goal.returns-in-Some-clause-edge
-returns-in-Some-clause-edge c whole =
-    let found = c.in-Some.ensures.found in
-    let start : IsPlace c.args.seat.now.bodies c.in-Some.place = found.0 in
-    let sizes = rw c.last_start.ensures.view at c.size_at.ensures.size in
-    let page : c.args.page * (64 * c.blocks-2.result) ≡ c.args.page * c.args.self.now.shape.page_words = ap (λ n. c.args.page * n) c.blocks-2.ensures in
-    let at : ℕ = 64 * (c.args.page * c.blocks-2.result + c.args.k) in
-    let low : 64 * (c.args.page * c.blocks-2.result) ≤ c.in-Some.place = found.1 in
-    let is : (c.max.result ≡ at) ⊎ (c.max.result ≡ c.in-Some.place + c.size_at.result) =
-    elim (cases_lt at (c.in-Some.place + c.size_at.result)) [ inl less ↦ inr (omega (arith, c.max.ensures)) | inr more ↦ inl (omega (arith, c.max.ensures)) ] in
-    edge_after_last c.args.seat.now c.args.self.now.shape c.args.page c.in-Some.place at c.size_at.result c.max.result c.bodies_lie_apart.ensures
-    (omega arith) found.2 (omega (arith, c.requires.block, next_page c.args.self.now.shape.page_words c.args.page)) start sizes found.3
-    (omega (arith, c.max.ensures)) (omega (arith, c.max.ensures)) is
+pub returns-then-is_surveyed-clause-taken : goal.returns-then-is_surveyed-clause-taken
+returns-then-is_surveyed-clause-taken c x from below =
+    full_words c.args.seat.now c.args.self.now.shape c.args.page c.low-low.result (c.args.page * c.args.self.now.shape.page_words + 64 * c.args.k) (full c)
+    (omega arith) x from below
 
-pub returns-in-None-clause-edge : goal.returns-in-None-clause-edge
-returns-in-None-clause-edge c whole =
-    let page : c.args.page * (64 * c.blocks-2.result) ≡ c.args.page * c.args.self.now.shape.page_words = ap (λ n. c.args.page * n) c.blocks-2.ensures in
-    let at : ℕ = 64 * (c.args.page * c.blocks-2.result + c.args.k) in
-    edge_of_page c.args.seat.now c.args.self.now.shape c.args.page at c.bodies_lie_apart.ensures whole (omega arith)
-    (omega (arith, c.requires.block, next_page c.args.self.now.shape.page_words c.args.page)) (λ p low high. c.in-None.ensures.none p (omega arith) high)
+pub returns-then-is_surveyed-clause-edge : goal.returns-then-is_surveyed-clause-edge
+returns-then-is_surveyed-clause-edge c whole =
+    let start : c.args.page * (64 * c.blocks-2.result) ≡ c.args.page * c.args.self.now.shape.page_words = ap (λ w. c.args.page * w) c.blocks-2.ensures in
+    full_edge c.args.seat.now c.args.self.now.shape c.args.page c.low-low.result c.bodies_lie_apart.ensures whole (omega (arith, c.requires.block))
+    (omega (arith, c.if-start-low.true)) (full c)

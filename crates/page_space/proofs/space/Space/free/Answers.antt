@@ -71,6 +71,7 @@ returns-clause-space c =
     (record { objects = c.leave.ensures.objects; buckets = c.leave.ensures.buckets })
     (record {
       pages = c.forget.ensures.pages;
+      low = c.forget.ensures.low;
       forgotten = c.forget.ensures.forgotten;
       fewer = c.forget.ensures.fewer;
       lower = c.forget.ensures.lower;

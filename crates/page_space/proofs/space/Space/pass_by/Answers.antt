@@ -15,7 +15,7 @@ returns-then-first-page-clause-space c =
     rw c.first_worth-worth.ensures.view
     (others_stay _ now c.args.seat.now.count es c.set_first.new.self c.self.view_is c.requires.space
     (first_set now.shape es now.gaps c.set_first.new.self c.min-remembered.result c.first_worth-worth.result
-    (c.set_first.ensures.pages ∙ ap (λ g. g.pages) same) (c.set_first.ensures.surveyed ∙ ap (λ g. g.surveyed) same) c.set_first.ensures.first
+    (c.set_first.ensures.pages ∙ ap (λ g. g.pages) same) (c.set_first.ensures.low ∙ ap (λ g. g.low) same) (c.set_first.ensures.surveyed ∙ ap (λ g. g.surveyed) same) c.set_first.ensures.first
     (λ n other. c.set_first.ensures.others n other ∙ ap (λ g. get_or g.first n 0) same)
     (λ q below bucket. elim (cases_lt q c.first_for-first.result) [
       | inl before ↦ c.requires.space.gaps.worth q c.min-remembered.result small (omega arith) bucket

@@ -73,8 +73,9 @@ returns-clause-space c =
           c.enter.ensures.buckets page
           ∙ ap (λ k. cond (is_in_page space.shape.page_words page e) k (get_or space.table.buckets page 0)) c.bucket_of-bucket.ensures;
     })
-    (knows_joined space c.args.seat.now.count es e c.lower_where_empty.new.gaps words.0 over good (record {
+    (knows_joined space c.args.seat.now.count es e c.lower_where_empty.new.gaps words.0 c.requires.least over good (record {
       pages = c.lower_where_empty.ensures.pages;
+      low = c.lower_where_empty.ensures.low;
       surveyed = c.lower_where_empty.ensures.surveyed;
       lower = c.lower_where_empty.ensures.lower;
       empty = c.lower_where_empty.ensures.empty;

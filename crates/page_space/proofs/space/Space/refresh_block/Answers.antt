@@ -21,6 +21,7 @@ sets c =
       block = omega (arith, words.2, c.self.invariant.5 c.args.page (omega (arith, c.self.invariant.4, ap (λ s. s.shape.pages) c.self.view_is)), ap (λ s. s.shape.page_words) c.self.view_is);
       bounds = c.set_bound.ensures.bounds;
       others = c.set_bound.ensures.others;
+      low = c.set_bound.ensures.low;
       surveyed = c.set_bound.ensures.surveyed;
       first = c.set_bound.ensures.first;
       less = subst (λ (g : GapTable). is_surveyed g c.args.page ≡ true → c.tightened-bound.result ≤ bound_at g c.args.page c.args.k) (sym same) c.tightened-bound.ensures.less;
