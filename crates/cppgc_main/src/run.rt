@@ -15,7 +15,7 @@ use super::report::print_report;
 use super::status::Status;
 use heap_engine::{Config, Heap};
 use heap_script::{
-    ReadError, Script, ScriptFault, Sink, Source, line_count, read_script, read_whole,
+    Pieces, ReadError, Script, ScriptFault, Sink, Source, line_count, read_script, read_whole,
 };
 use std::alloc::Global;
 
@@ -118,8 +118,12 @@ fn run_script<K: Sink>(
     ensures fault { result ≡ Status.WriteFault → Rose (K.faults sink.old) (K.faults sink.new) }
     ensures later { K.faults sink.old ≤ K.faults sink.new }
 {
+    let mut pieces = match Pieces::new(alloc) {
+        Ok(pieces) => pieces,
+        Err(_) => return Status::NoMemory,
+    };
     match Heap::new(alloc, config, script.types()) {
-        Ok(mut heap) => match print_report(&mut heap, script, sink) {
+        Ok(mut heap) => match print_report(&mut heap, script, &mut pieces, sink) {
             Ok(()) => {
                 *kept = Some(heap);
                 Status::Done

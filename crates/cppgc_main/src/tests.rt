@@ -9,6 +9,7 @@ mod devices;
 mod large;
 mod limits;
 mod options;
+mod pieces;
 mod reports;
 mod scripts;
 mod statuses;

@@ -5,7 +5,7 @@ pub mod KeptFacts
 pub mod LineKinds
 pub mod LinesBefore
 pub mod MoreLines
-pub mod Pieces
+pub mod PieceByPiece
 pub mod Progress
 pub mod Ranges
 pub mod TypeLines

@@ -41,7 +41,3 @@ Appends old new piece (Err e) = new ≡ old
 abbrev pub Writes : {T E : Type 0} → Option (List ℕ) → Option (List ℕ) → List ℕ → Result T E → Type 0
 Writes old new text (Ok u) = Grew old new text
 Writes old new text (Err e) = GrewByFront old new text
-
--- while a text is written: this rest of it is still to come
-abbrev pub IsWrittenUpTo : Option (List ℕ) → Option (List ℕ) → List ℕ → List ℕ → Type 0
-IsWrittenUpTo old now text rest = (front : List ℕ) × (text ≡ front ++ rest) × Grew old now front

@@ -4,5 +4,6 @@ pub mod Causes
 pub mod Devices
 pub mod ListDevices
 pub mod Past
+pub mod Pieces
 pub mod Words
 pub mod Faults

@@ -6,6 +6,9 @@ ghost use Rattle.heap_script.specs.Devices.{Takes, Appends};
 
 use thiserror::Error;
 
+/// As many bytes are moved in one piece.
+pub(crate) const PIECE: usize = 65_536;
+
 /// A device failed.
 #[derive(Debug, Drop, Error)]
 #[error("a device failed")]

@@ -6,15 +6,15 @@
 //! The parts: `Source` and `Sink` (devices that may fail), `ListSource`, `ListSink`, `SteadySource`
 //! and `SteadySink` (devices in memory), `read_whole` (all that a source has left), `read_script`
 //! (a script's commands, or its first faulty line), `line_count`, `number_below` (the number that a
-//! word is), `put` and `print_line` (text to a sink).
+//! word is), `Pieces` (text on its way to a sink), `print_line`.
 //!
 //! What is proved: a script that is read is what the grammar of `gc_graph` says of its bytes, and a
 //! fault names the first line that is of no built form. What is printed is the text of the report's
 //! line. A device's failure is answered only where its count of faults has risen, and after it a
-//! beginning of the text was written.
+//! beginning of the text was written, and the rest is still held.
 //!
-//! What is only tested or not said: that memory suffices, in how many writes a line goes out, and
-//! how long a call takes.
+//! What is only tested or not said: that memory suffices, where one piece ends and the next begins,
+//! and how long a call takes.
 #![tactic(auto)]
 
 mod commands;
@@ -24,6 +24,7 @@ mod line_text;
 mod lines;
 mod list_devices;
 mod numbers;
+mod pieces;
 mod printing;
 mod reading;
 mod region_text;
@@ -40,7 +41,8 @@ pub use gc_graph::NoMemory;
 pub use lines::line_count;
 pub use list_devices::{ListSink, ListSource};
 pub use numbers::number_below;
-pub use printing::{print_line, put};
+pub use pieces::Pieces;
+pub use printing::print_line;
 pub use reading::{ReadError, read_whole};
 pub use script::{Script, ScriptFault, read_script};
 pub use steady_devices::{SteadySink, SteadySource};

@@ -1,29 +1,28 @@
 // The text of each line of a report.
 
 ghost use Rattle.std.specs.Prelude.{◌≡◌, ◌+◌, ◌≤◌, ◌++◌, length, codes, decimal};
-ghost use Rattle.arrayvec.specs.ArrayVec.{array_vec_len};
+ghost use Rattle.gc_graph.specs.Report as spec;
 ghost use Rattle.gc_graph.specs.Report.{line_text, line_bytes, refusal_text, done_text};
 ghost use Rattle.gc_graph.specs.Report.{pause_text, totals_text, summary_text};
 
 use super::region_text::{add_entry, add_reply, add_seen};
 use super::text::{Text, add, add_named, add_wide};
-use arrayvec::ArrayVec;
 use gc_graph::{Line, Refusal};
 
-/// A line with its end.
-pub(crate) fn text_of(line: &Line) -> Text
-    ensures { result.items ≡ line_bytes line.now }
+/// A line with its end, which has fewer than 256 bytes.
+pub(crate) fn add_whole_line(text: &mut Text, line: &Line)
+    requires { length text.old ≤ 65280 }
+    ensures items { text.new ≡ text.old ++ line_bytes line.now }
+    ensures len { length text.new ≤ length text.old + 256 }
 {
-    let mut text = ArrayVec::new();
-    add_line(&mut text, line);
-    add(&mut text, b"\n");
-    text
+    add_line(text, line);
+    add(text, b"\n");
 }
 
 fn add_line(text: &mut Text, line: &Line)
-    requires { array_vec_len text.old ≡ 0 }
-    ensures items { text.new.items ≡ text.old.items ++ line_text line.now }
-    ensures len { array_vec_len text.new ≤ 200 }
+    requires { length text.old ≤ 65280 }
+    ensures items { text.new ≡ text.old ++ line_text line.now }
+    ensures len { length text.new ≤ length text.old + 200 }
 {
     match *line {
         Line::TypeLine { t } => add_named(text, b"type ", t),
@@ -67,18 +66,18 @@ fn add_line(text: &mut Text, line: &Line)
 }
 
 fn add_placed(text: &mut Text, k: u32, a: u32)
-    requires { array_vec_len text.old ≡ 0 }
-    ensures items { text.new.items ≡ text.old.items ++ line_text (Line.Placed k a) }
-    ensures len { array_vec_len text.new ≤ 200 }
+    requires { length text.old ≤ 65280 }
+    ensures items { text.new ≡ text.old ++ line_text (Line.Placed k a) }
+    ensures len { length text.new ≤ length text.old + 200 }
 {
     add_named(text, b"node ", k);
     add_named(text, b" at ", a);
 }
 
 fn add_refusal(text: &mut Text, why: Refusal)
-    requires { array_vec_len text.old ≡ 0 }
-    ensures items { text.new.items ≡ text.old.items ++ (codes "refused " ++ refusal_text why) }
-    ensures len { array_vec_len text.new ≤ 200 }
+    requires { length text.old ≤ 65280 }
+    ensures items { text.new ≡ text.old ++ (codes "refused " ++ refusal_text why) }
+    ensures len { length text.new ≤ length text.old + 200 }
 {
     add(text, b"refused ");
     match why {
@@ -92,49 +91,64 @@ fn add_refusal(text: &mut Text, why: Refusal)
 }
 
 fn add_step(text: &mut Text, t: u32, done: bool)
-    requires { array_vec_len text.old ≡ 0 }
-    ensures items { text.new.items ≡ text.old.items ++ line_text (Line.Step t done) }
-    ensures len { array_vec_len text.new ≤ 200 }
+    requires { length text.old ≤ 65280 }
+    ensures items { text.new ≡ text.old ++ line_text (Line.Step t done) }
+    ensures len { length text.new ≤ length text.old + 200 }
 {
     add_named(text, b"step traced ", t);
+    add(text, b" ");
+    add(text, word_of(done));
+}
+
+fn word_of(done: bool) -> &'static [u8]
+    ensures value { result.now ≡ done_text done }
+    ensures short { length result.now ≤ 4 }
+{
     if done {
-        add(text, b" done");
+        b"done".as_slice()
     } else {
-        add(text, b" more");
+        b"more".as_slice()
     }
 }
 
 fn add_pause(text: &mut Text, kept: u32, dead: u32, crew: u32, traced: u32, walked: bool)
-    requires { array_vec_len text.old ≡ 0 }
-    ensures items { text.new.items ≡ text.old.items ++ pause_text kept dead crew traced walked }
-    ensures len { array_vec_len text.new ≤ 200 }
+    requires { length text.old ≤ 65280 }
+    ensures items { text.new ≡ text.old ++ pause_text kept dead crew traced walked }
+    ensures len { length text.new ≤ length text.old + 200 }
 {
     add_named(text, b"pause kept ", kept);
     add_named(text, b" dead ", dead);
     add_named(text, b" crew ", crew);
     add_named(text, b" traced ", traced);
     add(text, b" walked ");
+    add(text, digit_of(walked));
+}
+
+fn digit_of(walked: bool) -> &'static [u8]
+    ensures value { result.now ≡ spec.digit_of walked }
+    ensures short { length result.now ≤ 1 }
+{
     if walked {
-        add(text, b"1");
+        b"1".as_slice()
     } else {
-        add(text, b"0");
+        b"0".as_slice()
     }
 }
 
 fn add_prefinalise(text: &mut Text, k: u32, c: u32)
-    requires { array_vec_len text.old ≡ 0 }
-    ensures items { text.new.items ≡ text.old.items ++ line_text (Line.Prefinalise k c) }
-    ensures len { array_vec_len text.new ≤ 200 }
+    requires { length text.old ≤ 65280 }
+    ensures items { text.new ≡ text.old ++ line_text (Line.Prefinalise k c) }
+    ensures len { length text.new ≤ length text.old + 200 }
 {
     add_named(text, b"prefinalise ", k);
     add_named(text, b" ", c);
 }
 
 fn add_totals(text: &mut Text, name: &[u8], n: u32, u: u32, g: u32)
-    requires empty { array_vec_len text.old ≡ 0 }
+    requires room { length text.old ≤ 65280 }
     requires short { length name.now ≤ 10 }
-    ensures items { text.new.items ≡ text.old.items ++ (name.now ++ totals_text n u g) }
-    ensures len { array_vec_len text.new ≤ 200 }
+    ensures items { text.new ≡ text.old ++ (name.now ++ totals_text n u g) }
+    ensures len { length text.new ≤ length text.old + 200 }
 {
     add(text, name);
     add_named(text, b"objects ", n);
@@ -143,9 +157,9 @@ fn add_totals(text: &mut Text, name: &[u8], n: u32, u: u32, g: u32)
 }
 
 fn add_summary(text: &mut Text, c: u64, y: u64, n: u64, u: u64, f: u64, full: u64)
-    requires { array_vec_len text.old ≡ 0 }
-    ensures items { text.new.items ≡ text.old.items ++ summary_text c y n u f full }
-    ensures len { array_vec_len text.new ≤ 200 }
+    requires { length text.old ≤ 65280 }
+    ensures items { text.new ≡ text.old ++ summary_text c y n u f full }
+    ensures len { length text.new ≤ length text.old + 200 }
 {
     add_wide(text, b"summary commands ", c);
     add_wide(text, b" cycles ", y);

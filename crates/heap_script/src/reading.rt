@@ -4,7 +4,7 @@ ghost use Rattle.std.specs.Prelude.{ℕ, ◌+◌, ◌<◌, ◌≤◌, length, If
 ghost use Rattle.heap_script.specs.Causes.{Rose};
 ghost use Rattle.heap_script.specs.Devices.{IsReadFrom};
 
-use super::devices::Source;
+use super::devices::{PIECE, Source};
 use std::alloc::Global;
 use thiserror::Error;
 
@@ -16,8 +16,6 @@ pub enum ReadError {
     #[error("no memory")]
     Memory,
 }
-
-const PIECE: usize = 16_384;
 
 /// The bytes that are left, but at most one more than the limit. When memory is wanting is free.
 pub fn read_whole<S: Source>(

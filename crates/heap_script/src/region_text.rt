@@ -1,17 +1,16 @@
 // The text of what threads did to the region, and of what they were answered.
 
 ghost use Rattle.std.specs.Prelude.{◌≡◌, ◌+◌, ◌≤◌, ◌++◌, length, codes, decimal};
-ghost use Rattle.arrayvec.specs.ArrayVec.{array_vec_len};
 ghost use Rattle.gc_graph.specs.Report.{entry_text, op_text, reply_text, seen_text};
 
 use super::text::{Text, add, add_named, add_wide};
 use gc_graph::{Entry, Op, Reply};
 
 pub(crate) fn add_reply(text: &mut Text, j: u32, reply: Reply)
-    requires { array_vec_len text.old ≡ 0 }
-    ensures items { text.new.items
-        ≡ text.old.items ++ (codes "reply " ++ decimal j ++ codes " " ++ reply_text reply) }
-    ensures len { array_vec_len text.new ≤ 200 }
+    requires { length text.old ≤ 65280 }
+    ensures items { text.new
+        ≡ text.old ++ (codes "reply " ++ decimal j ++ codes " " ++ reply_text reply) }
+    ensures len { length text.new ≤ length text.old + 200 }
 {
     add_named(text, b"reply ", j);
     add(text, b" ");
@@ -20,10 +19,10 @@ pub(crate) fn add_reply(text: &mut Text, j: u32, reply: Reply)
 
 /// The totals that a thread has seen.
 pub(crate) fn add_seen(text: &mut Text, j: u32, o: u64, n: u64, u: u64, f: u64)
-    requires { array_vec_len text.old ≡ 0 }
-    ensures items { text.new.items
-        ≡ text.old.items ++ (codes "reply " ++ decimal j ++ codes " totals " ++ seen_text o n u f) }
-    ensures len { array_vec_len text.new ≤ 200 }
+    requires { length text.old ≤ 65280 }
+    ensures items { text.new
+        ≡ text.old ++ (codes "reply " ++ decimal j ++ codes " totals " ++ seen_text o n u f) }
+    ensures len { length text.new ≤ length text.old + 200 }
 {
     add_named(text, b"reply ", j);
     add_wide(text, b" totals ", o);
@@ -33,9 +32,9 @@ pub(crate) fn add_seen(text: &mut Text, j: u32, o: u64, n: u64, u: u64, f: u64)
 }
 
 pub(crate) fn add_entry(text: &mut Text, entry: Entry)
-    requires { array_vec_len text.old ≡ 0 }
-    ensures items { text.new.items ≡ text.old.items ++ entry_text entry }
-    ensures len { array_vec_len text.new ≤ 200 }
+    requires { length text.old ≤ 65280 }
+    ensures items { text.new ≡ text.old ++ entry_text entry }
+    ensures len { length text.new ≤ length text.old + 200 }
 {
     add_named(text, b"entry ", entry.thread);
     add(text, b" ");
@@ -45,9 +44,9 @@ pub(crate) fn add_entry(text: &mut Text, entry: Entry)
 }
 
 fn add_op(text: &mut Text, op: Op)
-    requires { array_vec_len text.old ≤ 100 }
-    ensures items { text.new.items ≡ text.old.items ++ op_text op }
-    ensures len { array_vec_len text.new ≤ array_vec_len text.old + 40 }
+    requires { length text.old ≤ 65400 }
+    ensures items { text.new ≡ text.old ++ op_text op }
+    ensures len { length text.new ≤ length text.old + 40 }
 {
     match op {
         Op::Export { slot, node } => add_both(text, b"export ", slot, node),
@@ -62,20 +61,20 @@ fn add_op(text: &mut Text, op: Op)
 }
 
 fn add_both(text: &mut Text, name: &[u8], one: u32, other: u32)
-    requires room { array_vec_len text.old ≤ 100 }
+    requires room { length text.old ≤ 65400 }
     requires short { length name.now ≤ 10 }
-    ensures items { text.new.items
-        ≡ text.old.items ++ (name.now ++ decimal one ++ codes " " ++ decimal other) }
-    ensures len { array_vec_len text.new ≤ array_vec_len text.old + 40 }
+    ensures items { text.new
+        ≡ text.old ++ (name.now ++ decimal one ++ codes " " ++ decimal other) }
+    ensures len { length text.new ≤ length text.old + 40 }
 {
     add_named(text, name, one);
     add_named(text, b" ", other);
 }
 
 fn add_answer(text: &mut Text, reply: Reply)
-    requires { array_vec_len text.old ≤ 150 }
-    ensures items { text.new.items ≡ text.old.items ++ reply_text reply }
-    ensures len { array_vec_len text.new ≤ array_vec_len text.old + 20 }
+    requires { length text.old ≤ 65500 }
+    ensures items { text.new ≡ text.old ++ reply_text reply }
+    ensures len { length text.new ≤ length text.old + 20 }
 {
     match reply {
         Reply::Done => add(text, b"done"),

@@ -3,7 +3,7 @@
 mod printing;
 
 use super::*;
-use gc_graph::{Command, Want};
+use gc_graph::{Command, Line, Want};
 use std::alloc::Global;
 use std::test::Fail;
 
@@ -113,16 +113,28 @@ fn devices_fail_where_they_are_told(rt: HostRuntime) -> Result<(), Fail> {
     assert!(rt; failed);
     let rest = read_whole(alloc, &mut source, 100)?;
     assert_eq!(rt; rest.as_slice(), b"ef".as_slice());
-    let mut sink = ListSink::new(alloc, 4, Vec::from_slice(alloc, &[2])?);
-    sink.reserve(6)?;
-    assert!(rt; put(b"abcdef", &mut sink).is_err());
-    assert_eq!(rt; sink.bytes(), b"abcd".as_slice());
-    put(b"gh", &mut sink)?;
-    assert!(rt; put(b"i", &mut sink).is_err());
-    assert_eq!(rt; sink.bytes(), b"abcdgh".as_slice());
     let mut steady = SteadySource::new(Vec::from_slice(alloc, b"abc")?);
     let some = read_whole(alloc, &mut steady, 1)?;
     assert_eq!(rt; some.as_slice(), b"ab".as_slice());
-    put(b"abc", &mut SteadySink::new())?;
+    Ok(())
+}
+
+#[test]
+fn held_text_goes_on_after_a_failed_write(rt: HostRuntime) -> Result<(), Fail> {
+    let alloc = rt.alloc();
+    let mut sink = ListSink::new(alloc, 4, Vec::from_slice(alloc, &[2])?);
+    sink.reserve(8)?;
+    let mut pieces = Pieces::new(alloc)?;
+    print_line(&Line::Null, &mut pieces, &mut sink)?;
+    assert_eq!(rt; sink.bytes(), b"".as_slice());
+    assert!(rt; pieces.hand_down(&mut sink).is_err());
+    assert_eq!(rt; sink.bytes(), b"null".as_slice());
+    print_line(&Line::Fine, &mut pieces, &mut sink)?;
+    pieces.hand_down(&mut sink)?;
+    assert_eq!(rt; sink.bytes(), b"null\nok\n".as_slice());
+    print_line(&Line::Full, &mut pieces, &mut sink)?;
+    assert!(rt; pieces.hand_down(&mut sink).is_err());
+    assert_eq!(rt; sink.bytes(), b"null\nok\n".as_slice());
+    pieces.hand_down(&mut SteadySink::new())?;
     Ok(())
 }

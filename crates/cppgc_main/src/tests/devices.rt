@@ -1,11 +1,7 @@
 // Devices that fail at each call in turn.
 
-ghost use Rattle.std.specs.Prelude.{◌≤◌};
-
 use super::{DeviceSetup, STEADY, try_with};
 use crate::status::Status;
-use std::alloc::Global;
-use std::process::Abort;
 use std::test::Fail;
 
 const SCRIPT: &[u8] = b"oilpan 1\ntype S\nnew 0 0\ndrop 0\ngc now precise\nsweep all\n";
@@ -13,9 +9,6 @@ const SCRIPT: &[u8] = b"oilpan 1\ntype S\nnew 0 0\ndrop 0\ngc now precise\nsweep
 const REPORT: &[u8] =
     b"type 0\nnode 0 at 0\nok\npause kept 0 dead 1 crew 0 traced 0 walked 0\nfinalise 0\n\
 swept to 64\nend objects 0 used 0 pages 0\n";
-
-// The lengths of the report after each of its lines.
-const LINE_ENDS: [usize; 7] = [7, 19, 22, 67, 78, 90, 119];
 
 #[test]
 fn failed_read_is_answered_and_nothing_is_written(rt: HostRuntime) -> Result<(), Fail> {
@@ -54,19 +47,35 @@ fn failed_write_leaves_what_was_written_before(rt: HostRuntime) -> Result<(), Fa
     Ok(())
 }
 
-// The lengths of the report after each of its pieces, where each line goes out by sevens.
-const SEVENS: [usize; 18] = [
-    7, 14, 19, 22, 29, 36, 43, 50, 57, 64, 67, 74, 78, 85, 90, 97, 104, 111,
+#[test]
+fn short_report_goes_out_in_one_write(rt: HostRuntime) -> Result<(), Fail> {
+    let alloc = rt.alloc();
+    for (bad_write, status, written) in [
+        (1, Status::WriteFault, b"".as_slice()),
+        (2, Status::Done, REPORT),
+    ] {
+        let devices = DeviceSetup {
+            bad_write,
+            ..STEADY
+        };
+        let trial = try_with(alloc, Vec::from_slice(alloc, SCRIPT)?, devices)?;
+        assert_eq!(rt; trial.status, status, "call {bad_write}");
+        assert_eq!(rt; trial.sink.bytes(), written, "call {bad_write}");
+    }
+    Ok(())
+}
+
+// What is written before each call, where the 119 bytes of the report go out by sevens.
+const SEVENS: [usize; 17] = [
+    0, 7, 14, 21, 28, 35, 42, 49, 56, 63, 70, 77, 84, 91, 98, 105, 112,
 ];
 
-// What was written before each call that fails is all the pieces before it.
-fn fail_each_write(rt: &impl Abort, alloc: Global, most: usize, ends: &[usize]) -> Result<(), Fail>
-    requires { 1 ≤ most }
-{
-    let mut before = 0;
-    for (end, bad_write) in ends.iter().zip(1u32..) {
+#[test]
+fn short_report_goes_out_by_sevens(rt: HostRuntime) -> Result<(), Fail> {
+    let alloc = rt.alloc();
+    for (before, bad_write) in SEVENS.into_iter().zip(1u32..) {
         let devices = DeviceSetup {
-            most,
+            most: 7,
             bad_write,
             ..STEADY
         };
@@ -74,19 +83,8 @@ fn fail_each_write(rt: &impl Abort, alloc: Global, most: usize, ends: &[usize]) 
         assert_eq!(rt; trial.status, Status::WriteFault, "call {bad_write}");
         let written = REPORT.get(..before).unwrap_or(b"");
         assert_eq!(rt; trial.sink.bytes(), written, "call {bad_write}");
-        before = *end;
     }
     Ok(())
-}
-
-#[test]
-fn each_line_goes_out_in_one_write(rt: HostRuntime) -> Result<(), Fail> {
-    fail_each_write(&rt, rt.alloc(), 1_000_000, &LINE_ENDS)
-}
-
-#[test]
-fn each_line_goes_out_by_sevens(rt: HostRuntime) -> Result<(), Fail> {
-    fail_each_write(&rt, rt.alloc(), 7, &SEVENS)
 }
 
 #[test]

@@ -1,6 +1,6 @@
 // Each line of a report. The texts are by hand, from the report's forms.
 
-use crate::{ListSink, print_line};
+use crate::{ListSink, Pieces, print_line};
 use gc_graph::{Entry, Line, Op, Refusal, Reply};
 use std::test::Fail;
 
@@ -138,29 +138,49 @@ const ENTRIES: [(u32, Op, Reply, &[u8]); 8] = [
     ),
 ];
 
-fn printed(line: &Line, sink: &mut ListSink, wanted: &[u8]) -> Result<bool, Fail> {
+fn printed(
+    line: &Line,
+    pieces: &mut Pieces,
+    sink: &mut ListSink,
+    wanted: &[u8],
+) -> Result<bool, Fail> {
     let before = sink.bytes().len();
-    print_line(line, sink)?;
-    Ok(&sink.bytes()[before..] == wanted)
+    print_line(line, pieces, sink)?;
+    let is_held = sink.bytes().len() == before;
+    pieces.hand_down(sink)?;
+    Ok(is_held && sink.bytes().get(before..).unwrap_or(b"") == wanted)
 }
 
 #[test]
 fn report_lines_are_printed(rt: HostRuntime) -> Result<(), Fail> {
     let mut sink = ListSink::new(rt.alloc(), 5, Vec::new(rt.alloc()));
     sink.reserve(2000)?;
+    let mut pieces = Pieces::new(rt.alloc())?;
     for (line, wanted) in ANSWERS {
-        assert!(rt; printed(&line, &mut sink, wanted)?, "{wanted:?}");
+        assert!(rt;
+            printed(&line, &mut pieces, &mut sink, wanted)?,
+            "{wanted:?}"
+        );
     }
     for (line, wanted) in TOTALS {
-        assert!(rt; printed(&line, &mut sink, wanted)?, "{wanted:?}");
+        assert!(rt;
+            printed(&line, &mut pieces, &mut sink, wanted)?,
+            "{wanted:?}"
+        );
     }
     for (j, reply, wanted) in ANSWERED {
         let line = Line::Reply { j, reply };
-        assert!(rt; printed(&line, &mut sink, wanted)?, "{wanted:?}");
+        assert!(rt;
+            printed(&line, &mut pieces, &mut sink, wanted)?,
+            "{wanted:?}"
+        );
     }
     for (thread, op, reply, wanted) in ENTRIES {
         let line = Line::Entry(Entry { thread, op, reply });
-        assert!(rt; printed(&line, &mut sink, wanted)?, "{wanted:?}");
+        assert!(rt;
+            printed(&line, &mut pieces, &mut sink, wanted)?,
+            "{wanted:?}"
+        );
     }
     Ok(())
 }

@@ -1,6 +1,7 @@
 use Rattle.std.proofs.Common.{rules}
 use Rattle.cppgc_main.proofs.Printing.{printed_more, printed_part}
 use Rattle.cppgc_main.proofs.Phases.{idle_more, built_next}
+use Rattle.cppgc_main.proofs.HeldBack.{taken_on}
 use Rattle.cppgc_main.proofs.report.print_all.Goals as goal
 
 pub print_outcome-requires-clause-built : goal.print_outcome-requires-clause-built
@@ -23,7 +24,11 @@ loop-command-preserved g c = record {
       c.requires.built c.loop-command.invariant.calm c.loop-command.invariant.idle c.print_outcome.ensures.step;
   opened = search rules;
   later = search rules;
+  taken = taken_on _ _ _ c.loop-command.invariant.taken c.print_outcome.ensures.taken;
   printed =
       printed_more c.args.heap.now.setup c.loop-command.heap.state c.print_outcome.new.heap c.args.commands.now c.loop-command.command-index _ _ _ _ c.loop-command-test.true
       c.loop-command.invariant.printed (rw c.loop-command.invariant.setup at c.print_outcome.ensures.step) c.print_outcome.ensures.alone c.in-Ok.ensures.bytes;
 }
+
+pub returns-in-Err-clause-taken : goal.returns-in-Err-clause-taken
+returns-in-Err-clause-taken g c = taken_on _ _ _ c.loop-command.invariant.taken c.print_outcome.ensures.taken

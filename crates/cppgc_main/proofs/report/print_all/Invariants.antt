@@ -1,6 +1,7 @@
 use Rattle.std.proofs.Common.{◌≡◌, ◌≤◌, false, take}
 use Rattle.gc_graph.specs.CycleSteps.{is_marking}
 use Rattle.heap_script.specs.Built.{is_sweep_open}
+use Rattle.heap_script.specs.Pieces.{with_held, TookMore}
 use Rattle.cppgc_main.proofs.Phases.{IsIdleUnless}
 use Rattle.cppgc_main.specs.Printed.{IsPrintedRun}
 use Rattle.cppgc_main.proofs.report.print_all.Given as goal
@@ -13,6 +14,7 @@ invariant-loop-command g l = record {
   idle : IsIdleUnless (is_sweep_open (take l.command-index l.commands)) l.heap.state;
   opened : l.heap.closed ≡ false;
   later : g.K.Sink.faults l.initial.sink ≤ g.K.Sink.faults l.sink;
+  taken : TookMore (g.K.Sink.written l.initial.sink) (g.K.Sink.written l.sink);
   printed : IsPrintedRun l.initial.heap.setup (take l.command-index l.commands)
-      (g.K.Sink.written l.initial.sink) (g.K.Sink.written l.sink) l.heap.state;
+      (with_held (g.K.Sink.written l.initial.sink) l.initial.pieces) (with_held (g.K.Sink.written l.sink) l.pieces) l.heap.state;
 }

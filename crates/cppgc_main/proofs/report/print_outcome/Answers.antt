@@ -1,6 +1,8 @@
 use Rattle.std.proofs.Common.{◌≡◌, refl, rules, Some}
 use Rattle.std.specs.List.{slice_get}
+use Rattle.heap_script.specs.Pieces.{with_held}
 use Rattle.cppgc_main.proofs.Writing.{line_more, line_fails}
+use Rattle.cppgc_main.proofs.HeldBack.{taken_on}
 use Rattle.cppgc_main.proofs.report.print_outcome.Goals as goal
 
 pub returns-in-Err-clause-bytes : goal.returns-in-Err-clause-bytes
@@ -16,5 +18,10 @@ loop-index-preserved g c =
     record {
       same = search rules;
       later = search rules;
-      printed = line_more _ _ _ c.act-count.new.self.lines c.loop-index.index _ c.line-line.result at refl c.loop-index.invariant.printed c.in-Ok.ensures.bytes;
+      taken = taken_on _ _ _ c.loop-index.invariant.taken c.print_line.ensures.taken;
+      printed = line_more (with_held (g.K.Sink.written c.args.sink.now) c.args.pieces.now) (with_held (g.K.Sink.written c.loop-index.sink) c.loop-index.pieces)
+          (with_held (g.K.Sink.written c.print_line.new.sink) c.print_line.new.pieces) c.act-count.new.self.lines c.loop-index.index _ c.line-line.result at refl c.loop-index.invariant.printed c.in-Ok.ensures.bytes;
     }
+
+pub returns-in-Err-clause-taken : goal.returns-in-Err-clause-taken
+returns-in-Err-clause-taken g c = taken_on _ _ _ c.loop-index.invariant.taken c.print_line.ensures.taken

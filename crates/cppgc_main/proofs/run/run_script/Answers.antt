@@ -8,4 +8,4 @@ pub returns-in-Ok-print_report-clause-answer : goal.returns-in-Ok-print_report-c
 returns-in-Ok-print_report-clause-answer g c =
     subst
     (λ (shape : Shape). IsWholeRun shape c.args.script.now (g.K.Sink.written c.args.sink.now) (g.K.Sink.written c.print_report.new.sink) c.print_report.new.heap)
-    (ap (λ (s : Setup). s.shape) c.in-Ok.ensures.setup) c.in-Ok-print_report.ensures.done
+    (ap (λ (s : Setup). s.shape) c.in-Ok-new.ensures.setup) c.in-Ok-print_report.ensures.done

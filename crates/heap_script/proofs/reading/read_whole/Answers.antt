@@ -1,7 +1,7 @@
 use Rattle.std.proofs.Common.{rules, ◌≡◌, ◌++◌, take, drop, arith}
 use Rattle.std.proofs.lemmas.Grind.{common_steps}
 use Rattle.std.proofs.lemmas.List.{take-append-le}
-use Rattle.heap_script.proofs.Pieces.{read_more, read_to_end}
+use Rattle.heap_script.proofs.PieceByPiece.{read_more, read_to_end}
 use Rattle.heap_script.proofs.reading.read_whole.Goals as goal
 
 pub returns-then-count-eq0-clause-bytes : goal.returns-then-count-eq0-clause-bytes

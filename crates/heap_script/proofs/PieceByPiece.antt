@@ -1,8 +1,9 @@
--- Reading piece by piece.
-use Rattle.std.proofs.Common.{◌≡◌, ℕ, ◌+◌, ◌-◌, ◌≤◌, List, [], ◌∷◌, ◌++◌, length, take, drop, Option, Some, None, refl, sym, ap, ◌∙◌, subst, arith}
+-- Reading and writing piece by piece.
+use Rattle.std.proofs.Common.{◌≡◌, ℕ, ◌+◌, ◌-◌, ◌≤◌, List, [], ◌++◌, length, take, drop, Option, Some, None, refl, sym, ap, ◌∙◌, subst, arith}
 use Rattle.std.proofs.lemmas.List.{take_all, drop-drop, append-nil, append_assoc, take-append-drop, length-append, length-take-le, length-drop}
 use Rattle.std.proofs.Math.Seq.{take-add}
-use Rattle.heap_script.specs.Devices.{Takes, TakesFrom, IsReadFrom, IsReadUpTo, Grew, GrewByFront, IsWrittenUpTo}
+use Rattle.heap_script.specs.Devices.{Takes, TakesFrom, IsReadFrom, IsReadUpTo, Grew}
+use Rattle.heap_script.specs.Pieces.{PiecesState, with_held, TookMore}
 
 -- one more piece
 more : (old bytes rest buffer piece : List ℕ) (n : ℕ) → bytes ≡ take (length bytes) old → length bytes ≤ length old
@@ -43,30 +44,32 @@ read_past_limit None now bytes limit e r = r
 read_past_limit (Some old) now bytes limit e r = (r.0 ∙ ap (λ k. take k old) e, r.2)
 
 -- ---- writing
-pub Grew-none : (a : Option (List ℕ)) → Grew a a []
-Grew-none None = refl
-Grew-none (Some old) = ap Some (sym (append-nil old))
 
 pub Grew-then : (a b c : Option (List ℕ)) (s t : List ℕ) → Grew a b s → Grew b c t → Grew a c (s ++ t)
 Grew-then None b c s t x y = subst (λ o. Grew o c t) x y
 Grew-then (Some old) b c s t x y = subst (λ o. Grew o c t) x y ∙ ap Some (append_assoc old s t)
 
-pub written_more : (a b c : Option (List ℕ)) (text rest : List ℕ) (n : ℕ) → IsWrittenUpTo a b text rest → Grew b c (take n rest) → IsWrittenUpTo a c text (drop n rest)
-written_more a b c text rest n w g = (
-  w.0 ++ take n rest,
-  w.1 ∙ ap (λ r. w.0 ++ r) (sym (take-append-drop n rest)) ∙ sym (append_assoc w.0 (take n rest) (drop n rest)),
-  Grew-then a b c w.0 (take n rest) w.2 g,
-)
+pub none_taken : (a : Option (List ℕ)) → TookMore a a
+none_taken None = record { text = []; grew = refl }
+none_taken (Some old) = record { text = []; grew = ap Some (sym (append-nil old)) }
 
-pub written_all : (a b : Option (List ℕ)) (text rest : List ℕ) → length rest ≡ 0 → IsWrittenUpTo a b text rest → Grew a b text
-written_all a b text [] e w = subst (λ t. Grew a b t) (sym (w.1 ∙ append-nil w.0)) w.2
-written_all a b text (x ∷ xs) e w = absurd (omega arith)
+pub taken_more : (a b c : Option (List ℕ)) (text : List ℕ) → TookMore a b → Grew b c text → TookMore a c
+taken_more a b c text m g = record { text = m.text ++ text; grew = Grew-then a b c m.text text m.grew g }
 
-pub written_front : (a b : Option (List ℕ)) (text rest : List ℕ) → IsWrittenUpTo a b text rest → GrewByFront a b text
-written_front a b text rest w = (w.0, rest, w.1, w.2)
+-- what the sink takes from the front of what is held is no longer held
+pub same_told : (a b : Option (List ℕ)) (old new : PiecesState) (n : ℕ) → Grew a b (take n old.held) → new.held ≡ drop n old.held
+    → with_held b new ≡ with_held a old
+same_told None b old new n g e = ap (λ (o : Option (List ℕ)). with_held o new) g
+same_told (Some taken) b old new n g e =
+    ap (λ (o : Option (List ℕ)). with_held o new) g
+    ∙ ap Some (
+    append_assoc taken (take n old.held) new.held
+    ∙ ap (λ (h : List ℕ). taken ++ h) (ap (λ (h : List ℕ). take n old.held ++ h) e ∙ take-append-drop n old.held)
+    )
 
-pub written_more_to : (a b c : Option (List ℕ)) (text rest next : List ℕ) (n : ℕ) → IsWrittenUpTo a b text rest → Grew b c (take n rest)
-    → next ≡ drop n rest → IsWrittenUpTo a c text next
-written_more_to a b c text rest next n w g e = subst (λ r. IsWrittenUpTo a c text r) (sym e) (written_more a b c text rest n w g)
-
-pub ruleset written_steps = (Grew-none, written_all, written_front)
+-- the sink took n bytes more of a piece, of which some were sent before
+pub sent_more : (a b : Option (List ℕ)) (bytes piece : List ℕ) (sent n room : ℕ) → piece ≡ drop sent bytes → Grew a b (take n piece)
+    → with_held b (record { held = drop (sent + n) bytes; room = room }) ≡ with_held a (record { held = drop sent bytes; room = room })
+sent_more a b bytes piece sent n room is g =
+    same_told a b (record { held = drop sent bytes; room = room }) (record { held = drop (sent + n) bytes; room = room }) n
+    (subst (λ (p : List ℕ). Grew a b (take n p)) is g) (sym (drop-drop n sent bytes))

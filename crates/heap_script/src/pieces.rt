@@ -1,0 +1,92 @@
+// Text that is held back, so that it goes to a sink in large pieces.
+
+ghost use Rattle.std.specs.Prelude.{◌≡◌, ◌≤◌, ◌++◌, IfOk, OnOk};
+ghost use Rattle.gc_graph.specs.Report.{line_bytes};
+ghost use Rattle.heap_script.specs.Causes.{HasCause};
+ghost use Rattle.heap_script.specs.Pieces.{no_pieces, with_held, TookMore};
+
+use super::devices::{Failed, PIECE, Sink};
+use super::line_text::add_whole_line;
+use super::text::Text;
+use gc_graph::{Line, NoMemory};
+use std::alloc::Global;
+use std::marker::Model;
+
+// A line with its end has fewer bytes.
+const LONGEST: usize = 256;
+
+/// Text on its way to a sink. Its memory is taken once, and after a failed write it goes on with
+/// the first byte that the sink didn't take.
+#[derive(Drop)]
+pub struct Pieces {
+    text: Text,
+    sent: usize,
+}
+
+impl Model for Pieces {
+    ghost use Rattle.std.specs.Prelude.{◌≤◌, ◌-◌, drop, length};
+    ghost use Rattle.heap_script.specs.Pieces.{PiecesState};
+
+    ghost Value = { PiecesState };
+
+    ghost view = { λ s. record {
+      held = drop s.sent s.text;
+      room = 65536 - length s.text;
+    } };
+
+    ghost invariant = { λ s. s.sent ≤ length s.text };
+}
+
+impl Pieces {
+    /// Room for one piece.
+    pub fn new(alloc: Global) -> Result<Pieces, NoMemory>
+        ensures { IfOk result (λ pieces. pieces ≡ no_pieces) }
+    {
+        match Text::new(alloc) {
+            Ok(text) => Ok(Pieces { text, sent: 0 }),
+            Err(_) => Err(NoMemory),
+        }
+    }
+
+    /// Hands down all that is held. After a failure the rest is still held.
+    #[tactic(auto, using(crate::proofs::PieceByPiece::none_taken))]
+    pub fn hand_down<K: Sink>(&mut self, sink: &mut K) -> Result<(), Failed>
+        ensures told { with_held (K.written sink.new) self.new
+            ≡ with_held (K.written sink.old) self.old }
+        ensures empty { OnOk result (self.new ≡ no_pieces) }
+        ensures taken { TookMore (K.written sink.old) (K.written sink.new) }
+        ensures cause { HasCause (K.faults sink.old) (K.faults sink.new) result }
+    {
+        while self.sent < self.text.as_slice().len() {
+            match sink.write(&self.text.as_slice()[self.sent..]) {
+                Ok(count) => self.sent += count,
+                Err(failed) => return Err(failed),
+            }
+        }
+        self.text.clear();
+        self.sent = 0;
+        Ok(())
+    }
+
+    /// Hands down what is held where another line may have no room.
+    #[tactic(auto, using(crate::proofs::PieceByPiece::none_taken))]
+    pub(crate) fn make_room<K: Sink>(&mut self, sink: &mut K) -> Result<(), Failed>
+        ensures told { with_held (K.written sink.new) self.new
+            ≡ with_held (K.written sink.old) self.old }
+        ensures room { OnOk result (256 ≤ self.new.room) }
+        ensures taken { TookMore (K.written sink.old) (K.written sink.new) }
+        ensures cause { HasCause (K.faults sink.old) (K.faults sink.new) result }
+    {
+        if self.text.as_slice().len() <= PIECE - LONGEST {
+            return Ok(());
+        }
+        self.hand_down(sink)
+    }
+
+    pub(crate) fn keep(&mut self, line: &Line)
+        requires { 256 ≤ self.old.room }
+        ensures { self.new.held ≡ self.old.held ++ line_bytes line.now }
+    {
+        add_whole_line(&mut self.text, line);
+    }
+}
