@@ -5,9 +5,12 @@
 //!
 //! The parts: `Space` with `new`, `find` and `find_empty` (where a new object goes), `occupy` and
 //! `free` (an object that comes or goes), `next_object`, `page_bucket` and the readers of one
-//! object, and `objects`, `used` and `pages_in_use`, which are kept as counts. Inside, a table
-//! tells of each page how many objects have a word in it, and their bucket. The next level down
-//! is `page_words`.
+//! object, and `objects`, `used` and `pages_in_use`, which are kept as counts; `survey`, which
+//! looks at a page again after a sweep. Inside, a table tells of each page how many objects have
+//! a word in it, and their bucket, and `gaps` remembers where a search is worth its time: bounds
+//! for the gaps that begin in each block of 64 words of a page (`tree`), the lowest word that may
+//! be free, and for each size the lowest page worth a look. `walking` goes from object to object,
+//! `surveying` works the bounds out. The next level down is `page_words`.
 //!
 //! | size in words | bucket |
 //! |---|---|
@@ -20,9 +23,10 @@
 //! What is proved: `find` and `find_empty` answer the lowest place, and none exactly where there
 //! is none. `occupy` publishes an object whose fields are null, and `free` takes one away. After
 //! each of them small objects lie in one page, large ones share none, and the counts are right.
+//! No gap is longer than what is remembered says, so no answer depends on it.
 //!
 //! What is only tested or not said: that `Space::new` succeeds where there is memory is tested.
-//! How long a search takes is not said.
+//! How long a search takes is not said; `bench` measures it.
 #![tactic(auto)]
 
 mod changing;
