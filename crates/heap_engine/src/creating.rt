@@ -44,6 +44,9 @@ impl Heap {
                 self.state = states::made(&self.state, p, t, fields, extra, place);
             }
             None => {
+                // The next search for the size needs no look at these pages.
+                let pages = self.space.pages();
+                self.space.pass_by(&mut self.seat, size, pages);
                 self.outcome.end(Line::Full);
                 self.state = states::full(&self.state);
             }

@@ -56,6 +56,9 @@ impl Space {
             (IsFreePlace self.now.shape (extents_of_bodies seat.old.bodies) size) }
         ensures view { seat.new ≡ seat.old }
     {
+        if self.table.in_use() == self.pages {
+            return None;
+        }
         let count = self.pages_for(size);
         // The pages from `since` up to the one at hand hold no object.
         let mut since = 0;

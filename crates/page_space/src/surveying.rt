@@ -195,10 +195,11 @@ impl Space {
         until.saturating_add(self.gaps.bound(page, k + 1))
     }
 
-    /// Passes by the pages below this one that have no room for the size, from the next search on.
-    pub(crate) fn pass_by(&mut self, seat: &mut MutatorSeat, size: u32, page: u32)
+    /// Passes by the pages below this one that have no room for the size, from the next search on:
+    /// after a search that found nothing, for one. The answers of searches are the same.
+    pub fn pass_by(&mut self, seat: &mut MutatorSeat, size: u32, page: u32)
         requires space { IsSpaceOf self.old seat.old }
-        requires page { page < self.old.shape.pages }
+        requires page { page ≤ self.old.shape.pages }
         ensures space { IsSpaceOf self.new seat.new }
         ensures shape { self.new.shape ≡ self.old.shape }
         ensures view { seat.new ≡ seat.old }
@@ -214,7 +215,7 @@ impl Space {
     /// The first page worth a look for a small size, from `from` up to `to`, or `to`.
     fn first_worth(&self, seat: &mut MutatorSeat, from: u32, to: u32, size: u32) -> u32
         requires space { IsSpaceOf self.now seat.old }
-        requires to { to < self.now.shape.pages }
+        requires to { to ≤ self.now.shape.pages }
         ensures passed { (page : ℕ) → from ≤ page → page < result → HasBucket
             self.now.shape.page_words (extents_of_bodies seat.old.bodies) page
             (bucket_of self.now.shape.page_words size)

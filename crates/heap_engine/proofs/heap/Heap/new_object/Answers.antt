@@ -66,21 +66,22 @@ pub invariant_of-self-in-None : goal.invariant_of-self-in-None
 invariant_of-self-in-None c =
     let s : State = c.self.inside.state.value in
     let setup : Setup = setup_of c.self.inside in
-    let same : c.self.inside.seat ≡ c.find_place.new.seat = sym c.find_place.ensures.view in
+    let same : c.self.inside.seat ≡ c.pass_by.new.seat = sym (c.pass_by.ensures.view ∙ c.find_place.ensures.view) in
+    let same_setup : setup ≡ record setup { shape = c.pass_by.new.self.shape } = ap (λ sh. (let st : Setup = record setup { shape = sh } in st)) (sym c.pass_by.ensures.shape) in
     let few : s.ordinal < 1000000 = rw (← c.self.view_is) at c.requires.few in
     let to : full_state s ≡ c.full.result.value = sym c.full.ensures in
     record {
       types = c.self.invariant.types;
-      space = subst (IsSpaceOf c.self.inside.space) same c.self.invariant.space;
+      space = c.pass_by.ensures.space;
       phase = c.self.invariant.phase ∙ ap (λ (x : State). x.phase) to;
-      holds = subst (λ (x : State). Holds setup x c.find_place.new.seat) to
-          (subst (λ (w : SeatView). Holds setup (full_state s) w) same (holds_counted setup s (full_state s) c.self.inside.seat c.self.invariant.holds refl refl refl c.self.invariant.holds.valid.unused));
+      holds = subst (λ st. Holds st c.full.result.value c.pass_by.new.seat) same_setup (subst (λ (x : State). Holds setup x c.pass_by.new.seat) to
+          (subst (λ (w : SeatView). Holds setup (full_state s) w) same (holds_counted setup s (full_state s) c.self.inside.seat c.self.invariant.holds refl refl refl c.self.invariant.holds.valid.unused)));
       tallied = subst (λ (x : State). IsTallied x c.self.inside.made) to
           (tallied_on s (full_state s) c.self.inside.made c.self.invariant.tallied few refl refl);
       slots = subst (λ (x : State). HoldsSlotsOf x c.self.inside.slots.items) to
           (slots_counted s (full_state s) c.self.inside.slots.items c.self.invariant.slots refl refl);
       grey = c.self.invariant.grey;
-      room = omega (arith, c.self.invariant.room, ap (λ (o : Outcome). o.room) c.end-in-None.ensures, ap (λ (o : Outcome). o.room) c.begin.ensures);
+      room = omega (arith, c.self.invariant.room, ap (λ (o : Outcome). o.room) c.end-in-None.ensures, ap (λ (o : Outcome). o.room) c.begin.ensures, ap word_count c.pass_by.ensures.shape);
     }
 
 pub returns-in-Some-clause-step : goal.returns-in-Some-clause-step

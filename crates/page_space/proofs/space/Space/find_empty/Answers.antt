@@ -1,6 +1,9 @@
-use Rattle.std.proofs.Common.{◌≡◌, ◌+◌, ◌*◌, ◌<◌, sym, ap, ◌∙◌, subst, inr, arith}
+use Rattle.std.proofs.Common.{◌≡◌, ◌+◌, ◌*◌, ◌<◌, length, sym, ap, ◌∙◌, subst, inr, arith}
 use Rattle.gc_graph.specs.Placement.{StartsEmptyRun, IsLowest}
 use Rattle.page_space.specs.Space.{extents_of_bodies}
+use Rattle.page_space.specs.Pages.{IsShape, count_in_use}
+use Rattle.page_space.proofs.Shapes.{shape_words}
+use Rattle.page_space.proofs.UsedPages.{no_empty_run}
 use Rattle.page_space.proofs.EmptyRuns.{IsEmptySince, empty_more, run_found, run_nowhere}
 use Rattle.page_space.proofs.space.Space.find_empty.Goals as goal
 use Rattle.page_space.proofs.space.Space.find_empty.Goals.{else-since-page-via-then-since-page+else-page-since, else-since-page-via-else-since-page}
@@ -39,3 +42,12 @@ returns-clause-none c =
     let pages : c.self.inside.pages ≡ c.args.self.now.shape.pages = ap (λ s. s.shape.pages) c.self.view_is in
     run_nowhere c.args.self.now.shape _ c.args.size _ c.loop-page.page c.loop-page.since c.pages_for-count.ensures.enough (omega arith)
     c.loop-page.invariant.run c.loop-page.invariant.short
+
+pub returns-then-in_use-self-clause-none : goal.returns-then-in_use-self-clause-none
+returns-then-in_use-self-clause-none c =
+    let now = c.args.self.now in
+    let words = shape_words now.shape (subst IsShape (ap (λ s. s.shape) c.self.view_is) c.self.invariant.0) in
+    let pages : c.self.inside.pages ≡ now.shape.pages = ap (λ s. s.shape.pages) c.self.view_is in
+    no_empty_run now c.args.seat.now.count (extents_of_bodies c.args.seat.now.bodies) c.args.size (omega (arith, words.0)) (omega arith) c.requires.space
+    (sym (ap (λ s. length s.table.objects) c.self.view_is) ∙ c.self.invariant.2 ∙ pages)
+    (sym (ap (λ s. count_in_use s.table.objects) c.self.view_is) ∙ sym c.in_use.ensures ∙ c.if-in_use-self.true ∙ pages)
