@@ -1,11 +1,17 @@
 """The loads: scripts, the heap that each runs on, and what its report must tell."""
 
 import math
+from collections import Counter, deque
 from typing import Dict, List, NamedTuple
 
 PAGE_WORDS = 16_384
 COLLECTION = "gc now precise"
 SWEEP = "sweep all"
+
+# For mixed objects: how many fields a table has, and the slots of a new leaf and of the table in use.
+TABLE_FIELDS = 38
+LEAF_SLOT = 254
+TABLE_SLOT = 255
 
 
 class Load(NamedTuple):
@@ -64,55 +70,99 @@ def live_list(count, room, collections):
     return Load(["S"], linked(count) + [COLLECTION] * collections, tells, pages_for(room, 3))
 
 
-def mixed_size(number):
-    """Of each 39 objects in turn one has each size: first 40 words, and then 2 to 39 in mixed order."""
-    group, position = divmod(number, 39)
-    return 40 if position == 0 else 2 + (position * 17 + group * 5) % 38
+def leaf_size(number):
+    """Of each 38 leaves in turn one has each size, 2 to 39 words in mixed order."""
+    group, position = divmod(number, 38)
+    return 2 + (position * 17 + group * 5) % 38
 
 
-def mixed_pages(count):
-    """Pages for so many objects of mixed sizes, 21 words each on average, and a tenth more."""
-    return max(8, math.ceil(count * 21 * 1.1 / PAGE_WORDS))
+def new_leaf(number):
+    return f"new {LEAF_SLOT} 1 {leaf_size(number) - 2}"
 
 
 class Mixed:
-    """Lines of mixed objects. An object of 40 words is a table: its first field names the table before
-    it, and its other 37 fields name the later objects, which have no fields. A tenth of all objects is
-    named by none."""
+    """Lines of mixed objects: leaves, which have no fields, and tables of 40 words.
+
+    A position is a field of a table, and is free while it names no leaf. The tables are named by the
+    fields of root tables, and these by the slots from 0 on. No table is dropped."""
 
     def __init__(self):
-        self.lines, self.made, self.dropped, self.table, self.named = [], 0, 0, 0, 0
+        self.lines, self.tells, self.free = [], Counter(), deque()
+        self.roots, self.tables, self.leaves, self.standing = 0, 0, 0, 0
+
+    def write(self, position, value):
+        """Has a position name what the slot `value` names, or nothing if that is `-`."""
+        table, field = divmod(position, TABLE_FIELDS)
+        root, root_field = divmod(table, TABLE_FIELDS)
+        self.lines += [f"get {root} {root_field} {TABLE_SLOT}", f"set {TABLE_SLOT} {field} {value}"]
+
+    def make_leaf(self):
+        """A leaf goes to the position that has been free for the longest time."""
+        self.lines.append(new_leaf(self.leaves))
+        self.write(self.free.popleft(), LEAF_SLOT)
+        self.leaves += 1
+
+    def make_table(self):
+        root, field = divmod(self.tables, TABLE_FIELDS)
+        self.lines += [f"new {TABLE_SLOT} 0", f"set {root} {field} {TABLE_SLOT}"]
+        self.free.extend(range(TABLE_FIELDS * self.tables, TABLE_FIELDS * (self.tables + 1)))
+        self.tables += 1
+
+    def make_root(self):
+        self.lines.append(f"new {self.roots} 0")
+        self.roots += 1
 
     def make(self):
-        size = mixed_size(self.made)
-        self.made += 1
-        if size == 40:
-            self.table, self.named = 1 - self.table, 0
-            self.lines += [f"new {self.table} 0", f"set {self.table} 0 {1 - self.table}"]
-            return
-        self.lines.append(f"new 2 1 {size - 2}")
-        if 10 * (self.dropped + 1) <= self.made:
-            self.dropped += 1
+        """Makes an object: a leaf if a position is free, and else the table that is missing."""
+        if self.free:
+            self.make_leaf()
+        elif self.tables < TABLE_FIELDS * self.roots:
+            self.make_table()
         else:
-            self.named += 1
-            self.lines.append(f"set {self.table} {self.named} 2")
+            self.make_root()
+        self.standing += 1
+
+    def drop_tenth(self, shift):
+        """Drops a tenth as many leaves as objects stand: every tenth leaf, and in place of tables, of
+        which none is dropped, some of the leaves next after these."""
+        free = set(self.free)
+        taken = [position for position in range(TABLE_FIELDS * self.tables) if position not in free]
+        every_tenth, next_after = taken[shift % 10::10], taken[(shift + 1) % 10::10]
+        dropped = (every_tenth + next_after)[:self.standing // 10]
+        for position in dropped:
+            self.write(position, "-")
+        self.free.extend(dropped)
+        self.standing -= len(dropped)
+        self.tells[f"pause kept {self.standing} dead {len(dropped)} "] += 1
+
+    def collect(self):
+        self.lines += [f"drop {LEAF_SLOT}", f"drop {TABLE_SLOT}", COLLECTION, SWEEP]
 
 
-def mixed(count, every, room):
-    """Objects of 2 to 40 words, a tenth of them dropped, with a collection and a sweep after `every`."""
+def mixed_pages(standing):
+    """Pages for so many objects of mixed sizes, 21 words each on average, and 15 % more. Objects of four
+    buckets can leave three pages almost empty."""
+    return math.ceil(standing * 21 * 1.15 / PAGE_WORDS) + 3
+
+
+def mixed(rounds, every):
+    """Rounds of `every` new objects of 2 to 40 words, after which a tenth of the objects that stand is
+    dropped, collected and swept. At most ten times `every` stand at once, in however many rounds."""
     load = Mixed()
-    for number in range(1, count + 1):
-        load.make()
-        if number % every == 0:
-            load.lines += ["drop 2", COLLECTION, SWEEP]
-    tells = {"pause": count // every, "finalise": load.dropped, "full": 0, "refused": 0}
-    return Load(["S" * 38, "-"], load.lines, tells, mixed_pages(room))
+    for shift in range(rounds):
+        for _ in range(every):
+            load.make()
+        load.drop_tenth(shift)
+        load.collect()
+    nodes = sum(line.startswith(("new", "get")) for line in load.lines)
+    finalised = rounds * every - load.standing
+    tells = {**load.tells, "node": nodes, "finalise": finalised, "full": 0, "refused": 0}
+    return Load(["S" * TABLE_FIELDS, "-"], load.lines, tells, mixed_pages(10 * every))
 
 
 def mixed_news(count):
-    """New objects of 2 to 39 words, with no other lines between them."""
-    sizes = (mixed_size(number) for number in range(40 * count))
-    return [f"new 2 1 {size - 2}" for size, _ in zip((size for size in sizes if size < 40), range(count))]
+    """New leaves of mixed sizes, with no other lines between them."""
+    return [new_leaf(number) for number in range(count)]
 
 
 def page_with_holes(page_words):

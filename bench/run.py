@@ -115,7 +115,7 @@ class Bench:
         return loads.filling(times * self.count, 2 * self.count)
 
     def mixed(self, times):
-        return loads.mixed(times * self.count, self.every, 2 * self.count)
+        return loads.mixed(10 * times, self.every)
 
     def live_list(self, times, collections=20):
         return loads.live_list(times * self.count, 2 * self.count, collections)
