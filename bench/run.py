@@ -20,7 +20,7 @@ from loads import COLLECTION, SWEEP
 ROOT = os.path.dirname(os.path.dirname(os.path.abspath(__file__)))
 CRATE = os.path.join(ROOT, "crates", "cppgc_main")
 PROGRAM = os.path.join(CRATE, "out", "cppgc_main")
-TRIES = 5
+TRIES = 15
 
 RATIO_BAR = 2.3
 NEW_BAR = 2500

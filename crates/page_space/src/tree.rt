@@ -85,8 +85,18 @@ impl Tree {
         (node - self.blocks) as u32
     }
 
-    /// Changes the bound of block k.
+    /// Changes the bound of block k. Most bounds stay as they are when a page is surveyed again.
     pub fn set(&mut self, k: u32, bound: u32)
+        requires { k < length self.old }
+        ensures { self.new ≡ slice_set self.old k bound }
+    {
+        if self.bound(k) != bound {
+            self.change(k, bound);
+        }
+    }
+
+    /// Changes the bound of block k, and those of the nodes above it.
+    fn change(&mut self, k: u32, bound: u32)
         requires { k < length self.old }
         ensures { self.new ≡ slice_set self.old k bound }
     {

@@ -1,6 +1,6 @@
 use Rattle.std.proofs.Common.{◌≡◌, ◌*◌, ◌/◌, ◌<◌, ◌≤◌, length, drop}
 use Rattle.page_space.proofs.TreeNodes.{IsHeaped}
-use Rattle.page_space.proofs.tree.Tree.set.Given as goal
+use Rattle.page_space.proofs.tree.Tree.change.Given as goal
 
 abbrev pub invariant-loop-node : goal.invariant-loop-node
 invariant-loop-node l = record {
