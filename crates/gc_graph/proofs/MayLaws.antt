@@ -8,7 +8,7 @@ use Rattle.gc_graph.specs.declared.command.Command.TheVariants as C
 use Rattle.gc_graph.specs.declared.graph.Value.TheVariants.{Null}
 use Rattle.gc_graph.specs.declared.line.Line.{Line}
 use Rattle.gc_graph.specs.declared.line.Refusal.TheVariants as R
-use Rattle.gc_graph.specs.declared.phase.Phase.TheVariants.{Idle, Marking}
+use Rattle.gc_graph.specs.declared.phase.Phase.TheVariants.{Marking}
 use Rattle.gc_graph.specs.declared.region.Entry.{Entry}
 use Rattle.gc_graph.specs.State.{Setup, State, node_at, size_of, IsLive, graph_of, roots_of}
 use Rattle.gc_graph.specs.Graph.{IsIn}
@@ -18,7 +18,7 @@ use Rattle.gc_graph.specs.Fields.{content_of}
 use Rattle.gc_graph.specs.Outcomes.{IsRefused, slot_at, weak_slot_at, took}
 use Rattle.gc_graph.specs.ObjectSteps.{first_word}
 use Rattle.gc_graph.specs.HandleSteps.{IsPushed}
-use Rattle.gc_graph.specs.CycleSteps.{IsStart, is_marking}
+use Rattle.gc_graph.specs.CycleSteps.{is_marking}
 use Rattle.gc_graph.specs.Step.{Step}
 use Rattle.gc_graph.specs.Valid.{IsValid}
 use Rattle.gc_graph.specs.ValidLaw.{StepKeepsValid}

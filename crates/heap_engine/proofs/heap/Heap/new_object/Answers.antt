@@ -6,7 +6,6 @@ use Rattle.gc_graph.specs.State.{State, Setup, type_at}
 use Rattle.gc_graph.specs.Fields.{strong_type}
 use Rattle.page_words.specs.Seat.{SeatView}
 use Rattle.page_space.specs.Pages.{word_count}
-use Rattle.page_space.specs.Space.{IsSpaceOf}
 use Rattle.page_space.specs.Occupying.{Occupies, new_body}
 use Rattle.heap_engine.specs.Changes.{made_state, full_state}
 use Rattle.heap_engine.specs.Sound.{setup_of}

@@ -1,4 +1,4 @@
-use Rattle.std.proofs.Common.{◌≡◌, ℕ, ◌+◌, ◌*◌, ◌<◌, ◌≤◌, true, get_or, ap, sym, subst, ◌∙◌, arith}
+use Rattle.std.proofs.Common.{◌≡◌, ◌+◌, ◌*◌, true, get_or, ap, sym, subst, ◌∙◌, arith}
 use Rattle.page_space.specs.Gaps.{IsFullBelow, is_surveyed}
 use Rattle.page_space.specs.Space.{extents_of_bodies}
 use Rattle.page_space.proofs.WalkSteps.{full_words, full_edge}

@@ -1,4 +1,4 @@
-use Rattle.std.proofs.Common.{◌≡◌, ◌+◌, ◌<◌, ◌≤◌, ap, sym, subst, ◌∙◌, arith}
+use Rattle.std.proofs.Common.{◌≡◌, ◌+◌, subst, ◌∙◌, arith}
 use Rattle.page_words.specs.Bodies.{Body, IsPlace}
 use Rattle.page_space.proofs.WalkSteps.{full_on}
 use Rattle.page_space.proofs.space.Space.full_from.Goals as goal

@@ -1,4 +1,4 @@
-use Rattle.std.proofs.Common.{◌≡◌, ◌/◌, false, get_or, ap, sym, ◌∙◌}
+use Rattle.std.proofs.Common.{◌/◌, false, get_or, ap, sym, ◌∙◌}
 use Rattle.page_space.specs.Gaps.{is_surveyed}
 use Rattle.page_space.proofs.space.Space.look_around.Goals as goal
 

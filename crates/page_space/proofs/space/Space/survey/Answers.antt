@@ -1,4 +1,4 @@
-use Rattle.std.proofs.Common.{◌≡◌, ◌+◌, ◌*◌, ◌<◌, ◌≤◌, ap, sym, ◌∙◌, subst, arith}
+use Rattle.std.proofs.Common.{◌≡◌, ◌*◌, ap, sym, ◌∙◌, subst, arith}
 use Rattle.page_words.specs.Seat.{SeatView}
 use Rattle.page_space.specs.Gaps.{IsBounded, IsFullBelow}
 use Rattle.page_space.specs.Space.{extents_of_bodies}

@@ -1,4 +1,4 @@
-use Rattle.std.proofs.Common.{◌≡◌, get_or, set, sym, ap, ◌∙◌}
+use Rattle.std.proofs.Common.{set, sym, ap, ◌∙◌}
 use Rattle.std.proofs.lemmas.List.{set-get_or}
 use Rattle.page_space.proofs.tree.Tree.set.Goals as goal
 
