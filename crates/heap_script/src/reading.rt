@@ -1,6 +1,6 @@
 // Reading all that a source has left.
 
-ghost use Rattle.std.specs.Prelude.{ℕ, ◌+◌, ◌<◌, ◌≤◌, length, IfOk, IsErrOf};
+ghost use Rattle.std.specs.Prelude.{◌≡◌, ℕ, ◌+◌, ◌<◌, ◌≤◌, length, IfOk, IsErrOf};
 ghost use Rattle.heap_script.specs.Causes.{Rose};
 ghost use Rattle.heap_script.specs.Devices.{IsReadFrom};
 
@@ -27,9 +27,10 @@ pub fn read_whole<S: Source>(
     ensures bytes { IfOk result (λ v.
         IsReadFrom (S.left source.old) (S.left source.new) limit v.items) }
     ensures few { IfOk result (λ v. length v.items ≤ limit + 1) }
-    ensures later { S.faults source.old ≤ S.faults source.new }
     ensures fault { IsErrOf result ReadError.Fault →
         Rose (S.faults source.old) (S.faults source.new) }
+    ensures steady { ¬ (IsErrOf result ReadError.Fault) →
+        S.faults source.new ≡ S.faults source.old }
 {
     let mut bytes = Vec::new(alloc);
     let mut buffer = [0u8; PIECE];

@@ -23,7 +23,7 @@ loop-command-preserved g c = record {
       idle_more c.loop-command.heap.setup c.loop-command.heap.state c.print_outcome.new.heap.state c.args.commands.now c.loop-command.command-index _ _ _ c.loop-command-test.true
       c.requires.built c.loop-command.invariant.calm c.loop-command.invariant.idle c.print_outcome.ensures.step;
   opened = search rules;
-  later = search rules;
+  steady = search rules;
   taken = taken_on _ _ _ c.loop-command.invariant.taken c.print_outcome.ensures.taken;
   printed =
       printed_more c.args.heap.now.setup c.loop-command.heap.state c.print_outcome.new.heap c.args.commands.now c.loop-command.command-index _ _ _ _ c.loop-command-test.true

@@ -1,4 +1,4 @@
-use Rattle.std.proofs.Common.{◌≡◌, ◌≤◌, false, take}
+use Rattle.std.proofs.Common.{◌≡◌, false, take}
 use Rattle.gc_graph.specs.CycleSteps.{is_marking}
 use Rattle.heap_script.specs.Built.{is_sweep_open}
 use Rattle.heap_script.specs.Pieces.{with_held, TookMore}
@@ -13,7 +13,7 @@ invariant-loop-command g l = record {
   calm : is_marking l.heap.state.phase ≡ false;
   idle : IsIdleUnless (is_sweep_open (take l.command-index l.commands)) l.heap.state;
   opened : l.heap.closed ≡ false;
-  later : g.K.Sink.faults l.initial.sink ≤ g.K.Sink.faults l.sink;
+  steady : g.K.Sink.faults l.sink ≡ g.K.Sink.faults l.initial.sink;
   taken : TookMore (g.K.Sink.written l.initial.sink) (g.K.Sink.written l.sink);
   printed : IsPrintedRun l.initial.heap.setup (take l.command-index l.commands)
       (with_held (g.K.Sink.written l.initial.sink) l.initial.pieces) (with_held (g.K.Sink.written l.sink) l.pieces) l.heap.state;

@@ -17,7 +17,7 @@ loop-index-preserved g c =
     rw (← c.loop-index.invariant.same) c.line-line.ensures.line in
     record {
       same = search rules;
-      later = search rules;
+      steady = search rules;
       taken = taken_on _ _ _ c.loop-index.invariant.taken c.print_line.ensures.taken;
       printed = line_more (with_held (g.K.Sink.written c.args.sink.now) c.args.pieces.now) (with_held (g.K.Sink.written c.loop-index.sink) c.loop-index.pieces)
           (with_held (g.K.Sink.written c.print_line.new.sink) c.print_line.new.pieces) c.act-count.new.self.lines c.loop-index.index _ c.line-line.result at refl c.loop-index.invariant.printed c.in-Ok.ensures.bytes;

@@ -1,4 +1,4 @@
-use Rattle.std.proofs.Common.{◌≡◌, ◌≤◌, take}
+use Rattle.std.proofs.Common.{◌≡◌, take}
 use Rattle.gc_graph.specs.Report.{lines_bytes}
 use Rattle.heap_script.specs.Devices.{Grew}
 use Rattle.heap_script.specs.Pieces.{with_held, TookMore}
@@ -7,7 +7,7 @@ use Rattle.cppgc_main.proofs.report.print_outcome.Given as goal
 abbrev pub invariant-loop-index : goal.invariant-loop-index
 invariant-loop-index g l = record {
   same : l.heap ≡ l.initial.heap;
-  later : g.K.Sink.faults l.initial.sink ≤ g.K.Sink.faults l.sink;
+  steady : g.K.Sink.faults l.sink ≡ g.K.Sink.faults l.initial.sink;
   taken : TookMore (g.K.Sink.written l.initial.sink) (g.K.Sink.written l.sink);
   printed : Grew (with_held (g.K.Sink.written l.initial.sink) l.initial.pieces) (with_held (g.K.Sink.written l.sink) l.pieces) (lines_bytes (take l.index l.initial.heap.lines));
 }

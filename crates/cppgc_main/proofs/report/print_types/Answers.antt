@@ -16,7 +16,7 @@ pub loop-index-preserved : goal.loop-index-preserved
 loop-index-preserved g c =
     let low : c.loop-index.index < length c.args.types.now = search rules in
     record {
-      later = search rules;
+      steady = search rules;
       taken = taken_on _ _ _ c.loop-index.invariant.taken c.print_line.ensures.taken;
       printed = line_more _ _ _ (type_lines 0 c.args.types.now) c.loop-index.index _ (L.TypeLine c.loop-index.index)
           (type_line_at c.args.types.now c.loop-index.index 0 c.loop-index.index low (omega arith)) refl c.loop-index.invariant.printed c.in-Ok.ensures.bytes;

@@ -14,7 +14,7 @@ loop-buffer-preserved g c =
     let all = c.read.new.buffer ++ drop c.min-room.result c.loop-buffer.buffer in
     let grown : c.extend_from_slice.new.self.items ≡ c.loop-buffer.bytes.items ++ take c.in-Ok.count all = search rules in
     record {
-      later = search rules;
+      steady = search rules;
       room = grind (arith, common_steps);
       buffer_len = grind (arith, common_steps);
       read = rw grown (read_more _ _ _ _ c.read.new.buffer _ c.in-Ok.count c.loop-buffer.invariant.read c.in-Ok.ensures.bytes

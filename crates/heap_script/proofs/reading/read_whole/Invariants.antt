@@ -4,7 +4,7 @@ use Rattle.heap_script.proofs.reading.read_whole.Given as goal
 
 abbrev pub invariant-loop-buffer : goal.invariant-loop-buffer
 invariant-loop-buffer g l = record {
-  later : g.S.Source.faults l.initial.source ≤ g.S.Source.faults l.source;
+  steady : g.S.Source.faults l.source ≡ g.S.Source.faults l.initial.source;
   room : vec_len l.bytes ≤ l.limit + 1;
   buffer_len : length l.buffer ≡ 65536;
   read : IsReadUpTo (g.S.Source.left l.initial.source) (g.S.Source.left l.source) l.bytes.items;

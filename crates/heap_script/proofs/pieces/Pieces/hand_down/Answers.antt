@@ -11,5 +11,5 @@ loop-self-preserved g c = record {
       (rw c.as_slice-in-loop-self.ensures.value (take_rest c.loop-self.self-inside.text c.loop-self.self-inside.sent)) c.in-Ok.ensures.bytes.2
       ∙ c.loop-self.invariant.told;
   taken = taken_more _ _ _ _ c.loop-self.invariant.taken c.in-Ok.ensures.bytes.2;
-  later = search rules;
+  steady = search rules;
 }

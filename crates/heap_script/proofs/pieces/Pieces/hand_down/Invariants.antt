@@ -10,7 +10,7 @@ invariant-loop-self g l = record {
     room = 65536 - length l.self-inside.text;
   }) ≡ with_held (g.K.Sink.written l.initial.sink) l.fn.self;
   taken : TookMore (g.K.Sink.written l.initial.sink) (g.K.Sink.written l.sink);
-  later : g.K.Sink.faults l.initial.sink ≤ g.K.Sink.faults l.sink;
+  steady : g.K.Sink.faults l.sink ≡ g.K.Sink.faults l.initial.sink;
 }
 
 abbrev pub decreases-loop-self : goal.decreases-loop-self
