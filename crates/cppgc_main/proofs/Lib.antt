@@ -8,3 +8,4 @@ pub mod Built
 pub mod Reports
 pub mod Inputs
 pub mod Outcomes
+mod Statuses

@@ -1,8 +1,9 @@
 -- The exit status and the message of each way in which a run ends.
-use Rattle.std.specs.Prelude.{ℕ, List, ◌++◌, codes, decimal}
+use Rattle.std.specs.Prelude.{ℕ, List, [], ◌∷◌, ◌++◌, codes, decimal}
 use Rattle.cppgc_main.specs.declared.status.Status.{Status}
 use Rattle.cppgc_main.specs.declared.status.Status.TheVariants as S
 
+-- the exit status of the program
 abbrev pub exit_status_of : Status → ℕ
 exit_status_of S.Done = 0
 exit_status_of S.TooLong = 2
@@ -12,6 +13,7 @@ exit_status_of S.WriteFault = 4
 exit_status_of S.NoMemory = 5
 exit_status_of S.Usage = 6
 
+-- why a run ended, in words
 abbrev pub message_of : Status → List ℕ
 message_of S.Done = codes "done"
 message_of S.TooLong = codes "too long"
@@ -20,3 +22,8 @@ message_of S.ReadFault = codes "read fault"
 message_of S.WriteFault = codes "write fault"
 message_of S.NoMemory = codes "no memory"
 message_of S.Usage = codes "usage"
+
+-- what standard error is told: why the run is not done, in a line of its own
+abbrev pub told_of : Status → List ℕ
+told_of S.Done = []
+told_of status = codes "cppgc_main: " ++ message_of status ++ 10 ∷ []

@@ -1,9 +1,11 @@
 // How a run of the program ends.
 
-ghost use Rattle.std.specs.Prelude.{◌≡◌, Some};
-ghost use Rattle.cppgc_main.specs.Statuses.{exit_status_of, message_of};
+ghost use Rattle.std.specs.Prelude.{◌≡◌, Some, OnOk};
+ghost use Rattle.std.specs.Io.KnownBytes.{Appends, Keeps};
+ghost use Rattle.cppgc_main.specs.Statuses.{exit_status_of, message_of, told_of};
 
-use std::fmt;
+use std::io::Write;
+use std::{fmt, io};
 
 /// How a run ended, and with which exit status.
 #[derive(Clone, Copy, Debug, PartialEq, Eq, Drop)]
@@ -45,5 +47,29 @@ impl fmt::Display for Status {
             Status::NoMemory => f.write_str("no memory"),
             Status::Usage => f.write_str("usage"),
         }
+    }
+}
+
+/// How the program ends: with which exit status, and whether standard error took the message.
+#[derive(Drop)]
+pub struct Ending {
+    pub exit_status: u8,
+    pub told: io::Result<()>,
+}
+
+/// Tells standard error why a run is not done; of a run that is done it says nothing.
+pub fn end<W: Write>(status: Status, errors: &mut W) -> Ending
+    ensures exit_status { result.exit_status ≡ exit_status_of status }
+    ensures done { status ≡ Status.Done → Keeps (W.contents errors.old) (W.contents errors.new) }
+    ensures told { OnOk result.told
+        (Appends (W.contents errors.old) (W.contents errors.new) (told_of status)) }
+{
+    let told = match status {
+        Status::Done => Ok(()),
+        _ => writeln!(errors, "cppgc_main: {status}"),
+    };
+    Ending {
+        exit_status: status.exit_status(),
+        told,
     }
 }
