@@ -6,6 +6,7 @@ use Rattle.std.proofs.lemmas.List.Elements.{All-head, All-tail}
 use Rattle.std.proofs.lemmas.Grind.{flat_map-append}
 use Rattle.gc_graph.specs.declared.command.Command.{Command}
 use Rattle.gc_graph.specs.declared.command.Command.TheVariants as C
+use Rattle.gc_graph.specs.declared.region.Entry.{Entry}
 use Rattle.gc_graph.specs.declared.phase.Phase.TheVariants.{Idle}
 use Rattle.gc_graph.specs.State.{Setup, State, empty_state}
 use Rattle.gc_graph.specs.Step.{Step}
@@ -24,7 +25,7 @@ outcome_of heap = record { lines = heap.lines; piece = heap.piece; state = heap.
 
 -- ---- one outcome more
 
-abbrev StepTo : Setup → State → Command → Outcome → Type 0
+abbrev pub StepTo : Setup → State → Command → Outcome → Type 0
 StepTo setup old command outcome = Step setup old command outcome.piece outcome.lines outcome.state
 
 run_more : (setup : Setup) (old : State) (commands : List Command) (outcomes : List Outcome) (command : Command) (outcome : Outcome)
@@ -46,6 +47,11 @@ outcomes_more outcomes outcome =
     ∙ flat_map-append lines_bytes (printed_lines outcomes) (outcome.lines ∷ [])
     ∙ ap (λ u. outcomes_bytes (printed_lines outcomes) ++ u) (append-nil (lines_bytes outcome.lines))
 
+history_more : (outcomes : List Outcome) (outcome : Outcome) → history_of (outcomes ++ outcome ∷ []) ≡ history_of outcomes ++ outcome.piece
+history_more outcomes outcome =
+    flat_map-append (λ (o : Outcome). o.piece) outcomes (outcome ∷ [])
+    ∙ ap (λ (piece : List Entry). history_of outcomes ++ piece) (append-nil outcome.piece)
+
 run_on : (setup : Setup) (mid : State) (commands : List Command) (i : ℕ) (d : Command) (outcomes : List Outcome) (outcome : Outcome)
     → i < length commands → Run setup empty_state (take i commands) outcomes → mid ≡ last_state empty_state outcomes
     → StepTo setup mid (get_or commands i d) outcome → Run setup empty_state (take (i + 1) commands) (outcomes ++ outcome ∷ [])
@@ -55,26 +61,28 @@ run_on setup mid commands i d outcomes outcome low run last step =
     (subst (λ (s : State). StepTo setup s (get_or commands i d) outcome) last step))
 
 -- one command more was done and printed; d stands for what a read past the end would give
-pub printed_more : (setup : Setup) (mid : State) (heap : View) (commands : List Command) (i : ℕ) (d : Command) (x y z : Option (List ℕ))
-    → i < length commands → IsPrintedRun setup (take i commands) x y mid → Step setup mid (get_or commands i d) heap.piece heap.lines heap.state
-    → heap.state.running ≡ [] → Grew y z (lines_bytes heap.lines) → IsPrintedRun setup (take (i + 1) commands) x z heap.state
-printed_more setup mid heap commands i d x y z low run step alone more = record {
+pub printed_more : (setup : Setup) (mid heap : View) (commands : List Command) (i : ℕ) (d : Command) (x y z : Option (List ℕ))
+    → i < length commands → IsPrintedRun setup (take i commands) x y mid → StepTo setup mid.state (get_or commands i d) (outcome_of heap)
+    → heap.history ≡ mid.history ++ heap.piece → heap.state.running ≡ [] → Grew y z (lines_bytes heap.lines)
+    → IsPrintedRun setup (take (i + 1) commands) x z heap
+printed_more setup mid heap commands i d x y z low run step taken alone more = record {
   outcomes = run.outcomes ++ outcome_of heap ∷ [];
-  run = run_on setup mid commands i d run.outcomes (outcome_of heap) low run.run run.last step;
+  run = run_on setup mid.state commands i d run.outcomes (outcome_of heap) low run.run run.last step;
   last = sym (last_more empty_state run.outcomes (outcome_of heap));
+  taken = taken ∙ ap (λ (h : List Entry). h ++ heap.piece) run.taken ∙ sym (history_more run.outcomes (outcome_of heap));
   alone = alone;
   written = subst (λ u. Grew x z u) (sym (outcomes_more run.outcomes (outcome_of heap))) (grew x y z _ _ run.written more);
 }
 
 -- one command more was done, and the printing of its outcome failed
-pub printed_part : (setup : Setup) (mid : State) (heap : View) (commands : List Command) (i : ℕ) (d : Command) (x y z : Option (List ℕ))
-    → i < length commands → IsPrintedRun setup (take i commands) x y mid → Step setup mid (get_or commands i d) heap.piece heap.lines heap.state
+pub printed_part : (setup : Setup) (mid heap : View) (commands : List Command) (i : ℕ) (d : Command) (x y z : Option (List ℕ))
+    → i < length commands → IsPrintedRun setup (take i commands) x y mid → StepTo setup mid.state (get_or commands i d) (outcome_of heap)
     → heap.state.running ≡ [] → GrewByFront y z (lines_bytes heap.lines) → IsPartRun setup commands x z
 printed_part setup mid heap commands i d x y z low run step alone more = record {
   number = i + 1;
   within = omega arith;
   outcomes = run.outcomes ++ outcome_of heap ∷ [];
-  run = run_on setup mid commands i d run.outcomes (outcome_of heap) low run.run run.last step;
+  run = run_on setup mid.state commands i d run.outcomes (outcome_of heap) low run.run run.last step;
   alone = ap (λ (s : State). s.running) (last_more empty_state run.outcomes (outcome_of heap)) ∙ alone;
   written = subst (λ u. GrewByFront x z u) (sym (outcomes_more run.outcomes (outcome_of heap))) (grew_front x y z _ _ run.written more);
 }
@@ -85,20 +93,21 @@ take_none : {X : Type 0} (xs : List X) → take 0 xs ≡ []
 take_none [] = refl
 take_none (x ∷ xs) = refl
 
-pub printed_none : (setup : Setup) (commands : List Command) (x : Option (List ℕ)) (state : State) → state ≡ empty_state
-    → IsPrintedRun setup (take 0 commands) x x state
-printed_none setup commands x state is = record {
+pub printed_none : (setup : Setup) (commands : List Command) (x : Option (List ℕ)) (heap : View) → heap.state ≡ empty_state → heap.history ≡ []
+    → IsPrintedRun setup (take 0 commands) x x heap
+printed_none setup commands x heap is fresh = record {
   outcomes = [];
   run = subst (λ (ks : List Command). Run setup empty_state ks []) (sym (take_none commands)) tt;
   last = is;
+  taken = fresh;
   alone = ap (λ (s : State). s.running) is;
   written = grew_by_none x;
 }
 
-pub printed_all : (setup : Setup) (commands : List Command) (i : ℕ) (x y : Option (List ℕ)) (state : State) → length commands ≡ i
-    → IsPrintedRun setup (take i commands) x y state → IsPrintedRun setup commands x y state
-printed_all setup commands i x y state all run =
-    subst (λ (ks : List Command). IsPrintedRun setup ks x y state) (take_all i commands (omega arith)) run
+pub printed_all : (setup : Setup) (commands : List Command) (i : ℕ) (x y : Option (List ℕ)) (heap : View) → length commands ≡ i
+    → IsPrintedRun setup (take i commands) x y heap → IsPrintedRun setup commands x y heap
+printed_all setup commands i x y heap all run =
+    subst (λ (ks : List Command). IsPrintedRun setup ks x y heap) (take_all i commands (omega arith)) run
 
 -- ---- lawful runs
 

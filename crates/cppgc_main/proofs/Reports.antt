@@ -25,12 +25,12 @@ use Rattle.cppgc_main.proofs.Printing.{printed_none, lawful_run}
 pub record HasRun (shape : Shape) (script : BuiltScript) (x y : Option (List ℕ)) (old mid : View) : Type 0 where
   pub setup : old.setup ≡ setup_of shape script.types
   pub same : mid.setup ≡ old.setup
-  pub run : IsPrintedRun old.setup script.commands x y mid.state
+  pub run : IsPrintedRun old.setup script.commands x y mid
 
 -- the same in words of the script alone
 run_of : (shape : Shape) (script : BuiltScript) (x y : Option (List ℕ)) (old mid : View) → HasRun shape script x y old mid
-    → IsPrintedRun (setup_of shape script.types) script.commands x y mid.state
-run_of shape script x y old mid has = subst (λ s. IsPrintedRun s script.commands x y mid.state) has.setup has.run
+    → IsPrintedRun (setup_of shape script.types) script.commands x y mid
+run_of shape script x y old mid has = subst (λ s. IsPrintedRun s script.commands x y mid) has.setup has.run
 
 end_of : (shape : Shape) (script : BuiltScript) (x y : Option (List ℕ)) (old mid : View) (end : Line) → HasRun shape script x y old mid
     → IsEndLine mid.setup mid.state end → IsEndLine (setup_of shape script.types) mid.state end
@@ -48,6 +48,7 @@ whole_run shape script law built w x y z old mid heap end types has count ended 
       end = end;
       lawful = lawful_run (setup_of shape script.types) script.commands run.outcomes law built run.run (ap (λ (s : State). s.running) (sym run.last) ∙ run.alone);
       state = run.last;
+      taken = run.taken;
       ended = end_of shape script x y old mid end has ended;
       report = grew w y z _ _ (grew w x y _ _ types run.written) last;
       setup = has.same ∙ has.setup;
@@ -55,10 +56,11 @@ whole_run shape script law built w x y z old mid heap end types has count ended 
       count = count;
     })
 
-pub cut_in_types : (shape : Shape) (script : BuiltScript) (law : RunsAreReplayed) (built : All (IsBuilt Idle) script.commands) (w x : Option (List ℕ)) → GrewByFront w x (lines_bytes (type_lines 0 script.types)) → IsCutShort shape script w x
-cut_in_types shape script law built w x front =
-    let none : IsPrintedRun (setup_of shape script.types) (take 0 script.commands) x x empty_state =
-    printed_none (setup_of shape script.types) script.commands x empty_state refl in
+pub cut_in_types : (shape : Shape) (script : BuiltScript) (law : RunsAreReplayed) (built : All (IsBuilt Idle) script.commands) (w x : Option (List ℕ)) (old : View) → old.state ≡ empty_state → old.history ≡ []
+    → GrewByFront w x (lines_bytes (type_lines 0 script.types)) → IsCutShort shape script w x
+cut_in_types shape script law built w x old start fresh front =
+    let none : IsPrintedRun (setup_of shape script.types) (take 0 script.commands) x x old =
+    printed_none (setup_of shape script.types) script.commands x old start fresh in
     record {
       number = 0;
       within = omega arith;

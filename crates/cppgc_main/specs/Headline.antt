@@ -18,13 +18,15 @@ use Rattle.cppgc_main.specs.Printed.{IsEnding, printed_lines}
 
 -- ---- one script
 
--- a lawful run of the whole script led to this heap, which is closed, and its report was written
+-- a lawful run of the whole script led to this heap, which is closed and has taken the history of that run, and its report
+-- was written
 pub record IsWholeRun (shape : Shape) (script : BuiltScript) (before after : Option (List ℕ)) (heap : View) : Type 0 where
   pub outcomes : List Outcome
   pub history : List Entry
   pub end : Line
   pub lawful : IsLawful (setup_of shape script.types) script.commands outcomes history
   pub state : heap.state ≡ last_state empty_state outcomes
+  pub taken : heap.history ≡ history
   pub ended : IsEndLine (setup_of shape script.types) heap.state end
   pub report : Grew before after (report_of script.types (printed_lines outcomes) end)
   pub setup : heap.setup ≡ setup_of shape script.types

@@ -3,20 +3,23 @@ use Rattle.std.specs.Prelude.{◌≡◌, ◌⊎◌, ℕ, ◌≤◌, List, [], le
 use Rattle.gc_graph.specs.declared.command.Command.{Command}
 use Rattle.gc_graph.specs.declared.line.Line.{Line}
 use Rattle.gc_graph.specs.State.{Setup, State, empty_state}
-use Rattle.gc_graph.specs.Lawful.{Outcome, Run, IsEndLine, last_state}
+use Rattle.gc_graph.specs.Lawful.{Outcome, Run, IsEndLine, last_state, history_of}
 use Rattle.gc_graph.specs.Report.{outcomes_bytes, line_bytes}
 use Rattle.heap_script.specs.Devices.{Grew, GrewByFront}
+use Rattle.heap_engine.specs.View.{View}
 
 -- the lines of each outcome
 abbrev pub printed_lines : List Outcome → List (List Line)
 printed_lines outcomes = map (λ (o : Outcome). o.lines) outcomes
 
--- a run of the commands from the empty state came to this one, in which no thread runs, and its outcomes were written
-pub record IsPrintedRun (setup : Setup) (commands : List Command) (before after : Option (List ℕ)) (state : State) : Type 0 where
+-- a run of the commands from the empty state came to this heap, which has taken the history of the run and in which no
+-- thread runs, and its outcomes were written
+pub record IsPrintedRun (setup : Setup) (commands : List Command) (before after : Option (List ℕ)) (heap : View) : Type 0 where
   pub outcomes : List Outcome
   pub run : Run setup empty_state commands outcomes
-  pub last : state ≡ last_state empty_state outcomes
-  pub alone : state.running ≡ []
+  pub last : heap.state ≡ last_state empty_state outcomes
+  pub taken : heap.history ≡ history_of outcomes
+  pub alone : heap.state.running ≡ []
   pub written : Grew before after (outcomes_bytes (printed_lines outcomes))
 
 -- a beginning of the outcomes of a run of the first commands was written, at whose end no thread runs

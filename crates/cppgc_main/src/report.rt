@@ -1,6 +1,6 @@
 // The report of a script, printed while its commands are done.
 
-ghost use Rattle.std.specs.Prelude.{◌≡◌, ◌+◌, ◌<◌, ◌≤◌, true};
+ghost use Rattle.std.specs.Prelude.{◌≡◌, ◌+◌, ◌++◌, ◌<◌, ◌≤◌, true};
 ghost use Rattle.std.specs.Prelude.{false, [], length, All, OnOk, OnErr};
 ghost use Rattle.gc_graph.specs.State.{empty_state};
 ghost use Rattle.gc_graph.specs.Step.{Step};
@@ -31,6 +31,7 @@ pub(crate) fn print_report<K: Sink>(
     requires runnable { IsRunnable script.now }
     requires setup { heap.old.setup ≡ setup_of heap.old.setup.shape script.now.types }
     requires start { heap.old.state ≡ empty_state }
+    requires fresh { heap.old.history ≡ [] }
     requires opened { heap.old.closed ≡ false }
     requires empty { pieces.old ≡ no_pieces }
     ensures done { OnOk result
@@ -94,6 +95,7 @@ fn print_all<K: Sink>(
     sink: &mut K,
 ) -> Result<(), Failed>
     requires start { heap.old.state ≡ empty_state }
+    requires fresh { heap.old.history ≡ [] }
     requires opened { heap.old.closed ≡ false }
     requires allowed { All (IsAllowed (length heap.old.setup.types)) commands.now }
     requires few { length commands.now ≤ 1000000 }
@@ -101,7 +103,7 @@ fn print_all<K: Sink>(
     requires timely { AreTimely commands.now }
     ensures done { OnOk result (IsPrintedRun heap.old.setup commands.now
         (with_held (K.written sink.old) pieces.old)
-        (with_held (K.written sink.new) pieces.new) heap.new.state) }
+        (with_held (K.written sink.new) pieces.new) heap.new) }
     ensures part { OnErr result (IsPartRun heap.old.setup commands.now
         (with_held (K.written sink.old) pieces.old)
         (with_held (K.written sink.new) pieces.new)) }
@@ -137,6 +139,7 @@ fn print_outcome<K: Sink>(
     ensures bytes { Writes (with_held (K.written sink.old) pieces.old)
         (with_held (K.written sink.new) pieces.new) (lines_bytes heap.new.lines) result }
     ensures taken { TookMore (K.written sink.old) (K.written sink.new) }
+    ensures history { heap.new.history ≡ heap.old.history ++ heap.new.piece }
     ensures ordinal { heap.new.state.ordinal ≡ heap.old.state.ordinal + 1 }
     ensures setup { heap.new.setup ≡ heap.old.setup }
     ensures closed { heap.new.closed ≡ false }

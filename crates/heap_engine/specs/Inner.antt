@@ -5,6 +5,7 @@ use Rattle.gc_graph.specs.declared.phase.Phase.{Phase}
 use Rattle.gc_graph.specs.declared.phase.Phase.TheVariants.{Idle, Marking, Sweeping}
 use Rattle.gc_graph.specs.declared.line.Line.{Line}
 use Rattle.gc_graph.specs.declared.line.Refusal.{Refusal}
+use Rattle.gc_graph.specs.declared.region.Entry.{Entry}
 use Rattle.gc_graph.specs.declared.line.Refusal.TheVariants as R
 use Rattle.gc_graph.specs.State.{Setup, State, node_at}
 use Rattle.gc_graph.specs.Fields.{field_count, kind_of_field, is_reference}
@@ -15,10 +16,12 @@ use Rattle.heap_engine.specs.Nodes.{place_of, IsHeld}
 use Rattle.heap_engine.specs.Plain.{IsPlainState}
 use Rattle.heap_engine.specs.View.{places_of}
 
--- the outcome of a command: the finalised nodes, and then at most one more line; and for how many nodes there is room
+-- the outcome of a command: the finalised nodes, and then at most one more line; what it took of the region's history; and
+-- for how many nodes there is room
 pub record Outcome : Type 0 where
   pub numbers : List ℕ
   pub last : Option Line
+  pub piece : List Entry
   pub room : ℕ
 
 abbrev pub lines_of : Outcome → List Line

@@ -5,15 +5,21 @@ use Rattle.gc_graph.specs.Fields.{strong_type}
 use Rattle.heap_engine.specs.declared.heap.Heap.TheInside.{Inside}
 use Rattle.page_space.specs.Pages.{word_count}
 use Rattle.page_space.specs.Space.{IsSpaceOf}
-use Rattle.heap_engine.specs.View.{View, piece_of}
+use Rattle.heap_engine.specs.View.{View}
 use Rattle.heap_engine.specs.Inner.{lines_of, Holds, IsTallied, HoldsSlotsOf, AreTypes}
 
 abbrev pub setup_of : Inside → Setup
 setup_of h = record { shape = h.space.shape; markers = 0; types = map strong_type h.types.items; callbacks = [] }
 
 abbrev pub view_of : Inside → View
-view_of h =
-    record { setup = setup_of h; state = h.state.value; lines = lines_of h.outcome; piece = piece_of h.outcome.last; closed = h.closed }
+view_of h = record {
+  setup = setup_of h;
+  state = h.state.value;
+  history = h.history.value;
+  lines = lines_of h.outcome;
+  piece = h.outcome.piece;
+  closed = h.closed;
+}
 
 pub record IsSound (h : Inside) : Type 0 where
   pub types : AreTypes h.types.items

@@ -1,21 +1,28 @@
 -- A heap as its callers see it, and how slots and marks tell nodes.
-use Rattle.std.specs.Prelude.{ℕ, Bool, ◌&&◌, List, [], ◌∷◌, map, Option, Some, None, option_map}
+use Rattle.std.specs.Prelude.{◌≡◌, ℕ, ◌+◌, Bool, ◌&&◌, List, [], ◌∷◌, map, Option, option_map}
 use Rattle.gc_graph.specs.declared.line.Line.{Line}
-use Rattle.gc_graph.specs.declared.line.Line.TheVariants as L
 use Rattle.gc_graph.specs.declared.region.Entry.{Entry}
 use Rattle.gc_graph.specs.declared.region.Op.TheVariants as O
 use Rattle.gc_graph.specs.declared.region.Reply.TheVariants as R
 use Rattle.gc_graph.specs.State.{Setup, State, Node, is_live}
 use Rattle.heap_engine.specs.Nodes.{place_of}
 
--- what was set up, the state of the graph, the lines of the last outcome and the piece of the region's history that it
--- took, and whether the heap was closed
+-- what was set up, the state of the graph, the region's history as far as it was taken, the lines of the last outcome and
+-- the piece of the history that it took, and whether the heap was closed
 pub record View : Type 0 where
   pub setup : Setup
   pub state : State
+  pub history : List Entry
   pub lines : List Line
   pub piece : List Entry
   pub closed : Bool
+
+-- a command was answered, and changed nothing but the state of the graph and the outcome
+pub record IsFrame (old new : View) : Type 0 where
+  pub setup : new.setup ≡ old.setup
+  pub history : new.history ≡ old.history
+  pub closed : new.closed ≡ old.closed
+  pub ordinal : new.state.ordinal ≡ old.state.ordinal + 1
 
 -- the places of what the slots name
 abbrev pub places_of : List Node → List (Option ℕ) → List (Option ℕ)
@@ -32,11 +39,6 @@ start_entry = record { thread = 0; op = O.Start; reply = R.Done }
 abbrev pub pause_entry : Entry
 pause_entry = record { thread = 0; op = O.Pause 0; reply = R.Done }
 
--- what a command took of the history, by the last line of its outcome: a collection took its two entries
-abbrev pub piece_by : Line → List Entry
-piece_by (L.Pause kept dead crew traced walked) = start_entry ∷ pause_entry ∷ []
-piece_by _ = []
-
-abbrev pub piece_of : Option Line → List Entry
-piece_of None = []
-piece_of (Some line) = piece_by line
+-- what a collection takes of the history
+abbrev pub collection_entries : List Entry
+collection_entries = start_entry ∷ pause_entry ∷ []

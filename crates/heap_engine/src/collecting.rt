@@ -8,6 +8,7 @@ ghost use Rattle.gc_graph.specs.CycleSteps.{StepGcNow, StepSweepAll, IsSwept};
 ghost use Rattle.page_space.specs.Pages.{word_count};
 ghost use Rattle.page_space.specs.Space.{IsSpaceOf};
 ghost use Rattle.heap_engine.specs.Sweeping.{IsSweptView, AreDeadSerials};
+ghost use Rattle.heap_engine.specs.View.{IsFrame};
 ghost use Rattle.heap_engine.specs.Inner.{HasMarks};
 
 use crate::heap::Heap;
@@ -24,9 +25,7 @@ impl Heap {
         requires few { self.old.state.ordinal < 1000000 }
         ensures step { StepGcNow self.old.setup Precise self.old.state self.new.piece
             self.new.lines self.new.state }
-        ensures ordinal { self.new.state.ordinal ≡ self.old.state.ordinal + 1 }
-        ensures setup { self.new.setup ≡ self.old.setup }
-        ensures closed { self.new.closed ≡ self.old.closed }
+        ensures frame { IsFrame self.old self.new }
     {
         self.outcome.begin();
         // The mark list's room is taken before anything else is done, so that marking can't fail.
@@ -49,7 +48,7 @@ impl Heap {
         self.state = states::collected(&self.state, &self.seat);
         self.phase = Phase::Sweeping;
         let objects = self.space.objects();
-        self.outcome.end(pause_line(objects, self.grey.marked(), self.grey.traced()));
+        self.outcome.end_collection(pause_line(objects, self.grey.marked(), self.grey.traced()));
         self.state = states::answered(&self.state);
     }
 
@@ -58,9 +57,7 @@ impl Heap {
         requires few { self.old.state.ordinal < 1000000 }
         ensures step { StepSweepAll self.old.setup self.old.state self.new.lines self.new.state }
         ensures piece { self.new.piece ≡ [] }
-        ensures ordinal { self.new.state.ordinal ≡ self.old.state.ordinal + 1 }
-        ensures setup { self.new.setup ≡ self.old.setup }
-        ensures closed { self.new.closed ≡ self.old.closed }
+        ensures frame { IsFrame self.old self.new }
     {
         match self.phase {
             Phase::Idle | Phase::Marking => self.refuse(Refusal::Phase),
@@ -75,9 +72,7 @@ impl Heap {
         ensures step { IsSwept self.old.setup self.old.state self.old.setup.shape.pages
             self.new.lines self.new.state }
         ensures piece { self.new.piece ≡ [] }
-        ensures ordinal { self.new.state.ordinal ≡ self.old.state.ordinal + 1 }
-        ensures setup { self.new.setup ≡ self.old.setup }
-        ensures closed { self.new.closed ≡ self.old.closed }
+        ensures frame { IsFrame self.old self.new }
     {
         self.outcome.begin();
         self.seat.bodies_lie_apart();
@@ -108,6 +103,7 @@ fn end_sweep(phase: Phase, space: &mut Space, seat: &mut MutatorSeat, outcome: &
     ensures space { IsSpaceOf space.new seat.new }
     ensures shape { space.new.shape ≡ space.old.shape }
     ensures last { outcome.new.last ≡ outcome.old.last }
+    ensures piece { outcome.new.piece ≡ outcome.old.piece }
     ensures kept { outcome.new.room ≡ outcome.old.room }
 {
     match phase {

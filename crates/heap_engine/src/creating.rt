@@ -6,6 +6,7 @@ ghost use Rattle.gc_graph.specs.ObjectSteps.{StepNew};
 ghost use Rattle.gc_graph.specs.HandleSteps.{StepDrop};
 ghost use Rattle.gc_graph.specs.Placement.{IsPlaceFor};
 ghost use Rattle.page_space.specs.Space.{IsSpaceOf, IsFreePlace, extents_of_bodies};
+ghost use Rattle.heap_engine.specs.View.{IsFrame};
 
 use crate::heap::Heap;
 use crate::states;
@@ -25,9 +26,7 @@ impl Heap {
         ensures step { StepNew self.old.setup self.old.state p t extra
             self.new.lines self.new.state }
         ensures piece { self.new.piece ≡ [] }
-        ensures ordinal { self.new.state.ordinal ≡ self.old.state.ordinal + 1 }
-        ensures setup { self.new.setup ≡ self.old.setup }
-        ensures closed { self.new.closed ≡ self.old.closed }
+        ensures frame { IsFrame self.old self.new }
     {
         let fields = self.types[t as usize];
         let size = 2 + fields + extra;
@@ -59,9 +58,7 @@ impl Heap {
         requires slot { p < 256 }
         ensures step { StepDrop self.old.state p self.new.lines self.new.state }
         ensures piece { self.new.piece ≡ [] }
-        ensures ordinal { self.new.state.ordinal ≡ self.old.state.ordinal + 1 }
-        ensures setup { self.new.setup ≡ self.old.setup }
-        ensures closed { self.new.closed ≡ self.old.closed }
+        ensures frame { IsFrame self.old self.new }
     {
         self.slots[p as usize] = None;
         self.outcome.begin();

@@ -13,6 +13,7 @@ ghost use Rattle.gc_graph.specs.ObjectSteps.{StepSet, StepGet};
 ghost use Rattle.page_words.specs.Bodies.{IsFieldWord, IsReference};
 ghost use Rattle.page_words.specs.Seat.{IsWordAt, stored};
 ghost use Rattle.heap_engine.specs.Nodes.{place_of};
+ghost use Rattle.heap_engine.specs.View.{IsFrame};
 ghost use Rattle.heap_engine.specs.Inner.{IsFieldOf, reference_to};
 
 use crate::heap::Heap;
@@ -30,9 +31,7 @@ impl Heap {
         ensures step { StepSet self.old.state p f (content_of (slot_at self.old.state q))
             self.new.lines self.new.state }
         ensures piece { self.new.piece ≡ [] }
-        ensures ordinal { self.new.state.ordinal ≡ self.old.state.ordinal + 1 }
-        ensures setup { self.new.setup ≡ self.old.setup }
-        ensures closed { self.new.closed ≡ self.old.closed }
+        ensures frame { IsFrame self.old self.new }
     {
         match self.field_at(p, f) {
             Ok(a) => {
@@ -54,9 +53,7 @@ impl Heap {
         requires slot { p < 256 }
         ensures step { StepSet self.old.state p f Null self.new.lines self.new.state }
         ensures piece { self.new.piece ≡ [] }
-        ensures ordinal { self.new.state.ordinal ≡ self.old.state.ordinal + 1 }
-        ensures setup { self.new.setup ≡ self.old.setup }
-        ensures closed { self.new.closed ≡ self.old.closed }
+        ensures frame { IsFrame self.old self.new }
     {
         match self.field_at(p, f) {
             Ok(a) => {
@@ -78,9 +75,7 @@ impl Heap {
         requires into { q < 256 }
         ensures step { StepGet self.old.state p f q self.new.lines self.new.state }
         ensures piece { self.new.piece ≡ [] }
-        ensures ordinal { self.new.state.ordinal ≡ self.old.state.ordinal + 1 }
-        ensures setup { self.new.setup ≡ self.old.setup }
-        ensures closed { self.new.closed ≡ self.old.closed }
+        ensures frame { IsFrame self.old self.new }
     {
         match self.target_at(p, f) {
             Ok(target) => {
@@ -98,9 +93,7 @@ impl Heap {
         requires few { self.old.state.ordinal < 1000000 }
         ensures step { IsRefused why self.old.state self.new.lines self.new.state }
         ensures piece { self.new.piece ≡ [] }
-        ensures ordinal { self.new.state.ordinal ≡ self.old.state.ordinal + 1 }
-        ensures setup { self.new.setup ≡ self.old.setup }
-        ensures closed { self.new.closed ≡ self.old.closed }
+        ensures frame { IsFrame self.old self.new }
     {
         self.outcome.begin();
         self.outcome.end(Line::Refused(why));

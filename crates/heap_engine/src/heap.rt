@@ -1,7 +1,7 @@
 // A heap that does commands. Each command is one step of the graph; the files beside this one do
 // them.
 
-ghost use Rattle.std.specs.Prelude.{◌≡◌, ◌+◌, ◌<◌, ◌≤◌, true};
+ghost use Rattle.std.specs.Prelude.{◌≡◌, ◌+◌, ◌++◌, ◌<◌, ◌≤◌, true};
 ghost use Rattle.std.specs.Prelude.{false, [], length, Some, None, IfOk};
 ghost use Rattle.std.specs.Prelude.{All, map, slice_get, replicate};
 ghost use Rattle.gc_graph.specs.State.{empty_state};
@@ -9,9 +9,11 @@ ghost use Rattle.gc_graph.specs.Fields.{strong_type};
 ghost use Rattle.gc_graph.specs.CycleSteps.{is_marking};
 ghost use Rattle.gc_graph.specs.Step.{Step};
 ghost use Rattle.heap_engine.specs.Built.{IsBuilt};
+ghost use Rattle.heap_engine.specs.View.{IsFrame};
 ghost use Rattle.gc_graph.specs.Lawful.{IsAllowed, IsEndLine};
 ghost use Rattle.page_space.specs.Pages.{IsShape};
 
+use crate::entries::{self, Entries};
 use crate::marking::MarkList;
 use crate::outcome::Outcome;
 use crate::states::{self, States};
@@ -46,6 +48,8 @@ pub struct Heap {
     pub(crate) outcome: Outcome,
     pub(crate) closed: bool,
     pub(crate) state: GhostValue<States>,
+    /// The region's history as far as the commands took it.
+    pub(crate) history: GhostValue<Entries>,
 }
 
 impl Model for Heap {
@@ -74,6 +78,7 @@ impl Heap {
           callbacks = [];
         }) }
         ensures state { IfOk result (λ h. h.state ≡ empty_state) }
+        ensures history { IfOk result (λ h. h.history ≡ []) }
         ensures lines { IfOk result (λ h. h.lines ≡ []) }
         ensures closed { IfOk result (λ h. h.closed ≡ false) }
     {
@@ -93,6 +98,7 @@ impl Heap {
             outcome,
             closed: false,
             state: states::empty(),
+            history: entries::none(),
         })
     }
 
@@ -108,8 +114,24 @@ impl Heap {
         ensures calm { is_marking self.new.state.phase ≡ false }
         ensures alone { self.new.state.running ≡ [] }
         ensures ordinal { self.new.state.ordinal ≡ self.old.state.ordinal + 1 }
+        ensures history { self.new.history ≡ self.old.history ++ self.new.piece }
         ensures setup { self.new.setup ≡ self.old.setup }
         ensures closed { self.new.closed ≡ false }
+    {
+        self.run(command);
+        self.rests();
+        self.remember();
+        self.outcome.count()
+    }
+
+    /// Does the command.
+    fn run(&mut self, command: &Command)
+        requires few { self.old.state.ordinal < 1000000 }
+        requires allowed { IsAllowed (length self.old.setup.types) command.now }
+        requires built { IsBuilt self.old.state.phase command.now }
+        ensures step { Step self.old.setup self.old.state command.now
+            self.new.piece self.new.lines self.new.state }
+        ensures frame { IsFrame self.old self.new }
     {
         match *command {
             Command::New { p, t, e } => self.new_object(p, t, e),
@@ -143,7 +165,22 @@ impl Heap {
             | Command::ThreadsGo
             | Command::ThreadsJoin => unreachable!(),
         }
-        self.outcome.count()
+    }
+
+    /// Between commands no marking goes on, and no thread runs.
+    fn rests(&self)
+        ensures calm { is_marking self.now.state.phase ≡ false }
+        ensures alone { self.now.state.running ≡ [] }
+    {
+        let _ = &self.state;
+    }
+
+    /// Adds to the history what the last command took of it.
+    fn remember(&mut self)
+        ensures { self.new
+            ≡ record self.old { history = self.old.history ++ self.old.piece } }
+    {
+        self.history = entries::grown(&self.history, &self.outcome.piece);
     }
 
     /// A line of the last outcome.

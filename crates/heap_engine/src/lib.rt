@@ -20,6 +20,7 @@
 
 mod collecting;
 mod creating;
+mod entries;
 mod fields;
 mod heap;
 mod marking;

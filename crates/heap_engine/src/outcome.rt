@@ -8,20 +8,24 @@ ghost use Rattle.page_words.specs.Bodies.{Body};
 ghost use Rattle.page_space.specs.Pages.{word_count};
 ghost use Rattle.page_space.specs.Space.{IsSpaceOf};
 ghost use Rattle.heap_engine.specs.Sweeping.{IsJudged, IsSweptView, AreDeadSerials};
+ghost use Rattle.heap_engine.specs.View.{collection_entries};
 ghost use Rattle.heap_engine.specs.Inner.{lines_of};
 
+use crate::entries::{self, Entries};
 use crate::sweeping::sweep_pages;
 use gc_graph::{Line, NoMemory};
+use ghost_values::GhostValue;
 use page_space::Space;
 use page_words::MutatorSeat;
 use std::alloc::Global;
 use std::marker::Model;
 
-/// The lines of the last command.
+/// The lines of the last command, and what it took of the region's history.
 #[derive(Drop)]
 pub struct Outcome {
     finalised: Vec<u32>,
     last: Option<Line>,
+    pub(crate) piece: GhostValue<Entries>,
 }
 
 impl Model for Outcome {
@@ -33,6 +37,7 @@ impl Model for Outcome {
     ghost view = { λ o. record {
       numbers = o.finalised.items;
       last = o.last;
+      piece = o.piece.value;
       room = vec_capacity o.finalised;
     } };
 
@@ -44,21 +49,33 @@ impl Outcome {
     pub fn new(alloc: Global, room: usize) -> Result<Outcome, NoMemory>
         ensures numbers { IfOk result (λ o. o.numbers ≡ []) }
         ensures last { IfOk result (λ o. o.last ≡ None) }
+        ensures piece { IfOk result (λ o. o.piece ≡ []) }
         ensures room { IfOk result (λ o. o.room ≡ room) }
     {
         let finalised = Vec::with_capacity(alloc, room)?;
         Ok(Outcome {
             finalised,
             last: None,
+            piece: entries::none(),
         })
     }
 
-    /// Forgets the lines.
+    /// Forgets the lines and what was taken.
     pub fn begin(&mut self)
-        ensures { self.new ≡ record self.old { numbers = []; last = None } }
+        ensures { self.new ≡ record self.old { numbers = []; last = None; piece = [] } }
     {
         self.finalised.clear();
         self.last = None;
+        self.piece = entries::none();
+    }
+
+    /// Adds the line of a pause, with the entries of its collection.
+    pub fn end_collection(&mut self, line: Line)
+        ensures { self.new
+            ≡ record self.old { last = Some line; piece = collection_entries } }
+    {
+        self.last = Some(line);
+        self.piece = entries::of_collection();
     }
 
     /// Adds the last line.
@@ -81,6 +98,7 @@ impl Outcome {
         ensures space { IsSpaceOf space.new seat.new }
         ensures shape { space.new.shape ≡ space.old.shape }
         ensures last { self.new.last ≡ self.old.last }
+        ensures piece { self.new.piece ≡ self.old.piece }
         ensures kept { self.new.room ≡ self.old.room }
     {
         seat.bodies_lie_apart();

@@ -4,6 +4,7 @@ ghost use Rattle.std.specs.Prelude.{◌≡◌, ◌+◌, ◌<◌, []};
 ghost use Rattle.gc_graph.specs.State.{objects_of, used_of};
 ghost use Rattle.gc_graph.specs.Placement.{extents_of, IsUsedPages};
 ghost use Rattle.gc_graph.specs.CycleSteps.{StepStat};
+ghost use Rattle.heap_engine.specs.View.{IsFrame};
 
 use crate::heap::Heap;
 use crate::states;
@@ -15,9 +16,7 @@ impl Heap {
         requires few { self.old.state.ordinal < 1000000 }
         ensures step { StepStat self.old.setup self.old.state self.new.lines self.new.state }
         ensures piece { self.new.piece ≡ [] }
-        ensures ordinal { self.new.state.ordinal ≡ self.old.state.ordinal + 1 }
-        ensures setup { self.new.setup ≡ self.old.setup }
-        ensures closed { self.new.closed ≡ self.old.closed }
+        ensures frame { IsFrame self.old self.new }
     {
         let (n, u, g) = self.totals();
         self.outcome.begin();

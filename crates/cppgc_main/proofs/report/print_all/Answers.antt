@@ -11,7 +11,7 @@ print_outcome-requires-clause-built g c =
 
 pub returns-in-Err-clause-part : goal.returns-in-Err-clause-part
 returns-in-Err-clause-part g c =
-    printed_part c.args.heap.now.setup c.loop-command.heap.state c.print_outcome.new.heap c.args.commands.now c.loop-command.command-index _ _ _ _ c.loop-command-test.true
+    printed_part c.args.heap.now.setup c.loop-command.heap c.print_outcome.new.heap c.args.commands.now c.loop-command.command-index _ _ _ _ c.loop-command-test.true
     c.loop-command.invariant.printed (rw c.loop-command.invariant.setup at c.print_outcome.ensures.step) c.print_outcome.ensures.alone c.in-Err.ensures.bytes
 
 pub loop-command-preserved : goal.loop-command-preserved
@@ -26,8 +26,8 @@ loop-command-preserved g c = record {
   steady = search rules;
   taken = taken_on _ _ _ c.loop-command.invariant.taken c.print_outcome.ensures.taken;
   printed =
-      printed_more c.args.heap.now.setup c.loop-command.heap.state c.print_outcome.new.heap c.args.commands.now c.loop-command.command-index _ _ _ _ c.loop-command-test.true
-      c.loop-command.invariant.printed (rw c.loop-command.invariant.setup at c.print_outcome.ensures.step) c.print_outcome.ensures.alone c.in-Ok.ensures.bytes;
+      printed_more c.args.heap.now.setup c.loop-command.heap c.print_outcome.new.heap c.args.commands.now c.loop-command.command-index _ _ _ _ c.loop-command-test.true
+      c.loop-command.invariant.printed (rw c.loop-command.invariant.setup at c.print_outcome.ensures.step) c.print_outcome.ensures.history c.print_outcome.ensures.alone c.in-Ok.ensures.bytes;
 }
 
 pub returns-in-Err-clause-taken : goal.returns-in-Err-clause-taken

@@ -16,5 +16,5 @@ invariant-loop-command g l = record {
   steady : g.K.Sink.faults l.sink ≡ g.K.Sink.faults l.initial.sink;
   taken : TookMore (g.K.Sink.written l.initial.sink) (g.K.Sink.written l.sink);
   printed : IsPrintedRun l.initial.heap.setup (take l.command-index l.commands)
-      (with_held (g.K.Sink.written l.initial.sink) l.initial.pieces) (with_held (g.K.Sink.written l.sink) l.pieces) l.heap.state;
+      (with_held (g.K.Sink.written l.initial.sink) l.initial.pieces) (with_held (g.K.Sink.written l.sink) l.pieces) l.heap;
 }

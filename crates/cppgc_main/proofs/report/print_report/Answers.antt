@@ -7,7 +7,7 @@ use Rattle.cppgc_main.proofs.report.print_report.Goals as goal
 pub returns-in-Err-clause-part : goal.returns-in-Err-clause-part
 returns-in-Err-clause-part g c =
     cut_out _ _ _ _ c.args.pieces.now c.print_types.new.pieces c.requires.empty c.print_types.ensures.taken
-    (cut_in_types c.args.heap.now.setup.shape c.args.script.now c.runs_are_replayed.ensures c.requires.runnable.built _ _ (rw c.types.ensures at c.in-Err.ensures.bytes))
+    (cut_in_types c.args.heap.now.setup.shape c.args.script.now c.runs_are_replayed.ensures c.requires.runnable.built _ _ c.args.heap.now c.requires.start c.requires.fresh (rw c.types.ensures at c.in-Err.ensures.bytes))
 
 pub returns-in-Err-print_all-clause-part : goal.returns-in-Err-print_all-clause-part
 returns-in-Err-print_all-clause-part g c =

@@ -12,7 +12,7 @@ use Rattle.page_words.specs.Bodies.{Body, IsPlace}
 use Rattle.page_space.specs.Pages.{word_count}
 use Rattle.page_words.specs.Seat.{SeatView, holds}
 use Rattle.heap_engine.specs.Marking.{MarksReachable, AreReferences}
-use Rattle.heap_engine.specs.View.{kept_of, piece_of}
+use Rattle.heap_engine.specs.View.{kept_of, collection_entries}
 use Rattle.heap_engine.specs.Sound.{setup_of}
 use Rattle.heap_engine.specs.Inner.{Outcome, Holds, IsTallied, HoldsSlotsOf, lines_of}
 use Rattle.heap_engine.proofs.NodePlaces.{places_differ}
@@ -132,7 +132,7 @@ invariant_of-self-2 c =
       room = omega (
         arith,
         c.self.invariant.room,
-        ap (λ (o : Outcome). o.room) c.end-2.ensures,
+        ap (λ (o : Outcome). o.room) c.end_collection.ensures,
         c.end_sweep.ensures.kept,
         ap (λ (o : Outcome). o.room) c.begin.ensures,
         ap word_count c.end_sweep.ensures.shape,
@@ -170,12 +170,11 @@ returns-clause-step c =
     c.mark_reachable.ensures.marked in
     let keeps : IsKept (took (started_state t) []) [] kept =
     pause_keeps t kept c.reach_is_least.ensures (refers_within setup t swept_holds.valid) swept_holds.valid.unused (kept_low (holds new.marked) t.nodes) after.0 in
-    let last : c.end-2.new.self.last ≡ Some (pause_line u.nodes) = ap (λ (o : Outcome). o.last) c.end-2.ensures ∙ ap (λ (l : Line). Some l) line in
     rw (← c.self.view_is)
-    (collects_or_not setup s (piece_of c.end-2.new.self.last) (lines_of c.end-2.new.self) c.answered-2.result.value c.self.invariant.holds.valid
-    (inr (step_collected setup s t c.answered-2.result.value numbers kept (piece_of c.end-2.new.self.last) (lines_of c.end-2.new.self)
+    (collects_or_not setup s c.end_collection.new.self.piece (lines_of c.end_collection.new.self) c.answered-2.result.value c.self.invariant.holds.valid
+    (inr (step_collected setup s t c.answered-2.result.value numbers kept c.end_collection.new.self.piece (lines_of c.end_collection.new.self)
     (ends_sweep setup s v numbers c.bodies_lie_apart.ensures c.self.invariant.space.seat c.self.invariant.holds c.end_sweep.ensures.numbers)
     swept_holds.valid.unused after.1.valid.typed keeps
-    (ap piece_of last)
-    (ap lines_of c.end-2.ensures ∙ ap (λ (l : Line). lines_of (record c.end_sweep.new.outcome { last = Some l })) line)
+    (ap (λ (o : Outcome). o.piece) c.end_collection.ensures)
+    (ap lines_of c.end_collection.ensures ∙ ap (λ (l : Line). lines_of (record c.end_sweep.new.outcome { last = Some l; piece = collection_entries })) line)
     (c.answered-2.ensures ∙ ap answered pausing))))

@@ -33,7 +33,7 @@ returns-in-Ok-clause-step c =
     let s : State = c.self.inside.state.value in
     let old : s ≡ c.args.self.now.state = ap (λ (h : View). h.state) (c.self.view_is ∙ c.in-Ok.ensures.same) in
     let line : Line = c.line_of.result in
-    let outcome : c.end.new.self ≡ record { numbers = []; last = Some line; room = c.self.inside.outcome.room } =
+    let outcome : c.end.new.self ≡ record { numbers = []; last = Some line; piece = []; room = c.self.inside.outcome.room } =
     c.end.ensures ∙ ap (λ (o : Outcome). record o { last = Some line }) c.begin.ensures in
     subst (λ (y : State). StepGet y c.args.p c.args.f c.args.q (lines_of c.end.new.self) c.read.result.value) old
     (step_get (setup_of c.self.inside) s c.args.self.now.state c.read.result.value c.args.p c.args.f c.args.q c.in-Ok.target line (lines_of c.end.new.self)

@@ -92,7 +92,7 @@ returns-in-Some-clause-step c =
     let setup : Setup = setup_of c.self.inside in
     let is : type_at setup c.args.t ≡ strong_type n = type_is c.self.inside.types.items c.args.t ∙ ap strong_type (sym fields) in
     let idle : s.phase ≡ Idle = rw (← c.self.view_is) at c.requires.swept in
-    let outcome : c.end.new.self ≡ record { numbers = []; last = Some (L.Placed c.self.inside.made c.in-Some.place); room = c.self.inside.outcome.room } =
+    let outcome : c.end.new.self ≡ record { numbers = []; last = Some (L.Placed c.self.inside.made c.in-Some.place); piece = []; room = c.self.inside.outcome.room } =
     c.end.ensures ∙ ap (λ (o : Outcome). record o { last = Some (L.Placed c.self.inside.made c.in-Some.place) }) c.begin.ensures in
     rw (← c.self.view_is)
     (step_made setup s c.made.result.value c.self.inside.seat (lines_of c.end.new.self) c.args.p c.args.t n c.args.extra c.in-Some.place idle c.self.invariant.holds.held is
@@ -107,7 +107,7 @@ returns-in-None-clause-step c =
     let setup : Setup = setup_of c.self.inside in
     let is : type_at setup c.args.t ≡ strong_type n = type_is c.self.inside.types.items c.args.t ∙ ap strong_type (sym fields) in
     let idle : s.phase ≡ Idle = rw (← c.self.view_is) at c.requires.swept in
-    let outcome : c.end-in-None.new.self ≡ record { numbers = []; last = Some L.Full; room = c.self.inside.outcome.room } =
+    let outcome : c.end-in-None.new.self ≡ record { numbers = []; last = Some L.Full; piece = []; room = c.self.inside.outcome.room } =
     c.end-in-None.ensures ∙ ap (λ (o : Outcome). record o { last = Some L.Full }) c.begin.ensures in
     rw (← c.self.view_is)
     (step_full setup s c.full.result.value c.self.inside.seat (lines_of c.end-in-None.new.self) c.args.p c.args.t n c.args.extra idle c.self.invariant.holds.held is

@@ -66,7 +66,7 @@ returns-in-Ok-clause-step c =
     let old : s ≡ c.args.self.now.state = ap (λ (h : View). h.state) (c.self.view_is ∙ c.in-Ok.ensures.same) in
     let found : Found s c.args.p c.args.f c.in-Ok.a =
     found_field (setup_of c.self.inside) s c.args.self.now.state c.args.p c.args.f c.in-Ok.a c.self.invariant.holds.valid old c.in-Ok.ensures.field in
-    let outcome : c.end.new.self ≡ record { numbers = []; last = Some L.Fine; room = c.self.inside.outcome.room } =
+    let outcome : c.end.new.self ≡ record { numbers = []; last = Some L.Fine; piece = []; room = c.self.inside.outcome.room } =
     c.end.ensures ∙ ap (λ (o : Outcome). record o { last = Some L.Fine }) c.begin.ensures in
     subst (λ (y : State). StepSet y c.args.p c.args.f (content_of (slot_at y c.args.q)) (lines_of c.end.new.self) c.stored.result.value) old
     (step_set (setup_of c.self.inside) s c.stored.result.value c.args.p c.args.f c.in-Ok.a (content_of (slot_at s c.args.q)) (lines_of c.end.new.self)
