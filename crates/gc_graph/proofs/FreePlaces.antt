@@ -22,7 +22,7 @@ fits_free shape pages extents size a most h =
     record { inside = omega arith; free = run.free }
 
 -- the page of a run in which a word lies
-page_of : (words page count x : ℕ) → page * words ≤ x → x < (page + count) * words
+pub page_of : (words page count x : ℕ) → page * words ≤ x → x < (page + count) * words
     → (i : ℕ) × (i < count) × ((page + i) * words ≤ x) × (x < (page + i + 1) * words)
 page_of words page zero x low high = absurd (let same : page + zero ≡ page = omega arith in let e : (page + zero) * words ≡ page * words = ap (λ p. p * words) same in omega arith)
 page_of words page (suc c) x low high =

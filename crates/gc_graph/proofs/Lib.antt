@@ -6,7 +6,6 @@ mod StepFollows
 mod Histories
 mod Refusals
 mod FullHeaps
-mod Places
 mod Sweeps
 pub mod Listed
 mod Closes
@@ -31,8 +30,10 @@ mod ValidPause
 mod ValidSweeps
 mod ValidCycles
 mod FreePlaces
+mod PurePages
 mod NewObjects
 mod ValidNew
+mod Places
 mod MayRuns
 mod MayLaws
 mod ValidSteps

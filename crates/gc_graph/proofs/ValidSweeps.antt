@@ -16,7 +16,7 @@ use Rattle.gc_graph.specs.Valid.{IsTyped, NamesLive, word_count, IsSettled}
 use Rattle.gc_graph.specs.Outcomes.{answered}
 use Rattle.gc_graph.specs.CycleSteps.{is_marking, is_sweeping, StepSweepTo, StepSweep, StepSweepAll}
 use Rattle.gc_graph.proofs.Sound.{slot_weaker, word_weaker, region_weaker, MayHas, IsRoot, IsHeap, MayFollows, IsSound}
-use Rattle.gc_graph.proofs.NodeWrites.{IsPlaced, apart_after, within_after}
+use Rattle.gc_graph.proofs.NodeWrites.{IsPlaced, apart_after, within_after, pure_after}
 use Rattle.gc_graph.proofs.Condemned.{map_at}
 use Rattle.gc_graph.proofs.ValidCases.{bool_is, landed, refused_sound}
 use Rattle.gc_graph.proofs.ValidHandles.{Root}
@@ -107,6 +107,7 @@ module _ (setup : Setup) (s : State) (pages : ℕ) (g : IsSound setup s) (most :
         subst (λ o. All (NamesLive Swept) o.values) (sym (at m).same) (λ k d l. names _ (g.heap.named m ((at m).was_live live) k d l));
     apart = apart_after setup s.nodes Swept (λ m. (at m).placed) g.heap.apart;
     within = within_after setup s.nodes Swept (λ m. (at m).placed) g.heap.within;
+    pure = pure_after setup s.nodes Swept (λ m. (at m).placed) g.heap.pure;
   }
 
   dead_there : (m : ℕ) → IsDead Swept m → (Limit ≤ (node_at Swept m).place) × ((node_at Swept m).place < word_count setup.shape)

@@ -6,6 +6,7 @@ pub mod Checking
 pub mod May
 pub mod Sweep
 pub mod Placement
+pub mod Pages
 pub mod History
 pub mod Actions
 pub mod Pause

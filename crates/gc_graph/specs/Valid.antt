@@ -11,6 +11,7 @@ use Rattle.gc_graph.specs.Reach.{HoldsAll}
 use Rattle.gc_graph.specs.State.{Setup, Shape, State, Node, RegionSlot, node_at, type_at, is_there, IsLive, IsDead, size_of, graph_of, roots_of, slot_targets, stack_targets}
 use Rattle.gc_graph.specs.State.RegionSlot.{Vacant, StrongTo, WeakTo}
 use Rattle.gc_graph.specs.Fields.{field_words}
+use Rattle.gc_graph.specs.Pages.{ArePure}
 
 -- ---- objects
 
@@ -95,12 +96,14 @@ HasMay Idle s = ⊤
 HasMay Marking s = IsMay s
 HasMay Sweeping s = ⊤
 
--- a state is valid: objects are typed and lie apart in the heap; live nodes and handles name live nodes
+-- a state is valid: objects are typed and lie apart in the heap, in pages that are pure; live nodes and handles name
+-- live nodes
 pub record IsValid (setup : Setup) (s : State) : Type 0 where
   pub typed : All (IsTyped setup (length s.nodes)) s.nodes
   pub named : (n : ℕ) → IsLive s.nodes n → All (NamesLive s.nodes) (node_at s.nodes n).object.values
   pub apart : (m n : ℕ) → m ≢ n → IsThere s.nodes m → IsThere s.nodes n → AreApart (node_at s.nodes m) (node_at s.nodes n)
   pub within : (n : ℕ) → IsThere s.nodes n → (node_at s.nodes n).place + size_of (node_at s.nodes n) ≤ word_count setup.shape
+  pub pure : ArePure setup.shape.page_words s.nodes
   pub slots : AreLive s.nodes (slot_targets s.slots)
   pub weak : AreLive s.nodes (slot_targets s.weak)
   pub stack : AreLive s.nodes (stack_targets s.stack)
