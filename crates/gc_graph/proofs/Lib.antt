@@ -34,6 +34,8 @@ mod PurePages
 mod NewObjects
 mod ValidNew
 mod Places
+mod SweepOrders
+mod SweepLaws
 mod MayRuns
 mod MayLaws
 mod ValidSteps

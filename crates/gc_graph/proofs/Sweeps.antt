@@ -36,7 +36,7 @@ buried_is_no_longer Live e = cc
 buried_is_no_longer Dead e = cc
 buried_is_no_longer Gone e = cc
 
-swept_phase : (shape : Shape) → phase_at shape shape.pages ≡ Idle
+pub swept_phase : (shape : Shape) → phase_at shape shape.pages ≡ Idle
 swept_phase shape = cond-true (eqb shape.pages shape.pages) Idle Sweeping (eq-eqb shape.pages shape.pages refl)
 
 module _ (setup : Setup) (old new : State) (numbers : List ℕ) (valid : IsValid setup old)

@@ -23,7 +23,7 @@ use Rattle.gc_graph.proofs.ValidHandles.{Root}
 
 -- ---- one node
 
-there_before : (x : Life) → is_there (buried x) ≡ true → is_there x ≡ true
+pub there_before : (x : Life) → is_there (buried x) ≡ true → is_there x ≡ true
 there_before Live e = e
 there_before Dead e = refl
 there_before Gone e = e
@@ -33,7 +33,7 @@ live_before Live e = e
 live_before Dead e = cc
 live_before Gone e = e
 
-never_dead : (x : Life) → buried x ≡ Dead → ⊥
+pub never_dead : (x : Life) → buried x ≡ Dead → ⊥
 never_dead Live e = cc
 never_dead Dead e = cc
 never_dead Gone e = cc

@@ -28,4 +28,5 @@ pub mod ValidLaw
 pub mod MayLaw
 pub mod RefusalLaw
 pub mod PlacementLaw
+pub mod SweepLaw
 pub mod HistoryLaw

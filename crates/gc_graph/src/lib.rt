@@ -11,7 +11,7 @@
 //! `Graph` and `reach_check`, by which a program checks a set of nodes; `laws`. The definitions
 //! stand in `specs/`, to be read in the order of `specs/Lib.antt`.
 //!
-//! What is proved: the laws of `reach` and `laws`, each the contract of a function that does
+//! What is proved: the laws of `reach`, `laws` and `sweep_laws`, each the contract of a function that does
 //! nothing, and that `reach_check` is true exactly where a set holds the roots and is closed.
 //!
 //! What is only tested or not said: the definitions are what a reader has to believe. The tests
@@ -30,6 +30,7 @@ mod memory;
 mod phase;
 mod reach;
 mod region;
+mod sweep_laws;
 #[cfg(test)]
 mod tests;
 
@@ -49,3 +50,4 @@ pub use memory::NoMemory;
 pub use phase::Phase;
 pub use reach::reach_is_least;
 pub use region::{Entry, Op, Reply};
+pub use sweep_laws::{placed_in_last_page, placement_is_one, sweeps_go_by_pages};
