@@ -36,6 +36,10 @@ mod ValidNew
 mod Places
 mod SweepOrders
 mod SweepLaws
+mod Lives
+mod StepLives
+mod CommandLives
+mod OnceLaws
 mod MayRuns
 mod MayLaws
 mod ValidSteps

@@ -2,11 +2,11 @@
 use Rattle.std.proofs.Common.{◌≡◌, ℕ, zero, suc, ◌+◌, ◌*◌, ◌/◌, ◌<◌, ◌≤◌, ◌&&◌, List, refl, sym, ◌∙◌, subst, inl, inr, arith, add-mul, mul-le-mul_right, leb, ltb}
 use Rattle.std.proofs.lemmas.Bool.{cases_lt, and_parts, leb-true, ltb-true}
 use Rattle.gc_graph.specs.State.{Shape, Node, node_at, is_there, size_of}
-use Rattle.gc_graph.specs.Placement.{extents_of, IsRun, Fits, IsPageCount, StartsEmptyRun}
+use Rattle.gc_graph.specs.Placement.{extent_of, extents_of, IsRun, Fits, IsPageCount, StartsEmptyRun}
 use Rattle.gc_graph.specs.Pages.{IsInPage, ArePure}
 use Rattle.gc_graph.specs.PlacementLaw.{AreFree, GoesBySize, PlacementIsFree, PagesHaveOneBucket}
 use Rattle.gc_graph.proofs.Sound.{IsSound, sound_from}
-use Rattle.gc_graph.proofs.FreePlaces.{extent_of, contains_extent, IsFreeAt, place_free}
+use Rattle.gc_graph.proofs.FreePlaces.{contains_extent, IsFreeAt, place_free}
 use Rattle.gc_graph.proofs.PurePages.{page_is_used, IsBucketNode, bucket_node, SharesWell, fit_shares}
 use Rattle.gc_graph.proofs.ValidSweeps.{sweeps_sound}
 

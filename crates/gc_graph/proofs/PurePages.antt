@@ -2,10 +2,10 @@
 use Rattle.std.proofs.Common.{◌≡◌, ℕ, zero, suc, ◌+◌, ◌*◌, ◌/◌, ◌<◌, ◌≤◌, nat_lt, nat_le, true, List, [], ◌∷◌, Contains, ap, ◌∙◌, subst, Some, inl, inr, arith, add-mul, mul-le-mul_right, if◌then◌else◌}
 use Rattle.std.proofs.lemmas.Bool.{cases_order, cond_both, cond-true, lt-ltb, ltb-true}
 use Rattle.gc_graph.specs.State.{Shape, Node, node_at, is_there, size_of}
-use Rattle.gc_graph.specs.Placement.{Extent, extents_of, IsTaken, bucket_of, HasBucket, IsRun, Fits, StartsEmptyRun, IsPlaceFor}
+use Rattle.gc_graph.specs.Placement.{Extent, extent_of, extents_of, IsTaken, bucket_of, HasBucket, IsRun, Fits, StartsEmptyRun, IsPlaceFor}
 use Rattle.gc_graph.specs.Pages.{IsInPage, bucket_of_node, ArePure}
 use Rattle.gc_graph.specs.Valid.{IsThere}
-use Rattle.gc_graph.proofs.FreePlaces.{extent_of, page_of, contains_extent}
+use Rattle.gc_graph.proofs.FreePlaces.{page_of, contains_extent}
 
 page_before : (words page other : ℕ) → page < other → (page + 1) * words ≤ other * words
 page_before words page other l = mul-le-mul_right words (omega arith)

@@ -6,10 +6,10 @@ use Rattle.gc_graph.specs.declared.phase.Phase.{Phase}
 use Rattle.gc_graph.specs.declared.phase.Phase.TheVariants.{Idle, Marking, Sweeping}
 use Rattle.gc_graph.specs.State.{Shape, State, Node, node_at, is_there}
 use Rattle.gc_graph.specs.Sweep.{swept_pages, pages_swept_in, AreDeadInOrder, buried, finalise, phase_at, swept_to, IsSweep, SweepsIn, SweepsTo}
-use Rattle.gc_graph.specs.Placement.{Extent, extents_of, IsTaken, IsRun, Fits, StartsEmptyRun, IsLowest, IsNowhere, IsPlaceFor, IsPlacement}
+use Rattle.gc_graph.specs.Placement.{Extent, extent_of, extents_of, IsTaken, IsRun, Fits, StartsEmptyRun, IsLowest, IsNowhere, IsPlaceFor, IsPlacement}
 use Rattle.gc_graph.specs.SweepLaw.{SweepsJoin, IsSplit, SweepsSplit, SweepIsOne, PlacedInLastPage, PlacementIsOne}
 use Rattle.gc_graph.proofs.Sweeps.{finalised_at, swept_phase}
-use Rattle.gc_graph.proofs.FreePlaces.{extent_of, contains_extent}
+use Rattle.gc_graph.proofs.FreePlaces.{contains_extent}
 use Rattle.gc_graph.proofs.PurePages.{IsExtentOf, node_of_extent}
 use Rattle.gc_graph.proofs.ValidSweeps.{there_before}
 use Rattle.gc_graph.proofs.SweepOrders.{same_dead, finalised_more, joined, front_of, back_of, front, back, cut_whole}

@@ -18,19 +18,19 @@ use Rattle.gc_graph.proofs.ValidSweeps.{never_dead}
 abbrev pub IsUp : (ℕ → ℕ) → List ℕ → Type 0
 IsUp f xs = (i j : ℕ) → i < j → j < length xs → f (slice_index xs i) < f (slice_index xs j)
 
-up_tail : (f : ℕ → ℕ) (x : ℕ) (xs : List ℕ) → IsUp f (x ∷ xs) → IsUp f xs
+pub up_tail : (f : ℕ → ℕ) (x : ℕ) (xs : List ℕ) → IsUp f (x ∷ xs) → IsUp f xs
 up_tail f x xs up i j l m = up (suc i) (suc j) (omega arith) (omega arith)
 
 -- the first of an ascending list is below each other
-up_first : (f : ℕ → ℕ) (x n : ℕ) (xs : List ℕ) → IsUp f (x ∷ xs) → Contains xs n → f x < f n
+pub up_first : (f : ℕ → ℕ) (x n : ℕ) (xs : List ℕ) → IsUp f (x ∷ xs) → Contains xs n → f x < f n
 up_first f x n xs up h =
     subst (λ m. f x < f m) (sym (get_or_default_zero xs h.0 n h.1) ∙ h.2) (up 0 (suc h.0) (omega arith) (let l = h.1 in omega arith))
 
-first_or_rest : (x n : ℕ) (xs : List ℕ) → Contains (x ∷ xs) n → (x ≡ n) ⊎ Contains xs n
+pub first_or_rest : (x n : ℕ) (xs : List ℕ) → Contains (x ∷ xs) n → (x ≡ n) ⊎ Contains xs n
 first_or_rest x n xs (zero, l, is) = inl is
 first_or_rest x n xs (suc i, l, is) = inr (i, omega arith, is)
 
-rest_of : (x n : ℕ) (xs : List ℕ) → Contains xs n → Contains (x ∷ xs) n
+pub rest_of : (x n : ℕ) (xs : List ℕ) → Contains xs n → Contains (x ∷ xs) n
 rest_of x n xs h = let l = h.1 in (suc h.0, omega arith, h.2)
 
 only_rest : (f : ℕ → ℕ) (x n : ℕ) (xs ys : List ℕ) → IsUp f (x ∷ xs) → Contains xs n → Contains (x ∷ ys) n → Contains ys n
@@ -40,7 +40,7 @@ only_rest f x n xs ys up h k =
       | inr rest ↦ rest
     ]
 
-nothing_in : (n : ℕ) → Contains [] n → ⊥
+pub nothing_in : (n : ℕ) → Contains [] n → ⊥
 nothing_in n h = let l = h.1 in absurd (omega arith)
 
 -- ascending lists with the same members are the same
@@ -65,7 +65,7 @@ same_up f (x ∷ xs) (y ∷ ys) up other there back =
     (λ n h. only_rest f y n ys xs other h (subst (λ z. Contains (z ∷ xs) n) first (back n (rest_of y n ys h)))) in
     ap (λ z. z ∷ xs) first ∙ ap (λ zs. y ∷ zs) rest
 
-member_dead : (nodes : List Node) (limit n : ℕ) (numbers : List ℕ) → AreDeadInOrder nodes limit numbers → Contains numbers n → IsDeadBelow nodes limit n
+pub member_dead : (nodes : List Node) (limit n : ℕ) (numbers : List ℕ) → AreDeadInOrder nodes limit numbers → Contains numbers n → IsDeadBelow nodes limit n
 member_dead nodes limit n numbers h k = subst (IsDeadBelow nodes limit) k.2 (h.dead k.0 n k.1)
 
 pub same_dead : (nodes : List Node) (limit : ℕ) (xs ys : List ℕ) → AreDeadInOrder nodes limit xs → AreDeadInOrder nodes limit ys → xs ≡ ys
@@ -115,7 +115,7 @@ cut f limit xs (suc most) l up =
 
 -- ---- a sweep's nodes
 
-same_finalised : (limit : ℕ) (x : Node) → ((finalise limit x).place ≡ x.place)
+pub same_finalised : (limit : ℕ) (x : Node) → ((finalise limit x).place ≡ x.place)
 same_finalised limit x = cond_both (nat_lt x.place limit) (record x { life = buried x.life }) x (λ y. y.place ≡ x.place) (λ e. refl) (λ e. refl)
 
 buried_twice : (x : Life) → buried (buried x) ≡ buried x

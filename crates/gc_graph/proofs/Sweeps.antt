@@ -13,7 +13,7 @@ same_either : (b : Bool) (node : Node) → node.life ≡ buried node.life → co
 same_either true node e = ap (λ l. record node { life = l }) (sym e)
 same_either false node e = refl
 
-alive_stays : (life : Life) → (life ≡ Dead → ⊥) → life ≡ buried life
+pub alive_stays : (life : Life) → (life ≡ Dead → ⊥) → life ≡ buried life
 alive_stays Live alive = refl
 alive_stays Dead alive = absurd (alive refl)
 alive_stays Gone alive = refl

@@ -29,4 +29,5 @@ pub mod MayLaw
 pub mod RefusalLaw
 pub mod PlacementLaw
 pub mod SweepLaw
+pub mod OnceLaw
 pub mod HistoryLaw

@@ -8,11 +8,15 @@ pub record Extent : Type 0 where
   pub place : ℕ
   pub size : ℕ
 
+-- the words of a node's object
+abbrev pub extent_of : Node → Extent
+extent_of node = record { place = node.place; size = size_of node }
+
 -- the words of the objects that are not finalised, dead ones too
 abbrev pub extents_of : List Node → List Extent
 extents_of [] = []
 extents_of (node ∷ nodes) =
-    if is_there node.life then record { place = node.place; size = size_of node } ∷ extents_of nodes else extents_of nodes
+    if is_there node.life then extent_of node ∷ extents_of nodes else extents_of nodes
 
 abbrev pub Covers : Extent → ℕ → Type 0
 Covers e a = (e.place ≤ a) × (a < e.place + e.size)

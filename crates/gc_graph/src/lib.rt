@@ -11,7 +11,7 @@
 //! `Graph` and `reach_check`, by which a program checks a set of nodes; `laws`. The definitions
 //! stand in `specs/`, to be read in the order of `specs/Lib.antt`.
 //!
-//! What is proved: the laws of `reach`, `laws` and `sweep_laws`, each the contract of a function that does
+//! What is proved: the laws of `reach`, `laws`, `sweep_laws` and `life_laws`, each the contract of a function that does
 //! nothing, and that `reach_check` is true exactly where a set holds the roots and is closed.
 //!
 //! What is only tested or not said: the definitions are what a reader has to believe. The tests
@@ -24,6 +24,7 @@ mod command;
 mod graph;
 mod graphs;
 mod laws;
+mod life_laws;
 mod line;
 mod members;
 mod memory;
@@ -45,6 +46,7 @@ pub use laws::{
     replies_are_of_one_thread, report_reads_back, runs_are_replayed, step_keeps_valid,
     sweeps_finalise_dead,
 };
+pub use life_laws::lives_end_once;
 pub use line::{Line, Refusal};
 pub use memory::NoMemory;
 pub use phase::Phase;
