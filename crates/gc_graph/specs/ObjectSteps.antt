@@ -61,12 +61,15 @@ AtField allowed old p f lines new Done =
     (MatchBool (allowed (kind_of_field (node_at old.nodes n).object f)) (Done n) (IsRefused R.Kind old lines new))
     (IsRefused R.Field old lines new))
 
+-- the number of the first word of the node's field
 abbrev pub first_word : State → ℕ → ℕ → ℕ
 first_word s n f = word_of_field (node_at s.nodes n).object f
 
+-- the state with this node written
 abbrev pub with_node : State → ℕ → Node → State
 with_node s n node = record s { nodes = slice_set s.nodes n node }
 
+-- the node was written
 abbrev pub IsChanged : State → ℕ → Node → List Line → State → Type 0
 IsChanged old n node lines new = (lines ≡ L.Fine ∷ []) × (new ≡ answered (with_node old n node))
 
@@ -94,6 +97,7 @@ abbrev pub StepPut : State → ℕ → ℕ → ℕ → List Line → State → T
 StepPut old p f w lines new =
     AtField is_plain old p f lines new (λ n. IsChanged old n (with_value (node_at old.nodes n) (first_word old n f) (Word w)) lines new)
 
+-- the number that the plain word holds was told
 abbrev pub IsNumber : State → Value → List Line → State → Type 0
 IsNumber old (Word w) lines new = (lines ≡ L.Word w ∷ []) × (new ≡ answered old)
 IsNumber old Null lines new = ⊥

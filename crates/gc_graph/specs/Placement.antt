@@ -18,6 +18,7 @@ extents_of [] = []
 extents_of (node ∷ nodes) =
     if is_there node.life then extent_of node ∷ extents_of nodes else extents_of nodes
 
+-- the word is one of these
 abbrev pub Covers : Extent → ℕ → Type 0
 Covers e a = (e.place ≤ a) × (a < e.place + e.size)
 
@@ -53,6 +54,7 @@ abbrev pub UsesPage : Shape → List Extent → ℕ → Type 0
 UsesPage shape extents page =
     (a : ℕ) × (page * shape.page_words ≤ a) × (a < (page + 1) * shape.page_words) × IsTaken extents a
 
+-- no object has a word in the page
 abbrev pub IsEmptyPage : Shape → List Extent → ℕ → Type 0
 IsEmptyPage shape extents page = UsesPage shape extents page → ⊥
 
@@ -69,9 +71,11 @@ pub record StartsEmptyRun (shape : Shape) (extents : List Extent) (size a : ℕ)
   pub first : a ≡ page * shape.page_words
   pub empty : (i : ℕ) → i < count → IsEmptyPage shape extents (page + i)
 
+-- the address is the lowest of which this holds
 abbrev pub IsLowest : (ℕ → Type 0) → ℕ → Type 0
 IsLowest P a = P a × ((b : ℕ) → b < a → P b → ⊥)
 
+-- this holds of no address
 abbrev pub IsNowhere : (ℕ → Type 0) → Type 0
 IsNowhere P = (a : ℕ) → P a → ⊥
 

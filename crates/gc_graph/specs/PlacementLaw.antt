@@ -74,6 +74,7 @@ pub record FinalisesDead (old : State) (numbers : List ℕ) (new : State) : Type
   pub others : (n : ℕ) → (IsDead old.nodes n → ⊥) → node_at new.nodes n ≡ node_at old.nodes n
   pub over : new.phase ≡ Idle
 
+-- so does the end of an open sweep from a valid state
 abbrev pub SweepsFinaliseDead : Type 0
 SweepsFinaliseDead =
     (setup : Setup) (old new : State) (numbers : List ℕ) → IsValid setup old → old.phase ≡ Sweeping

@@ -11,6 +11,7 @@ pages_swept_in Idle pages cursor = pages
 pages_swept_in Marking pages cursor = pages
 pages_swept_in Sweeping pages cursor = cursor
 
+-- how many pages count as swept
 abbrev pub swept_pages : Shape → State → ℕ
 swept_pages shape s = pages_swept_in s.phase shape.pages s.cursor
 
@@ -27,6 +28,7 @@ pub record AreDeadInOrder (nodes : List Node) (limit : ℕ) (numbers : List ℕ)
       (i j : ℕ) → i < j → j < length numbers
       → (node_at nodes (slice_index numbers i)).place < (node_at nodes (slice_index numbers j)).place
 
+-- the life of a node after its finalisation
 abbrev pub buried : Life → Life
 buried Live = Live
 buried Dead = Gone
@@ -60,6 +62,7 @@ SweepsIn Idle shape old pages numbers new = (numbers ≡ []) × (new ≡ old)
 SweepsIn Marking shape old pages numbers new = (numbers ≡ []) × (new ≡ old)
 SweepsIn Sweeping shape old pages numbers new = IsSweep shape old pages numbers new
 
+-- a sweep goes on until the first so many pages are swept
 abbrev pub SweepsTo : Shape → State → ℕ → List ℕ → State → Type 0
 SweepsTo shape old pages numbers new = SweepsIn old.phase shape old pages numbers new
 

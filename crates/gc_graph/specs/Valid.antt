@@ -21,6 +21,7 @@ IsReferenceBelow bound Null = ⊤
 IsReferenceBelow bound (Ref n) = n < bound
 IsReferenceBelow bound (Word w) = ⊥
 
+-- a plain word
 abbrev pub IsPlainWord : Value → Type 0
 IsPlainWord Null = ⊥
 IsPlainWord (Ref n) = ⊥
@@ -50,22 +51,27 @@ pub record IsTyped (setup : Setup) (bound : ℕ) (node : Node) : Type 0 where
   pub values_are : HaveKinds bound node.object.kinds node.object.values
   pub count : length node.object.values ≡ field_words node.object.kinds + node.object.extra
 
+-- no other node than a live one is named
 abbrev pub NamesLive : List Node → Value → Type 0
 NamesLive nodes Null = ⊤
 NamesLive nodes (Ref n) = IsLive nodes n
 NamesLive nodes (Word w) = ⊤
 
+-- the node with this number is live or dead
 abbrev pub IsThere : List Node → ℕ → Type 0
 IsThere nodes n = is_there (node_at nodes n).life ≡ true
 
+-- the objects have no word in common
 abbrev pub AreApart : Node → Node → Type 0
 AreApart x y = (x.place + size_of x ≤ y.place) ⊎ (y.place + size_of y ≤ x.place)
 
+-- how many words the heap has
 abbrev pub word_count : Shape → ℕ
 word_count shape = shape.pages * shape.page_words
 
 -- ---- handles
 
+-- each of these is live
 abbrev pub AreLive : List Node → List ℕ → Type 0
 AreLive nodes targets = All (IsLive nodes) targets
 
@@ -91,6 +97,7 @@ pub record IsMay (s : State) : Type 0 where
   pub roots : HoldsAll s.may (roots_of s)
   pub whole : length s.may ≡ length s.nodes
 
+-- while marking goes on, the nodes that may be kept are these
 abbrev pub HasMay : Phase → State → Type 0
 HasMay Idle s = ⊤
 HasMay Marking s = IsMay s
