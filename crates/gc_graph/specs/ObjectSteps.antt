@@ -52,14 +52,17 @@ StepNew setup old p t extra lines new =
 
 -- ---- fields
 
+-- refused where the test fails, and else done
+abbrev pub Unless : Bool → Type 0 → Type 0 → Type 0
+Unless test Refused Done = MatchBool test Done Refused
+
 -- field f of the slot's object is asked for: refused where the slot is null, then where there is no such field, then
 -- where it is of another kind
 abbrev pub AtField : (Kind → Bool) → State → ℕ → ℕ → List Line → State → (ℕ → Type 0) → Type 0
 AtField allowed old p f lines new Done =
     MatchOption (slot_at old p) (IsRefused R.Null old lines new)
-    (λ n. MatchBool (nat_lt f (field_count (node_at old.nodes n)))
-    (MatchBool (allowed (kind_of_field (node_at old.nodes n).object f)) (Done n) (IsRefused R.Kind old lines new))
-    (IsRefused R.Field old lines new))
+    (λ n. Unless (nat_lt f (field_count (node_at old.nodes n))) (IsRefused R.Field old lines new)
+    (Unless (allowed (kind_of_field (node_at old.nodes n).object f)) (IsRefused R.Kind old lines new) (Done n)))
 
 -- the number of the first word of the node's field
 abbrev pub first_word : State → ℕ → ℕ → ℕ
