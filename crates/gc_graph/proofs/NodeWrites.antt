@@ -61,9 +61,9 @@ module _ (setup : Setup) (nodes after : List Node) (placed : (m : ℕ) → IsPla
       let p = placed m in
       let place : (node_at after m).place ≡ (node_at nodes m).place = p.place in
       let size : length (node_at after m).object.values ≡ length (node_at nodes m).object.values = p.size in
-      let begins : (node_at after m).place ≤ h.word = h.begins in
-      let ends : h.word < (node_at after m).place + size_of (node_at after m) = h.ends in
-      record { there = p.there h.there; word = h.word; first = h.first; last = h.last; begins = omega arith; ends = omega arith }
+      let begins : (node_at after m).place ≤ h.word = h.has.0 in
+      let ends : h.word < (node_at after m).place + size_of (node_at after m) = h.has.1 in
+      record { there = p.there h.there; word = h.word; first = h.first; last = h.last; has = (omega arith, omega arith) }
 
   bucket_before : (m : ℕ)
       → bucket_of_node setup.shape.page_words (node_at after m) ≡ bucket_of_node setup.shape.page_words (node_at nodes m)

@@ -9,7 +9,7 @@ use Rattle.gc_graph.specs.declared.line.Line.{Line}
 use Rattle.gc_graph.specs.declared.line.Line.TheVariants as L
 use Rattle.gc_graph.specs.State.{Setup, State, Node, node_at, is_there, size_of, Life, IsLive, IsDead, empty_state}
 use Rattle.gc_graph.specs.State.Life.{Live, Dead, Gone}
-use Rattle.gc_graph.specs.Placement.{Covers, extent_of}
+use Rattle.gc_graph.specs.Placement.{HasWord, extent_of}
 use Rattle.gc_graph.specs.Valid.{IsValid, AreApart}
 use Rattle.gc_graph.specs.Lawful.{Outcome, Run, last_state, state_after, IsAllowed}
 use Rattle.gc_graph.specs.OnceLaw.{all_lines, AreOnce, TellsPause, Once}
@@ -28,7 +28,7 @@ gone_or_there Live = inr refl
 gone_or_there Dead = inr refl
 gone_or_there Gone = inl refl
 
-not_both : (x y : Node) (w : ℕ) → AreApart x y → Covers (extent_of x) w → Covers (extent_of y) w → ⊥
+not_both : (x y : Node) (w : ℕ) → AreApart x y → HasWord (extent_of x) w → HasWord (extent_of y) w → ⊥
 not_both x y w apart h k =
     let begins_x : x.place ≤ w = h.0 in
     let ends_x : w < x.place + size_of x = h.1 in
@@ -36,8 +36,8 @@ not_both x y w apart h k =
     let ends_y : w < y.place + size_of y = k.1 in
     elim apart [ inl before ↦ omega arith | inr after ↦ omega arith ]
 
-covers_put : (x y : Node) (w : ℕ) → StaysPut x y → Covers (extent_of y) w → Covers (extent_of x) w
-covers_put x y w put h =
+has_word_put : (x y : Node) (w : ℕ) → StaysPut x y → HasWord (extent_of y) w → HasWord (extent_of x) w
+has_word_put x y w put h =
     let place : y.place ≡ x.place = put.place in
     let size : length y.object.values ≡ length x.object.values = put.size in
     let begins : y.place ≤ w = h.0 in
@@ -49,7 +49,7 @@ module _ (lines : List Line) (nodes : List Node) (told : AreTold [] lines nodes)
   told_split before said after e = told_at [] nodes before said after (subst (λ ls. AreTold [] ls nodes) e told)
 
   reused : (n m a x : ℕ) (before after : List Line) → lines ≡ before ++ L.Placed m a ∷ after → n < m
-      → Covers (extent_of (node_at nodes n)) x → Covers (extent_of (node_at nodes m)) x → Contains before (L.Finalise n)
+      → HasWord (extent_of (node_at nodes n)) x → HasWord (extent_of (node_at nodes m)) x → Contains before (L.Finalise n)
   reused n m a x before after e less h k =
       let at : IsToldAt [] before (L.Placed m a) after nodes = told_split before (L.Placed m a) after e in
       let made : IsMadeBy at.at m a at.next = at.tells in
@@ -59,8 +59,8 @@ module _ (lines : List Line) (nodes : List Node) (told : AreTold [] lines nodes)
         | inl gone ↦ elim (went [] at.at before n (omega arith) gone at.first) [ inl early ↦ absurd (omega (arith, early.0)) | inr is ↦ is ]
         | inr there ↦
             absurd (not_both (node_at at.next m) (node_at at.next n) x (made.apart n there)
-            (covers_put (node_at at.next m) (node_at nodes m) x (told_put at.next nodes after m (omega arith) at.rest) k)
-            (covers_put (node_at at.next n) (node_at nodes n) x (told_put at.next nodes after n (omega arith) at.rest) h))
+            (has_word_put (node_at at.next m) (node_at nodes m) x (told_put at.next nodes after m (omega arith) at.rest) k)
+            (has_word_put (node_at at.next n) (node_at nodes n) x (told_put at.next nodes after n (omega arith) at.rest) h))
       ]
 
   are_once : AreOnce lines nodes

@@ -2,7 +2,7 @@
 use Rattle.std.proofs.Common.{◌≡◌, ℕ, zero, suc, ◌+◌, ◌*◌, ◌/◌, ◌<◌, ◌≤◌, nat_lt, nat_le, true, List, [], ◌∷◌, Contains, ap, ◌∙◌, subst, Some, inl, inr, arith, add-mul, mul-le-mul_right, if◌then◌else◌}
 use Rattle.std.proofs.lemmas.Bool.{cases_order, cond_both, cond-true, lt-ltb, ltb-true}
 use Rattle.gc_graph.specs.State.{Shape, Node, node_at, is_there, size_of}
-use Rattle.gc_graph.specs.Placement.{Extent, extent_of, extents_of, IsTaken, bucket_of, HasBucket, IsRun, Fits, StartsEmptyRun, IsPlaceFor}
+use Rattle.gc_graph.specs.Placement.{Extent, extent_of, extents_of, IsTaken, bucket_of, PageHasBucket, IsRun, Fits, StartsEmptyRun, IsPlaceFor}
 use Rattle.gc_graph.specs.Pages.{IsInPage, bucket_of_node, ArePure}
 use Rattle.gc_graph.specs.Valid.{IsThere}
 use Rattle.gc_graph.proofs.FreePlaces.{page_of, contains_extent}
@@ -67,7 +67,7 @@ pub record IsBucketNode (words : ℕ) (nodes : List Node) (page bucket : ℕ) : 
   pub in_page : IsInPage words (node_at nodes node) page
   pub is : bucket_of_node words (node_at nodes node) ≡ bucket
 
-pub bucket_node : (words : ℕ) (nodes : List Node) (page bucket : ℕ) → HasBucket words (extents_of nodes) page bucket → IsBucketNode words nodes page bucket
+pub bucket_node : (words : ℕ) (nodes : List Node) (page bucket : ℕ) → PageHasBucket words (extents_of nodes) page bucket → IsBucketNode words nodes page bucket
 bucket_node words nodes page bucket h =
     let found : IsExtentOf nodes h.0 = node_of_extent nodes h.0 h.2 in
     let place : (node_at nodes found.node).place ≡ h.0.place = ap (λ (x : Extent). x.place) found.same in
@@ -76,13 +76,13 @@ bucket_node words nodes page bucket h =
     let ends : h.1 < h.0.place + h.0.size = h.3.1 in
     record {
       node = found.node;
-      in_page = record { there = found.there; word = h.1; first = h.4; last = h.5; begins = omega arith; ends = omega arith };
+      in_page = record { there = found.there; word = h.1; first = h.4; last = h.5; has = (omega arith, omega arith) };
       is = ap (bucket_of words) size ∙ h.6;
     }
 
 -- a node in a page uses it
 pub page_is_used : (words : ℕ) (nodes : List Node) (page n : ℕ) (h : IsInPage words (node_at nodes n) page) → IsTaken (extents_of nodes) h.word
-page_is_used words nodes page n h = (extent_of (node_at nodes n), contains_extent nodes n h.there, (h.begins, h.ends))
+page_is_used words nodes page n h = (extent_of (node_at nodes n), contains_extent nodes n h.there, h.has)
 
 -- ---- which objects share a page with a new one
 

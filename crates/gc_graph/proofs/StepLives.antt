@@ -9,7 +9,7 @@ use Rattle.gc_graph.specs.declared.phase.Phase.{Phase}
 use Rattle.gc_graph.specs.declared.phase.Phase.TheVariants.{Idle, Marking, Sweeping}
 use Rattle.gc_graph.specs.State.{Shape, State, Node, no_node, node_at, IsDead}
 use Rattle.gc_graph.specs.State.Life.{Dead, Gone}
-use Rattle.gc_graph.specs.Sweep.{IsDeadBelow, AreDeadInOrder, buried, finalise, SweepsIn, SweepsTo}
+use Rattle.gc_graph.specs.Sweep.{IsDeadBelow, AreDeadInOrder, buried, finalise, SweepsInPhase, SweepsTo}
 use Rattle.gc_graph.specs.Outcomes.{finalise_lines}
 use Rattle.gc_graph.proofs.Sweeps.{alive_stays, finalised_at}
 use Rattle.gc_graph.proofs.NodeWrites.{IsLikeNode, like_same, LookSame, look_same}
@@ -191,7 +191,7 @@ none_told old mid numbers none same =
       whole = refl;
     }))
 
-told_in : (phase : Phase) (shape : Shape) (old mid : State) (pages : ℕ) (numbers : List ℕ) → SweepsIn phase shape old pages numbers mid
+told_in : (phase : Phase) (shape : Shape) (old mid : State) (pages : ℕ) (numbers : List ℕ) → SweepsInPhase phase shape old pages numbers mid
     → IsSweepTold old.nodes numbers mid.nodes
 told_in Idle shape old mid pages numbers h = none_told old mid numbers h.0 h.1
 told_in Marking shape old mid pages numbers h = none_told old mid numbers h.0 h.1

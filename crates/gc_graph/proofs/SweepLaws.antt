@@ -5,7 +5,7 @@ use Rattle.std.proofs.lemmas.List.{append-nil}
 use Rattle.gc_graph.specs.declared.phase.Phase.{Phase}
 use Rattle.gc_graph.specs.declared.phase.Phase.TheVariants.{Idle, Marking, Sweeping}
 use Rattle.gc_graph.specs.State.{Shape, State, Node, node_at, is_there}
-use Rattle.gc_graph.specs.Sweep.{swept_pages, pages_swept_in, AreDeadInOrder, buried, finalise, phase_at, swept_to, IsSweep, SweepsIn, SweepsTo}
+use Rattle.gc_graph.specs.Sweep.{swept_pages, pages_swept_in, AreDeadInOrder, buried, finalise, phase_at, swept_state, ContinuesSweep, SweepsInPhase, SweepsTo}
 use Rattle.gc_graph.specs.Placement.{Extent, extent_of, extents_of, IsTaken, IsRun, Fits, StartsEmptyRun, IsLowest, IsNowhere, IsPlaceFor, IsPlacement}
 use Rattle.gc_graph.specs.SweepLaw.{SweepsJoin, IsSplit, SweepsSplit, SweepIsOne, PlacedInLastPage, PlacementIsOne}
 use Rattle.gc_graph.proofs.Sweeps.{finalised_at, swept_phase}
@@ -19,7 +19,7 @@ later_page shape pages more l = mul-le-mul_right shape.page_words l
 
 -- the state after two sweeps
 swept_twice : (shape : Shape) (old : State) (pages more : ℕ) (first second : List ℕ) → pages ≤ more
-    → swept_to shape (swept_to shape old pages first) more second ≡ swept_to shape old more (first ++ second)
+    → swept_state shape (swept_state shape old pages first) more second ≡ swept_state shape old more (first ++ second)
 swept_twice shape old pages more first second l =
     let whole : length (first ++ second) ≡ length first + length second = length-append first second in
     let count : old.finalised + length first + length second ≡ old.finalised + length (first ++ second) = omega arith in
@@ -29,7 +29,7 @@ swept_twice shape old pages more first second l =
     ∙ ap (λ (n : ℕ).
     record old { nodes = map (finalise (more * shape.page_words)) old.nodes; phase = phase_at shape more; cursor = more; finalised = n }) count
 
-phase_of : (shape : Shape) (old mid : State) (pages : ℕ) (first : List ℕ) → IsSweep shape old pages first mid → mid.phase ≡ phase_at shape pages
+phase_of : (shape : Shape) (old mid : State) (pages : ℕ) (first : List ℕ) → ContinuesSweep shape old pages first mid → mid.phase ≡ phase_at shape pages
 phase_of shape old mid pages first h = ap (λ (s : State). s.phase) h.after
 
 still_sweeping : (shape : Shape) (pages : ℕ) → (pages ≡ shape.pages → ⊥) → phase_at shape pages ≡ Sweeping
@@ -37,15 +37,15 @@ still_sweeping shape pages ne = cond-false (pages == shape.pages) Idle Sweeping 
 
 -- ---- joined
 
-join_ended : (shape : Shape) (old mid new : State) (pages more : ℕ) (first second : List ℕ) → pages ≡ more → IsSweep shape old pages first mid
-    → (second ≡ []) × (new ≡ mid) → IsSweep shape old more (first ++ second) new
+join_ended : (shape : Shape) (old mid new : State) (pages more : ℕ) (first second : List ℕ) → pages ≡ more → ContinuesSweep shape old pages first mid
+    → (second ≡ []) × (new ≡ mid) → ContinuesSweep shape old more (first ++ second) new
 join_ended shape old mid new pages more first second same h k =
-    subst (λ m. IsSweep shape old m (first ++ second) new) same
-    (subst (λ ns. IsSweep shape old pages ns new) (sym (ap (λ zs. first ++ zs) k.0 ∙ append-nil first))
-    (subst (λ (s : State). IsSweep shape old pages first s) (sym k.1) h))
+    subst (λ m. ContinuesSweep shape old m (first ++ second) new) same
+    (subst (λ ns. ContinuesSweep shape old pages ns new) (sym (ap (λ zs. first ++ zs) k.0 ∙ append-nil first))
+    (subst (λ (s : State). ContinuesSweep shape old pages first s) (sym k.1) h))
 
-join_open : (shape : Shape) (old mid new : State) (pages more : ℕ) (first second : List ℕ) → pages ≤ more → IsSweep shape old pages first mid
-    → IsSweep shape mid more second new → IsSweep shape old more (first ++ second) new
+join_open : (shape : Shape) (old mid new : State) (pages more : ℕ) (first second : List ℕ) → pages ≤ more → ContinuesSweep shape old pages first mid
+    → ContinuesSweep shape mid more second new → ContinuesSweep shape old more (first ++ second) new
 join_open shape old mid new pages more first second l h k =
     let low : ℕ = pages * shape.page_words in
     let high : ℕ = more * shape.page_words in
@@ -54,26 +54,26 @@ join_open shape old mid new pages more first second l h k =
     record {
       finalised =
           joined old.nodes (pages * shape.page_words) (more * shape.page_words) (later_page shape pages more l) first second h.finalised after;
-      after = k.after ∙ ap (λ (s : State). swept_to shape s more second) h.after ∙ swept_twice shape old pages more first second l;
+      after = k.after ∙ ap (λ (s : State). swept_state shape s more second) h.after ∙ swept_twice shape old pages more first second l;
     }
 
 join_in : (phase : Phase) (shape : Shape) (old mid new : State) (pages more : ℕ) (first second : List ℕ) → old.phase ≡ phase → pages ≤ more
-    → more ≤ shape.pages → SweepsIn phase shape old pages first mid → SweepsTo shape mid more second new
-    → SweepsIn phase shape old more (first ++ second) new
+    → more ≤ shape.pages → SweepsInPhase phase shape old pages first mid → SweepsTo shape mid more second new
+    → SweepsInPhase phase shape old more (first ++ second) new
 join_in Idle shape old mid new pages more first second e l m h k =
-    let after = subst (λ p. SweepsIn p shape mid more second new) (ap (λ (s : State). s.phase) h.1 ∙ e) k in
+    let after = subst (λ p. SweepsInPhase p shape mid more second new) (ap (λ (s : State). s.phase) h.1 ∙ e) k in
     (ap (λ zs. zs ++ second) h.0 ∙ after.0, after.1 ∙ h.1)
 join_in Marking shape old mid new pages more first second e l m h k =
-    let after = subst (λ p. SweepsIn p shape mid more second new) (ap (λ (s : State). s.phase) h.1 ∙ e) k in
+    let after = subst (λ p. SweepsInPhase p shape mid more second new) (ap (λ (s : State). s.phase) h.1 ∙ e) k in
     (ap (λ zs. zs ++ second) h.0 ∙ after.0, after.1 ∙ h.1)
 join_in Sweeping shape old mid new pages more first second e l m h k =
     elim (cases_eq pages shape.pages) [
       | inl end ↦
           (let idle : mid.phase ≡ Idle = phase_of shape old mid pages first h ∙ ap (phase_at shape) end ∙ swept_phase shape in
-          join_ended shape old mid new pages more first second (omega arith) h (subst (λ p. SweepsIn p shape mid more second new) idle k))
+          join_ended shape old mid new pages more first second (omega arith) h (subst (λ p. SweepsInPhase p shape mid more second new) idle k))
       | inr other ↦
           (let open_still : mid.phase ≡ Sweeping = phase_of shape old mid pages first h ∙ still_sweeping shape pages other in
-          join_open shape old mid new pages more first second l h (subst (λ p. SweepsIn p shape mid more second new) open_still k))
+          join_open shape old mid new pages more first second l h (subst (λ p. SweepsInPhase p shape mid more second new) open_still k))
     ]
 
 pub sweeps_join : SweepsJoin
@@ -82,19 +82,19 @@ sweeps_join shape old mid new pages more first second l m h k = join_in old.phas
 -- ---- split
 
 split_nothing : (phase : Phase) (shape : Shape) (old new : State) (pages more : ℕ) (numbers : List ℕ)
-    → SweepsIn phase shape old pages [] old → SweepsIn phase shape old more [] new → old.phase ≡ phase → numbers ≡ []
+    → SweepsInPhase phase shape old pages [] old → SweepsInPhase phase shape old more [] new → old.phase ≡ phase → numbers ≡ []
     → IsSplit shape old pages more numbers new
 split_nothing phase shape old new pages more numbers h k e none = record {
   first = [];
   second = [];
   mid = old;
-  sweeps = subst (λ p. SweepsIn p shape old pages [] old) (sym e) h;
-  goes_on = subst (λ p. SweepsIn p shape old more [] new) (sym e) k;
+  sweeps = subst (λ p. SweepsInPhase p shape old pages [] old) (sym e) h;
+  goes_on = subst (λ p. SweepsInPhase p shape old more [] new) (sym e) k;
   joined = none;
 }
 
 split_in : (phase : Phase) (shape : Shape) (old new : State) (pages more : ℕ) (numbers : List ℕ) → old.phase ≡ phase → pages < more
-    → more ≤ shape.pages → SweepsIn phase shape old more numbers new → IsSplit shape old pages more numbers new
+    → more ≤ shape.pages → SweepsInPhase phase shape old more numbers new → IsSplit shape old pages more numbers new
 split_in Idle shape old new pages more numbers e l m h = split_nothing Idle shape old new pages more numbers (refl, refl) (refl, h.1) e h.0
 split_in Marking shape old new pages more numbers e l m h = split_nothing Marking shape old new pages more numbers (refl, refl) (refl, h.1) e h.0
 split_in Sweeping shape old new pages more numbers e l m h =
@@ -106,16 +106,16 @@ split_in Sweeping shape old new pages more numbers e l m h =
     record {
       first = first;
       second = second;
-      mid = swept_to shape old pages first;
-      sweeps = subst (λ p. SweepsIn p shape old pages first (swept_to shape old pages first)) (sym e)
+      mid = swept_state shape old pages first;
+      sweeps = subst (λ p. SweepsInPhase p shape old pages first (swept_state shape old pages first)) (sym e)
           (record {
             finalised = front old.nodes (pages * shape.page_words) (more * shape.page_words) below numbers h.finalised;
             after = refl;
           });
-      goes_on = subst (λ p. SweepsIn p shape (swept_to shape old pages first) more second new) (sym (still_sweeping shape pages other))
+      goes_on = subst (λ p. SweepsInPhase p shape (swept_state shape old pages first) more second new) (sym (still_sweeping shape pages other))
           (record {
             finalised = back old.nodes (pages * shape.page_words) (more * shape.page_words) below numbers h.finalised;
-            after = h.after ∙ ap (swept_to shape old more) whole ∙ sym (swept_twice shape old pages more first second (omega arith));
+            after = h.after ∙ ap (swept_state shape old more) whole ∙ sym (swept_twice shape old pages more first second (omega arith));
           });
       joined = whole;
     }
@@ -125,13 +125,13 @@ sweeps_split shape old new pages more numbers l m h = split_in old.phase shape o
 
 -- ---- one sweep
 
-one_in : (phase : Phase) (shape : Shape) (old new other : State) (pages : ℕ) (numbers others : List ℕ) → SweepsIn phase shape old pages numbers new
-    → SweepsIn phase shape old pages others other → (numbers ≡ others) × (new ≡ other)
+one_in : (phase : Phase) (shape : Shape) (old new other : State) (pages : ℕ) (numbers others : List ℕ) → SweepsInPhase phase shape old pages numbers new
+    → SweepsInPhase phase shape old pages others other → (numbers ≡ others) × (new ≡ other)
 one_in Idle shape old new other pages numbers others h k = (h.0 ∙ sym k.0, h.1 ∙ sym k.1)
 one_in Marking shape old new other pages numbers others h k = (h.0 ∙ sym k.0, h.1 ∙ sym k.1)
 one_in Sweeping shape old new other pages numbers others h k =
     let same : numbers ≡ others = same_dead old.nodes (pages * shape.page_words) numbers others h.finalised k.finalised in
-    (same, h.after ∙ ap (swept_to shape old pages) same ∙ sym k.after)
+    (same, h.after ∙ ap (swept_state shape old pages) same ∙ sym k.after)
 
 pub sweep_is_one : SweepIsOne
 sweep_is_one shape old new other pages numbers others h k = one_in old.phase shape old new other pages numbers others h k
@@ -175,7 +175,7 @@ too_early : (shape : Shape) (old mid other : State) (size : ℕ) (numbers others
     → (p : IsPlacement shape old size numbers mid place) → (q : IsPlacement shape old size others other elsewhere) → p.pages < q.pages → ⊥
 too_early shape old mid other size numbers others place elsewhere p q l =
     let most : q.pages ≤ shape.pages = q.within in
-    fits_early shape p.pages (extents_of mid.nodes) size place p.placed (omega arith) (q.wanted p.pages numbers mid p.forward l p.swept)
+    fits_early shape p.pages (extents_of mid.nodes) size place p.placed (omega arith) (q.no_sooner p.pages numbers mid p.forward l p.swept)
 
 pub placement_is_one : PlacementIsOne
 placement_is_one shape old mid other size numbers others place elsewhere p q =
@@ -278,7 +278,7 @@ fit_earlier shape nodes fewer pages size a page l small under run = (
 )
 
 last_in : (phase : Phase) (shape : Shape) (old mid : State) (size a b : ℕ) (numbers : List ℕ) → old.phase ≡ phase
-    → (p : IsPlacement shape old size numbers mid (Some a)) → SweepsIn phase shape old p.pages numbers mid
+    → (p : IsPlacement shape old size numbers mid (Some a)) → SweepsInPhase phase shape old p.pages numbers mid
     → pages_swept_in phase shape.pages old.cursor < p.pages → Fits shape p.pages (extents_of mid.nodes) size b
     → ((p.pages - 1) * shape.page_words ≤ a) × (a + size ≤ p.pages * shape.page_words)
 last_in Idle shape old mid size a b numbers e p h l fits = let most : p.pages ≤ shape.pages = p.within in absurd (omega arith)
@@ -288,10 +288,10 @@ last_in Sweeping shape old mid size a b numbers e p h l fits =
     let fewer : ℕ = pages - 1 in
     let most : pages ≤ shape.pages = p.within in
     let split : IsSplit shape old fewer pages numbers mid = sweeps_split shape old mid fewer pages numbers (omega arith) most p.swept in
-    let before : IsSweep shape old fewer split.first split.mid = subst (λ q. SweepsIn q shape old fewer split.first split.mid) e split.sweeps in
+    let before : ContinuesSweep shape old fewer split.first split.mid = subst (λ q. SweepsInPhase q shape old fewer split.first split.mid) e split.sweeps in
     let cursor : swept_pages shape old ≡ old.cursor = ap (λ q. pages_swept_in q shape.pages old.cursor) e in
     let nowhere : IsNowhere (Fits shape fewer (extents_of split.mid.nodes) size) =
-    p.wanted fewer split.first split.mid (omega arith) (omega arith) split.sweeps in
+    p.no_sooner fewer split.first split.mid (omega arith) (omega arith) split.sweeps in
     elim p.placed [
       | inl found ↦
           (let page : ℕ = found.0.1.0 in

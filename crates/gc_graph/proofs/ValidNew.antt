@@ -110,8 +110,8 @@ module _ (setup : Setup) (s : State) (t extra place : ℕ) (g : IsSound setup s)
       → (bucket_of_node Words (node_at s.nodes m) ≡ bucket_of_node Words New) × (bucket_of_node Words New ≡ 4 → ⊥)
   shared page m h k =
       let size : size_of New ≡ size_of_type setup t extra = size_new in
-      let begins : place ≤ h.word = h.begins in
-      let ends : h.word < place + size_of New = h.ends in
+      let begins : place ≤ h.word = h.has.0 in
+      let ends : h.word < place + size_of New = h.has.1 in
       let both = shares page h.word m h.first h.last begins (omega arith) k in
       (both.0 ∙ sym bucket_new, λ large. both.1 (sym bucket_new ∙ large))
 

@@ -11,7 +11,7 @@ use Rattle.gc_graph.specs.declared.phase.Phase.{Phase}
 use Rattle.gc_graph.specs.declared.phase.Phase.TheVariants.{Idle, Marking, Sweeping}
 use Rattle.gc_graph.specs.State.{Setup, Shape, State, Node, no_node, Life, node_at, is_there, IsLive, IsDead, size_of}
 use Rattle.gc_graph.specs.State.Life.{Live, Dead, Gone}
-use Rattle.gc_graph.specs.Sweep.{buried, finalise, phase_at, swept_to, SweepsIn}
+use Rattle.gc_graph.specs.Sweep.{buried, finalise, phase_at, swept_state, SweepsInPhase}
 use Rattle.gc_graph.specs.Valid.{IsTyped, NamesLive, word_count, IsSettled}
 use Rattle.gc_graph.specs.Outcomes.{answered}
 use Rattle.gc_graph.specs.CycleSteps.{is_marking, is_sweeping, StepSweepTo, StepSweep, StepSweepAll}
@@ -133,7 +133,7 @@ module _ (setup : Setup) (s : State) (pages : ℕ) (g : IsSound setup s) (most :
     in_may = cond_both (pages == setup.shape.pages) Idle Sweeping (λ phase. MayHas phase s.may n) (λ e. tt) (λ e. tt);
   }
 
-  pub sweep_sound : (numbers : List ℕ) → IsSound setup (swept_to setup.shape s pages numbers)
+  pub sweep_sound : (numbers : List ℕ) → IsSound setup (swept_state setup.shape s pages numbers)
   sweep_sound numbers = record {
     heap = swept_heap;
     slots = λ k d l. slot_weaker (Root s) (IsRoot Swept Then s.may) root_swept _ (g.slots k d l);
@@ -147,14 +147,14 @@ module _ (setup : Setup) (s : State) (pages : ℕ) (g : IsSound setup s) (most :
   }
 
 pub sweeps_sound : (setup : Setup) (old new : State) (phase : Phase) (pages : ℕ) (numbers : List ℕ) → IsSound setup old → pages ≤ setup.shape.pages
-    → SweepsIn phase setup.shape old pages numbers new → IsSound setup new
+    → SweepsInPhase phase setup.shape old pages numbers new → IsSound setup new
 sweeps_sound setup old new Idle pages numbers g most h = landed setup new old h.1 g
 sweeps_sound setup old new Marking pages numbers g most h = landed setup new old h.1 g
-sweeps_sound setup old new Sweeping pages numbers g most h = landed setup new (swept_to setup.shape old pages numbers) h.after (sweep_sound setup old pages g most numbers)
+sweeps_sound setup old new Sweeping pages numbers g most h = landed setup new (swept_state setup.shape old pages numbers) h.after (sweep_sound setup old pages g most numbers)
 
 -- after the end of a sweep none is open
 pub ended_phase : (shape : Shape) (old new : State) (phase : Phase) (numbers : List ℕ) → old.phase ≡ phase → is_marking phase ≡ false
-    → SweepsIn phase shape old shape.pages numbers new → new.phase ≡ Idle
+    → SweepsInPhase phase shape old shape.pages numbers new → new.phase ≡ Idle
 ended_phase shape old new Idle numbers e m h = ap (λ (s : State). s.phase) h.1 ∙ e
 ended_phase shape old new Marking numbers e m h = absurd (true≢false m)
 ended_phase shape old new Sweeping numbers e m h =

@@ -6,7 +6,7 @@ use Rattle.gc_graph.specs.declared.line.Line.{Line}
 use Rattle.gc_graph.specs.declared.line.Line.TheVariants as L
 use Rattle.gc_graph.specs.State.{Setup, Node, node_at, IsLive, IsDead, empty_state}
 use Rattle.gc_graph.specs.State.Life.{Gone}
-use Rattle.gc_graph.specs.Placement.{Covers, extent_of}
+use Rattle.gc_graph.specs.Placement.{HasWord, extent_of}
 use Rattle.gc_graph.specs.Lawful.{Outcome, Run, last_state, state_after, IsAllowed}
 
 -- the lines of a run, in order
@@ -23,7 +23,7 @@ pub record AreOnce (lines : List Line) (nodes : List Node) : Type 0 where
   pub unread : (n : ℕ) (before after : List Line) → lines ≡ before ++ L.Finalise n ∷ after → Contains after (L.Node n) → ⊥
   pub before_reuse :
       (n m a x : ℕ) (before after : List Line) → lines ≡ before ++ L.Placed m a ∷ after → n < m
-      → Covers (extent_of (node_at nodes n)) x → Covers (extent_of (node_at nodes m)) x → Contains before (L.Finalise n)
+      → HasWord (extent_of (node_at nodes n)) x → HasWord (extent_of (node_at nodes m)) x → Contains before (L.Finalise n)
   pub told : (n : ℕ) → n < length nodes → (node_at nodes n).life ≡ Gone → Contains lines (L.Finalise n)
 
 -- the lines tell a pause

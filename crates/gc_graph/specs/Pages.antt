@@ -1,7 +1,7 @@
 -- Which objects share a page.
 use Rattle.std.specs.Prelude.{◌≡◌, ℕ, ◌+◌, ◌*◌, ◌<◌, ◌≤◌, true, List}
 use Rattle.gc_graph.specs.State.{Node, node_at, is_there, size_of}
-use Rattle.gc_graph.specs.Placement.{bucket_of}
+use Rattle.gc_graph.specs.Placement.{extent_of, HasWord, bucket_of}
 
 -- the node is there, live or dead, and has a word in the page
 pub record IsInPage (page_words : ℕ) (node : Node) (page : ℕ) : Type 0 where
@@ -9,8 +9,7 @@ pub record IsInPage (page_words : ℕ) (node : Node) (page : ℕ) : Type 0 where
   pub word : ℕ
   pub first : page * page_words ≤ word
   pub last : word < (page + 1) * page_words
-  pub begins : node.place ≤ word
-  pub ends : word < node.place + size_of node
+  pub has : HasWord (extent_of node) word
 
 -- the bucket of its size
 abbrev pub bucket_of_node : ℕ → Node → ℕ

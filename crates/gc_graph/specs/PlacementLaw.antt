@@ -3,10 +3,10 @@ use Rattle.std.specs.Prelude.{◌≡◌, ◌⊎◌, ℕ, ◌+◌, ◌*◌, ◌/�
 use Rattle.gc_graph.specs.declared.phase.Phase.TheVariants.{Idle, Sweeping}
 use Rattle.gc_graph.specs.State.{Setup, Shape, State, Node, node_at, IsDead}
 use Rattle.gc_graph.specs.State.Life.{Gone}
-use Rattle.gc_graph.specs.May.{covers}
+use Rattle.gc_graph.specs.May.{has_word}
 use Rattle.gc_graph.specs.Pages.{IsInPage, bucket_of_node}
-use Rattle.gc_graph.specs.Placement.{extents_of, bucket_of, HasBucket, IsPlacement}
-use Rattle.gc_graph.specs.Sweep.{EndsSweep}
+use Rattle.gc_graph.specs.Placement.{extents_of, bucket_of, PageHasBucket, IsPlacement}
+use Rattle.gc_graph.specs.Sweep.{SweepsToEnd}
 use Rattle.gc_graph.specs.Valid.{IsValid}
 
 -- the words lie within one page
@@ -27,7 +27,7 @@ pub record TakesPages (shape : Shape) (size a : ℕ) : Type 0 where
 
 -- no node that is there, live or dead, has one of the words
 abbrev pub AreFree : List Node → ℕ → ℕ → Type 0
-AreFree nodes size a = (n x : ℕ) → a ≤ x → x < a + size → covers (node_at nodes n) x ≡ true → ⊥
+AreFree nodes size a = (n x : ℕ) → a ≤ x → x < a + size → has_word (node_at nodes n) x ≡ true → ⊥
 
 -- within one page, in which no object of another bucket has a word
 pub record JoinsPage (shape : Shape) (nodes : List Node) (size a : ℕ) : Type 0 where
@@ -57,8 +57,8 @@ PlacementIsFree =
 abbrev pub PagesHaveOneBucket : Type 0
 PagesHaveOneBucket =
     (setup : Setup) (s : State) (page one other : ℕ) → IsValid setup s
-    → HasBucket setup.shape.page_words (extents_of s.nodes) page one
-    → HasBucket setup.shape.page_words (extents_of s.nodes) page other → one ≡ other
+    → PageHasBucket setup.shape.page_words (extents_of s.nodes) page one
+    → PageHasBucket setup.shape.page_words (extents_of s.nodes) page other → one ≡ other
 
 -- the numbers are those of the dead nodes of the old state, each once, by ascending places; in the new state they are
 -- gone, no node is dead, and no sweep is open
@@ -78,4 +78,4 @@ pub record FinalisesDead (old : State) (numbers : List ℕ) (new : State) : Type
 abbrev pub SweepsFinaliseDead : Type 0
 SweepsFinaliseDead =
     (setup : Setup) (old new : State) (numbers : List ℕ) → IsValid setup old → old.phase ≡ Sweeping
-    → EndsSweep setup.shape old numbers new → FinalisesDead old numbers new
+    → SweepsToEnd setup.shape old numbers new → FinalisesDead old numbers new
