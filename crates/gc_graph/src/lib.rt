@@ -11,8 +11,9 @@
 //! `Graph` and `reach_check`, by which a program checks a set of nodes; `laws`. The definitions
 //! stand in `specs/`, to be read in the order of `specs/Lib.antt`.
 //!
-//! What is proved: the laws of `reach`, `laws`, `sweep_laws` and `life_laws`, each the contract of a function that does
-//! nothing, and that `reach_check` is true exactly where a set holds the roots and is closed.
+//! What is proved: the laws of `reach`, `laws`, `laws_of_lives` and `laws_of_sweeping`, each the
+//! contract of a function that does nothing, and that `reach_check` is true exactly where a set holds
+//! the roots and is closed.
 //!
 //! What is only tested or not said: the definitions are what a reader has to believe. The tests
 //! of the program compare them with reports that were written by hand.
@@ -24,14 +25,14 @@ mod command;
 mod graph;
 mod graphs;
 mod laws;
-mod life_laws;
+mod laws_of_lives;
+mod laws_of_sweeping;
 mod line;
 mod members;
 mod memory;
 mod phase;
 mod reach;
 mod region;
-mod sweep_laws;
 #[cfg(test)]
 mod tests;
 
@@ -46,10 +47,10 @@ pub use laws::{
     replies_are_of_one_thread, report_reads_back, runs_are_replayed, step_keeps_valid,
     sweeps_finalise_dead,
 };
-pub use life_laws::lives_end_once;
+pub use laws_of_lives::lives_end_once;
+pub use laws_of_sweeping::{placed_in_last_page, placement_is_one, sweeps_go_by_pages};
 pub use line::{Line, Refusal};
 pub use memory::NoMemory;
 pub use phase::Phase;
 pub use reach::reach_is_least;
 pub use region::{Entry, Op, Reply};
-pub use sweep_laws::{placed_in_last_page, placement_is_one, sweeps_go_by_pages};
