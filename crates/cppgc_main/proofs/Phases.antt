@@ -19,8 +19,8 @@ use Rattle.gc_graph.specs.State.{Setup, State, node_at}
 use Rattle.gc_graph.specs.Fields.{field_count, kind_of_field, is_reference}
 use Rattle.gc_graph.specs.May.{read_node}
 use Rattle.gc_graph.specs.Outcomes.{answered, IsRefused, slot_at}
-use Rattle.gc_graph.specs.Sweep.{SweepsIn, IsSweep}
-use Rattle.gc_graph.specs.CycleSteps.{IsSwept, StepSweepAll, is_marking, is_sweeping}
+use Rattle.gc_graph.specs.Sweep.{SweepsInPhase, ContinuesSweep}
+use Rattle.gc_graph.specs.CycleSteps.{HasSwept, StepSweepAll, is_marking, is_sweeping}
 use Rattle.gc_graph.specs.ObjectSteps.{IsFull, IsMade, IsRead, StepNew, StepSet, StepGet}
 use Rattle.gc_graph.specs.Step.{Step}
 use Rattle.heap_engine.specs.Built.{IsBuilt}
@@ -37,7 +37,7 @@ made_keeps setup mid new p t e numbers lines (Some a) done = ap (λ (s : State).
 new_keeps : (setup : Setup) (old new : State) (p t e : ℕ) (lines : List Line) → old.phase ≡ Idle → StepNew setup old p t e lines new → new.phase ≡ old.phase
 new_keeps setup old new p t e lines idle (inl wants) = ap (λ (s : State). s.phase) wants.1.1
 new_keeps setup old new p t e lines idle (inr made) =
-    let swept = subst (λ (ph : Phase). SweepsIn ph setup.shape old made.placed.pages made.numbers made.mid) idle made.placed.swept in
+    let swept = subst (λ (ph : Phase). SweepsInPhase ph setup.shape old made.placed.pages made.numbers made.mid) idle made.placed.swept in
     made_keeps setup made.mid new p t e made.numbers lines made.place made.done ∙ ap (λ (s : State). s.phase) swept.1
 
 refused_keeps : (old new : State) (lines : List Line) (test : Bool) (Done Refused : Type 0) → (Done → new.phase ≡ old.phase) → (Refused → new.phase ≡ old.phase)
@@ -78,14 +78,14 @@ sweep_ends : (setup : Setup) (old new : State) (lines : List Line) (phase : Phas
     → StepSweepAll setup old lines new → new.phase ≡ Idle
 sweep_ends setup old new lines Idle is calm step =
     let refused : IsRefused R.Phase old lines new =
-    subst (λ (ph : Phase). MatchBool (is_sweeping ph) (IsSwept setup old setup.shape.pages lines new) (IsRefused R.Phase old lines new)) is step in
+    subst (λ (ph : Phase). MatchBool (is_sweeping ph) (HasSwept setup old setup.shape.pages lines new) (IsRefused R.Phase old lines new)) is step in
     ap (λ (s : State). s.phase) refused.1 ∙ is
 sweep_ends setup old new lines Marking is calm step = absurd (true≢false calm)
 sweep_ends setup old new lines Sweeping is calm step =
-    let done : IsSwept setup old setup.shape.pages lines new =
-    subst (λ (ph : Phase). MatchBool (is_sweeping ph) (IsSwept setup old setup.shape.pages lines new) (IsRefused R.Phase old lines new)) is step in
-    let swept : IsSweep setup.shape old setup.shape.pages done.numbers done.swept =
-    subst (λ (ph : Phase). SweepsIn ph setup.shape old setup.shape.pages done.numbers done.swept) is done.goes in
+    let done : HasSwept setup old setup.shape.pages lines new =
+    subst (λ (ph : Phase). MatchBool (is_sweeping ph) (HasSwept setup old setup.shape.pages lines new) (IsRefused R.Phase old lines new)) is step in
+    let swept : ContinuesSweep setup.shape old setup.shape.pages done.numbers done.swept =
+    subst (λ (ph : Phase). SweepsInPhase ph setup.shape old setup.shape.pages done.numbers done.swept) is done.goes in
     ap (λ (s : State). s.phase) (done.after ∙ ap answered swept.after)
     ∙ ap (λ b. cond b Idle Sweeping) (eq-eqb setup.shape.pages setup.shape.pages refl)
 

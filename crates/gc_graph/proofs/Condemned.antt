@@ -14,7 +14,7 @@ use Rattle.gc_graph.specs.Pause.{judged, condemn, is_dead_at, names_dead, cleare
 use Rattle.gc_graph.specs.Valid.{HaveKinds, IsTyped, NamesLive, IsPlainWord, IsReferenceBelow, ArePaired}
 use Rattle.gc_graph.proofs.Follows.{Held, Carries, Follows, AllFollow}
 use Rattle.gc_graph.proofs.Sound.{IsHeap, kinds_at}
-use Rattle.gc_graph.proofs.NodeWrites.{IsPlaced, IsLikeNode, apart_after, within_after, LookSame, names_after}
+use Rattle.gc_graph.proofs.NodeWrites.{IsPlaced, IsLikeNode, apart_after, within_after, pure_after, LookSame, names_after}
 
 -- ---- lives
 
@@ -252,4 +252,5 @@ module _ (setup : Setup) (kept : List Bool) (nodes : List Node) (heap : IsHeap s
     named = λ m live k d l. names_after (condemn kept nodes) Cleared cleared_look _ (cleared_named m live k d l);
     apart = apart_after setup nodes Cleared cleared_placed heap.apart;
     within = within_after setup nodes Cleared cleared_placed heap.within;
+    pure = pure_after setup nodes Cleared cleared_placed heap.pure;
   }

@@ -3,7 +3,7 @@ use Rattle.std.proofs.Common.{◌≡◌, ℕ, zero, suc, ◌+◌, ◌*◌, ◌<�
 use mathlib.Core.Logic.{◌⊎◌}
 use Rattle.std.proofs.lemmas.Bool.{cases_lt, cond_both}
 use Rattle.gc_graph.specs.State.{Shape, Node, node_at, is_there, size_of}
-use Rattle.gc_graph.specs.Placement.{Extent, extents_of, IsTaken, IsRun, Fits, StartsEmptyRun, IsPlaceFor}
+use Rattle.gc_graph.specs.Placement.{Extent, extent_of, extents_of, IsTaken, IsRun, Fits, StartsEmptyRun, IsPlaceFor}
 use Rattle.gc_graph.specs.Valid.{IsThere, word_count}
 
 -- so many words from a lie in the heap, and none of them belongs to an object
@@ -22,7 +22,7 @@ fits_free shape pages extents size a most h =
     record { inside = omega arith; free = run.free }
 
 -- the page of a run in which a word lies
-page_of : (words page count x : ℕ) → page * words ≤ x → x < (page + count) * words
+pub page_of : (words page count x : ℕ) → page * words ≤ x → x < (page + count) * words
     → (i : ℕ) × (i < count) × ((page + i) * words ≤ x) × (x < (page + i + 1) * words)
 page_of words page zero x low high = absurd (let same : page + zero ≡ page = omega arith in let e : (page + zero) * words ≡ page * words = ap (λ p. p * words) same in omega arith)
 page_of words page (suc c) x low high =
@@ -54,9 +54,6 @@ place_free shape pages extents size a most h =
     elim h [ inl fits ↦ fits_free shape pages extents size a most fits.0 | inr run ↦ empty_free shape extents size a run.2.0 ]
 
 -- ---- the words of a node
-
-abbrev pub extent_of : Node → Extent
-extent_of node = record { place = node.place; size = size_of node }
 
 contains_more : (e first : Extent) (extents : List Extent) → Contains extents e → Contains (first ∷ extents) e
 contains_more e first extents h = let l = h.1 in (suc h.0, omega arith, h.2)

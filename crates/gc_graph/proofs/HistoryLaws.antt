@@ -8,7 +8,7 @@ use Rattle.gc_graph.specs.declared.region.Op.TheVariants as O
 use Rattle.gc_graph.specs.declared.phase.Phase.{Phase}
 use Rattle.gc_graph.specs.declared.phase.Phase.TheVariants.{Idle, Marking, Sweeping}
 use Rattle.gc_graph.specs.State.{Shape, State, RegionSlot}
-use Rattle.gc_graph.specs.Sweep.{SweepsIn}
+use Rattle.gc_graph.specs.Sweep.{SweepsInPhase}
 use Rattle.gc_graph.specs.History.{IsLegalFrom, replayed, region_after, started_after}
 use Rattle.gc_graph.specs.Outcomes.{with_entry, took, IsThreadOp, AreOthers}
 use Rattle.gc_graph.specs.CycleSteps.{is_marking}
@@ -100,7 +100,7 @@ still_off false = refl
 
 -- a sweep leaves the region alone, and marks nothing
 pub sweep_follows : (phase : Phase) (shape : Shape) (old : State) (pages : ℕ) (numbers : List ℕ) (new : State)
-    → SweepsIn phase shape old pages numbers new → (new.region ≡ old.region) × ((old.phase ≡ phase) → is_marking new.phase ≡ is_marking old.phase)
+    → SweepsInPhase phase shape old pages numbers new → (new.region ≡ old.region) × ((old.phase ≡ phase) → is_marking new.phase ≡ is_marking old.phase)
 sweep_follows Idle shape old pages numbers new h = (ap (λ (s : State). s.region) h.1, λ e. ap (λ (s : State). is_marking s.phase) h.1)
 sweep_follows Marking shape old pages numbers new h = (ap (λ (s : State). s.region) h.1, λ e. ap (λ (s : State). is_marking s.phase) h.1)
 sweep_follows Sweeping shape old pages numbers new h = (

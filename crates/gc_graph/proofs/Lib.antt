@@ -6,7 +6,6 @@ mod StepFollows
 mod Histories
 mod Refusals
 mod FullHeaps
-mod Places
 mod Sweeps
 pub mod Listed
 mod Closes
@@ -31,8 +30,16 @@ mod ValidPause
 mod ValidSweeps
 mod ValidCycles
 mod FreePlaces
+mod PurePages
 mod NewObjects
 mod ValidNew
+mod Places
+mod SweepOrders
+mod SweepLaws
+mod Lives
+mod StepLives
+mod CommandLives
+mod OnceLaws
 mod MayRuns
 mod MayLaws
 mod ValidSteps

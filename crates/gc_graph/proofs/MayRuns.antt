@@ -20,7 +20,7 @@ use Rattle.gc_graph.specs.Valid.{NamesLive}
 use Rattle.gc_graph.specs.State.StackWord.{Pointer, Number}
 use Rattle.gc_graph.specs.Fields.{new_node, kind_of_field, value_at, with_value, content_of, is_reference, is_weak, is_pair, is_plain}
 use Rattle.gc_graph.specs.May.{may_with_read, may_with_new}
-use Rattle.gc_graph.specs.Sweep.{SweepsIn}
+use Rattle.gc_graph.specs.Sweep.{SweepsInPhase}
 use Rattle.gc_graph.specs.Outcomes.{answered, IsRefused, IsMemory, took, slot_at, owner_entry, with_entry, AreOthers, IsThreadOp}
 use Rattle.gc_graph.specs.ObjectSteps.{AtField, first_word, part_of, IsChanged, with_node, StepNew, StepSet, StepPair, StepPut, StepWord, StepGet, IsNumber, IsRead}
 use Rattle.gc_graph.specs.HandleSteps.{IsDone, pushed, IsPushed, IsPeeked}
@@ -202,7 +202,7 @@ module _ (setup : Setup) (start : State) (begun : HasStarted setup start) where
 
     -- ---- a new object
 
-    unswept : (phase : Phase) (mid : State) (pages : ℕ) (numbers : List ℕ) → phase ≡ Marking → SweepsIn phase setup.shape old pages numbers mid → mid ≡ old
+    unswept : (phase : Phase) (mid : State) (pages : ℕ) (numbers : List ℕ) → phase ≡ Marking → SweepsInPhase phase setup.shape old pages numbers mid → mid ≡ old
     unswept Idle mid pages numbers on h = cc
     unswept Marking mid pages numbers on h = h.1
     unswept Sweeping mid pages numbers on h = cc

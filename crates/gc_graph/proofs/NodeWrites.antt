@@ -1,5 +1,5 @@
 -- A node is written: the others stay, and places, sizes and lives are as before.
-use Rattle.std.proofs.Common.{◌≡◌, ◌≢◌, ℕ, ◌+◌, ◌*◌, ◌≤◌, true, List, length, set, All, refl, sym, ap, ◌∙◌, subst, inl, inr, arith}
+use Rattle.std.proofs.Common.{◌≡◌, ◌≢◌, ℕ, ◌+◌, ◌*◌, ◌<◌, ◌≤◌, true, List, length, set, All, refl, sym, ap, ◌∙◌, subst, inl, inr, arith}
 use Rattle.std.proofs.lemmas.Bool.{cases_lt, cases_eq}
 use Rattle.std.proofs.lemmas.List.{get_or-set_same, get_or-set_other, set_past, length-set}
 use Rattle.std.proofs.lemmas.List.Elements.{All-set}
@@ -9,6 +9,8 @@ use Rattle.gc_graph.specs.declared.phase.Phase.{Phase}
 use Rattle.gc_graph.specs.declared.phase.Phase.TheVariants.{Idle, Marking, Sweeping}
 use Rattle.gc_graph.specs.State.{Setup, Shape, State, Node, no_node, node_at, is_there, IsLive, size_of}
 use Rattle.gc_graph.specs.State.Life.{Live}
+use Rattle.gc_graph.specs.Placement.{bucket_of}
+use Rattle.gc_graph.specs.Pages.{IsInPage, bucket_of_node, ArePure}
 use Rattle.gc_graph.specs.Valid.{IsTyped, NamesLive, IsThere, AreApart, word_count, IsSettled}
 use Rattle.gc_graph.proofs.Sound.{slot_weaker, word_weaker, region_weaker, IsRoot, IsHeap, MayFollows, IsSound}
 
@@ -53,6 +55,26 @@ module _ (setup : Setup) (nodes after : List Node) (placed : (m : ℕ) → IsPla
       let size : length (node_at after n).object.values ≡ length (node_at nodes n).object.values = p.size in
       let old : (node_at nodes n).place + size_of (node_at nodes n) ≤ word_count setup.shape = within n (p.there a) in
       omega arith
+
+  in_page_before : (page m : ℕ) → IsInPage setup.shape.page_words (node_at after m) page → IsInPage setup.shape.page_words (node_at nodes m) page
+  in_page_before page m h =
+      let p = placed m in
+      let place : (node_at after m).place ≡ (node_at nodes m).place = p.place in
+      let size : length (node_at after m).object.values ≡ length (node_at nodes m).object.values = p.size in
+      let begins : (node_at after m).place ≤ h.word = h.has.0 in
+      let ends : h.word < (node_at after m).place + size_of (node_at after m) = h.has.1 in
+      record { there = p.there h.there; word = h.word; first = h.first; last = h.last; has = (omega arith, omega arith) }
+
+  bucket_before : (m : ℕ)
+      → bucket_of_node setup.shape.page_words (node_at after m) ≡ bucket_of_node setup.shape.page_words (node_at nodes m)
+  bucket_before m = ap (λ n. bucket_of setup.shape.page_words (2 + n)) (placed m).size
+
+  pub pure_after : ArePure setup.shape.page_words nodes → ArePure setup.shape.page_words after
+  pure_after pure = record {
+    one_bucket = λ page m n h k.
+        bucket_before m ∙ pure.one_bucket page m n (in_page_before page m h) (in_page_before page n k) ∙ sym (bucket_before n);
+    alone = λ page m n h k large. pure.alone page m n (in_page_before page m h) (in_page_before page n k) (sym (bucket_before m) ∙ large);
+  }
 
 -- ---- all nodes look the same
 
@@ -141,4 +163,5 @@ heap_written setup nodes n node heap like typed names =
           (λ e live k d l. names_after nodes after look _ (names live k d l)) (λ live k d l. names_after nodes after look _ (heap.named m live k d l));
       apart = apart_after setup nodes after placed heap.apart;
       within = within_after setup nodes after placed heap.within;
+      pure = pure_after setup nodes after placed heap.pure;
     }

@@ -12,6 +12,7 @@ use Rattle.gc_graph.specs.Reach.{HoldsAll}
 use Rattle.gc_graph.specs.State.{Setup, State, Node, no_node, StackWord, RegionSlot, Registration, node_at, IsLive, size_of, roots_of, slot_targets, stack_targets, strong_region_targets}
 use Rattle.gc_graph.specs.State.StackWord.{Pointer, Number}
 use Rattle.gc_graph.specs.State.RegionSlot.{Vacant, StrongTo, WeakTo}
+use Rattle.gc_graph.specs.Pages.{ArePure}
 use Rattle.gc_graph.specs.Valid.{HaveKinds, IsPlainWord, IsTyped, NamesLive, IsThere, AreApart, word_count, region_targets, IsSettled, HasMay, IsValid}
 use Rattle.gc_graph.proofs.Follows.{AllFollow, closed_from, follow_from}
 
@@ -44,6 +45,7 @@ pub record IsHeap (setup : Setup) (nodes : List Node) : Type 0 where
   pub named : (n : ℕ) → IsLive nodes n → All (NamesLive nodes) (node_at nodes n).object.values
   pub apart : (m n : ℕ) → m ≢ n → IsThere nodes m → IsThere nodes n → AreApart (node_at nodes m) (node_at nodes n)
   pub within : (n : ℕ) → IsThere nodes n → (node_at nodes n).place + size_of (node_at nodes n) ≤ word_count setup.shape
+  pub pure : ArePure setup.shape.page_words nodes
 
 pub record IsFollowed (nodes : List Node) (may : List Bool) : Type 0 where
   pub follows : AllFollow nodes may
@@ -193,7 +195,7 @@ sound_from setup s v =
     let front : All (MayHas s.phase s.may) (slot_targets s.slots ++ stack_targets s.stack) =
     all_left (MayHas s.phase s.may) _ (strong_region_targets s.region) roots in
     record {
-      heap = record { typed = v.typed; named = v.named; apart = v.apart; within = v.within };
+      heap = record { typed = v.typed; named = v.named; apart = v.apart; within = v.within; pure = v.pure };
       slots = slots_from (IsRoot s.nodes s.phase s.may) s.slots
           (both_root s.nodes s.phase s.may _ v.slots (all_left (MayHas s.phase s.may) (slot_targets s.slots) _ front));
       weak = slots_from (IsLive s.nodes) s.weak v.weak;
@@ -220,6 +222,7 @@ valid_from setup s g =
       named = g.heap.named;
       apart = g.heap.apart;
       within = g.heap.within;
+      pure = g.heap.pure;
       slots = λ k d l. (slots k d l).live;
       weak = slots_to (IsLive s.nodes) s.weak g.weak;
       stack = λ k d l. (stack k d l).live;

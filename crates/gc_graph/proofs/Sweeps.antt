@@ -5,7 +5,7 @@ use Rattle.gc_graph.specs.declared.phase.Phase.{Phase}
 use Rattle.gc_graph.specs.declared.phase.Phase.TheVariants.{Idle, Marking, Sweeping}
 use Rattle.gc_graph.specs.State.{Setup, Shape, State, Node, Life, node_at, no_node, IsDead, is_there}
 use Rattle.gc_graph.specs.State.Life.{Live, Dead, Gone}
-use Rattle.gc_graph.specs.Sweep.{SweepsIn, IsSweep, IsDeadBelow, finalise, buried, phase_at}
+use Rattle.gc_graph.specs.Sweep.{SweepsInPhase, ContinuesSweep, IsDeadBelow, finalise, buried, phase_at}
 use Rattle.gc_graph.specs.Valid.{IsValid}
 use Rattle.gc_graph.specs.PlacementLaw.{FinalisesDead, SweepsFinaliseDead}
 
@@ -13,7 +13,7 @@ same_either : (b : Bool) (node : Node) → node.life ≡ buried node.life → co
 same_either true node e = ap (λ l. record node { life = l }) (sym e)
 same_either false node e = refl
 
-alive_stays : (life : Life) → (life ≡ Dead → ⊥) → life ≡ buried life
+pub alive_stays : (life : Life) → (life ≡ Dead → ⊥) → life ≡ buried life
 alive_stays Live alive = refl
 alive_stays Dead alive = absurd (alive refl)
 alive_stays Gone alive = refl
@@ -36,11 +36,11 @@ buried_is_no_longer Live e = cc
 buried_is_no_longer Dead e = cc
 buried_is_no_longer Gone e = cc
 
-swept_phase : (shape : Shape) → phase_at shape shape.pages ≡ Idle
+pub swept_phase : (shape : Shape) → phase_at shape shape.pages ≡ Idle
 swept_phase shape = cond-true (eqb shape.pages shape.pages) Idle Sweeping (eq-eqb shape.pages shape.pages refl)
 
 module _ (setup : Setup) (old new : State) (numbers : List ℕ) (valid : IsValid setup old)
-    (sweep : IsSweep setup.shape old setup.shape.pages numbers new) where
+    (sweep : ContinuesSweep setup.shape old setup.shape.pages numbers new) where
   -- a dead node lies in the heap, and so below the end of its last page
   dead_below : (n : ℕ) → IsDead old.nodes n → IsDeadBelow old.nodes (setup.shape.pages * setup.shape.page_words) n
   dead_below n dead =
@@ -87,7 +87,7 @@ module _ (setup : Setup) (old new : State) (numbers : List ℕ) (valid : IsValid
   }
 
 sweeps_in : (phase : Phase) (setup : Setup) (old new : State) (numbers : List ℕ) → IsValid setup old → phase ≡ Sweeping
-    → SweepsIn phase setup.shape old setup.shape.pages numbers new → FinalisesDead old numbers new
+    → SweepsInPhase phase setup.shape old setup.shape.pages numbers new → FinalisesDead old numbers new
 sweeps_in Idle setup old new numbers v e h = cc
 sweeps_in Marking setup old new numbers v e h = cc
 sweeps_in Sweeping setup old new numbers v e h = finalises setup old new numbers v h

@@ -13,7 +13,8 @@ use Rattle.gc_graph.specs.State.{Setup, State, Node, no_node, Registration, node
 use Rattle.gc_graph.specs.State.Life.{Live, Dead}
 use Rattle.gc_graph.specs.Fields.{new_node, size_of_type}
 use Rattle.gc_graph.specs.May.{may_with_new}
-use Rattle.gc_graph.specs.Placement.{extents_of, IsPlaceFor, IsPlacement}
+use Rattle.gc_graph.specs.Placement.{extents_of, bucket_of, IsPlaceFor, IsPlacement}
+use Rattle.gc_graph.specs.Pages.{IsInPage, bucket_of_node}
 use Rattle.gc_graph.specs.Valid.{IsTyped, NamesLive, IsThere, AreApart, word_count, IsSettled}
 use Rattle.gc_graph.specs.Outcomes.{answered}
 use Rattle.gc_graph.specs.ObjectSteps.{registrations_for, with_new, IsAllocation, StepNew}
@@ -21,6 +22,7 @@ use Rattle.gc_graph.proofs.Follows.{Anything, Held, Carries, Follows}
 use Rattle.gc_graph.proofs.Sound.{slot_weaker, word_weaker, region_weaker, MayHas, IsRoot, IsHeap, MayFollows, IsSound, kinds_at}
 use Rattle.gc_graph.proofs.WeakReads.{below_if_live, in_below}
 use Rattle.gc_graph.proofs.FreePlaces.{IsFreeAt, place_free, free_apart}
+use Rattle.gc_graph.proofs.PurePages.{SharesWell, place_shares}
 use Rattle.gc_graph.proofs.NewObjects.{nulls_each, nulls_all, new_size, new_typed, typed_more, follows_more}
 use Rattle.gc_graph.proofs.ValidCases.{option_is, landed}
 use Rattle.gc_graph.proofs.ValidHandles.{Root, slot_sound}
@@ -33,7 +35,8 @@ record IsNewSet (nodes : List Node) (n : ℕ) (phase : Phase) (may after : List 
   new : MayHas phase after n
 
 module _ (setup : Setup) (s : State) (t extra place : ℕ) (g : IsSound setup s) (ty : t < length setup.types)
-    (free : IsFreeAt setup.shape (extents_of s.nodes) (size_of_type setup t extra) place) where
+    (free : IsFreeAt setup.shape (extents_of s.nodes) (size_of_type setup t extra) place)
+    (shares : SharesWell setup.shape.page_words s.nodes (size_of_type setup t extra) place) where
   abbrev New : Node
   New = new_node setup t extra place
 
@@ -95,6 +98,45 @@ module _ (setup : Setup) (s : State) (t extra place : ℕ) (g : IsSound setup s)
       (λ ln other. apart_new n other) (λ en other. absurd (ne (em ∙ sym en))) (λ other. absurd (gone_there other)) b)
       (λ there. absurd (gone_there there)) a
 
+  -- ---- the pages
+
+  abbrev Words : ℕ
+  Words = setup.shape.page_words
+
+  bucket_new : bucket_of_node Words New ≡ bucket_of Words (size_of_type setup t extra)
+  bucket_new = ap (bucket_of Words) size_new
+
+  shared : (page m : ℕ) → IsInPage Words New page → IsInPage Words (node_at s.nodes m) page
+      → (bucket_of_node Words (node_at s.nodes m) ≡ bucket_of_node Words New) × (bucket_of_node Words New ≡ 4 → ⊥)
+  shared page m h k =
+      let size : size_of New ≡ size_of_type setup t extra = size_new in
+      let begins : place ≤ h.word = h.has.0 in
+      let ends : h.word < place + size_of New = h.has.1 in
+      let both = shares page h.word m h.first h.last begins (omega arith) k in
+      (both.0 ∙ sym bucket_new, λ large. both.1 (sym bucket_new ∙ large))
+
+  one_bucket : (page m n : ℕ) → IsInPage Words (node_at After m) page → IsInPage Words (node_at After n) page
+      → bucket_of_node Words (node_at After m) ≡ bucket_of_node Words (node_at After n)
+  one_bucket page m n a b =
+      at (λ x. IsInPage Words x page → bucket_of_node Words x ≡ bucket_of_node Words (node_at After n)) m
+      (λ lm h. at (λ y. IsInPage Words y page → bucket_of_node Words (node_at s.nodes m) ≡ bucket_of_node Words y) n
+      (λ ln k. g.heap.pure.one_bucket page m n h k) (λ en k. (shared page m k h).0) (λ k. absurd (gone_there k.there)) b)
+      (λ em h. at (λ y. IsInPage Words y page → bucket_of_node Words New ≡ bucket_of_node Words y) n
+      (λ ln k. sym (shared page n h k).0) (λ en k. refl) (λ k. absurd (gone_there k.there)) b)
+      (λ h. absurd (gone_there h.there)) a
+
+  alone : (page m n : ℕ) → IsInPage Words (node_at After m) page → IsInPage Words (node_at After n) page
+      → bucket_of_node Words (node_at After m) ≡ 4 → m ≡ n
+  alone page m n a b =
+      at (λ x. IsInPage Words x page → bucket_of_node Words x ≡ 4 → m ≡ n) m
+      (λ lm h large. at (λ y. IsInPage Words y page → m ≡ n) n
+      (λ ln k. g.heap.pure.alone page m n h k large)
+      (λ en k. (let both = shared page m k h in absurd (both.1 (sym both.0 ∙ large))))
+      (λ k. absurd (gone_there k.there)) b)
+      (λ em h large. at (λ y. IsInPage Words y page → m ≡ n) n
+      (λ ln k. absurd ((shared page n h k).1 large)) (λ en k. em ∙ sym en) (λ k. absurd (gone_there k.there)) b)
+      (λ h. absurd (gone_there h.there)) a
+
   heap_new : IsHeap setup After
   heap_new = record {
     typed = subst (λ bound. All (IsTyped setup bound) After) (sym whole)
@@ -112,6 +154,7 @@ module _ (setup : Setup) (s : State) (t extra place : ℕ) (g : IsSound setup s)
         (λ l there. g.heap.within m there)
         (λ e there. (let inside : place + size_of_type setup t extra ≤ word_count setup.shape = free.inside in let size = size_new in omega arith))
         (λ there. absurd (gone_there there));
+    pure = record { one_bucket = one_bucket; alone = alone };
   }
 
   settled_new : (phase : Phase) → IsSettled setup.shape phase s.cursor s.nodes → IsSettled setup.shape phase s.cursor After
@@ -184,9 +227,12 @@ allocated_sound setup old new p t extra lines ty g h =
     let free : IsFreeAt setup.shape (extents_of mid.nodes) (size_of_type setup t extra) a =
     place_free setup.shape place_is.pages (extents_of mid.nodes) (size_of_type setup t extra) a place_is.within
     (subst (IsPlaceFor setup.shape place_is.pages (extents_of mid.nodes) (size_of_type setup t extra)) is place_is.placed) in
+    let shares : SharesWell setup.shape.page_words mid.nodes (size_of_type setup t extra) a =
+    place_shares setup.shape place_is.pages mid.nodes (size_of_type setup t extra) a sound.heap.pure
+    (subst (IsPlaceFor setup.shape place_is.pages (extents_of mid.nodes) (size_of_type setup t extra)) is place_is.placed) in
     landed setup new _ made.after
-    (slot_sound setup (with_new setup mid t extra a) p (Some (length mid.nodes)) (new_sound setup mid t extra a sound ty free)
-    (root_new setup mid t extra a sound ty free))) h.done
+    (slot_sound setup (with_new setup mid t extra a) p (Some (length mid.nodes)) (new_sound setup mid t extra a sound ty free shares)
+    (root_new setup mid t extra a sound ty free shares))) h.done
 
 pub new_keeps : (setup : Setup) (old new : State) (p t extra : ℕ) (lines : List Line) → t < length setup.types → IsSound setup old
     → StepNew setup old p t extra lines new → IsSound setup new

@@ -124,12 +124,12 @@ module _ (setup : Setup) (s : State) (want : Want) (kept : List Bool) (g : IsSou
   follows_kept : AllFollow s.nodes kept
   follows_kept = follow_from s.nodes kept (λ m. (length s.nodes, kinds_at setup s.nodes g.heap.typed m)) keeps.closed
 
-  order : StaysInOrder setup (clear_fields Judged) Left
+  pub order : StaysInOrder setup (clear_fields Judged) Left
   order =
       prefinalised_kept setup setup.callbacks (run_order Judged s.registrations) (clear_fields Judged)
       (cleared_heap setup kept s.nodes g.heap follows_kept)
 
-  look : LookSame Judged Left
+  pub look : LookSame Judged Left
   look = look_more Judged (clear_fields Judged) Left (cleared_look setup kept s.nodes g.heap follows_kept) order.look
 
   abbrev After : ℕ → Type 0

@@ -31,7 +31,7 @@ names_at setup s n word g root =
       | inr past ↦ subst (NamesLive s.nodes) (sym (get_or_past values word Null past)) tt
     ]
 
-value_live : (s : State) (value : Value) → NamesLive s.nodes value → ValueLive s value
+pub value_live : (s : State) (value : Value) → NamesLive s.nodes value → ValueLive s value
 value_live s Null h = tt
 value_live s (Ref n) h = h
 value_live s (Word w) h = tt

@@ -67,6 +67,10 @@ empty_sound setup = record {
     named = λ n live k d l. absurd (omega arith);
     apart = λ m n ne a b. absurd (true≢false (sym a));
     within = λ n a. absurd (true≢false (sym a));
+    pure = record {
+      one_bucket = λ page m n h k. absurd (true≢false (sym h.there));
+      alone = λ page m n h k large. absurd (true≢false (sym h.there));
+    };
   };
   slots = All-replicate (SlotNames (Root empty_state)) 256 None tt;
   weak = All-replicate (SlotNames (IsLive [])) 64 None tt;

@@ -11,19 +11,19 @@ use Rattle.gc_graph.specs.declared.phase.Phase.{Phase}
 use Rattle.gc_graph.specs.declared.phase.Phase.TheVariants.{Idle, Marking, Sweeping}
 use Rattle.gc_graph.specs.State.{Setup, Shape, State, Node, no_node, Life, node_at, is_there, IsLive, IsDead, size_of}
 use Rattle.gc_graph.specs.State.Life.{Live, Dead, Gone}
-use Rattle.gc_graph.specs.Sweep.{buried, finalise, phase_at, swept_to, SweepsIn}
+use Rattle.gc_graph.specs.Sweep.{buried, finalise, phase_at, swept_state, SweepsInPhase}
 use Rattle.gc_graph.specs.Valid.{IsTyped, NamesLive, word_count, IsSettled}
 use Rattle.gc_graph.specs.Outcomes.{answered}
 use Rattle.gc_graph.specs.CycleSteps.{is_marking, is_sweeping, StepSweepTo, StepSweep, StepSweepAll}
 use Rattle.gc_graph.proofs.Sound.{slot_weaker, word_weaker, region_weaker, MayHas, IsRoot, IsHeap, MayFollows, IsSound}
-use Rattle.gc_graph.proofs.NodeWrites.{IsPlaced, apart_after, within_after}
+use Rattle.gc_graph.proofs.NodeWrites.{IsPlaced, apart_after, within_after, pure_after}
 use Rattle.gc_graph.proofs.Condemned.{map_at}
 use Rattle.gc_graph.proofs.ValidCases.{bool_is, landed, refused_sound}
 use Rattle.gc_graph.proofs.ValidHandles.{Root}
 
 -- ---- one node
 
-there_before : (x : Life) → is_there (buried x) ≡ true → is_there x ≡ true
+pub there_before : (x : Life) → is_there (buried x) ≡ true → is_there x ≡ true
 there_before Live e = e
 there_before Dead e = refl
 there_before Gone e = e
@@ -33,7 +33,7 @@ live_before Live e = e
 live_before Dead e = cc
 live_before Gone e = e
 
-never_dead : (x : Life) → buried x ≡ Dead → ⊥
+pub never_dead : (x : Life) → buried x ≡ Dead → ⊥
 never_dead Live e = cc
 never_dead Dead e = cc
 never_dead Gone e = cc
@@ -107,6 +107,7 @@ module _ (setup : Setup) (s : State) (pages : ℕ) (g : IsSound setup s) (most :
         subst (λ o. All (NamesLive Swept) o.values) (sym (at m).same) (λ k d l. names _ (g.heap.named m ((at m).was_live live) k d l));
     apart = apart_after setup s.nodes Swept (λ m. (at m).placed) g.heap.apart;
     within = within_after setup s.nodes Swept (λ m. (at m).placed) g.heap.within;
+    pure = pure_after setup s.nodes Swept (λ m. (at m).placed) g.heap.pure;
   }
 
   dead_there : (m : ℕ) → IsDead Swept m → (Limit ≤ (node_at Swept m).place) × ((node_at Swept m).place < word_count setup.shape)
@@ -132,7 +133,7 @@ module _ (setup : Setup) (s : State) (pages : ℕ) (g : IsSound setup s) (most :
     in_may = cond_both (pages == setup.shape.pages) Idle Sweeping (λ phase. MayHas phase s.may n) (λ e. tt) (λ e. tt);
   }
 
-  pub sweep_sound : (numbers : List ℕ) → IsSound setup (swept_to setup.shape s pages numbers)
+  pub sweep_sound : (numbers : List ℕ) → IsSound setup (swept_state setup.shape s pages numbers)
   sweep_sound numbers = record {
     heap = swept_heap;
     slots = λ k d l. slot_weaker (Root s) (IsRoot Swept Then s.may) root_swept _ (g.slots k d l);
@@ -146,14 +147,14 @@ module _ (setup : Setup) (s : State) (pages : ℕ) (g : IsSound setup s) (most :
   }
 
 pub sweeps_sound : (setup : Setup) (old new : State) (phase : Phase) (pages : ℕ) (numbers : List ℕ) → IsSound setup old → pages ≤ setup.shape.pages
-    → SweepsIn phase setup.shape old pages numbers new → IsSound setup new
+    → SweepsInPhase phase setup.shape old pages numbers new → IsSound setup new
 sweeps_sound setup old new Idle pages numbers g most h = landed setup new old h.1 g
 sweeps_sound setup old new Marking pages numbers g most h = landed setup new old h.1 g
-sweeps_sound setup old new Sweeping pages numbers g most h = landed setup new (swept_to setup.shape old pages numbers) h.after (sweep_sound setup old pages g most numbers)
+sweeps_sound setup old new Sweeping pages numbers g most h = landed setup new (swept_state setup.shape old pages numbers) h.after (sweep_sound setup old pages g most numbers)
 
 -- after the end of a sweep none is open
 pub ended_phase : (shape : Shape) (old new : State) (phase : Phase) (numbers : List ℕ) → old.phase ≡ phase → is_marking phase ≡ false
-    → SweepsIn phase shape old shape.pages numbers new → new.phase ≡ Idle
+    → SweepsInPhase phase shape old shape.pages numbers new → new.phase ≡ Idle
 ended_phase shape old new Idle numbers e m h = ap (λ (s : State). s.phase) h.1 ∙ e
 ended_phase shape old new Marking numbers e m h = absurd (true≢false m)
 ended_phase shape old new Sweeping numbers e m h =

@@ -36,6 +36,7 @@ cleared_field Weak node word = with_value node word Null
 cleared_field Pair node word = with_value (with_value node word Null) (word + 1) Null
 cleared_field Plain node word = node
 
+-- a plain word grows by the amount, and begins again after 64 bits
 abbrev pub added : Value → ℕ → Value
 added Null amount = Null
 added (Ref n) amount = Ref n
@@ -52,9 +53,11 @@ added_field Pair node word amount = node
 abbrev pub at_field : Node → ℕ → Node → Node
 at_field node field changed = if nat_lt field (field_count node) then changed else node
 
+-- the node with the field of this number cleared
 abbrev pub cleared_at : Node → ℕ → Node
 cleared_at node field = at_field node field (cleared_field (kind_of_field node.object field) node (word_of_field node.object field))
 
+-- the node with the amount added to the field of this number
 abbrev pub added_at : Node → ℕ → ℕ → Node
 added_at node field amount =
     at_field node field (added_field (kind_of_field node.object field) node (word_of_field node.object field) amount)
@@ -66,9 +69,11 @@ linked_by Weak value = None
 linked_by Pair value = None
 linked_by Plain value = None
 
+-- the node that the strong field of this number names
 abbrev pub linked : Node → ℕ → Option ℕ
 linked node link = linked_by (kind_of_field node.object link) (value_at node (word_of_field node.object link))
 
+-- the node that is named is changed, where one is
 abbrev pub change_linked : List Node → Option ℕ → (Node → Node) → List Node
 change_linked nodes None change = nodes
 change_linked nodes (Some n) change = slice_set nodes n (change (node_at nodes n))

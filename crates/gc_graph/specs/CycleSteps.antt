@@ -13,7 +13,7 @@ use Rattle.gc_graph.specs.State.{Setup, State, StackWord, objects_of, used_of}
 use Rattle.gc_graph.specs.May.{marking, hits_for}
 use Rattle.gc_graph.specs.Placement.{extents_of, IsUsedPages}
 use Rattle.gc_graph.specs.Pause.{IsKept, condemn, live_count, dead_count, dying_slots, run_order, prefinalise_lines, paused}
-use Rattle.gc_graph.specs.Sweep.{SweepsTo, EndsSweep}
+use Rattle.gc_graph.specs.Sweep.{SweepsTo, SweepsToEnd}
 use Rattle.gc_graph.specs.History.{IsLegalFrom}
 use Rattle.gc_graph.specs.Outcomes.{answered, IsRefused, IsMemory, finalise_lines, took, AreOthers, owner_entry}
 
@@ -31,7 +31,7 @@ pub record IsStart (setup : Setup) (swept : State) (piece : List Entry) (new : S
 pub record IsBegun (setup : Setup) (old : State) (piece : List Entry) (lines : List Line) (new : State) : Type 0 where
   pub numbers : List ℕ
   pub swept : State
-  pub ended : EndsSweep setup.shape old numbers swept
+  pub ended : SweepsToEnd setup.shape old numbers swept
   pub started : State
   pub start : IsStart setup swept piece started
   pub lines_are : lines ≡ finalise_lines numbers ++ L.Started ∷ []
@@ -118,7 +118,7 @@ StepGcFinish setup want old piece lines new =
 pub record IsCollection (setup : Setup) (want : Want) (old : State) (piece : List Entry) (lines : List Line) (new : State) : Type 0 where
   pub numbers : List ℕ
   pub swept : State
-  pub ended : EndsSweep setup.shape old numbers swept
+  pub ended : SweepsToEnd setup.shape old numbers swept
   pub first : List Entry
   pub started : State
   pub start : IsStart setup swept first started
@@ -140,7 +140,7 @@ StepGcNow setup want old piece lines new =
 -- ---- sweeps
 
 -- the sweep went on until the first so many pages are swept
-pub record IsSwept (setup : Setup) (old : State) (pages : ℕ) (lines : List Line) (new : State) : Type 0 where
+pub record HasSwept (setup : Setup) (old : State) (pages : ℕ) (lines : List Line) (new : State) : Type 0 where
   pub numbers : List ℕ
   pub swept : State
   pub goes : SweepsTo setup.shape old pages numbers swept
@@ -150,7 +150,7 @@ pub record IsSwept (setup : Setup) (old : State) (pages : ℕ) (lines : List Lin
 -- refused while no sweep is open
 abbrev pub StepSweepTo : Setup → State → ℕ → List Line → State → Type 0
 StepSweepTo setup old pages lines new =
-    MatchBool (is_sweeping old.phase) (IsSwept setup old pages lines new) (IsRefused R.Phase old lines new)
+    MatchBool (is_sweeping old.phase) (HasSwept setup old pages lines new) (IsRefused R.Phase old lines new)
 
 -- sweep n: n pages more, or those that are left
 abbrev pub StepSweep : Setup → State → ℕ → List Line → State → Type 0

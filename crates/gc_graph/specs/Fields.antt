@@ -17,6 +17,7 @@ words_of_kind Weak = 1
 words_of_kind Pair = 2
 words_of_kind Plain = 1
 
+-- the words of all declared fields
 abbrev pub field_words : List Kind → ℕ
 field_words kinds = sum_by words_of_kind kinds
 
@@ -32,9 +33,11 @@ kind_of_field object f = slice_index_or object.kinds f Plain
 abbrev pub word_of_field : Object → ℕ → ℕ
 word_of_field object f = field_words (take f object.kinds) + (f - length object.kinds)
 
+-- what a word holds
 abbrev pub value_at : Node → ℕ → Value
 value_at node word = slice_index_or node.object.values word Null
 
+-- the node with this word written
 abbrev pub with_value : Node → ℕ → Value → Node
 with_value node word value = record node { object = record node.object { values = slice_set node.object.values word value } }
 
@@ -45,6 +48,7 @@ nulls_of_kind Weak = Null ∷ []
 nulls_of_kind Pair = Null ∷ Null ∷ []
 nulls_of_kind Plain = Word 0 ∷ []
 
+-- what the declared fields of a new object hold
 abbrev pub nulls_of : List Kind → List Value
 nulls_of kinds = flat_map nulls_of_kind kinds
 
@@ -53,6 +57,7 @@ abbrev pub new_object : ObjectType → ℕ → ℕ → Object
 new_object type t extra =
     record { ty = t; extra = extra; kinds = type.kinds; values = nulls_of type.kinds ++ replicate extra (Word 0) }
 
+-- a new node is live, and has a new object at its place
 abbrev pub new_node : Setup → ℕ → ℕ → ℕ → Node
 new_node setup t extra place = record { object = new_object (type_at setup t) t extra; place = place; life = Live }
 
@@ -78,18 +83,21 @@ is_reference Weak = true
 is_reference Pair = false
 is_reference Plain = false
 
+-- the fields through which a read is a weak one
 abbrev pub is_weak : Kind → Bool
 is_weak Strong = false
 is_weak Weak = true
 is_weak Pair = false
 is_weak Plain = false
 
+-- the fields that `pair`, `key` and `val` speak of
 abbrev pub is_pair : Kind → Bool
 is_pair Strong = false
 is_pair Weak = false
 is_pair Pair = true
 is_pair Plain = false
 
+-- the fields that `put` and `word` speak of
 abbrev pub is_plain : Kind → Bool
 is_plain Strong = false
 is_plain Weak = false

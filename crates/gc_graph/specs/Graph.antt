@@ -14,10 +14,11 @@ pub record Object : Type 0 where
   pub kinds : List Kind
   pub values : List Value
 
--- a graph is a list of objects; a node is a position in it
+-- what stands at a position where there is no object
 abbrev pub no_object : Object
 no_object = record { ty = 0; extra = 0; kinds = []; values = [] }
 
+-- a graph is a list of objects; a node is a position in it
 abbrev pub object_at : List Object → ℕ → Object
 object_at graph n = slice_index_or graph n no_object
 
@@ -42,9 +43,11 @@ pair_targets [] values = []
 abbrev pub has : List Bool → ℕ → Bool
 has set n = slice_index_or set n false
 
+-- the node is in the set
 abbrev pub IsIn : List Bool → ℕ → Type 0
 IsIn set n = has set n ≡ true
 
+-- each node of the set is in the other
 abbrev pub IsWithin : List Bool → List Bool → Type 0
 IsWithin set other = (n : ℕ) → IsIn set n → IsIn other n
 

@@ -28,6 +28,7 @@ Run setup old (command ∷ commands) (outcome ∷ outcomes) =
 Run setup old [] (outcome ∷ outcomes) = ⊥
 Run setup old (command ∷ commands) [] = ⊥
 
+-- the state after the last outcome
 abbrev pub last_state : State → List Outcome → State
 last_state s [] = s
 last_state s (outcome ∷ outcomes) = last_state outcome.state outcomes
@@ -68,6 +69,8 @@ TotalsNeverFall lines =
 
 -- ---- lawful runs
 
+-- a lawful run: steps of the commands from the empty state, whose pieces are a legal history; a thread that was not
+-- joined has begun its orders, and the totals that threads were told had been published
 pub record IsLawful (setup : Setup) (commands : List Command) (outcomes : List Outcome) (history : List Entry) : Type 0 where
   pub run : Run setup empty_state commands outcomes
   pub pieces : history ≡ history_of outcomes
@@ -82,6 +85,7 @@ pub record IsLawful (setup : Setup) (commands : List Command) (outcomes : List O
 
 -- ---- ranges
 
+-- the numbers of an order are in their ranges
 abbrev pub IsAllowedOrder : Order → Type 0
 IsAllowedOrder (Q.Copy x y) = (x < 32) × (y < 32)
 IsAllowedOrder (Q.Clear x) = x < 32

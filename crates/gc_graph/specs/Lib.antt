@@ -6,6 +6,7 @@ pub mod Checking
 pub mod May
 pub mod Sweep
 pub mod Placement
+pub mod Pages
 pub mod History
 pub mod Actions
 pub mod Pause
@@ -27,4 +28,6 @@ pub mod ValidLaw
 pub mod MayLaw
 pub mod RefusalLaw
 pub mod PlacementLaw
+pub mod SweepLaw
+pub mod OnceLaw
 pub mod HistoryLaw

@@ -51,12 +51,12 @@ address_of nodes (Pointer n offset) = (node_at nodes n).place + offset
 address_of nodes (Number w) = w
 
 -- the node is there and has the word at a
-abbrev pub covers : Node → ℕ → Bool
-covers node a = is_there node.life && (nat_le node.place a && nat_lt a (node.place + size_of node))
+abbrev pub has_word : Node → ℕ → Bool
+has_word node a = is_there node.life && (nat_le node.place a && nat_lt a (node.place + size_of node))
 
 -- some stack word is the address of a word of the node
 abbrev pub is_hit : List Node → List StackWord → ℕ → Bool
-is_hit nodes stack n = list_any (λ word. covers (node_at nodes n) (address_of nodes word)) stack
+is_hit nodes stack n = list_any (λ word. has_word (node_at nodes n) (address_of nodes word)) stack
 
 abbrev pub hits_of : List Node → List StackWord → List ℕ
 hits_of nodes stack = filter (is_hit nodes stack) (range_with_len 0 (length nodes))

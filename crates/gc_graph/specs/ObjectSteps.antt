@@ -52,21 +52,27 @@ StepNew setup old p t extra lines new =
 
 -- ---- fields
 
+-- refused where the test fails, and else done
+abbrev pub Unless : Bool → Type 0 → Type 0 → Type 0
+Unless test Refused Done = MatchBool test Done Refused
+
 -- field f of the slot's object is asked for: refused where the slot is null, then where there is no such field, then
 -- where it is of another kind
 abbrev pub AtField : (Kind → Bool) → State → ℕ → ℕ → List Line → State → (ℕ → Type 0) → Type 0
 AtField allowed old p f lines new Done =
     MatchOption (slot_at old p) (IsRefused R.Null old lines new)
-    (λ n. MatchBool (nat_lt f (field_count (node_at old.nodes n)))
-    (MatchBool (allowed (kind_of_field (node_at old.nodes n).object f)) (Done n) (IsRefused R.Kind old lines new))
-    (IsRefused R.Field old lines new))
+    (λ n. Unless (nat_lt f (field_count (node_at old.nodes n))) (IsRefused R.Field old lines new)
+    (Unless (allowed (kind_of_field (node_at old.nodes n).object f)) (IsRefused R.Kind old lines new) (Done n)))
 
+-- the number of the first word of the node's field
 abbrev pub first_word : State → ℕ → ℕ → ℕ
 first_word s n f = word_of_field (node_at s.nodes n).object f
 
+-- the state with this node written
 abbrev pub with_node : State → ℕ → Node → State
 with_node s n node = record s { nodes = slice_set s.nodes n node }
 
+-- the node was written
 abbrev pub IsChanged : State → ℕ → Node → List Line → State → Type 0
 IsChanged old n node lines new = (lines ≡ L.Fine ∷ []) × (new ≡ answered (with_node old n node))
 
@@ -94,6 +100,7 @@ abbrev pub StepPut : State → ℕ → ℕ → ℕ → List Line → State → T
 StepPut old p f w lines new =
     AtField is_plain old p f lines new (λ n. IsChanged old n (with_value (node_at old.nodes n) (first_word old n f) (Word w)) lines new)
 
+-- the number that the plain word holds was told
 abbrev pub IsNumber : State → Value → List Line → State → Type 0
 IsNumber old (Word w) lines new = (lines ≡ L.Word w ∷ []) × (new ≡ answered old)
 IsNumber old Null lines new = ⊥

@@ -8,18 +8,23 @@ pub record Extent : Type 0 where
   pub place : ℕ
   pub size : ℕ
 
+-- the words of a node's object
+abbrev pub extent_of : Node → Extent
+extent_of node = record { place = node.place; size = size_of node }
+
 -- the words of the objects that are not finalised, dead ones too
 abbrev pub extents_of : List Node → List Extent
 extents_of [] = []
 extents_of (node ∷ nodes) =
-    if is_there node.life then record { place = node.place; size = size_of node } ∷ extents_of nodes else extents_of nodes
+    if is_there node.life then extent_of node ∷ extents_of nodes else extents_of nodes
 
-abbrev pub Covers : Extent → ℕ → Type 0
-Covers e a = (e.place ≤ a) × (a < e.place + e.size)
+-- the word is one of these
+abbrev pub HasWord : Extent → ℕ → Type 0
+HasWord e a = (e.place ≤ a) × (a < e.place + e.size)
 
 -- some object has this word
 abbrev pub IsTaken : List Extent → ℕ → Type 0
-IsTaken extents a = (e : Extent) × Contains extents e × Covers e a
+IsTaken extents a = (e : Extent) × Contains extents e × HasWord e a
 
 -- the bucket of a size: 2 to 3, 4 to 7, 8 to 15, 16 to half a page, and large
 abbrev pub bucket_of : ℕ → ℕ → ℕ
@@ -27,14 +32,14 @@ bucket_of page_words size =
     if nat_lt (page_words / 2) size then 4 else if nat_le 16 size then 3 else if nat_le 8 size then 2 else if nat_le 4 size then 1 else 0
 
 -- an object of the bucket has a word in the page
-abbrev pub HasBucket : ℕ → List Extent → ℕ → ℕ → Type 0
-HasBucket page_words extents page bucket =
-    (e : Extent) × (a : ℕ) × Contains extents e × Covers e a
+abbrev pub PageHasBucket : ℕ → List Extent → ℕ → ℕ → Type 0
+PageHasBucket page_words extents page bucket =
+    (e : Extent) × (a : ℕ) × Contains extents e × HasWord e a
     × (page * page_words ≤ a) × (a < (page + 1) * page_words) × (bucket_of page_words e.size ≡ bucket)
 
 -- words from a, within one page of the bucket, that belong to no object
 pub record IsRun (page_words : ℕ) (extents : List Extent) (size page a : ℕ) : Type 0 where
-  pub bucket : HasBucket page_words extents page (bucket_of page_words size)
+  pub bucket : PageHasBucket page_words extents page (bucket_of page_words size)
   pub first : page * page_words ≤ a
   pub last : a + size ≤ (page + 1) * page_words
   pub free : (x : ℕ) → a ≤ x → x < a + size → IsTaken extents x → ⊥
@@ -49,6 +54,7 @@ abbrev pub UsesPage : Shape → List Extent → ℕ → Type 0
 UsesPage shape extents page =
     (a : ℕ) × (page * shape.page_words ≤ a) × (a < (page + 1) * shape.page_words) × IsTaken extents a
 
+-- no object has a word in the page
 abbrev pub IsEmptyPage : Shape → List Extent → ℕ → Type 0
 IsEmptyPage shape extents page = UsesPage shape extents page → ⊥
 
@@ -65,9 +71,11 @@ pub record StartsEmptyRun (shape : Shape) (extents : List Extent) (size a : ℕ)
   pub first : a ≡ page * shape.page_words
   pub empty : (i : ℕ) → i < count → IsEmptyPage shape extents (page + i)
 
+-- the address is the lowest of which this holds
 abbrev pub IsLowest : (ℕ → Type 0) → ℕ → Type 0
 IsLowest P a = P a × ((b : ℕ) → b < a → P b → ⊥)
 
+-- this holds of no address
 abbrev pub IsNowhere : (ℕ → Type 0) → Type 0
 IsNowhere P = (a : ℕ) → P a → ⊥
 
@@ -87,7 +95,7 @@ pub record IsPlacement (shape : Shape) (old : State) (size : ℕ) (numbers : Lis
   pub forward : swept_pages shape old ≤ pages
   pub within : pages ≤ shape.pages
   pub swept : SweepsTo shape old pages numbers mid
-  pub wanted :
+  pub no_sooner :
       (fewer : ℕ) (before : List ℕ) (s : State) → swept_pages shape old ≤ fewer → fewer < pages → SweepsTo shape old fewer before s
       → IsNowhere (Fits shape fewer (extents_of s.nodes) size)
   pub placed : IsPlaceFor shape pages (extents_of mid.nodes) size place

@@ -8,7 +8,7 @@ use Rattle.gc_graph.specs.declared.line.Refusal.{Refusal}
 use Rattle.gc_graph.specs.declared.region.Entry.{Entry}
 use Rattle.gc_graph.specs.State.{Setup, State, type_at}
 use Rattle.gc_graph.specs.Outcomes.{answered, finalise_lines}
-use Rattle.gc_graph.specs.Sweep.{EndsSweep}
+use Rattle.gc_graph.specs.Sweep.{SweepsToEnd}
 use Rattle.gc_graph.specs.Step.{Step}
 
 -- a refused command takes nothing of the history, and changes nothing but the count of commands
@@ -70,7 +70,7 @@ MemoryLeavesAll =
 pub record IsLeftFull (setup : Setup) (old : State) (piece : List Entry) (lines : List Line) (new : State) : Type 0 where
   pub numbers : List ℕ
   pub swept : State
-  pub ended : EndsSweep setup.shape old numbers swept
+  pub ended : SweepsToEnd setup.shape old numbers swept
   pub lines_are : lines ≡ finalise_lines numbers ++ L.Full ∷ []
   pub taken : piece ≡ []
   pub after : new ≡ answered (record swept { full = swept.full + 1 })

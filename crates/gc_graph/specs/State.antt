@@ -18,6 +18,7 @@ pub record ObjectType : Type 0 where
   pub kinds : List Kind
   pub prefinalizers : List ℕ
 
+-- what stands at a number that no type has
 abbrev pub no_type : ObjectType
 no_type = record { kinds = []; prefinalizers = [] }
 
@@ -29,6 +30,7 @@ pub record Setup : Type 0 where
   pub types : List ObjectType
   pub callbacks : List ActionKind
 
+-- the type with this number
 abbrev pub type_at : Setup → ℕ → ObjectType
 type_at setup t = slice_index_or setup.types t no_type
 
@@ -38,11 +40,13 @@ pub data Life : Type 0 where
   Dead : Life
   Gone : Life
 
+-- not condemned
 abbrev pub is_live : Life → Bool
 is_live Live = true
 is_live Dead = false
 is_live Gone = false
 
+-- condemned, and not yet finalised
 abbrev pub is_dead : Life → Bool
 is_dead Live = false
 is_dead Dead = true
@@ -60,15 +64,19 @@ pub record Node : Type 0 where
   pub place : ℕ
   pub life : Life
 
+-- what stands at a number that no node has
 abbrev pub no_node : Node
 no_node = record { object = no_object; place = 0; life = Gone }
 
+-- the node with this number
 abbrev pub node_at : List Node → ℕ → Node
 node_at nodes n = slice_index_or nodes n no_node
 
+-- the node with this number is live
 abbrev pub IsLive : List Node → ℕ → Type 0
 IsLive nodes n = (node_at nodes n).life ≡ Live
 
+-- the node with this number is dead
 abbrev pub IsDead : List Node → ℕ → Type 0
 IsDead nodes n = (node_at nodes n).life ≡ Dead
 
@@ -94,6 +102,7 @@ pub record Registration : Type 0 where
   pub node : ℕ
   pub callback : ℕ
 
+-- the state of a heap between two commands
 pub record State : Type 0 where
   -- by number
   pub nodes : List Node
@@ -149,6 +158,7 @@ empty_state = record {
   full = 0;
 }
 
+-- the graph of the nodes: their objects
 abbrev pub graph_of : List Node → List Object
 graph_of nodes = map (λ n. n.object) nodes
 
@@ -175,9 +185,10 @@ strong_region_targets (WeakTo n ∷ region) = strong_region_targets region
 abbrev pub roots_of : State → List ℕ
 roots_of s = slot_targets s.slots ++ stack_targets s.stack ++ strong_region_targets s.region
 
--- how many objects are not finalised, and how many words they take
+-- how many objects are not finalised
 abbrev pub objects_of : List Node → ℕ
 objects_of nodes = count_by (λ n. is_there n.life) nodes
 
+-- the words of the objects that are not finalised
 abbrev pub used_of : List Node → ℕ
 used_of nodes = sum_by (λ n. if is_there n.life then size_of n else 0) nodes

@@ -11,6 +11,7 @@ pages_swept_in Idle pages cursor = pages
 pages_swept_in Marking pages cursor = pages
 pages_swept_in Sweeping pages cursor = cursor
 
+-- how many pages count as swept
 abbrev pub swept_pages : Shape → State → ℕ
 swept_pages shape s = pages_swept_in s.phase shape.pages s.cursor
 
@@ -27,6 +28,7 @@ pub record AreDeadInOrder (nodes : List Node) (limit : ℕ) (numbers : List ℕ)
       (i j : ℕ) → i < j → j < length numbers
       → (node_at nodes (slice_index numbers i)).place < (node_at nodes (slice_index numbers j)).place
 
+-- the life of a node after its finalisation
 abbrev pub buried : Life → Life
 buried Live = Live
 buried Dead = Gone
@@ -41,8 +43,8 @@ abbrev pub phase_at : Shape → ℕ → Phase
 phase_at shape pages = if pages == shape.pages then Idle else Sweeping
 
 -- the state after the first so many pages are swept, in which these nodes were finalised
-abbrev pub swept_to : Shape → State → ℕ → List ℕ → State
-swept_to shape s pages numbers = record s {
+abbrev pub swept_state : Shape → State → ℕ → List ℕ → State
+swept_state shape s pages numbers = record s {
   nodes = map (finalise (pages * shape.page_words)) s.nodes;
   phase = phase_at shape pages;
   cursor = pages;
@@ -50,19 +52,20 @@ swept_to shape s pages numbers = record s {
 }
 
 -- the open sweep goes on until the first so many pages are swept
-pub record IsSweep (shape : Shape) (old : State) (pages : ℕ) (numbers : List ℕ) (new : State) : Type 0 where
+pub record ContinuesSweep (shape : Shape) (old : State) (pages : ℕ) (numbers : List ℕ) (new : State) : Type 0 where
   pub finalised : AreDeadInOrder old.nodes (pages * shape.page_words) numbers
-  pub after : new ≡ swept_to shape old pages numbers
+  pub after : new ≡ swept_state shape old pages numbers
 
 -- where no sweep is open there is nothing to do
-abbrev pub SweepsIn : Phase → Shape → State → ℕ → List ℕ → State → Type 0
-SweepsIn Idle shape old pages numbers new = (numbers ≡ []) × (new ≡ old)
-SweepsIn Marking shape old pages numbers new = (numbers ≡ []) × (new ≡ old)
-SweepsIn Sweeping shape old pages numbers new = IsSweep shape old pages numbers new
+abbrev pub SweepsInPhase : Phase → Shape → State → ℕ → List ℕ → State → Type 0
+SweepsInPhase Idle shape old pages numbers new = (numbers ≡ []) × (new ≡ old)
+SweepsInPhase Marking shape old pages numbers new = (numbers ≡ []) × (new ≡ old)
+SweepsInPhase Sweeping shape old pages numbers new = ContinuesSweep shape old pages numbers new
 
+-- sweeping goes on until the first so many pages are swept, where a sweep is open
 abbrev pub SweepsTo : Shape → State → ℕ → List ℕ → State → Type 0
-SweepsTo shape old pages numbers new = SweepsIn old.phase shape old pages numbers new
+SweepsTo shape old pages numbers new = SweepsInPhase old.phase shape old pages numbers new
 
 -- an open sweep is ended
-abbrev pub EndsSweep : Shape → State → List ℕ → State → Type 0
-EndsSweep shape old numbers new = SweepsTo shape old shape.pages numbers new
+abbrev pub SweepsToEnd : Shape → State → List ℕ → State → Type 0
+SweepsToEnd shape old numbers new = SweepsTo shape old shape.pages numbers new

@@ -11,6 +11,7 @@ use Rattle.gc_graph.specs.Reach.{HoldsAll}
 use Rattle.gc_graph.specs.State.{Setup, Shape, State, Node, RegionSlot, node_at, type_at, is_there, IsLive, IsDead, size_of, graph_of, roots_of, slot_targets, stack_targets}
 use Rattle.gc_graph.specs.State.RegionSlot.{Vacant, StrongTo, WeakTo}
 use Rattle.gc_graph.specs.Fields.{field_words}
+use Rattle.gc_graph.specs.Pages.{ArePure}
 
 -- ---- objects
 
@@ -20,6 +21,7 @@ IsReferenceBelow bound Null = ⊤
 IsReferenceBelow bound (Ref n) = n < bound
 IsReferenceBelow bound (Word w) = ⊥
 
+-- a plain word
 abbrev pub IsPlainWord : Value → Type 0
 IsPlainWord Null = ⊥
 IsPlainWord (Ref n) = ⊥
@@ -49,22 +51,27 @@ pub record IsTyped (setup : Setup) (bound : ℕ) (node : Node) : Type 0 where
   pub values_are : HaveKinds bound node.object.kinds node.object.values
   pub count : length node.object.values ≡ field_words node.object.kinds + node.object.extra
 
+-- no other node than a live one is named
 abbrev pub NamesLive : List Node → Value → Type 0
 NamesLive nodes Null = ⊤
 NamesLive nodes (Ref n) = IsLive nodes n
 NamesLive nodes (Word w) = ⊤
 
+-- the node with this number is live or dead
 abbrev pub IsThere : List Node → ℕ → Type 0
 IsThere nodes n = is_there (node_at nodes n).life ≡ true
 
+-- the objects have no word in common
 abbrev pub AreApart : Node → Node → Type 0
 AreApart x y = (x.place + size_of x ≤ y.place) ⊎ (y.place + size_of y ≤ x.place)
 
+-- how many words the heap has
 abbrev pub word_count : Shape → ℕ
 word_count shape = shape.pages * shape.page_words
 
 -- ---- handles
 
+-- each of these is live
 abbrev pub AreLive : List Node → List ℕ → Type 0
 AreLive nodes targets = All (IsLive nodes) targets
 
@@ -90,17 +97,20 @@ pub record IsMay (s : State) : Type 0 where
   pub roots : HoldsAll s.may (roots_of s)
   pub whole : length s.may ≡ length s.nodes
 
+-- while marking goes on, the nodes that may be kept are these
 abbrev pub HasMay : Phase → State → Type 0
 HasMay Idle s = ⊤
 HasMay Marking s = IsMay s
 HasMay Sweeping s = ⊤
 
--- a state is valid: objects are typed and lie apart in the heap; live nodes and handles name live nodes
+-- a state is valid: objects are typed and lie apart in the heap, in pages that are pure; live nodes and handles name
+-- live nodes
 pub record IsValid (setup : Setup) (s : State) : Type 0 where
   pub typed : All (IsTyped setup (length s.nodes)) s.nodes
   pub named : (n : ℕ) → IsLive s.nodes n → All (NamesLive s.nodes) (node_at s.nodes n).object.values
   pub apart : (m n : ℕ) → m ≢ n → IsThere s.nodes m → IsThere s.nodes n → AreApart (node_at s.nodes m) (node_at s.nodes n)
   pub within : (n : ℕ) → IsThere s.nodes n → (node_at s.nodes n).place + size_of (node_at s.nodes n) ≤ word_count setup.shape
+  pub pure : ArePure setup.shape.page_words s.nodes
   pub slots : AreLive s.nodes (slot_targets s.slots)
   pub weak : AreLive s.nodes (slot_targets s.weak)
   pub stack : AreLive s.nodes (stack_targets s.stack)

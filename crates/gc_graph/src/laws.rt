@@ -2,7 +2,7 @@
 
 ghost use Rattle.gc_graph.specs.HistoryLaw.{RepliesAreOfOneThread, RunsAreReplayed};
 ghost use Rattle.gc_graph.specs.MayLaw.{StartsHaveStarted, MayIsBounded, PauseBoundsMeet};
-ghost use Rattle.gc_graph.specs.PlacementLaw.{PlacementIsFree, SweepsFinaliseDead};
+ghost use Rattle.gc_graph.specs.PlacementLaw.{PagesHaveOneBucket, PlacementIsFree, SweepsFinaliseDead};
 ghost use Rattle.gc_graph.specs.ReadBack.{LinesReadBack, ReportReadsBack};
 ghost use Rattle.gc_graph.specs.RefusalLaw.{RefusedLeavesAll, MemoryLeavesAll, FullLeavesRest};
 ghost use Rattle.gc_graph.specs.ValidLaw.{EmptyIsValid, StepKeepsValid};
@@ -47,10 +47,16 @@ pub fn full_leaves_rest()
     ensures { FullLeavesRest }
 {}
 
-/// A new object's words lie in one page or fill whole pages, and no object that is not finalised
-/// has one of them.
+/// A new object's words belong to no object that is not finalised. One of at most half a page lies
+/// in one page, in which no object of another bucket has a word; a larger one takes whole pages,
+/// from the first word of one and no more than it needs, and each of them holds nothing else.
 pub fn placement_is_free()
     ensures { PlacementIsFree }
+{}
+
+/// The objects that have a word in one page of a valid state are of one bucket: that of the page.
+pub fn pages_have_one_bucket()
+    ensures { PagesHaveOneBucket }
 {}
 
 /// The sweep of all pages finalises each dead node once, in the order of their addresses.

@@ -11,8 +11,9 @@
 //! `Graph` and `reach_check`, by which a program checks a set of nodes; `laws`. The definitions
 //! stand in `specs/`, to be read in the order of `specs/Lib.antt`.
 //!
-//! What is proved: the laws of `reach` and `laws`, each the contract of a function that does
-//! nothing, and that `reach_check` is true exactly where a set holds the roots and is closed.
+//! What is proved: the laws of `reach`, `laws`, `laws_of_lives` and `laws_of_sweeping`, each the
+//! contract of a function that does nothing, and that `reach_check` is true exactly where a set holds
+//! the roots and is closed.
 //!
 //! What is only tested or not said: the definitions are what a reader has to believe. The tests
 //! of the program compare them with reports that were written by hand.
@@ -24,6 +25,8 @@ mod command;
 mod graph;
 mod graphs;
 mod laws;
+mod laws_of_lives;
+mod laws_of_sweeping;
 mod line;
 mod members;
 mod memory;
@@ -40,9 +43,12 @@ pub use graph::{Kind, Value};
 pub use graphs::Graph;
 pub use laws::{
     empty_is_valid, full_leaves_rest, lines_read_back, may_is_bounded, memory_leaves_all,
-    pause_bounds_meet, placement_is_free, refused_leaves_all, replies_are_of_one_thread,
-    report_reads_back, runs_are_replayed, step_keeps_valid, sweeps_finalise_dead,
+    pages_have_one_bucket, pause_bounds_meet, placement_is_free, refused_leaves_all,
+    replies_are_of_one_thread, report_reads_back, runs_are_replayed, step_keeps_valid,
+    sweeps_finalise_dead,
 };
+pub use laws_of_lives::lives_end_once;
+pub use laws_of_sweeping::{placed_in_last_page, placement_is_one, sweeps_go_by_pages};
 pub use line::{Line, Refusal};
 pub use memory::NoMemory;
 pub use phase::Phase;

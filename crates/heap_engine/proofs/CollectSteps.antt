@@ -17,7 +17,7 @@ use Rattle.gc_graph.specs.May.{members, members_from, marking}
 use Rattle.gc_graph.specs.History.{cleared_by, NamesWeakSlots}
 use Rattle.gc_graph.specs.Pause.{IsKept, condemn, clear_slot, is_dead_at, dying_slots, clear_fields, run_order, prefinalised, prefinalise_lines, live_count, paused}
 use Rattle.gc_graph.specs.Outcomes.{answered, finalise_lines, took, owner_entry}
-use Rattle.gc_graph.specs.Sweep.{EndsSweep}
+use Rattle.gc_graph.specs.Sweep.{SweepsToEnd}
 use Rattle.gc_graph.specs.CycleSteps.{IsStart, IsPause, IsCollection, StepGcNow, WantsMemory, is_marking, is_stack_refused}
 use Rattle.heap_engine.specs.View.{start_entry, pause_entry}
 use Rattle.heap_engine.specs.Plain.{AreUnused, IsStrong, IsPlainState}
@@ -156,7 +156,7 @@ pub collects_or_not : (setup : Setup) (s : State) (piece : List Entry) (lines : 
 collects_or_not setup s piece lines new valid done =
     on_false (is_marking s.phase) _ _ valid.calm (on_false (is_stack_refused Precise s.stack) _ _ (ap (is_stack_refused Precise) valid.unused.stack_empty) done)
 
-pub step_collected : (setup : Setup) (s t new : State) (numbers : List ℕ) (kept : List Bool) (piece : List Entry) (lines : List Line) → EndsSweep setup.shape s numbers t
+pub step_collected : (setup : Setup) (s t new : State) (numbers : List ℕ) (kept : List Bool) (piece : List Entry) (lines : List Line) → SweepsToEnd setup.shape s numbers t
     → AreUnused t.weak t.stack t.region t.registrations t.running → All (IsStrong setup) (condemn kept t.nodes) → IsKept (took (started_state t) []) [] kept
     → piece ≡ start_entry ∷ pause_entry ∷ [] → lines ≡ finalise_lines numbers ++ pause_line (condemn kept t.nodes) ∷ [] → new ≡ answered (collected_state t kept)
     → IsCollection setup Precise s piece lines new

@@ -8,7 +8,7 @@ use Rattle.gc_graph.specs.declared.phase.Phase.TheVariants.{Idle, Marking, Sweep
 use Rattle.gc_graph.specs.State.{Setup, State, Node, Life, node_at, is_there, IsDead}
 use Rattle.gc_graph.specs.State.Life.{Live, Dead, Gone}
 use Rattle.gc_graph.specs.CycleSteps.{is_marking}
-use Rattle.gc_graph.specs.Sweep.{buried, finalise, phase_at, IsDeadBelow, AreDeadInOrder, SweepsIn, EndsSweep}
+use Rattle.gc_graph.specs.Sweep.{buried, finalise, phase_at, IsDeadBelow, AreDeadInOrder, SweepsInPhase, SweepsToEnd}
 use Rattle.page_words.specs.Seat.{SeatView, IsView}
 use Rattle.page_space.specs.Pages.{word_count}
 use Rattle.heap_engine.specs.Sweeping.{AreDeadSerials}
@@ -59,7 +59,7 @@ dead_below s v n view held dead =
 
 ends_in : (setup : Setup) (s : State) (v : SeatView) (numbers : List ℕ) (phase : Phase) → IsView v → v.count ≡ word_count setup.shape → IsPlainState setup s → IsHeld s.nodes v
     → AreDeadSerials v numbers → s.phase ≡ phase → is_marking phase ≡ false
-    → SweepsIn phase setup.shape s setup.shape.pages numbers (ended_state setup.shape s numbers)
+    → SweepsInPhase phase setup.shape s setup.shape.pages numbers (ended_state setup.shape s numbers)
 ends_in setup s v numbers Idle view count valid held serials is calm =
     let none : numbers ≡ [] = none_dead s.nodes v.count numbers (valid.idle is) (dead_in_order s v numbers view held serials).dead in
     let build : List Node → Phase → ℕ → ℕ → State = λ nodes phase cursor finalised. record s { nodes = nodes; phase = phase; cursor = cursor; finalised = finalised } in
@@ -87,5 +87,5 @@ ends_in setup s v numbers Sweeping view count valid held serials is calm =
     }
 
 pub ends_sweep : (setup : Setup) (s : State) (v : SeatView) (numbers : List ℕ) → IsView v → v.count ≡ word_count setup.shape → Holds setup s v → AreDeadSerials v numbers
-    → EndsSweep setup.shape s numbers (ended_state setup.shape s numbers)
+    → SweepsToEnd setup.shape s numbers (ended_state setup.shape s numbers)
 ends_sweep setup s v numbers view count h serials = ends_in setup s v numbers s.phase view count h.valid h.held serials refl h.valid.calm

@@ -7,7 +7,7 @@ use Rattle.gc_graph.specs.declared.phase.Phase.{Phase}
 use Rattle.gc_graph.specs.declared.phase.Phase.TheVariants.{Idle}
 use Rattle.gc_graph.specs.State.{Setup, State, ObjectType, Node, Registration, type_at}
 use Rattle.gc_graph.specs.Placement.{IsPlaceFor, IsPlacement}
-use Rattle.gc_graph.specs.Sweep.{pages_swept_in, SweepsIn}
+use Rattle.gc_graph.specs.Sweep.{pages_swept_in, SweepsInPhase}
 use Rattle.gc_graph.specs.Fields.{new_node, size_of_type, strong_type}
 use Rattle.gc_graph.specs.May.{may_with_new}
 use Rattle.gc_graph.specs.Outcomes.{answered, with_slot}
@@ -29,8 +29,8 @@ placed_among_nodes setup s v t fields extra place idle held is placed =
       pages = setup.shape.pages;
       forward = omega (arith, all);
       within = omega arith;
-      swept = subst (λ (ph : Phase). SweepsIn ph setup.shape s setup.shape.pages [] s) (sym idle) (refl, refl);
-      wanted = λ fewer before mid least less goes. absurd (omega (arith, all, least, less));
+      swept = subst (λ (ph : Phase). SweepsInPhase ph setup.shape s setup.shape.pages [] s) (sym idle) (refl, refl);
+      no_sooner = λ fewer before mid least less goes. absurd (omega (arith, all, least, less));
       placed = subst (λ es. IsPlaceFor setup.shape setup.shape.pages es (size_of_type setup t extra) place) (ap extents_of_bodies held.bodies ∙ extents-bodies (place_of s.nodes) 0 s.nodes)
           (subst (λ n. IsPlaceFor setup.shape setup.shape.pages (extents_of_bodies v.bodies) n place) (sym (strong_size setup t fields extra is)) placed);
     }

@@ -4,7 +4,7 @@ ghost use Rattle.std.specs.Prelude.{◌≡◌, ◌+◌, ◌-◌, ◌*◌, ◌^�
 ghost use Rattle.std.specs.Prelude.{◌<◌, ◌≤◌, false, [], All};
 ghost use Rattle.gc_graph.specs.declared.phase.Phase.TheVariants.{Sweeping};
 ghost use Rattle.gc_graph.specs.declared.command.Want.TheVariants.{Precise};
-ghost use Rattle.gc_graph.specs.CycleSteps.{StepGcNow, StepSweepAll, IsSwept};
+ghost use Rattle.gc_graph.specs.CycleSteps.{StepGcNow, StepSweepAll, HasSwept};
 ghost use Rattle.page_space.specs.Pages.{word_count};
 ghost use Rattle.page_space.specs.Space.{IsSpaceOf};
 ghost use Rattle.heap_engine.specs.Sweeping.{IsSweptView, AreDeadSerials};
@@ -69,7 +69,7 @@ impl Heap {
     fn finish_sweep(&mut self)
         requires few { self.old.state.ordinal < 1000000 }
         requires sweeping { self.old.state.phase ≡ Sweeping }
-        ensures step { IsSwept self.old.setup self.old.state self.old.setup.shape.pages
+        ensures step { HasSwept self.old.setup self.old.state self.old.setup.shape.pages
             self.new.lines self.new.state }
         ensures piece { self.new.piece ≡ [] }
         ensures frame { IsFrame self.old self.new }

@@ -6,7 +6,7 @@ use Rattle.std.proofs.lemmas.List.{get_or_past, get_or-replicate}
 use Rattle.std.proofs.lemmas.List.Sums.{sum_by-cons, count_by-le-length}
 use Rattle.std.proofs.Math.Nat.{mul-le-mul_right}
 use Rattle.gc_graph.specs.State.{Shape}
-use Rattle.gc_graph.specs.Placement.{Extent, Covers}
+use Rattle.gc_graph.specs.Placement.{Extent, HasWord}
 use Rattle.page_space.specs.Pages.{PageTable, is_in_page, word_count, free_words}
 use Rattle.page_space.specs.Gaps.{GapTable, KnowsGaps}
 use Rattle.page_space.specs.Space.{SpaceView, IsSpaceOver}
@@ -39,7 +39,7 @@ pub held_some : (space : SpaceView) (count : ℕ) (es : List Extent) (e : Extent
 held_some space count es e page words over there inside e_in =
     let w : ℕ = space.shape.page_words in
     let size : 2 ≤ e.size = over.sizes e there in
-    let word : (a : ℕ) × Covers e a × (page * w ≤ a) × (a < (page + 1) * w) = in_page_word w page e words (omega arith) e_in in
+    let word : (a : ℕ) × HasWord e a × (page * w ≤ a) × (a < (page + 1) * w) = in_page_word w page e words (omega arith) e_in in
     let low : page * w ≤ word.0 = word.2 in
     let high : word.0 < e.place + e.size = word.1.1 in
     let within : page < space.shape.pages = elim (cases_lt page space.shape.pages) [

@@ -4,7 +4,7 @@ use Rattle.std.specs.List.{Contains, All, filter, list_any, sum_by}
 use Rattle.std.proofs.lemmas.Bool.{and_parts, and_from, leb-true, ltb-true, le-leb, lt-ltb, or_cases, or_left, or_right, cases_eq, cases_Bool, eq-eqb, ne_eqb, cond-true, cond_both, true≢false}
 use Rattle.std.proofs.lemmas.List.Elements.{All-head, All-tail, All-contains, All-contains_itself, All-filter, All-weaker, All-push, All-nil, filter_passes}
 use Rattle.std.proofs.lemmas.List.Sums.{sum_by-cons}
-use Rattle.gc_graph.specs.Placement.{Extent, Covers, IsTaken}
+use Rattle.gc_graph.specs.Placement.{Extent, HasWord, IsTaken}
 use Rattle.page_space.specs.Pages.{covers}
 use Rattle.page_space.specs.Space.{PlacesDiffer}
 use Rattle.page_space.proofs.PlaceBodies.{contains_later, contains_first}
@@ -13,15 +13,15 @@ pub contains_cases : {X : Type 0} (y : X) (ys : List X) (x : X) → Contains (y 
 contains_cases y ys x (zero, l, e) = inl e
 contains_cases y ys x (suc k, l, e) = inr (k, omega arith, e)
 
-pub covers_from : (e : Extent) (x : ℕ) → Covers e x → covers x e ≡ true
+pub covers_from : (e : Extent) (x : ℕ) → HasWord e x → covers x e ≡ true
 covers_from e x c = and_from _ _ (le-leb e.place x c.0) (lt-ltb x (e.place + e.size) c.1)
 
-pub covers_parts : (e : Extent) (x : ℕ) → covers x e ≡ true → Covers e x
+pub covers_parts : (e : Extent) (x : ℕ) → covers x e ≡ true → HasWord e x
 covers_parts e x h =
     let both = and_parts _ _ h in
     (leb-true e.place x both.0, ltb-true x (e.place + e.size) both.1)
 
-pub any_from_taken : (es : List Extent) (e : Extent) (x : ℕ) → Contains es e → Covers e x → list_any (covers x) es ≡ true
+pub any_from_taken : (es : List Extent) (e : Extent) (x : ℕ) → Contains es e → HasWord e x → list_any (covers x) es ≡ true
 any_from_taken [] e x there c = absurd (omega (arith, there.1))
 any_from_taken (d ∷ es) e x there c =
     elim (contains_cases d es e there) [

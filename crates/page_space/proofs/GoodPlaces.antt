@@ -4,7 +4,7 @@ use Rattle.std.specs.List.{Contains}
 use Rattle.std.proofs.lemmas.Bool.{cases_lt}
 use Rattle.std.proofs.Math.Nat.{mul-le-mul_right, add-mul}
 use Rattle.gc_graph.specs.State.{Shape}
-use Rattle.gc_graph.specs.Placement.{Extent, Covers, IsTaken, IsEmptyPage, Fits, StartsEmptyRun, bucket_of}
+use Rattle.gc_graph.specs.Placement.{Extent, HasWord, IsTaken, IsEmptyPage, Fits, StartsEmptyRun, bucket_of}
 use Rattle.page_space.specs.Pages.{is_in_page, word_count}
 use Rattle.page_space.specs.Space.{SpaceView, IsSpaceOver, IsPlacedWell, IsFreePlace}
 use Rattle.page_space.proofs.PageSpan.{next_page, page_before, same_page, page_of, page_is, in_page_from, in_page_word}
@@ -12,7 +12,7 @@ use Rattle.page_space.proofs.PlaceFound.{small_bucket}
 
 pub record IsGoodPlace (shape : Shape) (extents : List Extent) (e : Extent) : Type 0 where
   pub inside : e.place + e.size ≤ word_count shape
-  pub free : (x : ℕ) → Covers e x → IsTaken extents x → ⊥
+  pub free : (x : ℕ) → HasWord e x → IsTaken extents x → ⊥
   pub well : IsPlacedWell shape e
   pub shared :
       (page : ℕ) (d : Extent) → Contains extents d → is_in_page shape.page_words page d ≡ true → is_in_page shape.page_words page e ≡ true
@@ -38,7 +38,7 @@ good_fit space count extents e words some over fits =
       free = λ x c. run.free x c.0 c.1;
       well = inl (fits.0, record { page = page; within = within; first = first; last = last });
       shared = λ q d there d_in e_in.
-          let word : (x : ℕ) × Covers e x × (q * w ≤ x) × (x < (q + 1) * w) = in_page_word w q e words some e_in in
+          let word : (x : ℕ) × HasWord e x × (q * w ≤ x) × (x < (q + 1) * w) = in_page_word w q e words some e_in in
           let low : e.place ≤ word.0 = word.1.0 in
           let high : word.0 < e.place + e.size = word.1.1 in
           let same : q ≡ page = same_page w q page word.0 word.2 word.3 (omega arith) (omega arith) in
@@ -50,7 +50,7 @@ good_fit space count extents e words some over fits =
 
 -- each word of the run lies in one of its pages
 run_page : (shape : Shape) (extents : List Extent) (e : Extent) (x : ℕ) → 0 < shape.page_words → (run : StartsEmptyRun shape extents e.size e.place)
-    → Covers e x → IsEmptyPage shape extents (x / shape.page_words)
+    → HasWord e x → IsEmptyPage shape extents (x / shape.page_words)
 run_page shape extents e x words run c =
     let w : ℕ = shape.page_words in
     let own : (x / w * w ≤ x) × (x < (x / w + 1) * w) = page_of w x words in
@@ -92,8 +92,8 @@ good_run shape extents e words some sizes run =
         | inr small ↦ inl (small, record { page = run.page; within = omega arith; first = omega arith; last = omega (arith, next_page w run.page) })
       ];
       shared = λ q d there d_in e_in.
-          let word : (x : ℕ) × Covers e x × (q * w ≤ x) × (x < (q + 1) * w) = in_page_word w q e words some e_in in
-          let other : (x : ℕ) × Covers d x × (q * w ≤ x) × (x < (q + 1) * w) = in_page_word w q d words (sizes d there) d_in in
+          let word : (x : ℕ) × HasWord e x × (q * w ≤ x) × (x < (q + 1) * w) = in_page_word w q e words some e_in in
+          let other : (x : ℕ) × HasWord d x × (q * w ≤ x) × (x < (q + 1) * w) = in_page_word w q d words (sizes d there) d_in in
           let is : word.0 / w ≡ q = page_is w q word.0 words word.2 word.3 in
           let empty : IsEmptyPage shape extents q = subst (IsEmptyPage shape extents) is (run_page shape extents e word.0 words run word.1) in
           absurd (empty (other.0, other.2, other.3, (d, there, other.1)));

@@ -6,7 +6,7 @@ use Rattle.std.proofs.lemmas.List.{length_push}
 use Rattle.std.proofs.lemmas.List.Elements.{Contains-push, Contains-append_left, Contains-push_cases}
 use Rattle.std.proofs.lemmas.List.Sums.{sum_by_push}
 use Rattle.gc_graph.specs.State.{Shape}
-use Rattle.gc_graph.specs.Placement.{Extent, Covers, IsTaken, bucket_of}
+use Rattle.gc_graph.specs.Placement.{Extent, HasWord, IsTaken, bucket_of}
 use Rattle.page_space.specs.Pages.{PageTable, is_in_page, free_words}
 use Rattle.page_space.specs.Gaps.{GapTable, KnowsGaps}
 use Rattle.page_space.specs.Space.{SpaceView, IsSpaceOver, IsPlacedWell}
@@ -25,11 +25,11 @@ one_more f es e = sum_by_push (λ d. cond (f d) 1 0) es e
 taken_push : (es : List Extent) (e : Extent) (x : ℕ) → IsTaken es x → IsTaken (es ++ e ∷ []) x
 taken_push es e x taken = (taken.0, Contains-append_left es (e ∷ []) taken.0 taken.1, taken.2)
 
-not_new : (es : List Extent) (e : Extent) (x : ℕ) → (Covers e x → ⊥) → IsTaken (es ++ e ∷ []) x → IsTaken es x
+not_new : (es : List Extent) (e : Extent) (x : ℕ) → (HasWord e x → ⊥) → IsTaken (es ++ e ∷ []) x → IsTaken es x
 not_new es e x outside taken =
     elim (Contains-push_cases es e taken.0 taken.1) [
       | inl old ↦ (taken.0, old, taken.2)
-      | inr new ↦ absurd (outside (subst (λ (d : Extent). Covers d x) (sym new) taken.2))
+      | inr new ↦ absurd (outside (subst (λ (d : Extent). HasWord d x) (sym new) taken.2))
     ]
 
 -- the words of the new object were free

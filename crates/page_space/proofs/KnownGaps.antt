@@ -5,7 +5,7 @@ use Rattle.std.proofs.lemmas.Bool.{cases_eq, cases_lt, true≢false, false≢tru
 use Rattle.std.proofs.lemmas.List.{get_or_past, get_or-replicate, length-replicate, length-set, get_or-set_same, get_or-set_other}
 use Rattle.std.proofs.lemmas.List.Elements.{Contains-append_left, Contains-push_cases}
 use Rattle.gc_graph.specs.State.{Shape}
-use Rattle.gc_graph.specs.Placement.{Extent, Covers, IsTaken, HasBucket, bucket_of}
+use Rattle.gc_graph.specs.Placement.{Extent, HasWord, IsTaken, PageHasBucket, bucket_of}
 use Rattle.page_space.specs.Pages.{is_in_page}
 use Rattle.page_space.specs.Gaps.{GapTable, bounds_at, bound_at, is_surveyed, IsGap, IsInBlock, IsBounded, HasBlocks, IsFullBelow, IsTooFull, KnowsGaps}
 use Rattle.page_space.specs.Space.{SpaceView, IsSpaceOver}
@@ -184,7 +184,7 @@ low_set shape es old new page pages lows surveyed first full knows =
 -- the lowest page worth a look for a size was set, past pages that aren't
 pub first_set : (shape : Shape) (es : List Extent) (old new : GapTable) (size first : ℕ) → new.pages ≡ old.pages → new.low ≡ old.low → new.surveyed ≡ old.surveyed
     → get_or new.first size 0 ≡ first → ((n : ℕ) → n ≢ size → get_or new.first n 0 ≡ get_or old.first n 0)
-    → ((q : ℕ) → q < first → HasBucket shape.page_words es q (bucket_of shape.page_words size)
+    → ((q : ℕ) → q < first → PageHasBucket shape.page_words es q (bucket_of shape.page_words size)
     → (is_surveyed old q ≡ true) × IsTooFull old q size)
     → KnowsGaps shape es old → KnowsGaps shape es new
 first_set shape es old new size first pages lows surveyed is rest passed knows =
@@ -195,7 +195,7 @@ first_set shape es old new size first pages lows surveyed is rest passed knows =
       low = λ q h. subst (λ xs. IsFullBelow shape es q (get_or xs q 0)) (sym lows) (knows.low q (sym (same q) ∙ h));
       worth = λ q n small low bucket. elim (cases_eq n size) [
         | inl here ↦
-            (let past = passed q (omega (arith, ap (λ i. get_or new.first i 0) here)) (subst (λ m. HasBucket shape.page_words es q (bucket_of shape.page_words m)) here bucket) in
+            (let past = passed q (omega (arith, ap (λ i. get_or new.first i 0) here)) (subst (λ m. PageHasBucket shape.page_words es q (bucket_of shape.page_words m)) here bucket) in
             (same q ∙ past.0, (λ j. omega (arith, ap (λ b. get_or b j 0) (bounds q), past.1 j))))
         | inr other ↦
             (let was = knows.worth q n small (omega (arith, rest n other)) bucket in
@@ -232,7 +232,7 @@ pub record LowersWhereEmpty (old new : GapTable) (objects page : ℕ) : Type 0 w
 
 -- a new object of at most half a page lies in one page
 own_page : (shape : Shape) (es : List Extent) (e : Extent) (q a size : ℕ) → 0 < shape.page_words → size ≤ shape.page_words / 2
-    → IsGoodPlace shape es e → bucket_of shape.page_words e.size ≡ bucket_of shape.page_words size → Covers e a → q * shape.page_words ≤ a
+    → IsGoodPlace shape es e → bucket_of shape.page_words e.size ≡ bucket_of shape.page_words size → HasWord e a → q * shape.page_words ≤ a
     → a < (q + 1) * shape.page_words → (q < shape.pages) × (e.place / shape.page_words ≡ q)
 own_page shape es e q a size some small good bucket covers low high =
     let w : ℕ = shape.page_words in
@@ -283,13 +283,13 @@ knows_joined space count es e gaps words large over good lowers =
           });
       worth = λ q size small low bucket.
           let before : q < get_or space.gaps.first size 0 = omega (arith, lowers.lower size) in
-          let so = λ (old : HasBucket w es q (bucket_of w size)).
+          let so = λ (old : PageHasBucket w es q (bucket_of w size)).
           let was = over.gaps.worth q size small before old in
           let now : (is_surveyed gaps q ≡ true) × IsTooFull gaps q size = (same q ∙ was.0, (λ k. omega (arith, ap (λ b. get_or b k 0) (bounds q), was.1 k))) in now in
           elim (Contains-push_cases es e bucket.0 bucket.2) [
             | inl old ↦ so (bucket.0, bucket.1, old, bucket.3, bucket.4, bucket.5, bucket.6)
             | inr new ↦
-                (let covers : Covers e bucket.1 = subst (λ (d : Extent). Covers d bucket.1) (sym new) bucket.3 in
+                (let covers : HasWord e bucket.1 = subst (λ (d : Extent). HasWord d bucket.1) (sym new) bucket.3 in
                 let own : bucket_of w e.size ≡ bucket_of w size = ap (λ (d : Extent). bucket_of w d.size) new ∙ bucket.6 in
                 let page : (q < space.shape.pages) × (e.place / w ≡ q) =
                 own_page space.shape es e q bucket.1 size (omega arith) (omega arith) good own covers bucket.4 bucket.5 in
@@ -297,7 +297,7 @@ knows_joined space count es e gaps words large over good lowers =
                 elim (cases_lt 0 (get_or space.table.objects q 0)) [
                   | inl some ↦
                       (let one : (d : Extent) × Contains es d × (is_in_page w q d ≡ true) = some_counted (is_in_page w q) es (omega (arith, over.held q page.0)) in
-                      let word : (a : ℕ) × Covers one.0 a × (q * w ≤ a) × (a < (q + 1) * w) = in_page_word w q one.0 (omega arith) (sizes_of space count es over one.0 one.1) one.2 in
+                      let word : (a : ℕ) × HasWord one.0 a × (q * w ≤ a) × (a < (q + 1) * w) = in_page_word w q one.0 (omega arith) (sizes_of space count es over one.0 one.1) one.2 in
                       so (one.0, word.0, one.1, word.1, word.2, word.3, (good.shared q one.0 one.1 one.2 e_in).0 ∙ own))
                   | inr none ↦
                       absurd (omega (
@@ -335,7 +335,7 @@ knows_left shape es e old new words knows one forgets =
               last = gap.last;
               free = λ x low high taken. elim (cases_eq taken.0.place e.place) [
                 | inl own ↦
-                    (let covers : Covers e x = subst (λ (d : Extent). Covers d x) (one taken.0 taken.1 own) taken.2 in
+                    (let covers : HasWord e x = subst (λ (d : Extent). HasWord d x) (one taken.0 taken.1 own) taken.2 in
                     let first : q * w ≤ a = gap.first in
                     let last : a + size ≤ (q + 1) * w = gap.last in
                     true≢false (sym is ∙ forgets.forgotten q (in_page_from w q e x words covers (omega arith) (omega arith))))
@@ -351,7 +351,7 @@ knows_left shape es e old new words knows one forgets =
                 let taken : IsTaken es x = was.full x from below in
                 elim (cases_eq taken.0.place e.place) [
                   | inl own ↦
-                      (let covers : Covers e x = subst (λ (d : Extent). Covers d x) (one taken.0 taken.1 own) taken.2 in
+                      (let covers : HasWord e x = subst (λ (d : Extent). HasWord d x) (one taken.0 taken.1 own) taken.2 in
                       let last : get_or old.low q 0 ≤ (q + 1) * w = was.within in
                       absurd (true≢false (sym is ∙ forgets.forgotten q (in_page_from w q e x words covers from (omega arith)))))
                   | inr other ↦ (taken.0, contains_filter es e.place taken.0 other taken.1, taken.2)

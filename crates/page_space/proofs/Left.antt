@@ -1,7 +1,7 @@
 -- A space with one object less.
 use Rattle.std.proofs.Common.{◌≡◌, ℕ, ◌+◌, ◌-◌, ◌<◌, ◌≤◌, List, get_or, refl, ap, ◌∙◌, subst, arith, cond}
 use Rattle.std.specs.List.{Contains, filter, sum_by, count_by}
-use Rattle.gc_graph.specs.Placement.{Extent, Covers, IsTaken}
+use Rattle.gc_graph.specs.Placement.{Extent, HasWord, IsTaken}
 use Rattle.page_space.specs.Pages.{PageTable, is_in_page, free_words}
 use Rattle.page_space.specs.Gaps.{GapTable}
 use Rattle.page_space.specs.Space.{SpaceView, IsSpaceOver}
@@ -16,15 +16,15 @@ pub record Leaves (w : ℕ) (e : Extent) (old new : PageTable) : Type 0 where
 
 -- objects with a common word are one
 abbrev pub LieApart : List Extent → Type 0
-LieApart es = (d e : Extent) (x : ℕ) → Contains es d → Contains es e → Covers d x → Covers e x → d ≡ e
+LieApart es = (d e : Extent) (x : ℕ) → Contains es d → Contains es e → HasWord d x → HasWord e x → d ≡ e
 
 was : (es : List Extent) (e : Extent) (x : ℕ) → IsTaken (filter (others e.place) es) x → IsTaken es x
 was es e x taken = (taken.0, (from_filter es e.place taken.0 taken.1).0, taken.2)
 
-stays : (es : List Extent) (e : Extent) (x : ℕ) → (Covers e x → ⊥) → ((d : Extent) → Contains es d → d.place ≡ e.place → d ≡ e) → IsTaken es x
+stays : (es : List Extent) (e : Extent) (x : ℕ) → (HasWord e x → ⊥) → ((d : Extent) → Contains es d → d.place ≡ e.place → d ≡ e) → IsTaken es x
     → IsTaken (filter (others e.place) es) x
 stays es e x outside one taken =
-    let other : taken.0.place ≡ e.place → ⊥ = (λ at. outside (subst (λ (d : Extent). Covers d x) (one taken.0 taken.1 at) taken.2)) in
+    let other : taken.0.place ≡ e.place → ⊥ = (λ at. outside (subst (λ (d : Extent). HasWord d x) (one taken.0 taken.1 at) taken.2)) in
     (taken.0, contains_filter es e.place taken.0 other taken.1, taken.2)
 
 takes_less : (es : List Extent) (e : Extent) → LieApart es → Contains es e → 0 < e.size

@@ -3,7 +3,7 @@ use Rattle.std.proofs.Common.{◌≡◌, ℕ, ◌+◌, ◌-◌, ◌*◌, ◌/◌
 use Rattle.std.proofs.lemmas.Bool.{cases_order, cases_lt, cases_Bool, and_parts, and_from, leb-true, ltb-true, le-leb, lt-ltb}
 use Rattle.std.proofs.lemmas.Nat.{mod_below}
 use Rattle.std.proofs.Math.Nat.{mul-le-mul_right, add-mul, one-mul, div-mul-le_self, div-add-mod}
-use Rattle.gc_graph.specs.Placement.{Extent, Covers}
+use Rattle.gc_graph.specs.Placement.{Extent, HasWord}
 use Rattle.page_space.specs.Pages.{is_between, is_in_page}
 
 pub next_page : (w page : ℕ) → (page + 1) * w ≡ page * w + w
@@ -61,7 +61,7 @@ page_is w page a some first last =
     same_page w (a / w) page a own.0 own.1 first last
 
 -- an object with a word in the page
-pub in_page_from : (w page : ℕ) (e : Extent) (a : ℕ) → 0 < w → Covers e a → page * w ≤ a → a < (page + 1) * w → is_in_page w page e ≡ true
+pub in_page_from : (w page : ℕ) (e : Extent) (a : ℕ) → 0 < w → HasWord e a → page * w ≤ a → a < (page + 1) * w → is_in_page w page e ≡ true
 in_page_from w page e a some covers first last =
     let from : e.place ≤ a = covers.0 in
     let to : a < e.place + e.size = covers.1 in
@@ -70,7 +70,7 @@ in_page_from w page e a some covers first last =
     (omega (arith, page_order w a (e.place + e.size - 1) some (omega arith)))
 
 pub in_page_word : (w page : ℕ) (e : Extent) → 0 < w → 0 < e.size → is_in_page w page e ≡ true
-    → (a : ℕ) × Covers e a × (page * w ≤ a) × (a < (page + 1) * w)
+    → (a : ℕ) × HasWord e a × (page * w ≤ a) × (a < (page + 1) * w)
 in_page_word w page e some size h =
     let parts : (e.place / w ≤ page) × (page < (e.place + e.size - 1) / w + 1) = between_parts _ _ page h in
     let own : (e.place / w * w ≤ e.place) × (e.place < (e.place / w + 1) * w) = page_of w e.place some in

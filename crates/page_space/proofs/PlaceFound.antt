@@ -4,7 +4,7 @@ use Rattle.std.specs.List.{Contains}
 use Rattle.std.specs.Option.{IfNone}
 use Rattle.std.proofs.lemmas.Bool.{cases_order, cases_lt, cases_Bool, ltb-true, lt-ltb, le-leb}
 use Rattle.gc_graph.specs.State.{Shape}
-use Rattle.gc_graph.specs.Placement.{Extent, HasBucket, IsLowest, IsNowhere, bucket_of}
+use Rattle.gc_graph.specs.Placement.{Extent, PageHasBucket, IsLowest, IsNowhere, bucket_of}
 use Rattle.page_words.specs.Bodies.{Body, end_of}
 use Rattle.page_space.specs.Pages.{is_in_page}
 use Rattle.page_space.specs.Space.{SpaceView, IsSpaceOver, FitsIn, FitsBetween, HoldsWhole, extent_of, extents_of_bodies}
@@ -13,14 +13,14 @@ use Rattle.page_space.proofs.PageSpan.{page_before, same_page, in_page_from}
 use Rattle.page_space.proofs.PlaceBodies.{contains_map}
 
 run_of_gap : (shape : Shape) (bodies : List Body) (size page a : ℕ)
-    → HasBucket shape.page_words (extents_of_bodies bodies) page (bucket_of shape.page_words size) → IsGap shape (extents_of_bodies bodies) size page a → FitsIn shape bodies size page a
+    → PageHasBucket shape.page_words (extents_of_bodies bodies) page (bucket_of shape.page_words size) → IsGap shape (extents_of_bodies bodies) size page a → FitsIn shape bodies size page a
 run_of_gap shape bodies size page a bucket gap = record { bucket = bucket; first = gap.first; last = gap.last; free = gap.free }
 
 pub gap_of_run : (shape : Shape) (bodies : List Body) (size page a : ℕ) → FitsIn shape bodies size page a → IsGap shape (extents_of_bodies bodies) size page a
 gap_of_run shape bodies size page a run = record { first = run.first; last = run.last; free = run.free }
 
 pub fits_in_found : (shape : Shape) (bodies : List Body) (size page a : ℕ)
-    → HasBucket shape.page_words (extents_of_bodies bodies) page (bucket_of shape.page_words size)
+    → PageHasBucket shape.page_words (extents_of_bodies bodies) page (bucket_of shape.page_words size)
     → IsLowest (IsGap shape (extents_of_bodies bodies) size page) a → IsLowest (FitsIn shape bodies size page) a
 fits_in_found shape bodies size page a bucket low = (
   run_of_gap shape bodies size page a bucket low.0,
@@ -80,7 +80,7 @@ large_bucket w size large = ap (λ t. cond t 4 (cond (leb 16 size) 3 (cond (leb 
 -- in a page with the bucket of a small size each body lies whole
 pub page_holds_whole : (space : SpaceView) (count : ℕ) (bodies : List Body) (size page : ℕ) → 0 < space.shape.page_words
     → IsSpaceOver space count (extents_of_bodies bodies) → size ≤ space.shape.page_words / 2
-    → HasBucket space.shape.page_words (extents_of_bodies bodies) page (bucket_of space.shape.page_words size) → HoldsWhole space.shape bodies page
+    → PageHasBucket space.shape.page_words (extents_of_bodies bodies) page (bucket_of space.shape.page_words size) → HoldsWhole space.shape bodies page
 page_holds_whole space count bodies size page some over small has b a there from to first last =
     let w : ℕ = space.shape.page_words in
     let e : Extent = extent_of b in

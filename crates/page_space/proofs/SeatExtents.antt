@@ -2,7 +2,7 @@
 use Rattle.std.proofs.Common.{◌≡◌, ℕ, ◌+◌, not, List, [], ◌∷◌, map, refl, sym, ap, ◌∙◌, subst, inl, inr, cond, eqb, leb, ltb, ◌&&◌, ◌-◌, set}
 use Rattle.std.specs.List.{Contains, filter}
 use Rattle.std.proofs.lemmas.Bool.{cases_Bool}
-use Rattle.gc_graph.specs.Placement.{Extent, Covers}
+use Rattle.gc_graph.specs.Placement.{Extent, HasWord}
 use Rattle.page_words.specs.Bodies.{Body, end_of, with_word}
 use Rattle.page_words.specs.Seat.{SeatView, IsView}
 use Rattle.page_space.specs.Space.{SpaceView, IsSpaceOver, IsSpaceOf, extent_of, extents_of_bodies}
@@ -14,8 +14,8 @@ pub seat_apart : (v : SeatView) → IsView v → LieApart (extents_of_bodies v.b
 seat_apart v view d e x d_there e_there d_covers e_covers =
     let b : (b : Body) × Contains v.bodies b × (extent_of b ≡ d) = body_of_extent v.bodies d d_there in
     let c : (c : Body) × Contains v.bodies c × (extent_of c ≡ e) = body_of_extent v.bodies e e_there in
-    let on_b : Covers (extent_of b.0) x = subst (λ (f : Extent). Covers f x) (sym b.2) d_covers in
-    let on_c : Covers (extent_of c.0) x = subst (λ (f : Extent). Covers f x) (sym c.2) e_covers in
+    let on_b : HasWord (extent_of b.0) x = subst (λ (f : Extent). HasWord f x) (sym b.2) d_covers in
+    let on_c : HasWord (extent_of c.0) x = subst (λ (f : Extent). HasWord f x) (sym c.2) e_covers in
     sym b.2 ∙ ap extent_of (view.apart b.0 c.0 x b.1 c.1 on_b.0 on_b.1 on_c.0 on_c.1) ∙ c.2
 
 pub extents_filter : (bodies : List Body) (a : ℕ) → extents_of_bodies (filter (λ (b : Body). not (eqb b.place a)) bodies) ≡ filter (others a) (extents_of_bodies bodies)

@@ -6,7 +6,7 @@ use Rattle.std.proofs.lemmas.List.{length-map, get_or-map, get_or_past}
 use Rattle.std.proofs.lemmas.List.Sums.{sum_by-cons, count_by-le-length}
 use Rattle.std.proofs.Math.Nat.{mul-le-mul_right}
 use Rattle.gc_graph.specs.State.{Shape}
-use Rattle.gc_graph.specs.Placement.{Extent, Covers, HasBucket, UsesPage, IsUsedPages, StartsEmptyRun, IsNowhere}
+use Rattle.gc_graph.specs.Placement.{Extent, HasWord, PageHasBucket, UsesPage, IsUsedPages, StartsEmptyRun, IsNowhere}
 use Rattle.page_space.specs.Pages.{is_in_page, count_in_use}
 use Rattle.page_space.specs.Space.{SpaceView, IsSpaceOver}
 use Rattle.page_space.proofs.PageSpan.{in_page_from, in_page_word}
@@ -45,7 +45,7 @@ held_is_used space count es page words over within =
     let held : get_or space.table.objects page 0 ≡ count_by (is_in_page w page) es = over.held page within in (
       (λ some.
           let one : (e : Extent) × Contains es e × (is_in_page w page e ≡ true) = some_counted (is_in_page w page) es (omega arith) in
-          let word : (a : ℕ) × Covers one.0 a × (page * w ≤ a) × (a < (page + 1) * w) = in_page_word w page one.0 words (sizes_of space count es over one.0 one.1) one.2 in
+          let word : (a : ℕ) × HasWord one.0 a × (page * w ≤ a) × (a < (page + 1) * w) = in_page_word w page one.0 words (sizes_of space count es over one.0 one.1) one.2 in
           (word.0, word.2, word.3, (one.0, one.1, word.1))),
       (λ uses.
           let e_in : is_in_page w page uses.3.0 ≡ true = in_page_from w page uses.3.0 uses.0 words uses.3.2 uses.1 uses.2 in
@@ -53,18 +53,18 @@ held_is_used space count es page words over within =
     )
 
 pub bucket_of_held : (space : SpaceView) (count : ℕ) (es : List Extent) (page bucket : ℕ) → 0 < space.shape.page_words → IsSpaceOver space count es → page < space.shape.pages → 0 < get_or space.table.objects page 0
-    → (get_or space.table.buckets page 0 ≡ bucket) ↔ HasBucket space.shape.page_words es page bucket
+    → (get_or space.table.buckets page 0 ≡ bucket) ↔ PageHasBucket space.shape.page_words es page bucket
 bucket_of_held space count es page bucket words over within some =
     let w : ℕ = space.shape.page_words in (
       (λ is.
           let held : get_or space.table.objects page 0 ≡ count_by (is_in_page w page) es = over.held page within in
           let one : (e : Extent) × Contains es e × (is_in_page w page e ≡ true) = some_counted (is_in_page w page) es (omega arith) in
-          let word : (a : ℕ) × Covers one.0 a × (page * w ≤ a) × (a < (page + 1) * w) = in_page_word w page one.0 words (sizes_of space count es over one.0 one.1) one.2 in
+          let word : (a : ℕ) × HasWord one.0 a × (page * w ≤ a) × (a < (page + 1) * w) = in_page_word w page one.0 words (sizes_of space count es over one.0 one.1) one.2 in
           (one.0, word.0, one.1, word.1, word.2, word.3, sym (over.buckets page one.0 one.1 one.2) ∙ is)),
       (λ has. over.buckets page has.0 has.2 (in_page_from w page has.0 has.1 words has.3 has.4 has.5) ∙ has.6),
     )
 
-pub uses_of_bucket : (shape : Shape) (es : List Extent) (page bucket : ℕ) → HasBucket shape.page_words es page bucket → UsesPage shape es page
+pub uses_of_bucket : (shape : Shape) (es : List Extent) (page bucket : ℕ) → PageHasBucket shape.page_words es page bucket → UsesPage shape es page
 uses_of_bucket shape es page bucket has = (has.1, has.4, has.5, (has.0, has.2, has.3))
 
 count_flags : (xs : List ℕ) → count_in_use xs ≡ count_by (λ (flag : Bool). flag) (map (λ n. ltb 0 n) xs)

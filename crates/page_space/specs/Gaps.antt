@@ -1,7 +1,7 @@
 -- What a space remembers of its gaps, the words of a page that belong to no object.
 use Rattle.std.specs.Prelude.{◌≡◌, ℕ, ◌+◌, ◌*◌, ◌<◌, ◌≤◌, true, false, Bool, List, [], length, slice_index, slice_index_or, Contains}
 use Rattle.gc_graph.specs.State.{Shape}
-use Rattle.gc_graph.specs.Placement.{Extent, IsTaken, HasBucket, bucket_of}
+use Rattle.gc_graph.specs.Placement.{Extent, IsTaken, PageHasBucket, bucket_of}
 
 -- for each page how long a gap can be that begins in each of its blocks, the lowest word that may be free, and whether
 -- these hold; and for each size up to 63 the lowest page worth a look
@@ -54,5 +54,5 @@ pub record KnowsGaps (shape : Shape) (extents : List Extent) (gaps : GapTable) :
   pub bounded : (page k : ℕ) → is_surveyed gaps page ≡ true → IsBounded shape extents gaps page k
   pub low : (page : ℕ) → is_surveyed gaps page ≡ true → IsFullBelow shape extents page (slice_index gaps.low page)
   pub worth :
-      (page size : ℕ) → size ≤ 63 → page < slice_index gaps.first size → HasBucket shape.page_words extents page (bucket_of shape.page_words size)
+      (page size : ℕ) → size ≤ 63 → page < slice_index gaps.first size → PageHasBucket shape.page_words extents page (bucket_of shape.page_words size)
       → (is_surveyed gaps page ≡ true) × IsTooFull gaps page size

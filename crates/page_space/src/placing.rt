@@ -3,7 +3,7 @@
 
 ghost use Rattle.std.specs.Prelude.{◌≡◌, ◌*◌, ◌/◌, ◌^◌, ◌<◌, ◌≤◌, true};
 ghost use Rattle.std.specs.Prelude.{◌↔◌, IsTrue, IfSome, IfNone};
-ghost use Rattle.gc_graph.specs.Placement.{StartsEmptyRun, IsPageCount, HasBucket};
+ghost use Rattle.gc_graph.specs.Placement.{StartsEmptyRun, IsPageCount, PageHasBucket};
 ghost use Rattle.gc_graph.specs.Placement.{IsLowest, IsNowhere, bucket_of};
 ghost use Rattle.page_space.specs.Space.{IsSpaceOf, FitsBetween, FitsIn};
 ghost use Rattle.page_space.specs.Space.{HoldsWhole, SinceEmpty};
@@ -119,7 +119,7 @@ impl Space {
         requires space { IsSpaceOf self.now seat.old }
         requires page { page < self.now.shape.pages }
         ensures bucket { IsTrue result
-            ↔ HasBucket self.now.shape.page_words (extents_of_bodies seat.old.bodies) page bucket }
+            ↔ PageHasBucket self.now.shape.page_words (extents_of_bodies seat.old.bodies) page bucket }
         ensures view { seat.new ≡ seat.old }
     {
         match self.page_bucket(seat, page) {

@@ -2,7 +2,7 @@
 
 ghost use Rattle.std.specs.Prelude.{◌≡◌, ℕ, ◌*◌, ◌^◌, ◌<◌, ◌≤◌};
 ghost use Rattle.std.specs.Prelude.{◌↔◌, IfOk, Some, None, length, sum_by};
-ghost use Rattle.gc_graph.specs.Placement.{HasBucket, IsEmptyPage, IsUsedPages, bucket_of};
+ghost use Rattle.gc_graph.specs.Placement.{PageHasBucket, IsEmptyPage, IsUsedPages, bucket_of};
 ghost use Rattle.page_words.specs.Seat.{SeatView, empty_view, stored};
 ghost use Rattle.page_space.specs.Pages.{IsShape, IsPageWords, word_count};
 ghost use Rattle.page_space.specs.Space.{IsSpaceOf, extents_of_bodies};
@@ -149,7 +149,7 @@ impl Space {
         requires space { IsSpaceOf self.now seat.old }
         requires page { page < self.now.shape.pages }
         ensures bucket { (bucket : ℕ) → (result ≡ Some bucket)
-            ↔ HasBucket self.now.shape.page_words (extents_of_bodies seat.old.bodies) page bucket }
+            ↔ PageHasBucket self.now.shape.page_words (extents_of_bodies seat.old.bodies) page bucket }
         ensures none { (result ≡ None)
             ↔ IsEmptyPage self.now.shape (extents_of_bodies seat.old.bodies) page }
         ensures view { seat.new ≡ seat.old }

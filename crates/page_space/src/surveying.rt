@@ -1,7 +1,7 @@
 // Bounds for the gaps of a page, worked out from its objects, and the lowest page worth a look.
 
 ghost use Rattle.std.specs.Prelude.{◌≡◌, ℕ, ◌+◌, ◌*◌, ◌/◌, ◌<◌, ◌≤◌, true, false};
-ghost use Rattle.gc_graph.specs.Placement.{HasBucket, bucket_of};
+ghost use Rattle.gc_graph.specs.Placement.{PageHasBucket, bucket_of};
 ghost use Rattle.page_space.specs.Pages.{word_count};
 ghost use Rattle.page_space.specs.Space.{IsSpaceOf, extents_of_bodies};
 ghost use Rattle.page_space.specs.Gaps.{IsBounded, IsFullBelow, IsTooFull, is_surveyed, bound_at};
@@ -216,7 +216,7 @@ impl Space {
     fn first_worth(&self, seat: &mut MutatorSeat, from: u32, to: u32, size: u32) -> u32
         requires space { IsSpaceOf self.now seat.old }
         requires to { to ≤ self.now.shape.pages }
-        ensures passed { (page : ℕ) → from ≤ page → page < result → HasBucket
+        ensures passed { (page : ℕ) → from ≤ page → page < result → PageHasBucket
             self.now.shape.page_words (extents_of_bodies seat.old.bodies) page
             (bucket_of self.now.shape.page_words size)
             → (is_surveyed self.now.gaps page ≡ true) × IsTooFull self.now.gaps page size }
@@ -234,7 +234,7 @@ impl Space {
     fn is_worth(&self, seat: &mut MutatorSeat, page: u32, size: u32) -> bool
         requires space { IsSpaceOf self.now seat.old }
         requires page { page < self.now.shape.pages }
-        ensures worth { result ≡ false → HasBucket self.now.shape.page_words
+        ensures worth { result ≡ false → PageHasBucket self.now.shape.page_words
             (extents_of_bodies seat.old.bodies) page (bucket_of self.now.shape.page_words size)
             → (is_surveyed self.now.gaps page ≡ true) × IsTooFull self.now.gaps page size }
         ensures view { seat.new ≡ seat.old }

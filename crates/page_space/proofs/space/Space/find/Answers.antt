@@ -1,5 +1,5 @@
 use Rattle.std.proofs.Common.{◌≡◌, ℕ, ◌-◌, ◌*◌, ◌/◌, ◌≤◌, get_or, refl, inl, ap, sym, subst, ◌∙◌, arith, below_more}
-use Rattle.gc_graph.specs.Placement.{HasBucket, IsNowhere, bucket_of}
+use Rattle.gc_graph.specs.Placement.{PageHasBucket, IsNowhere, bucket_of}
 use Rattle.page_space.specs.Pages.{IsShape}
 use Rattle.page_space.specs.Space.{FitsIn, extents_of_bodies}
 use Rattle.page_space.proofs.PlaceFound.{fits_found, fits_none, gap_of_run, bucket_remembered}
@@ -19,7 +19,7 @@ loop-page-init c = record {
       let same : bucket_of now.shape.page_words c.min.result ≡ bucket_of now.shape.page_words c.args.size =
       bucket_remembered now.shape.page_words c.args.size c.min.result words.0 (omega (arith, c.if-size-self.false)) c.min.ensures in
       let full = c.requires.space.gaps.worth other c.min.result (omega (arith, c.min.ensures)) (omega (arith, c.max-page.ensures))
-      (subst (HasBucket now.shape.page_words (extents_of_bodies c.args.seat.now.bodies) other) (sym same) run.bucket) in
+      (subst (PageHasBucket now.shape.page_words (extents_of_bodies c.args.seat.now.bodies) other) (sym same) run.bucket) in
       let gap = gap_of_run now.shape c.args.seat.now.bodies c.args.size other a run in
       let k : ℕ = (a - other * now.shape.page_words) / 64 in
       omega (arith, c.requires.space.gaps.bounded other k full.0 c.args.size a gap (in_block now.shape other a gap.first), full.1 k, c.min.ensures);

@@ -1,7 +1,7 @@
 use Rattle.std.proofs.Common.{◌≡◌, ◌∙◌, inl, inr, arith}
 use Rattle.std.proofs.lemmas.Bool.{cases_eq}
 use Rattle.std.proofs.Common.{subst, sym, true}
-use Rattle.gc_graph.specs.Placement.{HasBucket, bucket_of}
+use Rattle.gc_graph.specs.Placement.{PageHasBucket, bucket_of}
 use Rattle.page_space.specs.Gaps.{IsTooFull, is_surveyed}
 use Rattle.page_space.specs.Space.{extents_of_bodies}
 use Rattle.page_space.proofs.space.Space.first_worth.Goals as goal
@@ -14,7 +14,7 @@ loop-page-preserved c =
       passed = λ q low high bucket. elim (cases_eq c.loop-page.page q) [
         | inl here ↦
             subst (λ p. (is_surveyed c.args.self.now.gaps p ≡ true) × IsTooFull c.args.self.now.gaps p c.args.size) here
-            (worth c.if-is_worth.false (subst (λ p. HasBucket c.args.self.now.shape.page_words (extents_of_bodies c.args.seat.now.bodies) p (bucket_of c.args.self.now.shape.page_words c.args.size)) (sym here) bucket))
+            (worth c.if-is_worth.false (subst (λ p. PageHasBucket c.args.self.now.shape.page_words (extents_of_bodies c.args.seat.now.bodies) p (bucket_of c.args.self.now.shape.page_words c.args.size)) (sym here) bucket))
         | inr earlier ↦ c.loop-page.invariant.passed q low (omega (arith, earlier)) bucket
       ];
     }
