@@ -20,7 +20,7 @@ use Rattle.gc_graph.specs.CycleSteps.{IsStart, IsBegun, is_marking, is_stack_ref
 use Rattle.gc_graph.proofs.Reaching.{reach_law, reach_length}
 use Rattle.gc_graph.proofs.Follows.{follow_from}
 use Rattle.gc_graph.proofs.Sound.{RegionNames, slots_from, words_from, found, held_to, all_left, all_right, kinds_at, IsRoot, IsSound}
-use Rattle.gc_graph.proofs.WeakReads.{refers_within, below_if_live}
+use Rattle.gc_graph.proofs.WeakReads.{refers_within, below_if_live, reached_live}
 use Rattle.gc_graph.proofs.ValidCases.{bool_is, landed, refused_sound}
 use Rattle.gc_graph.proofs.ValidHandles.{Root}
 use Rattle.gc_graph.proofs.ValidRegion.{entry_sound, others_sound, took_own, took_nodes, took_phase}
@@ -76,6 +76,7 @@ module _ (setup : Setup) (s : State) (g : IsSound setup s) where
     settled = subst (λ phase. IsSettled setup.shape phase s.cursor s.nodes) idle g.settled;
     may = record {
       follows = follow_from s.nodes Reached (λ m. (length s.nodes, kinds_at setup s.nodes g.heap.typed m)) reached_law.closed;
+      live = reached_live setup s.nodes (roots_of s) g.heap reached_law (roots_live setup s g);
       whole = reach_length (graph_of s.nodes) (roots_of s) ∙ length-map s.nodes (λ (x : Node). x.object);
     };
   }
@@ -91,7 +92,7 @@ start_sound setup swept new piece g idle h =
 memory_keeps : (setup : Setup) (old new : State) (piece : List Entry) (lines : List Line) → IsSound setup old → WantsMemory old piece lines new → IsSound setup new
 memory_keeps setup old new piece lines g h = landed setup new (answered old) h.1.1 g
 
-ended_sound : (setup : Setup) (old swept : State) (numbers : List ℕ) → IsSound setup old → SweepsTo setup.shape old setup.shape.pages numbers swept → IsSound setup swept
+pub ended_sound : (setup : Setup) (old swept : State) (numbers : List ℕ) → IsSound setup old → SweepsTo setup.shape old setup.shape.pages numbers swept → IsSound setup swept
 ended_sound setup old swept numbers g h = sweeps_sound setup old swept old.phase setup.shape.pages numbers g (omega arith) h
 
 begun_sound : (setup : Setup) (old new : State) (piece : List Entry) (lines : List Line) → is_marking old.phase ≡ false → IsSound setup old

@@ -17,12 +17,20 @@ use Rattle.gc_graph.specs.May.{members}
 use Rattle.gc_graph.specs.History.{weak_target}
 use Rattle.gc_graph.specs.Actions.{shown_words, action_of, acted}
 
--- a pause keeps a closed set, which holds what the roots and the hits reach, and lies in what they and the nodes that
--- may be kept reach (atomic, incremental and concurrent garbage collection, `include/cppgc/README.md`)
+-- the least that a pause keeps: what the roots and the hits reach
+abbrev pub least_kept : State → List ℕ → List Bool
+least_kept s hits = Reach (graph_of s.nodes) (roots_of s ++ hits)
+
+-- the most that it keeps: what the nodes that may be kept and the hits reach
+abbrev pub most_kept : State → List ℕ → List Bool
+most_kept s hits = Reach (graph_of s.nodes) (members s.may ++ hits)
+
+-- a pause keeps a closed set between the two (atomic, incremental and concurrent garbage collection,
+-- `include/cppgc/README.md`)
 pub record IsKept (s : State) (hits : List ℕ) (kept : List Bool) : Type 0 where
   pub closed : IsClosed (graph_of s.nodes) kept
-  pub reached : IsWithin (Reach (graph_of s.nodes) (roots_of s ++ hits)) kept
-  pub bounded : IsWithin kept (Reach (graph_of s.nodes) (members s.may ++ hits))
+  pub reached : IsWithin (least_kept s hits) kept
+  pub bounded : IsWithin kept (most_kept s hits)
 
 -- a live node that isn't kept is condemned
 abbrev pub judged : Bool → Life → Life
