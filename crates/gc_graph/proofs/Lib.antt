@@ -35,6 +35,8 @@ mod NewObjects
 mod ValidNew
 mod MayRuns
 mod MayLaws
+mod Collections
+mod KeptBounds
 mod ValidSteps
 mod Decimals
 mod LineParts

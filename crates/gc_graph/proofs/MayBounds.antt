@@ -44,7 +44,7 @@ ranged from (suc count) n test e =
     passed (test from) from n (filter test (range_with_len (from + 1) count)) (n < from + suc count) (λ h. omega arith)
     (λ l. (let b = ranged (from + 1) count n test l in omega arith)) e
 
-hits_below : (want : Want) (s : State) (n : ℕ) → list_any (λ r. r == n) (hits_for want s) ≡ true → n < length s.nodes
+pub hits_below : (want : Want) (s : State) (n : ℕ) → list_any (λ r. r == n) (hits_for want s) ≡ true → n < length s.nodes
 hits_below Precise s n e = absurd (true≢false (sym e))
 hits_below Conservative s n e = (let l = ranged 0 (length s.nodes) n (is_hit s.nodes s.stack) e in omega arith)
 

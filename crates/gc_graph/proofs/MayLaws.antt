@@ -1,11 +1,12 @@
 -- The bound of what may be kept, command by command and over runs.
-use Rattle.std.proofs.Common.{◌≡◌, ◌⊎◌, nat_lt, ℕ, ◌+◌, ◌<◌, true, List, [], ◌∷◌, ◌++◌, length, All, None, refl, sym, ap, ◌∙◌, subst, inl, inr, arith, append_assoc}
+use Rattle.std.proofs.Common.{◌≡◌, ◌⊎◌, nat_lt, ℕ, ◌+◌, ◌<◌, true, false, List, [], ◌∷◌, ◌++◌, length, All, None, refl, sym, ap, ◌∙◌, subst, inl, inr, arith, append_assoc}
 use Rattle.std.specs.List.{slice_get}
 use Rattle.std.proofs.lemmas.List.{append-nil}
 use Rattle.std.proofs.lemmas.List.Elements.{All-head, All-tail}
 use Rattle.gc_graph.specs.declared.command.Command.{Command}
 use Rattle.gc_graph.specs.declared.command.Command.TheVariants as C
 use Rattle.gc_graph.specs.declared.graph.Value.TheVariants.{Null}
+use Rattle.gc_graph.specs.declared.command.Want.{Want}
 use Rattle.gc_graph.specs.declared.line.Line.{Line}
 use Rattle.gc_graph.specs.declared.line.Refusal.TheVariants as R
 use Rattle.gc_graph.specs.declared.phase.Phase.TheVariants.{Idle, Marking}
@@ -148,13 +149,13 @@ module _ (setup : Setup) (start : State) (begun : HasStarted setup start) where
   }
 
 -- marking goes on after a run, and its last state is valid
-run_marking : (old : State) (outcomes : List Outcome) → old.phase ≡ Marking → All (λ (o : Outcome). o.state.phase ≡ Marking) outcomes
+pub run_marking : (old : State) (outcomes : List Outcome) → old.phase ≡ Marking → All (λ (o : Outcome). o.state.phase ≡ Marking) outcomes
     → (last_state old outcomes).phase ≡ Marking
 run_marking old [] on going = on
 run_marking old (o ∷ os) on going =
     run_marking o.state os (All-head (λ (x : Outcome). x.state.phase ≡ Marking) o os going) (All-tail (λ (x : Outcome). x.state.phase ≡ Marking) o os going)
 
-run_valid : StepKeepsValid → (setup : Setup) → 0 < setup.shape.pages → (old : State) (commands : List Command) (outcomes : List Outcome)
+pub run_valid : StepKeepsValid → (setup : Setup) → 0 < setup.shape.pages → (old : State) (commands : List Command) (outcomes : List Outcome)
     → IsValid setup old → All (IsAllowed (length setup.types)) commands → Run setup old commands outcomes → IsValid setup (last_state old outcomes)
 run_valid law setup some old [] [] valid allowed run = valid
 run_valid law setup some old [] (o ∷ os) valid allowed run = absurd run
@@ -210,6 +211,12 @@ starts_have_started setup old new piece lines valid h =
           (ended_phase setup.shape old begun.swept old.phase begun.numbers refl e begun.ended) begun.start))))
     ]) h
 
+pub collection_started : (setup : Setup) (want : Want) (old new : State) (piece : List Entry) (lines : List Line) → IsSound setup old
+    → is_marking old.phase ≡ false → (done : IsCollection setup want old piece lines new) → HasStarted setup done.started
+collection_started setup want old new piece lines sound e done =
+    has_started setup done.swept done.started done.first (ended_sound setup old done.swept done.numbers sound done.ended)
+    (ended_phase setup.shape old done.swept old.phase done.numbers refl e done.ended) done.start
+
 pub collections_have_started : CollectionsHaveStarted
 collections_have_started setup want old new piece lines valid h =
     let Q : Type 0 = IsRefused R.Phase old lines new ⊎ (IsRefused R.Stack old lines new
@@ -221,7 +228,6 @@ collections_have_started setup want old new piece lines valid h =
       | inr done ↦
           inr (inr (inr (
             done,
-            has_started setup done.swept done.started done.first (ended_sound setup old done.swept done.numbers (sound_from setup old valid) done.ended)
-                (ended_phase setup.shape old done.swept old.phase done.numbers refl e done.ended) done.start,
+            collection_started setup want old new piece lines (sound_from setup old valid) e done,
           )))
     ]) d) h

@@ -115,10 +115,10 @@ not_dead false e = refl
 -- ---- the pause in whole
 
 module _ (setup : Setup) (s : State) (want : Want) (kept : List Bool) (g : IsSound setup s) (keeps : IsKept s (hits_for want s) kept) where
-  abbrev Judged : List Node
+  abbrev pub Judged : List Node
   Judged = condemn kept s.nodes
 
-  abbrev Left : List Node
+  abbrev pub Left : List Node
   Left = nodes_after_pause setup.callbacks s.registrations Judged
 
   follows_kept : AllFollow s.nodes kept
@@ -129,7 +129,7 @@ module _ (setup : Setup) (s : State) (want : Want) (kept : List Bool) (g : IsSou
       prefinalised_kept setup setup.callbacks (run_order Judged s.registrations) (clear_fields Judged)
       (cleared_heap setup kept s.nodes g.heap follows_kept)
 
-  look : LookSame Judged Left
+  pub look : LookSame Judged Left
   look = look_more Judged (clear_fields Judged) Left (cleared_look setup kept s.nodes g.heap follows_kept) order.look
 
   abbrev After : ℕ → Type 0

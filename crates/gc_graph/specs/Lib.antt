@@ -25,6 +25,7 @@ pub mod Report
 pub mod ReadBack
 pub mod ValidLaw
 pub mod MayLaw
+pub mod CollectionLaw
 pub mod RefusalLaw
 pub mod PlacementLaw
 pub mod HistoryLaw

@@ -11,8 +11,9 @@
 //! `Graph` and `reach_check`, by which a program checks a set of nodes; `laws`. The definitions
 //! stand in `specs/`, to be read in the order of `specs/Lib.antt`.
 //!
-//! What is proved: the laws of `reach` and `laws`, each the contract of a function that does
-//! nothing, and that `reach_check` is true exactly where a set holds the roots and is closed.
+//! What is proved: the laws of `reach`, `laws` and `laws_of_marking`, each the contract of a function
+//! that does nothing, and that `reach_check` is true exactly where a set holds the roots and is
+//! closed.
 //!
 //! What is only tested or not said: the definitions are what a reader has to believe. The tests
 //! of the program compare them with reports that were written by hand.
@@ -24,6 +25,7 @@ mod command;
 mod graph;
 mod graphs;
 mod laws;
+mod laws_of_marking;
 mod line;
 mod members;
 mod memory;
@@ -43,6 +45,7 @@ pub use laws::{
     pause_bounds_meet, placement_is_free, refused_leaves_all, replies_are_of_one_thread,
     report_reads_back, runs_are_replayed, step_keeps_valid, sweeps_finalise_dead,
 };
+pub use laws_of_marking::{kept_is_accounted_for, precise_collection_is_exact};
 pub use line::{Line, Refusal};
 pub use memory::NoMemory;
 pub use phase::Phase;
