@@ -1,4 +1,5 @@
--- Reading a report back into its lines.
+-- Reading a report back into its lines. A search by the names and numbers of each line gives candidates, and nothing is
+-- claimed of it: lines are read where the text is just theirs.
 use Rattle.std.specs.Prelude.{◌≡◌, ℕ, ◌^◌, ◌<◌, ◌==◌, ◌&&◌, not, Bool, true, false, List, [], ◌∷◌, ◌++◌, filter, Option, Some, None, if◌then◌else◌, codes, All}
 use Rattle.std.specs.List.{filter_map, flat_map}
 use Rattle.gc_graph.specs.declared.line.Line.{Line}
@@ -10,7 +11,7 @@ use Rattle.gc_graph.specs.declared.region.Reply.{Reply}
 use Rattle.gc_graph.specs.declared.region.Reply.TheVariants as A
 use Rattle.gc_graph.specs.State.{ObjectType}
 use Rattle.gc_graph.specs.Words.{lines_of, words_of, is_text, is_number, number_below}
-use Rattle.gc_graph.specs.Report.{line_text, lines_bytes, type_lines, report_of}
+use Rattle.gc_graph.specs.Report.{lines_bytes, type_lines, report_of}
 
 -- ---- the words of a line are names and numbers
 
@@ -166,26 +167,28 @@ line_named (first ∷ second ∷ third ∷ fourth ∷ more) numbers = line_of_mo
 
 -- ---- whole texts
 
--- a line is read where its text is just this
-abbrev pub if_its_text : List ℕ → Option Line → Option Line
-if_its_text text None = None
-if_its_text text (Some read) = if is_text (line_text read) text then Some read else None
-
-abbrev pub read_line : List ℕ → Option Line
-read_line text = if_its_text text (line_named (names_in (words_of text)) (numbers_in (words_of text)))
+-- the only line that may have this text
+abbrev pub candidate : List ℕ → Option Line
+candidate text = line_named (names_in (words_of text)) (numbers_in (words_of text))
 
 abbrev pub with_line : Option Line → Option (List Line) → Option (List Line)
 with_line (Some first) (Some lines) = Some (first ∷ lines)
 with_line None lines = None
 with_line (Some first) None = None
 
-abbrev pub read_lines : List (List ℕ) → Option (List Line)
-read_lines [] = Some []
-read_lines (text ∷ texts) = with_line (read_line text) (read_lines texts)
+-- a candidate for each text, where all have one
+abbrev pub candidates : List (List ℕ) → Option (List Line)
+candidates [] = Some []
+candidates (text ∷ texts) = with_line (candidate text) (candidates texts)
 
--- the lines of a report, where each line of the text is one
+-- the candidates are taken where the text is just theirs
+abbrev pub if_its_text : List ℕ → Option (List Line) → Option (List Line)
+if_its_text text None = None
+if_its_text text (Some lines) = if is_text (lines_bytes lines) text then Some lines else None
+
+-- the lines whose text this is, with the end of each
 abbrev pub read_report : List ℕ → Option (List Line)
-read_report text = read_lines (lines_of text)
+read_report text = if_its_text text (candidates (lines_of text))
 
 -- ---- the numbers of a line
 
@@ -237,9 +240,15 @@ IsOf64Bits line = All (λ n. n < 2 ^ 64) (numbers_of line)
 
 -- ---- the laws
 
--- a text of lines is read back into these lines
+-- a text is read into lines only where it is the text of these lines, with the end of each, and always where it is that
+-- and their numbers have 64 bits
+pub record ReadsAsText (text : List ℕ) (lines : List Line) : Type 0 where
+  pub only : read_report text ≡ Some lines → text ≡ lines_bytes lines
+  pub always : All IsOf64Bits lines → text ≡ lines_bytes lines → read_report text ≡ Some lines
+
+-- so is each text
 abbrev pub LinesReadBack : Type 0
-LinesReadBack = (lines : List Line) → All IsOf64Bits lines → read_report (lines_bytes lines) ≡ Some lines
+LinesReadBack = (text : List ℕ) (lines : List Line) → ReadsAsText text lines
 
 -- a report is read back into the type lines, the lines of the outcomes in order, and the end line
 abbrev pub ReportReadsBack : Type 0

@@ -71,7 +71,8 @@ pub fn runs_are_replayed()
     ensures { RunsAreReplayed }
 {}
 
-/// A text of lines whose numbers have 64 bits is read back into these lines.
+/// A text is read back into lines only where it is the text of these lines, with the end of each, and
+/// always where it is that and their numbers have 64 bits.
 pub fn lines_read_back()
     ensures { LinesReadBack }
 {}
