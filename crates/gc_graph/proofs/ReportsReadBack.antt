@@ -111,8 +111,8 @@ outcome_lines (lines ∷ outcomes) =
     ap (λ text. lines_bytes lines ++ text) (outcome_lines outcomes)
     ∙ sym (flat_map-append line_bytes lines (flat_map (λ ls. ls) outcomes))
 
-pub report_reads_back : ReportReadsBack
-report_reads_back types outcomes end small_types small_outcomes small_end =
+pub report_reads_back : (T : Type 0) → ReportReadsBack T
+report_reads_back T types outcomes end small_types small_outcomes small_end =
     let first : List Line = type_lines 0 types in
     let middle : List Line = flat_map (λ lines. lines) outcomes in
     let whole : report_of types outcomes end ≡ lines_bytes (first ++ middle ++ end ∷ []) =

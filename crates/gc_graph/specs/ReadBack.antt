@@ -9,7 +9,6 @@ use Rattle.gc_graph.specs.declared.region.Op.{Op}
 use Rattle.gc_graph.specs.declared.region.Op.TheVariants as O
 use Rattle.gc_graph.specs.declared.region.Reply.{Reply}
 use Rattle.gc_graph.specs.declared.region.Reply.TheVariants as A
-use Rattle.gc_graph.specs.State.{ObjectType}
 use Rattle.gc_graph.specs.Words.{lines_of, words_of, is_text, is_number, number_below}
 use Rattle.gc_graph.specs.Report.{lines_bytes, type_lines, report_of}
 
@@ -250,9 +249,9 @@ pub record ReadsAsText (text : List ℕ) (lines : List Line) : Type 0 where
 abbrev pub LinesReadBack : Type 0
 LinesReadBack = (text : List ℕ) (lines : List Line) → ReadsAsText text lines
 
--- a report is read back into the type lines, the lines of the outcomes in order, and the end line
-abbrev pub ReportReadsBack : Type 0
-ReportReadsBack =
-    (types : List ObjectType) (outcomes : List (List Line)) (end : Line) → All IsOf64Bits (type_lines 0 types)
+-- a report over any list of types is read back into the type lines, the lines of the outcomes in order, and the end line
+abbrev pub ReportReadsBack : Type 0 → Type 0
+ReportReadsBack T =
+    (types : List T) (outcomes : List (List Line)) (end : Line) → All IsOf64Bits (type_lines 0 types)
     → All IsOf64Bits (flat_map (λ lines. lines) outcomes) → IsOf64Bits end
     → read_report (report_of types outcomes end) ≡ Some (type_lines 0 types ++ flat_map (λ lines. lines) outcomes ++ end ∷ [])

@@ -77,7 +77,8 @@ pub fn lines_read_back()
     ensures { LinesReadBack }
 {}
 
-/// A report is read back into the lines of the types, of the outcomes in order, and of the end.
-pub fn report_reads_back()
-    ensures { ReportReadsBack }
+/// A report, over any list of types, is read back into the lines of the types, of the outcomes in
+/// order, and of the end.
+pub fn report_reads_back<T>()
+    ensures { ReportReadsBack T }
 {}
