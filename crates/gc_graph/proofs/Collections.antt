@@ -39,7 +39,7 @@ nobody s (entry ∷ entries) none h =
     let one : Contains s.running entry.thread = (h 0 entry (omega arith)).0 in
     absurd (let l = (subst (λ threads. Contains threads entry.thread) none one).1 in omega arith)
 
-took_running : (s : State) (entries : List Entry) → (took s entries).running ≡ s.running
+pub took_running : (s : State) (entries : List Entry) → (took s entries).running ≡ s.running
 took_running s [] = refl
 took_running s (entry ∷ entries) = took_running (with_entry s entry) entries
 
@@ -106,10 +106,10 @@ started_is setup swept new piece none h =
 
 -- ---- the pause
 
--- a node's life after a pause
-pub paused_life : (setup : Setup) (markers : ℕ) (want : Want) (old new : State) (piece : List Entry) (lines : List Line) → IsSound setup old
-    → (p : IsPause setup markers want old piece lines new) → (n : ℕ) → (node_at new.nodes n).life ≡ judged (has p.kept n) (node_at old.nodes n).life
-paused_life setup markers want old new piece lines sound p n =
+-- the nodes after a pause
+pub paused_look : (setup : Setup) (markers : ℕ) (want : Want) (old new : State) (piece : List Entry) (lines : List Line) → IsSound setup old
+    → (p : IsPause setup markers want old piece lines new) → LookSame (condemn p.kept old.nodes) new.nodes
+paused_look setup markers want old new piece lines sound p =
     let mid : State = took old p.before in
     let cleared = λ (nodes : List Node) (left : List Registration). nodes_after_pause setup.callbacks left (condemn p.kept nodes) in
     let same : LookSame (condemn p.kept mid.nodes) (cleared mid.nodes mid.registrations) =
@@ -120,7 +120,13 @@ paused_life setup markers want old new piece lines sound p n =
     let are : new.nodes ≡ cleared old.nodes old.registrations =
     ap (λ (s : State). s.nodes) p.after ∙ ap (cleared (took old piece).nodes) (took_registrations old piece)
     ∙ ap (λ nodes. cleared nodes old.registrations) (took_nodes old piece) in
-    ap (λ nodes. (node_at nodes n).life) are ∙ (here.like n).life ∙ ap (λ (x : Node). x.life) (condemned_at p.kept old.nodes n)
+    subst (LookSame (condemn p.kept old.nodes)) (sym are) here
+
+-- a node's life after a pause
+paused_life : (setup : Setup) (markers : ℕ) (want : Want) (old new : State) (piece : List Entry) (lines : List Line) → IsSound setup old
+    → (p : IsPause setup markers want old piece lines new) → (n : ℕ) → (node_at new.nodes n).life ≡ judged (has p.kept n) (node_at old.nodes n).life
+paused_life setup markers want old new piece lines sound p n =
+    ((paused_look setup markers want old new piece lines sound p).like n).life ∙ ap (λ (x : Node). x.life) (condemned_at p.kept old.nodes n)
 
 -- a precise pause of a collection that has just started, where no thread runs, keeps just what the roots reach
 precise_kept : (setup : Setup) (markers : ℕ) (old new : State) (piece : List Entry) (lines : List Line) → HasStarted setup old → old.running ≡ []

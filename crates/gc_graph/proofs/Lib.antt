@@ -42,3 +42,8 @@ mod Decimals
 mod LineParts
 mod ReadingBack
 mod ReportsReadBack
+mod SmallWords
+mod Few
+mod StepNumbers
+mod CycleNumbers
+mod ThreadNumbers

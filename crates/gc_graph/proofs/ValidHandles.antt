@@ -155,11 +155,11 @@ pop_keeps setup old new lines g h =
     (λ t d. landed setup new _ d.1 (stack_sound setup old (drop 1 old.stack) g (All-drop (WordNames (Root old)) 1 old.stack g.stack)))
     (λ f r. refused_sound setup old new lines R.Empty g r) h
 
-abbrev IfWord : (StackWord → Type 0) → Option StackWord → Type 0
+abbrev pub IfWord : (StackWord → Type 0) → Option StackWord → Type 0
 IfWord P None = ⊤
 IfWord P (Some word) = P word
 
-word_names : (P : StackWord → Type 0) (stack : List StackWord) (i : ℕ) → All P stack → IfWord P (slice_get stack i)
+pub word_names : (P : StackWord → Type 0) (stack : List StackWord) (i : ℕ) → All P stack → IfWord P (slice_get stack i)
 word_names P [] i h = tt
 word_names P (word ∷ stack) zero h = All-head P word stack h
 word_names P (word ∷ stack) (suc i) h = word_names P stack i (All-tail P word stack h)

@@ -29,3 +29,4 @@ pub mod CollectionLaw
 pub mod RefusalLaw
 pub mod PlacementLaw
 pub mod HistoryLaw
+pub mod NumbersLaw
