@@ -47,3 +47,4 @@ mod Few
 mod StepNumbers
 mod CycleNumbers
 mod ThreadNumbers
+mod RunNumbers

@@ -11,9 +11,9 @@
 //! `Graph` and `reach_check`, by which a program checks a set of nodes; `laws`. The definitions
 //! stand in `specs/`, to be read in the order of `specs/Lib.antt`.
 //!
-//! What is proved: the laws of `reach`, `laws` and `laws_of_marking`, each the contract of a function
-//! that does nothing, and that `reach_check` is true exactly where a set holds the roots and is
-//! closed.
+//! What is proved: the laws of `reach`, `laws`, `laws_of_marking` and `laws_of_reports`, each the
+//! contract of a function that does nothing, and that `reach_check` is true exactly where a set holds
+//! the roots and is closed. The laws of steps and runs ask for a heap that has a page.
 //!
 //! What is only tested or not said: the definitions are what a reader has to believe. The tests
 //! of the program compare them with reports that were written by hand.
@@ -26,6 +26,7 @@ mod graph;
 mod graphs;
 mod laws;
 mod laws_of_marking;
+mod laws_of_reports;
 mod line;
 mod members;
 mod memory;
@@ -46,6 +47,7 @@ pub use laws::{
     report_reads_back, runs_are_replayed, step_keeps_valid, sweeps_finalise_dead,
 };
 pub use laws_of_marking::{kept_is_accounted_for, precise_collection_is_exact};
+pub use laws_of_reports::{lines_have_numbers, run_reads_back};
 pub use line::{Line, Refusal};
 pub use memory::NoMemory;
 pub use phase::Phase;
