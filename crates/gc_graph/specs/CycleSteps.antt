@@ -37,11 +37,13 @@ pub record IsBegun (setup : Setup) (old : State) (piece : List Entry) (lines : L
   pub lines_are : lines ≡ finalise_lines numbers ++ L.Started ∷ []
   pub after : new ≡ answered started
 
+-- whether marking goes on
 abbrev pub is_marking : Phase → Bool
 is_marking Idle = false
 is_marking Marking = true
 is_marking Sweeping = false
 
+-- whether a sweep is open
 abbrev pub is_sweeping : Phase → Bool
 is_sweeping Idle = false
 is_sweeping Marking = false
@@ -102,6 +104,7 @@ abbrev pub is_stack_refused : Want → List StackWord → Bool
 is_stack_refused Precise stack = nat_lt 0 (length stack)
 is_stack_refused Conservative stack = false
 
+-- the pause of a collection that was started, with its markers
 abbrev pub IsFinished : Setup → Want → State → List Entry → List Line → State → Type 0
 IsFinished setup want old piece lines new =
     (after : State) × IsPause setup setup.markers want old piece lines after × (new ≡ answered after)

@@ -9,6 +9,7 @@ use Rattle.gc_graph.specs.Fields.{content_of}
 use Rattle.gc_graph.specs.Outcomes.{answered, IsRefused, slot_at, with_slot, weak_slot_at}
 use Rattle.gc_graph.specs.ObjectSteps.{IsRead}
 
+-- the command answers `ok`, and this came of it
 abbrev pub IsDone : State → List Line → State → Type 0
 IsDone after lines new = (lines ≡ L.Fine ∷ []) × (new ≡ answered after)
 
@@ -30,6 +31,7 @@ StepRead old w p lines new = IsRead true old (content_of (weak_slot_at old w)) p
 
 -- ---- the stack, which holds 1,024 words at most
 
+-- the word is the last of the stack
 abbrev pub pushed : State → StackWord → State
 pushed s word = record s { stack = word ∷ s.stack }
 
@@ -52,6 +54,7 @@ abbrev pub StepPop : State → List Line → State → Type 0
 StepPop old lines new =
     MatchBool (nat_lt 0 (length old.stack)) (IsDone (record old { stack = drop 1 old.stack }) lines new) (IsRefused R.Empty old lines new)
 
+-- the pointer's node goes into the slot; a number is of another kind
 abbrev pub IsPeeked : State → StackWord → ℕ → List Line → State → Type 0
 IsPeeked old (Pointer n offset) q lines new = (lines ≡ L.Node n ∷ []) × (new ≡ answered (with_slot old q (Some n)))
 IsPeeked old (Number w) q lines new = IsRefused R.Kind old lines new

@@ -9,19 +9,23 @@ use Rattle.gc_graph.specs.declared.region.Reply.TheVariants as R
 use Rattle.gc_graph.specs.State.{RegionSlot}
 use Rattle.gc_graph.specs.State.RegionSlot.{Vacant, StrongTo, WeakTo}
 
+-- what slot x holds, null past the last
 abbrev pub region_slot : List RegionSlot → ℕ → RegionSlot
 region_slot region x = slice_index_or region x Vacant
 
+-- the node that a slot names, strongly or weakly
 abbrev pub node_of : RegionSlot → Option ℕ
 node_of Vacant = None
 node_of (StrongTo n) = Some n
 node_of (WeakTo n) = Some n
 
+-- a slot that names a node names it weakly
 abbrev pub weakened : RegionSlot → RegionSlot
 weakened Vacant = Vacant
 weakened (StrongTo n) = WeakTo n
 weakened (WeakTo n) = WeakTo n
 
+-- a slot that names a node names it strongly
 abbrev pub strengthened : RegionSlot → RegionSlot
 strengthened Vacant = Vacant
 strengthened (StrongTo n) = StrongTo n
@@ -52,12 +56,13 @@ replayed region (entry ∷ history) = replayed (region_after region entry.op) hi
 abbrev pub replay : List Entry → List RegionSlot
 replay history = replayed (replicate 32 Vacant) history
 
--- the node that an entry reads from a weak slot
+-- the node that a weak slot names
 abbrev pub weak_target : RegionSlot → Option ℕ
 weak_target Vacant = None
 weak_target (StrongTo n) = None
 weak_target (WeakTo n) = Some n
 
+-- the node that an entry reads from a weak slot, before it changes the slots
 abbrev pub read_by : List RegionSlot → Op → Option ℕ
 read_by region (O.Export x n) = None
 read_by region (O.Import x) = weak_target (region_slot region x)
@@ -70,6 +75,7 @@ read_by region (O.Upgrade x y) = weak_target (region_slot region x)
 
 -- ---- which histories are legal
 
+-- a read answers the node, or null
 abbrev pub reply_with : Option ℕ → Reply
 reply_with None = R.Null
 reply_with (Some n) = R.Node n
@@ -85,6 +91,7 @@ reply_of region (O.Clear x) = R.Done
 reply_of region (O.Weaken x) = R.Done
 reply_of region (O.Upgrade x y) = reply_with (node_of (region_slot region x))
 
+-- whether a slot is weak and not null
 abbrev pub is_weak_slot : RegionSlot → Bool
 is_weak_slot Vacant = false
 is_weak_slot (StrongTo n) = false

@@ -42,6 +42,7 @@ abbrev pub told : List Line → List ℕ
 told (L.Node n ∷ []) = n ∷ []
 told lines = []
 
+-- whether field f of the slot's object is weak
 abbrev pub is_weak_field : State → Option ℕ → ℕ → Bool
 is_weak_field s None f = false
 is_weak_field s (Some n) f = is_weak (kind_of_field (node_at s.nodes n).object f)
@@ -59,6 +60,7 @@ abbrev pub entry_reads : List RegionSlot → List Entry → List ℕ
 entry_reads region [] = []
 entry_reads region (entry ∷ entries) = option_to_list (read_by region entry.op) ++ entry_reads (region_after region entry.op) entries
 
+-- those of a run, command by command
 abbrev pub run_reads : State → List Command → List Outcome → List ℕ
 run_reads old [] outcomes = []
 run_reads old (command ∷ commands) [] = []

@@ -33,6 +33,7 @@ pub record HaveNumbers (outcomes : List Outcome) (end : Line) : Type 0 where
   pub lines : All (λ lines. All IsOf64Bits lines) (lines_of_outcomes outcomes)
   pub last : IsOf64Bits end
 
+-- so it is of each such run
 abbrev pub LinesHaveNumbers : Type 0
 LinesHaveNumbers =
     (setup : Setup) (commands : List Command) (outcomes : List Outcome) (history : List Entry) (end : Line)

@@ -26,15 +26,19 @@ IsRefused why old lines new = IsAnswered (L.Refused why) old lines new
 abbrev pub IsMemory : State → List Line → State → Type 0
 IsMemory old lines new = IsAnswered L.Memory old lines new
 
+-- a line for each node that was finalised
 abbrev pub finalise_lines : List ℕ → List Line
 finalise_lines numbers = map (λ n. L.Finalise n) numbers
 
+-- what strong slot p holds
 abbrev pub slot_at : State → ℕ → Option ℕ
 slot_at s p = slice_index_or s.slots p None
 
+-- strong slot p got this
 abbrev pub with_slot : State → ℕ → Option ℕ → State
 with_slot s p content = record s { slots = slice_set s.slots p content }
 
+-- what weak slot w holds
 abbrev pub weak_slot_at : State → ℕ → Option ℕ
 weak_slot_at s w = slice_index_or s.weak w None
 
@@ -45,6 +49,7 @@ abbrev pub may_with_entry : State → Option ℕ → List Bool
 may_with_entry s None = s.may
 may_with_entry s (Some n) = may_with_read s.phase (graph_of s.nodes) s.may n
 
+-- an entry was taken: the region's slots are those after it, a weak read counts, and it is yet to be printed
 abbrev pub with_entry : State → Entry → State
 with_entry s entry = record s {
   region = region_after s.region entry.op;
@@ -52,6 +57,7 @@ with_entry s entry = record s {
   unprinted = s.unprinted ++ entry ∷ [];
 }
 
+-- these entries were taken, one after the other
 abbrev pub took : State → List Entry → State
 took s [] = s
 took s (entry ∷ entries) = took (with_entry s entry) entries

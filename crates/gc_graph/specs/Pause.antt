@@ -45,17 +45,21 @@ condemn kept [] = []
 condemn [] (node ∷ nodes) = record node { life = judged false node.life } ∷ condemn [] nodes
 condemn (flag ∷ kept) (node ∷ nodes) = record node { life = judged flag node.life } ∷ condemn kept nodes
 
+-- how many nodes live
 abbrev pub live_count : List Node → ℕ
 live_count nodes = count_by (λ n. is_live n.life) nodes
 
+-- how many nodes are dead
 abbrev pub dead_count : List Node → ℕ
 dead_count nodes = count_by (λ n. is_dead n.life) nodes
 
+-- whether node n is dead
 abbrev pub is_dead_at : List Node → ℕ → Bool
 is_dead_at nodes n = is_dead (node_at nodes n).life
 
 -- ---- weak handles to dead nodes become null (`WeakMember`, `WeakPersistent`, `EphemeronPair`)
 
+-- whether the value names a dead node
 abbrev pub names_dead : (ℕ → Bool) → Value → Bool
 names_dead dead Null = false
 names_dead dead (Ref n) = dead n
@@ -73,6 +77,7 @@ cleared_values dead (Plain ∷ kinds) (value ∷ values) = value ∷ cleared_val
 cleared_values dead (kind ∷ kinds) [] = []
 cleared_values dead [] values = values
 
+-- the node with its weak fields and pairs cleared
 abbrev pub with_cleared : (ℕ → Bool) → Node → Node
 with_cleared dead node =
     record node { object = record node.object { values = cleared_values dead node.object.kinds node.object.values } }
@@ -81,13 +86,16 @@ with_cleared dead node =
 abbrev pub clear_node : (ℕ → Bool) → Node → Node
 clear_node dead node = if is_live node.life then with_cleared dead node else node
 
+-- the fields of all live nodes are cleared
 abbrev pub clear_fields : List Node → List Node
 clear_fields nodes = map (clear_node (is_dead_at nodes)) nodes
 
+-- a weak slot that names a dead node becomes null
 abbrev pub clear_slot : (ℕ → Bool) → Option ℕ → Option ℕ
 clear_slot dead None = None
 clear_slot dead (Some n) = if dead n then None else Some n
 
+-- whether a node is named, and dead
 abbrev pub names_dead_node : (ℕ → Bool) → Option ℕ → Bool
 names_dead_node dead None = false
 names_dead_node dead (Some n) = dead n
@@ -103,6 +111,7 @@ dying_slots nodes region = mask_of (map (λ slot. names_dead_node (is_dead_at no
 
 -- ---- prefinalizers of dead nodes run, the last that was registered first (`include/cppgc/prefinalizer.h`)
 
+-- whether the node of the registration is dead
 abbrev pub dies : List Node → Registration → Bool
 dies nodes registration = is_dead_at nodes registration.node
 
@@ -110,6 +119,7 @@ dies nodes registration = is_dead_at nodes registration.node
 abbrev pub run_order : List Node → List Registration → List Registration
 run_order nodes registrations = reverse (filter (dies nodes) registrations)
 
+-- what callback c does; nothing past the last
 abbrev pub kind_of_callback : List ActionKind → ℕ → ActionKind
 kind_of_callback callbacks c = slice_index_or callbacks c K.Nothing
 
@@ -120,15 +130,18 @@ prefinalised callbacks (r ∷ more) nodes =
     prefinalised callbacks more
     (acted nodes r.node (action_of (kind_of_callback callbacks r.callback) (shown_words (node_at nodes r.node))))
 
+-- a line for each prefinalizer that was run
 abbrev pub prefinalise_lines : List Registration → List Line
 prefinalise_lines registrations = map (λ r. L.Prefinalise r.node r.callback) registrations
 
 -- ---- the pause in whole: condemn, clear, prefinalise
 
+-- the nodes after clearing and prefinalizers, where these were condemned
 abbrev pub nodes_after_pause : List ActionKind → List Registration → List Node → List Node
 nodes_after_pause callbacks registrations condemned =
     prefinalised callbacks (run_order condemned registrations) (clear_fields condemned)
 
+-- the state after a pause that condemned these
 abbrev pub paused_with : Setup → State → List Node → State
 paused_with setup s condemned = record s {
   nodes = nodes_after_pause setup.callbacks s.registrations condemned;

@@ -61,6 +61,7 @@ pub record IsLeftAlone (setup : Setup) (command : Command) (old : State) (piece 
   pub taken : piece ≡ []
   pub after : new ≡ answered (told_to_go command old)
 
+-- so it is of each step that answers `memory`
 abbrev pub MemoryLeavesAll : Type 0
 MemoryLeavesAll =
     (setup : Setup) (old new : State) (command : Command) (piece : List Entry) (lines : List Line)
@@ -75,6 +76,7 @@ pub record IsLeftFull (setup : Setup) (old : State) (piece : List Entry) (lines 
   pub taken : piece ≡ []
   pub after : new ≡ answered (record swept { full = swept.full + 1 })
 
+-- so it is of each `new` that answers `full`
 abbrev pub FullLeavesRest : Type 0
 FullLeavesRest =
     (setup : Setup) (old new : State) (p t e : ℕ) (piece : List Entry) (lines : List Line)
