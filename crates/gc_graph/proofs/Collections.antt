@@ -1,5 +1,5 @@
 -- A whole precise collection where no thread runs: what it condemns.
-use Rattle.std.proofs.Common.{◌≡◌, ◌≢◌, ◌↔◌, ℕ, Bool, true, false, true≢false, List, [], ◌∷◌, ◌++◌, map, length, refl, sym, ap, ◌∙◌, subst, arith, cond, ltb}
+use Rattle.std.proofs.Common.{◌≡◌, ◌≢◌, ◌↔◌, ℕ, Bool, true, false, true≢false, List, [], ◌∷◌, map, refl, sym, ap, ◌∙◌, subst, arith, cond, ltb}
 use Rattle.std.specs.List.{Contains}
 use Rattle.std.proofs.lemmas.List.{append-nil}
 use Rattle.gc_graph.specs.declared.command.Want.{Want}
@@ -11,17 +11,17 @@ use Rattle.gc_graph.specs.declared.region.Entry.{Entry}
 use Rattle.gc_graph.specs.declared.region.Op.TheVariants as O
 use Rattle.gc_graph.specs.Graph.{has, IsIn}
 use Rattle.gc_graph.specs.Reach.{Reach}
-use Rattle.gc_graph.specs.State.{Setup, State, Node, Life, Registration, node_at, IsLive, IsDead, graph_of, roots_of}
+use Rattle.gc_graph.specs.State.{Setup, State, Node, Life, node_at, IsLive, IsDead, graph_of, roots_of}
 use Rattle.gc_graph.specs.State.Life.{Live, Dead, Gone}
 use Rattle.gc_graph.specs.May.{marking}
 use Rattle.gc_graph.specs.Sweep.{SweepsIn, finalise, buried}
-use Rattle.gc_graph.specs.Pause.{IsKept, most_kept, judged, condemn, nodes_after_pause}
+use Rattle.gc_graph.specs.Pause.{IsKept, most_kept, judged, condemn}
 use Rattle.gc_graph.specs.Outcomes.{took, with_entry, owner_entry, AreOthers}
-use Rattle.gc_graph.specs.CycleSteps.{is_marking, IsStart, IsPause, IsCollection}
+use Rattle.gc_graph.specs.CycleSteps.{is_marking, IsStart, IsPause}
 use Rattle.gc_graph.specs.Valid.{IsSettled, IsValid}
 use Rattle.gc_graph.specs.PlacementLaw.{FinalisesDead}
 use Rattle.gc_graph.specs.MayLaw.{HasStarted}
-use Rattle.gc_graph.specs.CollectionLaw.{IsReached, CondemnsUnreached, CollectsUnreached}
+use Rattle.gc_graph.specs.CollectionLaw.{IsReached, CollectsUnreached}
 use Rattle.gc_graph.proofs.Sweeps.{finalises}
 use Rattle.gc_graph.proofs.NodeWrites.{LookSame}
 use Rattle.gc_graph.proofs.Condemned.{condemned_at, was_live, was_kept}
@@ -42,10 +42,6 @@ nobody s (entry ∷ entries) none h =
 pub took_running : (s : State) (entries : List Entry) → (took s entries).running ≡ s.running
 took_running s [] = refl
 took_running s (entry ∷ entries) = took_running (with_entry s entry) entries
-
-took_registrations : (s : State) (entries : List Entry) → (took s entries).registrations ≡ s.registrations
-took_registrations s [] = refl
-took_registrations s (entry ∷ entries) = took_registrations (with_entry s entry) entries
 
 -- ---- the sweep that is ended first
 
@@ -111,16 +107,10 @@ pub paused_look : (setup : Setup) (markers : ℕ) (want : Want) (old new : State
     → (p : IsPause setup markers want old piece lines new) → LookSame (condemn p.kept old.nodes) new.nodes
 paused_look setup markers want old new piece lines sound p =
     let mid : State = took old p.before in
-    let cleared = λ (nodes : List Node) (left : List Registration). nodes_after_pause setup.callbacks left (condemn p.kept nodes) in
-    let same : LookSame (condemn p.kept mid.nodes) (cleared mid.nodes mid.registrations) =
-    look setup mid want p.kept (others_sound setup old p.before p.others sound) p.keeps in
-    let here : LookSame (condemn p.kept old.nodes) (cleared old.nodes old.registrations) =
-    subst (λ nodes. LookSame (condemn p.kept nodes) (cleared nodes old.registrations)) (took_nodes old p.before)
-    (subst (λ left. LookSame (condemn p.kept mid.nodes) (cleared mid.nodes left)) (took_registrations old p.before) same) in
-    let are : new.nodes ≡ cleared old.nodes old.registrations =
-    ap (λ (s : State). s.nodes) p.after ∙ ap (cleared (took old piece).nodes) (took_registrations old piece)
-    ∙ ap (λ nodes. cleared nodes old.registrations) (took_nodes old piece) in
-    subst (LookSame (condemn p.kept old.nodes)) (sym are) here
+    let same : LookSame (condemn p.kept mid.nodes) new.nodes =
+    subst (λ (s : State). LookSame (condemn p.kept mid.nodes) s.nodes) (sym p.done.after)
+    (look setup mid want p.kept (others_sound setup old p.before p.others sound) p.done.keeps) in
+    subst (λ nodes. LookSame (condemn p.kept nodes) new.nodes) (took_nodes old p.before) same
 
 -- a node's life after a pause
 paused_life : (setup : Setup) (markers : ℕ) (want : Want) (old new : State) (piece : List Entry) (lines : List Line) → IsSound setup old
@@ -132,7 +122,7 @@ paused_life setup markers want old new piece lines sound p n =
 precise_kept : (setup : Setup) (markers : ℕ) (old new : State) (piece : List Entry) (lines : List Line) → HasStarted setup old → old.running ≡ []
     → (p : IsPause setup markers Precise old piece lines new) → (n : ℕ) → IsIn p.kept n ↔ IsReached old n
 precise_kept setup markers old new piece lines begun none p n =
-    let keeps : IsKept old [] p.kept = subst (λ entries. IsKept (took old entries) [] p.kept) (nobody old p.before none p.others) p.keeps in
+    let keeps : IsKept old [] p.kept = subst (λ entries. IsKept (took old entries) [] p.kept) (nobody old p.before none p.others) p.done.keeps in
     let most : most_kept old [] ≡ Reach (graph_of old.nodes) (roots_of old) =
     (bounds_meet setup old Precise begun.valid begun.marking).exact refl ∙ begun.may in (
       (λ i. subst (λ set. IsIn set n) most (keeps.bounded n i)),

@@ -1,15 +1,12 @@
 -- The numbers of the lines of a collection, and of the region's and the threads' commands.
-use Rattle.std.proofs.Common.{◌≡◌, ℕ, zero, suc, ◌+◌, ◌-◌, ◌*◌, ◌^◌, ◌<◌, ◌≤◌, ◌==◌, Bool, true, false, not, List, [], ◌∷◌, ◌++◌, length, map, get_or, set, All, Option, Some, None, refl, sym, ap, ◌∙◌, subst, inl, inr, arith, nat_lt, if◌then◌else◌}
-use mathlib.Core.Logic.{◌⊎◌}
+use Rattle.std.proofs.Common.{◌≡◌, ℕ, zero, suc, ◌+◌, ◌-◌, ◌*◌, ◌^◌, ◌<◌, ◌≤◌, Bool, true, false, not, List, [], ◌∷◌, length, map, All, Some, refl, sym, ap, ◌∙◌, subst, inl, inr, arith, nat_lt, if◌then◌else◌}
 use Rattle.std.specs.Prelude.{reverse}
-use Rattle.std.specs.List.{Contains, filter}
+use Rattle.std.specs.List.{filter}
 use Rattle.std.proofs.lemmas.List.{length-map, length-reverse, get_or-reverse}
 use Rattle.std.proofs.lemmas.List.Elements.{All-nil, All-cons, All-append, All-map, All-filter}
 use Rattle.std.proofs.lemmas.List.Sums.{count_by-le-length}
 use Rattle.gc_graph.specs.declared.command.Command.{Command}
-use Rattle.gc_graph.specs.declared.command.Command.TheVariants as C
 use Rattle.gc_graph.specs.declared.command.Want.{Want}
-use Rattle.gc_graph.specs.declared.command.Want.TheVariants.{Precise, Conservative}
 use Rattle.gc_graph.specs.declared.line.Line.{Line}
 use Rattle.gc_graph.specs.declared.line.Line.TheVariants as L
 use Rattle.gc_graph.specs.declared.line.Refusal.{Refusal}
@@ -17,27 +14,26 @@ use Rattle.gc_graph.specs.declared.line.Refusal.TheVariants as R
 use Rattle.gc_graph.specs.declared.region.Entry.{Entry}
 use Rattle.gc_graph.specs.declared.region.Op.{Op}
 use Rattle.gc_graph.specs.declared.region.Op.TheVariants as O
-use Rattle.gc_graph.specs.State.{Setup, State, Node, RegionSlot, Registration, IsLive, node_at, is_live, is_dead}
-use Rattle.gc_graph.specs.May.{marking}
+use Rattle.gc_graph.specs.State.{Setup, State, Node, RegionSlot, Registration, is_live, is_dead}
 use Rattle.gc_graph.specs.State.RegionSlot.{Vacant, StrongTo, WeakTo}
 use Rattle.gc_graph.specs.Sweep.{EndsSweep}
 use Rattle.gc_graph.specs.History.{IsLegalFrom, region_slot, node_of, weak_target}
-use Rattle.gc_graph.specs.Pause.{condemn, live_count, dead_count, is_dead_at, names_dead_node, mask_of, dying_slots, dies, run_order, prefinalise_lines, paused}
-use Rattle.gc_graph.specs.Outcomes.{answered, IsRefused, took, finalise_lines, slot_at, with_slot, owner_entry}
-use Rattle.gc_graph.specs.CycleSteps.{is_marking, is_sweeping, is_stack_refused, WantsMemory, IsStart, IsBegun, IsTraced, IsPause, IsCollection, IsSwept, StepGcStart, StepGcStep, StepGcFinish, StepGcNow, StepSweepTo, StepStat}
+use Rattle.gc_graph.specs.Pause.{condemn, live_count, dead_count, is_dead_at, names_dead_node, mask_of, dying_slots, dies, run_order, prefinalise_lines, entry_of_pause, paused}
+use Rattle.gc_graph.specs.Outcomes.{answered, IsRefused, with_entry, took, finalise_lines, slot_at, with_slot, owner_entry}
+use Rattle.gc_graph.specs.CycleSteps.{is_marking, is_sweeping, is_stack_refused, WantsMemory, IsStart, IsBegun, IsPause, IsCollection, StepGcStart, StepGcStep, StepGcFinish, StepGcNow, StepSweepTo, StepStat}
 use Rattle.gc_graph.specs.RegionSteps.{TakesOwn, IsExported, IsImported, StepExport, StepImport, line_of_content}
 use Rattle.gc_graph.specs.ReadBack.{numbers_of_op, IsOf64Bits}
 use Rattle.gc_graph.specs.NumbersLaw.{IsWithinLimits}
 use Rattle.gc_graph.proofs.Condemned.{length-condemn}
 use Rattle.gc_graph.proofs.Sound.{IsSound}
 use Rattle.gc_graph.proofs.ValidCases.{option_is, bool_is}
-use Rattle.gc_graph.proofs.ValidHandles.{Root, slot_is_root}
-use Rattle.gc_graph.proofs.ValidRegion.{Shares, shared_at, others_sound, took_nodes}
+use Rattle.gc_graph.proofs.ValidHandles.{slot_is_root}
+use Rattle.gc_graph.proofs.ValidRegion.{Shares, shared_at, others_sound}
 use Rattle.gc_graph.proofs.ValidSweeps.{ended_phase}
 use Rattle.gc_graph.proofs.ValidCycles.{start_sound, ended_sound}
 use Rattle.gc_graph.proofs.Collections.{paused_look, took_running}
-use Rattle.gc_graph.proofs.SmallWords.{HasSmall, paused_small}
-use Rattle.gc_graph.proofs.Few.{Small, small_none, small_one, small_two, small_four, IsFew, few_more, live_small, taken_few, took_few, IsFewSwept, sweep_few, finalise_numbers}
+use Rattle.gc_graph.proofs.SmallWords.{paused_small}
+use Rattle.gc_graph.proofs.Few.{Small, small_none, small_one, small_two, small_four, IsFew, few_more, live_small, entered_few, taken_few, took_few, IsFewSwept, sweep_few, finalise_numbers}
 use Rattle.gc_graph.proofs.StepNumbers.{IsCounted, nearly, IsGood, good, swept_running, still, refused, memory, totals_small}
 
 -- ---- the slots that a pause clears
@@ -78,14 +74,22 @@ pub record IsFewPaused (a b c : ℕ) (new : State) (lines : List Line) : Type 0 
 
 module _ (setup : Setup) (a b c : ℕ) (small : a ≤ 1000001) (markers : ℕ) (want : Want) (old new : State) (piece : List Entry) (lines : List Line)
     (h : IsFew a b c old) (g : IsSound setup old) (p : IsPause setup markers want old piece lines new) where
-  abbrev Judged : List Node
-  Judged = condemn p.kept old.nodes
+  abbrev Ready : State
+  Ready = took old p.before
 
-  taken : IsFew a b c (took old piece)
-  taken =
-      taken_few setup a b c small old p.before piece (O.Pause (dying_slots Judged (took old p.before).region)) true h g
-      (others_sound setup old p.before p.others g) p.others p.piece_is p.legal
-      (λ few. small_one (dying_slots Judged (took old p.before).region) (dying_small Judged (took old p.before).region few.slots))
+  abbrev Judged : List Node
+  Judged = condemn p.kept Ready.nodes
+
+  sound_ready : IsSound setup Ready
+  sound_ready = others_sound setup old p.before p.others g
+
+  few_ready : IsFew a b c Ready
+  few_ready = took_few setup a b c small old p.before (entry_of_pause Ready Judged ∷ []) true h g p.others (subst (IsLegalFrom old.region true) p.piece_is p.legal)
+
+  entered : IsFew a b c (with_entry Ready (entry_of_pause Ready Judged))
+  entered =
+      entered_few setup a b c small old p.before piece (O.Pause (dying_slots Judged Ready.region)) true h g sound_ready p.others p.piece_is p.legal
+      (λ few. small_one (dying_slots Judged Ready.region) (dying_small Judged Ready.region few.slots))
 
   long : length new.nodes ≤ a
   long =
@@ -96,45 +100,43 @@ module _ (setup : Setup) (a b c : ℕ) (small : a ≤ 1000001) (markers : ℕ) (
 
   few_after : IsFew a b c new
   few_after =
-      let most : length (paused setup (took old piece) p.kept).nodes ≤ a = subst (λ (s : State). length s.nodes ≤ a) p.after long in
-      subst (λ (s : State). IsFew a b c s) (sym p.after)
+      let most : length (paused setup Ready Judged).nodes ≤ a = subst (λ (s : State). length s.nodes ≤ a) p.done.after long in
+      subst (λ (s : State). IsFew a b c s) (sym p.done.after)
       (record {
         nodes_few = most;
-        commands_few = taken.commands_few;
-        finalised_few = taken.finalised_few;
-        words = paused_small setup.callbacks (took old piece).registrations p.kept (took old piece).nodes taken.words;
-        slots = taken.slots;
-        callbacks =
-            All-filter (λ r. not (dies (condemn p.kept (took old piece).nodes) r)) (λ (r : Registration). Small r.callback) (took old piece).registrations
-            taken.callbacks;
-        orders = taken.orders;
-        threads_few = taken.threads_few;
-        threads = taken.threads;
-        entries = taken.entries;
+        commands_few = entered.commands_few;
+        finalised_few = entered.finalised_few;
+        words = paused_small setup.callbacks Ready.registrations p.kept Ready.nodes few_ready.words;
+        slots = entered.slots;
+        callbacks = All-filter (λ r. not (dies Judged r)) (λ (r : Registration). Small r.callback) Ready.registrations few_ready.callbacks;
+        orders = entered.orders;
+        threads_few = entered.threads_few;
+        threads = entered.threads;
+        entries = entered.entries;
       })
 
   abbrev RunSmall : Registration → Type 0
   RunSmall r = IsOf64Bits (L.Prefinalise r.node r.callback)
 
-  runs : All IsOf64Bits (prefinalise_lines (run_order Judged old.registrations))
+  runs : All IsOf64Bits (prefinalise_lines (run_order Judged Ready.registrations))
   runs =
-      All-map IsOf64Bits (λ (r : Registration). L.Prefinalise r.node r.callback) (run_order Judged old.registrations)
-      (all_reversed RunSmall (filter (dies Judged) old.registrations)
-      (All-filter (dies Judged) RunSmall old.registrations
-      (λ k d l. small_two _ _ (live_small setup a b c small old _ h (g.registered k d l)) (h.callbacks k d l))))
+      All-map IsOf64Bits (λ (r : Registration). L.Prefinalise r.node r.callback) (run_order Judged Ready.registrations)
+      (all_reversed RunSmall (filter (dies Judged) Ready.registrations)
+      (All-filter (dies Judged) RunSmall Ready.registrations
+      (λ k d l. small_two _ _ (live_small setup a b c small Ready _ few_ready (sound_ready.registered k d l)) (few_ready.callbacks k d l))))
 
   pub pause_few : IsFewPaused a b c new lines
   pause_few = record {
     few = few_after;
     numbers =
-        subst (All IsOf64Bits) (sym p.lines_are)
-        (All-cons IsOf64Bits (L.Pause (live_count Judged) (dead_count Judged) p.crew p.traced p.walked) (prefinalise_lines (run_order Judged old.registrations))
-        (let all = length-condemn p.kept old.nodes in
-        let most = h.nodes_few in
+        subst (All IsOf64Bits) (sym p.done.lines_are)
+        (All-cons IsOf64Bits (L.Pause (live_count Judged) (dead_count Judged) p.done.crew p.done.traced p.done.walked) (prefinalise_lines (run_order Judged Ready.registrations))
+        (let all = length-condemn p.kept Ready.nodes in
+        let most = few_ready.nodes_few in
         let live = count_by-le-length (λ (n : Node). is_live n.life) Judged in
         let dead = count_by-le-length (λ (n : Node). is_dead n.life) Judged in
-        let counted = p.counted in
-        small_four (live_count Judged) (dead_count Judged) p.crew p.traced (omega arith) (omega arith) (omega arith) (omega arith))
+        let counted = p.done.counted in
+        small_four (live_count Judged) (dead_count Judged) p.done.crew p.done.traced (omega arith) (omega arith) (omega arith) (omega arith))
         runs);
   }
 
@@ -167,7 +169,7 @@ started_running setup swept new piece s = ap (λ (t : State). t.running) s.after
 
 paused_running : (setup : Setup) (markers : ℕ) (want : Want) (old new : State) (piece : List Entry) (lines : List Line)
     → IsPause setup markers want old piece lines new → new.running ≡ old.running
-paused_running setup markers want old new piece lines p = ap (λ (t : State). t.running) p.after ∙ took_running old piece
+paused_running setup markers want old new piece lines p = ap (λ (t : State). t.running) p.done.after ∙ took_running old p.before
 
 -- ---- the commands
 

@@ -1,25 +1,22 @@
 -- How much a state can count, and that its numbers have 64 bits.
-use Rattle.std.proofs.Common.{◌≡◌, ℕ, zero, suc, ◌+◌, ◌-◌, ◌*◌, ◌/◌, ◌%◌, ◌^◌, ◌<◌, ◌≤◌, ◌==◌, Bool, true, false, List, [], ◌∷◌, ◌++◌, length, map, get_or, set, All, Option, Some, None, refl, sym, ap, ◌∙◌, subst, inl, inr, arith, if◌then◌else◌}
+use Rattle.std.proofs.Common.{◌≡◌, ℕ, zero, suc, ◌+◌, ◌-◌, ◌*◌, ◌/◌, ◌^◌, ◌<◌, ◌≤◌, Bool, List, [], ◌∷◌, ◌++◌, length, get_or, All, refl, sym, ap, ◌∙◌, subst, inl, inr, arith}
 use mathlib.Core.Logic.{◌⊎◌}
-use Rattle.std.specs.Prelude.{⊤}
 use Rattle.std.specs.List.{Contains, slice_index}
 use Rattle.std.proofs.lemmas.Bool.{cases_lt}
 use Rattle.std.proofs.lemmas.Nat.{mul-le}
-use Rattle.std.proofs.lemmas.List.{length-set, length-map, length_push, get_or_past}
-use Rattle.std.proofs.lemmas.List.Elements.{All-nil, All-cons, All-head, All-tail, All-append, All-push, All-map, All-weaker, All-set, All-replicate}
+use Rattle.std.proofs.lemmas.List.{length-set, length-map, get_or_past}
+use Rattle.std.proofs.lemmas.List.Elements.{All-nil, All-cons, All-tail, All-append, All-push, All-map, All-weaker, All-replicate}
 use Rattle.gc_graph.specs.declared.command.Order.{Order}
-use Rattle.gc_graph.specs.declared.line.Line.{Line}
 use Rattle.gc_graph.specs.declared.line.Line.TheVariants as L
 use Rattle.gc_graph.specs.declared.phase.Phase.{Phase}
 use Rattle.gc_graph.specs.declared.phase.Phase.TheVariants.{Idle, Marking, Sweeping}
 use Rattle.gc_graph.specs.declared.region.Entry.{Entry}
 use Rattle.gc_graph.specs.declared.region.Op.{Op}
 use Rattle.gc_graph.specs.declared.region.Op.TheVariants as O
-use Rattle.gc_graph.specs.declared.region.Reply.{Reply}
-use Rattle.gc_graph.specs.State.{Setup, Shape, State, Node, no_node, RegionSlot, Registration, node_at, IsLive, IsDead, empty_state}
+use Rattle.gc_graph.specs.State.{Setup, State, Node, no_node, RegionSlot, Registration, node_at, IsLive, IsDead, empty_state}
 use Rattle.gc_graph.specs.State.Life.{Dead, Gone}
 use Rattle.gc_graph.specs.State.RegionSlot.{Vacant, StrongTo, WeakTo}
-use Rattle.gc_graph.specs.Sweep.{SweepsIn, IsDeadBelow, AreDeadInOrder, finalise}
+use Rattle.gc_graph.specs.Sweep.{SweepsIn, AreDeadInOrder, finalise}
 use Rattle.gc_graph.specs.History.{region_slot, node_of, region_after, cleared_by, reply_with, reply_of, IsLegalFrom}
 use Rattle.gc_graph.specs.Outcomes.{with_entry, took, AreOthers, IsThreadOp, owner_entry, finalise_lines}
 use Rattle.gc_graph.specs.Lawful.{IsAllowedOrder}
@@ -168,16 +165,21 @@ module _ (setup : Setup) (a b c : ℕ) (small : a ≤ 1000001) where
       (All-tail (λ (e : Entry). Contains s.running e.thread × IsThreadOp e.op) entry entries others) legal.2
 
   -- and then the owner's entry
+  pub entered_few : (s : State) (before piece : List Entry) (op : Op) (started : Bool) → IsFew a b c s → IsSound setup s → IsSound setup (took s before)
+      → AreOthers s before → piece ≡ before ++ owner_entry (took s before) op ∷ [] → IsLegalFrom s.region started piece
+      → (IsFew a b c (took s before) → All Small (numbers_of_op op)) → IsFew a b c (with_entry (took s before) (owner_entry (took s before) op))
+  entered_few s before piece op started h g sound others is legal op_small =
+      let mid : State = took s before in
+      let few : IsFew a b c mid = took_few s before (owner_entry mid op ∷ []) started h g others (subst (IsLegalFrom s.region started) is legal) in
+      entry_few mid (owner_entry mid op) few
+      (inl (All-cons Small 0 (numbers_of_op op ++ numbers_of_reply (reply_of mid.region op)) (omega arith)
+      (All-append Small (numbers_of_op op) (numbers_of_reply (reply_of mid.region op)) (op_small few) (reply_small mid op few sound))))
+
   pub taken_few : (s : State) (before piece : List Entry) (op : Op) (started : Bool) → IsFew a b c s → IsSound setup s → IsSound setup (took s before)
       → AreOthers s before → piece ≡ before ++ owner_entry (took s before) op ∷ [] → IsLegalFrom s.region started piece
       → (IsFew a b c (took s before) → All Small (numbers_of_op op)) → IsFew a b c (took s piece)
   taken_few s before piece op started h g sound others is legal op_small =
-      let mid : State = took s before in
-      let few : IsFew a b c mid = took_few s before (owner_entry mid op ∷ []) started h g others (subst (IsLegalFrom s.region started) is legal) in
-      subst (λ (t : State). IsFew a b c t) (sym (took_own s before piece op is))
-      (entry_few mid (owner_entry mid op) few
-      (inl (All-cons Small 0 (numbers_of_op op ++ numbers_of_reply (reply_of mid.region op)) (omega arith)
-      (All-append Small (numbers_of_op op) (numbers_of_reply (reply_of mid.region op)) (op_small few) (reply_small mid op few sound)))))
+      subst (λ (t : State). IsFew a b c t) (sym (took_own s before piece op is)) (entered_few s before piece op started h g sound others is legal op_small)
 
 -- ---- sweeps
 

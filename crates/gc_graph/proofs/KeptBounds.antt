@@ -1,16 +1,16 @@
 -- What a pause keeps at any time after the start of its collection.
-use Rattle.std.proofs.Common.{◌≡◌, ℕ, ◌<◌, ◌==◌, ◌||◌, true, true≢false, Bool, List, [], ◌++◌, length, All, refl, sym, ap, ◌∙◌, subst, inl, inr, arith, leb}
+use Rattle.std.proofs.Common.{◌≡◌, ℕ, ◌<◌, ◌==◌, ◌||◌, true, List, ◌++◌, length, ◌∙◌, subst, inl, inr, arith, leb}
 use Rattle.std.specs.List.{list_any}
 use Rattle.std.proofs.lemmas.Bool.{or_left, or_right, le-leb}
 use Rattle.std.proofs.lemmas.List.{length-map}
 use Rattle.gc_graph.specs.declared.command.Want.{Want}
 use Rattle.gc_graph.specs.Graph.{Object, has, IsIn}
-use Rattle.gc_graph.specs.Reach.{Reach, RefersWithin, AreNodes, IsLeastClosed}
+use Rattle.gc_graph.specs.Reach.{Reach, AreNodes, IsLeastClosed}
 use Rattle.gc_graph.specs.State.{Setup, State, Node, graph_of}
 use Rattle.gc_graph.specs.May.{members, hits_for}
 use Rattle.gc_graph.specs.Pause.{most_kept}
 use Rattle.gc_graph.specs.Outcomes.{took}
-use Rattle.gc_graph.specs.Valid.{IsMay, IsValid}
+use Rattle.gc_graph.specs.Valid.{IsValid}
 use Rattle.gc_graph.specs.ValidLaw.{StepKeepsValid}
 use Rattle.gc_graph.specs.Lawful.{last_state}
 use Rattle.gc_graph.specs.MayLaw.{BoundsMeet, reads_until, reached_since, IsNewOrReached, IsBoundedBy}
@@ -93,4 +93,4 @@ kept_is_accounted_for law setup start new commands outcomes markers want piece l
     let meet : BoundsMeet mid want = bounds_meet setup mid want after (took_phase last pause.before ∙ run_marking start outcomes begun.marking going) in
     accounted setup start (reads_until start commands outcomes pause.before) mid want after meet
     (may_is_bounded law setup start commands outcomes pause.before some begun allowed run going pause.others)
-    n (pause.keeps.bounded n i)
+    n (pause.done.keeps.bounded n i)

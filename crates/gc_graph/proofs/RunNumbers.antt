@@ -22,7 +22,7 @@ use Rattle.gc_graph.specs.ValidLaw.{StepKeepsValid}
 use Rattle.gc_graph.specs.Outcomes.{slot_at, weak_slot_at}
 use Rattle.gc_graph.specs.ObjectSteps.{first_word}
 use Rattle.gc_graph.specs.Step.{Step}
-use Rattle.gc_graph.specs.Lawful.{Outcome, Run, last_state, state_after, AreJoined, TellsTotals, IsLawful, IsAllowed, IsEndLine}
+use Rattle.gc_graph.specs.Lawful.{Outcome, Run, last_state, state_after, AreJoined, TellsTotals, IsAllowed}
 use Rattle.gc_graph.specs.Report.{type_lines}
 use Rattle.gc_graph.specs.ReadBack.{IsOf64Bits}
 use Rattle.gc_graph.specs.NumbersLaw.{IsWithinLimits, IsReported, lines_of_outcomes, HaveNumbers, LinesHaveNumbers, RunReadsBack}

@@ -1,5 +1,5 @@
 -- The plain words of objects have 64 bits, whatever is done to them.
-use Rattle.std.proofs.Common.{◌≡◌, ℕ, ◌+◌, ◌%◌, ◌^◌, ◌<◌, Bool, List, [], ◌∷◌, length, map, get_or, set, All, Option, Some, None, sym, subst, inl, inr, arith, nat_lt, ltb, if◌then◌else◌}
+use Rattle.std.proofs.Common.{ℕ, ◌+◌, ◌^◌, ◌<◌, Bool, List, [], ◌∷◌, length, map, set, All, Option, Some, None, sym, subst, inl, inr, arith, nat_lt, ltb, if◌then◌else◌}
 use Rattle.std.specs.Prelude.{⊤}
 use Rattle.std.proofs.lemmas.Bool.{cases_lt, cond_both}
 use Rattle.std.proofs.lemmas.List.{get_or_past}
@@ -14,9 +14,9 @@ use Rattle.gc_graph.specs.declared.graph.Value.TheVariants.{Null, Ref, Word}
 use Rattle.gc_graph.specs.State.{Node, Registration, no_node, node_at, is_live}
 use Rattle.gc_graph.specs.Fields.{field_count, kind_of_field, word_of_field, value_at, with_value}
 use Rattle.gc_graph.specs.Actions.{shown_words, action_of, cleared_field, added, added_field, cleared_at, added_at, linked, change_linked, acted}
-use Rattle.gc_graph.specs.Pause.{condemn, names_dead, cleared_values, with_cleared, clear_node, clear_fields, is_dead_at, kind_of_callback, run_order, prefinalised, nodes_after_pause}
+use Rattle.gc_graph.specs.Pause.{condemn, names_dead, cleared_values, with_cleared, clear_node, clear_fields, is_dead_at, kind_of_callback, run_order, prefinalised}
 use Rattle.gc_graph.specs.Sweep.{finalise, buried}
-use Rattle.gc_graph.proofs.Condemned.{condemned_at, length-condemn}
+use Rattle.gc_graph.proofs.Condemned.{condemned_at}
 
 abbrev pub IsSmall : Value → Type 0
 IsSmall Null = ⊤
@@ -131,7 +131,7 @@ condemned_small kept nodes h =
     All-from_get_or HasSmall (condemn kept nodes) no_node (λ i l. subst HasSmall (sym (condemned_at kept nodes i)) (small_at nodes i h))
 
 pub paused_small : (callbacks : List ActionKind) (registrations : List Registration) (kept : List Bool) (nodes : List Node) → All HasSmall nodes
-    → All HasSmall (nodes_after_pause callbacks registrations (condemn kept nodes))
+    → All HasSmall (prefinalised callbacks (run_order (condemn kept nodes) registrations) (clear_fields (condemn kept nodes)))
 paused_small callbacks registrations kept nodes h =
     let dead : ℕ → Bool = is_dead_at (condemn kept nodes) in
     prefinalised_small callbacks (run_order (condemn kept nodes) registrations) (clear_fields (condemn kept nodes))

@@ -1,10 +1,10 @@
 -- The numbers of each command's lines, and what the state counts after it.
-use Rattle.std.proofs.Common.{◌≡◌, ℕ, ◌+◌, ◌-◌, ◌*◌, ◌^◌, ◌<◌, ◌≤◌, Bool, true, false, List, [], ◌∷◌, ◌++◌, length, map, get_or, set, All, Option, Some, None, refl, sym, ap, ◌∙◌, subst, inl, inr, arith, nat_lt, if◌then◌else◌}
+use Rattle.std.proofs.Common.{◌≡◌, ℕ, ◌+◌, ◌*◌, ◌<◌, ◌≤◌, Bool, true, false, List, [], ◌∷◌, length, All, Option, Some, None, refl, sym, ap, ◌∙◌, subst, inl, inr, arith, nat_lt, if◌then◌else◌}
 use mathlib.Core.Logic.{◌⊎◌}
 use Rattle.std.specs.List.{Contains, slice_get}
 use Rattle.std.proofs.lemmas.Bool.{cond_both}
 use Rattle.std.proofs.lemmas.List.{length-set, length_push}
-use Rattle.std.proofs.lemmas.List.Elements.{All-nil, All-cons, All-push, All-append, All-set, All-map, All-from_get_or}
+use Rattle.std.proofs.lemmas.List.Elements.{All-nil, All-cons, All-push, All-append, All-map, All-from_get_or}
 use Rattle.std.proofs.lemmas.List.Sums.{count_by-le-length, sum_by-le}
 use Rattle.gc_graph.specs.declared.command.Command.{Command}
 use Rattle.gc_graph.specs.declared.command.Command.TheVariants as C
@@ -24,7 +24,7 @@ use Rattle.gc_graph.specs.Sweep.{SweepsIn}
 use Rattle.gc_graph.specs.Outcomes.{answered, IsRefused, IsMemory, finalise_lines, slot_at}
 use Rattle.gc_graph.specs.ObjectSteps.{AtField, registrations_for, first_word, with_node, IsChanged, part_of, IsNumber, IsRead, IsMade, IsFull, IsAllocation, StepNew, StepSet, StepPair, StepPut, StepWord, StepGet}
 use Rattle.gc_graph.specs.HandleSteps.{IsDone, IsPushed, pushed, IsPeeked, StepPush, StepPeek}
-use Rattle.gc_graph.specs.Valid.{NamesLive, IsThere, word_count}
+use Rattle.gc_graph.specs.Valid.{NamesLive, word_count}
 use Rattle.gc_graph.specs.ReadBack.{IsOf64Bits}
 use Rattle.gc_graph.specs.NumbersLaw.{IsWithinLimits}
 use Rattle.gc_graph.proofs.NewObjects.{nulls_all}

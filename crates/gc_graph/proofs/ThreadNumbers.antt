@@ -1,5 +1,5 @@
 -- The numbers of the lines of threads: orders, starts and joins.
-use Rattle.std.proofs.Common.{◌≡◌, ℕ, zero, suc, ◌+◌, ◌-◌, ◌*◌, ◌^◌, ◌<◌, ◌≤◌, ◌==◌, Bool, true, false, true≢false, List, [], ◌∷◌, ◌++◌, length, map, get_or, set, All, Option, Some, None, refl, sym, ap, ◌∙◌, subst, inl, inr, arith, nat_lt, ltb-true, lt-ltb, eqb-true, eq-eqb, cond, if◌then◌else◌}
+use Rattle.std.proofs.Common.{◌≡◌, ℕ, zero, suc, ◌+◌, ◌-◌, ◌*◌, ◌<◌, ◌≤◌, ◌==◌, Bool, true, false, true≢false, List, [], ◌∷◌, ◌++◌, length, map, get_or, set, All, Option, Some, None, refl, sym, ap, ◌∙◌, subst, inl, inr, arith, nat_lt, ltb-true, lt-ltb, eq-eqb, cond, if◌then◌else◌}
 use mathlib.Core.Logic.{◌⊎◌}
 use Rattle.std.specs.Prelude.{⊤}
 use Rattle.std.specs.List.{Contains, filter, flat_map, range_with_len}
@@ -23,14 +23,14 @@ use Rattle.gc_graph.specs.declared.region.Reply.TheVariants as P
 use Rattle.gc_graph.specs.State.{Setup, State}
 use Rattle.gc_graph.specs.CycleSteps.{is_marking}
 use Rattle.gc_graph.specs.History.{IsLegalFrom}
-use Rattle.gc_graph.specs.Outcomes.{answered, took}
+use Rattle.gc_graph.specs.Outcomes.{took}
 use Rattle.gc_graph.specs.RegionSteps.{queue_of, queued, StepAt, threads_with_orders, StepThreadsGo, Answer, op_of, entry_with, entry_of, AnswersOrder, HasDone, reply_line, entries_by, joined, is_running, StepThreadsJoin}
 use Rattle.gc_graph.specs.RegionSteps.Answer.{Replied, Told}
 use Rattle.gc_graph.specs.Lawful.{IsAllowedOrder}
 use Rattle.gc_graph.specs.ReadBack.{numbers_of_op, numbers_of_reply, IsOf64Bits}
 use Rattle.gc_graph.specs.NumbersLaw.{IsWithinLimits}
 use Rattle.gc_graph.proofs.Sound.{IsSound}
-use Rattle.gc_graph.proofs.Few.{Small, small_none, small_one, small_two, IsQueued, IsKnown, IsFew, took_few}
+use Rattle.gc_graph.proofs.Few.{Small, small_none, small_one, small_two, IsQueued, IsKnown, took_few}
 use Rattle.gc_graph.proofs.StepNumbers.{IsCounted, nearly, TellsTotalsTo, IsGood, answered_few, one, still, memory}
 use Rattle.gc_graph.proofs.Collections.{took_running}
 

@@ -9,10 +9,10 @@ use Rattle.gc_graph.specs.declared.phase.Phase.{Phase}
 use Rattle.gc_graph.specs.declared.phase.Phase.TheVariants.{Idle, Marking, Sweeping}
 use Rattle.gc_graph.specs.declared.region.Entry.{Entry}
 use Rattle.gc_graph.specs.declared.region.Op.TheVariants as O
-use Rattle.gc_graph.specs.State.{Setup, State, StackWord, objects_of, used_of}
+use Rattle.gc_graph.specs.State.{Setup, State, Node, StackWord, objects_of, used_of}
 use Rattle.gc_graph.specs.May.{marking, hits_for}
 use Rattle.gc_graph.specs.Placement.{extents_of, IsUsedPages}
-use Rattle.gc_graph.specs.Pause.{IsKept, condemn, live_count, dead_count, dying_slots, run_order, prefinalise_lines, paused}
+use Rattle.gc_graph.specs.Pause.{IsKept, condemn, live_count, dead_count, run_order, prefinalise_lines, entry_of_pause, paused}
 use Rattle.gc_graph.specs.Sweep.{SweepsTo, EndsSweep}
 use Rattle.gc_graph.specs.History.{IsLegalFrom}
 use Rattle.gc_graph.specs.Outcomes.{answered, IsRefused, IsMemory, finalise_lines, took, AreOthers, owner_entry}
@@ -78,26 +78,32 @@ StepGcStep old n lines new = MatchBool (is_marking old.phase) (IsTraced old n li
 abbrev pub HasCrew : ℕ → ℕ → Type 0
 HasCrew markers crew = markers ≡ 0 → crew ≡ 0
 
--- a pause of a collection that was started, at which so many markers run: it takes the history up to its entry, keeps a
--- set and condemns the others, clears weak handles and runs prefinalizers; each kept object was traced once in the cycle
-pub record IsPause (setup : Setup) (markers : ℕ) (want : Want) (old : State) (piece : List Entry) (lines : List Line) (new : State) : Type 0 where
-  pub before : List Entry
-  pub others : AreOthers old before
-  pub kept : List Bool
-  pub keeps : IsKept (took old before) (hits_for want (took old before)) kept
-  pub piece_is :
-      piece ≡ before ++ owner_entry (took old before) (O.Pause (dying_slots (condemn kept old.nodes) (took old before).region)) ∷ []
-  pub legal : IsLegalFrom old.region true piece
+-- a pause at which so many markers run, from the state just before its entry and the nodes after judgement: each kept object
+-- was traced once in the cycle
+pub record IsPauseAt
+    (setup : Setup) (markers : ℕ) (want : Want) (ready : State) (kept : List Bool) (judged_nodes : List Node) (lines : List Line) (new : State)
+    : Type 0 where
+  pub keeps : IsKept ready (hits_for want ready) kept
   pub crew : ℕ
   pub traced : ℕ
   pub walked : Bool
   pub crew_is : HasCrew markers crew
-  pub counted : old.traced + crew + traced ≡ live_count (condemn kept old.nodes)
+  pub counted : ready.traced + crew + traced ≡ live_count judged_nodes
   pub lines_are :
       lines
-      ≡ L.Pause (live_count (condemn kept old.nodes)) (dead_count (condemn kept old.nodes)) crew traced walked
-      ∷ prefinalise_lines (run_order (condemn kept old.nodes) old.registrations)
-  pub after : new ≡ paused setup (took old piece) kept
+      ≡ L.Pause (live_count judged_nodes) (dead_count judged_nodes) crew traced walked
+      ∷ prefinalise_lines (run_order judged_nodes ready.registrations)
+  pub after : new ≡ paused setup ready judged_nodes
+
+-- a pause of a collection that was started: others may make entries before its own, and then a set is kept and the other live
+-- nodes are condemned
+pub record IsPause (setup : Setup) (markers : ℕ) (want : Want) (old : State) (piece : List Entry) (lines : List Line) (new : State) : Type 0 where
+  pub before : List Entry
+  pub others : AreOthers old before
+  pub kept : List Bool
+  pub done : IsPauseAt setup markers want (took old before) kept (condemn kept (took old before).nodes) lines new
+  pub piece_is : piece ≡ before ++ entry_of_pause (took old before) (condemn kept (took old before).nodes) ∷ []
+  pub legal : IsLegalFrom old.region true piece
 
 -- a precise pause wants an empty stack
 abbrev pub is_stack_refused : Want → List StackWord → Bool

@@ -8,8 +8,8 @@ pub mod Sweep
 pub mod Placement
 pub mod History
 pub mod Actions
-pub mod Pause
 pub mod Outcomes
+pub mod Pause
 pub mod ObjectSteps
 pub mod HandleSteps
 pub mod CycleSteps

@@ -9,6 +9,8 @@ use Rattle.gc_graph.specs.declared.graph.Value.TheVariants.{Null, Ref, Word}
 use Rattle.gc_graph.specs.declared.line.Line.{Line}
 use Rattle.gc_graph.specs.declared.line.Line.TheVariants as L
 use Rattle.gc_graph.specs.declared.phase.Phase.TheVariants.{Sweeping}
+use Rattle.gc_graph.specs.declared.region.Entry.{Entry}
+use Rattle.gc_graph.specs.declared.region.Op.TheVariants as O
 use Rattle.gc_graph.specs.Graph.{IsClosed, IsWithin}
 use Rattle.gc_graph.specs.Reach.{Reach}
 use Rattle.gc_graph.specs.State.{Setup, State, Node, Life, RegionSlot, Registration, node_at, is_live, is_dead, graph_of, roots_of}
@@ -16,6 +18,7 @@ use Rattle.gc_graph.specs.State.Life.{Live, Dead, Gone}
 use Rattle.gc_graph.specs.May.{members}
 use Rattle.gc_graph.specs.History.{weak_target}
 use Rattle.gc_graph.specs.Actions.{shown_words, action_of, acted}
+use Rattle.gc_graph.specs.Outcomes.{with_entry, owner_entry}
 
 -- the least that a pause keeps: what the roots and the hits reach
 abbrev pub least_kept : State → List ℕ → List Bool
@@ -109,6 +112,21 @@ mask_of (flag ∷ flags) = (if flag then 1 else 0) + 2 * mask_of flags
 abbrev pub dying_slots : List Node → List RegionSlot → ℕ
 dying_slots nodes region = mask_of (map (λ slot. names_dead_node (is_dead_at nodes) (weak_target slot)) region)
 
+-- what weak clearing leaves, where these are the nodes after judgement: the nodes with their weak fields and pairs cleared,
+-- the weak slots, and the number that stands for the slots of the region that it clears
+pub record Cleared : Type 0 where
+  pub nodes : List Node
+  pub weak : List (Option ℕ)
+  pub region_mask : ℕ
+
+-- weak clearing of a state whose nodes were judged
+abbrev pub cleared : State → List Node → Cleared
+cleared s judged_nodes = record {
+  nodes = clear_fields judged_nodes;
+  weak = map (clear_slot (is_dead_at judged_nodes)) s.weak;
+  region_mask = dying_slots judged_nodes s.region;
+}
+
 -- ---- prefinalizers of dead nodes run, the last that was registered first (`include/cppgc/prefinalizer.h`)
 
 -- whether the node of the registration is dead
@@ -134,24 +152,20 @@ prefinalised callbacks (r ∷ more) nodes =
 abbrev pub prefinalise_lines : List Registration → List Line
 prefinalise_lines registrations = map (λ r. L.Prefinalise r.node r.callback) registrations
 
--- ---- the pause in whole: condemn, clear, prefinalise
+-- ---- the pause in whole
 
--- the nodes after clearing and prefinalizers, where these were condemned
-abbrev pub nodes_after_pause : List ActionKind → List Registration → List Node → List Node
-nodes_after_pause callbacks registrations condemned =
-    prefinalised callbacks (run_order condemned registrations) (clear_fields condemned)
+-- the owner's entry of a pause, which clears the slots of the region
+abbrev pub entry_of_pause : State → List Node → Entry
+entry_of_pause s judged_nodes = owner_entry s (O.Pause (cleared s judged_nodes).region_mask)
 
--- the state after a pause that condemned these
-abbrev pub paused_with : Setup → State → List Node → State
-paused_with setup s condemned = record s {
-  nodes = nodes_after_pause setup.callbacks s.registrations condemned;
-  weak = map (clear_slot (is_dead_at condemned)) s.weak;
-  registrations = filter (λ r. not (dies condemned r)) s.registrations;
+-- the state after a pause, from the one just before its entry and the nodes after judgement: the entry is made, weak handles
+-- are cleared, and prefinalizers run; then a sweep is open
+abbrev pub paused : Setup → State → List Node → State
+paused setup s judged_nodes = record (with_entry s (entry_of_pause s judged_nodes)) {
+  nodes = prefinalised setup.callbacks (run_order judged_nodes s.registrations) (cleared s judged_nodes).nodes;
+  weak = (cleared s judged_nodes).weak;
+  registrations = filter (λ r. not (dies judged_nodes r)) s.registrations;
   phase = Sweeping;
   cursor = 0;
   pauses = s.pauses + 1;
 }
-
--- the state after a pause that kept this set, but for the region's slots, which the pause's entry clears
-abbrev pub paused : Setup → State → List Bool → State
-paused setup s kept = paused_with setup s (condemn kept s.nodes)
