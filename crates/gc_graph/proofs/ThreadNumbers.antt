@@ -24,7 +24,7 @@ use Rattle.gc_graph.specs.State.{Setup, State}
 use Rattle.gc_graph.specs.CycleSteps.{is_marking}
 use Rattle.gc_graph.specs.History.{IsLegalFrom}
 use Rattle.gc_graph.specs.Outcomes.{took}
-use Rattle.gc_graph.specs.RegionSteps.{queue_of, queued, StepAt, threads_with_orders, StepThreadsGo, Answer, op_of, entry_with, entry_of, AnswersOrder, HasDone, reply_line, entries_by, joined, is_running, StepThreadsJoin}
+use Rattle.gc_graph.specs.RegionSteps.{queue_of, queued, StepAt, threads_with_orders, StepThreadsGo, Answer, op_of, entry_of, AnswersOrder, HasDone, reply_line, entries_by, joined, is_running, StepThreadsJoin}
 use Rattle.gc_graph.specs.RegionSteps.Answer.{Replied, Told}
 use Rattle.gc_graph.specs.Lawful.{IsAllowedOrder}
 use Rattle.gc_graph.specs.ReadBack.{numbers_of_op, numbers_of_reply, IsOf64Bits}
@@ -127,14 +127,11 @@ answers_small j (o ∷ os) (a ∷ more) entries h small =
     All-cons AnswerSmall a more (answer_small j (op_of o) a h.0 h.1 whole)
     (answers_small j os more h.0 h.3 (all_after ReplySmall (entry_of j (op_of o) a) h.0 whole))
 
-entry_small : (j : ℕ) (op : Op) (reply : Reply) → All Small (numbers_of_op op) → All OpSmall (entry_with j op reply)
-entry_small j op P.NoMemory small = All-nil OpSmall
-entry_small j op P.Done small = All-cons OpSmall _ [] small (All-nil OpSmall)
-entry_small j op P.Null small = All-cons OpSmall _ [] small (All-nil OpSmall)
-entry_small j op (P.Node n) small = All-cons OpSmall _ [] small (All-nil OpSmall)
-
 op_entries : (j : ℕ) (op : Op) (answer : Answer) → All Small (numbers_of_op op) → All OpSmall (entry_of j (Some op) answer)
-op_entries j op (Replied reply) small = entry_small j op reply small
+op_entries j op (Replied P.NoMemory) small = All-nil OpSmall
+op_entries j op (Replied P.Done) small = All-cons OpSmall _ [] small (All-nil OpSmall)
+op_entries j op (Replied P.Null) small = All-cons OpSmall _ [] small (All-nil OpSmall)
+op_entries j op (Replied (P.Node n)) small = All-cons OpSmall _ [] small (All-nil OpSmall)
 op_entries j op (Told o n u f) small = All-nil OpSmall
 
 no_entries : (j : ℕ) (answer : Answer) → All OpSmall (entry_of j None answer)

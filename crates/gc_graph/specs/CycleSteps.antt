@@ -1,5 +1,5 @@
 -- The commands of the collection cycle: start, step, pause and sweep (`include/cppgc/heap.h`, `include/cppgc/README.md`).
-use Rattle.std.specs.Prelude.{◌≡◌, ◌⊎◌, ℕ, ◌+◌, ◌≤◌, min, nat_lt, Bool, true, false, List, [], ◌∷◌, ◌++◌, length, MatchBool}
+use Rattle.std.specs.Prelude.{◌≡◌, ◌⊎◌, ℕ, ◌+◌, ◌≤◌, min, nat_lt, Bool, true, false, List, [], ◌∷◌, ◌++◌, length}
 use Rattle.gc_graph.specs.declared.command.Want.{Want}
 use Rattle.gc_graph.specs.declared.command.Want.TheVariants.{Precise, Conservative}
 use Rattle.gc_graph.specs.declared.line.Line.{Line}
@@ -15,7 +15,7 @@ use Rattle.gc_graph.specs.Placement.{extents_of, IsUsedPages}
 use Rattle.gc_graph.specs.Pause.{IsKept, condemn, live_count, dead_count, run_order, prefinalise_lines, entry_of_pause, paused}
 use Rattle.gc_graph.specs.Sweep.{SweepsTo, EndsSweep}
 use Rattle.gc_graph.specs.History.{IsLegalFrom}
-use Rattle.gc_graph.specs.Outcomes.{answered, IsRefused, IsMemory, finalise_lines, took, AreOthers, owner_entry}
+use Rattle.gc_graph.specs.Outcomes.{answered, IsRefused, RefusedIf, RefusedUnless, IsMemory, finalise_lines, took, AreOthers, owner_entry}
 
 -- ---- the start
 
@@ -56,7 +56,7 @@ WantsMemory old piece lines new = (piece ≡ []) × IsMemory old lines new
 -- gc start: refused while marking goes on
 abbrev pub StepGcStart : Setup → State → List Entry → List Line → State → Type 0
 StepGcStart setup old piece lines new =
-    MatchBool (is_marking old.phase) ((piece ≡ []) × IsRefused R.Phase old lines new)
+    RefusedIf (is_marking old.phase) ((piece ≡ []) × IsRefused R.Phase old lines new)
     (WantsMemory old piece lines new ⊎ IsBegun setup old piece lines new)
 
 -- ---- a step
@@ -70,7 +70,7 @@ pub record IsTraced (old : State) (n : ℕ) (lines : List Line) (new : State) : 
 
 -- gc step: refused while no marking goes on
 abbrev pub StepGcStep : State → ℕ → List Line → State → Type 0
-StepGcStep old n lines new = MatchBool (is_marking old.phase) (IsTraced old n lines new) (IsRefused R.Phase old lines new)
+StepGcStep old n lines new = RefusedUnless (is_marking old.phase) (IsRefused R.Phase old lines new) (IsTraced old n lines new)
 
 -- ---- the pause
 
@@ -118,10 +118,9 @@ IsFinished setup want old piece lines new =
 -- gc finish: refused while no marking goes on, then where a precise pause finds words on the stack
 abbrev pub StepGcFinish : Setup → Want → State → List Entry → List Line → State → Type 0
 StepGcFinish setup want old piece lines new =
-    MatchBool (is_marking old.phase)
-    (MatchBool (is_stack_refused want old.stack) ((piece ≡ []) × IsRefused R.Stack old lines new)
+    RefusedUnless (is_marking old.phase) ((piece ≡ []) × IsRefused R.Phase old lines new)
+    (RefusedIf (is_stack_refused want old.stack) ((piece ≡ []) × IsRefused R.Stack old lines new)
     (IsFinished setup want old piece lines new))
-    ((piece ≡ []) × IsRefused R.Phase old lines new)
 
 -- a whole collection: an unfinished sweep is ended, and then come start and pause, with no crew
 pub record IsCollection (setup : Setup) (want : Want) (old : State) (piece : List Entry) (lines : List Line) (new : State) : Type 0 where
@@ -142,8 +141,8 @@ pub record IsCollection (setup : Setup) (want : Want) (old : State) (piece : Lis
 -- gc now: refused while marking goes on, then where a precise pause finds words on the stack
 abbrev pub StepGcNow : Setup → Want → State → List Entry → List Line → State → Type 0
 StepGcNow setup want old piece lines new =
-    MatchBool (is_marking old.phase) ((piece ≡ []) × IsRefused R.Phase old lines new)
-    (MatchBool (is_stack_refused want old.stack) ((piece ≡ []) × IsRefused R.Stack old lines new)
+    RefusedIf (is_marking old.phase) ((piece ≡ []) × IsRefused R.Phase old lines new)
+    (RefusedIf (is_stack_refused want old.stack) ((piece ≡ []) × IsRefused R.Stack old lines new)
     (WantsMemory old piece lines new ⊎ IsCollection setup want old piece lines new))
 
 -- ---- sweeps
@@ -159,7 +158,7 @@ pub record IsSwept (setup : Setup) (old : State) (pages : ℕ) (lines : List Lin
 -- refused while no sweep is open
 abbrev pub StepSweepTo : Setup → State → ℕ → List Line → State → Type 0
 StepSweepTo setup old pages lines new =
-    MatchBool (is_sweeping old.phase) (IsSwept setup old pages lines new) (IsRefused R.Phase old lines new)
+    RefusedUnless (is_sweeping old.phase) (IsRefused R.Phase old lines new) (IsSwept setup old pages lines new)
 
 -- sweep n: n pages more, or those that are left
 abbrev pub StepSweep : Setup → State → ℕ → List Line → State → Type 0

@@ -64,14 +64,9 @@ weak_target (WeakTo n) = Some n
 
 -- the node that an entry reads from a weak slot, before it changes the slots
 abbrev pub read_by : List RegionSlot → Op → Option ℕ
-read_by region (O.Export x n) = None
 read_by region (O.Import x) = weak_target (region_slot region x)
-read_by region O.Start = None
-read_by region (O.Pause cleared) = None
-read_by region (O.Copy x y) = None
-read_by region (O.Clear x) = None
-read_by region (O.Weaken x) = None
 read_by region (O.Upgrade x y) = weak_target (region_slot region x)
+read_by region op = None
 
 -- ---- which histories are legal
 
@@ -82,14 +77,9 @@ reply_with (Some n) = R.Node n
 
 -- the reply that a region of one thread gives
 abbrev pub reply_of : List RegionSlot → Op → Reply
-reply_of region (O.Export x n) = R.Done
 reply_of region (O.Import x) = reply_with (node_of (region_slot region x))
-reply_of region O.Start = R.Done
-reply_of region (O.Pause cleared) = R.Done
-reply_of region (O.Copy x y) = R.Done
-reply_of region (O.Clear x) = R.Done
-reply_of region (O.Weaken x) = R.Done
 reply_of region (O.Upgrade x y) = reply_with (node_of (region_slot region x))
+reply_of region op = R.Done
 
 -- whether a slot is weak and not null
 abbrev pub is_weak_slot : RegionSlot → Bool
@@ -105,24 +95,13 @@ NamesWeakSlots mask (slot ∷ region) = (mask % 2 ≡ 1 → is_weak_slot slot �
 -- a pause clears weak slots, and only in a collection that was started
 abbrev pub MayPause : List RegionSlot → Bool → Op → Type 0
 MayPause region started (O.Pause cleared) = (started ≡ true) × NamesWeakSlots cleared region
-MayPause region started (O.Export x n) = ⊤
-MayPause region started (O.Import x) = ⊤
-MayPause region started O.Start = ⊤
-MayPause region started (O.Copy x y) = ⊤
-MayPause region started (O.Clear x) = ⊤
-MayPause region started (O.Weaken x) = ⊤
-MayPause region started (O.Upgrade x y) = ⊤
+MayPause region started op = ⊤
 
 -- whether a start has no pause after it
 abbrev pub started_after : Bool → Op → Bool
 started_after started O.Start = true
 started_after started (O.Pause cleared) = false
-started_after started (O.Export x n) = started
-started_after started (O.Import x) = started
-started_after started (O.Copy x y) = started
-started_after started (O.Clear x) = started
-started_after started (O.Weaken x) = started
-started_after started (O.Upgrade x y) = started
+started_after started op = started
 
 -- the entries may follow where the slots are these: each reply is the one that a region of one thread gives
 abbrev pub IsLegalFrom : List RegionSlot → Bool → List Entry → Type 0

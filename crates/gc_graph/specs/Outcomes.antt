@@ -1,5 +1,5 @@
 -- How a command is answered, and what it may change.
-use Rattle.std.specs.Prelude.{◌≡◌, ℕ, ◌+◌, Bool, List, [], ◌∷◌, ◌++◌, map, Option, Some, None, slice_index_or, slice_set, Contains, All, ⊤}
+use Rattle.std.specs.Prelude.{◌≡◌, ℕ, ◌+◌, Bool, List, [], ◌∷◌, ◌++◌, map, Option, Some, None, MatchBool, slice_index_or, slice_set, Contains, All, ⊤}
 use Rattle.gc_graph.specs.declared.line.Line.{Line}
 use Rattle.gc_graph.specs.declared.line.Line.TheVariants as L
 use Rattle.gc_graph.specs.declared.line.Refusal.{Refusal}
@@ -21,6 +21,14 @@ IsAnswered line old lines new = (lines ≡ line ∷ []) × (new ≡ answered old
 -- the command was refused, and the state is as before
 abbrev pub IsRefused : Refusal → State → List Line → State → Type 0
 IsRefused why old lines new = IsAnswered (L.Refused why) old lines new
+
+-- refused as said where the test holds, and else the rest
+abbrev pub RefusedIf : Bool → Type 0 → Type 0 → Type 0
+RefusedIf test Refused Rest = MatchBool test Refused Rest
+
+-- refused as said unless the test holds, and then the rest
+abbrev pub RefusedUnless : Bool → Type 0 → Type 0 → Type 0
+RefusedUnless test Refused Rest = MatchBool test Rest Refused
 
 -- memory was wanting, and the state is as before
 abbrev pub IsMemory : State → List Line → State → Type 0

@@ -26,29 +26,7 @@ MayWantMemory setup (C.Export p x) = ⊤
 MayWantMemory setup (C.Import x p) = ⊤
 MayWantMemory setup (C.At j order) = ⊤
 MayWantMemory setup C.ThreadsGo = ⊤
-MayWantMemory setup (C.Set p f q) = ⊥
-MayWantMemory setup (C.SetNull p f) = ⊥
-MayWantMemory setup (C.Pair p f k v) = ⊥
-MayWantMemory setup (C.PairNull p f) = ⊥
-MayWantMemory setup (C.Put p f n) = ⊥
-MayWantMemory setup (C.Word p f) = ⊥
-MayWantMemory setup (C.Get p f q) = ⊥
-MayWantMemory setup (C.Key p f q) = ⊥
-MayWantMemory setup (C.Val p f q) = ⊥
-MayWantMemory setup (C.Copy p q) = ⊥
-MayWantMemory setup (C.Drop p) = ⊥
-MayWantMemory setup (C.Weak w p) = ⊥
-MayWantMemory setup (C.Read w p) = ⊥
-MayWantMemory setup (C.Push p o) = ⊥
-MayWantMemory setup (C.PushPlain n) = ⊥
-MayWantMemory setup C.Pop = ⊥
-MayWantMemory setup (C.Peek i q) = ⊥
-MayWantMemory setup (C.GcStep n) = ⊥
-MayWantMemory setup (C.GcFinish want) = ⊥
-MayWantMemory setup (C.Sweep n) = ⊥
-MayWantMemory setup C.SweepAll = ⊥
-MayWantMemory setup C.Stat = ⊥
-MayWantMemory setup C.ThreadsJoin = ⊥
+MayWantMemory setup command = ⊥
 
 -- after `threads go` the threads are awaited, though none was started
 abbrev pub told_to_go : Command → State → State

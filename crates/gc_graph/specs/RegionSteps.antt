@@ -93,19 +93,11 @@ op_of (Q.Weaken x) = Some (O.Weaken x)
 op_of (Q.Upgrade x y) = Some (O.Upgrade x y)
 op_of Q.Totals = None
 
--- the entry of an order on the region, which there is none of where memory was wanting
-abbrev pub entry_with : ℕ → Op → Reply → List Entry
-entry_with j op P.NoMemory = []
-entry_with j op P.Done = record { thread = j; op = op; reply = P.Done } ∷ []
-entry_with j op P.Null = record { thread = j; op = op; reply = P.Null } ∷ []
-entry_with j op (P.Node n) = record { thread = j; op = op; reply = P.Node n } ∷ []
-
--- the entry of an order that was answered
+-- the entry of an order that was answered: there is none for totals, and none where memory was wanting
 abbrev pub entry_of : ℕ → Option Op → Answer → List Entry
-entry_of j (Some op) (Replied reply) = entry_with j op reply
-entry_of j (Some op) (Told o n u f) = []
-entry_of j None (Replied reply) = []
-entry_of j None (Told o n u f) = []
+entry_of j (Some op) (Replied P.NoMemory) = []
+entry_of j (Some op) (Replied reply) = record { thread = j; op = op; reply = reply } ∷ []
+entry_of j op answer = []
 
 -- totals are told to an order for totals, and the others have replies
 abbrev pub AnswersOrder : Option Op → Answer → Type 0
