@@ -264,17 +264,16 @@ pause_told : (setup : Setup) (markers : ℕ) (want : Want) (old new : State) (pi
     → IsPause setup markers want old piece lines new → IsPauseTold old.nodes lines new.nodes
 pause_told setup markers want old new piece lines g h =
     let mid : State = took old h.before in
+    let judged_nodes : List Node = condemn h.kept mid.nodes in
     let sound : IsSound setup mid = others_sound setup old h.before h.others g in
-    let is : new.nodes ≡ (paused setup mid h.kept).nodes =
-    ap (λ (s : State). s.nodes)
-    (h.after ∙ ap (λ s. paused setup s h.kept) (took_own old h.before piece (O.Pause (dying_slots (condemn h.kept old.nodes) mid.region)) h.piece_is)) in
-    let judged : AreJudged mid.nodes (paused setup mid h.kept).nodes =
-    judged_all h.kept mid.nodes (paused setup mid h.kept).nodes (look setup mid want h.kept sound h.keeps) in
+    let is : new.nodes ≡ (paused setup mid judged_nodes).nodes = ap (λ (s : State). s.nodes) h.done.after in
+    let judged : AreJudged mid.nodes (paused setup mid judged_nodes).nodes =
+    judged_all h.kept mid.nodes (paused setup mid judged_nodes).nodes (look setup mid want h.kept sound h.done.keeps) in
     let both : AreJudged old.nodes new.nodes =
-    subst (AreJudged old.nodes) (sym is) (subst (λ ns. AreJudged ns (paused setup mid h.kept).nodes) (took_nodes old h.before) judged) in
-    subst (λ ls. IsPauseTold old.nodes ls new.nodes) (sym h.lines_are)
-    (pause_line_tells old.nodes new.nodes _ _ h.crew h.traced h.walked (prefinalise_lines (run_order (condemn h.kept old.nodes) old.registrations)) both
-    (prefinalised_quiet (run_order (condemn h.kept old.nodes) old.registrations)))
+    subst (AreJudged old.nodes) (sym is) (subst (λ ns. AreJudged ns (paused setup mid judged_nodes).nodes) (took_nodes old h.before) judged) in
+    subst (λ ls. IsPauseTold old.nodes ls new.nodes) (sym h.done.lines_are)
+    (pause_line_tells old.nodes new.nodes _ _ h.done.crew h.done.traced h.done.walked (prefinalise_lines (run_order judged_nodes mid.registrations)) both
+    (prefinalised_quiet (run_order judged_nodes mid.registrations)))
 
 finished_tells : (setup : Setup) (want : Want) (old after new : State) (piece : List Entry) (lines : List Line) → IsSound setup old
     → IsPause setup setup.markers want old piece lines after → new ≡ answered after → Tells old lines new

@@ -37,13 +37,13 @@ length-condemn kept [] = refl
 length-condemn [] (node ∷ nodes) = ap suc (length-condemn [] nodes)
 length-condemn (flag ∷ kept) (node ∷ nodes) = ap suc (length-condemn kept nodes)
 
-was_live : (flag : Bool) (life : Life) → judged flag life ≡ Live → life ≡ Live
+pub was_live : (flag : Bool) (life : Life) → judged flag life ≡ Live → life ≡ Live
 was_live true x e = e
 was_live false Live e = refl
 was_live false Dead e = e
 was_live false Gone e = e
 
-was_kept : (flag : Bool) (life : Life) → judged flag life ≡ Live → flag ≡ true
+pub was_kept : (flag : Bool) (life : Life) → judged flag life ≡ Live → flag ≡ true
 was_kept true x e = refl
 was_kept false Live e = cc
 was_kept false Dead e = cc

@@ -42,8 +42,16 @@ mod CommandLives
 mod OnceLaws
 mod MayRuns
 mod MayLaws
+mod Collections
+mod KeptBounds
 mod ValidSteps
 mod Decimals
 mod LineParts
 mod ReadingBack
 mod ReportsReadBack
+mod SmallWords
+mod Few
+mod StepNumbers
+mod CycleNumbers
+mod ThreadNumbers
+mod RunNumbers

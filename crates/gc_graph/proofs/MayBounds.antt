@@ -1,5 +1,5 @@
 -- The bounds of a pause: what must be kept may be kept.
-use Rattle.std.proofs.Common.{◌≡◌, ℕ, zero, suc, ◌+◌, ◌<◌, ◌==◌, Bool, true, false, true≢false, List, ◌∷◌, ◌++◌, length, cond, sym, ◌∙◌, inl, inr, arith, eqb-true}
+use Rattle.std.proofs.Common.{◌≡◌, ℕ, zero, suc, ◌+◌, ◌<◌, ◌==◌, Bool, true, false, true≢false, List, ◌∷◌, ◌++◌, length, cond, sym, ap, ◌∙◌, inl, inr, arith, eqb-true}
 use Rattle.std.specs.List.{list_any, filter, range_with_len}
 use Rattle.std.proofs.lemmas.Bool.{or_cases, or_left, or_right}
 use Rattle.std.proofs.lemmas.List.{length-map}
@@ -8,13 +8,14 @@ use Rattle.gc_graph.specs.declared.command.Want.{Want}
 use Rattle.gc_graph.specs.declared.command.Want.TheVariants.{Precise, Conservative}
 use Rattle.gc_graph.specs.declared.phase.Phase.{Phase}
 use Rattle.gc_graph.specs.declared.phase.Phase.TheVariants.{Idle, Marking, Sweeping}
-use Rattle.gc_graph.specs.Graph.{Object, IsIn}
+use Rattle.gc_graph.specs.Graph.{Object, IsIn, IsWithin}
 use Rattle.gc_graph.specs.Reach.{Reach, RefersWithin, AreNodes, IsLeastClosed}
 use Rattle.gc_graph.specs.State.{Setup, State, Node, graph_of, roots_of}
 use Rattle.gc_graph.specs.May.{members, is_hit, hits_for}
 use Rattle.gc_graph.specs.Valid.{IsMay, HasMay, IsValid}
 use Rattle.gc_graph.specs.MayLaw.{BoundsMeet}
-use Rattle.gc_graph.proofs.Reaching.{reach_law}
+use Rattle.gc_graph.proofs.Sets.{same_or_fewer}
+use Rattle.gc_graph.proofs.Reaching.{reach_law, reach_length}
 use Rattle.gc_graph.proofs.Sound.{found}
 use Rattle.gc_graph.proofs.WeakReads.{refers_within, members_in, member_found, in_below}
 
@@ -43,7 +44,7 @@ ranged from (suc count) n test e =
     passed (test from) from n (filter test (range_with_len (from + 1) count)) (n < from + suc count) (λ h. omega arith)
     (λ l. (let b = ranged (from + 1) count n test l in omega arith)) e
 
-hits_below : (want : Want) (s : State) (n : ℕ) → list_any (λ r. r == n) (hits_for want s) ≡ true → n < length s.nodes
+pub hits_below : (want : Want) (s : State) (n : ℕ) → list_any (λ r. r == n) (hits_for want s) ≡ true → n < length s.nodes
 hits_below Precise s n e = absurd (true≢false (sym e))
 hits_below Conservative s n e = (let l = ranged 0 (length s.nodes) n (is_hit s.nodes s.stack) e in omega arith)
 
@@ -52,8 +53,15 @@ may_of Idle s e h = cc
 may_of Marking s e h = h
 may_of Sweeping s e h = cc
 
+same_sets : (s t : List Bool) → length s ≡ length t → IsWithin s t → IsWithin t s → s ≡ t
+same_sets s t e into back =
+    elim (same_or_fewer s t e into) [
+      | inl same ↦ same
+      | inr fewer ↦ elim (same_or_fewer t s (sym e) back) [ inl same ↦ sym same | inr more ↦ absurd (omega arith) ]
+    ]
+
 pub bounds_meet : (setup : Setup) (s : State) (want : Want) → IsValid setup s → s.phase ≡ Marking → BoundsMeet s want
-bounds_meet setup s want valid on n reached =
+bounds_meet setup s want valid on =
     let may : IsMay s = may_of s.phase s on valid.may_kept in
     let g : List Object = graph_of s.nodes in
     let hits : List ℕ = hits_for want s in
@@ -66,8 +74,16 @@ bounds_meet setup s want valid on n reached =
     λ k. either_list (members s.may) hits k (k < length g) (λ i. in_may k (found (IsIn s.may) (members s.may) (members_in s.may) k i)) (hit k) in
     let lower : IsLeastClosed g (roots_of s ++ hits) (Reach g (roots_of s ++ hits)) = reach_law g (roots_of s ++ hits) refers below in
     let upper : IsLeastClosed g (members s.may ++ hits) (Reach g (members s.may ++ hits)) = reach_law g (members s.may ++ hits) refers above in
-    lower.least (Reach g (members s.may ++ hits)) upper.closed
-    (λ k. either_list (roots_of s) hits k (IsIn (Reach g (members s.may ++ hits)) k)
-    (λ i. upper.roots_in k (of_first (members s.may) hits k (member_found s.may k (may.roots k i))))
-    (λ i. upper.roots_in k (of_second (members s.may) hits k i)))
-    n reached
+    record {
+      may = may;
+      meet = lower.least (Reach g (members s.may ++ hits)) upper.closed
+          (λ k. either_list (roots_of s) hits k (IsIn (Reach g (members s.may ++ hits)) k)
+          (λ i. upper.roots_in k (of_first (members s.may) hits k (member_found s.may k (may.roots k i))))
+          (λ i. upper.roots_in k (of_second (members s.may) hits k i)));
+      exact = λ none.
+          same_sets (Reach g (members s.may ++ hits)) s.may (reach_length g (members s.may ++ hits) ∙ long ∙ sym may.whole)
+          (upper.least s.may may.closed
+          (λ k. either_list (members s.may) hits k (IsIn s.may k) (λ i. found (IsIn s.may) (members s.may) (members_in s.may) k i)
+          (λ i. absurd (true≢false (sym (sym (ap (list_any (λ r. r == k)) none) ∙ i))))))
+          (λ k i. upper.roots_in k (of_first (members s.may) hits k (member_found s.may k i)));
+    }

@@ -1,36 +1,39 @@
 -- The bound of what may be kept, command by command and over runs.
-use Rattle.std.proofs.Common.{◌≡◌, nat_lt, ℕ, ◌+◌, ◌<◌, true, List, [], ◌∷◌, ◌++◌, length, All, None, refl, sym, ap, ◌∙◌, subst, inl, inr, arith, append_assoc}
+use Rattle.std.proofs.Common.{◌≡◌, ◌⊎◌, nat_lt, ℕ, ◌+◌, ◌<◌, true, false, List, [], ◌∷◌, ◌++◌, length, All, None, refl, sym, ap, ◌∙◌, subst, inl, inr, arith, append_assoc}
 use Rattle.std.specs.List.{slice_get}
 use Rattle.std.proofs.lemmas.List.{append-nil}
 use Rattle.std.proofs.lemmas.List.Elements.{All-head, All-tail}
 use Rattle.gc_graph.specs.declared.command.Command.{Command}
 use Rattle.gc_graph.specs.declared.command.Command.TheVariants as C
 use Rattle.gc_graph.specs.declared.graph.Value.TheVariants.{Null}
+use Rattle.gc_graph.specs.declared.command.Want.{Want}
 use Rattle.gc_graph.specs.declared.line.Line.{Line}
 use Rattle.gc_graph.specs.declared.line.Refusal.TheVariants as R
-use Rattle.gc_graph.specs.declared.phase.Phase.TheVariants.{Marking}
+use Rattle.gc_graph.specs.declared.phase.Phase.TheVariants.{Idle, Marking}
 use Rattle.gc_graph.specs.declared.region.Entry.{Entry}
 use Rattle.gc_graph.specs.State.{Setup, State, node_at, size_of, IsLive, graph_of, roots_of}
 use Rattle.gc_graph.specs.Graph.{IsIn}
 use Rattle.gc_graph.specs.Reach.{Reach}
 use Rattle.gc_graph.specs.State.StackWord.{Pointer, Number}
 use Rattle.gc_graph.specs.Fields.{content_of}
-use Rattle.gc_graph.specs.Outcomes.{IsRefused, slot_at, weak_slot_at, took}
+use Rattle.gc_graph.specs.Outcomes.{IsRefused, IsMemory, answered, slot_at, weak_slot_at, took}
 use Rattle.gc_graph.specs.ObjectSteps.{first_word}
 use Rattle.gc_graph.specs.HandleSteps.{IsPushed}
-use Rattle.gc_graph.specs.CycleSteps.{is_marking}
+use Rattle.gc_graph.specs.CycleSteps.{is_marking, is_stack_refused, IsStart, IsCollection}
 use Rattle.gc_graph.specs.Step.{Step}
 use Rattle.gc_graph.specs.Valid.{IsValid}
 use Rattle.gc_graph.specs.ValidLaw.{StepKeepsValid}
 use Rattle.gc_graph.specs.Lawful.{Outcome, Run, last_state, IsAllowed}
-use Rattle.gc_graph.specs.MayLaw.{HasStarted, StartsHaveStarted, own_reads, entry_reads, run_reads, MayIsBounded, PauseBoundsMeet}
+use Rattle.gc_graph.specs.MayLaw.{HasStarted, StartsHaveStarted, CollectionsHaveStarted, own_reads, entry_reads, run_reads, MayIsBounded, PauseBoundsMeet}
 use Rattle.gc_graph.proofs.StepCases.{match_option, match_bool}
 use Rattle.gc_graph.proofs.Sound.{IsSound, sound_from, valid_from, kinds_at}
 use Rattle.gc_graph.proofs.ValidHandles.{slot_root, slot_names}
 use Rattle.gc_graph.proofs.Since.{own_since}
 use Rattle.gc_graph.proofs.MayBounds.{bounds_meet}
 use Rattle.gc_graph.proofs.ValidRegion.{others_sound, took_phase}
-use Rattle.gc_graph.proofs.ValidCycles.{start_sound}
+use Rattle.gc_graph.proofs.ValidCases.{bool_is}
+use Rattle.gc_graph.proofs.ValidSweeps.{ended_phase}
+use Rattle.gc_graph.proofs.ValidCycles.{start_sound, ended_sound}
 use Rattle.gc_graph.proofs.MayEntries.{More, more_first, more_second, more_none, Kept, same_kept, took_kept}
 use Rattle.gc_graph.proofs.MayRuns.{Goes, still, refused, memory, slot_since, parts_since, set_goes, pair_goes, put_goes, word_goes, value_goes, get_goes, part_goes, content_live, push_goes, peek_goes, sweep_goes, start_goes, now_goes, finish_goes, new_goes, export_goes, import_goes, join_goes}
 
@@ -146,13 +149,13 @@ module _ (setup : Setup) (start : State) (begun : HasStarted setup start) where
   }
 
 -- marking goes on after a run, and its last state is valid
-run_marking : (old : State) (outcomes : List Outcome) → old.phase ≡ Marking → All (λ (o : Outcome). o.state.phase ≡ Marking) outcomes
+pub run_marking : (old : State) (outcomes : List Outcome) → old.phase ≡ Marking → All (λ (o : Outcome). o.state.phase ≡ Marking) outcomes
     → (last_state old outcomes).phase ≡ Marking
 run_marking old [] on going = on
 run_marking old (o ∷ os) on going =
     run_marking o.state os (All-head (λ (x : Outcome). x.state.phase ≡ Marking) o os going) (All-tail (λ (x : Outcome). x.state.phase ≡ Marking) o os going)
 
-run_valid : StepKeepsValid → (setup : Setup) → 0 < setup.shape.pages → (old : State) (commands : List Command) (outcomes : List Outcome)
+pub run_valid : StepKeepsValid → (setup : Setup) → 0 < setup.shape.pages → (old : State) (commands : List Command) (outcomes : List Outcome)
     → IsValid setup old → All (IsAllowed (length setup.types)) commands → Run setup old commands outcomes → IsValid setup (last_state old outcomes)
 run_valid law setup some old [] [] valid allowed run = valid
 run_valid law setup some old [] (o ∷ os) valid allowed run = absurd run
@@ -181,9 +184,50 @@ pause_bounds_meet setup s before want valid on others =
     bounds_meet setup (took s before) want (valid_from setup (took s before) (others_sound setup s before others (sound_from setup s valid)))
     (took_phase s before ∙ on)
 
-pub starts_have_started : StartsHaveStarted
-starts_have_started setup swept new piece valid idle h = record {
-  valid = valid_from setup new (start_sound setup swept new piece (sound_from setup swept valid) idle h);
+-- ---- starts
+
+has_started : (setup : Setup) (swept new : State) (piece : List Entry) → IsSound setup swept → swept.phase ≡ Idle → IsStart setup swept piece new
+    → HasStarted setup new
+has_started setup swept new piece sound idle h = record {
+  valid = valid_from setup new (start_sound setup swept new piece sound idle h);
   marking = ap (λ (s : State). s.phase) h.after;
   may = subst (λ (s : State). s.may ≡ Reach (graph_of s.nodes) (roots_of s)) (sym h.after) refl;
 }
+
+-- the count of commands is no part of it
+answered_started : (setup : Setup) (s : State) → HasStarted setup s → HasStarted setup (answered s)
+answered_started setup s h = record { valid = valid_from setup (answered s) (sound_from setup s h.valid); marking = h.marking; may = h.may }
+
+pub starts_have_started : StartsHaveStarted
+starts_have_started setup old new piece lines valid h =
+    let Q : Type 0 = IsRefused R.Phase old lines new ⊎ (IsMemory old lines new ⊎ HasStarted setup new) in
+    bool_is (is_marking old.phase) _ _ Q (λ e r. inl r.1)
+    (λ e done. elim done [
+      | inl memory ↦ inr (inl memory.1)
+      | inr begun ↦
+          inr (inr (subst (HasStarted setup) (sym begun.after)
+          (answered_started setup begun.started
+          (has_started setup begun.swept begun.started piece (ended_sound setup old begun.swept begun.numbers (sound_from setup old valid) begun.ended)
+          (ended_phase setup.shape old begun.swept old.phase begun.numbers refl e begun.ended) begun.start))))
+    ]) h
+
+pub collection_started : (setup : Setup) (want : Want) (old new : State) (piece : List Entry) (lines : List Line) → IsSound setup old
+    → is_marking old.phase ≡ false → (done : IsCollection setup want old piece lines new) → HasStarted setup done.started
+collection_started setup want old new piece lines sound e done =
+    has_started setup done.swept done.started done.first (ended_sound setup old done.swept done.numbers sound done.ended)
+    (ended_phase setup.shape old done.swept old.phase done.numbers refl e done.ended) done.start
+
+pub collections_have_started : CollectionsHaveStarted
+collections_have_started setup want old new piece lines valid h =
+    let Q : Type 0 = IsRefused R.Phase old lines new ⊎ (IsRefused R.Stack old lines new
+    ⊎ (IsMemory old lines new ⊎ ((done : IsCollection setup want old piece lines new) × HasStarted setup done.started))) in
+    bool_is (is_marking old.phase) _ _ Q (λ e r. inl r.1)
+    (λ e d. bool_is (is_stack_refused want old.stack) _ _ Q (λ f r. inr (inl r.1))
+    (λ f c. elim c [
+      | inl memory ↦ inr (inr (inl memory.1))
+      | inr done ↦
+          inr (inr (inr (
+            done,
+            collection_started setup want old new piece lines (sound_from setup old valid) e done,
+          )))
+    ]) d) h

@@ -197,7 +197,7 @@ module _ (setup : Setup) (start : State) (begun : HasStarted setup start) where
     finish_goes want on h =
         match_bool (is_marking old.phase) _ _ (Goes old command piece lines new)
         (λ rest. match_bool (is_stack_refused want old.stack) _ _ (Goes old command piece lines new) (λ r. refused R.Stack r.1)
-        (λ f. (let over : new.phase ≡ Sweeping = ap (λ (s : State). s.phase) f.2 ∙ ap (λ (s : State). s.phase) f.1.after in absurd cc)) rest)
+        (λ f. (let over : new.phase ≡ Sweeping = ap (λ (s : State). s.phase) f.2 ∙ ap (λ (s : State). s.phase) f.1.done.after in absurd cc)) rest)
         (λ r. refused R.Phase r.1) h
 
     -- ---- a new object

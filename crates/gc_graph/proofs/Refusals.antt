@@ -151,7 +151,7 @@ finish_kinds : (setup : Setup) (want : Want) (old new : State) (piece : List Ent
 finish_kinds setup want old new piece lines h =
     match_bool (is_marking old.phase) _ _ _
     (λ rest. match_bool (is_stack_refused want old.stack) _ _ _ (λ r. refused setup (C.GcFinish want) old new piece lines R.Stack r.0 r.1)
-    (λ f. spoken setup (C.GcFinish want) old new piece lines _ _ refl f.1.lines_are) rest)
+    (λ f. spoken setup (C.GcFinish want) old new piece lines _ _ refl f.1.done.lines_are) rest)
     (λ r. refused setup (C.GcFinish want) old new piece lines R.Phase r.0 r.1) h
 
 now_kinds : (setup : Setup) (want : Want) (old new : State) (piece : List Entry) (lines : List Line) → StepGcNow setup want old piece lines new
@@ -163,7 +163,7 @@ now_kinds setup want old new piece lines h =
       | inl m ↦ memory setup (C.GcNow want) old new piece lines tt refl m.0 m.1
       | inr c ↦
           after_finalised setup (C.GcNow want) old new piece lines c.numbers _ _ refl
-          (c.lines_are ∙ ap (λ ls. finalise_lines c.numbers ++ ls) c.pause.lines_are)
+          (c.lines_are ∙ ap (λ ls. finalise_lines c.numbers ++ ls) c.pause.done.lines_are)
     ]) rest) h
 
 export_kinds : (setup : Setup) (old new : State) (p x : ℕ) (piece : List Entry) (lines : List Line) → StepExport old p x piece lines new

@@ -49,6 +49,7 @@ pub record IsHeap (setup : Setup) (nodes : List Node) : Type 0 where
 
 pub record IsFollowed (nodes : List Node) (may : List Bool) : Type 0 where
   pub follows : AllFollow nodes may
+  pub live : (n : ℕ) → IsIn may n → IsLive nodes n
   pub whole : length may ≡ length nodes
 
 abbrev pub MayFollows : Phase → List Node → List Bool → Type 0
@@ -177,12 +178,12 @@ roots_in Sweeping s h = λ k d l. tt
 follows_in : (phase : Phase) (setup : Setup) (s : State) → All (IsTyped setup (length s.nodes)) s.nodes → HasMay phase s → MayFollows phase s.nodes s.may
 follows_in Idle setup s typed h = tt
 follows_in Marking setup s typed h =
-    record { follows = follow_from s.nodes s.may (λ m. (length s.nodes, kinds_at setup s.nodes typed m)) h.closed; whole = h.whole }
+    record { follows = follow_from s.nodes s.may (λ m. (length s.nodes, kinds_at setup s.nodes typed m)) h.closed; live = h.live; whole = h.whole }
 follows_in Sweeping setup s typed h = tt
 
 may_from : (phase : Phase) (s : State) → All (MayHas phase s.may) (roots_of s) → MayFollows phase s.nodes s.may → HasMay phase s
 may_from Idle s r h = tt
-may_from Marking s r h = record { closed = closed_from s.nodes s.may h.follows; roots = found (IsIn s.may) (roots_of s) r; whole = h.whole }
+may_from Marking s r h = record { closed = closed_from s.nodes s.may h.follows; roots = found (IsIn s.may) (roots_of s) r; live = h.live; whole = h.whole }
 may_from Sweeping s r h = tt
 
 both_root : (nodes : List Node) (phase : Phase) (may : List Bool) (targets : List ℕ) → All (IsLive nodes) targets → All (MayHas phase may) targets

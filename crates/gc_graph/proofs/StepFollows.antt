@@ -26,6 +26,7 @@ use Rattle.gc_graph.specs.HandleSteps.{IsDone, pushed, IsPushed, IsPeeked}
 use Rattle.gc_graph.specs.CycleSteps.{is_marking, is_sweeping, is_stack_refused, IsStart, IsBegun, StepGcStart, IsPause, StepGcFinish, IsCollection, StepGcNow, StepSweepTo}
 use Rattle.gc_graph.specs.RegionSteps.{TakesOwn, StepExport, StepImport, StepThreadsJoin}
 use Rattle.gc_graph.specs.Step.{Step}
+use Rattle.gc_graph.proofs.ValidRegion.{took_own}
 use Rattle.gc_graph.proofs.StepCases.{match_option, match_bool, at_field}
 use Rattle.gc_graph.proofs.HistoryLaws.{Follows, quiet, follows-append, started_through, owned, took-region, took-phase, others_start_nothing, sweep_follows}
 
@@ -131,9 +132,11 @@ pause_follows : (setup : Setup) (markers : ℕ) (want : Want) (old new : State) 
     → IsPause setup markers want old piece lines new → Follows old piece new
 pause_follows setup markers want old new piece lines on pause = record {
   legal = subst (λ b. IsLegalFrom old.region b piece) (sym on) pause.legal;
-  slots = ap (λ (s : State). s.region) pause.after ∙ took-region old piece;
+  slots =
+      ap (λ (s : State). s.region) pause.done.after
+      ∙ sym (ap (λ (s : State). s.region) (took_own old pause.before piece _ pause.piece_is)) ∙ took-region old piece;
   started =
-      ap (λ (s : State). is_marking s.phase) pause.after
+      ap (λ (s : State). is_marking s.phase) pause.done.after
       ∙ sym (ap (started_through (is_marking old.phase)) pause.piece_is ∙ owned old (is_marking old.phase) pause.before _ pause.others);
 }
 

@@ -1,5 +1,5 @@
 -- The commands of the collection cycle keep a state sound.
-use Rattle.std.proofs.Common.{◌≡◌, ℕ, ◌+◌, ◌<◌, Bool, false, List, ◌++◌, length, All, refl, sym, ap, ◌∙◌, subst, inl, inr, arith}
+use Rattle.std.proofs.Common.{◌≡◌, ℕ, ◌+◌, ◌<◌, Bool, false, List, ◌++◌, length, All, refl, ap, ◌∙◌, subst, inl, inr, arith}
 use Rattle.std.proofs.lemmas.List.{length-map}
 use Rattle.gc_graph.specs.declared.command.Want.{Want}
 use Rattle.gc_graph.specs.declared.line.Line.{Line}
@@ -12,7 +12,7 @@ use Rattle.gc_graph.specs.Reach.{Reach, AreNodes, IsLeastClosed}
 use Rattle.gc_graph.specs.State.{Setup, State, Node, RegionSlot, IsLive, graph_of, roots_of, slot_targets, stack_targets, strong_region_targets}
 use Rattle.gc_graph.specs.State.RegionSlot.{Vacant, StrongTo, WeakTo}
 use Rattle.gc_graph.specs.May.{marking}
-use Rattle.gc_graph.specs.Pause.{condemn, dying_slots, paused}
+use Rattle.gc_graph.specs.Pause.{condemn, paused}
 use Rattle.gc_graph.specs.Sweep.{SweepsTo}
 use Rattle.gc_graph.specs.Valid.{IsSettled}
 use Rattle.gc_graph.specs.Outcomes.{answered, took, with_entry, owner_entry}
@@ -20,10 +20,10 @@ use Rattle.gc_graph.specs.CycleSteps.{IsStart, IsBegun, is_marking, is_stack_ref
 use Rattle.gc_graph.proofs.Reaching.{reach_law, reach_length}
 use Rattle.gc_graph.proofs.Follows.{follow_from}
 use Rattle.gc_graph.proofs.Sound.{RegionNames, slots_from, words_from, found, held_to, all_left, all_right, kinds_at, IsRoot, IsSound}
-use Rattle.gc_graph.proofs.WeakReads.{refers_within, below_if_live}
+use Rattle.gc_graph.proofs.WeakReads.{refers_within, below_if_live, reached_live}
 use Rattle.gc_graph.proofs.ValidCases.{bool_is, landed, refused_sound}
 use Rattle.gc_graph.proofs.ValidHandles.{Root}
-use Rattle.gc_graph.proofs.ValidRegion.{entry_sound, others_sound, took_own, took_nodes, took_phase}
+use Rattle.gc_graph.proofs.ValidRegion.{entry_sound, others_sound, took_own, took_phase}
 use Rattle.gc_graph.proofs.ValidPause.{roots_live, slot_both, word_both, strong_from, Anyone, pause_sound}
 use Rattle.gc_graph.proofs.ValidSweeps.{sweeps_sound, ended_phase}
 
@@ -76,6 +76,7 @@ module _ (setup : Setup) (s : State) (g : IsSound setup s) where
     settled = subst (λ phase. IsSettled setup.shape phase s.cursor s.nodes) idle g.settled;
     may = record {
       follows = follow_from s.nodes Reached (λ m. (length s.nodes, kinds_at setup s.nodes g.heap.typed m)) reached_law.closed;
+      live = reached_live setup s.nodes (roots_of s) g.heap reached_law (roots_live setup s g);
       whole = reach_length (graph_of s.nodes) (roots_of s) ∙ length-map s.nodes (λ (x : Node). x.object);
     };
   }
@@ -91,7 +92,7 @@ start_sound setup swept new piece g idle h =
 memory_keeps : (setup : Setup) (old new : State) (piece : List Entry) (lines : List Line) → IsSound setup old → WantsMemory old piece lines new → IsSound setup new
 memory_keeps setup old new piece lines g h = landed setup new (answered old) h.1.1 g
 
-ended_sound : (setup : Setup) (old swept : State) (numbers : List ℕ) → IsSound setup old → SweepsTo setup.shape old setup.shape.pages numbers swept → IsSound setup swept
+pub ended_sound : (setup : Setup) (old swept : State) (numbers : List ℕ) → IsSound setup old → SweepsTo setup.shape old setup.shape.pages numbers swept → IsSound setup swept
 ended_sound setup old swept numbers g h = sweeps_sound setup old swept old.phase setup.shape.pages numbers g (omega arith) h
 
 begun_sound : (setup : Setup) (old new : State) (piece : List Entry) (lines : List Line) → is_marking old.phase ≡ false → IsSound setup old
@@ -124,12 +125,7 @@ pause_keeps : (setup : Setup) (markers : ℕ) (want : Want) (old new : State) (p
 pause_keeps setup markers want old new piece lines pages g h =
     let mid : State = took old h.before in
     let sound : IsSound setup mid = others_sound setup old h.before h.others g in
-    landed setup new (paused setup (with_entry mid (owner_entry mid (O.Pause (dying_slots (condemn h.kept mid.nodes) mid.region)))) h.kept)
-    (h.after
-    ∙ ap (λ s. paused setup s h.kept) (took_own old h.before piece (O.Pause (dying_slots (condemn h.kept old.nodes) mid.region)) h.piece_is)
-    ∙ ap (λ nodes. paused setup (with_entry mid (owner_entry mid (O.Pause (dying_slots (condemn h.kept nodes) mid.region)))) h.kept)
-    (sym (took_nodes old h.before)))
-    (pause_sound setup mid want h.kept sound h.keeps pages)
+    landed setup new (paused setup mid (condemn h.kept mid.nodes)) h.done.after (pause_sound setup mid want h.kept sound h.done.keeps pages)
 
 pub gc_finish_keeps : (setup : Setup) (want : Want) (old new : State) (piece : List Entry) (lines : List Line) → 0 < setup.shape.pages → IsSound setup old
     → StepGcFinish setup want old piece lines new → IsSound setup new

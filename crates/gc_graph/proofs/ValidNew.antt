@@ -182,6 +182,13 @@ module _ (setup : Setup) (s : State) (t extra place : ℕ) (g : IsSound setup s)
               (kinds_at setup s.nodes g.heap.typed m) (h.follows m (less m l i)))
               (λ e. nulls_each (Held may) Anything Anything (Carries may) tt tt tt tt (type_at setup t).kinds extra)
               (λ k d l. tt);
+          live = λ m i. elim (cases_order m Count) [
+            | inl same ↦ subst (IsLive After) (sym same) live_new
+            | inr other ↦ elim other [
+              | inl under ↦ live_old m (h.live m (less m under i))
+              | inr over ↦ absurd (true≢false (sym i ∙ get_or_past may m false (omega (arith, length_push s.may true))))
+            ]
+          ];
           whole = length_push s.may true ∙ ap (λ n. n + 1) same ∙ sym whole;
         };
         more = more;

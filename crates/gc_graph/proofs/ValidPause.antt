@@ -10,7 +10,6 @@ use Rattle.std.proofs.lemmas.List.Elements.{All-nil, All-cons, All-head, All-tai
 use Rattle.gc_graph.specs.declared.command.Want.{Want}
 use Rattle.gc_graph.specs.declared.command.Want.TheVariants.{Precise, Conservative}
 use Rattle.gc_graph.specs.declared.phase.Phase.TheVariants.{Sweeping}
-use Rattle.gc_graph.specs.declared.region.Op.TheVariants as O
 use Rattle.gc_graph.specs.Graph.{Object, IsIn}
 use Rattle.gc_graph.specs.Reach.{Reach, AreNodes, IsLeastClosed}
 use Rattle.gc_graph.specs.State.{Setup, State, Node, StackWord, RegionSlot, IsLive, graph_of, roots_of, slot_targets, stack_targets, strong_region_targets}
@@ -18,8 +17,7 @@ use Rattle.gc_graph.specs.State.StackWord.{Pointer, Number}
 use Rattle.gc_graph.specs.State.RegionSlot.{Vacant, StrongTo, WeakTo}
 use Rattle.gc_graph.specs.May.{is_hit, hits_for}
 use Rattle.gc_graph.specs.History.{weak_target, cleared_by}
-use Rattle.gc_graph.specs.Pause.{IsKept, condemn, is_dead_at, clear_slot, names_dead_node, mask_of, dying_slots, dies, run_order, clear_fields, nodes_after_pause, paused}
-use Rattle.gc_graph.specs.Outcomes.{with_entry, owner_entry}
+use Rattle.gc_graph.specs.Pause.{IsKept, condemn, is_dead_at, clear_slot, names_dead_node, mask_of, dies, run_order, prefinalised, clear_fields, paused}
 use Rattle.gc_graph.proofs.Reaching.{reach_law}
 use Rattle.gc_graph.proofs.Follows.{AllFollow, follow_from}
 use Rattle.gc_graph.proofs.Sound.{SlotNames, WordNames, RegionNames, slots_from, slots_to, words_from, words_to, strong_to, found, held_to, all_left, all_right, kinds_at, IsRoot, IsSound}
@@ -115,11 +113,11 @@ not_dead false e = refl
 -- ---- the pause in whole
 
 module _ (setup : Setup) (s : State) (want : Want) (kept : List Bool) (g : IsSound setup s) (keeps : IsKept s (hits_for want s) kept) where
-  abbrev Judged : List Node
+  abbrev pub Judged : List Node
   Judged = condemn kept s.nodes
 
-  abbrev Left : List Node
-  Left = nodes_after_pause setup.callbacks s.registrations Judged
+  abbrev pub Left : List Node
+  Left = prefinalised setup.callbacks (run_order Judged s.registrations) (clear_fields Judged)
 
   follows_kept : AllFollow s.nodes kept
   follows_kept = follow_from s.nodes kept (λ m. (length s.nodes, kinds_at setup s.nodes g.heap.typed m)) keeps.closed
@@ -161,7 +159,7 @@ module _ (setup : Setup) (s : State) (want : Want) (kept : List Bool) (g : IsSou
   slot_after (WeakTo n) e h = spared n h.0 e
 
   pub pause_sound : 0 < setup.shape.pages
-      → IsSound setup (paused setup (with_entry s (owner_entry s (O.Pause (dying_slots Judged s.region)))) kept)
+      → IsSound setup (paused setup s Judged)
   pause_sound pages = record {
     heap = order.heap;
     slots = λ k d l.

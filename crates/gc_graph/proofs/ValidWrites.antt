@@ -17,7 +17,7 @@ use Rattle.gc_graph.proofs.Shapes.{IsPairBelow}
 use Rattle.gc_graph.proofs.Follows.{Anything, Held, Carries, Follows}
 use Rattle.gc_graph.proofs.Sound.{SlotNames, MayHas, MayFollows, IsSound}
 use Rattle.gc_graph.proofs.WeakReads.{below_if_live}
-use Rattle.gc_graph.proofs.NodeWrites.{IsLikeNode, look_written, heap_written, node_after, nodes_sound}
+use Rattle.gc_graph.proofs.NodeWrites.{IsLikeNode, LookSame, live_after, look_written, heap_written, node_after, nodes_sound}
 use Rattle.gc_graph.proofs.FieldWrites.{with_pair, one_written, pair_written, suits_reference, suits_plain, one_typed, pair_typed, one_like, pair_like}
 use Rattle.gc_graph.proofs.ValidCases.{field_is, landed, refused_sound}
 use Rattle.gc_graph.proofs.ValidHandles.{Root, slot_root, slot_is_root}
@@ -35,12 +35,13 @@ follows_of Idle nodes may n h i = tt
 follows_of Marking nodes may n h i = h.follows n i
 follows_of Sweeping nodes may n h i = tt
 
-follows_written : (phase : Phase) (nodes : List Node) (may : List Bool) (n : ℕ) (node : Node) → MayFollows phase nodes may → FollowsIn phase may node
-    → MayFollows phase (set nodes n node) may
-follows_written Idle nodes may n node h f = tt
-follows_written Sweeping nodes may n node h f = tt
-follows_written Marking nodes may n node h f = record {
+follows_written : (phase : Phase) (nodes : List Node) (may : List Bool) (n : ℕ) (node : Node) → LookSame nodes (set nodes n node)
+    → MayFollows phase nodes may → FollowsIn phase may node → MayFollows phase (set nodes n node) may
+follows_written Idle nodes may n node look h f = tt
+follows_written Sweeping nodes may n node look h f = tt
+follows_written Marking nodes may n node look h f = record {
   follows = λ m i. node_after (λ y. Follows may y.object.kinds y.object.values) nodes n m node (λ e. f) (h.follows m i);
+  live = λ m i. live_after nodes (set nodes n node) look m (h.live m i);
   whole = h.whole ∙ sym (length-set nodes n node);
 }
 
@@ -54,7 +55,7 @@ record IsFit (setup : Setup) (s : State) (n : ℕ) (node : Node) : Type 0 where
 fit_sound : (setup : Setup) (s : State) (n : ℕ) (node : Node) → IsSound setup s → IsFit setup s n node → IsSound setup (with_node s n node)
 fit_sound setup s n node g fit =
     nodes_sound setup s (set s.nodes n node) g (heap_written setup s.nodes n node g.heap fit.like fit.typed (λ live. fit.names))
-    (look_written s.nodes n node fit.like) (follows_written s.phase s.nodes s.may n node g.may fit.follows)
+    (look_written s.nodes n node fit.like) (follows_written s.phase s.nodes s.may n node (look_written s.nodes n node fit.like) g.may fit.follows)
 
 changed_sound : (setup : Setup) (old new : State) (n : ℕ) (node : Node) (lines : List Line) → IsSound setup old → IsFit setup old n node
     → IsChanged old n node lines new → IsSound setup new

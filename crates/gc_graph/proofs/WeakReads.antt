@@ -4,7 +4,7 @@ use Rattle.std.specs.List.{list_any}
 use Rattle.std.proofs.lemmas.Bool.{or_cases, or_left, or_right, and_parts, cases_lt}
 use Rattle.std.proofs.lemmas.List.{get_or_past, length-map}
 use Rattle.std.proofs.lemmas.List.Folds.{list_any-append}
-use Rattle.std.proofs.lemmas.List.Elements.{All-nil, All-cons, All-weaker, All-append}
+use Rattle.std.proofs.lemmas.List.Elements.{All-nil, All-cons, All-head, All-tail, All-weaker, All-append}
 use Rattle.gc_graph.specs.declared.graph.Kind.{Kind}
 use Rattle.gc_graph.specs.declared.graph.Kind.TheVariants.{Strong, Weak, Pair, Plain}
 use Rattle.gc_graph.specs.declared.graph.Value.{Value}
@@ -12,14 +12,15 @@ use Rattle.gc_graph.specs.declared.graph.Value.TheVariants.{Null, Ref, Word}
 use Rattle.gc_graph.specs.declared.phase.Phase.{Phase}
 use Rattle.gc_graph.specs.declared.phase.Phase.TheVariants.{Idle, Marking, Sweeping}
 use Rattle.gc_graph.specs.Graph.{Object, has, IsIn, leads_to}
-use Rattle.gc_graph.specs.Reach.{Reach, RefersWithin, AreNodes, IsLeastClosed}
-use Rattle.gc_graph.specs.State.{Setup, State, Node, no_node, node_at, IsLive, graph_of}
-use Rattle.gc_graph.specs.State.Life.{Live, Gone}
+use Rattle.gc_graph.specs.Reach.{set_of, Reach, RefersWithin, AreNodes, IsLeastClosed}
+use Rattle.gc_graph.specs.State.{Setup, State, Node, Life, no_node, node_at, is_live, IsLive, graph_of}
+use Rattle.gc_graph.specs.State.Life.{Live, Dead, Gone}
 use Rattle.gc_graph.specs.May.{members, members_from, may_with_read, weakly_read}
-use Rattle.gc_graph.specs.Valid.{HaveKinds, IsTyped}
+use Rattle.gc_graph.specs.Valid.{HaveKinds, IsTyped, NamesLive}
+use Rattle.gc_graph.proofs.Sets.{has-set_of, set_of-below}
 use Rattle.gc_graph.proofs.Reaching.{reach_law, reach_length}
-use Rattle.gc_graph.proofs.Follows.{AnyStrong, AnyPair, object_of_node, follow_from}
-use Rattle.gc_graph.proofs.Sound.{slot_weaker, word_weaker, region_weaker, MayHas, IsRoot, MayFollows, IsSound, found, kinds_at}
+use Rattle.gc_graph.proofs.Follows.{AnyStrong, AnyPair, Held, Carries, Follows, object_of_node, closed_from, follow_from}
+use Rattle.gc_graph.proofs.Sound.{slot_weaker, word_weaker, region_weaker, MayHas, IsRoot, IsHeap, MayFollows, IsSound, found, kinds_at}
 
 -- ---- typed nodes refer to nodes
 
@@ -81,6 +82,73 @@ below_if_live nodes n live =
       | inr p ↦ (let gone : Gone ≡ Live = ap (λ (x : Node). x.life) (sym (get_or_past nodes n no_node p)) ∙ live in cc)
     ]
 
+-- ---- live nodes lead to live ones
+
+live_held : (nodes : List Node) (set : List Bool) → ((n : ℕ) → IsLive nodes n → IsIn set n) → (value : Value) → NamesLive nodes value → Held set value
+live_held nodes set all Null h = tt
+live_held nodes set all (Ref n) h = all n h
+live_held nodes set all (Word w) h = tt
+
+live_carried : (nodes : List Node) (set : List Bool) → ((n : ℕ) → IsLive nodes n → IsIn set n) → (key value : Value) → NamesLive nodes value → Carries set key value
+live_carried nodes set all Null value h = tt
+live_carried nodes set all (Ref n) value h = λ i. live_held nodes set all value h
+live_carried nodes set all (Word w) value h = tt
+
+-- the words of a live node name nothing but members of a set that has all live nodes
+live_follow : (nodes : List Node) (set : List Bool) (bound : ℕ) → ((n : ℕ) → IsLive nodes n → IsIn set n) → (kinds : List Kind) (values : List Value)
+    → HaveKinds bound kinds values → All (NamesLive nodes) values → Follows set kinds values
+live_follow nodes set bound all [] values h live = λ k d l. tt
+live_follow nodes set bound all (Strong ∷ kinds) [] h live = absurd h
+live_follow nodes set bound all (Weak ∷ kinds) [] h live = absurd h
+live_follow nodes set bound all (Pair ∷ kinds) [] h live = absurd h
+live_follow nodes set bound all (Plain ∷ kinds) [] h live = absurd h
+live_follow nodes set bound all (Strong ∷ kinds) (x ∷ xs) h live = (
+  live_held nodes set all x (All-head (NamesLive nodes) x xs live),
+  live_follow nodes set bound all kinds xs h.1 (All-tail (NamesLive nodes) x xs live),
+)
+live_follow nodes set bound all (Weak ∷ kinds) (x ∷ xs) h live = (tt, live_follow nodes set bound all kinds xs h.1 (All-tail (NamesLive nodes) x xs live))
+live_follow nodes set bound all (Plain ∷ kinds) (x ∷ xs) h live = (tt, live_follow nodes set bound all kinds xs h.1 (All-tail (NamesLive nodes) x xs live))
+live_follow nodes set bound all (Pair ∷ kinds) (x ∷ []) h live = absurd h
+live_follow nodes set bound all (Pair ∷ kinds) (x ∷ y ∷ xs) h live =
+    let rest : All (NamesLive nodes) (y ∷ xs) = All-tail (NamesLive nodes) x (y ∷ xs) live in (
+      live_carried nodes set all x y (All-head (NamesLive nodes) y xs rest),
+      live_follow nodes set bound all kinds xs h.3 (All-tail (NamesLive nodes) y xs rest),
+    )
+
+abbrev live_set : List Node → List Bool
+live_set nodes = set_of (λ n. is_live (node_at nodes n).life) (length nodes)
+
+is_live_true : (life : Life) → life ≡ Live → is_live life ≡ true
+is_live_true Live e = refl
+is_live_true Dead e = cc
+is_live_true Gone e = cc
+
+true_is_live : (life : Life) → is_live life ≡ true → life ≡ Live
+true_is_live Live e = refl
+true_is_live Dead e = absurd (true≢false (sym e))
+true_is_live Gone e = absurd (true≢false (sym e))
+
+into_live : (nodes : List Node) (n : ℕ) → IsLive nodes n → IsIn (live_set nodes) n
+into_live nodes n live =
+    has-set_of (λ k. is_live (node_at nodes k).life) (length nodes) n (below_if_live nodes n live) ∙ is_live_true (node_at nodes n).life live
+
+from_live : (nodes : List Node) (n : ℕ) → IsIn (live_set nodes) n → IsLive nodes n
+from_live nodes n i =
+    true_is_live (node_at nodes n).life
+    (sym (has-set_of (λ k. is_live (node_at nodes k).life) (length nodes) n (set_of-below (λ k. is_live (node_at nodes k).life) (length nodes) n i)) ∙ i)
+
+-- what live roots reach is live
+pub reached_live : (setup : Setup) (nodes : List Node) (roots : List ℕ) → IsHeap setup nodes
+    → IsLeastClosed (graph_of nodes) roots (Reach (graph_of nodes) roots) → All (IsLive nodes) roots
+    → (n : ℕ) → IsIn (Reach (graph_of nodes) roots) n → IsLive nodes n
+reached_live setup nodes roots heap law live n i =
+    from_live nodes n
+    (law.least (live_set nodes)
+    (closed_from nodes (live_set nodes)
+    (λ m at. live_follow nodes (live_set nodes) (length nodes) (into_live nodes) (node_at nodes m).object.kinds (node_at nodes m).object.values
+    (kinds_at setup nodes heap.typed m) (heap.named m (from_live nodes m at))))
+    (λ k e. into_live nodes k (found (IsLive nodes) roots live k e)) n i)
+
 -- ---- the members of a set
 
 members_above : (n : ℕ) (set : List Bool) → All (λ k. (n ≤ k) × (has set (k - n) ≡ true)) (members_from n set)
@@ -118,11 +186,11 @@ pub record IsReadSet (nodes : List Node) (phase : Phase) (may after : List Bool)
   pub more : (k : ℕ) → MayHas phase may k → MayHas phase after k
   pub read : MayHas phase after n
 
-pub read_set : (setup : Setup) (nodes : List Node) (phase : Phase) (may : List Bool) (n : ℕ) → All (IsTyped setup (length nodes)) nodes
+pub read_set : (setup : Setup) (nodes : List Node) (phase : Phase) (may : List Bool) (n : ℕ) → IsHeap setup nodes
     → IsLive nodes n → MayFollows phase nodes may → IsReadSet nodes phase may (may_with_read phase (graph_of nodes) may n) n
-read_set setup nodes Idle may n typed live h = record { follows = tt; more = λ k i. tt; read = tt }
-read_set setup nodes Sweeping may n typed live h = record { follows = tt; more = λ k i. tt; read = tt }
-read_set setup nodes Marking may n typed live h =
+read_set setup nodes Idle may n heap live h = record { follows = tt; more = λ k i. tt; read = tt }
+read_set setup nodes Sweeping may n heap live h = record { follows = tt; more = λ k i. tt; read = tt }
+read_set setup nodes Marking may n heap live h =
     let g : List Object = graph_of nodes in
     let roots : List ℕ = members may ++ n ∷ [] in
     let long : length g ≡ length nodes = length-map nodes (λ (x : Node). x.object) in
@@ -132,10 +200,13 @@ read_set setup nodes Marking may n typed live h =
     (All-append (λ k. k < length g) (members may) (n ∷ [])
     (All-weaker (IsIn may) (λ k. k < length g) (λ k i. let l = in_below may k i in omega arith) (members may) (members_in may))
     (All-cons (λ k. k < length g) n [] (let l = below_if_live nodes n live in omega arith) (All-nil (λ k. k < length g)))) in
-    let law : IsLeastClosed g roots (Reach g roots) = reach_law g roots (refers_within setup nodes typed) are in
+    let law : IsLeastClosed g roots (Reach g roots) = reach_law g roots (refers_within setup nodes heap.typed) are in
     record {
       follows = record {
-        follows = follow_from nodes (Reach g roots) (λ m. (length nodes, kinds_at setup nodes typed m)) law.closed;
+        follows = follow_from nodes (Reach g roots) (λ m. (length nodes, kinds_at setup nodes heap.typed m)) law.closed;
+        live = reached_live setup nodes roots heap law
+            (All-append (IsLive nodes) (members may) (n ∷ [])
+            (All-weaker (IsIn may) (IsLive nodes) h.live (members may) (members_in may)) (All-cons (IsLive nodes) n [] live (All-nil (IsLive nodes))));
         whole = reach_length g roots ∙ long;
       };
       more = λ k i. law.roots_in k (list_any-append (λ r. r == k) (members may) (n ∷ []) ∙ or_left _ _ (member_found may k i));
@@ -163,5 +234,5 @@ pub read_sound : (setup : Setup) (s : State) (n : ℕ) → IsSound setup s → I
     → IsSound setup (weakly_read s n) × IsRoot s.nodes s.phase (weakly_read s n).may n
 read_sound setup s n g live =
     let r : IsReadSet s.nodes s.phase s.may (may_with_read s.phase (graph_of s.nodes) s.may n) n =
-    read_set setup s.nodes s.phase s.may n g.heap.typed live g.may in
+    read_set setup s.nodes s.phase s.may n g.heap live g.may in
     (grown setup s (may_with_read s.phase (graph_of s.nodes) s.may n) g r.more r.follows, record { live = live; in_may = r.read })

@@ -16,6 +16,7 @@ is_listed members n = list_any (λ m. m == n) members
 abbrev pub ListsEach : List ℕ → List ℕ → Type 0
 ListsEach members numbers = (n : ℕ) → is_listed numbers n ≡ true → is_listed members n ≡ true
 
+-- the node that the value at a position names
 abbrev pub target_at : List Value → ℕ → Option ℕ
 target_at values i = target_of (slice_index_or values i Null)
 

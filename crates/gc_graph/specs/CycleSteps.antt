@@ -1,5 +1,5 @@
 -- The commands of the collection cycle: start, step, pause and sweep (`include/cppgc/heap.h`, `include/cppgc/README.md`).
-use Rattle.std.specs.Prelude.{◌≡◌, ◌⊎◌, ℕ, ◌+◌, ◌≤◌, min, nat_lt, Bool, true, false, List, [], ◌∷◌, ◌++◌, length, MatchBool}
+use Rattle.std.specs.Prelude.{◌≡◌, ◌⊎◌, ℕ, ◌+◌, ◌≤◌, min, nat_lt, Bool, true, false, List, [], ◌∷◌, ◌++◌, length}
 use Rattle.gc_graph.specs.declared.command.Want.{Want}
 use Rattle.gc_graph.specs.declared.command.Want.TheVariants.{Precise, Conservative}
 use Rattle.gc_graph.specs.declared.line.Line.{Line}
@@ -9,13 +9,13 @@ use Rattle.gc_graph.specs.declared.phase.Phase.{Phase}
 use Rattle.gc_graph.specs.declared.phase.Phase.TheVariants.{Idle, Marking, Sweeping}
 use Rattle.gc_graph.specs.declared.region.Entry.{Entry}
 use Rattle.gc_graph.specs.declared.region.Op.TheVariants as O
-use Rattle.gc_graph.specs.State.{Setup, State, StackWord, objects_of, used_of}
+use Rattle.gc_graph.specs.State.{Setup, State, Node, StackWord, objects_of, used_of}
 use Rattle.gc_graph.specs.May.{marking, hits_for}
 use Rattle.gc_graph.specs.Placement.{extents_of, IsUsedPages}
-use Rattle.gc_graph.specs.Pause.{IsKept, condemn, live_count, dead_count, dying_slots, run_order, prefinalise_lines, paused}
+use Rattle.gc_graph.specs.Pause.{IsKept, condemn, live_count, dead_count, run_order, prefinalise_lines, entry_of_pause, paused}
 use Rattle.gc_graph.specs.Sweep.{SweepsTo, SweepsToEnd}
 use Rattle.gc_graph.specs.History.{IsLegalFrom}
-use Rattle.gc_graph.specs.Outcomes.{answered, IsRefused, IsMemory, finalise_lines, took, AreOthers, owner_entry}
+use Rattle.gc_graph.specs.Outcomes.{answered, IsRefused, RefusedIf, RefusedUnless, IsMemory, finalise_lines, took, AreOthers, owner_entry}
 
 -- ---- the start
 
@@ -37,11 +37,13 @@ pub record IsBegun (setup : Setup) (old : State) (piece : List Entry) (lines : L
   pub lines_are : lines ≡ finalise_lines numbers ++ L.Started ∷ []
   pub after : new ≡ answered started
 
+-- whether marking goes on
 abbrev pub is_marking : Phase → Bool
 is_marking Idle = false
 is_marking Marking = true
 is_marking Sweeping = false
 
+-- whether a sweep is open
 abbrev pub is_sweeping : Phase → Bool
 is_sweeping Idle = false
 is_sweeping Marking = false
@@ -54,7 +56,7 @@ WantsMemory old piece lines new = (piece ≡ []) × IsMemory old lines new
 -- gc start: refused while marking goes on
 abbrev pub StepGcStart : Setup → State → List Entry → List Line → State → Type 0
 StepGcStart setup old piece lines new =
-    MatchBool (is_marking old.phase) ((piece ≡ []) × IsRefused R.Phase old lines new)
+    RefusedIf (is_marking old.phase) ((piece ≡ []) × IsRefused R.Phase old lines new)
     (WantsMemory old piece lines new ⊎ IsBegun setup old piece lines new)
 
 -- ---- a step
@@ -68,7 +70,7 @@ pub record IsTraced (old : State) (n : ℕ) (lines : List Line) (new : State) : 
 
 -- gc step: refused while no marking goes on
 abbrev pub StepGcStep : State → ℕ → List Line → State → Type 0
-StepGcStep old n lines new = MatchBool (is_marking old.phase) (IsTraced old n lines new) (IsRefused R.Phase old lines new)
+StepGcStep old n lines new = RefusedUnless (is_marking old.phase) (IsRefused R.Phase old lines new) (IsTraced old n lines new)
 
 -- ---- the pause
 
@@ -76,32 +78,39 @@ StepGcStep old n lines new = MatchBool (is_marking old.phase) (IsTraced old n li
 abbrev pub HasCrew : ℕ → ℕ → Type 0
 HasCrew markers crew = markers ≡ 0 → crew ≡ 0
 
--- a pause of a collection that was started, at which so many markers run: it takes the history up to its entry, keeps a
--- set and condemns the others, clears weak handles and runs prefinalizers; each kept object was traced once in the cycle
-pub record IsPause (setup : Setup) (markers : ℕ) (want : Want) (old : State) (piece : List Entry) (lines : List Line) (new : State) : Type 0 where
-  pub before : List Entry
-  pub others : AreOthers old before
-  pub kept : List Bool
-  pub keeps : IsKept (took old before) (hits_for want (took old before)) kept
-  pub piece_is :
-      piece ≡ before ++ owner_entry (took old before) (O.Pause (dying_slots (condemn kept old.nodes) (took old before).region)) ∷ []
-  pub legal : IsLegalFrom old.region true piece
+-- a pause at which so many markers run, from the state just before its entry and the nodes after judgement: each kept object
+-- was traced once in the cycle
+pub record IsPauseAt
+    (setup : Setup) (markers : ℕ) (want : Want) (ready : State) (kept : List Bool) (judged_nodes : List Node) (lines : List Line) (new : State)
+    : Type 0 where
+  pub keeps : IsKept ready (hits_for want ready) kept
   pub crew : ℕ
   pub traced : ℕ
   pub walked : Bool
   pub crew_is : HasCrew markers crew
-  pub counted : old.traced + crew + traced ≡ live_count (condemn kept old.nodes)
+  pub counted : ready.traced + crew + traced ≡ live_count judged_nodes
   pub lines_are :
       lines
-      ≡ L.Pause (live_count (condemn kept old.nodes)) (dead_count (condemn kept old.nodes)) crew traced walked
-      ∷ prefinalise_lines (run_order (condemn kept old.nodes) old.registrations)
-  pub after : new ≡ paused setup (took old piece) kept
+      ≡ L.Pause (live_count judged_nodes) (dead_count judged_nodes) crew traced walked
+      ∷ prefinalise_lines (run_order judged_nodes ready.registrations)
+  pub after : new ≡ paused setup ready judged_nodes
+
+-- a pause of a collection that was started: others may make entries before its own, and then a set is kept and the other live
+-- nodes are condemned
+pub record IsPause (setup : Setup) (markers : ℕ) (want : Want) (old : State) (piece : List Entry) (lines : List Line) (new : State) : Type 0 where
+  pub before : List Entry
+  pub others : AreOthers old before
+  pub kept : List Bool
+  pub done : IsPauseAt setup markers want (took old before) kept (condemn kept (took old before).nodes) lines new
+  pub piece_is : piece ≡ before ++ entry_of_pause (took old before) (condemn kept (took old before).nodes) ∷ []
+  pub legal : IsLegalFrom old.region true piece
 
 -- a precise pause wants an empty stack
 abbrev pub is_stack_refused : Want → List StackWord → Bool
 is_stack_refused Precise stack = nat_lt 0 (length stack)
 is_stack_refused Conservative stack = false
 
+-- the pause of a collection that was started, with its markers
 abbrev pub IsFinished : Setup → Want → State → List Entry → List Line → State → Type 0
 IsFinished setup want old piece lines new =
     (after : State) × IsPause setup setup.markers want old piece lines after × (new ≡ answered after)
@@ -109,10 +118,9 @@ IsFinished setup want old piece lines new =
 -- gc finish: refused while no marking goes on, then where a precise pause finds words on the stack
 abbrev pub StepGcFinish : Setup → Want → State → List Entry → List Line → State → Type 0
 StepGcFinish setup want old piece lines new =
-    MatchBool (is_marking old.phase)
-    (MatchBool (is_stack_refused want old.stack) ((piece ≡ []) × IsRefused R.Stack old lines new)
+    RefusedUnless (is_marking old.phase) ((piece ≡ []) × IsRefused R.Phase old lines new)
+    (RefusedIf (is_stack_refused want old.stack) ((piece ≡ []) × IsRefused R.Stack old lines new)
     (IsFinished setup want old piece lines new))
-    ((piece ≡ []) × IsRefused R.Phase old lines new)
 
 -- a whole collection: an unfinished sweep is ended, and then come start and pause, with no crew
 pub record IsCollection (setup : Setup) (want : Want) (old : State) (piece : List Entry) (lines : List Line) (new : State) : Type 0 where
@@ -133,8 +141,8 @@ pub record IsCollection (setup : Setup) (want : Want) (old : State) (piece : Lis
 -- gc now: refused while marking goes on, then where a precise pause finds words on the stack
 abbrev pub StepGcNow : Setup → Want → State → List Entry → List Line → State → Type 0
 StepGcNow setup want old piece lines new =
-    MatchBool (is_marking old.phase) ((piece ≡ []) × IsRefused R.Phase old lines new)
-    (MatchBool (is_stack_refused want old.stack) ((piece ≡ []) × IsRefused R.Stack old lines new)
+    RefusedIf (is_marking old.phase) ((piece ≡ []) × IsRefused R.Phase old lines new)
+    (RefusedIf (is_stack_refused want old.stack) ((piece ≡ []) × IsRefused R.Stack old lines new)
     (WantsMemory old piece lines new ⊎ IsCollection setup want old piece lines new))
 
 -- ---- sweeps
@@ -150,7 +158,7 @@ pub record HasSwept (setup : Setup) (old : State) (pages : ℕ) (lines : List Li
 -- refused while no sweep is open
 abbrev pub StepSweepTo : Setup → State → ℕ → List Line → State → Type 0
 StepSweepTo setup old pages lines new =
-    MatchBool (is_sweeping old.phase) (HasSwept setup old pages lines new) (IsRefused R.Phase old lines new)
+    RefusedUnless (is_sweeping old.phase) (IsRefused R.Phase old lines new) (HasSwept setup old pages lines new)
 
 -- sweep n: n pages more, or those that are left
 abbrev pub StepSweep : Setup → State → ℕ → List Line → State → Type 0

@@ -9,19 +9,23 @@ use Rattle.gc_graph.specs.declared.region.Reply.TheVariants as R
 use Rattle.gc_graph.specs.State.{RegionSlot}
 use Rattle.gc_graph.specs.State.RegionSlot.{Vacant, StrongTo, WeakTo}
 
+-- what slot x holds, null past the last
 abbrev pub region_slot : List RegionSlot → ℕ → RegionSlot
 region_slot region x = slice_index_or region x Vacant
 
+-- the node that a slot names, strongly or weakly
 abbrev pub node_of : RegionSlot → Option ℕ
 node_of Vacant = None
 node_of (StrongTo n) = Some n
 node_of (WeakTo n) = Some n
 
+-- a slot that names a node names it weakly
 abbrev pub weakened : RegionSlot → RegionSlot
 weakened Vacant = Vacant
 weakened (StrongTo n) = WeakTo n
 weakened (WeakTo n) = WeakTo n
 
+-- a slot that names a node names it strongly
 abbrev pub strengthened : RegionSlot → RegionSlot
 strengthened Vacant = Vacant
 strengthened (StrongTo n) = StrongTo n
@@ -52,39 +56,32 @@ replayed region (entry ∷ history) = replayed (region_after region entry.op) hi
 abbrev pub replay : List Entry → List RegionSlot
 replay history = replayed (replicate 32 Vacant) history
 
--- the node that an entry reads from a weak slot
+-- the node that a weak slot names
 abbrev pub weak_target : RegionSlot → Option ℕ
 weak_target Vacant = None
 weak_target (StrongTo n) = None
 weak_target (WeakTo n) = Some n
 
+-- the node that an entry reads from a weak slot, before it changes the slots
 abbrev pub read_by : List RegionSlot → Op → Option ℕ
-read_by region (O.Export x n) = None
 read_by region (O.Import x) = weak_target (region_slot region x)
-read_by region O.Start = None
-read_by region (O.Pause cleared) = None
-read_by region (O.Copy x y) = None
-read_by region (O.Clear x) = None
-read_by region (O.Weaken x) = None
 read_by region (O.Upgrade x y) = weak_target (region_slot region x)
+read_by region op = None
 
 -- ---- which histories are legal
 
+-- a read answers the node, or null
 abbrev pub reply_with : Option ℕ → Reply
 reply_with None = R.Null
 reply_with (Some n) = R.Node n
 
 -- the reply that a region of one thread gives
 abbrev pub reply_of : List RegionSlot → Op → Reply
-reply_of region (O.Export x n) = R.Done
 reply_of region (O.Import x) = reply_with (node_of (region_slot region x))
-reply_of region O.Start = R.Done
-reply_of region (O.Pause cleared) = R.Done
-reply_of region (O.Copy x y) = R.Done
-reply_of region (O.Clear x) = R.Done
-reply_of region (O.Weaken x) = R.Done
 reply_of region (O.Upgrade x y) = reply_with (node_of (region_slot region x))
+reply_of region op = R.Done
 
+-- whether a slot is weak and not null
 abbrev pub is_weak_slot : RegionSlot → Bool
 is_weak_slot Vacant = false
 is_weak_slot (StrongTo n) = false
@@ -98,24 +95,13 @@ NamesWeakSlots mask (slot ∷ region) = (mask % 2 ≡ 1 → is_weak_slot slot �
 -- a pause clears weak slots, and only in a collection that was started
 abbrev pub MayPause : List RegionSlot → Bool → Op → Type 0
 MayPause region started (O.Pause cleared) = (started ≡ true) × NamesWeakSlots cleared region
-MayPause region started (O.Export x n) = ⊤
-MayPause region started (O.Import x) = ⊤
-MayPause region started O.Start = ⊤
-MayPause region started (O.Copy x y) = ⊤
-MayPause region started (O.Clear x) = ⊤
-MayPause region started (O.Weaken x) = ⊤
-MayPause region started (O.Upgrade x y) = ⊤
+MayPause region started op = ⊤
 
 -- whether a start has no pause after it
 abbrev pub started_after : Bool → Op → Bool
 started_after started O.Start = true
 started_after started (O.Pause cleared) = false
-started_after started (O.Export x n) = started
-started_after started (O.Import x) = started
-started_after started (O.Copy x y) = started
-started_after started (O.Clear x) = started
-started_after started (O.Weaken x) = started
-started_after started (O.Upgrade x y) = started
+started_after started op = started
 
 -- the entries may follow where the slots are these: each reply is the one that a region of one thread gives
 abbrev pub IsLegalFrom : List RegionSlot → Bool → List Entry → Type 0

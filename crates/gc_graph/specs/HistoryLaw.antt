@@ -17,6 +17,7 @@ pub record IsReplayed (outcomes : List Outcome) : Type 0 where
   pub legal : IsLegal (history_of outcomes)
   pub slots : replay (history_of outcomes) ≡ (last_state empty_state outcomes).region
 
+-- so do those of each run from the empty heap
 abbrev pub RunsAreReplayed : Type 0
 RunsAreReplayed =
     (setup : Setup) (commands : List Command) (outcomes : List Outcome) → Run setup empty_state commands outcomes

@@ -9,8 +9,8 @@ pub mod Placement
 pub mod Pages
 pub mod History
 pub mod Actions
-pub mod Pause
 pub mod Outcomes
+pub mod Pause
 pub mod ObjectSteps
 pub mod HandleSteps
 pub mod CycleSteps
@@ -26,8 +26,10 @@ pub mod Report
 pub mod ReadBack
 pub mod ValidLaw
 pub mod MayLaw
+pub mod CollectionLaw
 pub mod RefusalLaw
 pub mod PlacementLaw
 pub mod SweepLaw
 pub mod OnceLaw
 pub mod HistoryLaw
+pub mod NumbersLaw

@@ -16,6 +16,7 @@ members_from n [] = []
 members_from n (true ∷ set) = n ∷ members_from (suc n) set
 members_from n (false ∷ set) = members_from (suc n) set
 
+-- the members of a set, in their order
 abbrev pub members : List Bool → List ℕ
 members set = members_from 0 set
 
@@ -35,6 +36,7 @@ may_with_read Idle graph may n = may
 may_with_read Marking graph may n = Reach graph (members may ++ n ∷ [])
 may_with_read Sweeping graph may n = may
 
+-- the state after a weak read that gave the node
 abbrev pub weakly_read : State → ℕ → State
 weakly_read s n = record s { may = may_with_read s.phase (graph_of s.nodes) s.may n }
 
@@ -58,6 +60,7 @@ has_word node a = is_there node.life && (nat_le node.place a && nat_lt a (node.p
 abbrev pub is_hit : List Node → List StackWord → ℕ → Bool
 is_hit nodes stack n = list_any (λ word. has_word (node_at nodes n) (address_of nodes word)) stack
 
+-- the nodes that the stack hits
 abbrev pub hits_of : List Node → List StackWord → List ℕ
 hits_of nodes stack = filter (is_hit nodes stack) (range_with_len 0 (length nodes))
 

@@ -6,24 +6,28 @@ use Rattle.gc_graph.specs.declared.command.Command.TheVariants as C
 use Rattle.gc_graph.specs.declared.command.Want.{Want}
 use Rattle.gc_graph.specs.declared.line.Line.{Line}
 use Rattle.gc_graph.specs.declared.line.Line.TheVariants as L
-use Rattle.gc_graph.specs.declared.phase.Phase.TheVariants.{Idle, Marking}
+use Rattle.gc_graph.specs.declared.line.Refusal.TheVariants as R
+use Rattle.gc_graph.specs.declared.phase.Phase.TheVariants.{Marking}
 use Rattle.gc_graph.specs.declared.region.Entry.{Entry}
 use Rattle.gc_graph.specs.Graph.{IsIn, IsWithin}
 use Rattle.gc_graph.specs.Reach.{Reach}
 use Rattle.gc_graph.specs.State.{Setup, State, RegionSlot, node_at, graph_of, roots_of}
 use Rattle.gc_graph.specs.Fields.{kind_of_field, is_weak}
-use Rattle.gc_graph.specs.May.{members, hits_for}
+use Rattle.gc_graph.specs.May.{hits_for}
 use Rattle.gc_graph.specs.History.{region_after, read_by}
-use Rattle.gc_graph.specs.Outcomes.{slot_at, took, AreOthers}
-use Rattle.gc_graph.specs.CycleSteps.{IsStart}
-use Rattle.gc_graph.specs.Valid.{IsValid}
+use Rattle.gc_graph.specs.Pause.{least_kept, most_kept}
+use Rattle.gc_graph.specs.Outcomes.{IsRefused, IsMemory, slot_at, took, AreOthers}
+use Rattle.gc_graph.specs.CycleSteps.{IsCollection}
+use Rattle.gc_graph.specs.Step.{Step}
+use Rattle.gc_graph.specs.Valid.{IsMay, IsValid}
 use Rattle.gc_graph.specs.Lawful.{Outcome, Run, last_state, IsAllowed}
 
--- the lower bound of a pause lies within its upper bound: what the roots and the hits reach, and what the nodes that may
--- be kept and the hits reach
-abbrev pub BoundsMeet : State → Want → Type 0
-BoundsMeet s want =
-    IsWithin (Reach (graph_of s.nodes) (roots_of s ++ hits_for want s)) (Reach (graph_of s.nodes) (members s.may ++ hits_for want s))
+-- what may be kept is closed, holds the roots and has live nodes alone; the least that a pause keeps lies within the most
+-- that it keeps; and where the stack hits nothing, the most is just what may be kept
+pub record BoundsMeet (s : State) (want : Want) : Type 0 where
+  pub may : IsMay s
+  pub meet : IsWithin (least_kept s (hits_for want s)) (most_kept s (hits_for want s))
+  pub exact : hits_for want s ≡ [] → most_kept s (hits_for want s) ≡ s.may
 
 -- so it is at each pause, after the entries of other threads that its piece has before the owner's
 abbrev pub PauseBoundsMeet : Type 0
@@ -38,6 +42,7 @@ abbrev pub told : List Line → List ℕ
 told (L.Node n ∷ []) = n ∷ []
 told lines = []
 
+-- whether field f of the slot's object is weak
 abbrev pub is_weak_field : State → Option ℕ → ℕ → Bool
 is_weak_field s None f = false
 is_weak_field s (Some n) f = is_weak (kind_of_field (node_at s.nodes n).object f)
@@ -55,6 +60,7 @@ abbrev pub entry_reads : List RegionSlot → List Entry → List ℕ
 entry_reads region [] = []
 entry_reads region (entry ∷ entries) = option_to_list (read_by region entry.op) ++ entry_reads (region_after region entry.op) entries
 
+-- those of a run, command by command
 abbrev pub run_reads : State → List Command → List Outcome → List ℕ
 run_reads old [] outcomes = []
 run_reads old (command ∷ commands) [] = []
@@ -67,12 +73,17 @@ run_reads old (command ∷ commands) (outcome ∷ outcomes) =
 abbrev pub old_ones : State → List ℕ → List ℕ
 old_ones start nodes = filter (λ n. nat_lt n (length start.nodes)) nodes
 
--- each node that may be kept is new since the start, or was reached in the start's graph from the start's roots and the
--- nodes that were read weakly since
+-- what the start's graph reaches from the start's roots and the nodes that were read weakly since
+abbrev pub reached_since : State → List ℕ → List Bool
+reached_since start reads = Reach (graph_of start.nodes) (roots_of start ++ old_ones start reads)
+
+-- the node is new since the start, or was reached since
+abbrev pub IsNewOrReached : State → List ℕ → ℕ → Type 0
+IsNewOrReached start reads n = (length start.nodes ≤ n) ⊎ IsIn (reached_since start reads) n
+
+-- each node that may be kept is new since the start, or was reached since
 abbrev pub IsBoundedBy : State → List ℕ → State → Type 0
-IsBoundedBy start reads s =
-    (n : ℕ) → IsIn s.may n
-    → (length start.nodes ≤ n) ⊎ IsIn (Reach (graph_of start.nodes) (roots_of start ++ old_ones start reads)) n
+IsBoundedBy start reads s = (n : ℕ) → IsIn s.may n → IsNewOrReached start reads n
 
 -- a collection has just started
 pub record HasStarted (setup : Setup) (start : State) : Type 0 where
@@ -80,11 +91,20 @@ pub record HasStarted (setup : Setup) (start : State) : Type 0 where
   pub marking : start.phase ≡ Marking
   pub may : start.may ≡ Reach (graph_of start.nodes) (roots_of start)
 
--- so it has after the start of a collection, before which no sweep is open
+-- `gc start` is refused, wants memory, or starts one
 abbrev pub StartsHaveStarted : Type 0
 StartsHaveStarted =
-    (setup : Setup) (swept new : State) (piece : List Entry) → IsValid setup swept → swept.phase ≡ Idle → IsStart setup swept piece new
-    → HasStarted setup new
+    (setup : Setup) (old new : State) (piece : List Entry) (lines : List Line) → IsValid setup old → Step setup old C.GcStart piece lines new
+    → IsRefused R.Phase old lines new ⊎ (IsMemory old lines new ⊎ HasStarted setup new)
+
+-- `gc now` is refused, wants memory, or comes to its pause from a collection that has just started
+abbrev pub CollectionsHaveStarted : Type 0
+CollectionsHaveStarted =
+    (setup : Setup) (want : Want) (old new : State) (piece : List Entry) (lines : List Line) → IsValid setup old
+    → Step setup old (C.GcNow want) piece lines new
+    → IsRefused R.Phase old lines new
+    ⊎ (IsRefused R.Stack old lines new
+    ⊎ (IsMemory old lines new ⊎ ((done : IsCollection setup want old piece lines new) × HasStarted setup done.started)))
 
 -- the nodes that were read weakly in a run, and then by other threads
 abbrev pub reads_until : State → List Command → List Outcome → List Entry → List ℕ

@@ -1,5 +1,5 @@
 -- How a command is answered, and what it may change.
-use Rattle.std.specs.Prelude.{◌≡◌, ℕ, ◌+◌, Bool, List, [], ◌∷◌, ◌++◌, map, Option, Some, None, slice_index_or, slice_set, Contains, All, ⊤}
+use Rattle.std.specs.Prelude.{◌≡◌, ℕ, ◌+◌, Bool, List, [], ◌∷◌, ◌++◌, map, Option, Some, None, MatchBool, slice_index_or, slice_set, Contains, All, ⊤}
 use Rattle.gc_graph.specs.declared.line.Line.{Line}
 use Rattle.gc_graph.specs.declared.line.Line.TheVariants as L
 use Rattle.gc_graph.specs.declared.line.Refusal.{Refusal}
@@ -22,19 +22,31 @@ IsAnswered line old lines new = (lines ≡ line ∷ []) × (new ≡ answered old
 abbrev pub IsRefused : Refusal → State → List Line → State → Type 0
 IsRefused why old lines new = IsAnswered (L.Refused why) old lines new
 
+-- refused as said where the test holds, and else the rest
+abbrev pub RefusedIf : Bool → Type 0 → Type 0 → Type 0
+RefusedIf test Refused Rest = MatchBool test Refused Rest
+
+-- refused as said unless the test holds, and then the rest
+abbrev pub RefusedUnless : Bool → Type 0 → Type 0 → Type 0
+RefusedUnless test Refused Rest = MatchBool test Rest Refused
+
 -- memory was wanting, and the state is as before
 abbrev pub IsMemory : State → List Line → State → Type 0
 IsMemory old lines new = IsAnswered L.Memory old lines new
 
+-- a line for each node that was finalised
 abbrev pub finalise_lines : List ℕ → List Line
 finalise_lines numbers = map (λ n. L.Finalise n) numbers
 
+-- what strong slot p holds
 abbrev pub slot_at : State → ℕ → Option ℕ
 slot_at s p = slice_index_or s.slots p None
 
+-- strong slot p got this
 abbrev pub with_slot : State → ℕ → Option ℕ → State
 with_slot s p content = record s { slots = slice_set s.slots p content }
 
+-- what weak slot w holds
 abbrev pub weak_slot_at : State → ℕ → Option ℕ
 weak_slot_at s w = slice_index_or s.weak w None
 
@@ -45,6 +57,7 @@ abbrev pub may_with_entry : State → Option ℕ → List Bool
 may_with_entry s None = s.may
 may_with_entry s (Some n) = may_with_read s.phase (graph_of s.nodes) s.may n
 
+-- an entry was taken: the region's slots are those after it, a weak read counts, and it is yet to be printed
 abbrev pub with_entry : State → Entry → State
 with_entry s entry = record s {
   region = region_after s.region entry.op;
@@ -52,6 +65,7 @@ with_entry s entry = record s {
   unprinted = s.unprinted ++ entry ∷ [];
 }
 
+-- these entries were taken, one after the other
 abbrev pub took : State → List Entry → State
 took s [] = s
 took s (entry ∷ entries) = took (with_entry s entry) entries

@@ -17,6 +17,7 @@ abbrev pub closing : List Object → List Bool → List Bool
 closing graph set =
     set_of (λ n. has set n || any_below (λ m. has set m && leads_to set (object_at graph m) n) (length graph)) (length graph)
 
+-- the set closed so many times
 abbrev pub closed_times : ℕ → List Object → List Bool → List Bool
 closed_times zero graph set = set
 closed_times (suc n) graph set = closing graph (closed_times n graph set)
@@ -29,9 +30,11 @@ Reach graph roots = closed_times (length graph) graph (set_of (λ n. list_any (�
 abbrev pub RefersWithin : List Object → Type 0
 RefersWithin graph = (set : List Bool) (m n : ℕ) → leads_to set (object_at graph m) n ≡ true → n < length graph
 
+-- the set holds each of the numbers
 abbrev pub HoldsAll : List Bool → List ℕ → Type 0
 HoldsAll set roots = (n : ℕ) → list_any (λ r. r == n) roots ≡ true → IsIn set n
 
+-- each of the numbers is a node of the graph
 abbrev pub AreNodes : List Object → List ℕ → Type 0
 AreNodes graph roots = (n : ℕ) → list_any (λ r. r == n) roots ≡ true → n < length graph
 

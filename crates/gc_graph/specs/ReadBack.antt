@@ -1,4 +1,5 @@
--- Reading a report back into its lines.
+-- Reading a report back into its lines. A search by the names and numbers of each line gives candidates, and nothing is
+-- claimed of it: lines are read where the text is just theirs.
 use Rattle.std.specs.Prelude.{◌≡◌, ℕ, ◌^◌, ◌<◌, ◌==◌, ◌&&◌, not, Bool, true, false, List, [], ◌∷◌, ◌++◌, filter, Option, Some, None, if◌then◌else◌, codes, All}
 use Rattle.std.specs.List.{filter_map, flat_map}
 use Rattle.gc_graph.specs.declared.line.Line.{Line}
@@ -8,18 +9,20 @@ use Rattle.gc_graph.specs.declared.region.Op.{Op}
 use Rattle.gc_graph.specs.declared.region.Op.TheVariants as O
 use Rattle.gc_graph.specs.declared.region.Reply.{Reply}
 use Rattle.gc_graph.specs.declared.region.Reply.TheVariants as A
-use Rattle.gc_graph.specs.State.{ObjectType}
 use Rattle.gc_graph.specs.Words.{lines_of, words_of, is_text, is_number, number_below}
-use Rattle.gc_graph.specs.Report.{line_text, lines_bytes, type_lines, report_of}
+use Rattle.gc_graph.specs.Report.{lines_bytes, type_lines, report_of}
 
 -- ---- the words of a line are names and numbers
 
+-- the words that are no numbers
 abbrev pub names_in : List (List ℕ) → List (List ℕ)
 names_in words = filter (λ word. not (is_number word)) words
 
+-- the numbers among the words
 abbrev pub numbers_in : List (List ℕ) → List ℕ
 numbers_in words = filter_map (number_below (2 ^ 64)) words
 
+-- the words are these texts, one by one
 abbrev pub are_names : List (List ℕ) → List (List ℕ) → Bool
 are_names [] [] = true
 are_names (word ∷ words) (text ∷ texts) = is_text word text && are_names words texts
@@ -28,26 +31,32 @@ are_names (word ∷ words) [] = false
 
 -- ---- from numbers to what they say
 
+-- the value, where there are no numbers
 abbrev pub from_none : {T : Type 0} → T → List ℕ → Option T
 from_none value [] = Some value
 from_none value (n ∷ numbers) = None
 
+-- what one number says, where there is one
 abbrev pub from_one : {T : Type 0} → (ℕ → T) → List ℕ → Option T
 from_one make (a ∷ []) = Some (make a)
 from_one make numbers = None
 
+-- what two numbers say, where there are two
 abbrev pub from_two : {T : Type 0} → (ℕ → ℕ → T) → List ℕ → Option T
 from_two make (a ∷ b ∷ []) = Some (make a b)
 from_two make numbers = None
 
+-- what three numbers say, where there are three
 abbrev pub from_three : {T : Type 0} → (ℕ → ℕ → ℕ → T) → List ℕ → Option T
 from_three make (a ∷ b ∷ c ∷ []) = Some (make a b c)
 from_three make numbers = None
 
+-- what five numbers say, where there are five
 abbrev pub from_five : {T : Type 0} → (ℕ → ℕ → ℕ → ℕ → ℕ → T) → List ℕ → Option T
 from_five make (a ∷ b ∷ c ∷ d ∷ e ∷ []) = Some (make a b c d e)
 from_five make numbers = None
 
+-- what six numbers say, where there are six
 abbrev pub from_six : {T : Type 0} → (ℕ → ℕ → ℕ → ℕ → ℕ → ℕ → T) → List ℕ → Option T
 from_six make (a ∷ b ∷ c ∷ d ∷ e ∷ f ∷ []) = Some (make a b c d e f)
 from_six make numbers = None
@@ -63,6 +72,7 @@ reply_named name numbers =
     else if is_text name (codes "node") then from_one (λ k. A.Node k) numbers
     else None
 
+-- the line of an entry, where there is a reply
 abbrev pub entry_with : ℕ → Op → Option Reply → Option Line
 entry_with j op None = None
 entry_with j op (Some reply) = Some (L.Entry (record { thread = j; op = op; reply = reply }))
@@ -72,14 +82,17 @@ abbrev pub entry_of_none : Op → List ℕ → List ℕ → Option Line
 entry_of_none op name (j ∷ numbers) = entry_with j op (reply_named name numbers)
 entry_of_none op name [] = None
 
+-- the thread, and then one number of the operation
 abbrev pub entry_of_one : (ℕ → Op) → List ℕ → List ℕ → Option Line
 entry_of_one make name (j ∷ x ∷ numbers) = entry_with j (make x) (reply_named name numbers)
 entry_of_one make name numbers = None
 
+-- the thread, and then two numbers of the operation
 abbrev pub entry_of_two : (ℕ → ℕ → Op) → List ℕ → List ℕ → Option Line
 entry_of_two make name (j ∷ x ∷ y ∷ numbers) = entry_with j (make x y) (reply_named name numbers)
 entry_of_two make name numbers = None
 
+-- the operation by its name
 abbrev pub entry_named : List ℕ → List ℕ → List ℕ → Option Line
 entry_named op name numbers =
     if is_text op (codes "export") then entry_of_two (λ x k. O.Export x k) name numbers
@@ -94,6 +107,7 @@ entry_named op name numbers =
 
 -- ---- lines, by how many names they have
 
+-- a refusal by its name
 abbrev pub refusal_named : List ℕ → List ℕ → Option Line
 refusal_named name numbers =
     if is_text name (codes "phase") then from_none (L.Refused R.Phase) numbers
@@ -104,6 +118,7 @@ refusal_named name numbers =
     else if is_text name (codes "empty") then from_none (L.Refused R.Empty) numbers
     else None
 
+-- the lines that have one name
 abbrev pub line_of_one : List ℕ → List ℕ → Option Line
 line_of_one name numbers =
     if is_text name (codes "type") then from_one (λ t. L.TypeLine t) numbers
@@ -131,6 +146,7 @@ reply_line name numbers =
     else if is_text name (codes "totals") then from_five (λ j o n u f. L.ReplyTotals j o n u f) numbers
     else None
 
+-- the lines that have two names
 abbrev pub line_of_two : List ℕ → List ℕ → List ℕ → Option Line
 line_of_two first second numbers =
     if is_text first (codes "refused") then refusal_named second numbers
@@ -139,6 +155,7 @@ line_of_two first second numbers =
     else if is_text first (codes "reply") then reply_line second numbers
     else None
 
+-- the lines that have three names
 abbrev pub line_of_three : List ℕ → List ℕ → List ℕ → List ℕ → Option Line
 line_of_three first second third numbers =
     if are_names (first ∷ second ∷ third ∷ []) (codes "step" ∷ codes "traced" ∷ codes "done" ∷ []) then from_one (λ t. L.Step t true) numbers
@@ -147,6 +164,7 @@ line_of_three first second third numbers =
     else if is_text first (codes "entry") then entry_named second third numbers
     else None
 
+-- the lines that have four names or more
 abbrev pub line_of_more : List (List ℕ) → List ℕ → Option Line
 line_of_more names numbers =
     if are_names names (codes "end" ∷ codes "objects" ∷ codes "used" ∷ codes "pages" ∷ []) then from_three (λ n u g. L.End n u g) numbers
@@ -166,35 +184,40 @@ line_named (first ∷ second ∷ third ∷ fourth ∷ more) numbers = line_of_mo
 
 -- ---- whole texts
 
--- a line is read where its text is just this
-abbrev pub if_its_text : List ℕ → Option Line → Option Line
-if_its_text text None = None
-if_its_text text (Some read) = if is_text (line_text read) text then Some read else None
+-- the only line that may have this text
+abbrev pub candidate : List ℕ → Option Line
+candidate text = line_named (names_in (words_of text)) (numbers_in (words_of text))
 
-abbrev pub read_line : List ℕ → Option Line
-read_line text = if_its_text text (line_named (names_in (words_of text)) (numbers_in (words_of text)))
-
+-- the first line before the others, where both were found
 abbrev pub with_line : Option Line → Option (List Line) → Option (List Line)
 with_line (Some first) (Some lines) = Some (first ∷ lines)
 with_line None lines = None
 with_line (Some first) None = None
 
-abbrev pub read_lines : List (List ℕ) → Option (List Line)
-read_lines [] = Some []
-read_lines (text ∷ texts) = with_line (read_line text) (read_lines texts)
+-- a candidate for each text, where all have one
+abbrev pub candidates : List (List ℕ) → Option (List Line)
+candidates [] = Some []
+candidates (text ∷ texts) = with_line (candidate text) (candidates texts)
 
--- the lines of a report, where each line of the text is one
+-- the candidates are taken where the text is just theirs
+abbrev pub if_its_text : List ℕ → Option (List Line) → Option (List Line)
+if_its_text text None = None
+if_its_text text (Some lines) = if is_text (lines_bytes lines) text then Some lines else None
+
+-- the lines whose text this is, with the end of each
 abbrev pub read_report : List ℕ → Option (List Line)
-read_report text = read_lines (lines_of text)
+read_report text = if_its_text text (candidates (lines_of text))
 
 -- ---- the numbers of a line
 
+-- the numbers in a reply
 abbrev pub numbers_of_reply : Reply → List ℕ
 numbers_of_reply A.Done = []
 numbers_of_reply (A.Node k) = k ∷ []
 numbers_of_reply A.Null = []
 numbers_of_reply A.NoMemory = []
 
+-- the numbers in an operation
 abbrev pub numbers_of_op : Op → List ℕ
 numbers_of_op (O.Export x k) = x ∷ k ∷ []
 numbers_of_op (O.Import x) = x ∷ []
@@ -205,6 +228,7 @@ numbers_of_op (O.Clear x) = x ∷ []
 numbers_of_op (O.Weaken x) = x ∷ []
 numbers_of_op (O.Upgrade x y) = x ∷ y ∷ []
 
+-- the numbers in a line
 abbrev pub numbers_of : Line → List ℕ
 numbers_of (L.TypeLine t) = t ∷ []
 numbers_of (L.Placed k a) = k ∷ a ∷ []
@@ -237,13 +261,19 @@ IsOf64Bits line = All (λ n. n < 2 ^ 64) (numbers_of line)
 
 -- ---- the laws
 
--- a text of lines is read back into these lines
-abbrev pub LinesReadBack : Type 0
-LinesReadBack = (lines : List Line) → All IsOf64Bits lines → read_report (lines_bytes lines) ≡ Some lines
+-- a text is read into lines only where it is the text of these lines, with the end of each, and always where it is that
+-- and their numbers have 64 bits
+pub record ReadsAsText (text : List ℕ) (lines : List Line) : Type 0 where
+  pub only : read_report text ≡ Some lines → text ≡ lines_bytes lines
+  pub always : All IsOf64Bits lines → text ≡ lines_bytes lines → read_report text ≡ Some lines
 
--- a report is read back into the type lines, the lines of the outcomes in order, and the end line
-abbrev pub ReportReadsBack : Type 0
-ReportReadsBack =
-    (types : List ObjectType) (outcomes : List (List Line)) (end : Line) → All IsOf64Bits (type_lines 0 types)
+-- so is each text
+abbrev pub LinesReadBack : Type 0
+LinesReadBack = (text : List ℕ) (lines : List Line) → ReadsAsText text lines
+
+-- a report over any list of types is read back into the type lines, the lines of the outcomes in order, and the end line
+abbrev pub ReportReadsBack : Type 0 → Type 0
+ReportReadsBack T =
+    (types : List T) (outcomes : List (List Line)) (end : Line) → All IsOf64Bits (type_lines 0 types)
     → All IsOf64Bits (flat_map (λ lines. lines) outcomes) → IsOf64Bits end
     → read_report (report_of types outcomes end) ≡ Some (type_lines 0 types ++ flat_map (λ lines. lines) outcomes ++ end ∷ [])

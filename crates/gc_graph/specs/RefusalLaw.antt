@@ -26,29 +26,7 @@ MayWantMemory setup (C.Export p x) = ⊤
 MayWantMemory setup (C.Import x p) = ⊤
 MayWantMemory setup (C.At j order) = ⊤
 MayWantMemory setup C.ThreadsGo = ⊤
-MayWantMemory setup (C.Set p f q) = ⊥
-MayWantMemory setup (C.SetNull p f) = ⊥
-MayWantMemory setup (C.Pair p f k v) = ⊥
-MayWantMemory setup (C.PairNull p f) = ⊥
-MayWantMemory setup (C.Put p f n) = ⊥
-MayWantMemory setup (C.Word p f) = ⊥
-MayWantMemory setup (C.Get p f q) = ⊥
-MayWantMemory setup (C.Key p f q) = ⊥
-MayWantMemory setup (C.Val p f q) = ⊥
-MayWantMemory setup (C.Copy p q) = ⊥
-MayWantMemory setup (C.Drop p) = ⊥
-MayWantMemory setup (C.Weak w p) = ⊥
-MayWantMemory setup (C.Read w p) = ⊥
-MayWantMemory setup (C.Push p o) = ⊥
-MayWantMemory setup (C.PushPlain n) = ⊥
-MayWantMemory setup C.Pop = ⊥
-MayWantMemory setup (C.Peek i q) = ⊥
-MayWantMemory setup (C.GcStep n) = ⊥
-MayWantMemory setup (C.GcFinish want) = ⊥
-MayWantMemory setup (C.Sweep n) = ⊥
-MayWantMemory setup C.SweepAll = ⊥
-MayWantMemory setup C.Stat = ⊥
-MayWantMemory setup C.ThreadsJoin = ⊥
+MayWantMemory setup command = ⊥
 
 -- after `threads go` the threads are awaited, though none was started
 abbrev pub told_to_go : Command → State → State
@@ -61,6 +39,7 @@ pub record IsLeftAlone (setup : Setup) (command : Command) (old : State) (piece 
   pub taken : piece ≡ []
   pub after : new ≡ answered (told_to_go command old)
 
+-- so it is of each step that answers `memory`
 abbrev pub MemoryLeavesAll : Type 0
 MemoryLeavesAll =
     (setup : Setup) (old new : State) (command : Command) (piece : List Entry) (lines : List Line)
@@ -75,6 +54,7 @@ pub record IsLeftFull (setup : Setup) (old : State) (piece : List Entry) (lines 
   pub taken : piece ≡ []
   pub after : new ≡ answered (record swept { full = swept.full + 1 })
 
+-- so it is of each `new` that answers `full`
 abbrev pub FullLeavesRest : Type 0
 FullLeavesRest =
     (setup : Setup) (old new : State) (p t e : ℕ) (piece : List Entry) (lines : List Line)

@@ -37,6 +37,7 @@ StepExport old p x piece lines new =
     MatchOption (slot_at old p) ((piece ≡ []) × IsRefused R.Null old lines new)
     (λ n. WantsMemory old piece lines new ⊎ IsExported old n x piece lines new)
 
+-- a read answers the node, or null
 abbrev pub line_of_content : Option ℕ → Line
 line_of_content None = L.Null
 line_of_content (Some n) = L.Node n
@@ -48,14 +49,17 @@ pub record IsImported (old : State) (x p : ℕ) (piece : List Entry) (lines : Li
   pub lines_are : lines ≡ line_of_content (node_of (region_slot (took old before).region x)) ∷ []
   pub after : new ≡ answered (with_slot (took old piece) p (node_of (region_slot (took old before).region x)))
 
+-- import: slot p gets the region slot's node; memory may be wanting
 abbrev pub StepImport : State → ℕ → ℕ → List Entry → List Line → State → Type 0
 StepImport old x p piece lines new = WantsMemory old piece lines new ⊎ IsImported old x p piece lines new
 
 -- ---- orders, and the threads that do them; threads are numbered from 1
 
+-- the orders that wait for thread j
 abbrev pub queue_of : State → ℕ → List Order
 queue_of s j = slice_index_or s.queues (j - 1) []
 
+-- the order waits behind the others of its thread
 abbrev pub queued : State → ℕ → Order → State
 queued s j order = record s { queues = slice_set s.queues (j - 1) (queue_of s j ++ order ∷ []) }
 
@@ -81,6 +85,7 @@ pub data Answer : Type 0 where
   Replied : Reply → Answer
   Told : ℕ → ℕ → ℕ → ℕ → Answer
 
+-- what an order does to the region; totals do nothing
 abbrev pub op_of : Order → Option Op
 op_of (Q.Copy x y) = Some (O.Copy x y)
 op_of (Q.Clear x) = Some (O.Clear x)
@@ -88,18 +93,11 @@ op_of (Q.Weaken x) = Some (O.Weaken x)
 op_of (Q.Upgrade x y) = Some (O.Upgrade x y)
 op_of Q.Totals = None
 
--- the entry of an order on the region, which there is none of where memory was wanting
-abbrev pub entry_with : ℕ → Op → Reply → List Entry
-entry_with j op P.NoMemory = []
-entry_with j op P.Done = record { thread = j; op = op; reply = P.Done } ∷ []
-entry_with j op P.Null = record { thread = j; op = op; reply = P.Null } ∷ []
-entry_with j op (P.Node n) = record { thread = j; op = op; reply = P.Node n } ∷ []
-
+-- the entry of an order that was answered: there is none for totals, and none where memory was wanting
 abbrev pub entry_of : ℕ → Option Op → Answer → List Entry
-entry_of j (Some op) (Replied reply) = entry_with j op reply
-entry_of j (Some op) (Told o n u f) = []
-entry_of j None (Replied reply) = []
-entry_of j None (Told o n u f) = []
+entry_of j (Some op) (Replied P.NoMemory) = []
+entry_of j (Some op) (Replied reply) = record { thread = j; op = op; reply = reply } ∷ []
+entry_of j op answer = []
 
 -- totals are told to an order for totals, and the others have replies
 abbrev pub AnswersOrder : Option Op → Answer → Type 0
@@ -116,10 +114,12 @@ HasDone j (order ∷ orders) (answer ∷ answers) entries =
 HasDone j [] (answer ∷ answers) entries = ⊥
 HasDone j (order ∷ orders) [] entries = ⊥
 
+-- an answer is told beside its thread
 abbrev pub reply_line : ℕ → Answer → Line
 reply_line j (Replied reply) = L.Reply j reply
 reply_line j (Told o n u f) = L.ReplyTotals j o n u f
 
+-- thread j's entries among these
 abbrev pub entries_by : ℕ → List Entry → List Entry
 entries_by j entries = filter (λ (entry : Entry). entry.thread == j) entries
 
@@ -128,6 +128,7 @@ abbrev pub HasDoneFirst : State → List Entry → ℕ → Type 0
 HasDoneFirst s entries j =
     (n : ℕ) × (answers : List Answer) × HasDone j (take n (queue_of s j)) answers (entries_by j entries)
 
+-- whether thread j runs
 abbrev pub is_running : State → ℕ → Bool
 is_running s j = list_any (λ k. k == j) s.running
 

@@ -11,11 +11,13 @@ use Rattle.gc_graph.specs.declared.region.Op.TheVariants as O
 use Rattle.gc_graph.specs.declared.region.Reply.{Reply}
 use Rattle.gc_graph.specs.declared.region.Reply.TheVariants as A
 
+-- a line ends with the byte 10
 abbrev pub newline : List ℕ
 newline = 10 ∷ []
 
 -- ---- the words that a line may end with
 
+-- why a command was refused
 abbrev pub refusal_text : Refusal → List ℕ
 refusal_text R.Phase = codes "phase"
 refusal_text R.Null = codes "null"
@@ -24,6 +26,7 @@ refusal_text R.Kind = codes "kind"
 refusal_text R.Stack = codes "stack"
 refusal_text R.Empty = codes "empty"
 
+-- 1 for yes, 0 for no
 abbrev pub digit_of : Bool → List ℕ
 digit_of true = codes "1"
 digit_of false = codes "0"
@@ -106,12 +109,15 @@ line_text (L.Joined m) = codes "joined " ++ decimal m
 line_text (L.End n u g) = codes "end " ++ totals_text n u g
 line_text (L.Summary c y n u f full) = summary_text c y n u f full
 
+-- the text of a line, with its end
 abbrev pub line_bytes : Line → List ℕ
 line_bytes line = line_text line ++ newline
 
+-- the text of lines, one after the other
 abbrev pub lines_bytes : List Line → List ℕ
 lines_bytes lines = flat_map line_bytes lines
 
+-- the text of outcomes, in their order
 abbrev pub outcomes_bytes : List (List Line) → List ℕ
 outcomes_bytes outcomes = flat_map lines_bytes outcomes
 

@@ -117,7 +117,7 @@ pub record State : Type 0 where
   pub phase : Phase
   -- how many pages the open sweep has swept
   pub cursor : ℕ
-  -- while marking goes on: the nodes that the pause may keep
+  -- while marking goes on: the pause keeps nothing but what these nodes and the hits reach
   pub may : List Bool
   -- how many objects the steps of this cycle have traced
   pub traced : ℕ

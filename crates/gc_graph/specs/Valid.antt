@@ -6,7 +6,7 @@ use Rattle.gc_graph.specs.declared.graph.Value.{Value}
 use Rattle.gc_graph.specs.declared.graph.Value.TheVariants.{Null, Ref, Word}
 use Rattle.gc_graph.specs.declared.phase.Phase.{Phase}
 use Rattle.gc_graph.specs.declared.phase.Phase.TheVariants.{Idle, Marking, Sweeping}
-use Rattle.gc_graph.specs.Graph.{IsClosed}
+use Rattle.gc_graph.specs.Graph.{IsIn, IsClosed}
 use Rattle.gc_graph.specs.Reach.{HoldsAll}
 use Rattle.gc_graph.specs.State.{Setup, Shape, State, Node, RegionSlot, node_at, type_at, is_there, IsLive, IsDead, size_of, graph_of, roots_of, slot_targets, stack_targets}
 use Rattle.gc_graph.specs.State.RegionSlot.{Vacant, StrongTo, WeakTo}
@@ -91,10 +91,11 @@ IsSettled shape Marking cursor nodes = (n : ℕ) → IsDead nodes n → ⊥
 IsSettled shape Sweeping cursor nodes =
     (cursor < shape.pages) × ((n : ℕ) → IsDead nodes n → cursor * shape.page_words ≤ (node_at nodes n).place)
 
--- while marking goes on, what may be kept is closed and holds the roots
+-- while marking goes on, what may be kept is closed, holds the roots, and has live nodes alone
 pub record IsMay (s : State) : Type 0 where
   pub closed : IsClosed (graph_of s.nodes) s.may
   pub roots : HoldsAll s.may (roots_of s)
+  pub live : (n : ℕ) → IsIn s.may n → IsLive s.nodes n
   pub whole : length s.may ≡ length s.nodes
 
 -- while marking goes on, the nodes that may be kept are these

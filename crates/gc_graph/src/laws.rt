@@ -1,7 +1,7 @@
 // The laws of the definitions. Whoever calls one of these has its law; none of them does anything.
 
 ghost use Rattle.gc_graph.specs.HistoryLaw.{RepliesAreOfOneThread, RunsAreReplayed};
-ghost use Rattle.gc_graph.specs.MayLaw.{StartsHaveStarted, MayIsBounded, PauseBoundsMeet};
+ghost use Rattle.gc_graph.specs.MayLaw.{StartsHaveStarted, CollectionsHaveStarted, MayIsBounded, PauseBoundsMeet};
 ghost use Rattle.gc_graph.specs.PlacementLaw.{PagesHaveOneBucket, PlacementIsFree, SweepsFinaliseDead};
 ghost use Rattle.gc_graph.specs.ReadBack.{LinesReadBack, ReportReadsBack};
 ghost use Rattle.gc_graph.specs.RefusalLaw.{RefusedLeavesAll, MemoryLeavesAll, FullLeavesRest};
@@ -13,7 +13,7 @@ pub fn empty_is_valid()
 {}
 
 /// Each step of a command whose numbers are in their ranges keeps a state valid; while marking goes
-/// on, what may be kept stays closed and holds the roots.
+/// on, what may be kept stays closed, holds the roots, and has live nodes alone.
 pub fn step_keeps_valid()
     ensures { StepKeepsValid }
 {}
@@ -22,10 +22,13 @@ pub fn step_keeps_valid()
 /// in the start's graph from its roots and the nodes that were read weakly since.
 pub fn may_is_bounded()
     ensures starts { StartsHaveStarted }
+    ensures collections { CollectionsHaveStarted }
     ensures bound { MayIsBounded }
 {}
 
-/// What a pause has to keep, it may keep.
+/// At each pause what may be kept is closed, holds the roots, and has live nodes alone; what the
+/// pause has to keep, it may keep; and where the stack hits nothing, the most that it keeps is just
+/// what may be kept.
 pub fn pause_bounds_meet()
     ensures { PauseBoundsMeet }
 {}
@@ -74,12 +77,14 @@ pub fn runs_are_replayed()
     ensures { RunsAreReplayed }
 {}
 
-/// A text of lines whose numbers have 64 bits is read back into these lines.
+/// A text is read back into lines only where it is the text of these lines, with the end of each, and
+/// always where it is that and their numbers have 64 bits.
 pub fn lines_read_back()
     ensures { LinesReadBack }
 {}
 
-/// A report is read back into the lines of the types, of the outcomes in order, and of the end.
-pub fn report_reads_back()
-    ensures { ReportReadsBack }
+/// A report, over any list of types, is read back into the lines of the types, of the outcomes in
+/// order, and of the end.
+pub fn report_reads_back<T>()
+    ensures { ReportReadsBack T }
 {}

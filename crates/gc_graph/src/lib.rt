@@ -11,9 +11,10 @@
 //! `Graph` and `reach_check`, by which a program checks a set of nodes; `laws`. The definitions
 //! stand in `specs/`, to be read in the order of `specs/Lib.antt`.
 //!
-//! What is proved: the laws of `reach`, `laws`, `laws_of_lives` and `laws_of_sweeping`, each the
-//! contract of a function that does nothing, and that `reach_check` is true exactly where a set holds
-//! the roots and is closed.
+//! What is proved: the laws of `reach`, `laws`, `laws_of_lives`, `laws_of_marking`,
+//! `laws_of_reports` and `laws_of_sweeping`, each the contract of a function that does nothing, and
+//! that `reach_check` is true exactly where a set holds the roots and is closed. The laws of steps
+//! and runs ask for a heap that has a page.
 //!
 //! What is only tested or not said: the definitions are what a reader has to believe. The tests
 //! of the program compare them with reports that were written by hand.
@@ -26,6 +27,8 @@ mod graph;
 mod graphs;
 mod laws;
 mod laws_of_lives;
+mod laws_of_marking;
+mod laws_of_reports;
 mod laws_of_sweeping;
 mod line;
 mod members;
@@ -48,6 +51,8 @@ pub use laws::{
     sweeps_finalise_dead,
 };
 pub use laws_of_lives::lives_end_once;
+pub use laws_of_marking::{kept_is_accounted_for, precise_collection_is_exact};
+pub use laws_of_reports::{lines_have_numbers, run_reads_back};
 pub use laws_of_sweeping::{placed_in_last_page, placement_is_one, sweeps_go_by_pages};
 pub use line::{Line, Refusal};
 pub use memory::NoMemory;

@@ -104,7 +104,7 @@ none_dying nodes region is = sym (ap (dying_slots nodes) is)
 
 -- the state after a collection is the one of the pause
 pub collected_is : (setup : Setup) (s : State) (kept : List Bool) → AreUnused s.weak s.stack s.region s.registrations s.running → All (IsStrong setup) (condemn kept s.nodes)
-    → collected_state s kept ≡ paused setup (took (started_state s) (pause_entry ∷ [])) kept
+    → collected_state s kept ≡ paused setup (started_state s) (condemn kept s.nodes)
 collected_is setup s kept unused strong =
     let c : List Node = condemn kept s.nodes in
     let dead : ℕ → Bool = is_dead_at c in
@@ -112,7 +112,7 @@ collected_is setup s kept unused strong =
     record (collected_state s kept) { nodes = nodes; weak = weak; region = region; registrations = registrations } in
     let weak : s.weak ≡ map (clear_slot dead) s.weak = unused.weak_null ∙ nulls_stay dead 64 ∙ sym (ap (map (clear_slot dead)) unused.weak_null) in
     let region : s.region ≡ cleared_by 0 s.region = unused.region_null ∙ vacant_stay 32 ∙ sym (ap (cleared_by 0) unused.region_null) in
-    let left : List Registration → List Registration = λ rs. (paused setup (record (took (started_state s) (pause_entry ∷ [])) { registrations = rs }) kept).registrations in
+    let left : List Registration → List Registration = λ rs. (paused setup (record (started_state s) { registrations = rs }) c).registrations in
     let registered : s.registrations ≡ left s.registrations = unused.none_registered ∙ sym (ap left unused.none_registered) in
     let nodes : c ≡ prefinalised setup.callbacks (run_order c s.registrations) (clear_fields c) =
     sym (ap (λ rs. prefinalised setup.callbacks (run_order c rs) (clear_fields c)) unused.none_registered ∙ clears_nothing setup dead c strong) in
@@ -120,6 +120,10 @@ collected_is setup s kept unused strong =
     ∙ ap (λ w. build (prefinalised setup.callbacks (run_order c s.registrations) (clear_fields c)) w s.region s.registrations) weak
     ∙ ap (λ g. build (prefinalised setup.callbacks (run_order c s.registrations) (clear_fields c)) (map (clear_slot dead) s.weak) g s.registrations) region
     ∙ ap (build (prefinalised setup.callbacks (run_order c s.registrations) (clear_fields c)) (map (clear_slot dead) s.weak) (cleared_by 0 s.region)) registered
+    ∙ ap (λ mask. record (paused setup (started_state s) c) {
+      region = cleared_by mask s.region;
+      unprinted = (s.unprinted ++ start_entry ∷ []) ++ owner_entry (started_state s) (O.Pause mask) ∷ [];
+    }) (none_dying c s.region unused.region_null)
 
 -- ---- the collection
 
@@ -135,16 +139,18 @@ pauses setup s kept unused strong keeps =
       before = [];
       others = λ k d low. absurd (omega arith);
       kept = kept;
-      keeps = keeps;
+      done = record {
+        keeps = keeps;
+        crew = 0;
+        traced = live_count c;
+        walked = false;
+        crew_is = λ none. refl;
+        counted = omega arith;
+        lines_are = ap (λ rs. pause_line c ∷ prefinalise_lines (run_order c rs)) (sym unused.none_registered);
+        after = collected_is setup s kept unused strong;
+      };
       piece_is = ap (λ mask. owner_entry (started_state s) (O.Pause mask) ∷ []) (none_dying c s.region unused.region_null);
       legal = (refl, (refl, subst (NamesWeakSlots 0) (sym unused.region_null) (names_none 32)), tt);
-      crew = 0;
-      traced = live_count c;
-      walked = false;
-      crew_is = λ none. refl;
-      counted = omega arith;
-      lines_are = ap (λ rs. pause_line c ∷ prefinalise_lines (run_order c rs)) (sym unused.none_registered);
-      after = collected_is setup s kept unused strong;
     }
 
 on_false : (b : Bool) (P Q : Type 0) → b ≡ false → Q → MatchBool b P Q
