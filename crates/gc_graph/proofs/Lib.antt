@@ -40,3 +40,4 @@ mod Decimals
 mod LineParts
 mod ReadingBack
 mod ReportsReadBack
+mod Scripts

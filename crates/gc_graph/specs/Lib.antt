@@ -28,3 +28,4 @@ pub mod MayLaw
 pub mod RefusalLaw
 pub mod PlacementLaw
 pub mod HistoryLaw
+pub mod ScriptLaw

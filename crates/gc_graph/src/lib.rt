@@ -41,7 +41,7 @@ pub use graphs::Graph;
 pub use laws::{
     empty_is_valid, full_leaves_rest, lines_read_back, may_is_bounded, memory_leaves_all,
     pause_bounds_meet, placement_is_free, refused_leaves_all, replies_are_of_one_thread,
-    report_reads_back, runs_are_replayed, step_keeps_valid, sweeps_finalise_dead,
+    report_reads_back, runs_are_replayed, step_keeps_valid, sweeps_finalise_dead, texts_are_judged,
 };
 pub use line::{Line, Refusal};
 pub use memory::NoMemory;
