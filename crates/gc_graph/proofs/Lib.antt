@@ -55,3 +55,4 @@ mod StepNumbers
 mod CycleNumbers
 mod ThreadNumbers
 mod RunNumbers
+mod Scripts

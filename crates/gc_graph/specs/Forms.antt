@@ -190,8 +190,8 @@ at_rows =
 -- ---- the form of a line
 
 pub data Form : Type 0 where
-  -- the word that chooses the form isn't there
-  Missing : Form
+  -- the word that chooses the form isn't there; the places that stand before it
+  Missing : List Place → Form
   -- it chooses none
   Unknown : Form
   -- the places after the first word, and the command that the numbers say
@@ -218,12 +218,12 @@ at_form words None = Unknown
 at_form words (Some row) = Known (thread ∷ Fixed row.name ∷ places_of row words) row.command
 
 abbrev pub form_after_gc : List (List ℕ) → Form
-form_after_gc [] = Missing
+form_after_gc [] = Missing []
 form_after_gc (second ∷ rest) = gc_form (length rest) (row_named second gc_rows)
 
 abbrev pub form_after_at : List (List ℕ) → Form
-form_after_at [] = Missing
-form_after_at (j ∷ []) = Missing
+form_after_at [] = Missing []
+form_after_at (j ∷ []) = Missing (thread ∷ [])
 form_after_at (j ∷ third ∷ rest) = at_form (length rest) (row_named third at_rows)
 
 -- the letters; with more words `pre` and one callback or more
@@ -234,7 +234,7 @@ type_places (letters ∷ pre ∷ callbacks) =
     Letters ∷ Fixed (codes "pre") ∷ replicate (max 1 (length callbacks)) Callback
 
 abbrev pub form_of : List (List ℕ) → Form
-form_of [] = Missing
+form_of [] = Missing []
 form_of (first ∷ rest) =
     if is_text first (codes "type") then Known (type_places rest) (λ numbers. None)
     else if is_text first (codes "gc") then form_after_gc rest

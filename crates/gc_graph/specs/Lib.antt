@@ -33,3 +33,4 @@ pub mod SweepLaw
 pub mod OnceLaw
 pub mod HistoryLaw
 pub mod NumbersLaw
+pub mod ScriptLaw

@@ -129,22 +129,22 @@ is_half_null (first ∷ p ∷ f ∷ k ∷ v ∷ more) = is_text first (codes "pa
 is_half_null words = false
 
 abbrev pub has_unknown_word : Form → List (List ℕ) → Bool
-has_unknown_word Missing words = false
+has_unknown_word (Missing places) words = any_word is_unknown places (rest_of words)
 has_unknown_word Unknown words = true
 has_unknown_word (Known places command) words = any_word is_unknown places (rest_of words)
 
 abbrev pub has_bad_number : Form → List (List ℕ) → Bool
-has_bad_number Missing words = false
+has_bad_number (Missing places) words = any_word is_bad places (rest_of words)
 has_bad_number Unknown words = false
 has_bad_number (Known places command) words = any_word is_bad places (rest_of words) || is_half_null words
 
 abbrev pub has_other_count : Form → List (List ℕ) → Bool
-has_other_count Missing words = true
+has_other_count (Missing places) words = true
 has_other_count Unknown words = false
 has_other_count (Known places command) words = not (length (rest_of words) == length places)
 
 abbrev pub has_outside : Bounds → Form → List (List ℕ) → Bool
-has_outside bounds Missing words = false
+has_outside bounds (Missing places) words = any_word (is_outside bounds) places (rest_of words)
 has_outside bounds Unknown words = false
 has_outside bounds (Known places command) words = any_word (is_outside bounds) places (rest_of words)
 
@@ -164,7 +164,7 @@ reason_of_words bounds words =
 -- ---- what the words say
 
 abbrev pub command_by : Form → List (List ℕ) → Option Command
-command_by Missing words = None
+command_by (Missing places) words = None
 command_by Unknown words = None
 command_by (Known places command) words = command (all_say places (rest_of words))
 

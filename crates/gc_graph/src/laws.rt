@@ -5,6 +5,7 @@ ghost use Rattle.gc_graph.specs.MayLaw.{StartsHaveStarted, CollectionsHaveStarte
 ghost use Rattle.gc_graph.specs.PlacementLaw.{PagesHaveOneBucket, PlacementIsFree, SweepsFinaliseDead};
 ghost use Rattle.gc_graph.specs.ReadBack.{LinesReadBack, ReportReadsBack};
 ghost use Rattle.gc_graph.specs.RefusalLaw.{RefusedLeavesAll, MemoryLeavesAll, FullLeavesRest};
+ghost use Rattle.gc_graph.specs.ScriptLaw.{TextsAreJudged};
 ghost use Rattle.gc_graph.specs.ValidLaw.{EmptyIsValid, StepKeepsValid};
 
 /// A heap without objects is valid.
@@ -87,4 +88,9 @@ pub fn lines_read_back()
 /// order, and of the end.
 pub fn report_reads_back<T>()
     ensures { ReportReadsBack T }
+{}
+
+/// Each text of bytes is one script, or has exactly one fault, and never both.
+pub fn texts_are_judged()
+    ensures { TextsAreJudged }
 {}

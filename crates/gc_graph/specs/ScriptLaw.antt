@@ -1,0 +1,21 @@
+-- The law of the grammar.
+use Rattle.std.specs.Prelude.{◌≡◌, ◌⊎◌, ℕ, List}
+use Rattle.gc_graph.specs.Script.{Script, IsScript, IsFault}
+
+-- the bytes are a script, or some line of them is faulty
+abbrev pub IsScriptOrFault : ℕ → List ℕ → Type 0
+IsScriptOrFault callbacks bytes =
+    ((script : Script) × IsScript callbacks bytes script)
+    ⊎ ((line : ℕ) × (reason : ℕ) × IsFault callbacks bytes line reason)
+
+-- one of the two comes, never both; a script says one thing, and a fault is one line with one reason
+pub record IsJudged (callbacks : ℕ) (bytes : List ℕ) : Type 0 where
+  pub some : IsScriptOrFault callbacks bytes
+  pub apart : (script : Script) (line reason : ℕ) → IsScript callbacks bytes script → IsFault callbacks bytes line reason → ⊥
+  pub one_script : (s t : Script) → IsScript callbacks bytes s → IsScript callbacks bytes t → s ≡ t
+  pub one_fault :
+      (line reason other why : ℕ) → IsFault callbacks bytes line reason → IsFault callbacks bytes other why
+      → (line ≡ other) × (reason ≡ why)
+
+abbrev pub TextsAreJudged : Type 0
+TextsAreJudged = (callbacks : ℕ) (bytes : List ℕ) → IsJudged callbacks bytes

@@ -1,0 +1,12 @@
+use Rattle.std.proofs.Common.{get_or, ◌-◌, ap, ◌∙◌}
+use Rattle.gc_graph.specs.declared.graph.Kind.TheVariants.{Plain}
+use Rattle.type_table.specs.Layouts.{LayoutState}
+use Rattle.type_table.specs.Types.{kinds_of}
+use Rattle.type_table.proofs.WordKinds.{kind_at}
+use Rattle.type_table.proofs.table.TypeTable.kind_at.Goals as goal
+
+pub returns : goal.returns
+returns c field is =
+    c.kind.ensures
+    ∙ ap (λ (l : LayoutState). get_or l.kinds (c.args.word - 2) Plain) c.layout.ensures.value
+    ∙ kind_at (kinds_of c.args.self.now c.args.ty) field c.args.word is

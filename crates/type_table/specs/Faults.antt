@@ -1,0 +1,57 @@
+-- Which types make a table, and why others make none.
+use Rattle.std.specs.Prelude.{◌≡◌, ℕ, ◌<◌, ◌≤◌, nat_lt, not, Bool, List, length, Some, All}
+use Rattle.std.specs.List.{list_all, position, find}
+use Rattle.gc_graph.specs.State.{ObjectType}
+use Rattle.type_table.specs.Types.{type_of}
+use Rattle.type_table.specs.declared.faults.TypeFault.{TypeFault}
+use Rattle.type_table.specs.declared.faults.TypeFault.TheVariants.{TooManyTypes, TooManyFields, NoCallback, NoMemory}
+
+-- over 64 fields
+abbrev pub is_too_wide : ObjectType → Bool
+is_too_wide type = nat_lt 64 (length type.kinds)
+
+-- no callback has this number
+abbrev pub is_beyond : ℕ → ℕ → Bool
+is_beyond callbacks number = not (nat_lt number callbacks)
+
+-- some prefinalizer of the type is no callback
+abbrev pub names_none : ℕ → ObjectType → Bool
+names_none callbacks type = not (list_all (λ number. nat_lt number callbacks) type.prefinalizers)
+
+-- types within the limits, whose prefinalizers are callbacks
+pub record AreGoodTypes (callbacks : ℕ) (types : List ObjectType) : Type 0 where
+  pub few : length types ≤ 16383
+  pub narrow : All (λ type. length type.kinds ≤ 64) types
+  pub known : All (λ type. All (λ number. number < callbacks) type.prefinalizers) types
+
+-- the first type with over 64 fields, where the types aren't too many
+pub record IsFirstWide (types : List ObjectType) (ty : ℕ) : Type 0 where
+  pub few : length types ≤ 16383
+  pub first : position is_too_wide types ≡ Some ty
+
+-- the first prefinalizer that is no callback, and its type, where the types are within the limits
+pub record IsFirstUnknown (callbacks : ℕ) (types : List ObjectType) (ty callback : ℕ) : Type 0 where
+  pub few : length types ≤ 16383
+  pub narrow : All (λ type. length type.kinds ≤ 64) types
+  pub first : position (names_none callbacks) types ≡ Some ty
+  pub number : find (is_beyond callbacks) (type_of types ty).prefinalizers ≡ Some callback
+
+-- the cause of each fault; want of memory has none
+abbrev pub IsTypeFault : ℕ → List ObjectType → TypeFault → Type 0
+IsTypeFault callbacks types (TooManyTypes count) = (16383 < length types) × (count ≡ length types)
+IsTypeFault callbacks types (TooManyFields ty) = IsFirstWide types ty
+IsTypeFault callbacks types (NoCallback ty callback) = IsFirstUnknown callbacks types ty callback
+IsTypeFault callbacks types NoMemory = Unit {0}
+
+-- a fault other than want of memory
+abbrev pub IsFaultOfTypes : ℕ → List ObjectType → TypeFault → Type 0
+IsFaultOfTypes callbacks types fault = IsTypeFault callbacks types fault × (fault ≡ NoMemory → ⊥)
+
+-- the fault of the first prefinalizer that is no callback
+abbrev pub IsUnknownOf : ℕ → List ObjectType → TypeFault → Type 0
+IsUnknownOf callbacks types (TooManyTypes count) = ⊥
+IsUnknownOf callbacks types (TooManyFields ty) = ⊥
+IsUnknownOf callbacks types (NoCallback ty callback) =
+    (position (names_none callbacks) types ≡ Some ty)
+    × (find (is_beyond callbacks) (type_of types ty).prefinalizers ≡ Some callback)
+IsUnknownOf callbacks types NoMemory = ⊥

@@ -1,0 +1,42 @@
+-- What a table has worked out of each type.
+use Rattle.std.specs.Prelude.{ℕ, List, [], length, map, replicate}
+use Rattle.std.specs.List.{flat_map, range_with_len}
+use Rattle.gc_graph.specs.declared.graph.Kind.{Kind}
+use Rattle.gc_graph.specs.declared.graph.Kind.TheVariants.{Strong, Pair}
+use Rattle.gc_graph.specs.State.{ObjectType}
+use Rattle.gc_graph.specs.Fields.{words_of_kind, field_words}
+use Rattle.type_table.specs.Types.{offset_of, offsets_where, is_kind}
+
+-- how many words the declared fields take, the offset of each field, the kind of each word's field, and the offsets of
+-- the strong fields and of the pairs
+pub record LayoutState : Type 0 where
+  pub words : ℕ
+  pub offsets : List ℕ
+  pub kinds : List Kind
+  pub strong : List ℕ
+  pub pairs : List ℕ
+
+abbrev pub no_layout : LayoutState
+no_layout = record { words = 0; offsets = []; kinds = []; strong = []; pairs = [] }
+
+-- the offsets of the declared fields, in their order
+abbrev pub offsets_of : List Kind → List ℕ
+offsets_of kinds = map (offset_of kinds) (range_with_len 0 (length kinds))
+
+-- the kind of the field to which each word belongs
+abbrev pub kinds_of_words : List Kind → List Kind
+kinds_of_words kinds = flat_map (λ kind. replicate (words_of_kind kind) kind) kinds
+
+-- the layout of fields of these kinds
+abbrev pub layout_of : List Kind → LayoutState
+layout_of kinds = record {
+  words = field_words kinds;
+  offsets = offsets_of kinds;
+  kinds = kinds_of_words kinds;
+  strong = offsets_where (is_kind Strong) kinds;
+  pairs = offsets_where (is_kind Pair) kinds;
+}
+
+-- the layouts of types, by number
+abbrev pub layouts_of : List ObjectType → List LayoutState
+layouts_of types = map (λ type. layout_of type.kinds) types
