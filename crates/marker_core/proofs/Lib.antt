@@ -1,0 +1,4 @@
+mod Members
+mod Apart
+mod Edges
+mod Reached
