@@ -1,12 +1,14 @@
 -- The edges of the object that a body stands for, by its words.
 use Rattle.std.proofs.Common.{◌≡◌, ℕ, zero, suc, ◌+◌, ◌-◌, ◌<◌, List, [], ◌∷◌, get_or, Bool, true, ◌&&◌, eqb, refl, ap, ◌∙◌, inl, inr, arith, add-one}
+use mathlib.Core.Logic.{◌⊎◌}
 use Rattle.std.specs.List.{list_any}
 use Rattle.std.proofs.lemmas.Bool.{false≢true, eq-eqb, eqb-true, or_cases, or_left, or_right, and_parts, and_from}
 use Rattle.gc_graph.specs.declared.graph.Kind.{Kind}
 use Rattle.gc_graph.specs.declared.graph.Kind.TheVariants.{Strong, Weak, Pair, Plain}
 use Rattle.gc_graph.specs.Graph.{strong_targets, pair_targets}
-use Rattle.marker_core.specs.declared.states.Role.TheVariants.{StrongWord, KeyWord, ValueWord}
-use Rattle.marker_core.specs.Bodies.{role_at}
+use Rattle.marker_core.specs.declared.states.Role.TheVariants.{StrongWord, WeakWord, KeyWord, ValueWord, PlainWord}
+use Rattle.marker_core.specs.declared.states.Role.{Role}
+use Rattle.marker_core.specs.Bodies.{role_at, refers, is_traced_role, word_count}
 use Rattle.marker_core.specs.Closed.{values_of}
 
 -- a strong word that names n
@@ -131,3 +133,30 @@ value_after_key kinds i h = ap (role_at kinds) (add-one i) ∙ after kinds i h w
   after (Pair ∷ kinds) zero h = refl
   after (Pair ∷ kinds) (suc zero) h = cc
   after (Pair ∷ kinds) (suc (suc i)) h = after kinds i h
+
+-- a reference is a word of the declared fields
+pub refers_within : (kinds : List Kind) (i : ℕ) → refers (role_at kinds i) ≡ true → i < word_count kinds
+refers_within [] i h = absurd (false≢true h)
+refers_within (Strong ∷ kinds) zero h = omega arith
+refers_within (Strong ∷ kinds) (suc i) h = omega (arith, refers_within kinds i h)
+refers_within (Weak ∷ kinds) zero h = omega arith
+refers_within (Weak ∷ kinds) (suc i) h = omega (arith, refers_within kinds i h)
+refers_within (Plain ∷ kinds) zero h = omega arith
+refers_within (Plain ∷ kinds) (suc i) h = omega (arith, refers_within kinds i h)
+refers_within (Pair ∷ kinds) zero h = omega arith
+refers_within (Pair ∷ kinds) (suc zero) h = omega arith
+refers_within (Pair ∷ kinds) (suc (suc i)) h = omega (arith, refers_within kinds i h)
+
+pub traced_cases : (role : Role) → is_traced_role role ≡ true → (role ≡ StrongWord) ⊎ (role ≡ KeyWord)
+traced_cases StrongWord h = inl refl
+traced_cases KeyWord h = inr refl
+traced_cases WeakWord h = absurd (false≢true h)
+traced_cases ValueWord h = absurd (false≢true h)
+traced_cases PlainWord h = absurd (false≢true h)
+
+pub traced_refers : (role : Role) → is_traced_role role ≡ true → refers role ≡ true
+traced_refers StrongWord h = refl
+traced_refers KeyWord h = refl
+traced_refers WeakWord h = refl
+traced_refers ValueWord h = refl
+traced_refers PlainWord h = absurd (false≢true h)

@@ -1,4 +1,12 @@
 mod Members
 mod Apart
 mod Edges
-mod Reached
+pub mod Reached
+mod Counts
+mod Headers
+mod Offsets
+mod Frames
+mod Tricolour
+mod Turns
+pub mod Settled
+mod Loads

@@ -149,3 +149,9 @@ pub others_held_after_removal : (places : List ℕ) (a x : ℕ) → (x ≡ a →
 others_held_after_removal places a x other =
     any-filter_same (λ p. eqb p x) (λ p. not (eqb p a)) true
     (λ p e. not_from_false (eqb p a) (ne_eqb p a (λ same. other (sym (eqb-true p x e) ∙ same)))) places
+
+-- what a set holds where a place joined it under a condition
+pub held_after : (joins : Bool) (places : List ℕ) (a x : ℕ) → holds (cond joins (places ++ a ∷ []) places) x ≡ true
+    → (holds places x ≡ true) ⊎ ((joins ≡ true) × (x ≡ a))
+held_after true places a x h = elim (holds_push_cases places a x h) [ inl same ↦ inr (refl, same) | inr old ↦ inl old ]
+held_after false places a x h = inl h

@@ -66,10 +66,11 @@ pub record HandsAreBodies (types : List (List Kind)) (bodies : List Body) (marks
 abbrev pub IsLoaded : Part → ℕ → Type 0
 IsLoaded part t = part ≡ Mark t
 
--- what may be kept is closed and holds what is marked, in a hand, loaded, or waits for its mark; a member's pair has its
--- value in it where its key is null or in it; a pair of any other body is null or whole; what was seen is marked, and what
--- is done is traced
+-- what may be kept are bodies; it is closed and holds what is marked, in a hand, loaded, or waits for its mark; a member's
+-- pair has its value in it where its key is null or in it; a pair of any other body is null or whole; what was seen is
+-- marked, and what is done is traced
 pub record MayIsClosed (types : List (List Kind)) (bodies : List Body) (marks traces : ℕ → ℕ) (pending : Option ℕ) (may seen : List ℕ) (hand : Hand → Type 0) (done : ℕ → Type 0) : Type 0 where
+  pub are_places : (a : ℕ) → holds may a ≡ true → is_place bodies a ≡ true
   pub closed : IsClosedOver types bodies (holds may)
   pub marked_in : (a : ℕ) → 0 < marks a → holds may a ≡ true
   pub hands_in : (h : Hand) → hand h → holds may h.place ≡ true

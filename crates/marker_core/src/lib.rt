@@ -21,7 +21,7 @@ mod lists;
 mod states;
 mod steps;
 
-pub use laws::reach_over_is_least;
+pub use laws::{reach_over_is_least, settled_has_ended};
 pub use lists::List;
 pub use states::{Body, CoreState, Hand, MarkerView, MutatorView, Part, Role, Why};
 pub use steps::CoreStep;
