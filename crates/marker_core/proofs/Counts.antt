@@ -1,7 +1,7 @@
 -- How often a place stands in a list.
 use Rattle.std.proofs.Common.{◌≡◌, ℕ, ◌+◌, ◌<◌, List, [], ◌∷◌, ◌++◌, length, get_or, set, filter, Bool, true, false, cond, not, ◌||◌, eqb, ltb, refl, sym, ap, ◌∙◌, subst, inl, inr, arith, Contains}
 use Rattle.std.specs.List.{count_by, sum_by}
-use Rattle.std.proofs.lemmas.Bool.{cases_Bool, cases_eq, eq-eqb, eqb-true, ne_eqb, lt-ltb, ltb-true, le-ltb, or_left, or_right, false_from_ne_true}
+use Rattle.std.proofs.lemmas.Bool.{cases_Bool, cases_eq, eq-eqb, eqb-true, ne_eqb, lt-ltb, ltb-true, ltb-false, le-ltb, or_left, or_right, false_from_ne_true}
 use Rattle.std.proofs.lemmas.List.Sums.{sum_by-cons, sum_by-append, sum_by_push}
 use Rattle.marker_core.specs.Bodies.{holds, without}
 use Rattle.marker_core.specs.Views.{times}
@@ -60,3 +60,6 @@ true_is_some n on = ltb-true 0 n on
 
 pub none_is_false : (n : ℕ) → n ≡ 0 → ltb 0 n ≡ false
 none_is_false n none = le-ltb 0 n (omega arith)
+
+pub false_is_none : (n : ℕ) → ltb 0 n ≡ false → n ≡ 0
+false_is_none n off = omega (arith, ltb-false 0 n off)

@@ -10,3 +10,13 @@ mod Tricolour
 mod Turns
 pub mod Settled
 mod Loads
+mod Traces
+mod Fills
+mod Rewords
+mod Remarks
+mod Marked
+mod Claims
+mod Claimed
+mod Quiet
+mod Unmarks
+mod Stops

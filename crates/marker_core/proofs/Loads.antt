@@ -38,7 +38,7 @@ module _ (s : CoreState) (ok : IsCoreOk s) where
       subst (λ x. 0 < traces_at s.mutator s.markers x) at.2 (true_is_some (traces_at s.mutator s.markers at.0.place) one)
 
   module _ (on : s.mutator.on ≡ true) (a : ℕ) where
-    looked_done : (x : ℕ) → IsDone (looked_at s a) s.markers x → 0 < traces_at s.mutator s.markers x
+    pub looked_done : (x : ℕ) → IsDone (looked_at s a) s.markers x → 0 < traces_at s.mutator s.markers x
     looked_done x done = elim done [
       | inr other ↦ (ok.may_is_closed on).done_are_traced x (inr other)
       | inl own ↦ elim (held_after (s.mutator.on && is_place s.mutator.bodies a && is_traced s.words a) s.mutator.done a x own) [

@@ -258,3 +258,25 @@ module _ (count : ℕ) (types : List (List Kind)) (bodies : List Body) (whole : 
           keeps.3 t (ap (λ (x : Hand). x.part) same ∙ loaded))
     ]
   ]
+
+-- ---- the same hands, told in another way
+
+module _ (types : List (List Kind)) (bodies : List Body) (marks traces : ℕ → ℕ) (pending : Option ℕ) (old new : Hand → Type 0) (goes : (g : Hand) → old g → new g) where
+  same_held : (p offset : ℕ) → IsInHand old p offset → IsInHand new p offset
+  same_held p offset held = (held.0, goes held.0 held.1, held.2, held.3)
+
+  pub strong_same : StrongAccounted types bodies marks traces pending old → StrongAccounted types bodies marks traces pending new
+  strong_same all b i h traced role = elim (all b i h traced role) [ inl c ↦ inl c | inr held ↦ inr (same_held b.place (i + 2) held) ]
+
+  pub pairs_same : (noted more : ℕ → ℕ → Type 0) → ((p o : ℕ) → noted p o → more p o)
+      → PairsAccounted types bodies marks traces pending old noted → PairsAccounted types bodies marks traces pending new more
+  pairs_same noted more kept all b i h traced role = elim (all b i h traced role) [
+    | inl null ↦ inl null
+    | inr some ↦ elim some [
+      | inl c ↦ inr (inl c)
+      | inr other ↦ elim other [
+        | inl n ↦ inr (inr (inl (kept b.place (i + 2) n)))
+        | inr held ↦ inr (inr (inr (same_held b.place (i + 2) held)))
+      ]
+    ]
+  ]
