@@ -20,3 +20,6 @@ mod Claimed
 mod Quiet
 mod Unmarks
 mod Stops
+mod Maps
+mod Written
+mod Stores
