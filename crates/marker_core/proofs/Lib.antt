@@ -23,3 +23,7 @@ mod Stops
 mod Maps
 mod Written
 mod Stores
+mod StartBits
+mod Published
+mod Publishes
+mod Retracts
