@@ -280,3 +280,33 @@ module _ (types : List (List Kind)) (bodies : List Body) (marks traces : ℕ →
       ]
     ]
   ]
+
+-- ---- more bodies
+
+module _ (bodies more : List Body) (marks : ℕ → ℕ) (pending : Option ℕ) (may wider : List ℕ) (there : (x : ℕ) → is_place bodies x ≡ true → is_place more x ≡ true) (grown : (x : ℕ) → holds may x ≡ true → holds wider x ≡ true) where
+  part_among_more : (role : Role) (b : Body) (i : ℕ) (part : Part) → PartFits bodies marks pending may role b i part
+      → PartFits more marks pending wider role b i part
+  part_among_more role b i Read fits = tt
+  part_among_more role b i (Mark t) fits = (there t fits.0, fits.1)
+  part_among_more role b i (Key k) fits = (
+    there k fits.0,
+    fits.1,
+    elim fits.2 [
+      | inl same ↦ inl same
+      | inr other ↦ elim other [ inl null ↦ inr (inl null) | inr member ↦ inr (inr (grown (word_in b i - 1) member)) ]
+    ],
+  )
+  part_among_more role b i Value fits =
+      (fits.0, elim fits.1 [ inl null ↦ inl null | inr member ↦ inr (grown (word_in b i - 1) member) ])
+
+  pub fits_among_more : (types : List (List Kind)) (h : Hand) → ((b : Body) → Contains bodies b → Contains more b)
+      → HandFits types bodies marks pending may h → HandFits types more marks pending wider h
+  fits_among_more types h kept fits = record {
+    body = fits.body;
+    there = kept fits.body fits.there;
+    place = fits.place;
+    ty = fits.ty;
+    past_serial = fits.past_serial;
+    at_hand = fits.at_hand;
+    part = part_among_more (role_at_hand types h) fits.body (h.next - 2) h.part fits.part;
+  }
