@@ -27,3 +27,9 @@ mod StartBits
 mod Published
 mod Publishes
 mod Retracts
+mod Retold
+mod Lends
+mod Polls
+mod Looks
+mod MarkerClaims
+mod MarkerMarks
