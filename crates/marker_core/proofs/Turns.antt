@@ -232,3 +232,34 @@ module _ (s : CoreState) (ok : IsCoreOk s) (on : s.mutator.on ≡ true) where
 
     pub turn_by_key : wants_key h.part a ≡ true → (has_mark word ≡ false → noted h.place h.next) → Turns (hand_looked s.types word h)
     turn_by_key wants note = look_by h.part refl wants note
+
+    -- the word that the hand wants is a reference of its body
+    abbrev IsRead : Type 0
+    IsRead = (j : ℕ) × (refers (role_in s.types hand_fits.body j) ≡ true) × (word ≡ word_in hand_fits.body j)
+
+    read_of : (part : Part) → h.part ≡ part → wants_word h part a ≡ true → IsRead
+    read_of Read e wants =
+        let past = hand_fits.past_serial in
+        let place = hand_fits.place in
+        let at : a ≡ h.place + h.next = eqb-true a (h.place + h.next) wants in
+        let refer = traced_refers (role_in s.types hand_fits.body (h.next - 2)) (ap is_traced_role role_is ∙ hand_fits.at_hand) in
+        (h.next - 2, refer, word_is hand_fits.body (h.next - 2) a hand_fits.there refer (omega arith))
+    read_of Value e wants =
+        let past = hand_fits.past_serial in
+        let place = hand_fits.place in
+        let at : a ≡ h.place + h.next + 1 = eqb-true a (h.place + h.next + 1) wants in
+        let fits : Fits hand_fits.body Value = subst (Fits hand_fits.body) e hand_fits.part in
+        let refer : refers (role_in s.types hand_fits.body (h.next - 2 + 1)) ≡ true =
+        ap refers (value_after_key (kinds_of s.types hand_fits.body.ty) (h.next - 2) (role_is ∙ fits.0))
+        in
+        (h.next - 2 + 1, refer, word_is hand_fits.body (h.next - 2 + 1) a hand_fits.there refer (omega arith))
+    read_of (Mark t) e wants = absurd (false≢true wants)
+    read_of (Key k) e wants = absurd (false≢true wants)
+
+    -- so it is null or names a body
+    pub target_is_place : wants_word h h.part a ≡ true → (word ≡ 0 → ⊥) → is_place s.mutator.bodies (word - 1) ≡ true
+    target_is_place wants some =
+        let read = read_of h.part refl wants in
+        let is = read.2 in
+        ap (λ w. is_place s.mutator.bodies (w - 1)) is
+        ∙ named s.mutator.bodies (word_in hand_fits.body read.0) (all_name_bodies hand_fits.body read.0 hand_fits.there read.1) (omega (arith, is))
