@@ -1,19 +1,16 @@
 -- The mutator claims an object: what is true of every state stays.
-use Rattle.std.proofs.Common.{◌≡◌, ℕ, ◌+◌, ◌<◌, List, [], ◌∷◌, ◌++◌, get_or, set, Bool, true, false, not, cond, ◌&&◌, ltb, Option, Some, None, refl, sym, ap, ◌∙◌, subst, inl, inr, arith, Contains}
-use mathlib.Core.Logic.{◌⊎◌}
+use Rattle.std.proofs.Common.{◌≡◌, ℕ, ◌+◌, ◌<◌, [], ◌∷◌, ◌++◌, get_or, set, Bool, true, false, not, cond, ◌&&◌, ltb, None, sym, ap, ◌∙◌, subst, inl, inr, arith}
 use Rattle.std.specs.List.{sum_by}
 use Rattle.std.specs.Option.{is_none}
-use Rattle.std.proofs.lemmas.Bool.{cases_Bool, both_ways, and_parts, not-true, false≢true}
+use Rattle.std.proofs.lemmas.Bool.{cases_Bool, both_ways, and_parts, not-true}
 use Rattle.object_headers.specs.Layout.{word_with_traced}
 use Rattle.marker_core.specs.declared.states.CoreState.{CoreState}
-use Rattle.marker_core.specs.declared.states.Hand.{Hand}
 use Rattle.marker_core.specs.declared.states.MutatorView.{MutatorView}
 use Rattle.marker_core.specs.Layout.{has_mark, has_traced, is_traced}
-use Rattle.marker_core.specs.Bodies.{is_place, holds}
+use Rattle.marker_core.specs.Bodies.{is_place}
 use Rattle.marker_core.specs.Hands.{hand_claimed}
 use Rattle.marker_core.specs.MutatorSteps.{is_grey, can_claim, claimed}
 use Rattle.marker_core.specs.Views.{times, traces_at, marks_at, IsHand, IsDone}
-use Rattle.marker_core.specs.Tracing.{MayIsClosed}
 use Rattle.marker_core.specs.Core.{IsCoreOk}
 use Rattle.marker_core.proofs.Members.{held_after}
 use Rattle.marker_core.proofs.Apart.{body_of_place}
@@ -21,7 +18,7 @@ use Rattle.marker_core.proofs.Counts.{times_push_same, times_push_other, false_i
 use Rattle.marker_core.proofs.Headers.{traced_tells}
 use Rattle.marker_core.proofs.Loads.{found_traced}
 use Rattle.marker_core.proofs.Tricolour.{HandChanges, mutator_changes}
-use Rattle.marker_core.proofs.Claims.{is_none_tells, marked_here, claimed_words, claimed_traced, still_traced, strong_claimed, pairs_claimed, fits_claimed, hands_in_claimed, loaded_in_claimed}
+use Rattle.marker_core.proofs.Claims.{is_none_tells, claimed_words, claimed_traced, still_traced, strong_claimed, pairs_claimed, fits_claimed, hands_in_claimed, loaded_in_claimed}
 
 -- the state after the claim, where the header was grey or not
 abbrev claimed_with : CoreState → ℕ → Bool → CoreState

@@ -1,25 +1,23 @@
 -- A marked object is claimed: what its traced bit and the new hand change, whoever claims it.
-use Rattle.std.proofs.Common.{◌≡◌, ℕ, ◌+◌, ◌-◌, ◌<◌, ◌≤◌, List, [], get_or, set, Bool, true, false, not, ◌&&◌, ltb, Option, Some, None, refl, sym, ap, ◌∙◌, subst, inl, inr, arith, Contains}
-use mathlib.Core.Logic.{◌⊎◌}
+use Rattle.std.proofs.Common.{◌≡◌, ℕ, ◌+◌, ◌-◌, ◌<◌, get_or, set, true, not, ltb, Option, Some, None, refl, sym, ap, ◌∙◌, subst, inl, inr, arith, Contains}
 use Rattle.std.specs.Option.{is_none}
-use Rattle.std.proofs.lemmas.Bool.{cases_eq, and_parts, not-true, false≢true}
+use Rattle.std.proofs.lemmas.Bool.{cases_eq, and_parts, false≢true}
 use Rattle.object_headers.specs.Layout.{header_word, word_with_traced}
-use Rattle.gc_graph.specs.declared.graph.Kind.{Kind}
 use Rattle.marker_core.specs.declared.states.Body.{Body}
 use Rattle.marker_core.specs.declared.states.CoreState.{CoreState}
 use Rattle.marker_core.specs.declared.states.Hand.{Hand}
 use Rattle.marker_core.specs.declared.states.Part.TheVariants.{Read, Mark}
 use Rattle.marker_core.specs.Layout.{has_mark, has_traced, is_marked, type_in}
-use Rattle.marker_core.specs.Bodies.{role_at, kinds_of, is_traced_role, word_in, role_in, is_place, holds}
-use Rattle.marker_core.specs.Hands.{hand_past, hand_claimed, role_at_hand}
+use Rattle.marker_core.specs.Bodies.{role_at, kinds_of, is_traced_role, role_in, is_place, holds}
+use Rattle.marker_core.specs.Hands.{hand_claimed, role_at_hand}
 use Rattle.marker_core.specs.MutatorSteps.{is_grey}
 use Rattle.marker_core.specs.Views.{marks_at, traces_at, IsHand, IsNoted}
-use Rattle.marker_core.specs.Tracing.{IsCovered, IsInHand, StrongAccounted, PairsAccounted, PartFits, HandFits, IsLoaded, TracedAreMarked}
+use Rattle.marker_core.specs.Tracing.{IsInHand, StrongAccounted, PairsAccounted, PartFits, HandFits, IsLoaded, TracedAreMarked}
 use Rattle.marker_core.specs.Core.{IsCoreOk}
 use Rattle.marker_core.proofs.Apart.{body_of_place, same_place}
 use Rattle.marker_core.proofs.Counts.{true_is_some, some_is_true}
 use Rattle.marker_core.proofs.Headers.{mark_tells, type_tells, traced_in_header}
-use Rattle.marker_core.proofs.Offsets.{read_at, hand_past_is, hand_past_finds}
+use Rattle.marker_core.proofs.Offsets.{hand_past_is, hand_past_finds}
 use Rattle.marker_core.proofs.Rewords.{Rewords, header_written}
 use Rattle.marker_core.proofs.Tricolour.{HandChanges}
 

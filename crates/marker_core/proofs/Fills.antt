@@ -1,13 +1,11 @@
 -- A word that is filled outside the bodies keeps what is true of every state.
-use Rattle.std.proofs.Common.{◌≡◌, ◌≢◌, ℕ, ◌<◌, List, ◌∷◌, length, get_or, set, filter, Bool, true, false, not, ◌&&◌, eqb, ltb, sym, ap, ◌∙◌, subst, inl, inr, arith, Contains, All}
+use Rattle.std.proofs.Common.{◌≡◌, ◌≢◌, ℕ, ◌<◌, List, ◌∷◌, get_or, set, filter, Bool, true, false, not, eqb, ltb, sym, ◌∙◌, subst, inl, inr, Contains}
 use mathlib.Core.Logic.{◌⊎◌}
 use Rattle.std.proofs.lemmas.Bool.{and_parts, not-true, eqb-false, ltb-true}
 use Rattle.std.proofs.lemmas.List.{get_or-set_same, get_or-set_other}
 use Rattle.std.proofs.lemmas.List.Elements.{All-weaker, filter_passes}
 use Rattle.std.proofs.lemmas.List.Kept.{AllPairs-cons, AllPairs-filter}
-use Rattle.marker_core.specs.declared.states.Body.{Body}
 use Rattle.marker_core.specs.declared.states.CoreState.{CoreState}
-use Rattle.marker_core.specs.Layout.{stop_at}
 use Rattle.marker_core.specs.Bodies.{in_body}
 use Rattle.marker_core.specs.Views.{marks_at, traces_at}
 use Rattle.marker_core.specs.MutatorSteps.{can_fill, filled}

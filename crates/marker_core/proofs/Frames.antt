@@ -1,12 +1,12 @@
 -- What stays when one word is written.
-use Rattle.std.proofs.Common.{◌≡◌, ◌≢◌, ℕ, ◌+◌, ◌*◌, ◌/◌, ◌%◌, ◌<◌, ◌≤◌, List, length, get_or, set, Bool, true, false, eqb, ltb, refl, sym, ap, ◌∙◌, subst, inl, inr, arith, Contains}
+use Rattle.std.proofs.Common.{◌≡◌, ℕ, ◌+◌, ◌%◌, ◌<◌, ◌≤◌, List, length, get_or, set, true, false, ltb, sym, ap, ◌∙◌, inl, inr, arith, Contains}
 use Rattle.std.proofs.lemmas.Bool.{cases_eq}
 use Rattle.std.proofs.lemmas.List.{length-set, get_or-set_same, get_or-set_other}
 use Rattle.gc_graph.specs.declared.graph.Kind.{Kind}
 use Rattle.object_headers.specs.Layout.{header_word}
 use Rattle.marker_core.specs.declared.states.Body.{Body}
-use Rattle.marker_core.specs.Layout.{bitmap_at, stop_at, bit_is_set, is_start}
-use Rattle.marker_core.specs.Bodies.{end_of, is_place, in_body}
+use Rattle.marker_core.specs.Layout.{bitmap_at, stop_at, bit_is_set}
+use Rattle.marker_core.specs.Bodies.{in_body}
 use Rattle.marker_core.specs.Matching.{HasRoom, AreWhole, LieApart, HeadersMatch, SerialsMatch, StartsMatch, FieldsMatch, FilledMatch}
 use Rattle.marker_core.proofs.Apart.{two_words, same_offset, outside_body}
 

@@ -1,9 +1,9 @@
 -- What header words tell, and how a bit of one changes.
-use Rattle.std.proofs.Common.{◌≡◌, ℕ, ◌+◌, ◌*◌, ◌/◌, ◌%◌, ◌<◌, ◌^◌, List, get_or, Bool, true, false, eqb, ltb, refl, sym, ap, ◌∙◌, arith, Contains}
+use Rattle.std.proofs.Common.{◌≡◌, ℕ, ◌<◌, List, get_or, Bool, true, false, ltb, ap, ◌∙◌, arith, Contains}
 use Rattle.std.proofs.lemmas.Bool.{eq-eqb, ne_eqb}
 use Rattle.object_headers.specs.Layout.{header_word, word_with_mark, word_with_traced}
 use Rattle.marker_core.specs.declared.states.Body.{Body}
-use Rattle.marker_core.specs.Layout.{has_mark, has_traced, type_in, size_in, is_marked, is_traced}
+use Rattle.marker_core.specs.Layout.{has_mark, has_traced, type_in, is_marked, is_traced}
 use Rattle.marker_core.specs.Matching.{HeadersMatch}
 
 pub mark_of_header : (mark traced : Bool) (ty size : ℕ) → has_mark (header_word true mark traced ty size) ≡ mark

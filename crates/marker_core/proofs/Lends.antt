@@ -1,26 +1,24 @@
 -- A marker's view is lent, or given back: what is true of every state stays.
-use Rattle.std.proofs.Common.{◌≡◌, ℕ, ◌+◌, ◌-◌, ◌<◌, ◌≤◌, List, [], ◌∷◌, ◌++◌, length, get_or, set, Bool, true, false, not, cond, ◌&&◌, Option, Some, None, refl, sym, ap, ◌∙◌, subst, inl, inr, arith, Contains}
-use mathlib.Core.Logic.{◌⊎◌}
-use Rattle.std.specs.List.{sum_by, count_by}
+use Rattle.std.proofs.Common.{◌≡◌, ℕ, ◌+◌, ◌-◌, List, [], ◌∷◌, ◌++◌, set, true, false, not, cond, Some, None, refl, sym, ap, ◌∙◌, subst, inl, inr, arith, Contains}
+use Rattle.std.specs.List.{sum_by}
 use Rattle.std.specs.Option.{is_none}
-use Rattle.std.proofs.lemmas.Bool.{both_ways, and_parts, not-true, false≢true, true≢false}
+use Rattle.std.proofs.lemmas.Bool.{both_ways, and_parts, not-true, false≢true}
 use Rattle.std.proofs.lemmas.List.Elements.{Contains-append_left, Contains-append_right, Contains-push_cases}
 use Rattle.std.proofs.lemmas.List.Sums.{sum_by_push}
 use Rattle.marker_core.specs.declared.states.CoreState.{CoreState}
 use Rattle.marker_core.specs.declared.states.Hand.{Hand}
 use Rattle.marker_core.specs.declared.states.MarkerView.{MarkerView}
 use Rattle.marker_core.specs.declared.states.MutatorView.{MutatorView}
-use Rattle.marker_core.specs.Layout.{stop_at}
 use Rattle.marker_core.specs.Bodies.{holds}
 use Rattle.marker_core.specs.CycleSteps.{can_split, split, can_join, joined}
-use Rattle.marker_core.specs.Views.{times, marks_at, traces_at, IsHand, IsNoted, IsDone, fresh_view, spent_view, view_at}
+use Rattle.marker_core.specs.Views.{times, marks_at, traces_at, IsHand, IsNoted, fresh_view, spent_view, view_at}
 use Rattle.marker_core.specs.Matching.{IsEmptied}
 use Rattle.marker_core.specs.Core.{IsCoreOk}
 use Rattle.marker_core.proofs.Members.{holds_append_cases, still_in_or_overwritten}
 use Rattle.marker_core.proofs.Counts.{times_append}
 use Rattle.marker_core.proofs.Tricolour.{strong_same, pairs_same}
 use Rattle.marker_core.proofs.Claims.{is_none_tells}
-use Rattle.marker_core.proofs.Retold.{Retells, with_lists, retold_ok, is_out, is_there, is_view, is_on, sum_after, view_cases}
+use Rattle.marker_core.proofs.Retold.{with_lists, retold_ok, is_out, is_there, is_view, is_on, sum_after, view_cases}
 
 -- ---- a view is lent
 

@@ -33,3 +33,4 @@ mod Polls
 mod Looks
 mod MarkerClaims
 mod MarkerMarks
+pub mod Kept

@@ -1,32 +1,24 @@
 -- A load keeps what is true of every state.
-use Rattle.std.proofs.Common.{◌≡◌, ℕ, ◌+◌, ◌-◌, ◌<◌, List, [], ◌∷◌, ◌++◌, length, get_or, Bool, true, false, cond, ◌&&◌, ◌||◌, ltb, Option, Some, None, refl, sym, ap, ◌∙◌, subst, inl, inr, arith, Contains}
-use mathlib.Core.Logic.{◌⊎◌, ◌↔◌}
-use Rattle.std.proofs.lemmas.Bool.{cases_Bool, cases_eq, cond-true, cond-false, false≢true, both_ways, or_cases, and_parts, false_from_ne_true}
-use Rattle.std.proofs.lemmas.List.Elements.{Contains-append_left, Contains-append_right}
+use Rattle.std.proofs.Common.{◌≡◌, ℕ, ◌+◌, ◌-◌, ◌<◌, List, [], ◌∷◌, ◌++◌, true, ◌&&◌, ltb, sym, ap, ◌∙◌, subst, inl, inr, arith}
+use Rattle.std.proofs.lemmas.Bool.{cases_Bool, cond-true, cond-false, both_ways, and_parts, false_from_ne_true}
 use Rattle.gc_graph.specs.Reach.{ReachIsLeast}
-use Rattle.marker_core.specs.declared.states.Body.{Body}
 use Rattle.marker_core.specs.declared.states.CoreState.{CoreState}
-use Rattle.marker_core.specs.declared.states.Hand.{Hand}
-use Rattle.marker_core.specs.declared.states.MutatorView.{MutatorView}
-use Rattle.marker_core.specs.declared.states.Role.TheVariants.{KeyWord}
-use Rattle.marker_core.specs.declared.states.Why.{Why}
-use Rattle.marker_core.specs.declared.states.Why.TheVariants.{Read, Weak, Trace}
-use Rattle.marker_core.specs.Layout.{has_mark, is_traced}
-use Rattle.marker_core.specs.Bodies.{word_in, role_in, is_place, holds}
-use Rattle.marker_core.specs.Closed.{IsClosedOver, reach_over}
-use Rattle.marker_core.specs.Views.{marks_at, traces_at, IsHand, IsNoted, IsDone}
-use Rattle.marker_core.specs.Hands.{hand_read, hand_looked, wants_word, wants_key, wants, noted_pair, each_hand}
-use Rattle.marker_core.specs.MutatorSteps.{can_load, looked_at, may_after_read, traced_by_load, loaded}
+use Rattle.marker_core.specs.declared.states.Why.TheVariants.{Read, Weak}
+use Rattle.marker_core.specs.Layout.{is_traced}
+use Rattle.marker_core.specs.Bodies.{word_in, is_place, holds}
+use Rattle.marker_core.specs.Closed.{reach_over}
+use Rattle.marker_core.specs.Views.{marks_at, traces_at, IsHand, IsDone}
+use Rattle.marker_core.specs.MutatorSteps.{looked_at, may_after_read, loaded}
 use Rattle.marker_core.specs.Tracing.{MayIsClosed}
 use Rattle.marker_core.specs.Core.{IsCoreOk}
 use Rattle.marker_core.specs.Laws.{IsLeastOver}
-use Rattle.marker_core.proofs.Members.{held_after, holds_more, holds_push, holds_push_cases, holds_from}
+use Rattle.marker_core.proofs.Members.{held_after, holds_more}
 use Rattle.marker_core.proofs.Apart.{body_of_place}
 use Rattle.marker_core.proofs.Counts.{true_is_some}
 use Rattle.marker_core.proofs.Headers.{traced_tells}
 use Rattle.marker_core.proofs.Reached.{reach_over_law}
-use Rattle.marker_core.proofs.Tricolour.{HandTurn, mutator_changes, strong_turned, pairs_turned, pairs_covered, hands_turned, hands_in_turned, loaded_in_turned, fits_covered}
-use Rattle.marker_core.proofs.Turns.{all_name_bodies, turn_by_word, turn_by_key}
+use Rattle.marker_core.proofs.Tricolour.{fits_covered}
+use Rattle.marker_core.proofs.Turns.{all_name_bodies}
 
 module _ (s : CoreState) (ok : IsCoreOk s) where
   -- a header that is found traced is a traced body's

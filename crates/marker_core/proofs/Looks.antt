@@ -1,8 +1,7 @@
 -- A header or a field word is read by a marker: what is true of every state stays.
-use Rattle.std.proofs.Common.{◌≡◌, ℕ, ◌+◌, ◌-◌, ◌<◌, List, [], ◌∷◌, ◌++◌, get_or, set, Bool, true, false, not, cond, ◌&&◌, length, eqb, Option, Some, None, refl, sym, ap, ◌∙◌, subst, inl, inr, arith, Contains}
-use mathlib.Core.Logic.{◌⊎◌}
+use Rattle.std.proofs.Common.{◌≡◌, ℕ, ◌-◌, ◌<◌, List, [], ◌∷◌, ◌++◌, get_or, set, Bool, true, false, not, cond, ◌&&◌, length, eqb, Some, None, refl, sym, ap, ◌∙◌, subst, inl, inr, arith, Contains}
 use Rattle.std.specs.Option.{is_none}
-use Rattle.std.proofs.lemmas.Bool.{cases_Bool, cases_eq, cond-true, cond-false, and_parts, false≢true, both_ways, false_from_ne_true, eq-eqb, ne_eqb, eqb-true, or_cases, cases_lt}
+use Rattle.std.proofs.lemmas.Bool.{cases_Bool, cases_eq, cond-true, cond-false, false≢true, false_from_ne_true, eq-eqb, ne_eqb, eqb-true, or_cases, cases_lt}
 use Rattle.std.proofs.lemmas.List.{get_or_past}
 use Rattle.std.proofs.lemmas.List.Elements.{Contains-get_or, Contains-append_left, Contains-append_right}
 use Rattle.marker_core.specs.declared.states.CoreState.{CoreState}
@@ -19,7 +18,7 @@ use Rattle.marker_core.proofs.Loads.{found_traced}
 use Rattle.marker_core.proofs.Traces.{hand_or_none}
 use Rattle.marker_core.proofs.Tricolour.{HandTurn, HandChanges, marker_changes, strong_same, pairs_same, pairs_covered, strong_turned, pairs_turned, hands_turned, hands_in_turned, loaded_in_turned}
 use Rattle.marker_core.proofs.Turns.{turn_by_word, turn_by_key, target_is_place}
-use Rattle.marker_core.proofs.Retold.{Retells, retold_ok, is_there, is_view, is_on, own_hand, sum_after, now_is_in, still_noted, quiet_after, known_after, done_after, hand_goes, hand_comes}
+use Rattle.marker_core.proofs.Retold.{retold_ok, is_there, is_view, is_on, own_hand, sum_after, now_is_in, still_noted, quiet_after, known_after, done_after, hand_goes, hand_comes}
 
 -- a view that knows a place, or has a hand, isn't spent
 pub known_is_out : (s : CoreState) → IsCoreOk s → (k a : ℕ) → holds (view_at s.markers k).known a ≡ true → (view_at s.markers k).spent ≡ false
@@ -40,14 +39,14 @@ hand_is_out s ok k h own = false_from_ne_true (view_at s.markers k).spent (λ sp
 ])
 
 -- what a view has to keep that differs in lists that don't count
-record Keeps (s : CoreState) (k : ℕ) (now : MarkerView) : Type 0 where
-  marked : now.marked ≡ (view_at s.markers k).marked
-  traced : now.traced ≡ (view_at s.markers k).traced
-  out : now.spent ≡ false
-  halts : now.halted ≡ true → get_or s.words (stop_at s.count) 0 ≡ 1
-  notes : (p : ℕ × ℕ) → Contains (view_at s.markers k).noted p → Contains now.noted p
-  knows : (a : ℕ) → holds now.known a ≡ true → is_place s.mutator.bodies a ≡ true
-  does : (a : ℕ) → holds now.done a ≡ true → 0 < traces_at s.mutator s.markers a
+pub record Keeps (s : CoreState) (k : ℕ) (now : MarkerView) : Type 0 where
+  pub marked : now.marked ≡ (view_at s.markers k).marked
+  pub traced : now.traced ≡ (view_at s.markers k).traced
+  pub out : now.spent ≡ false
+  pub halts : now.halted ≡ true → get_or s.words (stop_at s.count) 0 ≡ 1
+  pub notes : (p : ℕ × ℕ) → Contains (view_at s.markers k).noted p → Contains now.noted p
+  pub knows : (a : ℕ) → holds now.known a ≡ true → is_place s.mutator.bodies a ≡ true
+  pub does : (a : ℕ) → holds now.done a ≡ true → 0 < traces_at s.mutator s.markers a
 
 module _ (s : CoreState) (ok : IsCoreOk s) (k : ℕ) (out : (view_at s.markers k).spent ≡ false) (now : MarkerView) (keeps : Keeps s k now) where
   abbrev view : MarkerView
@@ -81,7 +80,7 @@ module _ (s : CoreState) (ok : IsCoreOk s) (k : ℕ) (out : (view_at s.markers k
       omega (arith, sums, same)
 
   -- the hand is the same
-  same_hand_ok : now.hand ≡ view.hand → IsCoreOk (with_view s k now)
+  pub same_hand_ok : now.hand ≡ view.hand → IsCoreOk (with_view s k now)
   same_hand_ok same =
       let goes = hand_goes s ok k out now s.mutator refl same in
       let comes = hand_comes s ok k out now s.mutator refl same in
@@ -105,7 +104,7 @@ module _ (s : CoreState) (ok : IsCoreOk s) (k : ℕ) (out : (view_at s.markers k
       })
 
   -- the hand takes a turn
-  turned_hand_ok : (h : Hand) → view.hand ≡ Some h
+  pub turned_hand_ok : (h : Hand) → view.hand ≡ Some h
       → HandTurn s.types s.mutator.bodies marks s.mutator.pending s.mutator.may (IsNoted s.mutator views) h now.hand → IsCoreOk (with_view s k now)
   turned_hand_ok h own turn =
       let held : IsHand s.mutator s.markers h = own_hand s ok k out h own in
@@ -198,9 +197,12 @@ module _ (s : CoreState) (ok : IsCoreOk s) (k a : ℕ) (can : can_look s k a ≡
       let pairs : noted_pair header own.hand ≡ (h.place, h.next) ∷ [] =
       ap (noted_pair header) mine ∙ cond-false (has_mark header) [] ((h.place, h.next) ∷ []) unmarked
       in
-      inr (now, now_is_in s ok k out_here now,
-      Contains-append_right own.noted (noted_pair header own.hand) (h.place, h.next)
-      (subst (λ l. Contains l (h.place, h.next)) (sym pairs) (0, omega arith, refl))))))
+      inr (
+        now,
+        now_is_in s ok k out_here now,
+        Contains-append_right own.noted (noted_pair header own.hand) (h.place, h.next)
+            (subst (λ l. Contains l (h.place, h.next)) (sym pairs) (0, omega arith, refl)),
+      ))))
 
   pub looked_state : IsCoreOk (looked s k a)
   looked_state = elim (cases_Bool (wants (λ h. wants_key h.part a) own.hand)) [

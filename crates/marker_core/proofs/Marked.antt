@@ -1,28 +1,22 @@
 -- The mutator marks an object: what is true of every state stays.
-use Rattle.std.proofs.Common.{◌≡◌, ℕ, ◌+◌, ◌-◌, ◌<◌, ◌≤◌, List, [], ◌∷◌, ◌++◌, length, get_or, set, Bool, true, false, cond, ◌&&◌, eqb, ltb, Option, Some, None, refl, sym, ap, ◌∙◌, subst, inl, inr, arith, Contains}
+use Rattle.std.proofs.Common.{◌≡◌, ℕ, ◌+◌, ◌-◌, List, [], ◌∷◌, ◌++◌, true, ◌&&◌, eqb, ltb, Option, Some, None, sym, ap, ◌∙◌, subst, inl, inr, arith}
 use mathlib.Core.Logic.{◌⊎◌}
 use Rattle.std.specs.List.{sum_by}
-use Rattle.std.proofs.lemmas.Bool.{cases_Bool, cases_eq, cond-true, cond-false, false≢true, both_ways, and_parts, eqb-true, eqb-false}
-use Rattle.std.proofs.lemmas.Option.{same_Some}
-use Rattle.object_headers.specs.Layout.{header_word, word_with_mark}
-use Rattle.marker_core.specs.declared.states.Body.{Body}
+use Rattle.std.proofs.lemmas.Bool.{cases_Bool, cond-true, cond-false, both_ways, and_parts, eqb-true}
 use Rattle.marker_core.specs.declared.states.CoreState.{CoreState}
 use Rattle.marker_core.specs.declared.states.Hand.{Hand}
 use Rattle.marker_core.specs.declared.states.MutatorView.{MutatorView}
-use Rattle.marker_core.specs.declared.states.Part.{Part}
-use Rattle.marker_core.specs.declared.states.Part.TheVariants.{Read, Mark, Key, Value}
-use Rattle.marker_core.specs.Layout.{is_marked, has_mark}
+use Rattle.marker_core.specs.Layout.{is_marked}
 use Rattle.marker_core.specs.Bodies.{is_place, holds}
-use Rattle.marker_core.specs.Views.{times, marks_at, traces_at, IsHand, IsNoted, IsDone}
+use Rattle.marker_core.specs.Views.{times, marks_at, traces_at, IsHand, IsNoted}
 use Rattle.marker_core.specs.Hands.{hand_moved, hand_after_mark, role_at_hand, wants_mark, each_hand}
 use Rattle.marker_core.specs.MutatorSteps.{can_mark, settled, marked}
-use Rattle.marker_core.specs.Tracing.{IsCovered, PartFits, HandFits, StrongAccounted, PairsAccounted, IsLoaded}
+use Rattle.marker_core.specs.Tracing.{PartFits, HandFits, StrongAccounted, PairsAccounted, IsLoaded}
 use Rattle.marker_core.specs.Core.{IsCoreOk}
 use Rattle.marker_core.proofs.Members.{holds_push_cases}
 use Rattle.marker_core.proofs.Apart.{body_of_place, same_place}
 use Rattle.marker_core.proofs.Counts.{times_push_same, times_push_other, true_is_some, false_is_none}
-use Rattle.marker_core.proofs.Headers.{mark_tells, mark_in_header}
-use Rattle.marker_core.proofs.Frames.{HeaderIs, room_kept, within_words, stop_kept, starts_kept, serials_kept, fields_kept, filled_kept, tails_past_header, headers_rewritten}
+use Rattle.marker_core.proofs.Headers.{mark_tells}
 use Rattle.marker_core.proofs.Remarks.{grown, new_mark_cases, remarked_words, remarked_traced, remarked_once, mark_done}
 use Rattle.marker_core.proofs.Tricolour.{Covers, cover_more, HandChanges, HandTurn, mutator_changes, strong_covered, pairs_covered, fits_covered, strong_same, pairs_same, strong_turned, pairs_turned, hands_turned, hands_in_turned, loaded_in_turned}
 use Rattle.marker_core.proofs.Traces.{hand_or_none}

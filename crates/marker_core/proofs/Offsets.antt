@@ -1,16 +1,16 @@
 -- The strong words and pairs of a type, one after the other.
-use Rattle.std.proofs.Common.{◌≡◌, ℕ, zero, suc, ◌+◌, ◌-◌, ◌<◌, ◌≤◌, List, [], ◌∷◌, Bool, true, false, cond, ltb, Option, Some, None, refl, sym, ap, ◌∙◌, subst, inl, inr, arith}
+use Rattle.std.proofs.Common.{◌≡◌, ℕ, zero, suc, ◌+◌, ◌-◌, ◌<◌, ◌≤◌, List, [], ◌∷◌, true, false, ltb, Option, Some, None, refl, sym, ap, ◌∙◌, inl, inr, arith}
 use mathlib.Core.Logic.{◌⊎◌}
 use Rattle.std.specs.List.{find}
 use Rattle.std.specs.Option.{option_map}
-use Rattle.std.proofs.lemmas.Bool.{cases_Bool, false≢true, cond-true, cond-false, lt-ltb, ltb-true, ltb-false}
+use Rattle.std.proofs.lemmas.Bool.{cases_Bool, false≢true, cond-true, cond-false, ltb-true, ltb-false}
 use Rattle.std.proofs.lemmas.Option.{same_Some}
 use Rattle.gc_graph.specs.declared.graph.Kind.{Kind}
 use Rattle.gc_graph.specs.declared.graph.Kind.TheVariants.{Strong, Weak, Pair, Plain}
 use Rattle.marker_core.specs.declared.states.Hand.{Hand}
 use Rattle.marker_core.specs.declared.states.Part.TheVariants.{Read}
 use Rattle.marker_core.specs.Bodies.{role_at, is_traced_role, kinds_of}
-use Rattle.marker_core.specs.Hands.{traced_offsets, hand_past, role_at_hand}
+use Rattle.marker_core.specs.Hands.{traced_offsets, hand_past}
 
 abbrev next_past : ℕ → List ℕ → Option ℕ
 next_past offset offsets = find (λ next. ltb offset next) offsets

@@ -1,9 +1,7 @@
 -- A start bit or the stop word is read by a marker: what is true of every state stays.
-use Rattle.std.proofs.Common.{◌≡◌, ℕ, ◌+◌, ◌<◌, List, [], ◌∷◌, ◌++◌, get_or, set, Bool, true, false, not, cond, ◌&&◌, ◌||◌, eqb, ltb, refl, sym, ap, ◌∙◌, subst, inl, inr, arith, Contains}
-use mathlib.Core.Logic.{◌⊎◌}
+use Rattle.std.proofs.Common.{◌≡◌, ℕ, List, [], ◌∷◌, ◌++◌, get_or, set, Bool, true, false, not, cond, ◌||◌, eqb, ltb, refl, sym, ap, ◌∙◌, inl, inr, arith}
 use Rattle.std.proofs.lemmas.Bool.{and_parts, not-true, or_cases, eqb-true, ltb-true}
 use Rattle.marker_core.specs.declared.states.CoreState.{CoreState}
-use Rattle.marker_core.specs.declared.states.Hand.{Hand}
 use Rattle.marker_core.specs.declared.states.MarkerView.{MarkerView}
 use Rattle.marker_core.specs.Layout.{is_start, stop_at}
 use Rattle.marker_core.specs.Bodies.{is_place, holds}
@@ -12,7 +10,7 @@ use Rattle.marker_core.specs.Views.{times, marks_at, traces_at, IsHand, IsNoted,
 use Rattle.marker_core.specs.Core.{IsCoreOk}
 use Rattle.marker_core.proofs.Members.{held_after}
 use Rattle.marker_core.proofs.Tricolour.{strong_same, pairs_same}
-use Rattle.marker_core.proofs.Retold.{Retells, retold_ok, is_view, is_on, sum_after, view_cases, still_noted, quiet_after, known_after, done_after, hand_goes, hand_comes}
+use Rattle.marker_core.proofs.Retold.{retold_ok, is_view, is_on, sum_after, still_noted, quiet_after, known_after, done_after, hand_goes, hand_comes}
 
 -- a view that differs in what it knows, missed and was told alone
 pub same_lists_ok : (s : CoreState) → IsCoreOk s → (k : ℕ) → (view_at s.markers k).spent ≡ false → (known missed : List ℕ) (halted : Bool)

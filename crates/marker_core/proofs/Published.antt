@@ -1,8 +1,8 @@
 -- The object that is published: what the test tells of it.
-use Rattle.std.proofs.Common.{◌≡◌, ◌≢◌, ℕ, ◌+◌, ◌-◌, ◌*◌, ◌<◌, ◌≤◌, ◌^◌, List, [], ◌∷◌, ◌++◌, length, get_or, take, drop, Bool, true, false, not, ◌&&◌, ◌||◌, eqb, leb, ltb, min, refl, sym, ap, ◌∙◌, subst, inl, inr, arith, Contains}
+use Rattle.std.proofs.Common.{◌≡◌, ◌≢◌, ℕ, ◌+◌, ◌-◌, ◌<◌, ◌≤◌, ◌^◌, List, length, get_or, drop, Bool, true, false, not, ◌&&◌, ◌||◌, eqb, leb, ltb, min, sym, ap, ◌∙◌, inl, inr, arith, Contains}
 use mathlib.Core.Logic.{◌⊎◌}
-use Rattle.std.specs.List.{list_any, list_all, range_with_len, slice_range}
-use Rattle.std.proofs.lemmas.Bool.{cases_eq, cases_lt, both_ways, and_parts, and_from, and_cases, not-true, or_cases, eqb-true, eqb-false, eq-eqb, ltb-true, ltb-false, leb-true, lt-ltb, false≢true}
+use Rattle.std.specs.List.{list_any, list_all, range_with_len}
+use Rattle.std.proofs.lemmas.Bool.{cases_lt, both_ways, and_parts, and_cases, not-true, or_cases, eqb-true, eq-eqb, ltb-true, ltb-false, leb-true}
 use Rattle.std.proofs.lemmas.List.{length-take, length-drop, get_or-take, get_or-drop, get_or_past}
 use Rattle.object_headers.specs.Layout.{header_word}
 use Rattle.marker_core.specs.declared.states.Body.{Body}

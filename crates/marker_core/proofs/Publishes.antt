@@ -1,8 +1,7 @@
 -- An object is published: what is true of every state stays.
-use Rattle.std.proofs.Common.{◌≡◌, ◌≢◌, ℕ, ◌+◌, ◌-◌, ◌<◌, ◌≤◌, List, [], ◌∷◌, ◌++◌, length, get_or, set, filter, Bool, true, false, not, cond, ◌&&◌, ◌||◌, eqb, ltb, Option, None, refl, sym, ap, ◌∙◌, subst, inl, inr, arith, Contains}
+use Rattle.std.proofs.Common.{◌≡◌, ◌≢◌, ℕ, ◌+◌, ◌-◌, ◌<◌, ◌≤◌, List, [], ◌∷◌, ◌++◌, length, get_or, Bool, true, false, not, ◌||◌, eqb, ltb, refl, sym, ap, ◌∙◌, subst, inl, inr, arith, Contains}
 use mathlib.Core.Logic.{◌⊎◌, ◌↔◌}
-use Rattle.std.specs.List.{list_any, AllPairs}
-use Rattle.std.proofs.lemmas.Bool.{cases_Bool, cases_eq, both_ways, and_parts, not-true, or_cases, or_left, or_right, eq-eqb, ne_eqb, cond-true, cond-false, false_from_ne_true}
+use Rattle.std.proofs.lemmas.Bool.{cases_Bool, cases_eq, both_ways, not-true, or_cases, or_left, or_right, eq-eqb, ne_eqb, cond-true, cond-false, false_from_ne_true}
 use Rattle.std.proofs.lemmas.List.Elements.{Contains-append_left, Contains-push, Contains-push_cases, Contains-get_or}
 use Rattle.std.proofs.lemmas.List.Folds.{list_any-append}
 use Rattle.std.proofs.lemmas.List.Kept.{AllPairs-filter}
@@ -10,7 +9,6 @@ use Rattle.std.proofs.lemmas.List.Quantifiers.{all_pairs_push}
 use Rattle.object_headers.specs.Layout.{header_word}
 use Rattle.marker_core.specs.declared.states.Body.{Body}
 use Rattle.marker_core.specs.declared.states.CoreState.{CoreState}
-use Rattle.marker_core.specs.declared.states.Hand.{Hand}
 use Rattle.marker_core.specs.declared.states.Role.TheVariants.{StrongWord, KeyWord}
 use Rattle.marker_core.specs.Layout.{is_start}
 use Rattle.marker_core.specs.Bodies.{kinds_of, refers, word_in, role_in, end_of, has_word, is_place, in_body, names_body, holds}
@@ -20,7 +18,7 @@ use Rattle.marker_core.specs.Matching.{IsWhole}
 use Rattle.marker_core.specs.Tracing.{MayIsClosed}
 use Rattle.marker_core.specs.Core.{IsCoreOk}
 use Rattle.marker_core.proofs.Members.{any_from, none_from, was_in, has_passed, holds_more, holds_push, holds_push_cases}
-use Rattle.marker_core.proofs.Apart.{body_of_place, place_of_body, named}
+use Rattle.marker_core.proofs.Apart.{place_of_body, named}
 use Rattle.marker_core.proofs.Counts.{none_is_false}
 use Rattle.marker_core.proofs.Edges.{value_after_key}
 use Rattle.marker_core.proofs.Turns.{all_name_bodies}

@@ -1,6 +1,5 @@
 -- While no marking goes on there are no hands, and no view but the mutator's knows anything.
-use Rattle.std.proofs.Common.{◌≡◌, ℕ, ◌+◌, ◌*◌, ◌≤◌, List, [], length, get_or, Bool, true, false, Option, Some, None, refl, sym, ap, ◌∙◌, inl, inr, arith, Contains}
-use mathlib.Core.Logic.{◌⊎◌}
+use Rattle.std.proofs.Common.{◌≡◌, ℕ, List, get_or, true, Option, Some, None, sym, ap, ◌∙◌, inl, inr, arith, Contains}
 use Rattle.std.specs.List.{sum_by}
 use Rattle.std.proofs.lemmas.Bool.{false≢true}
 use Rattle.std.proofs.lemmas.List.Elements.{Contains-get_or}

@@ -1,5 +1,5 @@
 -- An object is marked: what its mark changes, whoever set it.
-use Rattle.std.proofs.Common.{◌≡◌, ℕ, ◌+◌, ◌-◌, ◌<◌, ◌≤◌, List, [], get_or, set, Bool, true, false, ltb, Option, Some, None, refl, sym, ap, ◌∙◌, subst, inl, inr, arith, Contains}
+use Rattle.std.proofs.Common.{◌≡◌, ℕ, ◌-◌, ◌<◌, get_or, set, true, ltb, Option, refl, sym, ap, ◌∙◌, subst, inl, inr, arith}
 use mathlib.Core.Logic.{◌⊎◌}
 use Rattle.std.proofs.lemmas.Bool.{cases_eq, false≢true, eqb-true}
 use Rattle.object_headers.specs.Layout.{header_word, word_with_mark}
@@ -8,11 +8,9 @@ use Rattle.marker_core.specs.declared.states.CoreState.{CoreState}
 use Rattle.marker_core.specs.declared.states.Hand.{Hand}
 use Rattle.marker_core.specs.declared.states.Part.{Part}
 use Rattle.marker_core.specs.declared.states.Part.TheVariants.{Read, Mark, Key, Value}
-use Rattle.marker_core.specs.declared.states.Role.{Role}
-use Rattle.marker_core.specs.declared.states.Role.TheVariants.{StrongWord, KeyWord}
-use Rattle.marker_core.specs.Bodies.{role_at, kinds_of, word_in, role_in, is_place, holds}
+use Rattle.marker_core.specs.Bodies.{role_at, kinds_of, role_in, is_place, holds}
 use Rattle.marker_core.specs.Hands.{role_at_hand, wants_mark}
-use Rattle.marker_core.specs.Views.{marks_at, traces_at, IsHand}
+use Rattle.marker_core.specs.Views.{marks_at, traces_at}
 use Rattle.marker_core.specs.Tracing.{IsCovered, PartFits, HandFits, marking_word, TracedAreMarked, MarksCountedOnce}
 use Rattle.marker_core.specs.Core.{IsCoreOk}
 use Rattle.marker_core.proofs.Apart.{same_place}
@@ -102,9 +100,10 @@ module _ (s : CoreState) (ok : IsCoreOk s) (on : s.mutator.on ≡ true) (a : ℕ
         subst (λ r. IsCovered now later (marking_word r b i)) role
         (subst (λ c. IsCovered now later (marking_word (role_at_hand s.types h) c i)) body
         (subst (λ j. IsCovered now later (marking_word (role_at_hand s.types h) fits.body j)) number covered))
-        in
-        (λ strong. subst (λ r. IsCovered now later (marking_word r b i)) strong here,
-        λ key. inr (inl (subst (λ r. IsCovered now later (marking_word r b i)) key here)))
+        in (
+          λ strong. subst (λ r. IsCovered now later (marking_word r b i)) strong here,
+          λ key. inr (inl (subst (λ r. IsCovered now later (marking_word r b i)) key here)),
+        )
 
     by_part : (part : Part) → h.part ≡ part → wants_mark part a ≡ true → IsWordDone s.types s.mutator.bodies now later noted h
     by_part (Mark t) e wants = word_done t (sym (eqb-true a t wants)) (subst Fits e fits.part)

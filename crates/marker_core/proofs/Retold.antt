@@ -1,9 +1,9 @@
 -- Words and bodies stay, and the views tell the same marks: what is true of every state stays.
-use Rattle.std.proofs.Common.{◌≡◌, ℕ, ◌+◌, ◌-◌, ◌<◌, ◌≤◌, List, [], ◌∷◌, ◌++◌, length, get_or, set, Bool, true, false, not, cond, Option, Some, None, refl, sym, ap, ◌∙◌, subst, inl, inr, arith, Contains}
+use Rattle.std.proofs.Common.{◌≡◌, ℕ, ◌+◌, ◌<◌, List, length, get_or, set, true, false, not, cond, Option, Some, sym, ap, ◌∙◌, subst, inl, inr, arith, Contains}
 use mathlib.Core.Logic.{◌⊎◌}
 use mathlib.Core.Path.{fun_ext}
-use Rattle.std.specs.List.{sum_by, count_by}
-use Rattle.std.proofs.lemmas.Bool.{cases_Bool, cases_lt, both_ways, true≢false, false≢true, true_from_ne_false}
+use Rattle.std.specs.List.{sum_by}
+use Rattle.std.proofs.lemmas.Bool.{cases_lt, both_ways, true≢false, true_from_ne_false}
 use Rattle.std.proofs.lemmas.List.{get_or_past}
 use Rattle.std.proofs.lemmas.List.Elements.{Contains-get_or}
 use Rattle.std.proofs.lemmas.List.Sums.{sum_by-set}
@@ -13,11 +13,12 @@ use Rattle.marker_core.specs.declared.states.MarkerView.{MarkerView}
 use Rattle.marker_core.specs.declared.states.MutatorView.{MutatorView}
 use Rattle.marker_core.specs.Layout.{stop_at}
 use Rattle.marker_core.specs.Bodies.{is_place, holds}
-use Rattle.marker_core.specs.Views.{times, marks_at, traces_at, IsHand, IsNoted, IsDone, spent_view, view_at}
+use Rattle.marker_core.specs.Views.{marks_at, traces_at, IsHand, IsNoted, IsDone, spent_view, view_at}
 use Rattle.marker_core.specs.Matching.{HeadersMatch, QuietWhileOff}
 use Rattle.marker_core.specs.Tracing.{StrongAccounted, PairsAccounted, HandFits, HandsAreBodies, IsLoaded, MayIsClosed, TracedAreMarked, MarksCountedOnce}
 use Rattle.marker_core.specs.Core.{IsCoreOk}
 use Rattle.marker_core.proofs.Members.{was_in_or_written, still_in_or_overwritten, written_is_in}
+use Rattle.marker_core.proofs.Rewords.{Rewords}
 
 module _ (s : CoreState) (m : MutatorView) (views : List MarkerView) where
   abbrev marks : ℕ → ℕ
@@ -208,3 +209,53 @@ module _ (s : CoreState) (ok : IsCoreOk s) (k : ℕ) (out : (view_at s.markers k
         | inr was ↦ inr (other.0, was, other.2)
       ]
     ]
+
+-- ---- a word is written by a marker, and its view is another
+
+pub record Rewrites (s : CoreState) (words : List ℕ) (views : List MarkerView) (marks traces : ℕ → ℕ) : Type 0 where
+  pub rewords : Rewords s words marks traces
+  pub traced : TracedAreMarked marks traces
+  pub once : MarksCountedOnce s.mutator.bodies marks s.mutator.dead
+  pub strong : StrongAccounted s.types s.mutator.bodies marks traces s.mutator.pending (IsHand s.mutator views)
+  pub pairs : PairsAccounted s.types s.mutator.bodies marks traces s.mutator.pending (IsHand s.mutator views) (IsNoted s.mutator views)
+  pub hands : HandsAreBodies s.types s.mutator.bodies marks s.mutator.pending s.mutator.may (IsHand s.mutator views) views
+  pub may :
+      MayIsClosed s.types s.mutator.bodies marks traces s.mutator.pending s.mutator.may s.mutator.seen (IsHand s.mutator views)
+      (IsDone s.mutator views)
+  pub quiet : QuietWhileOff s.mutator.on s.mutator.pending s.mutator.hand s.mutator.dead s.mutator.lent views (get_or s.words (stop_at s.count) 0)
+
+pub rewritten_ok : (s : CoreState) → IsCoreOk s → (words : List ℕ) (views : List MarkerView) (marks traces : ℕ → ℕ)
+    → marks ≡ marks_at s.mutator views → traces ≡ traces_at s.mutator views → Rewrites s words views marks traces
+    → IsCoreOk (record s { words = words; markers = views })
+rewritten_ok s ok words views marks traces e f parts =
+    let both : Rewrites s words views (marks_at s.mutator views) (traces_at s.mutator views) =
+    subst (λ k. Rewrites s words views k (traces_at s.mutator views)) e (subst (λ k. Rewrites s words views marks k) f parts)
+    in
+    record {
+      are_types = ok.are_types;
+      has_room = both.rewords.room;
+      bodies_are_whole = ok.bodies_are_whole;
+      bodies_lie_apart = ok.bodies_lie_apart;
+      serials_differ = ok.serials_differ;
+      headers_match = both.rewords.headers;
+      serials_match = both.rewords.serials;
+      starts_match = both.rewords.starts;
+      fields_match = both.rewords.fields;
+      filled_match = both.rewords.filled;
+      references_name_bodies = ok.references_name_bodies;
+      quiet_while_off = record {
+        no_pending = both.quiet.no_pending;
+        no_hand = both.quiet.no_hand;
+        no_views = both.quiet.no_views;
+        no_dead = both.quiet.no_dead;
+        lent_views = both.quiet.lent_views;
+        spent_views = both.quiet.spent_views;
+        halted_views = λ v h halted. both.rewords.stop ∙ both.quiet.halted_views v h halted;
+      };
+      traced_are_marked = both.traced;
+      marks_counted_once = both.once;
+      strong_targets_accounted = λ _. both.strong;
+      pairs_accounted = λ _. both.pairs;
+      hands_are_bodies = both.hands;
+      may_is_closed = λ _. both.may;
+    }

@@ -1,18 +1,17 @@
 -- A dead object is retracted: what is true of every state stays.
-use Rattle.std.proofs.Common.{◌≡◌, ◌≢◌, ℕ, ◌+◌, ◌-◌, ◌<◌, ◌≤◌, List, [], length, get_or, set, filter, Bool, true, false, not, ◌&&◌, ◌||◌, eqb, Option, None, refl, sym, ap, ◌∙◌, subst, inl, inr, arith, Contains}
+use Rattle.std.proofs.Common.{◌≡◌, ◌≢◌, ℕ, ◌+◌, ◌-◌, ◌<◌, ◌≤◌, List, length, filter, Bool, true, false, not, ◌&&◌, eqb, sym, ap, ◌∙◌, subst, inl, inr, arith, Contains}
 use mathlib.Core.Logic.{◌⊎◌}
-use Rattle.std.specs.List.{list_any, AllPairs, range_with_len}
-use Rattle.std.proofs.lemmas.Bool.{cases_Bool, cases_eq, cases_lt, both_ways, and_parts, and_from, not-true, not_from_false, eqb-true, eqb-false, eq-eqb, ne_eqb, or_left, or_right, or_cases, false≢true, false_from_ne_true}
-use Rattle.std.proofs.lemmas.List.{get_or_past}
+use Rattle.std.specs.List.{list_any, range_with_len}
+use Rattle.std.proofs.lemmas.Bool.{cases_Bool, cases_eq, both_ways, and_parts, and_from, not-true, not_from_false, eqb-false, eq-eqb, ne_eqb, or_left, or_right, or_cases, false_from_ne_true}
 use Rattle.std.proofs.lemmas.List.Kept.{AllPairs-filter}
 use Rattle.marker_core.specs.declared.states.Body.{Body}
 use Rattle.marker_core.specs.declared.states.CoreState.{CoreState}
 use Rattle.marker_core.specs.Bodies.{refers, word_in, role_in, end_of, has_word, is_place, in_body, names_body, refers_to, holds, without}
-use Rattle.marker_core.specs.Layout.{bitmap_at, is_start}
+use Rattle.marker_core.specs.Layout.{is_start}
 use Rattle.marker_core.specs.MutatorSteps.{can_retract, retracted}
-use Rattle.marker_core.specs.Views.{marks_at, traces_at}
+use Rattle.marker_core.specs.Views.{marks_at}
 use Rattle.marker_core.specs.Core.{IsCoreOk}
-use Rattle.marker_core.proofs.Members.{any_member, any_from, none_passes, none_from, was_in, has_passed, stays_in, removed_is_not_held, others_held_after_removal, in_range}
+use Rattle.marker_core.proofs.Members.{any_from, none_passes, none_from, was_in, has_passed, stays_in, removed_is_not_held, others_held_after_removal, in_range}
 use Rattle.marker_core.proofs.Apart.{body_of_place, place_of_body, place_below}
 use Rattle.marker_core.proofs.Turns.{within_fields}
 use Rattle.marker_core.proofs.Quiet.{hands_of_none}

@@ -1,11 +1,11 @@
 -- What belongs together with the words after one of them was written.
-use Rattle.std.proofs.Common.{◌≡◌, ℕ, ◌<◌, List, length, get_or, set, Bool, true, sym, ap, ◌∙◌, subst, arith, Contains}
+use Rattle.std.proofs.Common.{◌≡◌, ℕ, ◌<◌, List, get_or, set, true, sym, ◌∙◌, subst, arith, Contains}
 use Rattle.marker_core.specs.declared.states.Body.{Body}
 use Rattle.marker_core.specs.declared.states.CoreState.{CoreState}
 use Rattle.marker_core.specs.Layout.{stop_at}
 use Rattle.marker_core.specs.Bodies.{is_place}
 use Rattle.marker_core.specs.Views.{marks_at, traces_at}
-use Rattle.marker_core.specs.Matching.{HasRoom, HeadersMatch, SerialsMatch, StartsMatch, FieldsMatch, FilledMatch, QuietWhileOff}
+use Rattle.marker_core.specs.Matching.{HasRoom, HeadersMatch, SerialsMatch, StartsMatch, FieldsMatch, FilledMatch}
 use Rattle.marker_core.specs.Core.{IsCoreOk}
 use Rattle.marker_core.proofs.Apart.{body_of_place, place_below, outside_body, two_words}
 use Rattle.marker_core.proofs.Frames.{HeaderIs, room_kept, within_words, stop_kept, starts_kept, serials_kept, fields_kept, filled_kept, tails_past_header, headers_rewritten}

@@ -1,15 +1,13 @@
 -- Where marking has come to its end the marked set is closed.
-use Rattle.std.proofs.Common.{◌≡◌, ℕ, ◌+◌, ◌-◌, ◌<◌, Bool, true, false, None, Some, ltb, refl, sym, ap, ◌∙◌, inl, inr, arith, Contains}
-use mathlib.Core.Logic.{◌⊎◌}
+use Rattle.std.proofs.Common.{◌≡◌, ℕ, ◌+◌, ◌-◌, ◌<◌, true, None, Some, sym, ◌∙◌, inl, inr, arith}
 use Rattle.gc_graph.specs.Reach.{ReachIsLeast}
-use Rattle.marker_core.specs.declared.states.Body.{Body}
 use Rattle.marker_core.specs.declared.states.CoreState.{CoreState}
-use Rattle.marker_core.specs.Bodies.{word_in, holds}
-use Rattle.marker_core.specs.Views.{marks_at, traces_at, IsHand}
+use Rattle.marker_core.specs.Bodies.{word_in}
+use Rattle.marker_core.specs.Views.{marks_at, IsHand}
 use Rattle.marker_core.specs.Closed.{IsClosedOver}
 use Rattle.marker_core.specs.Tracing.{IsCovered, IsInHand}
 use Rattle.marker_core.specs.Core.{IsCoreOk}
-use Rattle.marker_core.specs.Laws.{IsSettled, HasEnded, is_marked_in, SettledHasEnded}
+use Rattle.marker_core.specs.Laws.{IsSettled, is_marked_in, SettledHasEnded}
 use Rattle.marker_core.proofs.Counts.{some_is_true, true_is_some}
 use Rattle.marker_core.proofs.Reached.{reach_over_law}
 use Rattle.marker_core.proofs.Turns.{all_name_bodies}

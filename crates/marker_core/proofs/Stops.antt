@@ -1,13 +1,12 @@
 -- The stop word is written: what is true of every state stays, where marking begins, goes on, or ends.
-use Rattle.std.proofs.Common.{◌≡◌, ℕ, ◌+◌, ◌-◌, ◌/◌, ◌%◌, ◌<◌, ◌≤◌, List, [], length, get_or, set, map, filter, Bool, true, false, not, cond, ◌&&◌, ◌||◌, eqb, ltb, Option, Some, None, refl, sym, ap, ◌∙◌, subst, inl, inr, arith, Contains}
-use mathlib.Core.Logic.{◌⊎◌, ◌↔◌}
+use Rattle.std.proofs.Common.{◌≡◌, ℕ, ◌+◌, ◌%◌, ◌≤◌, List, [], length, get_or, set, true, false, not, cond, eqb, ltb, Some, None, refl, sym, ap, ◌∙◌, inl, inr, arith, Contains}
+use mathlib.Core.Logic.{◌↔◌}
 use Rattle.std.specs.List.{count_by, list_all, range_with_len, sum_by}
 use Rattle.std.specs.Option.{is_none}
-use Rattle.std.proofs.lemmas.Bool.{cases_Bool, cases_eq, cond-true, cond-false, both_ways, and_parts, not-true, not_from_false, eqb-true, eq-eqb, ne_eqb, false≢true, true_from_ne_false, cases_lt}
-use Rattle.std.proofs.lemmas.List.{get_or-set_same, get_or-set_other, length-set, nil_from_length}
-use Rattle.std.proofs.lemmas.List.Sums.{count_by-le-length, get_or-le-sum_by}
+use Rattle.std.proofs.lemmas.Bool.{cases_Bool, cond-true, cond-false, both_ways, and_parts, not-true, eqb-true, eq-eqb, false≢true, true_from_ne_false}
+use Rattle.std.proofs.lemmas.List.{get_or-set_same, get_or-set_other, nil_from_length}
+use Rattle.std.proofs.lemmas.List.Sums.{get_or-le-sum_by}
 use Rattle.gc_graph.specs.Reach.{ReachIsLeast}
-use Rattle.gc_graph.specs.declared.graph.Kind.{Kind}
 use Rattle.marker_core.specs.declared.states.Body.{Body}
 use Rattle.marker_core.specs.declared.states.CoreState.{CoreState}
 use Rattle.marker_core.specs.declared.states.Hand.{Hand}
@@ -15,24 +14,22 @@ use Rattle.marker_core.specs.declared.states.MarkerView.{MarkerView}
 use Rattle.marker_core.specs.declared.states.Role.{Role}
 use Rattle.marker_core.specs.declared.states.Role.TheVariants.{StrongWord, WeakWord, KeyWord, ValueWord, PlainWord}
 use Rattle.marker_core.specs.Layout.{stop_at, bitmap_at, bit_is_set, is_marked}
-use Rattle.marker_core.specs.Bodies.{word_in, role_in, refers, places, is_place, names_body, holds}
+use Rattle.marker_core.specs.Bodies.{word_in, role_in, refers, places, is_place, holds}
 use Rattle.marker_core.specs.Closed.{reach_over}
-use Rattle.marker_core.specs.Views.{times, marks_at, traces_at, IsHand, IsNoted, IsDone}
+use Rattle.marker_core.specs.Views.{times, marks_at, traces_at, IsHand}
 use Rattle.marker_core.specs.CycleSteps.{pair_is_whole, pairs_are_whole, can_begin, begun, stopped, ends, can_end, unmarked_places, ended}
-use Rattle.marker_core.specs.Matching.{StartsMatch}
 use Rattle.marker_core.specs.Core.{IsCoreOk}
 use Rattle.marker_core.specs.Laws.{AllNameBodies, IsLeastOver}
-use Rattle.marker_core.proofs.Members.{in_from_holds, holds_from, was_in, has_passed, comes_from, all_member, in_range}
+use Rattle.marker_core.proofs.Members.{in_from_holds, was_in, has_passed, comes_from, all_member, in_range}
 use Rattle.marker_core.proofs.Apart.{place_of_body}
-use Rattle.marker_core.proofs.Counts.{false_is_none, one_same}
-use Rattle.marker_core.proofs.Edges.{refers_within}
+use Rattle.marker_core.proofs.Counts.{false_is_none}
 use Rattle.marker_core.proofs.Headers.{mark_tells}
 use Rattle.marker_core.proofs.Frames.{room_kept, headers_kept, serials_kept, fields_kept, filled_kept, heads_before, tails_before}
 use Rattle.marker_core.proofs.Reached.{reach_over_law}
 use Rattle.marker_core.proofs.Rewords.{Rewords}
 use Rattle.marker_core.proofs.Turns.{within_fields}
 use Rattle.marker_core.proofs.Claims.{is_none_tells}
-use Rattle.marker_core.proofs.Quiet.{no_marks, no_traces, no_hands, no_marker_hand, nothing_done, hands_of_none}
+use Rattle.marker_core.proofs.Quiet.{no_marks, no_traces, no_hands, nothing_done, hands_of_none}
 
 -- what belongs to the words after the stop word is written, but for itself
 record StopWritten (s : CoreState) (w : ℕ) : Type 0 where
@@ -129,9 +126,10 @@ module _ (s : CoreState) (ok : IsCoreOk s) (on : s.mutator.on ≡ true) (lent : 
       let body = comes_from (λ (b : Body). b.place) s.mutator.bodies a (was_in (λ p. not (is_marked s.words p)) (places s.mutator.bodies) a there) in
       let unmarked = not-true (is_marked s.words a) (has_passed (λ p. not (is_marked s.words p)) (places s.mutator.bodies) a there) in
       let tells = mark_tells s.words (marks_at s.mutator s.markers) (traces_at s.mutator s.markers) s.mutator.bodies ok.headers_match body.0 body.1 in
-      let none : ltb 0 (marks_at s.mutator s.markers body.0.place) ≡ false = sym tells ∙ ap (is_marked s.words) body.2 ∙ unmarked in
-      (place_of_body s.mutator.bodies body.0 a body.1 body.2,
-      ap (marks_at s.mutator s.markers) (sym body.2) ∙ false_is_none (marks_at s.mutator s.markers body.0.place) none)
+      let none : ltb 0 (marks_at s.mutator s.markers body.0.place) ≡ false = sym tells ∙ ap (is_marked s.words) body.2 ∙ unmarked in (
+        place_of_body s.mutator.bodies body.0 a body.1 body.2,
+        ap (marks_at s.mutator s.markers) (sym body.2) ∙ false_is_none (marks_at s.mutator s.markers body.0.place) none,
+      )
 
   pub ended_state : IsCoreOk (ended s)
   ended_state =

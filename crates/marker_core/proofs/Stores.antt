@@ -1,9 +1,9 @@
 -- A store keeps what is true of every state: its target waits for its mark, and a key stands over a value that was seen marked.
-use Rattle.std.proofs.Common.{◌≡◌, ℕ, ◌+◌, ◌-◌, ◌<◌, ◌≤◌, List, [], length, get_or, set, map, Bool, true, false, not, cond, ◌&&◌, ◌||◌, eqb, Option, Some, None, refl, sym, ap, ◌∙◌, subst, inl, inr, arith, Contains}
+use Rattle.std.proofs.Common.{◌≡◌, ℕ, ◌+◌, ◌-◌, ◌<◌, List, map, Bool, true, false, not, cond, ◌&&◌, ◌||◌, eqb, Option, Some, None, refl, sym, ap, ◌∙◌, subst, inl, inr, arith, Contains}
 use mathlib.Core.Logic.{◌⊎◌, ◌↔◌}
 use Rattle.std.specs.List.{list_any}
 use Rattle.std.specs.Option.{is_none}
-use Rattle.std.proofs.lemmas.Bool.{cases_Bool, cases_eq, cond-true, cond-false, both_ways, and_parts, and_from, or_cases, or_left, or_right, eqb-true, eq-eqb, ne_eqb, not_from_false, not_from_true, not-true, eqb-false, false≢true}
+use Rattle.std.proofs.lemmas.Bool.{cases_Bool, cases_eq, cond-true, cond-false, both_ways, and_parts, and_from, or_cases, eqb-true, eq-eqb, ne_eqb, not_from_false, not-true, eqb-false, false≢true}
 use Rattle.std.proofs.lemmas.Option.{same_Some}
 use Rattle.marker_core.specs.declared.states.Body.{Body}
 use Rattle.marker_core.specs.declared.states.CoreState.{CoreState}
@@ -12,17 +12,16 @@ use Rattle.marker_core.specs.declared.states.Part.{Part}
 use Rattle.marker_core.specs.declared.states.Part.TheVariants.{Read, Mark, Key, Value}
 use Rattle.marker_core.specs.declared.states.Role.{Role}
 use Rattle.marker_core.specs.declared.states.Role.TheVariants.{StrongWord, WeakWord, KeyWord, ValueWord, PlainWord}
-use Rattle.marker_core.specs.Bodies.{kinds_of, role_at, refers, keeps, is_traced_role, word_in, role_in, has_field, field_number, with_word, is_place, names_body, holds}
+use Rattle.marker_core.specs.Bodies.{kinds_of, role_at, refers, keeps, is_traced_role, word_in, role_in, has_field, field_number, with_word, names_body, holds}
 use Rattle.marker_core.specs.Closed.{IsClosedOver}
 use Rattle.marker_core.specs.Hands.{role_at_hand}
 use Rattle.marker_core.specs.MutatorSteps.{key_fits, may_store, store_fits, can_store, keeps_in, stored}
 use Rattle.marker_core.specs.Views.{marks_at, traces_at, IsHand, IsNoted, IsDone}
-use Rattle.marker_core.specs.Tracing.{IsCovered, IsInHand, StrongAccounted, PairsAccounted, marking_word, PartFits, HandFits, HandsAreBodies, MayIsClosed}
+use Rattle.marker_core.specs.Tracing.{IsCovered, IsInHand, StrongAccounted, PairsAccounted, marking_word, PartFits, HandsAreBodies, MayIsClosed}
 use Rattle.marker_core.specs.Core.{IsCoreOk}
 use Rattle.marker_core.proofs.Members.{any_member, any_from, goes_to}
-use Rattle.marker_core.proofs.Edges.{value_after_key, traced_cases}
+use Rattle.marker_core.proofs.Edges.{value_after_key}
 use Rattle.marker_core.proofs.Tricolour.{Covers, cover_more}
-use Rattle.marker_core.proofs.Turns.{strong_or_key}
 use Rattle.marker_core.proofs.Claims.{is_none_tells}
 use Rattle.marker_core.proofs.Quiet.{hands_of_none}
 use Rattle.marker_core.proofs.Maps.{places_same, names_same, each_written, field_low, field_high, written_or_kept}
@@ -91,14 +90,15 @@ module _ (s : CoreState) (ok : IsCoreOk s) (a w : ℕ) (no_pending : s.mutator.p
       let both = and_parts (holds s.mutator.may o.place) (not (refers role) || eqb w 0 || holds s.mutator.may (w - 1))
       (unless s.mutator.on (holds s.mutator.may o.place && (not (refers role) || eqb w 0 || holds s.mutator.may (w - 1)))
       (and_parts (first && second) third (and_parts (first && second && third) fourth fits).0).1 on)
-      in
-      (both.0,
-      λ r some. elim (or_cases (not (refers role) || eqb w 0) (holds s.mutator.may (w - 1)) both.1) [
-        | inr member ↦ member
-        | inl other ↦
-            (let null : w ≡ 0 = eqb-true w 0 (unless (refers role) (eqb w 0) other r) in
-            absurd (omega arith))
-      ])
+      in (
+        both.0,
+        λ r some. elim (or_cases (not (refers role) || eqb w 0) (holds s.mutator.may (w - 1)) both.1) [
+          | inr member ↦ member
+          | inl other ↦
+              (let null : w ≡ 0 = eqb-true w 0 (unless (refers role) (eqb w 0) other r) in
+              absurd (omega arith))
+        ],
+      )
 
   key_new : role ≡ KeyWord → key_fits s.mutator.on s.mutator.seen KeyWord w (word_in o (number + 1)) ≡ true
   key_new key =
@@ -178,9 +178,11 @@ module _ (s : CoreState) (ok : IsCoreOk s) (a w : ℕ) (no_pending : s.mutator.p
         let at = and_parts (has_field a found.0) (keeps (role_in s.types found.0 (field_number a found.0))) found.2 in
         let low = field_low a w found.0 at.0 in
         let high = field_high a w found.0 at.0 in
-        let same = (hit s ok a w o there has found.0 (2 + field_number a found.0) found.1 (omega arith) (omega arith)).0 in
-        (same_Some (w - 1) t (sym (cond-true joins (Some (w - 1)) s.mutator.pending join) ∙ e), omega arith,
-        ap (λ (c : Body). keeps (role_in s.types c (field_number a c))) (sym same) ∙ at.1))
+        let same = (hit s ok a w o there has found.0 (2 + field_number a found.0) found.1 (omega arith) (omega arith)).0 in (
+          same_Some (w - 1) t (sym (cond-true joins (Some (w - 1)) s.mutator.pending join) ∙ e),
+          omega arith,
+          ap (λ (c : Body). keeps (role_in s.types c (field_number a c))) (sym same) ∙ at.1,
+        ))
   ]
 
   covers : Covers marks marks s.mutator.pending later

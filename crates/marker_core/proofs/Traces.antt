@@ -1,5 +1,5 @@
 -- The mutator's hand takes a turn: what is true of every state stays.
-use Rattle.std.proofs.Common.{◌≡◌, ℕ, ◌+◌, ◌-◌, ◌<◌, List, [], ◌∷◌, ◌++◌, length, get_or, Bool, true, false, cond, ◌&&◌, ◌||◌, Option, Some, None, refl, sym, ap, ◌∙◌, subst, inl, inr, arith, Contains}
+use Rattle.std.proofs.Common.{◌≡◌, ℕ, List, [], ◌∷◌, ◌++◌, get_or, Bool, true, ◌||◌, Option, Some, None, refl, sym, ap, ◌∙◌, subst, inl, inr, arith, Contains}
 use mathlib.Core.Logic.{◌⊎◌}
 use Rattle.std.proofs.lemmas.Bool.{cases_Bool, cond-true, cond-false, false≢true, both_ways, or_cases}
 use Rattle.std.proofs.lemmas.List.Elements.{Contains-append_left, Contains-append_right}
@@ -8,10 +8,9 @@ use Rattle.marker_core.specs.declared.states.Hand.{Hand}
 use Rattle.marker_core.specs.declared.states.MutatorView.{MutatorView}
 use Rattle.marker_core.specs.declared.states.Why.TheVariants.{Trace}
 use Rattle.marker_core.specs.Layout.{has_mark}
-use Rattle.marker_core.specs.Bodies.{holds}
-use Rattle.marker_core.specs.Views.{marks_at, traces_at, IsHand, IsNoted, IsDone}
+use Rattle.marker_core.specs.Views.{marks_at, traces_at, IsHand, IsNoted}
 use Rattle.marker_core.specs.Hands.{hand_read, hand_looked, wants_word, wants_key, wants, noted_pair, each_hand}
-use Rattle.marker_core.specs.MutatorSteps.{can_load, looked_at, traced_by_load, loaded}
+use Rattle.marker_core.specs.MutatorSteps.{can_load, looked_at, loaded}
 use Rattle.marker_core.specs.Core.{IsCoreOk}
 use Rattle.marker_core.proofs.Tricolour.{HandTurn, HandChanges, mutator_changes, strong_turned, pairs_turned, pairs_covered, hands_turned, hands_in_turned, loaded_in_turned}
 use Rattle.marker_core.proofs.Turns.{turn_by_word, turn_by_key}

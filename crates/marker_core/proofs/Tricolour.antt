@@ -1,5 +1,5 @@
 -- What keeps traced bodies accounted for while marks grow and hands move on.
-use Rattle.std.proofs.Common.{◌≡◌, ℕ, ◌+◌, ◌-◌, ◌<◌, ◌≤◌, List, get_or, set, length, Bool, true, false, Option, Some, None, refl, sym, ap, ◌∙◌, subst, inl, inr, arith, Contains}
+use Rattle.std.proofs.Common.{◌≡◌, ℕ, ◌+◌, ◌-◌, ◌<◌, List, set, length, true, Option, Some, sym, ap, ◌∙◌, subst, inl, inr, arith, Contains}
 use mathlib.Core.Logic.{◌⊎◌}
 use Rattle.std.proofs.lemmas.Bool.{cases_order}
 use Rattle.std.proofs.lemmas.Option.{same_Some}
@@ -19,7 +19,7 @@ use Rattle.marker_core.specs.Matching.{AreWhole, LieApart}
 use Rattle.marker_core.specs.Tracing.{IsCovered, IsInHand, StrongAccounted, PairsAccounted, marking_word, PartFits, HandFits, IsLoaded}
 use Rattle.marker_core.proofs.Members.{was_in_or_written, still_in_or_overwritten, written_is_in}
 use Rattle.marker_core.proofs.Apart.{same_place}
-use Rattle.marker_core.proofs.Offsets.{read_at, hand_past_is, hand_past_finds}
+use Rattle.marker_core.proofs.Offsets.{hand_past_is, hand_past_finds}
 
 -- ---- one hand changes
 

@@ -1,21 +1,19 @@
 -- What a hand that reads a word, or looks at its key's header, may become.
-use Rattle.std.proofs.Common.{◌≡◌, ℕ, ◌+◌, ◌-◌, ◌<◌, ◌≤◌, List, [], length, get_or, Bool, true, false, cond, eqb, ltb, Option, Some, None, refl, sym, ap, ◌∙◌, subst, inl, inr, arith, Contains}
-use mathlib.Core.Logic.{◌⊎◌}
-use Rattle.std.proofs.lemmas.Bool.{cases_Bool, cases_eq, cond-true, cond-false, eqb-true, ne_eqb, false≢true, both_ways}
+use Rattle.std.proofs.Common.{◌≡◌, ℕ, ◌+◌, ◌-◌, ◌<◌, List, length, get_or, true, false, cond, eqb, Option, Some, refl, sym, ap, ◌∙◌, subst, inl, inr, arith, Contains}
+use Rattle.std.proofs.lemmas.Bool.{cases_Bool, cases_eq, cond-true, cond-false, eqb-true, ne_eqb, false≢true}
 use Rattle.gc_graph.specs.declared.graph.Kind.{Kind}
 use Rattle.marker_core.specs.declared.states.Body.{Body}
 use Rattle.marker_core.specs.declared.states.CoreState.{CoreState}
 use Rattle.marker_core.specs.declared.states.Hand.{Hand}
 use Rattle.marker_core.specs.declared.states.Part.{Part}
 use Rattle.marker_core.specs.declared.states.Part.TheVariants.{Read, Mark, Key, Value}
-use Rattle.marker_core.specs.declared.states.Role.{Role}
 use Rattle.marker_core.specs.declared.states.Role.TheVariants.{StrongWord, KeyWord}
 use Rattle.marker_core.specs.Layout.{has_mark, is_marked}
-use Rattle.marker_core.specs.Bodies.{role_at, kinds_of, refers, is_traced_role, word_in, role_in, is_place, names_body, holds}
+use Rattle.marker_core.specs.Bodies.{role_at, kinds_of, refers, is_traced_role, word_in, role_in, is_place, holds}
 use Rattle.marker_core.specs.Hands.{hand_moved, hand_read, hand_looked, role_at_hand, part_found, wants_word, wants_key}
 use Rattle.marker_core.specs.Views.{marks_at, traces_at, IsHand}
 use Rattle.marker_core.specs.Matching.{IsWhole}
-use Rattle.marker_core.specs.Tracing.{PartFits, HandFits, marking_word, IsLoaded}
+use Rattle.marker_core.specs.Tracing.{PartFits, HandFits, marking_word}
 use Rattle.marker_core.specs.Core.{IsCoreOk}
 use Rattle.marker_core.specs.Laws.{AllNameBodies}
 use Rattle.marker_core.proofs.Apart.{same_place, body_of_place, named}
@@ -87,11 +85,14 @@ module _ (s : CoreState) (ok : IsCoreOk s) (on : s.mutator.on ≡ true) where
 
     -- where the word read is a null strong word or a null key
     null_done : word ≡ 0 → word ≡ word_in hand_fits.body (h.next - 2) → Turns (hand_read s.types word h)
-    null_done null is = inl (after_null null, λ b i there at next.
-        let same : word_in b i ≡ 0 =
-        of_body (λ c. word_in c i ≡ 0) (ap (word_in hand_fits.body) (let k : i ≡ h.next - 2 = omega arith in k) ∙ sym is ∙ null) b there at
-        in
-        (λ role. inl same, λ role. inl same))
+    null_done null is = inl (
+      after_null null,
+      λ b i there at next.
+          let same : word_in b i ≡ 0 =
+          of_body (λ c. word_in c i ≡ 0) (ap (word_in hand_fits.body) (let k : i ≡ h.next - 2 = omega arith in k) ∙ sym is ∙ null) b there at
+          in
+          (λ role. inl same, λ role. inl same),
+    )
 
     -- the word is read, or the key of the pair
     turn_at_read : h.part ≡ Read → a ≡ h.place + h.next → Turns (hand_read s.types word h)
@@ -114,7 +115,7 @@ module _ (s : CoreState) (ok : IsCoreOk s) (on : s.mutator.on ≡ true) where
                   Mark (word - 1),
                   after_some (Mark (word - 1)) some (ap (λ r. part_found r h.part (word - 1)) strong),
                   of_body (λ b. Fits b (Mark (word - 1)))
-                  (target, inl (ap (λ r. marking_word r hand_fits.body (h.next - 2)) strong ∙ omega (arith, is))),
+                      (target, inl (ap (λ r. marking_word r hand_fits.body (h.next - 2)) strong ∙ omega (arith, is))),
                   λ t loaded.
                       let same : word - 1 ≡ t = same_mark (word - 1) t loaded in
                       ap (holds s.mutator.may) (sym same ∙ omega (arith, is))
@@ -123,7 +124,7 @@ module _ (s : CoreState) (ok : IsCoreOk s) (on : s.mutator.on ≡ true) where
                 | inr key ↦ inr (
                   Key (word - 1),
                   after_some (Key (word - 1)) some
-                  (ap (λ r. part_found r h.part (word - 1)) key ∙ ap (λ p. part_found KeyWord p (word - 1)) part),
+                      (ap (λ r. part_found r h.part (word - 1)) key ∙ ap (λ p. part_found KeyWord p (word - 1)) part),
                   of_body (λ b. Fits b (Key (word - 1))) (target, key, inl (omega (arith, is))),
                   λ t loaded. absurd (key_or_mark (word - 1) t loaded),
                 )
@@ -144,14 +145,17 @@ module _ (s : CoreState) (ok : IsCoreOk s) (on : s.mutator.on ≡ true) where
         let is : word ≡ word_in hand_fits.body (i + 1) = word_is hand_fits.body (i + 1) a hand_fits.there refer (omega arith) in
         let names = all_name_bodies hand_fits.body (i + 1) hand_fits.there refer in
         elim (cases_eq word 0) [
-          | inl null ↦ inl (after_null null, λ b j there at next. (
-            λ strong. absurd (strong_or_key
-                (sym strong ∙ of_body (λ c. role_in s.types c j ≡ KeyWord)
-                (ap (role_in s.types hand_fits.body) (let k : j ≡ i = omega arith in k) ∙ role) b there at)),
-            λ key. inr (inl (inl
-                (of_body (λ c. word_in c (j + 1) ≡ 0)
-                (ap (word_in hand_fits.body) (let k : j + 1 ≡ i + 1 = omega arith in k) ∙ sym is ∙ null) b there at))),
-          ))
+          | inl null ↦ inl (
+            after_null null,
+            λ b j there at next. (
+              λ strong. absurd (strong_or_key
+                  (sym strong ∙ of_body (λ c. role_in s.types c j ≡ KeyWord)
+                  (ap (role_in s.types hand_fits.body) (let k : j ≡ i = omega arith in k) ∙ role) b there at)),
+              λ key. inr (inl (inl
+                  (of_body (λ c. word_in c (j + 1) ≡ 0)
+                  (ap (word_in hand_fits.body) (let k : j + 1 ≡ i + 1 = omega arith in k) ∙ sym is ∙ null) b there at))),
+            ),
+          )
           | inr some ↦
               (let some_in : 0 < word_in hand_fits.body (i + 1) = omega (arith, is) in
               let target : is_place s.mutator.bodies (word - 1) ≡ true =
@@ -168,9 +172,9 @@ module _ (s : CoreState) (ok : IsCoreOk s) (on : s.mutator.on ≡ true) where
               inr (
                 Mark (word - 1),
                 after_some (Mark (word - 1)) some
-                (ap (λ r. part_found r h.part (word - 1)) fits.0 ∙ ap (λ p. part_found KeyWord p (word - 1)) part),
+                    (ap (λ r. part_found r h.part (word - 1)) fits.0 ∙ ap (λ p. part_found KeyWord p (word - 1)) part),
                 of_body (λ b. Fits b (Mark (word - 1)))
-                (target, inl (ap (λ r. marking_word r hand_fits.body i) fits.0 ∙ omega (arith, is))),
+                    (target, inl (ap (λ r. marking_word r hand_fits.body i) fits.0 ∙ omega (arith, is))),
                 λ t loaded.
                     let same : word - 1 ≡ t = same_mark (word - 1) t loaded in
                     ap (holds s.mutator.may) (sym same ∙ omega (arith, is)) ∙ kept,
@@ -207,10 +211,13 @@ module _ (s : CoreState) (ok : IsCoreOk s) (on : s.mutator.on ≡ true) where
               inr (
                 Value,
                 cond-true (has_mark word) (Some (record h { part = Value })) (hand_moved s.types h) marked,
-                of_body (λ b. Fits b Value) (fits.1, elim fits.2 [
-                  | inl same ↦ inr (ap (holds s.mutator.may) (let e : word_in hand_fits.body i - 1 ≡ k = omega (arith, same) in e) ∙ kept)
-                  | inr other ↦ other
-                ]),
+                of_body (λ b. Fits b Value) (
+                  fits.1,
+                  elim fits.2 [
+                    | inl same ↦ inr (ap (holds s.mutator.may) (let e : word_in hand_fits.body i - 1 ≡ k = omega (arith, same) in e) ∙ kept)
+                    | inr other ↦ other
+                  ],
+                ),
                 λ t loaded. absurd (value_or_mark t loaded),
               ))
           | inr unmarked ↦ inl (

@@ -1,13 +1,11 @@
 -- An object's mark and traced bit are cleared while no marking goes on: what is true of every state stays.
-use Rattle.std.proofs.Common.{◌≡◌, ℕ, ◌+◌, ◌<◌, ◌≤◌, List, get_or, set, Bool, true, false, not, ◌&&◌, ltb, Option, None, refl, sym, ap, ◌∙◌, subst, inl, inr, arith, Contains}
-use mathlib.Core.Logic.{◌⊎◌}
+use Rattle.std.proofs.Common.{◌≡◌, ℕ, ◌+◌, ◌≤◌, get_or, true, false, not, ltb, sym, ap, ◌∙◌, inl, inr, arith}
 use Rattle.std.specs.List.{sum_by}
 use Rattle.std.proofs.lemmas.Bool.{cases_eq, both_ways, and_parts, not-true}
 use Rattle.object_headers.specs.Layout.{header_word, word_with_mark, word_with_traced}
-use Rattle.marker_core.specs.declared.states.Body.{Body}
 use Rattle.marker_core.specs.declared.states.CoreState.{CoreState}
 use Rattle.marker_core.specs.declared.states.MutatorView.{MutatorView}
-use Rattle.marker_core.specs.Bodies.{is_place, holds}
+use Rattle.marker_core.specs.Bodies.{is_place}
 use Rattle.marker_core.specs.MutatorSteps.{can_unmark, unmarked}
 use Rattle.marker_core.specs.Views.{times, marks_at, traces_at}
 use Rattle.marker_core.specs.Core.{IsCoreOk}

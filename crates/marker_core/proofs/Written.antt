@@ -1,20 +1,18 @@
 -- A field word is stored: words and bodies belong together again.
-use Rattle.std.proofs.Common.{◌≡◌, ◌≢◌, ℕ, ◌+◌, ◌-◌, ◌<◌, ◌≤◌, List, length, get_or, set, map, Bool, true, false, ltb, refl, sym, ap, ◌∙◌, subst, inl, inr, arith, Contains}
+use Rattle.std.proofs.Common.{◌≡◌, ◌≢◌, ℕ, ◌+◌, ◌<◌, ◌≤◌, List, length, get_or, set, map, true, ltb, sym, ap, ◌∙◌, inl, inr, arith, Contains}
 use mathlib.Core.Logic.{◌⊎◌}
-use Rattle.std.specs.List.{AllPairs}
-use Rattle.std.proofs.lemmas.Bool.{cases_eq}
 use Rattle.std.proofs.lemmas.List.{get_or-set_same, get_or-set_other}
 use Rattle.object_headers.specs.Layout.{header_word}
 use Rattle.marker_core.specs.declared.states.Body.{Body}
 use Rattle.marker_core.specs.declared.states.CoreState.{CoreState}
 use Rattle.marker_core.specs.Layout.{stop_at}
-use Rattle.marker_core.specs.Bodies.{word_in, has_field, field_number, end_of, with_word, is_place}
+use Rattle.marker_core.specs.Bodies.{word_in, has_field, field_number, end_of, with_word}
 use Rattle.marker_core.specs.Views.{marks_at, traces_at}
 use Rattle.marker_core.specs.Matching.{HasRoom, IsWhole, AreWhole, LieApart, SerialsDiffer, HeadersMatch, SerialsMatch, StartsMatch, FieldsMatch, FilledMatch}
 use Rattle.marker_core.specs.Core.{IsCoreOk}
 use Rattle.marker_core.proofs.Apart.{two_words, same_body, same_offset, outside_body}
 use Rattle.marker_core.proofs.Frames.{room_kept, within_words, stop_kept, starts_kept}
-use Rattle.marker_core.proofs.Maps.{all_pairs_map, places_same, in_body_same, each_written, has_field_from, field_low, field_high, fields_length, written_or_kept}
+use Rattle.marker_core.proofs.Maps.{all_pairs_map, places_same, in_body_same, each_written, field_low, field_high, fields_length, written_or_kept}
 
 pub record StoredWords (s : CoreState) (words : List ℕ) (bodies : List Body) : Type 0 where
   pub room : HasRoom s.count words
@@ -53,9 +51,10 @@ module _ (s : CoreState) (ok : IsCoreOk s) (a w : ℕ) (o : Body) (there : Conta
   pub hit : (b : Body) (i : ℕ) → Contains bodies b → i < b.size → b.place + i ≡ a → (b ≡ o) × (i ≡ 2 + field_number a o)
   hit b i h within e =
       let l = low in
-      let u = high in
-      (same_body bodies ok.bodies_lie_apart b o h there i (2 + field_number a o) within (omega arith) (omega arith),
-      same_offset bodies ok.bodies_lie_apart b o h there i (2 + field_number a o) within (omega arith) (omega arith))
+      let u = high in (
+        same_body bodies ok.bodies_lie_apart b o h there i (2 + field_number a o) within (omega arith) (omega arith),
+        same_offset bodies ok.bodies_lie_apart b o h there i (2 + field_number a o) within (omega arith) (omega arith),
+      )
 
   early_kept : (b : Body) (i : ℕ) → Contains bodies b → i < 2 → get_or (set s.words a w) (b.place + i) 0 ≡ get_or s.words (b.place + i) 0
   early_kept b i h small =

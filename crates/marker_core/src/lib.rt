@@ -10,8 +10,9 @@
 //! to be read in the order of `specs/Lib.antt`; `core_step` is the state after a step, and
 //! `IsCoreOk` what is true of every state.
 //!
-//! What is proved: that what roots reach over bodies is the least closed set of places that holds
-//! them.
+//! What is proved: each of the sixteen kinds of step keeps what is true of every state, and so does
+//! each list of steps; what roots reach over bodies is the least closed set of places that holds
+//! them; where marking has come to its end, the marked set is closed.
 //!
 //! What is only tested or not said: the definitions are what a reader has to believe.
 #![tactic(auto)]
@@ -21,7 +22,7 @@ mod lists;
 mod states;
 mod steps;
 
-pub use laws::{reach_over_is_least, settled_has_ended};
+pub use laws::{every_run_keeps, every_step_keeps, reach_over_is_least, settled_has_ended};
 pub use lists::List;
 pub use states::{Body, CoreState, Hand, MarkerView, MutatorView, Part, Role, Why};
 pub use steps::CoreStep;
