@@ -34,3 +34,4 @@ mod Looks
 mod MarkerClaims
 mod MarkerMarks
 pub mod Kept
+pub mod Roles

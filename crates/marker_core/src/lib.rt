@@ -17,8 +17,10 @@
 //! What is only tested or not said: the definitions are what a reader has to believe.
 #![tactic(auto)]
 
+mod bodies;
 mod laws;
 mod lists;
+mod reading;
 mod states;
 mod steps;
 
