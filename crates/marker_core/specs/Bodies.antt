@@ -1,0 +1,97 @@
+-- Objects, and what each of their words is.
+use Rattle.std.specs.Prelude.{ℕ, zero, suc, ◌+◌, ◌-◌, ◌==◌, ◌&&◌, ◌||◌, not, nat_le, nat_lt, Bool, true, false, List, [], ◌∷◌, length, map, filter, if◌then◌else◌, slice_index, slice_index_or, slice_set}
+use Rattle.std.specs.List.{list_any, range_with_len}
+use Rattle.gc_graph.specs.declared.graph.Kind.{Kind}
+use Rattle.gc_graph.specs.declared.graph.Kind.TheVariants.{Strong, Weak, Pair, Plain}
+use Rattle.marker_core.specs.declared.states.Body.{Body}
+use Rattle.marker_core.specs.declared.states.Role.{Role}
+use Rattle.marker_core.specs.declared.states.Role.TheVariants.{StrongWord, WeakWord, KeyWord, ValueWord, PlainWord}
+
+-- how many words fields of these kinds take: two for a pair, one for any other
+abbrev pub word_count : List Kind → ℕ
+word_count [] = 0
+word_count (Pair ∷ kinds) = 2 + word_count kinds
+word_count (kind ∷ kinds) = 1 + word_count kinds
+
+-- what the field word with this number is; what comes after the declared fields is plain
+abbrev pub role_at : List Kind → ℕ → Role
+role_at [] i = PlainWord
+role_at (Strong ∷ kinds) zero = StrongWord
+role_at (Strong ∷ kinds) (suc i) = role_at kinds i
+role_at (Weak ∷ kinds) zero = WeakWord
+role_at (Weak ∷ kinds) (suc i) = role_at kinds i
+role_at (Pair ∷ kinds) zero = KeyWord
+role_at (Pair ∷ kinds) (suc zero) = ValueWord
+role_at (Pair ∷ kinds) (suc (suc i)) = role_at kinds i
+role_at (Plain ∷ kinds) zero = PlainWord
+role_at (Plain ∷ kinds) (suc i) = role_at kinds i
+
+-- a word of this role is a reference: 0 for null, and else one more than a place
+abbrev pub refers : Role → Bool
+refers PlainWord = false
+refers role = true
+
+-- what is stored in a word of this role while marking goes on has to be marked
+abbrev pub keeps : Role → Bool
+keeps StrongWord = true
+keeps ValueWord = true
+keeps role = false
+
+-- a word of this role is where tracing stops: a strong field, or a pair, which is known by its key
+abbrev pub is_traced_role : Role → Bool
+is_traced_role StrongWord = true
+is_traced_role KeyWord = true
+is_traced_role role = false
+
+abbrev pub kinds_of : List (List Kind) → ℕ → List Kind
+kinds_of types ty = slice_index_or types ty []
+
+-- the field word with the number i of a body, and what it is
+abbrev pub word_in : Body → ℕ → ℕ
+word_in b i = slice_index b.fields i
+
+abbrev pub role_in : List (List Kind) → Body → ℕ → Role
+role_in types b i = role_at (kinds_of types b.ty) i
+
+abbrev pub end_of : Body → ℕ
+end_of b = b.place + b.size
+
+-- the body has the word at a; as a field word; as the field word with this number
+abbrev pub has_word : ℕ → Body → Bool
+has_word a b = nat_le b.place a && nat_lt a (end_of b)
+
+abbrev pub has_field : ℕ → Body → Bool
+has_field a b = nat_le (b.place + 2) a && nat_lt a (end_of b)
+
+abbrev pub field_number : ℕ → Body → ℕ
+field_number a b = a - (b.place + 2)
+
+-- the body with w in its field word at a, where it has that word
+abbrev pub with_word : ℕ → ℕ → Body → Body
+with_word a w b = record b { fields = if has_field a b then slice_set b.fields (field_number a b) w else b.fields }
+
+abbrev pub places : List Body → List ℕ
+places bodies = map (λ b. b.place) bodies
+
+abbrev pub is_place : List Body → ℕ → Bool
+is_place bodies a = list_any (λ b. b.place == a) bodies
+
+-- one of the bodies has the word at a
+abbrev pub in_body : List Body → ℕ → Bool
+in_body bodies a = list_any (has_word a) bodies
+
+-- a reference is null or names a body
+abbrev pub names_body : List Body → ℕ → Bool
+names_body bodies w = (w == 0) || is_place bodies (w - 1)
+
+-- one of the body's references names the object at a
+abbrev pub refers_to : List (List Kind) → ℕ → Body → Bool
+refers_to types a b = list_any (λ i. refers (role_in types b i) && (word_in b i == a + 1)) (range_with_len 0 (length b.fields))
+
+-- ---- lists of places as sets
+
+abbrev pub holds : List ℕ → ℕ → Bool
+holds set a = list_any (λ p. p == a) set
+
+abbrev pub without : List ℕ → ℕ → List ℕ
+without set a = filter (λ p. not (p == a)) set

@@ -1,0 +1,71 @@
+-- What bodies lead to, closed sets of places, and what roots reach.
+use Rattle.std.specs.Prelude.{◌≡◌, ℕ, zero, suc, ◌+◌, ◌-◌, ◌==◌, ◌<◌, ◌||◌, not, Bool, true, List, [], ◌∷◌, length, map, filter, Option, Some, None, Contains}
+use Rattle.std.specs.List.{list_all, find, range_with_len}
+use Rattle.gc_graph.specs.declared.graph.Kind.{Kind}
+use Rattle.gc_graph.specs.declared.graph.Kind.TheVariants.{Pair, Plain}
+use Rattle.gc_graph.specs.declared.graph.Value.{Value}
+use Rattle.gc_graph.specs.declared.graph.Value.TheVariants.{Null, Ref, Word}
+use Rattle.gc_graph.specs.Graph.{Object, no_object, has}
+use Rattle.gc_graph.specs.Reach.{Reach}
+use Rattle.marker_core.specs.declared.states.Body.{Body}
+use Rattle.marker_core.specs.declared.states.Role.{Role}
+use Rattle.marker_core.specs.declared.states.Role.TheVariants.{StrongWord, KeyWord}
+use Rattle.marker_core.specs.Bodies.{word_count, kinds_of, word_in, role_in, places, is_place}
+
+-- ---- closed: it has what the strong words of its members name, and the value of each of their pairs whose key it has
+
+pub record IsClosedOver (types : List (List Kind)) (bodies : List Body) (test : ℕ → Bool) : Type 0 where
+  pub strong :
+      (b : Body) (i : ℕ) → Contains bodies b → test b.place ≡ true → role_in types b i ≡ StrongWord → 0 < word_in b i
+      → test (word_in b i - 1) ≡ true
+  pub pairs :
+      (b : Body) (i : ℕ) → Contains bodies b → test b.place ≡ true → role_in types b i ≡ KeyWord → 0 < word_in b i
+      → test (word_in b i - 1) ≡ true → 0 < word_in b (i + 1) → test (word_in b (i + 1) - 1) ≡ true
+
+-- the same as a test, word by word
+abbrev pub word_closes : (ℕ → Bool) → Role → ℕ → ℕ → Bool
+word_closes test StrongWord w next = (w == 0) || test (w - 1)
+word_closes test KeyWord w next = (w == 0) || not (test (w - 1)) || (next == 0) || test (next - 1)
+word_closes test role w next = true
+
+abbrev pub body_closes : List (List Kind) → (ℕ → Bool) → Body → Bool
+body_closes types test b =
+    not (test b.place)
+    || list_all (λ i. word_closes test (role_in types b i) (word_in b i) (word_in b (i + 1))) (range_with_len 0 (length b.fields))
+
+abbrev pub closes_over : List (List Kind) → (ℕ → Bool) → List Body → Bool
+closes_over types test bodies = list_all (body_closes types test) bodies
+
+-- ---- the graph that bodies stand for: its node a is the body at a
+
+abbrev pub reference : ℕ → Value
+reference zero = Null
+reference (suc p) = Ref p
+
+abbrev pub values_of : List Kind → List ℕ → List Value
+values_of [] words = map (λ w. Word w) words
+values_of (Pair ∷ kinds) (key ∷ value ∷ words) = reference key ∷ reference value ∷ values_of kinds words
+values_of (Pair ∷ kinds) words = []
+values_of (Plain ∷ kinds) (w ∷ words) = Word w ∷ values_of kinds words
+values_of (kind ∷ kinds) (w ∷ words) = reference w ∷ values_of kinds words
+values_of (kind ∷ kinds) [] = []
+
+abbrev pub object_of : List (List Kind) → Body → Object
+object_of types b = record {
+  ty = b.ty;
+  extra = length b.fields - word_count (kinds_of types b.ty);
+  kinds = kinds_of types b.ty;
+  values = values_of (kinds_of types b.ty) b.fields;
+}
+
+abbrev pub node_of : List (List Kind) → Option Body → Object
+node_of types None = no_object
+node_of types (Some b) = object_of types b
+
+abbrev pub graph_of : ℕ → List (List Kind) → List Body → List Object
+graph_of count types bodies = map (λ a. node_of types (find (λ b. b.place == a) bodies)) (range_with_len 0 count)
+
+-- the places that the roots reach
+unfoldable pub reach_over : ℕ → List (List Kind) → List Body → List ℕ → List ℕ
+reach_over count types bodies roots =
+    filter (λ a. has (Reach (graph_of count types bodies) (filter (is_place bodies) roots)) a) (places bodies)

@@ -1,0 +1,110 @@
+-- The steps of the mutator that begin and end marking, and lend and take back a marker's view.
+use Rattle.std.specs.Prelude.{ℕ, ◌+◌, ◌-◌, ◌==◌, ◌&&◌, ◌||◌, not, Bool, true, false, List, [], ◌∷◌, ◌++◌, length, filter, if◌then◌else◌, slice_set}
+use Rattle.std.specs.Option.{is_none}
+use Rattle.std.specs.List.{list_all, range_with_len}
+use Rattle.gc_graph.specs.declared.graph.Kind.{Kind}
+use Rattle.marker_core.specs.declared.states.Body.{Body}
+use Rattle.marker_core.specs.declared.states.CoreState.{CoreState}
+use Rattle.marker_core.specs.declared.states.Role.{Role}
+use Rattle.marker_core.specs.declared.states.Role.TheVariants.{KeyWord}
+use Rattle.marker_core.specs.Layout.{stop_at, is_marked, is_traced}
+use Rattle.marker_core.specs.Bodies.{word_in, role_in, places}
+use Rattle.marker_core.specs.Closed.{closes_over, reach_over}
+use Rattle.marker_core.specs.Views.{fresh_view, spent_view, view_at}
+
+-- ---- marking begins
+
+-- both words of a pair are null, or neither is
+abbrev pub pair_is_whole : Role → ℕ → ℕ → Bool
+pair_is_whole KeyWord key value = if key == 0 then value == 0 else not (value == 0)
+pair_is_whole role key value = true
+
+abbrev pub pairs_are_whole : List (List Kind) → Body → Bool
+pairs_are_whole types b =
+    list_all (λ i. pair_is_whole (role_in types b i) (word_in b i) (word_in b (i + 1))) (range_with_len 0 (length b.fields))
+
+-- nothing is left of an earlier cycle
+abbrev pub can_begin : CoreState → Bool
+can_begin s =
+    not s.mutator.on
+    && (length s.mutator.marked == 0)
+    && (length s.mutator.traced == 0)
+    && (length s.mutator.noted == 0)
+    && (length s.mutator.dead == 0)
+    && (s.mutator.lent == 0)
+    && list_all (pairs_are_whole s.types) s.mutator.bodies
+
+abbrev pub begun : CoreState → List ℕ → CoreState
+begun s roots = record s {
+  words = slice_set s.words (stop_at s.count) 0;
+  mutator = record s.mutator {
+    on = true;
+    may = reach_over s.count s.types s.mutator.bodies roots;
+    seen = [];
+    done = [];
+    missed = [];
+    looked = [];
+  };
+}
+
+-- ---- the markers are told to stop, and marking ends where none is out
+
+abbrev pub stopped : CoreState → CoreState
+stopped s = record s { words = slice_set s.words (stop_at s.count) 1 }
+
+abbrev pub ends : CoreState → Bool
+ends s = s.mutator.on && (s.mutator.lent == 0)
+
+-- no hand, nothing that waits for its mark, no grey body, and what is marked is closed
+abbrev pub can_end : CoreState → Bool
+can_end s =
+    is_none s.mutator.hand
+    && is_none s.mutator.pending
+    && list_all (λ a. not (is_marked s.words a) || is_traced s.words a) (places s.mutator.bodies)
+    && closes_over s.types (is_marked s.words) s.mutator.bodies
+
+abbrev pub unmarked_places : CoreState → List ℕ
+unmarked_places s = filter (λ a. not (is_marked s.words a)) (places s.mutator.bodies)
+
+abbrev pub ended : CoreState → CoreState
+ended s = record s {
+  words = slice_set s.words (stop_at s.count) 1;
+  mutator = record s.mutator {
+    on = false;
+    dead = unmarked_places s;
+    early = length s.mutator.looked;
+    noted = [];
+    seen = [];
+    done = [];
+    may = [];
+  };
+}
+
+-- ---- a view is lent, and given back
+
+abbrev pub can_split : CoreState → Bool
+can_split s = s.mutator.on
+
+abbrev pub split : CoreState → CoreState
+split s = record s {
+  mutator = record s.mutator { lent = s.mutator.lent + 1 };
+  markers = s.markers ++ fresh_view ∷ [];
+}
+
+abbrev pub can_join : CoreState → ℕ → Bool
+can_join s marker = let v = view_at s.markers marker in not v.spent && is_none v.hand
+
+abbrev pub joined : CoreState → ℕ → CoreState
+joined s marker =
+    let v = view_at s.markers marker in
+    record s {
+      mutator = record s.mutator {
+        marked = s.mutator.marked ++ v.marked;
+        traced = s.mutator.traced ++ v.traced;
+        noted = s.mutator.noted ++ v.noted;
+        done = s.mutator.done ++ v.done;
+        missed = s.mutator.missed ++ v.missed;
+        lent = s.mutator.lent - 1;
+      };
+      markers = slice_set s.markers marker spent_view;
+    }

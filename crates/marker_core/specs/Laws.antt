@@ -1,0 +1,69 @@
+-- The laws of the machine.
+use Rattle.std.specs.Prelude.{◌≡◌, ◌⊎◌, ℕ, ◌<◌, ◌+◌, ◌-◌, nat_lt, Bool, true, List, Some, None, Contains}
+use Rattle.gc_graph.specs.declared.graph.Kind.{Kind}
+use Rattle.marker_core.specs.declared.states.Body.{Body}
+use Rattle.marker_core.specs.declared.states.CoreState.{CoreState}
+use Rattle.marker_core.specs.declared.steps.CoreStep.{CoreStep}
+use Rattle.marker_core.specs.declared.states.Hand.{Hand}
+use Rattle.marker_core.specs.Bodies.{refers, word_in, role_in, is_place, names_body, holds}
+use Rattle.marker_core.specs.Closed.{IsClosedOver, reach_over}
+use Rattle.marker_core.specs.Matching.{AreWhole, LieApart}
+use Rattle.marker_core.specs.Views.{marks_at, traces_at, IsHand, IsNoted}
+use Rattle.marker_core.specs.Step.{core_step, core_run}
+use Rattle.marker_core.specs.Core.{IsCoreOk}
+
+-- ---- what roots reach is the least closed set of places that holds them
+
+pub record IsLeastOver (types : List (List Kind)) (bodies : List Body) (roots set : List ℕ) : Type 0 where
+  pub closed : IsClosedOver types bodies (holds set)
+  pub places : (a : ℕ) → holds set a ≡ true → is_place bodies a ≡ true
+  pub roots_in : (a : ℕ) → holds roots a ≡ true → is_place bodies a ≡ true → holds set a ≡ true
+  pub least :
+      (test : ℕ → Bool) → IsClosedOver types bodies test
+      → ((a : ℕ) → holds roots a ≡ true → is_place bodies a ≡ true → test a ≡ true) → (a : ℕ) → holds set a ≡ true → test a ≡ true
+
+-- each reference of the bodies is null or names one of them
+abbrev pub AllNameBodies : List (List Kind) → List Body → Type 0
+AllNameBodies types bodies =
+    (b : Body) (i : ℕ) → Contains bodies b → refers (role_in types b i) ≡ true → names_body bodies (word_in b i) ≡ true
+
+abbrev pub ReachOverIsLeast : Type 0
+ReachOverIsLeast =
+    (count : ℕ) (types : List (List Kind)) (bodies : List Body) (roots : List ℕ) → AreWhole count types bodies → LieApart bodies
+    → AllNameBodies types bodies → IsLeastOver types bodies roots (reach_over count types bodies roots)
+
+-- ---- each step, and each list of steps, keeps what is true of every state
+
+abbrev pub StepsKeep : Type 0
+StepsKeep = (s t : CoreState) (step : CoreStep) → IsCoreOk s → core_step s step ≡ Some t → IsCoreOk t
+
+abbrev pub RunsKeep : Type 0
+RunsKeep = (s t : CoreState) (steps : List CoreStep) → IsCoreOk s → core_run s steps ≡ Some t → IsCoreOk t
+
+-- ---- marking that has come to its end
+
+-- marking goes on, with no hand, nothing that waits for its mark, no grey body, and each noted pair has an unmarked key, or a
+-- value that is null or marked
+pub record IsSettled (s : CoreState) : Type 0 where
+  pub on : s.mutator.on ≡ true
+  pub hands : (h : Hand) → IsHand s.mutator s.markers h → ⊥
+  pub pending : s.mutator.pending ≡ None
+  pub traced : (a : ℕ) → 0 < marks_at s.mutator s.markers a → 0 < traces_at s.mutator s.markers a
+  pub noted :
+      (b : Body) (i : ℕ) → Contains s.mutator.bodies b → IsNoted s.mutator s.markers b.place (i + 2)
+      → (marks_at s.mutator s.markers (word_in b i - 1) ≡ 0)
+      ⊎ ((word_in b (i + 1) ≡ 0) ⊎ (0 < marks_at s.mutator s.markers (word_in b (i + 1) - 1)))
+
+abbrev pub is_marked_in : CoreState → ℕ → Bool
+is_marked_in s a = nat_lt 0 (marks_at s.mutator s.markers a)
+
+-- the marked set is closed, lies within what may be kept, and holds what the roots reach where it holds the roots
+pub record HasEnded (s : CoreState) : Type 0 where
+  pub closed : IsClosedOver s.types s.mutator.bodies (is_marked_in s)
+  pub within_may : (a : ℕ) → is_marked_in s a ≡ true → holds s.mutator.may a ≡ true
+  pub holds_reach :
+      (roots : List ℕ) → ((a : ℕ) → holds roots a ≡ true → is_place s.mutator.bodies a ≡ true → is_marked_in s a ≡ true)
+      → (a : ℕ) → holds (reach_over s.count s.types s.mutator.bodies roots) a ≡ true → is_marked_in s a ≡ true
+
+abbrev pub SettledHasEnded : Type 0
+SettledHasEnded = (s : CoreState) → IsCoreOk s → IsSettled s → HasEnded s

@@ -1,0 +1,13 @@
+pub mod Layout
+pub mod Bodies
+pub mod Closed
+pub mod Views
+pub mod Hands
+pub mod MutatorSteps
+pub mod CycleSteps
+pub mod MarkerSteps
+pub mod Step
+pub mod Matching
+pub mod Tracing
+pub mod Core
+pub mod Laws

@@ -1,0 +1,114 @@
+-- The steps of a marker.
+use Rattle.std.specs.Prelude.{ℕ, ◌-◌, ◌==◌, ◌&&◌, ◌||◌, not, nat_lt, Bool, true, false, List, [], ◌∷◌, ◌++◌, if◌then◌else◌, Option, Some, None, slice_index, slice_set}
+use Rattle.std.specs.Option.{is_none}
+use Rattle.object_headers.specs.Layout.{word_with_mark, word_with_traced}
+use Rattle.marker_core.specs.declared.states.CoreState.{CoreState}
+use Rattle.marker_core.specs.declared.states.MarkerView.{MarkerView}
+use Rattle.marker_core.specs.Layout.{stop_at, is_start, has_mark, has_traced}
+use Rattle.marker_core.specs.Bodies.{holds}
+use Rattle.marker_core.specs.Views.{view_at}
+use Rattle.marker_core.specs.Hands.{hand_claimed, hand_read, hand_looked, hand_moved, wants_word, wants_key, wants_mark, wants, noted_pair, each_hand}
+use Rattle.marker_core.specs.MutatorSteps.{is_grey}
+
+-- the marker's view is another
+abbrev pub with_view : CoreState → ℕ → MarkerView → CoreState
+with_view s marker v = record s { markers = slice_set s.markers marker v }
+
+-- ---- a start bit is read
+
+abbrev pub can_read_bit : CoreState → ℕ → ℕ → Bool
+can_read_bit s marker a = not (view_at s.markers marker).spent && nat_lt a s.count
+
+abbrev pub bit_read : CoreState → ℕ → ℕ → CoreState
+bit_read s marker a =
+    let v = view_at s.markers marker in
+    let set = is_start s.count s.words a in
+    with_view s marker (record v {
+      known = if set then v.known ++ a ∷ [] else v.known;
+      missed = if set then v.missed else v.missed ++ a ∷ [];
+    })
+
+-- ---- a header is read
+
+abbrev pub can_look : CoreState → ℕ → ℕ → Bool
+can_look s marker a = holds (view_at s.markers marker).known a
+
+abbrev pub looked : CoreState → ℕ → ℕ → CoreState
+looked s marker a =
+    let v = view_at s.markers marker in
+    let header = slice_index s.words a in
+    let key = wants (λ h. wants_key h.part a) v.hand in
+    with_view s marker (record v {
+      hand = if key then each_hand (hand_looked s.types header) v.hand else v.hand;
+      noted = if key then v.noted ++ noted_pair header v.hand else v.noted;
+      done = if has_traced header then v.done ++ a ∷ [] else v.done;
+      missed = if is_none v.hand && not (has_mark header) && not (has_traced header) then v.missed ++ a ∷ [] else v.missed;
+      last = Some (a, header);
+    })
+
+-- ---- an object is claimed by the header that was read last
+
+abbrev pub is_last : Option (ℕ × ℕ) → ℕ → ℕ → Bool
+is_last None a header = false
+is_last (Some last) a header = (last.0 == a) && (last.1 == header)
+
+abbrev pub can_claim_as : CoreState → ℕ → ℕ → ℕ → Bool
+can_claim_as s marker a header =
+    let v = view_at s.markers marker in
+    holds v.known a && is_none v.hand && is_last v.last a header && is_grey header
+
+abbrev pub claimed_as : CoreState → ℕ → ℕ → ℕ → CoreState
+claimed_as s marker a header =
+    let v = view_at s.markers marker in
+    let found = slice_index s.words a in
+    if found == header
+    then record s {
+      words = slice_set s.words a (word_with_traced true found);
+      markers = slice_set s.markers marker (record v { traced = v.traced ++ a ∷ []; hand = hand_claimed s.types a found });
+    }
+    else with_view s marker (record v {
+      done = if has_traced found then v.done ++ a ∷ [] else v.done;
+      missed = if has_traced found then v.missed else v.missed ++ a ∷ [];
+    })
+
+-- ---- a field word of the object in hand is read
+
+abbrev pub can_read_field : CoreState → ℕ → ℕ → Bool
+can_read_field s marker a = wants (λ h. wants_word h h.part a) (view_at s.markers marker).hand
+
+-- what was read is the place of an object
+abbrev pub known_by : ℕ → List ℕ
+known_by w = if w == 0 then [] else (w - 1) ∷ []
+
+abbrev pub field_read : CoreState → ℕ → ℕ → CoreState
+field_read s marker a =
+    let v = view_at s.markers marker in
+    let w = slice_index s.words a in
+    with_view s marker (record v { hand = each_hand (hand_read s.types w) v.hand; known = v.known ++ known_by w })
+
+-- ---- the target in hand is marked
+
+abbrev pub can_mark_as : CoreState → ℕ → ℕ → Bool
+can_mark_as s marker a = wants (λ h. wants_mark h.part a) (view_at s.markers marker).hand
+
+abbrev pub marked_as : CoreState → ℕ → ℕ → CoreState
+marked_as s marker a =
+    let v = view_at s.markers marker in
+    let header = slice_index s.words a in
+    record s {
+      words = slice_set s.words a (word_with_mark true header);
+      markers = slice_set s.markers marker (record v {
+        marked = if has_mark header then v.marked else v.marked ++ a ∷ [];
+        hand = each_hand (hand_moved s.types) v.hand;
+      });
+    }
+
+-- ---- the stop word is read
+
+abbrev pub can_poll : CoreState → ℕ → Bool
+can_poll s marker = not (view_at s.markers marker).spent
+
+abbrev pub polled : CoreState → ℕ → CoreState
+polled s marker =
+    let v = view_at s.markers marker in
+    with_view s marker (record v { halted = v.halted || (slice_index s.words (stop_at s.count) == 1) })

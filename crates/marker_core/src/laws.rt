@@ -1,0 +1,35 @@
+// The laws of the machine. Whoever calls one of these has its law; none of them does anything.
+
+ghost use Rattle.marker_core.specs.Laws.{ReachOverIsLeast, SettledHasEnded, StepsKeep, RunsKeep};
+
+use gc_graph::reach_is_least;
+
+/// What roots reach over bodies is the least closed set of places that holds them.
+pub fn reach_over_is_least()
+    ensures { ReachOverIsLeast }
+{
+    reach_is_least();
+}
+
+/// Where marking goes on with no hand, nothing that waits for its mark and no grey body, and each
+/// noted pair has an unmarked key or a value that is null or marked: the marked set is closed and
+/// lies within what may be kept, and where it holds some roots it holds what they reach.
+pub fn settled_has_ended()
+    ensures { SettledHasEnded }
+{
+    reach_is_least();
+}
+
+/// Each step of the mutator and of the markers keeps what is true of every state.
+pub fn every_step_keeps()
+    ensures { StepsKeep }
+{
+    reach_is_least();
+}
+
+/// So does each list of steps, whoever takes them and in whichever order.
+pub fn every_run_keeps()
+    ensures { RunsKeep }
+{
+    reach_is_least();
+}

@@ -1,0 +1,30 @@
+//! # The step machine
+//!
+//! What it is: the meaning of one access to one word of a heap that a mutator and several markers
+//! share. A state is the words, what the mutator knows of them, and what each marker knows. A step
+//! is one read or write of one word, or the making or giving back of a marker's view. Nothing here
+//! knows who runs when, or of mark lists.
+//!
+//! The parts: `CoreState` with `Body`, `MutatorView`, `MarkerView` and `Hand`; `CoreStep`, the
+//! sixteen kinds of step; `List`, which contracts see as a list. The definitions stand in `specs/`,
+//! to be read in the order of `specs/Lib.antt`; `core_step` is the state after a step, and
+//! `IsCoreOk` what is true of every state.
+//!
+//! What is proved: each of the sixteen kinds of step keeps what is true of every state, and so does
+//! each list of steps; what roots reach over bodies is the least closed set of places that holds
+//! them; where marking has come to its end, the marked set is closed.
+//!
+//! What is only tested or not said: the definitions are what a reader has to believe.
+#![tactic(auto)]
+
+mod bodies;
+mod laws;
+mod lists;
+mod reading;
+mod states;
+mod steps;
+
+pub use laws::{every_run_keeps, every_step_keeps, reach_over_is_least, settled_has_ended};
+pub use lists::List;
+pub use states::{Body, CoreState, Hand, MarkerView, MutatorView, Part, Role, Why};
+pub use steps::CoreStep;
