@@ -15,7 +15,6 @@ use Rattle.gc_graph.specs.declared.line.Line.TheVariants as L
 use Rattle.gc_graph.specs.declared.line.Refusal.{Refusal}
 use Rattle.gc_graph.specs.declared.line.Refusal.TheVariants as R
 use Rattle.gc_graph.specs.declared.region.Entry.{Entry}
-use Rattle.gc_graph.specs.declared.region.Op.TheVariants as O
 use Rattle.gc_graph.specs.State.{Setup, State, Node, no_node, node_at, size_of, Life, is_there, IsLive, IsDead, StackWord, RegionSlot, Registration}
 use Rattle.gc_graph.specs.State.Life.{Live, Dead, Gone}
 use Rattle.gc_graph.specs.State.StackWord.{Pointer, Number}
@@ -23,7 +22,7 @@ use Rattle.gc_graph.specs.State.RegionSlot.{Vacant, StrongTo, WeakTo}
 use Rattle.gc_graph.specs.Graph.{has}
 use Rattle.gc_graph.specs.Fields.{new_node, content_of, with_value, kind_of_field, value_at, is_reference, is_weak, is_pair, is_plain}
 use Rattle.gc_graph.specs.May.{read_node}
-use Rattle.gc_graph.specs.Pause.{judged, condemn, dying_slots, run_order, prefinalise_lines, paused}
+use Rattle.gc_graph.specs.Pause.{judged, condemn, run_order, prefinalise_lines, paused}
 use Rattle.gc_graph.specs.History.{node_of, region_slot}
 use Rattle.gc_graph.specs.Outcomes.{answered, IsRefused, IsMemory, finalise_lines, slot_at, weak_slot_at, took}
 use Rattle.gc_graph.specs.ObjectSteps.{AtField, first_word, part_of, with_node, IsChanged, StepSet, StepPair, StepPut, StepNew, StepWord, IsNumber, IsRead, IsMade}
@@ -40,7 +39,7 @@ use Rattle.gc_graph.proofs.Condemned.{condemned_at, length-condemn}
 use Rattle.gc_graph.proofs.ValidCases.{option_is, bool_is, field_is}
 use Rattle.gc_graph.proofs.ValidHandles.{Root, slot_names, slot_is_root, ValueLive, content_live, IfWord, word_names}
 use Rattle.gc_graph.proofs.ValidReads.{names_at, value_live}
-use Rattle.gc_graph.proofs.ValidRegion.{Shares, shared_at, others_sound, took_nodes, took_own}
+use Rattle.gc_graph.proofs.ValidRegion.{Shares, shared_at, others_sound, took_nodes}
 use Rattle.gc_graph.proofs.ValidPause.{order, look}
 use Rattle.gc_graph.proofs.ValidSweeps.{sweeps_sound, ended_phase}
 use Rattle.gc_graph.proofs.ValidCycles.{start_sound}

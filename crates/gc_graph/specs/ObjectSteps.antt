@@ -1,6 +1,6 @@
 -- The commands on objects: making one, and reading and writing its fields (`include/cppgc/allocation.h`, `member.h`,
 -- `ephemeron-pair.h`).
-use Rattle.std.specs.Prelude.{◌≡◌, ◌≢◌, ◌⊎◌, ℕ, ◌+◌, nat_lt, Bool, true, List, [], ◌∷◌, ◌++◌, length, map, Option, Some, None, MatchOption, MatchBool, slice_set}
+use Rattle.std.specs.Prelude.{◌≡◌, ◌≢◌, ◌⊎◌, ℕ, ◌+◌, nat_lt, Bool, true, List, [], ◌∷◌, ◌++◌, length, map, Option, Some, None, MatchOption, slice_set}
 use Rattle.gc_graph.specs.declared.graph.Kind.{Kind}
 use Rattle.gc_graph.specs.declared.graph.Value.{Value}
 use Rattle.gc_graph.specs.declared.graph.Value.TheVariants.{Null, Ref, Word}
@@ -11,7 +11,7 @@ use Rattle.gc_graph.specs.State.{Setup, State, Node, Registration, type_at, node
 use Rattle.gc_graph.specs.Fields.{new_node, size_of_type, field_count, kind_of_field, word_of_field, value_at, with_value, is_reference, is_weak, is_pair, is_plain}
 use Rattle.gc_graph.specs.May.{may_with_new, read_node}
 use Rattle.gc_graph.specs.Placement.{IsPlacement}
-use Rattle.gc_graph.specs.Outcomes.{answered, IsRefused, IsMemory, finalise_lines, slot_at, with_slot}
+use Rattle.gc_graph.specs.Outcomes.{answered, IsRefused, RefusedUnless, IsMemory, finalise_lines, slot_at, with_slot}
 
 -- ---- a new object
 
@@ -52,17 +52,13 @@ StepNew setup old p t extra lines new =
 
 -- ---- fields
 
--- refused where the test fails, and else done
-abbrev pub Unless : Bool → Type 0 → Type 0 → Type 0
-Unless test Refused Done = MatchBool test Done Refused
-
 -- field f of the slot's object is asked for: refused where the slot is null, then where there is no such field, then
 -- where it is of another kind
 abbrev pub AtField : (Kind → Bool) → State → ℕ → ℕ → List Line → State → (ℕ → Type 0) → Type 0
 AtField allowed old p f lines new Done =
     MatchOption (slot_at old p) (IsRefused R.Null old lines new)
-    (λ n. Unless (nat_lt f (field_count (node_at old.nodes n))) (IsRefused R.Field old lines new)
-    (Unless (allowed (kind_of_field (node_at old.nodes n).object f)) (IsRefused R.Kind old lines new) (Done n)))
+    (λ n. RefusedUnless (nat_lt f (field_count (node_at old.nodes n))) (IsRefused R.Field old lines new)
+    (RefusedUnless (allowed (kind_of_field (node_at old.nodes n).object f)) (IsRefused R.Kind old lines new) (Done n)))
 
 -- the number of the first word of the node's field
 abbrev pub first_word : State → ℕ → ℕ → ℕ
