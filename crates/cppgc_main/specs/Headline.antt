@@ -97,6 +97,7 @@ pub record IsFaultyInput (old new : Option (List ℕ)) (line : ℕ) : Type 0 whe
 
 -- ---- a device that was let alone
 
+-- what it tells, and its count of faults, are as before
 pub record IsUntouched (told_before told_after : Option (List ℕ)) (faults_before faults_after : ℕ) : Type 0 where
   pub told : told_after ≡ told_before
   pub faults : faults_after ≡ faults_before

@@ -14,10 +14,12 @@ some_pages None = None
 abbrev pub is_page_size : ℕ → Bool
 is_page_size n = list_any (λ m. m == n) (256 ∷ 512 ∷ 1024 ∷ 2048 ∷ 4096 ∷ 8192 ∷ 16384 ∷ [])
 
+-- the words of a page, where the number is one that a page may have
 abbrev pub power_of_two : Option ℕ → Option ℕ
 power_of_two (Some n) = if is_page_size n then Some n else None
 power_of_two None = None
 
+-- a shape of so many pages of so many words, where both are there
 abbrev pub shape_with : Option ℕ → Option ℕ → Option Shape
 shape_with (Some pages) (Some page_words) = Some (record { pages = pages; page_words = page_words })
 shape_with (Some pages) None = None

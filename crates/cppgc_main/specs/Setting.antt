@@ -12,6 +12,7 @@ use Rattle.heap_engine.specs.declared.heap.Config.{Config}
 abbrev pub default_shape : Shape
 default_shape = record { pages = 64; page_words = 16384 }
 
+-- the shape of a heap that was configured so
 abbrev pub shape_of : Config → Shape
 shape_of config = record { pages = config.pages; page_words = config.page_words }
 
