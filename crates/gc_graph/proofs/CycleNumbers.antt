@@ -89,7 +89,7 @@ module _ (setup : Setup) (a b c : ℕ) (small : a ≤ 1000001) (markers : ℕ) (
   entered : IsFew a b c (with_entry Ready (entry_of_pause Ready Judged))
   entered =
       entered_few setup a b c small old p.before piece (O.Pause (dying_slots Judged Ready.region)) true h g sound_ready p.others p.piece_is p.legal
-      (λ few. small_one (dying_slots Judged Ready.region) (dying_small Judged Ready.region few.slots))
+      (λ few. small_one (dying_slots Judged Ready.region) (dying_small Judged Ready.region few.shared.slots))
 
   long : length new.nodes ≤ a
   long =
@@ -107,12 +107,8 @@ module _ (setup : Setup) (a b c : ℕ) (small : a ≤ 1000001) (markers : ℕ) (
         commands_few = entered.commands_few;
         finalised_few = entered.finalised_few;
         words = paused_small setup.callbacks Ready.registrations p.kept Ready.nodes few_ready.words;
-        slots = entered.slots;
         callbacks = All-filter (λ r. not (dies Judged r)) (λ (r : Registration). Small r.callback) Ready.registrations few_ready.callbacks;
-        orders = entered.orders;
-        threads_few = entered.threads_few;
-        threads = entered.threads;
-        entries = entered.entries;
+        shared = entered.shared;
       })
 
   abbrev RunSmall : Registration → Type 0
@@ -154,12 +150,8 @@ start_few setup a b c small swept new piece h g s =
       commands_few = taken.commands_few;
       finalised_few = taken.finalised_few;
       words = taken.words;
-      slots = taken.slots;
       callbacks = taken.callbacks;
-      orders = taken.orders;
-      threads_few = taken.threads_few;
-      threads = taken.threads;
-      entries = taken.entries;
+      shared = taken.shared;
     })
 
 -- ---- which threads run

@@ -59,6 +59,14 @@ pub record IsQueued (queues : List (List Order)) (j : ℕ) : Type 0 where
 abbrev pub IsKnown : List ℕ → Entry → Type 0
 IsKnown running entry = IsOf64Bits (L.Entry entry) ⊎ (Contains running entry.thread × All Small (numbers_of_reply entry.reply))
 
+-- of the region and the threads: 32 slots, allowed orders, 8 threads at most, and known entries
+pub record IsFewShared (region : List RegionSlot) (queues : List (List Order)) (running : List ℕ) (unprinted : List Entry) : Type 0 where
+  pub slots : length region ≡ 32
+  pub orders : All (λ orders. All IsAllowedOrder orders) queues
+  pub threads_few : length running ≤ 8
+  pub threads : (j : ℕ) → Contains running j → IsQueued queues j
+  pub entries : All (IsKnown running) unprinted
+
 pub record IsFewAs
     (most_nodes most_commands most_finalised : ℕ) (nodes : List Node) (region : List RegionSlot) (registrations : List Registration)
     (queues : List (List Order)) (running : List ℕ) (unprinted : List Entry) (ordinal finalised : ℕ) : Type 0 where
@@ -66,12 +74,8 @@ pub record IsFewAs
   pub commands_few : ordinal ≤ most_commands
   pub finalised_few : finalised ≤ most_finalised
   pub words : All HasSmall nodes
-  pub slots : length region ≡ 32
   pub callbacks : All (λ (r : Registration). Small r.callback) registrations
-  pub orders : All (λ orders. All IsAllowedOrder orders) queues
-  pub threads_few : length running ≤ 8
-  pub threads : (j : ℕ) → Contains running j → IsQueued queues j
-  pub entries : All (IsKnown running) unprinted
+  pub shared : IsFewShared region queues running unprinted
 
 abbrev pub IsFew : ℕ → ℕ → ℕ → State → Type 0
 IsFew a b c s = IsFewAs a b c s.nodes s.region s.registrations s.queues s.running s.unprinted s.ordinal s.finalised
@@ -82,12 +86,8 @@ few_more a b c x y z s p q r h = record {
   commands_few = (let l = h.commands_few in omega arith);
   finalised_few = (let l = h.finalised_few in omega arith);
   words = h.words;
-  slots = h.slots;
   callbacks = h.callbacks;
-  orders = h.orders;
-  threads_few = h.threads_few;
-  threads = h.threads;
-  entries = h.entries;
+  shared = h.shared;
 }
 
 pub empty_few : IsFew 0 0 0 empty_state
@@ -96,12 +96,14 @@ empty_few = record {
   commands_few = omega arith;
   finalised_few = omega arith;
   words = All-nil HasSmall;
-  slots = refl;
   callbacks = All-nil (λ (r : Registration). Small r.callback);
-  orders = All-replicate (λ orders. All IsAllowedOrder orders) 8 [] (All-nil IsAllowedOrder);
-  threads_few = omega arith;
-  threads = λ j h. absurd (let l = h.1 in omega arith);
-  entries = All-nil (IsKnown []);
+  shared = record {
+    slots = refl;
+    orders = All-replicate (λ orders. All IsAllowedOrder orders) 8 [] (All-nil IsAllowedOrder);
+    threads_few = omega arith;
+    threads = λ j h. absurd (let l = h.1 in omega arith);
+    entries = All-nil (IsKnown []);
+  };
 }
 
 -- ---- entries
@@ -145,12 +147,14 @@ module _ (setup : Setup) (a b c : ℕ) (small : a ≤ 1000001) where
     commands_few = h.commands_few;
     finalised_few = h.finalised_few;
     words = h.words;
-    slots = length-region_after s.region entry.op ∙ h.slots;
     callbacks = h.callbacks;
-    orders = h.orders;
-    threads_few = h.threads_few;
-    threads = h.threads;
-    entries = All-push (IsKnown s.running) s.unprinted entry h.entries known;
+    shared = record {
+      slots = length-region_after s.region entry.op ∙ h.shared.slots;
+      orders = h.shared.orders;
+      threads_few = h.shared.threads_few;
+      threads = h.shared.threads;
+      entries = All-push (IsKnown s.running) s.unprinted entry h.shared.entries known;
+    };
   }
 
   -- the entries of threads that run
@@ -243,12 +247,8 @@ module _ (setup : Setup) (limits : IsWithinLimits setup) (a b c : ℕ) (small : 
               commands_few = h.commands_few;
               finalised_few = (let l = h.finalised_few in omega arith);
               words = finalised_small limit old.nodes h.words;
-              slots = h.slots;
               callbacks = h.callbacks;
-              orders = h.orders;
-              threads_few = h.threads_few;
-              threads = h.threads;
-              entries = h.entries;
+              shared = h.shared;
             });
         small = λ k d l. (let below = dead_below old.nodes _ (sweep.finalised.dead k d l).dead in let m = h.nodes_few in omega arith);
       }

@@ -69,12 +69,8 @@ answered_few k x h = record {
   commands_few = (let l = h.commands_few in omega arith);
   finalised_few = (let l = h.finalised_few in omega arith);
   words = h.words;
-  slots = h.slots;
   callbacks = h.callbacks;
-  orders = h.orders;
-  threads_few = h.threads_few;
-  threads = h.threads;
-  entries = h.entries;
+  shared = h.shared;
 }
 
 pub nearly : (k : ℕ) (x : State) → IsCounted k x → IsNearly k x
@@ -157,12 +153,8 @@ module _ (setup : Setup) (limits : IsWithinLimits setup) (k : ℕ) (low : k < 10
         commands_few = h.commands_few;
         finalised_few = h.finalised_few;
         words = set_small old.nodes n node small h.words;
-        slots = h.slots;
         callbacks = h.callbacks;
-        orders = h.orders;
-        threads_few = h.threads_few;
-        threads = h.threads;
-        entries = h.entries;
+        shared = h.shared;
       })
       d.1 d.0 small_none
 
@@ -257,15 +249,11 @@ module _ (setup : Setup) (limits : IsWithinLimits setup) (k : ℕ) (low : k < 10
         commands_few = f.commands_few;
         finalised_few = f.finalised_few;
         words = All-push HasSmall mid.nodes (new_node setup t extra a) f.words (nulls_all IsSmall tt (omega arith) (type_at setup t).kinds extra);
-        slots = f.slots;
         callbacks =
             All-append (λ (r : Registration). Small r.callback) mid.registrations (registrations_for setup t (length mid.nodes)) f.callbacks
             (All-map (λ (r : Registration). Small r.callback) (λ c. record { node = length mid.nodes; callback = c }) (type_at setup t).prefinalizers
             (limits.callbacks t _ ty));
-        orders = f.orders;
-        threads_few = f.threads_few;
-        threads = f.threads;
-        entries = f.entries;
+        shared = f.shared;
       })
       made.after
       (subst (All IsOf64Bits) (sym made.lines_are)

@@ -188,13 +188,15 @@ module _ (setup : Setup) (limits : IsWithinLimits setup) (k : ℕ) (low : k < 10
           commands_few = h.commands_few;
           finalised_few = h.finalised_few;
           words = h.words;
-          slots = h.slots;
           callbacks = h.callbacks;
-          orders = All-set (λ orders. All IsAllowedOrder orders) old.queues (j - 1) (queue_of old j ++ order ∷ [])
-              (All-push IsAllowedOrder (queue_of old j) order (queue_allowed old.queues (j - 1) h.orders) allowed) h.orders;
-          threads_few = h.threads_few;
-          threads = λ i c. still_queued j i order (h.threads i c);
-          entries = h.entries;
+          shared = record {
+            slots = h.shared.slots;
+            orders = All-set (λ orders. All IsAllowedOrder orders) old.queues (j - 1) (queue_of old j ++ order ∷ [])
+                (All-push IsAllowedOrder (queue_of old j) order (queue_allowed old.queues (j - 1) h.shared.orders) allowed) h.shared.orders;
+            threads_few = h.shared.threads_few;
+            threads = λ i c. still_queued j i order (h.shared.threads i c);
+            entries = h.shared.entries;
+          };
         })
         d.1 d.0 small_none
   ]
@@ -222,7 +224,7 @@ module _ (setup : Setup) (limits : IsWithinLimits setup) (k : ℕ) (low : k < 10
 
   runs_on : (j : ℕ) → Contains old.running j → Contains (threads_with_orders old) j
   runs_on j c =
-      let q : IsQueued old.queues j = h.threads j c in
+      let q : IsQueued old.queues j = h.shared.threads j c in
       contains_filter Waits (range_with_len 1 8) j (lt-ltb 0 (length (queue_of old j)) q.some) (in_all j q.from q.to)
 
   known_on : (entry : Entry) → IsKnown old.running entry → IsKnown (threads_with_orders old) entry
@@ -241,12 +243,14 @@ module _ (setup : Setup) (limits : IsWithinLimits setup) (k : ℕ) (low : k < 10
           commands_few = h.commands_few;
           finalised_few = h.finalised_few;
           words = h.words;
-          slots = h.slots;
           callbacks = h.callbacks;
-          orders = h.orders;
-          threads_few = few;
-          threads = λ j c. All-contains (IsQueued old.queues) (threads_with_orders old) j waits c;
-          entries = All-weaker (IsKnown old.running) (IsKnown (threads_with_orders old)) known_on old.unprinted h.entries;
+          shared = record {
+            slots = h.shared.slots;
+            orders = h.shared.orders;
+            threads_few = few;
+            threads = λ j c. All-contains (IsQueued old.queues) (threads_with_orders old) j waits c;
+            entries = All-weaker (IsKnown old.running) (IsKnown (threads_with_orders old)) known_on old.unprinted h.shared.entries;
+          };
         } in
         record {
           few = subst (λ (s : State). IsCounted (k + 1) s) (sym d.1) (answered_few k gone (nearly k gone counted));
@@ -268,22 +272,24 @@ module _ (setup : Setup) (limits : IsWithinLimits setup) (k : ℕ) (low : k < 10
     commands_few = few.commands_few;
     finalised_few = few.finalised_few;
     words = few.words;
-    slots = few.slots;
     callbacks = few.callbacks;
-    orders =
-        All-map (λ orders. All IsAllowedOrder orders) (λ j. if is_running After j then [] else queue_of After j) (range_with_len 1 8)
-        (λ i d l. cond_both (is_running After _) [] (queue_of After _) (All IsAllowedOrder) (λ e. All-nil IsAllowedOrder)
-        (λ e. queue_allowed After.queues _ few.orders));
-    threads_few = omega arith;
-    threads = λ j c. absurd (let l = c.1 in omega arith);
-    entries = All-nil (IsKnown []);
+    shared = record {
+      slots = few.shared.slots;
+      orders =
+          All-map (λ orders. All IsAllowedOrder orders) (λ j. if is_running After j then [] else queue_of After j) (range_with_len 1 8)
+          (λ i d l. cond_both (is_running After _) [] (queue_of After _) (All IsAllowedOrder) (λ e. All-nil IsAllowedOrder)
+          (λ e. queue_allowed After.queues _ few.shared.orders));
+      threads_few = omega arith;
+      threads = λ j c. absurd (let l = c.1 in omega arith);
+      entries = All-nil (IsKnown []);
+    };
   }
 
   abbrev Fits : Line → Type 0
   Fits line = IsOf64Bits line ⊎ TellsTotalsTo old.running line
 
   thread_small : (j : ℕ) → Contains old.running j → Small j
-  thread_small j c = (let to = (h.threads j c).to in omega arith)
+  thread_small j c = (let to = (h.shared.threads j c).to in omega arith)
 
   known_reply : (entry : Entry) → IsKnown old.running entry → ReplySmall entry
   known_reply entry known = elim known [
@@ -317,7 +323,7 @@ module _ (setup : Setup) (limits : IsWithinLimits setup) (k : ℕ) (low : k < 10
     op_of_thread i e l c =
         let j : ℕ = (get_or After.unprinted i e).thread in
         filter_back (λ (entry : Entry). entry.thread == j) OpSmall After.unprinted
-        (ops_small j (queue_of old j) (d.answers j) (entries_by j After.unprinted) (done j c) (queue_allowed old.queues (j - 1) h.orders)) i e l
+        (ops_small j (queue_of old j) (d.answers j) (entries_by j After.unprinted) (done j c) (queue_allowed old.queues (j - 1) h.shared.orders)) i e l
         (eq-eqb j j refl)
 
     entry_lines : All Fits (map (λ entry. L.Entry entry) After.unprinted)
@@ -337,13 +343,13 @@ module _ (setup : Setup) (limits : IsWithinLimits setup) (k : ℕ) (low : k < 10
         let made : List Line = map (λ entry. L.Entry entry) After.unprinted in
         subst (All Fits) (sym d.lines_are)
         (All-append Fits (told ++ made) (L.Joined (length old.running) ∷ []) (All-append Fits told made replies entry_lines)
-        (All-cons Fits (L.Joined (length old.running)) [] (inl (small_one (length old.running) (let l = h.threads_few in omega arith))) (All-nil Fits)))
+        (All-cons Fits (L.Joined (length old.running)) [] (inl (small_one (length old.running) (let l = h.shared.threads_few in omega arith))) (All-nil Fits)))
 
   pub join_good : command ≡ C.ThreadsJoin → StepThreadsJoin old piece lines new → Good
   join_good is d =
       let legal : IsLegalFrom old.region (is_marking old.phase) (piece ++ []) = subst (IsLegalFrom old.region (is_marking old.phase)) (sym (append-nil piece)) d.legal in
       let few : IsCounted k After = took_few setup k k (16777216 * k) (omega arith) old piece [] (is_marking old.phase) h g d.others legal in
-      let entries : All (IsKnown old.running) After.unprinted = subst (λ running. All (IsKnown running) After.unprinted) (took_running old piece) few.entries in
+      let entries : All (IsKnown old.running) After.unprinted = subst (λ running. All (IsKnown running) After.unprinted) (took_running old piece) few.shared.entries in
       record {
         few = subst (λ (s : State). IsCounted (k + 1) s) (sym d.after) (answered_few k (joined After) (nearly k (joined After) (joined_few few)));
         numbers = inr (is, joined_lines d entries);
