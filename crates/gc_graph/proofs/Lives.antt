@@ -178,6 +178,16 @@ went_at Pausing old new n l gone h =
 went_at (Reading m) old new n l gone h = inl (omega (arith, h.look.whole), sym (h.look.like n).life ∙ gone)
 went_at Nothing old new n l gone h = inl (omega (arith, h.whole), sym (h.like n).life ∙ gone)
 
+-- a new number is that of a placement
+made_at : (e : Event) (old new : List Node) (n : ℕ) → length old ≤ n → n < length new → Tells old e new → (a : ℕ) × (e ≡ Placing n a)
+made_at (Placing m a) old new n past l h =
+    let same : m ≡ n = omega (arith, h.whole, h.number) in
+    (a, ap (λ k. Placing k a) same)
+made_at (Finalising m) old new n past l h = absurd (omega (arith, h.whole))
+made_at Pausing old new n past l h = absurd (omega (arith, h.whole))
+made_at (Reading m) old new n past l h = absurd (omega (arith, h.look.whole))
+made_at Nothing old new n past l h = absurd (omega (arith, h.whole))
+
 -- who is dead was dead, or a pause was told
 pub died_at : (e : Event) (old new : List Node) (n : ℕ) → IsDead new n → Tells old e new → IsDead old n ⊎ (e ≡ Pausing)
 died_at (Placing m a) old new n dead h =
@@ -286,6 +296,24 @@ went old new (said ∷ lines) n l gone h =
         | inr is ↦
             inr (subst (λ l. Contains (l ∷ lines) (L.Finalise n)) (sym (finalise_line said n is)) (line_first (L.Finalise n) lines))
       ]
+    ]
+
+placed_line : (said : Line) (n a : ℕ) → event_of said ≡ Placing n a → said ≡ L.Placed n a
+placed_line (L.Placed m b) n a e = cc
+placed_line said n a e = cc
+
+-- a new number was placed
+pub was_placed : (old new : List Node) (lines : List Line) (n : ℕ) → length old ≤ n → n < length new → AreTold old lines new
+    → (a : ℕ) × Contains lines (L.Placed n a)
+was_placed old new [] n past l h = absurd (omega (arith, h.whole))
+was_placed old new (said ∷ lines) n past l h =
+    elim (cases_lt n (length h.mid)) [
+      | inl now ↦
+          (let made = made_at (event_of said) old h.mid n past now h.tells in
+          (made.0, subst (λ s. Contains (s ∷ lines) (L.Placed n made.0)) (sym (placed_line said n made.0 made.1)) (line_first (L.Placed n made.0) lines)))
+      | inr later ↦
+          (let rest = was_placed h.mid new lines n later l h.after in
+          (rest.0, line_later said (L.Placed n rest.0) lines rest.1))
     ]
 
 -- ---- two lists of lines

@@ -16,7 +16,7 @@ use Rattle.gc_graph.specs.OnceLaw.{all_lines, AreOnce, TellsPause, Once}
 use Rattle.gc_graph.proofs.Sound.{sound_from}
 use Rattle.gc_graph.proofs.NodeWrites.{look_same}
 use Rattle.gc_graph.proofs.ValidSteps.{step_keeps_valid, empty_is_valid}
-use Rattle.gc_graph.proofs.Lives.{event_of, StaysPut, IsMadeBy, IsBuried, AreTold, gone_not_dead, live_not_dead, dead_below, line_first, line_later, died_at, told_grows, told_gone, told_put, not_placed, not_finalised, not_read, went, told_append, IsToldAt, told_at}
+use Rattle.gc_graph.proofs.Lives.{event_of, StaysPut, IsMadeBy, IsBuried, AreTold, gone_not_dead, live_not_dead, dead_below, line_first, line_later, died_at, told_grows, told_gone, told_put, not_placed, not_finalised, not_read, was_placed, went, told_append, IsToldAt, told_at}
 use Rattle.gc_graph.proofs.Lives.Event.{Pausing}
 use Rattle.gc_graph.proofs.StepLives.{StepTells}
 use Rattle.gc_graph.proofs.CommandLives.{step_tells}
@@ -73,6 +73,10 @@ module _ (lines : List Line) (nodes : List Node) (told : AreTold [] lines nodes)
         let at : IsToldAt [] before (L.Placed n a) after nodes = told_split before (L.Placed n a) after e in
         let made : IsMadeBy at.at n a at.next = at.tells in
         (told_put at.next nodes after n (omega (arith, made.number, made.whole)) at.rest).place ∙ made.at;
+    placed_before = λ n before after e.
+        let at : IsToldAt [] before (L.Finalise n) after nodes = told_split before (L.Finalise n) after e in
+        let buried : IsBuried at.at n at.next = at.tells in
+        was_placed [] at.at before n (omega arith) (dead_below at.at n buried.dead) at.first;
     finalised = λ n before after e c.
         let at : IsToldAt [] before (L.Finalise n) after nodes = told_split before (L.Finalise n) after e in
         let buried : IsBuried at.at n at.next = at.tells in

@@ -14,11 +14,13 @@ abbrev pub all_lines : List Outcome → List Line
 all_lines outcomes = flat_map (λ (o : Outcome). o.lines) outcomes
 
 -- in the lines of a run, after which the nodes are these: each number is placed once and stays at its place; it is
--- finalised once, and no read of the owner gives it after that; its finalisation is told before another object gets one
--- of its words; and whoever is gone was told to be finalised
+-- finalised after that, and once, and no read of the owner gives it then; its finalisation is told before a later object
+-- gets one of its words; and whoever is gone was told to be finalised
 pub record AreOnce (lines : List Line) (nodes : List Node) : Type 0 where
   pub placed : (n a b : ℕ) (before after : List Line) → lines ≡ before ++ L.Placed n a ∷ after → Contains after (L.Placed n b) → ⊥
   pub at : (n a : ℕ) (before after : List Line) → lines ≡ before ++ L.Placed n a ∷ after → (node_at nodes n).place ≡ a
+  pub placed_before :
+      (n : ℕ) (before after : List Line) → lines ≡ before ++ L.Finalise n ∷ after → (a : ℕ) × Contains before (L.Placed n a)
   pub finalised : (n : ℕ) (before after : List Line) → lines ≡ before ++ L.Finalise n ∷ after → Contains after (L.Finalise n) → ⊥
   pub unread : (n : ℕ) (before after : List Line) → lines ≡ before ++ L.Finalise n ∷ after → Contains after (L.Node n) → ⊥
   pub before_reuse :
