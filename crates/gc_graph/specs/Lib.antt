@@ -1,12 +1,11 @@
+-- What has to be believed for the headline, in reading order.
 pub mod Graph
 pub mod Reach
 pub mod State
 pub mod Fields
-pub mod Checking
 pub mod May
 pub mod Sweep
 pub mod Placement
-pub mod Pages
 pub mod History
 pub mod Actions
 pub mod Outcomes
@@ -16,13 +15,15 @@ pub mod HandleSteps
 pub mod CycleSteps
 pub mod RegionSteps
 pub mod Step
-pub mod Valid
 pub mod Lawful
 pub mod Words
 pub mod Forms
 pub mod Reasons
 pub mod Script
 pub mod Report
+-- What guards it: what holds of every state, the reader of reports, and the laws.
+pub mod Pages
+pub mod Valid
 pub mod ReadBack
 pub mod ValidLaw
 pub mod MayLaw
@@ -34,3 +35,5 @@ pub mod OnceLaw
 pub mod HistoryLaw
 pub mod NumbersLaw
 pub mod ScriptLaw
+-- What the crate's own code cites.
+pub mod Checking
