@@ -1,9 +1,9 @@
 -- What a write to a field keeps of its object.
 use Rattle.std.proofs.Common.{◌≡◌, ℕ, suc, ◌+◌, true, true≢false, List, length, set, refl, sym, ◌∙◌, subst, arith}
 use Rattle.std.proofs.lemmas.List.{length-set}
-use Rattle.gc_graph.specs.declared.graph.Kind.{Kind}
-use Rattle.gc_graph.specs.declared.graph.Kind.TheVariants.{Strong, Weak, Pair, Plain}
-use Rattle.gc_graph.specs.declared.graph.Value.{Value}
+use Rattle.gc_graph.specs.declared.kind.Kind.{Kind}
+use Rattle.gc_graph.specs.declared.kind.Kind.TheVariants.{Strong, Weak, Pair, Plain}
+use Rattle.gc_graph.specs.declared.kind.Value.{Value}
 use Rattle.gc_graph.specs.Graph.{Object}
 use Rattle.gc_graph.specs.State.{Setup, Node}
 use Rattle.gc_graph.specs.Fields.{kind_of_field, word_of_field, with_value, is_reference, is_pair, is_plain}

@@ -6,10 +6,10 @@ use Rattle.std.proofs.lemmas.List.Elements.{All-set}
 use Rattle.gc_graph.specs.declared.action.Action.{Action}
 use Rattle.gc_graph.specs.declared.action.Action.TheVariants as A
 use Rattle.gc_graph.specs.declared.action.ActionKind.{ActionKind}
-use Rattle.gc_graph.specs.declared.graph.Kind.{Kind}
-use Rattle.gc_graph.specs.declared.graph.Kind.TheVariants.{Strong, Weak, Pair, Plain}
-use Rattle.gc_graph.specs.declared.graph.Value.{Value}
-use Rattle.gc_graph.specs.declared.graph.Value.TheVariants.{Null, Ref, Word}
+use Rattle.gc_graph.specs.declared.kind.Kind.{Kind}
+use Rattle.gc_graph.specs.declared.kind.Kind.TheVariants.{Strong, Weak, Pair, Plain}
+use Rattle.gc_graph.specs.declared.kind.Value.{Value}
+use Rattle.gc_graph.specs.declared.kind.Value.TheVariants.{Null, Ref, Word}
 use Rattle.gc_graph.specs.State.{Setup, Node, Registration, no_node, node_at}
 use Rattle.gc_graph.specs.Fields.{kind_of_field, word_of_field, value_at, with_value, field_count, is_pair}
 use Rattle.gc_graph.specs.Actions.{cleared_field, added, added_field, cleared_at, added_at, linked, change_linked, acted, action_of, shown_words}

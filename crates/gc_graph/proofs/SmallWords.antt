@@ -7,10 +7,10 @@ use Rattle.std.proofs.lemmas.List.Elements.{All-nil, All-cons, All-head, All-tai
 use Rattle.gc_graph.specs.declared.action.Action.{Action}
 use Rattle.gc_graph.specs.declared.action.Action.TheVariants as A
 use Rattle.gc_graph.specs.declared.action.ActionKind.{ActionKind}
-use Rattle.gc_graph.specs.declared.graph.Kind.{Kind}
-use Rattle.gc_graph.specs.declared.graph.Kind.TheVariants.{Strong, Weak, Pair, Plain}
-use Rattle.gc_graph.specs.declared.graph.Value.{Value}
-use Rattle.gc_graph.specs.declared.graph.Value.TheVariants.{Null, Ref, Word}
+use Rattle.gc_graph.specs.declared.kind.Kind.{Kind}
+use Rattle.gc_graph.specs.declared.kind.Kind.TheVariants.{Strong, Weak, Pair, Plain}
+use Rattle.gc_graph.specs.declared.kind.Value.{Value}
+use Rattle.gc_graph.specs.declared.kind.Value.TheVariants.{Null, Ref, Word}
 use Rattle.gc_graph.specs.State.{Node, Registration, no_node, node_at, is_live}
 use Rattle.gc_graph.specs.Fields.{field_count, kind_of_field, word_of_field, value_at, with_value}
 use Rattle.gc_graph.specs.Actions.{shown_words, action_of, cleared_field, added, added_field, cleared_at, added_at, linked, change_linked, acted}

@@ -2,7 +2,7 @@
 use Rattle.std.proofs.Common.{◌≡◌, ℕ, ◌<◌, Bool, true, false, List, Option, Some, None, refl, sym, subst, nat_lt, ltb-true}
 use Rattle.std.specs.Option.{MatchOption}
 use Rattle.std.specs.Bool.{MatchBool}
-use Rattle.gc_graph.specs.declared.graph.Kind.{Kind}
+use Rattle.gc_graph.specs.declared.kind.Kind.{Kind}
 use Rattle.gc_graph.specs.declared.line.Line.{Line}
 use Rattle.gc_graph.specs.declared.line.Refusal.{Refusal}
 use Rattle.gc_graph.specs.declared.line.Refusal.TheVariants as R

@@ -4,8 +4,8 @@ use Rattle.std.specs.Prelude.{⊤}
 use Rattle.std.proofs.lemmas.Bool.{cases_lt}
 use Rattle.std.proofs.lemmas.List.{get_or_past}
 use Rattle.std.proofs.lemmas.List.Elements.{All-set, All-cons, All-drop, All-head, All-tail}
-use Rattle.gc_graph.specs.declared.graph.Value.{Value}
-use Rattle.gc_graph.specs.declared.graph.Value.TheVariants.{Null, Ref, Word}
+use Rattle.gc_graph.specs.declared.kind.Value.{Value}
+use Rattle.gc_graph.specs.declared.kind.Value.TheVariants.{Null, Ref, Word}
 use Rattle.gc_graph.specs.declared.line.Line.{Line}
 use Rattle.gc_graph.specs.declared.line.Refusal.TheVariants as R
 use Rattle.gc_graph.specs.State.{Setup, State, StackWord, node_at, IsLive, size_of}

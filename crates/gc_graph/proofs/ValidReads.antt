@@ -2,10 +2,10 @@
 use Rattle.std.proofs.Common.{◌≡◌, ℕ, ◌+◌, Bool, true, false, true≢false, List, length, get_or, refl, sym, ap, subst, inl, inr}
 use Rattle.std.proofs.lemmas.Bool.{cases_lt}
 use Rattle.std.proofs.lemmas.List.{get_or_past}
-use Rattle.gc_graph.specs.declared.graph.Kind.{Kind}
-use Rattle.gc_graph.specs.declared.graph.Kind.TheVariants.{Strong, Weak, Pair, Plain}
-use Rattle.gc_graph.specs.declared.graph.Value.{Value}
-use Rattle.gc_graph.specs.declared.graph.Value.TheVariants.{Null, Ref, Word}
+use Rattle.gc_graph.specs.declared.kind.Kind.{Kind}
+use Rattle.gc_graph.specs.declared.kind.Kind.TheVariants.{Strong, Weak, Pair, Plain}
+use Rattle.gc_graph.specs.declared.kind.Value.{Value}
+use Rattle.gc_graph.specs.declared.kind.Value.TheVariants.{Null, Ref, Word}
 use Rattle.gc_graph.specs.declared.line.Line.{Line}
 use Rattle.gc_graph.specs.declared.phase.Phase.{Phase}
 use Rattle.gc_graph.specs.declared.phase.Phase.TheVariants.{Idle, Marking, Sweeping}

@@ -3,8 +3,8 @@ use Rattle.std.proofs.Common.{◌≡◌, ◌≢◌, ℕ, ◌+◌, ◌*◌, ◌<�
 use Rattle.std.proofs.lemmas.Bool.{cond_both, eqb-true, eqb-false}
 use Rattle.std.proofs.lemmas.List.{length-map}
 use Rattle.std.proofs.lemmas.List.Elements.{All-map}
-use Rattle.gc_graph.specs.declared.graph.Value.{Value}
-use Rattle.gc_graph.specs.declared.graph.Value.TheVariants.{Null, Ref, Word}
+use Rattle.gc_graph.specs.declared.kind.Value.{Value}
+use Rattle.gc_graph.specs.declared.kind.Value.TheVariants.{Null, Ref, Word}
 use Rattle.gc_graph.specs.declared.line.Line.{Line}
 use Rattle.gc_graph.specs.declared.line.Refusal.TheVariants as R
 use Rattle.gc_graph.specs.declared.phase.Phase.{Phase}

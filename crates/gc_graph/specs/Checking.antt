@@ -1,10 +1,10 @@
 -- What a check of a set against a graph looks at, field by field.
 use Rattle.std.specs.Prelude.{◌≡◌, ℕ, ◌==◌, ◌&&◌, ◌||◌, not, Bool, true, List, [], ◌∷◌, Option, None, Some, drop, slice_index_or}
 use Rattle.std.specs.List.{list_any}
-use Rattle.gc_graph.specs.declared.graph.Kind.{Kind}
-use Rattle.gc_graph.specs.declared.graph.Kind.TheVariants.{Strong, Weak, Pair, Plain}
-use Rattle.gc_graph.specs.declared.graph.Value.{Value}
-use Rattle.gc_graph.specs.declared.graph.Value.TheVariants.{Null}
+use Rattle.gc_graph.specs.declared.kind.Kind.{Kind}
+use Rattle.gc_graph.specs.declared.kind.Kind.TheVariants.{Strong, Weak, Pair, Plain}
+use Rattle.gc_graph.specs.declared.kind.Value.{Value}
+use Rattle.gc_graph.specs.declared.kind.Value.TheVariants.{Null}
 use Rattle.gc_graph.specs.Graph.{Object}
 use Rattle.gc_graph.specs.Fields.{words_of_kind, target_of}
 

@@ -2,10 +2,10 @@
 -- (`include/cppgc/member.h`, `ephemeron-pair.h`, `allocation.h`).
 use Rattle.std.specs.Prelude.{ℕ, ◌+◌, ◌-◌, Bool, true, false, List, [], ◌∷◌, ◌++◌, length, take, replicate, Option, Some, None, slice_set, slice_index_or, sum_by}
 use Rattle.std.specs.List.{flat_map}
-use Rattle.gc_graph.specs.declared.graph.Kind.{Kind}
-use Rattle.gc_graph.specs.declared.graph.Kind.TheVariants.{Strong, Weak, Pair, Plain}
-use Rattle.gc_graph.specs.declared.graph.Value.{Value}
-use Rattle.gc_graph.specs.declared.graph.Value.TheVariants.{Null, Ref, Word}
+use Rattle.gc_graph.specs.declared.kind.Kind.{Kind}
+use Rattle.gc_graph.specs.declared.kind.Kind.TheVariants.{Strong, Weak, Pair, Plain}
+use Rattle.gc_graph.specs.declared.kind.Value.{Value}
+use Rattle.gc_graph.specs.declared.kind.Value.TheVariants.{Null, Ref, Word}
 use Rattle.gc_graph.specs.Graph.{Object}
 use Rattle.gc_graph.specs.State.{Setup, ObjectType, Node, type_at}
 use Rattle.gc_graph.specs.State.Life.{Live}

@@ -1,10 +1,10 @@
 -- Nodes with their fields, sets of nodes, and closed sets.
 use Rattle.std.specs.Prelude.{◌≡◌, ℕ, ◌==◌, ◌&&◌, ◌||◌, Bool, true, false, List, [], ◌∷◌, slice_index_or}
 use Rattle.std.specs.List.{list_any}
-use Rattle.gc_graph.specs.declared.graph.Kind.{Kind}
-use Rattle.gc_graph.specs.declared.graph.Kind.TheVariants.{Strong, Pair}
-use Rattle.gc_graph.specs.declared.graph.Value.{Value}
-use Rattle.gc_graph.specs.declared.graph.Value.TheVariants.{Ref}
+use Rattle.gc_graph.specs.declared.kind.Kind.{Kind}
+use Rattle.gc_graph.specs.declared.kind.Kind.TheVariants.{Strong, Pair}
+use Rattle.gc_graph.specs.declared.kind.Value.{Value}
+use Rattle.gc_graph.specs.declared.kind.Value.TheVariants.{Ref}
 
 -- an object of the graph: its type, how many extra words it has, the kinds of its declared fields, and one value for
 -- each word of these and for each extra word (`include/cppgc/garbage-collected.h`, `allocation.h`)

@@ -8,8 +8,8 @@ ghost use Rattle.gc_graph.specs.Fields.{words_of_kind};
 ghost use Rattle.gc_graph.specs.Checking.{passes, pair_passes};
 ghost use Rattle.gc_graph.specs.Checking.{field_closes, fields_close, object_closes};
 
-use crate::graph::{Kind, Value};
 use crate::graphs::Graph;
+use crate::kind::{Kind, Value};
 use crate::members::Members;
 
 /// Whether a set holds every root and is closed: it has the target of each strong field of a

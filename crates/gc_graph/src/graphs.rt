@@ -5,7 +5,7 @@ ghost use Rattle.std.specs.Prelude.{IfOk, OnOk, OnErr, MatchOption};
 ghost use Rattle.gc_graph.specs.Graph.{object_at};
 ghost use Rattle.gc_graph.specs.Fields.{field_words};
 
-use crate::graph::{Kind, Value};
+use crate::kind::{Kind, Value};
 use crate::memory::NoMemory;
 use std::alloc::Global;
 use std::marker::Model;

@@ -23,8 +23,8 @@
 mod action;
 mod checking;
 mod command;
-mod graph;
 mod graphs;
+mod kind;
 mod laws;
 mod laws_of_lives;
 mod laws_of_marking;
@@ -42,8 +42,8 @@ mod tests;
 pub use action::{Action, ActionKind};
 pub use checking::reach_check;
 pub use command::{Command, Order, Want};
-pub use graph::{Kind, Value};
 pub use graphs::Graph;
+pub use kind::{Kind, Value};
 pub use laws::{
     empty_is_valid, full_leaves_rest, lines_read_back, may_is_bounded, memory_leaves_all,
     pages_have_one_bucket, pause_bounds_meet, placement_is_free, refused_leaves_all,

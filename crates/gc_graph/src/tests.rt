@@ -1,8 +1,8 @@
 // Graphs, and sets that were worked out by hand: which of them hold the roots and are closed.
 
 use crate::checking::reach_check;
-use crate::graph::{Kind, Value};
 use crate::graphs::Graph;
+use crate::kind::{Kind, Value};
 use crate::memory::NoMemory;
 use std::alloc::Global;
 use std::test::Fail;

@@ -3,7 +3,7 @@ use Rattle.std.proofs.Common.{◌≡◌, ℕ, zero, suc, ◌+◌, ◌-◌, ◌<�
 use mathlib.Core.Logic.{◌⊎◌}
 use Rattle.std.proofs.lemmas.Bool.{true≢false, cases_Bool, and_from, le-leb, lt-ltb, lt-leb, le-ltb, cond-true, cond-false, cond_both, cases_lt}
 use Rattle.std.proofs.lemmas.List.{map-set}
-use Rattle.gc_graph.specs.declared.graph.Value.{Value}
+use Rattle.gc_graph.specs.declared.kind.Value.{Value}
 use Rattle.gc_graph.specs.State.{Node, node_at, is_there, size_of}
 use Rattle.gc_graph.specs.Fields.{with_value}
 use Rattle.page_words.specs.Bodies.{Body, end_of, with_word}

@@ -5,9 +5,9 @@ use Rattle.std.specs.Option.{ForSome}
 use Rattle.std.proofs.lemmas.Bool.{cases_eq}
 use Rattle.std.proofs.lemmas.List.{length-set, length-replicate, get_or-set_same, get_or-set_other}
 use Rattle.std.proofs.lemmas.List.Elements.{All-set, All-get_or, All-weaker}
-use Rattle.gc_graph.specs.declared.graph.Kind.TheVariants.{Strong}
-use Rattle.gc_graph.specs.declared.graph.Value.{Value}
-use Rattle.gc_graph.specs.declared.graph.Value.TheVariants.{Null, Ref, Word}
+use Rattle.gc_graph.specs.declared.kind.Kind.TheVariants.{Strong}
+use Rattle.gc_graph.specs.declared.kind.Value.{Value}
+use Rattle.gc_graph.specs.declared.kind.Value.TheVariants.{Null, Ref, Word}
 use Rattle.gc_graph.specs.State.{Setup, State, Node, node_at, no_node, size_of, IsLive}
 use Rattle.gc_graph.specs.Valid.{IsPlainWord, NamesLive}
 use Rattle.heap_engine.specs.Plain.{IsStrong, IsPlainState, IsPointer, HasNamesBelow, NamesBelow, fields_of}

@@ -8,9 +8,9 @@ use Rattle.std.proofs.lemmas.List.{length-map, map-set, length-set, length_push,
 use Rattle.std.proofs.lemmas.List.Elements.{All-head, All-tail, All-get_or, All-push, All-append, All-set, All-weaker, All-replicate}
 use Rattle.std.proofs.lemmas.List.Sums.{count_by-le-length}
 use Rattle.gc_graph.specs.declared.phase.Phase.TheVariants.{Idle}
-use Rattle.gc_graph.specs.declared.graph.Kind.TheVariants.{Strong}
-use Rattle.gc_graph.specs.declared.graph.Value.{Value}
-use Rattle.gc_graph.specs.declared.graph.Value.TheVariants.{Null, Ref, Word}
+use Rattle.gc_graph.specs.declared.kind.Kind.TheVariants.{Strong}
+use Rattle.gc_graph.specs.declared.kind.Value.{Value}
+use Rattle.gc_graph.specs.declared.kind.Value.TheVariants.{Null, Ref, Word}
 use Rattle.gc_graph.specs.State.{Shape, Setup, State, ObjectType, Node, type_at, no_type, node_at, no_node, is_there, is_dead, size_of, IsLive}
 use Rattle.gc_graph.specs.State.Life.{Live, Dead}
 use Rattle.gc_graph.specs.Valid.{IsPlainWord, NamesLive}

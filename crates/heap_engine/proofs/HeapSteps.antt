@@ -5,8 +5,8 @@ use Rattle.std.specs.Option.{ForSome}
 use Rattle.std.proofs.lemmas.List.{get_or-map, length-map}
 use Rattle.std.proofs.lemmas.List.Elements.{All-get_or, All-contains, All-cons, All-head, All-tail, All-same, All-from_get_or, Contains-get_or}
 use Rattle.gc_graph.specs.declared.phase.Phase.TheVariants.{Idle}
-use Rattle.gc_graph.specs.declared.graph.Value.{Value}
-use Rattle.gc_graph.specs.declared.graph.Value.TheVariants.{Null, Ref, Word}
+use Rattle.gc_graph.specs.declared.kind.Value.{Value}
+use Rattle.gc_graph.specs.declared.kind.Value.TheVariants.{Null, Ref, Word}
 use Rattle.gc_graph.specs.Reach.{ReachIsLeast}
 use Rattle.gc_graph.specs.State.{Shape, Setup, State, Node, node_at, no_node, IsLive}
 use Rattle.gc_graph.specs.Fields.{value_at}

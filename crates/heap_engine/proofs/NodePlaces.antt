@@ -4,9 +4,9 @@ use Rattle.std.specs.List.{Contains, list_any}
 use Rattle.std.proofs.lemmas.Bool.{true≢false, cases_Bool, or_cases, or_left, or_right, eqb-true, eq-eqb, cases_lt}
 use Rattle.std.proofs.lemmas.List.{get_or_past}
 use Rattle.std.proofs.lemmas.List.Elements.{Contains-get_or}
-use Rattle.gc_graph.specs.declared.graph.Kind.TheVariants.{Strong}
-use Rattle.gc_graph.specs.declared.graph.Value.{Value}
-use Rattle.gc_graph.specs.declared.graph.Value.TheVariants.{Null, Ref, Word}
+use Rattle.gc_graph.specs.declared.kind.Kind.TheVariants.{Strong}
+use Rattle.gc_graph.specs.declared.kind.Value.{Value}
+use Rattle.gc_graph.specs.declared.kind.Value.TheVariants.{Null, Ref, Word}
 use Rattle.gc_graph.specs.Graph.{object_at, strong_targets, pair_targets, leads_to}
 use Rattle.gc_graph.specs.State.{Setup, Node, Life, node_at, no_node, graph_of, is_there, is_live, IsLive}
 use Rattle.gc_graph.specs.State.Life.{Live, Dead, Gone}

@@ -1,7 +1,7 @@
 -- Which body each node has in the words.
 use Rattle.std.specs.Prelude.{◌≡◌, ℕ, suc, ◌+◌, List, [], ◌∷◌, map, if◌then◌else◌}
-use Rattle.gc_graph.specs.declared.graph.Value.{Value}
-use Rattle.gc_graph.specs.declared.graph.Value.TheVariants.{Null, Ref, Word}
+use Rattle.gc_graph.specs.declared.kind.Value.{Value}
+use Rattle.gc_graph.specs.declared.kind.Value.TheVariants.{Null, Ref, Word}
 use Rattle.gc_graph.specs.State.{Node, node_at, is_there, is_dead, size_of}
 pub use Rattle.gc_graph.specs.Valid.{IsThere}
 use Rattle.page_words.specs.Bodies.{Body}

@@ -3,9 +3,9 @@
 use Rattle.std.specs.Prelude.{◌≡◌, ℕ, ◌+◌, ◌<◌, ◌≤◌, false, List, [], length, replicate, Option, None, All, ⊤}
 use Rattle.std.specs.Option.{ForSome}
 use Rattle.gc_graph.specs.declared.phase.Phase.TheVariants.{Idle}
-use Rattle.gc_graph.specs.declared.graph.Kind.TheVariants.{Strong}
-use Rattle.gc_graph.specs.declared.graph.Value.{Value}
-use Rattle.gc_graph.specs.declared.graph.Value.TheVariants.{Null, Ref, Word}
+use Rattle.gc_graph.specs.declared.kind.Kind.TheVariants.{Strong}
+use Rattle.gc_graph.specs.declared.kind.Value.{Value}
+use Rattle.gc_graph.specs.declared.kind.Value.TheVariants.{Null, Ref, Word}
 use Rattle.gc_graph.specs.State.{Setup, State, Node, StackWord, RegionSlot, Registration, node_at, type_at, IsLive, IsDead}
 use Rattle.gc_graph.specs.State.RegionSlot.{Vacant}
 use Rattle.gc_graph.specs.Fields.{value_at}

@@ -2,7 +2,7 @@
 
 ghost use Rattle.std.specs.Prelude.{◌≡◌, ◌+◌, ◌<◌, [], nat_lt, Ok, Err, option_map};
 ghost use Rattle.std.specs.Prelude.{MatchOption, MatchBool};
-ghost use Rattle.gc_graph.specs.declared.graph.Value.TheVariants.{Null};
+ghost use Rattle.gc_graph.specs.declared.kind.Value.TheVariants.{Null};
 ghost use Rattle.gc_graph.specs.declared.line.Line.TheVariants as L;
 ghost use Rattle.gc_graph.specs.declared.line.Refusal.TheVariants as R;
 ghost use Rattle.gc_graph.specs.State.{node_at};

@@ -4,7 +4,7 @@ ghost use Rattle.std.specs.Prelude.{◌≡◌, None};
 ghost use Rattle.gc_graph.specs.State.{empty_state};
 ghost use Rattle.gc_graph.specs.Fields.{content_of};
 ghost use Rattle.gc_graph.specs.Outcomes.{answered, with_slot, slot_at};
-ghost use Rattle.gc_graph.specs.declared.graph.Value.TheVariants.{Null};
+ghost use Rattle.gc_graph.specs.declared.kind.Value.TheVariants.{Null};
 ghost use Rattle.page_words.specs.Seat.{holds};
 ghost use Rattle.heap_engine.specs.View.{kept_of};
 ghost use Rattle.heap_engine.specs.Changes.{made_state, full_state, stored_state, read_state};

@@ -5,7 +5,7 @@ use Rattle.std.specs.List.{list_any, find, range_with_len}
 use Rattle.std.proofs.lemmas.Bool.{false≢true, cases_lt, cases_Bool, cond-true, cond-false, eqb-true, or_cases, or_left, or_right, both_ways}
 use Rattle.std.proofs.lemmas.List.{get_or_past}
 use Rattle.std.proofs.lemmas.List.FromFn.{length-map-range_with_len, get_or-map-range_with_len}
-use Rattle.gc_graph.specs.declared.graph.Kind.{Kind}
+use Rattle.gc_graph.specs.declared.kind.Kind.{Kind}
 use Rattle.gc_graph.specs.Graph.{no_object, object_at, has, leads_by, leads_to}
 use Rattle.gc_graph.specs.Reach.{Reach, ReachIsLeast, IsLeastClosed}
 use Rattle.marker_core.specs.declared.states.Body.{Body}

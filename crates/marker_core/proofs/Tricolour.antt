@@ -3,7 +3,7 @@ use Rattle.std.proofs.Common.{◌≡◌, ℕ, ◌+◌, ◌-◌, ◌<◌, List, s
 use mathlib.Core.Logic.{◌⊎◌}
 use Rattle.std.proofs.lemmas.Bool.{cases_order}
 use Rattle.std.proofs.lemmas.Option.{same_Some}
-use Rattle.gc_graph.specs.declared.graph.Kind.{Kind}
+use Rattle.gc_graph.specs.declared.kind.Kind.{Kind}
 use Rattle.marker_core.specs.declared.states.Body.{Body}
 use Rattle.marker_core.specs.declared.states.Hand.{Hand}
 use Rattle.marker_core.specs.declared.states.MarkerView.{MarkerView}

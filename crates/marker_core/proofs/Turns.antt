@@ -1,7 +1,7 @@
 -- What a hand that reads a word, or looks at its key's header, may become.
 use Rattle.std.proofs.Common.{◌≡◌, ℕ, ◌+◌, ◌-◌, ◌<◌, List, length, get_or, true, false, cond, eqb, Option, Some, refl, sym, ap, ◌∙◌, subst, inl, inr, arith, Contains}
 use Rattle.std.proofs.lemmas.Bool.{cases_Bool, cases_eq, cond-true, cond-false, eqb-true, ne_eqb, false≢true}
-use Rattle.gc_graph.specs.declared.graph.Kind.{Kind}
+use Rattle.gc_graph.specs.declared.kind.Kind.{Kind}
 use Rattle.marker_core.specs.declared.states.Body.{Body}
 use Rattle.marker_core.specs.declared.states.CoreState.{CoreState}
 use Rattle.marker_core.specs.declared.states.Hand.{Hand}

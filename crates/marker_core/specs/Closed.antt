@@ -1,10 +1,10 @@
 -- What bodies lead to, closed sets of places, and what roots reach.
 use Rattle.std.specs.Prelude.{◌≡◌, ℕ, zero, suc, ◌+◌, ◌-◌, ◌==◌, ◌<◌, ◌||◌, not, Bool, true, List, [], ◌∷◌, length, map, filter, Option, Some, None, Contains}
 use Rattle.std.specs.List.{list_all, find, range_with_len}
-use Rattle.gc_graph.specs.declared.graph.Kind.{Kind}
-use Rattle.gc_graph.specs.declared.graph.Kind.TheVariants.{Pair, Plain}
-use Rattle.gc_graph.specs.declared.graph.Value.{Value}
-use Rattle.gc_graph.specs.declared.graph.Value.TheVariants.{Null, Ref, Word}
+use Rattle.gc_graph.specs.declared.kind.Kind.{Kind}
+use Rattle.gc_graph.specs.declared.kind.Kind.TheVariants.{Pair, Plain}
+use Rattle.gc_graph.specs.declared.kind.Value.{Value}
+use Rattle.gc_graph.specs.declared.kind.Value.TheVariants.{Null, Ref, Word}
 use Rattle.gc_graph.specs.Graph.{Object, no_object, has}
 use Rattle.gc_graph.specs.Reach.{Reach}
 use Rattle.marker_core.specs.declared.states.Body.{Body}

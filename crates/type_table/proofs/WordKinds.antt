@@ -4,8 +4,8 @@ use Rattle.std.specs.List.{flat_map}
 use Rattle.std.proofs.lemmas.Bool.{cases_lt}
 use Rattle.std.proofs.lemmas.List.{get_or_past, take_all, get_or-replicate, length-replicate}
 use Rattle.std.proofs.lemmas.List.Concat.{length-flat_map, get_or-flat_map}
-use Rattle.gc_graph.specs.declared.graph.Kind.{Kind}
-use Rattle.gc_graph.specs.declared.graph.Kind.TheVariants.{Plain}
+use Rattle.gc_graph.specs.declared.kind.Kind.{Kind}
+use Rattle.gc_graph.specs.declared.kind.Kind.TheVariants.{Plain}
 use Rattle.gc_graph.specs.Fields.{words_of_kind, field_words}
 use Rattle.type_table.specs.Types.{kind_of, offset_of, IsWordOf}
 use Rattle.type_table.specs.Layouts.{kinds_of_words}

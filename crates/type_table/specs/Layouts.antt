@@ -1,8 +1,8 @@
 -- What a table has worked out of each type.
 use Rattle.std.specs.Prelude.{ℕ, List, [], length, map, replicate}
 use Rattle.std.specs.List.{flat_map, range_with_len}
-use Rattle.gc_graph.specs.declared.graph.Kind.{Kind}
-use Rattle.gc_graph.specs.declared.graph.Kind.TheVariants.{Strong, Pair}
+use Rattle.gc_graph.specs.declared.kind.Kind.{Kind}
+use Rattle.gc_graph.specs.declared.kind.Kind.TheVariants.{Strong, Pair}
 use Rattle.gc_graph.specs.State.{ObjectType}
 use Rattle.gc_graph.specs.Fields.{words_of_kind, field_words}
 use Rattle.type_table.specs.Types.{offset_of, offsets_where, is_kind}

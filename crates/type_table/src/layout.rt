@@ -1,7 +1,7 @@
 // Where the fields of one type stand, worked out once.
 
 ghost use Rattle.std.specs.Prelude.{◌≡◌, ◌<◌, ◌≤◌, length, slice_index, slice_index_or, IfOk};
-ghost use Rattle.gc_graph.specs.declared.graph.Kind.TheVariants.{Plain};
+ghost use Rattle.gc_graph.specs.declared.kind.Kind.TheVariants.{Plain};
 ghost use Rattle.gc_graph.specs.Fields as fields;
 ghost use Rattle.type_table.specs.Types as spec;
 ghost use Rattle.type_table.specs.Layouts as layouts;

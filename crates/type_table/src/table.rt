@@ -2,7 +2,7 @@
 
 ghost use Rattle.std.specs.Prelude.{◌≡◌, ℕ, ◌-◌, ◌^◌, ◌<◌, ◌≤◌, length, slice_index_or, MatchOption};
 ghost use Rattle.std.specs.Prelude.{IfOk, OnOk, IfErr, All};
-ghost use Rattle.gc_graph.specs.declared.graph.Kind.TheVariants.{Strong, Pair, Plain};
+ghost use Rattle.gc_graph.specs.declared.kind.Kind.TheVariants.{Strong, Pair, Plain};
 ghost use Rattle.gc_graph.specs.State.{ObjectType};
 ghost use Rattle.type_table.specs.Types as spec;
 ghost use Rattle.type_table.specs.Layouts as layouts;

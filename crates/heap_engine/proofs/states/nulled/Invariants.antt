@@ -1,4 +1,4 @@
-use Rattle.gc_graph.specs.declared.graph.Value.TheVariants.{Null}
+use Rattle.gc_graph.specs.declared.kind.Value.TheVariants.{Null}
 use Rattle.heap_engine.specs.Changes.{stored_state}
 use Rattle.heap_engine.proofs.states.nulled.Given as goal
 

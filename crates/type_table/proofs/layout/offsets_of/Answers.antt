@@ -1,7 +1,7 @@
 use Rattle.std.proofs.Common.{◌++◌, ◌∷◌, [], map, sym, ap, ◌∙◌, arith}
 use Rattle.std.specs.List.{range_with_len}
 use Rattle.std.proofs.lemmas.List.FromFn.{map-range_with_len_more}
-use Rattle.gc_graph.specs.declared.graph.Kind.TheVariants.{Strong}
+use Rattle.gc_graph.specs.declared.kind.Kind.TheVariants.{Strong}
 use Rattle.type_table.specs.Types.{offset_of}
 use Rattle.type_table.proofs.Offsets.{offset_few, next_offset}
 use Rattle.type_table.proofs.layout.offsets_of.Goals as goal

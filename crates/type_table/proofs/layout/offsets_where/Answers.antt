@@ -1,5 +1,5 @@
 use Rattle.std.proofs.Common.{ℕ, Vec, Global, ◌++◌, ◌∷◌, [], get_or, length, sym, ap, ◌∙◌, arith}
-use Rattle.gc_graph.specs.declared.graph.Kind.TheVariants.{Strong}
+use Rattle.gc_graph.specs.declared.kind.Kind.TheVariants.{Strong}
 use Rattle.type_table.specs.Types.{is_kind}
 use Rattle.type_table.proofs.Offsets.{offsets_below, offset_told, offset_skipped, offset_at, offsets_many}
 use Rattle.type_table.proofs.layout.offsets_where.Goals as goal

@@ -1,6 +1,6 @@
 use Rattle.std.proofs.Common.{◌≡◌, ◌<◌, [], Some, refl, sym, ap, ◌∙◌, subst, arith}
 use Rattle.gc_graph.specs.State.{State}
-use Rattle.gc_graph.specs.declared.graph.Value.TheVariants.{Null}
+use Rattle.gc_graph.specs.declared.kind.Value.TheVariants.{Null}
 use Rattle.gc_graph.specs.declared.line.Line.TheVariants as L
 use Rattle.gc_graph.specs.ObjectSteps.{StepSet}
 use Rattle.page_space.specs.Space.{IsSpaceOf}

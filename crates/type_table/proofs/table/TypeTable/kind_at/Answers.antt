@@ -1,5 +1,5 @@
 use Rattle.std.proofs.Common.{get_or, ◌-◌, ap, ◌∙◌}
-use Rattle.gc_graph.specs.declared.graph.Kind.TheVariants.{Plain}
+use Rattle.gc_graph.specs.declared.kind.Kind.TheVariants.{Plain}
 use Rattle.type_table.specs.Layouts.{LayoutState}
 use Rattle.type_table.specs.Types.{kinds_of}
 use Rattle.type_table.proofs.WordKinds.{kind_at}
