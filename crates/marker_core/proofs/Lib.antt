@@ -34,4 +34,9 @@ mod Looks
 mod MarkerClaims
 mod MarkerMarks
 pub mod Kept
+pub mod Cycles
 pub mod Roles
+pub mod NextOffsets
+pub mod Fitting
+pub mod MapLoop
+pub mod Leads

@@ -11,3 +11,4 @@ pub mod Matching
 pub mod Tracing
 pub mod Core
 pub mod Laws
+pub mod Looking

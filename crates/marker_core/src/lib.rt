@@ -18,13 +18,16 @@
 #![tactic(auto)]
 
 mod bodies;
+mod hands;
 mod laws;
 mod lists;
+mod mutator;
+mod reaching;
 mod reading;
 mod states;
 mod steps;
 
-pub use laws::{every_run_keeps, every_step_keeps, reach_over_is_least, settled_has_ended};
+pub use laws::{ends_marked_out, every_run_keeps, every_step_keeps, new_and_read_may_be_kept, reach_over_is_least, settled_has_ended};
 pub use lists::List;
 pub use states::{Body, CoreState, Hand, MarkerView, MutatorView, Part, Role, Why};
 pub use steps::CoreStep;
