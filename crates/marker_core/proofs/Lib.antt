@@ -40,3 +40,4 @@ pub mod NextOffsets
 pub mod Fitting
 pub mod MapLoop
 pub mod Leads
+pub mod Readable

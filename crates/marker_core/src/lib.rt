@@ -18,10 +18,14 @@
 #![tactic(auto)]
 
 mod bodies;
+mod cycle;
 mod hands;
 mod laws;
 mod lists;
+mod markers;
+mod marking;
 mod mutator;
+mod objects;
 mod reaching;
 mod reading;
 mod states;
