@@ -1,14 +1,14 @@
 -- References fit: what a hand reads, and what is stored, is null or one more than an address.
 use Rattle.std.proofs.Common.{◌≡◌, ℕ, ◌+◌, ◌-◌, ◌<◌, ◌≤◌, ◌^◌, get_or, Bool, true, false, not, ◌&&◌, ◌||◌, eqb, Option, Some, None, sym, ap, ◌∙◌, inl, inr, arith}
 use mathlib.Core.Logic.{◌⊎◌}
-use Rattle.std.proofs.lemmas.Bool.{cases_Bool, cases_eq, both_ways, or_cases, and_parts, cond-true}
+use Rattle.std.proofs.lemmas.Bool.{cases_Bool, cases_eq, both_ways, or_cases, and_parts, cond-true, false≢true}
 use Rattle.marker_core.specs.declared.states.CoreState.{CoreState}
 use Rattle.marker_core.specs.declared.states.Hand.{Hand}
 use Rattle.marker_core.specs.declared.states.Why.TheVariants.{Trace}
 use Rattle.marker_core.specs.Bodies.{is_place, role_in, field_number}
 use Rattle.marker_core.specs.Hands.{wants_word, wants_key, wants}
 use Rattle.marker_core.specs.MutatorSteps.{can_load, can_store, store_fits, keeps_in}
-use Rattle.marker_core.specs.Views.{IsHand, IsNoted}
+use Rattle.marker_core.specs.Views.{IsHand, IsNoted, view_at}
 use Rattle.marker_core.specs.Core.{IsCoreOk}
 use Rattle.std.specs.List.{list_any}
 use Rattle.std.specs.Option.{is_none}
@@ -16,7 +16,11 @@ use Rattle.marker_core.proofs.Apart.{place_below, named}
 use Rattle.marker_core.proofs.Members.{any_member}
 use Rattle.marker_core.proofs.Claims.{is_none_tells}
 use Rattle.marker_core.proofs.Stores.{later_is, names_new, keeps_refers}
+use Rattle.marker_core.specs.MarkerSteps.{can_read_field}
 use Rattle.marker_core.proofs.Turns.{target_is_place}
+use Rattle.marker_core.proofs.Traces.{hand_or_none}
+use Rattle.marker_core.proofs.Looks.{hand_is_out}
+use Rattle.marker_core.proofs.Retold.{is_on, own_hand}
 
 pub place_fits : (s : CoreState) → IsCoreOk s → (w : ℕ) → is_place s.mutator.bodies (w - 1) ≡ true → w ≤ 2 ^ 32
 place_fits s ok w at =
@@ -57,3 +61,12 @@ stored_fits s a w ok can joins =
     in
     let names = names_new s ok a w no_pending no_hand found.0 found.1 found.2 (keeps_refers (role_in s.types found.0 (field_number a found.0)) is.2) in
     (is.1, place_fits s ok w (named s.mutator.bodies w names is.1))
+
+pub field_fits : (s : CoreState) (k a : ℕ) → IsCoreOk s → can_read_field s k a ≡ true → get_or s.words a 0 ≤ 2 ^ 32
+field_fits s k a ok can = elim (hand_or_none (view_at s.markers k).hand) [
+  | inl none ↦ absurd (false≢true (sym (ap (wants (λ h. wants_word h h.part a)) none) ∙ can))
+  | inr some ↦
+      (let out = hand_is_out s ok k some.0 some.1 in
+      hand_reads_fitting s ok (is_on s ok k out) some.0 (own_hand s ok k out some.0 some.1) a
+      (sym (ap (wants (λ h. wants_word h h.part a)) some.1) ∙ can))
+]

@@ -41,3 +41,4 @@ pub mod Fitting
 pub mod MapLoop
 pub mod Leads
 pub mod Readable
+pub mod ViewSets
