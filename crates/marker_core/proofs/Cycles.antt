@@ -1,22 +1,20 @@
 -- What steps of a marking cycle are for: new bodies and weak reads may be kept, and the end leaves nothing grey.
-use Rattle.std.proofs.Common.{◌≡◌, ℕ, ◌+◌, ◌-◌, ◌<◌, List, [], ◌∷◌, ◌++◌, length, filter, Bool, true, false, not, cond, ◌&&◌, ◌||◌, eqb, ltb, Option, Some, None, refl, sym, ap, ◌∙◌, subst, inl, inr, arith, Contains}
-use mathlib.Core.Logic.{◌⊎◌}
+use Rattle.std.proofs.Common.{◌≡◌, ℕ, ◌+◌, ◌-◌, ◌<◌, [], ◌∷◌, ◌++◌, length, filter, Bool, true, false, not, ◌&&◌, ◌||◌, eqb, ltb, refl, sym, ap, ◌∙◌, subst, inl, inr, arith, Contains}
 use Rattle.std.specs.List.{list_all, range_with_len}
 use Rattle.std.specs.Option.{is_none}
-use Rattle.std.proofs.lemmas.Bool.{cases_Bool, cond-true, cond-false, and_parts, or_cases, not-true, not_from_false, not_from_true, both_ways, true≢false, eqb-true}
+use Rattle.std.proofs.lemmas.Bool.{cases_Bool, cond-true, cond-false, and_parts, or_cases, not-true, not_from_false, both_ways, eqb-true}
 use Rattle.std.proofs.lemmas.Option.{cond_some}
 use Rattle.gc_graph.specs.Reach.{ReachIsLeast}
 use Rattle.marker_core.specs.declared.states.Body.{Body}
 use Rattle.marker_core.specs.declared.states.CoreState.{CoreState}
-use Rattle.marker_core.specs.declared.states.Role.{Role}
-use Rattle.marker_core.specs.declared.states.Role.TheVariants.{StrongWord, KeyWord}
+use Rattle.marker_core.specs.declared.states.Role.TheVariants.{KeyWord}
 use Rattle.marker_core.specs.declared.states.Why.TheVariants.{Weak}
-use Rattle.marker_core.specs.declared.steps.CoreStep.TheVariants.{Load, Publish, Stop}
+use Rattle.marker_core.specs.declared.steps.CoreStep.TheVariants.{Stop}
 use Rattle.marker_core.specs.Layout.{is_marked, is_traced}
 use Rattle.marker_core.specs.Bodies.{kinds_of, refers, word_in, role_in, places, is_place, holds}
 use Rattle.marker_core.specs.Closed.{IsClosedOver, word_closes, body_closes, closes_over, reach_over}
 use Rattle.marker_core.specs.CycleSteps.{ends, can_end, ended, stopped}
-use Rattle.marker_core.specs.MutatorSteps.{can_load, loaded, can_publish, published, may_after_read}
+use Rattle.marker_core.specs.MutatorSteps.{can_load, loaded, can_publish, published}
 use Rattle.marker_core.specs.Views.{marks_at, traces_at}
 use Rattle.marker_core.specs.Step.{is_allowed, changed, core_step}
 use Rattle.marker_core.specs.Core.{IsCoreOk}

@@ -1,5 +1,5 @@
 -- What a body leads to, looked at word by word.
-use Rattle.std.proofs.Common.{◌≡◌, ℕ, zero, suc, ◌+◌, ◌-◌, ◌<◌, List, [], ◌∷◌, length, map, filter, get_or, Bool, true, false, ◌&&◌, ◌||◌, not, eqb, refl, sym, ap, ◌∙◌, subst, inl, inr, arith, Contains}
+use Rattle.std.proofs.Common.{◌≡◌, ℕ, zero, suc, ◌+◌, ◌-◌, ◌<◌, List, length, map, filter, Bool, true, ◌&&◌, ◌||◌, not, eqb, refl, sym, ap, ◌∙◌, inl, inr, arith}
 use mathlib.Core.Logic.{◌⊎◌}
 use mathlib.Core.Path.{fun_ext}
 use Rattle.std.specs.List.{list_any, find, range_with_len}
@@ -7,7 +7,7 @@ use Rattle.std.proofs.lemmas.Bool.{cases_Bool, cases_eq, cases_lt, and_parts, an
 use Rattle.std.proofs.lemmas.List.{get_or_past}
 use Rattle.std.proofs.lemmas.List.FromFn.{length-map-range_with_len}
 use Rattle.gc_graph.specs.declared.graph.Kind.{Kind}
-use Rattle.gc_graph.specs.Graph.{Object, has, object_at, leads_by, leads_to}
+use Rattle.gc_graph.specs.Graph.{has, object_at, leads_by, leads_to}
 use Rattle.gc_graph.specs.Reach.{any_below, closing, closed_times, set_of, Reach}
 use Rattle.marker_core.specs.declared.states.Body.{Body}
 use Rattle.marker_core.specs.declared.states.Role.{Role}

@@ -41,4 +41,5 @@ pub mod Fitting
 pub mod MapLoop
 pub mod Leads
 pub mod Readable
+pub mod Runs
 pub mod ViewSets

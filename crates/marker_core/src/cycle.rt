@@ -112,7 +112,10 @@ fn none_is_grey(words: &[u64], bodies: &[Body]) -> bool
     ensures { result ≡ list_all (λ a. not (is_marked words.now a) || is_traced words.now a)
         (places bodies.now) }
 {
-    bodies.iter().map(|b| b.place).all(|a| is_not_grey(words, a))
+    bodies
+        .iter()
+        .map(|b| b.place)
+        .all(|a| is_not_grey(words, a))
 }
 
 fn marked_at(words: &[u64], a: u64) -> bool

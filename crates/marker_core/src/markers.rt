@@ -68,11 +68,14 @@ pub fn can_split(s: &CoreState) -> bool
 }
 
 pub fn lend(alloc: Global, s: &mut CoreState) -> Result<(), NoMemory>
-    requires { s.old.mutator.lent + 1 < 2 ^ 64 }
     ensures { OnOk result (s.new ≡ split s.old) }
 {
+    // As many views as can't be counted have no room either.
+    let Some(lent) = s.mutator.lent.checked_add(1) else {
+        return Err(NoMemory);
+    };
     s.markers.push(new_view(alloc, false))?;
-    s.mutator.lent += 1;
+    s.mutator.lent = lent;
     Ok(())
 }
 
@@ -149,12 +152,7 @@ fn looks_at_key(hand: Option<Hand>, a: u32) -> bool
     }
 }
 
-fn hand_after_look(
-    types: &[List<Kind>],
-    key: bool,
-    header: u64,
-    hand: Option<Hand>,
-) -> Option<Hand>
+fn hand_after_look(types: &[List<Kind>], key: bool, header: u64, hand: Option<Hand>) -> Option<Hand>
     requires { AreTypes types.now }
     ensures { result ≡ (if key then each_hand (hand_looked types.now header) hand else hand) }
 {
@@ -372,7 +370,10 @@ pub fn can_poll(s: &CoreState, marker: u32) -> bool
 pub fn poll(alloc: Global, s: &mut CoreState, marker: u32)
     ensures { s.new ≡ polled s.old marker }
 {
-    let stop = word_at(s.words.as_slice(), u64::from(s.count) + u64::from(s.count / 64));
+    let stop = word_at(
+        s.words.as_slice(),
+        u64::from(s.count) + u64::from(s.count / 64),
+    );
     let mut v = take_view(alloc, &mut s.markers, marker);
     v.halted = v.halted || stop == 1;
     s.markers.set(marker as usize, v);

@@ -58,9 +58,7 @@ pub fn mark(s: &mut CoreState, a: u32) -> Result<(), NoMemory>
 pub fn can_claim(s: &CoreState, a: u32) -> bool
     ensures { result ≡ can_claim s.now a }
 {
-    s.mutator.on
-        && s.mutator.hand.is_none()
-        && is_place(s.mutator.bodies.as_slice(), u64::from(a))
+    s.mutator.on && s.mutator.hand.is_none() && is_place(s.mutator.bodies.as_slice(), u64::from(a))
 }
 
 /// The header is marked and not yet traced.
@@ -110,7 +108,8 @@ pub fn unmark(s: &mut CoreState, a: u32)
     ensures { s.new ≡ unmarked s.old a }
 {
     let header = word_at(s.words.as_slice(), u64::from(a));
-    s.words.set(a as usize, with_traced(with_mark(header, false), false));
+    s.words
+        .set(a as usize, with_traced(with_mark(header, false), false));
     remove(&mut s.mutator.marked, a);
     remove(&mut s.mutator.traced, a);
 }

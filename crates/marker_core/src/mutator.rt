@@ -12,8 +12,8 @@ use crate::bodies::{
 };
 use crate::hands::{hand_looked, hand_read, wants_key, wants_word};
 use crate::lists::List;
-use crate::reading::{has_mark, is_traced, word_at};
 use crate::reaching::reach_over;
+use crate::reading::{has_mark, is_traced, word_at};
 use crate::states::{Body, CoreState, Role, Why};
 use gc_graph::{Kind, NoMemory};
 use std::alloc::Global;
@@ -159,9 +159,7 @@ fn store_fits(s: &CoreState, a: u32, w: u64, b: &Body) -> bool
 pub fn can_store(s: &CoreState, a: u32, w: u64) -> bool
     ensures { result ≡ can_store s.now a w }
 {
-    s.mutator.pending.is_none()
-        && s.mutator.hand.is_none()
-        && some_body_fits(s, a, w)
+    s.mutator.pending.is_none() && s.mutator.hand.is_none() && some_body_fits(s, a, w)
 }
 
 fn some_body_fits(s: &CoreState, a: u32, w: u64) -> bool
@@ -205,4 +203,3 @@ pub fn store(s: &mut CoreState, a: u32, w: u64)
     s.words.set(a as usize, w);
     write_field(&mut s.mutator.bodies, a, w);
 }
-

@@ -84,7 +84,11 @@ fn word_is_filled(s: &CoreState, b: &Body, i: u32) -> bool
         && (f.1 == slice_index s.now.words (b.now.place + i))) s.now.mutator.filled }
 {
     let a = u64::from(b.place) + u64::from(i);
-    is_filled(s.mutator.filled.as_slice(), a, word_at(s.words.as_slice(), a))
+    is_filled(
+        s.mutator.filled.as_slice(),
+        a,
+        word_at(s.words.as_slice(), a),
+    )
 }
 
 fn are_filled(s: &CoreState, b: &Body) -> bool
@@ -121,7 +125,11 @@ fn read_object(alloc: Global, s: &CoreState, a: u32) -> Result<Option<Body>, NoM
     let header = word_at(words, u64::from(a));
     let serial = word_at(words, u64::from(a) + 1);
     let size = header / 131072;
-    if size < 2 || size >= 1 << 26 || serial >= 1 << 32 || u64::from(a) + size > u64::from(s.count) {
+    if size < 2
+        || size >= 1 << 26
+        || serial >= 1 << 32
+        || u64::from(a) + size > u64::from(s.count)
+    {
         return Ok(None);
     }
     let from = a as usize + 2;

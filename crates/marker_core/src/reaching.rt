@@ -36,7 +36,13 @@ fn word_of_body_leads(types: &[List<Kind>], set: &[bool], b: &Body, i: u64, n: u
     ensures { result ≡ word_leads (has set.now) (role_in types.now b.now i) (word_in b.now i)
         (word_in b.now (i + 1)) n }
 {
-    word_leads(set, role_in(types, b, i), word_in(b, i), word_after(b, i), n)
+    word_leads(
+        set,
+        role_in(types, b, i),
+        word_in(b, i),
+        word_after(b, i),
+        n,
+    )
 }
 
 fn some_word_leads(types: &[List<Kind>], set: &[bool], b: &Body, n: u32) -> bool

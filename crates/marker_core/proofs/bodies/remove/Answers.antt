@@ -1,4 +1,4 @@
-use Rattle.std.proofs.Common.{rules, tests, ◌≡◌, ◌∙◌, not, eqb, filter, ap}
+use Rattle.std.proofs.Common.{rules, ◌∙◌, not, eqb, filter, ap}
 use Rattle.std.proofs.lemmas.Fn.{filter_same}
 use Rattle.marker_core.proofs.bodies.remove.Goals as goal
 

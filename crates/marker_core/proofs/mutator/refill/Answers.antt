@@ -1,4 +1,4 @@
-use Rattle.std.proofs.Common.{rules, tests, ℕ, ◌≡◌, ◌∙◌, ◌∷◌, not, eqb, filter, ap}
+use Rattle.std.proofs.Common.{rules, ℕ, ◌∙◌, ◌∷◌, not, eqb, filter, ap}
 use Rattle.std.proofs.lemmas.Fn.{filter_same}
 use Rattle.marker_core.proofs.mutator.refill.Goals as goal
 

@@ -1,4 +1,4 @@
-use Rattle.std.proofs.Common.{rules, ℕ, ◌≡◌, ◌∙◌, not, filter, ap}
+use Rattle.std.proofs.Common.{rules, ℕ, ◌∙◌, not, filter, ap}
 use Rattle.std.proofs.lemmas.Fn.{filter_same}
 use Rattle.marker_core.specs.Bodies.{has_word}
 use Rattle.marker_core.proofs.objects.remove_words.Goals as goal

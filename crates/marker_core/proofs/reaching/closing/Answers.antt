@@ -1,4 +1,4 @@
-use Rattle.std.proofs.Common.{◌≡◌, ◌∙◌, ap, map, ℕ, arith}
+use Rattle.std.proofs.Common.{◌≡◌, ◌∙◌, ap, map, arith}
 use Rattle.std.specs.List.{range_with_len}
 use Rattle.marker_core.specs.Looking.{is_pulled}
 use Rattle.marker_core.proofs.Leads.{closing_is}
