@@ -11,7 +11,7 @@ use Rattle.marker_core.specs.Matching.{HasRoom, AreWhole, LieApart, HeadersMatch
 use Rattle.marker_core.proofs.Apart.{two_words, same_offset, outside_body}
 
 pub room_kept : (count : ℕ) (words : List ℕ) (a w : ℕ) → HasRoom count words → HasRoom count (set words a w)
-room_kept count words a w room = record { bits = room.bits; length_is = length-set words a w ∙ room.length_is }
+room_kept count words a w room = record { small = room.small; bits = room.bits; length_is = length-set words a w ∙ room.length_is }
 
 pub within_words : (count : ℕ) (words : List ℕ) (a : ℕ) → HasRoom count words → a < count → a < length words
 within_words count words a room below = omega (arith, room.length_is)

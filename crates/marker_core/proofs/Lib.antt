@@ -34,4 +34,12 @@ mod Looks
 mod MarkerClaims
 mod MarkerMarks
 pub mod Kept
+pub mod Cycles
 pub mod Roles
+pub mod NextOffsets
+pub mod Fitting
+pub mod MapLoop
+pub mod Leads
+pub mod Readable
+pub mod Runs
+pub mod ViewSets

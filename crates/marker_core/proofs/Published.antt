@@ -79,6 +79,17 @@ module _ (s : CoreState) (ok : IsCoreOk s) (a : ℕ) (can : can_publish s a ≡ 
   pub a_below : a < s.count
   a_below = omega (arith, inside, two)
 
+  pub object_is_inside : end_of new ≤ s.count
+  object_is_inside = inside
+
+  pub object_is_small : new.size < 2 ^ 26
+  object_is_small = tells.size
+
+  pub serial_is_small : new.serial < 2 ^ 32
+  serial_is_small =
+      ltb-true new.serial (2 ^ 32)
+      (and_parts (ltb new.serial (2 ^ 32)) (not (list_any (λ (c : Body). eqb c.serial new.serial) bodies)) new_serial).0
+
   fields_long : length new.fields + 2 ≡ new.size
   fields_long =
       let long : length new.fields ≡ min (a + new.size - (a + 2)) (length s.words - (a + 2)) =

@@ -32,6 +32,33 @@ found_or_none p (c ∷ bodies) = elim (cases_Bool (p c)) [
   ]
 ]
 
+module _ (types : List (List Kind)) where
+  -- ---- where a node leads to
+
+  abbrev pub StrongTo : Body → ℕ → Type 0
+  StrongTo b n = (i : ℕ) × (role_in types b i ≡ StrongWord) × (0 < word_in b i) × (word_in b i - 1 ≡ n)
+
+  abbrev pub ValueTo : (ℕ → Bool) → Body → ℕ → Type 0
+  ValueTo test b n =
+      (i : ℕ) × (role_in types b i ≡ KeyWord) × (0 < word_in b i) × (test (word_in b i - 1) ≡ true) × (0 < word_in b (i + 1))
+      × (word_in b (i + 1) - 1 ≡ n)
+
+  pub edges : (test : ℕ → Bool) (b : Body) (n : ℕ) → leads_by test (object_of types b) n ≡ true → StrongTo b n ⊎ ValueTo test b n
+  edges test b n h = elim (or_cases _ _ h) [
+    | inl strong ↦ inl (strong_edge (kinds_of types b.ty) b.fields n strong)
+    | inr pair ↦ (let e = pair_edge test (kinds_of types b.ty) b.fields n pair in
+        let next : word_in b (e.0 + 1) ≡ get_or b.fields (suc e.0) 0 = ap (word_in b) (add-one e.0) in
+        inr (e.0, e.1, e.2, e.3, omega (arith, e.4), omega (arith, e.5)))
+  ]
+
+  pub from_strong : (test : ℕ → Bool) (b : Body) (n : ℕ) → StrongTo b n → leads_by test (object_of types b) n ≡ true
+  from_strong test b n e = or_left _ _ (edge_strong (kinds_of types b.ty) b.fields e.0 n e.1 e.2 e.3)
+
+  pub from_pair : (test : ℕ → Bool) (b : Body) (n : ℕ) → ValueTo test b n → leads_by test (object_of types b) n ≡ true
+  from_pair test b n e =
+      let next : word_in b (e.0 + 1) ≡ get_or b.fields (suc e.0) 0 = ap (word_in b) (add-one e.0) in
+      or_right _ _ (edge_pair test (kinds_of types b.ty) b.fields e.0 n e.1 e.2 e.3 (omega (arith, e.4)) (omega (arith, e.5)))
+
 module _ (count : ℕ) (types : List (List Kind)) (bodies : List Body) (whole : AreWhole count types bodies) (apart : LieApart bodies) where
   abbrev at_address : ℕ → Option Body
   at_address a = find (λ (b : Body). eqb b.place a) bodies
@@ -40,7 +67,7 @@ module _ (count : ℕ) (types : List (List Kind)) (bodies : List Body) (whole : 
   node_at m below = get_or-map-range_with_len (λ a. node_of types (at_address a)) 0 count m m no_object below (omega arith)
 
   -- a node is a body's, or leads nowhere
-  node_cases : (m : ℕ)
+  pub node_cases : (m : ℕ)
       → ((b : Body) × Contains bodies b × (b.place ≡ m) × (object_at (graph_of count types bodies) m ≡ object_of types b))
       ⊎ (object_at (graph_of count types bodies) m ≡ no_object)
   node_cases m = elim (cases_lt m count) [
@@ -52,7 +79,7 @@ module _ (count : ℕ) (types : List (List Kind)) (bodies : List Body) (whole : 
         inr (get_or_past (graph_of count types bodies) m no_object (omega arith)))
   ]
 
-  body_node : (b : Body) → Contains bodies b → object_at (graph_of count types bodies) b.place ≡ object_of types b
+  pub body_node : (b : Body) → Contains bodies b → object_at (graph_of count types bodies) b.place ≡ object_of types b
   body_node b h =
       let below = place_below count types bodies b.place whole (place_of_body bodies b b.place h refl) in
       elim (found_or_none (λ (c : Body). eqb c.place b.place) bodies) [
@@ -62,36 +89,10 @@ module _ (count : ℕ) (types : List (List Kind)) (bodies : List Body) (whole : 
         | inr none ↦ absurd (both_ways (is_place bodies b.place) none.1 (place_of_body bodies b b.place h refl))
       ]
 
-  -- ---- where a node leads to
-
-  abbrev StrongTo : Body → ℕ → Type 0
-  StrongTo b n = (i : ℕ) × (role_in types b i ≡ StrongWord) × (0 < word_in b i) × (word_in b i - 1 ≡ n)
-
-  abbrev ValueTo : (ℕ → Bool) → Body → ℕ → Type 0
-  ValueTo test b n =
-      (i : ℕ) × (role_in types b i ≡ KeyWord) × (0 < word_in b i) × (test (word_in b i - 1) ≡ true) × (0 < word_in b (i + 1))
-      × (word_in b (i + 1) - 1 ≡ n)
-
-  edges : (test : ℕ → Bool) (b : Body) (n : ℕ) → leads_by test (object_of types b) n ≡ true → StrongTo b n ⊎ ValueTo test b n
-  edges test b n h = elim (or_cases _ _ h) [
-    | inl strong ↦ inl (strong_edge (kinds_of types b.ty) b.fields n strong)
-    | inr pair ↦ (let e = pair_edge test (kinds_of types b.ty) b.fields n pair in
-        let next : word_in b (e.0 + 1) ≡ get_or b.fields (suc e.0) 0 = ap (word_in b) (add-one e.0) in
-        inr (e.0, e.1, e.2, e.3, omega (arith, e.4), omega (arith, e.5)))
-  ]
-
-  from_strong : (test : ℕ → Bool) (b : Body) (n : ℕ) → StrongTo b n → leads_by test (object_of types b) n ≡ true
-  from_strong test b n e = or_left _ _ (edge_strong (kinds_of types b.ty) b.fields e.0 n e.1 e.2 e.3)
-
-  from_pair : (test : ℕ → Bool) (b : Body) (n : ℕ) → ValueTo test b n → leads_by test (object_of types b) n ≡ true
-  from_pair test b n e =
-      let next : word_in b (e.0 + 1) ≡ get_or b.fields (suc e.0) 0 = ap (word_in b) (add-one e.0) in
-      or_right _ _ (edge_pair test (kinds_of types b.ty) b.fields e.0 n e.1 e.2 e.3 (omega (arith, e.4)) (omega (arith, e.5)))
-
   module _ (names : AllNameBodies types bodies) where
     -- an edge leads to a place of a body
     edge_names : (test : ℕ → Bool) (b : Body) (n : ℕ) → Contains bodies b → leads_by test (object_of types b) n ≡ true → is_place bodies n ≡ true
-    edge_names test b n h leads = elim (edges test b n leads) [
+    edge_names test b n h leads = elim (edges types test b n leads) [
       | inl e ↦
           subst (λ x. is_place bodies x ≡ true) e.3
           (named bodies (word_in b e.0) (names b e.0 h (ap refers e.1)) e.2)
@@ -131,14 +132,14 @@ module _ (count : ℕ) (types : List (List Kind)) (bodies : List Body) (whole : 
         → IsClosedOver types bodies (holds (filter (has flags) (places bodies)))
     flags_close flags closed = record {
       strong = λ b i h member role some.
-          let to : leads_to flags (object_of types b) (word_in b i - 1) ≡ true = from_strong (has flags) b (word_in b i - 1) (i, role, some, refl) in
+          let to : leads_to flags (object_of types b) (word_in b i - 1) ≡ true = from_strong types (has flags) b (word_in b i - 1) (i, role, some, refl) in
           set_in flags (word_in b i - 1)
           (closed b.place (word_in b i - 1) (in_set flags b.place member).0
           (subst (λ o. leads_to flags o (word_in b i - 1) ≡ true) (sym (body_node b h)) to))
           (edge_names (has flags) b (word_in b i - 1) h to);
       pairs = λ b i h member role key key_in value.
           let to : leads_to flags (object_of types b) (word_in b (i + 1) - 1) ≡ true =
-          from_pair (has flags) b (word_in b (i + 1) - 1) (i, role, key, (in_set flags (word_in b i - 1) key_in).0, value, refl)
+          from_pair types (has flags) b (word_in b (i + 1) - 1) (i, role, key, (in_set flags (word_in b i - 1) key_in).0, value, refl)
           in
           set_in flags (word_in b (i + 1) - 1)
           (closed b.place (word_in b (i + 1) - 1) (in_set flags b.place member).0
@@ -167,7 +168,7 @@ module _ (count : ℕ) (types : List (List Kind)) (bodies : List Body) (whole : 
           (let below : n < count = edge_below (has (flags_of test)) m n leads in
           let passes : test b.0.place ≡ true = ap test b.2 ∙ sym (flag_is test m (flag_below test m flag)) ∙ flag in
           let to : leads_to (flags_of test) (object_of types b.0) n ≡ true = subst (λ o. leads_to (flags_of test) o n ≡ true) b.3 leads in
-          let goal : test n ≡ true = elim (edges (has (flags_of test)) b.0 n to) [
+          let goal : test n ≡ true = elim (edges types (has (flags_of test)) b.0 n to) [
             | inl e ↦ subst (λ x. test x ≡ true) e.3 (closed.strong b.0 e.0 b.1 passes e.1 e.2)
             | inr e ↦
                 (let key : test (word_in b.0 e.0 - 1) ≡ true =

@@ -31,7 +31,7 @@ unless : (x y : Bool) → (not x || y) ≡ true → x ≡ true → y ≡ true
 unless true y h on = h
 unless false y h on = absurd (false≢true on)
 
-keeps_refers : (role : Role) → keeps role ≡ true → refers role ≡ true
+pub keeps_refers : (role : Role) → keeps role ≡ true → refers role ≡ true
 keeps_refers StrongWord h = refl
 keeps_refers ValueWord h = refl
 keeps_refers WeakWord h = absurd (false≢true h)
@@ -80,7 +80,7 @@ module _ (s : CoreState) (ok : IsCoreOk s) (a w : ℕ) (no_pending : s.mutator.p
   has : first ≡ true
   has = (and_parts first second (and_parts (first && second) third (and_parts (first && second && third) fourth fits).0).0).0
 
-  names_new : refers role ≡ true → names_body bodies w ≡ true
+  pub names_new : refers role ≡ true → names_body bodies w ≡ true
   names_new =
       unless (refers role) (names_body bodies w)
       (and_parts first second (and_parts (first && second) third (and_parts (first && second && third) fourth fits).0).0).1
@@ -167,7 +167,7 @@ module _ (s : CoreState) (ok : IsCoreOk s) (a w : ℕ) (no_pending : s.mutator.p
       (and_from s.mutator.on (not (eqb w 0)) on (not_from_false (eqb w 0) (ne_eqb w 0 some)))
       (any_from (keeps_in s.types a) bodies o there (and_from (has_field a o) (keeps role) has kept)))
 
-  later_is : (t : ℕ) → later ≡ Some t → (w - 1 ≡ t) × (0 < w) × (keeps role ≡ true)
+  pub later_is : (t : ℕ) → later ≡ Some t → (w - 1 ≡ t) × (0 < w) × (keeps role ≡ true)
   later_is t e = elim (cases_Bool joins) [
     | inr no_join ↦
         (let none : None ≡ Some t = sym no_pending ∙ sym (cond-false joins (Some (w - 1)) s.mutator.pending no_join) ∙ e in cc)

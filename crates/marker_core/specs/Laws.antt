@@ -1,9 +1,11 @@
 -- The laws of the machine.
-use Rattle.std.specs.Prelude.{◌≡◌, ◌⊎◌, ℕ, ◌<◌, ◌+◌, ◌-◌, nat_lt, Bool, true, List, Some, None, Contains}
+use Rattle.std.specs.Prelude.{◌≡◌, ◌⊎◌, ℕ, ◌<◌, ◌+◌, ◌-◌, nat_lt, Bool, true, false, List, Some, None, Contains}
 use Rattle.gc_graph.specs.declared.kind.Kind.{Kind}
 use Rattle.marker_core.specs.declared.states.Body.{Body}
 use Rattle.marker_core.specs.declared.states.CoreState.{CoreState}
 use Rattle.marker_core.specs.declared.steps.CoreStep.{CoreStep}
+use Rattle.marker_core.specs.declared.states.Why.TheVariants.{Weak}
+use Rattle.marker_core.specs.declared.steps.CoreStep.TheVariants.{Load, Publish, Stop}
 use Rattle.marker_core.specs.declared.states.Hand.{Hand}
 use Rattle.marker_core.specs.Bodies.{refers, word_in, role_in, is_place, names_body, holds}
 use Rattle.marker_core.specs.Closed.{IsClosedOver, reach_over}
@@ -67,3 +69,22 @@ pub record HasEnded (s : CoreState) : Type 0 where
 
 abbrev pub SettledHasEnded : Type 0
 SettledHasEnded = (s : CoreState) → IsCoreOk s → IsSettled s → HasEnded s
+
+-- ---- what steps of a marking cycle are for
+
+-- while marking goes on, a new body may be kept, and so may what a weak read gave
+abbrev pub NewAndReadMayBeKept : Type 0
+NewAndReadMayBeKept =
+    (s t : CoreState) (a : ℕ) → IsCoreOk s → s.mutator.on ≡ true
+    → (core_step s (Publish a) ≡ Some t) ⊎ (core_step s (Load a Weak) ≡ Some t) → holds t.mutator.may a ≡ true
+
+-- where marking ended the marked set is closed, every marked body is traced, and what isn't marked is dead
+pub record IsMarkedOut (s : CoreState) : Type 0 where
+  pub closed : IsClosedOver s.types s.mutator.bodies (is_marked_in s)
+  pub traced : (a : ℕ) → 0 < marks_at s.mutator s.markers a → 0 < traces_at s.mutator s.markers a
+  pub dead : (a : ℕ) → is_place s.mutator.bodies a ≡ true → marks_at s.mutator s.markers a ≡ 0 → holds s.mutator.dead a ≡ true
+
+abbrev pub EndsMarkedOut : Type 0
+EndsMarkedOut =
+    (s t : CoreState) (roots : List ℕ) → IsCoreOk s → s.mutator.on ≡ true → core_step s (Stop true roots) ≡ Some t → t.mutator.on ≡ false
+    → IsMarkedOut t

@@ -11,3 +11,5 @@ pub mod Matching
 pub mod Tracing
 pub mod Core
 pub mod Laws
+pub mod Faults
+pub mod Looking

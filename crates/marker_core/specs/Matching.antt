@@ -14,8 +14,9 @@ pub record AreTypes (types : List (List Kind)) : Type 0 where
   pub few : length types < 16384
   pub short : All (λ kinds. length kinds ≤ 64) types
 
--- the heap has a whole number of words of start bits, and these and the stop word come after it
+-- addresses have 32 bits; the heap has a whole number of words of start bits, and these and the stop word come after it
 pub record HasRoom (count : ℕ) (words : List ℕ) : Type 0 where
+  pub small : count < 2 ^ 32
   pub bits : count ≡ 64 * (count / 64)
   pub length_is : length words ≡ stop_at count + 1
 

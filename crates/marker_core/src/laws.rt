@@ -1,6 +1,7 @@
 // The laws of the machine. Whoever calls one of these has its law; none of them does anything.
 
 ghost use Rattle.marker_core.specs.Laws.{ReachOverIsLeast, SettledHasEnded, StepsKeep, RunsKeep};
+ghost use Rattle.marker_core.specs.Laws.{NewAndReadMayBeKept, EndsMarkedOut};
 
 use gc_graph::reach_is_least;
 
@@ -33,3 +34,15 @@ pub fn every_run_keeps()
 {
     reach_is_least();
 }
+
+/// While marking goes on, a new body may be kept, and so may what a weak read gave.
+pub fn new_and_read_may_be_kept()
+    ensures { NewAndReadMayBeKept }
+{
+    reach_is_least();
+}
+
+/// Where marking ended, the marked set is closed, each marked body is traced, and each other is dead.
+pub fn ends_marked_out()
+    ensures { EndsMarkedOut }
+{}

@@ -6,25 +6,39 @@
 //! knows who runs when, or of mark lists.
 //!
 //! The parts: `CoreState` with `Body`, `MutatorView`, `MarkerView` and `Hand`; `CoreStep`, the
-//! sixteen kinds of step; `List`, which contracts see as a list. The definitions stand in `specs/`,
-//! to be read in the order of `specs/Lib.antt`; `core_step` is the state after a step, and
-//! `IsCoreOk` what is true of every state.
+//! sixteen kinds of step; `after`, the state after a list of steps; `List`, which contracts see as a
+//! list; the laws. The definitions stand in `specs/`, to be read in the order of `specs/Lib.antt`:
+//! `core_step` is the state after a step, and `IsCoreOk` what is true of every state.
 //!
-//! What is proved: each of the sixteen kinds of step keeps what is true of every state, and so does
-//! each list of steps; what roots reach over bodies is the least closed set of places that holds
-//! them; where marking has come to its end, the marked set is closed.
+//! What is proved: each kind of step keeps what is true of every state, and so does each list of
+//! steps; `after` answers the state after all steps, or the first step that isn't allowed; what roots
+//! reach over bodies is the least closed set of places that holds them; new bodies and weak reads
+//! may be kept; where marking has come to its end, and where it ended, the marked set is closed.
 //!
-//! What is only tested or not said: the definitions are what a reader has to believe.
+//! What is only tested or not said: the definitions are what a reader has to believe. `after` is as
+//! fast as tests need it, and answers want of memory at will.
 #![tactic(auto)]
 
 mod bodies;
+mod cycle;
+mod hands;
 mod laws;
 mod lists;
+mod markers;
+mod marking;
+mod mutator;
+mod objects;
+mod reaching;
 mod reading;
+mod running;
 mod states;
 mod steps;
 
-pub use laws::{every_run_keeps, every_step_keeps, reach_over_is_least, settled_has_ended};
+pub use laws::{
+    ends_marked_out, every_run_keeps, every_step_keeps, new_and_read_may_be_kept,
+    reach_over_is_least, settled_has_ended,
+};
 pub use lists::List;
+pub use running::{CoreFault, after};
 pub use states::{Body, CoreState, Hand, MarkerView, MutatorView, Part, Role, Why};
 pub use steps::CoreStep;

@@ -1,6 +1,6 @@
 // A list, as states and views hold it.
 
-ghost use Rattle.std.specs.Prelude.{◌≡◌, ◌<◌, [], ◌∷◌, ◌++◌, length, IfOk, OnOk, slice_set};
+ghost use Rattle.std.specs.Prelude.{◌≡◌, ◌<◌, [], ◌∷◌, ◌++◌, length, OnOk, if◌then◌else◌, slice_set};
 
 use gc_graph::NoMemory;
 use std::alloc::Global;
@@ -9,7 +9,7 @@ use std::marker::Model;
 /// A list of values. Contracts see it as a list, inside other values too.
 #[derive(Drop)]
 pub struct List<T> {
-    items: Vec<T>,
+    pub(crate) items: Vec<T>,
 }
 
 impl<T> Model for List<T> {
@@ -45,6 +45,32 @@ impl<T: Drop> List<T> {
     {
         self.items.push(item)?;
         Ok(())
+    }
+
+    /// Adds an item at the end, where it is told to.
+    pub(crate) fn push_if(&mut self, joins: bool, item: T) -> Result<(), NoMemory>
+        ensures { OnOk result (self.new ≡ (if joins then self.old ++ item ∷ [] else self.old)) }
+    {
+        if joins {
+            self.items.push(item)?;
+        }
+        Ok(())
+    }
+
+    /// Writes an item over the one at a position; past the end nothing changes.
+    pub(crate) fn set(&mut self, at: usize, item: T)
+        ensures { self.new ≡ slice_set self.old at item }
+    {
+        if at < self.items.len() {
+            self.items[at] = item;
+        }
+    }
+
+    /// Takes all items out.
+    pub(crate) fn clear(&mut self)
+        ensures { self.new ≡ [] }
+    {
+        self.items.clear();
     }
 }
 

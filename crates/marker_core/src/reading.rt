@@ -1,8 +1,10 @@
 // Words, and what a header word tells.
 
-ghost use Rattle.std.specs.Prelude.{◌≡◌, ◌<◌, slice_index, slice_set, length};
+ghost use Rattle.std.specs.Prelude.{◌≡◌, slice_index};
 ghost use Rattle.marker_core.specs.Layout.{bit_is_set, has_mark, has_traced, is_marked, is_traced};
-ghost use Rattle.marker_core.specs.Layout.{is_start, with_start, without_start, bitmap_at};
+ghost use Rattle.marker_core.specs.Layout.{is_start, with_start, without_start};
+
+use crate::lists::List;
 
 /// The word at an address; 0 past the end.
 pub fn word_at(words: &[u64], a: u64) -> u64
@@ -42,28 +44,18 @@ pub fn is_start(count: u32, words: &[u64], a: u32) -> bool
     (word >> (a % 64)) % 2 == 1
 }
 
-/// The words with another word at an address.
-pub fn write(words: &mut [u64], a: u64, w: u64)
-    ensures { words.new ≡ slice_set words.old a w }
-{
-    let at = a as usize;
-    if at < words.len() {
-        words[at] = w;
-    }
-}
-
-pub fn set_start(count: u32, words: &mut [u64], a: u32)
+pub fn set_start(count: u32, words: &mut List<u64>, a: u32)
     ensures { words.new ≡ with_start count words.old a }
 {
     let at = u64::from(count) + u64::from(a / 64);
-    let word = word_at(words, at);
-    write(words, at, word | 1u64 << (a % 64));
+    let word = word_at(words.as_slice(), at);
+    words.set(at as usize, word | 1u64 << (a % 64));
 }
 
-pub fn clear_start(count: u32, words: &mut [u64], a: u32)
+pub fn clear_start(count: u32, words: &mut List<u64>, a: u32)
     ensures { words.new ≡ without_start count words.old a }
 {
     let at = u64::from(count) + u64::from(a / 64);
-    let word = word_at(words, at);
-    write(words, at, word & !(1u64 << (a % 64)));
+    let word = word_at(words.as_slice(), at);
+    words.set(at as usize, word & !(1u64 << (a % 64)));
 }
