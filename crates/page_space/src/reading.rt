@@ -9,7 +9,7 @@ ghost use Rattle.page_space.specs.Pages.{word_count};
 ghost use Rattle.page_space.specs.Space.{IsSeatOf, IsPlaceFrom, HasNoStart};
 
 use crate::space::Space;
-use object_headers::Header;
+use object_headers::{Header, SERIAL};
 use page_words::MutatorSeat;
 
 impl Space {
@@ -124,6 +124,6 @@ impl Space {
         ensures view { seat.new ≡ seat.old }
     {
         seat.bodies_lie_apart();
-        self.words.load(seat, a + 1) as u32
+        self.words.load(seat, a + SERIAL) as u32
     }
 }
