@@ -70,7 +70,7 @@ impl Space {
     {
         seat.bodies_lie_apart();
         self.shape_is_valid();
-        let size = self.size_at(seat, a);
+        let size = self.header_at(seat, a).size;
         self.words.retract(seat, a);
         self.objects -= 1;
         self.used -= size;
