@@ -1,6 +1,7 @@
 pub mod Graph
 pub mod Reach
 pub mod State
+pub mod Shapes
 pub mod Fields
 pub mod Checking
 pub mod May
