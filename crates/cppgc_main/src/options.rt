@@ -1,8 +1,8 @@
 // What the words of the command line ask for.
 
 ghost use Rattle.std.specs.Prelude.{◌≡◌, ◌≤◌, true, map, option_map, string_bytes, IfSome};
+ghost use Rattle.gc_graph.specs.Shapes.{IsShape};
 ghost use Rattle.gc_graph.specs.Words.{number_below as below};
-ghost use Rattle.page_space.specs.Pages.{IsShape};
 ghost use Rattle.cppgc_main.specs.Options.{shape_asked, shape_of_four, some_pages};
 ghost use Rattle.cppgc_main.specs.Options.{power_of_two, is_page_size};
 ghost use Rattle.cppgc_main.specs.Setting.{shape_of};

@@ -4,7 +4,7 @@ ghost use Rattle.std.specs.Prelude.{◌≡◌, ◌↔◌, ℕ, ◌<◌};
 ghost use Rattle.std.specs.Prelude.{[], length, map, string_bytes, None, MatchOption};
 ghost use Rattle.heap_script.specs.Causes.{Rose};
 ghost use Rattle.heap_script.specs.Devices.{Grew};
-ghost use Rattle.page_space.specs.Pages.{IsShape};
+ghost use Rattle.gc_graph.specs.Shapes.{IsShape};
 ghost use Rattle.cppgc_main.specs.Options.{shape_asked};
 ghost use Rattle.cppgc_main.specs.Setting.{shape_of, IsRunnable};
 ghost use Rattle.cppgc_main.specs.Headline.{RunsScript, RunsBytes, status_of_fault, IsUntouched};

@@ -2,6 +2,7 @@
 pub mod Graph
 pub mod Reach
 pub mod State
+pub mod Shapes
 pub mod Fields
 pub mod May
 pub mod Sweep

@@ -17,9 +17,9 @@ ghost use Rattle.heap_engine.specs.View.{IsFrame};
 ghost use Rattle.heap_engine.specs.Inner.{IsFieldOf, reference_to};
 
 use crate::heap::Heap;
-use crate::marking::type_at;
 use crate::states;
 use gc_graph::{Line, Refusal};
+use object_headers::FIRST_FIELD;
 use page_words::{MutatorSeat, Words};
 
 impl Heap {
@@ -111,16 +111,15 @@ impl Heap {
             return Err(Refusal::Null);
         };
         self.seat.bodies_lie_apart();
-        let size = self.space.size_at(&mut self.seat, place);
-        if f >= size - 2 {
+        let header = self.space.header_at(&mut self.seat, place);
+        if f >= header.size - FIRST_FIELD {
             return Err(Refusal::Field);
         }
-        let ty = type_at(self.space.words(), &mut self.seat, place);
-        let fields = self.types[ty as usize];
+        let fields = self.types[header.ty as usize];
         if f >= fields {
             return Err(Refusal::Kind);
         }
-        Ok(place + 2 + f)
+        Ok(place + FIRST_FIELD + f)
     }
 
     /// The place and the number of what field f of slot p's object names.

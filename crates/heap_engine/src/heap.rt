@@ -4,6 +4,7 @@
 ghost use Rattle.std.specs.Prelude.{◌≡◌, ◌+◌, ◌++◌, ◌<◌, ◌≤◌, true};
 ghost use Rattle.std.specs.Prelude.{false, [], length, Some, None, IfOk};
 ghost use Rattle.std.specs.Prelude.{All, map, slice_get, replicate};
+ghost use Rattle.gc_graph.specs.Shapes.{IsShape};
 ghost use Rattle.gc_graph.specs.State.{empty_state};
 ghost use Rattle.gc_graph.specs.Fields.{strong_type};
 ghost use Rattle.gc_graph.specs.CycleSteps.{is_marking};
@@ -11,7 +12,6 @@ ghost use Rattle.gc_graph.specs.Step.{Step};
 ghost use Rattle.heap_engine.specs.Built.{IsBuilt};
 ghost use Rattle.heap_engine.specs.View.{IsFrame};
 ghost use Rattle.gc_graph.specs.Lawful.{IsAllowed, IsEndLine};
-ghost use Rattle.page_space.specs.Pages.{IsShape};
 
 use crate::entries::{self, Entries};
 use crate::marking::MarkList;

@@ -51,14 +51,14 @@ fn sweep_object(space: &mut Space, seat: &mut MutatorSeat, a: u32, finalised: &m
     ensures inside { a + result ≤ word_count space.old.shape }
     ensures room { vec_capacity finalised.new ≡ vec_capacity finalised.old }
 {
-    let size = space.size_at(seat, a);
-    if space.is_marked(seat, a) {
+    let header = space.header_at(seat, a);
+    if header.mark {
         space.words().unmark(seat, a);
     } else {
         finalised.push_reserved(space.serial_at(seat, a));
         space.free(seat, a);
     }
-    size
+    header.size
 }
 
 /// Looks at each page again, from which objects may have gone.

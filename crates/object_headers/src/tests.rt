@@ -2,6 +2,7 @@
 
 use crate::bits::{with_mark, with_traced};
 use crate::header::Header;
+use crate::offsets::{place_in, reference_to};
 use std::test::Fail;
 
 #[test]
@@ -48,5 +49,14 @@ fn one_bit_changes(rt: HostRuntime) -> Result<(), Fail> {
     assert_eq!(rt; with_mark(393223, false), 393221);
     assert_eq!(rt; with_traced(393219, true), 393223);
     assert_eq!(rt; with_traced(393223, false), 393219);
+    Ok(())
+}
+
+#[test]
+fn references_and_places(rt: HostRuntime) -> Result<(), Fail> {
+    assert_eq!(rt; reference_to(0), 1);
+    assert_eq!(rt; reference_to(70), 71);
+    assert_eq!(rt; place_in(71), Some(70));
+    assert_eq!(rt; place_in(0), None);
     Ok(())
 }

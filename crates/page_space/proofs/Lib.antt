@@ -7,7 +7,6 @@ mod Shapes
 mod PageSpan
 mod Tables
 mod PlaceBodies
-mod PlaceHeader
 mod OccupyFilled
 mod PlaceFound
 mod EmptyRuns

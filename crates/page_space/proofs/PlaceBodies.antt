@@ -1,12 +1,13 @@
 -- The words of bodies, as extents tell them.
-use Rattle.std.proofs.Common.{◌≡◌, ℕ, zero, suc, ◌+◌, ◌<◌, ◌≤◌, List, [], ◌∷◌, length, map, refl, ap, ◌∙◌, subst, inl, inr, arith}
-use Rattle.std.proofs.lemmas.Bool.{cases_lt}
+use Rattle.std.proofs.Common.{◌≡◌, ℕ, zero, suc, ◌+◌, ◌<◌, ◌≤◌, List, [], ◌∷◌, length, map, refl, ap, ◌∙◌, arith}
 use Rattle.std.specs.List.{Contains, All}
 use Rattle.std.proofs.lemmas.List.Elements.{All-contains}
 use Rattle.std.proofs.lemmas.List.{length-map, get_or-map}
 use Rattle.gc_graph.specs.Placement.{Extent, IsTaken}
-use Rattle.page_words.specs.Bodies.{Body, IsPlace, IsInBody, IsWhole}
-use Rattle.page_space.specs.Space.{extent_of, extents_of_bodies}
+use Rattle.object_headers.specs.declared.header.Header.{Header}
+use Rattle.page_words.specs.Bodies.{Body, IsInBody, IsWhole}
+use Rattle.page_words.specs.Seat.{SeatView}
+use Rattle.page_space.specs.Space.{extent_of, extents_of_bodies, header_in}
 
 pub contains_map : {X Y : Type 0} (f : X → Y) (xs : List X) (x : X) → Contains xs x → Contains (map f xs) (f x)
 contains_map f xs x h =
@@ -49,12 +50,7 @@ body_size count bodies b whole h =
     let w : IsWhole count b = whole_body count bodies b whole h in
     omega (arith, w.fields)
 
-pub place_in_body : (count : ℕ) (bodies : List Body) (a : ℕ) → All (IsWhole count) bodies → IsPlace bodies a → IsInBody bodies a
-place_in_body count bodies a whole h =
-    let at : h.0.place ≡ a = h.2 in
-    (h.0, h.1, omega arith, omega (arith, body_size count bodies h.0 whole h.1))
-
--- what holds of no number below a and not of a holds of no number up to a
-pub none_until : (P : ℕ → Type 0) (low a : ℕ) → ((x : ℕ) → low ≤ x → x < a → P x → ⊥) → (P a → ⊥) → (x : ℕ) → low ≤ x → x < a + 1 → P x → ⊥
-none_until P low a before here x above below p =
-    elim (cases_lt x a) [ inl earlier ↦ before x above earlier p | inr now ↦ (let same : x ≡ a = omega arith in here (subst P same p)) ]
+-- the size that a header tells is that of the body
+pub sizes_of : (v : SeatView) (a : ℕ) (header : Header) → ((b : Body) → Contains v.bodies b → b.place ≡ a → header ≡ header_in v b)
+    → (b : Body) → Contains v.bodies b → b.place ≡ a → header.size ≡ b.size
+sizes_of v a header tells b has at = ap (λ (h : Header). h.size) (tells b has at)

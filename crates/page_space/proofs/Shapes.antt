@@ -4,7 +4,8 @@ use Rattle.std.specs.List.{list_any}
 use Rattle.std.proofs.lemmas.Bool.{true≢false, or_cases, eqb-true}
 use Rattle.std.proofs.Math.Nat.{mul-le-mul_left, mul-le-mul_right}
 use Rattle.gc_graph.specs.State.{Shape}
-use Rattle.page_space.specs.Pages.{IsShape, word_count}
+use Rattle.gc_graph.specs.Shapes.{IsShape}
+use Rattle.page_space.specs.Pages.{word_count}
 
 page_words_le : (n : ℕ) → list_any (λ m. eqb m n) (256 ∷ 512 ∷ 1024 ∷ 2048 ∷ 4096 ∷ 8192 ∷ 16384 ∷ []) ≡ true → (256 ≤ n) × (n ≤ 16384) × (64 * (n / 64) ≡ n)
 page_words_le n h =

@@ -1,5 +1,6 @@
 -- A new object in free words.
 use Rattle.std.specs.Prelude.{◌≡◌, ℕ, ◌+◌, ◌-◌, ◌<◌, ◌≤◌, List, [], ◌∷◌, ◌++◌, replicate, Contains}
+use Rattle.object_headers.specs.Offsets.{first_field}
 use Rattle.page_words.specs.Bodies.{Body, IsInBody}
 use Rattle.page_words.specs.Seat.{SeatView, Filled}
 
@@ -10,7 +11,7 @@ pub record IsRoom (v : SeatView) (size a : ℕ) : Type 0 where
 
 -- a new body: its type, size and serial number, and null fields
 abbrev pub new_body : ℕ → ℕ → ℕ → ℕ → Body
-new_body a ty size serial = record { place = a; ty = ty; size = size; serial = serial; fields = replicate (size - 2) 0 }
+new_body a ty size serial = record { place = a; ty = ty; size = size; serial = serial; fields = replicate (size - first_field) 0 }
 
 -- so many words from `first` were filled with null
 abbrev pub HasNulls : List Filled → ℕ → ℕ → Type 0

@@ -1,19 +1,8 @@
 -- The pages of a heap: the objects with a word in each, and what a table tells of them.
-use Rattle.std.specs.Prelude.{◌≡◌, ℕ, zero, suc, ◌+◌, ◌-◌, ◌/◌, ◌≤◌, ◌==◌, [], ◌∷◌, ◌&&◌, nat_lt, nat_le, Bool, true, List, if◌then◌else◌, count_by}
+use Rattle.std.specs.Prelude.{ℕ, zero, suc, ◌+◌, ◌-◌, ◌/◌, ◌&&◌, nat_lt, nat_le, Bool, List, if◌then◌else◌, count_by}
 use Rattle.std.specs.List.{list_any}
-use Rattle.gc_graph.specs.State.{Shape}
 use Rattle.gc_graph.specs.Placement.{Extent}
 pub use Rattle.gc_graph.specs.Valid.{word_count}
-
--- a page has a power of two from 256 to 16,384 words
-abbrev pub IsPageWords : ℕ → Type 0
-IsPageWords page_words = list_any (λ n. n == page_words) (256 ∷ 512 ∷ 1024 ∷ 2048 ∷ 4096 ∷ 8192 ∷ 16384 ∷ []) ≡ true
-
--- from 1 to 1,024 pages
-pub record IsShape (shape : Shape) : Type 0 where
-  pub some : 1 ≤ shape.pages
-  pub most : shape.pages ≤ 1024
-  pub power : IsPageWords shape.page_words
 
 -- n is one of the numbers from first up to, and without, end
 abbrev pub is_between : ℕ → ℕ → ℕ → Bool

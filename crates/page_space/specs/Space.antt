@@ -3,8 +3,9 @@ use Rattle.std.specs.Prelude.{◌≡◌, ◌⊎◌, ℕ, ◌+◌, ◌*◌, ◌/�
 use Rattle.gc_graph.specs.State.{Shape}
 use Rattle.gc_graph.specs.Placement.{Extent, IsRun, UsesPage, IsEmptyPage, Fits, StartsEmptyRun, bucket_of}
 use Rattle.gc_graph.specs.PlacementLaw.{LiesInPage, TakesPages}
+use Rattle.object_headers.specs.declared.header.Header.{Header}
 use Rattle.page_words.specs.Bodies.{Body, end_of, IsPlace}
-use Rattle.page_words.specs.Seat.{SeatView}
+use Rattle.page_words.specs.Seat.{SeatView, holds}
 use Rattle.page_space.specs.Pages.{PageTable, word_count, is_in_page, free_words}
 use Rattle.page_space.specs.Gaps.{GapTable, KnowsGaps}
 
@@ -80,6 +81,10 @@ FitsBetween shape from to extents size a =
 -- a new object of the size may go to a: it fits there in a page of its bucket, or an empty run of pages starts there
 abbrev pub IsFreePlace : Shape → List Extent → ℕ → ℕ → Type 0
 IsFreePlace shape extents size a = Fits shape shape.pages extents size a ⊎ StartsEmptyRun shape extents size a
+
+-- what the header of a body tells
+abbrev pub header_in : SeatView → Body → Header
+header_in v b = record { mark = holds v.marked b.place; traced = holds v.traced b.place; ty = b.ty; size = b.size }
 
 -- a is a place, and not below from
 abbrev pub IsPlaceFrom : List Body → ℕ → ℕ → Type 0

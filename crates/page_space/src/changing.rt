@@ -2,6 +2,7 @@
 
 ghost use Rattle.std.specs.Prelude.{◌≡◌, ℕ, ◌+◌, ◌-◌, ◌^◌, ◌<◌, ◌≤◌, false, true};
 ghost use Rattle.std.specs.Prelude.{length, slice_index};
+ghost use Rattle.object_headers.specs.Offsets.{first_field};
 ghost use Rattle.page_words.specs.Bodies.{Body};
 ghost use Rattle.page_words.specs.Seat.{holds, retracted};
 ghost use Rattle.page_space.specs.Pages.{word_count};
@@ -11,7 +12,7 @@ ghost use Rattle.page_space.specs.Occupying.{IsRoom, HasNulls, Occupies, new_bod
 use crate::gaps::Gaps;
 use crate::space::{Space, bucket_of};
 use crate::table::Table;
-use object_headers::Header;
+use object_headers::{FIRST_FIELD, Header, SERIAL};
 use page_words::MutatorSeat;
 
 impl Space {
@@ -69,7 +70,7 @@ impl Space {
     {
         seat.bodies_lie_apart();
         self.shape_is_valid();
-        let size = self.size_at(seat, a);
+        let size = self.header_at(seat, a).size;
         self.words.retract(seat, a);
         self.objects -= 1;
         self.used -= size;
@@ -88,7 +89,7 @@ impl Space {
         ensures { Occupies seat.old seat.new (new_body a ty size serial) }
     {
         self.shape_is_valid();
-        for i in 2..size {
+        for i in FIRST_FIELD..size {
             self.words.fill(seat, a + i, 0);
         }
         self.head_and_publish(seat, a, ty, size, serial);
@@ -103,14 +104,14 @@ impl Space {
         requires ty { ty < 16384 }
         requires least { 2 ≤ size }
         requires most { size < 2 ^ 26 }
-        requires fields { HasNulls seat.old.filled (a + 2) (size - 2) }
+        requires fields { HasNulls seat.old.filled (a + first_field) (size - first_field) }
         ensures { Occupies seat.old seat.new body }
     {
         self.shape_is_valid();
         // Nobody sees these words before the object is published.
         self.words
             .fill(seat, a, Header::pack(true, false, false, ty, size));
-        self.words.fill(seat, a + 1, u64::from(serial));
+        self.words.fill(seat, a + SERIAL, u64::from(serial));
         self.words.publish(seat, a);
     }
 }

@@ -4,12 +4,11 @@ ghost use Rattle.std.specs.Prelude.{◌≡◌, ◌+◌, ◌*◌, ◌^◌, ◌<�
 ghost use Rattle.std.specs.Prelude.{◌≤◌, ◌↔◌, IsTrue, IfSome, IfNone, Contains, All};
 ghost use Rattle.gc_graph.specs.Placement.{IsLowest, IsNowhere};
 ghost use Rattle.page_words.specs.Bodies.{Body, IsPlace};
-ghost use Rattle.page_words.specs.Seat.{holds};
 ghost use Rattle.page_space.specs.Pages.{word_count};
-ghost use Rattle.page_space.specs.Space.{IsSeatOf, IsPlaceFrom, HasNoStart};
+ghost use Rattle.page_space.specs.Space.{IsSeatOf, IsPlaceFrom, HasNoStart, header_in};
 
 use crate::space::Space;
-use object_headers::Header;
+use object_headers::{Header, SERIAL};
 use page_words::MutatorSeat;
 
 impl Space {
@@ -85,32 +84,19 @@ impl Space {
         bits >> (a % 64) & 1 == 1
     }
 
-    /// The size in words of the object that starts at an address.
-    pub fn size_at(&self, seat: &mut MutatorSeat, a: u32) -> u32
+    /// The header of the object that starts at an address.
+    pub fn header_at(&self, seat: &mut MutatorSeat, a: u32) -> Header
         requires heap { IsSeatOf self.now seat.old }
         requires start { IsPlace seat.old.bodies a }
-        ensures size { (b : Body) → Contains seat.old.bodies b → b.place ≡ a → result ≡ b.size }
-        ensures least { 2 ≤ result }
-        ensures inside { a + result ≤ word_count self.now.shape }
+        ensures header { (b : Body) → Contains seat.old.bodies b → b.place ≡ a
+            → result ≡ header_in seat.old b }
+        ensures least { 2 ≤ result.size }
+        ensures inside { a + result.size ≤ word_count self.now.shape }
         ensures view { seat.new ≡ seat.old }
     {
         seat.bodies_lie_apart();
         match Header::read(self.words.load(seat, a)) {
-            Some(header) => header.size,
-            None => unreachable!("an object starts here"),
-        }
-    }
-
-    /// Whether the object that starts at an address is marked.
-    pub fn is_marked(&self, seat: &mut MutatorSeat, a: u32) -> bool
-        requires heap { IsSeatOf self.now seat.old }
-        requires start { IsPlace seat.old.bodies a }
-        ensures marked { result ≡ holds seat.old.marked a }
-        ensures view { seat.new ≡ seat.old }
-    {
-        seat.bodies_lie_apart();
-        match Header::read(self.words.load(seat, a)) {
-            Some(header) => header.mark,
+            Some(header) => header,
             None => unreachable!("an object starts here"),
         }
     }
@@ -124,6 +110,6 @@ impl Space {
         ensures view { seat.new ≡ seat.old }
     {
         seat.bodies_lie_apart();
-        self.words.load(seat, a + 1) as u32
+        self.words.load(seat, a + SERIAL) as u32
     }
 }

@@ -3,8 +3,9 @@
 ghost use Rattle.std.specs.Prelude.{◌≡◌, ℕ, ◌*◌, ◌^◌, ◌<◌, ◌≤◌};
 ghost use Rattle.std.specs.Prelude.{◌↔◌, IfOk, Some, None, length, sum_by};
 ghost use Rattle.gc_graph.specs.Placement.{PageHasBucket, IsEmptyPage, IsUsedPages, bucket_of};
+ghost use Rattle.gc_graph.specs.Shapes.{IsShape, IsPageWords};
 ghost use Rattle.page_words.specs.Seat.{SeatView, empty_view, stored};
-ghost use Rattle.page_space.specs.Pages.{IsShape, IsPageWords, word_count};
+ghost use Rattle.page_space.specs.Pages.{word_count};
 ghost use Rattle.page_space.specs.Space.{IsSpaceOf, extents_of_bodies};
 
 use crate::gaps::Gaps;
@@ -30,7 +31,8 @@ pub struct Space {
 impl Model for Space {
     ghost use Rattle.std.specs.Prelude.{◌≡◌, ◌/◌, length};
     ghost use Rattle.page_space.specs.Gaps.{HasBlocks};
-    ghost use Rattle.page_space.specs.Pages.{IsShape, word_count};
+    ghost use Rattle.gc_graph.specs.Shapes.{IsShape};
+    ghost use Rattle.page_space.specs.Pages.{word_count};
     ghost use Rattle.page_space.specs.Space.{SpaceView};
 
     ghost Value = { SpaceView };

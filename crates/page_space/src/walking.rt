@@ -61,7 +61,7 @@ impl Space {
         let first = page * self.blocks();
         let start = 64 * (first + k);
         match self.last_start(seat, first, first + k) {
-            Some(place) => start.max(place + self.size_at(seat, place)),
+            Some(place) => start.max(place + self.header_at(seat, place).size),
             None => start,
         }
     }
@@ -86,7 +86,7 @@ impl Space {
             if !self.is_start(seat, full) {
                 return full;
             }
-            let next = full + self.size_at(seat, full);
+            let next = full + self.header_at(seat, full).size;
             if next > end {
                 return full;
             }
@@ -129,7 +129,7 @@ impl Space {
             if next == free + size {
                 return Some(free);
             }
-            free = next + self.size_at(seat, next);
+            free = next + self.header_at(seat, next).size;
         }
         None
     }
@@ -163,7 +163,7 @@ impl Space {
                 return longest.max(limit - free);
             }
             longest = longest.max(next - free);
-            free = next + self.size_at(seat, next);
+            free = next + self.header_at(seat, next).size;
         }
         longest
     }

@@ -1,5 +1,6 @@
 -- The objects of a heap, as the words of each tell them.
 use Rattle.std.specs.Prelude.{◌≡◌, ◌⊎◌, ℕ, ◌+◌, ◌<◌, ◌≤◌, List, length, if◌then◌else◌, ◌&&◌, nat_le, nat_lt, ◌-◌, ◌^◌, slice_set, Contains}
+use Rattle.object_headers.specs.Offsets.{first_field, reference_to}
 
 -- a body: the address of its header, its type, its size in words, its serial number, and its field words
 pub record Body : Type 0 where
@@ -9,8 +10,13 @@ pub record Body : Type 0 where
   pub serial : ℕ
   pub fields : List ℕ
 
+-- the address after its last word
 abbrev pub end_of : Body → ℕ
 end_of b = b.place + b.size
+
+-- the address of its first field word
+abbrev pub fields_at : Body → ℕ
+fields_at b = b.place + first_field
 
 -- a is the place of one of the bodies
 abbrev pub IsPlace : List Body → ℕ → Type 0
@@ -22,20 +28,20 @@ IsInBody bodies a = (b : Body) × Contains bodies b × (b.place ≤ a) × (a < e
 
 -- the word at a is a field word of one of the bodies
 abbrev pub IsFieldWord : List Body → ℕ → Type 0
-IsFieldWord bodies a = (b : Body) × Contains bodies b × (b.place + 2 ≤ a) × (a < end_of b)
+IsFieldWord bodies a = (b : Body) × Contains bodies b × (fields_at b ≤ a) × (a < end_of b)
 
--- a reference is 0 for null, and else one more than the place of a body
+-- the word is null, or refers to one of the bodies
 abbrev pub IsReference : List Body → ℕ → Type 0
-IsReference bodies w = (w ≡ 0) ⊎ ((b : Body) × Contains bodies b × (w ≡ b.place + 1))
+IsReference bodies w = (w ≡ 0) ⊎ ((b : Body) × Contains bodies b × (w ≡ reference_to b.place))
 
 -- the body with w in its field word at a, where it has that word
 abbrev pub with_word : ℕ → ℕ → Body → Body
 with_word a w b =
-    if nat_le (b.place + 2) a && nat_lt a (end_of b) then record b { fields = slice_set b.fields (a - (b.place + 2)) w } else b
+    if nat_le (fields_at b) a && nat_lt a (end_of b) then record b { fields = slice_set b.fields (a - fields_at b) w } else b
 
 -- the fields are all the words after the header and the serial number; a type has 14 bits and a size 26
 pub record IsWhole (count : ℕ) (b : Body) : Type 0 where
-  pub fields : length b.fields + 2 ≡ b.size
+  pub fields : length b.fields + first_field ≡ b.size
   pub inside : end_of b ≤ count
   pub ty : b.ty < 16384
   pub size : b.size < 2 ^ 26

@@ -2,7 +2,8 @@
 use Rattle.std.specs.Prelude.{◌≡◌, ℕ, ◌+◌, ◌/◌, ◌%◌, ◌^◌, ◌<◌, ◌≤◌, ◌↔◌, ◌==◌, ◌&&◌, not, nat_le, nat_lt, Bool, true, false, List, [], ◌∷◌, ◌++◌, length, map, filter, if◌then◌else◌, slice_index, Contains, All}
 use Rattle.std.specs.List.{list_any}
 use Rattle.object_headers.specs.Layout.{header_word}
-use Rattle.page_words.specs.Bodies.{Body, end_of, IsPlace, IsInBody, with_word, IsWhole}
+use Rattle.object_headers.specs.Offsets.{serial_offset}
+use Rattle.page_words.specs.Bodies.{Body, end_of, fields_at, IsPlace, IsInBody, with_word, IsWhole}
 
 -- a word that was filled outside the bodies
 pub record Filled : Type 0 where
@@ -20,19 +21,27 @@ pub record SeatView : Type 0 where
   pub traced : List ℕ
   pub dead : List ℕ
 
+-- one of the places is a
 abbrev pub holds : List ℕ → ℕ → Bool
 holds places a = list_any (λ p. p == a) places
 
+-- the places other than a
 abbrev pub without : List ℕ → ℕ → List ℕ
 without places a = filter (λ p. not (p == a)) places
 
--- ---- the heap's words, then a bit for each of them, 64 to a word, then the stop word
+-- ---- the heap's words, then a bit for each of them, then the stop word
 
+-- so many words have their start bits in one word
+abbrev pub block_words : ℕ
+block_words = 64
+
+-- the address of the word with the start bit of a
 abbrev pub bitmap_at : ℕ → ℕ → ℕ
-bitmap_at count a = count + a / 64
+bitmap_at count a = count + a / block_words
 
+-- the address of the stop word
 abbrev pub stop_at : ℕ → ℕ
-stop_at count = count + count / 64
+stop_at count = count + count / block_words
 
 -- the header word of a published body
 abbrev pub header_of : SeatView → Body → ℕ
@@ -41,10 +50,10 @@ header_of v b = header_word true (holds v.marked b.place) (holds v.traced b.plac
 -- w is the word at a, as far as the view tells
 pub record IsWordAt (v : SeatView) (a w : ℕ) : Type 0 where
   pub header : (b : Body) → Contains v.bodies b → b.place ≡ a → w ≡ header_of v b
-  pub serial : (b : Body) → Contains v.bodies b → b.place + 1 ≡ a → w ≡ b.serial
-  pub field : (b : Body) (i : ℕ) → Contains v.bodies b → i < length b.fields → b.place + 2 + i ≡ a → w ≡ slice_index b.fields i
+  pub serial : (b : Body) → Contains v.bodies b → b.place + serial_offset ≡ a → w ≡ b.serial
+  pub field : (b : Body) (i : ℕ) → Contains v.bodies b → i < length b.fields → fields_at b + i ≡ a → w ≡ slice_index b.fields i
   pub filled : (f : Filled) → Contains v.filled f → f.address ≡ a → w ≡ f.word
-  pub start : (p : ℕ) → p < v.count → bitmap_at v.count p ≡ a → (w / 2 ^ (p % 64) % 2 ≡ 1) ↔ IsPlace v.bodies p
+  pub start : (p : ℕ) → p < v.count → bitmap_at v.count p ≡ a → (w / 2 ^ (p % block_words) % 2 ≡ 1) ↔ IsPlace v.bodies p
 
 -- ---- what the calls change
 
@@ -60,8 +69,8 @@ stored v a w = record v { bodies = map (with_word a w) v.bodies }
 -- the body's words were filled: a header that is live, unmarked and untraced, the serial number, and null fields
 pub record IsReady (v : SeatView) (b : Body) : Type 0 where
   pub header : Contains v.filled (record { address = b.place; word = header_word true false false b.ty b.size })
-  pub serial : Contains v.filled (record { address = b.place + 1; word = b.serial })
-  pub fields : (i : ℕ) → i < length b.fields → Contains v.filled (record { address = b.place + 2 + i; word = 0 })
+  pub serial : Contains v.filled (record { address = b.place + serial_offset; word = b.serial })
+  pub fields : (i : ℕ) → i < length b.fields → Contains v.filled (record { address = fields_at b + i; word = 0 })
   pub null : All (λ w. w ≡ 0) b.fields
   pub whole : IsWhole v.count b
   pub apart : (a : ℕ) → b.place ≤ a → a < end_of b → IsInBody v.bodies a → ⊥
@@ -78,6 +87,7 @@ published v b =
 abbrev pub retracted : SeatView → ℕ → SeatView
 retracted v a = record v { bodies = filter (λ b. not (b.place == a)) v.bodies; dead = without v.dead a }
 
+-- the body at a has the mark
 abbrev pub marked_at : SeatView → ℕ → SeatView
 marked_at v a = record v { marked = if holds v.marked a then v.marked else v.marked ++ a ∷ [] }
 
@@ -85,9 +95,11 @@ marked_at v a = record v { marked = if holds v.marked a then v.marked else v.mar
 abbrev pub is_grey : SeatView → ℕ → Bool
 is_grey v a = holds v.marked a && not (holds v.traced a)
 
+-- the body at a was traced, where it was grey
 abbrev pub claimed_at : SeatView → ℕ → SeatView
 claimed_at v a = record v { traced = if is_grey v a then v.traced ++ a ∷ [] else v.traced }
 
+-- the body at a has neither mark nor traced bit
 abbrev pub unmarked_at : SeatView → ℕ → SeatView
 unmarked_at v a = record v { marked = without v.marked a; traced = without v.traced a }
 
@@ -98,6 +110,7 @@ pub record IsQuiet (v : SeatView) : Type 0 where
   pub traced : v.traced ≡ []
   pub dead : v.dead ≡ []
 
+-- marking goes on
 abbrev pub begun : SeatView → SeatView
 begun v = record v { on = true }
 

@@ -1,23 +1,25 @@
 -- How the words and the view of a seat belong together.
 use Rattle.std.specs.Prelude.{◌≡◌, ℕ, ◌+◌, ◌*◌, ◌/◌, ◌%◌, ◌^◌, ◌<◌, ◌≤◌, ◌↔◌, List, length, if◌then◌else◌, slice_index, Contains}
-use Rattle.page_words.specs.Bodies.{Body, IsPlace}
-use Rattle.page_words.specs.Seat.{SeatView, Filled, IsView, header_of, bitmap_at, stop_at}
+use Rattle.object_headers.specs.Offsets.{serial_offset}
+use Rattle.page_words.specs.Bodies.{Body, IsPlace, fields_at}
+use Rattle.page_words.specs.Seat.{SeatView, Filled, IsView, header_of, block_words, bitmap_at, stop_at}
 
 -- a heap has from 256 to 2^24 words, and a whole number of words of start bits
 pub record IsCount (count : ℕ) : Type 0 where
   pub least : 256 ≤ count
   pub most : count ≤ 2 ^ 24
-  pub bits : count ≡ 64 * (count / 64)
+  pub bits : count ≡ block_words * (count / block_words)
 
+-- the words are those that the view tells, and the stop word is 0 while marking goes on
 pub record Ties (words : List ℕ) (v : SeatView) : Type 0 where
   pub count : IsCount v.count
   pub length_is : length words ≡ stop_at v.count + 1
   pub bodies_lie_apart : IsView v
   pub headers_match : (b : Body) → Contains v.bodies b → slice_index words b.place ≡ header_of v b
-  pub serials_match : (b : Body) → Contains v.bodies b → slice_index words (b.place + 1) ≡ b.serial
+  pub serials_match : (b : Body) → Contains v.bodies b → slice_index words (b.place + serial_offset) ≡ b.serial
   pub fields_match :
-      (b : Body) (i : ℕ) → Contains v.bodies b → i < length b.fields → slice_index words (b.place + 2 + i) ≡ slice_index b.fields i
+      (b : Body) (i : ℕ) → Contains v.bodies b → i < length b.fields → slice_index words (fields_at b + i) ≡ slice_index b.fields i
   pub filled_match : (f : Filled) → Contains v.filled f → slice_index words f.address ≡ f.word
   pub starts_match :
-      (p : ℕ) → p < v.count → (slice_index words (bitmap_at v.count p) / 2 ^ (p % 64) % 2 ≡ 1) ↔ IsPlace v.bodies p
+      (p : ℕ) → p < v.count → (slice_index words (bitmap_at v.count p) / 2 ^ (p % block_words) % 2 ≡ 1) ↔ IsPlace v.bodies p
   pub stop_matches : slice_index words (stop_at v.count) ≡ (if v.on then 0 else 1)

@@ -27,7 +27,7 @@ mod views;
 mod words;
 
 pub use mutator::MutatorSeat;
-pub use words::Words;
+pub use words::{BLOCK_WORDS, Words};
 
 #[cfg(test)]
 mod tests;

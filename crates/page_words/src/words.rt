@@ -17,6 +17,9 @@ use object_headers::{with_mark, with_traced};
 use std::alloc::Global;
 use std::marker::Model;
 
+/// So many words of the heap have their start bits in one word.
+pub const BLOCK_WORDS: u32 = 64;
+
 /// The words that markers and mutator share. So far the mutator's seat holds them, and this tells
 /// how many there are.
 #[derive(Drop)]
@@ -42,7 +45,7 @@ impl Words {
         ensures words { IfOk result (λ made. made.0 ≡ count) }
         ensures view { IfOk result (λ made. made.1 ≡ empty_view count) }
     {
-        let length = count as usize + count as usize / 64 + 1;
+        let length = (count + count / BLOCK_WORDS) as usize + 1;
         let mut words = vec![in alloc; 0u64; length]?;
         words[length - 1] = 1;
         let view = views::empty(count);
@@ -99,8 +102,8 @@ impl Words {
         requires ready { IsReady seat.old body }
         ensures { seat.new ≡ published seat.old body }
     {
-        let at = (self.count + a / 64) as usize;
-        seat.words[at] |= 1u64 << (a % 64);
+        let at = (self.count + a / BLOCK_WORDS) as usize;
+        seat.words[at] |= 1u64 << (a % BLOCK_WORDS);
         seat.view = views::published(&seat.view);
     }
 
@@ -111,8 +114,8 @@ impl Words {
         requires dead { holds seat.old.dead a ≡ true }
         ensures { seat.new ≡ retracted seat.old a }
     {
-        let at = (self.count + a / 64) as usize;
-        seat.words[at] &= !(1u64 << (a % 64));
+        let at = (self.count + a / BLOCK_WORDS) as usize;
+        seat.words[at] &= !(1u64 << (a % BLOCK_WORDS));
         seat.view = views::retracted(&seat.view, a);
     }
 
@@ -172,7 +175,7 @@ impl Words {
         requires allowed { MaySetStop seat.old on }
         ensures { seat.new ≡ stop_set seat.old on }
     {
-        let at = (self.count + self.count / 64) as usize;
+        let at = (self.count + self.count / BLOCK_WORDS) as usize;
         seat.words[at] = u64::from(on);
         seat.view = views::stop_set(&seat.view, on);
     }

@@ -2,7 +2,7 @@
 
 ghost use Rattle.std.specs.Prelude.{◌≡◌, ◌^◌, ◌<◌, ◌≤◌};
 ghost use Rattle.page_words.specs.Seat.{without};
-ghost use Rattle.page_space.specs.Pages.{IsShape};
+ghost use Rattle.gc_graph.specs.Shapes.{IsShape};
 
 use super::plain;
 use crate::space::Space;

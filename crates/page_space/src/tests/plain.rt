@@ -73,7 +73,7 @@ fn bucket_past(space: &Space, seat: &mut MutatorSeat, a: u32, start: u32) -> Opt
     if !space.is_start(seat, a) {
         return None;
     }
-    let size = space.size_at(seat, a);
+    let size = space.header_at(seat, a).size;
     if a + size > start {
         Some(bucket_of(space, size))
     } else {
@@ -134,7 +134,7 @@ fn end_at(space: &Space, seat: &mut MutatorSeat, a: u32, before: u32) -> u32
 {
     space.shape_is_valid();
     if space.is_start(seat, a) {
-        a + space.size_at(seat, a)
+        a + space.header_at(seat, a).size
     } else {
         before
     }

@@ -1,6 +1,6 @@
 use Rattle.std.proofs.Common.{◌≡◌, ℕ, ◌-◌, ◌*◌, ◌/◌, ◌≤◌, get_or, refl, inl, ap, sym, subst, ◌∙◌, arith, below_more}
 use Rattle.gc_graph.specs.Placement.{PageHasBucket, IsNowhere, bucket_of}
-use Rattle.page_space.specs.Pages.{IsShape}
+use Rattle.gc_graph.specs.Shapes.{IsShape}
 use Rattle.page_space.specs.Space.{FitsIn, extents_of_bodies}
 use Rattle.page_space.proofs.PlaceFound.{fits_found, fits_none, gap_of_run, bucket_remembered}
 use Rattle.page_space.proofs.GapSearch.{in_block}

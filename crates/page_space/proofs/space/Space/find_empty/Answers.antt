@@ -1,7 +1,8 @@
 use Rattle.std.proofs.Common.{◌≡◌, ◌+◌, ◌*◌, ◌<◌, length, sym, ap, ◌∙◌, subst, inr, arith}
 use Rattle.gc_graph.specs.Placement.{StartsEmptyRun, IsLowest}
 use Rattle.page_space.specs.Space.{extents_of_bodies}
-use Rattle.page_space.specs.Pages.{IsShape, count_in_use}
+use Rattle.gc_graph.specs.Shapes.{IsShape}
+use Rattle.page_space.specs.Pages.{count_in_use}
 use Rattle.page_space.proofs.Shapes.{shape_words}
 use Rattle.page_space.proofs.UsedPages.{no_empty_run}
 use Rattle.page_space.proofs.EmptyRuns.{IsEmptySince, empty_more, run_found, run_nowhere}

@@ -5,7 +5,7 @@ use Rattle.page_words.specs.Bodies.{Body, IsPlace}
 use Rattle.page_space.specs.Pages.{word_count}
 use Rattle.page_space.specs.Space.{SpaceView, IsSpaceOver, extent_of, extents_of_bodies}
 use Rattle.page_space.proofs.Shapes.{shape_words}
-use Rattle.page_space.proofs.PlaceBodies.{contains_map}
+use Rattle.page_space.proofs.PlaceBodies.{contains_map, sizes_of}
 use Rattle.page_space.proofs.Extents.{others, one_less}
 use Rattle.page_space.proofs.SeatExtents.{seat_apart, extents_filter}
 use Rattle.page_space.proofs.Left.{left}
@@ -24,8 +24,9 @@ read_extent bodies a size start read =
 pub overflow_sub-self-2 : goal.overflow_sub-self-2
 overflow_sub-self-2 c =
     let start : IsPlace c.args.seat.now.bodies c.args.a = (c.bodies_lie_apart.ensures.dead_are_unmarked c.args.a c.requires.dead).0 in
-    let e : Extent = record { place = c.args.a; size = c.size_at-size.result } in
-    let there : Contains (extents_of_bodies c.args.seat.now.bodies) e = read_extent c.args.seat.now.bodies c.args.a c.size_at-size.result start c.size_at-size.ensures.size in
+    let e : Extent = record { place = c.args.a; size = c.header_at-size.result.size } in
+    let there : Contains (extents_of_bodies c.args.seat.now.bodies) e = read_extent c.args.seat.now.bodies c.args.a c.header_at-size.result.size start
+    (sizes_of c.args.seat.now c.args.a c.header_at-size.result c.header_at-size.ensures.header) in
     let used : c.self.inside.used ≡ sum_by (λ (d : Extent). d.size) (extents_of_bodies c.args.seat.now.bodies) =
     ap (λ s. s.used) c.self.view_is ∙ c.requires.space.used in
     omega (arith, one_less (λ d. d.size) (extents_of_bodies c.args.seat.now.bodies) e c.args.a c.requires.space.differ there refl)
@@ -33,8 +34,9 @@ overflow_sub-self-2 c =
 pub leave-requires-clause-some : goal.leave-requires-clause-some
 leave-requires-clause-some c page in_page =
     let start : IsPlace c.args.seat.now.bodies c.args.a = (c.bodies_lie_apart.ensures.dead_are_unmarked c.args.a c.requires.dead).0 in
-    let e : Extent = record { place = c.args.a; size = c.size_at-size.result } in
-    let there : Contains (extents_of_bodies c.args.seat.now.bodies) e = read_extent c.args.seat.now.bodies c.args.a c.size_at-size.result start c.size_at-size.ensures.size in
+    let e : Extent = record { place = c.args.a; size = c.header_at-size.result.size } in
+    let there : Contains (extents_of_bodies c.args.seat.now.bodies) e = read_extent c.args.seat.now.bodies c.args.a c.header_at-size.result.size start
+    (sizes_of c.args.seat.now c.args.a c.header_at-size.result c.header_at-size.ensures.header) in
     let space : SpaceView = record {
       shape = record { pages = c.self.inside.pages; page_words = c.self.inside.page_words };
       objects = c.self.inside.objects;
@@ -46,14 +48,15 @@ leave-requires-clause-some c page in_page =
     subst (λ s. IsSpaceOver s c.args.seat.now.count (extents_of_bodies c.args.seat.now.bodies)) (sym c.self.view_is) c.requires.space in
     let words = shape_words space.shape c.self.invariant.0 in
     held_some space c.args.seat.now.count (extents_of_bodies c.args.seat.now.bodies) e page (omega (arith, words.0)) over there
-    (omega (arith, c.size_at-size.ensures.inside, ap (λ s. word_count s.shape) c.self.view_is)) in_page
+    (omega (arith, c.header_at-size.ensures.inside, ap (λ s. word_count s.shape) c.self.view_is)) in_page
 
 pub returns-clause-space : goal.returns-clause-space
 returns-clause-space c =
     let start : IsPlace c.args.seat.now.bodies c.args.a = (c.bodies_lie_apart.ensures.dead_are_unmarked c.args.a c.requires.dead).0 in
     let es : List Extent = extents_of_bodies c.args.seat.now.bodies in
-    let e : Extent = record { place = c.args.a; size = c.size_at-size.result } in
-    let there : Contains es e = read_extent c.args.seat.now.bodies c.args.a c.size_at-size.result start c.size_at-size.ensures.size in
+    let e : Extent = record { place = c.args.a; size = c.header_at-size.result.size } in
+    let there : Contains es e = read_extent c.args.seat.now.bodies c.args.a c.header_at-size.result.size start
+    (sizes_of c.args.seat.now c.args.a c.header_at-size.result c.header_at-size.ensures.header) in
     let space : SpaceView = record {
       shape = record { pages = c.self.inside.pages; page_words = c.self.inside.page_words };
       objects = c.self.inside.objects;
@@ -64,10 +67,10 @@ returns-clause-space c =
     let over : IsSpaceOver space c.args.seat.now.count (extents_of_bodies c.args.seat.now.bodies) =
     subst (λ s. IsSpaceOver s c.args.seat.now.count (extents_of_bodies c.args.seat.now.bodies)) (sym c.self.view_is) c.requires.space in
     let now : IsSpaceOver
-    (record { shape = space.shape; objects = space.objects - 1; used = space.used - c.size_at-size.result; table = c.leave.new.self; gaps = c.forget.new.self })
+    (record { shape = space.shape; objects = space.objects - 1; used = space.used - c.header_at-size.result.size; table = c.leave.new.self; gaps = c.forget.new.self })
     c.args.seat.now.count (filter (others c.args.a) es) =
     left space c.args.seat.now.count es e c.leave.new.self c.forget.new.self (omega (arith, (shape_words space.shape c.self.invariant.0).0)) over (seat_apart c.args.seat.now c.bodies_lie_apart.ensures) there
-    (omega (arith, c.size_at-size.ensures.inside, c.requires.space.seat))
+    (omega (arith, c.header_at-size.ensures.inside, c.requires.space.seat))
     (record { objects = c.leave.ensures.objects; buckets = c.leave.ensures.buckets })
     (record {
       pages = c.forget.ensures.pages;
@@ -77,9 +80,9 @@ returns-clause-space c =
       lower = c.forget.ensures.lower;
       kept = c.forget.ensures.kept;
     }) in
-    let read : c.size_at-size.new.seat ≡ c.args.seat.now = c.size_at-size.ensures.view in
+    let read : c.header_at-size.new.seat ≡ c.args.seat.now = c.header_at-size.ensures.view in
     let count : c.retract.new.seat.count ≡ c.args.seat.now.count = ap (λ v. v.count) c.retract.ensures ∙ ap (λ v. v.count) read in
     let extents : extents_of_bodies c.retract.new.seat.bodies ≡ filter (others c.args.a) es =
-    ap (λ v. extents_of_bodies v.bodies) c.retract.ensures ∙ extents_filter c.size_at-size.new.seat.bodies c.args.a
+    ap (λ v. extents_of_bodies v.bodies) c.retract.ensures ∙ extents_filter c.header_at-size.new.seat.bodies c.args.a
     ∙ ap (λ v. filter (others c.args.a) (extents_of_bodies v.bodies)) read in
     rw (count, extents) now

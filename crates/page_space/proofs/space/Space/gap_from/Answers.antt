@@ -2,6 +2,7 @@ use Rattle.std.proofs.Common.{◌≡◌, ◌+◌, ◌*◌, ◌<◌, ◌≤◌, a
 use Rattle.std.proofs.lemmas.Bool.{cases_lt}
 use Rattle.page_words.specs.Bodies.{Body, IsPlace}
 use Rattle.page_space.specs.Space.{HasNoStart}
+use Rattle.page_space.proofs.PlaceBodies.{sizes_of}
 use Rattle.page_space.proofs.WalkSteps.{edge_moves, gap_here, gap_ends}
 use Rattle.page_space.proofs.space.Space.gap_from.Goals as goal
 
@@ -40,17 +41,17 @@ loop-free-preserved c =
     let none : HasNoStart c.args.seat.now.bodies c.loop-free.free c.start_from-next.result =
     λ p low high start. c.start_from-next.ensures.none p low high (subst (λ v. IsPlace v.bodies p) (sym view) start) in
     let b : Body = place.0 in
-    let sizes = rw read at c.size_at.ensures.size in
-    let size_is : c.size_at.result ≡ b.size = sizes b place.1 place.2 in
+    let sizes = rw read at (sizes_of c.start_from-next.new.seat c.start_from-next.result c.header_at.result c.header_at.ensures.header) in
+    let size_is : c.header_at.result.size ≡ b.size = sizes b place.1 place.2 in
     record {
-      view = c.size_at.ensures.view ∙ read;
+      view = c.header_at.ensures.view ∙ read;
       low = omega (arith, c.loop-free.invariant.low, c.start_from-next.ensures.low);
-      edge = edge_moves c.args.seat.now c.loop-free.free c.start_from-next.result (c.start_from-next.result + c.size_at.result) b
+      edge = edge_moves c.args.seat.now c.loop-free.free c.start_from-next.result (c.start_from-next.result + c.header_at.result.size) b
           c.bodies_lie_apart.ensures c.loop-free.invariant.edge none place.1 place.2 c.start_from-next.ensures.low (omega (arith, size_is));
       none = λ x from before gap. elim (cases_lt x c.loop-free.free) [
         | inl earlier ↦ c.loop-free.invariant.none x from earlier gap
         | inr later ↦ elim (gap_ends c.args.seat.now c.args.self.now.shape c.args.size c.args.page c.start_from-next.result
-            (c.start_from-next.result + c.size_at.result) x b c.bodies_lie_apart.ensures place.1 place.2 (omega (arith, size_is)) before gap) [
+            (c.start_from-next.result + c.header_at.result.size) x b c.bodies_lie_apart.ensures place.1 place.2 (omega (arith, size_is)) before gap) [
               | inl ends ↦ omega arith
               | inr nothing ↦ omega (arith, c.requires.some)
             ]

@@ -1,6 +1,7 @@
 use Rattle.std.proofs.Common.{◌≡◌, ◌+◌, ◌∙◌, subst, inl, inr, arith}
 use Rattle.std.proofs.lemmas.Bool.{cases_lt}
 use Rattle.page_words.specs.Bodies.{Body, IsPlace}
+use Rattle.page_space.proofs.PlaceBodies.{sizes_of}
 use Rattle.page_space.proofs.WalkSteps.{gap_ends}
 use Rattle.page_space.proofs.space.Space.longest_from.Goals as goal
 
@@ -18,14 +19,14 @@ loop-free-preserved c =
     let place : IsPlace c.args.seat.now.bodies c.start_from-next.result =
     subst (λ v. IsPlace v.bodies c.start_from-next.result) view (c.start_from-next.ensures.start (omega (arith, c.start_from-next.ensures.within, c.if-next-until.false))) in
     let b : Body = place.0 in
-    let sizes = rw read at c.size_at.ensures.size in
-    let size_is : c.size_at.result ≡ b.size = sizes b place.1 place.2 in
+    let sizes = rw read at (sizes_of c.start_from-next.new.seat c.start_from-next.result c.header_at.result c.header_at.ensures.header) in
+    let size_is : c.header_at.result.size ≡ b.size = sizes b place.1 place.2 in
     record {
-      view = c.size_at.ensures.view ∙ read;
+      view = c.header_at.ensures.view ∙ read;
       low = omega (arith, c.loop-free.invariant.low, c.start_from-next.ensures.low);
       bound = λ size x from before gap. elim (cases_lt x c.loop-free.free) [
         | inl earlier ↦ omega (arith, c.max-longest.ensures, c.loop-free.invariant.bound size x from earlier gap)
-        | inr later ↦ elim (gap_ends c.args.seat.now c.args.self.now.shape size c.args.page c.start_from-next.result (c.start_from-next.result + c.size_at.result) x b
+        | inr later ↦ elim (gap_ends c.args.seat.now c.args.self.now.shape size c.args.page c.start_from-next.result (c.start_from-next.result + c.header_at.result.size) x b
             c.bodies_lie_apart.ensures place.1 place.2 (omega (arith, size_is)) before gap) [
               | inl ends ↦ omega (arith, c.max-longest.ensures)
               | inr none ↦ omega arith
