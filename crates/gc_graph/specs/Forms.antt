@@ -27,21 +27,27 @@ pub data Place : Type 0 where
   -- the number of a callback
   Callback : Place
 
+-- a strong slot
 abbrev pub slot : Place
 slot = Number 0 256
 
+-- a strong slot, or `-` for null
 abbrev pub slot_or_null : Place
 slot_or_null = NumberOr (codes "-") 0 256
 
+-- a weak slot
 abbrev pub weak_slot : Place
 weak_slot = Number 0 64
 
+-- a slot of the region
 abbrev pub region_slot : Place
 region_slot = Number 0 32
 
+-- a field of an object
 abbrev pub field : Place
 field = Number 0 67108864
 
+-- a word of an object, by its distance from the first
 abbrev pub offset : Place
 offset = Number 0 67108864
 
@@ -53,6 +59,7 @@ extra_words = Number 0 33554433
 abbrev pub stack_place : Place
 stack_place = Number 0 1024
 
+-- a number of 64 bits
 abbrev pub any_number : Place
 any_number = Number 0 (2 ^ 64)
 
@@ -60,29 +67,36 @@ any_number = Number 0 (2 ^ 64)
 abbrev pub objects : Place
 objects = Number 1 4294967296
 
+-- so many pages, or `all`
 abbrev pub pages_or_all : Place
 pages_or_all = NumberOr (codes "all") 1 4294967296
 
+-- a thread of the script
 abbrev pub thread : Place
 thread = Number 1 9
 
+-- whether the pause looks at the stack
 abbrev pub want : Place
 want = Either (codes "precise") (codes "conservative")
 
 -- ---- from the numbers that the words say to the command
 
+-- a command without numbers
 abbrev pub none : Command → List ℕ → Option Command
 none command [] = Some command
 none command (a ∷ more) = None
 
+-- a command with one number
 abbrev pub one : (ℕ → Command) → List ℕ → Option Command
 one make (a ∷ []) = Some (make a)
 one make numbers = None
 
+-- a command with two numbers
 abbrev pub two : (ℕ → ℕ → Command) → List ℕ → Option Command
 two make (a ∷ b ∷ []) = Some (make a b)
 two make numbers = None
 
+-- a command with three numbers
 abbrev pub three : (ℕ → ℕ → ℕ → Command) → List ℕ → Option Command
 three make (a ∷ b ∷ c ∷ []) = Some (make a b c)
 three make numbers = None
@@ -93,39 +107,47 @@ new_command (p ∷ t ∷ []) = Some (C.New p t 0)
 new_command (p ∷ t ∷ e ∷ []) = Some (C.New p t e)
 new_command numbers = None
 
+-- a field is set to null or to what a slot holds
 abbrev pub set_command : List ℕ → Option Command
 set_command (p ∷ f ∷ zero ∷ []) = Some (C.SetNull p f)
 set_command (p ∷ f ∷ suc q ∷ []) = Some (C.Set p f q)
 set_command numbers = None
 
+-- a pair is set to null, or to what two slots hold; one null alone is no pair
 abbrev pub pair_command : List ℕ → Option Command
 pair_command (p ∷ f ∷ zero ∷ zero ∷ []) = Some (C.PairNull p f)
 pair_command (p ∷ f ∷ suc k ∷ suc v ∷ []) = Some (C.Pair p f k v)
 pair_command numbers = None
 
+-- all pages are swept, or so many
 abbrev pub sweep_command : List ℕ → Option Command
 sweep_command (zero ∷ []) = Some C.SweepAll
 sweep_command (suc n ∷ []) = Some (C.Sweep n)
 sweep_command numbers = None
 
+-- the threads are told to go, or joined
 abbrev pub threads_command : List ℕ → Option Command
 threads_command (zero ∷ []) = Some C.ThreadsGo
 threads_command (suc n ∷ []) = Some C.ThreadsJoin
 threads_command numbers = None
 
+-- a command with its want
 abbrev pub by_want : (Want → Command) → List ℕ → Option Command
 by_want make (zero ∷ []) = Some (make Precise)
 by_want make (suc n ∷ []) = Some (make Conservative)
 by_want make numbers = None
 
+-- an order without numbers, for a thread
 abbrev pub order_of_none : Order → List ℕ → Option Command
 order_of_none order (j ∷ []) = Some (C.At j order)
 order_of_none order numbers = None
 
+-- an order with one number, for a thread
 abbrev pub order_of_one : (ℕ → Order) → List ℕ → Option Command
 order_of_one make (j ∷ x ∷ []) = Some (C.At j (make x))
 order_of_one make numbers = None
 
+-- an order with two numbers, for a thread
 abbrev pub order_of_two : (ℕ → ℕ → Order) → List ℕ → Option Command
 order_of_two make (j ∷ x ∷ y ∷ []) = Some (C.At j (make x y))
 order_of_two make numbers = None
@@ -139,6 +161,7 @@ pub record Row : Type 0 where
   pub optional : List Place
   pub command : List ℕ → Option Command
 
+-- a row of which no place may be left out
 abbrev pub row : List ℕ → List Place → (List ℕ → Option Command) → Row
 row name places command = record { name = name; places = places; optional = []; command = command }
 
@@ -189,6 +212,7 @@ at_rows =
 
 -- ---- the form of a line
 
+-- what the words of a line choose
 pub data Form : Type 0 where
   -- the word that chooses the form isn't there; the places that stand before it
   Missing : List Place → Form
@@ -197,6 +221,7 @@ pub data Form : Type 0 where
   -- the places after the first word, and the command that the numbers say
   Known : List Place → (List ℕ → Option Command) → Form
 
+-- the row that a word chooses, if there is one
 abbrev pub row_named : List ℕ → List Row → Option Row
 row_named word [] = None
 row_named word (row ∷ rows) = if is_text word row.name then Some row else row_named word rows
@@ -205,22 +230,27 @@ row_named word (row ∷ rows) = if is_text word row.name then Some row else row_
 abbrev pub places_of : Row → ℕ → List Place
 places_of row words = if nat_lt (length row.places) words then row.places ++ row.optional else row.places
 
+-- the form of a row that the first word chooses
 abbrev pub plain_form : ℕ → Option Row → Form
 plain_form words None = Unknown
 plain_form words (Some row) = Known (places_of row words) row.command
 
+-- the form of a row that the word after `gc` chooses
 abbrev pub gc_form : ℕ → Option Row → Form
 gc_form words None = Unknown
 gc_form words (Some row) = Known (Fixed row.name ∷ places_of row words) row.command
 
+-- the form of a row that the word after `at` and its thread chooses
 abbrev pub at_form : ℕ → Option Row → Form
 at_form words None = Unknown
 at_form words (Some row) = Known (thread ∷ Fixed row.name ∷ places_of row words) row.command
 
+-- the form by the word after `gc`
 abbrev pub form_after_gc : List (List ℕ) → Form
 form_after_gc [] = Missing []
 form_after_gc (second ∷ rest) = gc_form (length rest) (row_named second gc_rows)
 
+-- the form by the second word after `at`
 abbrev pub form_after_at : List (List ℕ) → Form
 form_after_at [] = Missing []
 form_after_at (j ∷ []) = Missing (thread ∷ [])
@@ -233,6 +263,7 @@ type_places (letters ∷ []) = Letters ∷ []
 type_places (letters ∷ pre ∷ callbacks) =
     Letters ∷ Fixed (codes "pre") ∷ replicate (max 1 (length callbacks)) Callback
 
+-- the form of a line by its words
 abbrev pub form_of : List (List ℕ) → Form
 form_of [] = Missing []
 form_of (first ∷ rest) =

@@ -21,6 +21,7 @@ pub data Reason : Type 0 where
   Section : Reason
   TooLong : Reason
 
+-- the number of a reason, as a fault tells it
 abbrev pub number_of : Reason → ℕ
 number_of Header = 1
 number_of UnknownWord = 2
@@ -36,11 +37,13 @@ pub record Bounds : Type 0 where
   pub types : ℕ
   pub callbacks : ℕ
 
+-- the value of a word that is a number
 abbrev pub value_of : List ℕ → ℕ
 value_of word = value_after 0 word
 
 -- ---- the letters of a type
 
+-- a byte that stands for a kind of field
 abbrev pub is_letter : ℕ → Bool
 is_letter b = list_any (λ letter. b == letter) (codes "SWEP")
 
@@ -48,9 +51,11 @@ is_letter b = list_any (λ letter. b == letter) (codes "SWEP")
 abbrev pub are_letters : List ℕ → Bool
 are_letters word = is_text word (codes "-") || list_all is_letter word
 
+-- the kind for which a letter stands
 abbrev pub kind_of_letter : ℕ → Kind
 kind_of_letter b = if b == 83 then Strong else if b == 87 then Weak else if b == 69 then Pair else Plain
 
+-- the kinds for which the letters of a type line stand, in order
 abbrev pub kinds_of : List ℕ → List Kind
 kinds_of word = if is_text word (codes "-") then [] else map kind_of_letter word
 
@@ -80,6 +85,7 @@ is_bad Callback word = not (is_number word)
 abbrev pub is_beyond : ℕ → ℕ → List ℕ → Bool
 is_beyond from limit word = is_number word && not (nat_le from (value_of word) && nat_lt (value_of word) limit)
 
+-- the word says a number that is out of the range of its place, or has more letters than a type may have
 abbrev pub is_outside : Bounds → Place → List ℕ → Bool
 is_outside bounds (Fixed text) word = false
 is_outside bounds (Either one other) word = false
@@ -107,6 +113,7 @@ any_word is_so [] words = false
 any_word is_so (place ∷ places) [] = false
 any_word is_so (place ∷ places) (word ∷ words) = is_so place word || any_word is_so places words
 
+-- the numbers that the words say at their places, in order
 abbrev pub all_say : List Place → List (List ℕ) → List ℕ
 all_say [] words = []
 all_say (place ∷ places) [] = []
@@ -116,10 +123,12 @@ all_say (place ∷ places) (word ∷ words) = says place word ++ all_say places 
 abbrev pub rest_of : List (List ℕ) → List (List ℕ)
 rest_of words = drop 1 words
 
+-- the first word is this one
 abbrev pub first_is : List ℕ → List (List ℕ) → Bool
 first_is text [] = false
 first_is text (word ∷ words) = is_text word text
 
+-- one of the two is null and the other a number
 abbrev pub is_half : List ℕ → List ℕ → Bool
 is_half k v = (is_text k (codes "-") && is_number v) || (is_number k && is_text v (codes "-"))
 
@@ -128,21 +137,25 @@ abbrev pub is_half_null : List (List ℕ) → Bool
 is_half_null (first ∷ p ∷ f ∷ k ∷ v ∷ more) = is_text first (codes "pair") && is_half k v
 is_half_null words = false
 
+-- some word is none of those that may stand there, or chooses no form
 abbrev pub has_unknown_word : Form → List (List ℕ) → Bool
 has_unknown_word (Missing places) words = any_word is_unknown places (rest_of words)
 has_unknown_word Unknown words = true
 has_unknown_word (Known places command) words = any_word is_unknown places (rest_of words)
 
+-- some word is no number where one should be, or a pair is half null
 abbrev pub has_bad_number : Form → List (List ℕ) → Bool
 has_bad_number (Missing places) words = any_word is_bad places (rest_of words)
 has_bad_number Unknown words = false
 has_bad_number (Known places command) words = any_word is_bad places (rest_of words) || is_half_null words
 
+-- there are fewer or more words than the form has
 abbrev pub has_other_count : Form → List (List ℕ) → Bool
 has_other_count (Missing places) words = true
 has_other_count Unknown words = false
 has_other_count (Known places command) words = not (length (rest_of words) == length places)
 
+-- some number is out of its range
 abbrev pub has_outside : Bounds → Form → List (List ℕ) → Bool
 has_outside bounds (Missing places) words = any_word (is_outside bounds) places (rest_of words)
 has_outside bounds Unknown words = false
@@ -163,11 +176,13 @@ reason_of_words bounds words =
 
 -- ---- what the words say
 
+-- the command that the words of a form say
 abbrev pub command_by : Form → List (List ℕ) → Option Command
 command_by (Missing places) words = None
 command_by Unknown words = None
 command_by (Known places command) words = command (all_say places (rest_of words))
 
+-- the command that the words of a line say
 abbrev pub command_of_words : List (List ℕ) → Option Command
 command_of_words words = command_by (form_of words) words
 

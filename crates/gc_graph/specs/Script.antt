@@ -14,14 +14,17 @@ use Rattle.gc_graph.specs.Reasons.Reason.{Header, Order, Section, TooLong}
 abbrev pub IsTooLong : List ℕ → Type 0
 IsTooLong bytes = (16777216 < length bytes) ⊎ (1000000 < length (lines_of bytes))
 
+-- neither too many bytes nor too many lines
 abbrev pub IsInLimits : List ℕ → Type 0
 IsInLimits bytes = IsTooLong bytes → ⊥
 
 -- ---- kinds of lines
 
+-- the words of the first line are `oilpan` and `1`
 abbrev pub is_header : List ℕ → Bool
 is_header line = pointwise is_text (words_of line) (codes "oilpan" ∷ codes "1" ∷ [])
 
+-- a type line
 abbrev pub is_type : List ℕ → Bool
 is_type line = first_is (codes "type") (words_of line)
 
@@ -29,12 +32,15 @@ is_type line = first_is (codes "type") (words_of line)
 abbrev pub is_command : List ℕ → Bool
 is_command line = not (is_blank line) && not (is_type line)
 
+-- a line that gives a thread an order
 abbrev pub is_order : List (List ℕ) → Bool
 is_order words = first_is (codes "at") words
 
+-- a line that tells the threads to go
 abbrev pub is_go : List (List ℕ) → Bool
 is_go words = first_is (codes "threads") words && first_is (codes "go") (rest_of words)
 
+-- a line that joins the threads
 abbrev pub is_join : List (List ℕ) → Bool
 is_join words = first_is (codes "threads") words && first_is (codes "join") (rest_of words)
 
@@ -46,16 +52,19 @@ pub data Threads : Type 0 where
   Waiting : Threads
   Going : Threads
 
+-- no order waits and no thread runs
 abbrev pub are_at_rest : Threads → Bool
 are_at_rest AtRest = true
 are_at_rest Waiting = false
 are_at_rest Going = false
 
+-- orders wait
 abbrev pub are_waiting : Threads → Bool
 are_waiting AtRest = false
 are_waiting Waiting = true
 are_waiting Going = false
 
+-- the threads run
 abbrev pub are_going : Threads → Bool
 are_going AtRest = false
 are_going Waiting = false
@@ -69,6 +78,7 @@ threads_after threads words =
     else if is_join words then AtRest
     else threads
 
+-- the threads after these lines
 abbrev pub threads_of : List (List ℕ) → Threads
 threads_of lines = fold (λ threads line. threads_after threads (words_of line)) AtRest lines
 
@@ -91,6 +101,7 @@ reason_by_order before words last None =
     else if breaks_section (threads_of before) words last then Some Section
     else None
 
+-- how many types and callbacks a line may name, after these lines
 abbrev pub bounds_after : ℕ → List (List ℕ) → Bounds
 bounds_after callbacks before = record { types = count_by is_type before; callbacks = callbacks }
 

@@ -17,5 +17,6 @@ pub record IsJudged (callbacks : ℕ) (bytes : List ℕ) : Type 0 where
       (line reason other why : ℕ) → IsFault callbacks bytes line reason → IsFault callbacks bytes other why
       → (line ≡ other) × (reason ≡ why)
 
+-- so it is for each text of bytes
 abbrev pub TextsAreJudged : Type 0
 TextsAreJudged = (callbacks : ℕ) (bytes : List ℕ) → IsJudged callbacks bytes

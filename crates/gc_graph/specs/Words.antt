@@ -17,9 +17,11 @@ lines_of bytes = lines_of_parts (slice_split (λ b. b == 10) bytes)
 abbrev pub words_of : List ℕ → List (List ℕ)
 words_of line = filter (λ word. not (length word == 0)) (slice_split (λ b. b == 32) line)
 
+-- the word is this text
 abbrev pub is_text : List ℕ → List ℕ → Bool
 is_text word text = pointwise ◌==◌ word text
 
+-- a byte that is a digit
 abbrev pub is_digit : ℕ → Bool
 is_digit b = nat_le 48 b && nat_le b 57
 
@@ -38,5 +40,6 @@ is_number word =
 abbrev pub number_below : ℕ → List ℕ → Option ℕ
 number_below limit word = if is_number word && nat_lt (value_after 0 word) limit then Some (value_after 0 word) else None
 
+-- a line without words
 abbrev pub is_blank : List ℕ → Bool
 is_blank line = length (words_of line) == 0
