@@ -1,18 +1,14 @@
 -- What is true of every state is true of the first.
-use Rattle.std.proofs.Common.{◌≡◌, ℕ, ◌+◌, ◌*◌, ◌/◌, ◌%◌, ◌<◌, ◌≤◌, ◌^◌, List, [], length, get_or, replicate, Bool, true, false, eqb, Option, Some, None, refl, sym, ap, ◌∙◌, inl, inr, arith, Contains}
-use mathlib.Core.Logic.{◌⊎◌}
+use Rattle.std.proofs.Common.{◌≡◌, ℕ, ◌+◌, ◌*◌, ◌/◌, ◌%◌, ◌<◌, ◌^◌, List, [], get_or, replicate, false, refl, sym, ap, ◌∙◌, inl, inr, arith, Contains}
 use Rattle.std.specs.Int.{bit_at}
 use Rattle.std.proofs.lemmas.Bool.{ne_eqb, false≢true, cases_lt}
 use Rattle.std.proofs.lemmas.List.{length-replicate, get_or-replicate, get_or_past}
 use Rattle.std.proofs.lemmas.Nat.Bits.{bit_at-zero}
 use Rattle.gc_graph.specs.declared.graph.Kind.{Kind}
-use Rattle.marker_core.specs.declared.states.CoreState.{CoreState}
-use Rattle.marker_core.specs.declared.states.Hand.{Hand}
-use Rattle.marker_core.specs.Layout.{stop_at, bitmap_at, bit_is_set, is_start}
-use Rattle.marker_core.specs.Views.{IsHand}
+use Rattle.marker_core.specs.Layout.{stop_at, bitmap_at, bit_is_set}
 use Rattle.marker_core.specs.Matching.{AreTypes}
 use Rattle.marker_core.specs.Core.{IsCoreOk}
-use Rattle.marker_core.specs.Idle.{idle_view, idle_state}
+use Rattle.marker_core.specs.Idle.{idle_state}
 
 nothing_in : {X : Type 0} (x : X) → Contains [] x → ⊥
 nothing_in x h = omega (arith, h.1)

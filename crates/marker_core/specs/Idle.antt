@@ -1,5 +1,5 @@
 -- The state with which all begins.
-use Rattle.std.specs.Prelude.{ℕ, ◌+◌, ◌/◌, false, List, [], None, replicate}
+use Rattle.std.specs.Prelude.{ℕ, ◌+◌, false, List, [], None, replicate}
 use Rattle.gc_graph.specs.declared.graph.Kind.{Kind}
 use Rattle.marker_core.specs.declared.states.CoreState.{CoreState}
 use Rattle.marker_core.specs.declared.states.MutatorView.{MutatorView}
