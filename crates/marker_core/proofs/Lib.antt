@@ -41,5 +41,6 @@ pub mod Fitting
 pub mod MapLoop
 pub mod Leads
 pub mod Readable
+pub mod FirstState
 pub mod Runs
 pub mod ViewSets

@@ -10,6 +10,7 @@ pub mod Step
 pub mod Matching
 pub mod Tracing
 pub mod Core
+pub mod Idle
 pub mod Laws
 pub mod Faults
 pub mod Looking

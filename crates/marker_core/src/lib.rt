@@ -22,6 +22,7 @@
 mod bodies;
 mod cycle;
 mod hands;
+mod idle;
 mod laws;
 mod lists;
 mod markers;
@@ -33,7 +34,10 @@ mod reading;
 mod running;
 mod states;
 mod steps;
+#[cfg(test)]
+mod tests;
 
+pub use idle::idle_state;
 pub use laws::{
     ends_marked_out, every_run_keeps, every_step_keeps, new_and_read_may_be_kept,
     reach_over_is_least, settled_has_ended,

@@ -199,7 +199,8 @@ fn is_named(s: &CoreState, a: u32) -> bool
 }
 
 fn names_while_alive(s: &CoreState, a: u32, b: &Body) -> bool
-    ensures { result ≡ (not (holds s.now.mutator.dead b.now.place) && refers_to s.now.types a b.now) }
+    ensures { result
+        ≡ (not (holds s.now.mutator.dead b.now.place) && refers_to s.now.types a b.now) }
 {
     !holds(s.mutator.dead.as_slice(), u64::from(b.place)) && refers_to(s.types.as_slice(), a, b)
 }
