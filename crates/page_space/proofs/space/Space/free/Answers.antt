@@ -46,7 +46,7 @@ leave-requires-clause-some c page in_page =
     } in
     let over : IsSpaceOver space c.args.seat.now.count (extents_of_bodies c.args.seat.now.bodies) =
     subst (λ s. IsSpaceOver s c.args.seat.now.count (extents_of_bodies c.args.seat.now.bodies)) (sym c.self.view_is) c.requires.space in
-    let words = shape_words space.shape c.self.invariant.0 in
+    let words = shape_words space.shape c.self.invariant.shape in
     held_some space c.args.seat.now.count (extents_of_bodies c.args.seat.now.bodies) e page (omega (arith, words.0)) over there
     (omega (arith, c.header_at-size.ensures.inside, ap (λ s. word_count s.shape) c.self.view_is)) in_page
 
@@ -69,7 +69,7 @@ returns-clause-space c =
     let now : IsSpaceOver
     (record { shape = space.shape; objects = space.objects - 1; used = space.used - c.header_at-size.result.size; table = c.leave.new.self; gaps = c.forget.new.self })
     c.args.seat.now.count (filter (others c.args.a) es) =
-    left space c.args.seat.now.count es e c.leave.new.self c.forget.new.self (omega (arith, (shape_words space.shape c.self.invariant.0).0)) over (seat_apart c.args.seat.now c.bodies_lie_apart.ensures) there
+    left space c.args.seat.now.count es e c.leave.new.self c.forget.new.self (omega (arith, (shape_words space.shape c.self.invariant.shape).0)) over (seat_apart c.args.seat.now c.bodies_lie_apart.ensures) there
     (omega (arith, c.header_at-size.ensures.inside, c.requires.space.seat))
     (record { objects = c.leave.ensures.objects; buckets = c.leave.ensures.buckets })
     (record {
