@@ -1,6 +1,6 @@
 -- A space with one more object.
-use Rattle.std.proofs.Common.{◌≡◌, ℕ, ◌+◌, ◌<◌, ◌≤◌, Bool, List, [], ◌∷◌, ◌++◌, get_or, sym, ap, ◌∙◌, subst, inl, inr, arith, cond}
-use Rattle.std.specs.List.{sum_by, count_by}
+use Rattle.std.proofs.Common.{◌≡◌, ℕ, ◌+◌, ◌<◌, ◌≤◌, Bool, true, List, [], ◌∷◌, ◌++◌, get_or, sym, ap, ◌∙◌, subst, inl, inr, arith, cond}
+use Rattle.std.specs.List.{Contains, sum_by, count_by}
 use Rattle.std.proofs.lemmas.Bool.{cases_Bool}
 use Rattle.std.proofs.lemmas.List.{length_push}
 use Rattle.std.proofs.lemmas.List.Elements.{Contains-push, Contains-append_left, Contains-push_cases}
@@ -43,6 +43,63 @@ takes_more shape es e good = record {
   above = λ x high. any_same (es ++ e ∷ []) es x (λ taken. not_new es e x (λ c. let last : x < e.place + e.size = c.1 in omega arith) taken) (taken_push es e x);
 }
 
+-- objects that share a page are of one bucket, the new one with them
+shared_push : (space : SpaceView) (count : ℕ) (es : List Extent) (e : Extent) → IsSpaceOver space count es → IsGoodPlace space.shape es e
+    → (page : ℕ) (c d : Extent) → Contains (es ++ e ∷ []) c → Contains (es ++ e ∷ []) d → is_in_page space.shape.page_words page c ≡ true
+    → is_in_page space.shape.page_words page d ≡ true → bucket_of space.shape.page_words c.size ≡ bucket_of space.shape.page_words d.size
+shared_push space count es e over good page c d c_there d_there c_in d_in =
+    let w : ℕ = space.shape.page_words in
+    elim (Contains-push_cases es e c c_there) [
+      | inl c_old ↦ elim (Contains-push_cases es e d d_there) [
+        | inl d_old ↦ over.shared page c d c_old d_old c_in d_in
+        | inr d_new ↦ (good.shared page c c_old c_in (ap (is_in_page w page) d_new ∙ d_in)).0 ∙ ap (λ (f : Extent). bucket_of w f.size) d_new
+      ]
+      | inr c_new ↦ elim (Contains-push_cases es e d d_there) [
+        | inl d_old ↦ sym (ap (λ (f : Extent). bucket_of w f.size) c_new) ∙ sym (good.shared page d d_old d_in (ap (is_in_page w page) c_new ∙ c_in)).0
+        | inr d_new ↦ ap (λ (f : Extent). bucket_of w f.size) (sym c_new ∙ d_new)
+      ]
+    ]
+
+-- an object that shares a page with a large one is that one
+alone_push : (space : SpaceView) (count : ℕ) (es : List Extent) (e : Extent) → IsSpaceOver space count es → IsGoodPlace space.shape es e
+    → (page : ℕ) (c d : Extent) → Contains (es ++ e ∷ []) c → Contains (es ++ e ∷ []) d → is_in_page space.shape.page_words page c ≡ true
+    → is_in_page space.shape.page_words page d ≡ true → bucket_of space.shape.page_words d.size ≡ 4 → c ≡ d
+alone_push space count es e over good page c d c_there d_there c_in d_in large =
+    let w : ℕ = space.shape.page_words in
+    elim (Contains-push_cases es e c c_there) [
+      | inl c_old ↦ elim (Contains-push_cases es e d d_there) [
+        | inl d_old ↦ over.alone page c d c_old d_old c_in d_in large
+        | inr d_new ↦ absurd ((good.shared page c c_old c_in (ap (is_in_page w page) d_new ∙ d_in)).1 (ap (λ (f : Extent). bucket_of w f.size) d_new ∙ large))
+      ]
+      | inr c_new ↦ elim (Contains-push_cases es e d d_there) [
+        | inl d_old ↦
+            (let both = good.shared page d d_old d_in (ap (is_in_page w page) c_new ∙ c_in) in
+            absurd (both.1 (sym both.0 ∙ large)))
+        | inr d_new ↦ sym c_new ∙ d_new
+      ]
+    ]
+
+-- the table tells the bucket of each page, those of the new object with them
+buckets_push : (space : SpaceView) (count : ℕ) (es : List Extent) (e : Extent) (table : PageTable) → IsSpaceOver space count es
+    → IsGoodPlace space.shape es e → Enters space.shape.page_words e space.table table
+    → (page : ℕ) (d : Extent) → Contains (es ++ e ∷ []) d → is_in_page space.shape.page_words page d ≡ true
+    → get_or table.buckets page 0 ≡ bucket_of space.shape.page_words d.size
+buckets_push space count es e table over good enters page d there d_in =
+    let w : ℕ = space.shape.page_words in
+    elim (Contains-push_cases es e d there) [
+      | inl old ↦ elim (cases_Bool (is_in_page w page e)) [
+        | inl e_in ↦
+            enters.buckets page ∙ ap (λ t. cond t (bucket_of w e.size) (get_or space.table.buckets page 0)) e_in
+            ∙ sym (good.shared page d old d_in e_in).0
+        | inr e_out ↦
+            enters.buckets page ∙ ap (λ t. cond t (bucket_of w e.size) (get_or space.table.buckets page 0)) e_out
+            ∙ over.buckets page d old d_in
+      ]
+      | inr new ↦
+          enters.buckets page ∙ ap (λ t. cond t (bucket_of w e.size) (get_or space.table.buckets page 0)) (ap (is_in_page w page) new ∙ d_in)
+          ∙ ap (λ (f : Extent). bucket_of w f.size) new
+    ]
+
 pub joined : (space : SpaceView) (count : ℕ) (es : List Extent) (e : Extent) (table : PageTable) (gaps : GapTable) → IsSpaceOver space count es → 2 ≤ e.size
     → IsGoodPlace space.shape es e → Enters space.shape.page_words e space.table table → KnowsGaps space.shape (es ++ e ∷ []) gaps
     → IsSpaceOver (record { shape = space.shape; objects = space.objects + 1; used = space.used + e.size; table = table; gaps = gaps }) count (es ++ e ∷ [])
@@ -62,30 +119,8 @@ joined space count es e table gaps over some good enters knows =
         | inl old ↦ over.placed d old
         | inr new ↦ subst (IsPlacedWell space.shape) new good.well
       ];
-      shared = λ page c d c_there d_there c_in d_in.
-          elim (Contains-push_cases es e c c_there) [
-            | inl c_old ↦ elim (Contains-push_cases es e d d_there) [
-              | inl d_old ↦ over.shared page c d c_old d_old c_in d_in
-              | inr d_new ↦ (good.shared page c c_old c_in (ap (is_in_page w page) d_new ∙ d_in)).0 ∙ ap (λ (f : Extent). bucket_of w f.size) d_new
-            ]
-            | inr c_new ↦ elim (Contains-push_cases es e d d_there) [
-              | inl d_old ↦ sym (ap (λ (f : Extent). bucket_of w f.size) c_new) ∙ sym (good.shared page d d_old d_in (ap (is_in_page w page) c_new ∙ c_in)).0
-              | inr d_new ↦ ap (λ (f : Extent). bucket_of w f.size) (sym c_new ∙ d_new)
-            ]
-          ];
-      alone = λ page c d c_there d_there c_in d_in large.
-          elim (Contains-push_cases es e c c_there) [
-            | inl c_old ↦ elim (Contains-push_cases es e d d_there) [
-              | inl d_old ↦ over.alone page c d c_old d_old c_in d_in large
-              | inr d_new ↦ absurd ((good.shared page c c_old c_in (ap (is_in_page w page) d_new ∙ d_in)).1 (ap (λ (f : Extent). bucket_of w f.size) d_new ∙ large))
-            ]
-            | inr c_new ↦ elim (Contains-push_cases es e d d_there) [
-              | inl d_old ↦
-                  (let both = good.shared page d d_old d_in (ap (is_in_page w page) c_new ∙ c_in) in
-                  absurd (both.1 (sym both.0 ∙ large)))
-              | inr d_new ↦ sym c_new ∙ d_new
-            ]
-          ];
+      shared = shared_push space count es e over good;
+      alone = alone_push space count es e over good;
       objects = ap (λ n. n + 1) over.objects ∙ sym (length_push es e);
       used = ap (λ n. n + e.size) over.used ∙ sym (sum_by_push (λ d. d.size) es e);
       free =
@@ -95,18 +130,6 @@ joined space count es e table gaps over some good enters knows =
           let before : free_words es count + sum_by (λ (d : Extent). d.size) es ≡ count = over.free in
           omega arith);
       held = λ page within. enters.objects page ∙ ap (λ n. n + cond (is_in_page w page e) 1 0) (over.held page within) ∙ sym (one_more (is_in_page w page) es e);
-      buckets = λ page d there d_in. elim (Contains-push_cases es e d there) [
-        | inl old ↦ elim (cases_Bool (is_in_page w page e)) [
-          | inl e_in ↦
-              enters.buckets page ∙ ap (λ t. cond t (bucket_of w e.size) (get_or space.table.buckets page 0)) e_in
-              ∙ sym (good.shared page d old d_in e_in).0
-          | inr e_out ↦
-              enters.buckets page ∙ ap (λ t. cond t (bucket_of w e.size) (get_or space.table.buckets page 0)) e_out
-              ∙ over.buckets page d old d_in
-        ]
-        | inr new ↦
-            enters.buckets page ∙ ap (λ t. cond t (bucket_of w e.size) (get_or space.table.buckets page 0)) (ap (is_in_page w page) new ∙ d_in)
-            ∙ ap (λ (f : Extent). bucket_of w f.size) new
-      ];
+      buckets = buckets_push space count es e table over good enters;
       gaps = knows;
     }

@@ -7,7 +7,7 @@ use Rattle.std.proofs.lemmas.List.Elements.{Contains-append_left, Contains-push_
 use Rattle.gc_graph.specs.State.{Shape}
 use Rattle.gc_graph.specs.Placement.{Extent, HasWord, IsTaken, PageHasBucket, bucket_of}
 use Rattle.page_space.specs.Pages.{is_in_page}
-use Rattle.page_space.specs.Gaps.{GapTable, bounds_at, bound_at, is_surveyed, IsGap, IsInBlock, IsBounded, HasBlocks, IsFullBelow, IsTooFull, KnowsGaps}
+use Rattle.page_space.specs.Gaps.{GapTable, largest_remembered, bounds_at, bound_at, is_surveyed, IsGap, IsInBlock, IsBounded, HasBlocks, IsFullBelow, IsTooFull, KnowsGaps}
 use Rattle.page_space.specs.Space.{SpaceView, IsSpaceOver}
 use Rattle.page_space.proofs.PageSpan.{next_page, same_page, in_page_from, in_page_word, page_is}
 use Rattle.page_space.proofs.PlaceFound.{small_bucket, large_bucket}
@@ -248,12 +248,63 @@ own_page shape es e q a size some small good bucket covers low high =
       | inr takes ↦ absurd (small_bucket w size small (sym bucket ∙ large_bucket w e.size takes.0))
     ]
 
+-- words that belong to objects belong to them beside a new one, which has none of these words
+full_push : (shape : Shape) (es : List Extent) (e : Extent) (q low : ℕ) → 2 ≤ e.size → IsGoodPlace shape es e → IsFullBelow shape es q low
+    → IsFullBelow shape (es ++ e ∷ []) q low
+full_push shape es e q low large good was = record {
+  within = was.within;
+  full = λ x from below.
+      let taken : IsTaken es x = was.full x from below in
+      (taken.0, Contains-append_left es (e ∷ []) taken.0 taken.1, taken.2);
+  ends = λ d there from below. elim (Contains-push_cases es e d there) [
+    | inl old ↦ was.ends d old from below
+    | inr new ↦
+        (let at : e.place ≡ d.place = ap (λ (f : Extent). f.place) new in
+        absurd (good.free d.place (omega arith, omega arith) (was.full d.place from below)))
+  ];
+}
+
+-- a page that is passed by for a size is one whose bucket it had before the new object
+worth_push : (space : SpaceView) (count : ℕ) (es : List Extent) (e : Extent) (gaps : GapTable) → 256 ≤ space.shape.page_words
+    → 2 ≤ e.size → IsSpaceOver space count es → IsGoodPlace space.shape es e
+    → LowersWhereEmpty space.gaps gaps (get_or space.table.objects (e.place / space.shape.page_words) 0) (e.place / space.shape.page_words)
+    → (q size : ℕ) → size ≤ largest_remembered → q < get_or gaps.first size 0 → PageHasBucket space.shape.page_words (es ++ e ∷ []) q (bucket_of space.shape.page_words size)
+    → (is_surveyed gaps q ≡ true) × IsTooFull gaps q size
+worth_push space count es e gaps words large over good lowers q size small low bucket =
+    let w : ℕ = space.shape.page_words in
+    let bounds = λ (q : ℕ). let b : bounds_at gaps q ≡ bounds_at space.gaps q = ap (λ xs. get_or xs q []) lowers.pages in b in
+    let same = λ (q : ℕ). let s : is_surveyed gaps q ≡ is_surveyed space.gaps q = ap (λ xs. get_or xs q false) lowers.surveyed in s in
+    let before : q < get_or space.gaps.first size 0 = omega (arith, lowers.lower size) in
+    let so = λ (old : PageHasBucket w es q (bucket_of w size)).
+    let was = over.gaps.worth q size small before old in
+    let now : (is_surveyed gaps q ≡ true) × IsTooFull gaps q size = (same q ∙ was.0, (λ k. omega (arith, ap (λ b. get_or b k 0) (bounds q), was.1 k))) in now in
+    elim (Contains-push_cases es e bucket.0 bucket.2) [
+      | inl old ↦ so (bucket.0, bucket.1, old, bucket.3, bucket.4, bucket.5, bucket.6)
+      | inr new ↦
+          (let covers : HasWord e bucket.1 = subst (λ (d : Extent). HasWord d bucket.1) (sym new) bucket.3 in
+          let own : bucket_of w e.size ≡ bucket_of w size = ap (λ (d : Extent). bucket_of w d.size) new ∙ bucket.6 in
+          let page : (q < space.shape.pages) × (e.place / w ≡ q) =
+          own_page space.shape es e q bucket.1 size (omega arith) (omega arith) good own covers bucket.4 bucket.5 in
+          let e_in : is_in_page w q e ≡ true = in_page_from w q e bucket.1 (omega arith) covers bucket.4 bucket.5 in
+          elim (cases_lt 0 (get_or space.table.objects q 0)) [
+            | inl some ↦
+                (let one : (d : Extent) × Contains es d × (is_in_page w q d ≡ true) = some_counted (is_in_page w q) es (omega (arith, over.held q page.0)) in
+                let word : (a : ℕ) × HasWord one.0 a × (q * w ≤ a) × (a < (q + 1) * w) = in_page_word w q one.0 (omega arith) (sizes_of space count es over one.0 one.1) one.2 in
+                so (one.0, word.0, one.1, word.1, word.2, word.3, (good.shared q one.0 one.1 one.2 e_in).0 ∙ own))
+            | inr none ↦
+                absurd (omega (
+                  arith,
+                  page.1,
+                  lowers.empty (ap (λ p. get_or space.table.objects p 0) page.1 ∙ (let z : get_or space.table.objects q 0 ≡ 0 = omega arith in z)) size,
+                ))
+          ])
+    ]
+
 pub knows_joined : (space : SpaceView) (count : ℕ) (es : List Extent) (e : Extent) (gaps : GapTable) → 256 ≤ space.shape.page_words
     → 2 ≤ e.size → IsSpaceOver space count es → IsGoodPlace space.shape es e
     → LowersWhereEmpty space.gaps gaps (get_or space.table.objects (e.place / space.shape.page_words) 0) (e.place / space.shape.page_words)
     → KnowsGaps space.shape (es ++ e ∷ []) gaps
 knows_joined space count es e gaps words large over good lowers =
-    let w : ℕ = space.shape.page_words in
     let bounds = λ (q : ℕ). let b : bounds_at gaps q ≡ bounds_at space.gaps q = ap (λ xs. get_or xs q []) lowers.pages in b in
     let same = λ (q : ℕ). let s : is_surveyed gaps q ≡ is_surveyed space.gaps q = ap (λ xs. get_or xs q false) lowers.surveyed in s in
     record {
@@ -268,45 +319,9 @@ knows_joined space count es e gaps words large over good lowers =
             }) block,
           );
       low = λ q is.
-          let was : IsFullBelow space.shape es q (get_or space.gaps.low q 0) = over.gaps.low q (sym (same q) ∙ is) in
-          subst (λ xs. IsFullBelow space.shape (es ++ e ∷ []) q (get_or xs q 0)) (sym lowers.low) (record {
-            within = was.within;
-            full = λ x from below.
-                let taken : IsTaken es x = was.full x from below in
-                (taken.0, Contains-append_left es (e ∷ []) taken.0 taken.1, taken.2);
-            ends = λ d there from below. elim (Contains-push_cases es e d there) [
-              | inl old ↦ was.ends d old from below
-              | inr new ↦
-                  (let at : e.place ≡ d.place = ap (λ (f : Extent). f.place) new in
-                  absurd (good.free d.place (omega arith, omega arith) (was.full d.place from below)))
-            ];
-          });
-      worth = λ q size small low bucket.
-          let before : q < get_or space.gaps.first size 0 = omega (arith, lowers.lower size) in
-          let so = λ (old : PageHasBucket w es q (bucket_of w size)).
-          let was = over.gaps.worth q size small before old in
-          let now : (is_surveyed gaps q ≡ true) × IsTooFull gaps q size = (same q ∙ was.0, (λ k. omega (arith, ap (λ b. get_or b k 0) (bounds q), was.1 k))) in now in
-          elim (Contains-push_cases es e bucket.0 bucket.2) [
-            | inl old ↦ so (bucket.0, bucket.1, old, bucket.3, bucket.4, bucket.5, bucket.6)
-            | inr new ↦
-                (let covers : HasWord e bucket.1 = subst (λ (d : Extent). HasWord d bucket.1) (sym new) bucket.3 in
-                let own : bucket_of w e.size ≡ bucket_of w size = ap (λ (d : Extent). bucket_of w d.size) new ∙ bucket.6 in
-                let page : (q < space.shape.pages) × (e.place / w ≡ q) =
-                own_page space.shape es e q bucket.1 size (omega arith) (omega arith) good own covers bucket.4 bucket.5 in
-                let e_in : is_in_page w q e ≡ true = in_page_from w q e bucket.1 (omega arith) covers bucket.4 bucket.5 in
-                elim (cases_lt 0 (get_or space.table.objects q 0)) [
-                  | inl some ↦
-                      (let one : (d : Extent) × Contains es d × (is_in_page w q d ≡ true) = some_counted (is_in_page w q) es (omega (arith, over.held q page.0)) in
-                      let word : (a : ℕ) × HasWord one.0 a × (q * w ≤ a) × (a < (q + 1) * w) = in_page_word w q one.0 (omega arith) (sizes_of space count es over one.0 one.1) one.2 in
-                      so (one.0, word.0, one.1, word.1, word.2, word.3, (good.shared q one.0 one.1 one.2 e_in).0 ∙ own))
-                  | inr none ↦
-                      absurd (omega (
-                        arith,
-                        page.1,
-                        lowers.empty (ap (λ p. get_or space.table.objects p 0) page.1 ∙ (let z : get_or space.table.objects q 0 ≡ 0 = omega arith in z)) size,
-                      ))
-                ])
-          ];
+          subst (λ xs. IsFullBelow space.shape (es ++ e ∷ []) q (get_or xs q 0)) (sym lowers.low)
+          (full_push space.shape es e q (get_or space.gaps.low q 0) large good (over.gaps.low q (sym (same q) ∙ is)));
+      worth = worth_push space count es e gaps words large over good lowers;
     }
 
 -- ---- an object goes
@@ -318,6 +333,26 @@ pub record Forgets (w : ℕ) (e : Extent) (old new : GapTable) : Type 0 where
   pub fewer : (q : ℕ) → is_surveyed new q ≡ true → is_surveyed old q ≡ true
   pub lower : (size : ℕ) → get_or new.first size 0 ≤ get_or old.first size 0
   pub kept : (q size : ℕ) → q < get_or new.first size 0 → is_surveyed old q ≡ true → is_surveyed new q ≡ true
+
+-- words of a page that the object has no word in belong to objects without it
+full_left : (shape : Shape) (es : List Extent) (e : Extent) (q low : ℕ) → 0 < shape.page_words
+    → ((d : Extent) → Contains es d → d.place ≡ e.place → d ≡ e) → (is_in_page shape.page_words q e ≡ true → ⊥) → IsFullBelow shape es q low
+    → IsFullBelow shape (filter (others e.place) es) q low
+full_left shape es e q low words one elsewhere was =
+    let w : ℕ = shape.page_words in
+    record {
+      within = was.within;
+      full = λ x from below.
+          let taken : IsTaken es x = was.full x from below in
+          elim (cases_eq taken.0.place e.place) [
+            | inl own ↦
+                (let covers : HasWord e x = subst (λ (d : Extent). HasWord d x) (one taken.0 taken.1 own) taken.2 in
+                let last : low ≤ (q + 1) * w = was.within in
+                absurd (elsewhere (in_page_from w q e x words covers from (omega arith))))
+            | inr other ↦ (taken.0, contains_filter es e.place taken.0 other taken.1, taken.2)
+          ];
+      ends = λ d there from below. was.ends d (from_filter es e.place d there).0 from below;
+    }
 
 pub knows_left : (shape : Shape) (es : List Extent) (e : Extent) (old new : GapTable) → 0 < shape.page_words → KnowsGaps shape es old
     → ((d : Extent) → Contains es d → d.place ≡ e.place → d ≡ e) → Forgets shape.page_words e old new
@@ -344,20 +379,8 @@ knows_left shape es e old new words knows one forgets =
             }) block,
           );
       low = λ q is.
-          let was : IsFullBelow shape es q (get_or old.low q 0) = knows.low q (forgets.fewer q is) in
-          subst (λ xs. IsFullBelow shape (filter (others e.place) es) q (get_or xs q 0)) (sym forgets.low) (record {
-            within = was.within;
-            full = λ x from below.
-                let taken : IsTaken es x = was.full x from below in
-                elim (cases_eq taken.0.place e.place) [
-                  | inl own ↦
-                      (let covers : HasWord e x = subst (λ (d : Extent). HasWord d x) (one taken.0 taken.1 own) taken.2 in
-                      let last : get_or old.low q 0 ≤ (q + 1) * w = was.within in
-                      absurd (true≢false (sym is ∙ forgets.forgotten q (in_page_from w q e x words covers from (omega arith)))))
-                  | inr other ↦ (taken.0, contains_filter es e.place taken.0 other taken.1, taken.2)
-                ];
-            ends = λ d there from below. was.ends d (from_filter es e.place d there).0 from below;
-          });
+          subst (λ xs. IsFullBelow shape (filter (others e.place) es) q (get_or xs q 0)) (sym forgets.low)
+          (full_left shape es e q (get_or old.low q 0) words one (λ inside. true≢false (sym is ∙ forgets.forgotten q inside)) (knows.low q (forgets.fewer q is)));
       worth = λ q size small low bucket.
           let was = knows.worth q size small (omega (arith, forgets.lower size))
           (bucket.0, bucket.1, (from_filter es e.place bucket.0 bucket.2).0, bucket.3, bucket.4, bucket.5, bucket.6) in

@@ -51,6 +51,6 @@ body_size count bodies b whole h =
     omega (arith, w.fields)
 
 -- the size that a header tells is that of the body
-pub sizes_of : (v : SeatView) (a : ℕ) (header : Header) → ((b : Body) → Contains v.bodies b → b.place ≡ a → header ≡ header_in v b)
+pub tells_size : (v : SeatView) (a : ℕ) (header : Header) → ((b : Body) → Contains v.bodies b → b.place ≡ a → header ≡ header_in v b)
     → (b : Body) → Contains v.bodies b → b.place ≡ a → header.size ≡ b.size
-sizes_of v a header tells b has at = ap (λ (h : Header). h.size) (tells b has at)
+tells_size v a header tells b has at = ap (λ (h : Header). h.size) (tells b has at)

@@ -82,19 +82,6 @@ heaped_up nodes blocks node heaped low high long =
       ];
     }
 
--- where a leaf changed, its parent alone may be wrong
-pub leaf_set : (nodes : List ℕ) (blocks leaf value : ℕ) → IsHeaped nodes blocks 0 → blocks ≤ leaf → IsHeaped (set nodes leaf value) blocks (leaf / 2)
-leaf_set nodes blocks leaf value heaped low = record {
-  left = λ i some inside but.
-      let up : get_or (set nodes leaf value) i 0 ≡ get_or nodes i 0 = get_or-set_other nodes leaf i value 0 (λ e. omega arith) in
-      let down : get_or (set nodes leaf value) (2 * i) 0 ≡ get_or nodes (2 * i) 0 = get_or-set_other nodes leaf (2 * i) value 0 (λ e. but (omega arith)) in
-      omega (arith, heaped.left i some inside (λ e. omega arith));
-  right = λ i some inside but.
-      let up : get_or (set nodes leaf value) i 0 ≡ get_or nodes i 0 = get_or-set_other nodes leaf i value 0 (λ e. omega arith) in
-      let down : get_or (set nodes leaf value) (2 * i + 1) 0 ≡ get_or nodes (2 * i + 1) 0 = get_or-set_other nodes leaf (2 * i + 1) value 0 (λ e. but (omega arith)) in
-      omega (arith, heaped.right i some inside (λ e. omega arith));
-}
-
 pub leaf_no_more_than_root : (nodes : List ℕ) (blocks k : ℕ) → IsHeaped nodes blocks 0 → 1 ≤ blocks → length nodes ≡ 2 * blocks
     → get_or nodes (blocks + k) 0 ≤ get_or nodes 1 0
 leaf_no_more_than_root nodes blocks k heaped some long =

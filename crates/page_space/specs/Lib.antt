@@ -1,6 +1,9 @@
 pub mod Gaps
+pub mod GapFields
 pub mod Trees
 pub mod Walks
 pub mod Pages
+pub mod TableFields
 pub mod Space
+pub mod SpaceFields
 pub mod Occupying

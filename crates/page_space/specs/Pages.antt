@@ -8,10 +8,11 @@ pub use Rattle.gc_graph.specs.Valid.{word_count}
 abbrev pub is_between : ℕ → ℕ → ℕ → Bool
 is_between first end n = nat_le first n && nat_lt n end
 
--- the page of an object's first word, and the page after that of its last word
+-- the page of an object's first word
 abbrev pub first_page : ℕ → Extent → ℕ
 first_page page_words e = e.place / page_words
 
+-- the page after that of its last word
 abbrev pub page_after : ℕ → Extent → ℕ
 page_after page_words e = (e.place + e.size - 1) / page_words + 1
 

@@ -22,10 +22,11 @@ pub record SpaceView : Type 0 where
 abbrev pub IsSeatOf : SpaceView → SeatView → Type 0
 IsSeatOf space v = v.count ≡ word_count space.shape
 
--- the words of a body, and those of each
+-- the words of a body
 abbrev pub extent_of : Body → Extent
 extent_of b = record { place = b.place; size = b.size }
 
+-- the words of each body
 abbrev pub extents_of_bodies : List Body → List Extent
 extents_of_bodies bodies = map extent_of bodies
 

@@ -1,10 +1,12 @@
--- A tree of bounds: the leaves are those of the blocks, and an inner node is no less than its children.
+-- A tree of bounds, one for each block of a page.
 use Rattle.std.specs.Prelude.{◌≡◌, ℕ, ◌+◌, ◌*◌, ◌^◌, ◌<◌, ◌≤◌, List, length, drop, slice_index}
 use Rattle.page_space.specs.declared.tree.Tree.TheInside.{Inside}
 
+-- the bounds of the blocks, which are the leaves
 abbrev pub bounds_in : Inside → List ℕ
 bounds_in t = drop t.blocks t.nodes.items
 
+-- a power of two of leaves, and each inner node is no less than its two children
 pub record IsTree (t : Inside) : Type 0 where
   pub few : t.depth ≤ 8
   pub blocks : t.blocks ≡ 2 ^ t.depth

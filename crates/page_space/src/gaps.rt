@@ -4,6 +4,7 @@ ghost use Rattle.std.specs.Prelude.{◌≡◌, ◌≢◌, ℕ, ◌+◌, ◌^◌,
 ghost use Rattle.std.specs.Prelude.{IfOk, length, slice_index, slice_set, replicate};
 ghost use Rattle.page_space.specs.Pages.{is_between};
 ghost use Rattle.page_space.specs.Gaps.{HasBlocks, bounds_at, bound_at, is_surveyed};
+ghost use Rattle.page_space.specs.Gaps.{largest_remembered};
 
 use crate::tree::Tree;
 use gc_graph::NoMemory;
@@ -14,7 +15,7 @@ use std::marker::Model;
 pub const LARGEST_REMEMBERED: u32 = 63;
 
 /// For each page the bounds of its blocks, its lowest word that may be free, and whether these
-/// hold; for each size up to 63 the lowest page worth a look.
+/// hold; for each size up to the largest remembered the lowest page worth a look.
 #[derive(Drop)]
 pub struct Gaps {
     pages: Vec<Tree>,
@@ -24,10 +25,11 @@ pub struct Gaps {
 }
 
 impl Model for Gaps {
-    ghost use Rattle.std.specs.Prelude.{◌≡◌, ◌≤◌, length};
     ghost use Rattle.page_space.specs.Gaps.{GapTable};
 
     ghost Value = { GapTable };
+
+    ghost use Rattle.page_space.specs.GapFields.{IsGaps};
 
     ghost view = { λ g. record {
       pages = g.pages.items;
@@ -36,9 +38,7 @@ impl Model for Gaps {
       first = g.first.items;
     } };
 
-    ghost invariant = { λ g. (length g.low.items ≡ length g.pages.items)
-        × (length g.surveyed.items ≡ length g.pages.items)
-        × (length g.first.items ≡ 64) };
+    ghost invariant = { IsGaps };
 }
 
 impl Gaps {
@@ -48,7 +48,7 @@ impl Gaps {
         ensures pages { IfOk result (λ g. length g.pages ≡ pages) }
         ensures blocks { IfOk result (λ g. HasBlocks g.pages (2 ^ depth)) }
         ensures surveyed { IfOk result (λ g. g.surveyed ≡ replicate pages false) }
-        ensures first { IfOk result (λ g. g.first ≡ replicate 64 0) }
+        ensures first { IfOk result (λ g. g.first ≡ replicate (largest_remembered + 1) 0) }
     {
         let low = vec![in alloc; 0u32; pages as usize]?;
         let surveyed = vec![in alloc; false; pages as usize]?;
@@ -123,7 +123,8 @@ impl Gaps {
     pub fn set_low(&mut self, page: u32, low: u32)
         requires { page < length self.old.pages }
         ensures here { slice_index self.new.low page ≡ low }
-        ensures there { (q : ℕ) → q ≢ page → slice_index self.new.low q ≡ slice_index self.old.low q }
+        ensures there { (q : ℕ) → q ≢ page
+            → slice_index self.new.low q ≡ slice_index self.old.low q }
         ensures pages { self.new.pages ≡ self.old.pages }
         ensures surveyed { self.new.surveyed ≡ self.old.surveyed }
         ensures first { self.new.first ≡ self.old.first }
@@ -195,7 +196,7 @@ impl Gaps {
 
     /// The lowest page worth a look for the size.
     pub fn first_for(&self, size: u32) -> u32
-        requires { size ≤ 63 }
+        requires { size ≤ largest_remembered }
         ensures { result ≡ slice_index self.now.first size }
     {
         self.first[size as usize]
@@ -203,7 +204,7 @@ impl Gaps {
 
     /// Changes the lowest page worth a look for the size.
     pub fn set_first(&mut self, size: u32, page: u32)
-        requires { size ≤ 63 }
+        requires { size ≤ largest_remembered }
         ensures first { slice_index self.new.first size ≡ page }
         ensures others { (n : ℕ) → n ≢ size → slice_index self.new.first n
             ≡ slice_index self.old.first n }

@@ -10,7 +10,7 @@
 //! a word in it, and their bucket, and `gaps` remembers where a search is worth its time: bounds
 //! for the gaps that begin in each block of 64 words of a page (`tree`), the lowest word that may
 //! be free, and for each size the lowest page worth a look. `walking` goes from object to object,
-//! `surveying` works the bounds out. The next level down is `page_words`.
+//! `surveying` works the bounds out, `passing` the lowest page. The next level down is `page_words`.
 //!
 //! | size in words | bucket |
 //! |---|---|
@@ -31,6 +31,7 @@
 
 mod changing;
 mod gaps;
+mod passing;
 mod placing;
 mod reading;
 mod space;

@@ -8,12 +8,12 @@ ghost use Rattle.gc_graph.specs.Placement.{IsLowest, IsNowhere, bucket_of};
 ghost use Rattle.page_space.specs.Space.{IsSpaceOf, FitsBetween, FitsIn};
 ghost use Rattle.page_space.specs.Space.{HoldsWhole, SinceEmpty};
 ghost use Rattle.page_space.specs.Space.{IsFreePlace, extents_of_bodies};
-ghost use Rattle.page_space.specs.Gaps.{IsGap, is_surveyed};
+ghost use Rattle.page_space.specs.Gaps.{IsGap, IsBlock, is_surveyed};
 ghost use Rattle.page_space.specs.Walks.{BeginsIn};
 
 use crate::gaps::LARGEST_REMEMBERED;
 use crate::space::{Space, bucket_of};
-use page_words::MutatorSeat;
+use page_words::{BLOCK_WORDS, MutatorSeat};
 
 impl Space {
     /// The lowest address at which the size fits in a page of its bucket, from page `from` up to,
@@ -22,10 +22,10 @@ impl Space {
         requires space { IsSpaceOf self.now seat.old }
         requires some { 2 ≤ size }
         requires to { to ≤ self.now.shape.pages }
-        ensures found { IfSome result
-            (IsLowest (FitsBetween self.now.shape from to (extents_of_bodies seat.old.bodies) size)) }
-        ensures none { IfNone result
-            (IsNowhere (FitsBetween self.now.shape from to (extents_of_bodies seat.old.bodies) size)) }
+        ensures found { IfSome result (IsLowest
+            (FitsBetween self.now.shape from to (extents_of_bodies seat.old.bodies) size)) }
+        ensures none { IfNone result (IsNowhere
+            (FitsBetween self.now.shape from to (extents_of_bodies seat.old.bodies) size)) }
         ensures place { IfSome result
             (IsFreePlace self.now.shape (extents_of_bodies seat.old.bodies) size) }
         ensures view { seat.new ≡ seat.old }
@@ -86,7 +86,8 @@ impl Space {
     fn empty_since(&self, seat: &mut MutatorSeat, page: u32, before: u32) -> u32
         requires space { IsSpaceOf self.now seat.old }
         requires page { page < self.now.shape.pages }
-        ensures since { SinceEmpty self.now.shape (extents_of_bodies seat.old.bodies) page before result }
+        ensures since { SinceEmpty self.now.shape (extents_of_bodies seat.old.bodies)
+            page before result }
         ensures view { seat.new ≡ seat.old }
     {
         self.shape_is_valid();
@@ -118,8 +119,8 @@ impl Space {
     pub(crate) fn has_bucket(&self, seat: &mut MutatorSeat, page: u32, bucket: u32) -> bool
         requires space { IsSpaceOf self.now seat.old }
         requires page { page < self.now.shape.pages }
-        ensures bucket { IsTrue result
-            ↔ PageHasBucket self.now.shape.page_words (extents_of_bodies seat.old.bodies) page bucket }
+        ensures bucket { IsTrue result ↔ PageHasBucket self.now.shape.page_words
+            (extents_of_bodies seat.old.bodies) page bucket }
         ensures view { seat.new ≡ seat.old }
     {
         match self.page_bucket(seat, page) {
@@ -197,7 +198,7 @@ impl Space {
         requires surveyed { is_surveyed self.now.gaps page ≡ true }
         requires whole { HoldsWhole self.now.shape seat.old.bodies page }
         requires page { page < self.now.shape.pages }
-        requires block { 64 * k < self.now.shape.page_words }
+        requires block { IsBlock self.now.shape k }
         requires some { 2 ≤ size }
         requires small { size ≤ self.now.shape.page_words / 2 }
         ensures found { IfSome result (IsLowest
@@ -210,11 +211,11 @@ impl Space {
         if self.gaps.bound(page, k) < size {
             return None;
         }
-        let start = page * self.page_words + 64 * k;
+        let start = page * self.page_words + BLOCK_WORDS * k;
         let from = self.first_left(seat, page, k);
-        if from >= start + 64 {
+        if from >= start + BLOCK_WORDS {
             return None;
         }
-        self.gap_from(seat, page, from, start + 64, size)
+        self.gap_from(seat, page, from, start + BLOCK_WORDS, size)
     }
 }

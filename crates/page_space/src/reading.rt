@@ -4,12 +4,13 @@ ghost use Rattle.std.specs.Prelude.{◌≡◌, ◌+◌, ◌*◌, ◌^◌, ◌<�
 ghost use Rattle.std.specs.Prelude.{◌≤◌, ◌↔◌, IsTrue, IfSome, IfNone, Contains, All};
 ghost use Rattle.gc_graph.specs.Placement.{IsLowest, IsNowhere};
 ghost use Rattle.page_words.specs.Bodies.{Body, IsPlace};
+ghost use Rattle.page_words.specs.Seat.{block_words};
 ghost use Rattle.page_space.specs.Pages.{word_count};
 ghost use Rattle.page_space.specs.Space.{IsSeatOf, IsPlaceFrom, HasNoStart, header_in};
 
 use crate::space::Space;
 use object_headers::{Header, SERIAL};
-use page_words::MutatorSeat;
+use page_words::{BLOCK_WORDS, MutatorSeat};
 
 impl Space {
     /// The lowest place that is not below an address.
@@ -28,8 +29,8 @@ impl Space {
         if place < end { Some(place) } else { None }
     }
 
-    /// The lowest place from an address up to, and without, `end`, or `end`. It looks at 64 start
-    /// bits at a time.
+    /// The lowest place from an address up to, and without, `end`, or `end`. It looks at a
+    /// word of start bits at a time.
     pub(crate) fn start_from(&self, seat: &mut MutatorSeat, from: u32, end: u32) -> u32
         requires heap { IsSeatOf self.now seat.old }
         requires order { from ≤ end }
@@ -43,22 +44,24 @@ impl Space {
         self.shape_is_valid();
         let mut at = from;
         while at < end {
-            let bits = self.words.load(seat, self.words.count() + at / 64) >> (at % 64);
+            let starts = self.words.count() + at / BLOCK_WORDS;
+            let bits = self.words.load(seat, starts) >> (at % BLOCK_WORDS);
             if bits != 0 {
                 return (at + bits.trailing_zeros()).min(end);
             }
-            at = at / 64 * 64 + 64;
+            at = at / BLOCK_WORDS * BLOCK_WORDS + BLOCK_WORDS;
         }
         end
     }
 
-    /// The highest place in the words from 64 times `first` up to, and without, 64 times `end`.
+    /// The highest place in the blocks from `first` up to, and without, `end`.
     pub(crate) fn last_start(&self, seat: &mut MutatorSeat, first: u32, end: u32) -> Option<u32>
         requires heap { IsSeatOf self.now seat.old }
-        requires end { 64 * end ≤ word_count self.now.shape }
-        ensures found { IfSome result (λ p. IsPlace seat.old.bodies p × (64 * first ≤ p)
-            × (p < 64 * end) × HasNoStart seat.old.bodies (p + 1) (64 * end)) }
-        ensures none { IfNone result (HasNoStart seat.old.bodies (64 * first) (64 * end)) }
+        requires end { block_words * end ≤ word_count self.now.shape }
+        ensures found { IfSome result (λ p. IsPlace seat.old.bodies p × (block_words * first ≤ p)
+            × (p < block_words * end) × HasNoStart seat.old.bodies (p + 1) (block_words * end)) }
+        ensures none { IfNone result
+            (HasNoStart seat.old.bodies (block_words * first) (block_words * end)) }
         ensures view { seat.new ≡ seat.old }
     {
         self.shape_is_valid();
@@ -67,7 +70,7 @@ impl Space {
             word -= 1;
             let bits = self.words.load(seat, self.words.count() + word);
             if bits != 0 {
-                return Some(64 * word + bits.ilog2());
+                return Some(BLOCK_WORDS * word + bits.ilog2());
             }
         }
         None
@@ -80,8 +83,8 @@ impl Space {
         ensures start { IsTrue result ↔ IsPlace seat.old.bodies a }
         ensures view { seat.new ≡ seat.old }
     {
-        let bits = self.words.load(seat, self.words.count() + a / 64);
-        bits >> (a % 64) & 1 == 1
+        let bits = self.words.load(seat, self.words.count() + a / BLOCK_WORDS);
+        bits >> (a % BLOCK_WORDS) & 1 == 1
     }
 
     /// The header of the object that starts at an address.

@@ -4,7 +4,7 @@ ghost use Rattle.std.specs.Prelude.{◌≡◌, ℕ, ◌*◌, ◌^◌, ◌<◌, �
 ghost use Rattle.std.specs.Prelude.{◌↔◌, IfOk, Some, None, length, sum_by};
 ghost use Rattle.gc_graph.specs.Placement.{PageHasBucket, IsEmptyPage, IsUsedPages, bucket_of};
 ghost use Rattle.gc_graph.specs.Shapes.{IsShape, IsPageWords};
-ghost use Rattle.page_words.specs.Seat.{SeatView, empty_view, stored};
+ghost use Rattle.page_words.specs.Seat.{SeatView, block_words, empty_view, stored};
 ghost use Rattle.page_space.specs.Pages.{word_count};
 ghost use Rattle.page_space.specs.Space.{IsSpaceOf, extents_of_bodies};
 
@@ -29,26 +29,21 @@ pub struct Space {
 }
 
 impl Model for Space {
-    ghost use Rattle.std.specs.Prelude.{◌≡◌, ◌/◌, length};
-    ghost use Rattle.page_space.specs.Gaps.{HasBlocks};
-    ghost use Rattle.gc_graph.specs.Shapes.{IsShape};
-    ghost use Rattle.page_space.specs.Pages.{word_count};
     ghost use Rattle.page_space.specs.Space.{SpaceView};
 
     ghost Value = { SpaceView };
 
+    ghost use Rattle.page_space.specs.SpaceFields.{shape_of, IsSpace};
+
     ghost view = { λ s. record {
-      shape = record { pages = s.pages; page_words = s.page_words };
+      shape = shape_of s;
       objects = s.objects;
       used = s.used;
       table = s.table;
       gaps = s.gaps;
     } };
 
-    ghost invariant = { λ s. IsShape (record { pages = s.pages; page_words = s.page_words })
-        × (s.words ≡ word_count (record { pages = s.pages; page_words = s.page_words }))
-        × (length s.table.objects ≡ s.pages) × (length s.table.buckets ≡ s.pages)
-        × (length s.gaps.pages ≡ s.pages) × HasBlocks s.gaps.pages (s.page_words / 64) };
+    ghost invariant = { IsSpace };
 }
 
 impl Space {
@@ -150,8 +145,8 @@ impl Space {
     pub fn page_bucket(&self, seat: &mut MutatorSeat, page: u32) -> Option<u32>
         requires space { IsSpaceOf self.now seat.old }
         requires page { page < self.now.shape.pages }
-        ensures bucket { (bucket : ℕ) → (result ≡ Some bucket)
-            ↔ PageHasBucket self.now.shape.page_words (extents_of_bodies seat.old.bodies) page bucket }
+        ensures bucket { (bucket : ℕ) → (result ≡ Some bucket) ↔ PageHasBucket
+            self.now.shape.page_words (extents_of_bodies seat.old.bodies) page bucket }
         ensures none { (result ≡ None)
             ↔ IsEmptyPage self.now.shape (extents_of_bodies seat.old.bodies) page }
         ensures view { seat.new ≡ seat.old }
@@ -178,10 +173,10 @@ pub fn bucket_of(page_words: u32, size: u32) -> u32
     }
 }
 
-/// Which power of two the number of blocks of 64 words is.
+/// Which power of two the number of a page's blocks is.
 fn depth_of(page_words: u32) -> u32
     requires { IsPageWords page_words }
-    ensures depth { 64 * 2 ^ result ≡ page_words }
+    ensures depth { block_words * 2 ^ result ≡ page_words }
     ensures few { result ≤ 8 }
 {
     match page_words {

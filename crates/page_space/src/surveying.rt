@@ -1,15 +1,15 @@
-// Bounds for the gaps of a page, worked out from its objects, and the lowest page worth a look.
+// Bounds for the gaps of a page, worked out from its objects.
 
-ghost use Rattle.std.specs.Prelude.{◌≡◌, ℕ, ◌+◌, ◌*◌, ◌/◌, ◌<◌, ◌≤◌, true, false};
-ghost use Rattle.gc_graph.specs.Placement.{PageHasBucket, bucket_of};
+ghost use Rattle.std.specs.Prelude.{◌≡◌, ℕ, ◌+◌, ◌*◌, ◌<◌, ◌≤◌, true, false};
+ghost use Rattle.page_words.specs.Seat.{block_words};
 ghost use Rattle.page_space.specs.Pages.{word_count};
 ghost use Rattle.page_space.specs.Space.{IsSpaceOf, extents_of_bodies};
-ghost use Rattle.page_space.specs.Gaps.{IsBounded, IsFullBelow, IsTooFull, is_surveyed, bound_at};
+ghost use Rattle.page_space.specs.Gaps.{IsBounded, IsFullBelow, is_surveyed, bound_at};
+ghost use Rattle.page_space.specs.Gaps.{IsBlock, block_at, block_end};
 ghost use Rattle.page_space.specs.Walks.{BeginsIn, EndsBy};
 
-use crate::gaps::LARGEST_REMEMBERED;
-use crate::space::{Space, bucket_of};
-use page_words::MutatorSeat;
+use crate::space::Space;
+use page_words::{BLOCK_WORDS, MutatorSeat};
 
 impl Space {
     /// Looks at a page again from which objects went, so that the next searches there look where
@@ -29,8 +29,8 @@ impl Space {
         }
         let blocks = self.blocks();
         self.refresh(seat, page, 0, blocks);
-        let start = page * 64 * blocks;
-        let low = self.full_from(seat, start, start + 64 * blocks);
+        let start = page * BLOCK_WORDS * blocks;
+        let low = self.full_from(seat, start, start + BLOCK_WORDS * blocks);
         self.confirm(seat, page, low);
     }
 
@@ -39,7 +39,7 @@ impl Space {
         requires space { IsSpaceOf self.old seat.old }
         requires page { page < self.old.shape.pages }
         requires unknown { is_surveyed self.old.gaps page ≡ false }
-        requires bounded { (k : ℕ) → 64 * k < self.old.shape.page_words → IsBounded self.old.shape
+        requires bounded { (k : ℕ) → IsBlock self.old.shape k → IsBounded self.old.shape
             (extents_of_bodies seat.old.bodies) self.old.gaps page k }
         requires low { IsFullBelow self.old.shape (extents_of_bodies seat.old.bodies) page low }
         ensures space { IsSpaceOf self.new seat.new }
@@ -62,7 +62,7 @@ impl Space {
         ensures view { seat.new ≡ seat.old }
     {
         if self.gaps.low(page) == a {
-            let end = (page + 1) * 64 * self.blocks();
+            let end = (page + 1) * BLOCK_WORDS * self.blocks();
             let low = self.full_from(seat, a, end);
             self.gaps.set_low(page, low);
         }
@@ -80,8 +80,8 @@ impl Space {
         self.shape_is_valid();
         let page = a / self.page_words;
         if self.gaps.is_surveyed(page) {
-            let first = a % self.page_words / 64;
-            let end = (a + size - 1) % self.page_words / 64 + 1;
+            let first = a % self.page_words / BLOCK_WORDS;
+            let end = (a + size - 1) % self.page_words / BLOCK_WORDS + 1;
             self.fill_up(seat, page, a);
             self.refresh(seat, page, first, end);
         } else {
@@ -93,7 +93,7 @@ impl Space {
     fn refresh(&mut self, seat: &mut MutatorSeat, page: u32, from: u32, to: u32)
         requires space { IsSpaceOf self.old seat.old }
         requires page { page < self.old.shape.pages }
-        requires to { 64 * to ≤ self.old.shape.page_words }
+        requires to { block_words * to ≤ self.old.shape.page_words }
         requires next { IsBounded self.old.shape (extents_of_bodies seat.old.bodies)
             self.old.gaps page to }
         ensures bounded { (k : ℕ) → from ≤ k → k < to → IsBounded self.new.shape
@@ -114,7 +114,7 @@ impl Space {
     fn refresh_block(&mut self, seat: &mut MutatorSeat, page: u32, k: u32)
         requires space { IsSpaceOf self.old seat.old }
         requires page { page < self.old.shape.pages }
-        requires block { 64 * k < self.old.shape.page_words }
+        requires block { IsBlock self.old.shape k }
         requires next { IsBounded self.old.shape (extents_of_bodies seat.old.bodies)
             self.old.gaps page (k + 1) }
         ensures bounded { IsBounded self.new.shape (extents_of_bodies seat.new.bodies)
@@ -135,8 +135,9 @@ impl Space {
     /// The lesser of a new bound and the old one, where the old one holds.
     fn tightened(&self, page: u32, k: u32, bound: u32) -> u32
         requires page { page < self.now.shape.pages }
-        requires block { 64 * k < self.now.shape.page_words }
-        ensures less { is_surveyed self.now.gaps page ≡ true → result ≤ bound_at self.now.gaps page k }
+        requires block { IsBlock self.now.shape k }
+        ensures less { is_surveyed self.now.gaps page ≡ true
+            → result ≤ bound_at self.now.gaps page k }
         ensures least { (n : ℕ) → n ≤ bound → (is_surveyed self.now.gaps page ≡ true
             → n ≤ bound_at self.now.gaps page k) → n ≤ result }
     {
@@ -151,7 +152,7 @@ impl Space {
     fn longest_in(&self, seat: &mut MutatorSeat, page: u32, k: u32) -> u32
         requires space { IsSpaceOf self.now seat.old }
         requires page { page < self.now.shape.pages }
-        requires block { 64 * k < self.now.shape.page_words }
+        requires block { IsBlock self.now.shape k }
         requires next { IsBounded self.now.shape (extents_of_bodies seat.old.bodies)
             self.now.gaps page (k + 1) }
         ensures bound { (size a : ℕ) → BeginsIn self.now.shape
@@ -159,7 +160,7 @@ impl Space {
         ensures view { seat.new ≡ seat.old }
     {
         self.shape_is_valid();
-        let until = page * self.page_words + 64 * k + 64;
+        let until = page * self.page_words + BLOCK_WORDS * k + BLOCK_WORDS;
         let from = self.first_left(seat, page, k);
         if from >= until {
             return 0;
@@ -173,78 +174,24 @@ impl Space {
     fn limit_of(&self, seat: &mut MutatorSeat, page: u32, k: u32) -> u32
         requires space { IsSpaceOf self.now seat.old }
         requires page { page < self.now.shape.pages }
-        requires block { 64 * k < self.now.shape.page_words }
+        requires block { IsBlock self.now.shape k }
         requires next { IsBounded self.now.shape (extents_of_bodies seat.old.bodies)
             self.now.gaps page (k + 1) }
-        ensures least { page * self.now.shape.page_words + 64 * k + 64 ≤ result }
+        ensures least { block_end self.now.shape page k ≤ result }
         ensures ends { EndsBy self.now.shape (extents_of_bodies seat.old.bodies) page
-            (page * self.now.shape.page_words + 64 * k)
-            (page * self.now.shape.page_words + 64 * k + 64) result }
+            (block_at self.now.shape page k) (block_end self.now.shape page k) result }
         ensures view { seat.new ≡ seat.old }
     {
         self.shape_is_valid();
-        let until = page * self.page_words + 64 * k + 64;
+        let until = page * self.page_words + BLOCK_WORDS * k + BLOCK_WORDS;
         let end = (page + 1) * self.page_words;
         if until == end {
             return end;
         }
-        let next = self.start_from(seat, until, until + 64);
-        if next < until + 64 {
+        let next = self.start_from(seat, until, until + BLOCK_WORDS);
+        if next < until + BLOCK_WORDS {
             return next;
         }
         until.saturating_add(self.gaps.bound(page, k + 1))
-    }
-
-    /// Passes by the pages below this one that have no room for the size, from the next search on:
-    /// after a search that found nothing, for one. The answers of searches are the same.
-    pub fn pass_by(&mut self, seat: &mut MutatorSeat, size: u32, page: u32)
-        requires space { IsSpaceOf self.old seat.old }
-        requires page { page ≤ self.old.shape.pages }
-        ensures space { IsSpaceOf self.new seat.new }
-        ensures shape { self.new.shape ≡ self.old.shape }
-        ensures view { seat.new ≡ seat.old }
-    {
-        let remembered = size.min(LARGEST_REMEMBERED);
-        let first = self.gaps.first_for(remembered);
-        if first < page {
-            let worth = self.first_worth(seat, first, page, remembered);
-            self.gaps.set_first(remembered, worth);
-        }
-    }
-
-    /// The first page worth a look for a small size, from `from` up to `to`, or `to`.
-    fn first_worth(&self, seat: &mut MutatorSeat, from: u32, to: u32, size: u32) -> u32
-        requires space { IsSpaceOf self.now seat.old }
-        requires to { to ≤ self.now.shape.pages }
-        ensures passed { (page : ℕ) → from ≤ page → page < result → PageHasBucket
-            self.now.shape.page_words (extents_of_bodies seat.old.bodies) page
-            (bucket_of self.now.shape.page_words size)
-            → (is_surveyed self.now.gaps page ≡ true) × IsTooFull self.now.gaps page size }
-        ensures view { seat.new ≡ seat.old }
-    {
-        for page in from..to {
-            if self.is_worth(seat, page, size) {
-                return page;
-            }
-        }
-        to
-    }
-
-    /// Whether a page of the bucket of a small size may have room for it.
-    fn is_worth(&self, seat: &mut MutatorSeat, page: u32, size: u32) -> bool
-        requires space { IsSpaceOf self.now seat.old }
-        requires page { page < self.now.shape.pages }
-        ensures worth { result ≡ false → PageHasBucket self.now.shape.page_words
-            (extents_of_bodies seat.old.bodies) page (bucket_of self.now.shape.page_words size)
-            → (is_surveyed self.now.gaps page ≡ true) × IsTooFull self.now.gaps page size }
-        ensures view { seat.new ≡ seat.old }
-    {
-        if !self.has_bucket(seat, page, bucket_of(self.page_words, size)) {
-            return false;
-        }
-        if !self.gaps.is_surveyed(page) {
-            return true;
-        }
-        self.gaps.most(page) >= size
     }
 }

@@ -17,15 +17,15 @@ pub struct Table {
 }
 
 impl Model for Table {
-    ghost use Rattle.std.specs.Prelude.{◌≡◌, ◌≤◌, length};
-    ghost use Rattle.page_space.specs.Pages.{PageTable, count_in_use};
+    ghost use Rattle.page_space.specs.Pages.{PageTable};
 
     ghost Value = { PageTable };
 
+    ghost use Rattle.page_space.specs.TableFields.{IsTable};
+
     ghost view = { λ t. record { objects = t.objects.items; buckets = t.buckets.items } };
 
-    ghost invariant = { λ t. (t.in_use ≡ count_in_use t.objects.items)
-        × (length t.buckets.items ≡ length t.objects.items) × (length t.objects.items ≤ 1024) };
+    ghost invariant = { IsTable };
 }
 
 impl Table {

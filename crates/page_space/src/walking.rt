@@ -3,21 +3,22 @@
 ghost use Rattle.std.specs.Prelude.{◌≡◌, ℕ, ◌+◌, ◌*◌, ◌/◌, ◌<◌, ◌≤◌, IfSome, IfNone, Contains};
 ghost use Rattle.gc_graph.specs.Placement.{IsLowest, IsNowhere};
 ghost use Rattle.page_words.specs.Bodies.{Body, IsInBody, end_of};
+ghost use Rattle.page_words.specs.Seat.{block_words};
 ghost use Rattle.page_space.specs.Pages.{word_count};
 ghost use Rattle.page_space.specs.Space.{IsSeatOf, IsSpaceOf, HoldsWhole, extents_of_bodies};
-ghost use Rattle.page_space.specs.Gaps.{IsGap};
+ghost use Rattle.page_space.specs.Gaps.{IsGap, IsBlock, block_at};
 ghost use Rattle.page_space.specs.Walks.{IsEdge, BeginsBetween, EndsBy};
 
 use crate::space::Space;
-use page_words::MutatorSeat;
+use page_words::{BLOCK_WORDS, MutatorSeat};
 
 impl Space {
-    /// How many blocks of 64 words a page has.
+    /// How many blocks a page has.
     pub(crate) fn blocks(&self) -> u32
-        ensures { 64 * result ≡ self.now.shape.page_words }
+        ensures { block_words * result ≡ self.now.shape.page_words }
     {
         self.shape_is_valid();
-        self.page_words / 64
+        self.page_words / BLOCK_WORDS
     }
 
     /// The first word from a block on that belongs to no object which begins before the block, or a
@@ -25,9 +26,9 @@ impl Space {
     pub(crate) fn first_left(&self, seat: &mut MutatorSeat, page: u32, k: u32) -> u32
         requires space { IsSpaceOf self.now seat.old }
         requires page { page < self.now.shape.pages }
-        requires block { 64 * k < self.now.shape.page_words }
-        ensures from { page * self.now.shape.page_words + 64 * k ≤ result }
-        ensures taken { (x : ℕ) → page * self.now.shape.page_words + 64 * k ≤ x → x < result
+        requires block { IsBlock self.now.shape k }
+        ensures from { block_at self.now.shape page k ≤ result }
+        ensures taken { (x : ℕ) → block_at self.now.shape page k ≤ x → x < result
             → IsInBody seat.old.bodies x }
         ensures edge { HoldsWhole self.now.shape seat.old.bodies page
             → IsEdge seat.old.bodies result }
@@ -35,7 +36,7 @@ impl Space {
     {
         seat.bodies_lie_apart();
         let low = self.gaps.low(page);
-        let start = page * 64 * self.blocks() + 64 * k;
+        let start = page * BLOCK_WORDS * self.blocks() + BLOCK_WORDS * k;
         if start <= low && self.gaps.is_surveyed(page) {
             low
         } else {
@@ -47,10 +48,10 @@ impl Space {
     fn end_before(&self, seat: &mut MutatorSeat, page: u32, k: u32) -> u32
         requires heap { IsSeatOf self.now seat.old }
         requires page { page < self.now.shape.pages }
-        requires block { 64 * k < self.now.shape.page_words }
-        ensures from { page * self.now.shape.page_words + 64 * k ≤ result }
+        requires block { IsBlock self.now.shape k }
+        ensures from { block_at self.now.shape page k ≤ result }
         ensures inside { result ≤ word_count self.now.shape }
-        ensures taken { (x : ℕ) → page * self.now.shape.page_words + 64 * k ≤ x → x < result
+        ensures taken { (x : ℕ) → block_at self.now.shape page k ≤ x → x < result
             → IsInBody seat.old.bodies x }
         ensures edge { HoldsWhole self.now.shape seat.old.bodies page
             → IsEdge seat.old.bodies result }
@@ -59,7 +60,7 @@ impl Space {
         self.shape_is_valid();
         seat.bodies_lie_apart();
         let first = page * self.blocks();
-        let start = 64 * (first + k);
+        let start = BLOCK_WORDS * (first + k);
         match self.last_start(seat, first, first + k) {
             Some(place) => start.max(place + self.header_at(seat, place).size),
             None => start,

@@ -7,6 +7,19 @@ use ghost_values::GhostValue;
 use std::marker::Model;
 
 /// The right of the one mutator to read and write the words. It stays on the mutator's thread.
+/// `load` may come at any time; the other calls come in this order:
+///
+/// | the words from a place on | calls, and what they make of the words |
+/// |---|---|
+/// | belong to no object | `fill` of each of them, in any order and again |
+/// | filled: a header without mark and traced bit, a serial number, null fields | `publish` makes them an object |
+/// | an object | `store` to its fields, at any time |
+/// | an object, while marking goes on | `mark`; after it `claim`, which succeeds once |
+/// | an object, while no marking goes on | `unmark` |
+/// | a dead object, while no marking goes on | `retract`: they belong to no object |
+///
+/// `set_stop(false)` begins marking where nothing is marked, traced or dead; `set_stop(true)` ends
+/// it, and each object without a mark is dead from then on.
 #[derive(Drop)]
 pub struct MutatorSeat {
     pub(crate) words: Vec<u64>,

@@ -103,6 +103,8 @@ impl Words {
         ensures { seat.new ≡ published seat.old body }
     {
         let at = (self.count + a / BLOCK_WORDS) as usize;
+        // Header, serial number and fields stand before the bit is set: whoever finds the bit must
+        // find a whole object behind it.
         seat.words[at] |= 1u64 << (a % BLOCK_WORDS);
         seat.view = views::published(&seat.view);
     }
@@ -148,6 +150,8 @@ impl Words {
         ensures grey { result ≡ is_grey seat.old a }
         ensures view { seat.new ≡ claimed_at seat.old a }
     {
+        // The whole word is compared, and nothing may come between test and write: of two that
+        // claim an object one alone finds the word without the traced bit, and traces it.
         let found = seat.words[a as usize] == header;
         if found {
             seat.words[a as usize] = with_traced(header, true);

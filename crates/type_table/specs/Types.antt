@@ -5,6 +5,7 @@ use Rattle.gc_graph.specs.declared.kind.Kind.{Kind}
 use Rattle.gc_graph.specs.declared.kind.Kind.TheVariants.{Strong, Weak, Pair, Plain}
 use Rattle.gc_graph.specs.State.{ObjectType, no_type}
 use Rattle.gc_graph.specs.Fields.{words_of_kind, field_words}
+use Rattle.object_headers.specs.Offsets.{first_field}
 
 -- the type with a number
 abbrev pub type_of : List ObjectType → ℕ → ObjectType
@@ -20,7 +21,7 @@ count_with kinds extra = length kinds + extra
 
 -- a header, a serial number, the words of the declared fields, and the extra words
 abbrev pub size_with : List Kind → ℕ → ℕ
-size_with kinds extra = 2 + (field_words kinds + extra)
+size_with kinds extra = first_field + (field_words kinds + extra)
 
 -- an extra word is a plain field
 abbrev pub kind_of : List Kind → ℕ → Kind
@@ -28,7 +29,7 @@ kind_of kinds field = slice_index_or kinds field Plain
 
 -- how many words stand between the header and a field's first word, the header counted
 abbrev pub offset_of : List Kind → ℕ → ℕ
-offset_of kinds field = 2 + (field_words (take field kinds) + (field - length kinds))
+offset_of kinds field = first_field + (field_words (take field kinds) + (field - length kinds))
 
 -- a field whose kind passes the test
 abbrev pub is_field : (Kind → Bool) → List Kind → ℕ → Bool

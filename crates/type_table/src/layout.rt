@@ -7,10 +7,9 @@ ghost use Rattle.type_table.specs.Types as spec;
 ghost use Rattle.type_table.specs.Layouts as layouts;
 
 use gc_graph::{Kind, NoMemory};
+use object_headers::FIRST_FIELD;
 use std::alloc::Global;
 use std::marker::Model;
-
-const FIRST_FIELD: u32 = 2;
 
 #[derive(Drop)]
 pub(crate) struct Layout {

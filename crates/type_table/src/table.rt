@@ -4,6 +4,7 @@ ghost use Rattle.std.specs.Prelude.{◌≡◌, ℕ, ◌-◌, ◌^◌, ◌<◌, �
 ghost use Rattle.std.specs.Prelude.{IfOk, OnOk, IfErr, All};
 ghost use Rattle.gc_graph.specs.declared.kind.Kind.TheVariants.{Strong, Pair, Plain};
 ghost use Rattle.gc_graph.specs.State.{ObjectType};
+ghost use Rattle.object_headers.specs.Offsets.{first_field};
 ghost use Rattle.type_table.specs.Types as spec;
 ghost use Rattle.type_table.specs.Layouts as layouts;
 ghost use Rattle.type_table.specs.Faults.{AreGoodTypes, IsTypeFault};
@@ -12,6 +13,7 @@ use crate::decl::TypeDecl;
 use crate::faults::{TypeFault, fault_of};
 use crate::layout::Layout;
 use gc_graph::{Kind, NoMemory};
+use object_headers::FIRST_FIELD;
 use std::alloc::Global;
 use std::marker::Model;
 
@@ -77,7 +79,7 @@ impl TypeTable {
         requires extra { extra ≤ 2 ^ 25 }
         ensures { result ≡ spec.size_with (spec.kinds_of self.now ty) extra }
     {
-        self.layout(ty).words() + extra + 2
+        self.layout(ty).words() + extra + FIRST_FIELD
     }
 
     /// The kind of a field, and the offset of its first word from the object's place; none where
@@ -104,11 +106,11 @@ impl TypeTable {
     /// offsets 0 and 1 are those of the header and of the serial number.
     pub fn kind_at(&self, ty: u32, word: u32) -> Kind
         requires ty { ty < length self.now }
-        requires word { 2 ≤ word }
+        requires word { first_field ≤ word }
         ensures { (field : ℕ) → spec.IsWordOf (spec.kinds_of self.now ty) field word →
             result ≡ spec.kind_of (spec.kinds_of self.now ty) field }
     {
-        self.layout(ty).kind(word as usize - 2)
+        self.layout(ty).kind(word as usize - FIRST_FIELD as usize)
     }
 
     /// The offsets of the strong fields, in their order.

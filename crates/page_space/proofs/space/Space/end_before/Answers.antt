@@ -2,7 +2,7 @@ use Rattle.std.proofs.Common.{◌≡◌, ℕ, ◌+◌, ◌*◌, ◌<◌, ◌≤�
 use Rattle.std.proofs.lemmas.Bool.{cases_lt}
 use Rattle.page_words.specs.Bodies.{Body, IsPlace}
 use Rattle.page_space.proofs.PageSpan.{next_page}
-use Rattle.page_space.proofs.PlaceBodies.{sizes_of}
+use Rattle.page_space.proofs.PlaceBodies.{tells_size}
 use Rattle.page_space.proofs.WalkSteps.{edge_after_last, edge_of_page}
 use Rattle.page_space.proofs.space.Space.end_before.Goals as goal
 
@@ -12,7 +12,7 @@ returns-in-Some-clause-taken c x low high =
     let start : IsPlace c.args.seat.now.bodies c.in-Some.place = found.0 in
     let b : Body = start.0 in
     let at : b.place ≡ c.in-Some.place = start.2 in
-    let sizes = rw c.last_start.ensures.view at (sizes_of c.last_start.new.seat c.in-Some.place c.header_at.result c.header_at.ensures.header) in
+    let sizes = rw c.last_start.ensures.view at (tells_size c.last_start.new.seat c.in-Some.place c.header_at.result c.header_at.ensures.header) in
     let size_is : c.header_at.result.size ≡ b.size = sizes b start.1 start.2 in
     let page : c.args.page * (64 * c.blocks-2.result) ≡ c.args.page * c.args.self.now.shape.page_words = ap (λ n. c.args.page * n) c.blocks-2.ensures in
     let before : c.in-Some.place < 64 * (c.args.page * c.blocks-2.result + c.args.k) = found.2 in
@@ -22,7 +22,7 @@ pub returns-in-Some-clause-edge : goal.returns-in-Some-clause-edge
 returns-in-Some-clause-edge c whole =
     let found = c.in-Some.ensures.found in
     let start : IsPlace c.args.seat.now.bodies c.in-Some.place = found.0 in
-    let sizes = rw c.last_start.ensures.view at (sizes_of c.last_start.new.seat c.in-Some.place c.header_at.result c.header_at.ensures.header) in
+    let sizes = rw c.last_start.ensures.view at (tells_size c.last_start.new.seat c.in-Some.place c.header_at.result c.header_at.ensures.header) in
     let page : c.args.page * (64 * c.blocks-2.result) ≡ c.args.page * c.args.self.now.shape.page_words = ap (λ n. c.args.page * n) c.blocks-2.ensures in
     let at : ℕ = 64 * (c.args.page * c.blocks-2.result + c.args.k) in
     let low : 64 * (c.args.page * c.blocks-2.result) ≤ c.in-Some.place = found.1 in

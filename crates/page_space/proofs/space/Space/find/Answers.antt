@@ -12,7 +12,7 @@ loop-page-init c = record {
   view = refl;
   none = λ other low from a run.
       let now = c.args.self.now in
-      let words = shape_words now.shape (subst IsShape (ap (λ s. s.shape) c.self.view_is) c.self.invariant.0) in
+      let words = shape_words now.shape (subst IsShape (ap (λ s. s.shape) c.self.view_is) c.self.invariant.shape) in
       let inside : c.self.inside.page_words ≡ now.shape.page_words = ap (λ s. s.shape.page_words) c.self.view_is in
       let first : c.first_for-first.result ≡ get_or now.gaps.first c.min.result 0 =
       c.first_for-first.ensures ∙ ap (λ s. get_or s.gaps.first c.min.result 0) c.self.view_is in

@@ -47,8 +47,8 @@ returns-clause-none c =
 pub returns-then-in_use-self-clause-none : goal.returns-then-in_use-self-clause-none
 returns-then-in_use-self-clause-none c =
     let now = c.args.self.now in
-    let words = shape_words now.shape (subst IsShape (ap (λ s. s.shape) c.self.view_is) c.self.invariant.0) in
+    let words = shape_words now.shape (subst IsShape (ap (λ s. s.shape) c.self.view_is) c.self.invariant.shape) in
     let pages : c.self.inside.pages ≡ now.shape.pages = ap (λ s. s.shape.pages) c.self.view_is in
     no_empty_run now c.args.seat.now.count (extents_of_bodies c.args.seat.now.bodies) c.args.size (omega (arith, words.0)) (omega arith) c.requires.space
-    (sym (ap (λ s. length s.table.objects) c.self.view_is) ∙ c.self.invariant.2 ∙ pages)
+    (sym (ap (λ s. length s.table.objects) c.self.view_is) ∙ c.self.invariant.objects ∙ pages)
     (sym (ap (λ s. count_in_use s.table.objects) c.self.view_is) ∙ sym c.in_use.ensures ∙ c.if-in_use-self.true ∙ pages)

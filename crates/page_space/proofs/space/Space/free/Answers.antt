@@ -5,7 +5,7 @@ use Rattle.page_words.specs.Bodies.{Body, IsPlace}
 use Rattle.page_space.specs.Pages.{word_count}
 use Rattle.page_space.specs.Space.{SpaceView, IsSpaceOver, extent_of, extents_of_bodies}
 use Rattle.page_space.proofs.Shapes.{shape_words}
-use Rattle.page_space.proofs.PlaceBodies.{contains_map, sizes_of}
+use Rattle.page_space.proofs.PlaceBodies.{contains_map, tells_size}
 use Rattle.page_space.proofs.Extents.{others, one_less}
 use Rattle.page_space.proofs.SeatExtents.{seat_apart, extents_filter}
 use Rattle.page_space.proofs.Left.{left}
@@ -26,7 +26,7 @@ overflow_sub-self-2 c =
     let start : IsPlace c.args.seat.now.bodies c.args.a = (c.bodies_lie_apart.ensures.dead_are_unmarked c.args.a c.requires.dead).0 in
     let e : Extent = record { place = c.args.a; size = c.header_at-size.result.size } in
     let there : Contains (extents_of_bodies c.args.seat.now.bodies) e = read_extent c.args.seat.now.bodies c.args.a c.header_at-size.result.size start
-    (sizes_of c.args.seat.now c.args.a c.header_at-size.result c.header_at-size.ensures.header) in
+    (tells_size c.args.seat.now c.args.a c.header_at-size.result c.header_at-size.ensures.header) in
     let used : c.self.inside.used ≡ sum_by (λ (d : Extent). d.size) (extents_of_bodies c.args.seat.now.bodies) =
     ap (λ s. s.used) c.self.view_is ∙ c.requires.space.used in
     omega (arith, one_less (λ d. d.size) (extents_of_bodies c.args.seat.now.bodies) e c.args.a c.requires.space.differ there refl)
@@ -36,7 +36,7 @@ leave-requires-clause-some c page in_page =
     let start : IsPlace c.args.seat.now.bodies c.args.a = (c.bodies_lie_apart.ensures.dead_are_unmarked c.args.a c.requires.dead).0 in
     let e : Extent = record { place = c.args.a; size = c.header_at-size.result.size } in
     let there : Contains (extents_of_bodies c.args.seat.now.bodies) e = read_extent c.args.seat.now.bodies c.args.a c.header_at-size.result.size start
-    (sizes_of c.args.seat.now c.args.a c.header_at-size.result c.header_at-size.ensures.header) in
+    (tells_size c.args.seat.now c.args.a c.header_at-size.result c.header_at-size.ensures.header) in
     let space : SpaceView = record {
       shape = record { pages = c.self.inside.pages; page_words = c.self.inside.page_words };
       objects = c.self.inside.objects;
@@ -46,7 +46,7 @@ leave-requires-clause-some c page in_page =
     } in
     let over : IsSpaceOver space c.args.seat.now.count (extents_of_bodies c.args.seat.now.bodies) =
     subst (λ s. IsSpaceOver s c.args.seat.now.count (extents_of_bodies c.args.seat.now.bodies)) (sym c.self.view_is) c.requires.space in
-    let words = shape_words space.shape c.self.invariant.0 in
+    let words = shape_words space.shape c.self.invariant.shape in
     held_some space c.args.seat.now.count (extents_of_bodies c.args.seat.now.bodies) e page (omega (arith, words.0)) over there
     (omega (arith, c.header_at-size.ensures.inside, ap (λ s. word_count s.shape) c.self.view_is)) in_page
 
@@ -56,7 +56,7 @@ returns-clause-space c =
     let es : List Extent = extents_of_bodies c.args.seat.now.bodies in
     let e : Extent = record { place = c.args.a; size = c.header_at-size.result.size } in
     let there : Contains es e = read_extent c.args.seat.now.bodies c.args.a c.header_at-size.result.size start
-    (sizes_of c.args.seat.now c.args.a c.header_at-size.result c.header_at-size.ensures.header) in
+    (tells_size c.args.seat.now c.args.a c.header_at-size.result c.header_at-size.ensures.header) in
     let space : SpaceView = record {
       shape = record { pages = c.self.inside.pages; page_words = c.self.inside.page_words };
       objects = c.self.inside.objects;
@@ -69,7 +69,7 @@ returns-clause-space c =
     let now : IsSpaceOver
     (record { shape = space.shape; objects = space.objects - 1; used = space.used - c.header_at-size.result.size; table = c.leave.new.self; gaps = c.forget.new.self })
     c.args.seat.now.count (filter (others c.args.a) es) =
-    left space c.args.seat.now.count es e c.leave.new.self c.forget.new.self (omega (arith, (shape_words space.shape c.self.invariant.0).0)) over (seat_apart c.args.seat.now c.bodies_lie_apart.ensures) there
+    left space c.args.seat.now.count es e c.leave.new.self c.forget.new.self (omega (arith, (shape_words space.shape c.self.invariant.shape).0)) over (seat_apart c.args.seat.now c.bodies_lie_apart.ensures) there
     (omega (arith, c.header_at-size.ensures.inside, c.requires.space.seat))
     (record { objects = c.leave.ensures.objects; buckets = c.leave.ensures.buckets })
     (record {

@@ -1,6 +1,6 @@
 use Rattle.std.proofs.Common.{◌≡◌, ◌+◌, subst, ◌∙◌, arith}
 use Rattle.page_words.specs.Bodies.{Body, IsPlace}
-use Rattle.page_space.proofs.PlaceBodies.{sizes_of}
+use Rattle.page_space.proofs.PlaceBodies.{tells_size}
 use Rattle.page_space.proofs.WalkSteps.{full_on}
 use Rattle.page_space.proofs.space.Space.full_from.Goals as goal
 
@@ -11,7 +11,7 @@ loop-full-preserved c =
     let place : IsPlace c.args.seat.now.bodies c.loop-full.full =
     subst (λ v. IsPlace v.bodies c.loop-full.full) view (c.is_start.ensures.start.0 c.if-not-is_start.false) in
     let b : Body = place.0 in
-    let sizes = rw read at (sizes_of c.is_start.new.seat c.loop-full.full c.header_at.result c.header_at.ensures.header) in
+    let sizes = rw read at (tells_size c.is_start.new.seat c.loop-full.full c.header_at.result c.header_at.ensures.header) in
     let size_is : c.header_at.result.size ≡ b.size = sizes b place.1 place.2 in
     let on = full_on c.args.seat.now c.args.from c.loop-full.full (c.loop-full.full + c.header_at.result.size) b c.bodies_lie_apart.ensures
     c.loop-full.invariant.taken c.loop-full.invariant.ends place.1 place.2 (omega (arith, size_is)) in

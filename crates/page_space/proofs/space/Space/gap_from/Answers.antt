@@ -2,7 +2,7 @@ use Rattle.std.proofs.Common.{◌≡◌, ◌+◌, ◌*◌, ◌<◌, ◌≤◌, a
 use Rattle.std.proofs.lemmas.Bool.{cases_lt}
 use Rattle.page_words.specs.Bodies.{Body, IsPlace}
 use Rattle.page_space.specs.Space.{HasNoStart}
-use Rattle.page_space.proofs.PlaceBodies.{sizes_of}
+use Rattle.page_space.proofs.PlaceBodies.{tells_size}
 use Rattle.page_space.proofs.WalkSteps.{edge_moves, gap_here, gap_ends}
 use Rattle.page_space.proofs.space.Space.gap_from.Goals as goal
 
@@ -41,7 +41,7 @@ loop-free-preserved c =
     let none : HasNoStart c.args.seat.now.bodies c.loop-free.free c.start_from-next.result =
     λ p low high start. c.start_from-next.ensures.none p low high (subst (λ v. IsPlace v.bodies p) (sym view) start) in
     let b : Body = place.0 in
-    let sizes = rw read at (sizes_of c.start_from-next.new.seat c.start_from-next.result c.header_at.result c.header_at.ensures.header) in
+    let sizes = rw read at (tells_size c.start_from-next.new.seat c.start_from-next.result c.header_at.result c.header_at.ensures.header) in
     let size_is : c.header_at.result.size ≡ b.size = sizes b place.1 place.2 in
     record {
       view = c.header_at.ensures.view ∙ read;

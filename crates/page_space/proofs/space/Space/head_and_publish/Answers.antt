@@ -37,6 +37,6 @@ publish-requires g c =
     let ready : IsReady c.fill-2.new.seat (new_body c.args.a c.args.ty c.args.size c.args.serial) =
     subst (λ v. IsReady v (new_body c.args.a c.args.ty c.args.size c.args.serial)) (sym head)
     (ready_to_publish c.args.seat.now c.args.a c.args.ty c.args.size c.args.serial room small least most nulls) in (
-      ap (λ v. v.count) head ∙ seat ∙ ap (λ s. word_count s.shape) (sym c.self.view_is) ∙ sym c.self.invariant.1,
+      ap (λ v. v.count) head ∙ seat ∙ ap (λ s. word_count s.shape) (sym c.self.view_is) ∙ sym c.self.invariant.words,
       (ap (λ b. b.place) body, subst (IsReady c.fill-2.new.seat) (sym body) ready),
     )

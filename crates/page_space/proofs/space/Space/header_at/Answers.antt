@@ -3,7 +3,7 @@ use Rattle.std.specs.List.{Contains}
 use Rattle.page_words.specs.Bodies.{Body, IsWhole}
 use Rattle.page_words.specs.Seat.{holds}
 use Rattle.page_space.specs.Space.{header_in}
-use Rattle.page_space.proofs.PlaceBodies.{whole_body, body_size, sizes_of}
+use Rattle.page_space.proofs.PlaceBodies.{whole_body, body_size, tells_size}
 use Rattle.page_space.proofs.space.Space.header_at.Goals as goal
 use Rattle.page_space.proofs.space.Space.header_at.Goals.{In-Some}
 
@@ -35,7 +35,7 @@ returns-clause-least c =
     let start = c.requires.start in
     omega (
       arith,
-      sizes_of v c.args.a c.in-Some.header (header_is c) start.0 start.1 start.2,
+      tells_size v c.args.a c.in-Some.header (header_is c) start.0 start.1 start.2,
       body_size v.count v.bodies start.0 c.bodies_lie_apart.ensures.whole start.1,
     )
 
@@ -45,4 +45,4 @@ returns-clause-inside c =
     let start = c.requires.start in
     let at : start.0.place ≡ c.args.a = start.2 in
     let whole : IsWhole v.count start.0 = whole_body v.count v.bodies start.0 c.bodies_lie_apart.ensures.whole start.1 in
-    omega (arith, at, sizes_of v c.args.a c.in-Some.header (header_is c) start.0 start.1 start.2, whole.inside, c.requires.heap)
+    omega (arith, at, tells_size v c.args.a c.in-Some.header (header_is c) start.0 start.1 start.2, whole.inside, c.requires.heap)

@@ -9,7 +9,7 @@ pub returns-then-bits-ne0-clause-found : goal.returns-then-bits-ne0-clause-found
 returns-then-bits-ne0-clause-found c =
     let view : c.loop-word.seat ≡ c.args.seat.now = c.loop-word.invariant.view in
     let count : c.count.result ≡ c.args.seat.now.count =
-    c.count.ensures.count ∙ c.self.invariant.1 ∙ ap (λ s. word_count s.shape) c.self.view_is ∙ sym c.requires.heap in
+    c.count.ensures.count ∙ c.self.invariant.words ∙ ap (λ s. word_count s.shape) c.self.view_is ∙ sym c.requires.heap in
     let at : ℕ = c.loop-word.word - 1 in
     let word : IsWordAt c.args.seat.now (c.args.seat.now.count + at) c.load-bits.result =
     subst (λ n. IsWordAt c.args.seat.now (n + at) c.load-bits.result) count
@@ -32,7 +32,7 @@ pub loop-word-preserved : goal.loop-word-preserved
 loop-word-preserved c =
     let view : c.loop-word.seat ≡ c.args.seat.now = c.loop-word.invariant.view in
     let count : c.count.result ≡ c.args.seat.now.count =
-    c.count.ensures.count ∙ c.self.invariant.1 ∙ ap (λ s. word_count s.shape) c.self.view_is ∙ sym c.requires.heap in
+    c.count.ensures.count ∙ c.self.invariant.words ∙ ap (λ s. word_count s.shape) c.self.view_is ∙ sym c.requires.heap in
     let at : ℕ = c.loop-word.word - 1 in
     let same : 64 * at / 64 ≡ at = omega arith in
     let word : IsBitsAt c.args.seat.now (64 * at) c.load-bits.result =

@@ -34,12 +34,12 @@ returns-then-next-until-clause-ends c size a begins =
 
 pub bound-requires-clause-block : goal.bound-requires-clause-block
 bound-requires-clause-block c =
-    let words = shape_words _ c.self.invariant.0 in
+    let words = shape_words _ c.self.invariant.shape in
     let start = next_page c.self.inside.page_words c.args.page in
     omega (
       arith,
       words.2,
-      c.self.invariant.5 c.args.page (omega (arith, c.self.invariant.4, ap (λ s. s.shape.pages) c.self.view_is)),
+      c.self.invariant.blocks c.args.page (omega (arith, c.self.invariant.gaps, ap (λ s. s.shape.pages) c.self.view_is)),
       ap (λ s. s.shape.page_words) c.self.view_is,
       c.if-until-end.false,
     )

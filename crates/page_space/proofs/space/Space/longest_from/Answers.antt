@@ -1,7 +1,7 @@
 use Rattle.std.proofs.Common.{◌≡◌, ◌+◌, ◌∙◌, subst, inl, inr, arith}
 use Rattle.std.proofs.lemmas.Bool.{cases_lt}
 use Rattle.page_words.specs.Bodies.{Body, IsPlace}
-use Rattle.page_space.proofs.PlaceBodies.{sizes_of}
+use Rattle.page_space.proofs.PlaceBodies.{tells_size}
 use Rattle.page_space.proofs.WalkSteps.{gap_ends}
 use Rattle.page_space.proofs.space.Space.longest_from.Goals as goal
 
@@ -19,7 +19,7 @@ loop-free-preserved c =
     let place : IsPlace c.args.seat.now.bodies c.start_from-next.result =
     subst (λ v. IsPlace v.bodies c.start_from-next.result) view (c.start_from-next.ensures.start (omega (arith, c.start_from-next.ensures.within, c.if-next-until.false))) in
     let b : Body = place.0 in
-    let sizes = rw read at (sizes_of c.start_from-next.new.seat c.start_from-next.result c.header_at.result c.header_at.ensures.header) in
+    let sizes = rw read at (tells_size c.start_from-next.new.seat c.start_from-next.result c.header_at.result c.header_at.ensures.header) in
     let size_is : c.header_at.result.size ≡ b.size = sizes b place.1 place.2 in
     record {
       view = c.header_at.ensures.view ∙ read;

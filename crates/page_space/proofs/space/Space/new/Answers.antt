@@ -15,11 +15,12 @@ returns-clause-space c =
     (nothing_known shape [] c.in_ok-gaps.gaps c.args.pages 64 c.in_ok-gaps.ensures.surveyed c.in_ok-gaps.ensures.first))
 
 pub invariant_of-space : goal.invariant_of-space
-invariant_of-space c = (
-  c.requires,
-  c.in_ok-words.ensures.words,
-  ap length c.in_ok-table.ensures.objects ∙ length-replicate {A = ℕ} c.args.pages 0,
-  ap length c.in_ok-table.ensures.buckets ∙ length-replicate {A = ℕ} c.args.pages 0,
-  c.in_ok-gaps.ensures.pages,
-  (λ page within. c.in_ok-gaps.ensures.blocks page within ∙ (let e : 2 ^ c.depth_of.result ≡ c.args.page_words / 64 = omega (arith, c.depth_of.ensures.depth) in e)),
-)
+invariant_of-space c = record {
+  shape = c.requires;
+  words = c.in_ok-words.ensures.words;
+  objects = ap length c.in_ok-table.ensures.objects ∙ length-replicate {A = ℕ} c.args.pages 0;
+  buckets = ap length c.in_ok-table.ensures.buckets ∙ length-replicate {A = ℕ} c.args.pages 0;
+  gaps = c.in_ok-gaps.ensures.pages;
+  blocks = λ page within.
+      c.in_ok-gaps.ensures.blocks page within ∙ (let e : 2 ^ c.depth_of.result ≡ c.args.page_words / 64 = omega (arith, c.depth_of.ensures.depth) in e);
+}

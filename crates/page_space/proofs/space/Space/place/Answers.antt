@@ -44,7 +44,7 @@ enter-requires-clause-room c page =
     } in
     let over : IsSpaceOver space c.args.seat.now.count (extents_of_bodies c.args.seat.now.bodies) =
     subst (λ s. IsSpaceOver s c.args.seat.now.count (extents_of_bodies c.args.seat.now.bodies)) (sym c.self.view_is) c.requires.space in
-    held_fits space c.args.seat.now.count (extents_of_bodies c.args.seat.now.bodies) page over c.bodies_lie_apart.ensures.count c.self.invariant.2
+    held_fits space c.args.seat.now.count (extents_of_bodies c.args.seat.now.bodies) page over c.bodies_lie_apart.ensures.count c.self.invariant.objects
 
 pub returns-clause-space : goal.returns-clause-space
 returns-clause-space c =
@@ -61,7 +61,7 @@ returns-clause-space c =
     subst (λ s. IsSpaceOver s c.args.seat.now.count (extents_of_bodies c.args.seat.now.bodies)) (sym c.self.view_is) c.requires.space in
     let place : IsFreePlace space.shape es c.args.size c.args.a =
     subst (λ s. IsFreePlace s.shape (extents_of_bodies c.args.seat.now.bodies) c.args.size c.args.a) (sym c.self.view_is) c.requires.place in
-    let words = shape_words space.shape c.self.invariant.0 in
+    let words = shape_words space.shape c.self.invariant.shape in
     let good : IsGoodPlace space.shape es e = good_place space c.args.seat.now.count es e (omega (arith, words.0)) (omega arith) over place in
     let now : IsSpaceOver
     (record { shape = space.shape; objects = space.objects + 1; used = space.used + c.args.size; table = c.enter.new.self; gaps = c.lower_where_empty.new.gaps })

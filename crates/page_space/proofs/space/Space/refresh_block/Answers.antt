@@ -10,15 +10,15 @@ use Rattle.page_space.proofs.space.Space.refresh_block.Goals.{After-set_bound}
 
 pub set_bound-requires-clause-block : goal.set_bound-requires-clause-block
 set_bound-requires-clause-block c =
-    let words = shape_words _ c.self.invariant.0 in
-    omega (arith, words.2, c.self.invariant.5 c.args.page (omega (arith, c.self.invariant.4, ap (λ s. s.shape.pages) c.self.view_is)), ap (λ s. s.shape.page_words) c.self.view_is)
+    let words = shape_words _ c.self.invariant.shape in
+    omega (arith, words.2, c.self.invariant.blocks c.args.page (omega (arith, c.self.invariant.gaps, ap (λ s. s.shape.pages) c.self.view_is)), ap (λ s. s.shape.page_words) c.self.view_is)
 
 sets : (c : After-set_bound) → SetsBound c.args.self.now.gaps c.set_bound.new.self c.args.page c.args.k c.tightened-bound.result
 sets c =
     let same : c.self.inside.gaps ≡ c.args.self.now.gaps = ap (λ s. s.gaps) c.self.view_is in
-    let words = shape_words _ c.self.invariant.0 in
+    let words = shape_words _ c.self.invariant.shape in
     subst (λ (g : GapTable). SetsBound g c.set_bound.new.self c.args.page c.args.k c.tightened-bound.result) same (record {
-      block = omega (arith, words.2, c.self.invariant.5 c.args.page (omega (arith, c.self.invariant.4, ap (λ s. s.shape.pages) c.self.view_is)), ap (λ s. s.shape.page_words) c.self.view_is);
+      block = omega (arith, words.2, c.self.invariant.blocks c.args.page (omega (arith, c.self.invariant.gaps, ap (λ s. s.shape.pages) c.self.view_is)), ap (λ s. s.shape.page_words) c.self.view_is);
       bounds = c.set_bound.ensures.bounds;
       others = c.set_bound.ensures.others;
       low = c.set_bound.ensures.low;
@@ -34,16 +34,16 @@ holds c size a gap block =
     (λ is. c.requires.space.gaps.bounded c.args.page c.args.k is size a gap block)
 
 pub invariant_of-self : goal.invariant_of-self
-invariant_of-self c = (
-  c.self.invariant.0,
-  c.self.invariant.1,
-  c.self.invariant.2,
-  c.self.invariant.3,
-  c.set_bound.ensures.pages ∙ c.self.invariant.4,
-  blocks_kept c.args.self.now.gaps c.set_bound.new.self c.args.page c.args.k c.tightened-bound.result (c.self.inside.page_words / 64) (sets c)
+invariant_of-self c = record {
+  shape = c.self.invariant.shape;
+  words = c.self.invariant.words;
+  objects = c.self.invariant.objects;
+  buckets = c.self.invariant.buckets;
+  gaps = c.set_bound.ensures.pages ∙ c.self.invariant.gaps;
+  blocks = blocks_kept c.args.self.now.gaps c.set_bound.new.self c.args.page c.args.k c.tightened-bound.result (c.self.inside.page_words / 64) (sets c)
       (c.set_bound.ensures.pages ∙ ap (λ s. length s.gaps.pages) c.self.view_is)
-      (subst (λ (g : GapTable). HasBlocks g.pages (c.self.inside.page_words / 64)) (ap (λ s. s.gaps) c.self.view_is) c.self.invariant.5),
-)
+      (subst (λ (g : GapTable). HasBlocks g.pages (c.self.inside.page_words / 64)) (ap (λ s. s.gaps) c.self.view_is) c.self.invariant.blocks);
+}
 
 -- a bound in the shape as it was, and over the objects as they were
 as_before : (c : After-set_bound) (j : ℕ) → IsBounded c.args.self.now.shape (extents_of_bodies c.args.seat.now.bodies) c.set_bound.new.self c.args.page j

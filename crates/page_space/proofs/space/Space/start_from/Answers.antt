@@ -16,7 +16,7 @@ next_place : (c : After-min) → IsNextPlace c.args.seat.now c.loop-at.at (c.loo
 next_place c =
     let view : c.loop-at.seat ≡ c.args.seat.now = c.loop-at.invariant.view in
     let count : c.count.result ≡ c.args.seat.now.count =
-    c.count.ensures.count ∙ c.self.invariant.1 ∙ ap (λ s. word_count s.shape) c.self.view_is ∙ sym c.requires.heap in
+    c.count.ensures.count ∙ c.self.invariant.words ∙ ap (λ s. word_count s.shape) c.self.view_is ∙ sym c.requires.heap in
     let word : IsBitsAt c.args.seat.now c.loop-at.at c.load.result =
     subst (λ n. IsWordAt c.args.seat.now (n + c.loop-at.at / 64) c.load.result) count
     (subst (λ v. IsWordAt v (c.count.result + c.loop-at.at / 64) c.load.result) view c.load.ensures.word) in
@@ -40,7 +40,7 @@ pub loop-at-preserved : goal.loop-at-preserved
 loop-at-preserved c =
     let view : c.loop-at.seat ≡ c.args.seat.now = c.loop-at.invariant.view in
     let count : c.count.result ≡ c.args.seat.now.count =
-    c.count.ensures.count ∙ c.self.invariant.1 ∙ ap (λ s. word_count s.shape) c.self.view_is ∙ sym c.requires.heap in
+    c.count.ensures.count ∙ c.self.invariant.words ∙ ap (λ s. word_count s.shape) c.self.view_is ∙ sym c.requires.heap in
     let word : IsBitsAt c.args.seat.now c.loop-at.at c.load.result =
     subst (λ n. IsWordAt c.args.seat.now (n + c.loop-at.at / 64) c.load.result) count
     (subst (λ v. IsWordAt v (c.count.result + c.loop-at.at / 64) c.load.result) view c.load.ensures.word) in

@@ -4,5 +4,5 @@ use Rattle.page_space.proofs.space.Space.tightened.Goals as goal
 
 pub bound-requires-clause-block : goal.bound-requires-clause-block
 bound-requires-clause-block c =
-    let words = shape_words _ c.self.invariant.0 in
-    omega (arith, words.2, c.self.invariant.5 c.args.page (omega (arith, c.self.invariant.4, ap (λ s. s.shape.pages) c.self.view_is)), ap (λ s. s.shape.page_words) c.self.view_is)
+    let words = shape_words _ c.self.invariant.shape in
+    omega (arith, words.2, c.self.invariant.blocks c.args.page (omega (arith, c.self.invariant.gaps, ap (λ s. s.shape.pages) c.self.view_is)), ap (λ s. s.shape.page_words) c.self.view_is)
