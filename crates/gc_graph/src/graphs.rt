@@ -10,23 +10,23 @@ use crate::memory::NoMemory;
 use std::alloc::Global;
 use std::marker::Model;
 
-/// The fields of a node.
+/// What a node holds: its fields.
 #[derive(Drop)]
-pub struct Node {
+pub struct Object {
     kinds: Vec<Kind>,
     values: Vec<Value>,
 }
 
-impl Model for Node {
-    ghost use Rattle.gc_graph.specs.Graph.{Object};
+impl Model for Object {
+    ghost use Rattle.gc_graph.specs.Graph.{Object as Meaning};
 
-    ghost Value = { Object };
+    ghost Value = { Meaning };
 
     ghost view = { λ n.
         record { ty = 0; extra = 0; kinds = n.kinds.items; values = n.values.items } };
 }
 
-impl Node {
+impl Object {
     pub fn kinds(&self) -> &[Kind]
         ensures { result.now ≡ self.now.kinds }
     {
@@ -44,7 +44,7 @@ impl Node {
 #[derive(Drop)]
 pub struct Graph {
     alloc: Global,
-    nodes: Vec<Node>,
+    nodes: Vec<Object>,
 }
 
 impl Model for Graph {
@@ -76,16 +76,16 @@ impl Graph {
             ++ record { ty = 0; extra = 0; kinds = kinds.now; values = values.now } ∷ []) }
         ensures none { OnErr result (self.new ≡ self.old) }
     {
-        let node = Node {
+        let object = Object {
             kinds: Vec::from_slice(self.alloc, kinds)?,
             values: Vec::from_slice(self.alloc, values)?,
         };
-        self.nodes.push(node)?;
+        self.nodes.push(object)?;
         Ok(())
     }
 
     /// The fields of a node, where the graph has it.
-    pub(crate) fn node(&self, n: u32) -> Option<&Node>
+    pub(crate) fn node(&self, n: u32) -> Option<&Object>
         ensures { MatchOption result (length self.now ≤ n) (λ o. o.now ≡ object_at self.now n) }
     {
         self.nodes.get(n as usize)

@@ -28,10 +28,12 @@ fresh_node ty fields extra place =
       life = Live;
     }
 
+-- a new node joined the others, and slot p names it
 abbrev pub made_state : State → ℕ → ℕ → ℕ → ℕ → ℕ → State
 made_state s p ty fields extra place =
     answered (with_slot (record s { nodes = s.nodes ++ fresh_node ty fields extra place ∷ [] }) p (Some (length s.nodes)))
 
+-- no place was found for an object
 abbrev pub full_state : State → State
 full_state s = answered (record s { full = s.full + 1 })
 
@@ -40,6 +42,7 @@ abbrev pub stored_in : State → Option ℕ → ℕ → Value → State
 stored_in s None f value = answered s
 stored_in s (Some n) f value = answered (record s { nodes = slice_set s.nodes n (with_value (node_at s.nodes n) f value) })
 
+-- field f of the node that slot p names gets the value
 abbrev pub stored_state : State → ℕ → ℕ → Value → State
 stored_state s p f value = stored_in s (slot_at s p) f value
 
@@ -48,6 +51,7 @@ abbrev pub read_from : State → Option ℕ → ℕ → ℕ → State
 read_from s None f q = answered s
 read_from s (Some n) f q = answered (with_slot s q (target_of (value_at (node_at s.nodes n) f)))
 
+-- slot q gets what field f of the node that slot p names holds
 abbrev pub read_state : State → ℕ → ℕ → ℕ → State
 read_state s p f q = read_from s (slot_at s p) f q
 

@@ -18,14 +18,15 @@ use Rattle.heap_engine.specs.View.{places_of}
 
 -- the outcome of a command: the finalised nodes, and then at most one more line; what it took of the region's history; and
 -- for how many nodes there is room
-pub record Outcome : Type 0 where
+pub record OutcomeView : Type 0 where
   pub numbers : List ℕ
   pub last : Option Line
   pub piece : List Entry
   pub room : ℕ
 
-abbrev pub lines_of : Outcome → List Line
-lines_of o = finalise_lines o.numbers ++ option_to_list o.last
+-- the lines of an outcome: the finalised nodes in order, and then the last line
+abbrev pub outcome_lines : OutcomeView → List Line
+outcome_lines o = finalise_lines o.numbers ++ option_to_list o.last
 
 -- nothing is marked while the heap is idle, and during a sweep each object is marked or dead; marking never goes on
 -- between commands

@@ -12,6 +12,7 @@ use Rattle.gc_graph.specs.Fields.{value_at}
 use Rattle.gc_graph.specs.CycleSteps.{is_marking}
 use Rattle.gc_graph.specs.Valid.{IsPlainWord, NamesLive}
 
+-- how many fields the type of a node has
 abbrev pub fields_of : Setup → Node → ℕ
 fields_of setup node = length (type_at setup node.object.ty).kinds
 
@@ -35,6 +36,7 @@ pub record IsStrong (setup : Setup) (node : Node) : Type 0 where
   pub pointers : (i : ℕ) → i < fields_of setup node → IsPointer (value_at node i)
   pub plain : (i : ℕ) → fields_of setup node ≤ i → i < length node.object.values → IsPlainWord (value_at node i)
 
+-- the fields of a node name no node whose number is not below the bound
 abbrev pub HasNamesBelow : ℕ → Node → Type 0
 HasNamesBelow bound node = All (NamesBelow bound) node.object.values
 

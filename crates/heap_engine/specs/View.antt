@@ -36,6 +36,7 @@ kept_of marked nodes = map (λ node. is_live node.life && marked node.place) nod
 abbrev pub start_entry : Entry
 start_entry = record { thread = 0; op = O.Start; reply = R.Done }
 
+-- the entry of a pause that clears no slot of the region
 abbrev pub pause_entry : Entry
 pause_entry = record { thread = 0; op = O.Pause 0; reply = R.Done }
 

@@ -9,7 +9,7 @@ ghost use Rattle.page_space.specs.Pages.{word_count};
 ghost use Rattle.page_space.specs.Space.{IsSpaceOf};
 ghost use Rattle.heap_engine.specs.Sweeping.{IsJudged, IsSweptView, AreDeadSerials};
 ghost use Rattle.heap_engine.specs.View.{collection_entries};
-ghost use Rattle.heap_engine.specs.Inner.{lines_of};
+ghost use Rattle.heap_engine.specs.Inner.{outcome_lines};
 
 use crate::entries::{self, Entries};
 use crate::sweeping::sweep_pages;
@@ -30,9 +30,9 @@ pub struct Outcome {
 
 impl Model for Outcome {
     ghost use Rattle.std.specs.Prelude.{◌^◌, ◌≤◌, length, vec_capacity};
-    ghost use Rattle.heap_engine.specs.Inner.{Outcome as Printed};
+    ghost use Rattle.heap_engine.specs.Inner.{OutcomeView};
 
-    ghost Value = { Printed };
+    ghost Value = { OutcomeView };
 
     ghost view = { λ o. record {
       numbers = o.finalised.items;
@@ -107,15 +107,15 @@ impl Outcome {
 
     /// How many lines there are.
     pub fn count(&self) -> u32
-        ensures { result ≡ length (lines_of self.now) }
+        ensures { result ≡ length (outcome_lines self.now) }
     {
         self.finalised.len() as u32 + u32::from(self.last.is_some())
     }
 
     /// A line of the outcome.
     pub fn line(&self, index: u32) -> Line
-        requires { index < length (lines_of self.now) }
-        ensures { slice_get (lines_of self.now) index ≡ Some result }
+        requires { index < length (outcome_lines self.now) }
+        ensures { slice_get (outcome_lines self.now) index ≡ Some result }
     {
         match self.finalised.get(index as usize) {
             Some(number) => Line::Finalise { k: *number },

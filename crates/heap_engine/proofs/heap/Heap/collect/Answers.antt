@@ -13,8 +13,8 @@ use Rattle.page_space.specs.Pages.{word_count}
 use Rattle.page_words.specs.Seat.{SeatView, holds}
 use Rattle.heap_engine.specs.Marking.{MarksReachable, AreReferences}
 use Rattle.heap_engine.specs.View.{kept_of, collection_entries}
-use Rattle.heap_engine.specs.Sound.{setup_of}
-use Rattle.heap_engine.specs.Inner.{Outcome, Holds, IsTallied, HoldsSlotsOf, lines_of}
+use Rattle.heap_engine.specs.Sound.{setup_of_heap}
+use Rattle.heap_engine.specs.Inner.{OutcomeView, Holds, IsTallied, HoldsSlotsOf, outcome_lines}
 use Rattle.heap_engine.proofs.NodePlaces.{places_differ}
 use Rattle.heap_engine.proofs.HeapMade.{objects_few, have_fields}
 use Rattle.heap_engine.proofs.EndSteps.{ends_sweep}
@@ -27,7 +27,7 @@ use Rattle.heap_engine.proofs.heap.Heap.collect.Goals as goal
 
 pub end_sweep-requires-clause-serials : goal.end_sweep-requires-clause-serials
 end_sweep-requires-clause-serials c =
-    serials_fit (setup_of c.self.inside) c.self.inside.state.value c.self.inside.seat c.self.invariant.holds
+    serials_fit (setup_of_heap c.self.inside) c.self.inside.state.value c.self.inside.seat c.self.invariant.holds
     (omega (arith, c.self.invariant.tallied.few, c.self.invariant.tallied.most))
 
 pub mark_reachable-requires-clause-slots : goal.mark_reachable-requires-clause-slots
@@ -35,7 +35,7 @@ mark_reachable-requires-clause-slots c =
     let s : State = c.self.inside.state.value in
     let v : SeatView = c.self.inside.seat in
     let w : SeatView = c.end_sweep.new.seat in
-    let setup : Setup = setup_of c.self.inside in
+    let setup : Setup = setup_of_heap c.self.inside in
     let slots : List (Option ℕ) = c.self.inside.slots.items in
     let numbers : List ℕ = c.end_sweep.new.outcome.numbers in
     let t : State = ended_state setup.shape s numbers in
@@ -49,7 +49,7 @@ mark_reachable-requires-clause-references c =
     let s : State = c.self.inside.state.value in
     let v : SeatView = c.self.inside.seat in
     let w : SeatView = c.end_sweep.new.seat in
-    let setup : Setup = setup_of c.self.inside in
+    let setup : Setup = setup_of_heap c.self.inside in
     let slots : List (Option ℕ) = c.self.inside.slots.items in
     let numbers : List ℕ = c.end_sweep.new.outcome.numbers in
     let t : State = ended_state setup.shape s numbers in
@@ -62,7 +62,7 @@ mark_reachable-requires-clause-differ c =
     let s : State = c.self.inside.state.value in
     let v : SeatView = c.self.inside.seat in
     let w : SeatView = c.end_sweep.new.seat in
-    let setup : Setup = setup_of c.self.inside in
+    let setup : Setup = setup_of_heap c.self.inside in
     let slots : List (Option ℕ) = c.self.inside.slots.items in
     let numbers : List ℕ = c.end_sweep.new.outcome.numbers in
     let t : State = ended_state setup.shape s numbers in
@@ -74,7 +74,7 @@ mark_reachable-requires-clause-few c =
     let s : State = c.self.inside.state.value in
     let v : SeatView = c.self.inside.seat in
     let w : SeatView = c.end_sweep.new.seat in
-    let setup : Setup = setup_of c.self.inside in
+    let setup : Setup = setup_of_heap c.self.inside in
     let slots : List (Option ℕ) = c.self.inside.slots.items in
     let numbers : List ℕ = c.end_sweep.new.outcome.numbers in
     let t : State = ended_state setup.shape s numbers in
@@ -99,7 +99,7 @@ invariant_of-self-2 c =
     let s : State = c.self.inside.state.value in
     let v : SeatView = c.self.inside.seat in
     let w : SeatView = c.end_sweep.new.seat in
-    let setup : Setup = setup_of c.self.inside in
+    let setup : Setup = setup_of_heap c.self.inside in
     let slots : List (Option ℕ) = c.self.inside.slots.items in
     let numbers : List ℕ = c.end_sweep.new.outcome.numbers in
     let t : State = ended_state setup.shape s numbers in
@@ -132,9 +132,9 @@ invariant_of-self-2 c =
       room = omega (
         arith,
         c.self.invariant.room,
-        ap (λ (o : Outcome). o.room) c.end_collection.ensures,
+        ap (λ (o : OutcomeView). o.room) c.end_collection.ensures,
         c.end_sweep.ensures.kept,
-        ap (λ (o : Outcome). o.room) c.begin.ensures,
+        ap (λ (o : OutcomeView). o.room) c.begin.ensures,
         ap word_count c.end_sweep.ensures.shape,
       );
     }
@@ -144,7 +144,7 @@ returns-clause-step c =
     let s : State = c.self.inside.state.value in
     let v : SeatView = c.self.inside.seat in
     let w : SeatView = c.end_sweep.new.seat in
-    let setup : Setup = setup_of c.self.inside in
+    let setup : Setup = setup_of_heap c.self.inside in
     let slots : List (Option ℕ) = c.self.inside.slots.items in
     let numbers : List ℕ = c.end_sweep.new.outcome.numbers in
     let t : State = ended_state setup.shape s numbers in
@@ -171,10 +171,10 @@ returns-clause-step c =
     let keeps : IsKept (took (started_state t) []) [] kept =
     pause_keeps t kept c.reach_is_least.ensures (refers_within setup t swept_holds.valid) swept_holds.valid.unused (kept_low (holds new.marked) t.nodes) after.0 in
     rw (← c.self.view_is)
-    (collects_or_not setup s c.end_collection.new.self.piece (lines_of c.end_collection.new.self) c.answered-2.result.value c.self.invariant.holds.valid
-    (inr (step_collected setup s t c.answered-2.result.value numbers kept c.end_collection.new.self.piece (lines_of c.end_collection.new.self)
+    (collects_or_not setup s c.end_collection.new.self.piece (outcome_lines c.end_collection.new.self) c.answered-2.result.value c.self.invariant.holds.valid
+    (inr (step_collected setup s t c.answered-2.result.value numbers kept c.end_collection.new.self.piece (outcome_lines c.end_collection.new.self)
     (ends_sweep setup s v numbers c.bodies_lie_apart.ensures c.self.invariant.space.seat c.self.invariant.holds c.end_sweep.ensures.numbers)
     swept_holds.valid.unused after.1.valid.typed keeps
-    (ap (λ (o : Outcome). o.piece) c.end_collection.ensures)
-    (ap lines_of c.end_collection.ensures ∙ ap (λ (l : Line). lines_of (record c.end_sweep.new.outcome { last = Some l; piece = collection_entries })) line)
+    (ap (λ (o : OutcomeView). o.piece) c.end_collection.ensures)
+    (ap outcome_lines c.end_collection.ensures ∙ ap (λ (l : Line). outcome_lines (record c.end_sweep.new.outcome { last = Some l; piece = collection_entries })) line)
     (c.answered-2.ensures ∙ ap answered pausing))))

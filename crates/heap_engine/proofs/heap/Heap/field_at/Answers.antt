@@ -4,7 +4,7 @@ use Rattle.gc_graph.specs.declared.line.Refusal.TheVariants as R
 use Rattle.gc_graph.specs.State.{Setup, State}
 use Rattle.object_headers.specs.declared.header.Header.{Header}
 use Rattle.page_words.specs.Seat.{SeatView}
-use Rattle.heap_engine.specs.Sound.{setup_of}
+use Rattle.heap_engine.specs.Sound.{setup_of_heap}
 use Rattle.heap_engine.specs.View.{View}
 use Rattle.heap_engine.specs.Inner.{IsFieldOf}
 use Rattle.heap_engine.proofs.HeapMade.{have_fields}
@@ -13,13 +13,13 @@ use Rattle.heap_engine.proofs.heap.Heap.field_at.Goals as goal
 
 pub header_at-header-requires-clause-start : goal.header_at-header-requires-clause-start
 header_at-header-requires-clause-start c =
-    slot_is_place (setup_of c.self.inside) c.self.inside.state.value c.self.inside.seat c.self.inside.slots.items c.args.p c.index.result.now c.in-Some.place
+    slot_is_place (setup_of_heap c.self.inside) c.self.inside.state.value c.self.inside.seat c.self.inside.slots.items c.args.p c.index.result.now c.in-Some.place
     c.self.invariant.holds c.self.invariant.slots c.requires c.index.ensures c.in-Some.is
 
 pub returns-then-f-header-clause-field : goal.returns-then-f-header-clause-field
 returns-then-f-header-clause-field c =
     subst (λ (h : View). IsFieldOf h.state c.args.p c.args.f (Err R.Field)) c.self.view_is
-    (no_field (setup_of c.self.inside) c.self.inside.state.value c.self.inside.seat c.self.inside.slots.items c.args.p c.args.f c.index.result.now c.in-Some.place
+    (no_field (setup_of_heap c.self.inside) c.self.inside.state.value c.self.inside.seat c.self.inside.slots.items c.args.p c.args.f c.index.result.now c.in-Some.place
     c.header_at-header.result.size (Err R.Field) c.self.invariant.holds c.self.invariant.slots c.requires c.index.ensures c.in-Some.is (λ b has at. ap (λ (h : Header). h.size) (c.header_at-header.ensures.header b has at))
     c.if-f-header.true refl)
 
@@ -27,7 +27,7 @@ pub index-fields-requires : goal.index-fields-requires
 index-fields-requires c =
     let s : State = c.self.inside.state.value in
     let v : SeatView = c.self.inside.seat in
-    let setup : Setup = setup_of c.self.inside in
+    let setup : Setup = setup_of_heap c.self.inside in
     let types : List ℕ = c.self.inside.types.items in
     let is : IsNode setup types s c.args.p c.in-Some.place c.header_at-header.result.size c.header_at-header.result.ty =
     slot_node setup types s v c.self.inside.slots.items c.args.p c.index.result.now c.in-Some.place c.header_at-header.result.size c.header_at-header.result.ty
@@ -39,7 +39,7 @@ pub returns-then-f-fields-clause-field : goal.returns-then-f-fields-clause-field
 returns-then-f-fields-clause-field c =
     let s : State = c.self.inside.state.value in
     let v : SeatView = c.self.inside.seat in
-    let setup : Setup = setup_of c.self.inside in
+    let setup : Setup = setup_of_heap c.self.inside in
     let types : List ℕ = c.self.inside.types.items in
     let is : IsNode setup types s c.args.p c.in-Some.place c.header_at-header.result.size c.header_at-header.result.ty =
     slot_node setup types s v c.self.inside.slots.items c.args.p c.index.result.now c.in-Some.place c.header_at-header.result.size c.header_at-header.result.ty
@@ -55,7 +55,7 @@ pub returns-clause-field : goal.returns-clause-field
 returns-clause-field c =
     let s : State = c.self.inside.state.value in
     let v : SeatView = c.self.inside.seat in
-    let setup : Setup = setup_of c.self.inside in
+    let setup : Setup = setup_of_heap c.self.inside in
     let types : List ℕ = c.self.inside.types.items in
     let is : IsNode setup types s c.args.p c.in-Some.place c.header_at-header.result.size c.header_at-header.result.ty =
     slot_node setup types s v c.self.inside.slots.items c.args.p c.index.result.now c.in-Some.place c.header_at-header.result.size c.header_at-header.result.ty

@@ -5,8 +5,8 @@ use Rattle.gc_graph.specs.Outcomes.{answered}
 use Rattle.page_words.specs.Seat.{SeatView}
 use Rattle.page_space.specs.Pages.{word_count}
 use Rattle.heap_engine.specs.Changes.{ended_state}
-use Rattle.heap_engine.specs.Sound.{setup_of}
-use Rattle.heap_engine.specs.Inner.{Outcome, Holds, IsTallied, HoldsSlotsOf, lines_of}
+use Rattle.heap_engine.specs.Sound.{setup_of_heap}
+use Rattle.heap_engine.specs.Inner.{OutcomeView, Holds, IsTallied, HoldsSlotsOf, outcome_lines}
 use Rattle.heap_engine.proofs.EndSteps.{ends_sweep}
 use Rattle.heap_engine.proofs.HeapSteps.{holds_swept, slots_swept, serials_fit}
 use Rattle.heap_engine.proofs.HeapSlots.{holds_answered, slots_counted, tallied_on}
@@ -15,7 +15,7 @@ use Rattle.heap_engine.proofs.heap.Heap.finish_sweep.Goals as goal
 
 pub end_sweep-requires-clause-serials : goal.end_sweep-requires-clause-serials
 end_sweep-requires-clause-serials c =
-    serials_fit (setup_of c.self.inside) c.self.inside.state.value c.self.inside.seat c.self.invariant.holds
+    serials_fit (setup_of_heap c.self.inside) c.self.inside.state.value c.self.inside.seat c.self.invariant.holds
     (omega (arith, c.self.invariant.tallied.few, c.self.invariant.tallied.most))
 
 pub invariant_of-self : goal.invariant_of-self
@@ -23,7 +23,7 @@ invariant_of-self c =
     let s : State = c.self.inside.state.value in
     let v : SeatView = c.self.inside.seat in
     let new : SeatView = c.end_sweep.new.seat in
-    let setup : Setup = setup_of c.self.inside in
+    let setup : Setup = setup_of_heap c.self.inside in
     let numbers : List ℕ = c.end_sweep.new.outcome.numbers in
     let few : s.ordinal < 1000000 = rw (← c.self.view_is) at c.requires.few in
     let t : State = ended_state setup.shape s numbers in
@@ -45,9 +45,9 @@ invariant_of-self c =
       room = omega (
         arith,
         c.self.invariant.room,
-        ap (λ (o : Outcome). o.room) c.end.ensures,
+        ap (λ (o : OutcomeView). o.room) c.end.ensures,
         c.end_sweep.ensures.kept,
-        ap (λ (o : Outcome). o.room) c.begin.ensures,
+        ap (λ (o : OutcomeView). o.room) c.begin.ensures,
         ap word_count c.end_sweep.ensures.shape,
       );
     }
@@ -56,12 +56,12 @@ pub returns-clause-step : goal.returns-clause-step
 returns-clause-step c =
     let s : State = c.self.inside.state.value in
     let numbers : List ℕ = c.end_sweep.new.outcome.numbers in
-    let setup : Setup = setup_of c.self.inside in
+    let setup : Setup = setup_of_heap c.self.inside in
     let pages : c.pages-pages.result ≡ setup.shape.pages = c.pages-pages.ensures ∙ ap (λ (sh : Shape). sh.pages) c.end_sweep.ensures.shape in
     rw (← c.self.view_is) (record {
       numbers = numbers;
       swept = ended_state setup.shape s numbers;
       goes = ends_sweep setup s c.self.inside.seat numbers c.bodies_lie_apart.ensures c.self.invariant.space.seat c.self.invariant.holds c.end_sweep.ensures.numbers;
-      lines_are = ap lines_of c.end.ensures ∙ ap (λ n. lines_of (record c.end_sweep.new.outcome { last = Some (L.Swept n) })) pages;
+      lines_are = ap outcome_lines c.end.ensures ∙ ap (λ n. outcome_lines (record c.end_sweep.new.outcome { last = Some (L.Swept n) })) pages;
       after = c.answered.ensures ∙ ap answered (c.ended.ensures ∙ ap (λ sh. ended_state sh s numbers) c.end_sweep.ensures.shape);
     })

@@ -8,8 +8,8 @@ use Rattle.page_words.specs.Seat.{SeatView}
 use Rattle.page_space.specs.Pages.{word_count}
 use Rattle.page_space.specs.Occupying.{Occupies, new_body}
 use Rattle.heap_engine.specs.Changes.{made_state, full_state}
-use Rattle.heap_engine.specs.Sound.{setup_of}
-use Rattle.heap_engine.specs.Inner.{Outcome, Holds, IsTallied, HoldsSlotsOf, lines_of}
+use Rattle.heap_engine.specs.Sound.{setup_of_heap}
+use Rattle.heap_engine.specs.Inner.{OutcomeView, Holds, IsTallied, HoldsSlotsOf, outcome_lines}
 use Rattle.heap_engine.proofs.HeapSlots.{holds_counted, slots_counted, tallied_on}
 use Rattle.heap_engine.proofs.HeapMade.{holds_made, slots_made, tallied_made, type_fields, type_is, type_known}
 use Rattle.heap_engine.proofs.NewSteps.{step_made, step_full}
@@ -35,7 +35,7 @@ pub invariant_of-self : goal.invariant_of-self
 invariant_of-self c =
     let s : State = c.self.inside.state.value in
     let v : SeatView = c.self.inside.seat in
-    let setup : Setup = setup_of c.self.inside in
+    let setup : Setup = setup_of_heap c.self.inside in
     let n : ℕ = c.index-fields.result.now in
     let known : c.args.t < length c.self.inside.types.items = type_known c.self.inside.types.items c.args.t (rw (← c.self.view_is) at c.requires.ty) in
     let fields : n ≡ get_or c.self.inside.types.items c.args.t 0 = c.index-fields.ensures ∙ get_or_default c.self.inside.types.items c.args.t n 0 known in
@@ -58,13 +58,13 @@ invariant_of-self c =
       slots = subst (λ (x : State). HoldsSlotsOf x (set c.self.inside.slots.items c.args.p (Some c.in-Some.place))) to
           (slots_made setup s c.self.inside.slots.items c.args.p c.args.t n c.args.extra c.in-Some.place c.self.invariant.holds.valid c.self.invariant.slots);
       grey = c.self.invariant.grey;
-      room = omega (arith, c.self.invariant.room, ap (λ (o : Outcome). o.room) c.end.ensures, ap (λ (o : Outcome). o.room) c.begin.ensures, ap word_count c.occupy.ensures.shape);
+      room = omega (arith, c.self.invariant.room, ap (λ (o : OutcomeView). o.room) c.end.ensures, ap (λ (o : OutcomeView). o.room) c.begin.ensures, ap word_count c.occupy.ensures.shape);
     }
 
 pub invariant_of-self-in-None : goal.invariant_of-self-in-None
 invariant_of-self-in-None c =
     let s : State = c.self.inside.state.value in
-    let setup : Setup = setup_of c.self.inside in
+    let setup : Setup = setup_of_heap c.self.inside in
     let same : c.self.inside.seat ≡ c.pass_by.new.seat = sym (c.pass_by.ensures.view ∙ c.find_place.ensures.view) in
     let same_setup : setup ≡ record setup { shape = c.pass_by.new.self.shape } = ap (λ sh. (let st : Setup = record setup { shape = sh } in st)) (sym c.pass_by.ensures.shape) in
     let few : s.ordinal < 1000000 = rw (← c.self.view_is) at c.requires.few in
@@ -80,7 +80,7 @@ invariant_of-self-in-None c =
       slots = subst (λ (x : State). HoldsSlotsOf x c.self.inside.slots.items) to
           (slots_counted s (full_state s) c.self.inside.slots.items c.self.invariant.slots refl refl);
       grey = c.self.invariant.grey;
-      room = omega (arith, c.self.invariant.room, ap (λ (o : Outcome). o.room) c.end-in-None.ensures, ap (λ (o : Outcome). o.room) c.begin.ensures, ap word_count c.pass_by.ensures.shape);
+      room = omega (arith, c.self.invariant.room, ap (λ (o : OutcomeView). o.room) c.end-in-None.ensures, ap (λ (o : OutcomeView). o.room) c.begin.ensures, ap word_count c.pass_by.ensures.shape);
     }
 
 pub returns-in-Some-clause-step : goal.returns-in-Some-clause-step
@@ -89,14 +89,14 @@ returns-in-Some-clause-step c =
     let n : ℕ = c.index-fields.result.now in
     let known : c.args.t < length c.self.inside.types.items = type_known c.self.inside.types.items c.args.t (rw (← c.self.view_is) at c.requires.ty) in
     let fields : n ≡ get_or c.self.inside.types.items c.args.t 0 = c.index-fields.ensures ∙ get_or_default c.self.inside.types.items c.args.t n 0 known in
-    let setup : Setup = setup_of c.self.inside in
+    let setup : Setup = setup_of_heap c.self.inside in
     let is : type_at setup c.args.t ≡ strong_type n = type_is c.self.inside.types.items c.args.t ∙ ap strong_type (sym fields) in
     let idle : s.phase ≡ Idle = rw (← c.self.view_is) at c.requires.swept in
     let outcome : c.end.new.self ≡ record { numbers = []; last = Some (L.Placed c.self.inside.made c.in-Some.place); piece = []; room = c.self.inside.outcome.room } =
-    c.end.ensures ∙ ap (λ (o : Outcome). record o { last = Some (L.Placed c.self.inside.made c.in-Some.place) }) c.begin.ensures in
+    c.end.ensures ∙ ap (λ (o : OutcomeView). record o { last = Some (L.Placed c.self.inside.made c.in-Some.place) }) c.begin.ensures in
     rw (← c.self.view_is)
-    (step_made setup s c.made.result.value c.self.inside.seat (lines_of c.end.new.self) c.args.p c.args.t n c.args.extra c.in-Some.place idle c.self.invariant.holds.held is
-    c.in-Some.ensures.place (ap lines_of outcome ∙ ap (λ k. L.Placed k c.in-Some.place ∷ []) c.self.invariant.tallied.numbers_are) c.made.ensures)
+    (step_made setup s c.made.result.value c.self.inside.seat (outcome_lines c.end.new.self) c.args.p c.args.t n c.args.extra c.in-Some.place idle c.self.invariant.holds.held is
+    c.in-Some.ensures.place (ap outcome_lines outcome ∙ ap (λ k. L.Placed k c.in-Some.place ∷ []) c.self.invariant.tallied.numbers_are) c.made.ensures)
 
 pub returns-in-None-clause-step : goal.returns-in-None-clause-step
 returns-in-None-clause-step c =
@@ -104,11 +104,11 @@ returns-in-None-clause-step c =
     let n : ℕ = c.index-fields.result.now in
     let known : c.args.t < length c.self.inside.types.items = type_known c.self.inside.types.items c.args.t (rw (← c.self.view_is) at c.requires.ty) in
     let fields : n ≡ get_or c.self.inside.types.items c.args.t 0 = c.index-fields.ensures ∙ get_or_default c.self.inside.types.items c.args.t n 0 known in
-    let setup : Setup = setup_of c.self.inside in
+    let setup : Setup = setup_of_heap c.self.inside in
     let is : type_at setup c.args.t ≡ strong_type n = type_is c.self.inside.types.items c.args.t ∙ ap strong_type (sym fields) in
     let idle : s.phase ≡ Idle = rw (← c.self.view_is) at c.requires.swept in
     let outcome : c.end-in-None.new.self ≡ record { numbers = []; last = Some L.Full; piece = []; room = c.self.inside.outcome.room } =
-    c.end-in-None.ensures ∙ ap (λ (o : Outcome). record o { last = Some L.Full }) c.begin.ensures in
+    c.end-in-None.ensures ∙ ap (λ (o : OutcomeView). record o { last = Some L.Full }) c.begin.ensures in
     rw (← c.self.view_is)
-    (step_full setup s c.full.result.value c.self.inside.seat (lines_of c.end-in-None.new.self) c.args.p c.args.t n c.args.extra idle c.self.invariant.holds.held is
-    c.in-None.ensures.place (ap lines_of outcome) c.full.ensures)
+    (step_full setup s c.full.result.value c.self.inside.seat (outcome_lines c.end-in-None.new.self) c.args.p c.args.t n c.args.extra idle c.self.invariant.holds.held is
+    c.in-None.ensures.place (ap outcome_lines outcome) c.full.ensures)

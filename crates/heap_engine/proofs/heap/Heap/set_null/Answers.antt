@@ -4,9 +4,9 @@ use Rattle.gc_graph.specs.declared.kind.Value.TheVariants.{Null}
 use Rattle.gc_graph.specs.declared.line.Line.TheVariants as L
 use Rattle.gc_graph.specs.ObjectSteps.{StepSet}
 use Rattle.page_space.specs.Space.{IsSpaceOf}
-use Rattle.heap_engine.specs.Sound.{setup_of}
+use Rattle.heap_engine.specs.Sound.{setup_of_heap}
 use Rattle.heap_engine.specs.View.{View}
-use Rattle.heap_engine.specs.Inner.{Outcome, lines_of}
+use Rattle.heap_engine.specs.Inner.{OutcomeView, outcome_lines}
 use Rattle.heap_engine.proofs.FieldPlaces.{Found, found_field}
 use Rattle.heap_engine.proofs.FieldSteps.{field_is_word, field_stored}
 use Rattle.heap_engine.proofs.FieldAnswers.{step_set}
@@ -16,7 +16,7 @@ pub store_field-requires-clause-field : goal.store_field-requires-clause-field
 store_field-requires-clause-field c =
     let s : State = c.self.inside.state.value in
     let found : Found s c.args.p c.args.f c.in-Ok.a =
-    found_field (setup_of c.self.inside) s c.args.self.now.state c.args.p c.args.f c.in-Ok.a c.self.invariant.holds.valid
+    found_field (setup_of_heap c.self.inside) s c.args.self.now.state c.args.p c.args.f c.in-Ok.a c.self.invariant.holds.valid
     (ap (λ (h : View). h.state) (c.self.view_is ∙ c.in-Ok.ensures.same)) c.in-Ok.ensures.field in
     field_is_word s.nodes c.self.inside.seat c.in-Ok.a found.node c.args.f c.self.invariant.holds.held.bodies found.live found.at found.low
 
@@ -25,9 +25,9 @@ invariant_of-self c =
     let s : State = c.self.inside.state.value in
     let old : s ≡ c.args.self.now.state = ap (λ (h : View). h.state) (c.self.view_is ∙ c.in-Ok.ensures.same) in
     let found : Found s c.args.p c.args.f c.in-Ok.a =
-    found_field (setup_of c.self.inside) s c.args.self.now.state c.args.p c.args.f c.in-Ok.a c.self.invariant.holds.valid old c.in-Ok.ensures.field in
+    found_field (setup_of_heap c.self.inside) s c.args.self.now.state c.args.p c.args.f c.in-Ok.a c.self.invariant.holds.valid old c.in-Ok.ensures.field in
     let few : s.ordinal < 1000000 = subst (λ (x : State). x.ordinal < 1000000) (sym old) c.requires.few in
-    let kept = field_stored (setup_of c.self.inside) s c.nulled.result.value c.self.inside.seat c.store_field.new.seat c.args.p c.args.f c.in-Ok.a
+    let kept = field_stored (setup_of_heap c.self.inside) s c.nulled.result.value c.self.inside.seat c.store_field.new.seat c.args.p c.args.f c.in-Ok.a
     0 Null c.self.inside.slots.items c.self.inside.made
     c.bodies_lie_apart.ensures c.self.invariant.holds c.self.invariant.tallied c.self.invariant.slots few found
     (tt, tt, tt) refl c.store_field.ensures c.nulled.ensures in
@@ -39,7 +39,7 @@ invariant_of-self c =
       tallied = kept.tallied;
       slots = kept.slots;
       grey = c.self.invariant.grey;
-      room = omega (arith, c.self.invariant.room, ap (λ (o : Outcome). o.room) c.end.ensures, ap (λ (o : Outcome). o.room) c.begin.ensures);
+      room = omega (arith, c.self.invariant.room, ap (λ (o : OutcomeView). o.room) c.end.ensures, ap (λ (o : OutcomeView). o.room) c.begin.ensures);
     }
 
 pub returns-in-Ok-clause-step : goal.returns-in-Ok-clause-step
@@ -47,9 +47,9 @@ returns-in-Ok-clause-step c =
     let s : State = c.self.inside.state.value in
     let old : s ≡ c.args.self.now.state = ap (λ (h : View). h.state) (c.self.view_is ∙ c.in-Ok.ensures.same) in
     let found : Found s c.args.p c.args.f c.in-Ok.a =
-    found_field (setup_of c.self.inside) s c.args.self.now.state c.args.p c.args.f c.in-Ok.a c.self.invariant.holds.valid old c.in-Ok.ensures.field in
+    found_field (setup_of_heap c.self.inside) s c.args.self.now.state c.args.p c.args.f c.in-Ok.a c.self.invariant.holds.valid old c.in-Ok.ensures.field in
     let outcome : c.end.new.self ≡ record { numbers = []; last = Some L.Fine; piece = []; room = c.self.inside.outcome.room } =
-    c.end.ensures ∙ ap (λ (o : Outcome). record o { last = Some L.Fine }) c.begin.ensures in
-    subst (λ (y : State). StepSet y c.args.p c.args.f Null (lines_of c.end.new.self) c.nulled.result.value) old
-    (step_set (setup_of c.self.inside) s c.nulled.result.value c.args.p c.args.f c.in-Ok.a Null (lines_of c.end.new.self)
-    c.self.invariant.holds.valid found (ap lines_of outcome) c.nulled.ensures)
+    c.end.ensures ∙ ap (λ (o : OutcomeView). record o { last = Some L.Fine }) c.begin.ensures in
+    subst (λ (y : State). StepSet y c.args.p c.args.f Null (outcome_lines c.end.new.self) c.nulled.result.value) old
+    (step_set (setup_of_heap c.self.inside) s c.nulled.result.value c.args.p c.args.f c.in-Ok.a Null (outcome_lines c.end.new.self)
+    c.self.invariant.holds.valid found (ap outcome_lines outcome) c.nulled.ensures)
