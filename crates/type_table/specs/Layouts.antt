@@ -5,7 +5,7 @@ use Rattle.gc_graph.specs.declared.kind.Kind.{Kind}
 use Rattle.gc_graph.specs.declared.kind.Kind.TheVariants.{Strong, Pair}
 use Rattle.gc_graph.specs.State.{ObjectType}
 use Rattle.gc_graph.specs.Fields.{words_of_kind, field_words}
-use Rattle.type_table.specs.Types.{offset_of, offsets_where, is_kind}
+use Rattle.type_table.specs.Types.{offset_of, offsets_of_kind}
 
 -- how many words the declared fields take, the offset of each field, the kind of each word's field, and the offsets of
 -- the strong fields and of the pairs
@@ -33,8 +33,8 @@ layout_of kinds = record {
   words = field_words kinds;
   offsets = offsets_of kinds;
   kinds = kinds_of_words kinds;
-  strong = offsets_where (is_kind Strong) kinds;
-  pairs = offsets_where (is_kind Pair) kinds;
+  strong = offsets_of_kind Strong kinds;
+  pairs = offsets_of_kind Pair kinds;
 }
 
 -- the layouts of types, by number

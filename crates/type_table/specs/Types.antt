@@ -51,6 +51,10 @@ is_kind Pair Pair = true
 is_kind Plain Plain = true
 is_kind wanted kind = false
 
+-- the offsets of the declared fields of a kind, in their order
+abbrev pub offsets_of_kind : Kind → List Kind → List ℕ
+offsets_of_kind kind kinds = offsets_where (is_kind kind) kinds
+
 -- the word at an offset is one of a field's
 pub record IsWordOf (kinds : List Kind) (field word : ℕ) : Type 0 where
   pub first : offset_of kinds field ≤ word

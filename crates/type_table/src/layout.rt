@@ -145,7 +145,7 @@ fn offsets_where(
 ) -> Result<Vec<u32>, NoMemory>
     requires few { length kinds.now ≤ 64 }
     requires offsets { offsets.now ≡ layouts.offsets_of kinds.now }
-    ensures { IfOk result (λ found. found.items ≡ spec.offsets_where (spec.is_kind wanted) kinds.now) }
+    ensures { IfOk result (λ found. found.items ≡ spec.offsets_of_kind wanted kinds.now) }
 {
     let mut found = Vec::new(alloc);
     for (field, kind) in kinds.iter().enumerate() {

@@ -116,7 +116,7 @@ impl TypeTable {
     /// The offsets of the strong fields, in their order.
     pub fn strong_words(&self, ty: u32) -> &[u32]
         requires { ty < length self.now }
-        ensures { result.now ≡ spec.offsets_where (spec.is_kind Strong) (spec.kinds_of self.now ty) }
+        ensures { result.now ≡ spec.offsets_of_kind Strong (spec.kinds_of self.now ty) }
     {
         self.layout(ty).strong()
     }
@@ -124,7 +124,7 @@ impl TypeTable {
     /// The offsets of the keys of the pairs, in their order.
     pub fn pair_words(&self, ty: u32) -> &[u32]
         requires { ty < length self.now }
-        ensures { result.now ≡ spec.offsets_where (spec.is_kind Pair) (spec.kinds_of self.now ty) }
+        ensures { result.now ≡ spec.offsets_of_kind Pair (spec.kinds_of self.now ty) }
     {
         self.layout(ty).pairs()
     }
