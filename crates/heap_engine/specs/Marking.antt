@@ -10,6 +10,7 @@ pub record Grey : Type 0 where
   pub traced : ℕ
   pub room : ℕ
 
+-- no two bodies have one place
 abbrev pub PlacesDiffer : List Body → Type 0
 PlacesDiffer [] = ⊤
 PlacesDiffer (b ∷ bodies) = All (λ c. c.place ≡ b.place → ⊥) bodies × PlacesDiffer bodies
@@ -37,9 +38,11 @@ LeadsTo types bodies p q =
 abbrev pub IsClosedUnder : List ℕ → List Body → (ℕ → Bool) → Type 0
 IsClosedUnder types bodies test = (p q : ℕ) → test p ≡ true → LeadsTo types bodies p q → test q ≡ true
 
+-- how many bodies are marked
 abbrev pub marked_count : SeatView → ℕ
 marked_count v = count_by (λ b. holds v.marked b.place) v.bodies
 
+-- how many bodies are traced
 abbrev pub traced_count : SeatView → ℕ
 traced_count v = count_by (λ b. holds v.traced b.place) v.bodies
 
