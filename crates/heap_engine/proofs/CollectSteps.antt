@@ -1,30 +1,65 @@
 -- A collection is a step of the graph.
-use Rattle.std.proofs.Common.{◌≡◌, ℕ, zero, suc, ◌+◌, ◌<◌, Bool, true, false, List, [], ◌∷◌, ◌++◌, length, map, replicate, Option, None, refl, sym, ap, ◌∙◌, subst, inl, inr, arith, eqb}
+use Rattle.std.proofs.Common.{◌≡◌, ℕ, zero, suc, ◌+◌, ◌-◌, ◌<◌, Bool, true, false, List, [], ◌∷◌, ◌++◌, length, map, replicate, Option, None, refl, sym, ap, ◌∙◌, subst, inl, inr, arith, eqb}
 use mathlib.Core.Logic.{◌⊎◌}
 use Rattle.std.specs.Prelude.{MatchBool}
 use Rattle.std.specs.List.{All, list_any}
 use Rattle.std.proofs.lemmas.Bool.{true≢false, or_cases, or_left, or_right, eqb-true, eq-eqb}
 use Rattle.std.proofs.lemmas.List.{append-nil, length-map}
+use Rattle.std.proofs.lemmas.List.Elements.{All-get_or, All-from_get_or}
 use Rattle.gc_graph.specs.declared.command.Want.TheVariants.{Precise}
 use Rattle.gc_graph.specs.declared.line.Line.{Line}
+use Rattle.gc_graph.specs.declared.line.Line.TheVariants as L
+use Rattle.gc_graph.specs.declared.phase.Phase.{Phase}
+use Rattle.gc_graph.specs.declared.phase.Phase.TheVariants.{Sweeping}
 use Rattle.gc_graph.specs.declared.region.Entry.{Entry}
 use Rattle.gc_graph.specs.declared.region.Op.TheVariants as O
 use Rattle.gc_graph.specs.Graph.{Object, IsIn, IsWithin}
 use Rattle.gc_graph.specs.Reach.{Reach, AreNodes, RefersWithin, ReachIsLeast}
-use Rattle.gc_graph.specs.State.{Setup, State, Node, RegionSlot, Registration, graph_of, roots_of, slot_targets, stack_targets, strong_region_targets}
+use Rattle.gc_graph.specs.State.{Setup, State, Node, RegionSlot, Registration, node_at, no_node, graph_of, roots_of, slot_targets, stack_targets, strong_region_targets, objects_of}
 use Rattle.gc_graph.specs.State.RegionSlot.{Vacant}
 use Rattle.gc_graph.specs.May.{members, members_from, marking}
 use Rattle.gc_graph.specs.History.{cleared_by, NamesWeakSlots}
-use Rattle.gc_graph.specs.Pause.{IsKept, condemn, clear_slot, is_dead_at, dying_slots, clear_fields, run_order, prefinalised, prefinalise_lines, live_count, paused}
+use Rattle.gc_graph.specs.Pause.{IsKept, condemn, clear_slot, is_dead_at, dying_slots, clear_fields, run_order, prefinalised, prefinalise_lines, live_count, dead_count, paused}
 use Rattle.gc_graph.specs.Outcomes.{answered, finalise_lines, took, owner_entry}
 use Rattle.gc_graph.specs.Sweep.{SweepsToEnd}
 use Rattle.gc_graph.specs.CycleSteps.{IsStart, IsPause, IsCollection, StepGcNow, WantsMemory, is_marking, is_stack_refused}
+use Rattle.heap_engine.specs.Marking.{Grey}
 use Rattle.heap_engine.specs.View.{start_entry, pause_entry}
-use Rattle.heap_engine.specs.Plain.{AreUnused, IsStrong, IsPlainState}
-use Rattle.heap_engine.specs.Changes.{collected_state}
-use Rattle.heap_engine.proofs.KeptNodes.{KeepsReached}
-use Rattle.heap_engine.proofs.StrongFields.{clears_nothing}
-use Rattle.heap_engine.proofs.HeapTallies.{pause_line}
+use Rattle.heap_engine.specs.Objects.{IsJudgement}
+use Rattle.heap_engine.specs.Changes.{collected_from}
+use Rattle.heap_engine.specs.Parts.{ObjectsView, HandlesView, CycleView, setup_of, state_of, counted, HasMarks, IsAtRest, IsReady, IsFrame}
+use Rattle.heap_engine.specs.Nodes.{place_of}
+use Rattle.heap_engine.specs.Sweeping.{IsJudged}
+use Rattle.heap_engine.proofs.NodeLives.{length-condemn, object-condemn, place-condemn, live_and_dead}
+use Rattle.heap_engine.proofs.StrongFields.{IsStrong, ArePlain, plain_nodes, clears_nothing}
+use Rattle.heap_engine.proofs.KeptNodes.{refers_within}
+use Rattle.heap_engine.proofs.Ties.{valid_nodes, tied_nodes}
+
+-- the line of a pause that kept and condemned these
+abbrev pub pause_line : List Node → Line
+pause_line nodes = L.Pause (live_count nodes) (dead_count nodes) 0 (live_count nodes) false
+
+-- the state after the pause of a collection that was started from this one
+abbrev pub collected_state : State → List Bool → State
+collected_state s kept = record (collected_from s) { nodes = condemn kept s.nodes; phase = Sweeping }
+
+-- the line of a pause counts the nodes that it kept and condemned
+pub pause_counts : (nodes : List Node) (objects marked : ℕ) → objects ≡ objects_of nodes → marked ≡ live_count nodes
+    → L.Pause marked (objects - marked) 0 marked false ≡ pause_line nodes
+pause_counts nodes objects marked all live =
+    let dead : objects - marked ≡ dead_count nodes = omega (arith, all, live, live_and_dead nodes) in
+    ap (λ k. L.Pause k (objects - marked) 0 k false) live ∙ ap (λ d. L.Pause (live_count nodes) d 0 (live_count nodes) false) dead
+
+-- a condemned object has its fields still
+pub strong_judged : (setup : Setup) (kept : List Bool) (nodes : List Node) → All (IsStrong setup) nodes → All (IsStrong setup) (condemn kept nodes)
+strong_judged setup kept nodes strong =
+    All-from_get_or (IsStrong setup) (condemn kept nodes) no_node
+    (λ n low. typed-object setup (node_at nodes n) (node_at (condemn kept nodes) n) (object-condemn kept nodes n)
+    (All-get_or (IsStrong setup) nodes n no_node (subst (λ l. n < l) (length-condemn kept nodes) low) strong)) where
+      typed-object : (setup : Setup) (x y : Node) → y.object ≡ x.object → IsStrong setup x → IsStrong setup y
+      typed-object setup x y same typed =
+          subst (λ (o : Object). (let z : Node = record { object = o; place = y.place; life = y.life } in IsStrong setup z)) (sym same)
+          (record { ty = typed.ty; kinds = typed.kinds; values = typed.values; pointers = typed.pointers; plain = typed.plain })
 
 -- ---- the members of a set
 
@@ -53,8 +88,8 @@ no_region_targets : (n : ℕ) → strong_region_targets (replicate n Vacant) ≡
 no_region_targets zero = refl
 no_region_targets (suc n) = no_region_targets n
 
-plain_roots : (s : State) → AreUnused s.weak s.stack s.region s.registrations s.running → roots_of s ≡ slot_targets s.slots
-plain_roots s unused =
+plain_roots : (ph : Phase) (grey : Grey) (s : State) → IsAtRest ph grey s → roots_of s ≡ slot_targets s.slots
+plain_roots ph grey s unused =
     ap (λ k. slot_targets s.slots ++ stack_targets k ++ strong_region_targets s.region) unused.stack_empty
     ∙ ap (λ ts. slot_targets s.slots ++ [] ++ ts) (ap strong_region_targets unused.region_null ∙ no_region_targets 32)
     ∙ append-nil (slot_targets s.slots ++ []) ∙ append-nil (slot_targets s.slots)
@@ -63,17 +98,18 @@ plain_roots s unused =
 abbrev pub started_state : State → State
 started_state s = marking (took s (start_entry ∷ []))
 
-pub pause_keeps : (s : State) (kept : List Bool) → ReachIsLeast → RefersWithin (graph_of s.nodes) → AreUnused s.weak s.stack s.region s.registrations s.running
-    → ((n : ℕ) → IsIn kept n → n < length s.nodes) → KeepsReached s kept → IsKept (took (started_state s) []) [] kept
-pause_keeps s kept law refers unused low keeps =
+pub pause_keeps : (ph : Phase) (grey : Grey) (s : State) (new : List Node) → ReachIsLeast → RefersWithin (graph_of s.nodes) → IsAtRest ph grey s
+    → (keeps : IsJudgement s.nodes s.slots new) → IsKept (took (started_state s) []) [] keeps.kept
+pause_keeps ph grey s new law refers unused keeps =
+    let kept : List Bool = keeps.kept in
     let g : List Object = graph_of s.nodes in
-    let roots : roots_of s ≡ slot_targets s.slots = plain_roots s unused in
+    let roots : roots_of s ≡ slot_targets s.slots = plain_roots ph grey s unused in
     let may : List Bool = Reach g (roots_of s) in
     let same : may ≡ Reach g (slot_targets s.slots) = ap (Reach g) roots in
     let nodes : AreNodes g (members may) = λ m root.
     let w = member_in 0 may m root in
     let is : IsIn kept w.0 = keeps.reached w.0 (subst (λ set. IsIn set w.0) same w.2) in
-    omega (arith, low w.0 is, w.1, length-map s.nodes (λ (x : Node). x.object)) in
+    omega (arith, keeps.low w.0 is, w.1, length-map s.nodes (λ (x : Node). x.object)) in
     let least = law g (members may) refers nodes in
     record {
       closed = keeps.closed;
@@ -103,9 +139,9 @@ none_dying : (nodes : List Node) (region : List RegionSlot) → region ≡ repli
 none_dying nodes region is = sym (ap (dying_slots nodes) is)
 
 -- the state after a collection is the one of the pause
-pub collected_is : (setup : Setup) (s : State) (kept : List Bool) → AreUnused s.weak s.stack s.region s.registrations s.running → All (IsStrong setup) (condemn kept s.nodes)
+pub collected_is : (ph : Phase) (grey : Grey) (setup : Setup) (s : State) (kept : List Bool) → IsAtRest ph grey s → All (IsStrong setup) (condemn kept s.nodes)
     → collected_state s kept ≡ paused setup (started_state s) (condemn kept s.nodes)
-collected_is setup s kept unused strong =
+collected_is ph grey setup s kept unused strong =
     let c : List Node = condemn kept s.nodes in
     let dead : ℕ → Bool = is_dead_at c in
     let build : List Node → List (Option ℕ) → List RegionSlot → List Registration → State = λ nodes weak region registrations.
@@ -130,10 +166,10 @@ collected_is setup s kept unused strong =
 starts : (setup : Setup) (s : State) → IsStart setup s (start_entry ∷ []) (started_state s)
 starts setup s = record { before = []; others = λ k d low. absurd (omega arith); piece_is = refl; legal = (refl, tt, tt); after = refl }
 
-pauses : (setup : Setup) (s : State) (kept : List Bool) → AreUnused s.weak s.stack s.region s.registrations s.running → All (IsStrong setup) (condemn kept s.nodes)
+pauses : (ph : Phase) (grey : Grey) (setup : Setup) (s : State) (kept : List Bool) → IsAtRest ph grey s → All (IsStrong setup) (condemn kept s.nodes)
     → IsKept (took (started_state s) []) [] kept
     → IsPause setup 0 Precise (started_state s) (pause_entry ∷ []) (pause_line (condemn kept s.nodes) ∷ []) (collected_state s kept)
-pauses setup s kept unused strong keeps =
+pauses ph grey setup s kept unused strong keeps =
     let c : List Node = condemn kept s.nodes in
     record {
       before = [];
@@ -147,7 +183,7 @@ pauses setup s kept unused strong keeps =
         crew_is = λ none. refl;
         counted = omega arith;
         lines_are = ap (λ rs. pause_line c ∷ prefinalise_lines (run_order c rs)) (sym unused.none_registered);
-        after = collected_is setup s kept unused strong;
+        after = collected_is ph grey setup s kept unused strong;
       };
       piece_is = ap (λ mask. owner_entry (started_state s) (O.Pause mask) ∷ []) (none_dying c s.region unused.region_null);
       legal = (refl, (refl, subst (NamesWeakSlots 0) (sym unused.region_null) (names_none 32)), tt);
@@ -157,16 +193,16 @@ on_false : (b : Bool) (P Q : Type 0) → b ≡ false → Q → MatchBool b P Q
 on_false b P Q is q = subst (λ x. MatchBool x P Q) (sym is) q
 
 -- where marking doesn't go on and the stack is empty, gc now wants memory or collects
-pub collects_or_not : (setup : Setup) (s : State) (piece : List Entry) (lines : List Line) (new : State) → IsPlainState setup s
+pub collects_or_not : (ph : Phase) (grey : Grey) (setup : Setup) (s : State) (piece : List Entry) (lines : List Line) (new : State) → IsAtRest ph grey s → ph ≡ s.phase
     → WantsMemory s piece lines new ⊎ IsCollection setup Precise s piece lines new → StepGcNow setup Precise s piece lines new
-collects_or_not setup s piece lines new valid done =
-    on_false (is_marking s.phase) _ _ valid.calm (on_false (is_stack_refused Precise s.stack) _ _ (ap (is_stack_refused Precise) valid.unused.stack_empty) done)
+collects_or_not ph grey setup s piece lines new unused phase done =
+    on_false (is_marking s.phase) _ _ (sym (ap is_marking phase) ∙ unused.calm) (on_false (is_stack_refused Precise s.stack) _ _ (ap (is_stack_refused Precise) unused.stack_empty) done)
 
-pub step_collected : (setup : Setup) (s t new : State) (numbers : List ℕ) (kept : List Bool) (piece : List Entry) (lines : List Line) → SweepsToEnd setup.shape s numbers t
-    → AreUnused t.weak t.stack t.region t.registrations t.running → All (IsStrong setup) (condemn kept t.nodes) → IsKept (took (started_state t) []) [] kept
+pub step_collected : (ph : Phase) (grey : Grey) (setup : Setup) (s t new : State) (numbers : List ℕ) (kept : List Bool) (piece : List Entry) (lines : List Line) → SweepsToEnd setup.shape s numbers t
+    → IsAtRest ph grey t → All (IsStrong setup) (condemn kept t.nodes) → IsKept (took (started_state t) []) [] kept
     → piece ≡ start_entry ∷ pause_entry ∷ [] → lines ≡ finalise_lines numbers ++ pause_line (condemn kept t.nodes) ∷ [] → new ≡ answered (collected_state t kept)
     → IsCollection setup Precise s piece lines new
-step_collected setup s t new numbers kept piece lines ended unused strong keeps taken printed after = record {
+step_collected ph grey setup s t new numbers kept piece lines ended unused strong keeps taken printed after = record {
   numbers = numbers;
   swept = t;
   ended = ended;
@@ -176,8 +212,65 @@ step_collected setup s t new numbers kept piece lines ended unused strong keeps 
   second = pause_entry ∷ [];
   pause_lines = pause_line (condemn kept t.nodes) ∷ [];
   paused = collected_state t kept;
-  pause = pauses setup t kept unused strong keeps;
+  pause = pauses ph grey setup t kept unused strong keeps;
   piece_is = taken;
   lines_are = printed;
   after = after;
 }
+
+at_rest : (o : ObjectsView) (h : HandlesView) (c : CycleView) → IsAtRest c.phase c.grey c.rest → IsAtRest c.phase c.grey (state_of o h c)
+at_rest o h c rest = record {
+  calm = rest.calm;
+  none_listed = rest.none_listed;
+  weak_null = rest.weak_null;
+  stack_empty = rest.stack_empty;
+  region_null = rest.region_null;
+  none_registered = rest.none_registered;
+  none_running = rest.none_running;
+}
+
+-- from the old parts, through those after the end of an open sweep, to those after the pause
+pub record Collects (o mid new : ObjectsView) (h : HandlesView) (c between after : CycleView) (numbers : List ℕ) : Type 0 where
+  pub before_rests : IsAtRest c.phase c.grey c.rest
+  pub rests : IsAtRest between.phase between.grey between.rest
+  pub ends : SweepsToEnd o.shape (state_of o h c) numbers (state_of mid h between)
+  pub ready : IsReady mid h between
+  pub setup : setup_of mid ≡ setup_of o
+  pub same_setup : setup_of new ≡ setup_of mid
+  pub judges : IsJudgement mid.nodes h.slots new.nodes
+  pub judged : IsJudged new.seat
+  pub phase : after.phase ≡ Sweeping
+  pub rest : after.rest ≡ collected_from (state_of mid h between)
+  pub ordinal : between.rest.ordinal ≡ c.rest.ordinal
+
+pub collection_steps : (o mid new : ObjectsView) (h : HandlesView) (c between after : CycleView) (numbers : List ℕ) (piece : List Entry) (line : Line) → ReachIsLeast
+    → Collects o mid new h c between after numbers → piece ≡ start_entry ∷ pause_entry ∷ [] → line ≡ pause_line new.nodes
+    → StepGcNow (setup_of o) Precise (state_of o h c) piece (finalise_lines numbers ++ line ∷ []) (answered (state_of new h after))
+collection_steps o mid new h c between after numbers piece line law is taken told =
+    let t : State = state_of mid h between in
+    let kept : List Bool = is.judges.kept in
+    let plain : ArePlain (setup_of mid) mid.nodes = plain_nodes (setup_of mid) mid.nodes is.ready.strong (valid_nodes mid h between is.ready) in
+    let rests : IsAtRest between.phase between.grey t = at_rest mid h between is.rests in
+    let build : List Node → Phase → State → State = λ ns ph r. answered (record r { nodes = ns; slots = h.slots; phase = ph }) in
+    collects_or_not c.phase c.grey (setup_of o) (state_of o h c) piece (finalise_lines numbers ++ line ∷ []) (answered (state_of new h after)) (at_rest o h c is.before_rests) refl
+    (inr (step_collected between.phase between.grey (setup_of o) (state_of o h c) t (answered (state_of new h after)) numbers kept piece (finalise_lines numbers ++ line ∷ []) is.ends rests
+    (subst (λ (st : Setup). All (IsStrong st) (condemn kept mid.nodes)) is.setup (strong_judged (setup_of mid) kept mid.nodes plain.typed))
+    (pause_keeps between.phase between.grey t new.nodes law (refers_within (setup_of mid) mid.nodes plain) rests is.judges)
+    taken
+    (ap (λ l. finalise_lines numbers ++ l ∷ []) (told ∙ ap pause_line is.judges.nodes_are))
+    (ap (λ ns. build ns after.phase after.rest) is.judges.nodes_are
+    ∙ ap (λ ph. build (condemn kept mid.nodes) ph after.rest) is.phase
+    ∙ ap (build (condemn kept mid.nodes) Sweeping) is.rest)))
+
+pub collection_frame : (o mid new : ObjectsView) (h : HandlesView) (c between after : CycleView) (numbers : List ℕ) → Collects o mid new h c between after numbers
+    → IsFrame o c new h (counted after)
+collection_frame o mid new h c between after numbers is =
+    let ordinal : after.rest.ordinal ≡ c.rest.ordinal = ap (λ (s : State). s.ordinal) is.rest ∙ is.ordinal in
+    record {
+      setup = is.same_setup ∙ is.setup;
+      ordinal = ap (λ n. n + 1) ordinal;
+      tied = tied_nodes mid new h between (counted after) is.ready.tied.slots
+          (λ n. ap (λ (ns : List Node). place_of ns n) is.judges.nodes_are ∙ place-condemn is.judges.kept mid.nodes n)
+          (subst (λ ph. HasMarks ph new.seat) (sym is.phase) is.judged)
+          (omega (arith, is.ready.tied.made, ordinal, is.ordinal, ap length is.judges.nodes_are, length-condemn is.judges.kept mid.nodes));
+    }

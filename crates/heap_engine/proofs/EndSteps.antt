@@ -1,24 +1,29 @@
--- The end of an open sweep is a step of the graph.
-use Rattle.std.proofs.Common.{◌≡◌, ℕ, suc, ◌+◌, ◌<◌, false, List, [], ◌∷◌, length, map, refl, sym, ap, ◌∙◌, subst, inl, inr, arith, cond, ltb}
-use Rattle.std.specs.List.{All}
+-- The end of an open sweep is a step of the graph, and leaves the parts ready.
+use Rattle.std.proofs.Common.{◌≡◌, ℕ, suc, ◌+◌, ◌<◌, ◌≤◌, List, [], ◌∷◌, ◌++◌, length, map, refl, sym, ap, ◌∙◌, subst, inl, inr, arith, cond, ltb}
+use Rattle.std.specs.Prelude.{MatchBool}
 use Rattle.std.proofs.lemmas.Bool.{true≢false, cases_Bool, eq-eqb, lt-ltb}
-use Rattle.std.proofs.lemmas.List.Elements.{All-head}
+use Rattle.std.proofs.lemmas.List.{length-map}
+use Rattle.std.proofs.lemmas.List.Sums.{sum_by-cons}
+use Rattle.gc_graph.specs.declared.command.Command.TheVariants as C
+use Rattle.gc_graph.specs.declared.line.Line.{Line}
+use Rattle.gc_graph.specs.declared.line.Line.TheVariants as L
+use Rattle.gc_graph.specs.declared.line.Refusal.TheVariants as R
 use Rattle.gc_graph.specs.declared.phase.Phase.{Phase}
-use Rattle.gc_graph.specs.declared.phase.Phase.TheVariants.{Idle, Marking, Sweeping}
-use Rattle.gc_graph.specs.State.{Setup, State, Node, Life, node_at, is_there, IsDead}
+use Rattle.gc_graph.specs.declared.phase.Phase.TheVariants.{Idle, Sweeping}
+use Rattle.gc_graph.specs.State.{Setup, State, Node, Life, is_there, IsDead, objects_of}
 use Rattle.gc_graph.specs.State.Life.{Live, Dead, Gone}
-use Rattle.gc_graph.specs.CycleSteps.{is_marking}
-use Rattle.gc_graph.specs.Sweep.{buried, finalise, phase_at, IsDeadBelow, AreDeadInOrder, SweepsInPhase, SweepsToEnd}
-use Rattle.page_words.specs.Seat.{SeatView, IsView}
-use Rattle.page_space.specs.Pages.{word_count}
-use Rattle.heap_engine.specs.Sweeping.{AreDeadSerials}
-use Rattle.heap_engine.specs.Nodes.{place_of, body_of, IsHeld}
-use Rattle.heap_engine.specs.Plain.{IsPlainState}
-use Rattle.heap_engine.specs.Changes.{bury, cursor_after, ended_state}
-use Rattle.heap_engine.specs.Inner.{Holds}
-use Rattle.heap_engine.proofs.NodePlaces.{node_body}
-use Rattle.heap_engine.proofs.NodeSweeps.{dead_in_order}
-use Rattle.heap_engine.proofs.SweepSteps.{body_below}
+use Rattle.gc_graph.specs.CycleSteps.{is_sweeping, HasSwept, StepSweepAll}
+use Rattle.gc_graph.specs.Outcomes.{answered, finalise_lines, IsRefused}
+use Rattle.gc_graph.specs.Sweep.{buried, finalise, phase_at, AreDeadInOrder, SweepsInPhase, SweepsToEnd}
+use Rattle.gc_graph.specs.Valid.{IsValid, HasMay, word_count}
+use Rattle.gc_graph.specs.ValidLaw.{StepKeepsValid}
+use Rattle.page_words.specs.Seat.{IsQuiet}
+use Rattle.heap_engine.specs.Nodes.{place_of}
+use Rattle.heap_engine.specs.Objects.{bury}
+use Rattle.heap_engine.specs.Changes.{ended_in}
+use Rattle.heap_engine.specs.Parts.{ObjectsView, HandlesView, CycleView, setup_of, state_of, HasMarks, AreStrong, IsReady}
+use Rattle.heap_engine.proofs.NodeLives.{place-finalise}
+use Rattle.heap_engine.proofs.Ties.{tied_nodes}
 
 buried_same : (l : Life) → (l ≡ Dead → ⊥) → buried l ≡ l
 buried_same Live alive = refl
@@ -27,12 +32,6 @@ buried_same Gone alive = refl
 
 bury_same : (x : Node) → (x.life ≡ Dead → ⊥) → bury x ≡ x
 bury_same x alive = ap (λ l. (let y : Node = record x { life = l } in y)) (buried_same x.life alive)
-
--- where no node is dead, a sweep buries none
-nothing_buried : (nodes : List Node) → ((n : ℕ) → IsDead nodes n → ⊥) → map bury nodes ≡ nodes
-nothing_buried [] alive = refl
-nothing_buried (x ∷ nodes) alive =
-    ap (λ y. y ∷ map bury nodes) (bury_same x (alive 0)) ∙ ap (λ ns. x ∷ ns) (nothing_buried nodes (λ n dead. alive (suc n) dead))
 
 -- where the dead nodes lie below the limit, all of them are finalised
 buried_below : (x : Node) (limit : ℕ) → (x.life ≡ Dead → x.place < limit) → bury x ≡ finalise limit x
@@ -48,44 +47,74 @@ all_below (x ∷ nodes) limit low =
     ap (λ y. y ∷ map bury nodes) (buried_below x limit (low 0))
     ∙ ap (λ ns. finalise limit x ∷ ns) (all_below nodes limit (λ n dead. low (suc n) dead))
 
-none_dead : (nodes : List Node) (limit : ℕ) (numbers : List ℕ) → ((n : ℕ) → IsDead nodes n → ⊥) → All (IsDeadBelow nodes limit) numbers → numbers ≡ []
-none_dead nodes limit [] alive dead = refl
-none_dead nodes limit (n ∷ numbers) alive dead = absurd (alive n (All-head (IsDeadBelow nodes limit) n numbers dead).dead)
+-- a sweep leaves no more objects than there were
+there_buried : (l : Life) → cond (is_there (buried l)) 1 0 ≤ cond (is_there l) 1 0
+there_buried Live = omega arith
+there_buried Dead = omega arith
+there_buried Gone = omega arith
+
+pub fewer_buried : (nodes : List Node) → objects_of (map bury nodes) ≤ objects_of nodes
+fewer_buried [] = omega arith
+fewer_buried (x ∷ nodes) =
+    let after : objects_of (map bury (x ∷ nodes)) ≡ cond (is_there (buried x.life)) 1 0 + objects_of (map bury nodes) =
+    sum_by-cons (λ (n : Node). cond (is_there n.life) 1 0) (bury x) (map bury nodes) in
+    let before : objects_of (x ∷ nodes) ≡ cond (is_there x.life) 1 0 + objects_of nodes = sum_by-cons (λ (n : Node). cond (is_there n.life) 1 0) x nodes in
+    omega (arith, after, before, there_buried x.life, fewer_buried nodes)
 
 -- a dead node lies in the heap
-dead_below : (s : State) (v : SeatView) (n : ℕ) → IsView v → IsHeld s.nodes v → IsDead s.nodes n → place_of s.nodes n < v.count
-dead_below s v n view held dead =
-    body_below v (body_of (place_of s.nodes) n (node_at s.nodes n)) view (node_body s.nodes v n held.bodies (ap is_there dead))
+dead_below : (setup : Setup) (s : State) (n : ℕ) → IsValid setup s → IsDead s.nodes n → place_of s.nodes n < word_count setup.shape
+dead_below setup s n valid dead = omega (arith, valid.within n (ap is_there dead))
 
-ends_in : (setup : Setup) (s : State) (v : SeatView) (numbers : List ℕ) (phase : Phase) → IsView v → v.count ≡ word_count setup.shape → IsPlainState setup s → IsHeld s.nodes v
-    → AreDeadSerials v numbers → s.phase ≡ phase → is_marking phase ≡ false
-    → SweepsInPhase phase setup.shape s setup.shape.pages numbers (ended_state setup.shape s numbers)
-ends_in setup s v numbers Idle view count valid held serials is calm =
-    let none : numbers ≡ [] = none_dead s.nodes v.count numbers (valid.idle is) (dead_in_order s v numbers view held serials).dead in
-    let build : List Node → Phase → ℕ → ℕ → State = λ nodes phase cursor finalised. record s { nodes = nodes; phase = phase; cursor = cursor; finalised = finalised } in
-    let cursor : cursor_after s.phase setup.shape.pages s.cursor ≡ s.cursor = ap (λ ph. cursor_after ph setup.shape.pages s.cursor) is in
-    let total : s.finalised + length numbers ≡ s.finalised = omega (arith, ap length none) in (
-      none,
-      ap (λ ns. build ns Idle (cursor_after s.phase setup.shape.pages s.cursor) (s.finalised + length numbers)) (nothing_buried s.nodes (valid.idle is))
-          ∙ ap (λ ph. build s.nodes ph (cursor_after s.phase setup.shape.pages s.cursor) (s.finalised + length numbers)) (sym is)
-          ∙ ap (λ c. build s.nodes s.phase c (s.finalised + length numbers)) cursor
-          ∙ ap (build s.nodes s.phase s.cursor) total,
-    )
-ends_in setup s v numbers Marking view count valid held serials is calm = absurd (true≢false calm)
-ends_in setup s v numbers Sweeping view count valid held serials is calm =
-    let limit : ℕ = word_count setup.shape in
-    let low : (n : ℕ) → IsDead s.nodes n → place_of s.nodes n < limit = λ n dead. subst (λ c. place_of s.nodes n < c) count (dead_below s v n view held dead) in
-    let build : List Node → Phase → ℕ → State = λ nodes phase cursor. record s { nodes = nodes; phase = phase; cursor = cursor; finalised = s.finalised + length numbers } in
-    let phase : phase_at setup.shape setup.shape.pages ≡ Idle = ap (λ b. cond b Idle Sweeping) (eq-eqb setup.shape.pages setup.shape.pages refl) in
-    let cursor : cursor_after s.phase setup.shape.pages s.cursor ≡ setup.shape.pages = ap (λ ph. cursor_after ph setup.shape.pages s.cursor) is in
-    record {
-      finalised = subst (λ c. AreDeadInOrder s.nodes c numbers) count (dead_in_order s v numbers view held serials);
+pub ends_sweep : (o new : ObjectsView) (h : HandlesView) (c after : CycleView) (numbers : List ℕ) → IsValid (setup_of o) (state_of o h c) → c.phase ≡ Sweeping
+    → AreDeadInOrder o.nodes (word_count o.shape) numbers → new.nodes ≡ map bury o.nodes → after.phase ≡ Idle → after.rest ≡ ended_in o.shape c.rest numbers
+    → SweepsToEnd o.shape (state_of o h c) numbers (state_of new h after)
+ends_sweep o new h c after numbers valid sweeping order nodes idle rest =
+    let s : State = state_of o h c in
+    let limit : ℕ = word_count o.shape in
+    let build : List Node → Phase → State → State = λ ns ph r. record r { nodes = ns; slots = h.slots; phase = ph } in
+    let phase : phase_at o.shape o.shape.pages ≡ Idle = ap (λ b. cond b Idle Sweeping) (eq-eqb o.shape.pages o.shape.pages refl) in
+    subst (λ ph. SweepsInPhase ph o.shape s o.shape.pages numbers (state_of new h after)) (sym sweeping) (record {
+      finalised = order;
       after =
-          ap (λ ns. build ns Idle (cursor_after s.phase setup.shape.pages s.cursor)) (all_below s.nodes limit low)
-          ∙ ap (λ ph. build (map (finalise limit) s.nodes) ph (cursor_after s.phase setup.shape.pages s.cursor)) (sym phase)
-          ∙ ap (build (map (finalise limit) s.nodes) (phase_at setup.shape setup.shape.pages)) cursor;
-    }
+          ap (λ ns. build ns after.phase after.rest) (nodes ∙ all_below o.nodes limit (λ n dead. dead_below (setup_of o) s n valid dead))
+          ∙ ap (λ ph. build (map (finalise limit) o.nodes) ph after.rest) (idle ∙ sym phase)
+          ∙ ap (build (map (finalise limit) o.nodes) (phase_at o.shape o.shape.pages)) rest;
+    })
 
-pub ends_sweep : (setup : Setup) (s : State) (v : SeatView) (numbers : List ℕ) → IsView v → v.count ≡ word_count setup.shape → Holds setup s v → AreDeadSerials v numbers
-    → SweepsToEnd setup.shape s numbers (ended_state setup.shape s numbers)
-ends_sweep setup s v numbers view count h serials = ends_in setup s v numbers s.phase view count h.valid h.held serials refl h.valid.calm
+-- the count of commands has no part in validity, where no marking goes on
+uncounted : (setup : Setup) (s : State) → s.phase ≡ Idle → IsValid setup (answered s) → IsValid setup s
+uncounted setup s idle valid = record {
+  typed = valid.typed;
+  named = valid.named;
+  apart = valid.apart;
+  within = valid.within;
+  pure = valid.pure;
+  slots = valid.slots;
+  weak = valid.weak;
+  stack = valid.stack;
+  region = valid.region;
+  registered = valid.registered;
+  settled = valid.settled;
+  may_kept = subst (λ ph. HasMay ph s) (sym idle) tt;
+}
+
+valid_swept : (setup : Setup) (s t : State) (numbers : List ℕ) → StepKeepsValid → 0 < setup.shape.pages → IsValid setup s → s.phase ≡ Sweeping → SweepsToEnd setup.shape s numbers t → t.phase ≡ Idle
+    → IsValid setup t
+valid_swept setup s t numbers law pages valid sweeping ends idle =
+    let lines : List Line = finalise_lines numbers ++ L.Swept setup.shape.pages ∷ [] in
+    let swept : HasSwept setup s setup.shape.pages lines (answered t) = record { numbers = numbers; swept = t; goes = ends; lines_are = refl; after = refl } in
+    let step : StepSweepAll setup s lines (answered t) =
+    subst (λ ph. MatchBool (is_sweeping ph) (HasSwept setup s setup.shape.pages lines (answered t)) (IsRefused R.Phase s lines (answered t))) (sym sweeping) swept in
+    uncounted setup t idle (law setup s (answered t) C.SweepAll [] lines pages tt valid (refl, step))
+
+pub ready_swept : (o new : ObjectsView) (h : HandlesView) (c after : CycleView) (numbers : List ℕ) → StepKeepsValid → 0 < o.shape.pages → IsReady o h c → c.phase ≡ Sweeping
+    → SweepsToEnd o.shape (state_of o h c) numbers (state_of new h after) → setup_of new ≡ setup_of o → new.nodes ≡ map bury o.nodes → IsQuiet new.seat → after.phase ≡ Idle
+    → after.rest.ordinal ≡ c.rest.ordinal → IsReady new h after
+ready_swept o new h c after numbers law pages ready sweeping ends setup nodes quiet idle ordinal = record {
+  valid = subst (λ (st : Setup). IsValid st (state_of new h after)) (sym setup) (valid_swept (setup_of o) (state_of o h c) (state_of new h after) numbers law pages ready.valid sweeping ends idle);
+  strong = subst AreStrong (sym (ap (λ (st : Setup). st.types) setup)) ready.strong;
+  tied = tied_nodes o new h c after ready.tied.slots (λ n. ap (λ (ns : List Node). place_of ns n) nodes ∙ place-finalise o.nodes n)
+      (subst (λ ph. HasMarks ph new.seat) (sym idle) quiet)
+      (omega (arith, ready.tied.made, ordinal, ap length nodes, length-map o.nodes bury));
+  most = omega (arith, ready.most, ordinal);
+}

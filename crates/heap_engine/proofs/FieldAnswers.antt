@@ -1,75 +1,154 @@
 -- The steps of the commands on fields.
-use Rattle.std.proofs.Common.{◌≡◌, ℕ, ◌<◌, false, List, [], ◌∷◌, Option, Ok, Err, Result, sym, ap, ◌∙◌, subst, inl, inr, arith}
-use Rattle.std.specs.Prelude.{MatchOption}
+use Rattle.std.proofs.Common.{◌≡◌, ℕ, ◌+◌, ◌<◌, true, false, List, [], ◌∷◌, length, get_or, Option, option_map, Some, None, Ok, Err, Result, refl, sym, ap, ◌∙◌, subst, inl, inr, arith, ltb}
+use Rattle.std.specs.Prelude.{MatchOption, MatchBool}
+use Rattle.std.specs.Option.{ForSome}
+use Rattle.std.proofs.lemmas.Bool.{cases_Bool, ltb-true, lt-ltb}
+use Rattle.std.proofs.lemmas.List.Elements.{All-get_or}
 use Rattle.gc_graph.specs.declared.kind.Value.{Value}
 use Rattle.gc_graph.specs.declared.kind.Value.TheVariants.{Null, Ref, Word}
 use Rattle.gc_graph.specs.declared.line.Line.{Line}
 use Rattle.gc_graph.specs.declared.line.Line.TheVariants as L
 use Rattle.gc_graph.specs.declared.line.Refusal.{Refusal}
 use Rattle.gc_graph.specs.declared.line.Refusal.TheVariants as R
-use Rattle.gc_graph.specs.State.{Setup, State, Node, node_at, IsLive}
-use Rattle.gc_graph.specs.Fields.{kind_of_field, value_at, with_value, target_of, is_weak}
+use Rattle.gc_graph.specs.State.{State, Node, node_at, no_node, IsLive}
+use Rattle.gc_graph.specs.Fields.{content_of, field_count, kind_of_field, word_of_field, is_reference, value_at, with_value, target_of, is_weak}
+use Rattle.gc_graph.specs.Valid.{NamesLive}
 use Rattle.gc_graph.specs.Outcomes.{answered, with_slot, slot_at}
 use Rattle.gc_graph.specs.ObjectSteps.{StepSet, StepGet, IsChanged, IsRead, with_node, first_word}
-use Rattle.heap_engine.specs.Plain.{IsPlainState, IsStrong, fields_of}
-use Rattle.heap_engine.specs.Changes.{stored_in, stored_state, read_from, read_state}
-use Rattle.heap_engine.proofs.StrongFields.{field_is_strong, word_is_field, reference_is_field}
-use Rattle.heap_engine.proofs.FieldNodes.{IsNamed, live_typed, fields_counted}
-use Rattle.heap_engine.proofs.FieldPlaces.{Found, found_strong, on_field, which_field, slot_live}
-use Rattle.heap_engine.proofs.FieldReads.{target_in, field_named, AnswersTarget}
+use Rattle.heap_engine.specs.Nodes.{place_of, word_of}
+use Rattle.heap_engine.specs.Objects.{IsFieldAt, IsLiveReference, IsWordOf, target_in, written_in, reference_to}
+use Rattle.heap_engine.specs.Changes.{put_in}
+use Rattle.heap_engine.specs.Parts.{ObjectsView, HandlesView, CycleView, setup_of, state_of, IsReady}
+use Rattle.heap_engine.proofs.StrongFields.{IsStrong, IsPointer, ArePlain, plain_nodes, fields_of, field_is_strong, word_is_field, reference_is_field}
+use Rattle.heap_engine.proofs.FieldNodes.{live_below}
+use Rattle.heap_engine.proofs.Ties.{valid_nodes, slot_live}
 
-pub step_set : (setup : Setup) (s t : State) (p f a : ℕ) (x : Value) (lines : List Line) → IsPlainState setup s → Found s p f a → lines ≡ L.Fine ∷ []
-    → t ≡ stored_state s p f x → StepSet s p f x lines t
-step_set setup s t p f a x lines valid found printed step =
-    let n : ℕ = found.node in
-    let node : Node = node_at s.nodes n in
-    let strong : IsStrong setup node = live_typed setup s n valid found.live in
-    let field : f < fields_of setup node = found_strong setup s p f a valid found in
-    let changed : IsChanged s n (with_value node (first_word s n f) x) lines t = (
-      printed,
-      step ∙ ap (λ slot. stored_in s slot f x) found.slot ∙ ap (λ w. answered (with_node s n (with_value node w x))) (sym (word_is_field setup node f strong field)),
-    ) in
-    on_field s (slot_at s p) f n _ (λ m. IsChanged s m (with_value (node_at s.nodes m) (first_word s m f) x) lines t) _ _ found.slot
-    (omega (arith, found.low, fields_counted setup node strong)) found.kind changed
+-- the field that was asked for: the slot's node has it, it is strong, and its word is there
+pub record Found (o : ObjectsView) (h : HandlesView) (p f a : ℕ) : Type 0 where
+  pub node : ℕ
+  pub slot : get_or h.slots p None ≡ Some node
+  pub asked : f < field_count (node_at o.nodes node)
+  pub reference : is_reference (kind_of_field (node_at o.nodes node).object f) ≡ true
+  pub strong : is_weak (kind_of_field (node_at o.nodes node).object f) ≡ false
+  pub word : IsWordOf o.nodes node f a
+  pub first : word_of_field (node_at o.nodes node).object f ≡ f
 
--- how an outcome tells what was read
-abbrev pub TellsTarget : Option (ℕ × ℕ) → Line → Type 0
-TellsTarget target line = MatchOption target (line ≡ L.Null) (λ w. line ≡ L.Node w.1)
+named_pointer : (nodes : List Node) (x : Value) → NamesLive nodes x → IsPointer x → IsLiveReference nodes x
+named_pointer nodes Null names pointer = tt
+named_pointer nodes (Ref n) names pointer = names
+named_pointer nodes (Word w) names pointer = pointer
 
-read_value : (s t : State) (x : Value) (q : ℕ) (line : Line) (lines : List Line) → IsNamed s.nodes x → TellsTarget (target_in s.nodes x) line → lines ≡ line ∷ []
-    → t ≡ answered (with_slot s q (target_of x)) → IsRead false s x q lines t
-read_value s t Null q told_line lines names told printed step = (printed ∙ ap (λ l. l ∷ []) told, step)
-read_value s t (Ref n) q told_line lines names told printed step = (printed ∙ ap (λ l. l ∷ []) told, step)
-read_value s t (Word w) q told_line lines names told printed step = absurd names.2
-
-pub step_get : (setup : Setup) (s old t : State) (p f q : ℕ) (target : Option (ℕ × ℕ)) (line : Line) (lines : List Line) → IsPlainState setup s → s ≡ old
-    → AnswersTarget old p f (Ok target) → TellsTarget target line → lines ≡ line ∷ [] → t ≡ read_state s p f q → StepGet s p f q lines t
-step_get setup s old t p f q target line lines valid same_state told tells printed step =
-    let answer : Result (Option (ℕ × ℕ)) Refusal = Ok target in
-    elim (which_field s (slot_at s p) f (answer ≡ Err R.Null) (λ n. answer ≡ Ok (target_in s.nodes (value_at (node_at s.nodes n) f))) (answer ≡ Err R.Kind) (answer ≡ Err R.Field)
-    (subst (λ (u : State). AnswersTarget u p f (Ok target)) (sym same_state) told)) [
-      | inl null ↦ absurd (never target R.Null null)
-      | inr rest ↦ elim rest [
-        | inl here ↦
-            (let n : ℕ = here.node in
-            let node : Node = node_at s.nodes n in
-            let live : IsLive s.nodes n = slot_live setup s p valid n here.slot_is in
-            let strong : IsStrong setup node = live_typed setup s n valid live in
-            let field : f < fields_of setup node = reference_is_field setup node f strong here.kind in
-            let read : IsRead false s (value_at node f) q lines t =
-            read_value s t (value_at node f) q line lines (field_named setup s n f valid live field)
-            (subst (λ r. TellsTarget r line) (same target (target_in s.nodes (value_at node f)) here.done) tells) printed
-            (step ∙ ap (λ slot. read_from s slot f q) here.slot_is) in
-            on_field s (slot_at s p) f n _
-            (λ m. IsRead (is_weak (kind_of_field (node_at s.nodes m).object f)) s (value_at (node_at s.nodes m) (first_word s m f)) q lines t) _ _ here.slot_is here.low
-            here.kind
-            (subst (λ w. IsRead w s (value_at node (first_word s n f)) q lines t) (sym (ap is_weak (field_is_strong setup node f strong field)))
-            (subst (λ w. IsRead false s (value_at node w) q lines t) (sym (word_is_field setup node f strong field)) read)))
-        | inr refused ↦ elim refused [ inl other ↦ absurd (never target R.Kind other) | inr past ↦ absurd (never target R.Field past) ]
-      ]
+-- a field of a live node
+found_at : (o : ObjectsView) (h : HandlesView) (c : CycleView) (p f a n : ℕ) → IsReady o h c → get_or h.slots p None ≡ Some n → IsFieldAt o.nodes n f (Ok a) → Found o h p f a
+found_at o h c p f a n ready slot told =
+    let node : Node = node_at o.nodes n in
+    let live : IsLive o.nodes n = slot_live o h c p ready n slot in
+    let plain : ArePlain (setup_of o) o.nodes = plain_nodes (setup_of o) o.nodes ready.strong (valid_nodes o h c ready) in
+    let typed : IsStrong (setup_of o) node = All-get_or (IsStrong (setup_of o)) o.nodes n no_node (live_below o.nodes n live) plain.typed in
+    let answer : Result ℕ Refusal = Ok a in
+    elim (cases_Bool (ltb f (field_count node))) [
+      | inl low ↦
+          (let inside : MatchBool (is_reference (kind_of_field node.object f)) (answer ≡ Ok (place_of o.nodes n + 2 + f)) (answer ≡ Err R.Kind) =
+          subst (λ b. MatchBool b (MatchBool (is_reference (kind_of_field node.object f)) (answer ≡ Ok (place_of o.nodes n + 2 + f)) (answer ≡ Err R.Kind)) (answer ≡ Err R.Field)) low told in
+          elim (cases_Bool (is_reference (kind_of_field node.object f))) [
+            | inl kind ↦
+                (let at : answer ≡ Ok (place_of o.nodes n + 2 + f) = subst (λ b. MatchBool b (answer ≡ Ok (place_of o.nodes n + 2 + f)) (answer ≡ Err R.Kind)) kind inside in
+                let field : f < fields_of (setup_of o) node = reference_is_field (setup_of o) node f typed kind in
+                let within : f < length node.object.values = omega (arith, field, typed.values) in
+                record {
+                  node = n;
+                  slot = slot;
+                  asked = ltb-true f (field_count node) low;
+                  reference = kind;
+                  strong = ap is_weak (field_is_strong (setup_of o) node f typed field);
+                  word = record {
+                    live = live;
+                    low = within;
+                    at = same a (place_of o.nodes n + 2 + f) at;
+                    reference = named_pointer o.nodes (value_at node f) (All-get_or (NamesLive o.nodes) node.object.values f Null within (plain.references n live)) (typed.pointers f field);
+                  };
+                  first = word_is_field (setup_of o) node f typed field;
+                })
+            | inr other ↦ absurd (never a R.Kind (subst (λ b. MatchBool b (answer ≡ Ok (place_of o.nodes n + 2 + f)) (answer ≡ Err R.Kind)) other inside))
+          ])
+      | inr past ↦ absurd (never a R.Field
+          (subst (λ b. MatchBool b (MatchBool (is_reference (kind_of_field node.object f)) (answer ≡ Ok (place_of o.nodes n + 2 + f)) (answer ≡ Err R.Kind)) (answer ≡ Err R.Field)) past told))
     ] where
-      never : (target : Option (ℕ × ℕ)) (why : Refusal) → (let answer : Result (Option (ℕ × ℕ)) Refusal = Ok target in answer ≡ Err why) → ⊥
-      never target why e = cc
+      never : (a : ℕ) (why : Refusal) → (let answer : Result ℕ Refusal = Ok a in answer ≡ Err why) → ⊥
+      never a why e = cc
 
-      same : (a b : Option (ℕ × ℕ)) → (let answer : Result (Option (ℕ × ℕ)) Refusal = Ok a in answer ≡ Ok b) → a ≡ b
+      same : (a b : ℕ) → (let answer : Result ℕ Refusal = Ok a in answer ≡ Ok b) → a ≡ b
       same a b e = cc
+
+pub found : (o : ObjectsView) (h : HandlesView) (c : CycleView) (p f a : ℕ) (slot : Option ℕ) → IsReady o h c → get_or h.slots p None ≡ slot
+    → (let answer : Result ℕ Refusal = Ok a in MatchOption slot (answer ≡ Err R.Null) (λ n. IsFieldAt o.nodes n f answer)) → Found o h p f a
+found o h c p f a None ready slot told = cc
+found o h c p f a (Some n) ready slot told = found_at o h c p f a n ready slot told
+
+-- what is to be done at the field is done
+asked : (nodes : List Node) (slot : Option ℕ) (f n : ℕ) (none : Type 0) (Done : ℕ → Type 0) (other past : Type 0) → slot ≡ Some n → f < field_count (node_at nodes n)
+    → is_reference (kind_of_field (node_at nodes n).object f) ≡ true → Done n
+    → MatchOption slot none (λ m. MatchBool (ltb f (field_count (node_at nodes m))) (MatchBool (is_reference (kind_of_field (node_at nodes m).object f)) (Done m) other) past)
+asked nodes slot f n none Done other past is low kind done =
+    subst (λ x. MatchOption x none (λ m. MatchBool (ltb f (field_count (node_at nodes m))) (MatchBool (is_reference (kind_of_field (node_at nodes m).object f)) (Done m) other) past)) (sym is)
+    (subst (λ b. MatchBool b (MatchBool (is_reference (kind_of_field (node_at nodes n).object f)) (Done n) other) past) (sym (lt-ltb f (field_count (node_at nodes n)) low))
+    (subst (λ b. MatchBool b (Done n) other) (sym kind) done))
+
+pub step_set : (o new : ObjectsView) (h : HandlesView) (c : CycleView) (p f a : ℕ) (x : Value) → (is : Found o h p f a)
+    → setup_of new ≡ setup_of o → new.nodes ≡ written_in o.nodes (get_or h.slots p None) f x
+    → StepSet (state_of o h c) p f x (L.Fine ∷ []) (answered (state_of new h c))
+step_set o new h c p f a x is setup nodes =
+    let s : State = state_of o h c in
+    let n : ℕ = is.node in
+    let node : Node = node_at o.nodes n in
+    let changed : IsChanged s n (with_value node (first_word s n f) x) (L.Fine ∷ []) (answered (state_of new h c)) = (
+      refl,
+      ap (λ (ns : List Node). answered (record s { nodes = ns })) (nodes ∙ ap (λ slot. written_in o.nodes slot f x) is.slot)
+          ∙ ap (λ w. answered (with_node s n (with_value node w x))) (sym is.first),
+    ) in
+    asked o.nodes (slot_at s p) f n _ (λ m. IsChanged s m (with_value (node_at o.nodes m) (first_word s m f) x) (L.Fine ∷ []) (answered (state_of new h c))) _ _ is.slot is.asked
+    is.reference changed
+
+read_value : (s : State) (x : Value) (q : ℕ) (line : Line) → IsLiveReference s.nodes x → MatchOption (target_in s.nodes x) (line ≡ L.Null) (λ t. line ≡ L.Node t.1)
+    → IsRead false s x q (line ∷ []) (answered (with_slot s q (target_of x)))
+read_value s Null q said names told = (ap (λ l. l ∷ []) told, refl)
+read_value s (Ref n) q said names told = (ap (λ l. l ∷ []) told, refl)
+read_value s (Word w) q said names told = absurd names
+
+target_numbers : (nodes : List Node) (content : Option ℕ) → option_map (λ (t : ℕ × ℕ). t.1) (option_map (λ (m : ℕ). (place_of nodes m, m)) content) ≡ content
+target_numbers nodes None = refl
+target_numbers nodes (Some m) = refl
+
+pub target_places : (nodes : List Node) (content : Option ℕ)
+    → option_map (λ (t : ℕ × ℕ). t.0) (option_map (λ (m : ℕ). (place_of nodes m, m)) content)
+    ≡ option_map (place_of nodes) (option_map (λ (t : ℕ × ℕ). t.1) (option_map (λ (m : ℕ). (place_of nodes m, m)) content))
+target_places nodes None = refl
+target_places nodes (Some m) = refl
+
+pub step_get : (o : ObjectsView) (h new : HandlesView) (c : CycleView) (p f a q : ℕ) (target : Option (ℕ × ℕ)) (line : Line) → (is : Found o h p f a)
+    → target ≡ target_in o.nodes (value_at (node_at o.nodes is.node) f) → MatchOption target (line ≡ L.Null) (λ t. line ≡ L.Node t.1) → new ≡ put_in h q target
+    → StepGet (state_of o h c) p f q (line ∷ []) (answered (state_of o new c))
+step_get o h new c p f a q target line is read told after =
+    let s : State = state_of o h c in
+    let n : ℕ = is.node in
+    let x : Value = value_at (node_at o.nodes n) f in
+    let named : IsRead false s x q (line ∷ []) (answered (with_slot s q (target_of x))) =
+    read_value s x q line is.word.reference (subst (λ t. MatchOption t (line ≡ L.Null) (λ (w : ℕ × ℕ). line ≡ L.Node w.1)) read told) in
+    let to : answered (with_slot s q (target_of x)) ≡ answered (state_of o new c) =
+    ap (λ content. answered (with_slot s q content)) (sym (ap (option_map (λ (t : ℕ × ℕ). t.1)) read ∙ target_numbers o.nodes (target_of x)))
+    ∙ ap (λ (k : HandlesView). answered (state_of o k c)) (sym after) in
+    asked o.nodes (slot_at s p) f n _
+    (λ m. IsRead (is_weak (kind_of_field (node_at o.nodes m).object f)) s (value_at (node_at o.nodes m) (first_word s m f)) q (line ∷ []) (answered (state_of o new c))) _ _ is.slot is.asked
+    is.reference
+    (subst (λ w. IsRead w s (value_at (node_at o.nodes n) (first_word s n f)) q (line ∷ []) (answered (state_of o new c))) (sym is.strong)
+    (subst (λ w. IsRead false s (value_at (node_at o.nodes n) w) q (line ∷ []) (answered (state_of o new c))) (sym is.first)
+    (subst (λ (t : State). IsRead false s x q (line ∷ []) t) to named)))
+
+pub content_live : (nodes : List Node) (slot : Option ℕ) → ForSome slot (IsLive nodes) → IsLiveReference nodes (content_of slot)
+content_live nodes None live = tt
+content_live nodes (Some n) live = live n refl
+
+-- what a slot holds, as a word
+pub content_word : (nodes : List Node) (slot : Option ℕ) → reference_to (option_map (place_of nodes) slot) ≡ word_of (place_of nodes) (content_of slot)
+content_word nodes None = refl
+content_word nodes (Some n) = refl

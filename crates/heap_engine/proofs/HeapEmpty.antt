@@ -1,40 +1,36 @@
 -- An empty heap.
-use Rattle.std.proofs.Common.{◌≡◌, ℕ, zero, suc, List, [], ◌∷◌, replicate, Option, None, refl, ap, ◌∙◌, arith}
-use Rattle.std.specs.Option.{ForSome}
-use Rattle.std.proofs.lemmas.List.{length-replicate}
-use Rattle.std.proofs.lemmas.List.Elements.{All-replicate}
-use Rattle.gc_graph.specs.State.{Setup, empty_state, IsLive}
-use Rattle.heap_engine.specs.Plain.{IsPlainState}
+use Rattle.std.proofs.Common.{◌≡◌, ℕ, zero, suc, ◌*◌, List, [], ◌∷◌, map, replicate, None, refl, sym, ap, ◌∙◌, subst, arith}
+use Rattle.gc_graph.specs.declared.phase.Phase.TheVariants.{Idle}
+use Rattle.gc_graph.specs.State.{Shape, empty_state}
+use Rattle.gc_graph.specs.Fields.{strong_type}
+use Rattle.gc_graph.specs.ValidLaw.{EmptyIsValid}
 use Rattle.page_words.specs.Seat.{empty_view}
-use Rattle.page_space.specs.Pages.{word_count}
 use Rattle.heap_engine.specs.View.{places_of}
-use Rattle.heap_engine.specs.Inner.{Holds, IsTallied, HoldsSlotsOf}
+use Rattle.heap_engine.specs.Parts.{ObjectsView, HandlesView, CycleView, setup_of, IsReady}
+use Rattle.heap_engine.proofs.StrongFields.{are_strong}
 
 null_places : (n : ℕ) → replicate n None ≡ places_of [] (replicate n None)
 null_places zero = refl
 null_places (suc n) = ap (λ l. None ∷ l) (null_places n)
 
-pub slots_empty : (slots : List (Option ℕ)) → slots ≡ replicate 256 None → HoldsSlotsOf empty_state slots
-slots_empty slots is = record { places = is ∙ null_places 256; count = length-replicate {A = Option ℕ} 256 None }
-
-valid_empty : (setup : Setup) → IsPlainState setup empty_state
-valid_empty setup = record {
-  typed = λ k d low. absurd (omega arith);
-  named = λ k d low. absurd (omega arith);
-  references = λ n live. cc;
-  slots = All-replicate (λ slot. ForSome slot (IsLive [])) 256 None (λ n e. cc);
-  idle = λ e n dead. cc;
-  calm = refl;
-  unused = record { weak_null = refl; stack_empty = refl; region_null = refl; none_registered = refl; none_running = refl };
-}
-
-pub holds_empty : (setup : Setup) → Holds setup empty_state (empty_view (word_count setup.shape))
-holds_empty setup = record {
-  off = refl;
-  held = record { bodies = refl; dead = λ n there. cc };
-  valid = valid_empty setup;
-  marks = record { off = refl; marked = refl; traced = refl; dead = refl };
-}
-
-pub tallied_empty : IsTallied empty_state 0
-tallied_empty = record { numbers_are = refl; few = omega arith; most = omega arith }
+-- an idle cycle, over slots that are all null and no objects, is ready
+pub ready_empty : (o : ObjectsView) (h : HandlesView) (c : CycleView) (types : List ℕ) (shape : Shape) → EmptyIsValid
+    → o ≡ record { shape = shape; types = map strong_type types; nodes = []; seat = empty_view (shape.pages * shape.page_words) }
+    → h ≡ record { places = replicate 256 None; slots = replicate 256 None } → c.phase ≡ Idle → c.rest ≡ empty_state → IsReady o h c
+ready_empty o h c types shape law objects handles idle rest =
+    let none : ObjectsView = record { shape = shape; types = map strong_type types; nodes = []; seat = empty_view (shape.pages * shape.page_words) } in
+    let nulls : HandlesView = record { places = replicate 256 None; slots = replicate 256 None } in
+    let began : CycleView = record { phase = Idle; grey = c.grey; rest = empty_state } in
+    let cycle : began ≡ c = sym (ap (λ ph. (let k : CycleView = record { phase = ph; grey = c.grey; rest = c.rest } in k)) idle
+    ∙ ap (λ s. (let k : CycleView = record { phase = Idle; grey = c.grey; rest = s } in k)) rest) in
+    let ready : IsReady none nulls began = record {
+      valid = law (setup_of none);
+      strong = are_strong types;
+      tied = record {
+        slots = null_places 256;
+        marks = record { off = refl; marked = refl; traced = refl; dead = refl };
+        made = omega arith;
+      };
+      most = omega arith;
+    } in
+    subst (λ (x : ObjectsView). IsReady x h c) (sym objects) (subst (λ (x : HandlesView). IsReady none x c) (sym handles) (subst (λ (x : CycleView). IsReady none nulls x) cycle ready))

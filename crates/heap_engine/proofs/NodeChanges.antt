@@ -1,5 +1,5 @@
 -- How the bodies change with the nodes.
-use Rattle.std.proofs.Common.{◌≡◌, ℕ, suc, ◌+◌, ◌<◌, Bool, true, false, not, List, [], ◌∷◌, map, filter, refl, sym, ap, ◌∙◌, inl, inr, cond}
+use Rattle.std.proofs.Common.{◌≡◌, ℕ, suc, ◌+◌, Bool, true, false, not, List, [], ◌∷◌, map, filter, refl, sym, ap, ◌∙◌, inl, inr, cond}
 use Rattle.std.specs.List.{All}
 use Rattle.std.proofs.lemmas.Bool.{true≢false, cases_Bool}
 use Rattle.std.proofs.lemmas.List.Elements.{All-head, All-tail}
@@ -7,39 +7,54 @@ use Rattle.gc_graph.specs.declared.kind.Value.{Value}
 use Rattle.gc_graph.specs.declared.kind.Value.TheVariants.{Null, Ref, Word}
 use Rattle.gc_graph.specs.State.{Node, Life, node_at, is_there, is_dead, size_of}
 use Rattle.gc_graph.specs.State.Life.{Live, Dead, Gone}
-use Rattle.heap_engine.specs.Plain.{HasNamesBelow, NamesBelow}
 use Rattle.gc_graph.specs.Pause.{judged, condemn}
 use Rattle.gc_graph.specs.Sweep.{buried}
-use Rattle.heap_engine.specs.Changes.{bury}
+use Rattle.heap_engine.specs.Objects.{bury}
 use Rattle.page_words.specs.Bodies.{Body}
 use Rattle.heap_engine.specs.Nodes.{word_of, body_of, bodies_from, IsThere}
 use Rattle.heap_engine.proofs.NodeBodies.{bodies-there, bodies-gone}
 
-word-places : (f g : ℕ → ℕ) (bound : ℕ) (v : Value) → ((n : ℕ) → n < bound → f n ≡ g n) → NamesBelow bound v → word_of f v ≡ word_of g v
-word-places f g bound Null same below = refl
-word-places f g bound (Ref n) same below = ap (λ p. p + 1) (same n below)
-word-places f g bound (Word w) same below = refl
+-- two functions agree on the node that the value names
+abbrev pub AgreeOn : (ℕ → ℕ) → (ℕ → ℕ) → Value → Type 0
+AgreeOn f g Null = Unit {0}
+AgreeOn f g (Ref n) = f n ≡ g n
+AgreeOn f g (Word w) = Unit {0}
 
-words-places : (f g : ℕ → ℕ) (bound : ℕ) (vs : List Value) → ((n : ℕ) → n < bound → f n ≡ g n) → All (NamesBelow bound) vs → map (word_of f) vs ≡ map (word_of g) vs
-words-places f g bound [] same below = refl
-words-places f g bound (v ∷ vs) same below =
-    ap (λ w. w ∷ map (word_of f) vs) (word-places f g bound v same (All-head (NamesBelow bound) v vs below))
-    ∙ ap (λ ws. word_of g v ∷ ws) (words-places f g bound vs same (All-tail (NamesBelow bound) v vs below))
+-- and on all that the node names
+abbrev pub AgreeIn : (ℕ → ℕ) → (ℕ → ℕ) → Node → Type 0
+AgreeIn f g x = All (AgreeOn f g) x.object.values
 
-body-places : (f g : ℕ → ℕ) (bound k : ℕ) (x : Node) → ((n : ℕ) → n < bound → f n ≡ g n) → All (NamesBelow bound) x.object.values → body_of f k x ≡ body_of g k x
-body-places f g bound k x same below =
-    ap (λ ws. let b : Body = record { place = x.place; ty = x.object.ty; size = size_of x; serial = k; fields = ws } in b) (words-places f g bound x.object.values same below)
+pub agrees : (f g : ℕ → ℕ) (v : Value) → ((n : ℕ) → f n ≡ g n) → AgreeOn f g v
+agrees f g Null same = tt
+agrees f g (Ref n) same = same n
+agrees f g (Word w) same = tt
+
+word-places : (f g : ℕ → ℕ) (v : Value) → AgreeOn f g v → word_of f v ≡ word_of g v
+word-places f g Null same = refl
+word-places f g (Ref n) same = ap (λ p. p + 1) same
+word-places f g (Word w) same = refl
+
+words-places : (f g : ℕ → ℕ) (vs : List Value) → All (AgreeOn f g) vs → map (word_of f) vs ≡ map (word_of g) vs
+words-places f g [] same = refl
+words-places f g (v ∷ vs) same =
+    ap (λ w. w ∷ map (word_of f) vs) (word-places f g v (All-head (AgreeOn f g) v vs same))
+    ∙ ap (λ ws. word_of g v ∷ ws) (words-places f g vs (All-tail (AgreeOn f g) v vs same))
+
+body-places : (f g : ℕ → ℕ) (k : ℕ) (x : Node) → AgreeIn f g x → body_of f k x ≡ body_of g k x
+body-places f g k x same =
+    ap (λ ws. let b : Body = record { place = x.place; ty = x.object.ty; size = size_of x; serial = k; fields = ws } in b) (words-places f g x.object.values same)
 
 -- the bodies depend on the places of the nodes that are named
-pub bodies-places : (f g : ℕ → ℕ) (bound k : ℕ) (nodes : List Node) → ((n : ℕ) → n < bound → f n ≡ g n)
-    → All (HasNamesBelow bound) nodes → bodies_from f k nodes ≡ bodies_from g k nodes
-bodies-places f g bound k [] same below = refl
-bodies-places f g bound k (x ∷ nodes) same below =
-    let first : body_of f k x ≡ body_of g k x = body-places f g bound k x same (All-head (HasNamesBelow bound) x nodes below) in
-    let rest : bodies_from f (suc k) nodes ≡ bodies_from g (suc k) nodes =
-    bodies-places f g bound (suc k) nodes same (All-tail (HasNamesBelow bound) x nodes below) in
+pub bodies-places : (f g : ℕ → ℕ) (k : ℕ) (nodes : List Node) → All (AgreeIn f g) nodes → bodies_from f k nodes ≡ bodies_from g k nodes
+bodies-places f g k [] same = refl
+bodies-places f g k (x ∷ nodes) same =
+    let first : body_of f k x ≡ body_of g k x = body-places f g k x (All-head (AgreeIn f g) x nodes same) in
+    let rest : bodies_from f (suc k) nodes ≡ bodies_from g (suc k) nodes = bodies-places f g (suc k) nodes (All-tail (AgreeIn f g) x nodes same) in
     ap (λ b. cond (is_there x.life) (b ∷ bodies_from f (suc k) nodes) (bodies_from f (suc k) nodes)) first
     ∙ ap (λ bs. cond (is_there x.life) (body_of g k x ∷ bs) bs) rest
+
+pub bodies-same : (f g : ℕ → ℕ) (nodes : List Node) → ((n : ℕ) → f n ≡ g n) → bodies_from f 0 nodes ≡ bodies_from g 0 nodes
+bodies-same f g nodes same = bodies-places f g 0 nodes (λ i x low j v inside. agrees f g _ same)
 
 there-judged : (flag : Bool) (l : Life) → is_there (judged flag l) ≡ is_there l
 there-judged true l = refl

@@ -8,7 +8,7 @@ use Rattle.gc_graph.specs.State.{Node, Life, node_at, is_there, is_live, is_dead
 use Rattle.gc_graph.specs.State.Life.{Live, Dead, Gone}
 use Rattle.gc_graph.specs.Pause.{judged, condemn, live_count, dead_count}
 use Rattle.gc_graph.specs.Sweep.{buried}
-use Rattle.heap_engine.specs.Changes.{bury}
+use Rattle.heap_engine.specs.Objects.{bury}
 use Rattle.page_words.specs.Bodies.{Body}
 use Rattle.heap_engine.specs.Nodes.{place_of, body_of, bodies_from, IsThere}
 use Rattle.heap_engine.specs.View.{kept_of}
@@ -67,16 +67,6 @@ place-finalise [] n = refl
 place-finalise (x ∷ nodes) zero = refl
 place-finalise (x ∷ nodes) (suc n) = place-finalise nodes n
 
-pub buried_live : (l : Life) → buried l ≡ Live → l ≡ Live
-buried_live Live is = refl
-buried_live Dead is = cc
-buried_live Gone is = cc
-
-pub never_dead : (l : Life) → buried l ≡ Dead → ⊥
-never_dead Live is = cc
-never_dead Dead is = cc
-never_dead Gone is = cc
-
 pub not_dead_buried : (l : Life) → is_dead (buried l) ≡ false
 not_dead_buried Live = refl
 not_dead_buried Dead = refl
@@ -93,14 +83,6 @@ pub live_if_there : (l : Life) → is_there l ≡ true → (l ≡ Dead → ⊥) 
 live_if_there Live there alive = refl
 live_if_there Dead there alive = absurd (alive refl)
 live_if_there Gone there alive = absurd (true≢false (sym there))
-
-pub judged_live : (flag : Bool) (l : Life) → judged flag l ≡ Live → (flag ≡ true) × (l ≡ Live)
-judged_live true Live is = (refl, refl)
-judged_live true Dead is = cc
-judged_live true Gone is = cc
-judged_live false Live is = cc
-judged_live false Dead is = cc
-judged_live false Gone is = cc
 
 pub dead_judged : (flag : Bool) → is_dead (judged flag Live) ≡ not flag
 dead_judged true = refl

@@ -11,8 +11,7 @@ use Rattle.gc_graph.specs.Graph.{object_at, strong_targets, pair_targets, leads_
 use Rattle.gc_graph.specs.State.{Setup, Node, Life, node_at, no_node, graph_of, is_there, is_live, IsLive}
 use Rattle.gc_graph.specs.State.Life.{Live, Dead, Gone}
 use Rattle.gc_graph.specs.Fields.{value_at}
-use Rattle.gc_graph.specs.Valid.{IsPlainWord}
-use Rattle.heap_engine.specs.Plain.{IsStrong, IsPointer, fields_of}
+use Rattle.heap_engine.proofs.StrongFields.{IsStrong, IsPointer, fields_of}
 use Rattle.page_words.specs.Bodies.{Body}
 use Rattle.page_words.specs.Seat.{SeatView, IsView}
 use Rattle.heap_engine.specs.Marking.{PlacesDiffer}
@@ -156,14 +155,6 @@ pub names_lead : (setup : Setup) (node : Node) (flags : List Bool) (n i : ℕ) �
 names_lead setup node flags n i typed low named =
     or_left _ _ (subst (λ ks. list_any (λ t. eqb t n) (strong_targets ks node.object.values) ≡ true) (sym typed.kinds)
     (strong_named (fields_of setup node) n i node.object.values low named))
-
--- a value that names a node isn't in an extra word
-pub names_in_field : (setup : Setup) (node : Node) (n i : ℕ) → IsStrong setup node → i < length node.object.values → value_at node i ≡ Ref n → i < fields_of setup node
-names_in_field setup node n i typed low named =
-    elim (cases_lt i (fields_of setup node)) [
-      | inl field ↦ field
-      | inr extra ↦ absurd (subst IsPlainWord named (typed.plain i extra low))
-    ]
 
 -- a field word that isn't null is a reference to a named node's place
 pub word_names : (f : ℕ → ℕ) (q : ℕ) (v : Value) → IsPointer v → word_of f v ≡ q + 1 → (n : ℕ) × (v ≡ Ref n) × (f n ≡ q)

@@ -2,8 +2,9 @@ pub mod Marking
 pub mod Sweeping
 pub mod Nodes
 pub mod View
-pub mod Plain
-pub mod Inner
+pub mod Objects
+pub mod Printed
+pub mod Parts
 pub mod Changes
 pub mod Sound
 pub mod Built

@@ -38,11 +38,11 @@ LeadsTo types bodies p q =
 abbrev pub IsClosedUnder : List ℕ → List Body → (ℕ → Bool) → Type 0
 IsClosedUnder types bodies test = (p q : ℕ) → test p ≡ true → LeadsTo types bodies p q → test q ≡ true
 
--- how many places are marked
+-- how many bodies are marked
 abbrev pub marked_count : SeatView → ℕ
 marked_count v = count_by (λ b. holds v.marked b.place) v.bodies
 
--- how many places are traced
+-- how many bodies are traced
 abbrev pub traced_count : SeatView → ℕ
 traced_count v = count_by (λ b. holds v.traced b.place) v.bodies
 

@@ -7,7 +7,7 @@ pub use Rattle.gc_graph.specs.Valid.{IsThere}
 use Rattle.page_words.specs.Bodies.{Body}
 use Rattle.page_words.specs.Seat.{SeatView, holds}
 
--- the place of a node
+-- where the node with this number lies
 abbrev pub place_of : List Node → ℕ → ℕ
 place_of nodes n = (node_at nodes n).place
 
@@ -22,7 +22,7 @@ abbrev pub body_of : (ℕ → ℕ) → ℕ → Node → Body
 body_of place n node =
     record { place = node.place; ty = node.object.ty; size = size_of node; serial = n; fields = map (word_of place) node.object.values }
 
--- the bodies of the nodes that are there, of which the first has this number
+-- the bodies of these nodes, the first of which has this number
 abbrev pub bodies_from : (ℕ → ℕ) → ℕ → List Node → List Body
 bodies_from place n [] = []
 bodies_from place n (node ∷ nodes) =

@@ -16,7 +16,7 @@ pub record IsSweptView (old new : SeatView) : Type 0 where
   pub traced : new.traced ≡ []
   pub dead : new.dead ≡ []
 
--- stands for a body that is not there
+-- what stands at a position where there is no body
 abbrev pub no_body : Body
 no_body = record { place = 0; ty = 0; size = 0; serial = 0; fields = [] }
 
@@ -51,6 +51,6 @@ pub record Finalises (a : ℕ) (old : SeatView) (before : List ℕ) (new : SeatV
   pub numbers : after ≡ before ++ body.serial ∷ []
   pub size_is : size ≡ body.size
 
--- the object at a place was kept or finalised
+-- one of the two
 abbrev pub Sweeps : ℕ → SeatView → List ℕ → SeatView → List ℕ → ℕ → Type 0
 Sweeps a old before new after size = Keeps a old before new after size ⊎ Finalises a old before new after size

@@ -1,5 +1,5 @@
 -- A heap as its callers see it, and how slots and marks tell nodes.
-use Rattle.std.specs.Prelude.{◌≡◌, ℕ, ◌+◌, Bool, ◌&&◌, List, [], ◌∷◌, map, Option, option_map}
+use Rattle.std.specs.Prelude.{ℕ, Bool, ◌&&◌, List, [], ◌∷◌, map, Option, option_map}
 use Rattle.gc_graph.specs.declared.line.Line.{Line}
 use Rattle.gc_graph.specs.declared.region.Entry.{Entry}
 use Rattle.gc_graph.specs.declared.region.Op.TheVariants as O
@@ -17,13 +17,6 @@ pub record View : Type 0 where
   pub piece : List Entry
   pub closed : Bool
 
--- a command was answered, and changed nothing but the state of the graph and the outcome
-pub record IsFrame (old new : View) : Type 0 where
-  pub setup : new.setup ≡ old.setup
-  pub history : new.history ≡ old.history
-  pub closed : new.closed ≡ old.closed
-  pub ordinal : new.state.ordinal ≡ old.state.ordinal + 1
-
 -- the places of what the slots name
 abbrev pub places_of : List Node → List (Option ℕ) → List (Option ℕ)
 places_of nodes slots = map (λ slot. option_map (place_of nodes) slot) slots
@@ -32,11 +25,11 @@ places_of nodes slots = map (λ slot. option_map (place_of nodes) slot) slots
 abbrev pub kept_of : (ℕ → Bool) → List Node → List Bool
 kept_of marked nodes = map (λ node. is_live node.life && marked node.place) nodes
 
--- the entries of a collection, whose pause clears no slot of the region
+-- the entry of a collection's start
 abbrev pub start_entry : Entry
 start_entry = record { thread = 0; op = O.Start; reply = R.Done }
 
--- the entry of a pause that clears no slot of the region
+-- the entry of its pause, which clears no slot of the region
 abbrev pub pause_entry : Entry
 pause_entry = record { thread = 0; op = O.Pause 0; reply = R.Done }
 

@@ -1,30 +1,31 @@
 // A heap that does commands. Each command is one step of the graph; the files beside this one do
 // them.
 
-ghost use Rattle.std.specs.Prelude.{◌≡◌, ◌+◌, ◌++◌, ◌<◌, ◌≤◌, true};
-ghost use Rattle.std.specs.Prelude.{false, [], length, Some, None, IfOk};
-ghost use Rattle.std.specs.Prelude.{All, map, slice_get, replicate};
-ghost use Rattle.gc_graph.specs.Shapes.{IsShape};
+ghost use Rattle.std.specs.Prelude.{◌≡◌, ◌+◌, ◌*◌, ◌++◌, ◌<◌, ◌≤◌};
+ghost use Rattle.std.specs.Prelude.{true, false, [], ◌∷◌, length, Some, IfOk};
+ghost use Rattle.std.specs.Prelude.{All, map, slice_get};
 ghost use Rattle.gc_graph.specs.State.{empty_state};
 ghost use Rattle.gc_graph.specs.Fields.{strong_type};
 ghost use Rattle.gc_graph.specs.CycleSteps.{is_marking};
+ghost use Rattle.gc_graph.specs.Outcomes.{answered, finalise_lines};
 ghost use Rattle.gc_graph.specs.Step.{Step};
-ghost use Rattle.heap_engine.specs.Built.{IsBuilt};
-ghost use Rattle.heap_engine.specs.View.{IsFrame};
 ghost use Rattle.gc_graph.specs.Lawful.{IsAllowed, IsEndLine};
+ghost use Rattle.gc_graph.specs.Shapes.{IsShape};
+ghost use Rattle.page_space.specs.Pages.{word_count};
+ghost use Rattle.heap_engine.specs.Built.{IsBuilt};
+ghost use Rattle.heap_engine.specs.Parts.{setup_of, state_of, counted, IsReady, IsFrame};
 
-use crate::entries::{self, Entries};
-use crate::marking::MarkList;
+use crate::creating::new_object;
+use crate::cycle::Cycle;
+use crate::fields::{get, set, set_null};
+use crate::handles::Handles;
+use crate::objects::Objects;
 use crate::outcome::Outcome;
-use crate::states::{self, States};
-use gc_graph::{Command, Line, NoMemory, Phase};
-use ghost_values::GhostValue;
-use page_space::Space;
-use page_words::MutatorSeat;
+use crate::slots::drop_slot;
+use crate::totals::stat;
+use gc_graph::{Command, Line, NoMemory};
 use std::alloc::Global;
 use std::marker::Model;
-
-const SLOTS: u32 = 256;
 
 /// How many pages a heap has, and how many words a page.
 #[derive(Clone, Copy, Debug, PartialEq, Eq, Drop)]
@@ -36,20 +37,11 @@ pub struct Config {
 /// A heap. It belongs to one thread (`include/cppgc/heap.h`).
 #[derive(Drop)]
 pub struct Heap {
-    pub(crate) space: Space,
-    pub(crate) seat: MutatorSeat,
-    pub(crate) types: Vec<u32>,
-    /// The place of what each slot names.
-    pub(crate) slots: Vec<Option<u32>>,
-    pub(crate) phase: Phase,
-    /// How many numbers were given out.
-    pub(crate) made: u32,
-    pub(crate) grey: MarkList,
-    pub(crate) outcome: Outcome,
-    pub(crate) closed: bool,
-    pub(crate) state: GhostValue<States>,
-    /// The region's history as far as the commands took it.
-    pub(crate) history: GhostValue<Entries>,
+    objects: Objects,
+    handles: Handles,
+    cycle: Cycle,
+    outcome: Outcome,
+    closed: bool,
 }
 
 impl Model for Heap {
@@ -82,23 +74,16 @@ impl Heap {
         ensures lines { IfOk result (λ h. h.lines ≡ []) }
         ensures closed { IfOk result (λ h. h.closed ≡ false) }
     {
-        let (space, seat) = Space::new(alloc, config.pages, config.page_words)?;
-        let words = space.word_count();
-        let outcome = Outcome::new(alloc, words as usize / 2 + 1)?;
-        let types = Vec::from_slice(alloc, types)?;
-        let slots = empty_slots(alloc)?;
+        gc_graph::empty_is_valid();
+        let objects = Objects::new(alloc, config.pages, config.page_words, types)?;
+        let outcome = Outcome::new(alloc, objects.word_count() as usize / 2 + 1)?;
+        let handles = Handles::new(alloc)?;
         Ok(Heap {
-            space,
-            seat,
-            types,
-            slots,
-            phase: Phase::Idle,
-            made: 0,
-            grey: MarkList::new(alloc),
+            objects,
+            handles,
+            cycle: Cycle::new(alloc),
             outcome,
             closed: false,
-            state: states::empty(),
-            history: entries::none(),
         })
     }
 
@@ -118,69 +103,20 @@ impl Heap {
         ensures setup { self.new.setup ≡ self.old.setup }
         ensures closed { self.new.closed ≡ false }
     {
-        self.run(command);
-        self.rests();
-        self.remember();
+        self.objects.shape_is_valid();
+        gc_graph::step_keeps_valid();
+        self.outcome.begin();
+        let line = run(
+            &mut self.objects,
+            &mut self.handles,
+            &mut self.cycle,
+            &mut self.outcome,
+            command,
+        );
+        self.outcome.end(line);
+        self.cycle.count_command();
+        self.cycle.rests();
         self.outcome.count()
-    }
-
-    /// Does the command.
-    fn run(&mut self, command: &Command)
-        requires few { self.old.state.ordinal < 1000000 }
-        requires allowed { IsAllowed (length self.old.setup.types) command.now }
-        requires built { IsBuilt self.old.state.phase command.now }
-        ensures step { Step self.old.setup self.old.state command.now
-            self.new.piece self.new.lines self.new.state }
-        ensures frame { IsFrame self.old self.new }
-    {
-        match *command {
-            Command::New { p, t, e } => self.new_object(p, t, e),
-            Command::Set { p, f, q } => self.set(p, f, q),
-            Command::SetNull { p, f } => self.set_null(p, f),
-            Command::Get { p, f, q } => self.get(p, f, q),
-            Command::Drop { p } => self.drop_slot(p),
-            Command::GcNow { want: _ } => self.collect(),
-            Command::SweepAll => self.sweep_all(),
-            Command::Stat => self.stat(),
-            Command::Pair { .. }
-            | Command::PairNull { .. }
-            | Command::Put { .. }
-            | Command::Word { .. }
-            | Command::Key { .. }
-            | Command::Val { .. }
-            | Command::Copy { .. }
-            | Command::Weak { .. }
-            | Command::Read { .. }
-            | Command::Push { .. }
-            | Command::PushPlain { .. }
-            | Command::Pop
-            | Command::Peek { .. }
-            | Command::GcStart
-            | Command::GcStep { .. }
-            | Command::GcFinish { .. }
-            | Command::Sweep { .. }
-            | Command::Export { .. }
-            | Command::Import { .. }
-            | Command::At { .. }
-            | Command::ThreadsGo
-            | Command::ThreadsJoin => unreachable!(),
-        }
-    }
-
-    /// Between commands no marking goes on, and no thread runs.
-    fn rests(&self)
-        ensures calm { is_marking self.now.state.phase ≡ false }
-        ensures alone { self.now.state.running ≡ [] }
-    {
-        let _ = &self.state;
-    }
-
-    /// Adds to the history what the last command took of it.
-    fn remember(&mut self)
-        ensures { self.new
-            ≡ record self.old { history = self.old.history ++ self.old.piece } }
-    {
-        self.history = entries::grown(&self.history, &self.outcome.piece);
     }
 
     /// A line of the last outcome.
@@ -197,19 +133,63 @@ impl Heap {
         ensures line { IsEndLine self.old.setup self.old.state result }
         ensures same { self.new ≡ record self.old { closed = true } }
     {
-        let (n, u, g) = self.totals();
+        let (n, u, g) = self.objects.totals();
         self.closed = true;
         Line::End { n, u, g }
     }
 }
 
-/// The slots of an empty heap.
-fn empty_slots(alloc: Global) -> Result<Vec<Option<u32>>, NoMemory>
-    ensures { IfOk result (λ v. v.items ≡ replicate 256 None) }
+/// Does the command, and answers the last line of its outcome.
+fn run(
+    objects: &mut Objects,
+    handles: &mut Handles,
+    cycle: &mut Cycle,
+    outcome: &mut Outcome,
+    command: &Command,
+) -> Line
+    requires ready { IsReady objects.old handles.old cycle.old }
+    requires numbers { outcome.old.numbers ≡ [] }
+    requires piece { outcome.old.piece ≡ [] }
+    requires room { word_count objects.old.shape ≤ 2 * outcome.old.room }
+    requires allowed { IsAllowed (length objects.old.types) command.now }
+    requires built { IsBuilt cycle.old.phase command.now }
+    ensures step { Step (setup_of objects.old) (state_of objects.old handles.old cycle.old)
+        command.now outcome.new.piece (finalise_lines outcome.new.numbers ++ result ∷ [])
+        (answered (state_of objects.new handles.new cycle.new)) }
+    ensures frame { IsFrame objects.old cycle.old objects.new handles.new (counted cycle.new) }
+    ensures room { outcome.new.room ≡ outcome.old.room }
+    ensures history { outcome.new.history ≡ outcome.old.history }
 {
-    let mut slots = Vec::with_capacity(alloc, SLOTS as usize)?;
-    for _slot in 0..SLOTS {
-        slots.push_reserved(None);
+    match *command {
+        Command::New { p, t, e } => new_object(objects, handles, cycle, p, t, e),
+        Command::Set { p, f, q } => set(objects, handles, cycle, p, f, q),
+        Command::SetNull { p, f } => set_null(objects, handles, cycle, p, f),
+        Command::Get { p, f, q } => get(objects, handles, cycle, p, f, q),
+        Command::Drop { p } => drop_slot(objects, handles, cycle, p),
+        Command::GcNow { want: _ } => cycle.collect(objects, handles, outcome),
+        Command::SweepAll => cycle.sweep_all(objects, handles, outcome),
+        Command::Stat => stat(objects, handles, cycle),
+        Command::Pair { .. }
+        | Command::PairNull { .. }
+        | Command::Put { .. }
+        | Command::Word { .. }
+        | Command::Key { .. }
+        | Command::Val { .. }
+        | Command::Copy { .. }
+        | Command::Weak { .. }
+        | Command::Read { .. }
+        | Command::Push { .. }
+        | Command::PushPlain { .. }
+        | Command::Pop
+        | Command::Peek { .. }
+        | Command::GcStart
+        | Command::GcStep { .. }
+        | Command::GcFinish { .. }
+        | Command::Sweep { .. }
+        | Command::Export { .. }
+        | Command::Import { .. }
+        | Command::At { .. }
+        | Command::ThreadsGo
+        | Command::ThreadsJoin => unreachable!(),
     }
-    Ok(slots)
 }

@@ -3,10 +3,13 @@
 //! What it is: a heap that does commands. It keeps its objects in the pages of `page_space`, and
 //! each command is one step of the graph that `gc_graph` defines.
 //!
-//! The parts: `Heap` with `new`, `act`, `line` and `close`, and `Config`. Inside, `marking` (what
-//! the slots reach), `sweeping` (what was dead), `creating`, `fields`, `collecting` and `totals`
-//! (the commands), `outcome` (the lines of the last one), and `states` (the state of the graph,
-//! for contracts alone). The next levels down are `page_space` and `page_words`.
+//! The parts: `Heap` with `new`, `act`, `line` and `close`, and `Config`. A heap is put together
+//! of `objects` (words, pages, types), `handles` (slots), `cycle` (collections and sweeps) and
+//! `outcome` (the lines of the last command). Each part owns what it holds and has a model; the
+//! state of the graph is put together from the models. The commands, in `creating`, `fields`,
+//! `slots`, `totals` and `cycle`, take the parts. Inside, `marking` (what the slots reach) and
+//! `sweeping` (what was dead), and for contracts alone `nodes`, `states` and `entries`. The next
+//! levels down are `page_space` and `page_words`.
 //!
 //! What is proved: `act` is a step from the heap's own state to its new state, for every command
 //! that is allowed, and its lines are those of the step. Each node that is not finalised is the
@@ -18,13 +21,17 @@
 //! What is only tested or not said: that memory suffices, and how long a command takes.
 #![tactic(auto)]
 
-mod collecting;
 mod creating;
+mod cycle;
 mod entries;
 mod fields;
+mod handles;
 mod heap;
 mod marking;
+mod nodes;
+mod objects;
 mod outcome;
+mod slots;
 mod states;
 mod sweeping;
 mod totals;

@@ -1,19 +1,16 @@
-// The state of the graph, and how each command changes it. All of it is for contracts alone.
+// What no other part holds of the state, and how calls on the cycle change it. All of it is for
+// contracts alone.
 
-ghost use Rattle.std.specs.Prelude.{◌≡◌, None};
+ghost use Rattle.std.specs.Prelude.{◌≡◌};
 ghost use Rattle.gc_graph.specs.State.{empty_state};
-ghost use Rattle.gc_graph.specs.Fields.{content_of};
-ghost use Rattle.gc_graph.specs.Outcomes.{answered, with_slot, slot_at};
-ghost use Rattle.gc_graph.specs.declared.kind.Value.TheVariants.{Null};
-ghost use Rattle.page_words.specs.Seat.{holds};
-ghost use Rattle.heap_engine.specs.View.{kept_of};
-ghost use Rattle.heap_engine.specs.Changes.{made_state, full_state, stored_state, read_state};
-ghost use Rattle.heap_engine.specs.Changes.{ended_state, collected_state};
+ghost use Rattle.gc_graph.specs.Outcomes.{answered};
+ghost use Rattle.heap_engine.specs.Parts.{state_of};
+ghost use Rattle.heap_engine.specs.Changes.{filled, ended_in, collected_from};
 
-use crate::outcome::Outcome;
+use crate::cycle::Cycle;
+use crate::handles::Handles;
+use crate::objects::Objects;
 use ghost_values::GhostValue;
-use page_space::Space;
-use page_words::MutatorSeat;
 use std::marker::Model;
 
 /// A state of the graph. It is never made.
@@ -30,134 +27,60 @@ impl Model for States {
     ghost view = { λ s. empty_state };
 }
 
-/// What a change looks at: the state, and the numbers of the command.
-#[derive(Drop)]
-struct About<'a> {
-    state: &'a GhostValue<States>,
-    p: u32,
-    f: u32,
-    q: u32,
-}
-
 pub fn empty() -> GhostValue<States>
     ensures { result.value ≡ empty_state }
 {
     GhostValue::chosen(&0u8)
 }
 
-pub fn answered(state: &GhostValue<States>) -> GhostValue<States>
-    ensures { result.value ≡ answered state.now.value }
+/// One command more was answered.
+pub fn answered(rest: &GhostValue<States>) -> GhostValue<States>
+    ensures { result.value ≡ answered rest.now.value }
 {
-    GhostValue::chosen(&About {
-        state,
-        p: 0,
-        f: 0,
-        q: 0,
-    })
+    GhostValue::chosen(rest)
 }
 
-pub fn full(state: &GhostValue<States>) -> GhostValue<States>
-    ensures { result.value ≡ full_state state.now.value }
+/// One outcome more was full.
+pub fn filled(rest: &GhostValue<States>) -> GhostValue<States>
+    ensures { result.value ≡ filled rest.now.value }
 {
-    GhostValue::chosen(&About {
-        state,
-        p: 0,
-        f: 0,
-        q: 0,
-    })
+    GhostValue::chosen(rest)
 }
 
-/// A new node has so many fields and extra words.
-pub fn made(
-    state: &GhostValue<States>,
-    p: u32,
-    ty: u32,
-    fields: u32,
-    extra: u32,
-    place: u32,
-) -> GhostValue<States>
-    ensures { result.value ≡ made_state state.now.value p ty fields extra place }
-{
-    GhostValue::chosen(&AboutNew {
-        state,
-        p,
-        ty,
-        fields,
-        extra,
-        place,
-    })
-}
-
-/// What a new node looks at.
+/// What the end of a sweep looks at.
 #[derive(Drop)]
-struct AboutNew<'a> {
-    state: &'a GhostValue<States>,
-    p: u32,
-    ty: u32,
-    fields: u32,
-    extra: u32,
-    place: u32,
+struct AboutSweep<'a> {
+    rest: &'a GhostValue<States>,
+    objects: &'a Objects,
+    finalised: &'a [u32],
 }
 
-pub fn dropped(state: &GhostValue<States>, p: u32) -> GhostValue<States>
-    ensures { result.value ≡ answered (with_slot state.now.value p None) }
+/// An open sweep was ended, in which these nodes were finalised.
+pub fn ended(rest: &GhostValue<States>, objects: &Objects, finalised: &[u32]) -> GhostValue<States>
+    ensures { result.value ≡ ended_in objects.now.shape rest.now.value finalised.now }
 {
-    GhostValue::chosen(&About {
-        state,
-        p,
-        f: 0,
-        q: 0,
+    GhostValue::chosen(&AboutSweep {
+        rest,
+        objects,
+        finalised,
     })
-}
-
-pub fn stored(state: &GhostValue<States>, p: u32, f: u32, q: u32) -> GhostValue<States>
-    ensures { result.value
-        ≡ stored_state state.now.value p f (content_of (slot_at state.now.value q)) }
-{
-    GhostValue::chosen(&About { state, p, f, q })
-}
-
-pub fn nulled(state: &GhostValue<States>, p: u32, f: u32) -> GhostValue<States>
-    ensures { result.value ≡ stored_state state.now.value p f Null }
-{
-    GhostValue::chosen(&About { state, p, f, q: 0 })
-}
-
-pub fn read(state: &GhostValue<States>, p: u32, f: u32, q: u32) -> GhostValue<States>
-    ensures { result.value ≡ read_state state.now.value p f q }
-{
-    GhostValue::chosen(&About { state, p, f, q })
 }
 
 /// What a collection looks at.
 #[derive(Drop)]
-struct AboutMarks<'a> {
-    state: &'a GhostValue<States>,
-    seat: &'a MutatorSeat,
+struct AboutParts<'a> {
+    objects: &'a Objects,
+    handles: &'a Handles,
+    cycle: &'a Cycle,
 }
 
-/// What is marked was kept.
-pub fn collected(state: &GhostValue<States>, seat: &MutatorSeat) -> GhostValue<States>
-    ensures { result.value
-        ≡ collected_state state.now.value (kept_of (holds seat.now.marked) state.now.value.nodes) }
+/// A collection was started from this state, and its pause is over.
+pub fn collected(objects: &Objects, handles: &Handles, cycle: &Cycle) -> GhostValue<States>
+    ensures { result.value ≡ collected_from (state_of objects.now handles.now cycle.now) }
 {
-    GhostValue::chosen(&AboutMarks { state, seat })
-}
-
-/// What a sweep looks at.
-#[derive(Drop)]
-struct AboutSweep<'a> {
-    state: &'a GhostValue<States>,
-    space: &'a Space,
-    outcome: &'a Outcome,
-}
-
-pub fn ended(state: &GhostValue<States>, space: &Space, outcome: &Outcome) -> GhostValue<States>
-    ensures { result.value ≡ ended_state space.now.shape state.now.value outcome.now.numbers }
-{
-    GhostValue::chosen(&AboutSweep {
-        state,
-        space,
-        outcome,
+    GhostValue::chosen(&AboutParts {
+        objects,
+        handles,
+        cycle,
     })
 }

@@ -2,4 +2,4 @@ use Rattle.gc_graph.specs.Outcomes.{answered}
 use Rattle.heap_engine.proofs.states.answered.Given as goal
 
 abbrev pub ghost-chosen : goal.ghost-chosen
-ghost-chosen a = answered a.about.now.state.now.value
+ghost-chosen a = answered a.about.now.value

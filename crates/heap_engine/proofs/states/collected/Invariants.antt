@@ -1,7 +1,6 @@
-use Rattle.page_words.specs.Seat.{holds}
-use Rattle.heap_engine.specs.View.{kept_of}
-use Rattle.heap_engine.specs.Changes.{collected_state}
+use Rattle.heap_engine.specs.Parts.{state_of}
+use Rattle.heap_engine.specs.Changes.{collected_from}
 use Rattle.heap_engine.proofs.states.collected.Given as goal
 
 abbrev pub ghost-chosen : goal.ghost-chosen
-ghost-chosen a = collected_state a.about.now.state.now.value (kept_of (holds a.about.now.seat.now.marked) a.about.now.state.now.value.nodes)
+ghost-chosen a = collected_from (state_of a.about.now.objects.now a.about.now.handles.now a.about.now.cycle.now)

@@ -1,0 +1,195 @@
+-- The words hold the nodes after each change: a node made, a field written, a sweep, a pause.
+use Rattle.std.proofs.Common.{◌≡◌, ℕ, ◌+◌, ◌-◌, ◌<◌, Bool, true, false, ◌&&◌, ◌||◌, not, List, [], ◌∷◌, ◌++◌, length, map, filter, replicate, Option, refl, sym, ap, ◌∙◌, subst, inl, inr, zero, suc, arith, cond, eqb}
+use Rattle.std.specs.List.{All, Contains}
+use Rattle.std.proofs.lemmas.Bool.{cases_Bool, cases_lt, eqb-true, eq-eqb, or_left}
+use Rattle.std.proofs.lemmas.List.{length_push, length-map, length-replicate, get_or_append_left, get_or_push}
+use Rattle.std.proofs.lemmas.List.Elements.{All-weaker}
+use Rattle.gc_graph.specs.declared.phase.Phase.{Phase}
+use Rattle.gc_graph.specs.declared.phase.Phase.TheVariants.{Idle, Marking, Sweeping}
+use Rattle.gc_graph.specs.declared.kind.Value.{Value}
+use Rattle.gc_graph.specs.declared.kind.Value.TheVariants.{Null, Ref, Word}
+use Rattle.gc_graph.specs.Graph.{has}
+use Rattle.gc_graph.specs.State.{Setup, Node, type_at, node_at, no_node, is_there, is_live, is_dead, size_of, IsDead}
+use Rattle.gc_graph.specs.State.Life.{Live}
+use Rattle.gc_graph.specs.Fields.{new_node, strong_type}
+use Rattle.gc_graph.specs.Pause.{judged, condemn}
+use Rattle.page_words.specs.Bodies.{Body, with_word}
+use Rattle.page_words.specs.Seat.{SeatView, IsView, IsQuiet, holds, stored, unmarked_places}
+use Rattle.page_space.specs.Occupying.{Occupies, new_body}
+use Rattle.heap_engine.specs.Marking.{MarksReachable}
+use Rattle.heap_engine.specs.Sweeping.{IsJudged, IsSweptView}
+use Rattle.heap_engine.specs.Nodes.{place_of, word_of, body_of, bodies_of, IsThere, IsHeld}
+use Rattle.heap_engine.specs.View.{kept_of}
+use Rattle.heap_engine.specs.Objects.{bury}
+use Rattle.heap_engine.specs.Parts.{HasMarks}
+use Rattle.heap_engine.proofs.StrongFields.{ArePlain, NamesBelow, new_words}
+use Rattle.heap_engine.proofs.NodeBodies.{bodies-push}
+use Rattle.heap_engine.proofs.NodeChanges.{AgreeOn, AgreeIn, bodies-places, bodies-same, bodies-condemn, bodies-finalise}
+use Rattle.heap_engine.proofs.NodePlaces.{there_below, node_body, Contains-map, Contains-map_some}
+use Rattle.heap_engine.proofs.NodeLives.{life-condemn, place-condemn, there-condemn, life-finalise, place-finalise, not_dead_buried, live_if_there, dead_judged}
+use Rattle.heap_engine.proofs.KeptNodes.{has-kept}
+use Rattle.heap_engine.proofs.FieldNodes.{with_field, place-field, life-field}
+use Rattle.heap_engine.proofs.FieldBodies.{place-word, bodies_stored}
+
+-- where nothing is dead in the words, no node is dead
+pub none_dead : (nodes : List Node) (v : SeatView) → IsHeld nodes v → v.dead ≡ [] → (n : ℕ) → IsDead nodes n → ⊥
+none_dead nodes v held empty n dead =
+    never (sym (ap is_dead dead) ∙ sym (held.dead n (ap is_there dead)) ∙ ap (λ l. holds l (place_of nodes n)) empty) where
+      never : true ≡ false → ⊥
+      never e = cc
+
+-- ---- a new node
+
+pub node-old : (nodes : List Node) (x : Node) (n : ℕ) → n < length nodes → node_at (nodes ++ x ∷ []) n ≡ node_at nodes n
+node-old nodes x n low = get_or_append_left nodes (x ∷ []) no_node n low
+
+pub node-new : (nodes : List Node) (x : Node) → node_at (nodes ++ x ∷ []) (length nodes) ≡ x
+node-new nodes x = get_or_push nodes x no_node (length nodes) refl
+
+pub place-old : (nodes : List Node) (x : Node) (n : ℕ) → n < length nodes → place_of (nodes ++ x ∷ []) n ≡ place_of nodes n
+place-old nodes x n low = ap (λ (y : Node). y.place) (node-old nodes x n low)
+
+agree_below : (f g : ℕ → ℕ) (bound : ℕ) (v : Value) → ((n : ℕ) → n < bound → f n ≡ g n) → NamesBelow bound v → AgreeOn f g v
+agree_below f g bound Null same below = tt
+agree_below f g bound (Ref n) same below = same n below
+agree_below f g bound (Word w) same below = tt
+
+body_is_new : (setup : Setup) (f : ℕ → ℕ) (k t fields extra place : ℕ) → type_at setup t ≡ strong_type fields
+    → body_of f k (new_node setup t extra place) ≡ new_body place t (2 + fields + extra) k
+body_is_new setup f k t fields extra place is =
+    let x : Node = new_node setup t extra place in
+    let words : map (word_of f) x.object.values ≡ replicate (fields + extra) 0 = new_words setup f t fields extra place is in
+    let size : size_of x ≡ 2 + fields + extra = omega (arith, ap length words, length-map x.object.values (word_of f), length-replicate {A = ℕ} (fields + extra) 0) in
+    let count : fields + extra ≡ 2 + fields + extra - 2 = omega arith in
+    ap (λ n. (let b : Body = record { place = place; ty = t; size = n; serial = k; fields = map (word_of f) x.object.values } in b)) size
+    ∙ ap (λ ws. (let b : Body = record { place = place; ty = t; size = 2 + fields + extra; serial = k; fields = ws } in b))
+    (words ∙ ap (λ n. replicate n 0) count)
+
+pub held_made : (setup : Setup) (nodes : List Node) (v new : SeatView) (t fields extra place : ℕ) → ArePlain setup nodes → IsQuiet v → IsHeld nodes v
+    → type_at setup t ≡ strong_type fields → Occupies v new (new_body place t (2 + fields + extra) (length nodes)) → IsHeld (nodes ++ new_node setup t extra place ∷ []) new
+held_made setup nodes v new t fields extra place plain quiet held is occupies =
+    let x : Node = new_node setup t extra place in
+    let after : List Node = nodes ++ x ∷ [] in
+    let number : 0 + length nodes ≡ length nodes = omega arith in
+    let agree : All (AgreeIn (place_of after) (place_of nodes)) nodes =
+    All-weaker (λ (y : Node). All (NamesBelow (length nodes)) y.object.values) (AgreeIn (place_of after) (place_of nodes))
+    (λ (y : Node) below. All-weaker (NamesBelow (length nodes)) (AgreeOn (place_of after) (place_of nodes))
+    (λ u b. agree_below (place_of after) (place_of nodes) (length nodes) u (place-old nodes x) b) y.object.values below) nodes plain.below in
+    let bodies : bodies_of after ≡ bodies_of nodes ++ new_body place t (2 + fields + extra) (length nodes) ∷ [] =
+    bodies-push (place_of after) 0 nodes x refl
+    ∙ ap (λ bs. bs ++ body_of (place_of after) (0 + length nodes) x ∷ []) (bodies-places (place_of after) (place_of nodes) 0 nodes agree)
+    ∙ ap (λ b. bodies_of nodes ++ b ∷ []) (ap (λ k. body_of (place_of after) k x) number ∙ body_is_new setup (place_of after) (length nodes) t fields extra place is) in
+    record {
+      bodies = occupies.bodies ∙ ap (λ bs. bs ++ new_body place t (2 + fields + extra) (length nodes) ∷ []) held.bodies ∙ sym bodies;
+      dead = λ n there.
+          let none : holds new.dead (place_of after n) ≡ false = ap (λ l. holds l (place_of after n)) (occupies.dead ∙ quiet.dead) in
+          let alive : is_dead (node_at after n).life ≡ false = elim (cases_lt n (length nodes)) [
+            | inl low ↦ (let same : (node_at after n).life ≡ (node_at nodes n).life = ap (λ (y : Node). y.life) (node-old nodes x n low) in
+                ap is_dead (same ∙ live_if_there (node_at nodes n).life (sym (ap is_there same) ∙ there) (none_dead nodes v held quiet.dead n)))
+            | inr high ↦ (let last : n ≡ length nodes = omega (arith, there_below after n there, length_push nodes x) in
+                ap (λ k. is_dead (node_at after k).life) last ∙ ap (λ (y : Node). is_dead y.life) (node-new nodes x))
+          ] in
+          none ∙ sym alive;
+    }
+
+-- ---- a field
+
+pub marks_stored : (phase : Phase) (v : SeatView) (a w : ℕ) → HasMarks phase v → HasMarks phase (stored v a w)
+marks_stored Idle v a w quiet = record { off = quiet.off; marked = quiet.marked; traced = quiet.traced; dead = quiet.dead }
+marks_stored Marking v a w quiet = record { off = quiet.off; marked = quiet.marked; traced = quiet.traced; dead = quiet.dead }
+marks_stored Sweeping v a w judged = λ b there.
+    let from = Contains-map_some (with_word a w) v.bodies b there in
+    subst (λ p. holds v.dead p ≡ not (holds v.marked p)) (sym (place-word a w from.0) ∙ ap (λ (c : Body). c.place) from.2) (judged from.0 from.1)
+
+pub held_stored : (nodes : List Node) (v : SeatView) (a n f : ℕ) (x : Value) → IsView v → IsHeld nodes v → IsThere nodes n
+    → a ≡ place_of nodes n + 2 + f → f < length (node_at nodes n).object.values → IsHeld (with_field nodes n f x) (stored v a (word_of (place_of nodes) x))
+held_stored nodes v a n f x view held there at low =
+    let new : List Node = with_field nodes n f x in
+    let place : (m : ℕ) → place_of new m ≡ place_of nodes m = place-field nodes n f x in
+    let life : (m : ℕ) → (node_at new m).life ≡ (node_at nodes m).life = life-field nodes n f x in
+    record {
+      bodies = bodies_stored nodes v a n f x view held.bodies there at low ∙ bodies-same (place_of nodes) (place_of new) new (λ m. sym (place m));
+      dead = λ m present. ap (holds v.dead) (place m) ∙ held.dead m (sym (ap is_there (life m)) ∙ present) ∙ sym (ap is_dead (life m));
+    }
+
+-- ---- a sweep
+
+pub held_swept : (nodes : List Node) (v new : SeatView) → IsHeld nodes v → IsSweptView v new → IsHeld (map bury nodes) new
+held_swept nodes v new held sweeps =
+    let after : List Node = map bury nodes in
+    record {
+      bodies = sweeps.bodies ∙ ap (filter (λ (b : Body). not (holds v.dead b.place))) held.bodies
+          ∙ sym (bodies-finalise (place_of nodes) 0 nodes (holds v.dead) held.dead)
+          ∙ bodies-same (place_of nodes) (place_of after) after (λ n. sym (place-finalise nodes n));
+      dead = λ n there. ap (λ l. holds l (place_of after n)) sweeps.dead ∙ sym (ap is_dead (life-finalise nodes n) ∙ not_dead_buried (node_at nodes n).life);
+    }
+
+-- ---- a pause
+
+pub holds-filter : (t : ℕ → Bool) (ps : List ℕ) (p : ℕ) → holds (filter t ps) p ≡ (t p && holds ps p)
+holds-filter t [] p = sym (and-false (t p)) where
+  and-false : (b : Bool) → (b && false) ≡ false
+  and-false true = refl
+  and-false false = refl
+holds-filter t (q ∷ ps) p =
+    elim (cases_Bool (eqb q p)) [
+      | inl same ↦ here t q ps p same (eqb-true q p same) (holds-filter t ps p)
+      | inr other ↦ elim (cases_Bool (t q)) [
+        | inl passes ↦ ap (λ b. holds (cond b (q ∷ filter t ps) (filter t ps)) p) passes ∙ ap (λ b. b || holds (filter t ps) p) other ∙ holds-filter t ps p
+            ∙ sym (ap (λ b. t p && (b || holds ps p)) other)
+        | inr fails ↦ ap (λ b. holds (cond b (q ∷ filter t ps) (filter t ps)) p) fails ∙ holds-filter t ps p ∙ sym (ap (λ b. t p && (b || holds ps p)) other)
+      ]
+    ] where
+      here : (t : ℕ → Bool) (q : ℕ) (ps : List ℕ) (p : ℕ) → eqb q p ≡ true → q ≡ p → holds (filter t ps) p ≡ (t p && holds ps p)
+          → holds (filter t (q ∷ ps)) p ≡ (t p && holds (q ∷ ps) p)
+      here t q ps p same is rest =
+          elim (cases_Bool (t q)) [
+            | inl passes ↦ ap (λ b. holds (cond b (q ∷ filter t ps) (filter t ps)) p) passes ∙ ap (λ b. b || holds (filter t ps) p) same
+                ∙ sym (ap (λ b. t p && (b || holds ps p)) same ∙ ap (λ b. b && (true || holds ps p)) (sym (ap t is) ∙ passes))
+            | inr fails ↦
+                (let no : t p ≡ false = sym (ap t is) ∙ fails in
+                ap (λ b. holds (cond b (q ∷ filter t ps) (filter t ps)) p) fails ∙ rest ∙ ap (λ b. b && holds ps p) no ∙ sym (ap (λ b. b && holds (q ∷ ps) p) no))
+          ]
+
+holds_listed : (ps : List ℕ) (p : ℕ) → Contains ps p → holds ps p ≡ true
+holds_listed [] p c = absurd (arith_none c.1) where
+  arith_none : {n : ℕ} → n < 0 → ⊥
+  arith_none l = omega arith
+holds_listed (q ∷ ps) p (zero, l, e) = or_left (eqb q p) (holds ps p) (eq-eqb q p e)
+holds_listed (q ∷ ps) p (suc k, l, e) = orr (eqb q p) (holds ps p) (holds_listed ps p (k, omega arith, e)) where
+  orr : (a b : Bool) → b ≡ true → (a || b) ≡ true
+  orr true b h = refl
+  orr false b h = h
+
+pub dead_if_unmarked : (v : SeatView) (b : Body) → v.dead ≡ unmarked_places v → Contains v.bodies b → holds v.dead b.place ≡ not (holds v.marked b.place)
+dead_if_unmarked v b is there =
+    ap (λ l. holds l b.place) is ∙ holds-filter (λ a. not (holds v.marked a)) (map (λ (c : Body). c.place) v.bodies) b.place
+    ∙ ap (λ h. not (holds v.marked b.place) && h) (holds_listed (map (λ (c : Body). c.place) v.bodies) b.place (Contains-map (λ (c : Body). c.place) v.bodies b there))
+    ∙ and-true (not (holds v.marked b.place)) where
+      and-true : (x : Bool) → (x && true) ≡ x
+      and-true true = refl
+      and-true false = refl
+
+pub judged_after : (types : List ℕ) (slots : List (Option ℕ)) (v new : SeatView) → MarksReachable types slots v new → IsJudged new
+judged_after types slots v new marks b there = dead_if_unmarked new b marks.dead there
+
+pub held_judged : (nodes : List Node) (types : List ℕ) (slots : List (Option ℕ)) (v new : SeatView) → IsQuiet v → IsHeld nodes v → MarksReachable types slots v new
+    → IsHeld (condemn (kept_of (holds new.marked) nodes) nodes) new
+held_judged nodes types slots v new quiet held marks =
+    let kept : List Bool = kept_of (holds new.marked) nodes in
+    let after : List Node = condemn kept nodes in
+    let same : bodies_of after ≡ bodies_of nodes =
+    bodies-condemn (place_of after) 0 kept nodes ∙ bodies-same (place_of after) (place_of nodes) nodes (place-condemn kept nodes) in
+    record {
+      bodies = marks.bodies ∙ held.bodies ∙ sym same;
+      dead = λ n there.
+          let was : IsThere nodes n = there-condemn kept nodes n there in
+          let live : (node_at nodes n).life ≡ Live = live_if_there (node_at nodes n).life was (none_dead nodes v held quiet.dead n) in
+          let flag : has kept n ≡ holds new.marked (place_of nodes n) =
+          has-kept (holds new.marked) nodes n ∙ ap (λ l. is_live l && holds new.marked (place_of nodes n)) live in
+          let life : (node_at after n).life ≡ judged (holds new.marked (place_of nodes n)) Live =
+          life-condemn kept nodes n ∙ ap (λ b. judged b (node_at nodes n).life) flag ∙ ap (judged (holds new.marked (place_of nodes n))) live in
+          ap (holds new.dead) (place-condemn kept nodes n)
+          ∙ dead_if_unmarked new (body_of (place_of nodes) n (node_at nodes n)) marks.dead (node_body nodes new n (marks.bodies ∙ held.bodies) was)
+          ∙ sym (ap is_dead life ∙ dead_judged (holds new.marked (place_of nodes n)));
+    }

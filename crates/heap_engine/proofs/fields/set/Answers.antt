@@ -1,0 +1,18 @@
+use Rattle.std.proofs.Common.{None, get_or, sym, subst, ◌∙◌, ap}
+use Rattle.heap_engine.specs.Objects.{IsLiveReference, reference_to}
+use Rattle.heap_engine.proofs.Ties.{slot_place, slot_live}
+use Rattle.heap_engine.proofs.FieldAnswers.{content_live, content_word}
+use Rattle.heap_engine.proofs.fields.set.Goals as goal
+
+pub write-requires-clause-reference : goal.write-requires-clause-reference
+write-requires-clause-reference c =
+    subst (IsLiveReference c.args.objects.now.nodes) (sym c.content.ensures.value)
+    (content_live c.args.objects.now.nodes (get_or c.args.handles.now.slots c.args.q None)
+    (slot_live c.args.objects.now c.args.handles.now c.args.cycle.now c.args.q c.requires.ready))
+
+pub write-requires-clause-word : goal.write-requires-clause-word
+write-requires-clause-word c =
+    rw c.content.ensures.value
+    (c.content.ensures.word
+    ∙ ap reference_to (slot_place c.args.objects.now c.args.handles.now c.args.cycle.now c.args.q c.requires.ready.tied)
+    ∙ content_word c.args.objects.now.nodes (get_or c.args.handles.now.slots c.args.q None))

@@ -1,0 +1,37 @@
+use Rattle.std.proofs.Common.{◌≡◌, List, None, get_or, length, refl, ap, ◌∙◌, arith}
+use Rattle.gc_graph.specs.State.{Node}
+use Rattle.heap_engine.specs.Nodes.{place_of}
+use Rattle.heap_engine.specs.Objects.{written_in}
+use Rattle.heap_engine.specs.Parts.{ObjectsView, counted}
+use Rattle.heap_engine.proofs.FieldAnswers.{Found, found, step_set}
+use Rattle.heap_engine.proofs.FieldNodes.{place-written, length-written}
+use Rattle.heap_engine.proofs.Ties.{tied_nodes}
+use Rattle.heap_engine.proofs.fields.write.Goals as goal
+
+pub store-requires-clause-word : goal.store-requires-clause-word
+store-requires-clause-word c =
+    let is : Found c.args.objects.now c.args.handles.now c.args.p c.args.f c.in-Ok.a =
+    found c.args.objects.now c.args.handles.now c.args.cycle.now c.args.p c.args.f c.in-Ok.a (get_or c.args.handles.now.slots c.args.p None) c.requires.ready refl c.in-Ok.ensures.field in
+    rw c.in-Ok.ensures.same (is.node, is.slot, is.word)
+
+pub returns-in-Ok-clause-step : goal.returns-in-Ok-clause-step
+returns-in-Ok-clause-step c =
+    let is : Found c.args.objects.now c.args.handles.now c.args.p c.args.f c.in-Ok.a =
+    found c.args.objects.now c.args.handles.now c.args.cycle.now c.args.p c.args.f c.in-Ok.a (get_or c.args.handles.now.slots c.args.p None) c.requires.ready refl c.in-Ok.ensures.field in
+    step_set c.args.objects.now c.store.new.self c.args.handles.now c.args.cycle.now c.args.p c.args.f c.in-Ok.a c.args.content.now.value.value is
+    (rw c.in-Ok.ensures.same at c.store.ensures.setup) (rw c.in-Ok.ensures.same at c.store.ensures.nodes)
+
+pub returns-in-Ok-clause-frame : goal.returns-in-Ok-clause-frame
+returns-in-Ok-clause-frame c =
+    let old : ObjectsView = c.args.objects.now in
+    let new : ObjectsView = c.store.new.self in
+    let nodes : new.nodes ≡ written_in old.nodes (get_or c.args.handles.now.slots c.args.p None) c.args.f c.args.content.now.value.value =
+    rw c.in-Ok.ensures.same at c.store.ensures.nodes in
+    record {
+      setup = rw c.in-Ok.ensures.same at c.store.ensures.setup;
+      ordinal = refl;
+      tied = tied_nodes old new c.args.handles.now c.args.cycle.now (counted c.args.cycle.now) c.requires.ready.tied.slots
+          (λ n. ap (λ (ns : List Node). place_of ns n) nodes ∙ place-written old.nodes (get_or c.args.handles.now.slots c.args.p None) c.args.f c.args.content.now.value.value n)
+          (c.store.ensures.marks c.args.cycle.now.phase (rw c.in-Ok.ensures.same c.requires.ready.tied.marks))
+          (omega (arith, c.requires.ready.tied.made, ap length nodes, length-written old.nodes (get_or c.args.handles.now.slots c.args.p None) c.args.f c.args.content.now.value.value));
+    }

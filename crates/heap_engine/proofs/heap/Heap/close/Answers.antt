@@ -1,0 +1,5 @@
+use Rattle.heap_engine.proofs.heap.Heap.close.Goals as goal
+
+pub returns-clause-line : goal.returns-clause-line
+returns-clause-line c =
+    rw (← c.self.view_is) (c.totals-n.result.2, c.totals-n.ensures.pages, rw (c.totals-n.ensures.objects, c.totals-n.ensures.used))

@@ -1,0 +1,6 @@
+use Rattle.std.proofs.Common.{map}
+use Rattle.heap_engine.specs.Objects.{bury}
+use Rattle.heap_engine.proofs.nodes.buried.Given as goal
+
+abbrev pub ghost-chosen : goal.ghost-chosen
+ghost-chosen a = map bury a.about.now.value

@@ -1,0 +1,93 @@
+-- The objects in the words are the nodes, and what calls on them change.
+use Rattle.std.specs.Prelude.{◌≡◌, ℕ, ◌+◌, ◌<◌, ◌≤◌, true, false, Bool, List, [], ◌∷◌, ◌++◌, length, Option, Some, None, option_map, All, MatchBool, nat_lt, slice_set, Result, Ok, Err, ⊤}
+use Rattle.gc_graph.specs.declared.kind.Value.{Value}
+use Rattle.gc_graph.specs.declared.kind.Value.TheVariants.{Null, Ref, Word}
+use Rattle.gc_graph.specs.declared.line.Refusal.{Refusal}
+use Rattle.gc_graph.specs.declared.line.Refusal.TheVariants as R
+use Rattle.gc_graph.specs.Graph.{has, IsClosed, IsWithin}
+use Rattle.gc_graph.specs.Reach.{Reach}
+use Rattle.gc_graph.specs.State.{Setup, State, Node, node_at, graph_of, slot_targets, IsLive}
+use Rattle.gc_graph.specs.Fields.{field_count, kind_of_field, is_reference, value_at, with_value, target_of, new_node}
+use Rattle.gc_graph.specs.Valid.{IsValid}
+use Rattle.gc_graph.specs.Sweep.{buried}
+use Rattle.gc_graph.specs.Pause.{condemn}
+use Rattle.page_words.specs.Seat.{SeatView}
+use Rattle.page_space.specs.Space.{SpaceView, IsSpaceOf}
+use Rattle.heap_engine.specs.Nodes.{place_of, IsHeld}
+
+-- at most 64 fields to a type, and fewer types than a header can name
+pub record AreTypes (types : List ℕ) : Type 0 where
+  pub fields : All (λ n. n ≤ 64) types
+  pub count : length types < 16384
+
+-- the words hold the nodes, and the next number is the one that no node has
+pub record AreObjects (space : SpaceView) (v : SeatView) (types : List ℕ) (made : ℕ) (nodes : List Node) : Type 0 where
+  pub known : AreTypes types
+  pub laid : IsSpaceOf space v
+  pub off : v.on ≡ false
+  pub held : IsHeld nodes v
+  pub numbers_are : made ≡ length nodes
+
+-- the nodes of some valid state
+abbrev pub AreOfValid : Setup → List Node → Type 0
+AreOfValid setup nodes = (s : State) × IsValid setup s × (s.nodes ≡ nodes)
+
+-- ---- reading
+
+-- a live node is there, and this is its place
+abbrev pub IsLiveAt : List Node → ℕ → ℕ → Type 0
+IsLiveAt nodes n place = IsLive nodes n × (place_of nodes n ≡ place)
+
+-- where the node's field f is, or why it has none that `set` and `get` speak of
+abbrev pub IsFieldAt : List Node → ℕ → ℕ → Result ℕ Refusal → Type 0
+IsFieldAt nodes n f answer =
+    MatchBool (nat_lt f (field_count (node_at nodes n)))
+    (MatchBool (is_reference (kind_of_field (node_at nodes n).object f)) (answer ≡ Ok (place_of nodes n + 2 + f)) (answer ≡ Err R.Kind))
+    (answer ≡ Err R.Field)
+
+-- null, or a reference to a live node
+abbrev pub IsLiveReference : List Node → Value → Type 0
+IsLiveReference nodes Null = ⊤
+IsLiveReference nodes (Ref n) = IsLive nodes n
+IsLiveReference nodes (Word w) = ⊥
+
+-- the word at the address is that of the live node's field f, which holds a reference
+pub record IsWordOf (nodes : List Node) (n f a : ℕ) : Type 0 where
+  pub live : IsLive nodes n
+  pub low : f < length (node_at nodes n).object.values
+  pub at : a ≡ place_of nodes n + 2 + f
+  pub reference : IsLiveReference nodes (value_at (node_at nodes n) f)
+
+-- the place and the number of what a value names
+abbrev pub target_in : List Node → Value → Option (ℕ × ℕ)
+target_in nodes value = option_map (λ m. (place_of nodes m, m)) (target_of value)
+
+-- the reference word of what a slot holds
+abbrev pub reference_to : Option ℕ → ℕ
+reference_to None = 0
+reference_to (Some place) = place + 1
+
+-- ---- changing
+
+-- a new object joins the nodes where there was a place for it
+abbrev pub with_made : Setup → List Node → ℕ → ℕ → Option ℕ → List Node
+with_made setup nodes t extra None = nodes
+with_made setup nodes t extra (Some place) = nodes ++ new_node setup t extra place ∷ []
+
+-- field f of the named node got the value
+abbrev pub written_in : List Node → Option ℕ → ℕ → Value → List Node
+written_in nodes None f value = nodes
+written_in nodes (Some n) f value = slice_set nodes n (with_value (node_at nodes n) f value)
+
+-- a dead node is gone
+abbrev pub bury : Node → Node
+bury node = record node { life = buried node.life }
+
+-- exactly the live nodes that the slots reach were kept, and the others condemned
+pub record IsJudgement (nodes : List Node) (slots : List (Option ℕ)) (new : List Node) : Type 0 where
+  pub kept : List Bool
+  pub closed : IsClosed (graph_of nodes) kept
+  pub reached : IsWithin (Reach (graph_of nodes) (slot_targets slots)) kept
+  pub bounded : IsWithin kept (Reach (graph_of nodes) (slot_targets slots))
+  pub low : (n : ℕ) → has kept n ≡ true → n < length nodes
+  pub nodes_are : new ≡ condemn kept nodes

@@ -1,0 +1,88 @@
+-- The parts of a heap as commands see them, and how the state is put together from them.
+use Rattle.std.specs.Prelude.{◌≡◌, ℕ, ◌+◌, ◌≤◌, false, List, [], length, replicate, Option, None, All}
+use Rattle.gc_graph.specs.declared.phase.Phase.{Phase}
+use Rattle.gc_graph.specs.declared.phase.Phase.TheVariants.{Idle, Marking, Sweeping}
+use Rattle.gc_graph.specs.State.{Shape, Setup, State, Node, ObjectType}
+use Rattle.gc_graph.specs.State.RegionSlot.{Vacant}
+use Rattle.gc_graph.specs.Fields.{strong_type}
+use Rattle.gc_graph.specs.CycleSteps.{is_marking}
+use Rattle.gc_graph.specs.Valid.{IsValid}
+use Rattle.gc_graph.specs.Outcomes.{answered}
+use Rattle.page_words.specs.Seat.{SeatView, IsQuiet}
+use Rattle.heap_engine.specs.Marking.{Grey}
+use Rattle.heap_engine.specs.Sweeping.{IsJudged}
+use Rattle.heap_engine.specs.View.{places_of}
+
+-- the objects: the heap's shape and types, the nodes, and what is known of the words
+pub record ObjectsView : Type 0 where
+  pub shape : Shape
+  pub types : List ObjectType
+  pub nodes : List Node
+  pub seat : SeatView
+
+-- the strong slots: the place in each, and the node that each names
+pub record HandlesView : Type 0 where
+  pub places : List (Option ℕ)
+  pub slots : List (Option ℕ)
+
+-- the collection cycle: its phase, its mark list, and what no other part holds of the state
+pub record CycleView : Type 0 where
+  pub phase : Phase
+  pub grey : Grey
+  pub rest : State
+
+-- what was set up
+abbrev pub setup_of : ObjectsView → Setup
+setup_of o = record { shape = o.shape; markers = 0; types = o.types; callbacks = [] }
+
+-- the state is put together from what each part holds of it
+abbrev pub state_of : ObjectsView → HandlesView → CycleView → State
+state_of o h c = record c.rest { nodes = o.nodes; slots = h.slots; phase = c.phase }
+
+-- one command more was answered
+abbrev pub counted : CycleView → CycleView
+counted c = record c { rest = answered c.rest }
+
+-- ---- what the engine needs besides a valid state
+
+-- nothing is marked while the heap is idle, and during a sweep each object is marked or dead; marking never goes on
+-- between commands
+abbrev pub HasMarks : Phase → SeatView → Type 0
+HasMarks Idle v = IsQuiet v
+HasMarks Marking v = IsQuiet v
+HasMarks Sweeping v = IsJudged v
+
+-- each type has strong fields alone, and no prefinalizers
+abbrev pub AreStrong : List ObjectType → Type 0
+AreStrong types = All (λ t. t ≡ strong_type (length t.kinds)) types
+
+-- no marking goes on, the mark list is empty, weak slots and region slots are null, the stack is empty, no prefinalizer is
+-- registered, and no thread runs
+pub record IsAtRest (phase : Phase) (grey : Grey) (s : State) : Type 0 where
+  pub calm : is_marking phase ≡ false
+  pub none_listed : grey.places ≡ []
+  pub weak_null : s.weak ≡ replicate 64 None
+  pub stack_empty : s.stack ≡ []
+  pub region_null : s.region ≡ replicate 32 Vacant
+  pub none_registered : s.registrations ≡ []
+  pub none_running : s.running ≡ []
+
+-- the parts belong together: the slots hold the places of what they name, the marks are those of the phase, and no more
+-- nodes were made than commands were answered
+pub record AreTied (o : ObjectsView) (h : HandlesView) (c : CycleView) : Type 0 where
+  pub slots : h.places ≡ places_of o.nodes h.slots
+  pub marks : HasMarks c.phase o.seat
+  pub made : length o.nodes ≤ c.rest.ordinal
+
+-- the parts are ready for a command: their state is valid, and they belong together
+pub record IsReady (o : ObjectsView) (h : HandlesView) (c : CycleView) : Type 0 where
+  pub valid : IsValid (setup_of o) (state_of o h c)
+  pub strong : AreStrong o.types
+  pub tied : AreTied o h c
+  pub most : c.rest.ordinal ≤ 1000000
+
+-- what a command leaves as it was, from the old objects and cycle to the new parts, which belong together
+pub record IsFrame (old : ObjectsView) (before : CycleView) (new : ObjectsView) (h : HandlesView) (after : CycleView) : Type 0 where
+  pub setup : setup_of new ≡ setup_of old
+  pub ordinal : after.rest.ordinal ≡ before.rest.ordinal + 1
+  pub tied : AreTied new h after

@@ -1,0 +1,183 @@
+// The collection cycle: collections and sweeps (`include/cppgc/heap.h`).
+
+ghost use Rattle.std.specs.Prelude.{◌≡◌, ◌+◌, ◌-◌, ◌*◌, ◌^◌, ◌≤◌, false};
+ghost use Rattle.std.specs.Prelude.{[], ◌∷◌, ◌++◌, length, vec_capacity};
+ghost use Rattle.gc_graph.specs.declared.command.Want.TheVariants.{Precise};
+ghost use Rattle.gc_graph.specs.declared.phase.Phase.TheVariants.{Idle};
+ghost use Rattle.gc_graph.specs.State.{empty_state, objects_of};
+ghost use Rattle.gc_graph.specs.Outcomes.{answered, finalise_lines};
+ghost use Rattle.gc_graph.specs.CycleSteps.{StepGcNow, StepSweepAll, is_marking};
+ghost use Rattle.gc_graph.specs.Sweep.{SweepsToEnd};
+ghost use Rattle.page_space.specs.Pages.{word_count};
+ghost use Rattle.heap_engine.specs.Parts.{setup_of, state_of, counted, IsReady, IsFrame};
+ghost use Rattle.heap_engine.specs.Changes.{filled};
+
+use crate::entries;
+use crate::handles::Handles;
+use crate::marking::MarkList;
+use crate::objects::Objects;
+use crate::outcome::Outcome;
+use crate::states::{self, States};
+use gc_graph::{Line, Phase, Refusal};
+use ghost_values::GhostValue;
+use std::alloc::Global;
+use std::marker::Model;
+
+/// The phase of the cycle, and the mark list.
+#[derive(Drop)]
+pub struct Cycle {
+    phase: Phase,
+    grey: MarkList,
+    /// What no other part holds of the state.
+    rest: GhostValue<States>,
+}
+
+impl Model for Cycle {
+    ghost use Rattle.heap_engine.specs.Parts.{CycleView, IsAtRest};
+
+    ghost Value = { CycleView };
+
+    ghost view = { λ c. record { phase = c.phase; grey = c.grey; rest = c.rest.value } };
+
+    ghost invariant = { λ c. IsAtRest c.phase c.grey c.rest.value };
+}
+
+impl Cycle {
+    /// The cycle of a heap that has done nothing.
+    pub fn new(alloc: Global) -> Cycle
+        ensures phase { result.phase ≡ Idle }
+        ensures rest { result.rest ≡ empty_state }
+    {
+        Cycle {
+            phase: Phase::Idle,
+            grey: MarkList::new(alloc),
+            rest: states::empty(),
+        }
+    }
+
+    /// Between commands no marking goes on, and no thread runs.
+    pub fn rests(&self)
+        ensures calm { is_marking self.now.phase ≡ false }
+        ensures alone { self.now.rest.running ≡ [] }
+    {
+        let _ = &self.rest;
+    }
+
+    /// Counts a command that was answered.
+    pub fn count_command(&mut self)
+        ensures { self.new ≡ counted self.old }
+    {
+        self.rest = states::answered(&self.rest);
+    }
+
+    /// Counts an outcome that was full.
+    pub fn count_full(&mut self)
+        ensures { self.new ≡ record self.old { rest = filled self.old.rest } }
+    {
+        self.rest = states::filled(&self.rest);
+    }
+
+    /// A whole collection: an open sweep is ended, what the slots reach is kept, and the other
+    /// objects are condemned.
+    pub fn collect(
+        &mut self,
+        objects: &mut Objects,
+        handles: &Handles,
+        outcome: &mut Outcome,
+    ) -> Line
+        requires ready { IsReady objects.old handles.now self.old }
+        requires numbers { outcome.old.numbers ≡ [] }
+        requires piece { outcome.old.piece ≡ [] }
+        requires room { word_count objects.old.shape ≤ 2 * outcome.old.room }
+        ensures step { StepGcNow (setup_of objects.old) Precise
+            (state_of objects.old handles.now self.old) outcome.new.piece
+            (finalise_lines outcome.new.numbers ++ result ∷ [])
+            (answered (state_of objects.new handles.now self.new)) }
+        ensures frame { IsFrame objects.old self.old objects.new handles.now (counted self.new) }
+        ensures room { outcome.new.room ≡ outcome.old.room }
+        ensures history { outcome.new.history ≡ outcome.old.history }
+    {
+        // The mark list's room is taken before anything else is done, so that marking can't fail.
+        if self.grey.reserve(objects.count()).is_err() {
+            return Line::Memory;
+        }
+        self.end_sweep(objects, handles, &mut outcome.finalised);
+        self.rest = states::collected(objects, handles, self);
+        gc_graph::reach_is_least();
+        objects.judge(handles, &mut self.grey);
+        self.phase = Phase::Sweeping;
+        outcome.piece = entries::of_collection();
+        pause_line(objects.count(), self.grey.marked(), self.grey.traced())
+    }
+
+    /// Ends the open sweep, or refuses where none is open.
+    pub fn sweep_all(
+        &mut self,
+        objects: &mut Objects,
+        handles: &Handles,
+        outcome: &mut Outcome,
+    ) -> Line
+        requires ready { IsReady objects.old handles.now self.old }
+        requires numbers { outcome.old.numbers ≡ [] }
+        requires room { word_count objects.old.shape ≤ 2 * outcome.old.room }
+        ensures step { StepSweepAll (setup_of objects.old)
+            (state_of objects.old handles.now self.old)
+            (finalise_lines outcome.new.numbers ++ result ∷ [])
+            (answered (state_of objects.new handles.now self.new)) }
+        ensures frame { IsFrame objects.old self.old objects.new handles.now (counted self.new) }
+        ensures piece { outcome.new.piece ≡ outcome.old.piece }
+        ensures room { outcome.new.room ≡ outcome.old.room }
+        ensures history { outcome.new.history ≡ outcome.old.history }
+    {
+        match self.phase {
+            Phase::Idle | Phase::Marking => Line::Refused(Refusal::Phase),
+            Phase::Sweeping => {
+                self.end_sweep(objects, handles, &mut outcome.finalised);
+                Line::Swept { c: objects.pages() }
+            }
+        }
+    }
+
+    /// Ends an open sweep. The state stays valid.
+    fn end_sweep(&mut self, objects: &mut Objects, handles: &Handles, finalised: &mut Vec<u32>)
+        requires ready { IsReady objects.old handles.now self.old }
+        requires empty { finalised.old.items ≡ [] }
+        requires room { word_count objects.old.shape ≤ 2 * vec_capacity finalised.old }
+        ensures swept { SweepsToEnd objects.old.shape (state_of objects.old handles.now self.old)
+            finalised.new.items (state_of objects.new handles.now self.new) }
+        ensures ready { IsReady objects.new handles.now self.new }
+        ensures idle { self.new.phase ≡ Idle }
+        ensures setup { setup_of objects.new ≡ setup_of objects.old }
+        ensures ordinal { self.new.rest.ordinal ≡ self.old.rest.ordinal }
+        ensures grey { self.new.grey ≡ self.old.grey }
+        ensures fewer { objects_of objects.new.nodes ≤ objects_of objects.old.nodes }
+        ensures many { length finalised.new.items ≤ 2 ^ 24 }
+        ensures room { vec_capacity finalised.new ≡ vec_capacity finalised.old }
+    {
+        let phase = self.phase;
+        match phase {
+            Phase::Idle | Phase::Marking => {}
+            Phase::Sweeping => {
+                objects.shape_is_valid();
+                gc_graph::step_keeps_valid();
+                objects.sweep(finalised);
+                self.rest = states::ended(&self.rest, objects, finalised);
+                self.phase = Phase::Idle;
+            }
+        }
+    }
+}
+
+/// The line of a pause that kept so many of the objects.
+fn pause_line(objects: u32, kept: u32, traced: u32) -> Line
+    requires { kept ≤ objects }
+    ensures { result ≡ Line.Pause kept (objects - kept) 0 traced false }
+{
+    Line::Pause {
+        kept,
+        dead: objects - kept,
+        crew: 0,
+        traced,
+        walked: false,
+    }
+}
