@@ -11,6 +11,7 @@ use Rattle.gc_graph.specs.Words.{lines_of, words_of, is_text, is_blank, number_b
 
 -- ---- commands
 
+-- the slot that a word says
 abbrev pub slot_of : List ℕ → Option ℕ
 slot_of word = number_below 256 word
 
@@ -22,18 +23,22 @@ type_number_of word = number_below 16383 word
 abbrev pub extra_of : List ℕ → Option ℕ
 extra_of word = number_below 33554433 word
 
+-- the field that a word says
 abbrev pub field_of : List ℕ → Option ℕ
 field_of word = number_below 67108864 word
 
+-- a command of one number, where the number is there
 abbrev pub with_one : (ℕ → Command) → Option ℕ → Option Command
 with_one make (Some a) = Some (make a)
 with_one make None = None
 
+-- a command of two numbers, where both are there
 abbrev pub with_two : (ℕ → ℕ → Command) → Option ℕ → Option ℕ → Option Command
 with_two make (Some a) (Some b) = Some (make a b)
 with_two make None b = None
 with_two make (Some a) None = None
 
+-- a command of three numbers, where all are there
 abbrev pub with_three : (ℕ → ℕ → ℕ → Command) → Option ℕ → Option ℕ → Option ℕ → Option Command
 with_three make (Some a) b c = with_two (make a) b c
 with_three make None b c = None
@@ -65,6 +70,7 @@ command_of_four first second third fourth =
     else if is_text first (codes "new") then with_three (λ p t e. C.New p t e) (slot_of second) (type_number_of third) (extra_of fourth)
     else None
 
+-- the command that the words of a line say, where its form is read
 abbrev pub command_of_words : List (List ℕ) → Option Command
 command_of_words [] = None
 command_of_words (first ∷ []) = command_of_one first
@@ -73,11 +79,13 @@ command_of_words (first ∷ second ∷ third ∷ []) = command_of_three first se
 command_of_words (first ∷ second ∷ third ∷ fourth ∷ []) = command_of_four first second third fourth
 command_of_words (first ∷ second ∷ third ∷ fourth ∷ fifth ∷ more) = None
 
+-- the command that a line says, where its form is read
 abbrev pub command_of : List ℕ → Option Command
 command_of line = command_of_words (words_of line)
 
 -- ---- types
 
+-- only letters of strong fields
 abbrev pub are_all_strong : List ℕ → Bool
 are_all_strong word = list_all (λ b. b == 83) word
 
@@ -93,6 +101,7 @@ fields_of word = if is_text word (codes "-") then Some 0 else if are_strong word
 abbrev pub type_of_two : List ℕ → List ℕ → Option ℕ
 type_of_two first letters = if is_text first (codes "type") then fields_of letters else None
 
+-- how many fields the words of a type line declare
 abbrev pub type_of_words : List (List ℕ) → Option ℕ
 type_of_words [] = None
 type_of_words (first ∷ []) = None
@@ -103,6 +112,7 @@ type_of_words (first ∷ letters ∷ third ∷ more) = None
 abbrev pub type_of : List ℕ → Option ℕ
 type_of line = type_of_words (words_of line)
 
+-- a type line that is read
 abbrev pub is_type_line : List ℕ → Bool
 is_type_line line = is_some (type_of line)
 
@@ -112,6 +122,7 @@ is_type_line line = is_some (type_of line)
 abbrev pub is_pair_of : List ℕ → List ℕ → List (List ℕ) → Bool
 is_pair_of first second words = pointwise is_text words (first ∷ second ∷ [])
 
+-- the header line
 abbrev pub is_header : List ℕ → Bool
 is_header line = is_pair_of (codes "oilpan") (codes "1") (words_of line)
 
@@ -131,6 +142,7 @@ is_early line = is_blank line || is_type_line line
 abbrev pub may_declare : List (List ℕ) → Bool
 may_declare before = list_all is_early before && nat_lt (length (types_of before)) 16383
 
+-- a sweep is open after the command
 abbrev pub opens_sweep : Bool → Command → Bool
 opens_sweep before (C.GcNow want) = true
 opens_sweep before C.SweepAll = false
@@ -145,6 +157,7 @@ abbrev pub may_follow : List (List ℕ) → Command → Bool
 may_follow before (C.New p t e) = nat_lt t (length (types_of before)) && not (is_sweep_open (commands_of before))
 may_follow before command = true
 
+-- there is a command, and it may stand after the lines before
 abbrev pub holds_command : List (List ℕ) → Option Command → Bool
 holds_command before None = false
 holds_command before (Some command) = may_follow before command
@@ -156,6 +169,7 @@ is_built [] line = is_header line
 is_built (header ∷ before) line =
     is_blank line || ((is_type_line line && may_declare before) || holds_command before (command_of line))
 
+-- the line with this number is of a form that is read
 abbrev pub is_built_at : List (List ℕ) → ℕ → Bool
 is_built_at lines i = is_built (take i lines) (slice_index_or lines i [])
 

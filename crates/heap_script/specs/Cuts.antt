@@ -11,5 +11,6 @@ IsCutAtMark mark bytes front rest =
 abbrev pub IsUncut : ℕ → List ℕ → List ℕ → List ℕ → Type 0
 IsUncut mark bytes front rest = (slice_split (λ byte. byte == mark) bytes ≡ bytes ∷ []) × (front ≡ bytes) × (rest ≡ [])
 
+-- the bytes are cut at the first mark, or not at all where none stands
 abbrev pub IsCut : ℕ → List ℕ → List ℕ → List ℕ → Type 0
 IsCut mark bytes front rest = IsCutAtMark mark bytes front rest ⊎ IsUncut mark bytes front rest

@@ -8,6 +8,7 @@ pub record TakesFrom (old new buffer : List ℕ) (n : ℕ) : Type 0 where
   pub moved : take n buffer ≡ take n old
   pub end : n ≡ 0 → old ≡ []
 
+-- what a read leaves of the bytes that are told
 abbrev pub Takes : Option (List ℕ) → Option (List ℕ) → List ℕ → ℕ → Type 0
 Takes None new buffer n = new ≡ None
 Takes (Some old) new buffer n = (rest : List ℕ) × (new ≡ Some rest) × TakesFrom old rest buffer n

@@ -36,15 +36,19 @@ taken_by sink piece = min (length piece) sink.most
 abbrev pub is_refusing : ListSinkState → List ℕ → Bool
 is_refusing sink piece = is_failing sink.fail sink.calls || nat_lt sink.room (length sink.written + taken_by sink piece)
 
+-- a source whose read failed
 abbrev pub after_failed_read : ListSourceState → ListSourceState
 after_failed_read source = record source { calls = risen source.calls; faults = risen source.faults }
 
+-- a source that has given so many bytes
 abbrev pub after_read : ListSourceState → ℕ → ListSourceState
 after_read source count = record source { left = drop count source.left; calls = risen source.calls }
 
+-- a sink whose write failed
 abbrev pub after_failed_write : ListSinkState → ListSinkState
 after_failed_write sink = record sink { calls = risen sink.calls; faults = risen sink.faults }
 
+-- a sink that has taken these bytes
 abbrev pub after_write : ListSinkState → List ℕ → ListSinkState
 after_write sink taken = record sink { written = sink.written ++ taken; calls = risen sink.calls }
 

@@ -24,6 +24,7 @@ abbrev pub may_stand : Past → Command → Bool
 may_stand past (C.New p t e) = nat_lt t past.types && not past.sweeping
 may_stand past command = true
 
+-- a type line may stand after the lines before
 abbrev pub may_declare : Past → Bool
 may_declare past = past.bare && nat_lt past.types 16383
 
@@ -32,10 +33,12 @@ abbrev pub type_or : Past → Option ℕ → Option LineKind → Option LineKind
 type_or past None other = other
 type_or past (Some fields) other = if may_declare past then Some (K.TypeLine fields) else other
 
+-- the command, where it may stand
 abbrev pub order_of : Past → Option Command → Option LineKind
 order_of past None = None
 order_of past (Some command) = if may_stand past command then Some (K.Order command) else None
 
+-- what a line after the header is
 abbrev pub kind_after_header : Past → List ℕ → Option LineKind
 kind_after_header past line =
     if is_blank line then Some K.Blank

@@ -43,6 +43,7 @@ is_traced_role StrongWord = true
 is_traced_role KeyWord = true
 is_traced_role role = false
 
+-- the kinds of the fields of a type
 abbrev pub kinds_of : List (List Kind) → ℕ → List Kind
 kinds_of types ty = slice_index_or types ty []
 
@@ -50,9 +51,11 @@ kinds_of types ty = slice_index_or types ty []
 abbrev pub word_in : Body → ℕ → ℕ
 word_in b i = slice_index b.fields i
 
+-- what the field word with the number i of a body is
 abbrev pub role_in : List (List Kind) → Body → ℕ → Role
 role_in types b i = role_at (kinds_of types b.ty) i
 
+-- the address past the last word of a body
 abbrev pub end_of : Body → ℕ
 end_of b = b.place + b.size
 
@@ -60,9 +63,11 @@ end_of b = b.place + b.size
 abbrev pub has_word : ℕ → Body → Bool
 has_word a b = nat_le b.place a && nat_lt a (end_of b)
 
+-- the body has a field word at a
 abbrev pub has_field : ℕ → Body → Bool
 has_field a b = nat_le (b.place + 2) a && nat_lt a (end_of b)
 
+-- the number of the field word at a
 abbrev pub field_number : ℕ → Body → ℕ
 field_number a b = a - (b.place + 2)
 
@@ -70,9 +75,11 @@ field_number a b = a - (b.place + 2)
 abbrev pub with_word : ℕ → ℕ → Body → Body
 with_word a w b = record b { fields = if has_field a b then slice_set b.fields (field_number a b) w else b.fields }
 
+-- the places of the bodies
 abbrev pub places : List Body → List ℕ
 places bodies = map (λ b. b.place) bodies
 
+-- a body stands at a
 abbrev pub is_place : List Body → ℕ → Bool
 is_place bodies a = list_any (λ b. b.place == a) bodies
 
@@ -90,8 +97,10 @@ refers_to types a b = list_any (λ i. refers (role_in types b i) && (word_in b i
 
 -- ---- lists of places as sets
 
+-- the place is in the list
 abbrev pub holds : List ℕ → ℕ → Bool
 holds set a = list_any (λ p. p == a) set
 
+-- the list without a place
 abbrev pub without : List ℕ → ℕ → List ℕ
 without set a = filter (λ p. not (p == a)) set

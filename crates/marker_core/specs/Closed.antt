@@ -14,6 +14,7 @@ use Rattle.marker_core.specs.Bodies.{word_count, kinds_of, word_in, role_in, pla
 
 -- ---- closed: it has what the strong words of its members name, and the value of each of their pairs whose key it has
 
+-- the set that passes the test is closed over the bodies
 pub record IsClosedOver (types : List (List Kind)) (bodies : List Body) (test : ℕ → Bool) : Type 0 where
   pub strong :
       (b : Body) (i : ℕ) → Contains bodies b → test b.place ≡ true → role_in types b i ≡ StrongWord → 0 < word_in b i
@@ -28,20 +29,24 @@ word_closes test StrongWord w next = (w == 0) || test (w - 1)
 word_closes test KeyWord w next = (w == 0) || not (test (w - 1)) || (next == 0) || test (next - 1)
 word_closes test role w next = true
 
+-- a body that passes has only words that close
 abbrev pub body_closes : List (List Kind) → (ℕ → Bool) → Body → Bool
 body_closes types test b =
     not (test b.place)
     || list_all (λ i. word_closes test (role_in types b i) (word_in b i) (word_in b (i + 1))) (range_with_len 0 (length b.fields))
 
+-- each body closes
 abbrev pub closes_over : List (List Kind) → (ℕ → Bool) → List Body → Bool
 closes_over types test bodies = list_all (body_closes types test) bodies
 
 -- ---- the graph that bodies stand for: its node a is the body at a
 
+-- the value of a reference word
 abbrev pub reference : ℕ → Value
 reference zero = Null
 reference (suc p) = Ref p
 
+-- the values of field words of these kinds
 abbrev pub values_of : List Kind → List ℕ → List Value
 values_of [] words = map (λ w. Word w) words
 values_of (Pair ∷ kinds) (key ∷ value ∷ words) = reference key ∷ reference value ∷ values_of kinds words
@@ -50,6 +55,7 @@ values_of (Plain ∷ kinds) (w ∷ words) = Word w ∷ values_of kinds words
 values_of (kind ∷ kinds) (w ∷ words) = reference w ∷ values_of kinds words
 values_of (kind ∷ kinds) [] = []
 
+-- the object of the graph for which a body stands
 abbrev pub object_of : List (List Kind) → Body → Object
 object_of types b = record {
   ty = b.ty;
@@ -58,10 +64,12 @@ object_of types b = record {
   values = values_of (kinds_of types b.ty) b.fields;
 }
 
+-- the node for a body, or one without fields where there is none
 abbrev pub node_of : List (List Kind) → Option Body → Object
 node_of types None = no_object
 node_of types (Some b) = object_of types b
 
+-- the graph with a node for each address
 abbrev pub graph_of : ℕ → List (List Kind) → List Body → List Object
 graph_of count types bodies = map (λ a. node_of types (find (λ b. b.place == a) bodies)) (range_with_len 0 count)
 

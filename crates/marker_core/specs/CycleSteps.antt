@@ -19,6 +19,7 @@ abbrev pub pair_is_whole : Role → ℕ → ℕ → Bool
 pair_is_whole KeyWord key value = if key == 0 then value == 0 else not (value == 0)
 pair_is_whole role key value = true
 
+-- each pair of a body has two null words or none
 abbrev pub pairs_are_whole : List (List Kind) → Body → Bool
 pairs_are_whole types b =
     list_all (λ i. pair_is_whole (role_in types b i) (word_in b i) (word_in b (i + 1))) (range_with_len 0 (length b.fields))
@@ -34,6 +35,7 @@ can_begin s =
     && (s.mutator.lent == 0)
     && list_all (pairs_are_whole s.types) s.mutator.bodies
 
+-- the state in which marking has begun from these roots
 abbrev pub begun : CoreState → List ℕ → CoreState
 begun s roots = record s {
   words = slice_set s.words (stop_at s.count) 0;
@@ -49,9 +51,11 @@ begun s roots = record s {
 
 -- ---- the markers are told to stop, and marking ends where none is out
 
+-- the stop word is set
 abbrev pub stopped : CoreState → CoreState
 stopped s = record s { words = slice_set s.words (stop_at s.count) 1 }
 
+-- the stop ends marking: it goes on, and no view is lent
 abbrev pub ends : CoreState → Bool
 ends s = s.mutator.on && (s.mutator.lent == 0)
 
@@ -63,9 +67,11 @@ can_end s =
     && list_all (λ a. not (is_marked s.words a) || is_traced s.words a) (places s.mutator.bodies)
     && closes_over s.types (is_marked s.words) s.mutator.bodies
 
+-- the places of the bodies without a mark
 abbrev pub unmarked_places : CoreState → List ℕ
 unmarked_places s = filter (λ a. not (is_marked s.words a)) (places s.mutator.bodies)
 
+-- the state in which marking has ended, and what has no mark is dead
 abbrev pub ended : CoreState → CoreState
 ended s = record s {
   words = slice_set s.words (stop_at s.count) 1;
@@ -82,18 +88,22 @@ ended s = record s {
 
 -- ---- a view is lent, and given back
 
+-- a view is lent only while marking goes on
 abbrev pub can_split : CoreState → Bool
 can_split s = s.mutator.on
 
+-- one view more is lent
 abbrev pub split : CoreState → CoreState
 split s = record s {
   mutator = record s.mutator { lent = s.mutator.lent + 1 };
   markers = s.markers ++ fresh_view ∷ [];
 }
 
+-- the view was not given back before, and has no hand
 abbrev pub can_join : CoreState → ℕ → Bool
 can_join s marker = let v = view_at s.markers marker in not v.spent && is_none v.hand
 
+-- what the view knows has become the mutator's, and the view is spent
 abbrev pub joined : CoreState → ℕ → CoreState
 joined s marker =
     let v = view_at s.markers marker in

@@ -75,6 +75,7 @@ hand_after_mark types a h = if wants_mark h.part a then hand_moved types h else 
 
 -- ---- the same of a hand that may be empty
 
+-- there is a hand, and it passes the test
 abbrev pub wants : (Hand → Bool) → Option Hand → Bool
 wants test None = false
 wants test (Some h) = test h
@@ -84,5 +85,6 @@ abbrev pub noted_pair : ℕ → Option Hand → List (ℕ × ℕ)
 noted_pair header None = []
 noted_pair header (Some h) = if has_mark header then [] else (h.place, h.next) ∷ []
 
+-- the hand that a change makes of a hand, where there is one
 abbrev pub each_hand : (Hand → Option Hand) → Option Hand → Option Hand
 each_hand change hand = option_and_then change hand

@@ -5,6 +5,7 @@ use Rattle.marker_core.specs.declared.states.CoreState.{CoreState}
 use Rattle.marker_core.specs.declared.states.MutatorView.{MutatorView}
 use Rattle.marker_core.specs.Layout.{stop_at}
 
+-- the view of a mutator that has seen nothing
 abbrev pub idle_view : MutatorView
 idle_view = record {
   bodies = [];

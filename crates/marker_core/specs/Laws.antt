@@ -16,6 +16,7 @@ use Rattle.marker_core.specs.Core.{IsCoreOk}
 
 -- ---- what roots reach is the least closed set of places that holds them
 
+-- the set is closed over the bodies, holds the roots that are places, and lies in each such set
 pub record IsLeastOver (types : List (List Kind)) (bodies : List Body) (roots set : List ℕ) : Type 0 where
   pub closed : IsClosedOver types bodies (holds set)
   pub places : (a : ℕ) → holds set a ≡ true → is_place bodies a ≡ true
@@ -29,6 +30,7 @@ abbrev pub AllNameBodies : List (List Kind) → List Body → Type 0
 AllNameBodies types bodies =
     (b : Body) (i : ℕ) → Contains bodies b → refers (role_in types b i) ≡ true → names_body bodies (word_in b i) ≡ true
 
+-- what roots reach over bodies is the least closed set that holds them
 abbrev pub ReachOverIsLeast : Type 0
 ReachOverIsLeast =
     (count : ℕ) (types : List (List Kind)) (bodies : List Body) (roots : List ℕ) → AreWhole count types bodies → LieApart bodies
@@ -36,9 +38,11 @@ ReachOverIsLeast =
 
 -- ---- each step, and each list of steps, keeps what is true of every state
 
+-- each step keeps what is true of every state
 abbrev pub StepsKeep : Type 0
 StepsKeep = (s t : CoreState) (step : CoreStep) → IsCoreOk s → core_step s step ≡ Some t → IsCoreOk t
 
+-- each list of steps keeps what is true of every state
 abbrev pub RunsKeep : Type 0
 RunsKeep = (s t : CoreState) (steps : List CoreStep) → IsCoreOk s → core_run s steps ≡ Some t → IsCoreOk t
 
@@ -56,6 +60,7 @@ pub record IsSettled (s : CoreState) : Type 0 where
       → (marks_at s.mutator s.markers (word_in b i - 1) ≡ 0)
       ⊎ ((word_in b (i + 1) ≡ 0) ⊎ (0 < marks_at s.mutator s.markers (word_in b (i + 1) - 1)))
 
+-- some view has marked the place
 abbrev pub is_marked_in : CoreState → ℕ → Bool
 is_marked_in s a = nat_lt 0 (marks_at s.mutator s.markers a)
 
@@ -67,6 +72,7 @@ pub record HasEnded (s : CoreState) : Type 0 where
       (roots : List ℕ) → ((a : ℕ) → holds roots a ≡ true → is_place s.mutator.bodies a ≡ true → is_marked_in s a ≡ true)
       → (a : ℕ) → holds (reach_over s.count s.types s.mutator.bodies roots) a ≡ true → is_marked_in s a ≡ true
 
+-- where marking has settled it has come to its end
 abbrev pub SettledHasEnded : Type 0
 SettledHasEnded = (s : CoreState) → IsCoreOk s → IsSettled s → HasEnded s
 
@@ -84,6 +90,7 @@ pub record IsMarkedOut (s : CoreState) : Type 0 where
   pub traced : (a : ℕ) → 0 < marks_at s.mutator s.markers a → 0 < traces_at s.mutator s.markers a
   pub dead : (a : ℕ) → is_place s.mutator.bodies a ≡ true → marks_at s.mutator s.markers a ≡ 0 → holds s.mutator.dead a ≡ true
 
+-- the step that ends marking leaves every body traced or dead
 abbrev pub EndsMarkedOut : Type 0
 EndsMarkedOut =
     (s t : CoreState) (roots : List ℕ) → IsCoreOk s → s.mutator.on ≡ true → core_step s (Stop true roots) ≡ Some t → t.mutator.on ≡ false

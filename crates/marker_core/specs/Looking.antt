@@ -14,6 +14,7 @@ word_leads test StrongWord w next n = w == n + 1
 word_leads test KeyWord w next n = not (w == 0) && test (w - 1) && (next == n + 1)
 word_leads test role w next n = false
 
+-- some word of the body leads to n
 abbrev pub some_word_leads : List (List Kind) → (ℕ → Bool) → Body → ℕ → Bool
 some_word_leads types test b n =
     list_any (λ i. word_leads test (role_in types b i) (word_in b i) (word_in b (i + 1)) n) (range_with_len 0 (length b.fields))

@@ -16,9 +16,11 @@ with_view s marker v = record s { markers = slice_set s.markers marker v }
 
 -- ---- a start bit is read
 
+-- a view that is not spent may read the start bit of each address of the heap
 abbrev pub can_read_bit : CoreState → ℕ → ℕ → Bool
 can_read_bit s marker a = not (view_at s.markers marker).spent && nat_lt a s.count
 
+-- a place whose bit is set is known from then on, and any other is missed
 abbrev pub bit_read : CoreState → ℕ → ℕ → CoreState
 bit_read s marker a =
     let v = view_at s.markers marker in
@@ -30,9 +32,11 @@ bit_read s marker a =
 
 -- ---- a header is read
 
+-- only the headers of known places are read
 abbrev pub can_look : CoreState → ℕ → ℕ → Bool
 can_look s marker a = holds (view_at s.markers marker).known a
 
+-- the header at a was read
 abbrev pub looked : CoreState → ℕ → ℕ → CoreState
 looked s marker a =
     let v = view_at s.markers marker in
@@ -48,15 +52,18 @@ looked s marker a =
 
 -- ---- an object is claimed by the header that was read last
 
+-- this header word was the last one that the view read, at a
 abbrev pub is_last : Option (ℕ × ℕ) → ℕ → ℕ → Bool
 is_last None a header = false
 is_last (Some last) a header = (last.0 == a) && (last.1 == header)
 
+-- a known place is claimed by an empty hand, where the header read last was grey
 abbrev pub can_claim_as : CoreState → ℕ → ℕ → ℕ → Bool
 can_claim_as s marker a header =
     let v = view_at s.markers marker in
     holds v.known a && is_none v.hand && is_last v.last a header && is_grey header
 
+-- where the header is still the one that was read, the object is traced and in the hand
 abbrev pub claimed_as : CoreState → ℕ → ℕ → ℕ → CoreState
 claimed_as s marker a header =
     let v = view_at s.markers marker in
@@ -73,6 +80,7 @@ claimed_as s marker a header =
 
 -- ---- a field word of the object in hand is read
 
+-- the hand wants the word at a
 abbrev pub can_read_field : CoreState → ℕ → ℕ → Bool
 can_read_field s marker a = wants (λ h. wants_word h h.part a) (view_at s.markers marker).hand
 
@@ -80,6 +88,7 @@ can_read_field s marker a = wants (λ h. wants_word h h.part a) (view_at s.marke
 abbrev pub known_by : ℕ → List ℕ
 known_by w = if w == 0 then [] else (w - 1) ∷ []
 
+-- the hand has read the word at a
 abbrev pub field_read : CoreState → ℕ → ℕ → CoreState
 field_read s marker a =
     let v = view_at s.markers marker in
@@ -88,9 +97,11 @@ field_read s marker a =
 
 -- ---- the target in hand is marked
 
+-- the hand wants the object at a to be marked
 abbrev pub can_mark_as : CoreState → ℕ → ℕ → Bool
 can_mark_as s marker a = wants (λ h. wants_mark h.part a) (view_at s.markers marker).hand
 
+-- the object at a is marked, and the hand moves on
 abbrev pub marked_as : CoreState → ℕ → ℕ → CoreState
 marked_as s marker a =
     let v = view_at s.markers marker in
@@ -105,9 +116,11 @@ marked_as s marker a =
 
 -- ---- the stop word is read
 
+-- a view that is not spent may read the stop word
 abbrev pub can_poll : CoreState → ℕ → Bool
 can_poll s marker = not (view_at s.markers marker).spent
 
+-- a view that has read the stop word as 1 is halted
 abbrev pub polled : CoreState → ℕ → CoreState
 polled s marker =
     let v = view_at s.markers marker in

@@ -28,6 +28,7 @@ pub record IsWhole (count : ℕ) (types : List (List Kind)) (b : Body) : Type 0 
   pub inside : end_of b ≤ count
   pub fields : length b.fields + 2 ≡ b.size
 
+-- each body is whole
 abbrev pub AreWhole : ℕ → List (List Kind) → List Body → Type 0
 AreWhole count types bodies = (b : Body) → Contains bodies b → IsWhole count types b
 
@@ -35,6 +36,7 @@ AreWhole count types bodies = (b : Body) → Contains bodies b → IsWhole count
 abbrev pub LieApart : List Body → Type 0
 LieApart bodies = AllPairs (λ b c. (end_of b ≤ c.place) ⊎ (end_of c ≤ b.place)) bodies
 
+-- no two bodies have one serial number
 abbrev pub SerialsDiffer : List Body → Type 0
 SerialsDiffer bodies = AllPairs (λ b c. b.serial ≢ c.serial) bodies
 
@@ -44,6 +46,7 @@ HeadersMatch words marks traces bodies =
     (b : Body) → Contains bodies b
     → slice_index words b.place ≡ header_word true (nat_lt 0 (marks b.place)) (nat_lt 0 (traces b.place)) b.ty b.size
 
+-- each body has its serial number in its second word
 abbrev pub SerialsMatch : List ℕ → List Body → Type 0
 SerialsMatch words bodies = (b : Body) → Contains bodies b → slice_index words (b.place + 1) ≡ b.serial
 

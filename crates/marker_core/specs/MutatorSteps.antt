@@ -36,6 +36,7 @@ abbrev pub may_after_read : CoreState → ℕ → List ℕ
 may_after_read s a =
     if s.mutator.on then reach_over s.count s.types s.mutator.bodies (s.mutator.may ++ a ∷ []) else s.mutator.may
 
+-- the hand has taken the word that it wanted
 abbrev pub traced_by_load : CoreState → ℕ → MutatorView → MutatorView
 traced_by_load s a m =
     let word = slice_index s.words a in
@@ -43,6 +44,7 @@ traced_by_load s a m =
     then record m { hand = each_hand (hand_looked s.types word) m.hand; noted = m.noted ++ noted_pair word m.hand }
     else record m { hand = each_hand (hand_read s.types word) m.hand }
 
+-- the word at a was loaded
 abbrev pub loaded : CoreState → ℕ → Why → CoreState
 loaded s a Read = record s { mutator = looked_at s a }
 loaded s a Weak = record s { mutator = record (looked_at s a) { may = may_after_read s a } }
@@ -50,9 +52,11 @@ loaded s a Trace = record s { mutator = traced_by_load s a (looked_at s a) }
 
 -- ---- fill
 
+-- only words of the heap outside all bodies are filled
 abbrev pub can_fill : CoreState → ℕ → Bool
 can_fill s a = nat_lt a s.count && not (in_body s.mutator.bodies a)
 
+-- the word at a was filled with w
 abbrev pub filled : CoreState → ℕ → ℕ → CoreState
 filled s a w = record s {
   words = slice_set s.words a w;
@@ -72,6 +76,7 @@ key_fits on seen role w value = true
 abbrev pub may_store : Bool → List ℕ → ℕ → Role → ℕ → Bool
 may_store on may holder role w = not on || (holds may holder && (not (refers role) || (w == 0) || holds may (w - 1)))
 
+-- w may be stored at a in a field of this body
 abbrev pub store_fits : CoreState → ℕ → ℕ → Body → Bool
 store_fits s a w b =
     let i = field_number a b in
@@ -85,6 +90,7 @@ store_fits s a w b =
 abbrev pub can_store : CoreState → ℕ → ℕ → Bool
 can_store s a w = is_none s.mutator.pending && is_none s.mutator.hand && list_any (store_fits s a w) s.mutator.bodies
 
+-- the word at a is a field of the body whose target has to be marked
 abbrev pub keeps_in : List (List Kind) → ℕ → Body → Bool
 keeps_in types a b = has_field a b && keeps (role_in types b (field_number a b))
 
@@ -135,14 +141,17 @@ is_in_free_words s b =
     (λ i. list_any (λ f. (f.0 == b.place + i) && (f.1 == slice_index s.words (b.place + i))) s.mutator.filled)
     (range_with_len 0 b.size)
 
+-- a serial number of 32 bits that no body has
 abbrev pub is_new_serial : List Body → ℕ → Bool
 is_new_serial bodies serial = nat_lt serial (2 ^ 32) && not (list_any (λ b. b.serial == serial) bodies)
 
+-- a whole object with a new serial number stands at a in free words
 abbrev pub can_publish : CoreState → ℕ → Bool
 can_publish s a =
     let b = body_at s.words a in
     is_whole_object s.types (slice_index s.words a) b && is_in_free_words s b && is_new_serial s.mutator.bodies b.serial
 
+-- the object at a is a body, and its words are no longer filled ones
 abbrev pub published : CoreState → ℕ → CoreState
 published s a =
     let b = body_at s.words a in
@@ -164,6 +173,7 @@ can_retract s a =
     && holds s.mutator.dead a
     && not (list_any (λ b. not (holds s.mutator.dead b.place) && refers_to s.types a b) s.mutator.bodies)
 
+-- the dead object at a is no body any more
 abbrev pub retracted : CoreState → ℕ → CoreState
 retracted s a = record s {
   words = without_start s.count s.words a;
@@ -175,13 +185,16 @@ retracted s a = record s {
 
 -- ---- mark
 
+-- while marking goes on, a body that may be kept is marked
 abbrev pub can_mark : CoreState → ℕ → Bool
 can_mark s a = s.mutator.on && is_place s.mutator.bodies a && holds s.mutator.may a
 
+-- what waits for its mark once a has it
 abbrev pub settled : Option ℕ → ℕ → Option ℕ
 settled None a = None
 settled (Some t) a = if t == a then None else Some t
 
+-- the object at a is marked
 abbrev pub marked : CoreState → ℕ → CoreState
 marked s a = record s {
   words = slice_set s.words a (word_with_mark true (slice_index s.words a));
@@ -195,6 +208,7 @@ marked s a = record s {
 
 -- ---- claim and unmark
 
+-- while marking goes on, an empty hand claims a body
 abbrev pub can_claim : CoreState → ℕ → Bool
 can_claim s a = s.mutator.on && is_none s.mutator.hand && is_place s.mutator.bodies a
 
@@ -202,6 +216,7 @@ can_claim s a = s.mutator.on && is_none s.mutator.hand && is_place s.mutator.bod
 abbrev pub is_grey : ℕ → Bool
 is_grey header = has_mark header && not (has_traced header)
 
+-- a grey object is traced and in the hand; of any other the header was looked at
 abbrev pub claimed : CoreState → ℕ → CoreState
 claimed s a =
     let header = slice_index s.words a in
@@ -216,9 +231,11 @@ claimed s a =
       };
     }
 
+-- while no marking goes on, the marks of a body are cleared
 abbrev pub can_unmark : CoreState → ℕ → Bool
 can_unmark s a = not s.mutator.on && is_place s.mutator.bodies a
 
+-- the header at a has neither mark nor traced bit
 abbrev pub unmarked : CoreState → ℕ → CoreState
 unmarked s a = record s {
   words = slice_set s.words a (word_with_traced false (word_with_mark false (slice_index s.words a)));

@@ -58,6 +58,7 @@ pub record HandFits (types : List (List Kind)) (bodies : List Body) (marks : ℕ
   pub at_hand : is_traced_role (role_at_hand types h) ≡ true
   pub part : PartFits bodies marks pending may (role_at_hand types h) body (h.next - 2) h.part
 
+-- known places are bodies, and each hand fits one
 pub record HandsAreBodies (types : List (List Kind)) (bodies : List Body) (marks : ℕ → ℕ) (pending : Option ℕ) (may : List ℕ) (hand : Hand → Type 0) (views : List MarkerView) : Type 0 where
   pub known : (v : MarkerView) (a : ℕ) → Contains views v → holds v.known a ≡ true → is_place bodies a ≡ true
   pub hands : (h : Hand) → hand h → HandFits types bodies marks pending may h

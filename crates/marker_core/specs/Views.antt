@@ -14,6 +14,7 @@ times a places = count_by (λ p. p == a) places
 abbrev pub marks_at : MutatorView → List MarkerView → ℕ → ℕ
 marks_at m views a = times a m.marked + sum_by (λ v. times a v.marked) views
 
+-- how often a place stands among those that some view traced
 abbrev pub traces_at : MutatorView → List MarkerView → ℕ → ℕ
 traces_at m views a = times a m.traced + sum_by (λ v. times a v.traced) views
 
@@ -21,9 +22,11 @@ traces_at m views a = times a m.traced + sum_by (λ v. times a v.traced) views
 abbrev pub IsHand : MutatorView → List MarkerView → Hand → Type 0
 IsHand m views h = (m.hand ≡ Some h) ⊎ ((v : MarkerView) × Contains views v × (v.hand ≡ Some h))
 
+-- a view has noted the pair at this offset of the object at p
 abbrev pub IsNoted : MutatorView → List MarkerView → ℕ → ℕ → Type 0
 IsNoted m views p offset = Contains m.noted (p, offset) ⊎ ((v : MarkerView) × Contains views v × Contains v.noted (p, offset))
 
+-- a view has read the traced bit of the header at a
 abbrev pub IsDone : MutatorView → List MarkerView → ℕ → Type 0
 IsDone m views a = (holds m.done a ≡ true) ⊎ ((v : MarkerView) × Contains views v × (holds v.done a ≡ true))
 
@@ -42,8 +45,10 @@ fresh_view = record {
   last = None;
 }
 
+-- a view that was given back
 abbrev pub spent_view : MarkerView
 spent_view = record fresh_view { spent = true }
 
+-- the view with this number; a spent one where there is none
 abbrev pub view_at : List MarkerView → ℕ → MarkerView
 view_at views marker = slice_index_or views marker spent_view

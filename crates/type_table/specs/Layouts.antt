@@ -16,6 +16,7 @@ pub record LayoutState : Type 0 where
   pub strong : List ℕ
   pub pairs : List ℕ
 
+-- a type without fields
 abbrev pub no_layout : LayoutState
 no_layout = record { words = 0; offsets = []; kinds = []; strong = []; pairs = [] }
 
