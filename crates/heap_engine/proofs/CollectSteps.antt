@@ -255,7 +255,7 @@ collection_steps o mid new h c between after numbers piece line law is taken tol
     collects_or_not c.phase c.grey (setup_of o) (state_of o h c) piece (finalise_lines numbers ++ line ∷ []) (answered (state_of new h after)) (at_rest o h c is.before_rests) refl
     (inr (step_collected between.phase between.grey (setup_of o) (state_of o h c) t (answered (state_of new h after)) numbers kept piece (finalise_lines numbers ++ line ∷ []) is.ends rests
     (subst (λ (st : Setup). All (IsStrong st) (condemn kept mid.nodes)) is.setup (strong_judged (setup_of mid) kept mid.nodes plain.typed))
-    (pause_keeps between.phase between.grey t new.nodes law (refers_within (setup_of mid) mid.nodes plain) rests is.judges)
+    (pause_keeps between.phase between.grey t new.nodes law (refers_within (setup_of mid) mid.nodes (valid_nodes mid h between is.ready)) rests is.judges)
     taken
     (ap (λ l. finalise_lines numbers ++ l ∷ []) (told ∙ ap pause_line is.judges.nodes_are))
     (ap (λ ns. build ns after.phase after.rest) is.judges.nodes_are

@@ -9,7 +9,7 @@ use Rattle.gc_graph.specs.declared.phase.Phase.TheVariants.{Idle, Marking, Sweep
 use Rattle.gc_graph.specs.declared.kind.Value.{Value}
 use Rattle.gc_graph.specs.declared.kind.Value.TheVariants.{Null, Ref, Word}
 use Rattle.gc_graph.specs.Graph.{has}
-use Rattle.gc_graph.specs.State.{Setup, Node, type_at, node_at, no_node, is_there, is_live, is_dead, size_of, IsDead}
+use Rattle.gc_graph.specs.State.{ObjectType, Setup, Node, type_at, node_at, no_node, is_there, is_live, is_dead, size_of, IsDead}
 use Rattle.gc_graph.specs.State.Life.{Live}
 use Rattle.gc_graph.specs.Fields.{new_node, strong_type}
 use Rattle.gc_graph.specs.Pause.{judged, condemn}
@@ -25,7 +25,8 @@ use Rattle.heap_engine.specs.Parts.{HasMarks}
 use Rattle.heap_engine.proofs.StrongFields.{ArePlain, NamesBelow, new_words}
 use Rattle.heap_engine.proofs.NodeBodies.{bodies-push}
 use Rattle.heap_engine.proofs.NodeChanges.{AgreeOn, AgreeIn, bodies-places, bodies-same, bodies-condemn, bodies-finalise}
-use Rattle.heap_engine.proofs.NodePlaces.{there_below, node_body, Contains-map, Contains-map_some}
+use Rattle.heap_engine.proofs.NodePlaces.{there_below, node_body}
+use Rattle.heap_engine.proofs.MarkCounts.{Contains-map, Contains-map_some}
 use Rattle.heap_engine.proofs.NodeLives.{life-condemn, place-condemn, there-condemn, life-finalise, place-finalise, not_dead_buried, live_if_there, dead_judged}
 use Rattle.heap_engine.proofs.KeptNodes.{has-kept}
 use Rattle.heap_engine.proofs.FieldNodes.{with_field, place-field, life-field}
@@ -170,10 +171,10 @@ dead_if_unmarked v b is there =
       and-true true = refl
       and-true false = refl
 
-pub judged_after : (types : List ℕ) (slots : List (Option ℕ)) (v new : SeatView) → MarksReachable types slots v new → IsJudged new
+pub judged_after : (types : List ObjectType) (slots : List (Option ℕ)) (v new : SeatView) → MarksReachable types slots v new → IsJudged new
 judged_after types slots v new marks b there = dead_if_unmarked new b marks.dead there
 
-pub held_judged : (nodes : List Node) (types : List ℕ) (slots : List (Option ℕ)) (v new : SeatView) → IsQuiet v → IsHeld nodes v → MarksReachable types slots v new
+pub held_judged : (nodes : List Node) (types : List ObjectType) (slots : List (Option ℕ)) (v new : SeatView) → IsQuiet v → IsHeld nodes v → MarksReachable types slots v new
     → IsHeld (condemn (kept_of (holds new.marked) nodes) nodes) new
 held_judged nodes types slots v new quiet held marks =
     let kept : List Bool = kept_of (holds new.marked) nodes in

@@ -6,7 +6,7 @@ use Rattle.std.proofs.lemmas.List.{get_or-map, length-map}
 use Rattle.std.proofs.lemmas.List.Elements.{All-get_or, All-cons, All-head, All-tail}
 use Rattle.gc_graph.specs.declared.kind.Value.{Value}
 use Rattle.gc_graph.specs.declared.kind.Value.TheVariants.{Null, Ref, Word}
-use Rattle.gc_graph.specs.State.{Setup, Node, node_at, no_node, IsLive, IsDead}
+use Rattle.gc_graph.specs.State.{Setup, ObjectType, Node, node_at, no_node, IsLive, IsDead}
 use Rattle.gc_graph.specs.Fields.{value_at}
 use Rattle.gc_graph.specs.Valid.{NamesLive}
 use Rattle.page_words.specs.Bodies.{Body, IsPlace, IsReference}
@@ -72,7 +72,7 @@ references_hold setup types nodes v have plain held alive = record {
   named nodes v held (Word x) w live pointer is = absurd pointer
 
 -- marking leaves the space's objects where they are
-pub space_marked : (space : SpaceView) (types : List ℕ) (slots : List (Option ℕ)) (v new : SeatView) → MarksReachable types slots v new → IsSpaceOf space v → IsSpaceOf space new
+pub space_marked : (space : SpaceView) (types : List ObjectType) (slots : List (Option ℕ)) (v new : SeatView) → MarksReachable types slots v new → IsSpaceOf space v → IsSpaceOf space new
 space_marked space types slots v new marks is =
     subst (λ count. IsSpaceOver space count (extents_of_bodies new.bodies)) (sym marks.count)
     (subst (λ bodies. IsSpaceOver space v.count (extents_of_bodies bodies)) (sym marks.bodies) is)

@@ -1,26 +1,26 @@
 -- What marking kept, as a set of nodes: exactly what the roots reach.
-use Rattle.std.proofs.Common.{◌≡◌, ℕ, zero, suc, ◌+◌, ◌<◌, Bool, true, ◌&&◌, List, [], ◌∷◌, length, get_or, Option, Some, None, refl, sym, ap, ◌∙◌, subst, inl, inr, arith, eqb}
-use Rattle.std.specs.List.{All, Contains, list_any}
+use Rattle.std.proofs.Common.{◌≡◌, ℕ, zero, suc, ◌<◌, Bool, true, ◌&&◌, List, [], ◌∷◌, length, map, Option, Some, None, refl, sym, ap, ◌∙◌, subst, inl, inr, arith, eqb}
+use Rattle.std.specs.List.{All, Contains, list_any, range_with_len}
 use Rattle.std.specs.Option.{ForSome}
 use Rattle.std.proofs.lemmas.Bool.{true≢false, cases_lt, and_parts, and_from, or_cases, or_left, or_right, eqb-true, eq-eqb}
-use Rattle.std.proofs.lemmas.List.{get_or_past, get_or-map, length-map}
+use Rattle.std.proofs.lemmas.List.{get_or_past, length-map}
 use Rattle.std.proofs.lemmas.List.Elements.{All-contains, All-get_or, All-cons, All-head, All-tail}
-use Rattle.gc_graph.specs.declared.kind.Value.TheVariants.{Null}
-use Rattle.gc_graph.specs.Graph.{Object, object_at, has, IsIn, IsClosed, leads_to}
+use Rattle.gc_graph.specs.declared.kind.Value.TheVariants.{Ref}
+use Rattle.gc_graph.specs.Graph.{Object, object_at, no_object, has, IsIn, IsClosed, ClosesUnder, leads_to}
 use Rattle.gc_graph.specs.Reach.{Reach, RefersWithin, AreNodes, HoldsAll, IsLeastClosed, ReachIsLeast, any_below}
 use Rattle.gc_graph.specs.State.{Setup, Node, node_at, no_node, graph_of, slot_targets, is_live, IsLive}
-use Rattle.gc_graph.specs.Fields.{value_at}
-use Rattle.gc_graph.specs.Valid.{NamesLive, AreLive}
-use Rattle.page_words.specs.Bodies.{Body}
-use Rattle.page_words.specs.Seat.{SeatView, IsView, holds}
-use Rattle.heap_engine.specs.Marking.{fields_by, LeadsTo, IsClosedUnder, HoldsSlots, MarksReachable}
-use Rattle.heap_engine.specs.Nodes.{place_of, word_of, body_of, bodies_of}
+use Rattle.gc_graph.specs.Valid.{IsTyped, NamesLive, AreLive}
 use Rattle.gc_graph.specs.Pause.{condemn}
-use Rattle.heap_engine.specs.Objects.{IsJudgement}
+use Rattle.page_words.specs.Seat.{SeatView, IsView, holds}
+use Rattle.heap_engine.specs.Marking.{HoldsSlots, MarksReachable, object_in, object_there, graph_in}
+use Rattle.heap_engine.specs.Nodes.{place_of, body_of, bodies_of}
+use Rattle.heap_engine.specs.Objects.{AreOfValid, IsJudgement}
 use Rattle.heap_engine.specs.View.{kept_of, places_of}
 use Rattle.heap_engine.proofs.MarkCounts.{Contains-cons_cases, Contains-cons, Contains-head}
-use Rattle.heap_engine.proofs.NodePlaces.{live_is_there, live_is_live, is_live_life, there_below, node_body, body_node, same_node, object-at, leads_names, names_lead, word_names}
-use Rattle.heap_engine.proofs.StrongFields.{IsStrong, ArePlain, NamesBelow, fields_of, HaveFields}
+use Rattle.heap_engine.proofs.NodePlaces.{live_is_there, live_is_live, is_live_life, there_below, node_body, same_node, object-at}
+use Rattle.heap_engine.proofs.StrongFields.{NamesBelow, below_from}
+use Rattle.heap_engine.proofs.BodyGraph.{IsLed, is_led, led_leads, led_named, led_wider, nowhere, renamed_object, led_renamed, renamed_led, there_is}
+use Rattle.heap_engine.proofs.NodeGraph.{node_led, led_node}
 
 pub has-kept : (marked : ℕ → Bool) (nodes : List Node) (n : ℕ) → has (kept_of marked nodes) n ≡ (is_live (node_at nodes n).life && marked (place_of nodes n))
 has-kept marked [] n = refl
@@ -102,71 +102,31 @@ place_slot nodes (Some m ∷ slots) p c =
       | inr later ↦ (let w = place_slot nodes slots p later in (w.0, Contains-cons (Some m) slots (Some w.0) w.1, w.2))
     ]
 
--- ---- edges of nodes and references of bodies
+-- ---- what an object names
 
-typed_at : (setup : Setup) (nodes : List Node) (n : ℕ) → ArePlain setup nodes → n < length nodes → IsStrong setup (node_at nodes n)
-typed_at setup nodes n valid low = All-get_or (IsStrong setup) nodes n no_node low valid.typed
+typed_at : (setup : Setup) (nodes : List Node) (n : ℕ) → AreOfValid setup nodes → n < length nodes → IsTyped setup (length nodes) (node_at nodes n)
+typed_at setup nodes n (s, valid, is) low =
+    All-get_or (IsTyped setup (length nodes)) nodes n no_node low (subst (λ (ns : List Node). All (IsTyped setup (length ns)) ns) is valid.typed)
 
--- an edge of a live node leads to a live node, and its body to that one's place
-pub edge_leads : (setup : Setup) (types : List ℕ) (nodes : List Node) (v : SeatView) (flags : List Bool) (m n : ℕ) → HaveFields setup types → ArePlain setup nodes
-    → v.bodies ≡ bodies_of nodes → IsLive nodes m → leads_to flags (object_at (graph_of nodes) m) n ≡ true
-    → IsLive nodes n × LeadsTo types v.bodies (place_of nodes m) (place_of nodes n)
-edge_leads setup types nodes v flags m n have valid held live leads =
-    let node : Node = node_at nodes m in
-    let low : m < length nodes = there_below nodes m (live_is_there nodes m live) in
-    let typed : IsStrong setup node = typed_at setup nodes m valid low in
-    let named = leads_names setup node flags n typed (subst (λ o. leads_to flags o n ≡ true) (object-at nodes m) leads) in
-    let inside : named.0 < length node.object.values = omega (arith, typed.values, named.1) in (
-      subst (NamesLive nodes) named.2 (All-get_or (NamesLive nodes) node.object.values named.0 Null inside (valid.references m live)),
-      (
-        body_of (place_of nodes) m node,
-        named.0,
-        node_body nodes v m held (live_is_there nodes m live),
-        refl,
-        omega (arith, named.1, have.fields node.object.ty),
-        get_or-map (word_of (place_of nodes)) node.object.values named.0 Null 0 inside ∙ ap (word_of (place_of nodes)) named.2,
-      ),
-    )
-
--- what the body of a live node names is the place of a node to which an edge leads
-pub leads_edge : (setup : Setup) (types : List ℕ) (nodes : List Node) (v : SeatView) (flags : List Bool) (m q : ℕ) → HaveFields setup types → IsView v → ArePlain setup nodes
-    → v.bodies ≡ bodies_of nodes → IsLive nodes m → LeadsTo types v.bodies (place_of nodes m) q
-    → (n : ℕ) × IsLive nodes n × (place_of nodes n ≡ q) × (leads_to flags (object_at (graph_of nodes) m) n ≡ true)
-leads_edge setup types nodes v flags m q have view valid held live leads =
-    let node : Node = node_at nodes m in
-    let i : ℕ = leads.1 in
-    let w = body_node nodes v leads.0 held leads.2 in
-    let same : w.0 ≡ m = same_node nodes v w.0 m view held w.2 (live_is_there nodes m live) (sym (ap (λ (b : Body). b.place) w.3) ∙ leads.3) in
-    let is : leads.0 ≡ body_of (place_of nodes) m node = w.3 ∙ ap (λ k. body_of (place_of nodes) k (node_at nodes k)) same in
-    let low : m < length nodes = there_below nodes m (live_is_there nodes m live) in
-    let typed : IsStrong setup node = typed_at setup nodes m valid low in
-    let field : i < fields_of setup node = omega (arith, leads.4, ap (fields_by types) is, have.fields node.object.ty) in
-    let inside : i < length node.object.values = omega (arith, field, typed.values) in
-    let word : word_of (place_of nodes) (value_at node i) ≡ q + 1 =
-    sym (get_or-map (word_of (place_of nodes)) node.object.values i Null 0 inside) ∙ sym (ap (λ (b : Body). get_or b.fields i 0) is) ∙ leads.5 in
-    let target = word_names (place_of nodes) q (value_at node i) (typed.pointers i field) word in (
-      target.0,
-      subst (NamesLive nodes) target.1 (All-get_or (NamesLive nodes) node.object.values i Null inside (valid.references m live)),
-      target.2,
-      subst (λ o. leads_to flags o target.0 ≡ true) (sym (object-at nodes m)) (names_lead setup node flags target.0 i typed field target.1),
-    )
+-- a live node leads to live nodes
+named_live : (setup : Setup) (nodes : List Node) (m k : ℕ) → AreOfValid setup nodes → IsLive nodes m → Contains (node_at nodes m).object.values (Ref k) → IsLive nodes k
+named_live setup nodes m k (s, valid, is) live there =
+    All-contains (NamesLive nodes) (node_at nodes m).object.values (Ref k)
+    (subst (λ (ns : List Node). (n : ℕ) → IsLive ns n → All (NamesLive ns) (node_at ns n).object.values) is valid.named m live) there
 
 -- ---- the law of reach, applied
 
-pub refers_within : (setup : Setup) (nodes : List Node) → ArePlain setup nodes → RefersWithin (graph_of nodes)
+pub refers_within : (setup : Setup) (nodes : List Node) → AreOfValid setup nodes → RefersWithin (graph_of nodes)
 refers_within setup nodes valid flags m n leads =
     elim (cases_lt m (length nodes)) [
       | inl low ↦
-          (let node : Node = node_at nodes m in
-          let typed : IsStrong setup node = typed_at setup nodes m valid low in
-          let named = leads_names setup node flags n typed (subst (λ o. leads_to flags o n ≡ true) (object-at nodes m) leads) in
-          let inside : named.0 < length node.object.values = omega (arith, typed.values, named.1) in
+          (let o : Object = (node_at nodes m).object in
+          let led : IsLed (has flags) o n = is_led (has flags) o n (subst (λ x. leads_to flags x n ≡ true) (object-at nodes m) leads) in
           let below : n < length nodes =
-          subst (NamesBelow (length nodes)) named.2
-          (All-get_or (NamesBelow (length nodes)) node.object.values named.0 Null inside
-          (All-get_or (λ (x : Node). All (NamesBelow (length nodes)) x.object.values) nodes m no_node low valid.below)) in
+          All-contains (NamesBelow (length nodes)) o.values (Ref n) (below_from (length nodes) o.kinds o.values (typed_at setup nodes m valid low).values_are) (led_named (has flags) o n led) in
           omega (arith, below, length-map nodes (λ (x : Node). x.object)))
-      | inr past ↦ absurd (true≢false (sym leads ∙ ap (λ o. leads_to flags o n) (object-at nodes m ∙ ap (λ (x : Node). x.object) (get_or_past nodes m no_node past))))
+      | inr past ↦ absurd (nowhere (has flags) n (is_led (has flags) no_object n
+          (sym (ap (λ o. leads_to flags o n) (object-at nodes m ∙ ap (λ (x : Node). x.object) (get_or_past nodes m no_node past))) ∙ leads)))
     ]
 
 pub slot_live : (nodes : List Node) (slots : List (Option ℕ)) (n : ℕ) → AreLive nodes (slot_targets slots) → Contains slots (Some n) → IsLive nodes n
@@ -194,27 +154,49 @@ reached_some nodes slots p h =
     let rest = and_parts (eqb (place_of nodes w.0) p) (has (Reach (graph_of nodes) (slot_targets slots)) w.0) live.1 in
     (w.0, is_live_life (node_at nodes w.0).life live.0, eqb-true (place_of nodes w.0) p rest.0, rest.1)
 
-pub keeps_reached : (setup : Setup) (types : List ℕ) (nodes : List Node) (slots : List (Option ℕ)) (v new : SeatView) (places : List (Option ℕ)) → HaveFields setup types → ReachIsLeast → IsView v → ArePlain setup nodes → AreLive nodes (slot_targets slots) → v.bodies ≡ bodies_of nodes
-    → places ≡ places_of nodes slots → MarksReachable types places v new
+pub keeps_reached : (setup : Setup) (nodes : List Node) (slots : List (Option ℕ)) (v new : SeatView) (places : List (Option ℕ)) → ReachIsLeast → IsView v → AreOfValid setup nodes → AreLive nodes (slot_targets slots) → v.bodies ≡ bodies_of nodes
+    → places ≡ places_of nodes slots → MarksReachable setup.types places v new
     → IsJudgement nodes slots (condemn (kept_of (holds new.marked) nodes) nodes)
-keeps_reached setup types nodes slots v new places have law view valid live held named marks =
+keeps_reached setup nodes slots v new places law view valid live held named marks =
     let g : List Object = graph_of nodes in
     let kept : List Bool = kept_of (holds new.marked) nodes in
     let least : IsLeastClosed g (slot_targets slots) (Reach g (slot_targets slots)) = law g (slot_targets slots) (refers_within setup nodes valid) (are_nodes nodes slots live) in
+    let graph : graph_in setup.types new ≡ graph_in setup.types v =
+    ap (λ bs. map (object_there setup.types bs) (range_with_len 0 new.count)) marks.bodies ∙ ap (λ n. map (object_there setup.types v.bodies) (range_with_len 0 n)) marks.count in
+    let place : ℕ → ℕ = place_of nodes in
+    let in_words : (m : ℕ) → IsLive nodes m → object_at (graph_in setup.types new) (place m) ≡ object_in setup.types (body_of place m (node_at nodes m)) =
+    λ m m_live. ap (λ g. object_at g (place m)) graph ∙ there_is setup.types v (body_of place m (node_at nodes m)) view (node_body nodes v m held (live_is_there nodes m m_live)) in
+    let typed : (m : ℕ) → IsLive nodes m → IsTyped setup (length nodes) (node_at nodes m) = λ m m_live. typed_at setup nodes m valid (there_below nodes m (live_is_there nodes m m_live)) in
     let closed : IsClosed g kept = λ m n is leads.
     let parts = kept_parts (holds new.marked) nodes m is in
-    let edge = edge_leads setup types nodes v kept m n have valid held parts.0 leads in
-    kept_from (holds new.marked) nodes n edge.0
-    (marks.closed (place_of nodes m) (place_of nodes n) parts.1 (subst (λ bs. LeadsTo types bs (place_of nodes m) (place_of nodes n)) (sym marks.bodies) edge.1)) in
+    let o : Object = (node_at nodes m).object in
+    let led : IsLed (has kept) o n = is_led (has kept) o n (subst (λ x. leads_to kept x n ≡ true) (object-at nodes m) leads) in
+    let words : IsLed (holds new.marked) (renamed_object place o) (place n) =
+    led_renamed place (holds new.marked) o n (led_wider (has kept) (λ k. holds new.marked (place k)) o n (λ k there in_kept. (kept_parts (holds new.marked) nodes k in_kept).1) led) in
+    kept_from (holds new.marked) nodes n (named_live setup nodes m n valid parts.0 (led_named (has kept) o n led))
+    (marks.closed (place m) (place n) parts.1 (led_leads (holds new.marked) (object_at (graph_in setup.types new) (place m)) (place n)
+    (subst (λ x. IsLed (holds new.marked) x (place n)) (sym (in_words m parts.0))
+    (led_node setup place (length nodes) m (node_at nodes m) (holds new.marked) (place n) (typed m parts.0) words)))) in
     let roots_kept : HoldsAll kept (slot_targets slots) = λ n root.
     let slot : Contains slots (Some n) = slot_of_root slots n root in
     kept_from (holds new.marked) nodes n (slot_live nodes slots n live slot)
     (marks.roots (place_of nodes n) (subst (λ l. Contains l (Some (place_of nodes n))) (sym named) (slot_place nodes slots n slot))) in
-    let test_closed : IsClosedUnder types new.bodies (reached_place nodes slots) = λ p q is leads.
+    let test_closed : ClosesUnder (graph_in setup.types new) (reached_place nodes slots) = λ p q is leads.
     let w = reached_some nodes slots p is in
-    let edge = leads_edge setup types nodes v (Reach g (slot_targets slots)) w.0 q have view valid held w.1
-    (subst (λ x. LeadsTo types v.bodies x q) (sym w.2) (subst (λ bs. LeadsTo types bs p q) marks.bodies leads)) in
-    subst (λ x. reached_place nodes slots x ≡ true) edge.2 (reached_from nodes slots edge.0 edge.1 (least.closed w.0 edge.0 w.3 edge.3)) in
+    let o : Object = (node_at nodes w.0).object in
+    let led : IsLed (reached_place nodes slots) (object_at (graph_in setup.types new) (place w.0)) q =
+    subst (λ a. IsLed (reached_place nodes slots) (object_at (graph_in setup.types new) a) q) (sym w.2)
+    (is_led (reached_place nodes slots) (object_at (graph_in setup.types new) p) q leads) in
+    let edge = renamed_led place (reached_place nodes slots) o q
+    (node_led setup place (length nodes) w.0 (node_at nodes w.0) (reached_place nodes slots) q (typed w.0 w.1) (subst (λ x. IsLed (reached_place nodes slots) x q) (in_words w.0 w.1) led)) in
+    let reach : List Bool = Reach g (slot_targets slots) in
+    let within : IsLed (has reach) o edge.0 = led_wider (λ k. reached_place nodes slots (place k)) (has reach) o edge.0
+    (λ k there reached.
+    let x = reached_some nodes slots (place k) reached in
+    subst (IsIn reach) (same_node nodes v x.0 k view held (live_is_there nodes x.0 x.1) (live_is_there nodes k (named_live setup nodes w.0 k valid w.1 there)) x.2) x.3) edge.2 in
+    subst (λ a. reached_place nodes slots a ≡ true) edge.1
+    (reached_from nodes slots edge.0 (named_live setup nodes w.0 edge.0 valid w.1 (led_named (has reach) o edge.0 within))
+    (least.closed w.0 edge.0 w.3 (subst (λ x. leads_to reach x edge.0 ≡ true) (sym (object-at nodes w.0)) (led_leads (has reach) o edge.0 within)))) in
     let test_slots : HoldsSlots (reached_place nodes slots) places = λ p c.
     let w = place_slot nodes slots p (subst (λ l. Contains l (Some p)) named c) in
     subst (λ x. reached_place nodes slots x ≡ true) w.2

@@ -8,7 +8,9 @@ pub mod SweepPlaces
 pub mod SweepBodies
 pub mod SweepNumbers
 pub mod SweepSteps
+pub mod BodyGraph
 pub mod StrongFields
+pub mod NodeGraph
 pub mod NodeBodies
 pub mod NodeChanges
 pub mod NodePlaces

@@ -1,5 +1,5 @@
 -- One more place marked is one more body counted.
-use Rattle.std.proofs.Common.{◌≡◌, ℕ, zero, suc, ◌+◌, Bool, true, false, List, [], ◌∷◌, ◌++◌, refl, sym, ap, ◌∙◌, subst, inl, inr, arith, cond}
+use Rattle.std.proofs.Common.{◌≡◌, ℕ, zero, suc, ◌+◌, Bool, true, false, List, [], ◌∷◌, ◌++◌, refl, sym, ap, ◌∙◌, subst, inl, inr, arith, cond, map}
 use mathlib.Core.Logic.{◌⊎◌}
 use Rattle.std.specs.List.{All, Contains, count_by}
 use Rattle.std.proofs.lemmas.Bool.{cases_eq, cond-true, cond-false}
@@ -19,6 +19,21 @@ Contains-head x xs = (0, omega arith, refl)
 pub Contains-cons_cases : {X : Type 0} (y : X) (ys : List X) (x : X) → Contains (y ∷ ys) x → (y ≡ x) ⊎ Contains ys x
 Contains-cons_cases y ys x (zero, l, e) = inl e
 Contains-cons_cases y ys x (suc k, l, e) = inr (k, omega arith, e)
+
+module _ {X Y : Type 0} where
+  pub Contains-map : (f : X → Y) (xs : List X) (x : X) → Contains xs x → Contains (map f xs) (f x)
+  Contains-map f [] x c = absurd (omega (arith, c.1))
+  Contains-map f (y ∷ ys) x (zero, l, e) = (0, omega arith, ap f e)
+  Contains-map f (y ∷ ys) x (suc k, l, e) =
+      let rest = Contains-map f ys x (k, omega arith, e) in
+      (suc rest.0, omega (arith, rest.1), rest.2)
+
+  pub Contains-map_some : (f : X → Y) (xs : List X) (y : Y) → Contains (map f xs) y → (x : X) × Contains xs x × (f x ≡ y)
+  Contains-map_some f [] y c = absurd (omega (arith, c.1))
+  Contains-map_some f (x ∷ xs) y (zero, l, e) = (x, (0, omega arith, refl), e)
+  Contains-map_some f (x ∷ xs) y (suc k, l, e) =
+      let rest = Contains-map_some f xs y (k, omega arith, e) in
+      (rest.0, (suc rest.1.0, omega (arith, rest.1.1), rest.1.2), rest.2)
 
 abbrev one_if : Bool → ℕ
 one_if b = cond b 1 0

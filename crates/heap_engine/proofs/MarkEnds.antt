@@ -4,9 +4,12 @@ use mathlib.Core.Logic.{◌⊎◌}
 use Rattle.std.specs.List.{Contains, count_by}
 use Rattle.std.proofs.lemmas.Bool.{true≢false, cases_Bool}
 use Rattle.std.proofs.lemmas.List.Sums.{sum_by-cons}
+use Rattle.gc_graph.specs.Graph.{ClosesUnder}
+use Rattle.gc_graph.specs.State.{ObjectType}
 use Rattle.page_words.specs.Bodies.{Body}
 use Rattle.page_words.specs.Seat.{SeatView, IsView, IsQuiet, holds, begun, ended}
-use Rattle.heap_engine.specs.Marking.{Grey, PlacesDiffer, IsCounted, IsTricolour, MarksOn, GrowsWithin, IsClosedUnder, MarksReachable, marked_count, traced_count}
+use Rattle.heap_engine.specs.Marking.{Grey, PlacesDiffer, IsCounted, IsTricolour, MarksOn, GrowsWithin, MarksReachable, marked_count, traced_count}
+use Rattle.heap_engine.proofs.MarkLoops.{same_graph}
 
 pub count_agrees : (bodies : List Body) (p q : ℕ → Bool) → ((x : ℕ) → p x ≡ q x) → count_by (λ (b : Body). p b.place) bodies ≡ count_by (λ (b : Body). q b.place) bodies
 count_agrees [] p q same = refl
@@ -37,7 +40,7 @@ counted_begin v u g h quiet begins differ empty room few fresh =
       few = few;
     }))
 
-pub black_or_white : (types : List ℕ) (v : SeatView) → IsView v → IsTricolour types None v [] → (p : ℕ) → holds v.traced p ≡ holds v.marked p
+pub black_or_white : (types : List ObjectType) (v : SeatView) → IsView v → IsTricolour types None v [] → (p : ℕ) → holds v.traced p ≡ holds v.marked p
 black_or_white types v view t p =
     elim (cases_Bool (holds v.marked p)) [
       | inl marked ↦ elim (t.marked_are_known p marked) [
@@ -50,11 +53,11 @@ black_or_white types v view t p =
       ]
     ]
 
-pub all_traced : (types : List ℕ) (v : SeatView) → IsView v → IsTricolour types None v [] → traced_count v ≡ marked_count v
+pub all_traced : (types : List ObjectType) (v : SeatView) → IsView v → IsTricolour types None v [] → traced_count v ≡ marked_count v
 all_traced types v view t = count_agrees v.bodies (holds v.traced) (holds v.marked) (black_or_white types v view t)
 
 -- from the quiet view v, through what the slots name (w) and what that leads to (x), to the end of marking
-pub marks_reachable : (types : List ℕ) (slots : List (Option ℕ)) (v u w x y : SeatView) → IsQuiet v → u ≡ begun v → MarksOn u w
+pub marks_reachable : (types : List ObjectType) (slots : List (Option ℕ)) (v u w x y : SeatView) → IsQuiet v → u ≡ begun v → MarksOn u w
     → ((p : ℕ) → Contains slots (Some p) → holds w.marked p ≡ true)
     → ((p : ℕ) → holds w.marked p ≡ true → (holds u.marked p ≡ true) ⊎ Contains slots (Some p))
     → MarksOn w x → IsTricolour types None x [] → GrowsWithin types w x → y ≡ ended x → MarksReachable types slots v y
@@ -72,7 +75,7 @@ marks_reachable types slots v u w x y quiet begins named roots only led t grows 
         | inr listed ↦ absurd (omega (arith, listed.1))
       ];
       least = λ test closed held p marked.
-          grows test (subst (λ bs. IsClosedUnder types bs test) led.bodies closed)
+          grows test (subst (λ g. ClosesUnder g test) (same_graph types w x led) closed)
           (λ q early. elim (only q early) [ inl before ↦ absurd (none q before) | inr slot ↦ held q slot ]) p marked;
       dead = refl;
     })

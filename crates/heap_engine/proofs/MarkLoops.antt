@@ -1,13 +1,15 @@
 -- The steps of the loops that mark.
-use Rattle.std.proofs.Common.{◌≡◌, ℕ, ◌+◌, ◌<◌, true, List, [], ◌∷◌, ◌++◌, length, get_or, take, refl, sym, ap, ◌∙◌, subst, inl, inr, arith}
+use Rattle.std.proofs.Common.{◌≡◌, ℕ, ◌+◌, ◌<◌, Bool, true, List, [], ◌∷◌, ◌++◌, length, get_or, map, take, refl, sym, ap, ◌∙◌, subst, inl, inr, arith}
 use mathlib.Core.Logic.{◌⊎◌}
-use Rattle.std.specs.List.{Contains}
+use Rattle.std.specs.List.{Contains, range_with_len}
 use Rattle.std.proofs.lemmas.List.{take_more}
 use Rattle.std.proofs.lemmas.List.Elements.{All-contains, Contains-append_left, Contains-push, Contains-push_cases}
 use Rattle.std.specs.List.{All}
+use Rattle.gc_graph.specs.Graph.{object_at, leads_by, ClosesUnder}
+use Rattle.gc_graph.specs.State.{ObjectType}
 use Rattle.page_words.specs.Bodies.{Body, IsWhole, IsReference}
 use Rattle.page_words.specs.Seat.{SeatView, IsWordAt, IsView, holds}
-use Rattle.heap_engine.specs.Marking.{MarksOn, GrowsWithin, IsClosedUnder, LeadsTo, HasFields, AreReferences, fields_by}
+use Rattle.heap_engine.specs.Marking.{MarksOn, GrowsWithin, HasFields, AreReferences, graph_in, object_there}
 
 module _ {X : Type 0} where
   pub Contains-take_more_cases : (xs : List X) (i : ℕ) (d x : X) → i < length xs → Contains (take (i + 1) xs) x → Contains (take i xs) x ⊎ (get_or xs i d ≡ x)
@@ -31,15 +33,20 @@ MarksOn-then a b c x y = record {
 pub MarksOn-same : (a : SeatView) → MarksOn a a
 MarksOn-same a = record { count = refl; on = refl; bodies = refl; marked = λ p h. h }
 
-pub GrowsWithin-then : (types : List ℕ) (a b c : SeatView) → b.bodies ≡ a.bodies → GrowsWithin types a b → GrowsWithin types b c → GrowsWithin types a c
+-- the words stand for the same graph
+pub same_graph : (types : List ObjectType) (a b : SeatView) → MarksOn a b → graph_in types b ≡ graph_in types a
+same_graph types a b x =
+    ap (λ bs. map (object_there types bs) (range_with_len 0 b.count)) x.bodies ∙ ap (λ n. map (object_there types a.bodies) (range_with_len 0 n)) x.count
+
+pub GrowsWithin-then : (types : List ObjectType) (a b c : SeatView) → MarksOn a b → GrowsWithin types a b → GrowsWithin types b c → GrowsWithin types a c
 GrowsWithin-then types a b c same x y test closed held p marked =
-    y test (subst (λ bodies. IsClosedUnder types bodies test) (sym same) closed) (x test closed held) p marked
+    y test (subst (λ g. ClosesUnder g test) (sym (same_graph types a b same)) closed) (x test closed held) p marked
 
 -- one more target of an object that was marked
-pub GrowsWithin-target : (types : List ℕ) (a b c : SeatView) (place : ℕ) → GrowsWithin types a b → holds a.marked place ≡ true
-    → ((p : ℕ) → holds c.marked p ≡ true → (holds b.marked p ≡ true) ⊎ LeadsTo types a.bodies place p) → GrowsWithin types a c
+pub GrowsWithin-target : (types : List ObjectType) (a b c : SeatView) (place : ℕ) → GrowsWithin types a b → holds a.marked place ≡ true
+    → ((p : ℕ) → holds c.marked p ≡ true → (holds b.marked p ≡ true) ⊎ ((test : ℕ → Bool) → leads_by test (object_at (graph_in types a) place) p ≡ true)) → GrowsWithin types a c
 GrowsWithin-target types a b c place x hand only test closed held p marked =
-    elim (only p marked) [ inl old ↦ x test closed held p old | inr led ↦ closed place p (held place hand) led ]
+    elim (only p marked) [ inl old ↦ x test closed held p old | inr led ↦ closed place p (held place hand) (led test) ]
 
 -- the address of a body's field is one of the heap
 pub field_address : (types : List ℕ) (v : SeatView) (place fields i : ℕ) → All (IsWhole v.count) v.bodies → AreReferences types v.bodies
@@ -59,21 +66,9 @@ pub field_is_reference : (types : List ℕ) (v : SeatView) (place fields i w : �
 field_is_reference types v place fields i w refers has low word =
     subst (IsReference v.bodies) (sym (field_word types v place fields i w refers has low word)) (refers.named has.0 i has.1 (omega (arith, has.3)))
 
-pub field_leads : (types : List ℕ) (v : SeatView) (place fields i w q : ℕ) → AreReferences types v.bodies → HasFields types v.bodies place fields → i < fields
-    → IsWordAt v (place + 2 + i) w → w ≡ q + 1 → LeadsTo types v.bodies place q
-field_leads types v place fields i w q refers has low word named =
-    (has.0, i, has.1, has.2, omega (arith, has.3), sym (field_word types v place fields i w refers has low word) ∙ named)
-
 -- one body alone has the place
 pub same_body : (v : SeatView) (b c : Body) → IsView v → Contains v.bodies b → Contains v.bodies c → b.place ≡ c.place → b ≡ c
 same_body v b c view b_there c_there same =
     let b_whole : IsWhole v.count b = All-contains (IsWhole v.count) v.bodies b view.whole b_there in
     let c_whole : IsWhole v.count c = All-contains (IsWhole v.count) v.bodies c view.whole c_there in
     view.apart b c b.place b_there c_there (omega arith) (omega (arith, b_whole.fields)) (omega (arith, same)) (omega (arith, same, c_whole.fields))
-
--- what leads from the place does so from one of the fields of the body there
-pub led_field : (types : List ℕ) (v : SeatView) (place fields q : ℕ) → IsView v → (has : HasFields types v.bodies place fields) → LeadsTo types v.bodies place q
-    → (i : ℕ) × (i < fields) × (get_or has.0.fields i 0 ≡ q + 1)
-led_field types v place fields q view has leads =
-    let one : leads.0 ≡ has.0 = same_body v leads.0 has.0 view leads.2 has.1 (leads.3 ∙ sym has.2) in
-    (leads.1, omega (arith, leads.4, ap (λ (x : Body). fields_by types x) one, has.3), ap (λ (x : Body). get_or x.fields leads.1 0) (sym one) ∙ leads.5)

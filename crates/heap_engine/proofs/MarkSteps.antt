@@ -1,15 +1,18 @@
 -- One object is marked and listed.
-use Rattle.std.proofs.Common.{◌≡◌, ℕ, ◌+◌, ◌<◌, true, false, not, List, [], ◌∷◌, ◌++◌, length, Option, Some, None, sym, ap, ◌∙◌, subst, inl, inr, arith}
+use Rattle.std.proofs.Common.{◌≡◌, ℕ, ◌+◌, ◌<◌, true, false, not, List, [], ◌∷◌, ◌++◌, length, map, Option, Some, None, sym, ap, ◌∙◌, subst, inl, inr, arith}
 use Rattle.std.specs.List.{Contains}
 use Rattle.std.proofs.lemmas.Bool.{true≢false, cond-true, cond-false, not-true, not-false, and_parts, and_cases, cases_eq}
 use Rattle.std.proofs.lemmas.List.{length_push}
 use Rattle.std.proofs.lemmas.List.Elements.{Contains-append_left, Contains-push, Contains-push_cases}
 use Rattle.std.proofs.lemmas.List.Sums.{count_by-le-length}
+use Rattle.gc_graph.specs.State.{ObjectType}
+use Rattle.gc_graph.specs.Fields.{strong_type}
 use Rattle.page_words.specs.Bodies.{Body, IsPlace}
 use Rattle.page_words.specs.Seat.{SeatView, holds, marked_at, claimed_at, is_grey}
-use Rattle.heap_engine.specs.Marking.{Grey, IsCounted, IsTricolour, LeadsTo}
+use Rattle.heap_engine.specs.Marking.{Grey, IsCounted, IsTricolour, LeadsMarked}
 use Rattle.heap_engine.proofs.MarkLists.{holds_push_old, holds_push_new, holds_push_cases}
 use Rattle.heap_engine.proofs.MarkCounts.{one_more}
+use Rattle.heap_engine.proofs.BodyGraph.{leads_whatever}
 
 abbrev with_mark : SeatView → ℕ → SeatView
 with_mark v a = record v { marked = v.marked ++ a ∷ [] }
@@ -57,8 +60,9 @@ counted_mark v new g h a is fresh place counted places marked traced room =
     })
 
 pub tricolour_mark : (v new : SeatView) (before after : List ℕ) (a : ℕ) → new ≡ marked_at v a → holds v.marked a ≡ false → after ≡ before ++ a ∷ []
-    → (types : List ℕ) (hand : Option ℕ) → IsTricolour types hand v before → IsTricolour types hand new after
-tricolour_mark v new before after a is fresh pushed types hand t =
+    → (numbers : List ℕ) (hand : Option ℕ) → IsTricolour (map strong_type numbers) hand v before → IsTricolour (map strong_type numbers) hand new after
+tricolour_mark v new before after a is fresh pushed numbers hand t =
+    let types : List ObjectType = map strong_type numbers in
     subst (λ w. IsTricolour types hand w after) (sym (fresh_is v new a is fresh)) (subst (λ l. IsTricolour types hand (with_mark v a) l) (sym pushed) (record {
       listed_are_marked = λ p listed. elim (Contains-push_cases before a p listed) [
         | inl old ↦ holds_push_old v.marked a p (t.listed_are_marked p old)
@@ -68,7 +72,8 @@ tricolour_mark v new before after a is fresh pushed types hand t =
         | inl old ↦ elim (t.marked_are_known p old) [ inl traced ↦ inl traced | inr listed ↦ inr (Contains-append_left before (a ∷ []) p listed) ]
         | inr same ↦ inr (subst (λ q. Contains (before ++ a ∷ []) q) same (Contains-push before a))
       ];
-      traced_lead_to_marked = λ p q traced other leads. holds_push_old v.marked a q (t.traced_lead_to_marked p q traced other leads);
+      traced_lead_to_marked = λ p q traced other leads. holds_push_old v.marked a q (t.traced_lead_to_marked p q traced other
+          (leads_whatever numbers v (holds (v.marked ++ a ∷ [])) (holds v.marked) p q leads));
     }))
 
 -- an object is claimed: it is in hand, and traced from then on
@@ -85,7 +90,7 @@ counted_claim v new g h a is grey place counted places marked traced room =
       few = counted.few;
     })
 
-pub tricolour_claim : (types : List ℕ) (v new : SeatView) (places : List ℕ) (a : ℕ) → new ≡ claimed_at v a → is_grey v a ≡ true
+pub tricolour_claim : (types : List ObjectType) (v new : SeatView) (places : List ℕ) (a : ℕ) → new ≡ claimed_at v a → is_grey v a ≡ true
     → IsTricolour types None v (places ++ a ∷ []) → IsTricolour types (Some a) new places
 tricolour_claim types v new places a is grey t =
     subst (λ w. IsTricolour types (Some a) w places) (sym (claim_is v new a is grey)) (record {
@@ -104,7 +109,7 @@ tricolour_claim types v new places a is grey t =
     })
 
 -- an object that can't be claimed was traced before
-pub tricolour_past : (types : List ℕ) (v new : SeatView) (places : List ℕ) (a : ℕ) → new ≡ claimed_at v a → is_grey v a ≡ false
+pub tricolour_past : (types : List ObjectType) (v new : SeatView) (places : List ℕ) (a : ℕ) → new ≡ claimed_at v a → is_grey v a ≡ false
     → IsTricolour types None v (places ++ a ∷ []) → IsTricolour types None new places
 tricolour_past types v new places a is black t =
     let same : new ≡ v = is ∙ ap (λ l. record v { traced = l }) (cond-false (is_grey v a) (v.traced ++ a ∷ []) v.traced black) in
@@ -122,13 +127,13 @@ tricolour_past types v new places a is black t =
     })
 
 -- the fields of the object in hand were read
-pub tricolour_done : (types : List ℕ) (v : SeatView) (places : List ℕ) (a : ℕ) → ((q : ℕ) → LeadsTo types v.bodies a q → holds v.marked q ≡ true)
+pub tricolour_done : (types : List ObjectType) (v : SeatView) (places : List ℕ) (a : ℕ) → ((q : ℕ) → LeadsMarked types v a q → holds v.marked q ≡ true)
     → IsTricolour types (Some a) v places → IsTricolour types None v places
 tricolour_done types v places a done t = record {
   listed_are_marked = t.listed_are_marked;
   marked_are_known = t.marked_are_known;
   traced_lead_to_marked = λ p q traced other leads. elim (cases_eq a p) [
-    | inl same ↦ done q (subst (λ x. LeadsTo types v.bodies x q) (sym same) leads)
+    | inl same ↦ done q (subst (λ x. LeadsMarked types v x q) (sym same) leads)
     | inr elsewhere ↦ t.traced_lead_to_marked p q traced (λ e. elsewhere (let is : a ≡ p = cc in is)) leads
   ];
 }

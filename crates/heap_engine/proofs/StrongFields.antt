@@ -126,7 +126,7 @@ plain_names bound Null is = tt
 plain_names bound (Ref n) is = absurd is
 plain_names bound (Word w) is = tt
 
-below_from : (bound : ℕ) (kinds : List Kind) (values : List Value) → HaveKinds bound kinds values → All (NamesBelow bound) values
+pub below_from : (bound : ℕ) (kinds : List Kind) (values : List Value) → HaveKinds bound kinds values → All (NamesBelow bound) values
 below_from bound [] values is = All-weaker IsPlainWord (NamesBelow bound) (plain_names bound) values is
 below_from bound (Strong ∷ kinds) [] is = absurd is
 below_from bound (Weak ∷ kinds) [] is = absurd is

@@ -4,13 +4,14 @@
 
 ghost use Rattle.std.specs.Prelude.{◌≡◌, ◌⊎◌, ℕ, ◌+◌, ◌*◌, ◌/◌};
 ghost use Rattle.std.specs.Prelude.{◌^◌, ◌<◌, ◌≤◌, true, [], ◌∷◌, ◌++◌};
-ghost use Rattle.std.specs.Prelude.{length, Some, None, MatchOption, OnOk, Contains, All};
+ghost use Rattle.std.specs.Prelude.{length, map, Some, None, MatchOption, OnOk, Contains, All};
 ghost use Rattle.std.specs.Option.{ForSome};
+ghost use Rattle.gc_graph.specs.Fields.{strong_type};
 ghost use Rattle.page_words.specs.Bodies.{Body, IsPlace, IsReference};
 ghost use Rattle.page_words.specs.Seat.{holds, is_grey, claimed_at, IsQuiet};
 ghost use Rattle.heap_engine.specs.Marking.{PlacesDiffer, AreReferences, IsCounted, IsTricolour};
 ghost use Rattle.heap_engine.specs.Marking.{KeepsTricolour, MarksOn, GrowsWithin, MarksReachable};
-ghost use Rattle.heap_engine.specs.Marking.{HasFields, LeadsTo, marked_count};
+ghost use Rattle.heap_engine.specs.Marking.{HasFields, LeadsMarked, marked_count};
 
 use gc_graph::NoMemory;
 use object_headers::{Header, with_mark, with_traced};
@@ -93,7 +94,7 @@ impl MarkList {
         requires empty { self.old.places ≡ [] }
         requires room { length seat.old.bodies ≤ self.old.room }
         requires few { length seat.old.bodies < 2 ^ 32 }
-        ensures marks { MarksReachable types.now slots.now seat.old seat.new }
+        ensures marks { MarksReachable (map strong_type types.now) slots.now seat.old seat.new }
         ensures places { self.new.places ≡ [] }
         ensures marked { self.new.marked ≡ marked_count seat.new }
         ensures traced { self.new.traced ≡ self.new.marked }
@@ -151,12 +152,12 @@ impl MarkList {
         requires heap { seat.old.count ≡ words.now }
         requires references { AreReferences types.now seat.old.bodies }
         requires counted { IsCounted seat.old self.old }
-        requires tricolour { IsTricolour types.now None seat.old self.old.places }
+        requires tricolour { IsTricolour (map strong_type types.now) None seat.old self.old.places }
         ensures counted { IsCounted seat.new self.new }
-        ensures tricolour { IsTricolour types.now None seat.new [] }
+        ensures tricolour { IsTricolour (map strong_type types.now) None seat.new [] }
         ensures places { self.new.places ≡ [] }
         ensures kept { MarksOn seat.old seat.new }
-        ensures grows { GrowsWithin types.now seat.old seat.new }
+        ensures grows { GrowsWithin (map strong_type types.now) seat.old seat.new }
     {
         while let Some(place) = self.take() {
             self.trace(words, seat, types, place);
@@ -178,11 +179,12 @@ impl MarkList {
         requires heap { seat.old.count ≡ words.now }
         requires references { AreReferences types.now seat.old.bodies }
         requires counted { IsCounted seat.old self.old }
-        requires tricolour { IsTricolour types.now None seat.old (self.old.places ++ place ∷ []) }
+        requires tricolour { IsTricolour (map strong_type types.now) None seat.old
+            (self.old.places ++ place ∷ []) }
         ensures counted { IsCounted seat.new self.new }
-        ensures tricolour { IsTricolour types.now None seat.new self.new.places }
+        ensures tricolour { IsTricolour (map strong_type types.now) None seat.new self.new.places }
         ensures kept { MarksOn seat.old seat.new }
-        ensures grows { GrowsWithin types.now seat.old seat.new }
+        ensures grows { GrowsWithin (map strong_type types.now) seat.old seat.new }
         ensures pushed { length self.new.places + self.old.marked
             ≡ length self.old.places + self.new.marked }
         ensures grew { self.old.marked ≤ self.new.marked }
@@ -231,9 +233,9 @@ impl MarkList {
         ensures counted { IsCounted seat.new self.new }
         ensures tricolour { KeepsTricolour seat.old self.old seat.new self.new }
         ensures kept { MarksOn seat.old seat.new }
-        ensures targets { (q : ℕ) → LeadsTo types.now seat.old.bodies place q
+        ensures targets { (q : ℕ) → LeadsMarked (map strong_type types.now) seat.new place q
             → holds seat.new.marked q ≡ true }
-        ensures grows { GrowsWithin types.now seat.old seat.new }
+        ensures grows { GrowsWithin (map strong_type types.now) seat.old seat.new }
         ensures pushed { length self.new.places + self.old.marked
             ≡ length self.old.places + self.new.marked }
         ensures grew { self.old.marked ≤ self.new.marked }

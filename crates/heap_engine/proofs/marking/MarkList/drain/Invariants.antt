@@ -1,13 +1,14 @@
-use Rattle.std.proofs.Common.{◌+◌, ◌-◌, ◌*◌, None, length}
+use Rattle.gc_graph.specs.Fields.{strong_type}
+use Rattle.std.proofs.Common.{◌+◌, ◌-◌, ◌*◌, None, length, map}
 use Rattle.heap_engine.specs.Marking.{IsCounted, IsTricolour, MarksOn, GrowsWithin}
 use Rattle.heap_engine.proofs.marking.MarkList.drain.Given as goal
 
 abbrev pub invariant-loop-place : goal.invariant-loop-place
 invariant-loop-place l = record {
   counted : IsCounted l.seat l.self;
-  tricolour : IsTricolour l.types None l.seat l.self.places;
+  tricolour : IsTricolour (map strong_type l.types) None l.seat l.self.places;
   kept : MarksOn l.initial.seat l.seat;
-  grows : GrowsWithin l.types l.initial.seat l.seat;
+  grows : GrowsWithin (map strong_type l.types) l.initial.seat l.seat;
 }
 
 abbrev pub decreases-loop-place : goal.decreases-loop-place

@@ -1,9 +1,12 @@
-use Rattle.std.proofs.Common.{rules, ◌≡◌, ◌+◌, ◌<◌, ◌^◌, get_or, arith, ap, sym, ◌∙◌, subst, inl, inr}
+use Rattle.gc_graph.specs.Fields.{strong_type}
+use Rattle.std.proofs.Common.{rules, ◌≡◌, ◌+◌, ◌<◌, ◌^◌, get_or, arith, ap, sym, ◌∙◌, subst, inl, inr, map, true}
 use Rattle.std.proofs.lemmas.Bool.{cases_lt}
 use Rattle.page_words.specs.Bodies.{Body}
-use Rattle.page_words.specs.Seat.{SeatView, IsWordAt}
-use Rattle.heap_engine.specs.Marking.{LeadsTo, AreReferences, HasFields, MarksOn}
-use Rattle.heap_engine.proofs.MarkLoops.{MarksOn-then, GrowsWithin-target, field_address, field_word, field_is_reference, field_leads, led_field, same_body}
+use Rattle.page_words.specs.Seat.{SeatView, IsWordAt, holds}
+use Rattle.gc_graph.specs.Graph.{object_at, leads_by}
+use Rattle.heap_engine.specs.Marking.{AreReferences, HasFields, MarksOn}
+use Rattle.heap_engine.proofs.MarkLoops.{MarksOn-then, GrowsWithin-target, field_address, field_word, field_is_reference, same_body, same_graph}
+use Rattle.heap_engine.proofs.BodyGraph.{place_leads, led_place}
 use Rattle.heap_engine.proofs.marking.MarkList.mark_fields.Goals as goal
 
 pub overflow_add-place : goal.overflow_add-place
@@ -48,11 +51,15 @@ loop-i-preserved c =
             (field_word c.args.types.now now c.args.place c.args.fields c.loop-i.i c.load-reference.result refers has (omega arith) word
             ∙ ap (λ k. get_or has.0.fields k 0) here ∙ ap (λ (x : Body). get_or x.fields j 0) (sym one) ∙ names))
       ];
-      grows = GrowsWithin-target c.args.types.now c.args.seat.now now c.mark_reference.new.seat c.args.place c.loop-i.invariant.grows c.requires.hand
+      grows = GrowsWithin-target (map strong_type c.args.types.now) c.args.seat.now now c.mark_reference.new.seat c.args.place c.loop-i.invariant.grows c.requires.hand
           (λ p marked. elim (c.mark_reference.ensures.only p marked) [
             | inl old ↦ inl (rw c.load-reference.ensures.view at old)
-            | inr named ↦ inr (subst (λ bodies. LeadsTo c.args.types.now bodies c.args.place p) kept.bodies
-                (field_leads c.args.types.now now c.args.place c.args.fields c.loop-i.i c.load-reference.result p refers has (omega arith) word named))
+            | inr named ↦ inr (λ test.
+                let first : HasFields c.args.types.now c.args.seat.now.bodies c.args.place c.args.fields = c.requires.fields in
+                let one : has.0 ≡ first.0 = same_body c.args.seat.now has.0 first.0 c.bodies_lie_apart.ensures (rw kept.bodies at has.1) first.1 (has.2 ∙ sym first.2) in
+                place_leads c.args.types.now c.args.seat.now c.args.place first.0 test c.loop-i.i p c.bodies_lie_apart.ensures first.1 first.2 (omega (arith, first.3))
+                (ap (λ (x : Body). get_or x.fields c.loop-i.i 0) (sym one)
+                ∙ sym (field_word c.args.types.now now c.args.place c.args.fields c.loop-i.i c.load-reference.result refers has (omega arith) word) ∙ named))
           ]);
       pushed = omega (arith, c.loop-i.invariant.pushed, c.mark_reference.ensures.pushed);
       grew = omega (arith, c.loop-i.invariant.grew, c.mark_reference.ensures.grew);
@@ -61,5 +68,6 @@ loop-i-preserved c =
 pub returns-clause-targets : goal.returns-clause-targets
 returns-clause-targets c = λ q leads.
     let has : HasFields c.args.types.now c.args.seat.now.bodies c.args.place c.args.fields = c.requires.fields in
-    let read = led_field c.args.types.now c.args.seat.now c.args.place c.args.fields q c.bodies_lie_apart.ensures has leads in
-    c.loop-i.invariant.targets has.0 read.0 q has.1 has.2 (omega (arith, read.1)) read.2
+    let read = led_place c.args.types.now c.args.seat.now c.args.place has.0 (holds c.loop-i.seat.marked) q c.bodies_lie_apart.ensures has.1 has.2
+    (subst (λ g. leads_by (holds c.loop-i.seat.marked) (object_at g c.args.place) q ≡ true) (same_graph (map strong_type c.args.types.now) c.args.seat.now c.loop-i.seat c.loop-i.invariant.kept) leads) in
+    c.loop-i.invariant.targets has.0 read.0 q has.1 has.2 (omega (arith, read.1, has.3)) read.2

@@ -1,4 +1,5 @@
-use Rattle.std.proofs.Common.{◌≡◌, ℕ, ◌+◌, ◌<◌, ◌≤◌, true, length, get_or}
+use Rattle.gc_graph.specs.Fields.{strong_type}
+use Rattle.std.proofs.Common.{◌≡◌, ℕ, ◌+◌, ◌<◌, ◌≤◌, true, length, get_or, map}
 use Rattle.std.specs.List.{Contains}
 use Rattle.page_words.specs.Bodies.{Body}
 use Rattle.page_words.specs.Seat.{holds}
@@ -13,7 +14,7 @@ invariant-loop-i l = record {
   targets :
       (b : Body) (j q : ℕ) → Contains l.initial.seat.bodies b → b.place ≡ l.place → j < l.i → get_or b.fields j 0 ≡ q + 1
       → holds l.seat.marked q ≡ true;
-  grows : GrowsWithin l.types l.initial.seat l.seat;
+  grows : GrowsWithin (map strong_type l.types) l.initial.seat l.seat;
   pushed : length l.self.places + l.initial.self.marked ≡ length l.initial.self.places + l.self.marked;
   grew : l.initial.self.marked ≤ l.self.marked;
 }

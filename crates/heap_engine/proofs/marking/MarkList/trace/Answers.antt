@@ -1,8 +1,10 @@
-use Rattle.std.proofs.Common.{◌≡◌, true, false, sym, ◌∙◌, ap, get_or, Some, None, subst, arith}
+use Rattle.gc_graph.specs.Fields.{strong_type}
+use Rattle.gc_graph.specs.State.{ObjectType}
+use Rattle.std.proofs.Common.{◌≡◌, true, false, sym, ◌∙◌, ap, get_or, Some, None, subst, arith, map, List}
 use Rattle.std.proofs.lemmas.List.Elements.{Contains-push}
 use Rattle.page_words.specs.Bodies.{IsPlace}
 use Rattle.page_words.specs.Seat.{is_grey, claimed_at, SeatView}
-use Rattle.heap_engine.specs.Marking.{IsTricolour, AreReferences, LeadsTo, GrowsWithin}
+use Rattle.heap_engine.specs.Marking.{IsTricolour, AreReferences, GrowsWithin}
 use Rattle.heap_engine.proofs.MarkSteps.{tricolour_claim, tricolour_past, tricolour_done}
 use Rattle.heap_engine.proofs.marking.MarkList.trace.Goals as goal
 
@@ -34,24 +36,27 @@ mark_fields-requires-clause-fields c =
 
 pub returns-then-claim-clause-tricolour : goal.returns-then-claim-clause-tricolour
 returns-then-claim-clause-tricolour c =
+    let types : List ObjectType = map strong_type c.args.types.now in
     let grey : is_grey c.args.seat.now c.args.place ≡ true = sym c.claim.ensures.grey ∙ c.if-claim.true in
-    let claimed : IsTricolour c.args.types.now (Some c.args.place) c.claim.new.seat c.claim.new.self.places =
-    subst (λ places. IsTricolour c.args.types.now (Some c.args.place) c.claim.new.seat places) (sym c.claim.ensures.places)
-    (tricolour_claim c.args.types.now c.args.seat.now c.claim.new.seat c.args.self.now.places c.args.place c.claim.ensures.view grey c.requires.tricolour) in
+    let claimed : IsTricolour types (Some c.args.place) c.claim.new.seat c.claim.new.self.places =
+    subst (λ places. IsTricolour types (Some c.args.place) c.claim.new.seat places) (sym c.claim.ensures.places)
+    (tricolour_claim types c.args.seat.now c.claim.new.seat c.args.self.now.places c.args.place c.claim.ensures.view grey c.requires.tricolour) in
     let read : c.type_at-ty.new.seat ≡ c.claim.new.seat = c.type_at-ty.ensures.view in
-    let in_hand : IsTricolour c.args.types.now (Some c.args.place) c.mark_fields.new.seat c.mark_fields.new.self.places =
-    c.mark_fields.ensures.tricolour c.args.types.now (Some c.args.place) (subst (λ (v : SeatView). IsTricolour c.args.types.now (Some c.args.place) v c.claim.new.self.places) (sym read) claimed) in
-    tricolour_done c.args.types.now c.mark_fields.new.seat c.mark_fields.new.self.places c.args.place
-    (λ q leads. c.mark_fields.ensures.targets q (subst (λ bodies. LeadsTo c.args.types.now bodies c.args.place q) c.mark_fields.ensures.kept.bodies leads)) in_hand
+    let in_hand : IsTricolour types (Some c.args.place) c.mark_fields.new.seat c.mark_fields.new.self.places =
+    c.mark_fields.ensures.tricolour c.args.types.now (Some c.args.place) (subst (λ (v : SeatView). IsTricolour types (Some c.args.place) v c.claim.new.self.places) (sym read) claimed) in
+    tricolour_done types c.mark_fields.new.seat c.mark_fields.new.self.places c.args.place
+    c.mark_fields.ensures.targets in_hand
 
 pub returns-then-claim-clause-grows : goal.returns-then-claim-clause-grows
 returns-then-claim-clause-grows c =
+    let types : List ObjectType = map strong_type c.args.types.now in
     let same : c.type_at-ty.new.seat ≡ claimed_at c.args.seat.now c.args.place = c.type_at-ty.ensures.view ∙ c.claim.ensures.view in
-    let grows : GrowsWithin c.args.types.now c.type_at-ty.new.seat c.mark_fields.new.seat = c.mark_fields.ensures.grows in
-    subst (λ (v : SeatView). GrowsWithin c.args.types.now v c.mark_fields.new.seat) same grows
+    let grows : GrowsWithin types c.type_at-ty.new.seat c.mark_fields.new.seat = c.mark_fields.ensures.grows in
+    subst (λ (v : SeatView). GrowsWithin types v c.mark_fields.new.seat) same grows
 
 pub returns-else-claim-clause-tricolour : goal.returns-else-claim-clause-tricolour
 returns-else-claim-clause-tricolour c =
+    let types : List ObjectType = map strong_type c.args.types.now in
     let black : is_grey c.args.seat.now c.args.place ≡ false = sym c.claim.ensures.grey ∙ c.if-claim.false in
-    subst (λ places. IsTricolour c.args.types.now None c.claim.new.seat places) (sym c.claim.ensures.places)
-    (tricolour_past c.args.types.now c.args.seat.now c.claim.new.seat c.args.self.now.places c.args.place c.claim.ensures.view black c.requires.tricolour)
+    subst (λ places. IsTricolour types None c.claim.new.seat places) (sym c.claim.ensures.places)
+    (tricolour_past types c.args.seat.now c.claim.new.seat c.args.self.now.places c.args.place c.claim.ensures.view black c.requires.tricolour)

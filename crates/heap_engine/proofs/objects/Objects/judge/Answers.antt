@@ -72,14 +72,14 @@ invariant_of-self c =
     let quiet : IsQuiet v = rw (← c.self.view_is) at c.requires.quiet in
     let places : List (Option ℕ) = c.args.handles.now.places in
     let new : SeatView = c.mark_reachable.new.seat in
-    let marks : MarksReachable types places v new =
-    subst (λ ts. MarksReachable ts places v new) c.deref.ensures.value (subst (λ l. MarksReachable c.deref.result.now l v new) c.places.ensures c.mark_reachable.ensures.marks) in
+    let marks : MarksReachable (map strong_type types) places v new =
+    subst (λ ts. MarksReachable (map strong_type ts) places v new) c.deref.ensures.value (subst (λ l. MarksReachable (map strong_type c.deref.result.now) l v new) c.places.ensures c.mark_reachable.ensures.marks) in
     let nodes_are : condemn (kept_of (holds new.marked) nodes) nodes ≡ c.judged.result.value = sym c.judged.ensures in
     record {
       known = c.self.invariant.known;
-      laid = space_marked c.self.inside.space types places v new marks c.self.invariant.laid;
+      laid = space_marked c.self.inside.space (map strong_type types) places v new marks c.self.invariant.laid;
       off = marks.off;
-      held = subst (λ (ns : List Node). IsHeld ns new) nodes_are (held_judged nodes types places v new quiet c.self.invariant.held marks);
+      held = subst (λ (ns : List Node). IsHeld ns new) nodes_are (held_judged nodes (map strong_type types) places v new quiet c.self.invariant.held marks);
       numbers_are = c.self.invariant.numbers_are ∙ sym (length-condemn (kept_of (holds new.marked) nodes) nodes) ∙ ap length nodes_are;
     }
 
@@ -91,19 +91,19 @@ returns-clause-judged c =
     let quiet : IsQuiet v = rw (← c.self.view_is) at c.requires.quiet in
     let places : List (Option ℕ) = c.args.handles.now.places in
     let new : SeatView = c.mark_reachable.new.seat in
-    let marks : MarksReachable types places v new =
-    subst (λ ts. MarksReachable ts places v new) c.deref.ensures.value (subst (λ l. MarksReachable c.deref.result.now l v new) c.places.ensures c.mark_reachable.ensures.marks) in
+    let marks : MarksReachable (map strong_type types) places v new =
+    subst (λ ts. MarksReachable (map strong_type ts) places v new) c.deref.ensures.value (subst (λ l. MarksReachable (map strong_type c.deref.result.now) l v new) c.places.ensures c.mark_reachable.ensures.marks) in
     let nodes_are : condemn (kept_of (holds new.marked) nodes) nodes ≡ c.judged.result.value = sym c.judged.ensures in
     let slots : List (Option ℕ) = c.args.handles.now.slots in
     let setup : Setup = record { shape = c.self.inside.space.shape; markers = 0; types = map strong_type types; callbacks = [] } in
     rw (← c.self.view_is) (subst (IsJudgement nodes slots) nodes_are
-    (keeps_reached setup types nodes slots v new places (have_fields setup types refl) c.reach_is_least.ensures c.bodies_lie_apart.ensures
-    (plain_nodes setup nodes (are_strong types) (rw (← c.self.view_is) at c.requires.valid)) (rw (← c.self.view_is) at c.requires.live) c.self.invariant.held.bodies
+    (keeps_reached setup nodes slots v new places c.reach_is_least.ensures c.bodies_lie_apart.ensures
+    (rw (← c.self.view_is) at c.requires.valid) (rw (← c.self.view_is) at c.requires.live) c.self.invariant.held.bodies
     (rw (← c.self.view_is) at c.requires.slots) marks))
 
 pub returns-clause-marks : goal.returns-clause-marks
 returns-clause-marks c =
-    judged_after c.deref.result.now c.places.result.now c.self.inside.seat c.mark_reachable.new.seat c.mark_reachable.ensures.marks
+    judged_after (map strong_type c.deref.result.now) c.places.result.now c.self.inside.seat c.mark_reachable.new.seat c.mark_reachable.ensures.marks
 
 pub returns-clause-marked : goal.returns-clause-marked
 returns-clause-marked c =
@@ -113,8 +113,8 @@ returns-clause-marked c =
     let quiet : IsQuiet v = rw (← c.self.view_is) at c.requires.quiet in
     let places : List (Option ℕ) = c.args.handles.now.places in
     let new : SeatView = c.mark_reachable.new.seat in
-    let marks : MarksReachable types places v new =
-    subst (λ ts. MarksReachable ts places v new) c.deref.ensures.value (subst (λ l. MarksReachable c.deref.result.now l v new) c.places.ensures c.mark_reachable.ensures.marks) in
+    let marks : MarksReachable (map strong_type types) places v new =
+    subst (λ ts. MarksReachable (map strong_type ts) places v new) c.deref.ensures.value (subst (λ l. MarksReachable (map strong_type c.deref.result.now) l v new) c.places.ensures c.mark_reachable.ensures.marks) in
     let nodes_are : condemn (kept_of (holds new.marked) nodes) nodes ≡ c.judged.result.value = sym c.judged.ensures in
     c.mark_reachable.ensures.marked ∙ ap (count_by (λ (b : Body). holds new.marked b.place)) (marks.bodies ∙ c.self.invariant.held.bodies)
     ∙ sym (live-condemn (place_of nodes) 0 (holds new.marked) nodes (none_dead nodes v c.self.invariant.held quiet.dead)) ∙ ap live_count nodes_are

@@ -1,0 +1,333 @@
+-- The graph that the bodies stand for.
+use Rattle.std.proofs.Common.{◌≡◌, ℕ, zero, suc, ◌+◌, ◌<◌, Bool, true, ◌&&◌, List, [], ◌∷◌, get_or, map, replicate, refl, sym, ap, ◌∙◌, subst, inl, inr, arith, eqb}
+use mathlib.Core.Logic.{◌⊎◌}
+use Rattle.std.specs.List.{Contains, list_any}
+use Rattle.std.proofs.lemmas.Bool.{true≢false, cases_lt, cases_eq, cond-true, cond-false, or_cases, or_left, or_right, and_parts, and_from, eqb-true, eq-eqb, ne_eqb}
+use Rattle.std.proofs.lemmas.List.{get_or_past}
+use Rattle.std.proofs.lemmas.List.FromFn.{get_or-map-range_with_len, length-map-range_with_len}
+use Rattle.gc_graph.specs.declared.kind.Kind.{Kind}
+use Rattle.gc_graph.specs.declared.kind.Kind.TheVariants.{Strong, Weak, Pair, Plain}
+use Rattle.gc_graph.specs.declared.kind.Value.{Value}
+use Rattle.gc_graph.specs.declared.kind.Value.TheVariants.{Null, Ref, Word}
+use Rattle.gc_graph.specs.Graph.{Object, object_at, no_object, strong_targets, pair_targets, leads_by}
+use Rattle.gc_graph.specs.State.{ObjectType, no_type}
+use Rattle.gc_graph.specs.Fields.{strong_type}
+use Rattle.page_words.specs.Bodies.{Body}
+use Rattle.page_words.specs.Seat.{SeatView, IsView}
+use Rattle.heap_engine.specs.Marking.{fields_by, values_in, object_in, object_there, graph_in}
+use Rattle.heap_engine.proofs.MarkCounts.{Contains-cons_cases, Contains-cons, Contains-head, Contains-map, Contains-map_some}
+use Rattle.heap_engine.proofs.MarkLoops.{same_body}
+use Rattle.heap_engine.proofs.SweepSteps.{body_below}
+
+-- ---- what an object leads to
+
+module _ {X : Type 0} where
+  pub some : (test : X → Bool) (xs : List X) → list_any test xs ≡ true → (x : X) × Contains xs x × (test x ≡ true)
+  some test [] any = absurd (true≢false (sym any))
+  some test (x ∷ xs) any = elim (or_cases (test x) (list_any test xs) any) [
+    | inl here ↦ (x, Contains-head x xs, here)
+    | inr later ↦ (let w = some test xs later in (w.0, Contains-cons x xs w.0 w.1, w.2))
+  ]
+
+  pub any_from : (test : X → Bool) (xs : List X) (x : X) → Contains xs x → test x ≡ true → list_any test xs ≡ true
+  any_from test [] x there is = absurd (omega (arith, there.1))
+  any_from test (y ∷ xs) x there is = elim (Contains-cons_cases y xs x there) [
+    | inl here ↦ or_left (test y) (list_any test xs) (ap test here ∙ is)
+    | inr later ↦ or_right (test y) (list_any test xs) (any_from test xs x later is)
+  ]
+
+-- by a strong field, or by a pair whose key passes the test
+abbrev pub IsLed : (ℕ → Bool) → Object → ℕ → Type 0
+IsLed test o n =
+    Contains (strong_targets o.kinds o.values) n ⊎ ((key : ℕ) × Contains (pair_targets o.kinds o.values) (key, n) × (test key ≡ true))
+
+pub is_led : (test : ℕ → Bool) (o : Object) (n : ℕ) → leads_by test o n ≡ true → IsLed test o n
+is_led test o n leads =
+    elim (or_cases (list_any (λ t. eqb t n) (strong_targets o.kinds o.values)) _ leads) [
+      | inl strong ↦ (let w = some (λ t. eqb t n) (strong_targets o.kinds o.values) strong in
+          inl (subst (Contains (strong_targets o.kinds o.values)) (eqb-true w.0 n w.2) w.1))
+      | inr pair ↦ (let w = some (λ (p : ℕ × ℕ). test p.0 && eqb p.1 n) (pair_targets o.kinds o.values) pair in
+          let both = and_parts (test w.0.0) (eqb w.0.1 n) w.2 in
+          inr (w.0.0, subst (λ m. Contains (pair_targets o.kinds o.values) (w.0.0, m)) (eqb-true w.0.1 n both.1) w.1, both.0))
+    ]
+
+pub led_leads : (test : ℕ → Bool) (o : Object) (n : ℕ) → IsLed test o n → leads_by test o n ≡ true
+led_leads test o n led =
+    elim led [
+      | inl strong ↦ or_left _ _ (any_from (λ t. eqb t n) (strong_targets o.kinds o.values) n strong (eq-eqb n n refl))
+      | inr pair ↦ or_right (list_any (λ t. eqb t n) (strong_targets o.kinds o.values)) _
+          (any_from (λ (p : ℕ × ℕ). test p.0 && eqb p.1 n) (pair_targets o.kinds o.values) (pair.0, n) pair.1
+          (and_from (test pair.0) (eqb n n) pair.2 (eq-eqb n n refl)))
+    ]
+
+-- what an object leads to is named in it, and so is the key by which it does
+later : {k n : ℕ} (v : Value) (values : List Value) → Contains values (Ref k) × Contains values (Ref n) → Contains (v ∷ values) (Ref k) × Contains (v ∷ values) (Ref n)
+later {k} {n} v values both = (Contains-cons v values (Ref k) both.0, Contains-cons v values (Ref n) both.1)
+
+strong_named : (kinds : List Kind) (values : List Value) (n : ℕ) → Contains (strong_targets kinds values) n → Contains values (Ref n)
+strong_named [] values n there = absurd (omega (arith, there.1))
+strong_named (kind ∷ kinds) [] n there = absurd (none kind kinds n there) where
+  none : (kind : Kind) (kinds : List Kind) (n : ℕ) → Contains (strong_targets (kind ∷ kinds) []) n → ⊥
+  none Strong kinds n there = omega (arith, there.1)
+  none Weak kinds n there = omega (arith, there.1)
+  none Pair kinds n there = omega (arith, there.1)
+  none Plain kinds n there = omega (arith, there.1)
+strong_named (Strong ∷ kinds) (Ref t ∷ values) n there = elim (Contains-cons_cases t (strong_targets kinds values) n there) [
+  | inl here ↦ subst (λ m. Contains (Ref t ∷ values) (Ref m)) here (Contains-head (Ref t) values)
+  | inr later ↦ Contains-cons (Ref t) values (Ref n) (strong_named kinds values n later)
+]
+strong_named (Strong ∷ kinds) (Null ∷ values) n there = Contains-cons Null values (Ref n) (strong_named kinds values n there)
+strong_named (Strong ∷ kinds) (Word w ∷ values) n there = Contains-cons (Word w) values (Ref n) (strong_named kinds values n there)
+strong_named (Weak ∷ kinds) (v ∷ values) n there = Contains-cons v values (Ref n) (strong_named kinds values n there)
+strong_named (Plain ∷ kinds) (v ∷ values) n there = Contains-cons v values (Ref n) (strong_named kinds values n there)
+strong_named (Pair ∷ kinds) (key ∷ []) n there = Contains-cons key [] (Ref n) (strong_named kinds [] n there)
+strong_named (Pair ∷ kinds) (key ∷ v ∷ values) n there =
+    Contains-cons key (v ∷ values) (Ref n) (Contains-cons v values (Ref n) (strong_named kinds values n there))
+
+pair_named : (kinds : List Kind) (values : List Value) (k n : ℕ) → Contains (pair_targets kinds values) (k, n) → Contains values (Ref k) × Contains values (Ref n)
+pair_named [] values k n there = absurd (omega (arith, there.1))
+pair_named (kind ∷ kinds) [] k n there = absurd (none kind kinds k n there) where
+  none : (kind : Kind) (kinds : List Kind) (k n : ℕ) → Contains (pair_targets (kind ∷ kinds) []) (k, n) → ⊥
+  none Strong kinds k n there = omega (arith, there.1)
+  none Weak kinds k n there = omega (arith, there.1)
+  none Pair kinds k n there = omega (arith, there.1)
+  none Plain kinds k n there = omega (arith, there.1)
+pair_named (Strong ∷ kinds) (v ∷ values) k n there = later v values (pair_named kinds values k n there)
+pair_named (Weak ∷ kinds) (v ∷ values) k n there = later v values (pair_named kinds values k n there)
+pair_named (Plain ∷ kinds) (v ∷ values) k n there = later v values (pair_named kinds values k n there)
+pair_named (Pair ∷ kinds) (v ∷ []) k n there = later v [] (pair_named kinds [] k n (alone v kinds k n there)) where
+  alone : (v : Value) (kinds : List Kind) (k n : ℕ) → Contains (pair_targets (Pair ∷ kinds) (v ∷ [])) (k, n) → Contains (pair_targets kinds []) (k, n)
+  alone Null kinds k n there = there
+  alone (Ref m) kinds k n there = there
+  alone (Word w) kinds k n there = there
+pair_named (Pair ∷ kinds) (Ref key ∷ Ref v ∷ values) k n there = elim (Contains-cons_cases (key, v) (pair_targets kinds values) (k, n) there) [
+  | inl here ↦ (
+    subst (λ m. Contains (Ref key ∷ Ref v ∷ values) (Ref m)) (ap (λ (p : ℕ × ℕ). p.0) here) (Contains-head (Ref key) (Ref v ∷ values)),
+    subst (λ m. Contains (Ref key ∷ Ref v ∷ values) (Ref m)) (ap (λ (p : ℕ × ℕ). p.1) here) (Contains-cons (Ref key) (Ref v ∷ values) (Ref v) (Contains-head (Ref v) values)),
+  )
+  | inr after ↦ later (Ref key) (Ref v ∷ values) (later (Ref v) values (pair_named kinds values k n after))
+]
+pair_named (Pair ∷ kinds) (Ref key ∷ Null ∷ values) k n there = later (Ref key) (Null ∷ values) (later Null values (pair_named kinds values k n there))
+pair_named (Pair ∷ kinds) (Ref key ∷ Word w ∷ values) k n there = later (Ref key) (Word w ∷ values) (later (Word w) values (pair_named kinds values k n there))
+pair_named (Pair ∷ kinds) (Null ∷ v ∷ values) k n there = later Null (v ∷ values) (later v values (pair_named kinds values k n there))
+pair_named (Pair ∷ kinds) (Word w ∷ v ∷ values) k n there = later (Word w) (v ∷ values) (later v values (pair_named kinds values k n there))
+
+pub led_named : (test : ℕ → Bool) (o : Object) (n : ℕ) → IsLed test o n → Contains o.values (Ref n)
+led_named test o n led = elim led [
+  | inl strong ↦ strong_named o.kinds o.values n strong
+  | inr pair ↦ (pair_named o.kinds o.values pair.0 n pair.1).1
+]
+
+-- a test that holds of no fewer of the names leads on as well
+pub led_wider : (test other : ℕ → Bool) (o : Object) (n : ℕ) → ((k : ℕ) → Contains o.values (Ref k) → test k ≡ true → other k ≡ true) → IsLed test o n → IsLed other o n
+led_wider test other o n wider led = elim led [
+  | inl strong ↦ inl strong
+  | inr pair ↦ inr (pair.0, pair.1, wider pair.0 (pair_named o.kinds o.values pair.0 n pair.1).0 pair.2)
+]
+
+-- ---- names of places in place of names of nodes
+
+abbrev pub renamed : (ℕ → ℕ) → Value → Value
+renamed f Null = Null
+renamed f (Ref n) = Ref (f n)
+renamed f (Word w) = Word w
+
+strong_renamed : (f : ℕ → ℕ) (kinds : List Kind) (values : List Value) → strong_targets kinds (map (renamed f) values) ≡ map f (strong_targets kinds values)
+strong_renamed f [] values = refl
+strong_renamed f (Strong ∷ kinds) [] = refl
+strong_renamed f (Weak ∷ kinds) [] = refl
+strong_renamed f (Pair ∷ kinds) [] = refl
+strong_renamed f (Plain ∷ kinds) [] = refl
+strong_renamed f (Strong ∷ kinds) (Ref t ∷ values) = ap (λ ts. f t ∷ ts) (strong_renamed f kinds values)
+strong_renamed f (Strong ∷ kinds) (Null ∷ values) = strong_renamed f kinds values
+strong_renamed f (Strong ∷ kinds) (Word w ∷ values) = strong_renamed f kinds values
+strong_renamed f (Weak ∷ kinds) (v ∷ values) = strong_renamed f kinds values
+strong_renamed f (Plain ∷ kinds) (v ∷ values) = strong_renamed f kinds values
+strong_renamed f (Pair ∷ kinds) (key ∷ []) = strong_renamed f kinds []
+strong_renamed f (Pair ∷ kinds) (key ∷ v ∷ values) = strong_renamed f kinds values
+
+abbrev both : (ℕ → ℕ) → ℕ × ℕ → ℕ × ℕ
+both f p = (f p.0, f p.1)
+
+pairs_renamed : (f : ℕ → ℕ) (kinds : List Kind) (values : List Value) → pair_targets kinds (map (renamed f) values) ≡ map (both f) (pair_targets kinds values)
+pairs_renamed f [] values = refl
+pairs_renamed f (Strong ∷ kinds) [] = refl
+pairs_renamed f (Weak ∷ kinds) [] = refl
+pairs_renamed f (Pair ∷ kinds) [] = refl
+pairs_renamed f (Plain ∷ kinds) [] = refl
+pairs_renamed f (Strong ∷ kinds) (v ∷ values) = pairs_renamed f kinds values
+pairs_renamed f (Weak ∷ kinds) (v ∷ values) = pairs_renamed f kinds values
+pairs_renamed f (Plain ∷ kinds) (v ∷ values) = pairs_renamed f kinds values
+pairs_renamed f (Pair ∷ kinds) (Null ∷ []) = pairs_renamed f kinds []
+pairs_renamed f (Pair ∷ kinds) (Ref k ∷ []) = pairs_renamed f kinds []
+pairs_renamed f (Pair ∷ kinds) (Word w ∷ []) = pairs_renamed f kinds []
+pairs_renamed f (Pair ∷ kinds) (Ref k ∷ Ref v ∷ values) = ap (λ ps. (f k, f v) ∷ ps) (pairs_renamed f kinds values)
+pairs_renamed f (Pair ∷ kinds) (Ref k ∷ Null ∷ values) = pairs_renamed f kinds values
+pairs_renamed f (Pair ∷ kinds) (Ref k ∷ Word w ∷ values) = pairs_renamed f kinds values
+pairs_renamed f (Pair ∷ kinds) (Null ∷ Null ∷ values) = pairs_renamed f kinds values
+pairs_renamed f (Pair ∷ kinds) (Null ∷ Ref v ∷ values) = pairs_renamed f kinds values
+pairs_renamed f (Pair ∷ kinds) (Null ∷ Word w ∷ values) = pairs_renamed f kinds values
+pairs_renamed f (Pair ∷ kinds) (Word u ∷ Null ∷ values) = pairs_renamed f kinds values
+pairs_renamed f (Pair ∷ kinds) (Word u ∷ Ref v ∷ values) = pairs_renamed f kinds values
+pairs_renamed f (Pair ∷ kinds) (Word u ∷ Word w ∷ values) = pairs_renamed f kinds values
+
+-- the object with its names renamed
+abbrev pub renamed_object : (ℕ → ℕ) → Object → Object
+renamed_object f o = record o { values = map (renamed f) o.values }
+
+pub led_renamed : (f : ℕ → ℕ) (test : ℕ → Bool) (o : Object) (n : ℕ) → IsLed (λ k. test (f k)) o n → IsLed test (renamed_object f o) (f n)
+led_renamed f test o n led = elim led [
+  | inl strong ↦ inl (subst (λ ts. Contains ts (f n)) (sym (strong_renamed f o.kinds o.values)) (Contains-map f (strong_targets o.kinds o.values) n strong))
+  | inr pair ↦ inr (
+    f pair.0,
+    subst (λ ps. Contains ps (f pair.0, f n)) (sym (pairs_renamed f o.kinds o.values)) (Contains-map (both f) (pair_targets o.kinds o.values) (pair.0, n) pair.1),
+    pair.2,
+  )
+]
+
+pub renamed_led : (f : ℕ → ℕ) (test : ℕ → Bool) (o : Object) (q : ℕ) → IsLed test (renamed_object f o) q → (n : ℕ) × (f n ≡ q) × IsLed (λ k. test (f k)) o n
+renamed_led f test o q led = elim led [
+  | inl strong ↦
+      (let w = Contains-map_some f (strong_targets o.kinds o.values) q (subst (λ ts. Contains ts q) (strong_renamed f o.kinds o.values) strong) in
+      (w.0, w.2, inl w.1))
+  | inr pair ↦
+      (let w = Contains-map_some (both f) (pair_targets o.kinds o.values) (pair.0, q) (subst (λ ps. Contains ps (pair.0, q)) (pairs_renamed f o.kinds o.values) pair.1) in
+      (w.0.1, ap (λ (p : ℕ × ℕ). p.1) w.2, inr (w.0.0, w.1, ap (λ (p : ℕ × ℕ). test p.0) w.2 ∙ pair.2)))
+]
+
+-- ---- objects in the words
+
+-- an object that is there, where one body alone has the place
+pub there_is : (types : List ObjectType) (v : SeatView) (b : Body) → IsView v → Contains v.bodies b → object_at (graph_in types v) b.place ≡ object_in types b
+there_is types v b view there =
+    get_or-map-range_with_len (object_there types v.bodies) 0 v.count b.place b.place no_object (body_below v b view there) (omega arith)
+    ∙ found types v.bodies b there (λ c c_there same. same_body v c b view c_there there same) where
+      found : (types : List ObjectType) (bodies : List Body) (b : Body) → Contains bodies b → ((c : Body) → Contains bodies c → c.place ≡ b.place → c ≡ b)
+          → object_there types bodies b.place ≡ object_in types b
+      found types [] b there one = absurd (omega (arith, there.1))
+      found types (c ∷ bodies) b there one = elim (cases_eq c.place b.place) [
+        | inl same ↦ cond-true (eqb c.place b.place) (object_in types c) (object_there types bodies b.place) (eq-eqb c.place b.place same)
+            ∙ ap (object_in types) (one c (Contains-head c bodies) same)
+        | inr other ↦ cond-false (eqb c.place b.place) (object_in types c) (object_there types bodies b.place) (ne_eqb c.place b.place other)
+            ∙ found types bodies b (elim (Contains-cons_cases c bodies b there) [
+              | inl e ↦ absurd (other (ap (λ (x : Body). x.place) e))
+              | inr later_there ↦ later_there
+            ]) (λ d d_there. one d (Contains-cons c bodies d d_there))
+      ]
+
+pub nowhere : (test : ℕ → Bool) (q : ℕ) → IsLed test no_object q → ⊥
+nowhere test q led = elim led [ inl strong ↦ omega (arith, strong.1) | inr pair ↦ omega (arith, pair.1.1) ]
+
+-- what leads anywhere is the object of a body
+pub body_leads : (types : List ObjectType) (v : SeatView) (test : ℕ → Bool) (p q : ℕ) → IsLed test (object_at (graph_in types v) p) q
+    → (b : Body) × Contains v.bodies b × (b.place ≡ p) × IsLed test (object_in types b) q
+body_leads types v test p q led =
+    elim (cases_lt p v.count) [
+      | inl low ↦ somewhere types v.bodies test p q
+          (subst (λ o. IsLed test o q) (get_or-map-range_with_len (object_there types v.bodies) 0 v.count p p no_object low (omega arith)) led)
+      | inr past ↦ absurd (nowhere test q (subst (λ o. IsLed test o q)
+          (get_or_past (graph_in types v) p no_object (omega (arith, past, length-map-range_with_len (object_there types v.bodies) 0 v.count))) led))
+    ] where
+      somewhere : (types : List ObjectType) (bodies : List Body) (test : ℕ → Bool) (p q : ℕ) → IsLed test (object_there types bodies p) q
+          → (b : Body) × Contains bodies b × (b.place ≡ p) × IsLed test (object_in types b) q
+      somewhere types [] test p q led = absurd (nowhere test q led)
+      somewhere types (b ∷ bodies) test p q led = elim (cases_eq b.place p) [
+        | inl same ↦ (
+          b,
+          Contains-head b bodies,
+          same,
+          subst (λ o. IsLed test o q) (cond-true (eqb b.place p) (object_in types b) (object_there types bodies p) (eq-eqb b.place p same)) led,
+        )
+        | inr other ↦
+            (let w = somewhere types bodies test p q (subst (λ o. IsLed test o q) (cond-false (eqb b.place p) (object_in types b) (object_there types bodies p) (ne_eqb b.place p other)) led) in
+            (w.0, Contains-cons b bodies w.0 w.1, w.2, w.3))
+      ]
+
+-- ---- strong fields alone
+
+no_pairs : (k : ℕ) (vs : List Value) → pair_targets (replicate k Strong) vs ≡ []
+no_pairs zero vs = refl
+no_pairs (suc k) [] = refl
+no_pairs (suc k) (v ∷ vs) = no_pairs k vs
+
+field_of_strong : (k q : ℕ) (words : List ℕ) → Contains (strong_targets (replicate k Strong) (values_in (replicate k Strong) words)) q → (i : ℕ) × (i < k) × (get_or words i 0 ≡ q + 1)
+field_of_strong zero q words there = absurd (omega (arith, there.1))
+field_of_strong (suc k) q [] there = absurd (omega (arith, there.1))
+field_of_strong (suc k) q (zero ∷ words) there = (let w = field_of_strong k q words there in (suc w.0, omega (arith, w.1), w.2))
+field_of_strong (suc k) q (suc p ∷ words) there = elim (Contains-cons_cases p (strong_targets (replicate k Strong) (values_in (replicate k Strong) words)) q there) [
+  | inl here ↦ (0, omega arith, (let e : suc p ≡ q + 1 = omega arith in e))
+  | inr after ↦ (let w = field_of_strong k q words after in (suc w.0, omega (arith, w.1), w.2))
+]
+
+strong_of_field : (k q i : ℕ) (words : List ℕ) → i < k → get_or words i 0 ≡ q + 1 → Contains (strong_targets (replicate k Strong) (values_in (replicate k Strong) words)) q
+strong_of_field zero q i words low is = absurd (omega arith)
+strong_of_field (suc k) q i [] low is = absurd (omega (arith, is))
+strong_of_field (suc k) q zero (zero ∷ words) low is = absurd (omega (arith, is))
+strong_of_field (suc k) q zero (suc p ∷ words) low is =
+    subst (λ x. Contains (p ∷ strong_targets (replicate k Strong) (values_in (replicate k Strong) words)) x) (let e : p ≡ q = omega arith in e)
+    (Contains-head p (strong_targets (replicate k Strong) (values_in (replicate k Strong) words)))
+strong_of_field (suc k) q (suc i) (zero ∷ words) low is = strong_of_field k q i words (omega arith) is
+strong_of_field (suc k) q (suc i) (suc p ∷ words) low is =
+    Contains-cons p (strong_targets (replicate k Strong) (values_in (replicate k Strong) words)) q (strong_of_field k q i words (omega arith) is)
+
+strong_kinds : (numbers : List ℕ) (t : ℕ) → (get_or (map strong_type numbers) t no_type).kinds ≡ replicate (get_or numbers t 0) Strong
+strong_kinds [] t = refl
+strong_kinds (n ∷ numbers) zero = refl
+strong_kinds (n ∷ numbers) (suc t) = strong_kinds numbers t
+
+abbrev strong_object : List ℕ → Body → List Kind → Object
+strong_object numbers b kinds = record (object_in (map strong_type numbers) b) { kinds = kinds; values = values_in kinds b.fields }
+
+pub field_leads : (numbers : List ℕ) (test : ℕ → Bool) (b : Body) (i q : ℕ) → i < fields_by numbers b → get_or b.fields i 0 ≡ q + 1 → IsLed test (object_in (map strong_type numbers) b) q
+field_leads numbers test b i q low is =
+    subst (λ ks. IsLed test (strong_object numbers b ks) q) (sym (strong_kinds numbers b.ty)) (inl (strong_of_field (fields_by numbers b) q i b.fields low is))
+
+pub led_field : (numbers : List ℕ) (test : ℕ → Bool) (b : Body) (q : ℕ) → IsLed test (object_in (map strong_type numbers) b) q → (i : ℕ) × (i < fields_by numbers b) × (get_or b.fields i 0 ≡ q + 1)
+led_field numbers test b q led =
+    elim (subst (λ ks. IsLed test (strong_object numbers b ks) q) (strong_kinds numbers b.ty) led) [
+      | inl strong ↦ field_of_strong (fields_by numbers b) q b.fields strong
+      | inr pair ↦ absurd (omega (arith, (subst (λ (ps : List (ℕ × ℕ)). Contains ps (pair.0, q)) (no_pairs (fields_by numbers b) (values_in (replicate (fields_by numbers b) Strong) b.fields)) pair.1).1))
+    ]
+
+-- with strong fields alone no key counts
+whatever_there : (numbers : List ℕ) (bodies : List Body) (test other : ℕ → Bool) (p q : ℕ) → IsLed test (object_there (map strong_type numbers) bodies p) q
+    → IsLed other (object_there (map strong_type numbers) bodies p) q
+whatever_there numbers [] test other p q led = absurd (nowhere test q led)
+whatever_there numbers (b ∷ bodies) test other p q led = elim (cases_eq b.place p) [
+  | inl same ↦
+      (let is : object_there (map strong_type numbers) (b ∷ bodies) p ≡ object_in (map strong_type numbers) b =
+      cond-true (eqb b.place p) (object_in (map strong_type numbers) b) (object_there (map strong_type numbers) bodies p) (eq-eqb b.place p same) in
+      let f = led_field numbers test b q (subst (λ o. IsLed test o q) is led) in
+      subst (λ o. IsLed other o q) (sym is) (field_leads numbers other b f.0 q f.1 f.2))
+  | inr elsewhere ↦
+      (let is : object_there (map strong_type numbers) (b ∷ bodies) p ≡ object_there (map strong_type numbers) bodies p =
+      cond-false (eqb b.place p) (object_in (map strong_type numbers) b) (object_there (map strong_type numbers) bodies p) (ne_eqb b.place p elsewhere) in
+      subst (λ o. IsLed other o q) (sym is) (whatever_there numbers bodies test other p q (subst (λ o. IsLed test o q) is led)))
+]
+
+pub leads_whatever : (numbers : List ℕ) (v : SeatView) (test other : ℕ → Bool) (p q : ℕ) → leads_by test (object_at (graph_in (map strong_type numbers) v) p) q ≡ true
+    → leads_by other (object_at (graph_in (map strong_type numbers) v) p) q ≡ true
+leads_whatever numbers v test other p q leads =
+    elim (cases_lt p v.count) [
+      | inl low ↦
+          (let is : object_at (graph_in (map strong_type numbers) v) p ≡ object_there (map strong_type numbers) v.bodies p =
+          get_or-map-range_with_len (object_there (map strong_type numbers) v.bodies) 0 v.count p p no_object low (omega arith) in
+          led_leads other (object_at (graph_in (map strong_type numbers) v) p) q (subst (λ o. IsLed other o q) (sym is)
+          (whatever_there numbers v.bodies test other p q (subst (λ o. IsLed test o q) is (is_led test (object_at (graph_in (map strong_type numbers) v) p) q leads)))))
+      | inr past ↦ absurd (nowhere test q (subst (λ o. IsLed test o q)
+          (get_or_past (graph_in (map strong_type numbers) v) p no_object
+          (omega (arith, past, length-map-range_with_len (object_there (map strong_type numbers) v.bodies) 0 v.count))) (is_led test (object_at (graph_in (map strong_type numbers) v) p) q leads)))
+    ]
+
+-- the one body at the place leads to what its fields name
+pub place_leads : (numbers : List ℕ) (v : SeatView) (place : ℕ) (b : Body) (test : ℕ → Bool) (i q : ℕ) → IsView v → Contains v.bodies b → b.place ≡ place → i < fields_by numbers b
+    → get_or b.fields i 0 ≡ q + 1 → leads_by test (object_at (graph_in (map strong_type numbers) v) place) q ≡ true
+place_leads numbers v place b test i q view there at low is =
+    led_leads test (object_at (graph_in (map strong_type numbers) v) place) q (subst (λ a. IsLed test (object_at (graph_in (map strong_type numbers) v) a) q) at
+    (subst (λ o. IsLed test o q) (sym (there_is (map strong_type numbers) v b view there)) (field_leads numbers test b i q low is)))
+
+pub led_place : (numbers : List ℕ) (v : SeatView) (place : ℕ) (b : Body) (test : ℕ → Bool) (q : ℕ) → IsView v → Contains v.bodies b → b.place ≡ place
+    → leads_by test (object_at (graph_in (map strong_type numbers) v) place) q ≡ true → (i : ℕ) × (i < fields_by numbers b) × (get_or b.fields i 0 ≡ q + 1)
+led_place numbers v place b test q view there at leads =
+    led_field numbers test b q (subst (λ o. IsLed test o q) (there_is (map strong_type numbers) v b view there)
+    (subst (λ a. IsLed test (object_at (graph_in (map strong_type numbers) v) a) q) (sym at) (is_led test (object_at (graph_in (map strong_type numbers) v) place) q leads)))
