@@ -27,7 +27,7 @@ use Rattle.heap_engine.specs.Marking.{Grey}
 use Rattle.heap_engine.specs.View.{start_entry, pause_entry}
 use Rattle.heap_engine.specs.Objects.{IsJudgement}
 use Rattle.heap_engine.specs.Changes.{collected_from}
-use Rattle.heap_engine.specs.Parts.{ObjectsView, HandlesView, CycleView, setup_of, state_of, counted, HasMarks, IsAtRest, IsReady, IsFrame}
+use Rattle.heap_engine.specs.Parts.{ObjectsView, HandlesView, CycleView, setup_of_objects, state_of, counted, HasMarks, IsAtRest, IsReady, IsFrame}
 use Rattle.heap_engine.specs.Nodes.{place_of}
 use Rattle.heap_engine.specs.Sweeping.{IsJudged}
 use Rattle.heap_engine.proofs.NodeLives.{length-condemn, object-condemn, place-condemn, live_and_dead}
@@ -235,8 +235,8 @@ pub record Collects (o mid new : ObjectsView) (h : HandlesView) (c between after
   pub rests : IsAtRest between.phase between.grey between.rest
   pub ends : SweepsToEnd o.shape (state_of o h c) numbers (state_of mid h between)
   pub ready : IsReady mid h between
-  pub setup : setup_of mid ≡ setup_of o
-  pub same_setup : setup_of new ≡ setup_of mid
+  pub setup : setup_of_objects mid ≡ setup_of_objects o
+  pub same_setup : setup_of_objects new ≡ setup_of_objects mid
   pub judges : IsJudgement mid.nodes h.slots new.nodes
   pub judged : IsJudged new.seat
   pub phase : after.phase ≡ Sweeping
@@ -245,17 +245,17 @@ pub record Collects (o mid new : ObjectsView) (h : HandlesView) (c between after
 
 pub collection_steps : (o mid new : ObjectsView) (h : HandlesView) (c between after : CycleView) (numbers : List ℕ) (piece : List Entry) (line : Line) → ReachIsLeast
     → Collects o mid new h c between after numbers → piece ≡ start_entry ∷ pause_entry ∷ [] → line ≡ pause_line new.nodes
-    → StepGcNow (setup_of o) Precise (state_of o h c) piece (finalise_lines numbers ++ line ∷ []) (answered (state_of new h after))
+    → StepGcNow (setup_of_objects o) Precise (state_of o h c) piece (finalise_lines numbers ++ line ∷ []) (answered (state_of new h after))
 collection_steps o mid new h c between after numbers piece line law is taken told =
     let t : State = state_of mid h between in
     let kept : List Bool = is.judges.kept in
-    let plain : ArePlain (setup_of mid) mid.nodes = plain_nodes (setup_of mid) mid.nodes is.ready.strong (valid_nodes mid h between is.ready) in
+    let plain : ArePlain (setup_of_objects mid) mid.nodes = plain_nodes (setup_of_objects mid) mid.nodes is.ready.strong (valid_nodes mid h between is.ready) in
     let rests : IsAtRest between.phase between.grey t = at_rest mid h between is.rests in
     let build : List Node → Phase → State → State = λ ns ph r. answered (record r { nodes = ns; slots = h.slots; phase = ph }) in
-    collects_or_not c.phase c.grey (setup_of o) (state_of o h c) piece (finalise_lines numbers ++ line ∷ []) (answered (state_of new h after)) (at_rest o h c is.before_rests) refl
-    (inr (step_collected between.phase between.grey (setup_of o) (state_of o h c) t (answered (state_of new h after)) numbers kept piece (finalise_lines numbers ++ line ∷ []) is.ends rests
-    (subst (λ (st : Setup). All (IsStrong st) (condemn kept mid.nodes)) is.setup (strong_judged (setup_of mid) kept mid.nodes plain.typed))
-    (pause_keeps between.phase between.grey t new.nodes law (refers_within (setup_of mid) mid.nodes (valid_nodes mid h between is.ready)) rests is.judges)
+    collects_or_not c.phase c.grey (setup_of_objects o) (state_of o h c) piece (finalise_lines numbers ++ line ∷ []) (answered (state_of new h after)) (at_rest o h c is.before_rests) refl
+    (inr (step_collected between.phase between.grey (setup_of_objects o) (state_of o h c) t (answered (state_of new h after)) numbers kept piece (finalise_lines numbers ++ line ∷ []) is.ends rests
+    (subst (λ (st : Setup). All (IsStrong st) (condemn kept mid.nodes)) is.setup (strong_judged (setup_of_objects mid) kept mid.nodes plain.typed))
+    (pause_keeps between.phase between.grey t new.nodes law (refers_within (setup_of_objects mid) mid.nodes (valid_nodes mid h between is.ready)) rests is.judges)
     taken
     (ap (λ l. finalise_lines numbers ++ l ∷ []) (told ∙ ap pause_line is.judges.nodes_are))
     (ap (λ ns. build ns after.phase after.rest) is.judges.nodes_are

@@ -21,7 +21,7 @@ use Rattle.page_words.specs.Seat.{IsQuiet}
 use Rattle.heap_engine.specs.Nodes.{place_of}
 use Rattle.heap_engine.specs.Objects.{bury}
 use Rattle.heap_engine.specs.Changes.{ended_in}
-use Rattle.heap_engine.specs.Parts.{ObjectsView, HandlesView, CycleView, setup_of, state_of, HasMarks, AreStrong, IsReady}
+use Rattle.heap_engine.specs.Parts.{ObjectsView, HandlesView, CycleView, setup_of_objects, state_of, HasMarks, AreStrong, IsReady}
 use Rattle.heap_engine.proofs.NodeLives.{place-finalise}
 use Rattle.heap_engine.proofs.Ties.{tied_nodes}
 
@@ -65,7 +65,7 @@ fewer_buried (x ∷ nodes) =
 dead_below : (setup : Setup) (s : State) (n : ℕ) → IsValid setup s → IsDead s.nodes n → place_of s.nodes n < word_count setup.shape
 dead_below setup s n valid dead = omega (arith, valid.within n (ap is_there dead))
 
-pub ends_sweep : (o new : ObjectsView) (h : HandlesView) (c after : CycleView) (numbers : List ℕ) → IsValid (setup_of o) (state_of o h c) → c.phase ≡ Sweeping
+pub ends_sweep : (o new : ObjectsView) (h : HandlesView) (c after : CycleView) (numbers : List ℕ) → IsValid (setup_of_objects o) (state_of o h c) → c.phase ≡ Sweeping
     → AreDeadInOrder o.nodes (word_count o.shape) numbers → new.nodes ≡ map bury o.nodes → after.phase ≡ Idle → after.rest ≡ ended_in o.shape c.rest numbers
     → SweepsToEnd o.shape (state_of o h c) numbers (state_of new h after)
 ends_sweep o new h c after numbers valid sweeping order nodes idle rest =
@@ -76,7 +76,7 @@ ends_sweep o new h c after numbers valid sweeping order nodes idle rest =
     subst (λ ph. SweepsInPhase ph o.shape s o.shape.pages numbers (state_of new h after)) (sym sweeping) (record {
       finalised = order;
       after =
-          ap (λ ns. build ns after.phase after.rest) (nodes ∙ all_below o.nodes limit (λ n dead. dead_below (setup_of o) s n valid dead))
+          ap (λ ns. build ns after.phase after.rest) (nodes ∙ all_below o.nodes limit (λ n dead. dead_below (setup_of_objects o) s n valid dead))
           ∙ ap (λ ph. build (map (finalise limit) o.nodes) ph after.rest) (idle ∙ sym phase)
           ∙ ap (build (map (finalise limit) o.nodes) (phase_at o.shape o.shape.pages)) rest;
     })
@@ -108,10 +108,10 @@ valid_swept setup s t numbers law pages valid sweeping ends idle =
     uncounted setup t idle (law setup s (answered t) C.SweepAll [] lines pages tt valid (refl, step))
 
 pub ready_swept : (o new : ObjectsView) (h : HandlesView) (c after : CycleView) (numbers : List ℕ) → StepKeepsValid → 0 < o.shape.pages → IsReady o h c → c.phase ≡ Sweeping
-    → SweepsToEnd o.shape (state_of o h c) numbers (state_of new h after) → setup_of new ≡ setup_of o → new.nodes ≡ map bury o.nodes → IsQuiet new.seat → after.phase ≡ Idle
+    → SweepsToEnd o.shape (state_of o h c) numbers (state_of new h after) → setup_of_objects new ≡ setup_of_objects o → new.nodes ≡ map bury o.nodes → IsQuiet new.seat → after.phase ≡ Idle
     → after.rest.ordinal ≡ c.rest.ordinal → IsReady new h after
 ready_swept o new h c after numbers law pages ready sweeping ends setup nodes quiet idle ordinal = record {
-  valid = subst (λ (st : Setup). IsValid st (state_of new h after)) (sym setup) (valid_swept (setup_of o) (state_of o h c) (state_of new h after) numbers law pages ready.valid sweeping ends idle);
+  valid = subst (λ (st : Setup). IsValid st (state_of new h after)) (sym setup) (valid_swept (setup_of_objects o) (state_of o h c) (state_of new h after) numbers law pages ready.valid sweeping ends idle);
   strong = subst AreStrong (sym (ap (λ (st : Setup). st.types) setup)) ready.strong;
   tied = tied_nodes o new h c after ready.tied.slots (λ n. ap (λ (ns : List Node). place_of ns n) nodes ∙ place-finalise o.nodes n)
       (subst (λ ph. HasMarks ph new.seat) (sym idle) quiet)

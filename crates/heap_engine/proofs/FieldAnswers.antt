@@ -18,7 +18,7 @@ use Rattle.gc_graph.specs.ObjectSteps.{StepSet, StepGet, IsChanged, IsRead, with
 use Rattle.heap_engine.specs.Nodes.{place_of, word_of}
 use Rattle.heap_engine.specs.Objects.{IsFieldAt, IsLiveReference, IsWordOf, target_in, written_in, reference_to}
 use Rattle.heap_engine.specs.Changes.{put_in}
-use Rattle.heap_engine.specs.Parts.{ObjectsView, HandlesView, CycleView, setup_of, state_of, IsReady}
+use Rattle.heap_engine.specs.Parts.{ObjectsView, HandlesView, CycleView, setup_of_objects, state_of, IsReady}
 use Rattle.heap_engine.proofs.StrongFields.{IsStrong, IsPointer, ArePlain, plain_nodes, fields_of, field_is_strong, word_is_field, reference_is_field}
 use Rattle.heap_engine.proofs.FieldNodes.{live_below}
 use Rattle.heap_engine.proofs.Ties.{valid_nodes, slot_live}
@@ -43,8 +43,8 @@ found_at : (o : ObjectsView) (h : HandlesView) (c : CycleView) (p f a n : ℕ) �
 found_at o h c p f a n ready slot told =
     let node : Node = node_at o.nodes n in
     let live : IsLive o.nodes n = slot_live o h c p ready n slot in
-    let plain : ArePlain (setup_of o) o.nodes = plain_nodes (setup_of o) o.nodes ready.strong (valid_nodes o h c ready) in
-    let typed : IsStrong (setup_of o) node = All-get_or (IsStrong (setup_of o)) o.nodes n no_node (live_below o.nodes n live) plain.typed in
+    let plain : ArePlain (setup_of_objects o) o.nodes = plain_nodes (setup_of_objects o) o.nodes ready.strong (valid_nodes o h c ready) in
+    let typed : IsStrong (setup_of_objects o) node = All-get_or (IsStrong (setup_of_objects o)) o.nodes n no_node (live_below o.nodes n live) plain.typed in
     let answer : Result ℕ Refusal = Ok a in
     elim (cases_Bool (ltb f (field_count node))) [
       | inl low ↦
@@ -53,21 +53,21 @@ found_at o h c p f a n ready slot told =
           elim (cases_Bool (is_reference (kind_of_field node.object f))) [
             | inl kind ↦
                 (let at : answer ≡ Ok (place_of o.nodes n + 2 + f) = subst (λ b. MatchBool b (answer ≡ Ok (place_of o.nodes n + 2 + f)) (answer ≡ Err R.Kind)) kind inside in
-                let field : f < fields_of (setup_of o) node = reference_is_field (setup_of o) node f typed kind in
+                let field : f < fields_of (setup_of_objects o) node = reference_is_field (setup_of_objects o) node f typed kind in
                 let within : f < length node.object.values = omega (arith, field, typed.values) in
                 record {
                   node = n;
                   slot = slot;
                   asked = ltb-true f (field_count node) low;
                   reference = kind;
-                  strong = ap is_weak (field_is_strong (setup_of o) node f typed field);
+                  strong = ap is_weak (field_is_strong (setup_of_objects o) node f typed field);
                   word = record {
                     live = live;
                     low = within;
                     at = same a (place_of o.nodes n + 2 + f) at;
                     reference = named_pointer o.nodes (value_at node f) (All-get_or (NamesLive o.nodes) node.object.values f Null within (plain.references n live)) (typed.pointers f field);
                   };
-                  first = word_is_field (setup_of o) node f typed field;
+                  first = word_is_field (setup_of_objects o) node f typed field;
                 })
             | inr other ↦ absurd (never a R.Kind (subst (λ b. MatchBool b (answer ≡ Ok (place_of o.nodes n + 2 + f)) (answer ≡ Err R.Kind)) other inside))
           ])
@@ -95,7 +95,7 @@ asked nodes slot f n none Done other past is low kind done =
     (subst (λ b. MatchBool b (Done n) other) (sym kind) done))
 
 pub step_set : (o new : ObjectsView) (h : HandlesView) (c : CycleView) (p f a : ℕ) (x : Value) → (is : Found o h p f a)
-    → setup_of new ≡ setup_of o → new.nodes ≡ written_in o.nodes (get_or h.slots p None) f x
+    → setup_of_objects new ≡ setup_of_objects o → new.nodes ≡ written_in o.nodes (get_or h.slots p None) f x
     → StepSet (state_of o h c) p f x (L.Fine ∷ []) (answered (state_of new h c))
 step_set o new h c p f a x is setup nodes =
     let s : State = state_of o h c in

@@ -6,7 +6,7 @@ use Rattle.gc_graph.specs.Fields.{strong_type}
 use Rattle.gc_graph.specs.ValidLaw.{EmptyIsValid}
 use Rattle.page_words.specs.Seat.{empty_view}
 use Rattle.heap_engine.specs.View.{places_of}
-use Rattle.heap_engine.specs.Parts.{ObjectsView, HandlesView, CycleView, setup_of, IsReady}
+use Rattle.heap_engine.specs.Parts.{ObjectsView, HandlesView, CycleView, setup_of_objects, IsReady}
 use Rattle.heap_engine.proofs.StrongFields.{are_strong}
 
 null_places : (n : ℕ) → replicate n None ≡ places_of [] (replicate n None)
@@ -24,7 +24,7 @@ ready_empty o h c types shape law objects handles idle rest =
     let cycle : began ≡ c = sym (ap (λ ph. (let k : CycleView = record { phase = ph; grey = c.grey; rest = c.rest } in k)) idle
     ∙ ap (λ s. (let k : CycleView = record { phase = Idle; grey = c.grey; rest = s } in k)) rest) in
     let ready : IsReady none nulls began = record {
-      valid = law (setup_of none);
+      valid = law (setup_of_objects none);
       strong = are_strong types;
       tied = record {
         slots = null_places 256;

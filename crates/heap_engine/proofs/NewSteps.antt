@@ -19,7 +19,7 @@ use Rattle.heap_engine.specs.Nodes.{place_of}
 use Rattle.heap_engine.specs.View.{places_of}
 use Rattle.heap_engine.specs.Objects.{with_made}
 use Rattle.heap_engine.specs.Changes.{put_in, filled}
-use Rattle.heap_engine.specs.Parts.{ObjectsView, HandlesView, CycleView, setup_of, state_of, counted, AreStrong, HasMarks, AreTied}
+use Rattle.heap_engine.specs.Parts.{ObjectsView, HandlesView, CycleView, setup_of_objects, state_of, counted, AreStrong, HasMarks, AreTied}
 use Rattle.heap_engine.proofs.HeldNodes.{place-old, node-new}
 use Rattle.heap_engine.proofs.NodePlaces.{there_below, live_is_there}
 
@@ -52,11 +52,11 @@ joins setup s p t extra place idle is =
     ap (λ rs. build rs s.may) registered ∙ ap (build (s.registrations ++ registrations_for setup t (length s.nodes))) (sym (ap (λ ph. may_with_new ph s.may) idle))
 
 pub step_made : (o new : ObjectsView) (h after : HandlesView) (c : CycleView) (p t extra place number : ℕ) → AreStrong o.types → t < length o.types → c.phase ≡ Idle
-    → IsPlaceFor o.shape o.shape.pages (extents_of o.nodes) (size_of_type (setup_of o) t extra) (Some place) → number ≡ length o.nodes
-    → new.nodes ≡ with_made (setup_of o) o.nodes t extra (Some place) → after ≡ put_in h p (Some (place, number))
-    → StepNew (setup_of o) (state_of o h c) p t extra (L.Placed number place ∷ []) (answered (state_of new after c))
+    → IsPlaceFor o.shape o.shape.pages (extents_of o.nodes) (size_of_type (setup_of_objects o) t extra) (Some place) → number ≡ length o.nodes
+    → new.nodes ≡ with_made (setup_of_objects o) o.nodes t extra (Some place) → after ≡ put_in h p (Some (place, number))
+    → StepNew (setup_of_objects o) (state_of o h c) p t extra (L.Placed number place ∷ []) (answered (state_of new after c))
 step_made o new h after c p t extra place number strong low idle found counted nodes put =
-    let setup : Setup = setup_of o in
+    let setup : Setup = setup_of_objects o in
     let s : State = state_of o h c in
     let type : type_at setup t ≡ strong_type (length (type_at setup t).kinds) =
     All-get_or (λ (x : ObjectType). x ≡ strong_type (length x.kinds)) o.types t no_type low strong in
@@ -75,13 +75,13 @@ step_made o new h after c p t extra place number strong low idle found counted n
     })
 
 pub step_full : (o new : ObjectsView) (h : HandlesView) (c after : CycleView) (p t extra : ℕ) → c.phase ≡ Idle
-    → IsPlaceFor o.shape o.shape.pages (extents_of o.nodes) (size_of_type (setup_of o) t extra) None → new.nodes ≡ o.nodes → after ≡ record c { rest = filled c.rest }
-    → StepNew (setup_of o) (state_of o h c) p t extra (L.Full ∷ []) (answered (state_of new h after))
+    → IsPlaceFor o.shape o.shape.pages (extents_of o.nodes) (size_of_type (setup_of_objects o) t extra) None → new.nodes ≡ o.nodes → after ≡ record c { rest = filled c.rest }
+    → StepNew (setup_of_objects o) (state_of o h c) p t extra (L.Full ∷ []) (answered (state_of new h after))
 step_full o new h c after p t extra idle found nodes counts = inr (record {
   numbers = [];
   mid = state_of o h c;
   place = None;
-  placed = placed (setup_of o) (state_of o h c) t extra None idle found;
+  placed = placed (setup_of_objects o) (state_of o h c) t extra None idle found;
   done = record {
     lines_are = refl;
     after = ap (λ (x : CycleView). answered (state_of new h x)) counts

@@ -8,11 +8,11 @@ use Rattle.gc_graph.specs.State.{IsLive}
 use Rattle.heap_engine.specs.Nodes.{place_of}
 use Rattle.heap_engine.specs.View.{places_of}
 use Rattle.heap_engine.specs.Objects.{AreOfValid, IsLiveAt}
-use Rattle.heap_engine.specs.Parts.{ObjectsView, HandlesView, CycleView, setup_of, state_of, counted, HasMarks, AreTied, IsReady}
+use Rattle.heap_engine.specs.Parts.{ObjectsView, HandlesView, CycleView, setup_of_objects, state_of, counted, HasMarks, AreTied, IsReady}
 use Rattle.heap_engine.specs.Changes.{put_in}
 use Rattle.heap_engine.proofs.KeptNodes.{slots_live}
 
-pub valid_nodes : (o : ObjectsView) (h : HandlesView) (c : CycleView) → IsReady o h c → AreOfValid (setup_of o) o.nodes
+pub valid_nodes : (o : ObjectsView) (h : HandlesView) (c : CycleView) → IsReady o h c → AreOfValid (setup_of_objects o) o.nodes
 valid_nodes o h c ready = (state_of o h c, ready.valid, refl)
 
 pub nodes_few : (o : ObjectsView) (h : HandlesView) (c : CycleView) → IsReady o h c → length o.nodes ≤ 1000000

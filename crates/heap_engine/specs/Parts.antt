@@ -32,8 +32,8 @@ pub record CycleView : Type 0 where
   pub rest : State
 
 -- what was set up
-abbrev pub setup_of : ObjectsView → Setup
-setup_of o = record { shape = o.shape; markers = 0; types = o.types; callbacks = [] }
+abbrev pub setup_of_objects : ObjectsView → Setup
+setup_of_objects o = record { shape = o.shape; markers = 0; types = o.types; callbacks = [] }
 
 -- the state is put together from what each part holds of it
 abbrev pub state_of : ObjectsView → HandlesView → CycleView → State
@@ -76,13 +76,13 @@ pub record AreTied (o : ObjectsView) (h : HandlesView) (c : CycleView) : Type 0 
 
 -- the parts are ready for a command: their state is valid, and they belong together
 pub record IsReady (o : ObjectsView) (h : HandlesView) (c : CycleView) : Type 0 where
-  pub valid : IsValid (setup_of o) (state_of o h c)
+  pub valid : IsValid (setup_of_objects o) (state_of o h c)
   pub strong : AreStrong o.types
   pub tied : AreTied o h c
   pub most : c.rest.ordinal ≤ 1000000
 
 -- what a command leaves as it was, from the old objects and cycle to the new parts, which belong together
 pub record IsFrame (old : ObjectsView) (before : CycleView) (new : ObjectsView) (h : HandlesView) (after : CycleView) : Type 0 where
-  pub setup : setup_of new ≡ setup_of old
+  pub setup : setup_of_objects new ≡ setup_of_objects old
   pub ordinal : after.rest.ordinal ≡ before.rest.ordinal + 1
   pub tied : AreTied new h after

@@ -15,5 +15,5 @@ pub record Printed : Type 0 where
   pub room : ℕ
 
 -- the lines of the outcome
-abbrev pub lines_of : Printed → List Line
-lines_of o = finalise_lines o.numbers ++ option_to_list o.last
+abbrev pub outcome_lines : Printed → List Line
+outcome_lines o = finalise_lines o.numbers ++ option_to_list o.last

@@ -3,16 +3,16 @@ use Rattle.std.specs.Prelude.{◌*◌, ◌≤◌}
 use Rattle.page_space.specs.Pages.{word_count}
 use Rattle.heap_engine.specs.declared.heap.Heap.TheInside.{Inside}
 use Rattle.heap_engine.specs.View.{View}
-use Rattle.heap_engine.specs.Printed.{lines_of}
-use Rattle.heap_engine.specs.Parts.{setup_of, state_of, IsReady}
+use Rattle.heap_engine.specs.Printed.{outcome_lines}
+use Rattle.heap_engine.specs.Parts.{setup_of_objects, state_of, IsReady}
 
 -- a heap as its callers see it
 abbrev pub view_of : Inside → View
 view_of h = record {
-  setup = setup_of h.objects;
+  setup = setup_of_objects h.objects;
   state = state_of h.objects h.handles h.cycle;
   history = h.outcome.history;
-  lines = lines_of h.outcome;
+  lines = outcome_lines h.outcome;
   piece = h.outcome.piece;
   closed = h.closed;
 }

@@ -4,7 +4,7 @@ ghost use Rattle.std.specs.Prelude.{◌≡◌, ◌<◌, ◌≤◌, [], ◌∷◌
 ghost use Rattle.gc_graph.specs.declared.phase.Phase.TheVariants.{Idle};
 ghost use Rattle.gc_graph.specs.Outcomes.{answered};
 ghost use Rattle.gc_graph.specs.ObjectSteps.{StepNew};
-ghost use Rattle.heap_engine.specs.Parts.{setup_of, state_of, counted, IsReady, IsFrame};
+ghost use Rattle.heap_engine.specs.Parts.{setup_of_objects, state_of, counted, IsReady, IsFrame};
 
 use crate::cycle::Cycle;
 use crate::handles::Handles;
@@ -26,7 +26,7 @@ pub fn new_object(
     requires ty { t < length objects.old.types }
     requires extra { extra ≤ 33554432 }
     requires swept { cycle.old.phase ≡ Idle }
-    ensures step { StepNew (setup_of objects.old) (state_of objects.old handles.old cycle.old)
+    ensures step { StepNew (setup_of_objects objects.old) (state_of objects.old handles.old cycle.old)
         p t extra (result ∷ []) (answered (state_of objects.new handles.new cycle.new)) }
     ensures frame { IsFrame objects.old cycle.old objects.new handles.new (counted cycle.new) }
 {

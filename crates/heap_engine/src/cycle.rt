@@ -9,7 +9,7 @@ ghost use Rattle.gc_graph.specs.Outcomes.{answered, finalise_lines};
 ghost use Rattle.gc_graph.specs.CycleSteps.{StepGcNow, StepSweepAll, is_marking};
 ghost use Rattle.gc_graph.specs.Sweep.{SweepsToEnd};
 ghost use Rattle.page_space.specs.Pages.{word_count};
-ghost use Rattle.heap_engine.specs.Parts.{setup_of, state_of, counted, IsReady, IsFrame};
+ghost use Rattle.heap_engine.specs.Parts.{setup_of_objects, state_of, counted, IsReady, IsFrame};
 ghost use Rattle.heap_engine.specs.Changes.{filled};
 
 use crate::entries;
@@ -89,7 +89,7 @@ impl Cycle {
         requires numbers { outcome.old.numbers ≡ [] }
         requires piece { outcome.old.piece ≡ [] }
         requires room { word_count objects.old.shape ≤ 2 * outcome.old.room }
-        ensures step { StepGcNow (setup_of objects.old) Precise
+        ensures step { StepGcNow (setup_of_objects objects.old) Precise
             (state_of objects.old handles.now self.old) outcome.new.piece
             (finalise_lines outcome.new.numbers ++ result ∷ [])
             (answered (state_of objects.new handles.now self.new)) }
@@ -120,7 +120,7 @@ impl Cycle {
         requires ready { IsReady objects.old handles.now self.old }
         requires numbers { outcome.old.numbers ≡ [] }
         requires room { word_count objects.old.shape ≤ 2 * outcome.old.room }
-        ensures step { StepSweepAll (setup_of objects.old)
+        ensures step { StepSweepAll (setup_of_objects objects.old)
             (state_of objects.old handles.now self.old)
             (finalise_lines outcome.new.numbers ++ result ∷ [])
             (answered (state_of objects.new handles.now self.new)) }
@@ -147,7 +147,7 @@ impl Cycle {
             finalised.new.items (state_of objects.new handles.now self.new) }
         ensures ready { IsReady objects.new handles.now self.new }
         ensures idle { self.new.phase ≡ Idle }
-        ensures setup { setup_of objects.new ≡ setup_of objects.old }
+        ensures setup { setup_of_objects objects.new ≡ setup_of_objects objects.old }
         ensures ordinal { self.new.rest.ordinal ≡ self.old.rest.ordinal }
         ensures grey { self.new.grey ≡ self.old.grey }
         ensures fewer { objects_of objects.new.nodes ≤ objects_of objects.old.nodes }

@@ -13,7 +13,7 @@ ghost use Rattle.gc_graph.specs.Lawful.{IsAllowed, IsEndLine};
 ghost use Rattle.gc_graph.specs.Shapes.{IsShape};
 ghost use Rattle.page_space.specs.Pages.{word_count};
 ghost use Rattle.heap_engine.specs.Built.{IsBuilt};
-ghost use Rattle.heap_engine.specs.Parts.{setup_of, state_of, counted, IsReady, IsFrame};
+ghost use Rattle.heap_engine.specs.Parts.{setup_of_objects, state_of, counted, IsReady, IsFrame};
 
 use crate::creating::new_object;
 use crate::cycle::Cycle;
@@ -153,7 +153,7 @@ fn run(
     requires room { word_count objects.old.shape ≤ 2 * outcome.old.room }
     requires allowed { IsAllowed (length objects.old.types) command.now }
     requires built { IsBuilt cycle.old.phase command.now }
-    ensures step { Step (setup_of objects.old) (state_of objects.old handles.old cycle.old)
+    ensures step { Step (setup_of_objects objects.old) (state_of objects.old handles.old cycle.old)
         command.now outcome.new.piece (finalise_lines outcome.new.numbers ++ result ∷ [])
         (answered (state_of objects.new handles.new cycle.new)) }
     ensures frame { IsFrame objects.old cycle.old objects.new handles.new (counted cycle.new) }

@@ -19,7 +19,7 @@ ghost use Rattle.heap_engine.specs.View.{places_of};
 ghost use Rattle.heap_engine.specs.Objects.{AreOfValid, IsLiveAt, IsFieldAt, IsWordOf, IsLiveReference};
 ghost use Rattle.heap_engine.specs.Objects.{IsJudgement, target_in, with_made, written_in, bury};
 ghost use Rattle.heap_engine.specs.Nodes.{word_of, place_of};
-ghost use Rattle.heap_engine.specs.Parts.{setup_of, HasMarks};
+ghost use Rattle.heap_engine.specs.Parts.{setup_of_objects, HasMarks};
 
 use crate::handles::{Content, Handles};
 use crate::marking::MarkList;
@@ -144,15 +144,15 @@ impl Objects {
     pub fn make(&mut self, t: u32, extra: u32) -> Option<u32>
         requires ty { t < length self.old.types }
         requires extra { extra ≤ 33554432 }
-        requires valid { AreOfValid (setup_of self.old) self.old.nodes }
+        requires valid { AreOfValid (setup_of_objects self.old) self.old.nodes }
         requires quiet { IsQuiet self.old.seat }
         requires few { length self.old.nodes ≤ 1000000 }
         ensures place { IsPlaceFor self.old.shape self.old.shape.pages (extents_of self.old.nodes)
-            (size_of_type (setup_of self.old) t extra) result }
+            (size_of_type (setup_of_objects self.old) t extra) result }
         ensures nodes { self.new.nodes
-            ≡ with_made (setup_of self.old) self.old.nodes t extra result }
+            ≡ with_made (setup_of_objects self.old) self.old.nodes t extra result }
         ensures quiet { IsQuiet self.new.seat }
-        ensures setup { setup_of self.new ≡ setup_of self.old }
+        ensures setup { setup_of_objects self.new ≡ setup_of_objects self.old }
     {
         let size = 2 + self.types[t as usize] + extra;
         match find_place(&self.space, &mut self.seat, size) {
@@ -174,7 +174,7 @@ impl Objects {
     /// The address of field f of the object at a place. A missing field is told before an extra
     /// word, which is of another kind.
     pub fn field_at(&mut self, place: u32, f: u32) -> Result<u32, Refusal>
-        requires valid { AreOfValid (setup_of self.old) self.old.nodes }
+        requires valid { AreOfValid (setup_of_objects self.old) self.old.nodes }
         requires place { (n : ℕ) × IsLiveAt self.old.nodes n place }
         ensures field { (n : ℕ) → IsLiveAt self.old.nodes n place
             → IsFieldAt self.old.nodes n f result }
@@ -222,7 +222,7 @@ impl Objects {
             (slice_index_or handles.now.slots p None) f content.now.value.value }
         ensures marks { (phase : Phase) → HasMarks phase self.old.seat
             → HasMarks phase self.new.seat }
-        ensures setup { setup_of self.new ≡ setup_of self.old }
+        ensures setup { setup_of_objects self.new ≡ setup_of_objects self.old }
     {
         self.seat.bodies_lie_apart();
         self.space.lasts_while_objects_stay();
@@ -243,7 +243,7 @@ impl Objects {
         ensures quiet { IsQuiet self.new.seat }
         ensures many { length finalised.new.items ≤ 2 ^ 24 }
         ensures room { vec_capacity finalised.new ≡ vec_capacity finalised.old }
-        ensures setup { setup_of self.new ≡ setup_of self.old }
+        ensures setup { setup_of_objects self.new ≡ setup_of_objects self.old }
     {
         self.seat.bodies_lie_apart();
         sweep_pages(&mut self.space, &mut self.seat, finalised);
@@ -252,7 +252,7 @@ impl Objects {
 
     /// Marks what the slots reach, which is kept, and condemns the other objects.
     pub fn judge(&mut self, handles: &Handles, grey: &mut MarkList)
-        requires valid { AreOfValid (setup_of self.old) self.old.nodes }
+        requires valid { AreOfValid (setup_of_objects self.old) self.old.nodes }
         requires quiet { IsQuiet self.old.seat }
         requires few { length self.old.nodes ≤ 1000000 }
         requires slots { handles.now.places ≡ places_of self.old.nodes handles.now.slots }
@@ -264,7 +264,7 @@ impl Objects {
         ensures listed { grey.new.places ≡ [] }
         ensures marked { grey.new.marked ≡ live_count self.new.nodes }
         ensures traced { grey.new.traced ≡ grey.new.marked }
-        ensures setup { setup_of self.new ≡ setup_of self.old }
+        ensures setup { setup_of_objects self.new ≡ setup_of_objects self.old }
     {
         self.seat.bodies_lie_apart();
         gc_graph::reach_is_least();

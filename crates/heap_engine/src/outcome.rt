@@ -3,7 +3,7 @@
 
 ghost use Rattle.std.specs.Prelude.{◌≡◌, ◌++◌, ◌<◌, [], length, Some};
 ghost use Rattle.std.specs.Prelude.{None, IfOk, slice_get};
-ghost use Rattle.heap_engine.specs.Printed.{lines_of};
+ghost use Rattle.heap_engine.specs.Printed.{outcome_lines};
 
 use crate::entries::{self, Entries};
 use gc_graph::{Line, NoMemory};
@@ -76,15 +76,15 @@ impl Outcome {
 
     /// How many lines there are.
     pub fn count(&self) -> u32
-        ensures { result ≡ length (lines_of self.now) }
+        ensures { result ≡ length (outcome_lines self.now) }
     {
         self.finalised.len() as u32 + u32::from(self.last.is_some())
     }
 
     /// A line of the outcome.
     pub fn line(&self, index: u32) -> Line
-        requires { index < length (lines_of self.now) }
-        ensures { slice_get (lines_of self.now) index ≡ Some result }
+        requires { index < length (outcome_lines self.now) }
+        ensures { slice_get (outcome_lines self.now) index ≡ Some result }
     {
         match self.finalised.get(index as usize) {
             Some(number) => Line::Finalise { k: *number },
