@@ -1,7 +1,7 @@
 // One run of the program: from the bytes of a script to its report.
 
 ghost use Rattle.std.specs.Prelude.{◌≡◌, ◌↔◌, ℕ, ◌<◌};
-ghost use Rattle.std.specs.Prelude.{[], length, map, string_bytes, None, MatchOption};
+ghost use Rattle.std.specs.Prelude.{◌≤◌, [], length, map, string_bytes, None, MatchOption};
 ghost use Rattle.heap_script.specs.Causes.{Rose};
 ghost use Rattle.heap_script.specs.Devices.{Grew};
 ghost use Rattle.gc_graph.specs.Shapes.{IsShape};
@@ -49,6 +49,8 @@ pub fn run<S: Source, K: Sink>(
         Rose (S.faults source.old) (S.faults source.new) }
     ensures write_fault { result ≡ Status.WriteFault →
         Rose (K.faults sink.old) (K.faults sink.new) }
+    ensures source_faults { S.faults source.old ≤ S.faults source.new }
+    ensures sink_faults { K.faults sink.old ≤ K.faults sink.new }
     ensures no_read_failed { ¬ (result ≡ Status.ReadFault) →
         S.faults source.new ≡ S.faults source.old }
     ensures no_write_failed { ¬ (result ≡ Status.WriteFault) →
@@ -81,6 +83,7 @@ pub(crate) fn run_bytes<K: Sink>(
     ensures answer { RunsBytes (shape_of config) bytes.now
         (K.written sink.old) (K.written sink.new) kept.new result }
     ensures fault { result ≡ Status.WriteFault → Rose (K.faults sink.old) (K.faults sink.new) }
+    ensures later { K.faults sink.old ≤ K.faults sink.new }
     ensures steady { ¬ (result ≡ Status.WriteFault) → K.faults sink.new ≡ K.faults sink.old }
 {
     if bytes.len() > MOST_BYTES || line_count(bytes) > MOST_LINES {
@@ -118,6 +121,7 @@ fn run_script<K: Sink>(
     ensures answer { RunsScript (shape_of config) script.now
         (K.written sink.old) (K.written sink.new) kept.new result }
     ensures fault { result ≡ Status.WriteFault → Rose (K.faults sink.old) (K.faults sink.new) }
+    ensures later { K.faults sink.old ≤ K.faults sink.new }
     ensures steady { ¬ (result ≡ Status.WriteFault) → K.faults sink.new ≡ K.faults sink.old }
 {
     let mut pieces = match Pieces::new(alloc) {

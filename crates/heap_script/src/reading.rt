@@ -27,6 +27,7 @@ pub fn read_whole<S: Source>(
     ensures bytes { IfOk result (λ v.
         IsReadFrom (S.left source.old) (S.left source.new) limit v.items) }
     ensures few { IfOk result (λ v. length v.items ≤ limit + 1) }
+    ensures later { S.faults source.old ≤ S.faults source.new }
     ensures fault { IsErrOf result ReadError.Fault →
         Rose (S.faults source.old) (S.faults source.new) }
     ensures steady { ¬ (IsErrOf result ReadError.Fault) →
