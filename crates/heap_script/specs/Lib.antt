@@ -7,3 +7,5 @@ pub mod Past
 pub mod Pieces
 pub mod Words
 pub mod Faults
+pub mod Cursor
+pub mod Scripts

@@ -1,0 +1,100 @@
+-- What the program does so far. A script with a line of another form is refused, and nothing of it is run.
+use Rattle.std.specs.Prelude.{◌≡◌, ℕ, ◌==◌, ◌&&◌, not, Bool, true, false, List, length, fold, take, Some, slice_get}
+use Rattle.std.specs.List.{list_all}
+use Rattle.gc_graph.specs.declared.command.Command.{Command}
+use Rattle.gc_graph.specs.declared.command.Command.TheVariants as C
+use Rattle.gc_graph.specs.declared.command.Want.{Want}
+use Rattle.gc_graph.specs.declared.command.Want.TheVariants.{Precise, Conservative}
+use Rattle.gc_graph.specs.declared.phase.Phase.{Phase}
+use Rattle.gc_graph.specs.declared.phase.Phase.TheVariants.{Idle}
+use Rattle.gc_graph.specs.declared.kind.Kind.{Kind}
+use Rattle.gc_graph.specs.declared.kind.Kind.TheVariants.{Strong, Weak, Pair, Plain}
+use Rattle.gc_graph.specs.State.{ObjectType}
+
+-- ---- types
+
+-- the kinds of fields that objects have
+abbrev pub is_built_kind : Kind → Bool
+is_built_kind Strong = true
+is_built_kind Weak = false
+is_built_kind Pair = false
+is_built_kind Plain = false
+
+-- only fields of such kinds, and no prefinalizers
+abbrev pub is_built_type : ObjectType → Bool
+is_built_type type = list_all is_built_kind type.kinds && (length type.prefinalizers == 0)
+
+-- ---- commands
+
+-- the stack isn't looked at
+abbrev pub is_precise : Want → Bool
+is_precise Precise = true
+is_precise Conservative = false
+
+-- objects, their fields, strong slots, whole collections and totals
+abbrev pub is_built : Command → Bool
+is_built (C.New p t e) = true
+is_built (C.Set p f q) = true
+is_built (C.SetNull p f) = true
+is_built (C.Get p f q) = true
+is_built (C.Drop p) = true
+is_built (C.GcNow want) = is_precise want
+is_built C.SweepAll = true
+is_built C.Stat = true
+is_built (C.Pair p f k v) = false
+is_built (C.PairNull p f) = false
+is_built (C.Put p f n) = false
+is_built (C.Word p f) = false
+is_built (C.Key p f q) = false
+is_built (C.Val p f q) = false
+is_built (C.Copy p q) = false
+is_built (C.Weak w p) = false
+is_built (C.Read w p) = false
+is_built (C.Push p o) = false
+is_built (C.PushPlain n) = false
+is_built C.Pop = false
+is_built (C.Peek i q) = false
+is_built C.GcStart = false
+is_built (C.GcStep n) = false
+is_built (C.GcFinish want) = false
+is_built (C.Sweep n) = false
+is_built (C.Export p x) = false
+is_built (C.Import x p) = false
+is_built (C.At j order) = false
+is_built C.ThreadsGo = false
+is_built C.ThreadsJoin = false
+
+-- a heap can do the command in this phase: a new object wants all pages swept
+abbrev pub IsBuiltIn : Phase → Command → Type 0
+IsBuiltIn phase (C.New p t e) = phase ≡ Idle
+IsBuiltIn phase command = is_built command ≡ true
+
+-- ---- new objects and sweeps
+
+-- a sweep is open after the command
+abbrev pub opens_sweep : Bool → Command → Bool
+opens_sweep before (C.GcNow want) = true
+opens_sweep before C.SweepAll = false
+opens_sweep before command = before
+
+-- a collection stands among the commands, with no end of its sweep after it
+abbrev pub is_sweep_open : List Command → Bool
+is_sweep_open commands = fold opens_sweep false commands
+
+-- the command can come after those before it: a new object wants that no sweep is open
+abbrev pub is_timely : List Command → Command → Bool
+is_timely before (C.New p t e) = not (is_sweep_open before)
+is_timely before command = true
+
+-- such a command, where it can come
+abbrev pub is_built_after : List Command → Command → Bool
+is_built_after before command = is_built command && is_timely before command
+
+-- each type is built
+abbrev pub AreBuiltTypes : List ObjectType → Type 0
+AreBuiltTypes types = (t : ℕ) (type : ObjectType) → slice_get types t ≡ Some type → is_built_type type ≡ true
+
+-- each command is built, after those before it
+abbrev pub AreBuiltCommands : List Command → Type 0
+AreBuiltCommands commands =
+    (i : ℕ) (command : Command) → slice_get commands i ≡ Some command → is_built_after (take i commands) command ≡ true

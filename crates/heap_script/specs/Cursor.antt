@@ -1,0 +1,34 @@
+-- The words of a line, one after the other, by their places in the bytes.
+use Rattle.std.specs.Prelude.{◌≡◌, ◌⊎◌, ℕ, ◌-◌, ◌<◌, ◌≤◌, List, [], ◌∷◌, length, take, drop, Some, slice_get, slice_index_or}
+use Rattle.gc_graph.specs.Words.{lines_of, words_of}
+
+-- the first line, empty where there is none
+abbrev pub first_line : List ℕ → List ℕ
+first_line bytes = slice_index_or (lines_of bytes) 0 []
+
+-- the words of the first line
+abbrev pub line_words : List ℕ → List (List ℕ)
+line_words bytes = words_of (first_line bytes)
+
+-- the lines after the first
+abbrev pub lines_after : List ℕ → List (List ℕ)
+lines_after bytes = drop 1 (lines_of bytes)
+
+-- the first line, from `from` on, ends at `end`, and other lines follow it
+pub record IsLineEnd (bytes : List ℕ) (from end : ℕ) : Type 0 where
+  pub order : from ≤ end
+  pub within : end ≤ length bytes
+  pub stop : (end ≡ length bytes) ⊎ (slice_get bytes end ≡ Some 10)
+  pub same : lines_after (drop from bytes) ≡ lines_after (drop end bytes)
+
+-- from `from` on, the next word of the line stands from `start` to `end`; the line has none where the two are one, and
+-- ends there
+pub record IsNextWord (bytes : List ℕ) (from start end : ℕ) : Type 0 where
+  pub before : from ≤ start
+  pub order : start ≤ end
+  pub within : end ≤ length bytes
+  pub same : lines_after (drop from bytes) ≡ lines_after (drop end bytes)
+  pub some :
+      start < end
+      → line_words (drop from bytes) ≡ take (end - start) (drop start bytes) ∷ line_words (drop end bytes)
+  pub none : end ≤ start → (line_words (drop from bytes) ≡ []) × IsLineEnd bytes from end
