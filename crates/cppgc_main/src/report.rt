@@ -19,7 +19,7 @@ ghost use Rattle.cppgc_main.specs.Headline.{IsWholeRun, IsCutShort};
 
 use gc_graph::{Command, Line};
 use heap_engine::Heap;
-use heap_script::{Failed, Pieces, Script, Sink, print_line};
+use heap_script::{Failed, Pieces, Script, Sink};
 
 /// Does the commands of the script on a new heap, prints its report, and closes the heap.
 pub(crate) fn print_report<K: Sink>(
@@ -63,7 +63,7 @@ fn print_end<K: Sink>(line: &Line, pieces: &mut Pieces, sink: &mut K) -> Result<
     ensures taken { TookMore (K.written sink.old) (K.written sink.new) }
     ensures cause { HasCause (K.faults sink.old) (K.faults sink.new) result }
 {
-    match print_line(line, pieces, sink) {
+    match pieces.print(line, sink) {
         Ok(()) => pieces.hand_down(sink),
         Err(failed) => Err(failed),
     }
@@ -79,7 +79,7 @@ fn print_types<K: Sink>(types: &[u32], pieces: &mut Pieces, sink: &mut K) -> Res
 {
     for index in 0..types.len() {
         let line = Line::TypeLine { t: index as u32 };
-        match print_line(&line, pieces, sink) {
+        match pieces.print(&line, sink) {
             Ok(()) => {}
             Err(failed) => return Err(failed),
         }
@@ -148,7 +148,7 @@ fn print_outcome<K: Sink>(
     let count = heap.act(command);
     for index in 0..count {
         let line = heap.line(index);
-        match print_line(&line, pieces, sink) {
+        match pieces.print(&line, sink) {
             Ok(()) => {}
             Err(failed) => return Err(failed),
         }

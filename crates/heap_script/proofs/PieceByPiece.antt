@@ -2,7 +2,7 @@
 use Rattle.std.proofs.Common.{◌≡◌, ℕ, ◌+◌, ◌-◌, ◌≤◌, List, [], ◌++◌, length, take, drop, Option, Some, None, refl, sym, ap, ◌∙◌, subst, arith}
 use Rattle.std.proofs.lemmas.List.{take_all, drop-drop, append-nil, append_assoc, take-append-drop, length-append, length-take-le, length-drop}
 use Rattle.std.proofs.Math.Seq.{take-add}
-use Rattle.heap_script.specs.Devices.{Takes, TakesFrom, IsReadFrom, IsReadUpTo, Grew}
+use Rattle.heap_script.specs.Devices.{Takes, TakesFrom, IsReadFrom, IsReadUpTo, Grew, GrewByFront}
 use Rattle.heap_script.specs.Pieces.{PiecesState, with_held, TookMore}
 
 -- one more piece
@@ -73,3 +73,31 @@ pub sent_more : (a b : Option (List ℕ)) (bytes piece : List ℕ) (sent n room 
 sent_more a b bytes piece sent n room is g =
     same_told a b (record { held = drop sent bytes; room = room }) (record { held = drop (sent + n) bytes; room = room }) n
     (subst (λ (p : List ℕ). Grew a b (take n p)) is g) (sym (drop-drop n sent bytes))
+
+-- while a text is written: the sink took what stands before the rest
+pub record TookFront (old now : Option (List ℕ)) (text rest : List ℕ) : Type 0 where
+  pub front : List ℕ
+  pub whole : text ≡ front ++ rest
+  pub grew : Grew old now front
+
+pub took_none : (old : Option (List ℕ)) (text : List ℕ) → TookFront old old text text
+took_none None text = record { front = []; whole = refl; grew = refl }
+took_none (Some old) text = record { front = []; whole = refl; grew = ap Some (sym (append-nil old)) }
+
+pub took_next : (old now after : Option (List ℕ)) (text rest next : List ℕ) (n : ℕ) → TookFront old now text rest
+    → Grew now after (take n rest) → next ≡ drop n rest → TookFront old after text next
+took_next old now after text rest next n f g e = record {
+  front = f.front ++ take n rest;
+  whole =
+      f.whole ∙ ap (λ (r : List ℕ). f.front ++ r) (sym (take-append-drop n rest)) ∙ sym (append_assoc f.front (take n rest) (drop n rest))
+      ∙ ap (λ (r : List ℕ). (f.front ++ take n rest) ++ r) (sym e);
+  grew = Grew-then old now after f.front (take n rest) f.grew g;
+}
+
+pub took_all : (old now : Option (List ℕ)) (text rest : List ℕ) → TookFront old now text rest → rest ≡ [] → Grew old now text
+took_all old now text rest f e =
+    subst (λ (t : List ℕ). Grew old now t)
+    (sym (f.whole ∙ ap (λ (r : List ℕ). f.front ++ r) e ∙ append-nil f.front)) f.grew
+
+pub took_front : (old now : Option (List ℕ)) (text rest : List ℕ) → TookFront old now text rest → GrewByFront old now text
+took_front old now text rest f = (f.front, rest, f.whole, f.grew)

@@ -6,7 +6,8 @@
 //! The parts: `Source` and `Sink` (devices that may fail), `ListSource`, `ListSink`, `SteadySource`
 //! and `SteadySink` (devices in memory), `read_whole` (all that a source has left), `read_script`
 //! (a script's commands, or its first faulty line), `line_count`, `number_below` (the number that a
-//! word is), `Pieces` (text on its way to a sink), `print_line`.
+//! word is), `print_line` (a line, written at once), `Pieces` (text that is held back on its way to a
+//! sink).
 //!
 //! What is proved: a script that is read is what the grammar of `gc_graph` says of its bytes, and a
 //! fault names the first line that is of no built form. What is printed is the text of the report's

@@ -6,23 +6,23 @@ ghost use Rattle.gc_graph.specs.Report.{line_text, line_bytes, refusal_text, don
 ghost use Rattle.gc_graph.specs.Report.{pause_text, totals_text, summary_text};
 
 use super::region_text::{add_entry, add_reply, add_seen};
-use super::text::{Text, add, add_named, add_wide};
+use super::text::{LineText, add, add_named, add_wide};
 use gc_graph::{Line, Refusal};
 
 /// A line with its end, which has fewer than 256 bytes.
-pub(crate) fn add_whole_line(text: &mut Text, line: &Line)
-    requires { length text.old ≤ 65280 }
-    ensures items { text.new ≡ text.old ++ line_bytes line.now }
-    ensures len { length text.new ≤ length text.old + 256 }
+pub(crate) fn add_whole_line(text: &mut LineText, line: &Line)
+    requires { length text.old.items ≤ 55 }
+    ensures items { text.new.items ≡ text.old.items ++ line_bytes line.now }
+    ensures len { length text.new.items ≤ length text.old.items + 256 }
 {
     add_line(text, line);
     add(text, b"\n");
 }
 
-fn add_line(text: &mut Text, line: &Line)
-    requires { length text.old ≤ 65280 }
-    ensures items { text.new ≡ text.old ++ line_text line.now }
-    ensures len { length text.new ≤ length text.old + 200 }
+fn add_line(text: &mut LineText, line: &Line)
+    requires { length text.old.items ≤ 55 }
+    ensures items { text.new.items ≡ text.old.items ++ line_text line.now }
+    ensures len { length text.new.items ≤ length text.old.items + 200 }
 {
     match *line {
         Line::TypeLine { t } => add_named(text, b"type ", t),
@@ -65,19 +65,19 @@ fn add_line(text: &mut Text, line: &Line)
     }
 }
 
-fn add_placed(text: &mut Text, k: u32, a: u32)
-    requires { length text.old ≤ 65280 }
-    ensures items { text.new ≡ text.old ++ line_text (Line.Placed k a) }
-    ensures len { length text.new ≤ length text.old + 200 }
+fn add_placed(text: &mut LineText, k: u32, a: u32)
+    requires { length text.old.items ≤ 55 }
+    ensures items { text.new.items ≡ text.old.items ++ line_text (Line.Placed k a) }
+    ensures len { length text.new.items ≤ length text.old.items + 200 }
 {
     add_named(text, b"node ", k);
     add_named(text, b" at ", a);
 }
 
-fn add_refusal(text: &mut Text, why: Refusal)
-    requires { length text.old ≤ 65280 }
-    ensures items { text.new ≡ text.old ++ (codes "refused " ++ refusal_text why) }
-    ensures len { length text.new ≤ length text.old + 200 }
+fn add_refusal(text: &mut LineText, why: Refusal)
+    requires { length text.old.items ≤ 55 }
+    ensures items { text.new.items ≡ text.old.items ++ (codes "refused " ++ refusal_text why) }
+    ensures len { length text.new.items ≤ length text.old.items + 200 }
 {
     add(text, b"refused ");
     match why {
@@ -90,10 +90,10 @@ fn add_refusal(text: &mut Text, why: Refusal)
     }
 }
 
-fn add_step(text: &mut Text, t: u32, done: bool)
-    requires { length text.old ≤ 65280 }
-    ensures items { text.new ≡ text.old ++ line_text (Line.Step t done) }
-    ensures len { length text.new ≤ length text.old + 200 }
+fn add_step(text: &mut LineText, t: u32, done: bool)
+    requires { length text.old.items ≤ 55 }
+    ensures items { text.new.items ≡ text.old.items ++ line_text (Line.Step t done) }
+    ensures len { length text.new.items ≤ length text.old.items + 200 }
 {
     add_named(text, b"step traced ", t);
     add(text, b" ");
@@ -111,10 +111,10 @@ fn word_of(done: bool) -> &'static [u8]
     }
 }
 
-fn add_pause(text: &mut Text, kept: u32, dead: u32, crew: u32, traced: u32, walked: bool)
-    requires { length text.old ≤ 65280 }
-    ensures items { text.new ≡ text.old ++ pause_text kept dead crew traced walked }
-    ensures len { length text.new ≤ length text.old + 200 }
+fn add_pause(text: &mut LineText, kept: u32, dead: u32, crew: u32, traced: u32, walked: bool)
+    requires { length text.old.items ≤ 55 }
+    ensures items { text.new.items ≡ text.old.items ++ pause_text kept dead crew traced walked }
+    ensures len { length text.new.items ≤ length text.old.items + 200 }
 {
     add_named(text, b"pause kept ", kept);
     add_named(text, b" dead ", dead);
@@ -135,20 +135,20 @@ fn digit_of(walked: bool) -> &'static [u8]
     }
 }
 
-fn add_prefinalise(text: &mut Text, k: u32, c: u32)
-    requires { length text.old ≤ 65280 }
-    ensures items { text.new ≡ text.old ++ line_text (Line.Prefinalise k c) }
-    ensures len { length text.new ≤ length text.old + 200 }
+fn add_prefinalise(text: &mut LineText, k: u32, c: u32)
+    requires { length text.old.items ≤ 55 }
+    ensures items { text.new.items ≡ text.old.items ++ line_text (Line.Prefinalise k c) }
+    ensures len { length text.new.items ≤ length text.old.items + 200 }
 {
     add_named(text, b"prefinalise ", k);
     add_named(text, b" ", c);
 }
 
-fn add_totals(text: &mut Text, name: &[u8], n: u32, u: u32, g: u32)
-    requires room { length text.old ≤ 65280 }
+fn add_totals(text: &mut LineText, name: &[u8], n: u32, u: u32, g: u32)
+    requires room { length text.old.items ≤ 55 }
     requires short { length name.now ≤ 10 }
-    ensures items { text.new ≡ text.old ++ (name.now ++ totals_text n u g) }
-    ensures len { length text.new ≤ length text.old + 200 }
+    ensures items { text.new.items ≡ text.old.items ++ (name.now ++ totals_text n u g) }
+    ensures len { length text.new.items ≤ length text.old.items + 200 }
 {
     add(text, name);
     add_named(text, b"objects ", n);
@@ -156,10 +156,10 @@ fn add_totals(text: &mut Text, name: &[u8], n: u32, u: u32, g: u32)
     add_named(text, b" pages ", g);
 }
 
-fn add_summary(text: &mut Text, c: u64, y: u64, n: u64, u: u64, f: u64, full: u64)
-    requires { length text.old ≤ 65280 }
-    ensures items { text.new ≡ text.old ++ summary_text c y n u f full }
-    ensures len { length text.new ≤ length text.old + 200 }
+fn add_summary(text: &mut LineText, c: u64, y: u64, n: u64, u: u64, f: u64, full: u64)
+    requires { length text.old.items ≤ 55 }
+    ensures items { text.new.items ≡ text.old.items ++ summary_text c y n u f full }
+    ensures len { length text.new.items ≤ length text.old.items + 200 }
 {
     add_wide(text, b"summary commands ", c);
     add_wide(text, b" cycles ", y);

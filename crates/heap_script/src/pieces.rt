@@ -3,11 +3,12 @@
 ghost use Rattle.std.specs.Prelude.{◌≡◌, ◌≤◌, ◌++◌, IfOk, OnOk};
 ghost use Rattle.gc_graph.specs.Report.{line_bytes};
 ghost use Rattle.heap_script.specs.Causes.{HasCause};
+ghost use Rattle.heap_script.specs.Devices.{Writes};
 ghost use Rattle.heap_script.specs.Pieces.{no_pieces, with_held, TookMore};
 
 use super::devices::{Failed, PIECE, Sink};
 use super::line_text::add_whole_line;
-use super::text::Text;
+use super::text::LineText;
 use gc_graph::{Line, NoMemory};
 use std::alloc::Global;
 use std::marker::Model;
@@ -19,22 +20,23 @@ const LONGEST: usize = 256;
 /// the first byte that the sink didn't take.
 #[derive(Drop)]
 pub struct Pieces {
-    text: Text,
+    text: Vec<u8>,
     sent: usize,
 }
 
 impl Model for Pieces {
-    ghost use Rattle.std.specs.Prelude.{◌≤◌, ◌-◌, drop, length};
+    ghost use Rattle.std.specs.Prelude.{◌≤◌, ◌-◌, drop, length, vec_capacity};
     ghost use Rattle.heap_script.specs.Pieces.{PiecesState};
 
     ghost Value = { PiecesState };
 
     ghost view = { λ s. record {
-      held = drop s.sent s.text;
-      room = 65536 - length s.text;
+      held = drop s.sent s.text.items;
+      room = 65536 - length s.text.items;
     } };
 
-    ghost invariant = { λ s. s.sent ≤ length s.text };
+    ghost invariant = { λ s. (s.sent ≤ length s.text.items)
+        × (length s.text.items ≤ 65536) × (65536 ≤ vec_capacity s.text) };
 }
 
 impl Pieces {
@@ -42,7 +44,7 @@ impl Pieces {
     pub fn new(alloc: Global) -> Result<Pieces, NoMemory>
         ensures { IfOk result (λ pieces. pieces ≡ no_pieces) }
     {
-        match Text::new(alloc) {
+        match Vec::with_capacity(alloc, PIECE) {
             Ok(text) => Ok(Pieces { text, sent: 0 }),
             Err(_) => Err(NoMemory),
         }
@@ -70,7 +72,7 @@ impl Pieces {
 
     /// Hands down what is held where another line may have no room.
     #[tactic(auto, using(crate::proofs::PieceByPiece::none_taken))]
-    pub(crate) fn make_room<K: Sink>(&mut self, sink: &mut K) -> Result<(), Failed>
+    fn make_room<K: Sink>(&mut self, sink: &mut K) -> Result<(), Failed>
         ensures told { with_held (K.written sink.new) self.new
             ≡ with_held (K.written sink.old) self.old }
         ensures room { OnOk result (256 ≤ self.new.room) }
@@ -83,10 +85,30 @@ impl Pieces {
         self.hand_down(sink)
     }
 
-    pub(crate) fn keep(&mut self, line: &Line)
+    fn keep(&mut self, line: &Line)
         requires { 256 ≤ self.old.room }
         ensures { self.new.held ≡ self.old.held ++ line_bytes line.now }
     {
-        add_whole_line(&mut self.text, line);
+        let mut text = LineText::new();
+        add_whole_line(&mut text, line);
+        match self.text.extend_from_slice(text.as_slice()) {
+            Ok(()) => {}
+            Err(_) => unreachable!(),
+        }
+    }
+
+    /// Puts a line with its end after the text that is held back for the sink.
+    pub fn print<K: Sink>(&mut self, line: &Line, sink: &mut K) -> Result<(), Failed>
+        ensures bytes { Writes (with_held (K.written sink.old) self.old)
+            (with_held (K.written sink.new) self.new) (line_bytes line.now) result }
+        ensures taken { TookMore (K.written sink.old) (K.written sink.new) }
+        ensures cause { HasCause (K.faults sink.old) (K.faults sink.new) result }
+    {
+        match self.make_room(sink) {
+            Ok(()) => {}
+            Err(failed) => return Err(failed),
+        }
+        self.keep(line);
+        Ok(())
     }
 }

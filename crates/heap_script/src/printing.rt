@@ -1,25 +1,35 @@
-// A report's lines as text.
+// A report's lines, written one by one.
 
 ghost use Rattle.gc_graph.specs.Report.{line_bytes};
 ghost use Rattle.heap_script.specs.Causes.{HasCause};
 ghost use Rattle.heap_script.specs.Devices.{Writes};
-ghost use Rattle.heap_script.specs.Pieces.{with_held, TookMore};
 
 use super::devices::{Failed, Sink};
-use super::pieces::Pieces;
+use super::line_text::add_whole_line;
+use super::text::LineText;
 use gc_graph::Line;
 
-/// Puts a line with its end after the text that is held back for the sink.
-pub fn print_line<K: Sink>(line: &Line, pieces: &mut Pieces, sink: &mut K) -> Result<(), Failed>
-    ensures bytes { Writes (with_held (K.written sink.old) pieces.old)
-        (with_held (K.written sink.new) pieces.new) (line_bytes line.now) result }
-    ensures taken { TookMore (K.written sink.old) (K.written sink.new) }
+/// Writes a line with its end. After a failure a beginning of it was written.
+pub fn print_line<K: Sink>(line: &Line, sink: &mut K) -> Result<(), Failed>
+    ensures bytes { Writes (K.written sink.old) (K.written sink.new) (line_bytes line.now) result }
     ensures cause { HasCause (K.faults sink.old) (K.faults sink.new) result }
 {
-    match pieces.make_room(sink) {
-        Ok(()) => {}
-        Err(failed) => return Err(failed),
+    let mut text = LineText::new();
+    add_whole_line(&mut text, line);
+    write_all(text.as_slice(), sink)
+}
+
+#[tactic(auto, using(crate::proofs::PieceByPiece::took_none, crate::proofs::PieceByPiece::took_all, crate::proofs::PieceByPiece::took_front))]
+fn write_all<K: Sink>(text: &[u8], sink: &mut K) -> Result<(), Failed>
+    ensures bytes { Writes (K.written sink.old) (K.written sink.new) text.now result }
+    ensures cause { HasCause (K.faults sink.old) (K.faults sink.new) result }
+{
+    let mut rest = text;
+    while !rest.is_empty() {
+        match sink.write(rest) {
+            Ok(count) => rest = &rest[count..],
+            Err(failed) => return Err(failed),
+        }
     }
-    pieces.keep(line);
     Ok(())
 }

@@ -125,16 +125,25 @@ fn held_text_goes_on_after_a_failed_write(rt: HostRuntime) -> Result<(), Fail> {
     let mut sink = ListSink::new(alloc, 4, Vec::from_slice(alloc, &[2])?);
     sink.reserve(8)?;
     let mut pieces = Pieces::new(alloc)?;
-    print_line(&Line::Null, &mut pieces, &mut sink)?;
+    pieces.print(&Line::Null, &mut sink)?;
     assert_eq!(rt; sink.bytes(), b"".as_slice());
     assert!(rt; pieces.hand_down(&mut sink).is_err());
     assert_eq!(rt; sink.bytes(), b"null".as_slice());
-    print_line(&Line::Fine, &mut pieces, &mut sink)?;
+    pieces.print(&Line::Fine, &mut sink)?;
     pieces.hand_down(&mut sink)?;
     assert_eq!(rt; sink.bytes(), b"null\nok\n".as_slice());
-    print_line(&Line::Full, &mut pieces, &mut sink)?;
+    pieces.print(&Line::Full, &mut sink)?;
     assert!(rt; pieces.hand_down(&mut sink).is_err());
     assert_eq!(rt; sink.bytes(), b"null\nok\n".as_slice());
     pieces.hand_down(&mut SteadySink::new())?;
+    Ok(())
+}
+
+#[test]
+fn line_without_room_is_cut(rt: HostRuntime) -> Result<(), Fail> {
+    let mut sink = ListSink::new(rt.alloc(), 2, Vec::from_slice(rt.alloc(), &[3])?);
+    sink.reserve(8)?;
+    assert!(rt; print_line(&Line::Null, &mut sink).is_err());
+    assert_eq!(rt; sink.bytes(), b"null".as_slice());
     Ok(())
 }

@@ -145,16 +145,22 @@ fn printed(
     wanted: &[u8],
 ) -> Result<bool, Fail> {
     let before = sink.bytes().len();
-    print_line(line, pieces, sink)?;
+    pieces.print(line, sink)?;
     let is_held = sink.bytes().len() == before;
     pieces.hand_down(sink)?;
-    Ok(is_held && sink.bytes().get(before..).unwrap_or(b"") == wanted)
+    let held = sink.bytes().len();
+    print_line(line, sink)?;
+    Ok(
+        is_held
+            && sink.bytes().get(before..held).unwrap_or(b"") == wanted
+            && sink.bytes().get(held..).unwrap_or(b"") == wanted,
+    )
 }
 
 #[test]
 fn report_lines_are_printed(rt: HostRuntime) -> Result<(), Fail> {
     let mut sink = ListSink::new(rt.alloc(), 5, Vec::new(rt.alloc()));
-    sink.reserve(2000)?;
+    sink.reserve(4000)?;
     let mut pieces = Pieces::new(rt.alloc())?;
     for (line, wanted) in ANSWERS {
         assert!(rt;

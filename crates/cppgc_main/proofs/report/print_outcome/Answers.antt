@@ -18,10 +18,10 @@ loop-index-preserved g c =
     record {
       same = search rules;
       steady = search rules;
-      taken = taken_on _ _ _ c.loop-index.invariant.taken c.print_line.ensures.taken;
+      taken = taken_on _ _ _ c.loop-index.invariant.taken c.print.ensures.taken;
       printed = line_more (with_held (g.K.Sink.written c.args.sink.now) c.args.pieces.now) (with_held (g.K.Sink.written c.loop-index.sink) c.loop-index.pieces)
-          (with_held (g.K.Sink.written c.print_line.new.sink) c.print_line.new.pieces) c.act-count.new.self.lines c.loop-index.index _ c.line-line.result at refl c.loop-index.invariant.printed c.in-Ok.ensures.bytes;
+          (with_held (g.K.Sink.written c.print.new.sink) c.print.new.self) c.act-count.new.self.lines c.loop-index.index _ c.line-line.result at refl c.loop-index.invariant.printed c.in-Ok.ensures.bytes;
     }
 
 pub returns-in-Err-clause-taken : goal.returns-in-Err-clause-taken
-returns-in-Err-clause-taken g c = taken_on _ _ _ c.loop-index.invariant.taken c.print_line.ensures.taken
+returns-in-Err-clause-taken g c = taken_on _ _ _ c.loop-index.invariant.taken c.print.ensures.taken

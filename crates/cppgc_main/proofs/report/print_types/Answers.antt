@@ -17,7 +17,7 @@ loop-index-preserved g c =
     let low : c.loop-index.index < length c.args.types.now = search rules in
     record {
       steady = search rules;
-      taken = taken_on _ _ _ c.loop-index.invariant.taken c.print_line.ensures.taken;
+      taken = taken_on _ _ _ c.loop-index.invariant.taken c.print.ensures.taken;
       printed = line_more _ _ _ (type_lines 0 c.args.types.now) c.loop-index.index _ (L.TypeLine c.loop-index.index)
           (type_line_at c.args.types.now c.loop-index.index 0 c.loop-index.index low (omega arith)) refl c.loop-index.invariant.printed c.in-Ok.ensures.bytes;
     }
@@ -29,4 +29,4 @@ returns-clause-bytes g c =
     lines_whole _ _ (type_lines 0 c.args.types.now) c.loop-index.index end c.loop-index.invariant.printed
 
 pub returns-in-Err-clause-taken : goal.returns-in-Err-clause-taken
-returns-in-Err-clause-taken g c = taken_on _ _ _ c.loop-index.invariant.taken c.print_line.ensures.taken
+returns-in-Err-clause-taken g c = taken_on _ _ _ c.loop-index.invariant.taken c.print.ensures.taken
