@@ -6,35 +6,35 @@ ghost use Rattle.gc_graph.specs.Report.{line_text, line_bytes, refusal_text, don
 ghost use Rattle.gc_graph.specs.Report.{pause_text, totals_text, summary_text};
 
 use super::region_text::{add_entry, add_reply, add_seen};
-use super::text::{LineText, add, add_named, add_wide};
+use super::text::{TextBuffer, add_named, add_wide};
 use gc_graph::{Line, Refusal};
 
 /// A line with its end, which has fewer than 256 bytes.
-pub(crate) fn add_whole_line(text: &mut LineText, line: &Line)
-    requires { length text.old.items ≤ 55 }
-    ensures items { text.new.items ≡ text.old.items ++ line_bytes line.now }
-    ensures len { length text.new.items ≤ length text.old.items + 256 }
+pub(crate) fn add_whole_line<B: TextBuffer>(text: &mut B, line: &Line)
+    requires { 256 ≤ B.room text.old }
+    ensures items { B.held text.new ≡ B.held text.old ++ line_bytes line.now }
+    ensures room { B.room text.old ≤ B.room text.new + 256 }
 {
     add_line(text, line);
-    add(text, b"\n");
+    text.add(b"\n");
 }
 
-fn add_line(text: &mut LineText, line: &Line)
-    requires { length text.old.items ≤ 55 }
-    ensures items { text.new.items ≡ text.old.items ++ line_text line.now }
-    ensures len { length text.new.items ≤ length text.old.items + 200 }
+fn add_line<B: TextBuffer>(text: &mut B, line: &Line)
+    requires { 200 ≤ B.room text.old }
+    ensures items { B.held text.new ≡ B.held text.old ++ line_text line.now }
+    ensures room { B.room text.old ≤ B.room text.new + 200 }
 {
     match *line {
         Line::TypeLine { t } => add_named(text, b"type ", t),
         Line::Placed { k, a } => add_placed(text, k, a),
-        Line::Full => add(text, b"full"),
-        Line::Memory => add(text, b"memory"),
+        Line::Full => text.add(b"full"),
+        Line::Memory => text.add(b"memory"),
         Line::Refused(why) => add_refusal(text, why),
-        Line::Fine => add(text, b"ok"),
+        Line::Fine => text.add(b"ok"),
         Line::Node { k } => add_named(text, b"node ", k),
-        Line::Null => add(text, b"null"),
+        Line::Null => text.add(b"null"),
         Line::Word { n } => add_wide(text, b"word ", n),
-        Line::Started => add(text, b"started"),
+        Line::Started => text.add(b"started"),
         Line::Step { t, done } => add_step(text, t, done),
         Line::Pause {
             kept,
@@ -47,7 +47,7 @@ fn add_line(text: &mut LineText, line: &Line)
         Line::Finalise { k } => add_named(text, b"finalise ", k),
         Line::Swept { c } => add_named(text, b"swept to ", c),
         Line::Objects { n, u, g } => add_totals(text, b"", n, u, g),
-        Line::Queued => add(text, b"queued"),
+        Line::Queued => text.add(b"queued"),
         Line::Going { m } => add_named(text, b"going ", m),
         Line::Reply { j, reply } => add_reply(text, j, reply),
         Line::ReplyTotals { j, o, n, u, f } => add_seen(text, j, o, n, u, f),
@@ -65,39 +65,39 @@ fn add_line(text: &mut LineText, line: &Line)
     }
 }
 
-fn add_placed(text: &mut LineText, k: u32, a: u32)
-    requires { length text.old.items ≤ 55 }
-    ensures items { text.new.items ≡ text.old.items ++ line_text (Line.Placed k a) }
-    ensures len { length text.new.items ≤ length text.old.items + 200 }
+fn add_placed<B: TextBuffer>(text: &mut B, k: u32, a: u32)
+    requires { 200 ≤ B.room text.old }
+    ensures items { B.held text.new ≡ B.held text.old ++ line_text (Line.Placed k a) }
+    ensures room { B.room text.old ≤ B.room text.new + 200 }
 {
     add_named(text, b"node ", k);
     add_named(text, b" at ", a);
 }
 
-fn add_refusal(text: &mut LineText, why: Refusal)
-    requires { length text.old.items ≤ 55 }
-    ensures items { text.new.items ≡ text.old.items ++ (codes "refused " ++ refusal_text why) }
-    ensures len { length text.new.items ≤ length text.old.items + 200 }
+fn add_refusal<B: TextBuffer>(text: &mut B, why: Refusal)
+    requires { 200 ≤ B.room text.old }
+    ensures items { B.held text.new ≡ B.held text.old ++ (codes "refused " ++ refusal_text why) }
+    ensures room { B.room text.old ≤ B.room text.new + 200 }
 {
-    add(text, b"refused ");
+    text.add(b"refused ");
     match why {
-        Refusal::Phase => add(text, b"phase"),
-        Refusal::Null => add(text, b"null"),
-        Refusal::Field => add(text, b"field"),
-        Refusal::Kind => add(text, b"kind"),
-        Refusal::Stack => add(text, b"stack"),
-        Refusal::Empty => add(text, b"empty"),
+        Refusal::Phase => text.add(b"phase"),
+        Refusal::Null => text.add(b"null"),
+        Refusal::Field => text.add(b"field"),
+        Refusal::Kind => text.add(b"kind"),
+        Refusal::Stack => text.add(b"stack"),
+        Refusal::Empty => text.add(b"empty"),
     }
 }
 
-fn add_step(text: &mut LineText, t: u32, done: bool)
-    requires { length text.old.items ≤ 55 }
-    ensures items { text.new.items ≡ text.old.items ++ line_text (Line.Step t done) }
-    ensures len { length text.new.items ≤ length text.old.items + 200 }
+fn add_step<B: TextBuffer>(text: &mut B, t: u32, done: bool)
+    requires { 200 ≤ B.room text.old }
+    ensures items { B.held text.new ≡ B.held text.old ++ line_text (Line.Step t done) }
+    ensures room { B.room text.old ≤ B.room text.new + 200 }
 {
     add_named(text, b"step traced ", t);
-    add(text, b" ");
-    add(text, word_of(done));
+    text.add(b" ");
+    text.add(word_of(done));
 }
 
 fn word_of(done: bool) -> &'static [u8]
@@ -111,17 +111,24 @@ fn word_of(done: bool) -> &'static [u8]
     }
 }
 
-fn add_pause(text: &mut LineText, kept: u32, dead: u32, crew: u32, traced: u32, walked: bool)
-    requires { length text.old.items ≤ 55 }
-    ensures items { text.new.items ≡ text.old.items ++ pause_text kept dead crew traced walked }
-    ensures len { length text.new.items ≤ length text.old.items + 200 }
+fn add_pause<B: TextBuffer>(
+    text: &mut B,
+    kept: u32,
+    dead: u32,
+    crew: u32,
+    traced: u32,
+    walked: bool,
+)
+    requires { 200 ≤ B.room text.old }
+    ensures items { B.held text.new ≡ B.held text.old ++ pause_text kept dead crew traced walked }
+    ensures room { B.room text.old ≤ B.room text.new + 200 }
 {
     add_named(text, b"pause kept ", kept);
     add_named(text, b" dead ", dead);
     add_named(text, b" crew ", crew);
     add_named(text, b" traced ", traced);
-    add(text, b" walked ");
-    add(text, digit_of(walked));
+    text.add(b" walked ");
+    text.add(digit_of(walked));
 }
 
 fn digit_of(walked: bool) -> &'static [u8]
@@ -135,31 +142,31 @@ fn digit_of(walked: bool) -> &'static [u8]
     }
 }
 
-fn add_prefinalise(text: &mut LineText, k: u32, c: u32)
-    requires { length text.old.items ≤ 55 }
-    ensures items { text.new.items ≡ text.old.items ++ line_text (Line.Prefinalise k c) }
-    ensures len { length text.new.items ≤ length text.old.items + 200 }
+fn add_prefinalise<B: TextBuffer>(text: &mut B, k: u32, c: u32)
+    requires { 200 ≤ B.room text.old }
+    ensures items { B.held text.new ≡ B.held text.old ++ line_text (Line.Prefinalise k c) }
+    ensures room { B.room text.old ≤ B.room text.new + 200 }
 {
     add_named(text, b"prefinalise ", k);
     add_named(text, b" ", c);
 }
 
-fn add_totals(text: &mut LineText, name: &[u8], n: u32, u: u32, g: u32)
-    requires room { length text.old.items ≤ 55 }
+fn add_totals<B: TextBuffer>(text: &mut B, name: &[u8], n: u32, u: u32, g: u32)
+    requires room { 200 ≤ B.room text.old }
     requires short { length name.now ≤ 10 }
-    ensures items { text.new.items ≡ text.old.items ++ (name.now ++ totals_text n u g) }
-    ensures len { length text.new.items ≤ length text.old.items + 200 }
+    ensures items { B.held text.new ≡ B.held text.old ++ (name.now ++ totals_text n u g) }
+    ensures room { B.room text.old ≤ B.room text.new + 200 }
 {
-    add(text, name);
+    text.add(name);
     add_named(text, b"objects ", n);
     add_named(text, b" used ", u);
     add_named(text, b" pages ", g);
 }
 
-fn add_summary(text: &mut LineText, c: u64, y: u64, n: u64, u: u64, f: u64, full: u64)
-    requires { length text.old.items ≤ 55 }
-    ensures items { text.new.items ≡ text.old.items ++ summary_text c y n u f full }
-    ensures len { length text.new.items ≤ length text.old.items + 200 }
+fn add_summary<B: TextBuffer>(text: &mut B, c: u64, y: u64, n: u64, u: u64, f: u64, full: u64)
+    requires { 200 ≤ B.room text.old }
+    ensures items { B.held text.new ≡ B.held text.old ++ summary_text c y n u f full }
+    ensures room { B.room text.old ≤ B.room text.new + 200 }
 {
     add_wide(text, b"summary commands ", c);
     add_wide(text, b" cycles ", y);

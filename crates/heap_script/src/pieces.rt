@@ -8,7 +8,7 @@ ghost use Rattle.heap_script.specs.Pieces.{no_pieces, with_held, TookMore};
 
 use super::devices::{Failed, PIECE, Sink};
 use super::line_text::add_whole_line;
-use super::text::LineText;
+use super::text::PieceText;
 use gc_graph::{Line, NoMemory};
 use std::alloc::Global;
 use std::marker::Model;
@@ -20,23 +20,22 @@ const LONGEST: usize = 256;
 /// the first byte that the sink didn't take.
 #[derive(Drop)]
 pub struct Pieces {
-    text: Vec<u8>,
+    text: PieceText,
     sent: usize,
 }
 
 impl Model for Pieces {
-    ghost use Rattle.std.specs.Prelude.{◌≤◌, ◌-◌, drop, length, vec_capacity};
+    ghost use Rattle.std.specs.Prelude.{◌≤◌, ◌-◌, drop, length};
     ghost use Rattle.heap_script.specs.Pieces.{PiecesState};
 
     ghost Value = { PiecesState };
 
     ghost view = { λ s. record {
-      held = drop s.sent s.text.items;
-      room = 65536 - length s.text.items;
+      held = drop s.sent s.text;
+      room = 65536 - length s.text;
     } };
 
-    ghost invariant = { λ s. (s.sent ≤ length s.text.items)
-        × (length s.text.items ≤ 65536) × (65536 ≤ vec_capacity s.text) };
+    ghost invariant = { λ s. s.sent ≤ length s.text };
 }
 
 impl Pieces {
@@ -44,7 +43,7 @@ impl Pieces {
     pub fn new(alloc: Global) -> Result<Pieces, NoMemory>
         ensures { IfOk result (λ pieces. pieces ≡ no_pieces) }
     {
-        match Vec::with_capacity(alloc, PIECE) {
+        match PieceText::new(alloc) {
             Ok(text) => Ok(Pieces { text, sent: 0 }),
             Err(_) => Err(NoMemory),
         }
@@ -89,12 +88,7 @@ impl Pieces {
         requires { 256 ≤ self.old.room }
         ensures { self.new.held ≡ self.old.held ++ line_bytes line.now }
     {
-        let mut text = LineText::new();
-        add_whole_line(&mut text, line);
-        match self.text.extend_from_slice(text.as_slice()) {
-            Ok(()) => {}
-            Err(_) => unreachable!(),
-        }
+        add_whole_line(&mut self.text, line);
     }
 
     /// Puts a line with its end after the text that is held back for the sink.

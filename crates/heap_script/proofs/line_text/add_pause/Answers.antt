@@ -3,7 +3,7 @@ use Rattle.std.proofs.lemmas.List.{append_assoc}
 use Rattle.heap_script.proofs.line_text.add_pause.Goals as goal
 
 pub returns-clause-items : goal.returns-clause-items
-returns-clause-items c =
+returns-clause-items g c =
     simp (
       c.add-2.ensures.items,
       c.digit_of.ensures.value,

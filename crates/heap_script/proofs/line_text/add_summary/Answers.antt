@@ -3,7 +3,7 @@ use Rattle.std.proofs.lemmas.List.{append_assoc}
 use Rattle.heap_script.proofs.line_text.add_summary.Goals as goal
 
 pub returns-clause-items : goal.returns-clause-items
-returns-clause-items c =
+returns-clause-items g c =
     simp (
       c.add_wide-6.ensures.items,
       c.add_wide-5.ensures.items,

@@ -7,10 +7,8 @@ use Rattle.heap_script.proofs.pieces.Pieces.hand_down.Goals as goal
 pub loop-self-preserved : goal.loop-self-preserved
 loop-self-preserved g c = record {
   within = grind (arith, common_steps);
-  few = search rules;
-  room = search rules;
-  told = sent_more _ _ c.loop-self.self-inside.text.items _ c.loop-self.self-inside.sent c.in-Ok.count _
-      (rw c.as_slice-in-loop-self.ensures.value (take_rest c.loop-self.self-inside.text.items c.loop-self.self-inside.sent)) c.in-Ok.ensures.bytes.2
+  told = sent_more _ _ c.loop-self.self-inside.text _ c.loop-self.self-inside.sent c.in-Ok.count _
+      (rw c.as_slice-in-loop-self.ensures.value (take_rest c.loop-self.self-inside.text c.loop-self.self-inside.sent)) c.in-Ok.ensures.bytes.2
       ∙ c.loop-self.invariant.told;
   taken = taken_more _ _ _ _ c.loop-self.invariant.taken c.in-Ok.ensures.bytes.2;
   steady = search rules;
