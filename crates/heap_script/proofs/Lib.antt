@@ -1,14 +1,2 @@
-pub mod CommandsAgree
-pub mod Cutting
-pub mod FormsAgree
-pub mod KeptFacts
-pub mod LineKinds
-pub mod LinesBefore
-pub mod MoreLines
 pub mod PieceByPiece
-pub mod Progress
-pub mod Ranges
-pub mod TypeLines
-pub mod TypesAgree
 pub mod Values
-pub mod WholeGrammar

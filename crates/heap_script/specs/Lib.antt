@@ -1,11 +1,6 @@
-pub mod Built
-pub mod Cuts
 pub mod Causes
 pub mod Devices
 pub mod ListDevices
-pub mod Past
 pub mod Pieces
-pub mod Words
-pub mod Faults
 pub mod Cursor
 pub mod Scripts

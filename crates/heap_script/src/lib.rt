@@ -18,11 +18,8 @@
 //! and how long a call takes.
 #![tactic(auto)]
 
-mod commands;
-mod cuts;
 mod devices;
 mod line_text;
-mod lines;
 mod list_devices;
 mod numbers;
 mod pieces;
@@ -34,16 +31,13 @@ mod steady_devices;
 #[cfg(test)]
 mod tests;
 mod text;
-mod types;
-mod words;
 
 pub use devices::{Failed, Sink, Source};
 pub use gc_graph::NoMemory;
-pub use lines::line_count;
 pub use list_devices::{ListSink, ListSource};
 pub use numbers::number_below;
 pub use pieces::Pieces;
 pub use printing::print_line;
 pub use reading::{ReadError, read_whole};
-pub use script::{Script, ScriptFault, read_script};
+pub use script::{Script, ScriptFault, read_built, read_script};
 pub use steady_devices::{SteadySink, SteadySource};
