@@ -56,3 +56,7 @@ mod CycleNumbers
 mod ThreadNumbers
 mod RunNumbers
 mod Scripts
+mod SaidNumbers
+mod AllowedForms
+mod SaidWords
+mod ScriptRanges

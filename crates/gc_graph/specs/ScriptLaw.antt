@@ -1,5 +1,6 @@
 -- The law of the grammar.
-use Rattle.std.specs.Prelude.{◌≡◌, ◌⊎◌, ℕ, List}
+use Rattle.std.specs.Prelude.{◌≡◌, ◌⊎◌, ℕ, ◌<◌, ◌≤◌, List, length, All}
+use Rattle.gc_graph.specs.Lawful.{IsAllowed}
 use Rattle.gc_graph.specs.Script.{Script, IsScript, IsFault}
 
 -- the bytes are a script, or some line of them is faulty
@@ -20,3 +21,17 @@ pub record IsJudged (callbacks : ℕ) (bytes : List ℕ) : Type 0 where
 -- so it is for each text of bytes
 abbrev pub TextsAreJudged : Type 0
 TextsAreJudged = (callbacks : ℕ) (bytes : List ℕ) → IsJudged callbacks bytes
+
+-- ---- what a script says is never too much for a heap
+
+-- few types of few fields, whose prefinalizers are callbacks, and few commands, whose numbers are in their ranges
+pub record IsInRanges (callbacks : ℕ) (script : Script) : Type 0 where
+  pub sorts : length script.types ≤ 16383
+  pub narrow : All (λ type. length type.kinds ≤ 64) script.types
+  pub known : All (λ type. All (λ number. number < callbacks) type.prefinalizers) script.types
+  pub allowed : All (IsAllowed (length script.types)) script.commands
+  pub few : length script.commands ≤ 1000000
+
+-- so it is for each script
+abbrev pub ScriptsAreInRanges : Type 0
+ScriptsAreInRanges = (callbacks : ℕ) (bytes : List ℕ) (script : Script) → IsScript callbacks bytes script → IsInRanges callbacks script

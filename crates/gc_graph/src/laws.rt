@@ -5,7 +5,7 @@ ghost use Rattle.gc_graph.specs.MayLaw.{StartsHaveStarted, CollectionsHaveStarte
 ghost use Rattle.gc_graph.specs.PlacementLaw.{PagesHaveOneBucket, PlacementIsFree, SweepsFinaliseDead};
 ghost use Rattle.gc_graph.specs.ReadBack.{LinesReadBack, ReportReadsBack};
 ghost use Rattle.gc_graph.specs.RefusalLaw.{RefusedLeavesAll, MemoryLeavesAll, FullLeavesRest};
-ghost use Rattle.gc_graph.specs.ScriptLaw.{TextsAreJudged};
+ghost use Rattle.gc_graph.specs.ScriptLaw.{TextsAreJudged, ScriptsAreInRanges};
 ghost use Rattle.gc_graph.specs.ValidLaw.{EmptyIsValid, StepKeepsValid};
 
 /// A heap without objects is valid.
@@ -93,4 +93,10 @@ pub fn report_reads_back<T>()
 /// Each text of bytes is one script, or has exactly one fault, and never both.
 pub fn texts_are_judged()
     ensures { TextsAreJudged }
+{}
+
+/// What a script says is never too much for a heap: few types of few fields, and few commands whose
+/// numbers are in their ranges.
+pub fn scripts_are_in_ranges()
+    ensures { ScriptsAreInRanges }
 {}

@@ -1,0 +1,173 @@
+-- What a script says is within the ranges that a heap wants.
+use Rattle.std.proofs.Common.{◌≡◌, ◌⊎◌, ℕ, zero, suc, ◌+◌, ◌<◌, ◌≤◌, ◌&&◌, Bool, true, false, cond, List, [], ◌∷◌, length, take, drop, get_or, All, Option, Some, None, refl, sym, ap, ◌∙◌, subst, inl, inr, arith}
+use Rattle.std.specs.Prelude.{codes, count_by, is_some, ◌==◌}
+use Rattle.std.specs.List.{list_all, filter_map}
+use Rattle.std.specs.Cmp.Lexicographic.{bytes_decides, pointwise}
+use Rattle.std.proofs.lemmas.Bool.{and_parts, and_right, true≢false, eqb-true, cases_lt}
+use Rattle.std.proofs.lemmas.Option.{none-some}
+use Rattle.std.proofs.lemmas.List.{take_all}
+use Rattle.std.proofs.lemmas.List.Elements.{All-nil, All-cons}
+use Rattle.std.proofs.lemmas.List.Sums.{sum_by-cons, sum_by-take-le, count_by_more_yes, count_by_more_no}
+use Rattle.gc_graph.specs.declared.command.Command.{Command}
+use Rattle.gc_graph.specs.State.{ObjectType}
+use Rattle.gc_graph.specs.Lawful.{IsAllowed}
+use Rattle.gc_graph.specs.Words.{lines_of, words_of, is_text, is_blank}
+use Rattle.gc_graph.specs.Reasons.{Reason, first_is, reason_of_words, command_of_words, type_of_words}
+use Rattle.gc_graph.specs.Reasons.Reason.{Header}
+use Rattle.gc_graph.specs.Script.{is_header, is_type, bounds_after, reason_by_order, reason_at, Script}
+use Rattle.gc_graph.specs.ScriptLaw.{IsInRanges, ScriptsAreInRanges}
+use Rattle.gc_graph.proofs.SaidWords.{AreFaultless, faultless, command_allowed, IsGoodType, type_is_good, type_lines_say, room_for_type}
+
+-- ---- lists
+
+cons_length : {T : Type 0} (h : List ℕ → Option T) (x : List ℕ) (xs : List (List ℕ)) (o : Option T) (p : Bool) (n : ℕ) → h x ≡ o → p ≡ is_some o
+    → length (filter_map h xs) ≡ n → length (filter_map h (x ∷ xs)) ≡ cond p 1 0 + n
+cons_length h x xs None p n at is same = rw (at, is) (omega (arith, same))
+cons_length h x xs (Some y) p n at is same = rw (at, is) (omega (arith, same))
+
+-- as many are kept as pass
+kept_count : {T : Type 0} (p : List ℕ → Bool) (h : List ℕ → Option T) (xs : List (List ℕ))
+    → ((i : ℕ) → i < length xs → p (get_or xs i []) ≡ is_some (h (get_or xs i []))) → length (filter_map h xs) ≡ count_by p xs
+kept_count p h [] same = refl
+kept_count p h (x ∷ xs) same =
+    cons_length h x xs (h x) (p x) (count_by p xs) refl (same 0 (omega arith)) (kept_count p h xs (λ i low. same (suc i) (omega arith)))
+    ∙ sym (sum_by-cons (λ y. cond (p y) 1 0) x xs)
+
+kept_few : {T : Type 0} (h : List ℕ → Option T) (xs : List (List ℕ)) → length (filter_map h xs) ≤ length xs
+kept_few h [] = omega arith
+kept_few h (x ∷ xs) = one_more (h x) refl (kept_few h xs) where
+  one_more : (o : Option _) → h x ≡ o → length (filter_map h xs) ≤ length xs → length (filter_map h (x ∷ xs)) ≤ suc (length xs)
+  one_more None at low = rw at (omega (arith, low))
+  one_more (Some y) at low = rw at (omega (arith, low))
+
+kept_all : {T : Type 0} (P : T → Type 0) (h : List ℕ → Option T) (xs : List (List ℕ))
+    → ((i : ℕ) → i < length xs → (y : T) → h (get_or xs i []) ≡ Some y → P y) → All P (filter_map h xs)
+kept_all P h [] each = All-nil P
+kept_all P h (x ∷ xs) each = one_more (h x) refl (each 0 (omega arith)) (kept_all P h xs (λ i low. each (suc i) (omega arith))) where
+  one_more : (o : Option _) → h x ≡ o → ((y : _) → h x ≡ Some y → P y) → All P (filter_map h xs) → All P (filter_map h (x ∷ xs))
+  one_more None at here all = rw at all
+  one_more (Some y) at here all = rw at (All-cons P y (filter_map h xs) (here y at) all)
+
+-- ---- the header
+
+pair_words : (first second : List ℕ) (words : List (List ℕ)) → pointwise is_text words (first ∷ second ∷ []) ≡ true → words ≡ first ∷ second ∷ []
+pair_words first second [] e = absurd (true≢false (sym e))
+pair_words first second (x ∷ []) e = absurd (true≢false (sym e ∙ and_right (is_text x first) false refl))
+pair_words first second (x ∷ y ∷ []) e =
+    let parts = and_parts (is_text x first) (is_text y second && true) e in
+    let more = and_parts (is_text y second) true parts.1 in
+    ap (λ w. w ∷ y ∷ []) ((bytes_decides x first).0 parts.0) ∙ ap (λ w. first ∷ w ∷ []) ((bytes_decides y second).0 more.0)
+pair_words first second (x ∷ y ∷ z ∷ words) e =
+    absurd (true≢false (sym e ∙ and_right (is_text x first) (is_text y second && false) (and_right (is_text y second) false refl)))
+
+header_says_nothing : (line : List ℕ) → is_header line ≡ true → (command_of_words (words_of line) ≡ None) × (type_of_words (words_of line) ≡ None)
+header_says_nothing line e =
+    let words : words_of line ≡ codes "oilpan" ∷ codes "1" ∷ [] = pair_words (codes "oilpan") (codes "1") (words_of line) e in
+    (ap command_of_words words, ap type_of_words words)
+
+header_stands : (b : Bool) → cond b None (Some Header) ≡ None → b ≡ true
+header_stands true e = refl
+header_stands false e = absurd (none-some Header (sym e))
+
+-- ---- the lines after the header
+
+-- a line without words, or one whose words have no fault by themselves
+abbrev IsFine : ℕ → List (List ℕ) → List ℕ → Type 0
+IsFine callbacks before line = (is_blank line ≡ true) ⊎ AreFaultless (bounds_after callbacks before) (words_of line)
+
+abbrev AreFine : ℕ → List (List ℕ) → Type 0
+AreFine callbacks lines = (i : ℕ) → i < length lines → IsFine callbacks (take i lines) (get_or lines i [])
+
+no_reason : (before words : List (List ℕ)) (last : Bool) (reason : Option Reason) → reason_by_order before words last reason ≡ None → reason ≡ None
+no_reason before words last None e = refl
+no_reason before words last (Some reason) e = absurd (none-some reason (sym e))
+
+line_is_fine : (callbacks : ℕ) (before : List (List ℕ)) (line : List ℕ) (last blank : Bool) → is_blank line ≡ blank
+    → cond blank None (reason_by_order before (words_of line) last (reason_of_words (bounds_after callbacks before) (words_of line))) ≡ None
+    → IsFine callbacks before line
+line_is_fine callbacks before line last true is e = inl is
+line_is_fine callbacks before line last false is e =
+    inr (faultless (bounds_after callbacks before) (words_of line) (no_reason before (words_of line) last _ e))
+
+-- a line without words says nothing
+blank_words : (words : List (List ℕ)) → (length words == 0) ≡ true → words ≡ []
+blank_words [] e = refl
+blank_words (word ∷ words) e = absurd (let n : length (word ∷ words) ≡ 0 = eqb-true _ _ e in omega (arith, n))
+
+type_line_says : (callbacks : ℕ) (before : List (List ℕ)) (line : List ℕ) → IsFine callbacks before line → is_type line ≡ is_some (type_of_words (words_of line))
+type_line_says callbacks before line (inl blank) = rw (blank_words (words_of line) blank) refl
+type_line_says callbacks before line (inr f) = type_lines_say (bounds_after callbacks before) (words_of line) f
+
+command_is_allowed : (callbacks types : ℕ) (before : List (List ℕ)) (line : List ℕ) (c : Command) → IsFine callbacks before line
+    → command_of_words (words_of line) ≡ Some c → count_by is_type before ≤ types → IsAllowed types c
+command_is_allowed callbacks types before line c (inl blank) e low =
+    absurd (none-some c (sym (ap command_of_words (blank_words (words_of line) blank)) ∙ e))
+command_is_allowed callbacks types before line c (inr f) e low =
+    command_allowed (bounds_after callbacks before) types (words_of line) c low f e
+
+type_is_fine : (callbacks : ℕ) (before : List (List ℕ)) (line : List ℕ) (type : ObjectType) → IsFine callbacks before line
+    → type_of_words (words_of line) ≡ Some type → IsGoodType callbacks type
+type_is_fine callbacks before line type (inl blank) e =
+    absurd (none-some type (sym (ap type_of_words (blank_words (words_of line) blank)) ∙ e))
+type_is_fine callbacks before line type (inr f) e = type_is_good (bounds_after callbacks before) (words_of line) type f e
+
+room_before : (callbacks : ℕ) (before : List (List ℕ)) (line : List ℕ) → IsFine callbacks before line → is_type line ≡ true → count_by is_type before < 16383
+room_before callbacks before line (inl blank) e = absurd (true≢false (sym e ∙ ap (λ (ws : List (List ℕ)). first_is (codes "type") ws) (blank_words (words_of line) blank)))
+room_before callbacks before line (inr f) e = room_for_type (bounds_after callbacks before) (words_of line) f e
+
+few_types : (callbacks : ℕ) (lines : List (List ℕ)) → AreFine callbacks lines → (k : ℕ) → k ≤ length lines → count_by is_type (take k lines) ≤ 16383
+few_types callbacks lines fine zero low = omega arith
+few_types callbacks lines fine (suc k) low =
+    let next : k + 1 ≡ suc k = omega arith in
+    subst (λ (n : ℕ). count_by is_type (take n lines) ≤ 16383) next
+    (one_line_on (is_type (get_or lines k [])) refl (few_types callbacks lines fine k (omega arith))) where
+      one_line_on : (is : Bool) → is_type (get_or lines k []) ≡ is → count_by is_type (take k lines) ≤ 16383 → count_by is_type (take (k + 1) lines) ≤ 16383
+      one_line_on true is before =
+          let room = room_before callbacks (take k lines) (get_or lines k []) (fine k (omega arith)) is in
+          omega (arith, room, count_by_more_yes is_type lines k [] (omega arith) is)
+      one_line_on false is before = omega (arith, before, count_by_more_no is_type lines k [] (omega arith) is)
+
+-- ---- a script
+
+-- what a script says, its lines being the header and others
+said : (callbacks : ℕ) (header : List ℕ) (rest : List (List ℕ)) (script : Script) → is_header header ≡ true → AreFine callbacks rest
+    → length (header ∷ rest) ≤ 1000000 → script.types ≡ filter_map (λ line. type_of_words (words_of line)) (header ∷ rest)
+    → script.commands ≡ filter_map (λ line. command_of_words (words_of line)) (header ∷ rest) → IsInRanges callbacks script
+said callbacks header rest script head fine short types commands =
+    let none = header_says_nothing header head in
+    let types_are : script.types ≡ filter_map (λ line. type_of_words (words_of line)) rest = rw none.1 at types in
+    let commands_are : script.commands ≡ filter_map (λ line. command_of_words (words_of line)) rest = rw none.0 at commands in
+    let counted : length script.types ≡ count_by is_type rest =
+    ap length types_are
+    ∙ kept_count is_type (λ line. type_of_words (words_of line)) rest (λ i low. type_line_says callbacks (take i rest) (get_or rest i []) (fine i low)) in
+    let each : All (IsGoodType callbacks) script.types =
+    subst (All (IsGoodType callbacks)) (sym types_are)
+    (kept_all (IsGoodType callbacks) (λ line. type_of_words (words_of line)) rest
+    (λ i low type is. type_is_fine callbacks (take i rest) (get_or rest i []) type (fine i low) is)) in
+    let whole : count_by is_type (take (length rest) rest) ≡ count_by is_type rest = ap (λ (ls : List (List ℕ)). count_by is_type ls) (take_all (length rest) rest (omega arith)) in
+    record {
+      sorts = omega (arith, few_types callbacks rest fine (length rest) (omega arith), whole, counted);
+      narrow = λ i d low. (each i d low).narrow;
+      known = λ i d low. (each i d low).known;
+      allowed = subst (All (IsAllowed (length script.types))) (sym commands_are)
+          (kept_all (IsAllowed (length script.types)) (λ line. command_of_words (words_of line)) rest
+          (λ i low c is. command_is_allowed callbacks (length script.types) (take i rest) (get_or rest i []) c (fine i low) is
+          (omega (arith, counted, sum_by-take-le (λ line. cond (is_type line) 1 0) rest i))));
+      few = omega (arith, short, ap length commands_are, kept_few (λ line. command_of_words (words_of line)) rest);
+    }
+
+by_lines : (callbacks : ℕ) (lines : List (List ℕ)) (script : Script) → reason_at callbacks lines 0 ≡ None
+    → ((i : ℕ) → i < length lines → reason_at callbacks lines i ≡ None) → length lines ≤ 1000000
+    → script.types ≡ filter_map (λ line. type_of_words (words_of line)) lines
+    → script.commands ≡ filter_map (λ line. command_of_words (words_of line)) lines → IsInRanges callbacks script
+by_lines callbacks [] script header each short types commands = absurd (none-some Header (sym header))
+by_lines callbacks (line ∷ rest) script header each short types commands =
+    said callbacks line rest script (header_stands (is_header line) header)
+    (λ i low. line_is_fine callbacks (take i rest) (get_or rest i []) (list_all is_blank (drop (suc i + 1) (line ∷ rest))) (is_blank (get_or rest i [])) refl
+    (each (suc i) (omega arith))) short types commands
+
+pub scripts_are_in_ranges : ScriptsAreInRanges
+scripts_are_in_ranges callbacks bytes script is =
+    by_lines callbacks (lines_of bytes) script is.header is.faultless short is.types is.commands where
+      short : length (lines_of bytes) ≤ 1000000
+      short = elim (cases_lt 1000000 (length (lines_of bytes))) [ inl over ↦ absurd (is.limits (inr over)) | inr few ↦ few ]
