@@ -1,21 +1,11 @@
 -- Input that was read, and the limits that it keeps.
 use Rattle.std.proofs.Common.{◌≡◌, ℕ, ◌≤◌, List, length, take, drop, Option, Some, None, ap, ◌∙◌, inl, inr, arith}
-use Rattle.std.specs.Prelude.{All, min}
+use Rattle.std.specs.Prelude.{min}
 use Rattle.std.proofs.lemmas.List.{take_all, drop_all, length-take}
 use Rattle.std.proofs.lemmas.Bool.{cases_lt}
-use Rattle.gc_graph.specs.Lawful.{IsAllowed}
-use Rattle.gc_graph.specs.Words.{lines_of}
 use Rattle.gc_graph.specs.Script.{IsInLimits}
-use Rattle.heap_script.specs.Built.{BuiltScript, IsBuiltScript}
 use Rattle.heap_script.specs.Devices.{IsReadFrom}
-use Rattle.cppgc_main.specs.Setting.{IsRunnable}
 use Rattle.cppgc_main.specs.Headline.{IsReadWhole}
-use Rattle.cppgc_main.proofs.Timely.{script_is_timely}
-use Rattle.cppgc_main.proofs.Built.{script_is_built}
-
-pub in_limits : (bytes : List ℕ) → length bytes ≤ 16777216 → length (lines_of bytes) ≤ 1000000 → IsInLimits bytes
-in_limits bytes few low (inl over) = absurd (omega arith)
-in_limits bytes few low (inr over) = absurd (omega arith)
 
 -- fewer bytes than were asked for are all that there were
 all_of : (old bytes : List ℕ) → bytes ≡ take 16777217 old → length bytes ≤ 16777216 → bytes ≡ old
@@ -33,9 +23,3 @@ read_whole_of (Some old) new bytes read limits =
     let few : length bytes ≤ 16777216 = few_in_limits bytes limits in
     let all : bytes ≡ old = all_of old bytes read.0 few in
     (all, read.1 ∙ ap Some (ap (λ (b : List ℕ). drop (length b) old) all ∙ drop_all (length old) old (omega arith)))
-
-pub script_is_runnable : (bytes : List ℕ) (script : BuiltScript) → IsBuiltScript bytes script → All (λ n. n ≤ 64) script.types
-    → length script.types ≤ 16383 → All (IsAllowed (length script.types)) script.commands → length script.commands ≤ 1000000
-    → IsRunnable script
-script_is_runnable bytes script is small sorts allowed few =
-    record { small = small; sorts = sorts; allowed = allowed; few = few; built = script_is_built bytes script is; timely = script_is_timely bytes script is }

@@ -2,9 +2,6 @@ pub mod Writing
 pub mod HeldBack
 pub mod Phases
 pub mod Printing
-pub mod Grammar
-pub mod Timely
-pub mod Built
 pub mod Reports
 pub mod Inputs
 pub mod Outcomes

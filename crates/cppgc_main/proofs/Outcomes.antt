@@ -6,22 +6,22 @@ use Rattle.heap_engine.specs.View.{View}
 use Rattle.cppgc_main.specs.declared.status.Status.{Status}
 use Rattle.cppgc_main.specs.declared.status.Status.TheVariants as S
 use Rattle.cppgc_main.specs.Options.{shape_asked}
-use Rattle.cppgc_main.specs.Headline.{RunsBytes, RunsScript, IsDone, IsStopped, IsTooLongInput, IsFaultyInput}
+use Rattle.cppgc_main.specs.Headline.{RunsBytes, RunsScript, IsDone, IsStopped, IsTooLongInput, IsUnbuiltInput}
 use Rattle.cppgc_main.proofs.Inputs.{read_whole_of}
 use Rattle.gc_graph.specs.State.{Shape}
-use Rattle.gc_graph.specs.Script.{IsScript, IsInLimits}
-use Rattle.heap_script.specs.Built.{BuiltScript, IsBuiltScript, script_of}
+use Rattle.gc_graph.specs.Script.{Script}
+use Rattle.heap_script.specs.Scripts.{IsBuiltScript}
 
 -- an answer to the script is one to its bytes
-pub bytes_of_script : (shape : Shape) (bytes : List ℕ) (script : BuiltScript) (w z : Option (List ℕ)) (kept : Option View) (status : Status) → IsInLimits bytes
-    → IsScript 0 bytes (script_of script) → IsBuiltScript bytes script → RunsScript shape script w z kept status → RunsBytes shape bytes w z kept status
-bytes_of_script shape bytes script w z kept S.Done limits whole is answer = (script, limits, record { whole = whole; built = is }, answer)
-bytes_of_script shape bytes script w z kept S.WriteFault limits whole is answer = (script, limits, record { whole = whole; built = is }, answer.0, answer.1)
-bytes_of_script shape bytes script w z kept S.NoMemory limits whole is answer = answer
-bytes_of_script shape bytes script w z kept S.TooLong limits whole is answer = absurd answer
-bytes_of_script shape bytes script w z kept (S.Script line reason) limits whole is answer = absurd answer
-bytes_of_script shape bytes script w z kept S.ReadFault limits whole is answer = absurd answer
-bytes_of_script shape bytes script w z kept S.Usage limits whole is answer = absurd answer
+pub bytes_of_script : (shape : Shape) (bytes : List ℕ) (script : Script) (w z : Option (List ℕ)) (kept : Option View) (status : Status)
+    → IsBuiltScript 0 bytes script → RunsScript shape script w z kept status → RunsBytes shape bytes w z kept status
+bytes_of_script shape bytes script w z kept S.Done is answer = (script, is, answer)
+bytes_of_script shape bytes script w z kept S.WriteFault is answer = (script, is, answer.0, answer.1)
+bytes_of_script shape bytes script w z kept S.NoMemory is answer = answer
+bytes_of_script shape bytes script w z kept S.TooLong is answer = absurd answer
+bytes_of_script shape bytes script w z kept (S.Script line reason) is answer = absurd answer
+bytes_of_script shape bytes script w z kept S.ReadFault is answer = absurd answer
+bytes_of_script shape bytes script w z kept S.Usage is answer = absurd answer
 
 -- the bytes with which a run was answered were read
 pub record Answers (shape : Shape) (lo ln w z : Option (List ℕ)) (kept : Option View) (status : Status) : Type 0 where
@@ -31,13 +31,13 @@ pub record Answers (shape : Shape) (lo ln w z : Option (List ℕ)) (kept : Optio
 
 done_of : (words : List (List ℕ)) (shape : Shape) → shape_asked words ≡ Some shape → (lo ln w z : Option (List ℕ)) (kept : Option View) (bytes : List ℕ) → IsReadFrom lo ln 16777216 bytes
     → RunsBytes shape bytes w z kept S.Done → MatchOption kept ⊥ (λ heap. IsDone words lo ln w z heap)
-done_of words shape asked lo ln w z None bytes read answer = answer.3
+done_of words shape asked lo ln w z None bytes read answer = answer.2
 done_of words shape asked lo ln w z (Some heap) bytes read answer = record {
   shape = shape;
   asked = asked;
   script = answer.0;
-  input = record { bytes = bytes; whole = read_whole_of lo ln bytes read answer.1; limits = answer.1; grammar = answer.2 };
-  run = answer.3;
+  input = record { bytes = bytes; whole = read_whole_of lo ln bytes read answer.1.whole.limits; grammar = answer.1 };
+  run = answer.2;
 }
 
 pub answers_done : (words : List (List ℕ)) (shape : Shape) → shape_asked words ≡ Some shape → (lo ln w z : Option (List ℕ)) (kept : Option View) (status : Status) → Answers shape lo ln w z kept status → status ≡ S.Done
@@ -52,8 +52,8 @@ answers_stopped words shape asked lo ln w z kept status a is =
       shape = shape;
       asked = asked;
       script = answer.0;
-      input = record { bytes = a.bytes; whole = read_whole_of lo ln a.bytes a.read answer.1; limits = answer.1; grammar = answer.2 };
-      run = answer.4;
+      input = record { bytes = a.bytes; whole = read_whole_of lo ln a.bytes a.read answer.1.whole.limits; grammar = answer.1 };
+      run = answer.3;
     }
 
 pub answers_too_long : (shape : Shape) (lo ln w z : Option (List ℕ)) (kept : Option View) (status : Status) → Answers shape lo ln w z kept status → status ≡ S.TooLong
@@ -63,7 +63,7 @@ answers_too_long shape lo ln w z kept status a is =
     record { bytes = a.bytes; read = a.read; long = answer.2 }
 
 pub answers_script : (shape : Shape) (lo ln w z : Option (List ℕ)) (kept : Option View) (status : Status) → Answers shape lo ln w z kept status
-    → (line reason : ℕ) → status ≡ S.Script line reason → (reason ≡ 9) × IsFaultyInput lo ln line
+    → (line reason : ℕ) → status ≡ S.Script line reason → (reason ≡ 9) × IsUnbuiltInput lo ln line
 answers_script shape lo ln w z kept status a line reason is =
     let answer = subst (RunsBytes shape a.bytes w z kept) is a.answer in (
       answer.2,
@@ -73,7 +73,7 @@ answers_script shape lo ln w z kept status a line reason is =
         limits = answer.3;
         place = answer.4.0;
         line_is = answer.4.1;
-        faulty = answer.4.2;
+        unbuilt = answer.4.2;
       },
     )
 
@@ -101,7 +101,7 @@ answers_silent shape lo ln w z kept status a = silent_of shape a.bytes w z kept 
 kept_of : (shape : Shape) (bytes : List ℕ) (w z : Option (List ℕ)) (kept : Option View) (status : Status) → RunsBytes shape bytes w z kept status
     → ¬ (status ≡ S.Done) → kept ≡ None
 kept_of shape bytes w z kept S.Done answer not_done = absurd (not_done refl)
-kept_of shape bytes w z kept S.WriteFault answer not_done = answer.3
+kept_of shape bytes w z kept S.WriteFault answer not_done = answer.2
 kept_of shape bytes w z kept S.NoMemory answer not_done = answer.0
 kept_of shape bytes w z kept S.TooLong answer not_done = answer.0
 kept_of shape bytes w z kept (S.Script line reason) answer not_done = answer.0

@@ -1,10 +1,9 @@
 -- The phase of a heap after commands: where no sweep is open, it is idle.
 use Rattle.std.proofs.Common.{◌≡◌, ℕ, zero, suc, ◌+◌, ◌<◌, Bool, true, false, List, [], ◌∷◌, length, take, get_or, Option, Some, None, refl, sym, ap, ◌∙◌, subst, inl, inr, arith, cond}
 use Rattle.std.specs.Prelude.{MatchOption, MatchBool, nat_lt}
-use Rattle.std.specs.List.{All, slice_get}
-use Rattle.std.proofs.lemmas.Bool.{true≢false, eq-eqb}
+use Rattle.std.specs.List.{slice_get}
+use Rattle.std.proofs.lemmas.Bool.{true≢false, eq-eqb, and_parts, not-true}
 use Rattle.std.proofs.lemmas.List.{take_more}
-use Rattle.std.proofs.lemmas.List.Elements.{All-get_or}
 use Rattle.std.proofs.lemmas.List.Sums.{fold-append}
 use Rattle.gc_graph.specs.declared.phase.Phase.{Phase}
 use Rattle.gc_graph.specs.declared.phase.Phase.TheVariants.{Idle, Marking, Sweeping}
@@ -23,8 +22,7 @@ use Rattle.gc_graph.specs.Sweep.{SweepsInPhase, ContinuesSweep}
 use Rattle.gc_graph.specs.CycleSteps.{HasSwept, StepSweepAll, is_marking, is_sweeping}
 use Rattle.gc_graph.specs.ObjectSteps.{IsFull, IsMade, IsRead, StepNew, StepSet, StepGet}
 use Rattle.gc_graph.specs.Step.{Step}
-use Rattle.heap_engine.specs.Built.{IsBuilt}
-use Rattle.heap_script.specs.Built.{opens_sweep, is_sweep_open, AreTimely}
+use Rattle.gc_graph.specs.Built.{is_built, IsBuiltIn, opens_sweep, is_sweep_open, is_timely, AreBuiltCommands}
 
 -- ---- one command
 
@@ -94,7 +92,7 @@ abbrev pub IsIdleUnless : Bool → State → Type 0
 IsIdleUnless opened s = opened ≡ false → s.phase ≡ Idle
 
 step_phase : (setup : Setup) (old new : State) (command : Command) (piece : List Entry) (lines : List Line) (opened : Bool) → is_marking old.phase ≡ false
-    → IsBuilt Idle command → IsIdleUnless opened old → Step setup old command piece lines new → IsIdleUnless (opens_sweep opened command) new
+    → is_built command ≡ true → IsIdleUnless opened old → Step setup old command piece lines new → IsIdleUnless (opens_sweep opened command) new
 step_phase setup old new (C.New p t e) piece lines opened calm built idle step = λ off. new_keeps setup old new p t e lines (idle off) step.1 ∙ idle off
 step_phase setup old new (C.Set p f q) piece lines opened calm built idle step = λ off. set_keeps old new p f _ lines step.1 ∙ idle off
 step_phase setup old new (C.SetNull p f) piece lines opened calm built idle step = λ off. set_keeps old new p f Null lines step.1 ∙ idle off
@@ -103,7 +101,7 @@ step_phase setup old new (C.Drop p) piece lines opened calm built idle step = λ
 step_phase setup old new (C.GcNow want) piece lines opened calm built idle step = λ off. absurd (true≢false off)
 step_phase setup old new C.SweepAll piece lines opened calm built idle step = λ off. sweep_ends setup old new lines old.phase refl calm step.1
 step_phase setup old new C.Stat piece lines opened calm built idle step = λ off. ap (λ (s : State). s.phase) step.1.3 ∙ idle off
-step_phase setup old new command piece lines opened calm built idle step = absurd built
+step_phase setup old new command piece lines opened calm built idle step = absurd (true≢false (sym built))
 
 -- ---- the commands in order
 
@@ -112,35 +110,35 @@ sweep_open_more : (commands : List Command) (i : ℕ) (d : Command) → i < leng
 sweep_open_more commands i d low =
     ap is_sweep_open (take_more commands i d low) ∙ fold-append opens_sweep false (take i commands) (get_or commands i d ∷ [])
 
--- one command more was done
-pub idle_more : (setup : Setup) (mid new : State) (commands : List Command) (i : ℕ) (d : Command) (piece : List Entry) (lines : List Line) → i < length commands
-    → All (IsBuilt Idle) commands → is_marking mid.phase ≡ false → IsIdleUnless (is_sweep_open (take i commands)) mid
-    → Step setup mid (get_or commands i d) piece lines new → IsIdleUnless (is_sweep_open (take (i + 1) commands)) new
-idle_more setup mid new commands i d piece lines low built calm idle step =
-    subst (λ b. IsIdleUnless b new) (sym (sweep_open_more commands i d low))
-    (step_phase setup mid new (get_or commands i d) piece lines (is_sweep_open (take i commands)) calm (All-get_or (IsBuilt Idle) commands i d low built) idle step)
-
--- ---- the next command can be done
-
 module _ {X : Type 0} where
   get_at : (xs : List X) (i : ℕ) (d : X) → i < length xs → slice_get xs i ≡ Some (get_or xs i d)
   get_at [] i d low = absurd (omega arith)
   get_at (x ∷ xs) zero d low = refl
   get_at (x ∷ xs) (suc i) d low = get_at xs i d (omega arith)
 
-built_case : (commands : List Command) (i : ℕ) (state : State) (command : Command) → AreTimely commands
-    → IsIdleUnless (is_sweep_open (take i commands)) state → slice_get commands i ≡ Some command → IsBuilt Idle command → IsBuilt state.phase command
-built_case commands i state (C.New p t e) timely idle at built = idle (timely i p t e at)
-built_case commands i state (C.Set p f q) timely idle at built = built
-built_case commands i state (C.SetNull p f) timely idle at built = built
-built_case commands i state (C.Get p f q) timely idle at built = built
-built_case commands i state (C.Drop p) timely idle at built = built
-built_case commands i state (C.GcNow want) timely idle at built = built
-built_case commands i state C.SweepAll timely idle at built = built
-built_case commands i state C.Stat timely idle at built = built
-built_case commands i state command timely idle at built = absurd built
+-- a command is built, and can come after those before it
+built_at : (commands : List Command) (i : ℕ) (d : Command) → i < length commands → AreBuiltCommands commands
+    → (is_built (get_or commands i d) ≡ true) × (is_timely (take i commands) (get_or commands i d) ≡ true)
+built_at commands i d low built =
+    and_parts (is_built (get_or commands i d)) (is_timely (take i commands) (get_or commands i d)) (built i (get_or commands i d) (get_at commands i d low))
 
-pub built_next : (commands : List Command) (i : ℕ) (d : Command) (state : State) → i < length commands → All (IsBuilt Idle) commands → AreTimely commands
-    → IsIdleUnless (is_sweep_open (take i commands)) state → IsBuilt state.phase (get_or commands i d)
-built_next commands i d state low built timely idle =
-    built_case commands i state (get_or commands i d) timely idle (get_at commands i d low) (All-get_or (IsBuilt Idle) commands i d low built)
+-- one command more was done
+pub idle_more : (setup : Setup) (mid new : State) (commands : List Command) (i : ℕ) (d : Command) (piece : List Entry) (lines : List Line) → i < length commands
+    → AreBuiltCommands commands → is_marking mid.phase ≡ false → IsIdleUnless (is_sweep_open (take i commands)) mid
+    → Step setup mid (get_or commands i d) piece lines new → IsIdleUnless (is_sweep_open (take (i + 1) commands)) new
+idle_more setup mid new commands i d piece lines low built calm idle step =
+    subst (λ b. IsIdleUnless b new) (sym (sweep_open_more commands i d low))
+    (step_phase setup mid new (get_or commands i d) piece lines (is_sweep_open (take i commands)) calm (built_at commands i d low built).0 idle step)
+
+-- ---- the next command can be done
+
+built_case : (before : List Command) (state : State) (command : Command) → is_timely before command ≡ true
+    → IsIdleUnless (is_sweep_open before) state → is_built command ≡ true → IsBuiltIn state.phase command
+built_case before state (C.New p t e) timely idle built = idle (not-true (is_sweep_open before) timely)
+built_case before state command timely idle built = built
+
+pub built_next : (commands : List Command) (i : ℕ) (d : Command) (state : State) → i < length commands → AreBuiltCommands commands
+    → IsIdleUnless (is_sweep_open (take i commands)) state → IsBuiltIn state.phase (get_or commands i d)
+built_next commands i d state low built idle =
+    let at = built_at commands i d low built in
+    built_case (take i commands) state (get_or commands i d) at.1 idle at.0

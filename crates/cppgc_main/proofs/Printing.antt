@@ -1,16 +1,15 @@
 -- Runs that are printed command by command, and why they are lawful.
 use Rattle.std.proofs.Common.{◌≡◌, ℕ, zero, suc, ◌+◌, ◌<◌, List, [], ◌∷◌, ◌++◌, length, take, get_or, Option, Some, refl, sym, ap, ◌∙◌, subst, arith}
-use Rattle.std.specs.List.{All, Contains, slice_get}
+use Rattle.std.specs.List.{Contains, slice_get}
 use Rattle.std.proofs.lemmas.List.{append-nil, map-append, take_more, take_all}
-use Rattle.std.proofs.lemmas.List.Elements.{All-head, All-tail}
+use Rattle.std.proofs.lemmas.Bool.{true≢false}
 use Rattle.std.proofs.lemmas.Grind.{flat_map-append}
 use Rattle.gc_graph.specs.declared.command.Command.{Command}
 use Rattle.gc_graph.specs.declared.command.Command.TheVariants as C
 use Rattle.gc_graph.specs.declared.region.Entry.{Entry}
-use Rattle.gc_graph.specs.declared.phase.Phase.TheVariants.{Idle}
 use Rattle.gc_graph.specs.State.{Setup, State, empty_state}
 use Rattle.gc_graph.specs.Step.{Step}
-use Rattle.heap_engine.specs.Built.{IsBuilt}
+use Rattle.gc_graph.specs.Built.{AreBuiltCommands}
 use Rattle.gc_graph.specs.HistoryLaw.{RunsAreReplayed}
 use Rattle.gc_graph.specs.Lawful.{Outcome, Run, IsLawful, history_of, last_state}
 use Rattle.gc_graph.specs.Report.{lines_bytes, outcomes_bytes}
@@ -111,21 +110,33 @@ printed_all setup commands i x y heap all run =
 
 -- ---- lawful runs
 
-at_of_get : {X : Type 0} (P : X → Type 0) (xs : List X) (i : ℕ) (x : X) → All P xs → slice_get xs i ≡ Some x → P x
-at_of_get P [] i x all at = absurd (let never : ⊥ = cc in never)
-at_of_get P (y ∷ xs) zero x all at = subst P (let same : y ≡ x = cc in same) (All-head P y xs all)
-at_of_get P (y ∷ xs) (suc i) x all at = at_of_get P xs i x (All-tail P y xs all) at
+-- the commands tell no threads to go
+abbrev pub LetNoneGo : List Command → Type 0
+LetNoneGo commands = (g : ℕ) → slice_get commands g ≡ Some C.ThreadsGo → ⊥
 
--- where the built commands left no thread running, the run is lawful
-pub lawful_run : (setup : Setup) (commands : List Command) (outcomes : List Outcome) → RunsAreReplayed → All (IsBuilt Idle) commands
+pub built_let_none_go : (commands : List Command) → AreBuiltCommands commands → LetNoneGo commands
+built_let_none_go commands built g at = true≢false (sym (built g C.ThreadsGo at))
+
+get_front : {X : Type 0} (n : ℕ) (xs : List X) (i : ℕ) (x : X) → slice_get (take n xs) i ≡ Some x → slice_get xs i ≡ Some x
+get_front zero [] i x at = at
+get_front zero (y ∷ xs) i x at = absurd (let never : ⊥ = cc in never)
+get_front (suc n) [] i x at = at
+get_front (suc n) (y ∷ xs) zero x at = at
+get_front (suc n) (y ∷ xs) (suc i) x at = get_front n xs i x at
+
+pub front_lets_none_go : (n : ℕ) (commands : List Command) → LetNoneGo commands → LetNoneGo (take n commands)
+front_lets_none_go n commands none g at = none g (get_front n commands g C.ThreadsGo at)
+
+-- where the commands tell no threads to go and left none running, the run is lawful
+pub lawful_run : (setup : Setup) (commands : List Command) (outcomes : List Outcome) → RunsAreReplayed → LetNoneGo commands
     → Run setup empty_state commands outcomes → (last_state empty_state outcomes).running ≡ []
     → IsLawful setup commands outcomes (history_of outcomes)
-lawful_run setup commands outcomes law built run alone = record {
+lawful_run setup commands outcomes law none run alone = record {
   run = run;
   pieces = refl;
   legal = (law setup commands outcomes run).legal;
   unjoined = λ j there. absurd (none_in j (subst (λ (js : List ℕ). Contains js j) alone there));
-  published = λ g i outcome joins at. absurd (at_of_get (IsBuilt Idle) commands g C.ThreadsGo built joins.go);
+  published = λ g i outcome joins at. absurd (none g joins.go);
 } where
   none_in : (j : ℕ) → Contains [] j → ⊥
   none_in j there = omega (arith, there.1)

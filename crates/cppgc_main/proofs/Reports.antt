@@ -1,52 +1,48 @@
 -- Reports that are written part by part: the type lines, the outcomes, and the end line.
 use Rattle.std.proofs.Common.{◌≡◌, ℕ, true, List, [], length, take, Option, ap, refl, sym, ◌∙◌, subst, inl, inr, arith}
 use Rattle.std.specs.Prelude.{Result, Ok, Err, OnOk, OnErr}
-use Rattle.std.specs.List.{All}
 use Rattle.std.proofs.lemmas.List.{take_all}
-use Rattle.std.proofs.lemmas.List.Elements.{All-take}
 use Rattle.gc_graph.specs.declared.command.Command.{Command}
 use Rattle.gc_graph.specs.declared.line.Line.{Line}
-use Rattle.gc_graph.specs.declared.phase.Phase.TheVariants.{Idle}
 use Rattle.gc_graph.specs.State.{State, Shape, empty_state}
-use Rattle.heap_engine.specs.Built.{IsBuilt}
 use Rattle.gc_graph.specs.HistoryLaw.{RunsAreReplayed}
 use Rattle.gc_graph.specs.Lawful.{IsLawful, IsEndLine, history_of}
 use Rattle.gc_graph.specs.Report.{line_bytes, lines_bytes, type_lines, outcomes_bytes}
-use Rattle.heap_script.specs.Built.{BuiltScript}
+use Rattle.gc_graph.specs.Script.{Script}
 use Rattle.heap_script.specs.Devices.{Grew, GrewByFront, Writes}
 use Rattle.heap_engine.specs.View.{View}
 use Rattle.cppgc_main.specs.Setting.{setup_of}
 use Rattle.cppgc_main.specs.Printed.{IsPrintedRun, IsPartRun, printed_lines}
 use Rattle.cppgc_main.specs.Headline.{IsWholeRun, IsCutShort}
 use Rattle.cppgc_main.proofs.Writing.{grew, grew_front, longer}
-use Rattle.cppgc_main.proofs.Printing.{printed_none, lawful_run}
+use Rattle.cppgc_main.proofs.Printing.{printed_none, LetNoneGo, front_lets_none_go, lawful_run}
 
 -- the heap that did all the commands of the script
-pub record HasRun (shape : Shape) (script : BuiltScript) (x y : Option (List ℕ)) (old mid : View) : Type 0 where
+pub record HasRun (shape : Shape) (script : Script) (x y : Option (List ℕ)) (old mid : View) : Type 0 where
   pub setup : old.setup ≡ setup_of shape script.types
   pub same : mid.setup ≡ old.setup
   pub run : IsPrintedRun old.setup script.commands x y mid
 
 -- the same in words of the script alone
-run_of : (shape : Shape) (script : BuiltScript) (x y : Option (List ℕ)) (old mid : View) → HasRun shape script x y old mid
+run_of : (shape : Shape) (script : Script) (x y : Option (List ℕ)) (old mid : View) → HasRun shape script x y old mid
     → IsPrintedRun (setup_of shape script.types) script.commands x y mid
 run_of shape script x y old mid has = subst (λ s. IsPrintedRun s script.commands x y mid) has.setup has.run
 
-end_of : (shape : Shape) (script : BuiltScript) (x y : Option (List ℕ)) (old mid : View) (end : Line) → HasRun shape script x y old mid
+end_of : (shape : Shape) (script : Script) (x y : Option (List ℕ)) (old mid : View) (end : Line) → HasRun shape script x y old mid
     → IsEndLine mid.setup mid.state end → IsEndLine (setup_of shape script.types) mid.state end
 end_of shape script x y old mid end has ended = subst (λ s. IsEndLine s mid.state end) (has.same ∙ has.setup) ended
 
-pub whole_run : (shape : Shape) (script : BuiltScript) (law : RunsAreReplayed) (built : All (IsBuilt Idle) script.commands) (w x y z : Option (List ℕ)) (old mid heap : View) (end : Line)
+pub whole_run : (shape : Shape) (script : Script) (law : RunsAreReplayed) (none : LetNoneGo script.commands) (w x y z : Option (List ℕ)) (old mid heap : View) (end : Line)
     → Grew w x (lines_bytes (type_lines 0 script.types)) → HasRun shape script x y old mid → mid.state.ordinal ≡ length script.commands
     → IsEndLine mid.setup mid.state end → heap ≡ record mid { closed = true } → Grew y z (line_bytes end)
     → IsWholeRun shape script w z heap
-whole_run shape script law built w x y z old mid heap end types has count ended is last =
+whole_run shape script law none w x y z old mid heap end types has count ended is last =
     let run = run_of shape script x y old mid has in
     subst (λ (h : View). IsWholeRun shape script w z h) (sym is) (record {
       outcomes = run.outcomes;
       history = history_of run.outcomes;
       end = end;
-      lawful = lawful_run (setup_of shape script.types) script.commands run.outcomes law built run.run (ap (λ (s : State). s.running) (sym run.last) ∙ run.alone);
+      lawful = lawful_run (setup_of shape script.types) script.commands run.outcomes law none run.run (ap (λ (s : State). s.running) (sym run.last) ∙ run.alone);
       state = run.last;
       taken = run.taken;
       ended = end_of shape script x y old mid end has ended;
@@ -56,43 +52,43 @@ whole_run shape script law built w x y z old mid heap end types has count ended 
       count = count;
     })
 
-pub cut_in_types : (shape : Shape) (script : BuiltScript) (law : RunsAreReplayed) (built : All (IsBuilt Idle) script.commands) (w x : Option (List ℕ)) (old : View) → old.state ≡ empty_state → old.history ≡ []
+pub cut_in_types : (shape : Shape) (script : Script) (law : RunsAreReplayed) (none : LetNoneGo script.commands) (w x : Option (List ℕ)) (old : View) → old.state ≡ empty_state → old.history ≡ []
     → GrewByFront w x (lines_bytes (type_lines 0 script.types)) → IsCutShort shape script w x
-cut_in_types shape script law built w x old start fresh front =
-    let none : IsPrintedRun (setup_of shape script.types) (take 0 script.commands) x x old =
+cut_in_types shape script law none w x old start fresh front =
+    let start_run : IsPrintedRun (setup_of shape script.types) (take 0 script.commands) x x old =
     printed_none (setup_of shape script.types) script.commands x old start fresh in
     record {
       number = 0;
       within = omega arith;
-      outcomes = none.outcomes;
-      history = history_of none.outcomes;
-      lawful = lawful_run (setup_of shape script.types) (take 0 script.commands) none.outcomes law (All-take (IsBuilt Idle) 0 script.commands built) none.run
-          (ap (λ (s : State). s.running) (sym none.last) ∙ none.alone);
+      outcomes = start_run.outcomes;
+      history = history_of start_run.outcomes;
+      lawful = lawful_run (setup_of shape script.types) (take 0 script.commands) start_run.outcomes law (front_lets_none_go 0 script.commands none) start_run.run
+          (ap (λ (s : State). s.running) (sym start_run.last) ∙ start_run.alone);
       ending = [];
       ends = inl refl;
-      written = longer w x _ [] (longer w x _ (outcomes_bytes (printed_lines none.outcomes)) front);
+      written = longer w x _ [] (longer w x _ (outcomes_bytes (printed_lines start_run.outcomes)) front);
     }
 
-pub cut_in_outcomes : (shape : Shape) (script : BuiltScript) (law : RunsAreReplayed) (built : All (IsBuilt Idle) script.commands) (w x y : Option (List ℕ)) (old : View) → Grew w x (lines_bytes (type_lines 0 script.types))
+pub cut_in_outcomes : (shape : Shape) (script : Script) (law : RunsAreReplayed) (none : LetNoneGo script.commands) (w x y : Option (List ℕ)) (old : View) → Grew w x (lines_bytes (type_lines 0 script.types))
     → old.setup ≡ setup_of shape script.types → IsPartRun old.setup script.commands x y → IsCutShort shape script w y
-cut_in_outcomes shape script law built w x y old types setup part =
+cut_in_outcomes shape script law none w x y old types setup part =
     let run = subst (λ s. IsPartRun s script.commands x y) setup part in
     record {
       number = run.number;
       within = run.within;
       outcomes = run.outcomes;
       history = history_of run.outcomes;
-      lawful = lawful_run (setup_of shape script.types) (take run.number script.commands) run.outcomes law (All-take (IsBuilt Idle) run.number script.commands built)
+      lawful = lawful_run (setup_of shape script.types) (take run.number script.commands) run.outcomes law (front_lets_none_go run.number script.commands none)
           run.run run.alone;
       ending = [];
       ends = inl refl;
       written = longer w y _ [] (grew_front w x y _ _ types run.written);
     }
 
-pub cut_in_end : (shape : Shape) (script : BuiltScript) (law : RunsAreReplayed) (built : All (IsBuilt Idle) script.commands) (w x y z : Option (List ℕ)) (old mid : View) (end : Line)
+pub cut_in_end : (shape : Shape) (script : Script) (law : RunsAreReplayed) (none : LetNoneGo script.commands) (w x y z : Option (List ℕ)) (old mid : View) (end : Line)
     → Grew w x (lines_bytes (type_lines 0 script.types)) → HasRun shape script x y old mid
     → IsEndLine mid.setup mid.state end → GrewByFront y z (line_bytes end) → IsCutShort shape script w z
-cut_in_end shape script law built w x y z old mid end types has ended last =
+cut_in_end shape script law none w x y z old mid end types has ended last =
     let run = run_of shape script x y old mid has in
     record {
       number = length script.commands;
@@ -101,7 +97,7 @@ cut_in_end shape script law built w x y z old mid end types has ended last =
       history = history_of run.outcomes;
       lawful = subst (λ (ks : List Command). IsLawful (setup_of shape script.types) ks run.outcomes (history_of run.outcomes))
           (sym (take_all (length script.commands) script.commands (omega arith)))
-          (lawful_run (setup_of shape script.types) script.commands run.outcomes law built run.run (ap (λ (s : State). s.running) (sym run.last) ∙ run.alone));
+          (lawful_run (setup_of shape script.types) script.commands run.outcomes law none run.run (ap (λ (s : State). s.running) (sym run.last) ∙ run.alone));
       ending = line_bytes end;
       ends = inr (
         refl,
@@ -112,16 +108,16 @@ cut_in_end shape script law built w x y z old mid end types has ended last =
 
 -- ---- the end line is written or not
 
-pub whole_at_end : {T E : Type 0} (shape : Shape) (script : BuiltScript) (law : RunsAreReplayed) (built : All (IsBuilt Idle) script.commands) (w x y z : Option (List ℕ)) (old mid heap : View) (end : Line) (result : Result T E)
+pub whole_at_end : {T E : Type 0} (shape : Shape) (script : Script) (law : RunsAreReplayed) (none : LetNoneGo script.commands) (w x y z : Option (List ℕ)) (old mid heap : View) (end : Line) (result : Result T E)
     → Grew w x (lines_bytes (type_lines 0 script.types)) → HasRun shape script x y old mid → mid.state.ordinal ≡ length script.commands
     → IsEndLine mid.setup mid.state end → heap ≡ record mid { closed = true } → Writes y z (line_bytes end) result
     → OnOk result (IsWholeRun shape script w z heap)
-whole_at_end shape script law built w x y z old mid heap end (Ok u) types has count ended is last =
-    whole_run shape script law built w x y z old mid heap end types has count ended is last
-whole_at_end shape script law built w x y z old mid heap end (Err e) types has count ended is last = tt
+whole_at_end shape script law none w x y z old mid heap end (Ok u) types has count ended is last =
+    whole_run shape script law none w x y z old mid heap end types has count ended is last
+whole_at_end shape script law none w x y z old mid heap end (Err e) types has count ended is last = tt
 
-pub cut_at_end : {T E : Type 0} (shape : Shape) (script : BuiltScript) (law : RunsAreReplayed) (built : All (IsBuilt Idle) script.commands) (w x y z : Option (List ℕ)) (old mid : View) (end : Line) (result : Result T E)
+pub cut_at_end : {T E : Type 0} (shape : Shape) (script : Script) (law : RunsAreReplayed) (none : LetNoneGo script.commands) (w x y z : Option (List ℕ)) (old mid : View) (end : Line) (result : Result T E)
     → Grew w x (lines_bytes (type_lines 0 script.types)) → HasRun shape script x y old mid → IsEndLine mid.setup mid.state end
     → Writes y z (line_bytes end) result → OnErr result (IsCutShort shape script w z)
-cut_at_end shape script law built w x y z old mid end (Ok u) types has ended last = tt
-cut_at_end shape script law built w x y z old mid end (Err e) types has ended last = cut_in_end shape script law built w x y z old mid end types has ended last
+cut_at_end shape script law none w x y z old mid end (Ok u) types has ended last = tt
+cut_at_end shape script law none w x y z old mid end (Err e) types has ended last = cut_in_end shape script law none w x y z old mid end types has ended last

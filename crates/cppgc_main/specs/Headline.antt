@@ -5,9 +5,9 @@ use Rattle.gc_graph.specs.declared.region.Entry.{Entry}
 use Rattle.gc_graph.specs.State.{Shape, empty_state}
 use Rattle.gc_graph.specs.Lawful.{Outcome, IsLawful, IsEndLine, last_state}
 use Rattle.gc_graph.specs.Report.{type_lines, lines_bytes, outcomes_bytes, report_of}
-use Rattle.gc_graph.specs.Script.{IsScript, IsTooLong, IsInLimits}
-use Rattle.heap_script.specs.Built.{BuiltScript, IsBuiltScript, IsFaultyAt, script_of}
+use Rattle.gc_graph.specs.Script.{Script, IsTooLong, IsInLimits}
 use Rattle.heap_script.specs.Devices.{Grew, GrewByFront, IsReadFrom}
+use Rattle.heap_script.specs.Scripts.{IsBuiltScript, IsFirstUnbuilt}
 use Rattle.heap_script.specs.declared.script.ScriptFault.{ScriptFault}
 use Rattle.heap_engine.specs.View.{View}
 use Rattle.cppgc_main.specs.declared.status.Status.{Status}
@@ -20,7 +20,7 @@ use Rattle.cppgc_main.specs.Printed.{IsEnding, printed_lines}
 
 -- a lawful run of the whole script led to this heap, which is closed and has taken the history of that run, and its report
 -- was written
-pub record IsWholeRun (shape : Shape) (script : BuiltScript) (before after : Option (List ℕ)) (heap : View) : Type 0 where
+pub record IsWholeRun (shape : Shape) (script : Script) (before after : Option (List ℕ)) (heap : View) : Type 0 where
   pub outcomes : List Outcome
   pub history : List Entry
   pub end : Line
@@ -34,7 +34,7 @@ pub record IsWholeRun (shape : Shape) (script : BuiltScript) (before after : Opt
   pub count : heap.state.ordinal ≡ length script.commands
 
 -- a beginning of the report of a lawful run of the first commands was written
-pub record IsCutShort (shape : Shape) (script : BuiltScript) (before after : Option (List ℕ)) : Type 0 where
+pub record IsCutShort (shape : Shape) (script : Script) (before after : Option (List ℕ)) : Type 0 where
   pub number : ℕ
   pub within : number ≤ length script.commands
   pub outcomes : List Outcome
@@ -52,23 +52,17 @@ abbrev pub IsReadWhole : Option (List ℕ) → Option (List ℕ) → List ℕ �
 IsReadWhole None new bytes = new ≡ None
 IsReadWhole (Some old) new bytes = (bytes ≡ old) × (new ≡ Some [])
 
--- the bytes are a script of the whole grammar, which uses no callbacks, and each line is of a form that is read
-pub record IsReadScript (bytes : List ℕ) (script : BuiltScript) : Type 0 where
-  pub whole : IsScript 0 bytes (script_of script)
-  pub built : IsBuiltScript bytes script
-
--- the input was read to its end, and it is a script within the limits
-pub record IsScriptInput (old new : Option (List ℕ)) (script : BuiltScript) : Type 0 where
+-- the input was read to its end, and it is a script of which all is built
+pub record IsScriptInput (old new : Option (List ℕ)) (script : Script) : Type 0 where
   pub bytes : List ℕ
   pub whole : IsReadWhole old new bytes
-  pub limits : IsInLimits bytes
-  pub grammar : IsReadScript bytes script
+  pub grammar : IsBuiltScript 0 bytes script
 
 -- the words asked for a shape and the input was a script; it was run, and this heap and the report came of it
 pub record IsDone (words : List (List ℕ)) (left_before left_after before after : Option (List ℕ)) (heap : View) : Type 0 where
   pub shape : Shape
   pub asked : shape_asked words ≡ Some shape
-  pub script : BuiltScript
+  pub script : Script
   pub input : IsScriptInput left_before left_after script
   pub run : IsWholeRun shape script before after heap
 
@@ -76,7 +70,7 @@ pub record IsDone (words : List (List ℕ)) (left_before left_after before after
 pub record IsStopped (words : List (List ℕ)) (left_before left_after before after : Option (List ℕ)) : Type 0 where
   pub shape : Shape
   pub asked : shape_asked words ≡ Some shape
-  pub script : BuiltScript
+  pub script : Script
   pub input : IsScriptInput left_before left_after script
   pub run : IsCutShort shape script before after
 
@@ -86,14 +80,15 @@ pub record IsTooLongInput (old new : Option (List ℕ)) : Type 0 where
   pub read : IsReadFrom old new 16777216 bytes
   pub long : IsTooLong bytes
 
--- the input was read to its end and is within the limits; of its lines this is the first that is of no built form
-pub record IsFaultyInput (old new : Option (List ℕ)) (line : ℕ) : Type 0 where
+-- the input was read to its end and is within the limits; of its lines this is the first that has a fault, or says what
+-- isn't built
+pub record IsUnbuiltInput (old new : Option (List ℕ)) (line : ℕ) : Type 0 where
   pub bytes : List ℕ
   pub whole : IsReadWhole old new bytes
   pub limits : IsInLimits bytes
   pub place : ℕ
   pub line_is : line ≡ place + 1
-  pub faulty : IsFaultyAt bytes place
+  pub unbuilt : IsFirstUnbuilt 0 bytes place
 
 -- ---- a device that was let alone
 
@@ -105,7 +100,7 @@ pub record IsUntouched (told_before told_after : Option (List ℕ)) (faults_befo
 -- ---- what the parts of the program answer
 
 -- what comes of a script that was read
-abbrev pub RunsScript : Shape → BuiltScript → Option (List ℕ) → Option (List ℕ) → Option View → Status → Type 0
+abbrev pub RunsScript : Shape → Script → Option (List ℕ) → Option (List ℕ) → Option View → Status → Type 0
 RunsScript shape script before after kept S.Done = MatchOption kept ⊥ (λ heap. IsWholeRun shape script before after heap)
 RunsScript shape script before after kept S.WriteFault = (kept ≡ None) × IsCutShort shape script before after
 RunsScript shape script before after kept S.NoMemory = (kept ≡ None) × Grew before after []
@@ -117,16 +112,19 @@ RunsScript shape script before after kept S.Usage = ⊥
 -- what comes of bytes that were read up to the first past the limit
 abbrev pub RunsBytes : Shape → List ℕ → Option (List ℕ) → Option (List ℕ) → Option View → Status → Type 0
 RunsBytes shape bytes before after kept S.Done =
-    (script : BuiltScript) × IsInLimits bytes × IsReadScript bytes script × MatchOption kept ⊥ (λ heap. IsWholeRun shape script before after heap)
+    (script : Script) × IsBuiltScript 0 bytes script × MatchOption kept ⊥ (λ heap. IsWholeRun shape script before after heap)
 RunsBytes shape bytes before after kept S.WriteFault =
-    (script : BuiltScript) × IsInLimits bytes × IsReadScript bytes script × (kept ≡ None) × IsCutShort shape script before after
+    (script : Script) × IsBuiltScript 0 bytes script × (kept ≡ None) × IsCutShort shape script before after
 RunsBytes shape bytes before after kept S.NoMemory = (kept ≡ None) × Grew before after []
 RunsBytes shape bytes before after kept S.TooLong = (kept ≡ None) × Grew before after [] × IsTooLong bytes
 RunsBytes shape bytes before after kept (S.Script line reason) =
-    (kept ≡ None) × Grew before after [] × (reason ≡ 9) × IsInLimits bytes × ((i : ℕ) × (line ≡ i + 1) × IsFaultyAt bytes i)
+    (kept ≡ None) × Grew before after [] × (reason ≡ 9) × IsInLimits bytes × ((i : ℕ) × (line ≡ i + 1) × IsFirstUnbuilt 0 bytes i)
 RunsBytes shape bytes before after kept S.ReadFault = ⊥
 RunsBytes shape bytes before after kept S.Usage = ⊥
 
--- want of memory, or the line that is of no built form
+-- want of memory, an input over its limits, or the line that is refused
 abbrev pub status_of_fault : ScriptFault → Status
-status_of_fault fault = if fault.reason == 0 then S.NoMemory else S.Script fault.line fault.reason
+status_of_fault fault =
+    if fault.reason == 0 then S.NoMemory
+    else if fault.reason == 8 then S.TooLong
+    else S.Script fault.line fault.reason

@@ -1,11 +1,10 @@
 -- The heap that the program makes, and the scripts that it can run.
-use Rattle.std.specs.Prelude.{ℕ, ◌≤◌, List, [], length, map, All}
-use Rattle.gc_graph.specs.declared.phase.Phase.TheVariants.{Idle}
-use Rattle.gc_graph.specs.State.{Setup, Shape}
-use Rattle.gc_graph.specs.Fields.{strong_type}
-use Rattle.heap_engine.specs.Built.{IsBuilt}
-use Rattle.gc_graph.specs.Lawful.{IsAllowed}
-use Rattle.heap_script.specs.Built.{BuiltScript, AreTimely}
+use Rattle.std.specs.Prelude.{ℕ, List, []}
+use Rattle.gc_graph.specs.declared.command.Command.{Command}
+use Rattle.gc_graph.specs.State.{Setup, Shape, ObjectType}
+use Rattle.gc_graph.specs.Script.{Script}
+use Rattle.gc_graph.specs.ScriptLaw.{IsInRanges}
+use Rattle.gc_graph.specs.Built.{AreBuiltTypes, AreBuiltCommands}
 use Rattle.heap_engine.specs.declared.heap.Config.{Config}
 
 -- 64 pages of 16,384 words
@@ -16,15 +15,16 @@ default_shape = record { pages = 64; page_words = 16384 }
 abbrev pub shape_of : Config → Shape
 shape_of config = record { pages = config.pages; page_words = config.page_words }
 
--- a heap of the shape without markers, with the types of a script, which have strong fields alone
-abbrev pub setup_of : Shape → List ℕ → Setup
-setup_of shape types = record { shape = shape; markers = 0; types = map strong_type types; callbacks = [] }
+-- a heap of the shape without markers and callbacks, with the types of a script
+abbrev pub setup_of : Shape → List ObjectType → Setup
+setup_of shape types = record { shape = shape; markers = 0; types = types; callbacks = [] }
 
--- the commands can be given to such a heap, one after the other
-pub record IsRunnable (script : BuiltScript) : Type 0 where
-  pub small : All (λ n. n ≤ 64) script.types
-  pub sorts : length script.types ≤ 16383
-  pub allowed : All (IsAllowed (length script.types)) script.commands
-  pub few : length script.commands ≤ 1000000
-  pub built : All (IsBuilt Idle) script.commands
-  pub timely : AreTimely script.commands
+-- the script whose types a heap has, with these commands
+abbrev pub script_on : Setup → List Command → Script
+script_on setup commands = record { types = setup.types; commands = commands }
+
+-- what the script says is built, and in the ranges that a heap without callbacks wants
+pub record IsRunnable (script : Script) : Type 0 where
+  pub types : AreBuiltTypes script.types
+  pub commands : AreBuiltCommands script.commands
+  pub ranges : IsInRanges 0 script

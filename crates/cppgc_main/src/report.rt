@@ -1,53 +1,54 @@
 // The report of a script, printed while its commands are done.
 
 ghost use Rattle.std.specs.Prelude.{◌≡◌, ◌+◌, ◌++◌, ◌<◌, ◌≤◌, true};
-ghost use Rattle.std.specs.Prelude.{false, [], length, All, OnOk, OnErr};
+ghost use Rattle.std.specs.Prelude.{false, [], length, replicate, All, OnOk, OnErr};
 ghost use Rattle.gc_graph.specs.State.{empty_state};
 ghost use Rattle.gc_graph.specs.Step.{Step};
-ghost use Rattle.heap_engine.specs.Built.{IsBuilt};
+ghost use Rattle.gc_graph.specs.Built.{IsBuiltIn, AreBuiltCommands};
 ghost use Rattle.gc_graph.specs.CycleSteps.{is_marking};
 ghost use Rattle.gc_graph.specs.Lawful.{IsAllowed};
 ghost use Rattle.gc_graph.specs.Report.{line_bytes, lines_bytes, type_lines};
-ghost use Rattle.heap_script.specs.Built.{AreTimely};
 ghost use Rattle.heap_script.specs.Causes.{HasCause};
 ghost use Rattle.heap_script.specs.Devices.{Writes};
 ghost use Rattle.heap_script.specs.Pieces.{no_pieces, with_held, TookMore};
-ghost use Rattle.gc_graph.specs.declared.phase.Phase.TheVariants.{Idle};
-ghost use Rattle.cppgc_main.specs.Setting.{IsRunnable, setup_of};
+ghost use Rattle.cppgc_main.specs.Setting.{IsRunnable, setup_of, script_on};
 ghost use Rattle.cppgc_main.specs.Printed.{IsPrintedRun, IsPartRun};
 ghost use Rattle.cppgc_main.specs.Headline.{IsWholeRun, IsCutShort};
 
 use gc_graph::{Command, Line};
 use heap_engine::Heap;
-use heap_script::{Failed, Pieces, Script, Sink};
+use heap_script::{Failed, Pieces, Sink};
 
-/// Does the commands of the script on a new heap, prints its report, and closes the heap.
+/// Does the commands of a script on a new heap, prints the report, and closes the heap. So many
+/// types has the heap.
 pub(crate) fn print_report<K: Sink>(
     heap: &mut Heap,
-    script: &Script,
+    types: u32,
+    commands: &[Command],
     pieces: &mut Pieces,
     sink: &mut K,
 ) -> Result<(), Failed>
-    requires runnable { IsRunnable script.now }
-    requires setup { heap.old.setup ≡ setup_of heap.old.setup.shape script.now.types }
+    requires runnable { IsRunnable (script_on heap.old.setup commands.now) }
+    requires setup { heap.old.setup ≡ setup_of heap.old.setup.shape heap.old.setup.types }
+    requires types { types ≡ length heap.old.setup.types }
     requires start { heap.old.state ≡ empty_state }
     requires fresh { heap.old.history ≡ [] }
     requires opened { heap.old.closed ≡ false }
     requires empty { pieces.old ≡ no_pieces }
     ensures done { OnOk result
-        (IsWholeRun heap.old.setup.shape script.now
+        (IsWholeRun heap.old.setup.shape (script_on heap.old.setup commands.now)
         (K.written sink.old) (K.written sink.new) heap.new) }
     ensures part { OnErr result
-        (IsCutShort heap.old.setup.shape script.now
+        (IsCutShort heap.old.setup.shape (script_on heap.old.setup commands.now)
         (K.written sink.old) (K.written sink.new)) }
     ensures cause { HasCause (K.faults sink.old) (K.faults sink.new) result }
 {
     gc_graph::runs_are_replayed();
-    match print_types(script.types(), pieces, sink) {
+    match print_types(types, pieces, sink) {
         Ok(()) => {}
         Err(failed) => return Err(failed),
     }
-    match print_all(heap, script.commands(), pieces, sink) {
+    match print_all(heap, commands, pieces, sink) {
         Ok(()) => {}
         Err(failed) => return Err(failed),
     }
@@ -69,17 +70,16 @@ fn print_end<K: Sink>(line: &Line, pieces: &mut Pieces, sink: &mut K) -> Result<
     }
 }
 
-/// Prints a line for each type.
-fn print_types<K: Sink>(types: &[u32], pieces: &mut Pieces, sink: &mut K) -> Result<(), Failed>
-    requires few { length types.now ≤ 16383 }
+/// Prints a line for each of so many types.
+fn print_types<K: Sink>(count: u32, pieces: &mut Pieces, sink: &mut K) -> Result<(), Failed>
     ensures bytes { Writes (with_held (K.written sink.old) pieces.old)
-        (with_held (K.written sink.new) pieces.new) (lines_bytes (type_lines 0 types.now)) result }
+        (with_held (K.written sink.new) pieces.new)
+        (lines_bytes (type_lines 0 (replicate count 0))) result }
     ensures taken { TookMore (K.written sink.old) (K.written sink.new) }
     ensures cause { HasCause (K.faults sink.old) (K.faults sink.new) result }
 {
-    for index in 0..types.len() {
-        let line = Line::TypeLine { t: index as u32 };
-        match pieces.print(&line, sink) {
+    for t in 0..count {
+        match pieces.print(&Line::TypeLine { t }, sink) {
             Ok(()) => {}
             Err(failed) => return Err(failed),
         }
@@ -99,8 +99,7 @@ fn print_all<K: Sink>(
     requires opened { heap.old.closed ≡ false }
     requires allowed { All (IsAllowed (length heap.old.setup.types)) commands.now }
     requires few { length commands.now ≤ 1000000 }
-    requires built { All (IsBuilt Idle) commands.now }
-    requires timely { AreTimely commands.now }
+    requires built { AreBuiltCommands commands.now }
     ensures done { OnOk result (IsPrintedRun heap.old.setup commands.now
         (with_held (K.written sink.old) pieces.old)
         (with_held (K.written sink.new) pieces.new) heap.new) }
@@ -131,7 +130,7 @@ fn print_outcome<K: Sink>(
     requires few { heap.old.state.ordinal < 1000000 }
     requires opened { heap.old.closed ≡ false }
     requires allowed { IsAllowed (length heap.old.setup.types) command.now }
-    requires built { IsBuilt heap.old.state.phase command.now }
+    requires built { IsBuiltIn heap.old.state.phase command.now }
     ensures step { Step heap.old.setup heap.old.state command.now
         heap.new.piece heap.new.lines heap.new.state }
     ensures calm { is_marking heap.new.state.phase ≡ false }

@@ -8,20 +8,24 @@ ghost use Rattle.gc_graph.specs.Shapes.{IsShape};
 ghost use Rattle.cppgc_main.specs.Options.{shape_asked};
 ghost use Rattle.cppgc_main.specs.Setting.{shape_of, IsRunnable};
 ghost use Rattle.cppgc_main.specs.Headline.{RunsScript, RunsBytes, status_of_fault, IsUntouched};
-ghost use Rattle.cppgc_main.specs.Headline.{IsDone, IsStopped, IsTooLongInput, IsFaultyInput};
+ghost use Rattle.cppgc_main.specs.Headline.{IsDone, IsStopped, IsTooLongInput, IsUnbuiltInput};
 
 use super::options::config_asked;
 use super::report::print_report;
 use super::status::Status;
 use heap_engine::{Config, Heap};
 use heap_script::{
-    Pieces, ReadError, Script, ScriptFault, Sink, Source, line_count, read_script, read_whole,
+    Pieces, ReadError, Script, ScriptFault, Sink, Source, read_built, read_whole,
 };
 use std::alloc::Global;
+use type_table::TypeTable;
 
 const MOST_BYTES: usize = 16_777_216;
 
-const MOST_LINES: usize = 1_000_000;
+// `ScriptFault` tells these.
+const NO_MEMORY: u32 = 0;
+
+const TOO_LONG: u32 = 8;
 
 /// Reads a script, runs it on one heap, and writes its report. When memory is wanting is free.
 pub fn run<S: Source, K: Sink>(
@@ -39,7 +43,7 @@ pub fn run<S: Source, K: Sink>(
     ensures too_long { result ≡ Status.TooLong →
         IsTooLongInput (S.left source.old) (S.left source.new) }
     ensures script { (line reason : ℕ) → result ≡ Status.Script line reason →
-        (reason ≡ 9) × IsFaultyInput (S.left source.old) (S.left source.new) line }
+        (reason ≡ 9) × IsUnbuiltInput (S.left source.old) (S.left source.new) line }
     ensures usage { (result ≡ Status.Usage) ↔ (shape_asked (map string_bytes words.now) ≡ None) }
     ensures source_untouched { result ≡ Status.Usage → IsUntouched
         (S.left source.old) (S.left source.new) (S.faults source.old) (S.faults source.new) }
@@ -86,11 +90,9 @@ pub(crate) fn run_bytes<K: Sink>(
     ensures later { K.faults sink.old ≤ K.faults sink.new }
     ensures steady { ¬ (result ≡ Status.WriteFault) → K.faults sink.new ≡ K.faults sink.old }
 {
-    if bytes.len() > MOST_BYTES || line_count(bytes) > MOST_LINES {
-        return Status::TooLong;
-    }
-    match read_script(alloc, bytes) {
-        Ok(script) => run_script(alloc, config, &script, sink, kept),
+    gc_graph::scripts_are_in_ranges();
+    match read_built(alloc, bytes, 0) {
+        Ok(script) => run_script(alloc, config, script, sink, kept),
         Err(fault) => status_of(fault),
     }
 }
@@ -98,12 +100,13 @@ pub(crate) fn run_bytes<K: Sink>(
 fn status_of(fault: ScriptFault) -> Status
     ensures { result ≡ status_of_fault fault }
 {
-    if fault.reason == 0 {
-        return Status::NoMemory;
-    }
-    Status::Script {
-        line: fault.line,
-        reason: fault.reason,
+    match fault.reason {
+        NO_MEMORY => Status::NoMemory,
+        TOO_LONG => Status::TooLong,
+        reason => Status::Script {
+            line: fault.line,
+            reason,
+        },
     }
 }
 
@@ -111,14 +114,14 @@ fn status_of(fault: ScriptFault) -> Status
 fn run_script<K: Sink>(
     alloc: Global,
     config: Config,
-    script: &Script,
+    script: Script,
     sink: &mut K,
     kept: &mut Option<Heap>,
 ) -> Status
     requires empty { kept.old ≡ None }
     requires shape { IsShape (shape_of config) }
-    requires runnable { IsRunnable script.now }
-    ensures answer { RunsScript (shape_of config) script.now
+    requires runnable { IsRunnable script }
+    ensures answer { RunsScript (shape_of config) script
         (K.written sink.old) (K.written sink.new) kept.new result }
     ensures fault { result ≡ Status.WriteFault → Rose (K.faults sink.old) (K.faults sink.new) }
     ensures later { K.faults sink.old ≤ K.faults sink.new }
@@ -128,8 +131,14 @@ fn run_script<K: Sink>(
         Ok(pieces) => pieces,
         Err(_) => return Status::NoMemory,
     };
-    match Heap::new(alloc, config, script.types()) {
-        Ok(mut heap) => match print_report(&mut heap, script, &mut pieces, sink) {
+    let count = script.types().len() as u32;
+    let (types, commands) = script.into_parts();
+    let table = match TypeTable::new(alloc, types, 0) {
+        Ok(table) => table,
+        Err(_) => return Status::NoMemory,
+    };
+    match Heap::new(alloc, config, table) {
+        Ok(mut heap) => match print_report(&mut heap, count, &commands, &mut pieces, sink) {
             Ok(()) => {
                 *kept = Some(heap);
                 Status::Done
