@@ -23,7 +23,7 @@ use Rattle.gc_graph.specs.Sweep.{SweepsInPhase, ContinuesSweep}
 use Rattle.gc_graph.specs.CycleSteps.{HasSwept, StepSweepAll, is_marking, is_sweeping}
 use Rattle.gc_graph.specs.ObjectSteps.{IsFull, IsMade, IsRead, StepNew, StepSet, StepGet}
 use Rattle.gc_graph.specs.Step.{Step}
-use Rattle.heap_engine.specs.Built.{IsBuilt}
+use Rattle.gc_graph.specs.Built.{IsBuiltIn}
 use Rattle.heap_script.specs.Built.{opens_sweep, is_sweep_open, AreTimely}
 
 -- ---- one command
@@ -94,7 +94,7 @@ abbrev pub IsIdleUnless : Bool → State → Type 0
 IsIdleUnless opened s = opened ≡ false → s.phase ≡ Idle
 
 step_phase : (setup : Setup) (old new : State) (command : Command) (piece : List Entry) (lines : List Line) (opened : Bool) → is_marking old.phase ≡ false
-    → IsBuilt Idle command → IsIdleUnless opened old → Step setup old command piece lines new → IsIdleUnless (opens_sweep opened command) new
+    → IsBuiltIn Idle command → IsIdleUnless opened old → Step setup old command piece lines new → IsIdleUnless (opens_sweep opened command) new
 step_phase setup old new (C.New p t e) piece lines opened calm built idle step = λ off. new_keeps setup old new p t e lines (idle off) step.1 ∙ idle off
 step_phase setup old new (C.Set p f q) piece lines opened calm built idle step = λ off. set_keeps old new p f _ lines step.1 ∙ idle off
 step_phase setup old new (C.SetNull p f) piece lines opened calm built idle step = λ off. set_keeps old new p f Null lines step.1 ∙ idle off
@@ -103,7 +103,7 @@ step_phase setup old new (C.Drop p) piece lines opened calm built idle step = λ
 step_phase setup old new (C.GcNow want) piece lines opened calm built idle step = λ off. absurd (true≢false off)
 step_phase setup old new C.SweepAll piece lines opened calm built idle step = λ off. sweep_ends setup old new lines old.phase refl calm step.1
 step_phase setup old new C.Stat piece lines opened calm built idle step = λ off. ap (λ (s : State). s.phase) step.1.3 ∙ idle off
-step_phase setup old new command piece lines opened calm built idle step = absurd built
+step_phase setup old new command piece lines opened calm built idle step = absurd (true≢false (sym built))
 
 -- ---- the commands in order
 
@@ -114,11 +114,11 @@ sweep_open_more commands i d low =
 
 -- one command more was done
 pub idle_more : (setup : Setup) (mid new : State) (commands : List Command) (i : ℕ) (d : Command) (piece : List Entry) (lines : List Line) → i < length commands
-    → All (IsBuilt Idle) commands → is_marking mid.phase ≡ false → IsIdleUnless (is_sweep_open (take i commands)) mid
+    → All (IsBuiltIn Idle) commands → is_marking mid.phase ≡ false → IsIdleUnless (is_sweep_open (take i commands)) mid
     → Step setup mid (get_or commands i d) piece lines new → IsIdleUnless (is_sweep_open (take (i + 1) commands)) new
 idle_more setup mid new commands i d piece lines low built calm idle step =
     subst (λ b. IsIdleUnless b new) (sym (sweep_open_more commands i d low))
-    (step_phase setup mid new (get_or commands i d) piece lines (is_sweep_open (take i commands)) calm (All-get_or (IsBuilt Idle) commands i d low built) idle step)
+    (step_phase setup mid new (get_or commands i d) piece lines (is_sweep_open (take i commands)) calm (All-get_or (IsBuiltIn Idle) commands i d low built) idle step)
 
 -- ---- the next command can be done
 
@@ -129,7 +129,7 @@ module _ {X : Type 0} where
   get_at (x ∷ xs) (suc i) d low = get_at xs i d (omega arith)
 
 built_case : (commands : List Command) (i : ℕ) (state : State) (command : Command) → AreTimely commands
-    → IsIdleUnless (is_sweep_open (take i commands)) state → slice_get commands i ≡ Some command → IsBuilt Idle command → IsBuilt state.phase command
+    → IsIdleUnless (is_sweep_open (take i commands)) state → slice_get commands i ≡ Some command → IsBuiltIn Idle command → IsBuiltIn state.phase command
 built_case commands i state (C.New p t e) timely idle at built = idle (timely i p t e at)
 built_case commands i state (C.Set p f q) timely idle at built = built
 built_case commands i state (C.SetNull p f) timely idle at built = built
@@ -138,9 +138,9 @@ built_case commands i state (C.Drop p) timely idle at built = built
 built_case commands i state (C.GcNow want) timely idle at built = built
 built_case commands i state C.SweepAll timely idle at built = built
 built_case commands i state C.Stat timely idle at built = built
-built_case commands i state command timely idle at built = absurd built
+built_case commands i state command timely idle at built = absurd (true≢false (sym built))
 
-pub built_next : (commands : List Command) (i : ℕ) (d : Command) (state : State) → i < length commands → All (IsBuilt Idle) commands → AreTimely commands
-    → IsIdleUnless (is_sweep_open (take i commands)) state → IsBuilt state.phase (get_or commands i d)
+pub built_next : (commands : List Command) (i : ℕ) (d : Command) (state : State) → i < length commands → All (IsBuiltIn Idle) commands → AreTimely commands
+    → IsIdleUnless (is_sweep_open (take i commands)) state → IsBuiltIn state.phase (get_or commands i d)
 built_next commands i d state low built timely idle =
-    built_case commands i state (get_or commands i d) timely idle (get_at commands i d low) (All-get_or (IsBuilt Idle) commands i d low built)
+    built_case commands i state (get_or commands i d) timely idle (get_at commands i d low) (All-get_or (IsBuiltIn Idle) commands i d low built)

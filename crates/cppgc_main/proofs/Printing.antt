@@ -1,5 +1,5 @@
 -- Runs that are printed command by command, and why they are lawful.
-use Rattle.std.proofs.Common.{◌≡◌, ℕ, zero, suc, ◌+◌, ◌<◌, List, [], ◌∷◌, ◌++◌, length, take, get_or, Option, Some, refl, sym, ap, ◌∙◌, subst, arith}
+use Rattle.std.proofs.Common.{◌≡◌, ℕ, zero, suc, ◌+◌, ◌<◌, List, [], ◌∷◌, ◌++◌, length, take, get_or, Option, Some, refl, sym, ap, ◌∙◌, subst, arith, true≢false}
 use Rattle.std.specs.List.{All, Contains, slice_get}
 use Rattle.std.proofs.lemmas.List.{append-nil, map-append, take_more, take_all}
 use Rattle.std.proofs.lemmas.List.Elements.{All-head, All-tail}
@@ -10,7 +10,7 @@ use Rattle.gc_graph.specs.declared.region.Entry.{Entry}
 use Rattle.gc_graph.specs.declared.phase.Phase.TheVariants.{Idle}
 use Rattle.gc_graph.specs.State.{Setup, State, empty_state}
 use Rattle.gc_graph.specs.Step.{Step}
-use Rattle.heap_engine.specs.Built.{IsBuilt}
+use Rattle.gc_graph.specs.Built.{IsBuiltIn}
 use Rattle.gc_graph.specs.HistoryLaw.{RunsAreReplayed}
 use Rattle.gc_graph.specs.Lawful.{Outcome, Run, IsLawful, history_of, last_state}
 use Rattle.gc_graph.specs.Report.{lines_bytes, outcomes_bytes}
@@ -117,7 +117,7 @@ at_of_get P (y ∷ xs) zero x all at = subst P (let same : y ≡ x = cc in same)
 at_of_get P (y ∷ xs) (suc i) x all at = at_of_get P xs i x (All-tail P y xs all) at
 
 -- where the built commands left no thread running, the run is lawful
-pub lawful_run : (setup : Setup) (commands : List Command) (outcomes : List Outcome) → RunsAreReplayed → All (IsBuilt Idle) commands
+pub lawful_run : (setup : Setup) (commands : List Command) (outcomes : List Outcome) → RunsAreReplayed → All (IsBuiltIn Idle) commands
     → Run setup empty_state commands outcomes → (last_state empty_state outcomes).running ≡ []
     → IsLawful setup commands outcomes (history_of outcomes)
 lawful_run setup commands outcomes law built run alone = record {
@@ -125,7 +125,7 @@ lawful_run setup commands outcomes law built run alone = record {
   pieces = refl;
   legal = (law setup commands outcomes run).legal;
   unjoined = λ j there. absurd (none_in j (subst (λ (js : List ℕ). Contains js j) alone there));
-  published = λ g i outcome joins at. absurd (at_of_get (IsBuilt Idle) commands g C.ThreadsGo built joins.go);
+  published = λ g i outcome joins at. absurd (true≢false (sym (at_of_get (IsBuiltIn Idle) commands g C.ThreadsGo built joins.go)));
 } where
   none_in : (j : ℕ) → Contains [] j → ⊥
   none_in j there = omega (arith, there.1)

@@ -8,7 +8,7 @@ use Rattle.gc_graph.specs.declared.command.Command.{Command}
 use Rattle.gc_graph.specs.declared.line.Line.{Line}
 use Rattle.gc_graph.specs.declared.phase.Phase.TheVariants.{Idle}
 use Rattle.gc_graph.specs.State.{State, Shape, empty_state}
-use Rattle.heap_engine.specs.Built.{IsBuilt}
+use Rattle.gc_graph.specs.Built.{IsBuiltIn}
 use Rattle.gc_graph.specs.HistoryLaw.{RunsAreReplayed}
 use Rattle.gc_graph.specs.Lawful.{IsLawful, IsEndLine, history_of}
 use Rattle.gc_graph.specs.Report.{line_bytes, lines_bytes, type_lines, outcomes_bytes}
@@ -36,7 +36,7 @@ end_of : (shape : Shape) (script : BuiltScript) (x y : Option (List ℕ)) (old m
     → IsEndLine mid.setup mid.state end → IsEndLine (setup_of shape script.types) mid.state end
 end_of shape script x y old mid end has ended = subst (λ s. IsEndLine s mid.state end) (has.same ∙ has.setup) ended
 
-pub whole_run : (shape : Shape) (script : BuiltScript) (law : RunsAreReplayed) (built : All (IsBuilt Idle) script.commands) (w x y z : Option (List ℕ)) (old mid heap : View) (end : Line)
+pub whole_run : (shape : Shape) (script : BuiltScript) (law : RunsAreReplayed) (built : All (IsBuiltIn Idle) script.commands) (w x y z : Option (List ℕ)) (old mid heap : View) (end : Line)
     → Grew w x (lines_bytes (type_lines 0 script.types)) → HasRun shape script x y old mid → mid.state.ordinal ≡ length script.commands
     → IsEndLine mid.setup mid.state end → heap ≡ record mid { closed = true } → Grew y z (line_bytes end)
     → IsWholeRun shape script w z heap
@@ -56,7 +56,7 @@ whole_run shape script law built w x y z old mid heap end types has count ended 
       count = count;
     })
 
-pub cut_in_types : (shape : Shape) (script : BuiltScript) (law : RunsAreReplayed) (built : All (IsBuilt Idle) script.commands) (w x : Option (List ℕ)) (old : View) → old.state ≡ empty_state → old.history ≡ []
+pub cut_in_types : (shape : Shape) (script : BuiltScript) (law : RunsAreReplayed) (built : All (IsBuiltIn Idle) script.commands) (w x : Option (List ℕ)) (old : View) → old.state ≡ empty_state → old.history ≡ []
     → GrewByFront w x (lines_bytes (type_lines 0 script.types)) → IsCutShort shape script w x
 cut_in_types shape script law built w x old start fresh front =
     let none : IsPrintedRun (setup_of shape script.types) (take 0 script.commands) x x old =
@@ -66,14 +66,14 @@ cut_in_types shape script law built w x old start fresh front =
       within = omega arith;
       outcomes = none.outcomes;
       history = history_of none.outcomes;
-      lawful = lawful_run (setup_of shape script.types) (take 0 script.commands) none.outcomes law (All-take (IsBuilt Idle) 0 script.commands built) none.run
+      lawful = lawful_run (setup_of shape script.types) (take 0 script.commands) none.outcomes law (All-take (IsBuiltIn Idle) 0 script.commands built) none.run
           (ap (λ (s : State). s.running) (sym none.last) ∙ none.alone);
       ending = [];
       ends = inl refl;
       written = longer w x _ [] (longer w x _ (outcomes_bytes (printed_lines none.outcomes)) front);
     }
 
-pub cut_in_outcomes : (shape : Shape) (script : BuiltScript) (law : RunsAreReplayed) (built : All (IsBuilt Idle) script.commands) (w x y : Option (List ℕ)) (old : View) → Grew w x (lines_bytes (type_lines 0 script.types))
+pub cut_in_outcomes : (shape : Shape) (script : BuiltScript) (law : RunsAreReplayed) (built : All (IsBuiltIn Idle) script.commands) (w x y : Option (List ℕ)) (old : View) → Grew w x (lines_bytes (type_lines 0 script.types))
     → old.setup ≡ setup_of shape script.types → IsPartRun old.setup script.commands x y → IsCutShort shape script w y
 cut_in_outcomes shape script law built w x y old types setup part =
     let run = subst (λ s. IsPartRun s script.commands x y) setup part in
@@ -82,14 +82,14 @@ cut_in_outcomes shape script law built w x y old types setup part =
       within = run.within;
       outcomes = run.outcomes;
       history = history_of run.outcomes;
-      lawful = lawful_run (setup_of shape script.types) (take run.number script.commands) run.outcomes law (All-take (IsBuilt Idle) run.number script.commands built)
+      lawful = lawful_run (setup_of shape script.types) (take run.number script.commands) run.outcomes law (All-take (IsBuiltIn Idle) run.number script.commands built)
           run.run run.alone;
       ending = [];
       ends = inl refl;
       written = longer w y _ [] (grew_front w x y _ _ types run.written);
     }
 
-pub cut_in_end : (shape : Shape) (script : BuiltScript) (law : RunsAreReplayed) (built : All (IsBuilt Idle) script.commands) (w x y z : Option (List ℕ)) (old mid : View) (end : Line)
+pub cut_in_end : (shape : Shape) (script : BuiltScript) (law : RunsAreReplayed) (built : All (IsBuiltIn Idle) script.commands) (w x y z : Option (List ℕ)) (old mid : View) (end : Line)
     → Grew w x (lines_bytes (type_lines 0 script.types)) → HasRun shape script x y old mid
     → IsEndLine mid.setup mid.state end → GrewByFront y z (line_bytes end) → IsCutShort shape script w z
 cut_in_end shape script law built w x y z old mid end types has ended last =
@@ -112,7 +112,7 @@ cut_in_end shape script law built w x y z old mid end types has ended last =
 
 -- ---- the end line is written or not
 
-pub whole_at_end : {T E : Type 0} (shape : Shape) (script : BuiltScript) (law : RunsAreReplayed) (built : All (IsBuilt Idle) script.commands) (w x y z : Option (List ℕ)) (old mid heap : View) (end : Line) (result : Result T E)
+pub whole_at_end : {T E : Type 0} (shape : Shape) (script : BuiltScript) (law : RunsAreReplayed) (built : All (IsBuiltIn Idle) script.commands) (w x y z : Option (List ℕ)) (old mid heap : View) (end : Line) (result : Result T E)
     → Grew w x (lines_bytes (type_lines 0 script.types)) → HasRun shape script x y old mid → mid.state.ordinal ≡ length script.commands
     → IsEndLine mid.setup mid.state end → heap ≡ record mid { closed = true } → Writes y z (line_bytes end) result
     → OnOk result (IsWholeRun shape script w z heap)
@@ -120,7 +120,7 @@ whole_at_end shape script law built w x y z old mid heap end (Ok u) types has co
     whole_run shape script law built w x y z old mid heap end types has count ended is last
 whole_at_end shape script law built w x y z old mid heap end (Err e) types has count ended is last = tt
 
-pub cut_at_end : {T E : Type 0} (shape : Shape) (script : BuiltScript) (law : RunsAreReplayed) (built : All (IsBuilt Idle) script.commands) (w x y z : Option (List ℕ)) (old mid : View) (end : Line) (result : Result T E)
+pub cut_at_end : {T E : Type 0} (shape : Shape) (script : BuiltScript) (law : RunsAreReplayed) (built : All (IsBuiltIn Idle) script.commands) (w x y z : Option (List ℕ)) (old mid : View) (end : Line) (result : Result T E)
     → Grew w x (lines_bytes (type_lines 0 script.types)) → HasRun shape script x y old mid → IsEndLine mid.setup mid.state end
     → Writes y z (line_bytes end) result → OnErr result (IsCutShort shape script w z)
 cut_at_end shape script law built w x y z old mid end (Ok u) types has ended last = tt

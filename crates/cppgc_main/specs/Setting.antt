@@ -3,7 +3,7 @@ use Rattle.std.specs.Prelude.{ℕ, ◌≤◌, List, [], length, map, All}
 use Rattle.gc_graph.specs.declared.phase.Phase.TheVariants.{Idle}
 use Rattle.gc_graph.specs.State.{Setup, Shape}
 use Rattle.gc_graph.specs.Fields.{strong_type}
-use Rattle.heap_engine.specs.Built.{IsBuilt}
+use Rattle.gc_graph.specs.Built.{IsBuiltIn}
 use Rattle.gc_graph.specs.Lawful.{IsAllowed}
 use Rattle.heap_script.specs.Built.{BuiltScript, AreTimely}
 use Rattle.heap_engine.specs.declared.heap.Config.{Config}
@@ -26,5 +26,5 @@ pub record IsRunnable (script : BuiltScript) : Type 0 where
   pub sorts : length script.types ≤ 16383
   pub allowed : All (IsAllowed (length script.types)) script.commands
   pub few : length script.commands ≤ 1000000
-  pub built : All (IsBuilt Idle) script.commands
+  pub built : All (IsBuiltIn Idle) script.commands
   pub timely : AreTimely script.commands

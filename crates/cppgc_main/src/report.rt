@@ -4,7 +4,7 @@ ghost use Rattle.std.specs.Prelude.{◌≡◌, ◌+◌, ◌++◌, ◌<◌, ◌�
 ghost use Rattle.std.specs.Prelude.{false, [], length, All, OnOk, OnErr};
 ghost use Rattle.gc_graph.specs.State.{empty_state};
 ghost use Rattle.gc_graph.specs.Step.{Step};
-ghost use Rattle.heap_engine.specs.Built.{IsBuilt};
+ghost use Rattle.gc_graph.specs.Built.{IsBuiltIn};
 ghost use Rattle.gc_graph.specs.CycleSteps.{is_marking};
 ghost use Rattle.gc_graph.specs.Lawful.{IsAllowed};
 ghost use Rattle.gc_graph.specs.Report.{line_bytes, lines_bytes, type_lines};
@@ -99,7 +99,7 @@ fn print_all<K: Sink>(
     requires opened { heap.old.closed ≡ false }
     requires allowed { All (IsAllowed (length heap.old.setup.types)) commands.now }
     requires few { length commands.now ≤ 1000000 }
-    requires built { All (IsBuilt Idle) commands.now }
+    requires built { All (IsBuiltIn Idle) commands.now }
     requires timely { AreTimely commands.now }
     ensures done { OnOk result (IsPrintedRun heap.old.setup commands.now
         (with_held (K.written sink.old) pieces.old)
@@ -131,7 +131,7 @@ fn print_outcome<K: Sink>(
     requires few { heap.old.state.ordinal < 1000000 }
     requires opened { heap.old.closed ≡ false }
     requires allowed { IsAllowed (length heap.old.setup.types) command.now }
-    requires built { IsBuilt heap.old.state.phase command.now }
+    requires built { IsBuiltIn heap.old.state.phase command.now }
     ensures step { Step heap.old.setup heap.old.state command.now
         heap.new.piece heap.new.lines heap.new.state }
     ensures calm { is_marking heap.new.state.phase ≡ false }

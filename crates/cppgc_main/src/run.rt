@@ -1,7 +1,8 @@
 // One run of the program: from the bytes of a script to its report.
 
 ghost use Rattle.std.specs.Prelude.{◌≡◌, ◌↔◌, ℕ, ◌<◌};
-ghost use Rattle.std.specs.Prelude.{◌≤◌, [], length, map, string_bytes, None, MatchOption};
+ghost use Rattle.std.specs.Prelude.{◌≤◌, [], length, map, string_bytes, None, MatchOption, IfOk};
+ghost use Rattle.gc_graph.specs.Fields.{strong_type};
 ghost use Rattle.heap_script.specs.Causes.{Rose};
 ghost use Rattle.heap_script.specs.Devices.{Grew};
 ghost use Rattle.gc_graph.specs.Shapes.{IsShape};
@@ -13,11 +14,13 @@ ghost use Rattle.cppgc_main.specs.Headline.{IsDone, IsStopped, IsTooLongInput, I
 use super::options::config_asked;
 use super::report::print_report;
 use super::status::Status;
+use gc_graph::{Kind, NoMemory};
 use heap_engine::{Config, Heap};
 use heap_script::{
     Pieces, ReadError, Script, ScriptFault, Sink, Source, line_count, read_script, read_whole,
 };
 use std::alloc::Global;
+use type_table::{TypeDecl, TypeTable};
 
 const MOST_BYTES: usize = 16_777_216;
 
@@ -128,7 +131,11 @@ fn run_script<K: Sink>(
         Ok(pieces) => pieces,
         Err(_) => return Status::NoMemory,
     };
-    match Heap::new(alloc, config, script.types()) {
+    let types = match table_of(alloc, script.types()) {
+        Ok(types) => types,
+        Err(_) => return Status::NoMemory,
+    };
+    match Heap::new(alloc, config, types) {
         Ok(mut heap) => match print_report(&mut heap, script, &mut pieces, sink) {
             Ok(()) => {
                 *kept = Some(heap);
@@ -138,4 +145,26 @@ fn run_script<K: Sink>(
         },
         Err(_) => Status::NoMemory,
     }
+}
+
+/// The table of types with so many strong fields, and no others.
+fn table_of(alloc: Global, counts: &[u32]) -> Result<TypeTable, NoMemory>
+    ensures { IfOk result (λ table. table ≡ map strong_type counts.now) }
+{
+    let mut types = Vec::new(alloc);
+    for count in counts {
+        types.push(strong_type_of(alloc, *count)?)?;
+    }
+    match TypeTable::new(alloc, types, 0) {
+        Ok(table) => Ok(table),
+        Err(_) => Err(NoMemory),
+    }
+}
+
+/// A type with so many strong fields.
+fn strong_type_of(alloc: Global, count: u32) -> Result<TypeDecl, NoMemory>
+    ensures { IfOk result (λ decl. decl ≡ strong_type count) }
+{
+    let kinds = vec![in alloc; Kind::Strong; count as usize]?;
+    Ok(TypeDecl::new(kinds, Vec::new(alloc)))
 }
