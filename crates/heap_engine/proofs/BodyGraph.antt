@@ -1,9 +1,10 @@
 -- The graph that the bodies stand for.
-use Rattle.std.proofs.Common.{◌≡◌, ℕ, zero, suc, ◌+◌, ◌<◌, Bool, true, ◌&&◌, List, [], ◌∷◌, get_or, map, replicate, refl, sym, ap, ◌∙◌, subst, inl, inr, arith, eqb}
+use Rattle.std.proofs.Common.{◌≡◌, ℕ, zero, suc, ◌+◌, ◌<◌, Bool, true, ◌&&◌, List, [], ◌∷◌, get_or, map, length, ◌-◌, refl, sym, ap, ◌∙◌, subst, inl, inr, arith, eqb}
 use mathlib.Core.Logic.{◌⊎◌}
 use Rattle.std.specs.List.{Contains, list_any}
 use Rattle.std.proofs.lemmas.Bool.{true≢false, cases_lt, cases_eq, cond-true, cond-false, or_cases, or_left, or_right, and_parts, and_from, eqb-true, eq-eqb, ne_eqb}
 use Rattle.std.proofs.lemmas.List.{get_or_past}
+use Rattle.std.proofs.lemmas.List.Elements.{All-get_or}
 use Rattle.std.proofs.lemmas.List.FromFn.{get_or-map-range_with_len, length-map-range_with_len}
 use Rattle.gc_graph.specs.declared.kind.Kind.{Kind}
 use Rattle.gc_graph.specs.declared.kind.Kind.TheVariants.{Strong, Weak, Pair, Plain}
@@ -11,11 +12,11 @@ use Rattle.gc_graph.specs.declared.kind.Value.{Value}
 use Rattle.gc_graph.specs.declared.kind.Value.TheVariants.{Null, Ref, Word}
 use Rattle.gc_graph.specs.Graph.{Object, object_at, no_object, strong_targets, pair_targets, leads_by}
 use Rattle.gc_graph.specs.State.{ObjectType, no_type}
-use Rattle.gc_graph.specs.Fields.{strong_type}
 use Rattle.page_words.specs.Bodies.{Body}
 use Rattle.page_words.specs.Seat.{SeatView, IsView}
-use Rattle.heap_engine.specs.Marking.{fields_by, values_in, object_in, object_there, graph_in}
+use Rattle.heap_engine.specs.Marking.{ArePairless, strong_offsets, word_at, values_in, object_in, object_there, graph_in}
 use Rattle.heap_engine.proofs.MarkCounts.{Contains-cons_cases, Contains-cons, Contains-head, Contains-map, Contains-map_some}
+use Rattle.heap_engine.proofs.FieldKinds.{NamesIn, first_of, strong_offset, offset_strong, field_of_strong, strong_of_field, no_pair_targets}
 use Rattle.heap_engine.proofs.MarkLoops.{same_body}
 use Rattle.heap_engine.proofs.SweepSteps.{body_below}
 
@@ -243,91 +244,75 @@ body_leads types v test p q led =
             (w.0, Contains-cons b bodies w.0 w.1, w.2, w.3))
       ]
 
--- ---- strong fields alone
+-- ---- without pairs
 
-no_pairs : (k : ℕ) (vs : List Value) → pair_targets (replicate k Strong) vs ≡ []
-no_pairs zero vs = refl
-no_pairs (suc k) [] = refl
-no_pairs (suc k) (v ∷ vs) = no_pairs k vs
-
-field_of_strong : (k q : ℕ) (words : List ℕ) → Contains (strong_targets (replicate k Strong) (values_in (replicate k Strong) words)) q → (i : ℕ) × (i < k) × (get_or words i 0 ≡ q + 1)
-field_of_strong zero q words there = absurd (omega (arith, there.1))
-field_of_strong (suc k) q [] there = absurd (omega (arith, there.1))
-field_of_strong (suc k) q (zero ∷ words) there = (let w = field_of_strong k q words there in (suc w.0, omega (arith, w.1), w.2))
-field_of_strong (suc k) q (suc p ∷ words) there = elim (Contains-cons_cases p (strong_targets (replicate k Strong) (values_in (replicate k Strong) words)) q there) [
-  | inl here ↦ (0, omega arith, (let e : suc p ≡ q + 1 = omega arith in e))
-  | inr after ↦ (let w = field_of_strong k q words after in (suc w.0, omega (arith, w.1), w.2))
+pairless_kinds : (types : List ObjectType) (t : ℕ) → ArePairless types → Contains (get_or types t no_type).kinds Pair → ⊥
+pairless_kinds types t pairless pair = elim (cases_lt t (length types)) [
+  | inl low ↦ All-get_or (λ (type : ObjectType). Contains type.kinds Pair → ⊥) types t no_type low pairless pair
+  | inr past ↦ omega (arith, (subst (λ (type : ObjectType). Contains type.kinds Pair) (get_or_past types t no_type past) pair).1)
 ]
 
-strong_of_field : (k q i : ℕ) (words : List ℕ) → i < k → get_or words i 0 ≡ q + 1 → Contains (strong_targets (replicate k Strong) (values_in (replicate k Strong) words)) q
-strong_of_field zero q i words low is = absurd (omega arith)
-strong_of_field (suc k) q i [] low is = absurd (omega (arith, is))
-strong_of_field (suc k) q zero (zero ∷ words) low is = absurd (omega (arith, is))
-strong_of_field (suc k) q zero (suc p ∷ words) low is =
-    subst (λ x. Contains (p ∷ strong_targets (replicate k Strong) (values_in (replicate k Strong) words)) x) (let e : p ≡ q = omega arith in e)
-    (Contains-head p (strong_targets (replicate k Strong) (values_in (replicate k Strong) words)))
-strong_of_field (suc k) q (suc i) (zero ∷ words) low is = strong_of_field k q i words (omega arith) is
-strong_of_field (suc k) q (suc i) (suc p ∷ words) low is =
-    Contains-cons p (strong_targets (replicate k Strong) (values_in (replicate k Strong) words)) q (strong_of_field k q i words (omega arith) is)
+-- a body leads to what its strong fields name, and to nothing else
+pub field_leads : (types : List ObjectType) (test : ℕ → Bool) (b : Body) (offset q : ℕ) → Contains (strong_offsets types b) offset → word_at b offset ≡ q + 1
+    → IsLed test (object_in types b) q
+field_leads types test b offset q there is =
+    let kinds : List Kind = (get_or types b.ty no_type).kinds in
+    let field = strong_offset kinds offset there in
+    let at : offset - 2 ≡ first_of kinds field.0 = omega (arith, field.2) in
+    inl (strong_of_field kinds q field.0 b.fields field.1 (ap (λ n. get_or b.fields n 0) (sym at) ∙ is))
 
-strong_kinds : (numbers : List ℕ) (t : ℕ) → (get_or (map strong_type numbers) t no_type).kinds ≡ replicate (get_or numbers t 0) Strong
-strong_kinds [] t = refl
-strong_kinds (n ∷ numbers) zero = refl
-strong_kinds (n ∷ numbers) (suc t) = strong_kinds numbers t
-
-abbrev strong_object : List ℕ → Body → List Kind → Object
-strong_object numbers b kinds = record (object_in (map strong_type numbers) b) { kinds = kinds; values = values_in kinds b.fields }
-
-pub field_leads : (numbers : List ℕ) (test : ℕ → Bool) (b : Body) (i q : ℕ) → i < fields_by numbers b → get_or b.fields i 0 ≡ q + 1 → IsLed test (object_in (map strong_type numbers) b) q
-field_leads numbers test b i q low is =
-    subst (λ ks. IsLed test (strong_object numbers b ks) q) (sym (strong_kinds numbers b.ty)) (inl (strong_of_field (fields_by numbers b) q i b.fields low is))
-
-pub led_field : (numbers : List ℕ) (test : ℕ → Bool) (b : Body) (q : ℕ) → IsLed test (object_in (map strong_type numbers) b) q → (i : ℕ) × (i < fields_by numbers b) × (get_or b.fields i 0 ≡ q + 1)
-led_field numbers test b q led =
-    elim (subst (λ ks. IsLed test (strong_object numbers b ks) q) (strong_kinds numbers b.ty) led) [
-      | inl strong ↦ field_of_strong (fields_by numbers b) q b.fields strong
-      | inr pair ↦ absurd (omega (arith, (subst (λ (ps : List (ℕ × ℕ)). Contains ps (pair.0, q)) (no_pairs (fields_by numbers b) (values_in (replicate (fields_by numbers b) Strong) b.fields)) pair.1).1))
+pub led_field : (types : List ObjectType) (test : ℕ → Bool) (b : Body) (q : ℕ) → ArePairless types → IsLed test (object_in types b) q
+    → (offset : ℕ) × Contains (strong_offsets types b) offset × (word_at b offset ≡ q + 1)
+led_field types test b q pairless led =
+    let kinds : List Kind = (get_or types b.ty no_type).kinds in
+    elim led [
+      | inl strong ↦
+          (let names : NamesIn kinds b.fields q = field_of_strong kinds q b.fields strong in
+          let at : 2 + first_of kinds names.index - 2 ≡ first_of kinds names.index = omega arith in
+          (2 + first_of kinds names.index, offset_strong kinds names.index names.field, ap (λ n. get_or b.fields n 0) at ∙ names.word))
+      | inr pair ↦ absurd (omega (arith, (subst (λ (ps : List (ℕ × ℕ)). Contains ps (pair.0, q))
+          (no_pair_targets kinds (values_in kinds b.fields) (pairless_kinds types b.ty pairless)) pair.1).1))
     ]
 
--- with strong fields alone no key counts
-whatever_there : (numbers : List ℕ) (bodies : List Body) (test other : ℕ → Bool) (p q : ℕ) → IsLed test (object_there (map strong_type numbers) bodies p) q
-    → IsLed other (object_there (map strong_type numbers) bodies p) q
-whatever_there numbers [] test other p q led = absurd (nowhere test q led)
-whatever_there numbers (b ∷ bodies) test other p q led = elim (cases_eq b.place p) [
+-- no key counts
+whatever_there : (types : List ObjectType) (bodies : List Body) (test other : ℕ → Bool) (p q : ℕ) → ArePairless types → IsLed test (object_there types bodies p) q
+    → IsLed other (object_there types bodies p) q
+whatever_there types [] test other p q pairless led = absurd (nowhere test q led)
+whatever_there types (b ∷ bodies) test other p q pairless led = elim (cases_eq b.place p) [
   | inl same ↦
-      (let is : object_there (map strong_type numbers) (b ∷ bodies) p ≡ object_in (map strong_type numbers) b =
-      cond-true (eqb b.place p) (object_in (map strong_type numbers) b) (object_there (map strong_type numbers) bodies p) (eq-eqb b.place p same) in
-      let f = led_field numbers test b q (subst (λ o. IsLed test o q) is led) in
-      subst (λ o. IsLed other o q) (sym is) (field_leads numbers other b f.0 q f.1 f.2))
+      (let is : object_there types (b ∷ bodies) p ≡ object_in types b =
+      cond-true (eqb b.place p) (object_in types b) (object_there types bodies p) (eq-eqb b.place p same) in
+      let f = led_field types test b q pairless (subst (λ o. IsLed test o q) is led) in
+      subst (λ o. IsLed other o q) (sym is) (field_leads types other b f.0 q f.1 f.2))
   | inr elsewhere ↦
-      (let is : object_there (map strong_type numbers) (b ∷ bodies) p ≡ object_there (map strong_type numbers) bodies p =
-      cond-false (eqb b.place p) (object_in (map strong_type numbers) b) (object_there (map strong_type numbers) bodies p) (ne_eqb b.place p elsewhere) in
-      subst (λ o. IsLed other o q) (sym is) (whatever_there numbers bodies test other p q (subst (λ o. IsLed test o q) is led)))
+      (let is : object_there types (b ∷ bodies) p ≡ object_there types bodies p =
+      cond-false (eqb b.place p) (object_in types b) (object_there types bodies p) (ne_eqb b.place p elsewhere) in
+      subst (λ o. IsLed other o q) (sym is) (whatever_there types bodies test other p q pairless (subst (λ o. IsLed test o q) is led)))
 ]
 
-pub leads_whatever : (numbers : List ℕ) (v : SeatView) (test other : ℕ → Bool) (p q : ℕ) → leads_by test (object_at (graph_in (map strong_type numbers) v) p) q ≡ true
-    → leads_by other (object_at (graph_in (map strong_type numbers) v) p) q ≡ true
-leads_whatever numbers v test other p q leads =
+pub leads_whatever : (types : List ObjectType) (v : SeatView) (test other : ℕ → Bool) (p q : ℕ) → ArePairless types
+    → leads_by test (object_at (graph_in types v) p) q ≡ true → leads_by other (object_at (graph_in types v) p) q ≡ true
+leads_whatever types v test other p q pairless leads =
+    let led : IsLed test (object_at (graph_in types v) p) q = is_led test (object_at (graph_in types v) p) q leads in
     elim (cases_lt p v.count) [
       | inl low ↦
-          (let is : object_at (graph_in (map strong_type numbers) v) p ≡ object_there (map strong_type numbers) v.bodies p =
-          get_or-map-range_with_len (object_there (map strong_type numbers) v.bodies) 0 v.count p p no_object low (omega arith) in
-          led_leads other (object_at (graph_in (map strong_type numbers) v) p) q (subst (λ o. IsLed other o q) (sym is)
-          (whatever_there numbers v.bodies test other p q (subst (λ o. IsLed test o q) is (is_led test (object_at (graph_in (map strong_type numbers) v) p) q leads)))))
+          (let is : object_at (graph_in types v) p ≡ object_there types v.bodies p =
+          get_or-map-range_with_len (object_there types v.bodies) 0 v.count p p no_object low (omega arith) in
+          led_leads other (object_at (graph_in types v) p) q (subst (λ o. IsLed other o q) (sym is)
+          (whatever_there types v.bodies test other p q pairless (subst (λ o. IsLed test o q) is led))))
       | inr past ↦ absurd (nowhere test q (subst (λ o. IsLed test o q)
-          (get_or_past (graph_in (map strong_type numbers) v) p no_object
-          (omega (arith, past, length-map-range_with_len (object_there (map strong_type numbers) v.bodies) 0 v.count))) (is_led test (object_at (graph_in (map strong_type numbers) v) p) q leads)))
+          (get_or_past (graph_in types v) p no_object (omega (arith, past, length-map-range_with_len (object_there types v.bodies) 0 v.count))) led))
     ]
 
--- the one body at the place leads to what its fields name
-pub place_leads : (numbers : List ℕ) (v : SeatView) (place : ℕ) (b : Body) (test : ℕ → Bool) (i q : ℕ) → IsView v → Contains v.bodies b → b.place ≡ place → i < fields_by numbers b
-    → get_or b.fields i 0 ≡ q + 1 → leads_by test (object_at (graph_in (map strong_type numbers) v) place) q ≡ true
-place_leads numbers v place b test i q view there at low is =
-    led_leads test (object_at (graph_in (map strong_type numbers) v) place) q (subst (λ a. IsLed test (object_at (graph_in (map strong_type numbers) v) a) q) at
-    (subst (λ o. IsLed test o q) (sym (there_is (map strong_type numbers) v b view there)) (field_leads numbers test b i q low is)))
+-- the one body at the place leads to what its strong fields name
+pub place_leads : (types : List ObjectType) (v : SeatView) (place : ℕ) (b : Body) (test : ℕ → Bool) (offset q : ℕ) → IsView v → Contains v.bodies b → b.place ≡ place
+    → Contains (strong_offsets types b) offset → word_at b offset ≡ q + 1 → leads_by test (object_at (graph_in types v) place) q ≡ true
+place_leads types v place b test offset q view there at strong is =
+    led_leads test (object_at (graph_in types v) place) q (subst (λ a. IsLed test (object_at (graph_in types v) a) q) at
+    (subst (λ o. IsLed test o q) (sym (there_is types v b view there)) (field_leads types test b offset q strong is)))
 
-pub led_place : (numbers : List ℕ) (v : SeatView) (place : ℕ) (b : Body) (test : ℕ → Bool) (q : ℕ) → IsView v → Contains v.bodies b → b.place ≡ place
-    → leads_by test (object_at (graph_in (map strong_type numbers) v) place) q ≡ true → (i : ℕ) × (i < fields_by numbers b) × (get_or b.fields i 0 ≡ q + 1)
-led_place numbers v place b test q view there at leads =
-    led_field numbers test b q (subst (λ o. IsLed test o q) (there_is (map strong_type numbers) v b view there)
-    (subst (λ a. IsLed test (object_at (graph_in (map strong_type numbers) v) a) q) (sym at) (is_led test (object_at (graph_in (map strong_type numbers) v) place) q leads)))
+pub led_place : (types : List ObjectType) (v : SeatView) (place : ℕ) (b : Body) (test : ℕ → Bool) (q : ℕ) → ArePairless types → IsView v → Contains v.bodies b
+    → b.place ≡ place → leads_by test (object_at (graph_in types v) place) q ≡ true → (offset : ℕ) × Contains (strong_offsets types b) offset × (word_at b offset ≡ q + 1)
+led_place types v place b test q pairless view there at leads =
+    led_field types test b q pairless (subst (λ o. IsLed test o q) (there_is types v b view there)
+    (subst (λ a. IsLed test (object_at (graph_in types v) a) q) (sym at) (is_led test (object_at (graph_in types v) place) q leads)))

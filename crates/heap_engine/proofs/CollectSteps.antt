@@ -6,6 +6,7 @@ use Rattle.std.specs.List.{All, list_any}
 use Rattle.std.proofs.lemmas.Bool.{true≢false, or_cases, or_left, or_right, eqb-true, eq-eqb}
 use Rattle.std.proofs.lemmas.List.{append-nil, length-map}
 use Rattle.std.proofs.lemmas.List.Elements.{All-get_or, All-from_get_or}
+use Rattle.gc_graph.specs.declared.kind.Kind.TheVariants.{Strong}
 use Rattle.gc_graph.specs.declared.command.Want.TheVariants.{Precise}
 use Rattle.gc_graph.specs.declared.line.Line.{Line}
 use Rattle.gc_graph.specs.declared.line.Line.TheVariants as L
@@ -31,7 +32,7 @@ use Rattle.heap_engine.specs.Parts.{ObjectsView, HandlesView, CycleView, setup_o
 use Rattle.heap_engine.specs.Nodes.{place_of}
 use Rattle.heap_engine.specs.Sweeping.{IsJudged}
 use Rattle.heap_engine.proofs.NodeLives.{length-condemn, object-condemn, place-condemn, live_and_dead}
-use Rattle.heap_engine.proofs.StrongFields.{IsStrong, ArePlain, plain_nodes, clears_nothing}
+use Rattle.heap_engine.proofs.StrongFields.{IsStrong, strong_nodes, known_nodes, clears_nothing}
 use Rattle.heap_engine.proofs.KeptNodes.{refers_within}
 use Rattle.heap_engine.proofs.Ties.{valid_nodes, tied_nodes}
 
@@ -51,15 +52,13 @@ pause_counts nodes objects marked all live =
     ap (λ k. L.Pause k (objects - marked) 0 k false) live ∙ ap (λ d. L.Pause (live_count nodes) d 0 (live_count nodes) false) dead
 
 -- a condemned object has its fields still
-pub strong_judged : (setup : Setup) (kept : List Bool) (nodes : List Node) → All (IsStrong setup) nodes → All (IsStrong setup) (condemn kept nodes)
-strong_judged setup kept nodes strong =
-    All-from_get_or (IsStrong setup) (condemn kept nodes) no_node
-    (λ n low. typed-object setup (node_at nodes n) (node_at (condemn kept nodes) n) (object-condemn kept nodes n)
-    (All-get_or (IsStrong setup) nodes n no_node (subst (λ l. n < l) (length-condemn kept nodes) low) strong)) where
-      typed-object : (setup : Setup) (x y : Node) → y.object ≡ x.object → IsStrong setup x → IsStrong setup y
-      typed-object setup x y same typed =
-          subst (λ (o : Object). (let z : Node = record { object = o; place = y.place; life = y.life } in IsStrong setup z)) (sym same)
-          (record { ty = typed.ty; kinds = typed.kinds; values = typed.values; pointers = typed.pointers; plain = typed.plain })
+pub strong_judged : (kept : List Bool) (nodes : List Node) → All IsStrong nodes → All IsStrong (condemn kept nodes)
+strong_judged kept nodes strong =
+    All-from_get_or IsStrong (condemn kept nodes) no_node
+    (λ n low. same_object (node_at nodes n) (node_at (condemn kept nodes) n) (object-condemn kept nodes n)
+    (All-get_or IsStrong nodes n no_node (subst (λ l. n < l) (length-condemn kept nodes) low) strong)) where
+      same_object : (x y : Node) → y.object ≡ x.object → IsStrong x → IsStrong y
+      same_object x y same is = subst (λ (o : Object). o.kinds ≡ replicate (length o.kinds) Strong) (sym same) is
 
 -- ---- the members of a set
 
@@ -139,7 +138,7 @@ none_dying : (nodes : List Node) (region : List RegionSlot) → region ≡ repli
 none_dying nodes region is = sym (ap (dying_slots nodes) is)
 
 -- the state after a collection is the one of the pause
-pub collected_is : (ph : Phase) (grey : Grey) (setup : Setup) (s : State) (kept : List Bool) → IsAtRest ph grey s → All (IsStrong setup) (condemn kept s.nodes)
+pub collected_is : (ph : Phase) (grey : Grey) (setup : Setup) (s : State) (kept : List Bool) → IsAtRest ph grey s → All IsStrong (condemn kept s.nodes)
     → collected_state s kept ≡ paused setup (started_state s) (condemn kept s.nodes)
 collected_is ph grey setup s kept unused strong =
     let c : List Node = condemn kept s.nodes in
@@ -151,7 +150,7 @@ collected_is ph grey setup s kept unused strong =
     let left : List Registration → List Registration = λ rs. (paused setup (record (started_state s) { registrations = rs }) c).registrations in
     let registered : s.registrations ≡ left s.registrations = unused.none_registered ∙ sym (ap left unused.none_registered) in
     let nodes : c ≡ prefinalised setup.callbacks (run_order c s.registrations) (clear_fields c) =
-    sym (ap (λ rs. prefinalised setup.callbacks (run_order c rs) (clear_fields c)) unused.none_registered ∙ clears_nothing setup dead c strong) in
+    sym (ap (λ rs. prefinalised setup.callbacks (run_order c rs) (clear_fields c)) unused.none_registered ∙ clears_nothing dead c strong) in
     ap (λ ns. build ns s.weak s.region s.registrations) nodes
     ∙ ap (λ w. build (prefinalised setup.callbacks (run_order c s.registrations) (clear_fields c)) w s.region s.registrations) weak
     ∙ ap (λ g. build (prefinalised setup.callbacks (run_order c s.registrations) (clear_fields c)) (map (clear_slot dead) s.weak) g s.registrations) region
@@ -166,7 +165,7 @@ collected_is ph grey setup s kept unused strong =
 starts : (setup : Setup) (s : State) → IsStart setup s (start_entry ∷ []) (started_state s)
 starts setup s = record { before = []; others = λ k d low. absurd (omega arith); piece_is = refl; legal = (refl, tt, tt); after = refl }
 
-pauses : (ph : Phase) (grey : Grey) (setup : Setup) (s : State) (kept : List Bool) → IsAtRest ph grey s → All (IsStrong setup) (condemn kept s.nodes)
+pauses : (ph : Phase) (grey : Grey) (setup : Setup) (s : State) (kept : List Bool) → IsAtRest ph grey s → All IsStrong (condemn kept s.nodes)
     → IsKept (took (started_state s) []) [] kept
     → IsPause setup 0 Precise (started_state s) (pause_entry ∷ []) (pause_line (condemn kept s.nodes) ∷ []) (collected_state s kept)
 pauses ph grey setup s kept unused strong keeps =
@@ -199,7 +198,7 @@ collects_or_not ph grey setup s piece lines new unused phase done =
     on_false (is_marking s.phase) _ _ (sym (ap is_marking phase) ∙ unused.calm) (on_false (is_stack_refused Precise s.stack) _ _ (ap (is_stack_refused Precise) unused.stack_empty) done)
 
 pub step_collected : (ph : Phase) (grey : Grey) (setup : Setup) (s t new : State) (numbers : List ℕ) (kept : List Bool) (piece : List Entry) (lines : List Line) → SweepsToEnd setup.shape s numbers t
-    → IsAtRest ph grey t → All (IsStrong setup) (condemn kept t.nodes) → IsKept (took (started_state t) []) [] kept
+    → IsAtRest ph grey t → All IsStrong (condemn kept t.nodes) → IsKept (took (started_state t) []) [] kept
     → piece ≡ start_entry ∷ pause_entry ∷ [] → lines ≡ finalise_lines numbers ++ pause_line (condemn kept t.nodes) ∷ [] → new ≡ answered (collected_state t kept)
     → IsCollection setup Precise s piece lines new
 step_collected ph grey setup s t new numbers kept piece lines ended unused strong keeps taken printed after = record {
@@ -249,12 +248,12 @@ pub collection_steps : (o mid new : ObjectsView) (h : HandlesView) (c between af
 collection_steps o mid new h c between after numbers piece line law is taken told =
     let t : State = state_of mid h between in
     let kept : List Bool = is.judges.kept in
-    let plain : ArePlain (setup_of_objects mid) mid.nodes = plain_nodes (setup_of_objects mid) mid.nodes is.ready.strong (valid_nodes mid h between is.ready) in
+    let strong : All IsStrong mid.nodes = strong_nodes (setup_of_objects mid) mid.nodes is.ready.built (known_nodes (setup_of_objects mid) mid.nodes (valid_nodes mid h between is.ready)) in
     let rests : IsAtRest between.phase between.grey t = at_rest mid h between is.rests in
     let build : List Node → Phase → State → State = λ ns ph r. answered (record r { nodes = ns; slots = h.slots; phase = ph }) in
     collects_or_not c.phase c.grey (setup_of_objects o) (state_of o h c) piece (finalise_lines numbers ++ line ∷ []) (answered (state_of new h after)) (at_rest o h c is.before_rests) refl
     (inr (step_collected between.phase between.grey (setup_of_objects o) (state_of o h c) t (answered (state_of new h after)) numbers kept piece (finalise_lines numbers ++ line ∷ []) is.ends rests
-    (subst (λ (st : Setup). All (IsStrong st) (condemn kept mid.nodes)) is.setup (strong_judged (setup_of_objects mid) kept mid.nodes plain.typed))
+    (strong_judged kept mid.nodes strong)
     (pause_keeps between.phase between.grey t new.nodes law (refers_within (setup_of_objects mid) mid.nodes (valid_nodes mid h between is.ready)) rests is.judges)
     taken
     (ap (λ l. finalise_lines numbers ++ l ∷ []) (told ∙ ap pause_line is.judges.nodes_are))

@@ -19,9 +19,9 @@ use Rattle.gc_graph.specs.Valid.{IsValid, HasMay, word_count}
 use Rattle.gc_graph.specs.ValidLaw.{StepKeepsValid}
 use Rattle.page_words.specs.Seat.{IsQuiet}
 use Rattle.heap_engine.specs.Nodes.{place_of}
-use Rattle.heap_engine.specs.Objects.{bury}
+use Rattle.heap_engine.specs.Objects.{AreBuilt, bury}
 use Rattle.heap_engine.specs.Changes.{ended_in}
-use Rattle.heap_engine.specs.Parts.{ObjectsView, HandlesView, CycleView, setup_of_objects, state_of, HasMarks, AreStrong, IsReady}
+use Rattle.heap_engine.specs.Parts.{ObjectsView, HandlesView, CycleView, setup_of_objects, state_of, HasMarks, IsReady}
 use Rattle.heap_engine.proofs.NodeLives.{place-finalise}
 use Rattle.heap_engine.proofs.Ties.{tied_nodes}
 
@@ -112,7 +112,7 @@ pub ready_swept : (o new : ObjectsView) (h : HandlesView) (c after : CycleView) 
     → after.rest.ordinal ≡ c.rest.ordinal → IsReady new h after
 ready_swept o new h c after numbers law pages ready sweeping ends setup nodes quiet idle ordinal = record {
   valid = subst (λ (st : Setup). IsValid st (state_of new h after)) (sym setup) (valid_swept (setup_of_objects o) (state_of o h c) (state_of new h after) numbers law pages ready.valid sweeping ends idle);
-  strong = subst AreStrong (sym (ap (λ (st : Setup). st.types) setup)) ready.strong;
+  built = subst AreBuilt (sym (ap (λ (st : Setup). st.types) setup)) ready.built;
   tied = tied_nodes o new h c after ready.tied.slots (λ n. ap (λ (ns : List Node). place_of ns n) nodes ∙ place-finalise o.nodes n)
       (subst (λ ph. HasMarks ph new.seat) (sym idle) quiet)
       (omega (arith, ready.tied.made, ordinal, ap length nodes, length-map o.nodes bury));

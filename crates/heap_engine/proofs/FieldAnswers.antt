@@ -1,9 +1,12 @@
 -- The steps of the commands on fields.
 use Rattle.std.proofs.Common.{◌≡◌, ℕ, ◌+◌, ◌<◌, true, false, List, [], ◌∷◌, length, get_or, Option, option_map, Some, None, Ok, Err, Result, refl, sym, ap, ◌∙◌, subst, inl, inr, arith, ltb}
 use Rattle.std.specs.Prelude.{MatchOption, MatchBool}
+use Rattle.std.specs.List.{All}
 use Rattle.std.specs.Option.{ForSome}
-use Rattle.std.proofs.lemmas.Bool.{cases_Bool, ltb-true, lt-ltb}
+use Rattle.std.proofs.lemmas.Bool.{cases_Bool, cases_lt, ltb-true, lt-ltb, true≢false}
+use Rattle.std.proofs.lemmas.List.{get_or_past}
 use Rattle.std.proofs.lemmas.List.Elements.{All-get_or}
+use Rattle.gc_graph.specs.declared.kind.Kind.TheVariants.{Plain}
 use Rattle.gc_graph.specs.declared.kind.Value.{Value}
 use Rattle.gc_graph.specs.declared.kind.Value.TheVariants.{Null, Ref, Word}
 use Rattle.gc_graph.specs.declared.line.Line.{Line}
@@ -12,14 +15,15 @@ use Rattle.gc_graph.specs.declared.line.Refusal.{Refusal}
 use Rattle.gc_graph.specs.declared.line.Refusal.TheVariants as R
 use Rattle.gc_graph.specs.State.{State, Node, node_at, no_node, IsLive}
 use Rattle.gc_graph.specs.Fields.{content_of, field_count, kind_of_field, word_of_field, is_reference, value_at, with_value, target_of, is_weak}
-use Rattle.gc_graph.specs.Valid.{NamesLive}
+use Rattle.gc_graph.specs.Valid.{IsTyped, NamesLive, IsReferenceBelow}
 use Rattle.gc_graph.specs.Outcomes.{answered, with_slot, slot_at}
 use Rattle.gc_graph.specs.ObjectSteps.{StepSet, StepGet, IsChanged, IsRead, with_node, first_word}
 use Rattle.heap_engine.specs.Nodes.{place_of, word_of}
 use Rattle.heap_engine.specs.Objects.{IsFieldAt, IsLiveReference, IsWordOf, target_in, written_in, reference_to}
 use Rattle.heap_engine.specs.Changes.{put_in}
 use Rattle.heap_engine.specs.Parts.{ObjectsView, HandlesView, CycleView, setup_of_objects, state_of, IsReady}
-use Rattle.heap_engine.proofs.StrongFields.{IsStrong, IsPointer, ArePlain, plain_nodes, fields_of, field_is_strong, word_is_field, reference_is_field}
+use Rattle.heap_engine.proofs.StrongFields.{IsStrong, AreKnown, known_nodes, strong_nodes, strong_kind}
+use Rattle.heap_engine.proofs.FieldKinds.{HasReference, first_of, reference_value}
 use Rattle.heap_engine.proofs.FieldNodes.{live_below}
 use Rattle.heap_engine.proofs.Ties.{valid_nodes, slot_live}
 
@@ -30,49 +34,65 @@ pub record Found (o : ObjectsView) (h : HandlesView) (p f a : ℕ) : Type 0 wher
   pub asked : f < field_count (node_at o.nodes node)
   pub reference : is_reference (kind_of_field (node_at o.nodes node).object f) ≡ true
   pub strong : is_weak (kind_of_field (node_at o.nodes node).object f) ≡ false
-  pub word : IsWordOf o.nodes node f a
-  pub first : word_of_field (node_at o.nodes node).object f ≡ f
+  pub word : IsWordOf o.nodes node (word_of_field (node_at o.nodes node).object f) a
 
-named_pointer : (nodes : List Node) (x : Value) → NamesLive nodes x → IsPointer x → IsLiveReference nodes x
-named_pointer nodes Null names pointer = tt
-named_pointer nodes (Ref n) names pointer = names
-named_pointer nodes (Word w) names pointer = pointer
+named_reference : (nodes : List Node) (bound : ℕ) (x : Value) → NamesLive nodes x → IsReferenceBelow bound x → IsLiveReference nodes x
+named_reference nodes bound Null names is = tt
+named_reference nodes bound (Ref n) names is = names
+named_reference nodes bound (Word w) names is = is
+
+-- a field that `set` and `get` speak of is a declared one, and its value is null or a reference
+reference_field : (o : ObjectsView) (n f : ℕ) → AreKnown (setup_of_objects o) o.nodes → IsLive o.nodes n → is_reference (kind_of_field (node_at o.nodes n).object f) ≡ true
+    → (f < length (node_at o.nodes n).object.kinds) × HasReference (length o.nodes) (node_at o.nodes n).object.kinds f (node_at o.nodes n).object.values
+reference_field o n f known live kind =
+    let node : Node = node_at o.nodes n in
+    let typed : IsTyped (setup_of_objects o) (length o.nodes) node =
+    All-get_or (IsTyped (setup_of_objects o) (length o.nodes)) o.nodes n no_node (live_below o.nodes n live) known.typed in
+    let low : f < length node.object.kinds = elim (cases_lt f (length node.object.kinds)) [
+      | inl low ↦ low
+      | inr past ↦ absurd (true≢false (sym kind ∙ ap is_reference (get_or_past node.object.kinds f Plain past)))
+    ] in
+    (low, reference_value (length o.nodes) node.object.kinds f node.object.values typed.values_are low kind)
 
 -- a field of a live node
 found_at : (o : ObjectsView) (h : HandlesView) (c : CycleView) (p f a n : ℕ) → IsReady o h c → get_or h.slots p None ≡ Some n → IsFieldAt o.nodes n f (Ok a) → Found o h p f a
 found_at o h c p f a n ready slot told =
     let node : Node = node_at o.nodes n in
     let live : IsLive o.nodes n = slot_live o h c p ready n slot in
-    let plain : ArePlain (setup_of_objects o) o.nodes = plain_nodes (setup_of_objects o) o.nodes ready.strong (valid_nodes o h c ready) in
-    let typed : IsStrong (setup_of_objects o) node = All-get_or (IsStrong (setup_of_objects o)) o.nodes n no_node (live_below o.nodes n live) plain.typed in
+    let known : AreKnown (setup_of_objects o) o.nodes = known_nodes (setup_of_objects o) o.nodes (valid_nodes o h c ready) in
+    let strong : All IsStrong o.nodes = strong_nodes (setup_of_objects o) o.nodes ready.built known in
+    let word : ℕ = word_of_field node.object f in
     let answer : Result ℕ Refusal = Ok a in
     elim (cases_Bool (ltb f (field_count node))) [
       | inl low ↦
-          (let inside : MatchBool (is_reference (kind_of_field node.object f)) (answer ≡ Ok (place_of o.nodes n + 2 + f)) (answer ≡ Err R.Kind) =
-          subst (λ b. MatchBool b (MatchBool (is_reference (kind_of_field node.object f)) (answer ≡ Ok (place_of o.nodes n + 2 + f)) (answer ≡ Err R.Kind)) (answer ≡ Err R.Field)) low told in
+          (let inside : MatchBool (is_reference (kind_of_field node.object f)) (answer ≡ Ok (place_of o.nodes n + 2 + word)) (answer ≡ Err R.Kind) =
+          subst (λ b. MatchBool b (MatchBool (is_reference (kind_of_field node.object f)) (answer ≡ Ok (place_of o.nodes n + 2 + word)) (answer ≡ Err R.Kind)) (answer ≡ Err R.Field)) low told in
           elim (cases_Bool (is_reference (kind_of_field node.object f))) [
             | inl kind ↦
-                (let at : answer ≡ Ok (place_of o.nodes n + 2 + f) = subst (λ b. MatchBool b (answer ≡ Ok (place_of o.nodes n + 2 + f)) (answer ≡ Err R.Kind)) kind inside in
-                let field : f < fields_of (setup_of_objects o) node = reference_is_field (setup_of_objects o) node f typed kind in
-                let within : f < length node.object.values = omega (arith, field, typed.values) in
+                (let at : answer ≡ Ok (place_of o.nodes n + 2 + word) = subst (λ b. MatchBool b (answer ≡ Ok (place_of o.nodes n + 2 + word)) (answer ≡ Err R.Kind)) kind inside in
+                let field = reference_field o n f known live kind in
+                let first : word ≡ first_of node.object.kinds f = omega (arith, field.0) in
+                let within : word < length node.object.values = omega (arith, first, field.1.low) in
+                let value : IsReferenceBelow (length o.nodes) (value_at node word) =
+                subst (λ w. IsReferenceBelow (length o.nodes) (value_at node w)) (sym first) field.1.value in
                 record {
                   node = n;
                   slot = slot;
                   asked = ltb-true f (field_count node) low;
                   reference = kind;
-                  strong = ap is_weak (field_is_strong (setup_of_objects o) node f typed field);
+                  strong = ap is_weak (strong_kind node f (All-get_or IsStrong o.nodes n no_node (live_below o.nodes n live) strong) field.0);
                   word = record {
                     live = live;
                     low = within;
-                    at = same a (place_of o.nodes n + 2 + f) at;
-                    reference = named_pointer o.nodes (value_at node f) (All-get_or (NamesLive o.nodes) node.object.values f Null within (plain.references n live)) (typed.pointers f field);
+                    at = same a (place_of o.nodes n + 2 + word) at;
+                    reference = named_reference o.nodes (length o.nodes) (value_at node word)
+                        (All-get_or (NamesLive o.nodes) node.object.values word Null within (known.references n live)) value;
                   };
-                  first = word_is_field (setup_of_objects o) node f typed field;
                 })
-            | inr other ↦ absurd (never a R.Kind (subst (λ b. MatchBool b (answer ≡ Ok (place_of o.nodes n + 2 + f)) (answer ≡ Err R.Kind)) other inside))
+            | inr other ↦ absurd (never a R.Kind (subst (λ b. MatchBool b (answer ≡ Ok (place_of o.nodes n + 2 + word)) (answer ≡ Err R.Kind)) other inside))
           ])
       | inr past ↦ absurd (never a R.Field
-          (subst (λ b. MatchBool b (MatchBool (is_reference (kind_of_field node.object f)) (answer ≡ Ok (place_of o.nodes n + 2 + f)) (answer ≡ Err R.Kind)) (answer ≡ Err R.Field)) past told))
+          (subst (λ b. MatchBool b (MatchBool (is_reference (kind_of_field node.object f)) (answer ≡ Ok (place_of o.nodes n + 2 + word)) (answer ≡ Err R.Kind)) (answer ≡ Err R.Field)) past told))
     ] where
       never : (a : ℕ) (why : Refusal) → (let answer : Result ℕ Refusal = Ok a in answer ≡ Err why) → ⊥
       never a why e = cc
@@ -103,8 +123,7 @@ step_set o new h c p f a x is setup nodes =
     let node : Node = node_at o.nodes n in
     let changed : IsChanged s n (with_value node (first_word s n f) x) (L.Fine ∷ []) (answered (state_of new h c)) = (
       refl,
-      ap (λ (ns : List Node). answered (record s { nodes = ns })) (nodes ∙ ap (λ slot. written_in o.nodes slot f x) is.slot)
-          ∙ ap (λ w. answered (with_node s n (with_value node w x))) (sym is.first),
+      ap (λ (ns : List Node). answered (record s { nodes = ns })) (nodes ∙ ap (λ slot. written_in o.nodes slot f x) is.slot),
     ) in
     asked o.nodes (slot_at s p) f n _ (λ m. IsChanged s m (with_value (node_at o.nodes m) (first_word s m f) x) (L.Fine ∷ []) (answered (state_of new h c))) _ _ is.slot is.asked
     is.reference changed
@@ -126,12 +145,12 @@ target_places nodes None = refl
 target_places nodes (Some m) = refl
 
 pub step_get : (o : ObjectsView) (h new : HandlesView) (c : CycleView) (p f a q : ℕ) (target : Option (ℕ × ℕ)) (line : Line) → (is : Found o h p f a)
-    → target ≡ target_in o.nodes (value_at (node_at o.nodes is.node) f) → MatchOption target (line ≡ L.Null) (λ t. line ≡ L.Node t.1) → new ≡ put_in h q target
+    → target ≡ target_in o.nodes (value_at (node_at o.nodes is.node) (word_of_field (node_at o.nodes is.node).object f)) → MatchOption target (line ≡ L.Null) (λ t. line ≡ L.Node t.1) → new ≡ put_in h q target
     → StepGet (state_of o h c) p f q (line ∷ []) (answered (state_of o new c))
 step_get o h new c p f a q target line is read told after =
     let s : State = state_of o h c in
     let n : ℕ = is.node in
-    let x : Value = value_at (node_at o.nodes n) f in
+    let x : Value = value_at (node_at o.nodes n) (word_of_field (node_at o.nodes n).object f) in
     let named : IsRead false s x q (line ∷ []) (answered (with_slot s q (target_of x))) =
     read_value s x q line is.word.reference (subst (λ t. MatchOption t (line ≡ L.Null) (λ (w : ℕ × ℕ). line ≡ L.Node w.1)) read told) in
     let to : answered (with_slot s q (target_of x)) ≡ answered (state_of o new c) =
@@ -141,8 +160,7 @@ step_get o h new c p f a q target line is read told after =
     (λ m. IsRead (is_weak (kind_of_field (node_at o.nodes m).object f)) s (value_at (node_at o.nodes m) (first_word s m f)) q (line ∷ []) (answered (state_of o new c))) _ _ is.slot is.asked
     is.reference
     (subst (λ w. IsRead w s (value_at (node_at o.nodes n) (first_word s n f)) q (line ∷ []) (answered (state_of o new c))) (sym is.strong)
-    (subst (λ w. IsRead false s (value_at (node_at o.nodes n) w) q (line ∷ []) (answered (state_of o new c))) (sym is.first)
-    (subst (λ (t : State). IsRead false s x q (line ∷ []) t) to named)))
+    (subst (λ (t : State). IsRead false s x q (line ∷ []) t) to named))
 
 pub content_live : (nodes : List Node) (slot : Option ℕ) → ForSome slot (IsLive nodes) → IsLiveReference nodes (content_of slot)
 content_live nodes None live = tt

@@ -1,13 +1,11 @@
 -- The nodes after a field got a value.
-use Rattle.std.proofs.Common.{◌≡◌, ℕ, zero, suc, ◌+◌, ◌<◌, List, [], ◌∷◌, length, set, Option, Some, None, refl, ap, arith}
-use Rattle.std.proofs.lemmas.List.{length-set, length-replicate}
-use Rattle.gc_graph.specs.declared.kind.Kind.TheVariants.{Strong}
+use Rattle.std.proofs.Common.{◌≡◌, ℕ, zero, suc, ◌+◌, ◌<◌, List, [], ◌∷◌, length, set, Option, Some, None, refl, ap}
+use Rattle.std.proofs.lemmas.List.{length-set}
 use Rattle.gc_graph.specs.declared.kind.Value.{Value}
-use Rattle.gc_graph.specs.State.{Setup, Node, node_at, size_of, IsLive}
-use Rattle.gc_graph.specs.Fields.{field_count, with_value}
+use Rattle.gc_graph.specs.State.{Node, node_at, size_of, IsLive}
+use Rattle.gc_graph.specs.Fields.{word_of_field, with_value}
 use Rattle.heap_engine.specs.Nodes.{place_of}
 use Rattle.heap_engine.specs.Objects.{written_in}
-use Rattle.heap_engine.proofs.StrongFields.{IsStrong, fields_of}
 use Rattle.heap_engine.proofs.NodePlaces.{live_is_there, there_below}
 
 abbrev pub with_field : List Node → ℕ → ℕ → Value → List Node
@@ -33,18 +31,14 @@ length-field nodes n f x = length-set nodes n (with_value (node_at nodes n) f x)
 -- what is written where
 pub place-written : (nodes : List Node) (slot : Option ℕ) (f : ℕ) (x : Value) (m : ℕ) → place_of (written_in nodes slot f x) m ≡ place_of nodes m
 place-written nodes None f x m = refl
-place-written nodes (Some n) f x m = place-field nodes n f x m
+place-written nodes (Some n) f x m = place-field nodes n (word_of_field (node_at nodes n).object f) x m
 
 pub length-written : (nodes : List Node) (slot : Option ℕ) (f : ℕ) (x : Value) → length (written_in nodes slot f x) ≡ length nodes
 length-written nodes None f x = refl
-length-written nodes (Some n) f x = length-field nodes n f x
+length-written nodes (Some n) f x = length-field nodes n (word_of_field (node_at nodes n).object f) x
 
 pub live_below : (nodes : List Node) (n : ℕ) → IsLive nodes n → n < length nodes
 live_below nodes n live = there_below nodes n (live_is_there nodes n live)
-
-pub fields_counted : (setup : Setup) (node : Node) → IsStrong setup node → field_count node ≡ length node.object.values
-fields_counted setup node typed =
-    omega (arith, ap length typed.kinds, length-replicate (fields_of setup node) Strong, typed.values)
 
 pub size_field : (node : Node) (f : ℕ) (x : Value) → size_of (with_value node f x) ≡ size_of node
 size_field node f x = ap (λ n. 2 + n) (length-set node.object.values f x)

@@ -1,31 +1,30 @@
 -- An empty heap.
-use Rattle.std.proofs.Common.{◌≡◌, ℕ, zero, suc, ◌*◌, List, [], ◌∷◌, map, replicate, None, refl, sym, ap, ◌∙◌, subst, arith}
+use Rattle.std.proofs.Common.{◌≡◌, ℕ, zero, suc, ◌*◌, List, [], ◌∷◌, replicate, None, refl, sym, ap, ◌∙◌, subst, arith}
 use Rattle.gc_graph.specs.declared.phase.Phase.TheVariants.{Idle}
-use Rattle.gc_graph.specs.State.{Shape, empty_state}
-use Rattle.gc_graph.specs.Fields.{strong_type}
+use Rattle.gc_graph.specs.State.{ObjectType, Shape, empty_state}
 use Rattle.gc_graph.specs.ValidLaw.{EmptyIsValid}
 use Rattle.page_words.specs.Seat.{empty_view}
 use Rattle.heap_engine.specs.View.{places_of}
+use Rattle.heap_engine.specs.Objects.{AreBuilt}
 use Rattle.heap_engine.specs.Parts.{ObjectsView, HandlesView, CycleView, setup_of_objects, IsReady}
-use Rattle.heap_engine.proofs.StrongFields.{are_strong}
 
 null_places : (n : ℕ) → replicate n None ≡ places_of [] (replicate n None)
 null_places zero = refl
 null_places (suc n) = ap (λ l. None ∷ l) (null_places n)
 
 -- an idle cycle, over slots that are all null and no objects, is ready
-pub ready_empty : (o : ObjectsView) (h : HandlesView) (c : CycleView) (types : List ℕ) (shape : Shape) → EmptyIsValid
-    → o ≡ record { shape = shape; types = map strong_type types; nodes = []; seat = empty_view (shape.pages * shape.page_words) }
+pub ready_empty : (o : ObjectsView) (h : HandlesView) (c : CycleView) (types : List ObjectType) (shape : Shape) → EmptyIsValid → AreBuilt types
+    → o ≡ record { shape = shape; types = types; nodes = []; seat = empty_view (shape.pages * shape.page_words) types }
     → h ≡ record { places = replicate 256 None; slots = replicate 256 None } → c.phase ≡ Idle → c.rest ≡ empty_state → IsReady o h c
-ready_empty o h c types shape law objects handles idle rest =
-    let none : ObjectsView = record { shape = shape; types = map strong_type types; nodes = []; seat = empty_view (shape.pages * shape.page_words) } in
+ready_empty o h c types shape law built objects handles idle rest =
+    let none : ObjectsView = record { shape = shape; types = types; nodes = []; seat = empty_view (shape.pages * shape.page_words) types } in
     let nulls : HandlesView = record { places = replicate 256 None; slots = replicate 256 None } in
     let began : CycleView = record { phase = Idle; grey = c.grey; rest = empty_state } in
     let cycle : began ≡ c = sym (ap (λ ph. (let k : CycleView = record { phase = ph; grey = c.grey; rest = c.rest } in k)) idle
     ∙ ap (λ s. (let k : CycleView = record { phase = Idle; grey = c.grey; rest = s } in k)) rest) in
     let ready : IsReady none nulls began = record {
       valid = law (setup_of_objects none);
-      strong = are_strong types;
+      built = built;
       tied = record {
         slots = null_places 256;
         marks = record { off = refl; marked = refl; traced = refl; dead = refl };

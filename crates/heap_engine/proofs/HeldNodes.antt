@@ -11,7 +11,7 @@ use Rattle.gc_graph.specs.declared.kind.Value.TheVariants.{Null, Ref, Word}
 use Rattle.gc_graph.specs.Graph.{has}
 use Rattle.gc_graph.specs.State.{ObjectType, Setup, Node, type_at, node_at, no_node, is_there, is_live, is_dead, size_of, IsDead}
 use Rattle.gc_graph.specs.State.Life.{Live}
-use Rattle.gc_graph.specs.Fields.{new_node, strong_type}
+use Rattle.gc_graph.specs.Fields.{field_words, new_node, size_of_type}
 use Rattle.gc_graph.specs.Pause.{judged, condemn}
 use Rattle.page_words.specs.Bodies.{Body, with_word}
 use Rattle.page_words.specs.Seat.{SeatView, IsView, IsQuiet, holds, stored, unmarked_places}
@@ -22,7 +22,7 @@ use Rattle.heap_engine.specs.Nodes.{place_of, word_of, body_of, bodies_of, IsThe
 use Rattle.heap_engine.specs.View.{kept_of}
 use Rattle.heap_engine.specs.Objects.{bury}
 use Rattle.heap_engine.specs.Parts.{HasMarks}
-use Rattle.heap_engine.proofs.StrongFields.{ArePlain, NamesBelow, new_words}
+use Rattle.heap_engine.proofs.StrongFields.{AreKnown, NamesBelow, new_words}
 use Rattle.heap_engine.proofs.NodeBodies.{bodies-push}
 use Rattle.heap_engine.proofs.NodeChanges.{AgreeOn, AgreeIn, bodies-places, bodies-same, bodies-condemn, bodies-finalise}
 use Rattle.heap_engine.proofs.NodePlaces.{there_below, node_body}
@@ -55,33 +55,32 @@ agree_below f g bound Null same below = tt
 agree_below f g bound (Ref n) same below = same n below
 agree_below f g bound (Word w) same below = tt
 
-body_is_new : (setup : Setup) (f : ℕ → ℕ) (k t fields extra place : ℕ) → type_at setup t ≡ strong_type fields
-    → body_of f k (new_node setup t extra place) ≡ new_body place t (2 + fields + extra) k
-body_is_new setup f k t fields extra place is =
+body_is_new : (setup : Setup) (f : ℕ → ℕ) (k t extra place : ℕ) → body_of f k (new_node setup t extra place) ≡ new_body place t (size_of_type setup t extra) k
+body_is_new setup f k t extra place =
     let x : Node = new_node setup t extra place in
-    let words : map (word_of f) x.object.values ≡ replicate (fields + extra) 0 = new_words setup f t fields extra place is in
-    let size : size_of x ≡ 2 + fields + extra = omega (arith, ap length words, length-map x.object.values (word_of f), length-replicate {A = ℕ} (fields + extra) 0) in
-    let count : fields + extra ≡ 2 + fields + extra - 2 = omega arith in
+    let count : ℕ = field_words (type_at setup t).kinds + extra in
+    let words : map (word_of f) x.object.values ≡ replicate count 0 = new_words setup f t extra place in
+    let size : size_of x ≡ 2 + count = omega (arith, ap length words, length-map x.object.values (word_of f), length-replicate {A = ℕ} count 0) in
+    let rest : count ≡ 2 + count - 2 = omega arith in
     ap (λ n. (let b : Body = record { place = place; ty = t; size = n; serial = k; fields = map (word_of f) x.object.values } in b)) size
-    ∙ ap (λ ws. (let b : Body = record { place = place; ty = t; size = 2 + fields + extra; serial = k; fields = ws } in b))
-    (words ∙ ap (λ n. replicate n 0) count)
+    ∙ ap (λ ws. (let b : Body = record { place = place; ty = t; size = 2 + count; serial = k; fields = ws } in b)) (words ∙ ap (λ n. replicate n 0) rest)
 
-pub held_made : (setup : Setup) (nodes : List Node) (v new : SeatView) (t fields extra place : ℕ) → ArePlain setup nodes → IsQuiet v → IsHeld nodes v
-    → type_at setup t ≡ strong_type fields → Occupies v new (new_body place t (2 + fields + extra) (length nodes)) → IsHeld (nodes ++ new_node setup t extra place ∷ []) new
-held_made setup nodes v new t fields extra place plain quiet held is occupies =
+pub held_made : (setup : Setup) (nodes : List Node) (v new : SeatView) (t extra place : ℕ) → AreKnown setup nodes → IsQuiet v → IsHeld nodes v
+    → Occupies v new (new_body place t (size_of_type setup t extra) (length nodes)) → IsHeld (nodes ++ new_node setup t extra place ∷ []) new
+held_made setup nodes v new t extra place known quiet held occupies =
     let x : Node = new_node setup t extra place in
     let after : List Node = nodes ++ x ∷ [] in
     let number : 0 + length nodes ≡ length nodes = omega arith in
     let agree : All (AgreeIn (place_of after) (place_of nodes)) nodes =
     All-weaker (λ (y : Node). All (NamesBelow (length nodes)) y.object.values) (AgreeIn (place_of after) (place_of nodes))
     (λ (y : Node) below. All-weaker (NamesBelow (length nodes)) (AgreeOn (place_of after) (place_of nodes))
-    (λ u b. agree_below (place_of after) (place_of nodes) (length nodes) u (place-old nodes x) b) y.object.values below) nodes plain.below in
-    let bodies : bodies_of after ≡ bodies_of nodes ++ new_body place t (2 + fields + extra) (length nodes) ∷ [] =
+    (λ u b. agree_below (place_of after) (place_of nodes) (length nodes) u (place-old nodes x) b) y.object.values below) nodes known.below in
+    let bodies : bodies_of after ≡ bodies_of nodes ++ new_body place t (size_of_type setup t extra) (length nodes) ∷ [] =
     bodies-push (place_of after) 0 nodes x refl
     ∙ ap (λ bs. bs ++ body_of (place_of after) (0 + length nodes) x ∷ []) (bodies-places (place_of after) (place_of nodes) 0 nodes agree)
-    ∙ ap (λ b. bodies_of nodes ++ b ∷ []) (ap (λ k. body_of (place_of after) k x) number ∙ body_is_new setup (place_of after) (length nodes) t fields extra place is) in
+    ∙ ap (λ b. bodies_of nodes ++ b ∷ []) (ap (λ k. body_of (place_of after) k x) number ∙ body_is_new setup (place_of after) (length nodes) t extra place) in
     record {
-      bodies = occupies.bodies ∙ ap (λ bs. bs ++ new_body place t (2 + fields + extra) (length nodes) ∷ []) held.bodies ∙ sym bodies;
+      bodies = occupies.bodies ∙ ap (λ bs. bs ++ new_body place t (size_of_type setup t extra) (length nodes) ∷ []) held.bodies ∙ sym bodies;
       dead = λ n there.
           let none : holds new.dead (place_of after n) ≡ false = ap (λ l. holds l (place_of after n)) (occupies.dead ∙ quiet.dead) in
           let alive : is_dead (node_at after n).life ≡ false = elim (cases_lt n (length nodes)) [

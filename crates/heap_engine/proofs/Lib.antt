@@ -8,6 +8,7 @@ pub mod SweepPlaces
 pub mod SweepBodies
 pub mod SweepNumbers
 pub mod SweepSteps
+pub mod FieldKinds
 pub mod BodyGraph
 pub mod StrongFields
 pub mod NodeGraph

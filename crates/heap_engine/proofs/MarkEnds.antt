@@ -67,6 +67,7 @@ marks_reachable types slots v u w x y quiet begins named roots only led t grows 
     let bodies : x.bodies ≡ v.bodies = led.bodies ∙ named.bodies ∙ ap (λ (z : SeatView). z.bodies) begins in
     subst (λ (z : SeatView). MarksReachable types slots v z) (sym ends) (record {
       count = led.count ∙ named.count ∙ ap (λ (z : SeatView). z.count) begins;
+      known = led.types ∙ named.types ∙ ap (λ (z : SeatView). z.types) begins;
       off = refl;
       bodies = bodies;
       roots = λ p slot. led.marked p (roots p slot);

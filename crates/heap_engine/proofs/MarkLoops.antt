@@ -1,15 +1,18 @@
 -- The steps of the loops that mark.
-use Rattle.std.proofs.Common.{◌≡◌, ℕ, ◌+◌, ◌<◌, Bool, true, List, [], ◌∷◌, ◌++◌, length, get_or, map, take, refl, sym, ap, ◌∙◌, subst, inl, inr, arith}
+use Rattle.std.proofs.Common.{◌≡◌, ℕ, ◌+◌, ◌-◌, ◌<◌, ◌≤◌, Bool, true, List, [], ◌∷◌, ◌++◌, length, get_or, map, take, refl, sym, ap, ◌∙◌, subst, inl, inr, arith}
 use mathlib.Core.Logic.{◌⊎◌}
 use Rattle.std.specs.List.{Contains, range_with_len}
 use Rattle.std.proofs.lemmas.List.{take_more}
-use Rattle.std.proofs.lemmas.List.Elements.{All-contains, Contains-append_left, Contains-push, Contains-push_cases}
+use Rattle.std.proofs.lemmas.List.Elements.{All-contains, Contains-get_or, Contains-append_left, Contains-push, Contains-push_cases}
 use Rattle.std.specs.List.{All}
 use Rattle.gc_graph.specs.Graph.{object_at, leads_by, ClosesUnder}
+use Rattle.gc_graph.specs.declared.kind.Kind.TheVariants.{Strong}
 use Rattle.gc_graph.specs.State.{ObjectType}
-use Rattle.page_words.specs.Bodies.{Body, IsWhole, IsReference}
+use Rattle.type_table.specs.Types.{kinds_of, offsets_of_kind}
+use Rattle.page_words.specs.Bodies.{Body, IsWhole}
 use Rattle.page_words.specs.Seat.{SeatView, IsWordAt, IsView, holds}
-use Rattle.heap_engine.specs.Marking.{MarksOn, GrowsWithin, HasFields, AreReferences, graph_in, object_there}
+use Rattle.heap_engine.specs.Marking.{MarksOn, GrowsWithin, AreReferences, HasType, strong_offsets, word_at, graph_in, object_there}
+use Rattle.heap_engine.proofs.FieldKinds.{strong_offset, strong_below}
 
 module _ {X : Type 0} where
   pub Contains-take_more_cases : (xs : List X) (i : ℕ) (d x : X) → i < length xs → Contains (take (i + 1) xs) x → Contains (take i xs) x ⊎ (get_or xs i d ≡ x)
@@ -25,13 +28,14 @@ module _ {X : Type 0} where
 pub MarksOn-then : (a b c : SeatView) → MarksOn a b → MarksOn b c → MarksOn a c
 MarksOn-then a b c x y = record {
   count = y.count ∙ x.count;
+  types = y.types ∙ x.types;
   on = y.on ∙ x.on;
   bodies = y.bodies ∙ x.bodies;
   marked = λ p h. y.marked p (x.marked p h);
 }
 
 pub MarksOn-same : (a : SeatView) → MarksOn a a
-MarksOn-same a = record { count = refl; on = refl; bodies = refl; marked = λ p h. h }
+MarksOn-same a = record { count = refl; types = refl; on = refl; bodies = refl; marked = λ p h. h }
 
 -- the words stand for the same graph
 pub same_graph : (types : List ObjectType) (a b : SeatView) → MarksOn a b → graph_in types b ≡ graph_in types a
@@ -48,23 +52,41 @@ pub GrowsWithin-target : (types : List ObjectType) (a b c : SeatView) (place : �
 GrowsWithin-target types a b c place x hand only test closed held p marked =
     elim (only p marked) [ inl old ↦ x test closed held p old | inr led ↦ closed place p (held place hand) (led test) ]
 
--- the address of a body's field is one of the heap
-pub field_address : (types : List ℕ) (v : SeatView) (place fields i : ℕ) → All (IsWhole v.count) v.bodies → AreReferences types v.bodies
-    → HasFields types v.bodies place fields → i < fields → place + 2 + i < v.count
-field_address types v place fields i all refers has low =
-    let whole : IsWhole v.count has.0 = All-contains (IsWhole v.count) v.bodies has.0 all has.1 in
-    omega (arith, whole.inside, whole.fields, refers.whole has.0 has.1, has.2, has.3)
+-- the body at the place has a strong field at the offset, whose word is one of its field words
+pub record HasStrong (types : List ObjectType) (v : SeatView) (place offset : ℕ) : Type 0 where
+  pub body : Body
+  pub there : Contains v.bodies body
+  pub at : body.place ≡ place
+  pub strong : Contains (strong_offsets types body) offset
+  pub least : 2 ≤ offset
+  pub low : offset - 2 < length body.fields
+  pub address : place + offset < v.count
 
--- the word that a body has at one of its fields
-pub field_word : (types : List ℕ) (v : SeatView) (place fields i w : ℕ) → AreReferences types v.bodies → (has : HasFields types v.bodies place fields) → i < fields
-    → IsWordAt v (place + 2 + i) w → w ≡ get_or has.0.fields i 0
-field_word types v place fields i w refers has low word =
-    word.field has.0 i has.1 (omega (arith, refers.whole has.0 has.1, has.3)) (ap (λ a. a + 2 + i) has.2)
+-- each of the offsets that the table tells for the body's type
+pub has_strong : (types : List ObjectType) (v : SeatView) (place ty k : ℕ) (told : List ℕ) → All (IsWhole v.count) v.bodies → AreReferences types v.bodies
+    → HasType v.bodies place ty → told ≡ offsets_of_kind Strong (kinds_of types ty) → k < length told → HasStrong types v place (get_or told k 0)
+has_strong types v place ty k told all refers has is low =
+    let b : Body = has.0 in
+    let whole : IsWhole v.count b = All-contains (IsWhole v.count) v.bodies b all has.1 in
+    let offsets : told ≡ strong_offsets types b = is ∙ ap (λ t. offsets_of_kind Strong (kinds_of types t)) (sym has.3) in
+    let strong : Contains (strong_offsets types b) (get_or told k 0) = subst (λ l. Contains l (get_or told k 0)) offsets (Contains-get_or told k 0 low) in
+    let field = strong_offset (kinds_of types b.ty) (get_or told k 0) strong in
+    let below = strong_below (kinds_of types b.ty) field.0 field.1 in
+    record {
+      body = b;
+      there = has.1;
+      at = has.2;
+      strong = strong;
+      least = omega (arith, field.2);
+      low = omega (arith, field.2, below, refers.whole b has.1);
+      address = omega (arith, field.2, below, refers.whole b has.1, whole.inside, whole.fields, has.2);
+    }
 
-pub field_is_reference : (types : List ℕ) (v : SeatView) (place fields i w : ℕ) → AreReferences types v.bodies → HasFields types v.bodies place fields → i < fields
-    → IsWordAt v (place + 2 + i) w → IsReference v.bodies w
-field_is_reference types v place fields i w refers has low word =
-    subst (IsReference v.bodies) (sym (field_word types v place fields i w refers has low word)) (refers.named has.0 i has.1 (omega (arith, has.3)))
+-- the word that the body has there still, while marking goes on
+pub strong_word : (types : List ObjectType) (v now : SeatView) (place offset w : ℕ) → MarksOn v now → (has : HasStrong types v place offset)
+    → IsWordAt now (place + offset) w → w ≡ word_at has.body offset
+strong_word types v now place offset w kept has word =
+    word.field has.body (offset - 2) (subst (λ bs. Contains bs has.body) (sym kept.bodies) has.there) has.low (omega (arith, has.at, has.least))
 
 -- one body alone has the place
 pub same_body : (v : SeatView) (b c : Body) → IsView v → Contains v.bodies b → Contains v.bodies c → b.place ≡ c.place → b ≡ c

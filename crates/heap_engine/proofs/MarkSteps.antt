@@ -6,10 +6,9 @@ use Rattle.std.proofs.lemmas.List.{length_push}
 use Rattle.std.proofs.lemmas.List.Elements.{Contains-append_left, Contains-push, Contains-push_cases}
 use Rattle.std.proofs.lemmas.List.Sums.{count_by-le-length}
 use Rattle.gc_graph.specs.State.{ObjectType}
-use Rattle.gc_graph.specs.Fields.{strong_type}
 use Rattle.page_words.specs.Bodies.{Body, IsPlace}
 use Rattle.page_words.specs.Seat.{SeatView, holds, marked_at, claimed_at, is_grey}
-use Rattle.heap_engine.specs.Marking.{Grey, IsCounted, IsTricolour, LeadsMarked}
+use Rattle.heap_engine.specs.Marking.{Grey, ArePairless, IsCounted, IsTricolour, LeadsMarked}
 use Rattle.heap_engine.proofs.MarkLists.{holds_push_old, holds_push_new, holds_push_cases}
 use Rattle.heap_engine.proofs.MarkCounts.{one_more}
 use Rattle.heap_engine.proofs.BodyGraph.{leads_whatever}
@@ -60,9 +59,8 @@ counted_mark v new g h a is fresh place counted places marked traced room =
     })
 
 pub tricolour_mark : (v new : SeatView) (before after : List ℕ) (a : ℕ) → new ≡ marked_at v a → holds v.marked a ≡ false → after ≡ before ++ a ∷ []
-    → (numbers : List ℕ) (hand : Option ℕ) → IsTricolour (map strong_type numbers) hand v before → IsTricolour (map strong_type numbers) hand new after
-tricolour_mark v new before after a is fresh pushed numbers hand t =
-    let types : List ObjectType = map strong_type numbers in
+    → (types : List ObjectType) (hand : Option ℕ) → ArePairless types → IsTricolour types hand v before → IsTricolour types hand new after
+tricolour_mark v new before after a is fresh pushed types hand pairless t =
     subst (λ w. IsTricolour types hand w after) (sym (fresh_is v new a is fresh)) (subst (λ l. IsTricolour types hand (with_mark v a) l) (sym pushed) (record {
       listed_are_marked = λ p listed. elim (Contains-push_cases before a p listed) [
         | inl old ↦ holds_push_old v.marked a p (t.listed_are_marked p old)
@@ -73,7 +71,7 @@ tricolour_mark v new before after a is fresh pushed numbers hand t =
         | inr same ↦ inr (subst (λ q. Contains (before ++ a ∷ []) q) same (Contains-push before a))
       ];
       traced_lead_to_marked = λ p q traced other leads. holds_push_old v.marked a q (t.traced_lead_to_marked p q traced other
-          (leads_whatever numbers v (holds (v.marked ++ a ∷ [])) (holds v.marked) p q leads));
+          (leads_whatever types v (holds (v.marked ++ a ∷ [])) (holds v.marked) p q pairless leads));
     }))
 
 -- an object is claimed: it is in hand, and traced from then on

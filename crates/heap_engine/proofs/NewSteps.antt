@@ -1,5 +1,5 @@
 -- The step of a new object.
-use Rattle.std.proofs.Common.{◌≡◌, ℕ, ◌<◌, List, [], ◌∷◌, ◌++◌, length, map, set, Bool, Option, Some, None, option_map, refl, sym, ap, ◌∙◌, subst, inr, arith}
+use Rattle.std.proofs.Common.{◌≡◌, ℕ, ◌<◌, List, [], ◌∷◌, ◌++◌, length, map, set, Bool, true, Option, Some, None, option_map, refl, sym, ap, ◌∙◌, subst, inr, arith}
 use Rattle.std.specs.List.{All}
 use Rattle.std.specs.Option.{ForSome}
 use Rattle.std.proofs.lemmas.List.{append-nil, length_push, map-set}
@@ -10,6 +10,7 @@ use Rattle.gc_graph.specs.declared.phase.Phase.TheVariants.{Idle}
 use Rattle.gc_graph.specs.State.{Setup, State, ObjectType, Node, Registration, type_at, no_type, IsLive}
 use Rattle.gc_graph.specs.Placement.{IsPlaceFor, IsPlacement, extents_of}
 use Rattle.gc_graph.specs.Sweep.{pages_swept_in, SweepsInPhase}
+use Rattle.gc_graph.specs.Built.{is_built_type}
 use Rattle.gc_graph.specs.Fields.{new_node, size_of_type, strong_type}
 use Rattle.gc_graph.specs.May.{may_with_new}
 use Rattle.gc_graph.specs.Outcomes.{answered, with_slot}
@@ -17,9 +18,10 @@ use Rattle.gc_graph.specs.ObjectSteps.{StepNew, with_new, registrations_for}
 use Rattle.page_words.specs.Seat.{IsQuiet}
 use Rattle.heap_engine.specs.Nodes.{place_of}
 use Rattle.heap_engine.specs.View.{places_of}
-use Rattle.heap_engine.specs.Objects.{with_made}
+use Rattle.heap_engine.specs.Objects.{AreBuilt, with_made}
 use Rattle.heap_engine.specs.Changes.{put_in, filled}
-use Rattle.heap_engine.specs.Parts.{ObjectsView, HandlesView, CycleView, setup_of_objects, state_of, counted, AreStrong, HasMarks, AreTied}
+use Rattle.heap_engine.specs.Parts.{ObjectsView, HandlesView, CycleView, setup_of_objects, state_of, counted, HasMarks, AreTied}
+use Rattle.heap_engine.proofs.StrongFields.{built_is_strong}
 use Rattle.heap_engine.proofs.HeldNodes.{place-old, node-new}
 use Rattle.heap_engine.proofs.NodePlaces.{there_below, live_is_there}
 
@@ -51,15 +53,15 @@ joins setup s p t extra place idle is =
     sym (ap (λ (type : ObjectType). s.registrations ++ map (registration_for (length s.nodes)) type.prefinalizers) is ∙ append-nil s.registrations) in
     ap (λ rs. build rs s.may) registered ∙ ap (build (s.registrations ++ registrations_for setup t (length s.nodes))) (sym (ap (λ ph. may_with_new ph s.may) idle))
 
-pub step_made : (o new : ObjectsView) (h after : HandlesView) (c : CycleView) (p t extra place number : ℕ) → AreStrong o.types → t < length o.types → c.phase ≡ Idle
+pub step_made : (o new : ObjectsView) (h after : HandlesView) (c : CycleView) (p t extra place number : ℕ) → AreBuilt o.types → t < length o.types → c.phase ≡ Idle
     → IsPlaceFor o.shape o.shape.pages (extents_of o.nodes) (size_of_type (setup_of_objects o) t extra) (Some place) → number ≡ length o.nodes
     → new.nodes ≡ with_made (setup_of_objects o) o.nodes t extra (Some place) → after ≡ put_in h p (Some (place, number))
     → StepNew (setup_of_objects o) (state_of o h c) p t extra (L.Placed number place ∷ []) (answered (state_of new after c))
-step_made o new h after c p t extra place number strong low idle found counted nodes put =
+step_made o new h after c p t extra place number built low idle found counted nodes put =
     let setup : Setup = setup_of_objects o in
     let s : State = state_of o h c in
     let type : type_at setup t ≡ strong_type (length (type_at setup t).kinds) =
-    All-get_or (λ (x : ObjectType). x ≡ strong_type (length x.kinds)) o.types t no_type low strong in
+    built_is_strong (type_at setup t) (All-get_or (λ (x : ObjectType). is_built_type x ≡ true) o.types t no_type low built) in
     inr (record {
       numbers = [];
       mid = s;

@@ -15,6 +15,7 @@ use Rattle.heap_engine.proofs.SweepNumbers.{AreDeadBelow, none_below, dead_past,
 -- what stands below a is swept, and the rest is as at first
 pub record IsSweptBelow (v : SeatView) (a : ℕ) (now : SeatView) (numbers : List ℕ) : Type 0 where
   pub count : now.count ≡ v.count
+  pub types : now.types ≡ v.types
   pub off : now.on ≡ false
   pub bodies : now.bodies ≡ filter (stays a v.dead) v.bodies
   pub marked : IsClearedBelow a v.marked now.marked
@@ -25,6 +26,7 @@ pub record IsSweptBelow (v : SeatView) (a : ℕ) (now : SeatView) (numbers : Lis
 pub sweep_begins : (v : SeatView) (numbers : List ℕ) → v.on ≡ false → numbers ≡ [] → IsSweptBelow v 0 v numbers
 sweep_begins v numbers off empty = record {
   count = refl;
+  types = refl;
   off = off;
   bodies = sym (filter_all (stays 0 v.dead) v.bodies (λ b there. stays_from 0 v.dead b (omega arith)));
   marked = cleared_none v.marked;
@@ -77,6 +79,7 @@ swept_past v now a next numbers view further free swept =
     let undead : (x : ℕ) → a ≤ x → x < next → holds v.dead x ≡ false = λ x high low. undead_without_body v x view (none x high low) in
     record {
       count = swept.count;
+      types = swept.types;
       off = swept.off;
       bodies = swept.bodies ∙ left_same a next v.dead v.bodies further (λ b there high low. undead b.place high low);
       marked = cleared_past a next v.marked now.marked swept.marked unmarked further;
@@ -112,6 +115,7 @@ swept_kept v now new a next before after size view judged ends swept keeps =
     from_first (λ x. holds v.dead x ≡ false) a next here (λ x high low. undead_without_body v x view (none x high low)) in
     subst (λ w. IsSweptBelow v next w after) (sym keeps.view) (subst (λ l. IsSweptBelow v next (unmarked_at now a) l) (sym keeps.numbers) (record {
       count = swept.count;
+      types = swept.types;
       off = swept.off;
       bodies = swept.bodies ∙ left_same a next v.dead v.bodies (omega arith) (λ b there high low. undead b.place high low);
       marked = cleared_without a next v.marked now.marked swept.marked unmarked further;
@@ -135,6 +139,7 @@ swept_finalised v now new a next before after size view ends swept finalises =
     from_first (λ x. holds v.marked x ≡ false) a next (view.dead_are_unmarked a gone).1 (λ x high low. unmarked_without_body v x view (none x high low)) in
     subst (λ w. IsSweptBelow v next w after) (sym finalises.view) (record {
       count = swept.count;
+      types = swept.types;
       off = swept.off;
       bodies =
           ap (filter (λ (b : Body). not (eqb b.place a))) swept.bodies
@@ -180,6 +185,7 @@ sweep_ends v now a numbers view nowhere swept =
     let unmarked : (x : ℕ) → a ≤ x → holds v.marked x ≡ false = λ x high. unmarked_without_body v x view (none x high) in
     record {
       count = swept.count;
+      types = swept.types;
       off = swept.off;
       bodies = swept.bodies ∙ filter_same (stays a v.dead) (λ b. not (holds v.dead b.place)) v.bodies (λ b there. stays_below a v.dead b (below b there));
       marked = cleared_all a v.marked now.marked swept.marked unmarked;

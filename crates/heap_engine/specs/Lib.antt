@@ -7,4 +7,3 @@ pub mod Printed
 pub mod Parts
 pub mod Changes
 pub mod Sound
-pub mod Built

@@ -7,7 +7,9 @@ use Rattle.gc_graph.specs.declared.kind.Value.{Value}
 use Rattle.gc_graph.specs.declared.kind.Value.TheVariants.{Null, Ref, Word}
 use Rattle.gc_graph.specs.Graph.{Object, object_at, no_object, leads_by, ClosesUnder}
 use Rattle.gc_graph.specs.State.{ObjectType, no_type}
-use Rattle.gc_graph.specs.Fields.{field_words, strong_type}
+use Rattle.gc_graph.specs.Fields.{field_words}
+use Rattle.object_headers.specs.Offsets.{first_field}
+use Rattle.type_table.specs.Types.{kinds_of, offsets_of_kind}
 use Rattle.page_words.specs.Bodies.{Body, IsReference}
 use Rattle.page_words.specs.Seat.{SeatView, holds, unmarked_places}
 
@@ -23,19 +25,28 @@ abbrev pub PlacesDiffer : List Body → Type 0
 PlacesDiffer [] = ⊤
 PlacesDiffer (b ∷ bodies) = All (λ c. c.place ≡ b.place → ⊥) bodies × PlacesDiffer bodies
 
--- how many fields the body has, by its type; extra words come after them
-abbrev pub fields_by : List ℕ → Body → ℕ
-fields_by types b = slice_index types b.ty
+-- no type has a pair
+abbrev pub ArePairless : List ObjectType → Type 0
+ArePairless types = All (λ type. Contains type.kinds Pair → ⊥) types
 
--- each body is of one of the types, and each of its fields is null or names a body
-pub record AreReferences (types : List ℕ) (bodies : List Body) : Type 0 where
+-- the offsets of the body's strong fields, by its type
+abbrev pub strong_offsets : List ObjectType → Body → List ℕ
+strong_offsets types b = offsets_of_kind Strong (kinds_of types b.ty)
+
+-- the body's field word at an offset from its place
+abbrev pub word_at : Body → ℕ → ℕ
+word_at b offset = slice_index b.fields (offset - first_field)
+
+-- each body is of one of the types and has a word for each field, and each of its strong fields is null or names a body
+pub record AreReferences (types : List ObjectType) (bodies : List Body) : Type 0 where
   pub typed : (b : Body) → Contains bodies b → b.ty < length types
-  pub whole : (b : Body) → Contains bodies b → fields_by types b ≤ length b.fields
-  pub named : (b : Body) (i : ℕ) → Contains bodies b → i < fields_by types b → IsReference bodies (slice_index b.fields i)
+  pub whole : (b : Body) → Contains bodies b → field_words (kinds_of types b.ty) ≤ length b.fields
+  pub named :
+      (b : Body) (offset : ℕ) → Contains bodies b → Contains (strong_offsets types b) offset → IsReference bodies (word_at b offset)
 
--- there is a body at the place, and it has so many fields
-abbrev pub HasFields : List ℕ → List Body → ℕ → ℕ → Type 0
-HasFields types bodies place fields = (b : Body) × Contains bodies b × (b.place ≡ place) × (fields_by types b ≡ fields)
+-- there is a body at the place, and this is its type
+abbrev pub HasType : List Body → ℕ → ℕ → Type 0
+HasType bodies place ty = (b : Body) × Contains bodies b × (b.place ≡ place) × (b.ty ≡ ty)
 
 -- ---- the graph that the bodies stand for: its nodes are addresses
 
@@ -102,15 +113,16 @@ pub record IsTricolour (types : List ObjectType) (hand : Option ℕ) (v : SeatVi
   pub traced_lead_to_marked :
       (p q : ℕ) → holds v.traced p ≡ true → (hand ≡ Some p → ⊥) → LeadsMarked types v p q → holds v.marked q ≡ true
 
--- the tricolour property lasts, whatever the numbers of strong fields are and whatever object is in hand
+-- the tricolour property lasts, whatever the types without pairs are and whatever object is in hand
 abbrev pub KeepsTricolour : SeatView → Grey → SeatView → Grey → Type 0
 KeepsTricolour old before new after =
-    (numbers : List ℕ) (hand : Option ℕ) → IsTricolour (map strong_type numbers) hand old before.places
-    → IsTricolour (map strong_type numbers) hand new after.places
+    (types : List ObjectType) (hand : Option ℕ) → ArePairless types → IsTricolour types hand old before.places
+    → IsTricolour types hand new after.places
 
 -- the bodies are as before, and what was marked still is
 pub record MarksOn (old new : SeatView) : Type 0 where
   pub count : new.count ≡ old.count
+  pub types : new.types ≡ old.types
   pub on : new.on ≡ old.on
   pub bodies : new.bodies ≡ old.bodies
   pub marked : (p : ℕ) → holds old.marked p ≡ true → holds new.marked p ≡ true
@@ -128,6 +140,7 @@ HoldsSlots test slots = (p : ℕ) → Contains slots (Some p) → test p ≡ tru
 -- marking is over: exactly what the slots reach is marked, and the others are dead
 pub record MarksReachable (types : List ObjectType) (slots : List (Option ℕ)) (old new : SeatView) : Type 0 where
   pub count : new.count ≡ old.count
+  pub known : new.types ≡ old.types
   pub off : new.on ≡ false
   pub bodies : new.bodies ≡ old.bodies
   pub roots : HoldsSlots (holds new.marked) slots

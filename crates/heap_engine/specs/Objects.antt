@@ -6,8 +6,9 @@ use Rattle.gc_graph.specs.declared.line.Refusal.{Refusal}
 use Rattle.gc_graph.specs.declared.line.Refusal.TheVariants as R
 use Rattle.gc_graph.specs.Graph.{has, IsClosed, IsWithin}
 use Rattle.gc_graph.specs.Reach.{Reach}
-use Rattle.gc_graph.specs.State.{Setup, State, Node, node_at, graph_of, slot_targets, IsLive}
-use Rattle.gc_graph.specs.Fields.{field_count, kind_of_field, is_reference, value_at, with_value, target_of, new_node}
+use Rattle.gc_graph.specs.Built.{is_built_type}
+use Rattle.gc_graph.specs.State.{Setup, State, ObjectType, Node, node_at, graph_of, slot_targets, IsLive}
+use Rattle.gc_graph.specs.Fields.{field_count, kind_of_field, word_of_field, is_reference, value_at, with_value, target_of, new_node}
 use Rattle.gc_graph.specs.Valid.{IsValid}
 use Rattle.gc_graph.specs.Sweep.{buried}
 use Rattle.gc_graph.specs.Pause.{condemn}
@@ -15,14 +16,15 @@ use Rattle.page_words.specs.Seat.{SeatView}
 use Rattle.page_space.specs.Space.{SpaceView, IsSpaceOf}
 use Rattle.heap_engine.specs.Nodes.{place_of, IsHeld}
 
--- at most 64 fields to a type, and fewer types than a header can name
-pub record AreTypes (types : List ℕ) : Type 0 where
-  pub fields : All (λ n. n ≤ 64) types
-  pub count : length types < 16384
+-- each type is one that the heap can have so far
+abbrev pub AreBuilt : List ObjectType → Type 0
+AreBuilt types = All (λ type. is_built_type type ≡ true) types
 
--- the words hold the nodes, and the next number is the one that no node has
-pub record AreObjects (space : SpaceView) (v : SeatView) (types : List ℕ) (made : ℕ) (nodes : List Node) : Type 0 where
-  pub known : AreTypes types
+-- the words hold the nodes, and the next number is the one that no node has; a header can name each type
+pub record AreObjects (space : SpaceView) (v : SeatView) (types : List ObjectType) (made : ℕ) (nodes : List Node) : Type 0 where
+  pub built : AreBuilt types
+  pub few : length types < 16384
+  pub known : v.types ≡ types
   pub laid : IsSpaceOf space v
   pub off : v.on ≡ false
   pub held : IsHeld nodes v
@@ -42,7 +44,7 @@ IsLiveAt nodes n place = IsLive nodes n × (place_of nodes n ≡ place)
 abbrev pub IsFieldAt : List Node → ℕ → ℕ → Result ℕ Refusal → Type 0
 IsFieldAt nodes n f answer =
     MatchBool (nat_lt f (field_count (node_at nodes n)))
-    (MatchBool (is_reference (kind_of_field (node_at nodes n).object f)) (answer ≡ Ok (place_of nodes n + 2 + f)) (answer ≡ Err R.Kind))
+    (MatchBool (is_reference (kind_of_field (node_at nodes n).object f)) (answer ≡ Ok (place_of nodes n + 2 + word_of_field (node_at nodes n).object f)) (answer ≡ Err R.Kind))
     (answer ≡ Err R.Field)
 
 -- null, or a reference to a live node
@@ -51,12 +53,12 @@ IsLiveReference nodes Null = ⊤
 IsLiveReference nodes (Ref n) = IsLive nodes n
 IsLiveReference nodes (Word w) = ⊥
 
--- the word at the address is that of the live node's field f, which holds a reference
-pub record IsWordOf (nodes : List Node) (n f a : ℕ) : Type 0 where
+-- the word at the address is the live node's word with this number, which holds a reference
+pub record IsWordOf (nodes : List Node) (n word a : ℕ) : Type 0 where
   pub live : IsLive nodes n
-  pub low : f < length (node_at nodes n).object.values
-  pub at : a ≡ place_of nodes n + 2 + f
-  pub reference : IsLiveReference nodes (value_at (node_at nodes n) f)
+  pub low : word < length (node_at nodes n).object.values
+  pub at : a ≡ place_of nodes n + 2 + word
+  pub reference : IsLiveReference nodes (value_at (node_at nodes n) word)
 
 -- the place and the number of what a value names
 abbrev pub target_in : List Node → Value → Option (ℕ × ℕ)
@@ -77,7 +79,7 @@ with_made setup nodes t extra (Some place) = nodes ++ new_node setup t extra pla
 -- field f of the named node got the value
 abbrev pub written_in : List Node → Option ℕ → ℕ → Value → List Node
 written_in nodes None f value = nodes
-written_in nodes (Some n) f value = slice_set nodes n (with_value (node_at nodes n) f value)
+written_in nodes (Some n) f value = slice_set nodes n (with_value (node_at nodes n) (word_of_field (node_at nodes n).object f) value)
 
 -- a dead node is gone
 abbrev pub bury : Node → Node

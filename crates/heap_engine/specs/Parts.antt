@@ -1,15 +1,15 @@
 -- The parts of a heap as commands see them, and how the state is put together from them.
-use Rattle.std.specs.Prelude.{◌≡◌, ℕ, ◌+◌, ◌≤◌, false, List, [], length, replicate, Option, None, All}
+use Rattle.std.specs.Prelude.{◌≡◌, ℕ, ◌+◌, ◌≤◌, false, List, [], length, replicate, Option, None}
 use Rattle.gc_graph.specs.declared.phase.Phase.{Phase}
 use Rattle.gc_graph.specs.declared.phase.Phase.TheVariants.{Idle, Marking, Sweeping}
 use Rattle.gc_graph.specs.State.{Shape, Setup, State, Node, ObjectType}
 use Rattle.gc_graph.specs.State.RegionSlot.{Vacant}
-use Rattle.gc_graph.specs.Fields.{strong_type}
 use Rattle.gc_graph.specs.CycleSteps.{is_marking}
 use Rattle.gc_graph.specs.Valid.{IsValid}
 use Rattle.gc_graph.specs.Outcomes.{answered}
 use Rattle.page_words.specs.Seat.{SeatView, IsQuiet}
 use Rattle.heap_engine.specs.Marking.{Grey}
+use Rattle.heap_engine.specs.Objects.{AreBuilt}
 use Rattle.heap_engine.specs.Sweeping.{IsJudged}
 use Rattle.heap_engine.specs.View.{places_of}
 
@@ -52,10 +52,6 @@ HasMarks Idle v = IsQuiet v
 HasMarks Marking v = IsQuiet v
 HasMarks Sweeping v = IsJudged v
 
--- each type has strong fields alone, and no prefinalizers
-abbrev pub AreStrong : List ObjectType → Type 0
-AreStrong types = All (λ t. t ≡ strong_type (length t.kinds)) types
-
 -- no marking goes on, the mark list is empty, weak slots and region slots are null, the stack is empty, no prefinalizer is
 -- registered, and no thread runs
 pub record IsAtRest (phase : Phase) (grey : Grey) (s : State) : Type 0 where
@@ -77,7 +73,7 @@ pub record AreTied (o : ObjectsView) (h : HandlesView) (c : CycleView) : Type 0 
 -- the parts are ready for a command: their state is valid, and they belong together
 pub record IsReady (o : ObjectsView) (h : HandlesView) (c : CycleView) : Type 0 where
   pub valid : IsValid (setup_of_objects o) (state_of o h c)
-  pub strong : AreStrong o.types
+  pub built : AreBuilt o.types
   pub tied : AreTied o h c
   pub most : c.rest.ordinal ≤ 1000000
 

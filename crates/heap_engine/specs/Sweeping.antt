@@ -10,6 +10,7 @@ IsJudged v = (b : Body) → Contains v.bodies b → holds v.dead b.place ≡ not
 -- what a sweep leaves: the bodies that were not dead, and no mark
 pub record IsSweptView (old new : SeatView) : Type 0 where
   pub count : new.count ≡ old.count
+  pub types : new.types ≡ old.types
   pub off : new.on ≡ false
   pub bodies : new.bodies ≡ filter (λ b. not (holds old.dead b.place)) old.bodies
   pub marked : new.marked ≡ []

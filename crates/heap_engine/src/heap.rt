@@ -3,16 +3,15 @@
 
 ghost use Rattle.std.specs.Prelude.{◌≡◌, ◌+◌, ◌*◌, ◌++◌, ◌<◌, ◌≤◌};
 ghost use Rattle.std.specs.Prelude.{true, false, [], ◌∷◌, length, Some, IfOk};
-ghost use Rattle.std.specs.Prelude.{All, map, slice_get};
+ghost use Rattle.std.specs.Prelude.{All, slice_get};
 ghost use Rattle.gc_graph.specs.State.{empty_state};
-ghost use Rattle.gc_graph.specs.Fields.{strong_type};
+ghost use Rattle.gc_graph.specs.Built.{is_built_type, IsBuiltIn};
 ghost use Rattle.gc_graph.specs.CycleSteps.{is_marking};
 ghost use Rattle.gc_graph.specs.Outcomes.{answered, finalise_lines};
 ghost use Rattle.gc_graph.specs.Step.{Step};
 ghost use Rattle.gc_graph.specs.Lawful.{IsAllowed, IsEndLine};
 ghost use Rattle.gc_graph.specs.Shapes.{IsShape};
 ghost use Rattle.page_space.specs.Pages.{word_count};
-ghost use Rattle.heap_engine.specs.Built.{IsBuilt};
 ghost use Rattle.heap_engine.specs.Parts.{setup_of_objects, state_of, counted, IsReady, IsFrame};
 
 use crate::creating::new_object;
@@ -26,6 +25,7 @@ use crate::totals::stat;
 use gc_graph::{Command, Line, NoMemory};
 use std::alloc::Global;
 use std::marker::Model;
+use type_table::TypeTable;
 
 /// How many pages a heap has, and how many words a page.
 #[derive(Clone, Copy, Debug, PartialEq, Eq, Drop)]
@@ -57,16 +57,15 @@ impl Model for Heap {
 }
 
 impl Heap {
-    /// An empty heap, which takes all the memory that its commands need but for collections. Want
-    /// of memory is free.
-    pub fn new(alloc: Global, config: Config, types: &[u32]) -> Result<Heap, NoMemory>
+    /// An empty heap for objects of these types, which takes all the memory that its commands need
+    /// but for collections. Want of memory is free.
+    pub fn new(alloc: Global, config: Config, types: TypeTable) -> Result<Heap, NoMemory>
         requires shape { IsShape (record { pages = config.pages; page_words = config.page_words }) }
-        requires types { All (λ n. n ≤ 64) types.now }
-        requires few { length types.now < 16384 }
+        requires built { All (λ type. is_built_type type ≡ true) types }
         ensures setup { IfOk result (λ h. h.setup ≡ record {
           shape = record { pages = config.pages; page_words = config.page_words };
           markers = 0;
-          types = map strong_type types.now;
+          types = types;
           callbacks = [];
         }) }
         ensures state { IfOk result (λ h. h.state ≡ empty_state) }
@@ -75,6 +74,8 @@ impl Heap {
         ensures closed { IfOk result (λ h. h.closed ≡ false) }
     {
         gc_graph::empty_is_valid();
+        // A header can name each type.
+        let _count = types.count();
         let objects = Objects::new(alloc, config.pages, config.page_words, types)?;
         let outcome = Outcome::new(alloc, objects.word_count() as usize / 2 + 1)?;
         let handles = Handles::new(alloc)?;
@@ -92,7 +93,7 @@ impl Heap {
         requires few { self.old.state.ordinal < 1000000 }
         requires opened { self.old.closed ≡ false }
         requires allowed { IsAllowed (length self.old.setup.types) command.now }
-        requires built { IsBuilt self.old.state.phase command.now }
+        requires built { IsBuiltIn self.old.state.phase command.now }
         ensures step { Step self.old.setup self.old.state command.now
             self.new.piece self.new.lines self.new.state }
         ensures count { result ≡ length self.new.lines }
@@ -152,7 +153,7 @@ fn run(
     requires piece { outcome.old.piece ≡ [] }
     requires room { word_count objects.old.shape ≤ 2 * outcome.old.room }
     requires allowed { IsAllowed (length objects.old.types) command.now }
-    requires built { IsBuilt cycle.old.phase command.now }
+    requires built { IsBuiltIn cycle.old.phase command.now }
     ensures step { Step (setup_of_objects objects.old) (state_of objects.old handles.old cycle.old)
         command.now outcome.new.piece (finalise_lines outcome.new.numbers ++ result ∷ [])
         (answered (state_of objects.new handles.new cycle.new)) }

@@ -12,7 +12,7 @@
 //! levels down are `page_space` and `page_words`.
 //!
 //! What is proved: `act` is a step from the heap's own state to its new state, for every command
-//! that is allowed and that the heap does so far (`IsBuilt`), and its lines are those of the step;
+//! that is allowed and that the heap does so far (`IsBuiltIn`), and its lines are those of the step;
 //! the pieces that the commands took are the heap's history of the region. Each node that is not finalised is the
 //! object with its number, type, size, place, field words and extra words. A collection keeps
 //! exactly what the slots reach, and never reads an extra word. Refusals and a full heap are

@@ -1,23 +1,25 @@
 // Marking: the targets of the slots are marked and listed; each listed object is traced, which
-// marks and lists the targets of its fields. A deep chain needs no deep stack, and no memory is
+// marks and lists the targets of its strong fields. A deep chain needs no deep stack, and no memory is
 // taken on the way.
 
 ghost use Rattle.std.specs.Prelude.{◌≡◌, ◌⊎◌, ℕ, ◌+◌, ◌*◌, ◌/◌};
 ghost use Rattle.std.specs.Prelude.{◌^◌, ◌<◌, ◌≤◌, true, [], ◌∷◌, ◌++◌};
 ghost use Rattle.std.specs.Prelude.{length, map, Some, None, MatchOption, OnOk, Contains, All};
 ghost use Rattle.std.specs.Option.{ForSome};
-ghost use Rattle.gc_graph.specs.Fields.{strong_type};
 ghost use Rattle.page_words.specs.Bodies.{Body, IsPlace, IsReference};
 ghost use Rattle.page_words.specs.Seat.{holds, is_grey, claimed_at, IsQuiet};
+ghost use Rattle.page_space.specs.Space.{IsSeatOf};
 ghost use Rattle.heap_engine.specs.Marking.{PlacesDiffer, AreReferences, IsCounted, IsTricolour};
 ghost use Rattle.heap_engine.specs.Marking.{KeepsTricolour, MarksOn, GrowsWithin, MarksReachable};
-ghost use Rattle.heap_engine.specs.Marking.{HasFields, LeadsMarked, marked_count};
+ghost use Rattle.heap_engine.specs.Marking.{ArePairless, HasType, LeadsMarked, marked_count};
 
 use gc_graph::NoMemory;
-use object_headers::{Header, with_mark, with_traced};
+use object_headers::{with_mark, with_traced};
+use page_space::Space;
 use page_words::{MutatorSeat, Words};
 use std::alloc::Global;
 use std::marker::Model;
+use type_table::TypeTable;
 
 /// The mark list: places that are marked and not yet traced, and how many objects were marked and
 /// traced.
@@ -81,30 +83,31 @@ impl MarkList {
     /// Marks exactly the objects that the slots reach, and traces each of them once.
     pub fn mark_reachable(
         &mut self,
-        words: &Words,
+        space: &Space,
         seat: &mut MutatorSeat,
-        types: &[u32],
+        types: &TypeTable,
         slots: &[Option<u32>],
     )
-        requires heap { seat.old.count ≡ words.now }
+        requires heap { IsSeatOf space.now seat.old }
         requires quiet { IsQuiet seat.old }
         requires slots { All (λ slot. ForSome slot (IsPlace seat.old.bodies)) slots.now }
+        requires pairless { ArePairless types.now }
         requires references { AreReferences types.now seat.old.bodies }
         requires differ { PlacesDiffer seat.old.bodies }
         requires empty { self.old.places ≡ [] }
         requires room { length seat.old.bodies ≤ self.old.room }
         requires few { length seat.old.bodies < 2 ^ 32 }
-        ensures marks { MarksReachable (map strong_type types.now) slots.now seat.old seat.new }
+        ensures marks { MarksReachable types.now slots.now seat.old seat.new }
         ensures places { self.new.places ≡ [] }
         ensures marked { self.new.marked ≡ marked_count seat.new }
         ensures traced { self.new.traced ≡ self.new.marked }
     {
         self.begin();
-        words.set_stop(seat, false);
-        self.mark_slots(words, seat, slots);
-        self.drain(words, seat, types);
+        space.words().set_stop(seat, false);
+        self.mark_slots(space.words(), seat, slots);
+        self.drain(space, seat, types);
         seat.bodies_lie_apart();
-        words.set_stop(seat, true);
+        space.words().set_stop(seat, true);
     }
 
     fn begin(&mut self)
@@ -148,19 +151,20 @@ impl MarkList {
     }
 
     /// Traces each listed object, until none is left.
-    fn drain(&mut self, words: &Words, seat: &mut MutatorSeat, types: &[u32])
-        requires heap { seat.old.count ≡ words.now }
+    fn drain(&mut self, space: &Space, seat: &mut MutatorSeat, types: &TypeTable)
+        requires heap { IsSeatOf space.now seat.old }
+        requires pairless { ArePairless types.now }
         requires references { AreReferences types.now seat.old.bodies }
         requires counted { IsCounted seat.old self.old }
-        requires tricolour { IsTricolour (map strong_type types.now) None seat.old self.old.places }
+        requires tricolour { IsTricolour types.now None seat.old self.old.places }
         ensures counted { IsCounted seat.new self.new }
-        ensures tricolour { IsTricolour (map strong_type types.now) None seat.new [] }
+        ensures tricolour { IsTricolour types.now None seat.new [] }
         ensures places { self.new.places ≡ [] }
         ensures kept { MarksOn seat.old seat.new }
-        ensures grows { GrowsWithin (map strong_type types.now) seat.old seat.new }
+        ensures grows { GrowsWithin types.now seat.old seat.new }
     {
         while let Some(place) = self.take() {
-            self.trace(words, seat, types, place);
+            self.trace(space, seat, types, place);
         }
     }
 
@@ -174,25 +178,26 @@ impl MarkList {
         self.places.pop()
     }
 
-    /// Claims a listed object, and marks and lists the targets of its fields.
-    fn trace(&mut self, words: &Words, seat: &mut MutatorSeat, types: &[u32], place: u32)
-        requires heap { seat.old.count ≡ words.now }
+    /// Claims a listed object, and marks and lists the targets of its strong fields.
+    fn trace(&mut self, space: &Space, seat: &mut MutatorSeat, types: &TypeTable, place: u32)
+        requires heap { IsSeatOf space.now seat.old }
+        requires pairless { ArePairless types.now }
         requires references { AreReferences types.now seat.old.bodies }
         requires counted { IsCounted seat.old self.old }
-        requires tricolour { IsTricolour (map strong_type types.now) None seat.old
+        requires tricolour { IsTricolour types.now None seat.old
             (self.old.places ++ place ∷ []) }
         ensures counted { IsCounted seat.new self.new }
-        ensures tricolour { IsTricolour (map strong_type types.now) None seat.new self.new.places }
+        ensures tricolour { IsTricolour types.now None seat.new self.new.places }
         ensures kept { MarksOn seat.old seat.new }
-        ensures grows { GrowsWithin (map strong_type types.now) seat.old seat.new }
+        ensures grows { GrowsWithin types.now seat.old seat.new }
         ensures pushed { length self.new.places + self.old.marked
             ≡ length self.old.places + self.new.marked }
         ensures grew { self.old.marked ≤ self.new.marked }
     {
         seat.bodies_lie_apart();
-        if self.claim(words, seat, place) {
-            let ty = type_at(words, seat, place);
-            self.mark_fields(words, seat, types, place, types[ty as usize]);
+        if self.claim(space.words(), seat, place) {
+            let ty = space.header_at(seat, place).ty;
+            self.mark_fields(space.words(), seat, types, place, ty);
         }
     }
 
@@ -216,33 +221,36 @@ impl MarkList {
         claimed
     }
 
-    /// Marks and lists the targets of an object's fields. Its extra words are never read.
+    /// Marks and lists the targets of the strong fields of an object of a type. Its other words are
+    /// never read.
     fn mark_fields(
         &mut self,
         words: &Words,
         seat: &mut MutatorSeat,
-        types: &[u32],
+        types: &TypeTable,
         place: u32,
-        fields: u32,
+        ty: u32,
     )
         requires heap { seat.old.count ≡ words.now }
+        requires pairless { ArePairless types.now }
         requires references { AreReferences types.now seat.old.bodies }
-        requires fields { HasFields types.now seat.old.bodies place fields }
+        requires body { HasType seat.old.bodies place ty }
         requires counted { IsCounted seat.old self.old }
         requires hand { holds seat.old.marked place ≡ true }
         ensures counted { IsCounted seat.new self.new }
         ensures tricolour { KeepsTricolour seat.old self.old seat.new self.new }
         ensures kept { MarksOn seat.old seat.new }
-        ensures targets { (q : ℕ) → LeadsMarked (map strong_type types.now) seat.new place q
+        ensures targets { (q : ℕ) → LeadsMarked types.now seat.new place q
             → holds seat.new.marked q ≡ true }
-        ensures grows { GrowsWithin (map strong_type types.now) seat.old seat.new }
+        ensures grows { GrowsWithin types.now seat.old seat.new }
         ensures pushed { length self.new.places + self.old.marked
             ≡ length self.old.places + self.new.marked }
         ensures grew { self.old.marked ≤ self.new.marked }
     {
         seat.bodies_lie_apart();
-        for i in 0..fields {
-            let reference = words.load(seat, place + 2 + i);
+        let strong = types.strong_words(ty);
+        for offset in strong {
+            let reference = words.load(seat, place + *offset);
             self.mark_reference(words, seat, reference);
         }
     }
@@ -289,19 +297,5 @@ impl MarkList {
             self.places.push_reserved(place);
             self.marked += 1;
         }
-    }
-}
-
-/// The type of the object that starts at an address.
-pub(crate) fn type_at(words: &Words, seat: &mut MutatorSeat, a: u32) -> u32
-    requires heap { seat.old.count ≡ words.now }
-    requires start { IsPlace seat.old.bodies a }
-    ensures ty { (b : Body) → Contains seat.old.bodies b → b.place ≡ a → result ≡ b.ty }
-    ensures view { seat.new ≡ seat.old }
-{
-    seat.bodies_lie_apart();
-    match Header::read(words.load(seat, a)) {
-        Some(header) => header.ty,
-        None => unreachable!("an object starts here"),
     }
 }

@@ -2,7 +2,6 @@
 // alone.
 
 ghost use Rattle.std.specs.Prelude.{◌≡◌, [], map, Some, None, slice_index_or};
-ghost use Rattle.gc_graph.specs.Fields.{strong_type};
 ghost use Rattle.gc_graph.specs.Pause.{condemn};
 ghost use Rattle.page_words.specs.Seat.{holds};
 ghost use Rattle.heap_engine.specs.View.{kept_of};
@@ -13,6 +12,7 @@ use ghost_values::GhostValue;
 use page_space::Space;
 use page_words::MutatorSeat;
 use std::marker::Model;
+use type_table::TypeTable;
 
 /// A list of nodes. It is never made.
 #[derive(Drop)]
@@ -40,7 +40,7 @@ pub fn none() -> GhostValue<NodeLists>
 struct AboutNew<'a> {
     nodes: &'a GhostValue<NodeLists>,
     space: &'a Space,
-    types: &'a [u32],
+    types: &'a TypeTable,
     t: u32,
     extra: u32,
     place: u32,
@@ -50,7 +50,7 @@ struct AboutNew<'a> {
 pub fn made(
     nodes: &GhostValue<NodeLists>,
     space: &Space,
-    types: &[u32],
+    types: &TypeTable,
     t: u32,
     extra: u32,
     place: u32,
@@ -58,7 +58,7 @@ pub fn made(
     ensures { result.value ≡ with_made (record {
       shape = space.now.shape;
       markers = 0;
-      types = map strong_type types.now;
+      types = types.now;
       callbacks = [];
     }) nodes.now.value t extra (Some place) }
 {

@@ -1,11 +1,14 @@
 // The objects of a heap: their words, their pages and their types.
 
 ghost use Rattle.std.specs.Prelude.{◌≡◌, ℕ, ◌+◌, ◌*◌, ◌^◌, ◌<◌};
-ghost use Rattle.std.specs.Prelude.{◌≤◌, [], length, All, IfOk, IfSome, map};
-ghost use Rattle.std.specs.Prelude.{slice_index_or, vec_capacity, Some, None};
+ghost use Rattle.std.specs.Prelude.{◌≤◌, [], length, IfOk, IfSome, map};
+ghost use Rattle.std.specs.Prelude.{slice_index_or, vec_capacity, Some, None, Ok, Err};
+ghost use Rattle.std.specs.Prelude.{MatchOption, MatchBool};
+ghost use Rattle.std.specs.Option.{ForSome};
 ghost use Rattle.gc_graph.specs.declared.phase.Phase.{Phase};
 ghost use Rattle.gc_graph.specs.State.{node_at, slot_targets, objects_of, used_of};
-ghost use Rattle.gc_graph.specs.Fields.{strong_type, size_of_type, value_at};
+ghost use Rattle.gc_graph.specs.Fields.{size_of_type, value_at, word_of_field, is_reference};
+ghost use Rattle.gc_graph.specs.declared.line.Refusal.TheVariants as R;
 ghost use Rattle.gc_graph.specs.Pause.{live_count};
 ghost use Rattle.gc_graph.specs.Placement.{IsPlaceFor, IsUsedPages, extents_of};
 ghost use Rattle.gc_graph.specs.Sweep.{AreDeadInOrder};
@@ -16,7 +19,7 @@ ghost use Rattle.page_space.specs.Pages.{word_count};
 ghost use Rattle.page_space.specs.Space.{IsSpaceOf, IsFreePlace, extents_of_bodies};
 ghost use Rattle.heap_engine.specs.Sweeping.{IsJudged};
 ghost use Rattle.heap_engine.specs.View.{places_of};
-ghost use Rattle.heap_engine.specs.Objects.{AreOfValid, IsLiveAt, IsFieldAt, IsWordOf, IsLiveReference};
+ghost use Rattle.heap_engine.specs.Objects.{AreBuilt, AreOfValid, IsLiveAt, IsFieldAt, IsWordOf, IsLiveReference};
 ghost use Rattle.heap_engine.specs.Objects.{IsJudgement, target_in, with_made, written_in, bury};
 ghost use Rattle.heap_engine.specs.Nodes.{word_of, place_of};
 ghost use Rattle.heap_engine.specs.Parts.{setup_of_objects, HasMarks};
@@ -25,28 +28,27 @@ use crate::handles::{Content, Handles};
 use crate::marking::MarkList;
 use crate::nodes::{self, NodeLists};
 use crate::sweeping::sweep_pages;
-use gc_graph::{NoMemory, Refusal};
+use gc_graph::{Kind, NoMemory, Refusal};
 use ghost_values::GhostValue;
-use object_headers::FIRST_FIELD;
+use object_headers::SERIAL;
 use page_space::Space;
 use page_words::MutatorSeat;
 use std::alloc::Global;
 use std::marker::Model;
+use type_table::TypeTable;
 
 /// The objects of a heap, by place. Places, sizes and offsets are in words.
 #[derive(Drop)]
 pub struct Objects {
     space: Space,
     seat: MutatorSeat,
-    types: Vec<u32>,
+    types: TypeTable,
     /// How many numbers were given out.
     made: u32,
     nodes: GhostValue<NodeLists>,
 }
 
 impl Model for Objects {
-    ghost use Rattle.std.specs.Prelude.{map};
-    ghost use Rattle.gc_graph.specs.Fields.{strong_type};
     ghost use Rattle.heap_engine.specs.Objects.{AreObjects};
     ghost use Rattle.heap_engine.specs.Parts.{ObjectsView};
 
@@ -54,34 +56,33 @@ impl Model for Objects {
 
     ghost view = { λ o. record {
       shape = o.space.shape;
-      types = map strong_type o.types.items;
+      types = o.types;
       nodes = o.nodes.value;
       seat = o.seat;
     } };
 
-    ghost invariant = { λ o. AreObjects o.space o.seat o.types.items o.made o.nodes.value };
+    ghost invariant = { λ o. AreObjects o.space o.seat o.types o.made o.nodes.value };
 }
 
 impl Objects {
-    /// No objects, in words of this shape. Want of memory is free.
+    /// No objects of these types, in words of this shape. Want of memory is free.
     pub fn new(
         alloc: Global,
         pages: u32,
         page_words: u32,
-        types: &[u32],
+        types: TypeTable,
     ) -> Result<Objects, NoMemory>
         requires shape { IsShape (record { pages = pages; page_words = page_words }) }
-        requires types { All (λ n. n ≤ 64) types.now }
-        requires few { length types.now < 16384 }
+        requires built { AreBuilt types }
+        requires few { length types < 16384 }
         ensures view { IfOk result (λ o. o ≡ record {
           shape = record { pages = pages; page_words = page_words };
-          types = map strong_type types.now;
+          types = types;
           nodes = [];
-          seat = empty_view (pages * page_words);
+          seat = empty_view (pages * page_words) types;
         }) }
     {
-        let (space, seat) = Space::new(alloc, pages, page_words)?;
-        let types = Vec::from_slice(alloc, types)?;
+        let (space, seat) = Space::new(alloc, pages, page_words, &types)?;
         Ok(Objects {
             space,
             seat,
@@ -154,7 +155,7 @@ impl Objects {
         ensures quiet { IsQuiet self.new.seat }
         ensures setup { setup_of_objects self.new ≡ setup_of_objects self.old }
     {
-        let size = 2 + self.types[t as usize] + extra;
+        let size = self.types.size_of(t, extra);
         match find_place(&self.space, &mut self.seat, size) {
             Some(place) => {
                 self.space.occupy(&mut self.seat, place, t, size, self.made);
@@ -171,8 +172,8 @@ impl Objects {
         }
     }
 
-    /// The address of field f of the object at a place. A missing field is told before an extra
-    /// word, which is of another kind.
+    /// The address of field f of the object at a place. A missing field is told before one that
+    /// is no strong or weak one.
     pub fn field_at(&mut self, place: u32, f: u32) -> Result<u32, Refusal>
         requires valid { AreOfValid (setup_of_objects self.old) self.old.nodes }
         requires place { (n : ℕ) × IsLiveAt self.old.nodes n place }
@@ -182,22 +183,16 @@ impl Objects {
     {
         self.seat.bodies_lie_apart();
         let header = self.space.header_at(&mut self.seat, place);
-        if f >= header.size - FIRST_FIELD {
-            return Err(Refusal::Field);
-        }
-        let fields = self.types[header.ty as usize];
-        if f >= fields {
-            return Err(Refusal::Kind);
-        }
-        Ok(place + FIRST_FIELD + f)
+        let extra = header.size - self.types.size_of(header.ty, 0);
+        reference_field(place, self.types.field_at(header.ty, extra, f))
     }
 
     /// The place and the number of what the field word at an address names.
     pub fn target_at(&mut self, a: u32) -> Option<(u32, u32)>
         requires few { length self.old.nodes ≤ 1000000 }
-        requires word { (n : ℕ) × (f : ℕ) × IsWordOf self.old.nodes n f a }
-        ensures target { (n f : ℕ) → IsWordOf self.old.nodes n f a
-            → result ≡ target_in self.old.nodes (value_at (node_at self.old.nodes n) f) }
+        requires word { (n : ℕ) × (word : ℕ) × IsWordOf self.old.nodes n word a }
+        ensures target { (n word : ℕ) → IsWordOf self.old.nodes n word a
+            → result ≡ target_in self.old.nodes (value_at (node_at self.old.nodes n) word) }
         ensures same { self.new ≡ self.old }
     {
         self.seat.bodies_lie_apart();
@@ -206,7 +201,7 @@ impl Objects {
             return None;
         }
         let place = (reference - 1) as u32;
-        let number = self.space.words().load(&mut self.seat, place + 1) as u32;
+        let number = self.space.words().load(&mut self.seat, place + SERIAL) as u32;
         Some((place, number))
     }
 
@@ -214,7 +209,7 @@ impl Objects {
     /// object.
     pub fn store(&mut self, handles: &Handles, p: u32, f: u32, a: u32, content: &Content)
         requires word { (n : ℕ) × (slice_index_or handles.now.slots p None ≡ Some n)
-            × IsWordOf self.old.nodes n f a }
+            × IsWordOf self.old.nodes n (word_of_field (node_at self.old.nodes n).object f) a }
         requires reference { IsLiveReference self.old.nodes content.now.value.value }
         requires content { content.now.word
             ≡ word_of (place_of self.old.nodes) content.now.value.value }
@@ -268,13 +263,23 @@ impl Objects {
     {
         self.seat.bodies_lie_apart();
         gc_graph::reach_is_least();
-        grey.mark_reachable(
-            self.space.words(),
-            &mut self.seat,
-            &self.types,
-            handles.places(),
-        );
+        grey.mark_reachable(&self.space, &mut self.seat, &self.types, handles.places());
         self.nodes = nodes::judged(&self.nodes, &self.seat);
+    }
+}
+
+/// The address of the field that was found in the object at a place, or why it has none.
+fn reference_field(place: u32, found: Option<(Kind, u32)>) -> Result<u32, Refusal>
+    requires { ForSome found (λ t. place + t.1 < 2 ^ 32) }
+    ensures { MatchOption found (result ≡ Err R.Field) (λ t. MatchBool (is_reference t.0)
+        (result ≡ Ok (place + t.1)) (result ≡ Err R.Kind)) }
+{
+    match found {
+        Some((kind, offset)) => match kind {
+            Kind::Strong | Kind::Weak => Ok(place + offset),
+            Kind::Pair | Kind::Plain => Err(Refusal::Kind),
+        },
+        None => Err(Refusal::Field),
     }
 }
 

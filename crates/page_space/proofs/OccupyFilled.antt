@@ -1,9 +1,8 @@
 -- What is filled after one more word.
-use Rattle.std.proofs.Common.{◌≡◌, ℕ, zero, suc, ◌+◌, ◌-◌, ◌^◌, ◌<◌, ◌≤◌, Bool, true, false, not, List, [], ◌∷◌, refl, sym, ap, ◌∙◌, subst, inl, inr, arith, eqb}
+use Rattle.std.proofs.Common.{◌≡◌, ℕ, zero, suc, ◌+◌, ◌-◌, ◌^◌, ◌<◌, ◌≤◌, Bool, true, false, not, List, [], ◌∷◌, refl, sym, ap, ◌∙◌, subst, inl, inr, arith, eqb, get_or, replicate}
 use Rattle.std.specs.List.{Contains, filter}
 use Rattle.std.proofs.lemmas.Bool.{ne_eqb, cond-true, cond_both, cases_lt}
-use Rattle.std.proofs.lemmas.List.{length-replicate}
-use Rattle.std.proofs.lemmas.List.Elements.{All-replicate}
+use Rattle.std.proofs.lemmas.List.{length-replicate, get_or-replicate}
 use Rattle.object_headers.specs.Layout.{header_word}
 use Rattle.page_words.specs.Seat.{Filled, SeatView, IsReady, filled_with}
 use Rattle.page_space.specs.Occupying.{HasNulls, IsRoom, new_body}
@@ -54,11 +53,13 @@ ready_to_publish old a ty size serial room small least most nulls =
           (record { address = a; word = header_word true false false ty size }) (λ e. let same : a ≡ a + 1 = e in omega arith)
           (filled_here old a (header_word true false false ty size));
       serial = filled_here (filled_with old a (header_word true false false ty size)) (a + 1) serial;
-      fields = λ i below. filled_before (filled_with old a (header_word true false false ty size)) (a + 1) serial
-          (record { address = a + 2 + i; word = 0 }) (λ e. let same : a + 2 + i ≡ a + 1 = e in omega arith)
-          (filled_before old a (header_word true false false ty size) (record { address = a + 2 + i; word = 0 })
-          (λ e. let same : a + 2 + i ≡ a = e in omega arith) (nulls i (omega (arith, length-replicate {A = ℕ} (size - 2) 0))));
-      null = All-replicate (λ w. w ≡ 0) (size - 2) 0 refl;
+      fields = λ i below.
+          let low : i < size - 2 = omega (arith, length-replicate {A = ℕ} (size - 2) 0) in
+          let word : Filled = record { address = a + 2 + i; word = get_or (replicate (size - 2) 0) i 0 } in
+          let null : Contains old.filled word = subst (λ w. Contains old.filled (record { address = a + 2 + i; word = w })) (sym (get_or-replicate (size - 2) i 0 0 low)) (nulls i low) in
+          filled_before (filled_with old a (header_word true false false ty size)) (a + 1) serial word (λ e. let same : a + 2 + i ≡ a + 1 = e in omega arith)
+          (filled_before old a (header_word true false false ty size) word (λ e. let same : a + 2 + i ≡ a = e in omega arith) null);
+      null = λ i below _. get_or-replicate (size - 2) i 0 0 (omega (arith, length-replicate {A = ℕ} (size - 2) 0));
       whole = record { fields = omega (arith, length-replicate {A = ℕ} (size - 2) 0); inside = omega arith; ty = small; size = most };
       apart = room.free;
     }

@@ -20,6 +20,7 @@ HasNulls filled first count = (i : ℕ) → i < count → Contains filled (recor
 -- the body joined the others, and marking is as before
 pub record Occupies (old new : SeatView) (b : Body) : Type 0 where
   pub count : new.count ≡ old.count
+  pub types : new.types ≡ old.types
   pub on : new.on ≡ old.on
   pub bodies : new.bodies ≡ old.bodies ++ b ∷ []
   pub marked : new.marked ≡ old.marked

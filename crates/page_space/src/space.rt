@@ -14,6 +14,7 @@ use gc_graph::NoMemory;
 use page_words::{MutatorSeat, Words};
 use std::alloc::Global;
 use std::marker::Model;
+use type_table::TypeTable;
 
 /// The pages of a heap over its words, which belong to the mutator's thread. Addresses and sizes
 /// are in words. See "Heap partitioning" in `include/cppgc/README.md`.
@@ -47,15 +48,21 @@ impl Model for Space {
 }
 
 impl Space {
-    /// Pages without objects, and the seat of their words. Want of memory is free.
-    pub fn new(alloc: Global, pages: u32, page_words: u32) -> Result<(Space, MutatorSeat), NoMemory>
+    /// Pages without objects, which will be of these types, and the seat of their words. Want of
+    /// memory is free.
+    pub fn new(
+        alloc: Global,
+        pages: u32,
+        page_words: u32,
+        types: &TypeTable,
+    ) -> Result<(Space, MutatorSeat), NoMemory>
         requires { IsShape (record { pages = pages; page_words = page_words }) }
         ensures space { IfOk result (λ made. IsSpaceOf made.0 made.1) }
         ensures shape { IfOk result (λ made.
             made.0.shape ≡ record { pages = pages; page_words = page_words }) }
-        ensures view { IfOk result (λ made. made.1 ≡ empty_view (pages * page_words)) }
+        ensures view { IfOk result (λ made. made.1 ≡ empty_view (pages * page_words) types.now) }
     {
-        let (words, seat) = Words::new(alloc, pages * page_words)?;
+        let (words, seat) = Words::new(alloc, pages * page_words, types)?;
         let table = Table::new(alloc, pages)?;
         let gaps = Gaps::new(alloc, pages, depth_of(page_words))?;
         let space = Space {

@@ -13,6 +13,7 @@ use page_words::MutatorSeat;
 use std::alloc::Global;
 use std::marker::Model;
 use std::test::Fail;
+use type_table::TypeTable;
 
 /// A space with its seat, while no marking goes on.
 #[derive(Drop)]
@@ -33,12 +34,20 @@ impl Model for Ground {
     ghost invariant = { λ g. IsSpaceOf g.space g.seat × (g.seat.on ≡ false) };
 }
 
+/// A table without types: each word after the head is an extra one.
+fn no_types(alloc: Global) -> Result<TypeTable, NoMemory> {
+    match TypeTable::new(alloc, Vec::new(alloc), 0) {
+        Ok(types) => Ok(types),
+        Err(_) => Err(NoMemory),
+    }
+}
+
 impl Ground {
     /// Pages of 256 words, of which there are at most 8.
     fn new(alloc: Global, pages: u32) -> Result<Ground, NoMemory>
         ensures quiet { IfOk result IsQuiet }
     {
-        let (space, seat) = Space::new(alloc, pages % 8 + 1, 256)?;
+        let (space, seat) = Space::new(alloc, pages % 8 + 1, 256, &no_types(alloc)?)?;
         Ok(Ground { space, seat })
     }
 

@@ -65,7 +65,7 @@ published_at words v b h t ready read =
       fields_match = λ c i hc l. each_after
           (λ d. (j : ℕ) → j < length d.fields → get_or (set words at w) (d.place + 2 + j) 0 ≡ get_or d.fields j 0) v b
           (λ d hd j k. matches.fields d j hd k)
-          (λ j k. matches.filled (record { address = b.place + 2 + j; word = 0 }) (ready.fields j k) ∙ sym (ready.null j 0 k))
+          (λ j k. matches.filled (record { address = b.place + 2 + j; word = get_or b.fields j 0 }) (ready.fields j k))
           c hc i l;
       filled_match = λ f hf. matches.filled f (still_filled v b f hf);
       starts_match = starts_after words v b h t heap (get_or_read words at h within read 0);

@@ -1,6 +1,13 @@
 -- The objects of a heap, as the words of each tell them.
 use Rattle.std.specs.Prelude.{◌≡◌, ◌⊎◌, ℕ, ◌+◌, ◌<◌, ◌≤◌, List, length, if◌then◌else◌, ◌&&◌, nat_le, nat_lt, ◌-◌, ◌^◌, slice_set, Contains}
+use Rattle.std.specs.Prelude.{Bool, false, not, slice_index_or}
+use Rattle.gc_graph.specs.declared.kind.Kind.{Kind}
+use Rattle.gc_graph.specs.declared.kind.Kind.TheVariants.{Plain}
+use Rattle.gc_graph.specs.State.{ObjectType}
+use Rattle.gc_graph.specs.Fields.{is_plain}
 use Rattle.object_headers.specs.Offsets.{first_field, reference_to}
+use Rattle.type_table.specs.Types.{kinds_of}
+use Rattle.type_table.specs.Layouts.{kinds_of_words}
 
 -- a body: the address of its header, its type, its size in words, its serial number, and its field words
 pub record Body : Type 0 where
@@ -33,6 +40,23 @@ IsFieldWord bodies a = (b : Body) × Contains bodies b × (fields_at b ≤ a) ×
 -- the word is null, or refers to one of the bodies
 abbrev pub IsReference : List Body → ℕ → Type 0
 IsReference bodies w = (w ≡ 0) ⊎ ((b : Body) × Contains bodies b × (w ≡ reference_to b.place))
+
+-- the kind of the field to which the body's field word with the number i belongs; what comes after the declared fields is plain
+abbrev pub kind_in : List ObjectType → Body → ℕ → Kind
+kind_in types b i = slice_index_or (kinds_of_words (kinds_of types b.ty)) i Plain
+
+-- the body's field word with the number i holds a reference: it is a strong or a weak field's, or one of a pair's two
+abbrev pub is_reference_word : List ObjectType → Body → ℕ → Bool
+is_reference_word types b i = not (is_plain (kind_in types b i))
+
+-- the word at a is a field word of one of the bodies, and is plain
+abbrev pub IsPlainWord : List ObjectType → List Body → ℕ → Type 0
+IsPlainWord types bodies a =
+    (b : Body) × Contains bodies b × (fields_at b ≤ a) × (a < end_of b) × (is_reference_word types b (a - fields_at b) ≡ false)
+
+-- w may be stored at a: a plain word takes any number, and any other a reference
+abbrev pub MayHold : List ObjectType → List Body → ℕ → ℕ → Type 0
+MayHold types bodies a w = IsPlainWord types bodies a ⊎ IsReference bodies w
 
 -- the body with w in its field word at a, where it has that word
 abbrev pub with_word : ℕ → ℕ → Body → Body

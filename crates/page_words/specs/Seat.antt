@@ -1,19 +1,21 @@
 -- What the mutator's seat knows of the words, and how each call changes that.
 use Rattle.std.specs.Prelude.{◌≡◌, ℕ, ◌+◌, ◌/◌, ◌%◌, ◌^◌, ◌<◌, ◌≤◌, ◌↔◌, ◌==◌, ◌&&◌, not, nat_le, nat_lt, Bool, true, false, List, [], ◌∷◌, ◌++◌, length, map, filter, if◌then◌else◌, slice_index, Contains, All}
 use Rattle.std.specs.List.{list_any}
+use Rattle.gc_graph.specs.State.{ObjectType}
 use Rattle.object_headers.specs.Layout.{header_word}
 use Rattle.object_headers.specs.Offsets.{serial_offset}
-use Rattle.page_words.specs.Bodies.{Body, end_of, fields_at, IsPlace, IsInBody, with_word, IsWhole}
+use Rattle.page_words.specs.Bodies.{Body, end_of, fields_at, IsPlace, IsInBody, with_word, is_reference_word, IsWhole}
 
 -- a word that was filled outside the bodies
 pub record Filled : Type 0 where
   pub address : ℕ
   pub word : ℕ
 
--- the view: the number of the heap's words, whether marking goes on, the published bodies in the order in which they
--- were published, the filled words, and the places that are marked, traced and dead
+-- the view: the number of the heap's words, the types of its objects, whether marking goes on, the published bodies in
+-- the order in which they were published, the filled words, and the places that are marked, traced and dead
 pub record SeatView : Type 0 where
   pub count : ℕ
+  pub types : List ObjectType
   pub on : Bool
   pub bodies : List Body
   pub filled : List Filled
@@ -66,12 +68,13 @@ filled_with v a w =
 abbrev pub stored : SeatView → ℕ → ℕ → SeatView
 stored v a w = record v { bodies = map (with_word a w) v.bodies }
 
--- the body's words were filled: a header that is live, unmarked and untraced, the serial number, and null fields
+-- the body's words were filled: a header that is live, unmarked and untraced, the serial number, and fields in which each
+-- reference is null
 pub record IsReady (v : SeatView) (b : Body) : Type 0 where
   pub header : Contains v.filled (record { address = b.place; word = header_word true false false b.ty b.size })
   pub serial : Contains v.filled (record { address = b.place + serial_offset; word = b.serial })
-  pub fields : (i : ℕ) → i < length b.fields → Contains v.filled (record { address = fields_at b + i; word = 0 })
-  pub null : All (λ w. w ≡ 0) b.fields
+  pub fields : (i : ℕ) → i < length b.fields → Contains v.filled (record { address = fields_at b + i; word = slice_index b.fields i })
+  pub null : (i : ℕ) → i < length b.fields → is_reference_word v.types b i ≡ true → slice_index b.fields i ≡ 0
   pub whole : IsWhole v.count b
   pub apart : (a : ℕ) → b.place ≤ a → a < end_of b → IsInBody v.bodies a → ⊥
 
@@ -133,8 +136,9 @@ MaySetStop v true = v.on ≡ true
 MaySetStop v false = IsQuiet v
 
 -- the view of new words: nothing is published, filled or marked, and no marking goes on
-abbrev pub empty_view : ℕ → SeatView
-empty_view count = record { count = count; on = false; bodies = []; filled = []; marked = []; traced = []; dead = [] }
+abbrev pub empty_view : ℕ → List ObjectType → SeatView
+empty_view count types =
+    record { count = count; types = types; on = false; bodies = []; filled = []; marked = []; traced = []; dead = [] }
 
 -- what is true of every seat's view
 pub record IsView (v : SeatView) : Type 0 where

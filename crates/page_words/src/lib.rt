@@ -5,8 +5,8 @@
 //! retracted here, one word at a time.
 //!
 //! The parts: `Words` (what threads would share: so far the number of words), `MutatorSeat` (the
-//! words, and the view of them that contracts see: bodies, filled words, marked, traced and dead
-//! places), and the calls on both.
+//! words, and the view of them that contracts see: types, bodies, filled words, marked, traced and
+//! dead places), and the calls on both.
 //!
 //! | address | word |
 //! |---|---|

@@ -1,5 +1,7 @@
 // The mutator's seat: the words, and the view of them that contracts see.
 
+ghost use Rattle.std.specs.Prelude.{◌≡◌, ℕ, ◌+◌, ◌<◌, true, false, length, Contains};
+ghost use Rattle.page_words.specs.Bodies.{Body, IsReference, MayHold, fields_at, is_reference_word};
 ghost use Rattle.page_words.specs.Seat.{IsView};
 
 use crate::views::SeatViews;
@@ -12,7 +14,7 @@ use std::marker::Model;
 /// | the words from a place on | calls, and what they make of the words |
 /// |---|---|
 /// | belong to no object | `fill` of each of them, in any order and again |
-/// | filled: a header without mark and traced bit, a serial number, null fields | `publish` makes them an object |
+/// | filled: a header without mark and traced bit, a serial number, null references | `publish` makes them an object |
 /// | an object | `store` to its fields, at any time |
 /// | an object, while marking goes on | `mark`; after it `claim`, which succeeds once |
 /// | an object, while no marking goes on | `unmark` |
@@ -43,6 +45,20 @@ impl MutatorSeat {
     /// or dead is a body. Whoever calls this has the law. It reads nothing.
     pub fn bodies_lie_apart(&self)
         ensures { IsView self.now }
+    {
+        let _words = &self.words;
+    }
+
+    /// What a field word may hold, by its kind: a plain word any number, and any other word null or
+    /// a reference to a body. Whoever calls this has the law. It reads nothing.
+    pub fn words_hold_by_kind(&self)
+        ensures plain { (b : Body) (i w : ℕ) → Contains self.now.bodies b → i < length b.fields
+            → is_reference_word self.now.types b i ≡ false
+            → MayHold self.now.types self.now.bodies (fields_at b + i) w }
+        ensures reference { (b : Body) (i w : ℕ) → Contains self.now.bodies b → i < length b.fields
+            → is_reference_word self.now.types b i ≡ true
+            → MayHold self.now.types self.now.bodies (fields_at b + i) w
+            → IsReference self.now.bodies w }
     {
         let _words = &self.words;
     }

@@ -1,39 +1,47 @@
 // One life of two objects, word by word, with the words that the layout gives.
 
 ghost use Rattle.std.specs.Prelude.{◌≡◌, [], ◌∷◌};
+ghost use Rattle.gc_graph.specs.Fields.{strong_type};
 ghost use Rattle.page_words.specs.Bodies.{Body};
 ghost use Rattle.page_words.specs.Seat.{empty_view};
 
 use crate::mutator::MutatorSeat;
 use crate::words::Words;
+use gc_graph::Kind;
 use std::test::Fail;
+use type_table::{TypeDecl, TypeTable};
 
-/// Publishes an object of type 0 and size 3 at 66, and one of type 1 and size 4 at 70, and stores a
-/// reference to the second in the first.
+/// Publishes an object of size 3 at 66, and one of size 4 at 70, which has an extra word, and stores
+/// a reference to the second in the first, and a number in the extra word.
 fn publish_two(words: &Words, seat: &mut MutatorSeat)
     requires heap { words.now ≡ 256 }
-    requires empty { seat.old ≡ empty_view 256 }
+    requires empty { seat.old ≡ empty_view 256 (strong_type 1 ∷ []) }
     ensures { let first : Body =
         record { place = 66; ty = 0; size = 3; serial = 7; fields = 71 ∷ [] } in
         let second : Body =
-        record { place = 70; ty = 1; size = 4; serial = 8; fields = 0 ∷ 0 ∷ [] } in
-        seat.new ≡ record (empty_view 256) { bodies = first ∷ second ∷ [] } }
+        record { place = 70; ty = 0; size = 4; serial = 8; fields = 0 ∷ 9 ∷ [] } in
+        seat.new ≡ record (empty_view 256 (strong_type 1 ∷ [])) { bodies = first ∷ second ∷ [] } }
 {
     words.fill(seat, 66, 393217);
     words.fill(seat, 67, 7);
     words.fill(seat, 68, 0);
     words.publish(seat, 66);
-    words.fill(seat, 70, 524297);
+    words.fill(seat, 70, 524289);
     words.fill(seat, 71, 8);
     words.fill(seat, 72, 0);
     words.fill(seat, 73, 0);
     words.publish(seat, 70);
     words.store(seat, 68, 71);
+    words.store(seat, 73, 9);
 }
 
 #[test]
 fn words_of_two_objects(rt: HostRuntime) -> Result<(), Fail> {
-    let (words, mut seat) = Words::new(rt.alloc(), 256)?;
+    let kinds = Vec::from_slice(rt.alloc(), &[Kind::Strong])?;
+    let mut decls = Vec::new(rt.alloc());
+    decls.push(TypeDecl::new(kinds, Vec::new(rt.alloc())))?;
+    let types = TypeTable::new(rt.alloc(), decls, 0)?;
+    let (words, mut seat) = Words::new(rt.alloc(), 256, &types)?;
     assert_eq!(rt; words.count(), 256);
     assert_eq!(rt; words.load(&mut seat, 260), 1, "no marking goes on");
 
@@ -60,7 +68,7 @@ fn words_of_two_objects(rt: HostRuntime) -> Result<(), Fail> {
     assert_eq!(rt; words.load(&mut seat, 66), 393217, "as it was published");
     words.retract(&mut seat, 70);
     assert_eq!(rt; words.load(&mut seat, 257), 4, "the start bit of 66");
-    assert_eq!(rt; words.load(&mut seat, 70), 524297, "the header stays");
+    assert_eq!(rt; words.load(&mut seat, 70), 524289, "the header stays");
     seat.bodies_lie_apart();
     Ok(())
 }

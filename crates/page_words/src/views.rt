@@ -7,6 +7,7 @@ ghost use Rattle.page_words.specs.Seat.{marked_at, claimed_at, unmarked_at, stop
 
 use ghost_values::GhostValue;
 use std::marker::Model;
+use type_table::TypeTable;
 
 /// A view. It is never made.
 #[derive(Drop)]
@@ -15,11 +16,12 @@ pub struct SeatViews {
 }
 
 impl Model for SeatViews {
+    ghost use Rattle.std.specs.Prelude.{[]};
     ghost use Rattle.page_words.specs.Seat.{SeatView, empty_view};
 
     ghost Value = { SeatView };
 
-    ghost view = { λ s. empty_view s.none };
+    ghost view = { λ s. empty_view s.none [] };
 }
 
 /// What a change looks at: the view, an address, and a word.
@@ -30,10 +32,17 @@ struct About<'a> {
     w: u64,
 }
 
-pub fn empty(count: u32) -> GhostValue<SeatViews>
-    ensures { result.value ≡ empty_view count }
+/// What the first view looks at.
+#[derive(Drop)]
+struct AboutNew<'a> {
+    count: u32,
+    types: &'a TypeTable,
+}
+
+pub fn empty(count: u32, types: &TypeTable) -> GhostValue<SeatViews>
+    ensures { result.value ≡ empty_view count types.now }
 {
-    GhostValue::chosen(&count)
+    GhostValue::chosen(&AboutNew { count, types })
 }
 
 pub fn filled(view: &GhostValue<SeatViews>, a: u32, w: u64) -> GhostValue<SeatViews>

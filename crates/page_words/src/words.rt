@@ -2,7 +2,7 @@
 
 ghost use Rattle.std.specs.Prelude.{◌≡◌, ◌≤◌, ◌<◌, ◌&&◌};
 ghost use Rattle.std.specs.Prelude.{not, true, false, Contains, IfOk};
-ghost use Rattle.page_words.specs.Bodies.{Body, IsPlace, IsInBody, IsFieldWord, IsReference};
+ghost use Rattle.page_words.specs.Bodies.{Body, IsPlace, IsInBody, IsFieldWord, MayHold};
 ghost use Rattle.object_headers.specs.Layout.{header_word};
 ghost use Rattle.page_words.specs.Seat.{empty_view, holds, stop_at, IsWordAt};
 ghost use Rattle.page_words.specs.Seat.{IsReady, MaySetStop, filled_with, stored, published};
@@ -16,6 +16,7 @@ use gc_graph::NoMemory;
 use object_headers::{with_mark, with_traced};
 use std::alloc::Global;
 use std::marker::Model;
+use type_table::TypeTable;
 
 /// So many words of the heap have their start bits in one word.
 pub const BLOCK_WORDS: u32 = 64;
@@ -39,16 +40,21 @@ impl Model for Words {
 }
 
 impl Words {
-    /// The words of a heap, all 0, and the one seat of its mutator. Want of memory is free.
-    pub fn new(alloc: Global, count: u32) -> Result<(Words, MutatorSeat), NoMemory>
+    /// The words of a heap whose objects are of these types, all 0, and the one seat of its
+    /// mutator. Want of memory is free.
+    pub fn new(
+        alloc: Global,
+        count: u32,
+        types: &TypeTable,
+    ) -> Result<(Words, MutatorSeat), NoMemory>
         requires { IsCount count }
         ensures words { IfOk result (λ made. made.0 ≡ count) }
-        ensures view { IfOk result (λ made. made.1 ≡ empty_view count) }
+        ensures view { IfOk result (λ made. made.1 ≡ empty_view count types.now) }
     {
         let length = (count + count / BLOCK_WORDS) as usize + 1;
         let mut words = vec![in alloc; 0u64; length]?;
         words[length - 1] = 1;
-        let view = views::empty(count);
+        let view = views::empty(count, types);
         Ok((Words { count }, MutatorSeat { words, view }))
     }
 
@@ -82,11 +88,11 @@ impl Words {
         seat.view = views::filled(&seat.view, a, w);
     }
 
-    /// Writes a reference into a field word of an object.
+    /// Writes a field word of an object: a number into a plain one, and a reference into any other.
     pub fn store(&self, seat: &mut MutatorSeat, a: u32, w: u64)
         requires heap { seat.old.count ≡ self.now }
         requires field { IsFieldWord seat.old.bodies a }
-        requires reference { IsReference seat.old.bodies w }
+        requires word { MayHold seat.old.types seat.old.bodies a w }
         ensures { seat.new ≡ stored seat.old a w }
     {
         let field = a as usize;

@@ -1,6 +1,7 @@
 // All types of a heap, with their layouts.
 
-ghost use Rattle.std.specs.Prelude.{◌≡◌, ℕ, ◌-◌, ◌^◌, ◌<◌, ◌≤◌, length, slice_index_or, MatchOption};
+ghost use Rattle.std.specs.Prelude.{◌≡◌, ℕ, ◌+◌, ◌-◌, ◌^◌, ◌<◌, ◌≤◌, length};
+ghost use Rattle.std.specs.Prelude.{slice_index_or, MatchOption};
 ghost use Rattle.std.specs.Prelude.{IfOk, OnOk, IfErr, All};
 ghost use Rattle.gc_graph.specs.declared.kind.Kind.TheVariants.{Strong, Pair, Plain};
 ghost use Rattle.gc_graph.specs.State.{ObjectType};
@@ -77,7 +78,8 @@ impl TypeTable {
     pub fn size_of(&self, ty: u32, extra: u32) -> u32
         requires ty { ty < length self.now }
         requires extra { extra ≤ 2 ^ 25 }
-        ensures { result ≡ spec.size_with (spec.kinds_of self.now ty) extra }
+        ensures size { result ≡ spec.size_with (spec.kinds_of self.now ty) extra }
+        ensures most { result ≤ extra + 130 }
     {
         self.layout(ty).words() + extra + FIRST_FIELD
     }

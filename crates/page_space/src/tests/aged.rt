@@ -4,7 +4,7 @@ ghost use Rattle.std.specs.Prelude.{◌≡◌, ◌^◌, ◌<◌, ◌≤◌};
 ghost use Rattle.page_words.specs.Seat.{without};
 ghost use Rattle.gc_graph.specs.Shapes.{IsShape};
 
-use super::plain;
+use super::{no_types, plain};
 use crate::space::Space;
 use gc_graph::NoMemory;
 use page_words::MutatorSeat;
@@ -39,7 +39,7 @@ impl Aged {
     pub fn new(alloc: Global, pages: u32, page_words: u32) -> Result<Aged, NoMemory>
         requires { IsShape (record { pages = pages; page_words = page_words }) }
     {
-        let (space, seat) = Space::new(alloc, pages, page_words)?;
+        let (space, seat) = Space::new(alloc, pages, page_words, &no_types(alloc)?)?;
         Ok(Aged {
             space,
             seat,

@@ -8,7 +8,7 @@ use Rattle.heap_engine.proofs.creating.new_object.Goals as goal
 pub returns-in-Some-clause-step : goal.returns-in-Some-clause-step
 returns-in-Some-clause-step c =
     step_made c.args.objects.now c.make.new.self c.args.handles.now c.put.new.self c.args.cycle.now c.args.p c.args.t c.args.extra c.in-Some.place c.made-number.result
-    c.requires.ready.strong c.requires.ty c.requires.swept c.in-Some.ensures.place c.made-number.ensures c.in-Some.ensures.nodes c.put.ensures
+    c.requires.ready.built c.requires.ty c.requires.swept c.in-Some.ensures.place c.made-number.ensures c.in-Some.ensures.nodes c.put.ensures
 
 pub returns-in-Some-clause-frame : goal.returns-in-Some-clause-frame
 returns-in-Some-clause-frame c = record {

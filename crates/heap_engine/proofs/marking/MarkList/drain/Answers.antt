@@ -1,4 +1,3 @@
-use Rattle.gc_graph.specs.Fields.{strong_type}
 use Rattle.std.proofs.Common.{◌≡◌, ◌+◌, ◌≤◌, length, arith, ap, ◌∙◌, map}
 use Rattle.std.proofs.lemmas.List.{length_push}
 use Rattle.std.proofs.lemmas.List.Sums.{count_by-le-length}
@@ -24,5 +23,5 @@ loop-place-preserved c = record {
   counted = c.trace.ensures.counted;
   tricolour = c.trace.ensures.tricolour;
   kept = MarksOn-then c.args.seat.now c.loop-place.seat c.trace.new.seat c.loop-place.invariant.kept c.trace.ensures.kept;
-  grows = GrowsWithin-then (map strong_type c.args.types.now) c.args.seat.now c.loop-place.seat c.trace.new.seat c.loop-place.invariant.kept c.loop-place.invariant.grows c.trace.ensures.grows;
+  grows = GrowsWithin-then c.args.types.now c.args.seat.now c.loop-place.seat c.trace.new.seat c.loop-place.invariant.kept c.loop-place.invariant.grows c.trace.ensures.grows;
 }

@@ -1,4 +1,3 @@
-use Rattle.gc_graph.specs.Fields.{strong_type}
 use Rattle.std.proofs.Common.{◌+◌, ◌-◌, ◌*◌, None, length, map}
 use Rattle.heap_engine.specs.Marking.{IsCounted, IsTricolour, MarksOn, GrowsWithin}
 use Rattle.heap_engine.proofs.marking.MarkList.drain.Given as goal
@@ -6,9 +5,9 @@ use Rattle.heap_engine.proofs.marking.MarkList.drain.Given as goal
 abbrev pub invariant-loop-place : goal.invariant-loop-place
 invariant-loop-place l = record {
   counted : IsCounted l.seat l.self;
-  tricolour : IsTricolour (map strong_type l.types) None l.seat l.self.places;
+  tricolour : IsTricolour l.types None l.seat l.self.places;
   kept : MarksOn l.initial.seat l.seat;
-  grows : GrowsWithin (map strong_type l.types) l.initial.seat l.seat;
+  grows : GrowsWithin l.types l.initial.seat l.seat;
 }
 
 abbrev pub decreases-loop-place : goal.decreases-loop-place

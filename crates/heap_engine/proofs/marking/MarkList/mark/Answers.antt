@@ -1,5 +1,4 @@
-use Rattle.gc_graph.specs.Fields.{strong_type}
-use Rattle.std.proofs.Common.{rules, ◌≡◌, ◌+◌, ◌<◌, ◌^◌, false, length, arith, ◌∙◌, sym, ap, subst, [], ◌∷◌, ◌++◌, map}
+use Rattle.std.proofs.Common.{rules, ◌≡◌, ◌+◌, ◌<◌, ◌^◌, false, length, arith, ◌∙◌, sym, ap, subst, [], ◌∷◌, ◌++◌}
 use Rattle.std.proofs.lemmas.Bool.{not-true, not-false}
 use Rattle.page_words.specs.Seat.{SeatView, holds}
 use Rattle.heap_engine.specs.Marking.{Grey, IsTricolour}
@@ -38,7 +37,7 @@ returns-then-mark-clause-tricolour c =
     (c.push_reserved.ensures.items ∙ ap (λ (g : Grey). g.places ++ c.args.place ∷ []) c.self.view_is)
 
 pub returns-else-mark-clause-tricolour : goal.returns-else-mark-clause-tricolour
-returns-else-mark-clause-tricolour c numbers hand t =
+returns-else-mark-clause-tricolour c types hand pairless t =
     let same : c.mark.new.seat ≡ c.args.seat.now = marked_again c.args.seat.now c.mark.new.seat c.args.place c.mark.ensures.view
     (not-false _ (sym c.mark.ensures.fresh ∙ c.if-mark.false)) in
-    subst (λ (v : SeatView). IsTricolour (map strong_type numbers) hand v c.args.self.now.places) (sym same) t
+    subst (λ (v : SeatView). IsTricolour types hand v c.args.self.now.places) (sym same) t

@@ -1,4 +1,3 @@
-use Rattle.gc_graph.specs.Fields.{strong_type}
 use Rattle.std.proofs.Common.{sym, ◌∙◌, map}
 use Rattle.heap_engine.proofs.MarkEnds.{counted_begin, all_traced, marks_reachable}
 use Rattle.heap_engine.proofs.marking.MarkList.mark_reachable.Goals as goal
@@ -13,10 +12,10 @@ drain-requires-clause-references c = rw (c.mark_slots.ensures.kept.bodies, c.set
 
 pub returns-clause-marks : goal.returns-clause-marks
 returns-clause-marks c =
-    marks_reachable (map strong_type c.args.types.now) c.args.slots.now c.args.seat.now c.set_stop.new.seat c.mark_slots.new.seat c.drain.new.seat c.set_stop-2.new.seat c.requires.quiet
+    marks_reachable c.args.types.now c.args.slots.now c.args.seat.now c.set_stop.new.seat c.mark_slots.new.seat c.drain.new.seat c.set_stop-2.new.seat c.requires.quiet
     c.set_stop.ensures c.mark_slots.ensures.kept c.mark_slots.ensures.roots c.mark_slots.ensures.only c.drain.ensures.kept c.drain.ensures.tricolour
     c.drain.ensures.grows c.set_stop-2.ensures
 
 pub returns-clause-traced : goal.returns-clause-traced
 returns-clause-traced c =
-    c.drain.ensures.counted.traced ∙ all_traced (map strong_type c.args.types.now) c.drain.new.seat c.bodies_lie_apart.ensures c.drain.ensures.tricolour ∙ sym c.drain.ensures.counted.marked
+    c.drain.ensures.counted.traced ∙ all_traced c.args.types.now c.drain.new.seat c.bodies_lie_apart.ensures c.drain.ensures.tricolour ∙ sym c.drain.ensures.counted.marked

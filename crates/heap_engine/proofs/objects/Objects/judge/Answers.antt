@@ -1,20 +1,19 @@
-use Rattle.std.proofs.Common.{◌≡◌, ℕ, [], List, Option, length, map, refl, sym, ap, ◌∙◌, subst, arith}
+use Rattle.std.proofs.Common.{◌≡◌, ℕ, [], List, Option, length, sym, ap, ◌∙◌, subst, arith}
 use Rattle.std.specs.List.{All, count_by}
 use Rattle.std.specs.Option.{ForSome}
 use Rattle.std.proofs.lemmas.List.Sums.{count_by-le-length}
-use Rattle.gc_graph.specs.State.{Setup, Node, is_there}
-use Rattle.gc_graph.specs.Fields.{strong_type}
+use Rattle.gc_graph.specs.State.{Setup, ObjectType, Node, is_there}
 use Rattle.gc_graph.specs.Pause.{condemn, live_count}
 use Rattle.page_words.specs.Bodies.{Body, IsPlace}
 use Rattle.page_words.specs.Seat.{SeatView, IsQuiet, holds}
-use Rattle.heap_engine.specs.Marking.{AreReferences, MarksReachable}
+use Rattle.heap_engine.specs.Marking.{MarksReachable}
 use Rattle.heap_engine.specs.Nodes.{place_of, IsHeld}
 use Rattle.heap_engine.specs.Objects.{IsJudgement}
 use Rattle.heap_engine.specs.View.{kept_of}
 use Rattle.heap_engine.proofs.NodeBodies.{length-bodies}
 use Rattle.heap_engine.proofs.NodePlaces.{places_differ}
 use Rattle.heap_engine.proofs.NodeLives.{length-condemn, live-condemn}
-use Rattle.heap_engine.proofs.StrongFields.{plain_nodes, are_strong, have_fields}
+use Rattle.heap_engine.proofs.StrongFields.{known_nodes, built_pairless}
 use Rattle.heap_engine.proofs.HeldNodes.{none_dead, held_judged, judged_after}
 use Rattle.heap_engine.proofs.KeptNodes.{slots_live, keeps_reached}
 use Rattle.heap_engine.proofs.JudgedNodes.{named_places, references_hold, space_marked}
@@ -31,13 +30,14 @@ mark_reachable-requires-clause-slots c =
 pub mark_reachable-requires-clause-references : goal.mark_reachable-requires-clause-references
 mark_reachable-requires-clause-references c =
     let nodes : List Node = c.self.inside.nodes.value in
-    let types : List ℕ = c.self.inside.types.items in
+    let types : List ObjectType = c.self.inside.types in
     let v : SeatView = c.self.inside.seat in
     let quiet : IsQuiet v = rw (← c.self.view_is) at c.requires.quiet in
-    let setup : Setup = record { shape = c.self.inside.space.shape; markers = 0; types = map strong_type types; callbacks = [] } in
-    subst (λ ts. AreReferences ts v.bodies) (sym c.deref.ensures.value)
-    (references_hold setup types nodes v (have_fields setup types refl) (plain_nodes setup nodes (are_strong types) (rw (← c.self.view_is) at c.requires.valid))
-    c.self.invariant.held.bodies (none_dead nodes v c.self.invariant.held quiet.dead))
+    let setup : Setup = record { shape = c.self.inside.space.shape; markers = 0; types = types; callbacks = [] } in
+    references_hold setup nodes v (known_nodes setup nodes (rw (← c.self.view_is) at c.requires.valid)) c.self.invariant.held.bodies (none_dead nodes v c.self.invariant.held quiet.dead)
+
+pub mark_reachable-requires-clause-pairless : goal.mark_reachable-requires-clause-pairless
+mark_reachable-requires-clause-pairless c = built_pairless c.self.inside.types c.self.invariant.built
 
 pub mark_reachable-requires-clause-differ : goal.mark_reachable-requires-clause-differ
 mark_reachable-requires-clause-differ c = places_differ c.self.inside.nodes.value c.self.inside.seat c.bodies_lie_apart.ensures c.self.invariant.held.bodies
@@ -45,7 +45,7 @@ mark_reachable-requires-clause-differ c = places_differ c.self.inside.nodes.valu
 pub mark_reachable-requires-clause-room : goal.mark_reachable-requires-clause-room
 mark_reachable-requires-clause-room c =
     let nodes : List Node = c.self.inside.nodes.value in
-    let types : List ℕ = c.self.inside.types.items in
+    let types : List ObjectType = c.self.inside.types in
     let v : SeatView = c.self.inside.seat in
     let quiet : IsQuiet v = rw (← c.self.view_is) at c.requires.quiet in
     omega (arith, ap length c.self.invariant.held.bodies, length-bodies (place_of nodes) 0 nodes, (rw (← c.self.view_is) at c.requires.room))
@@ -53,7 +53,7 @@ mark_reachable-requires-clause-room c =
 pub mark_reachable-requires-clause-few : goal.mark_reachable-requires-clause-few
 mark_reachable-requires-clause-few c =
     let nodes : List Node = c.self.inside.nodes.value in
-    let types : List ℕ = c.self.inside.types.items in
+    let types : List ObjectType = c.self.inside.types in
     let v : SeatView = c.self.inside.seat in
     let quiet : IsQuiet v = rw (← c.self.view_is) at c.requires.quiet in
     omega (
@@ -67,35 +67,37 @@ mark_reachable-requires-clause-few c =
 pub invariant_of-self : goal.invariant_of-self
 invariant_of-self c =
     let nodes : List Node = c.self.inside.nodes.value in
-    let types : List ℕ = c.self.inside.types.items in
+    let types : List ObjectType = c.self.inside.types in
     let v : SeatView = c.self.inside.seat in
     let quiet : IsQuiet v = rw (← c.self.view_is) at c.requires.quiet in
     let places : List (Option ℕ) = c.args.handles.now.places in
     let new : SeatView = c.mark_reachable.new.seat in
-    let marks : MarksReachable (map strong_type types) places v new =
-    subst (λ ts. MarksReachable (map strong_type ts) places v new) c.deref.ensures.value (subst (λ l. MarksReachable (map strong_type c.deref.result.now) l v new) c.places.ensures c.mark_reachable.ensures.marks) in
+    let marks : MarksReachable types places v new =
+    subst (λ l. MarksReachable types l v new) c.places.ensures c.mark_reachable.ensures.marks in
     let nodes_are : condemn (kept_of (holds new.marked) nodes) nodes ≡ c.judged.result.value = sym c.judged.ensures in
     record {
-      known = c.self.invariant.known;
-      laid = space_marked c.self.inside.space (map strong_type types) places v new marks c.self.invariant.laid;
+      built = c.self.invariant.built;
+      few = c.self.invariant.few;
+      known = marks.known ∙ c.self.invariant.known;
+      laid = space_marked c.self.inside.space types places v new marks c.self.invariant.laid;
       off = marks.off;
-      held = subst (λ (ns : List Node). IsHeld ns new) nodes_are (held_judged nodes (map strong_type types) places v new quiet c.self.invariant.held marks);
+      held = subst (λ (ns : List Node). IsHeld ns new) nodes_are (held_judged nodes types places v new quiet c.self.invariant.held marks);
       numbers_are = c.self.invariant.numbers_are ∙ sym (length-condemn (kept_of (holds new.marked) nodes) nodes) ∙ ap length nodes_are;
     }
 
 pub returns-clause-judged : goal.returns-clause-judged
 returns-clause-judged c =
     let nodes : List Node = c.self.inside.nodes.value in
-    let types : List ℕ = c.self.inside.types.items in
+    let types : List ObjectType = c.self.inside.types in
     let v : SeatView = c.self.inside.seat in
     let quiet : IsQuiet v = rw (← c.self.view_is) at c.requires.quiet in
     let places : List (Option ℕ) = c.args.handles.now.places in
     let new : SeatView = c.mark_reachable.new.seat in
-    let marks : MarksReachable (map strong_type types) places v new =
-    subst (λ ts. MarksReachable (map strong_type ts) places v new) c.deref.ensures.value (subst (λ l. MarksReachable (map strong_type c.deref.result.now) l v new) c.places.ensures c.mark_reachable.ensures.marks) in
+    let marks : MarksReachable types places v new =
+    subst (λ l. MarksReachable types l v new) c.places.ensures c.mark_reachable.ensures.marks in
     let nodes_are : condemn (kept_of (holds new.marked) nodes) nodes ≡ c.judged.result.value = sym c.judged.ensures in
     let slots : List (Option ℕ) = c.args.handles.now.slots in
-    let setup : Setup = record { shape = c.self.inside.space.shape; markers = 0; types = map strong_type types; callbacks = [] } in
+    let setup : Setup = record { shape = c.self.inside.space.shape; markers = 0; types = types; callbacks = [] } in
     rw (← c.self.view_is) (subst (IsJudgement nodes slots) nodes_are
     (keeps_reached setup nodes slots v new places c.reach_is_least.ensures c.bodies_lie_apart.ensures
     (rw (← c.self.view_is) at c.requires.valid) (rw (← c.self.view_is) at c.requires.live) c.self.invariant.held.bodies
@@ -103,18 +105,18 @@ returns-clause-judged c =
 
 pub returns-clause-marks : goal.returns-clause-marks
 returns-clause-marks c =
-    judged_after (map strong_type c.deref.result.now) c.places.result.now c.self.inside.seat c.mark_reachable.new.seat c.mark_reachable.ensures.marks
+    judged_after c.self.inside.types c.places.result.now c.self.inside.seat c.mark_reachable.new.seat c.mark_reachable.ensures.marks
 
 pub returns-clause-marked : goal.returns-clause-marked
 returns-clause-marked c =
     let nodes : List Node = c.self.inside.nodes.value in
-    let types : List ℕ = c.self.inside.types.items in
+    let types : List ObjectType = c.self.inside.types in
     let v : SeatView = c.self.inside.seat in
     let quiet : IsQuiet v = rw (← c.self.view_is) at c.requires.quiet in
     let places : List (Option ℕ) = c.args.handles.now.places in
     let new : SeatView = c.mark_reachable.new.seat in
-    let marks : MarksReachable (map strong_type types) places v new =
-    subst (λ ts. MarksReachable (map strong_type ts) places v new) c.deref.ensures.value (subst (λ l. MarksReachable (map strong_type c.deref.result.now) l v new) c.places.ensures c.mark_reachable.ensures.marks) in
+    let marks : MarksReachable types places v new =
+    subst (λ l. MarksReachable types l v new) c.places.ensures c.mark_reachable.ensures.marks in
     let nodes_are : condemn (kept_of (holds new.marked) nodes) nodes ≡ c.judged.result.value = sym c.judged.ensures in
     c.mark_reachable.ensures.marked ∙ ap (count_by (λ (b : Body). holds new.marked b.place)) (marks.bodies ∙ c.self.invariant.held.bodies)
     ∙ sym (live-condemn (place_of nodes) 0 (holds new.marked) nodes (none_dead nodes v c.self.invariant.held quiet.dead)) ∙ ap live_count nodes_are

@@ -19,7 +19,9 @@ pub invariant_of-self : goal.invariant_of-self
 invariant_of-self c =
     let new : map bury c.self.inside.nodes.value ≡ c.buried.result.value = sym c.buried.ensures in
     record {
-      known = c.self.invariant.known;
+      built = c.self.invariant.built;
+      few = c.self.invariant.few;
+      known = c.sweep_pages.ensures.swept.types ∙ c.self.invariant.known;
       laid = c.sweep_pages.ensures.space;
       off = c.sweep_pages.ensures.swept.off;
       held = subst (λ (ns : List Node). IsHeld ns c.sweep_pages.new.seat) new
