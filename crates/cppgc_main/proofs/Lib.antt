@@ -4,5 +4,6 @@ pub mod Phases
 pub mod Printing
 pub mod Reports
 pub mod Inputs
+pub mod Runnable
 pub mod Outcomes
 mod Statuses

@@ -1,16 +1,17 @@
 -- What a run answers, where its bytes were read.
-use Rattle.std.proofs.Common.{◌≡◌, ℕ, List, [], Option, Some, None, refl, subst}
-use Rattle.std.specs.Prelude.{MatchOption}
+use Rattle.std.proofs.Common.{◌≡◌, ℕ, List, [], Option, Some, None, refl, sym, subst, inl, inr}
+use Rattle.std.specs.Prelude.{MatchOption, ◌==◌, if◌then◌else◌}
 use Rattle.heap_script.specs.Devices.{Grew, IsReadFrom}
 use Rattle.heap_engine.specs.View.{View}
 use Rattle.cppgc_main.specs.declared.status.Status.{Status}
 use Rattle.cppgc_main.specs.declared.status.Status.TheVariants as S
 use Rattle.cppgc_main.specs.Options.{shape_asked}
-use Rattle.cppgc_main.specs.Headline.{RunsBytes, RunsScript, IsDone, IsStopped, IsTooLongInput, IsUnbuiltInput}
+use Rattle.cppgc_main.specs.Headline.{status_of_fault, RunsBytes, RunsScript, IsDone, IsStopped, IsTooLongInput, IsUnbuiltInput}
 use Rattle.cppgc_main.proofs.Inputs.{read_whole_of}
 use Rattle.gc_graph.specs.State.{Shape}
 use Rattle.gc_graph.specs.Script.{Script}
-use Rattle.heap_script.specs.Scripts.{IsBuiltScript}
+use Rattle.heap_script.specs.Scripts.{IsBuiltScript, IsUnbuiltFault}
+use Rattle.heap_script.specs.declared.script.ScriptFault.{ScriptFault}
 
 -- an answer to the script is one to its bytes
 pub bytes_of_script : (shape : Shape) (bytes : List ℕ) (script : Script) (w z : Option (List ℕ)) (kept : Option View) (status : Status)
@@ -22,6 +23,18 @@ bytes_of_script shape bytes script w z kept S.TooLong is answer = absurd answer
 bytes_of_script shape bytes script w z kept (S.Script line reason) is answer = absurd answer
 bytes_of_script shape bytes script w z kept S.ReadFault is answer = absurd answer
 bytes_of_script shape bytes script w z kept S.Usage is answer = absurd answer
+
+-- the answer where not all of the bytes is built
+pub bytes_of_fault : (shape : Shape) (bytes : List ℕ) (fault : ScriptFault) (w z : Option (List ℕ)) (kept : Option View) → IsUnbuiltFault 0 bytes fault
+    → kept ≡ None → Grew w z [] → RunsBytes shape bytes w z kept (status_of_fault fault)
+bytes_of_fault shape bytes fault w z kept unbuilt empty silent = elim unbuilt [
+  | inl wanting ↦ subst Answers (sym wanting) (empty, silent)
+  | inr (inl long) ↦ subst Answers (sym long.2) (empty, silent, long.0)
+  | inr (inr line) ↦ subst Answers (sym line.1) (empty, silent, refl, line.0, line.2)
+] where
+  Answers : ℕ → Type 0
+  Answers reason =
+      RunsBytes shape bytes w z kept (if reason == 0 then S.NoMemory else if reason == 8 then S.TooLong else S.Script fault.line reason)
 
 -- the bytes with which a run was answered were read
 pub record Answers (shape : Shape) (lo ln w z : Option (List ℕ)) (kept : Option View) (status : Status) : Type 0 where

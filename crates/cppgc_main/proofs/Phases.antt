@@ -111,7 +111,7 @@ sweep_open_more commands i d low =
     ap is_sweep_open (take_more commands i d low) ∙ fold-append opens_sweep false (take i commands) (get_or commands i d ∷ [])
 
 module _ {X : Type 0} where
-  get_at : (xs : List X) (i : ℕ) (d : X) → i < length xs → slice_get xs i ≡ Some (get_or xs i d)
+  pub get_at : (xs : List X) (i : ℕ) (d : X) → i < length xs → slice_get xs i ≡ Some (get_or xs i d)
   get_at [] i d low = absurd (omega arith)
   get_at (x ∷ xs) zero d low = refl
   get_at (x ∷ xs) (suc i) d low = get_at xs i d (omega arith)

@@ -1,12 +1,14 @@
 -- Text that is written piece by piece.
 use Rattle.std.proofs.Common.{◌≡◌, ℕ, zero, suc, ◌+◌, ◌<◌, ◌≤◌, List, [], ◌∷◌, ◌++◌, length, take, drop, Option, Some, None, refl, sym, ap, ◌∙◌, subst, arith}
 use Rattle.std.specs.List.{slice_get}
-use Rattle.std.proofs.lemmas.List.{append-nil, append_assoc, take-append-drop, take_all}
+use Rattle.std.specs.Prelude.{replicate}
+use Rattle.std.proofs.lemmas.List.{append-nil, append_assoc, take-append-drop, take_all, length-replicate}
 use Rattle.std.proofs.lemmas.Grind.{flat_map-append}
 use Rattle.gc_graph.specs.declared.line.Line.{Line}
 use Rattle.gc_graph.specs.declared.line.Line.TheVariants as L
 use Rattle.gc_graph.specs.Report.{line_bytes, lines_bytes, type_lines}
 use Rattle.heap_script.specs.Devices.{Grew, GrewByFront}
+use Rattle.cppgc_main.specs.Printed.{counted_lines}
 
 pub grew_by_none : (a : Option (List ℕ)) → Grew a a []
 grew_by_none None = refl
@@ -64,11 +66,26 @@ lines_whole a b lines i le x = subst (λ (ls : List Line). Grew a b (lines_bytes
 
 -- ---- type lines
 
-pub type_line_at : (types : List ℕ) (i t n : ℕ) → i < length types → t + i ≡ n → slice_get (type_lines t types) i ≡ Some (L.TypeLine n)
-type_line_at [] i t n low is = absurd (omega arith)
-type_line_at (x ∷ types) zero t n low is = ap (λ k. Some (L.TypeLine k)) (let same : t ≡ n = omega arith in same)
-type_line_at (x ∷ types) (suc i) t n low is = type_line_at types i (t + 1) n (omega arith) (omega arith)
+numbered_at : {T : Type 0} (types : List T) (i t n : ℕ) → i < length types → t + i ≡ n → slice_get (type_lines t types) i ≡ Some (L.TypeLine n)
+numbered_at [] i t n low is = absurd (omega arith)
+numbered_at (x ∷ types) zero t n low is = ap (λ k. Some (L.TypeLine k)) (let same : t ≡ n = omega arith in same)
+numbered_at (x ∷ types) (suc i) t n low is = numbered_at types i (t + 1) n (omega arith) (omega arith)
 
-pub type_line_count : (types : List ℕ) (t : ℕ) → length (type_lines t types) ≡ length types
-type_line_count [] t = refl
-type_line_count (x ∷ types) t = omega (arith, type_line_count types (t + 1))
+numbered_count : {T : Type 0} (types : List T) (t : ℕ) → length (type_lines t types) ≡ length types
+numbered_count [] t = refl
+numbered_count (x ∷ types) t = omega (arith, numbered_count types (t + 1))
+
+pub type_line_at : (count t : ℕ) → t < count → slice_get (counted_lines count) t ≡ Some (L.TypeLine t)
+type_line_at count t low =
+    numbered_at (replicate count zero) t 0 t (omega (arith, length-replicate count zero)) (omega arith)
+
+pub type_line_count : (count : ℕ) → length (counted_lines count) ≡ count
+type_line_count count = numbered_count (replicate count zero) 0 ∙ length-replicate count zero
+
+same_lines : {T : Type 0} (types : List T) (t : ℕ) → type_lines t (replicate (length types) zero) ≡ type_lines t types
+same_lines [] t = refl
+same_lines (x ∷ types) t = ap (λ (more : List Line). L.TypeLine t ∷ more) (same_lines types (t + 1))
+
+-- the types matter only by their number
+pub counted_are_types : {T : Type 0} (types : List T) (count : ℕ) → count ≡ length types → counted_lines count ≡ type_lines 0 types
+counted_are_types types count is = ap counted_lines is ∙ same_lines types 0

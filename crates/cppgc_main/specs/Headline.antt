@@ -125,6 +125,4 @@ RunsBytes shape bytes before after kept S.Usage = ⊥
 -- want of memory, an input over its limits, or the line that is refused
 abbrev pub status_of_fault : ScriptFault → Status
 status_of_fault fault =
-    if fault.reason == 0 then S.NoMemory
-    else if fault.reason == 8 then S.TooLong
-    else S.Script fault.line fault.reason
+    if fault.reason == 0 then S.NoMemory else if fault.reason == 8 then S.TooLong else S.Script fault.line fault.reason

@@ -1,10 +1,10 @@
 -- Runs of commands whose outcomes are written one after the other.
-use Rattle.std.specs.Prelude.{◌≡◌, ◌⊎◌, ℕ, ◌≤◌, List, [], length, map, take, Option}
+use Rattle.std.specs.Prelude.{◌≡◌, ◌⊎◌, ℕ, zero, replicate, ◌≤◌, List, [], length, map, take, Option}
 use Rattle.gc_graph.specs.declared.command.Command.{Command}
 use Rattle.gc_graph.specs.declared.line.Line.{Line}
 use Rattle.gc_graph.specs.State.{Setup, State, empty_state}
 use Rattle.gc_graph.specs.Lawful.{Outcome, Run, IsEndLine, last_state, history_of}
-use Rattle.gc_graph.specs.Report.{outcomes_bytes, line_bytes}
+use Rattle.gc_graph.specs.Report.{outcomes_bytes, line_bytes, type_lines}
 use Rattle.heap_script.specs.Devices.{Grew, GrewByFront}
 use Rattle.heap_engine.specs.View.{View}
 
@@ -35,3 +35,7 @@ pub record IsPartRun (setup : Setup) (commands : List Command) (before after : O
 abbrev pub IsEnding : Setup → List Command → ℕ → State → List ℕ → Type 0
 IsEnding setup commands number state ending =
     (ending ≡ []) ⊎ ((number ≡ length commands) × ((line : Line) × IsEndLine setup state line × (ending ≡ line_bytes line)))
+
+-- a line for each of so many types
+abbrev pub counted_lines : ℕ → List Line
+counted_lines count = type_lines {T = ℕ} 0 (replicate count zero)

@@ -1,18 +1,18 @@
 // The report of a script, printed while its commands are done.
 
 ghost use Rattle.std.specs.Prelude.{◌≡◌, ◌+◌, ◌++◌, ◌<◌, ◌≤◌, true};
-ghost use Rattle.std.specs.Prelude.{false, [], length, replicate, All, OnOk, OnErr};
+ghost use Rattle.std.specs.Prelude.{false, [], length, All, OnOk, OnErr};
 ghost use Rattle.gc_graph.specs.State.{empty_state};
 ghost use Rattle.gc_graph.specs.Step.{Step};
 ghost use Rattle.gc_graph.specs.Built.{IsBuiltIn, AreBuiltCommands};
 ghost use Rattle.gc_graph.specs.CycleSteps.{is_marking};
 ghost use Rattle.gc_graph.specs.Lawful.{IsAllowed};
-ghost use Rattle.gc_graph.specs.Report.{line_bytes, lines_bytes, type_lines};
+ghost use Rattle.gc_graph.specs.Report.{line_bytes, lines_bytes};
 ghost use Rattle.heap_script.specs.Causes.{HasCause};
 ghost use Rattle.heap_script.specs.Devices.{Writes};
 ghost use Rattle.heap_script.specs.Pieces.{no_pieces, with_held, TookMore};
 ghost use Rattle.cppgc_main.specs.Setting.{IsRunnable, setup_of, script_on};
-ghost use Rattle.cppgc_main.specs.Printed.{IsPrintedRun, IsPartRun};
+ghost use Rattle.cppgc_main.specs.Printed.{IsPrintedRun, IsPartRun, counted_lines};
 ghost use Rattle.cppgc_main.specs.Headline.{IsWholeRun, IsCutShort};
 
 use gc_graph::{Command, Line};
@@ -73,8 +73,7 @@ fn print_end<K: Sink>(line: &Line, pieces: &mut Pieces, sink: &mut K) -> Result<
 /// Prints a line for each of so many types.
 fn print_types<K: Sink>(count: u32, pieces: &mut Pieces, sink: &mut K) -> Result<(), Failed>
     ensures bytes { Writes (with_held (K.written sink.old) pieces.old)
-        (with_held (K.written sink.new) pieces.new)
-        (lines_bytes (type_lines 0 (replicate count 0))) result }
+        (with_held (K.written sink.new) pieces.new) (lines_bytes (counted_lines count)) result }
     ensures taken { TookMore (K.written sink.old) (K.written sink.new) }
     ensures cause { HasCause (K.faults sink.old) (K.faults sink.new) result }
 {

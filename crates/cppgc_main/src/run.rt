@@ -1,10 +1,11 @@
 // One run of the program: from the bytes of a script to its report.
 
 ghost use Rattle.std.specs.Prelude.{◌≡◌, ◌↔◌, ℕ, ◌<◌};
-ghost use Rattle.std.specs.Prelude.{◌≤◌, [], length, map, string_bytes, None, MatchOption};
+ghost use Rattle.std.specs.Prelude.{◌≤◌, [], length, map, string_bytes, None, MatchOption, IfOk};
 ghost use Rattle.heap_script.specs.Causes.{Rose};
 ghost use Rattle.heap_script.specs.Devices.{Grew};
 ghost use Rattle.gc_graph.specs.Shapes.{IsShape};
+ghost use Rattle.type_table.specs.Faults.{AreGoodTypes};
 ghost use Rattle.cppgc_main.specs.Options.{shape_asked};
 ghost use Rattle.cppgc_main.specs.Setting.{shape_of, IsRunnable};
 ghost use Rattle.cppgc_main.specs.Headline.{RunsScript, RunsBytes, status_of_fault, IsUntouched};
@@ -15,10 +16,10 @@ use super::report::print_report;
 use super::status::Status;
 use heap_engine::{Config, Heap};
 use heap_script::{
-    Pieces, ReadError, Script, ScriptFault, Sink, Source, read_built, read_whole,
+    NoMemory, Pieces, ReadError, Script, ScriptFault, Sink, Source, read_built, read_whole,
 };
 use std::alloc::Global;
-use type_table::TypeTable;
+use type_table::{TypeDecl, TypeFault, TypeTable};
 
 const MOST_BYTES: usize = 16_777_216;
 
@@ -133,7 +134,7 @@ fn run_script<K: Sink>(
     };
     let count = script.types().len() as u32;
     let (types, commands) = script.into_parts();
-    let table = match TypeTable::new(alloc, types, 0) {
+    let table = match table_of(alloc, types) {
         Ok(table) => table,
         Err(_) => return Status::NoMemory,
     };
@@ -146,5 +147,19 @@ fn run_script<K: Sink>(
             Err(_) => Status::WriteFault,
         },
         Err(_) => Status::NoMemory,
+    }
+}
+
+/// The types that a script declares make a table, where memory suffices.
+fn table_of(alloc: Global, types: Vec<TypeDecl>) -> Result<TypeTable, NoMemory>
+    requires { AreGoodTypes 0 types.items }
+    ensures { IfOk result (λ table. table ≡ types.items) }
+{
+    match TypeTable::new(alloc, types, 0) {
+        Ok(table) => Ok(table),
+        Err(TypeFault::NoMemory) => Err(NoMemory),
+        Err(TypeFault::TooManyTypes { .. }) => unreachable!(),
+        Err(TypeFault::TooManyFields { .. }) => unreachable!(),
+        Err(TypeFault::NoCallback { .. }) => unreachable!(),
     }
 }

@@ -41,6 +41,14 @@ impl Script {
     {
         self.commands.as_slice()
     }
+
+    /// The types and the commands, in the order of their lines.
+    pub fn into_parts(self) -> (Vec<TypeDecl>, Vec<Command>)
+        ensures types { result.0.items ≡ self.types }
+        ensures commands { result.1.items ≡ self.commands }
+    {
+        (self.types, self.commands)
+    }
 }
 
 /// Why a script was not read. Lines are counted from 1; a missing first line counts as one.

@@ -6,7 +6,7 @@ use Rattle.cppgc_main.proofs.report.print_all.Goals as goal
 
 pub print_outcome-requires-clause-built : goal.print_outcome-requires-clause-built
 print_outcome-requires-clause-built g c =
-    built_next c.args.commands.now c.loop-command.command-index _ c.loop-command.heap.state c.loop-command-test.true c.requires.built c.requires.timely
+    built_next c.args.commands.now c.loop-command.command-index _ c.loop-command.heap.state c.loop-command-test.true c.requires.built
     c.loop-command.invariant.idle
 
 pub returns-in-Err-clause-part : goal.returns-in-Err-clause-part
