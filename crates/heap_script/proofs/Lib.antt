@@ -12,3 +12,4 @@ pub mod TypeLines
 pub mod TypesAgree
 pub mod Values
 pub mod WholeGrammar
+pub mod WordPlaces

@@ -18,6 +18,7 @@
 #![tactic(auto)]
 
 mod commands;
+mod cursor;
 mod cuts;
 mod devices;
 mod line_text;
