@@ -1,2 +1,3 @@
 pub mod PieceByPiece
 pub mod Values
+pub mod WordPlaces

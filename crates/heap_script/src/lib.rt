@@ -17,6 +17,7 @@
 //! and how long a call takes.
 #![tactic(auto)]
 
+mod cursor;
 mod devices;
 mod line_text;
 mod list_devices;
