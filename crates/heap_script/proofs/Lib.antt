@@ -1,3 +1,5 @@
 pub mod PieceByPiece
+pub mod TypeCallbacks
+pub mod TypeReasons
 pub mod Values
 pub mod WordPlaces

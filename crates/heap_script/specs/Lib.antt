@@ -4,3 +4,5 @@ pub mod ListDevices
 pub mod Pieces
 pub mod Cursor
 pub mod Scripts
+pub mod Past
+pub mod TypeLines

@@ -17,11 +17,14 @@
 //! and how long a call takes.
 #![tactic(auto)]
 
+mod built;
 mod cursor;
 mod devices;
+mod letters;
 mod line_text;
 mod list_devices;
 mod numbers;
+mod past;
 mod pieces;
 mod printing;
 mod reading;
@@ -31,6 +34,8 @@ mod steady_devices;
 #[cfg(test)]
 mod tests;
 mod text;
+mod type_lines;
+mod words;
 
 pub use devices::{Failed, Sink, Source};
 pub use gc_graph::NoMemory;
