@@ -1,3 +1,4 @@
+pub mod LineReasons
 pub mod PieceByPiece
 pub mod TypeCallbacks
 pub mod TypeReasons

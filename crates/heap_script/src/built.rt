@@ -1,6 +1,7 @@
 // What of a script is built.
 
 ghost use Rattle.std.specs.Prelude.{◌≡◌};
+ghost use Rattle.std.specs.List.{list_all};
 ghost use Rattle.gc_graph.specs.Built as spec;
 
 use gc_graph::{Command, Kind, Want};
@@ -25,7 +26,13 @@ pub(crate) fn is_built(command: &Command) -> bool
 pub(crate) fn is_built_type(decl: &TypeDecl) -> bool
     ensures { result ≡ spec.is_built_type decl.now }
 {
-    decl.fields().iter().all(|kind| is_built_kind(*kind)) && decl.callbacks().is_empty()
+    are_built_kinds(decl.fields()) && decl.callbacks().is_empty()
+}
+
+fn are_built_kinds(kinds: &[Kind]) -> bool
+    ensures { result ≡ list_all spec.is_built_kind kinds.now }
+{
+    kinds.iter().all(|kind| is_built_kind(*kind))
 }
 
 fn is_built_kind(kind: Kind) -> bool

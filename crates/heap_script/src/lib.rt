@@ -30,7 +30,9 @@ mod printing;
 mod reading;
 mod region_text;
 mod script;
+mod script_lines;
 mod steady_devices;
+mod stub;
 #[cfg(test)]
 mod tests;
 mod text;

@@ -1,0 +1,126 @@
+// One line of a script after the header: a type or a command.
+
+ghost use Rattle.std.specs.Prelude.{◌≡◌, ◌<◌, ◌≤◌, ◌-◌, ◌∷◌, false, take, drop, codes, length, IfOk, IfErr};
+ghost use Rattle.gc_graph.specs.Words.{is_text as is_same};
+ghost use Rattle.heap_script.specs.Cursor.{IsLineEnd, line_words, words_from};
+ghost use Rattle.heap_script.specs.Past.{reason_after, IsReasonOf, IsTypeKept, IsCommandKept, IsLineKept};
+
+use super::built::is_built_type;
+use super::past::Past;
+use super::stub::{Bounds, read_command};
+use super::type_lines::read_type;
+use super::words::is_text;
+use gc_graph::Command;
+use std::alloc::Global;
+use type_table::TypeDecl;
+
+const NO_MEMORY: u32 = 0;
+const ORDER: u32 = 6;
+const SECTION: u32 = 7;
+
+/// Keeps what the line says whose first word stands from `start` to `end`, and tells where the line
+/// ends, or the number of the reason why it says nothing.
+pub(crate) fn keep_line(
+    alloc: Global,
+    bytes: &[u8],
+    start: usize,
+    end: usize,
+    callbacks: u32,
+    past: &mut Past,
+    types: &mut Vec<TypeDecl>,
+    commands: &mut Vec<Command>,
+) -> Result<usize, u32>
+    requires word { start < end }
+    requires within { end ≤ length bytes.now }
+    requires lines { past.old.lines < 1000000 }
+    ensures kept { IfOk result (λ _. IsLineKept (words_from bytes.now start end)
+        past.old past.new types.old.items types.new.items commands.old.items commands.new.items) }
+    ensures end { IfOk result (λ line_end. IsLineEnd bytes.now end line_end) }
+    ensures fine { IfOk result (λ _.
+        reason_after callbacks past.old (words_from bytes.now start end) ≡ None) }
+    ensures fault { IfErr result (IsReasonOf
+        (reason_after callbacks past.old (words_from bytes.now start end))) }
+    ensures same { IfErr result (λ _. past.new ≡ past.old) }
+{
+    if is_text(&bytes[start..end], b"type") {
+        keep_type(alloc, bytes, end, callbacks, past, types)
+    } else {
+        keep_command(bytes, start, end, callbacks, past, commands)
+    }
+}
+
+fn keep_type(
+    alloc: Global,
+    bytes: &[u8],
+    from: usize,
+    callbacks: u32,
+    past: &mut Past,
+    types: &mut Vec<TypeDecl>,
+) -> Result<usize, u32>
+    requires within { from ≤ length bytes.now }
+    requires lines { past.old.lines < 1000000 }
+    ensures kept { IfOk result (λ _. IsTypeKept (codes "type" ∷ line_words (drop from bytes.now))
+        past.old past.new types.old.items types.new.items) }
+    ensures end { IfOk result (λ end. IsLineEnd bytes.now from end) }
+    ensures fine { IfOk result (λ _.
+        reason_after callbacks past.old (codes "type" ∷ line_words (drop from bytes.now)) ≡ None) }
+    ensures fault { IfErr result (IsReasonOf
+        (reason_after callbacks past.old (codes "type" ∷ line_words (drop from bytes.now)))) }
+    ensures same { IfErr result (λ _. past.new ≡ past.old) }
+{
+    match read_type(alloc, bytes, from, past.types, callbacks) {
+        Ok(line) => {
+            if !past.bare {
+                return Err(ORDER);
+            }
+            let built = is_built_type(&line.decl);
+            if types.push(line.decl).is_err() {
+                return Err(NO_MEMORY);
+            }
+            past.add_type(built);
+            Ok(line.end)
+        }
+        Err(reason) => Err(reason),
+    }
+}
+
+fn keep_command(
+    bytes: &[u8],
+    start: usize,
+    end: usize,
+    callbacks: u32,
+    past: &mut Past,
+    commands: &mut Vec<Command>,
+) -> Result<usize, u32>
+    requires word { start < end }
+    requires within { end ≤ length bytes.now }
+    requires plain { is_same (take (end - start) (drop start bytes.now)) (codes "type") ≡ false }
+    requires lines { past.old.lines < 1000000 }
+    ensures kept { IfOk result (λ _. IsCommandKept (words_from bytes.now start end)
+        past.old past.new commands.old.items commands.new.items) }
+    ensures end { IfOk result (λ line_end. IsLineEnd bytes.now end line_end) }
+    ensures fine { IfOk result (λ _.
+        reason_after callbacks past.old (words_from bytes.now start end) ≡ None) }
+    ensures fault { IfErr result (IsReasonOf
+        (reason_after callbacks past.old (words_from bytes.now start end))) }
+    ensures same { IfErr result (λ _. past.new ≡ past.old) }
+{
+    let bounds = Bounds {
+        types: past.types,
+        callbacks,
+    };
+    let line = read_command(bytes, start, end, bounds);
+    match line.said {
+        Ok(command) => {
+            if past.breaks(&command) {
+                return Err(SECTION);
+            }
+            if commands.push(command).is_err() {
+                return Err(NO_MEMORY);
+            }
+            past.add_command(&command);
+            Ok(line.end)
+        }
+        Err(reason) => Err(reason),
+    }
+}
