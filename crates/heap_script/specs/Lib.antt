@@ -6,3 +6,4 @@ pub mod Cursor
 pub mod Scripts
 pub mod Past
 pub mod TypeLines
+pub mod Reading

@@ -22,6 +22,7 @@ mod cursor;
 mod devices;
 mod letters;
 mod line_text;
+mod lines;
 mod list_devices;
 mod numbers;
 mod past;
@@ -31,6 +32,7 @@ mod reading;
 mod region_text;
 mod script;
 mod script_lines;
+mod script_reader;
 mod steady_devices;
 mod stub;
 #[cfg(test)]

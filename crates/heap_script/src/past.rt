@@ -2,6 +2,7 @@
 
 ghost use Rattle.std.specs.Prelude.{◌≡◌, ◌<◌, ◌≤◌, ◌&&◌, nat_lt};
 ghost use Rattle.gc_graph.specs.Built as built;
+ghost use Rattle.gc_graph.specs.Script.{are_at_rest};
 ghost use Rattle.heap_script.specs.Past as spec;
 
 use super::built::is_built;
@@ -107,5 +108,12 @@ impl Past {
             Command::ThreadsJoin => !matches!(self.stage, Stage::Going),
             _ => false,
         }
+    }
+
+    /// Whether no order waits and no thread runs.
+    pub(crate) fn is_at_rest(&self) -> bool
+        ensures { result ≡ are_at_rest (spec.threads_in self.now.stage) }
+    {
+        matches!(self.stage, Stage::AtRest)
     }
 }
