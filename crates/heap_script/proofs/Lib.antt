@@ -1,7 +1,8 @@
 pub mod LineReasons
 pub mod LinesJudged
+pub mod PastLines
 pub mod PieceByPiece
-
+pub mod ReadSoFar
 pub mod TypeCallbacks
 pub mod TypeReasons
 pub mod Values

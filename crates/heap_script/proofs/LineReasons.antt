@@ -7,6 +7,7 @@ use Rattle.gc_graph.specs.declared.command.Command.TheVariants as C
 use Rattle.gc_graph.specs.Reasons.{Reason, number_of, first_is, reason_of_words, command_of_words}
 use Rattle.gc_graph.specs.Reasons.Reason.{Order, Section}
 use Rattle.gc_graph.specs.Script.{Threads, is_order, is_go, is_join, are_waiting, are_going, are_at_rest, threads_after, breaks_section}
+use Rattle.gc_graph.specs.Script.Threads.{AtRest, Waiting, Going}
 use Rattle.heap_script.specs.declared.past.Past.{Past}
 use Rattle.heap_script.specs.declared.past.Stage.{Stage}
 use Rattle.heap_script.specs.declared.past.Stage.TheVariants as S
@@ -84,6 +85,24 @@ breaks_is stage words command place =
     ∙ ap (λ b. section_by (is_at command) b (is_join words) stage) place.go
     ∙ ap (λ b. section_by (is_at command) (is_threads_go command) b stage) place.join
     ∙ breaks_by stage command
+
+abbrev threads_by : Bool → Bool → Bool → Threads → Threads
+threads_by order go join threads = cond order Waiting (cond go Going (cond join AtRest threads))
+
+threads_with : (stage : Stage) (command : Command)
+    → threads_by (is_at command) (is_threads_go command) (is_threads_join command) (threads_in stage) ≡ threads_in (stage_after stage command)
+threads_with stage (C.At j order) = refl
+threads_with stage C.ThreadsGo = refl
+threads_with stage C.ThreadsJoin = refl
+threads_with stage command = refl
+
+pub threads_is : (stage : Stage) (words : List (List ℕ)) (command : Command) → HasPlace words command
+    → threads_after (threads_in stage) words ≡ threads_in (stage_after stage command)
+threads_is stage words command place =
+    ap (λ b. threads_by b (is_go words) (is_join words) (threads_in stage)) place.order
+    ∙ ap (λ b. threads_by (is_at command) b (is_join words) (threads_in stage)) place.go
+    ∙ ap (λ b. threads_by (is_at command) (is_threads_go command) b (threads_in stage)) place.join
+    ∙ threads_with stage command
 
 -- the reason of a command whose words have none
 with_section : (callbacks : ℕ) (past : Past) (words : List (List ℕ)) (command : Command) → command_of_words words ≡ Some command

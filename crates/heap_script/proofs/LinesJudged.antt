@@ -121,7 +121,7 @@ of_words : (callbacks : ℕ) (header line : List ℕ) (before after : List (List
 of_words callbacks header line before after some =
     cond-false (is_blank line) None (reason_by_order before (words_of line) (list_all is_blank after) (words_reason callbacks before line)) some
 
-judged_words : (callbacks : ℕ) (line : List ℕ) (before : List (List ℕ)) → is_blank line ≡ false
+pub judged_words : (callbacks : ℕ) (line : List ℕ) (before : List (List ℕ)) → is_blank line ≡ false
     → judged callbacks before line ≡ reason_by_order before (words_of line) false (words_reason callbacks before line)
 judged_words callbacks line before some =
     cond-false (is_blank line) None (reason_by_order before (words_of line) false (words_reason callbacks before line)) some
