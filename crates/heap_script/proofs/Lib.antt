@@ -3,6 +3,7 @@ pub mod LinesJudged
 pub mod PastLines
 pub mod PieceByPiece
 pub mod ReadSoFar
+pub mod ScriptEnds
 pub mod TypeCallbacks
 pub mod TypeReasons
 pub mod Values
