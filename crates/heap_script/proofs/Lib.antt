@@ -1,3 +1,4 @@
+pub mod BuiltScripts
 pub mod LineReasons
 pub mod LinesJudged
 pub mod PastLines

@@ -190,3 +190,8 @@ line_more callbacks lines more n line past next types new_types commands new_com
     (ap (λ (p : Past). p.lines) kept.next_is) (ap (λ (p : Past). p.last) kept.next_is) (ap (λ (p : Past). p.unbuilt) kept.next_is)
     (ap (says_built (commands_of (take n lines))) ws
     ∙ command_says (take n lines) past types commands words kept.command read.say kept.says kept.plain))
+
+pub kept_lines : (words : List (List ℕ)) (past next : Past) (types new_types : List ObjectType) (commands new_commands : List Command)
+    → IsLineKept words past next types new_types commands new_commands → next.lines ≡ past.lines + 1
+kept_lines words past next types new_types commands new_commands (inl (kept, same)) = ap (λ (p : Past). p.lines) kept.next_is
+kept_lines words past next types new_types commands new_commands (inr (kept, same)) = ap (λ (p : Past). p.lines) kept.next_is

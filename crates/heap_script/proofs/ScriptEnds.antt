@@ -174,9 +174,10 @@ no_memory callbacks bytes stop total lines reason unbuilt is none =
 
 -- the header is missing
 pub header_stop : (callbacks : ℕ) (bytes : List ℕ) (stop : Stop) → length bytes ≤ 16777216
-    → is_header (get_or (lines_of bytes) 0 []) ≡ false → stop ≡ stop_with (length (lines_of bytes)) 0 1 0 → IsStopped callbacks bytes stop
+    → is_header (get_or (lines_of bytes) 0 []) ≡ false → stop ≡ stop_with (0 + length (lines_of bytes)) 0 1 0 → IsStopped callbacks bytes stop
 header_stop callbacks bytes stop few wrong is =
-    stopped_by callbacks bytes stop 0 1 0 Header is refl (λ low. record {
+    let total : 0 + length (lines_of bytes) ≡ length (lines_of bytes) = omega arith in
+    stopped_by callbacks bytes stop 0 1 0 Header (is ∙ ap (λ n. stop_with n 0 1 0) total) refl (λ low. record {
       limits = in_limits bytes few low;
       place = 0;
       why = Header;

@@ -1,9 +1,10 @@
 -- What a reader of the lines tells.
-use Rattle.std.specs.Prelude.{◌≡◌, ◌⊎◌, ℕ, ◌+◌, ◌<◌, ◌≤◌, ◌==◌, ◌&&◌, not, nat_lt, if◌then◌else◌, Bool, true, false, List, [], ◌∷◌, length, take, drop, slice_index_or}
+use Rattle.std.specs.Prelude.{◌≡◌, ◌⊎◌, ℕ, ◌+◌, ◌<◌, ◌≤◌, ◌==◌, ◌&&◌, ◌||◌, not, nat_lt, if◌then◌else◌, Bool, true, false, List, [], ◌∷◌, length, take, drop, slice_index_or}
 use Rattle.gc_graph.specs.Words.{lines_of, words_of, is_blank}
 use Rattle.gc_graph.specs.Reasons.{Reason, number_of}
 use Rattle.gc_graph.specs.Script.{IsScript, IsTooLong, IsInLimits, IsFirstFault}
 use Rattle.heap_script.specs.Scripts.{commands_of, says_built}
+use Rattle.heap_script.specs.declared.script.ScriptFault.{ScriptFault}
 use Rattle.heap_script.specs.declared.script_reader.Whole.{Whole}
 use Rattle.heap_script.specs.declared.script_reader.Stop.{Stop}
 
@@ -58,3 +59,10 @@ abbrev pub stop_with : ℕ → ℕ → ℕ → ℕ → Stop
 stop_with total lines reason unbuilt =
     if not (reason == 0) && nat_lt 1000000 total then record { line = 0; reason = 8; unbuilt = 0 }
     else record { line = lines + 1; reason = reason; unbuilt = unbuilt }
+
+-- what is told where all has to be built
+abbrev pub fault_with : Stop → ScriptFault
+fault_with stop =
+    if stop.reason == 0 || stop.reason == 8 then record { line = stop.line; reason = stop.reason }
+    else if stop.unbuilt == 0 then record { line = stop.line; reason = 9 }
+    else record { line = stop.unbuilt; reason = 9 }
