@@ -63,6 +63,6 @@ stop_with total lines reason unbuilt =
 -- what is told where all has to be built
 abbrev pub fault_with : Stop → ScriptFault
 fault_with stop =
-    if stop.reason == 0 || stop.reason == 8 then record { line = stop.line; reason = stop.reason }
+    if stop.reason == 0 || stop.line == 0 then record { line = stop.line; reason = stop.reason }
     else if stop.unbuilt == 0 then record { line = stop.line; reason = 9 }
     else record { line = stop.unbuilt; reason = 9 }

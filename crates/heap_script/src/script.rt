@@ -13,7 +13,6 @@ use thiserror::Error;
 use type_table::TypeDecl;
 
 const NO_MEMORY: u32 = 0;
-const TOO_LONG: u32 = 8;
 const NOT_BUILT: u32 = 9;
 
 /// What a script says: its types, by number, and its commands.
@@ -116,7 +115,7 @@ pub fn read_built(alloc: Global, bytes: &[u8], callbacks: u32) -> Result<Script,
 fn unbuilt_fault(stop: &Stop) -> ScriptFault
     ensures { result ≡ fault_with stop.now }
 {
-    if stop.reason == NO_MEMORY || stop.reason == TOO_LONG {
+    if stop.reason == NO_MEMORY || stop.line == 0 {
         return ScriptFault::at(stop.line, stop.reason);
     }
     if stop.unbuilt == 0 {
