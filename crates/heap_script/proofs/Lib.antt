@@ -5,6 +5,7 @@ pub mod PastLines
 pub mod PieceByPiece
 pub mod ReadSoFar
 pub mod ScriptEnds
+pub mod Sections
 pub mod TypeCallbacks
 pub mod TypeReasons
 pub mod Values

@@ -1,7 +1,7 @@
 -- The reason of a line with words, from that of its words and from what the lines before say.
 use Rattle.std.proofs.Common.{◌≡◌, ℕ, ◌&&◌, ◌||◌, Bool, true, false, not, cond, Option, Some, None, List, [], ◌∷◌, refl, sym, ap, ◌∙◌, inl, inr}
-use Rattle.std.specs.Prelude.{codes}
-use Rattle.std.proofs.lemmas.Bool.{cond-true, cond-false, not_from_true, not_from_false, and_left}
+use Rattle.std.specs.Prelude.{codes, is_some}
+use Rattle.std.proofs.lemmas.Bool.{true≢false, cond-true, cond-false, not_from_true, not_from_false, and_left}
 use Rattle.gc_graph.specs.declared.command.Command.{Command}
 use Rattle.gc_graph.specs.declared.command.Command.TheVariants as C
 use Rattle.gc_graph.specs.Reasons.{Reason, number_of, first_is, reason_of_words, command_of_words}
@@ -13,6 +13,7 @@ use Rattle.heap_script.specs.declared.past.Stage.{Stage}
 use Rattle.heap_script.specs.declared.past.Stage.TheVariants as S
 use Rattle.heap_script.specs.Past.{threads_in, stage_after, breaks, bounds_in, reason_with, reason_after, IsReasonOf}
 use Rattle.heap_script.specs.TypeLines.{reason_of_type}
+use Rattle.heap_script.proofs.Sections.{is_at, is_threads_go, is_threads_join, HasPlace, has_place}
 use Rattle.heap_script.proofs.TypeReasons.{type_reason}
 
 -- ---- type lines
@@ -40,27 +41,6 @@ type_fine callbacks past more fine bare =
 
 -- ---- commands
 
-abbrev is_at : Command → Bool
-is_at (C.At j order) = true
-is_at command = false
-
-abbrev is_threads_go : Command → Bool
-is_threads_go C.ThreadsGo = true
-is_threads_go command = false
-
-abbrev is_threads_join : Command → Bool
-is_threads_join C.ThreadsJoin = true
-is_threads_join command = false
-
--- the words of orders and of the threads are those of such commands
-pub record HasPlace (words : List (List ℕ)) (command : Command) : Type 0 where
-  pub order : is_order words ≡ is_at command
-  pub go : is_go words ≡ is_threads_go command
-  pub join : is_join words ≡ is_threads_join command
-
-pub has_place : (words : List (List ℕ)) (command : Command) → command_of_words words ≡ Some command → HasPlace words command
-has_place words command says = ?
-
 abbrev section_by : Bool → Bool → Bool → Stage → Bool
 section_by order go join stage =
     (order && are_going (threads_in stage))
@@ -78,7 +58,7 @@ breaks_by S.Waiting C.ThreadsJoin = refl
 breaks_by S.Going C.ThreadsJoin = refl
 breaks_by stage command = refl
 
-pub breaks_is : (stage : Stage) (words : List (List ℕ)) (command : Command) → HasPlace words command
+breaks_is : (stage : Stage) (words : List (List ℕ)) (command : Command) → HasPlace words command
     → breaks_section (threads_in stage) words false ≡ breaks stage command
 breaks_is stage words command place =
     ap (λ b. section_by b (is_go words) (is_join words) stage) place.order
@@ -96,7 +76,7 @@ threads_with stage C.ThreadsGo = refl
 threads_with stage C.ThreadsJoin = refl
 threads_with stage command = refl
 
-pub threads_is : (stage : Stage) (words : List (List ℕ)) (command : Command) → HasPlace words command
+threads_is : (stage : Stage) (words : List (List ℕ)) (command : Command) → HasPlace words command
     → threads_after (threads_in stage) words ≡ threads_in (stage_after stage command)
 threads_is stage words command place =
     ap (λ b. threads_by b (is_go words) (is_join words) (threads_in stage)) place.order
@@ -112,7 +92,7 @@ with_section callbacks past words command says fine plain =
     ap (reason_with past words) fine
     ∙ cond-false (first_is (codes "type") words && not past.bare) (Some Order) (cond (breaks_section (threads_in past.stage) words false) (Some Section) None)
     (and_left (first_is (codes "type") words) (not past.bare) plain)
-    ∙ ap (λ b. cond b (Some Section) None) (breaks_is past.stage words command (has_place words command says))
+    ∙ ap (λ b. cond b (Some Section) None) (breaks_is past.stage words command (has_place (bounds_in callbacks past) words command plain fine says))
 
 pub command_late : (callbacks : ℕ) (past : Past) (words : List (List ℕ)) (command : Command) → command_of_words words ≡ Some command
     → reason_of_words (bounds_in callbacks past) words ≡ None → first_is (codes "type") words ≡ false
@@ -130,3 +110,15 @@ pub words_faulty : (callbacks : ℕ) (past : Past) (words : List (List ℕ)) (re
     → (why : Reason) × (reason ≡ number_of why) × (reason_of_words (bounds_in callbacks past) words ≡ Some why)
     → IsReasonOf (reason_after callbacks past words) reason
 words_faulty callbacks past words reason (why, number, e) = inr (why, number, ap (reason_with past words) e)
+
+-- a line without a reason has words without one
+own_fine : (past : Past) (words : List (List ℕ)) (own : Option Reason) → reason_with past words own ≡ None → own ≡ None
+own_fine past words (Some own) e = absurd (true≢false (ap is_some e))
+own_fine past words None e = refl
+
+pub threads_after_line : (callbacks : ℕ) (past : Past) (words : List (List ℕ)) (command : Command) → command_of_words words ≡ Some command
+    → first_is (codes "type") words ≡ false → reason_after callbacks past words ≡ None
+    → threads_after (threads_in past.stage) words ≡ threads_in (stage_after past.stage command)
+threads_after_line callbacks past words command says plain fine =
+    threads_is past.stage words command (has_place (bounds_in callbacks past) words command plain
+    (own_fine past words (reason_of_words (bounds_in callbacks past) words) fine) says)

@@ -20,7 +20,7 @@ use Rattle.gc_graph.specs.Script.Threads.{AtRest}
 use Rattle.heap_script.specs.Scripts.{commands_of, holds_built_type, holds_built_command, says_built}
 use Rattle.heap_script.specs.declared.past.Past.{Past}
 use Rattle.heap_script.specs.Past.{threads_in, is_timely_in, past_header, with_blank, with_type, with_command, bounds_in, reason_with, reason_after, IsTypeKept, IsCommandKept}
-use Rattle.heap_script.proofs.LineReasons.{has_place, threads_is}
+use Rattle.heap_script.proofs.LineReasons.{threads_after_line}
 use Rattle.heap_script.proofs.LinesJudged.{judged, judged_words}
 use Rattle.heap_script.proofs.WordPlaces.{none_of_blank}
 
@@ -137,10 +137,11 @@ past_type lines n past next types more commands words low read are kept =
       sweeping = read.sweeping;
     })
 
-pub past_command : (lines : List (List ℕ)) (n : ℕ) (past next : Past) (types : List ObjectType) (commands more : List Command) (words : List (List ℕ))
+pub past_command : (callbacks : ℕ) (lines : List (List ℕ)) (n : ℕ) (past next : Past) (types : List ObjectType) (commands more : List Command) (words : List (List ℕ))
     → n < length lines → IsPast (take n lines) past types commands → words_of (get_or lines n []) ≡ words → is_blank (get_or lines n []) ≡ false
-    → IsCommandKept words past next commands more → IsPast (take (n + 1) lines) next types more
-past_command lines n past next types commands more words low read are some kept =
+    → reason_after callbacks past words ≡ None → IsCommandKept words past next commands more
+    → IsPast (take (n + 1) lines) next types more
+past_command callbacks lines n past next types commands more words low read are some fine kept =
     subst (λ (p : Past). IsPast (take (n + 1) lines) p types more) (sym kept.next_is) (record {
       counted = same_types lines n words low are kept.plain ∙ read.counted;
       bare = commands_then lines n words low are true
@@ -150,7 +151,7 @@ past_command lines n past next types commands more words low read are some kept 
           ∙ or_right (list_any is_command (take n lines)) true refl;
       threads = threads_more lines n words low are
           ∙ ap (λ threads. threads_after threads words) read.threads
-          ∙ threads_is past.stage words kept.command (has_place words kept.command kept.says);
+          ∙ threads_after_line callbacks past words kept.command kept.says kept.plain fine;
       types_are = read.types_are ∙ sym (type_more lines n words low are None (no_type words kept.plain));
       commands_are = kept.kept ∙ ap (λ (cs : List Command). cs ++ kept.command ∷ []) read.commands_are
           ∙ sym (command_more lines n words low are (Some kept.command) kept.says);

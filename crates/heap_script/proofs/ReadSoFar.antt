@@ -186,7 +186,7 @@ line_more callbacks lines more n line past next types new_types commands new_com
     subst (λ (ts : List ObjectType). IsReadTo callbacks lines (n + 1) next ts new_commands) (sym same)
     (words_more callbacks lines more n line past next types types commands new_commands words
     (is_built kept.command && is_timely_in past.sweeping kept.command) read e are some fine
-    (past_command lines n past next types commands new_commands words low read.say ws (ap is_blank at ∙ some) kept)
+    (past_command callbacks lines n past next types commands new_commands words low read.say ws (ap is_blank at ∙ some) fine kept)
     (ap (λ (p : Past). p.lines) kept.next_is) (ap (λ (p : Past). p.last) kept.next_is) (ap (λ (p : Past). p.unbuilt) kept.next_is)
     (ap (says_built (commands_of (take n lines))) ws
     ∙ command_says (take n lines) past types commands words kept.command read.say kept.says kept.plain))
