@@ -35,8 +35,8 @@ line_later f line lines i x none found = (
   omega (arith, found.1),
   found.2,
   ap (λ o. cons_option o (filter_map f (take found.0 lines))) none
-    ∙ found.3
-    ∙ sym (ap (λ o. take i (cons_option o (filter_map f lines))) none),
+      ∙ found.3
+      ∙ sym (ap (λ o. take i (cons_option o (filter_map f lines))) none),
 )
 
 line_after : {X : Type 0} (f : List ℕ → Option X) (line : List ℕ) (lines : List (List ℕ)) (i : ℕ) (x y : X) → f line ≡ Some y
@@ -46,8 +46,8 @@ line_after f line lines i x y some found = (
   omega (arith, found.1),
   found.2,
   ap (λ o. cons_option o (filter_map f (take found.0 lines))) some
-    ∙ ap (λ xs. y ∷ xs) found.3
-    ∙ sym (ap (λ o. take (suc i) (cons_option o (filter_map f lines))) some),
+      ∙ ap (λ xs. y ∷ xs) found.3
+      ∙ sym (ap (λ o. take (suc i) (cons_option o (filter_map f lines))) some),
 )
 
 line_first : {X : Type 0} (f : List ℕ → Option X) (line : List ℕ) (lines : List (List ℕ)) (x y : X) → f line ≡ Some y → Some y ≡ Some x
@@ -137,11 +137,19 @@ pub whole_unbuilt : (callbacks : ℕ) (bytes : List ℕ) (whole : Whole) → IsW
 whole_unbuilt callbacks bytes whole is some =
     let lines : List (List ℕ) = lines_of bytes in
     let found = first_unbuilt lines (length lines) whole.unbuilt is.unbuilt some in
-    inr (is.script.limits, refl, (found.0, found.1, record {
-      there = inr found.2;
-      unbuilt = unbuilt_by_words callbacks lines found.0 found.3.says;
-      before = λ j l. built_at callbacks lines j (is.script.faultless j (omega (arith, l, found.2))) (found.3.before j l);
-    }))
+    inr (
+      is.script.limits,
+      refl,
+      (
+        found.0,
+        found.1,
+        record {
+          there = inr found.2;
+          unbuilt = unbuilt_by_words callbacks lines found.0 found.3.says;
+          before = λ j l. built_at callbacks lines j (is.script.faultless j (omega (arith, l, found.2))) (found.3.before j l);
+        },
+      ),
+    )
 
 -- ---- a fault, where all has to be built
 
@@ -155,16 +163,40 @@ faulty_unbuilt callbacks bytes stop faulty =
     let lines : List (List ℕ) = lines_of bytes in
     let place : ℕ = faulty.place in
     elim faulty.unbuilt [
-      | inl none ↦ (stop.line, inl (none.0, refl), inr (faulty.limits, refl, (place, faulty.line, record {
-          there = faulty.there;
-          unbuilt = unbuilt_by_reason callbacks lines place faulty.why faulty.first.faulty;
-          before = λ j l. built_at callbacks lines j (faulty.first.before j l) (none.1 j l);
-        })))
-      | inr found ↦ (stop.unbuilt, inr (λ e. omega (arith, e, found.1), refl), inr (faulty.limits, refl, (found.0, found.1, record {
-          there = there_before place found.0 (length lines) found.2 faulty.there;
-          unbuilt = unbuilt_by_words callbacks lines found.0 found.3.says;
-          before = λ j l. built_at callbacks lines j (faulty.first.before j (omega (arith, l, found.2))) (found.3.before j l);
-        })))
+      | inl none ↦ (
+        stop.line,
+        inl (none.0, refl),
+        inr (
+          faulty.limits,
+          refl,
+          (
+            place,
+            faulty.line,
+            record {
+              there = faulty.there;
+              unbuilt = unbuilt_by_reason callbacks lines place faulty.why faulty.first.faulty;
+              before = λ j l. built_at callbacks lines j (faulty.first.before j l) (none.1 j l);
+            },
+          ),
+        ),
+      )
+      | inr found ↦ (
+        stop.unbuilt,
+        inr (λ e. omega (arith, e, found.1), refl),
+        inr (
+          faulty.limits,
+          refl,
+          (
+            found.0,
+            found.1,
+            record {
+              there = there_before place found.0 (length lines) found.2 faulty.there;
+              unbuilt = unbuilt_by_words callbacks lines found.0 found.3.says;
+              before = λ j l. built_at callbacks lines j (faulty.first.before j (omega (arith, l, found.2))) (found.3.before j l);
+            },
+          ),
+        ),
+      )
     ]
 
 abbrev is_told : Stop → Bool

@@ -155,7 +155,7 @@ bad_numbers words rest pre reason are is (inr bad) = inr (
   BadNumber,
   bad.0,
   with_pre words rest pre are is
-    ∙ cond-true (not (list_all is_number rest)) (Some BadNumber) (cond (length rest == 0) (Some Count) None) (not_from_false (list_all is_number rest) bad.1),
+      ∙ cond-true (not (list_all is_number rest)) (Some BadNumber) (cond (length rest == 0) (Some Count) None) (not_from_false (list_all is_number rest) bad.1),
 )
 
 plain_numbers : (words rest : List (List ℕ)) (pre : List ℕ) → words ≡ pre ∷ rest → is_pre pre ≡ true → list_all is_number rest ≡ true
@@ -170,8 +170,8 @@ no_numbers callbacks words rest pre numbers over are is called none off = inr (
   Count,
   refl,
   plain_numbers words rest pre are is called.plain
-    ∙ cond-true (length rest == 0) (Some Count) None
-    (eq-eqb (length rest) 0 (omega (arith, none, ap length (called.numbers_are off), length-map rest value_of))),
+      ∙ cond-true (length rest == 0) (Some Count) None
+      (eq-eqb (length rest) 0 (omega (arith, none, ap length (called.numbers_are off), length-map rest value_of))),
 )
 
 -- ---- the whole line
@@ -185,8 +185,8 @@ wrong_letters bounds words more letters are wrong = inr (
   UnknownWord,
   refl,
   ap (reason_of_type bounds) are
-    ∙ cond-true (not (are_letters letters)) (Some UnknownWord) (or_range (is_over bounds letters more) (reason_of_callbacks more))
-    (not_from_false (are_letters letters) wrong),
+      ∙ cond-true (not (are_letters letters)) (Some UnknownWord) (or_range (is_over bounds letters more) (reason_of_callbacks more))
+      (not_from_false (are_letters letters) wrong),
 )
 
 with_letters : (bounds : Bounds) (words more : List (List ℕ)) (letters : List ℕ) → words ≡ letters ∷ more → are_letters letters ≡ true

@@ -29,6 +29,7 @@ mod past;
 mod pieces;
 mod printing;
 mod reading;
+mod reasons;
 mod region_text;
 mod script;
 mod script_lines;

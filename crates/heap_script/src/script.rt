@@ -5,15 +5,13 @@ ghost use Rattle.gc_graph.specs.Script.{IsScript};
 ghost use Rattle.heap_script.specs.Reading.{fault_with};
 ghost use Rattle.heap_script.specs.Scripts.{IsFaultOf, IsBuiltScript, IsUnbuiltFault};
 
+use super::reasons::{NO_MEMORY, NOT_BUILT};
 use super::script_reader::{Stop, read_lines};
 use gc_graph::Command;
 use std::alloc::Global;
 use std::marker::Model;
 use thiserror::Error;
 use type_table::TypeDecl;
-
-const NO_MEMORY: u32 = 0;
-const NOT_BUILT: u32 = 9;
 
 /// What a script says: its types, by number, and its commands.
 #[derive(Drop)]

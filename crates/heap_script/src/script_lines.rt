@@ -7,16 +7,13 @@ ghost use Rattle.heap_script.specs.Past.{reason_after, IsReasonOf, IsTypeKept, I
 
 use super::built::is_built_type;
 use super::past::Past;
+use super::reasons::{NO_MEMORY, ORDER, SECTION};
 use super::stub::{Bounds, read_command};
 use super::type_lines::read_type;
 use super::words::is_text;
 use gc_graph::Command;
 use std::alloc::Global;
 use type_table::TypeDecl;
-
-const NO_MEMORY: u32 = 0;
-const ORDER: u32 = 6;
-const SECTION: u32 = 7;
 
 /// Keeps what the line says whose first word stands from `start` to `end`, and tells where the line
 /// ends, or the number of the reason why it says nothing.

@@ -10,17 +10,14 @@ ghost use Rattle.heap_script.specs.Reading.{IsWhole, IsStopped, stop_with};
 use super::cursor::next_word;
 use super::lines::{count_from, header_end, next_line};
 use super::past::Past;
+use super::reasons::{HEADER, NO_MEMORY, SECTION, TOO_LONG};
 use super::script_lines::keep_line;
 use gc_graph::Command;
 use std::alloc::Global;
 use type_table::TypeDecl;
 
-const NO_MEMORY: u32 = 0;
-const HEADER: u32 = 1;
-const SECTION: u32 = 7;
-const TOO_LONG: u32 = 8;
-
 const MOST_BYTES: usize = 16_777_216;
+
 const MOST_LINES: u32 = 1_000_000;
 
 /// What a whole script says, and the number of the first line that says what isn't built, or 0.
@@ -76,7 +73,14 @@ fn read_after(alloc: Global, bytes: &[u8], from: usize, callbacks: u32) -> Resul
             at = next_line(bytes, end);
         } else {
             let kept = keep_line(
-                alloc, bytes, start, end, callbacks, &mut past, &mut types, &mut commands,
+                alloc,
+                bytes,
+                start,
+                end,
+                callbacks,
+                &mut past,
+                &mut types,
+                &mut commands,
             );
             match kept {
                 Ok(end) => at = next_line(bytes, end),

@@ -33,8 +33,5 @@ pub(crate) fn read_command(bytes: &[u8], start: usize, end: usize, bounds: Bound
     ensures end { IfOk result.said (λ c. IsLineEnd bytes.now end result.end) }
     ensures type_free { first_is (codes "type") (words_from bytes.now start end) ≡ false }
 {
-    CommandLine {
-        said: Err(0),
-        end,
-    }
+    CommandLine { said: Err(0), end }
 }

@@ -12,17 +12,13 @@ ghost use Rattle.heap_script.specs.TypeLines.{AreCallbacks, reason_of_callbacks,
 use super::cursor::next_word;
 use super::letters::{are_letters, kinds_of};
 use super::numbers::number;
+use super::reasons::{BAD_NUMBER, COUNT, NO_MEMORY, RANGE, UNKNOWN_WORD};
 use super::words::is_text;
 use std::alloc::Global;
 use type_table::TypeDecl;
 
-const NO_MEMORY: u32 = 0;
-const UNKNOWN_WORD: u32 = 2;
-const BAD_NUMBER: u32 = 3;
-const COUNT: u32 = 4;
-const RANGE: u32 = 5;
-
 const MOST_LETTERS: usize = 64;
+
 const MOST_CALLBACKS: usize = 16;
 
 /// As many as `GCInfoTable` of cppgc numbers.

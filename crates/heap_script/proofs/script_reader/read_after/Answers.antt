@@ -40,8 +40,11 @@ loop-at-preserved c =
     let here : drop n tail ≡ line ∷ lines_after (drop at bytes) = c.loop-at.invariant.left ∙ lines_left bytes at c.loop-at-test.true in
     record {
       within = c.next_line-at-in-Ok.ensures.within;
-      few = omega (arith, kept_lines (words_from bytes start end) c.loop-at.past c.keep_line-kept.new.past c.loop-at.types.items
-          c.keep_line-kept.new.types.items c.loop-at.commands.items c.keep_line-kept.new.commands.items c.in-Ok.ensures.kept);
+      few = omega (
+        arith,
+        kept_lines (words_from bytes start end) c.loop-at.past c.keep_line-kept.new.past c.loop-at.types.items
+            c.keep_line-kept.new.types.items c.loop-at.commands.items c.keep_line-kept.new.commands.items c.in-Ok.ensures.kept,
+      );
       read_lines = n + 1;
       left = rest_is tail (lines_after (drop at bytes)) n line here
           ∙ c.next_word-start.ensures.same ∙ c.in-Ok.ensures.end.same ∙ sym c.next_line-at-in-Ok.ensures.lines;
