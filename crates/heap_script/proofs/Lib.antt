@@ -8,6 +8,7 @@ pub mod MoreLines
 pub mod PieceByPiece
 pub mod Progress
 pub mod Ranges
+pub mod RanksOfWords
 pub mod TypeLines
 pub mod TypesAgree
 pub mod Values

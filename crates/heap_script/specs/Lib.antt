@@ -9,3 +9,4 @@ pub mod Words
 pub mod Faults
 pub mod Cursor
 pub mod Scripts
+pub mod Ranks
