@@ -9,6 +9,7 @@ pub mod PieceByPiece
 pub mod Progress
 pub mod Ranges
 pub mod RanksOfWords
+pub mod RowsFound
 pub mod TypeLines
 pub mod TypesAgree
 pub mod Values

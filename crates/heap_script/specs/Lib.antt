@@ -10,3 +10,4 @@ pub mod Faults
 pub mod Cursor
 pub mod Scripts
 pub mod Ranks
+pub mod Rows

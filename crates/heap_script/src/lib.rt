@@ -21,6 +21,7 @@ mod commands;
 mod cursor;
 mod cuts;
 mod devices;
+mod forms;
 mod line_text;
 mod lines;
 mod list_devices;
@@ -29,6 +30,7 @@ mod pieces;
 mod printing;
 mod reading;
 mod region_text;
+mod rows;
 mod script;
 mod steady_devices;
 #[cfg(test)]
