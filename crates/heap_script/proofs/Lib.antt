@@ -6,6 +6,7 @@ pub mod LineKinds
 pub mod LinesBefore
 pub mod MoreLines
 pub mod PieceByPiece
+pub mod PlacesRead
 pub mod Progress
 pub mod Ranges
 pub mod RanksOfWords

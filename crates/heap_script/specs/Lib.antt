@@ -11,3 +11,4 @@ pub mod Cursor
 pub mod Scripts
 pub mod Ranks
 pub mod Rows
+pub mod Said

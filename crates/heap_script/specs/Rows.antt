@@ -9,6 +9,8 @@ use Rattle.gc_graph.specs.Words.{is_text}
 use Rattle.gc_graph.specs.Forms.{Place, any_number, pages_or_all, none, one, two, three, new_command, set_command, pair_command, sweep_command, threads_command, by_want, order_of_none, order_of_one, order_of_two}
 use Rattle.gc_graph.specs.Forms.Place.{Either, Number, NumberOr, TypeNumber}
 use Rattle.gc_graph.specs.Forms.{Row as GrammarRow}
+use Rattle.gc_graph.specs.Reasons.{Bounds as GrammarBounds}
+use Rattle.heap_script.specs.declared.places.Bounds.{Bounds}
 use Rattle.heap_script.specs.declared.forms.Spot.{Spot}
 use Rattle.heap_script.specs.declared.forms.Spot.TheVariants as S
 use Rattle.heap_script.specs.declared.forms.SmallForm.{SmallForm}
@@ -23,8 +25,16 @@ use Rattle.heap_script.specs.declared.forms.Row.{Row}
 abbrev pub place_of : Spot → Place
 place_of (S.Either one other) = Either one.now other.now
 place_of (S.Number from last) = Number from (last + 1)
-place_of (S.NumberOr text from last) = NumberOr text.now from (last + 1)
+place_of (S.NumberOrNull from last) = NumberOr (codes "-") from (last + 1)
 place_of S.TypeNumber = TypeNumber
+
+-- the word for null
+abbrev pub is_null : List ℕ → Bool
+is_null word = is_text word (codes "-")
+
+-- the bounds of the grammar for those of the code
+abbrev pub bounds_of : Bounds → GrammarBounds
+bounds_of bounds = record { types = bounds.types; callbacks = bounds.callbacks }
 
 -- ---- commands
 

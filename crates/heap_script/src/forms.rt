@@ -6,7 +6,7 @@
 pub(crate) enum Spot {
     Either(&'static [u8], &'static [u8]),
     Number(u32, u32),
-    NumberOr(&'static [u8], u16, u16),
+    NumberOrNull(u16, u16),
     TypeNumber,
 }
 

@@ -27,10 +27,12 @@ mod lines;
 mod list_devices;
 mod numbers;
 mod pieces;
+mod places;
 mod printing;
 mod reading;
 mod region_text;
 mod rows;
+mod said;
 mod script;
 mod steady_devices;
 #[cfg(test)]

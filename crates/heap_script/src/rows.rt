@@ -8,7 +8,7 @@ use super::forms::{Make, Row, SmallForm, Spot};
 
 const SLOT: Spot = Spot::Number(0, 255);
 
-const SLOT_OR_NULL: Spot = Spot::NumberOr(b"-", 0, 255);
+const SLOT_OR_NULL: Spot = Spot::NumberOrNull(0, 255);
 
 const WEAK_SLOT: Spot = Spot::Number(0, 63);
 

@@ -14,7 +14,7 @@ returns-then-eq-clause-sound g c =
 pub loop-row-preserved : goal.loop-row-preserved
 loop-row-preserved g c = record {
   named = named_past c.args.word.now c.args.table.now _ _ c.loop-row-test.true (sym c.eq.ensures ∙ c.if-eq.false)
-    ∙ c.loop-row.invariant.named;
+      ∙ c.loop-row.invariant.named;
   sound = sound_next g.before c.args.table.now c.loop-row.row-index c.loop-row-test.true c.loop-row.invariant.sound;
 }
 
