@@ -11,6 +11,7 @@ pub mod Progress
 pub mod Ranges
 pub mod RanksOfWords
 pub mod RowsFound
+pub mod Shapes
 pub mod TypeLines
 pub mod TypesAgree
 pub mod Values

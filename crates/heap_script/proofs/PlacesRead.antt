@@ -68,8 +68,8 @@ part_more bounds all left spot bytes word reading old mid new part more = record
   low = omega (arith, part.low, more.rank);
   rank = omega (arith, part.rank, more.rank, lowest_more bounds spot left bytes word reading mid new more);
   numbers = λ good.
-  let parts = good_parts bounds spot bytes word reading mid new more part.low good in
-  says_more bounds spot left bytes word reading mid new more parts.1 ∙ part.numbers parts.0;
+      let parts = good_parts bounds spot bytes word reading mid new more part.low good in
+      says_more bounds spot left bytes word reading mid new more parts.1 ∙ part.numbers parts.0;
   count = omega (arith, part.count, more.count);
   words = omega (arith, part.words, more.count, ap length more.words);
   left_over = sym (ap (λ (ws : List (List ℕ)). drop (length (spot ∷ left)) ws) more.words) ∙ part.left_over;
@@ -121,9 +121,9 @@ part_ends bounds all left bytes old new part none = record {
   within = part.within;
   rank = omega (arith, part.rank, part.low, ap (lowest (bounds_of bounds) (map place_of left)) none ∙ lowest_none bounds left);
   numbers = λ good.
-  sym (append-nil (list_of new))
-  ∙ ap (λ ns. list_of new ++ ns) (sym (ap (all_say (map place_of left)) none ∙ says_none left))
-  ∙ part.numbers good;
+      sym (append-nil (list_of new))
+      ∙ ap (λ ns. list_of new ++ ns) (sym (ap (all_say (map place_of left)) none ∙ says_none left))
+      ∙ part.numbers good;
   count = omega (arith, part.count, part.words, ap length none);
   left = none ∙ sym (drop_all (length left) [] (omega arith)) ∙ sym (ap (λ (ws : List (List ℕ)). drop (length left) ws) none) ∙ part.left_over;
   lines = part.lines;

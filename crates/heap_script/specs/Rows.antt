@@ -15,6 +15,8 @@ use Rattle.heap_script.specs.declared.forms.Spot.{Spot}
 use Rattle.heap_script.specs.declared.forms.Spot.TheVariants as S
 use Rattle.heap_script.specs.declared.forms.SmallForm.{SmallForm}
 use Rattle.heap_script.specs.declared.forms.SmallForm.TheVariants as F
+use Rattle.heap_script.specs.declared.forms.OrderForm.{OrderForm}
+use Rattle.heap_script.specs.declared.forms.OrderForm.TheVariants as O
 use Rattle.heap_script.specs.declared.forms.Make.{Make}
 use Rattle.heap_script.specs.declared.forms.Make.TheVariants as M
 use Rattle.heap_script.specs.declared.forms.Row.{Row}
@@ -37,6 +39,14 @@ abbrev pub bounds_of : Bounds → GrammarBounds
 bounds_of bounds = record { types = bounds.types; callbacks = bounds.callbacks }
 
 -- ---- commands
+
+-- the command that a thread and the numbers of its order make
+abbrev pub order_command_of : OrderForm → List ℕ → Option Command
+order_command_of O.Copy = order_of_two (λ x y. Q.Copy x y)
+order_command_of O.Clear = order_of_one (λ x. Q.Clear x)
+order_command_of O.Weaken = order_of_one (λ x. Q.Weaken x)
+order_command_of O.Upgrade = order_of_two (λ x y. Q.Upgrade x y)
+order_command_of O.Totals = order_of_none Q.Totals
 
 -- the command that numbers of 32 bits make
 abbrev pub small_command_of : SmallForm → List ℕ → Option Command
@@ -62,11 +72,7 @@ small_command_of F.GcStart = none C.GcStart
 small_command_of F.GcStep = one (λ n. C.GcStep n)
 small_command_of F.GcFinish = by_want (λ w. C.GcFinish w)
 small_command_of F.GcNow = by_want (λ w. C.GcNow w)
-small_command_of F.AtCopy = order_of_two (λ x y. Q.Copy x y)
-small_command_of F.AtClear = order_of_one (λ x. Q.Clear x)
-small_command_of F.AtWeaken = order_of_one (λ x. Q.Weaken x)
-small_command_of F.AtUpgrade = order_of_two (λ x y. Q.Upgrade x y)
-small_command_of F.AtTotals = order_of_none Q.Totals
+small_command_of (F.At form) = order_command_of form
 
 -- the command that the numbers of a line make
 abbrev pub command_of : Make → List ℕ → Option Command

@@ -35,11 +35,17 @@ pub(crate) enum SmallForm {
     GcStep,
     GcFinish,
     GcNow,
-    AtCopy,
-    AtClear,
-    AtWeaken,
-    AtUpgrade,
-    AtTotals,
+    At(OrderForm),
+}
+
+/// The order for a thread that the numbers after the thread make.
+#[derive(Clone, Copy)]
+pub(crate) enum OrderForm {
+    Copy,
+    Clear,
+    Weaken,
+    Upgrade,
+    Totals,
 }
 
 /// The same, where the last number may have 64 bits, or count pages.

@@ -25,6 +25,7 @@ mod forms;
 mod line_text;
 mod lines;
 mod list_devices;
+mod making;
 mod numbers;
 mod pieces;
 mod places;

@@ -4,7 +4,7 @@ ghost use Rattle.std.specs.Prelude.{◌≡◌, ℕ, true, IfSome};
 ghost use Rattle.gc_graph.specs.Forms.{row_named, rows, gc_rows, at_rows};
 ghost use Rattle.heap_script.specs.Rows.{SameRow, is_sound, are_sound, rows_by};
 
-use super::forms::{Make, Row, SmallForm, Spot};
+use super::forms::{Make, OrderForm, Row, SmallForm, Spot};
 
 const SLOT: Spot = Spot::Number(0, 255);
 
@@ -187,31 +187,31 @@ static AT_ROWS: [Row; 5] = [
         name: b"copy",
         spots: &[REGION_SLOT, REGION_SLOT],
         least: 2,
-        make: Make::Small(SmallForm::AtCopy),
+        make: Make::Small(SmallForm::At(OrderForm::Copy)),
     },
     Row {
         name: b"clear",
         spots: &[REGION_SLOT],
         least: 1,
-        make: Make::Small(SmallForm::AtClear),
+        make: Make::Small(SmallForm::At(OrderForm::Clear)),
     },
     Row {
         name: b"weaken",
         spots: &[REGION_SLOT],
         least: 1,
-        make: Make::Small(SmallForm::AtWeaken),
+        make: Make::Small(SmallForm::At(OrderForm::Weaken)),
     },
     Row {
         name: b"upgrade",
         spots: &[REGION_SLOT, REGION_SLOT],
         least: 2,
-        make: Make::Small(SmallForm::AtUpgrade),
+        make: Make::Small(SmallForm::At(OrderForm::Upgrade)),
     },
     Row {
         name: b"totals",
         spots: &[],
         least: 0,
-        make: Make::Small(SmallForm::AtTotals),
+        make: Make::Small(SmallForm::At(OrderForm::Totals)),
     },
 ];
 
