@@ -8,7 +8,7 @@ use Rattle.gc_graph.specs.Words.{is_text}
 use Rattle.gc_graph.specs.Forms.{row_named}
 use Rattle.gc_graph.specs.Forms.{Row as GrammarRow}
 use Rattle.heap_script.specs.declared.forms.Row.{Row}
-use Rattle.heap_script.specs.Rows.{row_by, rows_by, SameRow, is_sound, are_sound}
+use Rattle.heap_script.specs.Rows.{row_by, rows_by, SameRow, RowTest}
 
 -- a row at the front of a table, which the word chooses or doesn't
 named_here : (word : List ℕ) (row : Row) (rows : List Row) → is_text word row.name.now ≡ true
@@ -34,20 +34,20 @@ named_past word table i d low e =
 pub named_nowhere : (word : List ℕ) (table : List Row) (i : ℕ) → length table ≤ i → row_named word (rows_by (drop i table)) ≡ None
 named_nowhere word table i high = ap (λ (rows : List Row). row_named word (rows_by rows)) (drop_all i table high)
 
-pub sound_parts : (before : ℕ) (table : List Row) (i : ℕ) (d : Row) → i < length table → are_sound before (drop i table) ≡ true
-    → (is_sound before (get_or table i d) ≡ true) × (are_sound before (drop (i + 1) table) ≡ true)
-sound_parts before table i d low e =
-    and_parts (is_sound before (get_or table i d)) (are_sound before (drop (i + 1) table))
-    (sym (ap (λ (rows : List Row). are_sound before rows) (drop_more table i d low)) ∙ e)
+pub test_holds : (test : RowTest) (table : List Row) (i : ℕ) (d : Row) → i < length table → list_all test (drop i table) ≡ true
+    → test (get_or table i d) ≡ true
+test_holds test table i d low e =
+    (and_parts (test (get_or table i d)) (list_all test (drop (i + 1) table))
+    (sym (ap (λ (rows : List Row). list_all test rows) (drop_more table i d low)) ∙ e)).0
 
-sound_tail : (before : ℕ) (table : List Row) → are_sound before table ≡ true → are_sound before (drop 1 table) ≡ true
-sound_tail before [] e = refl
-sound_tail before (row ∷ table) e = (and_parts (is_sound before row) (are_sound before table) e).1
+test_tail : (test : RowTest) (table : List Row) → list_all test table ≡ true → list_all test (drop 1 table) ≡ true
+test_tail test [] e = refl
+test_tail test (row ∷ table) e = (and_parts (test row) (list_all test table) e).1
 
-pub sound_next : (before : ℕ) (table : List Row) (i : ℕ) → i < length table → are_sound before (drop i table) ≡ true
-    → are_sound before (drop (i + 1) table) ≡ true
-sound_next before table i low e =
-    sym (ap (λ (rows : List Row). are_sound before rows) (drop-drop 1 i table)) ∙ sound_tail before (drop i table) e
+pub test_next : (test : RowTest) (table : List Row) (i : ℕ) → list_all test (drop i table) ≡ true
+    → list_all test (drop (i + 1) table) ≡ true
+test_next test table i e =
+    sym (ap (λ (rows : List Row). list_all test rows) (drop-drop 1 i table)) ∙ test_tail test (drop i table) e
 
 pub no_row : (found : Option GrammarRow) → found ≡ None → SameRow None found
 no_row found e = subst (λ (o : Option GrammarRow). SameRow None o) (sym e) tt

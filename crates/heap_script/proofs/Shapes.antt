@@ -1,12 +1,12 @@
 -- Numbers made into commands, one lemma for each number of them.
-use Rattle.std.proofs.Common.{◌≡◌, ℕ, zero, suc, ◌+◌, ◌-◌, ◌==◌, Bool, true, false, Option, Some, None, cond, List, [], ◌∷◌, take, refl, sym, ap, ◌∙◌, arith}
+use Rattle.std.proofs.Common.{◌≡◌, ℕ, zero, suc, ◌+◌, ◌-◌, ◌==◌, Bool, true, false, Option, Some, None, cond, List, [], ◌∷◌, ◌++◌, take, refl, sym, ap, ◌∙◌, arith}
 use Rattle.std.proofs.lemmas.Bool.{cond-false, ne_eqb}
 use Rattle.gc_graph.specs.declared.command.Command.{Command}
 use Rattle.gc_graph.specs.declared.command.Command.TheVariants as C
 use Rattle.gc_graph.specs.declared.command.Want.{Want}
 use Rattle.gc_graph.specs.declared.command.Want.TheVariants.{Precise, Conservative}
 use Rattle.gc_graph.specs.declared.command.Order.{Order}
-use Rattle.gc_graph.specs.Forms.{none, one, two, three, new_command, set_command, pair_command, threads_command, by_want, order_of_none, order_of_one, order_of_two}
+use Rattle.gc_graph.specs.Forms.{none, one, two, three, new_command, set_command, pair_command, sweep_command, threads_command, by_want, order_of_none, order_of_one, order_of_two}
 
 -- where there is another number of them, none is made
 other : (count n : ℕ) (command : Command) → (count ≡ n → ⊥) → cond (count == n) (Some command) None ≡ None
@@ -116,3 +116,39 @@ pub ruleset shapes = (
   threads_of_others,
   want_of_others,
 )
+
+-- ---- with a wide number at the end
+
+three_of_more : (a b c n : ℕ) (more : List ℕ) (make : ℕ → ℕ → ℕ → Command) → three make (a ∷ b ∷ c ∷ (more ++ n ∷ [])) ≡ None
+three_of_more a b c n [] make = refl
+three_of_more a b c n (d ∷ more) make = refl
+
+one_of_more : (a n : ℕ) (more : List ℕ) (make : ℕ → Command) → one make (a ∷ (more ++ n ∷ [])) ≡ None
+one_of_more a n [] make = refl
+one_of_more a n (b ∷ more) make = refl
+
+sweep_of_more : (a n : ℕ) (more : List ℕ) → None ≡ sweep_command (a ∷ (more ++ n ∷ []))
+sweep_of_more zero n [] = refl
+sweep_of_more zero n (b ∷ more) = refl
+sweep_of_more (suc a) n [] = refl
+sweep_of_more (suc a) n (b ∷ more) = refl
+
+pub makes_put : (count : ℕ) (a b c d n : ℕ) (make : ℕ → ℕ → ℕ → Command)
+    → cond (count == 2) (Some (make a b n)) None ≡ three make (take count (a ∷ b ∷ c ∷ d ∷ 0 ∷ []) ++ n ∷ [])
+makes_put zero a b c d n make = refl
+makes_put (suc zero) a b c d n make = refl
+makes_put (suc (suc zero)) a b c d n make = refl
+makes_put (suc (suc (suc k))) a b c d n make =
+    other (suc (suc (suc k))) 2 (make a b n) (λ e. omega (arith, e)) ∙ sym (three_of_more a b c n (take k (d ∷ 0 ∷ [])) make)
+
+pub makes_wide : (count : ℕ) (a b c d n : ℕ) (make : ℕ → Command)
+    → cond (count == 0) (Some (make n)) None ≡ one make (take count (a ∷ b ∷ c ∷ d ∷ 0 ∷ []) ++ n ∷ [])
+makes_wide zero a b c d n make = refl
+makes_wide (suc k) a b c d n make =
+    other (suc k) 0 (make n) (λ e. omega (arith, e)) ∙ sym (one_of_more a n (take k (b ∷ c ∷ d ∷ 0 ∷ [])) make)
+
+pub sweep_of_others : (count : ℕ) (a b c d n : ℕ) → (count ≡ 0 → ⊥) → None ≡ sweep_command (take count (a ∷ b ∷ c ∷ d ∷ 0 ∷ []) ++ n ∷ [])
+sweep_of_others zero a b c d n some = absurd (some refl)
+sweep_of_others (suc k) a b c d n some = sweep_of_more a n (take k (b ∷ c ∷ d ∷ 0 ∷ []))
+
+pub ruleset wide_shapes = (makes_put, makes_wide, sweep_of_others)

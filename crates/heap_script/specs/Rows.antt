@@ -1,5 +1,5 @@
 -- The rows of the code's table as those of the grammar.
-use Rattle.std.specs.Prelude.{◌≡◌, ℕ, ◌+◌, ◌==◌, ◌&&◌, not, nat_le, is_some, Bool, true, false, List, [], ◌∷◌, ◌++◌, length, map, take, drop, replicate, Option, Some, None, if◌then◌else◌, codes}
+use Rattle.std.specs.Prelude.{◌≡◌, ℕ, ◌+◌, ◌^◌, ◌≤◌, ◌==◌, ◌&&◌, not, nat_le, is_some, Bool, true, false, List, [], ◌∷◌, ◌++◌, length, map, take, drop, replicate, Option, Some, None, if◌then◌else◌, codes}
 use Rattle.std.specs.List.{list_all}
 use Rattle.std.specs.Borrow.{Bor}
 use Rattle.gc_graph.specs.declared.command.Command.{Command}
@@ -17,6 +17,8 @@ use Rattle.heap_script.specs.declared.forms.SmallForm.{SmallForm}
 use Rattle.heap_script.specs.declared.forms.SmallForm.TheVariants as F
 use Rattle.heap_script.specs.declared.forms.OrderForm.{OrderForm}
 use Rattle.heap_script.specs.declared.forms.OrderForm.TheVariants as O
+use Rattle.heap_script.specs.declared.forms.WideForm.{WideForm}
+use Rattle.heap_script.specs.declared.forms.WideForm.TheVariants as W
 use Rattle.heap_script.specs.declared.forms.Make.{Make}
 use Rattle.heap_script.specs.declared.forms.Make.TheVariants as M
 use Rattle.heap_script.specs.declared.forms.Row.{Row}
@@ -74,19 +76,27 @@ small_command_of F.GcFinish = by_want (λ w. C.GcFinish w)
 small_command_of F.GcNow = by_want (λ w. C.GcNow w)
 small_command_of (F.At form) = order_command_of form
 
+-- the command that numbers make of which the last may be wide
+abbrev pub wide_command_of : WideForm → List ℕ → Option Command
+wide_command_of W.Put = three (λ p f n. C.Put p f n)
+wide_command_of W.PushPlain = one (λ n. C.PushPlain n)
+wide_command_of W.Sweep = sweep_command
+
 -- the command that the numbers of a line make
 abbrev pub command_of : Make → List ℕ → Option Command
 command_of (M.Small form) = small_command_of form
-command_of M.Put = three (λ p f n. C.Put p f n)
-command_of M.PushPlain = one (λ n. C.PushPlain n)
-command_of M.Sweep = sweep_command
+command_of (M.Wide form) = wide_command_of form
 
--- the place after the spots, of a number that may have more bits
+-- the place of the wide number
+abbrev pub wide_place_of : WideForm → Place
+wide_place_of W.Put = any_number
+wide_place_of W.PushPlain = any_number
+wide_place_of W.Sweep = pages_or_all
+
+-- the places after the spots
 abbrev pub tail_of : Make → List Place
 tail_of (M.Small form) = []
-tail_of M.Put = any_number ∷ []
-tail_of M.PushPlain = any_number ∷ []
-tail_of M.Sweep = pages_or_all ∷ []
+tail_of (M.Wide form) = wide_place_of form ∷ []
 
 -- ---- rows
 
@@ -129,13 +139,35 @@ takes make count = is_some (command_of make (replicate count 1))
 abbrev pub agree : Bool → Bool → Bool
 agree a b = if a then b else not b
 
--- at most four numbers, with so many before the spots; the command takes as many as may be there; only `pair` makes a pair
+-- where the last number is wide, no place may be left out
+abbrev pub is_least_right : Make → ℕ → ℕ → Bool
+is_least_right (M.Small form) least most = nat_le least most
+is_least_right (M.Wide form) least most = least == most
+
+-- at most four small numbers, with so many before the spots, and the command takes as many numbers as may be there
 abbrev pub is_sound : ℕ → Row → Bool
 is_sound before row =
-    nat_le row.least (length (places_in row)) && (nat_le (before + length row.spots.now) 4
-    && (takes row.make (before + row.least) && (takes row.make (before + length (places_in row))
-    && agree (is_text row.name.now (codes "pair")) (makes_pair row.make))))
+    is_least_right row.make row.least (length (places_in row)) && (nat_le (before + length row.spots.now) 4
+    && (takes row.make (before + row.least) && takes row.make (before + length (places_in row))))
 
--- each row of a table is
-abbrev pub are_sound : ℕ → List Row → Bool
-are_sound before table = list_all (λ row. is_sound before row) table
+-- a test of rows
+abbrev pub RowTest : Type 0
+RowTest = Row → Bool
+
+-- a row that the first word chooses: only `pair` makes a pair
+abbrev pub is_plain_row : RowTest
+is_plain_row row = is_sound 0 row && agree (is_text row.name.now (codes "pair")) (makes_pair row.make)
+
+-- a row that the word after `gc` chooses
+abbrev pub is_gc_row : RowTest
+is_gc_row row = is_sound 0 row && not (makes_pair row.make)
+
+-- a row that the word after `at` and its thread chooses
+abbrev pub is_at_row : RowTest
+is_at_row row = is_sound 1 row && not (makes_pair row.make)
+
+-- how large a wide number may be: one more than 32 bits hold for `sweep`
+abbrev pub IsLow : WideForm → ℕ → Type 0
+IsLow W.Put value = Unit {0}
+IsLow W.PushPlain value = Unit {0}
+IsLow W.Sweep value = value ≤ 2 ^ 32

@@ -48,13 +48,19 @@ pub(crate) enum OrderForm {
     Totals,
 }
 
-/// The same, where the last number may have 64 bits, or count pages.
+/// The same, where the last number may have 64 bits or is one more than 32 bits hold.
 #[derive(Clone, Copy)]
-pub(crate) enum Make {
-    Small(SmallForm),
+pub(crate) enum WideForm {
     Put,
     PushPlain,
     Sweep,
+}
+
+/// The command that the numbers of a line make.
+#[derive(Clone, Copy)]
+pub(crate) enum Make {
+    Small(SmallForm),
+    Wide(WideForm),
 }
 
 /// A form: the word that chooses it, its places, and how many of them must be there.

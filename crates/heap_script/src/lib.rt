@@ -40,6 +40,7 @@ mod steady_devices;
 mod tests;
 mod text;
 mod types;
+mod wide;
 mod words;
 
 pub use devices::{Failed, Sink, Source};

@@ -10,7 +10,7 @@ use super::said::Said;
 use gc_graph::{Command, Order, Want};
 
 #[tactic(auto, using(crate::proofs::Shapes::shapes))]
-fn small_command(form: SmallForm, said: Said) -> Option<Command>
+pub(crate) fn small_command(form: SmallForm, said: Said) -> Option<Command>
     ensures { result ≡ small_command_of form (list_of said) }
 {
     let (count, a, b, c) = (said.count, said.a, said.b, said.c);
@@ -85,7 +85,7 @@ fn order_command(form: OrderForm, said: Said) -> Option<Command>
     }
 }
 
-fn when(test: bool, command: Command) -> Option<Command>
+pub(crate) fn when(test: bool, command: Command) -> Option<Command>
     ensures { result ≡ (if test then Some command else None) }
 {
     if test { Some(command) } else { None }

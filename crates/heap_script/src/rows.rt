@@ -1,10 +1,11 @@
 // The table of the forms, and the row that a word chooses.
 
-ghost use Rattle.std.specs.Prelude.{◌≡◌, ℕ, true, IfSome};
+ghost use Rattle.std.specs.Prelude.{◌≡◌, true, IfSome};
+ghost use Rattle.std.specs.List.{list_all};
 ghost use Rattle.gc_graph.specs.Forms.{row_named, rows, gc_rows, at_rows};
-ghost use Rattle.heap_script.specs.Rows.{SameRow, is_sound, are_sound, rows_by};
+ghost use Rattle.heap_script.specs.Rows.{SameRow, RowTest, is_plain_row, is_gc_row, is_at_row, rows_by};
 
-use super::forms::{Make, OrderForm, Row, SmallForm, Spot};
+use super::forms::{Make, OrderForm, Row, SmallForm, Spot, WideForm};
 
 const SLOT: Spot = Spot::Number(0, 255);
 
@@ -49,7 +50,7 @@ static ROWS: [Row; 21] = [
         name: b"put",
         spots: &[SLOT, FIELD],
         least: 3,
-        make: Make::Put,
+        make: Make::Wide(WideForm::Put),
     },
     Row {
         name: b"word",
@@ -109,7 +110,7 @@ static ROWS: [Row; 21] = [
         name: b"push#",
         spots: &[],
         least: 1,
-        make: Make::PushPlain,
+        make: Make::Wide(WideForm::PushPlain),
     },
     Row {
         name: b"pop",
@@ -127,7 +128,7 @@ static ROWS: [Row; 21] = [
         name: b"sweep",
         spots: &[],
         least: 1,
-        make: Make::Sweep,
+        make: Make::Wide(WideForm::Sweep),
     },
     Row {
         name: b"stat",
@@ -218,7 +219,7 @@ static AT_ROWS: [Row; 5] = [
 /// The row that the first word of a line chooses.
 pub(crate) fn row_of(word: &[u8]) -> Option<&'static Row>
     ensures same { SameRow result (row_named word.now rows) }
-    ensures sound { IfSome result (λ row. is_sound 0 row.now ≡ true) }
+    ensures sound { IfSome result (λ row. is_plain_row row.now ≡ true) }
 {
     row_in(&ROWS, word)
 }
@@ -226,7 +227,7 @@ pub(crate) fn row_of(word: &[u8]) -> Option<&'static Row>
 /// The row that the word after `gc` chooses.
 pub(crate) fn gc_row_of(word: &[u8]) -> Option<&'static Row>
     ensures same { SameRow result (row_named word.now gc_rows) }
-    ensures sound { IfSome result (λ row. is_sound 0 row.now ≡ true) }
+    ensures sound { IfSome result (λ row. is_gc_row row.now ≡ true) }
 {
     row_in(&GC_ROWS, word)
 }
@@ -234,16 +235,16 @@ pub(crate) fn gc_row_of(word: &[u8]) -> Option<&'static Row>
 /// The row that the word after `at` and its thread chooses.
 pub(crate) fn at_row_of(word: &[u8]) -> Option<&'static Row>
     ensures same { SameRow result (row_named word.now at_rows) }
-    ensures sound { IfSome result (λ row. is_sound 1 row.now ≡ true) }
+    ensures sound { IfSome result (λ row. is_at_row row.now ≡ true) }
 {
     row_in(&AT_ROWS, word)
 }
 
 fn row_in(table: &'static [Row], word: &[u8]) -> Option<&'static Row>
-    ghost before: { ℕ }
-    requires { are_sound before table.now ≡ true }
+    ghost test: { RowTest }
+    requires { list_all test table.now ≡ true }
     ensures same { SameRow result (row_named word.now (rows_by table.now)) }
-    ensures sound { IfSome result (λ row. is_sound before row.now ≡ true) }
+    ensures sound { IfSome result (λ row. test row.now ≡ true) }
 {
     for row in table {
         if word == row.name {
