@@ -1,3 +1,4 @@
+pub mod Accepting
 pub mod CommandsAgree
 pub mod Cutting
 pub mod FormsAgree
@@ -10,10 +11,12 @@ pub mod PlacesRead
 pub mod Progress
 pub mod Ranges
 pub mod RanksOfWords
+pub mod RowRanks
 pub mod RowsFound
 pub mod Shapes
 pub mod TypeLines
 pub mod TypesAgree
 pub mod Values
 pub mod WholeGrammar
+pub mod WideRows
 pub mod WordPlaces

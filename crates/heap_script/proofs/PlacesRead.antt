@@ -12,7 +12,7 @@ use Rattle.heap_script.specs.Ranks.{rank_by, rank_at, lowest}
 use Rattle.heap_script.specs.Rows.{bounds_of, place_of}
 use Rattle.heap_script.specs.Said.{list_of, words_left, IsReadOn, IsReadPart}
 
-rank_le9 : (u b c o : Bool) → rank_by u b c o ≤ 9
+pub rank_le9 : (u b c o : Bool) → rank_by u b c o ≤ 9
 rank_le9 true b c o = omega arith
 rank_le9 false true c o = omega arith
 rank_le9 false false true o = omega arith

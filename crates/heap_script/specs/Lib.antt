@@ -12,3 +12,4 @@ pub mod Scripts
 pub mod Ranks
 pub mod Rows
 pub mod Said
+pub mod RowLines

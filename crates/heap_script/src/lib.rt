@@ -32,6 +32,7 @@ mod places;
 mod printing;
 mod reading;
 mod region_text;
+mod row_lines;
 mod rows;
 mod said;
 mod script;
