@@ -1,12 +1,15 @@
 pub mod Accepting
+pub mod CommandForms
 pub mod CommandsAgree
 pub mod Cutting
+pub mod FormRanks
 pub mod FormsAgree
 pub mod KeptFacts
 pub mod LineKinds
 pub mod LinesBefore
 pub mod MoreLines
 pub mod PieceByPiece
+pub mod PairLines
 pub mod PlacesRead
 pub mod Progress
 pub mod Ranges

@@ -53,7 +53,7 @@ nine_true : (b : Bool) → 9 ≤ cond b 9 4 → b ≡ true
 nine_true true high = refl
 nine_true false high = absurd (omega arith)
 
-count_low : (row : Row) (n : ℕ) → row_count_rank row n ≤ 9
+pub count_low : (row : Row) (n : ℕ) → row_count_rank row n ≤ 9
 count_low row n = nine_most (n == row.least || n == length (places_in row))
 
 -- a faultless number of words is one of two
@@ -208,7 +208,7 @@ nine_first true n high = refl
 nine_first false n high = absurd (omega arith)
 
 -- a line's end after words that were read is one from before them on
-end_from : (bytes : List ℕ) (from mid end : ℕ) → from ≤ mid → lines_after (drop from bytes) ≡ lines_after (drop mid bytes)
+pub end_from : (bytes : List ℕ) (from mid end : ℕ) → from ≤ mid → lines_after (drop from bytes) ≡ lines_after (drop mid bytes)
     → IsLineEnd bytes mid end → IsLineEnd bytes from end
 end_from bytes from mid end before same ends = record {
   order = omega (arith, ends.order);

@@ -20,11 +20,11 @@ use Rattle.heap_script.proofs.RowRanks.{IsRowSaid, sound_parts, count_right, cou
 
 -- ---- places after others
 
-lowest_nothing : (bounds : GrammarBounds) (places : List Place) → lowest bounds places [] ≡ 9
+pub lowest_nothing : (bounds : GrammarBounds) (places : List Place) → lowest bounds places [] ≡ 9
 lowest_nothing bounds [] = refl
 lowest_nothing bounds (place ∷ places) = refl
 
-says_nothing : (places : List Place) → all_say places [] ≡ []
+pub says_nothing : (places : List Place) → all_say places [] ≡ []
 says_nothing [] = refl
 says_nothing (place ∷ places) = refl
 

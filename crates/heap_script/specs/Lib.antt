@@ -13,3 +13,4 @@ pub mod Ranks
 pub mod Rows
 pub mod Said
 pub mod RowLines
+pub mod CommandLines
