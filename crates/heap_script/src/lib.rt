@@ -5,13 +5,13 @@
 //!
 //! The parts: `Source` and `Sink` (devices that may fail), `ListSource`, `ListSink`, `SteadySource`
 //! and `SteadySink` (devices in memory), `read_whole` (all that a source has left), `read_script`
-//! (a script's commands, or its first faulty line), `line_count`, `number_below` (the number that a
-//! word is), `Pieces` (text on its way to a sink), `print_line`.
+//! (a script, or its first fault), `read_built` (the same, where all of it has to be built),
+//! `number_below` (the number that a word is), `Pieces` (text on its way to a sink), `print_line`.
 //!
 //! What is proved: a script that is read is what the grammar of `gc_graph` says of its bytes, and a
-//! fault names the first line that is of no built form. What is printed is the text of the report's
-//! line. A device's failure is answered only where its count of faults has risen, and after it a
-//! beginning of the text was written, and the rest is still held.
+//! fault names the first line that has one and the lowest reason that it has. What is printed is the
+//! text of the report's line. A device's failure is answered only where its count of faults has
+//! risen, and after it a beginning of the text was written, and the rest is still held.
 //!
 //! What is only tested or not said: that memory suffices, where one piece ends and the next begins,
 //! and how long a call takes.
