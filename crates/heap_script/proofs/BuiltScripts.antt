@@ -10,7 +10,7 @@ use Rattle.gc_graph.specs.Words.{lines_of, words_of}
 use Rattle.gc_graph.specs.Reasons.{Reason, number_of, command_of_words, type_of_words}
 use Rattle.gc_graph.specs.Script.{Script, IsScript, IsTooLong, IsInLimits, IsFault, IsFirstFault, reason_at}
 use Rattle.heap_script.specs.declared.script.ScriptFault.{ScriptFault}
-use Rattle.heap_script.specs.declared.script_reader.Whole.{Whole}
+use Rattle.heap_script.specs.declared.script_lines.Kept.{Kept}
 use Rattle.heap_script.specs.declared.script_reader.Stop.{Stop}
 use Rattle.heap_script.specs.Reading.{says_built_at, AreBuilt, IsUnbuiltLine, IsWhole, IsFaultyLine, IsStopped, fault_with}
 use Rattle.heap_script.specs.Scripts.{IsFaultOf, IsBuiltScript, commands_of, holds_built_type, holds_built_command, is_built_at, IsFirstUnbuilt, IsUnbuilt, IsUnbuiltFault}
@@ -100,11 +100,11 @@ none_unbuilt : (lines : List (List ℕ)) (n unbuilt : ℕ)
 none_unbuilt lines n unbuilt (inl (none, all)) e = all
 none_unbuilt lines n unbuilt (inr (i, is, low, line)) e = absurd (omega (arith, is, e))
 
-pub whole_built : (callbacks : ℕ) (bytes : List ℕ) (whole : Whole) → IsWhole callbacks bytes whole → whole.unbuilt ≡ 0
-    → IsBuiltScript callbacks bytes (record { types = whole.types.items; commands = whole.commands.items })
-whole_built callbacks bytes whole is none =
+pub whole_built : (callbacks : ℕ) (bytes : List ℕ) (kept : Kept) → IsWhole callbacks bytes kept → kept.past.unbuilt ≡ 0
+    → IsBuiltScript callbacks bytes (record { types = kept.types.items; commands = kept.commands.items })
+whole_built callbacks bytes kept is none =
     let lines : List (List ℕ) = lines_of bytes in
-    let all : AreBuilt lines (length lines) = none_unbuilt lines (length lines) whole.unbuilt is.unbuilt none in
+    let all : AreBuilt lines (length lines) = none_unbuilt lines (length lines) kept.past.unbuilt is.unbuilt none in
     record {
       whole = is.script;
       types = subst AreBuiltTypes (sym is.script.types) (types_built lines all);
@@ -132,11 +132,11 @@ first_unbuilt : (lines : List (List ℕ)) (n unbuilt : ℕ)
 first_unbuilt lines n unbuilt (inl (none, all)) some = absurd (some none)
 first_unbuilt lines n unbuilt (inr found) some = found
 
-pub whole_unbuilt : (callbacks : ℕ) (bytes : List ℕ) (whole : Whole) → IsWhole callbacks bytes whole → (whole.unbuilt ≡ 0 → ⊥)
-    → IsUnbuilt callbacks bytes whole.unbuilt 9
-whole_unbuilt callbacks bytes whole is some =
+pub whole_unbuilt : (callbacks : ℕ) (bytes : List ℕ) (kept : Kept) → IsWhole callbacks bytes kept → (kept.past.unbuilt ≡ 0 → ⊥)
+    → IsUnbuilt callbacks bytes kept.past.unbuilt 9
+whole_unbuilt callbacks bytes kept is some =
     let lines : List (List ℕ) = lines_of bytes in
-    let found = first_unbuilt lines (length lines) whole.unbuilt is.unbuilt some in
+    let found = first_unbuilt lines (length lines) kept.past.unbuilt is.unbuilt some in
     inr (
       is.script.limits,
       refl,

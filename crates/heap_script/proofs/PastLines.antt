@@ -19,6 +19,7 @@ use Rattle.gc_graph.specs.Script.{Threads, is_type, is_command, threads_of, thre
 use Rattle.gc_graph.specs.Script.Threads.{AtRest}
 use Rattle.heap_script.specs.Scripts.{commands_of, holds_built_type, holds_built_command, says_built}
 use Rattle.heap_script.specs.declared.past.Past.{Past}
+use Rattle.heap_script.specs.declared.script_lines.Kept.{Kept}
 use Rattle.heap_script.specs.Past.{threads_in, is_timely_in, past_header, with_blank, with_type, with_command, bounds_in, reason_with, reason_after, IsTypeKept, IsCommandKept}
 use Rattle.heap_script.proofs.LineReasons.{threads_after_line}
 use Rattle.heap_script.proofs.LinesJudged.{judged, judged_words}
@@ -121,28 +122,28 @@ past_blank lines n past types commands low read blank =
       sweeping = read.sweeping;
     }
 
-pub past_type : (lines : List (List ℕ)) (n : ℕ) (past next : Past) (types more : List ObjectType) (commands : List Command) (words : List (List ℕ))
-    → n < length lines → IsPast (take n lines) past types commands → words_of (get_or lines n []) ≡ words → IsTypeKept words past next types more
-    → IsPast (take (n + 1) lines) next more commands
-past_type lines n past next types more commands words low read are kept =
-    subst (λ (p : Past). IsPast (take (n + 1) lines) p more commands) (sym kept.next_is) (record {
+pub past_type : (lines : List (List ℕ)) (n : ℕ) (old new : Kept) (words : List (List ℕ)) → n < length lines
+    → IsPast (take n lines) old.past old.types.items old.commands.items → words_of (get_or lines n []) ≡ words → IsTypeKept words old new
+    → IsPast (take (n + 1) lines) new.past new.types.items new.commands.items
+past_type lines n old new words low read are kept =
+    subst (λ (p : Past). IsPast (take (n + 1) lines) p new.types.items new.commands.items) (sym kept.past) (record {
       counted = more_types lines n words low are kept.plain ∙ ap (λ k. k + 1) read.counted;
       bare = commands_then lines n words low are false
           (and_right (not (is_blank (get_or lines n []))) (not (is_type (get_or lines n [])))
           (not_from_true (is_type (get_or lines n [])) (ap (first_is (codes "type")) are ∙ kept.plain)))
           ∙ or_false (list_any is_command (take n lines)) ∙ read.bare;
       threads = threads_more lines n words low are ∙ type_threads (threads_of (take n lines)) words kept.plain ∙ read.threads;
-      types_are = kept.kept ∙ ap (λ (ts : List ObjectType). ts ++ kept.type ∷ []) read.types_are ∙ sym (type_more lines n words low are (Some kept.type) kept.says);
-      commands_are = read.commands_are ∙ sym (command_more lines n words low are None (no_command words kept.plain));
-      sweeping = read.sweeping;
+      types_are = kept.types ∙ ap (λ (ts : List ObjectType). ts ++ kept.type ∷ []) read.types_are ∙ sym (type_more lines n words low are (Some kept.type) kept.says);
+      commands_are = kept.commands ∙ read.commands_are ∙ sym (command_more lines n words low are None (no_command words kept.plain));
+      sweeping = ap is_sweep_open kept.commands ∙ read.sweeping;
     })
 
-pub past_command : (callbacks : ℕ) (lines : List (List ℕ)) (n : ℕ) (past next : Past) (types : List ObjectType) (commands more : List Command) (words : List (List ℕ))
-    → n < length lines → IsPast (take n lines) past types commands → words_of (get_or lines n []) ≡ words → is_blank (get_or lines n []) ≡ false
-    → reason_after callbacks past words ≡ None → IsCommandKept words past next commands more
-    → IsPast (take (n + 1) lines) next types more
-past_command callbacks lines n past next types commands more words low read are some fine kept =
-    subst (λ (p : Past). IsPast (take (n + 1) lines) p types more) (sym kept.next_is) (record {
+pub past_command : (callbacks : ℕ) (lines : List (List ℕ)) (n : ℕ) (old new : Kept) (words : List (List ℕ)) → n < length lines
+    → IsPast (take n lines) old.past old.types.items old.commands.items → words_of (get_or lines n []) ≡ words
+    → is_blank (get_or lines n []) ≡ false → reason_after callbacks old.past words ≡ None → IsCommandKept words old new
+    → IsPast (take (n + 1) lines) new.past new.types.items new.commands.items
+past_command callbacks lines n old new words low read are some fine kept =
+    subst (λ (p : Past). IsPast (take (n + 1) lines) p new.types.items new.commands.items) (sym kept.past) (record {
       counted = same_types lines n words low are kept.plain ∙ read.counted;
       bare = commands_then lines n words low are true
           (and_from (not (is_blank (get_or lines n []))) (not (is_type (get_or lines n [])))
@@ -151,12 +152,12 @@ past_command callbacks lines n past next types commands more words low read are 
           ∙ or_right (list_any is_command (take n lines)) true refl;
       threads = threads_more lines n words low are
           ∙ ap (λ threads. threads_after threads words) read.threads
-          ∙ threads_after_line callbacks past words kept.command kept.says kept.plain fine;
-      types_are = read.types_are ∙ sym (type_more lines n words low are None (no_type words kept.plain));
-      commands_are = kept.kept ∙ ap (λ (cs : List Command). cs ++ kept.command ∷ []) read.commands_are
+          ∙ threads_after_line callbacks old.past words kept.command kept.says kept.plain fine;
+      types_are = kept.types ∙ read.types_are ∙ sym (type_more lines n words low are None (no_type words kept.plain));
+      commands_are = kept.commands ∙ ap (λ (cs : List Command). cs ++ kept.command ∷ []) read.commands_are
           ∙ sym (command_more lines n words low are (Some kept.command) kept.says);
-      sweeping = ap is_sweep_open kept.kept
-          ∙ fold-append opens_sweep false commands (kept.command ∷ [])
+      sweeping = ap is_sweep_open kept.commands
+          ∙ fold-append opens_sweep false old.commands.items (kept.command ∷ [])
           ∙ ap (λ b. opens_sweep b kept.command) read.sweeping;
     })
 

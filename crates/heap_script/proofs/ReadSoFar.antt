@@ -10,6 +10,7 @@ use Rattle.gc_graph.specs.Script.{threads_of, threads_after}
 use Rattle.gc_graph.specs.Script.Threads.{AtRest}
 use Rattle.heap_script.specs.Scripts.{commands_of, says_built}
 use Rattle.heap_script.specs.declared.past.Past.{Past}
+use Rattle.heap_script.specs.declared.script_lines.Kept.{Kept}
 use Rattle.heap_script.specs.Past.{threads_in, is_timely_in, past_header, unbuilt_with, with_blank, reason_after, IsTypeKept, IsCommandKept, IsLineKept}
 use Rattle.heap_script.proofs.LinesJudged.{judged}
 use Rattle.heap_script.proofs.PastLines.{IsPast, nothing_read, past_blank, past_type, past_command, threads_more, judged_is, type_says, command_says}
@@ -166,32 +167,28 @@ words_more callbacks lines more n line past next types new_types commands new_co
       };
     }
 
-pub line_more : (callbacks : ℕ) (lines more : List (List ℕ)) (n : ℕ) (line : List ℕ) (past next : Past) (types new_types : List ObjectType)
-    (commands new_commands : List Command) (words : List (List ℕ)) → IsReadTo callbacks lines n past types commands
-    → drop n lines ≡ line ∷ more → words_of line ≡ words → is_blank line ≡ false → reason_after callbacks past words ≡ None
-    → IsLineKept words past next types new_types commands new_commands
-    → IsReadTo callbacks lines (n + 1) next new_types new_commands
-line_more callbacks lines more n line past next types new_types commands new_commands words read e are some fine (inl (kept, same)) =
+pub line_more : (callbacks : ℕ) (lines more : List (List ℕ)) (n : ℕ) (line : List ℕ) (old new : Kept) (words : List (List ℕ))
+    → IsReadTo callbacks lines n old.past old.types.items old.commands.items → drop n lines ≡ line ∷ more → words_of line ≡ words
+    → is_blank line ≡ false → reason_after callbacks old.past words ≡ None → IsLineKept words old new
+    → IsReadTo callbacks lines (n + 1) new.past new.types.items new.commands.items
+line_more callbacks lines more n line old new words read e are some fine (inl kept) =
     let low : n < length lines = next_there lines more n line e in
     let ws : words_of (get_or lines n []) ≡ words = ap words_of (next_is lines more n line e) ∙ are in
-    subst (λ (cs : List Command). IsReadTo callbacks lines (n + 1) next new_types cs) (sym same)
-    (words_more callbacks lines more n line past next types new_types commands commands words (is_built_type kept.type) read e are some fine
-    (past_type lines n past next types new_types commands words low read.say ws kept)
-    (ap (λ (p : Past). p.lines) kept.next_is) (ap (λ (p : Past). p.last) kept.next_is) (ap (λ (p : Past). p.unbuilt) kept.next_is)
-    (ap (says_built (commands_of (take n lines))) ws ∙ type_says (commands_of (take n lines)) words kept.type kept.says kept.plain))
-line_more callbacks lines more n line past next types new_types commands new_commands words read e are some fine (inr (kept, same)) =
+    words_more callbacks lines more n line old.past new.past old.types.items new.types.items old.commands.items new.commands.items words
+    (is_built_type kept.type) read e are some fine (past_type lines n old new words low read.say ws kept)
+    (ap (λ (p : Past). p.lines) kept.past) (ap (λ (p : Past). p.last) kept.past) (ap (λ (p : Past). p.unbuilt) kept.past)
+    (ap (says_built (commands_of (take n lines))) ws ∙ type_says (commands_of (take n lines)) words kept.type kept.says kept.plain)
+line_more callbacks lines more n line old new words read e are some fine (inr kept) =
     let low : n < length lines = next_there lines more n line e in
     let at : get_or lines n [] ≡ line = next_is lines more n line e in
     let ws : words_of (get_or lines n []) ≡ words = ap words_of at ∙ are in
-    subst (λ (ts : List ObjectType). IsReadTo callbacks lines (n + 1) next ts new_commands) (sym same)
-    (words_more callbacks lines more n line past next types types commands new_commands words
-    (is_built kept.command && is_timely_in past.sweeping kept.command) read e are some fine
-    (past_command callbacks lines n past next types commands new_commands words low read.say ws (ap is_blank at ∙ some) fine kept)
-    (ap (λ (p : Past). p.lines) kept.next_is) (ap (λ (p : Past). p.last) kept.next_is) (ap (λ (p : Past). p.unbuilt) kept.next_is)
+    words_more callbacks lines more n line old.past new.past old.types.items new.types.items old.commands.items new.commands.items words
+    (is_built kept.command && is_timely_in old.past.sweeping kept.command) read e are some fine
+    (past_command callbacks lines n old new words low read.say ws (ap is_blank at ∙ some) fine kept)
+    (ap (λ (p : Past). p.lines) kept.past) (ap (λ (p : Past). p.last) kept.past) (ap (λ (p : Past). p.unbuilt) kept.past)
     (ap (says_built (commands_of (take n lines))) ws
-    ∙ command_says (take n lines) past types commands words kept.command read.say kept.says kept.plain))
+    ∙ command_says (take n lines) old.past old.types.items old.commands.items words kept.command read.say kept.says kept.plain)
 
-pub kept_lines : (words : List (List ℕ)) (past next : Past) (types new_types : List ObjectType) (commands new_commands : List Command)
-    → IsLineKept words past next types new_types commands new_commands → next.lines ≡ past.lines + 1
-kept_lines words past next types new_types commands new_commands (inl (kept, same)) = ap (λ (p : Past). p.lines) kept.next_is
-kept_lines words past next types new_types commands new_commands (inr (kept, same)) = ap (λ (p : Past). p.lines) kept.next_is
+pub kept_lines : (words : List (List ℕ)) (old new : Kept) → IsLineKept words old new → new.past.lines ≡ old.past.lines + 1
+kept_lines words old new (inl kept) = ap (λ (p : Past). p.lines) kept.past
+kept_lines words old new (inr kept) = ap (λ (p : Past). p.lines) kept.past

@@ -14,7 +14,7 @@ use Rattle.gc_graph.specs.Script.{Script, IsScript, IsTooLong, IsInLimits, IsFir
 use Rattle.heap_script.specs.Scripts.{commands_of, says_built}
 use Rattle.heap_script.specs.declared.past.Past.{Past}
 use Rattle.heap_script.specs.Past.{threads_in, IsReasonOf, reason_after}
-use Rattle.heap_script.specs.declared.script_reader.Whole.{Whole}
+use Rattle.heap_script.specs.declared.script_lines.Kept.{Kept}
 use Rattle.heap_script.specs.declared.script_reader.Stop.{Stop}
 use Rattle.heap_script.specs.Reading.{says_built_at, AreBuilt, IsUnbuiltLine, IsUnbuiltOf, IsUnbuiltUpTo, IsWhole, IsFaultyLine, IsStopped, stop_with}
 use Rattle.heap_script.proofs.LinesJudged.{judged, blank_fine, as_judged, found_fault, at_rest_fine, last_fault, all_blank, words_follow, at_line}
@@ -276,10 +276,9 @@ module _ (callbacks : ℕ) (bytes header : List ℕ) (lines : List (List ℕ)) (
         | inr found ↦ inr (inr (section_line n past types commands read end low busy found.0 found.1 found.2 found.3 found.4))
       ]
 
-  pub all_read : (n : ℕ) (past : Past) (whole : Whole) → IsReadTo callbacks lines n past whole.types.items whole.commands.items
-      → drop n lines ≡ [] → past.lines ≤ 1000000 → are_at_rest (threads_in past.stage) ≡ true → whole.unbuilt ≡ past.unbuilt
-      → IsWhole callbacks bytes whole
-  all_read n past whole read none few rest same =
+  pub all_read : (n : ℕ) (kept : Kept) → IsReadTo callbacks lines n kept.past kept.types.items kept.commands.items
+      → drop n lines ≡ [] → kept.past.lines ≤ 1000000 → are_at_rest (threads_in kept.past.stage) ≡ true → IsWhole callbacks bytes kept
+  all_read n kept read none few rest =
       let end : length lines ≤ n = omega (arith, length-drop n lines, ap length none) in
       let low : length (lines_of bytes) ≤ 1000000 = omega (arith, ap length are, few, read.count, end) in
       let count : n + 1 ≡ length (header ∷ lines) = omega (arith, end, read.within) in
@@ -289,7 +288,7 @@ module _ (callbacks : ℕ) (bytes header : List ℕ) (lines : List (List ℕ)) (
           header = ap (λ ls. reason_at callbacks ls 0) are ∙ header_fine callbacks header lines head;
           faultless = λ i l. ap (λ ls. reason_at callbacks ls i) are
               ∙ at_all (λ j. reason_at callbacks (header ∷ lines) j ≡ None) (length lines) (header_fine callbacks header lines head)
-              (fine_line callbacks header lines n past whole.types.items whole.commands.items head read end rest) i (omega (arith, ap length are, l));
+              (fine_line callbacks header lines n kept.past kept.types.items kept.commands.items head read end rest) i (omega (arith, ap length are, l));
           types = read.say.types_are
               ∙ ap types_of (take_all n lines end)
               ∙ sym (ap (λ (o : Option ObjectType). cons_option o (types_of lines)) (no_header_type header head))
@@ -299,7 +298,7 @@ module _ (callbacks : ℕ) (bytes header : List ℕ) (lines : List (List ℕ)) (
               ∙ sym (ap (λ (o : Option Command). cons_option o (commands_of lines)) (no_header_command header head))
               ∙ sym (ap commands_of are);
         };
-        unbuilt = subst (λ ls. IsUnbuiltOf ls (length ls) whole.unbuilt) (sym are)
-            (subst (IsUnbuiltOf (header ∷ lines) (length (header ∷ lines))) (sym same)
-            (subst (λ m. IsUnbuiltOf (header ∷ lines) m past.unbuilt) count (unbuilt_of header lines n past.unbuilt head read.unbuilt)));
+        unbuilt = subst (λ ls. IsUnbuiltOf ls (length ls) kept.past.unbuilt) (sym are)
+            (subst (λ m. IsUnbuiltOf (header ∷ lines) m kept.past.unbuilt) count
+            (unbuilt_of header lines n kept.past.unbuilt head read.unbuilt));
       }

@@ -9,6 +9,7 @@ use Rattle.gc_graph.specs.Reasons.Reason.{Order, Section}
 use Rattle.gc_graph.specs.Script.{Threads, threads_after, breaks_section}
 use Rattle.gc_graph.specs.Script.Threads.{AtRest, Waiting, Going}
 use Rattle.heap_script.specs.declared.past.Past.{Past}
+use Rattle.heap_script.specs.declared.script_lines.Kept.{Kept}
 use Rattle.heap_script.specs.declared.past.Stage.{Stage}
 use Rattle.heap_script.specs.declared.past.Stage.TheVariants as S
 
@@ -105,24 +106,24 @@ reason_after callbacks past words = reason_with past words (reason_of_words (bou
 abbrev pub IsReasonOf : Option Reason → ℕ → Type 0
 IsReasonOf reason number = (number ≡ 0) ⊎ ((why : Reason) × (number ≡ number_of why) × (reason ≡ Some why))
 
--- a line with these words was kept: it declares a type, or is a command
-pub record IsTypeKept (words : List (List ℕ)) (past next : Past) (types more : List ObjectType) : Type 0 where
+-- a line with these words was kept: it declares a type
+pub record IsTypeKept (words : List (List ℕ)) (old new : Kept) : Type 0 where
   pub type : ObjectType
   pub says : type_of_words words ≡ Some type
   pub plain : first_is (codes "type") words ≡ true
-  pub next_is : next ≡ with_type past (is_built_type type)
-  pub kept : more ≡ types ++ type ∷ []
+  pub past : new.past ≡ with_type old.past (is_built_type type)
+  pub types : new.types.items ≡ old.types.items ++ type ∷ []
+  pub commands : new.commands.items ≡ old.commands.items
 
--- the line is a command
-pub record IsCommandKept (words : List (List ℕ)) (past next : Past) (commands more : List Command) : Type 0 where
+-- the line says a command
+pub record IsCommandKept (words : List (List ℕ)) (old new : Kept) : Type 0 where
   pub command : Command
   pub says : command_of_words words ≡ Some command
   pub plain : first_is (codes "type") words ≡ false
-  pub next_is : next ≡ with_command past command
-  pub kept : more ≡ commands ++ command ∷ []
+  pub past : new.past ≡ with_command old.past command
+  pub types : new.types.items ≡ old.types.items
+  pub commands : new.commands.items ≡ old.commands.items ++ command ∷ []
 
 -- a line with these words was kept, as a type or as a command
-abbrev pub IsLineKept : List (List ℕ) → Past → Past → List ObjectType → List ObjectType → List Command → List Command → Type 0
-IsLineKept words past next types more_types commands more_commands =
-    (IsTypeKept words past next types more_types × (more_commands ≡ commands))
-    ⊎ (IsCommandKept words past next commands more_commands × (more_types ≡ types))
+abbrev pub IsLineKept : List (List ℕ) → Kept → Kept → Type 0
+IsLineKept words old new = IsTypeKept words old new ⊎ IsCommandKept words old new

@@ -5,7 +5,7 @@ use Rattle.gc_graph.specs.Reasons.{Reason, number_of}
 use Rattle.gc_graph.specs.Script.{IsScript, IsTooLong, IsInLimits, IsFirstFault}
 use Rattle.heap_script.specs.Scripts.{commands_of, says_built}
 use Rattle.heap_script.specs.declared.script.ScriptFault.{ScriptFault}
-use Rattle.heap_script.specs.declared.script_reader.Whole.{Whole}
+use Rattle.heap_script.specs.declared.script_lines.Kept.{Kept}
 use Rattle.heap_script.specs.declared.script_reader.Stop.{Stop}
 
 -- what line i + 1 says is built
@@ -32,9 +32,9 @@ IsUnbuiltUpTo lines i unbuilt =
     ((unbuilt ≡ 0) × AreBuilt lines i) ⊎ ((j : ℕ) × (unbuilt ≡ j + 1) × (j ≤ i) × IsUnbuiltLine lines j)
 
 -- the whole bytes are a script
-pub record IsWhole (callbacks : ℕ) (bytes : List ℕ) (whole : Whole) : Type 0 where
-  pub script : IsScript callbacks bytes (record { types = whole.types.items; commands = whole.commands.items })
-  pub unbuilt : IsUnbuiltOf (lines_of bytes) (length (lines_of bytes)) whole.unbuilt
+pub record IsWhole (callbacks : ℕ) (bytes : List ℕ) (kept : Kept) : Type 0 where
+  pub script : IsScript callbacks bytes (record { types = kept.types.items; commands = kept.commands.items })
+  pub unbuilt : IsUnbuiltOf (lines_of bytes) (length (lines_of bytes)) kept.past.unbuilt
 
 -- a line has a fault, and of those up to it this is the first that says what isn't built
 pub record IsFaultyLine (callbacks : ℕ) (bytes : List ℕ) (stop : Stop) : Type 0 where

@@ -81,9 +81,9 @@ pub fn read_script(alloc: Global, bytes: &[u8], callbacks: u32) -> Result<Script
     ensures fault { IfErr result (IsFaultOf callbacks bytes.now) }
 {
     match read_lines(alloc, bytes, callbacks) {
-        Ok(whole) => Ok(Script {
-            types: whole.types,
-            commands: whole.commands,
+        Ok(kept) => Ok(Script {
+            types: kept.types,
+            commands: kept.commands,
         }),
         Err(stop) => Err(ScriptFault::at(stop.line, stop.reason)),
     }
@@ -96,13 +96,13 @@ pub fn read_built(alloc: Global, bytes: &[u8], callbacks: u32) -> Result<Script,
     ensures fault { IfErr result (IsUnbuiltFault callbacks bytes.now) }
 {
     match read_lines(alloc, bytes, callbacks) {
-        Ok(whole) => {
-            if whole.unbuilt != 0 {
-                return Err(ScriptFault::at(whole.unbuilt, NOT_BUILT));
+        Ok(kept) => {
+            if kept.past.unbuilt != 0 {
+                return Err(ScriptFault::at(kept.past.unbuilt, NOT_BUILT));
             }
             Ok(Script {
-                types: whole.types,
-                commands: whole.commands,
+                types: kept.types,
+                commands: kept.commands,
             })
         }
         Err(stop) => Err(unbuilt_fault(&stop)),

@@ -15,6 +15,14 @@ use gc_graph::Command;
 use std::alloc::Global;
 use type_table::TypeDecl;
 
+/// What the lines that were read say.
+#[derive(Drop)]
+pub(crate) struct Kept {
+    pub(crate) past: Past,
+    pub(crate) types: Vec<TypeDecl>,
+    pub(crate) commands: Vec<Command>,
+}
+
 /// Keeps what the line says whose first word stands from `start` to `end`, and tells where the line
 /// ends, or the number of the reason why it says nothing.
 pub(crate) fn keep_line(
@@ -23,26 +31,24 @@ pub(crate) fn keep_line(
     start: usize,
     end: usize,
     callbacks: u32,
-    past: &mut Past,
-    types: &mut Vec<TypeDecl>,
-    commands: &mut Vec<Command>,
+    kept: &mut Kept,
 ) -> Result<usize, u32>
     requires word { start < end }
     requires within { end ≤ length bytes.now }
-    requires lines { past.old.lines < 1000000 }
-    ensures kept { IfOk result (λ _. IsLineKept (words_from bytes.now start end)
-        past.old past.new types.old.items types.new.items commands.old.items commands.new.items) }
+    requires lines { kept.old.past.lines < 1000000 }
+    ensures kept { IfOk result (λ _.
+        IsLineKept (words_from bytes.now start end) kept.old kept.new) }
     ensures end { IfOk result (λ line_end. IsLineEnd bytes.now end line_end) }
     ensures fine { IfOk result (λ _.
-        reason_after callbacks past.old (words_from bytes.now start end) ≡ None) }
+        reason_after callbacks kept.old.past (words_from bytes.now start end) ≡ None) }
     ensures fault { IfErr result (IsReasonOf
-        (reason_after callbacks past.old (words_from bytes.now start end))) }
-    ensures same { IfErr result (λ _. past.new ≡ past.old) }
+        (reason_after callbacks kept.old.past (words_from bytes.now start end))) }
+    ensures same { IfErr result (λ _. kept.new.past ≡ kept.old.past) }
 {
     if is_text(&bytes[start..end], b"type") {
-        keep_type(alloc, bytes, end, callbacks, past, types)
+        keep_type(alloc, bytes, end, callbacks, kept)
     } else {
-        keep_command(bytes, start, end, callbacks, past, commands)
+        keep_command(bytes, start, end, callbacks, kept)
     }
 }
 
@@ -51,30 +57,29 @@ fn keep_type(
     bytes: &[u8],
     from: usize,
     callbacks: u32,
-    past: &mut Past,
-    types: &mut Vec<TypeDecl>,
+    kept: &mut Kept,
 ) -> Result<usize, u32>
     requires within { from ≤ length bytes.now }
-    requires lines { past.old.lines < 1000000 }
-    ensures kept { IfOk result (λ _. IsTypeKept (codes "type" ∷ line_words (drop from bytes.now))
-        past.old past.new types.old.items types.new.items) }
+    requires lines { kept.old.past.lines < 1000000 }
+    ensures kept { IfOk result (λ _.
+        IsTypeKept (codes "type" ∷ line_words (drop from bytes.now)) kept.old kept.new) }
     ensures end { IfOk result (λ end. IsLineEnd bytes.now from end) }
-    ensures fine { IfOk result (λ _.
-        reason_after callbacks past.old (codes "type" ∷ line_words (drop from bytes.now)) ≡ None) }
-    ensures fault { IfErr result (IsReasonOf
-        (reason_after callbacks past.old (codes "type" ∷ line_words (drop from bytes.now)))) }
-    ensures same { IfErr result (λ _. past.new ≡ past.old) }
+    ensures fine { IfOk result (λ _. reason_after callbacks kept.old.past
+        (codes "type" ∷ line_words (drop from bytes.now)) ≡ None) }
+    ensures fault { IfErr result (IsReasonOf (reason_after callbacks kept.old.past
+        (codes "type" ∷ line_words (drop from bytes.now)))) }
+    ensures same { IfErr result (λ _. kept.new.past ≡ kept.old.past) }
 {
-    match read_type(alloc, bytes, from, past.types, callbacks) {
+    match read_type(alloc, bytes, from, kept.past.types, callbacks) {
         Ok(line) => {
-            if !past.bare {
+            if !kept.past.bare {
                 return Err(ORDER);
             }
             let built = is_built_type(&line.decl);
-            if types.push(line.decl).is_err() {
+            if kept.types.push(line.decl).is_err() {
                 return Err(NO_MEMORY);
             }
-            past.add_type(built);
+            kept.past.add_type(built);
             Ok(line.end)
         }
         Err(reason) => Err(reason),
@@ -86,36 +91,35 @@ fn keep_command(
     start: usize,
     end: usize,
     callbacks: u32,
-    past: &mut Past,
-    commands: &mut Vec<Command>,
+    kept: &mut Kept,
 ) -> Result<usize, u32>
     requires word { start < end }
     requires within { end ≤ length bytes.now }
     requires plain { is_same (take (end - start) (drop start bytes.now)) (codes "type") ≡ false }
-    requires lines { past.old.lines < 1000000 }
-    ensures kept { IfOk result (λ _. IsCommandKept (words_from bytes.now start end)
-        past.old past.new commands.old.items commands.new.items) }
+    requires lines { kept.old.past.lines < 1000000 }
+    ensures kept { IfOk result (λ _.
+        IsCommandKept (words_from bytes.now start end) kept.old kept.new) }
     ensures end { IfOk result (λ line_end. IsLineEnd bytes.now end line_end) }
     ensures fine { IfOk result (λ _.
-        reason_after callbacks past.old (words_from bytes.now start end) ≡ None) }
+        reason_after callbacks kept.old.past (words_from bytes.now start end) ≡ None) }
     ensures fault { IfErr result (IsReasonOf
-        (reason_after callbacks past.old (words_from bytes.now start end))) }
-    ensures same { IfErr result (λ _. past.new ≡ past.old) }
+        (reason_after callbacks kept.old.past (words_from bytes.now start end))) }
+    ensures same { IfErr result (λ _. kept.new.past ≡ kept.old.past) }
 {
     let bounds = Bounds {
-        types: past.types,
+        types: kept.past.types,
         callbacks,
     };
     let line = read_command(bytes, start, end, bounds);
     match line.said {
         Ok(command) => {
-            if past.breaks(&command) {
+            if kept.past.breaks(&command) {
                 return Err(SECTION);
             }
-            if commands.push(command).is_err() {
+            if kept.commands.push(command).is_err() {
                 return Err(NO_MEMORY);
             }
-            past.add_command(&command);
+            kept.past.add_command(&command);
             Ok(line.end)
         }
         Err(reason) => Err(reason),

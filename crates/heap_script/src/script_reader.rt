@@ -11,22 +11,12 @@ use super::cursor::next_word;
 use super::lines::{count_from, header_end, next_line};
 use super::past::Past;
 use super::reasons::{HEADER, NO_MEMORY, SECTION, TOO_LONG};
-use super::script_lines::keep_line;
-use gc_graph::Command;
+use super::script_lines::{Kept, keep_line};
 use std::alloc::Global;
-use type_table::TypeDecl;
 
 const MOST_BYTES: usize = 16_777_216;
 
 const MOST_LINES: u32 = 1_000_000;
-
-/// What a whole script says, and the number of the first line that says what isn't built, or 0.
-#[derive(Drop)]
-pub(crate) struct Whole {
-    pub(crate) types: Vec<TypeDecl>,
-    pub(crate) commands: Vec<Command>,
-    pub(crate) unbuilt: u32,
-}
 
 /// Why no script was read, and the number of the first line up to that one that says what isn't
 /// built, or 0.
@@ -37,7 +27,7 @@ pub(crate) struct Stop {
     pub(crate) unbuilt: u32,
 }
 
-pub(crate) fn read_lines(alloc: Global, bytes: &[u8], callbacks: u32) -> Result<Whole, Stop>
+pub(crate) fn read_lines(alloc: Global, bytes: &[u8], callbacks: u32) -> Result<Kept, Stop>
     ensures whole { IfOk result (IsWhole callbacks bytes.now) }
     ensures stop { IfErr result (IsStopped callbacks bytes.now) }
 {
@@ -51,7 +41,7 @@ pub(crate) fn read_lines(alloc: Global, bytes: &[u8], callbacks: u32) -> Result<
 }
 
 // Reads the lines after the header, which begin at `from`.
-fn read_after(alloc: Global, bytes: &[u8], from: usize, callbacks: u32) -> Result<Whole, Stop>
+fn read_after(alloc: Global, bytes: &[u8], from: usize, callbacks: u32) -> Result<Kept, Stop>
     requires few { length bytes.now ≤ 16777216 }
     requires within { from ≤ length bytes.now }
     requires header { is_header (first_line bytes.now) ≡ true }
@@ -59,46 +49,37 @@ fn read_after(alloc: Global, bytes: &[u8], from: usize, callbacks: u32) -> Resul
     ensures whole { IfOk result (IsWhole callbacks bytes.now) }
     ensures stop { IfErr result (IsStopped callbacks bytes.now) }
 {
-    let mut past = Past::new();
-    let mut types = Vec::new(alloc);
-    let mut commands = Vec::new(alloc);
+    let mut kept = Kept {
+        past: Past::new(),
+        types: Vec::new(alloc),
+        commands: Vec::new(alloc),
+    };
     let mut at = from;
     while at < bytes.len() {
-        if past.lines == MOST_LINES {
+        if kept.past.lines == MOST_LINES {
             return Err(too_long());
         }
         let (start, end) = next_word(bytes, at);
         if start == end {
-            past.add_blank();
+            kept.past.add_blank();
             at = next_line(bytes, end);
         } else {
-            let kept = keep_line(
-                alloc,
-                bytes,
-                start,
-                end,
-                callbacks,
-                &mut past,
-                &mut types,
-                &mut commands,
-            );
-            match kept {
+            match keep_line(alloc, bytes, start, end, callbacks, &mut kept) {
                 Ok(end) => at = next_line(bytes, end),
-                Err(reason) => return Err(stop_at(bytes, at, past.lines, reason, past.unbuilt)),
+                Err(reason) => {
+                    let past = kept.past;
+                    return Err(stop_at(bytes, at, past.lines, reason, past.unbuilt));
+                }
             }
         }
     }
-    if !past.is_at_rest() {
-        return Err(Stop {
-            line: past.last,
-            reason: SECTION,
-            unbuilt: past.unbuilt,
-        });
+    if kept.past.is_at_rest() {
+        return Ok(kept);
     }
-    Ok(Whole {
-        types,
-        commands,
-        unbuilt: past.unbuilt,
+    Err(Stop {
+        line: kept.past.last,
+        reason: SECTION,
+        unbuilt: kept.past.unbuilt,
     })
 }
 

@@ -161,7 +161,10 @@ fn types_come_before_commands(rt: HostRuntime) {
 // Lines after the header.
 const SECTIONS: [(&[u8], Option<(u32, u32)>); 13] = [
     (b"at 1 totals\nthreads go\nstat\nthreads join\n", None),
-    (b"at 8 totals\nstat\n\nat 1 clear 0\nthreads go\nthreads join\n\n", None),
+    (
+        b"at 8 totals\nstat\n\nat 1 clear 0\nthreads go\nthreads join\n\n",
+        None,
+    ),
     (b"threads go\n", Some((2, 7))),
     (b"threads join\n", Some((2, 7))),
     (b"at 1 totals\nthreads join\n", Some((3, 7))),
@@ -170,9 +173,18 @@ const SECTIONS: [(&[u8], Option<(u32, u32)>); 13] = [
     (b"at 1 totals\nthreads go\n", Some((3, 7))),
     (b"at 1 totals\nthreads go\nat 1 totals\n", Some((4, 7))),
     (b"at 1 totals\nthreads go\nthreads go\n", Some((4, 7))),
-    (b"at 1 totals\nthreads go\nthreads join\nthreads go\n", Some((5, 7))),
-    (b"at 1 totals\nthreads go\nthreads join\nthreads join\n", Some((5, 7))),
-    (b"at 1 totals\nthreads go\nthreads join\nat 2 totals\nstat", Some((6, 7))),
+    (
+        b"at 1 totals\nthreads go\nthreads join\nthreads go\n",
+        Some((5, 7)),
+    ),
+    (
+        b"at 1 totals\nthreads go\nthreads join\nthreads join\n",
+        Some((5, 7)),
+    ),
+    (
+        b"at 1 totals\nthreads go\nthreads join\nat 2 totals\nstat",
+        Some((6, 7)),
+    ),
 ];
 
 #[test]
@@ -190,14 +202,23 @@ fn threads_have_their_sections(rt: HostRuntime) -> Result<(), Fail> {
 fn first_line_that_is_not_built_is_named(rt: HostRuntime) {
     let alloc = rt.alloc();
     let cases: [(&[u8], Option<(u32, u32)>); 11] = [
-        (b"oilpan 1\ntype SS\ntype -\nnew 0 0\ngc now precise\nsweep all\nnew 0 1 9\n", None),
-        (b"oilpan 1\nset 0 1 2\nset 0 1 -\nget 0 1 2\ndrop 0\nstat\n", None),
+        (
+            b"oilpan 1\ntype SS\ntype -\nnew 0 0\ngc now precise\nsweep all\nnew 0 1 9\n",
+            None,
+        ),
+        (
+            b"oilpan 1\nset 0 1 2\nset 0 1 -\nget 0 1 2\ndrop 0\nstat\n",
+            None,
+        ),
         (b"", Some((1, 9))),
         (b"oilpan 1\ntype SW\n", Some((2, 9))),
         (b"oilpan 1\ntype S pre 0\n", Some((2, 9))),
         (b"oilpan 1\nstat\npop\nfoo\n", Some((3, 9))),
         (b"oilpan 1\nstat\nfoo\npop\n", Some((3, 9))),
-        (b"oilpan 1\ntype S\ngc now precise\nnew 0 0\nfoo\n", Some((4, 9))),
+        (
+            b"oilpan 1\ntype S\ngc now precise\nnew 0 0\nfoo\n",
+            Some((4, 9)),
+        ),
         (b"oilpan 1\ngc now conservative\n", Some((2, 9))),
         (b"oilpan 1\nsweep 1\n", Some((2, 9))),
         (b"oilpan 1\nat 1 totals\nstat\n", Some((2, 9))),

@@ -22,7 +22,13 @@ fn script_in_pieces_is_read(rt: HostRuntime) -> Result<(), Fail> {
         kinds.extend_from_slice(decl.fields())?;
         callbacks.push(decl.callbacks().len())?;
     }
-    let fields = [Kind::Strong, Kind::Strong, Kind::Weak, Kind::Pair, Kind::Plain];
+    let fields = [
+        Kind::Strong,
+        Kind::Strong,
+        Kind::Weak,
+        Kind::Pair,
+        Kind::Plain,
+    ];
     assert_eq!(rt; kinds.as_slice(), fields.as_slice());
     assert_eq!(rt; callbacks.as_slice(), [0, 2, 0].as_slice());
     assert_eq!(rt; script.commands(), WANTED.as_slice());
@@ -32,17 +38,38 @@ fn script_in_pieces_is_read(rt: HostRuntime) -> Result<(), Fail> {
 const WANTED: [Command; 13] = [
     Command::New { p: 0, t: 0, e: 0 },
     Command::Set { p: 0, f: 3, q: 255 },
-    Command::SetNull { p: 0, f: 67_108_863 },
-    Command::Pair { p: 1, f: 2, k: 3, v: 4 },
+    Command::SetNull {
+        p: 0,
+        f: 67_108_863,
+    },
+    Command::Pair {
+        p: 1,
+        f: 2,
+        k: 3,
+        v: 4,
+    },
     Command::PairNull { p: 1, f: 2 },
-    Command::Put { p: 1, f: 2, n: u64::MAX },
+    Command::Put {
+        p: 1,
+        f: 2,
+        n: u64::MAX,
+    },
     Command::PushPlain { n: 7 },
-    Command::GcNow { want: Want::Conservative },
+    Command::GcNow {
+        want: Want::Conservative,
+    },
     Command::Sweep { n: 3 },
-    Command::At { j: 8, order: Order::Copy { from: 31, into: 0 } },
+    Command::At {
+        j: 8,
+        order: Order::Copy { from: 31, into: 0 },
+    },
     Command::ThreadsGo,
     Command::ThreadsJoin,
-    Command::New { p: 1, t: 2, e: 33_554_432 },
+    Command::New {
+        p: 1,
+        t: 2,
+        e: 33_554_432,
+    },
 ];
 
 // Both edges of each range: the first is a line, the second has reason 5.
@@ -84,7 +111,11 @@ fn both_edges_of_each_range(rt: HostRuntime) -> Result<(), Fail> {
     let alloc = rt.alloc();
     for (within, outside) in RANGES {
         assert_eq!(rt; fault_after_type(alloc, within)?, None, "{within:?}");
-        assert_eq!(rt; fault_after_type(alloc, outside)?, Some((3, 5)), "{outside:?}");
+        assert_eq!(rt;
+            fault_after_type(alloc, outside)?,
+            Some((3, 5)),
+            "{outside:?}"
+        );
     }
     Ok(())
 }

@@ -1,8 +1,8 @@
 use Rattle.heap_script.proofs.BuiltScripts.{whole_built, unbuilt_fault}
 use Rattle.heap_script.proofs.script.read_built.Goals as goal
 
-pub returns-else-whole-ne0-clause-script : goal.returns-else-whole-ne0-clause-script
-returns-else-whole-ne0-clause-script c = whole_built c.args.callbacks c.args.bytes.now c.in-Ok.whole c.in-Ok.ensures.whole c.if-whole-ne0.false
+pub returns-else-kept-ne0-clause-script : goal.returns-else-kept-ne0-clause-script
+returns-else-kept-ne0-clause-script c = whole_built c.args.callbacks c.args.bytes.now c.in-Ok.kept c.in-Ok.ensures.whole c.if-kept-ne0.false
 
 pub returns-in-Err-clause-fault : goal.returns-in-Err-clause-fault
 returns-in-Err-clause-fault c =
