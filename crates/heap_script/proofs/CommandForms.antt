@@ -76,9 +76,9 @@ pub name_of : (word : List ℕ) (table : List GrammarRow) (row : GrammarRow) →
 name_of word [] row e = cc
 name_of word (other ∷ table) row e = elim (cases_Bool (is_text word other.name)) [
   | inl here ↦
-  let some : Some other ≡ Some row = sym (cond-true (is_text word other.name) (Some other) (row_named word table) here) ∙ e in
-  let same : other ≡ row = cc in
-  subst (λ (r : GrammarRow). is_text word r.name ≡ true) same here
+      let some : Some other ≡ Some row = sym (cond-true (is_text word other.name) (Some other) (row_named word table) here) ∙ e in
+      let same : other ≡ row = cc in
+      subst (λ (r : GrammarRow). is_text word r.name ≡ true) same here
   | inr later ↦ name_of word table row (sym (cond-false (is_text word other.name) (Some other) (row_named word table) later) ∙ e)
 ]
 
@@ -104,13 +104,13 @@ plain_is_row bounds row bytes before first type gc at named within half none =
     let many = many_elsewhere (bounds_of bounds) words type in
     record {
       rank =
-      let same : row_rank bounds row bytes before ≡ form_rank (bounds_of bounds) (Known places (command_of row.make)) words =
-      omega (arith, known, many, half, lowest_of_row (bounds_of bounds) row rest within, count_of_row row (length rest) within, count_low row (length rest)) in
-      same ∙ ap (λ f. form_rank (bounds_of bounds) f words) (sym form);
+          let same : row_rank bounds row bytes before ≡ form_rank (bounds_of bounds) (Known places (command_of row.make)) words =
+          omega (arith, known, many, half, lowest_of_row (bounds_of bounds) row rest within, count_of_row row (length rest) within, count_low row (length rest)) in
+          same ∙ ap (λ f. form_rank (bounds_of bounds) f words) (sym form);
       command = λ good.
-      ap (λ ns. command_of row.make (ns ++ all_say (places_in row) rest)) (nothing_said before none)
-      ∙ ap (command_of row.make) (sym (says_of_row row rest within))
-      ∙ sym (command_known words places (command_of row.make) form);
+          ap (λ ns. command_of row.make (ns ++ all_say (places_in row) rest)) (nothing_said before none)
+          ∙ ap (command_of row.make) (sym (says_of_row row rest within))
+          ∙ sym (command_known words places (command_of row.make) form);
     }
 
 -- ---- after `gc`
@@ -118,9 +118,9 @@ plain_is_row bounds row bytes before first type gc at named within half none =
 count_more : (words places : ℕ) → count_rank (suc words) (suc places) ≡ count_rank words places
 count_more words places = elim (cases_eq words places) [
   | inl e ↦ cond-true (suc words == suc places) 9 4 (eq-eqb (suc words) (suc places) (ap suc e))
-    ∙ sym (cond-true (words == places) 9 4 (eq-eqb words places e))
+      ∙ sym (cond-true (words == places) 9 4 (eq-eqb words places e))
   | inr ne ↦ cond-false (suc words == suc places) 9 4 (ne_eqb (suc words) (suc places) (λ e. omega (arith, e, ne)))
-    ∙ sym (cond-false (words == places) 9 4 (ne_eqb words places ne))
+      ∙ sym (cond-false (words == places) 9 4 (ne_eqb words places ne))
 ]
 
 fixed_rank : (bounds : GrammarBounds) (text word : List ℕ) → is_text word text ≡ true → rank_at bounds (Fixed text) word ≡ 9
@@ -148,14 +148,24 @@ gc_is_row bounds row bytes before first second type gc named within low none =
     let fixed = fixed_rank (bounds_of bounds) row.name.now second (name_of second gc_rows (row_by row) named) in
     record {
       rank =
-      let same : row_rank bounds row bytes before ≡ form_rank (bounds_of bounds) (Known places (command_of row.make)) words =
-      omega (arith, known, many, half, low, fixed, count_more (length rest) (length some), lowest_of_row (bounds_of bounds) row rest within,
-      count_of_row row (length rest) within, count_low row (length rest)) in
-      same ∙ ap (λ f. form_rank (bounds_of bounds) f words) (sym form);
+          let same : row_rank bounds row bytes before ≡ form_rank (bounds_of bounds) (Known places (command_of row.make)) words =
+          omega (
+            arith,
+            known,
+            many,
+            half,
+            low,
+            fixed,
+            count_more (length rest) (length some),
+            lowest_of_row (bounds_of bounds) row rest within,
+            count_of_row row (length rest) within,
+            count_low row (length rest),
+          ) in
+          same ∙ ap (λ f. form_rank (bounds_of bounds) f words) (sym form);
       command = λ good.
-      ap (λ ns. command_of row.make (ns ++ all_say (places_in row) rest)) (nothing_said before none)
-      ∙ ap (command_of row.make) (sym (says_of_row row rest within))
-      ∙ sym (command_known words places (command_of row.make) form);
+          ap (λ ns. command_of row.make (ns ++ all_say (places_in row) rest)) (nothing_said before none)
+          ∙ ap (command_of row.make) (sym (says_of_row row rest within))
+          ∙ sym (command_known words places (command_of row.make) form);
     }
 
 -- ---- after `at` and its thread
@@ -178,14 +188,25 @@ at_is_row bounds row bytes before first j third type gc at named within low its_
     let fixed = fixed_rank (bounds_of bounds) row.name.now third (name_of third at_rows (row_by row) named) in
     record {
       rank =
-      let same : row_rank bounds row bytes before ≡ form_rank (bounds_of bounds) (Known places (command_of row.make)) words =
-      omega (arith, known, many, half, its_rank, fixed, count_more (suc (length rest)) (suc (length some)), count_more (length rest) (length some),
-      lowest_of_row (bounds_of bounds) row rest within, count_of_row row (length rest) within, count_low row (length rest)) in
-      same ∙ ap (λ f. form_rank (bounds_of bounds) f words) (sym form);
+          let same : row_rank bounds row bytes before ≡ form_rank (bounds_of bounds) (Known places (command_of row.make)) words =
+          omega (
+            arith,
+            known,
+            many,
+            half,
+            its_rank,
+            fixed,
+            count_more (suc (length rest)) (suc (length some)),
+            count_more (length rest) (length some),
+            lowest_of_row (bounds_of bounds) row rest within,
+            count_of_row row (length rest) within,
+            count_low row (length rest),
+          ) in
+          same ∙ ap (λ f. form_rank (bounds_of bounds) f words) (sym form);
       command = λ good.
-      ap (λ ns. command_of row.make (ns ++ all_say (places_in row) rest)) (its_value (omega (arith, good, low)))
-      ∙ ap (λ ns. command_of row.make (says thread j ++ ns)) (sym (says_of_row row rest within))
-      ∙ sym (command_known words places (command_of row.make) form);
+          ap (λ ns. command_of row.make (ns ++ all_say (places_in row) rest)) (its_value (omega (arith, good, low)))
+          ∙ ap (λ ns. command_of row.make (says thread j ++ ns)) (sym (says_of_row row rest within))
+          ∙ sym (command_known words places (command_of row.make) form);
     }
 
 -- ---- what a row's line says of the whole line

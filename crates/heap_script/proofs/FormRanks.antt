@@ -63,7 +63,7 @@ pub lowest_of_row : (bounds : GrammarBounds) (row : Row) (words : List (List ℕ
 lowest_of_row bounds row words within = elim (cases_lt row.least (length words)) [
   | inl more ↦ ap (λ (ps : List Place). lowest bounds ps words) (places_more row (length words) within more)
   | inr few ↦ ap (λ (ps : List Place). lowest bounds ps words) (places_fewer row (length words) within few)
-    ∙ lowest_take bounds row.least (places_in row) words few
+      ∙ lowest_take bounds row.least (places_in row) words few
 ]
 
 pub says_of_row : (row : Row) (words : List (List ℕ)) → row.least ≤ length (places_in row)
@@ -71,13 +71,13 @@ pub says_of_row : (row : Row) (words : List (List ℕ)) → row.least ≤ length
 says_of_row row words within = elim (cases_lt row.least (length words)) [
   | inl more ↦ ap (λ (ps : List Place). all_say ps words) (places_more row (length words) within more)
   | inr few ↦ ap (λ (ps : List Place). all_say ps words) (places_fewer row (length words) within few)
-    ∙ says_take row.least (places_in row) words few
+      ∙ says_take row.least (places_in row) words few
 ]
 
 count_few : (row : Row) (n : ℕ) → row.least ≤ length (places_in row) → n ≤ row.least → count_rank n row.least ≡ row_count_rank row n
 count_few row n within few = elim (cases_eq n row.least) [
   | inl e ↦ cond-true (n == row.least) 9 4 (eq-eqb n row.least e)
-    ∙ sym (ap {A = Bool} {B = ℕ} (λ b. cond (b || n == length (places_in row)) 9 4) (eq-eqb n row.least e))
+      ∙ sym (ap {A = Bool} {B = ℕ} (λ b. cond (b || n == length (places_in row)) 9 4) (eq-eqb n row.least e))
   | inr ne ↦ cond-false (n == row.least) 9 4 (ne_eqb n row.least ne) ∙ sym (count_wrong row n ne (λ e. omega (arith, e, ne)))
 ]
 
@@ -85,8 +85,8 @@ pub count_of_row : (row : Row) (n : ℕ) → row.least ≤ length (places_in row
     → count_rank n (length (places_of (row_by row) n)) ≡ row_count_rank row n
 count_of_row row n within = elim (cases_lt row.least n) [
   | inl more ↦ ap (λ (ps : List Place). count_rank n (length ps)) (places_more row n within more)
-    ∙ ap {A = Bool} {B = ℕ} (λ b. cond (b || n == length (places_in row)) 9 4) (sym (ne_eqb n row.least (λ e. omega (arith, e, more))))
+      ∙ ap {A = Bool} {B = ℕ} (λ b. cond (b || n == length (places_in row)) 9 4) (sym (ne_eqb n row.least (λ e. omega (arith, e, more))))
   | inr few ↦ ap (λ (ps : List Place). count_rank n (length ps)) (places_fewer row n within few)
-    ∙ ap (count_rank n) (length-take row.least (places_in row) ∙ omega (arith, within))
-    ∙ count_few row n within few
+      ∙ ap (count_rank n) (length-take row.least (places_in row) ∙ omega (arith, within))
+      ∙ count_few row n within few
 ]

@@ -6,6 +6,8 @@ pub mod FormRanks
 pub mod FormsAgree
 pub mod KeptFacts
 pub mod LineKinds
+pub mod LinesByRows
+pub mod LinesOfGroups
 pub mod LinesBefore
 pub mod MoreLines
 pub mod PieceByPiece

@@ -102,7 +102,7 @@ is_pair_row row e =
     let rest : drop row.least (places_in row) ≡ [] = ap (λ (r : GrammarRow). r.optional) e in
     record {
       places = sym (take-append-drop row.least (places_in row)) ∙ ap (λ (ps : List Place). ps ++ drop row.least (places_in row)) some
-        ∙ ap (λ (ps : List Place). slot ∷ field ∷ slot_or_null ∷ slot_or_null ∷ ps) rest;
+          ∙ ap (λ (ps : List Place). slot ∷ field ∷ slot_or_null ∷ slot_or_null ∷ ps) rest;
       least = omega (arith, ap length some, length-take row.least (places_in row));
       command = λ numbers. ap (λ (r : GrammarRow). r.command numbers) e;
     }

@@ -93,7 +93,7 @@ pub row_makes : (bounds : Bounds) (row : Row) (bytes : List ℕ) (before : Said)
 row_makes bounds row bytes before rank numbers said good sound pairs = elim (cases_Bool (makes_pair row.make)) [
   | inl pair ↦ ap (λ ns. is_some (command_of row.make ns)) (said.numbers_are good) ∙ pairs pair (sym said.rank_is ∙ good)
   | inr other ↦ accepts row.make numbers (before.count + length (words_left bytes before)) other (said.count good)
-    (right_takes bounds row bytes before (sym said.rank_is ∙ good) sound)
+      (right_takes bounds row bytes before (sym said.rank_is ∙ good) sound)
 ]
 
 pub faulty_line : (bounds : Bounds) (row : Row) (bytes : List ℕ) (before : Said) (rank : ℕ) (numbers : List ℕ) (line : CommandLine)
@@ -144,17 +144,17 @@ small_count bounds row form bytes before said start end words count makes sound 
     let most : length (places_in row) ≡ length row.spots.now = small_most row form makes in
     elim (cases_eq start end) [
       | inl e ↦
-      let all : words ≡ n = omega (arith, are, read.count, left, ap length (next.none (omega arith)).0) in
-      is
-      ∙ cond-true (start == end) (cond (words == row.least || words == length row.spots.now) 9 4) 4 (eq-eqb start end e)
-      ∙ ap (λ k. cond (k == row.least || k == length row.spots.now) 9 4) all
-      ∙ ap (λ k. cond (n == row.least || n == k) 9 4) (sym most)
+          let all : words ≡ n = omega (arith, are, read.count, left, ap length (next.none (omega arith)).0) in
+          is
+          ∙ cond-true (start == end) (cond (words == row.least || words == length row.spots.now) 9 4) 4 (eq-eqb start end e)
+          ∙ ap (λ k. cond (k == row.least || k == length row.spots.now) 9 4) all
+          ∙ ap (λ k. cond (n == row.least || n == k) 9 4) (sym most)
       | inr ne ↦
-      let more : length row.spots.now < n = omega (arith, left, ap length (next.some (omega (arith, next.order)))) in
-      let least : row.least ≤ length (places_in row) = small_least before.count row form makes sound in
-      is
-      ∙ cond-false (start == end) (cond (words == row.least || words == length row.spots.now) 9 4) 4 (ne_eqb start end ne)
-      ∙ sym (count_wrong row n (λ e. omega (arith, e)) (λ e. omega (arith, e)))
+          let more : length row.spots.now < n = omega (arith, left, ap length (next.some (omega (arith, next.order)))) in
+          let least : row.least ≤ length (places_in row) = small_least before.count row form makes sound in
+          is
+          ∙ cond-false (start == end) (cond (words == row.least || words == length row.spots.now) 9 4) 4 (ne_eqb start end ne)
+          ∙ sym (count_wrong row n (λ e. omega (arith, e)) (λ e. omega (arith, e)))
     ]
 
 -- the numbers that were read are as many as they say
@@ -194,11 +194,11 @@ small_said bounds row form bytes before said start end words count rank makes so
     record {
       rank_is = omega (arith, total, counted, read.rank, lowest_same);
       numbers_are = λ good.
-      read.numbers (omega (arith, total, good, read.rank))
-      ∙ ap (λ (ps : List Place). list_of before ++ all_say ps (words_left bytes before)) (sym places);
+          read.numbers (omega (arith, total, good, read.rank))
+          ∙ ap (λ (ps : List Place). list_of before ++ all_say ps (words_left bytes before)) (sym places);
       count = λ good.
-      said_length before said (said_low bounds row bytes before said sound read)
-      ∙ small_all bounds row form bytes before said makes sound read (omega (arith, total, good, counted));
+          said_length before said (said_low bounds row bytes before said sound read)
+          ∙ small_all bounds row form bytes before said makes sound read (omega (arith, total, good, counted));
     }
 
 -- ---- the end of the line
@@ -249,3 +249,11 @@ made_wide row form numbers e = sym (ap (λ make. command_of make numbers) e)
 pub wide_pairs : (bounds : Bounds) (row : Row) (form : WideForm) (bytes : List ℕ) (before : Said) → row.make ≡ M.Wide form
     → makes_pair row.make ≡ true → row_rank bounds row bytes before ≡ 9 → is_some (command_of row.make (row_numbers row bytes before)) ≡ true
 wide_pairs bounds row form bytes before e pair good = absurd (true≢false (sym pair ∙ ap makes_pair e))
+
+-- no more places must be there than may be
+least_right : (make : Make) (least most : ℕ) → is_least_right make least most ≡ true → least ≤ most
+least_right (M.Small form) least most e = leb-true least most e
+least_right (M.Wide form) least most e = omega (arith, eqb-true least most e)
+
+pub sound_least : (before : ℕ) (row : Row) → is_sound before row ≡ true → row.least ≤ length (places_in row)
+sound_least before row sound = least_right row.make row.least (length (places_in row)) (sound_parts before row sound).right

@@ -109,12 +109,12 @@ wide_count row form before n more start end rest makes sound are nothing some =
     let least = wide_least before row form makes sound in
     elim (cases_eq start end) [
       | inl e ↦
-      cond-true (start == end) 9 4 (eq-eqb start end e)
-      ∙ sym (cond-true (n == row.least || n == length (places_in row)) 9 4
-      (or_left (n == row.least) (n == length (places_in row)) (eq-eqb n row.least (omega (arith, are, ap length (nothing e), most, least)))))
+          cond-true (start == end) 9 4 (eq-eqb start end e)
+          ∙ sym (cond-true (n == row.least || n == length (places_in row)) 9 4
+          (or_left (n == row.least) (n == length (places_in row)) (eq-eqb n row.least (omega (arith, are, ap length (nothing e), most, least)))))
       | inr ne ↦
-      cond-false (start == end) 9 4 (ne_eqb start end ne)
-      ∙ sym (count_wrong row n (λ e. omega (arith, e, are, some ne, most, least)) (λ e. omega (arith, e, are, some ne, most)))
+          cond-false (start == end) 9 4 (ne_eqb start end ne)
+          ∙ sym (count_wrong row n (λ e. omega (arith, e, are, some ne, most, least)) (λ e. omega (arith, e, are, some ne, most)))
     ]
 
 -- the wide number's word, and what it says
@@ -180,12 +180,12 @@ wide_said bounds row form bytes before said word end rank value next last count 
     record {
       rank_is = omega (arith, sum, counted, read.rank, ranks, its, low);
       numbers_are = λ good.
-      let both = parts (sym sum ∙ good) in
-      wide_numbers bounds row form bytes before said word end rank value makes read wide both.0 both.1;
+          let both = parts (sym sum ∙ good) in
+          wide_numbers bounds row form bytes before said word end rank value makes read wide both.0 both.1;
       count = λ good.
-      length-append (list_of said) (value ∷ [])
-      ∙ ap (λ k. k + 1) (said_length before said (said_low bounds row bytes before said sound read))
-      ∙ omega (arith, read.count, wide_all row form before.count n makes sound (subst (λ k. 9 ≤ k) counted (parts (sym sum ∙ good)).2));
+          length-append (list_of said) (value ∷ [])
+          ∙ ap (λ k. k + 1) (said_length before said (said_low bounds row bytes before said sound read))
+          ∙ omega (arith, read.count, wide_all row form before.count n makes sound (subst (λ k. 9 ≤ k) counted (parts (sym sum ∙ good)).2));
     }
 
 pub wide_word : (bounds : Bounds) (form : WideForm) (bytes : List ℕ) (said : Said) (start end rank value : ℕ)

@@ -17,6 +17,7 @@
 //! and how long a call takes.
 #![tactic(auto)]
 
+mod command_lines;
 mod commands;
 mod cursor;
 mod cuts;
@@ -27,6 +28,7 @@ mod lines;
 mod list_devices;
 mod making;
 mod numbers;
+mod pairs;
 mod pieces;
 mod places;
 mod printing;
