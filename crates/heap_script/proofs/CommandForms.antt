@@ -10,16 +10,19 @@ use Rattle.gc_graph.specs.Forms.{Place, Form, form_of, type_places, form_after_g
 use Rattle.gc_graph.specs.Forms.{Row as GrammarRow}
 use Rattle.gc_graph.specs.Forms.Place.{Fixed}
 use Rattle.gc_graph.specs.Forms.Form.{Missing, Unknown, Known}
-use Rattle.gc_graph.specs.Reasons.{Bounds as GrammarBounds, says, all_say, command_of_words, command_by}
+use Rattle.gc_graph.specs.Reasons.{Bounds as GrammarBounds, says, all_say, first_is, command_of_words, command_by}
 use Rattle.heap_script.specs.declared.forms.Row.{Row}
 use Rattle.heap_script.specs.declared.places.Bounds.{Bounds}
 use Rattle.heap_script.specs.declared.said.Said.{Said}
+use Rattle.heap_script.specs.declared.row_lines.CommandLine.{CommandLine}
+use Rattle.heap_script.specs.Cursor.{lines_after}
+use Rattle.heap_script.specs.CommandLines.{IsCommandLine}
 use Rattle.heap_script.specs.Ranks.{rank_by, lowest, rank_at, count_rank, half_rank, many_rank, form_rank}
 use Rattle.heap_script.specs.Rows.{bounds_of, places_in, row_by, SameRow, command_of}
 use Rattle.heap_script.specs.Said.{list_of, words_left}
-use Rattle.heap_script.specs.RowLines.{row_count_rank, row_rank, row_numbers}
-use Rattle.heap_script.proofs.RanksOfWords.{known_rank, many_elsewhere, half_elsewhere}
-use Rattle.heap_script.proofs.RowRanks.{count_low}
+use Rattle.heap_script.specs.RowLines.{row_count_rank, row_rank, row_numbers, IsRowLine}
+use Rattle.heap_script.proofs.RanksOfWords.{known_rank, missing_rank, faultless, faulty, many_elsewhere, half_elsewhere}
+use Rattle.heap_script.proofs.RowRanks.{count_low, end_from}
 use Rattle.heap_script.proofs.FormRanks.{lowest_of_row, says_of_row, count_of_row}
 
 -- the row's rank is that of the form which the words choose, and its command is theirs
@@ -205,3 +208,47 @@ at_is_row bounds row bytes before first j third type gc at named within low its_
           ∙ ap (λ ns. command_of row.make (says thread j ++ ns)) (sym (says_of_row row rest within))
           ∙ sym (command_known words places (command_of row.make) form);
     }
+
+-- ---- what a row's line says of the whole line
+
+pub command_line : (bounds : Bounds) (row : Row) (bytes : List ℕ) (before : Said) (words : List (List ℕ)) (from : ℕ)
+    (said : Result Command ℕ) (end : ℕ)
+    → IsRowLine bounds row bytes before (record { said = said; end = end }) → IsRowOf bounds row bytes before words
+    → first_is (codes "type") words ≡ false → from ≤ before.end → lines_after (drop from bytes) ≡ lines_after (drop before.end bytes)
+    → IsCommandLine (bounds_of bounds) words bytes from (record { said = said; end = end })
+command_line bounds row bytes before words from (Ok command) end line is type within same = record {
+  said = (faultless (bounds_of bounds) words (sym is.rank ∙ line.said.0), sym (is.command line.said.0) ∙ line.said.1);
+  end = end_from bytes from before.end end within same line.end;
+  fault = tt;
+  type_free = type;
+}
+command_line bounds row bytes before words from (Err rank) end line is type within same =
+    let why = faulty (bounds_of bounds) words (λ e. line.fault.1 (line.fault.0 ∙ is.rank ∙ e)) in
+    record {
+      said = tt;
+      end = tt;
+      fault = (why.0, line.fault.0 ∙ is.rank ∙ why.1, why.2);
+      type_free = type;
+    }
+
+-- a line that is refused with the rank of its words
+pub refused_line : (bounds : GrammarBounds) (words : List (List ℕ)) (bytes : List ℕ) (from rank : ℕ) (line : CommandLine)
+    → form_rank bounds (form_of words) words ≡ rank → (rank ≡ 9 → ⊥) → first_is (codes "type") words ≡ false → line.said ≡ Err rank
+    → IsCommandLine bounds words bytes from line
+refused_line bounds words bytes from rank line total bad type is =
+    let why = faulty bounds words (λ e. bad (sym total ∙ e)) in
+    record {
+      said = rw is tt;
+      end = rw is tt;
+      fault = rw is (why.0, sym total ∙ why.1, why.2);
+      type_free = type;
+    }
+
+-- ---- where no row is chosen
+
+pub unknown_form : (bounds : GrammarBounds) (words : List (List ℕ)) → form_of words ≡ Unknown → form_rank bounds (form_of words) words ≡ 2
+unknown_form bounds words e = ap (λ form. form_rank bounds form words) e
+
+pub missing_form : (bounds : GrammarBounds) (words : List (List ℕ)) (places : List Place) → form_of words ≡ Missing places
+    → form_rank bounds (form_of words) words ≡ min (lowest bounds places (drop 1 words)) 4
+missing_form bounds words places e = ap (λ form. form_rank bounds form words) e ∙ missing_rank bounds places words

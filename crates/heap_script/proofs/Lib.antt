@@ -3,7 +3,9 @@ pub mod BuiltScripts
 pub mod CommandForms
 pub mod FormRanks
 pub mod LineReasons
+pub mod LinesByRows
 pub mod LinesJudged
+pub mod LinesOfGroups
 pub mod PairLines
 pub mod PastLines
 pub mod PieceByPiece

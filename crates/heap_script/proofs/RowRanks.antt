@@ -249,3 +249,11 @@ made_wide row form numbers e = sym (ap (λ make. command_of make numbers) e)
 pub wide_pairs : (bounds : Bounds) (row : Row) (form : WideForm) (bytes : List ℕ) (before : Said) → row.make ≡ M.Wide form
     → makes_pair row.make ≡ true → row_rank bounds row bytes before ≡ 9 → is_some (command_of row.make (row_numbers row bytes before)) ≡ true
 wide_pairs bounds row form bytes before e pair good = absurd (true≢false (sym pair ∙ ap makes_pair e))
+
+-- no more places must be there than may be
+least_right : (make : Make) (least most : ℕ) → is_least_right make least most ≡ true → least ≤ most
+least_right (M.Small form) least most e = leb-true least most e
+least_right (M.Wide form) least most e = omega (arith, eqb-true least most e)
+
+pub sound_least : (before : ℕ) (row : Row) → is_sound before row ≡ true → row.least ≤ length (places_in row)
+sound_least before row sound = least_right row.make row.least (length (places_in row)) (sound_parts before row sound).right

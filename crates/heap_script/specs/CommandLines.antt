@@ -1,6 +1,6 @@
 -- The line of a command.
-use Rattle.std.specs.Prelude.{◌≡◌, ℕ, Bool, false, List, [], ◌∷◌, Some, None, IfOk, IfErr}
-use Rattle.gc_graph.specs.Reasons.{Reason, number_of, Bounds, is_half, reason_of_words, command_of_words}
+use Rattle.std.specs.Prelude.{◌≡◌, ℕ, Bool, false, List, [], ◌∷◌, Some, None, IfOk, IfErr, codes}
+use Rattle.gc_graph.specs.Reasons.{Reason, number_of, Bounds, first_is, is_half, reason_of_words, command_of_words}
 use Rattle.heap_script.specs.declared.row_lines.CommandLine.{CommandLine}
 use Rattle.heap_script.specs.Cursor.{IsLineEnd}
 
@@ -14,3 +14,4 @@ pub record IsCommandLine (bounds : Bounds) (words : List (List ℕ)) (bytes : Li
   pub said : IfOk line.said (λ command. (reason_of_words bounds words ≡ None) × (command_of_words words ≡ Some command))
   pub end : IfOk line.said (λ command. IsLineEnd bytes from line.end)
   pub fault : IfErr line.said (λ rank. (why : Reason) × (rank ≡ number_of why) × (reason_of_words bounds words ≡ Some why))
+  pub type_free : first_is (codes "type") words ≡ false

@@ -18,6 +18,7 @@
 #![tactic(auto)]
 
 mod built;
+mod command_lines;
 mod cursor;
 mod devices;
 mod forms;
@@ -27,6 +28,7 @@ mod lines;
 mod list_devices;
 mod making;
 mod numbers;
+mod pairs;
 mod past;
 mod pieces;
 mod places;
@@ -41,7 +43,6 @@ mod script;
 mod script_lines;
 mod script_reader;
 mod steady_devices;
-mod stub;
 #[cfg(test)]
 mod tests;
 mod text;

@@ -6,9 +6,10 @@ ghost use Rattle.heap_script.specs.Cursor.{IsLineEnd, line_words, words_from};
 ghost use Rattle.heap_script.specs.Past.{reason_after, IsReasonOf, IsTypeKept, IsCommandKept, IsLineKept};
 
 use super::built::is_built_type;
+use super::command_lines::read_command;
 use super::past::Past;
+use super::places::Bounds;
 use super::reasons::{NO_MEMORY, ORDER, SECTION};
-use super::stub::{Bounds, read_command};
 use super::type_lines::read_type;
 use super::words::is_text;
 use gc_graph::Command;

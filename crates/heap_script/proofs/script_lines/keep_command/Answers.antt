@@ -12,10 +12,10 @@ pub returns-then-breaks-clause-fault : goal.returns-then-breaks-clause-fault
 returns-then-breaks-clause-fault c =
     let said = rw c.in-Ok.is at c.read_command-line.ensures.said in
     command_late c.args.callbacks c.args.kept.now.past (words_from c.args.bytes.now c.args.start c.args.end) c.in-Ok.command said.1 said.0
-    c.read_command-line.ensures.type_free (sym c.breaks.ensures ∙ c.if-breaks.true)
+    c.requires.plain (sym c.breaks.ensures ∙ c.if-breaks.true)
 
 pub returns-else-is_err-clause-fine : goal.returns-else-is_err-clause-fine
 returns-else-is_err-clause-fine c =
     let said = rw c.in-Ok.is at c.read_command-line.ensures.said in
     command_fine c.args.callbacks c.args.kept.now.past (words_from c.args.bytes.now c.args.start c.args.end) c.in-Ok.command said.1 said.0
-    c.read_command-line.ensures.type_free (sym c.breaks.ensures ∙ c.if-breaks.false)
+    c.requires.plain (sym c.breaks.ensures ∙ c.if-breaks.false)
