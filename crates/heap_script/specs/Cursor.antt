@@ -1,5 +1,6 @@
 -- The words of a line, one after the other, by their places in the bytes.
-use Rattle.std.specs.Prelude.{◌≡◌, ◌⊎◌, ℕ, ◌-◌, ◌<◌, ◌≤◌, List, [], ◌∷◌, length, take, drop, Some, slice_get, slice_index_or}
+use Rattle.std.specs.Prelude.{◌≡◌, ◌⊎◌, ℕ, ◌-◌, ◌<◌, ◌≤◌, ◌==◌, ◌&&◌, not, Bool, true, false, List, [], ◌∷◌, length, take, drop, Some, slice_get, slice_index, slice_index_or}
+use Rattle.std.specs.List.{list_all}
 use Rattle.gc_graph.specs.Words.{lines_of, words_of}
 
 -- the first line, empty where there is none
@@ -32,3 +33,30 @@ pub record IsNextWord (bytes : List ℕ) (from start end : ℕ) : Type 0 where
       start < end
       → line_words (drop from bytes) ≡ take (end - start) (drop start bytes) ∷ line_words (drop end bytes)
   pub none : end ≤ start → (line_words (drop from bytes) ≡ []) × IsLineEnd bytes from end
+
+-- ---- the two halves of a look for a word
+
+-- a byte of a word
+abbrev pub is_word_byte : ℕ → Bool
+is_word_byte b = not (b == 32) && not (b == 10)
+
+-- only spaces stand from `from` to `start`, and none at `start`
+pub record IsPastSpaces (bytes : List ℕ) (from start : ℕ) : Type 0 where
+  pub before : from ≤ start
+  pub within : start ≤ length bytes
+  pub words : line_words (drop from bytes) ≡ line_words (drop start bytes)
+  pub lines : lines_after (drop from bytes) ≡ lines_after (drop start bytes)
+  pub stop : start < length bytes → (slice_index bytes start == 32) ≡ false
+
+-- only bytes of a word stand from `start` to `end`, and none at `end`
+pub record IsWordEnd (bytes : List ℕ) (start end : ℕ) : Type 0 where
+  pub order : start ≤ end
+  pub within : end ≤ length bytes
+  pub inner : list_all is_word_byte (take (end - start) (drop start bytes)) ≡ true
+  pub stop : end < length bytes → is_word_byte (slice_index bytes end) ≡ false
+
+-- ---- words by their places
+
+-- the words of a line whose first word stands from `start` to `end`
+abbrev pub words_from : List ℕ → ℕ → ℕ → List (List ℕ)
+words_from bytes start end = take (end - start) (drop start bytes) ∷ line_words (drop end bytes)

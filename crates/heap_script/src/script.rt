@@ -2,15 +2,16 @@
 
 ghost use Rattle.std.specs.Prelude.{◌≡◌, IfOk, IfErr};
 ghost use Rattle.gc_graph.specs.Script.{IsScript};
+ghost use Rattle.heap_script.specs.Reading.{fault_with};
 ghost use Rattle.heap_script.specs.Scripts.{IsFaultOf, IsBuiltScript, IsUnbuiltFault};
 
+use super::reasons::{NO_MEMORY, NOT_BUILT};
+use super::script_reader::{Stop, read_lines};
 use gc_graph::Command;
 use std::alloc::Global;
 use std::marker::Model;
 use thiserror::Error;
 use type_table::TypeDecl;
-
-const NO_MEMORY: u32 = 0;
 
 /// What a script says: its types, by number, and its commands.
 #[derive(Drop)]
@@ -87,7 +88,13 @@ pub fn read_script(alloc: Global, bytes: &[u8], callbacks: u32) -> Result<Script
     ensures script { IfOk result (IsScript callbacks bytes.now) }
     ensures fault { IfErr result (IsFaultOf callbacks bytes.now) }
 {
-    Err(ScriptFault::at(0, NO_MEMORY))
+    match read_lines(alloc, bytes, callbacks) {
+        Ok(kept) => Ok(Script {
+            types: kept.types,
+            commands: kept.commands,
+        }),
+        Err(stop) => Err(ScriptFault::at(stop.line, stop.reason)),
+    }
 }
 
 /// The script that the bytes are, where all that it says is built, or the first line that is faulty
@@ -96,5 +103,29 @@ pub fn read_built(alloc: Global, bytes: &[u8], callbacks: u32) -> Result<Script,
     ensures script { IfOk result (IsBuiltScript callbacks bytes.now) }
     ensures fault { IfErr result (IsUnbuiltFault callbacks bytes.now) }
 {
-    Err(ScriptFault::at(0, NO_MEMORY))
+    match read_lines(alloc, bytes, callbacks) {
+        Ok(kept) => {
+            if kept.past.unbuilt != 0 {
+                return Err(ScriptFault::at(kept.past.unbuilt, NOT_BUILT));
+            }
+            Ok(Script {
+                types: kept.types,
+                commands: kept.commands,
+            })
+        }
+        Err(stop) => Err(unbuilt_fault(&stop)),
+    }
+}
+
+// Where a line has a fault, the first up to it that says what isn't built comes first.
+fn unbuilt_fault(stop: &Stop) -> ScriptFault
+    ensures { result ≡ fault_with stop.now }
+{
+    if stop.reason == NO_MEMORY || stop.line == 0 {
+        return ScriptFault::at(stop.line, stop.reason);
+    }
+    if stop.unbuilt == 0 {
+        return ScriptFault::at(stop.line, NOT_BUILT);
+    }
+    ScriptFault::at(stop.unbuilt, NOT_BUILT)
 }

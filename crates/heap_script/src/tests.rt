@@ -1,6 +1,8 @@
 // Each public call once. The expected values are by hand, from the grammar.
 
+mod faults;
 mod printing;
+mod ranges;
 
 use super::*;
 use gc_graph::Line;

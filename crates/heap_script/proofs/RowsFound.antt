@@ -1,0 +1,53 @@
+-- The row that a word chooses, found in the code's table.
+use Rattle.std.proofs.Common.{◌≡◌, ℕ, ◌+◌, ◌<◌, ◌≤◌, ◌&&◌, Bool, true, false, Option, Some, None, cond, List, [], ◌∷◌, length, get_or, drop, map, refl, sym, ap, ◌∙◌, subst, arith}
+use Rattle.std.specs.Borrow.{Bor}
+use Rattle.std.specs.List.{list_all}
+use Rattle.std.proofs.lemmas.List.{drop_more, drop_all, drop-drop}
+use Rattle.std.proofs.lemmas.Bool.{and_parts, cond-true, cond-false}
+use Rattle.gc_graph.specs.Words.{is_text}
+use Rattle.gc_graph.specs.Forms.{row_named}
+use Rattle.gc_graph.specs.Forms.{Row as GrammarRow}
+use Rattle.heap_script.specs.declared.forms.Row.{Row}
+use Rattle.heap_script.specs.Rows.{row_by, rows_by, SameRow, RowTest}
+
+-- a row at the front of a table, which the word chooses or doesn't
+named_here : (word : List ℕ) (row : Row) (rows : List Row) → is_text word row.name.now ≡ true
+    → row_named word (rows_by (row ∷ rows)) ≡ Some (row_by row)
+named_here word row rows e = cond-true (is_text word row.name.now) (Some (row_by row)) (row_named word (rows_by rows)) e
+
+named_later : (word : List ℕ) (row : Row) (rows : List Row) → is_text word row.name.now ≡ false
+    → row_named word (rows_by (row ∷ rows)) ≡ row_named word (rows_by rows)
+named_later word row rows e = cond-false (is_text word row.name.now) (Some (row_by row)) (row_named word (rows_by rows)) e
+
+pub named_at : (word : List ℕ) (table : List Row) (i : ℕ) (d : Row) → i < length table → is_text word (get_or table i d).name.now ≡ true
+    → row_named word (rows_by (drop i table)) ≡ Some (row_by (get_or table i d))
+named_at word table i d low e =
+    ap (λ (rows : List Row). row_named word (rows_by rows)) (drop_more table i d low)
+    ∙ named_here word (get_or table i d) (drop (i + 1) table) e
+
+pub named_past : (word : List ℕ) (table : List Row) (i : ℕ) (d : Row) → i < length table → is_text word (get_or table i d).name.now ≡ false
+    → row_named word (rows_by (drop (i + 1) table)) ≡ row_named word (rows_by (drop i table))
+named_past word table i d low e =
+    sym (ap (λ (rows : List Row). row_named word (rows_by rows)) (drop_more table i d low)
+    ∙ named_later word (get_or table i d) (drop (i + 1) table) e)
+
+pub named_nowhere : (word : List ℕ) (table : List Row) (i : ℕ) → length table ≤ i → row_named word (rows_by (drop i table)) ≡ None
+named_nowhere word table i high = ap (λ (rows : List Row). row_named word (rows_by rows)) (drop_all i table high)
+
+pub test_holds : (test : RowTest) (table : List Row) (i : ℕ) (d : Row) → i < length table → list_all test (drop i table) ≡ true
+    → test (get_or table i d) ≡ true
+test_holds test table i d low e =
+    (and_parts (test (get_or table i d)) (list_all test (drop (i + 1) table))
+    (sym (ap (λ (rows : List Row). list_all test rows) (drop_more table i d low)) ∙ e)).0
+
+test_tail : (test : RowTest) (table : List Row) → list_all test table ≡ true → list_all test (drop 1 table) ≡ true
+test_tail test [] e = refl
+test_tail test (row ∷ table) e = (and_parts (test row) (list_all test table) e).1
+
+pub test_next : (test : RowTest) (table : List Row) (i : ℕ) → list_all test (drop i table) ≡ true
+    → list_all test (drop (i + 1) table) ≡ true
+test_next test table i e =
+    sym (ap (λ (rows : List Row). list_all test rows) (drop-drop 1 i table)) ∙ test_tail test (drop i table) e
+
+pub no_row : (found : Option GrammarRow) → found ≡ None → SameRow None found
+no_row found e = subst (λ (o : Option GrammarRow). SameRow None o) (sym e) tt

@@ -1,0 +1,40 @@
+use Rattle.std.proofs.Common.{sym, ◌∙◌}
+use Rattle.heap_script.proofs.CommandForms.{named_of, no_row_of}
+use Rattle.heap_script.proofs.LinesByRows.{plain_start_sound, plain_start_pairs, plain_done, plain_unknown}
+use Rattle.heap_script.proofs.command_lines.read_plain.Goals as goal
+
+pub read_row-requires-clause-sound : goal.read_row-requires-clause-sound
+read_row-requires-clause-sound c =
+    plain_start_sound c.in-Some.row.now c.args.bytes.now c.args.first.now c.args.from c.nothing_said.result (record {
+      named = named_of c.in-Some.row _ c.in-Some.ensures.same;
+      plain = c.in-Some.ensures.sound;
+      half = c.nothing_said.ensures.rank ∙ c.half_rank_of-rank.ensures;
+      end = c.nothing_said.ensures.end;
+      count = c.nothing_said.ensures.count;
+    })
+
+pub read_row-requires-clause-pairs : goal.read_row-requires-clause-pairs
+read_row-requires-clause-pairs c =
+    plain_start_pairs c.args.bounds c.in-Some.row.now c.args.bytes.now c.args.first.now c.args.from c.nothing_said.result (record {
+      named = named_of c.in-Some.row _ c.in-Some.ensures.same;
+      plain = c.in-Some.ensures.sound;
+      half = c.nothing_said.ensures.rank ∙ c.half_rank_of-rank.ensures;
+      end = c.nothing_said.ensures.end;
+      count = c.nothing_said.ensures.count;
+    })
+
+pub returns-in-Some : goal.returns-in-Some
+returns-in-Some c =
+    plain_done c.args.bounds c.in-Some.row.now c.args.bytes.now c.args.first.now c.args.from c.nothing_said.result _
+    c.requires.no_type c.requires.no_gc c.requires.no_at (record {
+      named = named_of c.in-Some.row _ c.in-Some.ensures.same;
+      plain = c.in-Some.ensures.sound;
+      half = c.nothing_said.ensures.rank ∙ c.half_rank_of-rank.ensures;
+      end = c.nothing_said.ensures.end;
+      count = c.nothing_said.ensures.count;
+    }) c.read_row.ensures
+
+pub returns-in-None : goal.returns-in-None
+returns-in-None c =
+    plain_unknown _ c.args.bytes.now c.args.first.now c.args.from _ c.requires.no_type c.requires.no_gc c.requires.no_at
+    (no_row_of _ c.in-None.ensures.same) c.refused.ensures

@@ -1,0 +1,5 @@
+use Rattle.heap_script.specs.Rows.{is_plain_row}
+use Rattle.heap_script.proofs.rows.row_of.Given as goal
+
+abbrev pub ghost-row_in : goal.ghost-row_in
+ghost-row_in a = is_plain_row

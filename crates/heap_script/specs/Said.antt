@@ -1,0 +1,45 @@
+-- The words after the first, each at its place.
+use Rattle.std.specs.Prelude.{◌≡◌, ℕ, ◌+◌, ◌≤◌, min, List, [], ◌∷◌, ◌++◌, length, map, take, drop}
+use Rattle.gc_graph.specs.Forms.{Place}
+use Rattle.gc_graph.specs.Reasons.{all_say}
+use Rattle.heap_script.specs.declared.forms.Spot.{Spot}
+use Rattle.heap_script.specs.declared.places.Bounds.{Bounds}
+use Rattle.heap_script.specs.declared.said.Said.{Said}
+use Rattle.heap_script.specs.Cursor.{line_words, lines_after}
+use Rattle.heap_script.specs.Ranks.{lowest}
+use Rattle.heap_script.specs.Rows.{bounds_of, place_of}
+
+-- the numbers that are said
+abbrev pub list_of : Said → List ℕ
+list_of said = take said.count (said.a ∷ said.b ∷ said.c ∷ said.d ∷ 0 ∷ [])
+
+-- the words of the line that are left
+abbrev pub words_left : List ℕ → Said → List (List ℕ)
+words_left bytes said = line_words (drop said.end bytes)
+
+-- the words that stood at some of these places were read, as many as are there
+pub record IsReadOn (bounds : Bounds) (spots : List Spot) (bytes : List ℕ) (old new : Said) : Type 0 where
+  pub before : old.end ≤ new.end
+  pub within : new.end ≤ length bytes
+  pub rank : new.rank ≡ min old.rank (lowest (bounds_of bounds) (map place_of spots) (words_left bytes old))
+  pub numbers : new.rank ≡ 9 → list_of new ≡ list_of old ++ all_say (map place_of spots) (words_left bytes old)
+  pub count : new.count ≡ old.count + min (length spots) (length (words_left bytes old))
+  pub left : words_left bytes new ≡ drop (length spots) (words_left bytes old)
+  pub lines : lines_after (drop old.end bytes) ≡ lines_after (drop new.end bytes)
+
+-- on the way: these spots are still left
+pub record IsReadPart (bounds : Bounds) (all left : List Spot) (bytes : List ℕ) (old new : Said) : Type 0 where
+  pub before : old.end ≤ new.end
+  pub within : new.end ≤ length bytes
+  pub low : new.rank ≤ 9
+  pub rank :
+      min new.rank (lowest (bounds_of bounds) (map place_of left) (words_left bytes new))
+      ≡ min old.rank (lowest (bounds_of bounds) (map place_of all) (words_left bytes old))
+  pub numbers :
+      new.rank ≡ 9
+      → list_of new ++ all_say (map place_of left) (words_left bytes new)
+      ≡ list_of old ++ all_say (map place_of all) (words_left bytes old)
+  pub count : new.count + length left ≡ old.count + length all
+  pub words : new.count + length (words_left bytes new) ≡ old.count + length (words_left bytes old)
+  pub left_over : drop (length left) (words_left bytes new) ≡ drop (length all) (words_left bytes old)
+  pub lines : lines_after (drop old.end bytes) ≡ lines_after (drop new.end bytes)

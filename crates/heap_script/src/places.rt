@@ -1,0 +1,112 @@
+// One word at its place: its rank, and the number that it says.
+
+ghost use Rattle.std.specs.Prelude.{◌≡◌, ◌<◌, ◌≤◌, ◌+◌, ◌^◌, ◌||◌, not, false, [], ◌∷◌, if◌then◌else◌, codes};
+ghost use Rattle.gc_graph.specs.Reasons.{says, is_beyond, value_of};
+ghost use Rattle.gc_graph.specs.Words.{is_number, is_text};
+ghost use Rattle.heap_script.specs.Ranks.{rank_at, rank_by};
+ghost use Rattle.heap_script.specs.Rows.{bounds_of, is_null, place_of};
+
+use super::forms::Spot;
+use super::numbers::number;
+
+/// A word that is none of those that may stand there.
+pub(crate) const UNKNOWN_WORD: u32 = 2;
+/// A word that is no number where one should be, or half a pair that is null.
+pub(crate) const BAD_NUMBER: u32 = 3;
+/// Fewer or more words than the form has.
+pub(crate) const COUNT: u32 = 4;
+/// A number out of its range.
+pub(crate) const RANGE: u32 = 5;
+/// No fault.
+pub(crate) const FAULTLESS: u32 = 9;
+
+/// How many types the lines before declare, and how many callbacks there are.
+#[derive(Clone, Copy)]
+pub(crate) struct Bounds {
+    pub(crate) types: u32,
+    pub(crate) callbacks: u32,
+}
+
+/// The number of the lowest reason that a word gives, or 9; and the number that the word says, which
+/// counts only there.
+#[derive(Clone, Copy)]
+pub(crate) struct Reading {
+    pub(crate) rank: u32,
+    pub(crate) value: u32,
+}
+
+pub(crate) fn read_place(spot: Spot, word: &[u8], bounds: Bounds) -> Reading
+    ensures rank { result.rank ≡ rank_at (bounds_of bounds) (place_of spot) word.now }
+    ensures value { result.rank ≡ 9 → says (place_of spot) word.now ≡ result.value ∷ [] }
+{
+    match spot {
+        Spot::Number(from, last) => read_number(word, from, u64::from(last) + 1),
+        Spot::TypeNumber => read_number(word, 0, u64::from(bounds.types)),
+        Spot::NumberOrNull(from, last) => read_number_or_null(word, from, last),
+        Spot::Either(one, other) => read_either(word, one, other),
+    }
+}
+
+fn read_number(word: &[u8], from: u32, limit: u64) -> Reading
+    requires { limit ≤ 2 ^ 32 }
+    ensures rank { result.rank ≡ rank_by false (not (is_number word.now)) false (is_beyond from limit word.now) }
+    ensures value { result.rank ≡ 9 → result.value ≡ value_of word.now }
+    ensures low { result.rank ≡ 9 → result.value < limit }
+{
+    match number(word) {
+        None => Reading {
+            rank: BAD_NUMBER,
+            value: 0,
+        },
+        Some(value) if value >= u64::from(from) && value < limit => Reading {
+            rank: FAULTLESS,
+            value: value as u32,
+        },
+        Some(_) => Reading {
+            rank: RANGE,
+            value: 0,
+        },
+    }
+}
+
+fn read_number_or_null(word: &[u8], from: u16, last: u16) -> Reading
+    ensures rank { result.rank ≡ rank_by false (not (is_null word.now || is_number word.now)) false (is_beyond from (last + 1) word.now) }
+    ensures value { result.rank ≡ 9 → (if is_null word.now then 0 else value_of word.now + 1) ≡ result.value }
+{
+    if word == b"-".as_slice() {
+        return Reading {
+            rank: FAULTLESS,
+            value: 0,
+        };
+    }
+    let reading = read_number(word, u32::from(from), u64::from(last) + 1);
+    if reading.rank == FAULTLESS {
+        return Reading {
+            rank: FAULTLESS,
+            value: reading.value + 1,
+        };
+    }
+    reading
+}
+
+fn read_either(word: &[u8], one: &'static [u8], other: &'static [u8]) -> Reading
+    ensures rank { result.rank ≡ rank_by (not (is_text word.now one.now || is_text word.now other.now)) false false false }
+    ensures value { result.rank ≡ 9 → (if is_text word.now one.now then 0 else 1) ≡ result.value }
+{
+    if word == one {
+        return Reading {
+            rank: FAULTLESS,
+            value: 0,
+        };
+    }
+    if word == other {
+        return Reading {
+            rank: FAULTLESS,
+            value: 1,
+        };
+    }
+    Reading {
+        rank: UNKNOWN_WORD,
+        value: 0,
+    }
+}

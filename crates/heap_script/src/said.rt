@@ -1,0 +1,81 @@
+// The words after the first, each at its place.
+
+ghost use Rattle.std.specs.Prelude.{◌≡◌, ◌+◌, ◌<◌, ◌≤◌, min, ◌∷◌, [], ◌++◌, length};
+ghost use Rattle.heap_script.specs.Said.{list_of, IsReadOn};
+
+use super::cursor::next_word;
+use super::forms::Spot;
+use super::places::{Bounds, FAULTLESS, Reading, read_place};
+
+/// What the words of a line say as far as they are read, up to the place `end`: the number of their
+/// lowest reason, or 9, and `count` numbers, from `a` on.
+#[derive(Clone, Copy)]
+pub(crate) struct Said {
+    pub(crate) rank: u32,
+    pub(crate) end: usize,
+    pub(crate) count: usize,
+    pub(crate) a: u32,
+    pub(crate) b: u32,
+    pub(crate) c: u32,
+    pub(crate) d: u32,
+}
+
+/// Reads the words that are there, one at each place.
+pub(crate) fn read_places(bytes: &[u8], spots: &[Spot], bounds: Bounds, before: Said) -> Said
+    requires within { before.end ≤ length bytes.now }
+    requires low { before.rank ≤ 9 }
+    requires room { before.count + length spots.now ≤ 4 }
+    ensures { IsReadOn bounds spots.now bytes.now before result }
+{
+    let mut said = before;
+    for spot in spots {
+        let (start, end) = next_word(bytes, said.end);
+        if start == end {
+            return said;
+        }
+        said = with_word(said, read_place(*spot, &bytes[start..end], bounds), end);
+    }
+    said
+}
+
+fn with_word(said: Said, reading: Reading, end: usize) -> Said
+    requires { said.count < 4 }
+    ensures rank { result.rank ≡ min said.rank reading.rank }
+    ensures end { result.end ≡ end }
+    ensures count { result.count ≡ said.count + 1 }
+    ensures numbers { list_of result ≡ list_of said ++ reading.value ∷ [] }
+{
+    let rank = said.rank.min(reading.rank);
+    let count = said.count + 1;
+    let value = reading.value;
+    match said.count {
+        0 => Said {
+            rank,
+            end,
+            count,
+            a: value,
+            ..said
+        },
+        1 => Said {
+            rank,
+            end,
+            count,
+            b: value,
+            ..said
+        },
+        2 => Said {
+            rank,
+            end,
+            count,
+            c: value,
+            ..said
+        },
+        _ => Said {
+            rank,
+            end,
+            count,
+            d: value,
+            ..said
+        },
+    }
+}
