@@ -3,7 +3,8 @@
 ghost use Rattle.std.specs.Prelude.{◌≡◌, ℕ, ◌<◌, Bool, [], ◌∷◌, None, Some, IfOk};
 ghost use Rattle.std.specs.Prelude.{length, map, replicate, slice_index_or, slice_set};
 ghost use Rattle.gc_graph.specs.Pause.{clear_slot};
-ghost use Rattle.persistent_slots.specs.Clearing.{MayBeAsked, ClearsOne, ClearsInTurn, AnswersBy};
+ghost use Rattle.persistent_slots.specs.Clearing.{AsksInTurn, MayBeAsked, ClearsOne};
+ghost use Rattle.persistent_slots.specs.Clearing.{ClearsInTurn, AnswersBy};
 
 use gc_graph::NoMemory;
 use std::alloc::Global;
@@ -87,7 +88,7 @@ impl Slots {
 
 /// The slot, emptied where the test calls its place dead.
 fn unless_dead<F: FnMut(u32) -> bool>(slot: Option<u32>, dead: &mut F) -> Option<u32>
-    requires { MayBeAsked F.pre F.step dead.old (slot ∷ []) }
+    requires { AsksInTurn F.pre F.step dead.old (slot ∷ []) }
     ensures { ClearsOne F.step dead.old slot result dead.new }
 {
     match slot {
