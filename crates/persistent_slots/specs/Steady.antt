@@ -12,9 +12,10 @@ module _ {F : Type 0} (pre : F → ℕ → Type 0) (step : F → ℕ → Bool �
       → (test : F) (slots : List (Option ℕ)) → known test → All is_fit (taken slots) → AsksInTurn pre step test slots
   asks_in_turn asks keeps test [] k fit = tt
   asks_in_turn asks keeps test (None ∷ slots) k fit = asks_in_turn asks keeps test slots k fit
-  asks_in_turn asks keeps test (Some place ∷ slots) k fit =
-      (asks test place k (All-head is_fit place (taken slots) fit),
-      λ answer next s. asks_in_turn asks keeps next slots (keeps test place answer next k s) (All-tail is_fit place (taken slots) fit))
+  asks_in_turn asks keeps test (Some place ∷ slots) k fit = (
+    asks test place k (All-head is_fit place (taken slots) fit),
+    λ answer next s. asks_in_turn asks keeps next slots (keeps test place answer next k s) (All-tail is_fit place (taken slots) fit),
+  )
 
   -- a test may be asked of fit places while what is known of it lets it be asked of any of them
   pub may_be_asked : ((test : F) (place : ℕ) → known test → is_fit place → pre test place) → Keeps step known

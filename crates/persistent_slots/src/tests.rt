@@ -59,12 +59,14 @@ fn clear_unmarked(marks: &mut Marks, slots: &mut Slots)
     ensures { slots.new ≡ map (clear_slot
         (λ place. not (slice_index_or marks.old.marks.items place false))) slots.old }
 {
-    slots.clear_dead(|place: u32| -> bool
-        requires { place < length marks.now.marks.items }
-        ensures answer { result
-            ≡ not (slice_index_or marks.entry.now.marks.items place false) }
-        ensures marks { marks.exit.now.marks.items ≡ marks.entry.now.marks.items }
-    { !marks.is_marked(place) });
+    slots.clear_dead(
+        |place: u32| -> bool
+            requires { place < length marks.now.marks.items }
+            ensures answer { result
+                ≡ not (slice_index_or marks.entry.now.marks.items place false) }
+            ensures marks { marks.exit.now.marks.items ≡ marks.entry.now.marks.items }
+        { !marks.is_marked(place) },
+    );
 }
 
 #[test]

@@ -1,10 +1,10 @@
-use Rattle.std.proofs.Common.{rules, ◌≡◌, ℕ, ◌<◌, Bool, List, length, not, get_or, false, refl, MutBor}
+use Rattle.std.proofs.Common.{rules, ◌≡◌, ◌<◌, Bool, List, length, not, get_or, false, refl, MutBor}
 use Rattle.persistent_slots.specs.declared.tests.Marks.{Marks}
 use Rattle.persistent_slots.specs.Steady.{may_be_asked, answers_by}
 use Rattle.persistent_slots.proofs.tests.clear_unmarked.Goals as goal
 
 abbrev State : Type 0
-State = record {0 : MutBor Marks}
+State = record { 0 : MutBor Marks }
 
 abbrev Has : List Bool → State → Type 0
 Has marks test = test.0.now.marks.items ≡ marks
