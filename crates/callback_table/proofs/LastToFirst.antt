@@ -8,7 +8,7 @@ use Rattle.gc_graph.specs.Actions.{acted, action_of, shown_words}
 use Rattle.gc_graph.specs.Pause.{dies, run_order, kind_of_callback, prefinalised}
 use Rattle.callback_table.specs.declared.registry.Registered.{Registered}
 use Rattle.callback_table.specs.Registry.{registration_of, registrations_of, pair_of, pairs_run, entries_left, IsRegistered}
-use Rattle.callback_table.proofs.Looks.{LooksAlike, alike_on, prefinalised_alike, dead_alike, stands_alike}
+use Rattle.callback_table.proofs.Looks.{LooksAlike, prefinalised_alike, dead_alike, stands_alike}
 
 -- ---- one more registration
 

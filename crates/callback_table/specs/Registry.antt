@@ -1,6 +1,5 @@
 -- The registrations of prefinalizers with the places of their nodes.
-use Rattle.std.specs.Prelude.{◌≡◌, ℕ, ◌<◌, List, map, filter, not}
-use Rattle.gc_graph.specs.declared.action.ActionKind.{ActionKind}
+use Rattle.std.specs.Prelude.{ℕ, ◌<◌, List, map, filter, not}
 use Rattle.gc_graph.specs.State.{Node, Registration}
 use Rattle.gc_graph.specs.Pause.{dies, run_order}
 use Rattle.callback_table.specs.Bodies.{StandsAt}

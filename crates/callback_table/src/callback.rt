@@ -29,14 +29,14 @@ impl Callback {
     }
 
     /// The kind of action that it answers.
-    pub fn kind(&self) -> ActionKind
+    pub(crate) fn kind(&self) -> ActionKind
         ensures { result ≡ self.now.kind }
     {
         self.kind
     }
 
     /// Calls it with shown words.
-    pub fn call(&self, words: &[u64]) -> Action
+    pub(crate) fn call(&self, words: &[u64]) -> Action
         requires { length words.now ≤ 64 }
         ensures { result ≡ action_of self.now.kind words.now }
     {

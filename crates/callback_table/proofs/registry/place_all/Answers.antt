@@ -1,4 +1,4 @@
-use Rattle.std.proofs.Common.{rules, ◌≡◌, ◌<◌, ◌++◌, length, map, take, drop, get_or, refl}
+use Rattle.std.proofs.Common.{rules}
 use Rattle.std.proofs.lemmas.List.Edits.{map_over_more}
 use Rattle.callback_table.specs.Registry.{placed_at}
 use Rattle.callback_table.proofs.registry.place_all.Goals as goal
