@@ -129,3 +129,8 @@ module _ (kinds : List ActionKind) (start : List Node) (old : List Registered) (
         inside = omega (arith, run.inside, length-set items (kept - 1) e);
         length_is = length-set items (kept - 1) e ∙ run.length_is;
       }
+
+-- once none waits, those that stand are those that are left
+pub left_at_end : (kinds : List ActionKind) (start : List Node) (old : List Registered) (i : ℕ) (nodes : List Node) (ran : List (ℕ × ℕ))
+    (items : List Registered) (kept : ℕ) → i ≡ 0 → IsRun kinds start old i nodes ran items kept → drop kept items ≡ entries_left start old
+left_at_end kinds start old i nodes ran items kept none run = run.left_are ∙ ap (λ n. entries_left start (drop n old)) none

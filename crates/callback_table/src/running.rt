@@ -51,6 +51,7 @@ fn run_if_dead<B: Bodies>(entry: Registered, table: &CallbackTable, bodies: &mut
         then prefinalised (kinds_of table.now) (registration_of entry ∷ []) (B.nodes bodies.old)
         else B.nodes bodies.old) }
     ensures ready { B.is_ready bodies.new }
+    ensures registered { IsRegistered (B.nodes bodies.new) (length (kinds_of table.now)) entry }
     ensures rest { B.keeps bodies.old bodies.new }
 {
     let dead = bodies.dead(entry.place);
@@ -67,6 +68,7 @@ fn run<B: Bodies>(entry: Registered, table: &CallbackTable, bodies: &mut B)
     ensures nodes { B.nodes bodies.new
         ≡ prefinalised (kinds_of table.now) (registration_of entry ∷ []) (B.nodes bodies.old) }
     ensures ready { B.is_ready bodies.new }
+    ensures registered { IsRegistered (B.nodes bodies.new) (length (kinds_of table.now)) entry }
     ensures rest { B.keeps bodies.old bodies.new }
 {
     let mut shown = [0; 64];

@@ -1,7 +1,7 @@
-use Rattle.std.proofs.Common.{rules, ◌≡◌, ◌+◌, ◌-◌, ◌<◌, All, length, sym, subst, arith}
-use Rattle.callback_table.specs.Registry.{RegistryView, IsRegistered}
+use Rattle.std.proofs.Common.{rules, ◌≡◌, ◌+◌, ◌-◌, ◌<◌, ◌∙◌, All, length, sym, ap, subst, arith}
+use Rattle.callback_table.specs.Registry.{RegistryView, IsRegistered, entries_left}
 use Rattle.callback_table.specs.Table.{kinds_of}
-use Rattle.callback_table.proofs.LastToFirst.{registered_now, one_run, one_kept}
+use Rattle.callback_table.proofs.LastToFirst.{registered_now, one_run, one_kept, left_at_end}
 use Rattle.callback_table.proofs.registry.Registry.run_dead.Goals as goal
 
 pub run_if_dead-requires-clause-registered : goal.run_if_dead-requires-clause-registered
@@ -34,3 +34,9 @@ loop-i-preserved g c =
       rest = g.met.B.Bodies.keeps_on _ _ _ c.loop-i.invariant.rest c.run_if_dead.ensures.rest;
       room = search rules;
     }
+
+pub returns-clause-left : goal.returns-clause-left
+returns-clause-left g c =
+    let none : c.loop-i.i ≡ 0 = omega arith in
+    c.drop-drain.ensures.items ∙ c.drain.ensures.kept ∙ left_at_end _ _ _ _ _ _ _ _ none c.loop-i.invariant.run
+    ∙ ap (λ (view : RegistryView). entries_left (g.B.Bodies.nodes c.args.bodies.now) view.entries) c.self.view_is
