@@ -1,5 +1,5 @@
 -- The kinds of callbacks, and what one registration that is run does.
-use Rattle.std.proofs.Common.{◌≡◌, ℕ, ◌<◌, Bool, true, cond, List, [], ◌∷◌, length, map, get_or, refl, sym, ap, ◌∙◌, subst, arith}
+use Rattle.std.proofs.Common.{◌≡◌, ℕ, ◌<◌, Bool, true, cond, List, [], ◌∷◌, length, map, get_or, sym, ap, ◌∙◌, subst, arith}
 use Rattle.std.proofs.lemmas.List.{get_or-map, length-map}
 use Rattle.gc_graph.specs.declared.action.Action.{Action}
 use Rattle.gc_graph.specs.declared.action.ActionKind.{ActionKind}

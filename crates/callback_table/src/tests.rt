@@ -1,10 +1,9 @@
 // Callbacks that count how often they are called, on a heap of two objects.
 
-ghost use Rattle.std.specs.Prelude.{◌≡◌, refl};
+ghost use Rattle.std.specs.Prelude.{◌≡◌};
 ghost use Rattle.gc_graph.specs.Actions.{action_of};
 
 use super::*;
-use std::alloc::{AllocError, Global};
 use std::sync::Arc;
 use std::sync::atomic::{AtomicU64, Ordering};
 use std::test::Fail;
@@ -15,6 +14,14 @@ struct TwoObjects {
     first: u64,
     second: u64,
     added: u64,
+}
+
+fn two_objects() -> TwoObjects {
+    TwoObjects {
+        first: 7,
+        second: 8,
+        added: 0,
+    }
 }
 
 impl TwoObjects {
@@ -70,59 +77,77 @@ impl Bodies for TwoObjects {
 }
 
 #[test]
-fn each_registration_of_a_dead_object_is_run_once(rt: HostRuntime) -> Result<(), Fail> {
+fn dead_object_is_prefinalised_once(rt: HostRuntime) -> Result<(), Fail> {
     let alloc = rt.alloc();
     let calls = Arc::new(alloc, AtomicU64::new(0))?;
-    let first = calls.clone()?;
-    let nothing = Box::new(
-        alloc,
-        move |words: &[u64]| -> Action
-            ensures { result ≡ action_of ActionKind.Nothing words.entry.now }
-        {
-            let _ = words;
-            first.fetch_add(1, Ordering::SeqCst);
-            Action::Nothing
-        },
-    )?;
+    let counted = calls.clone()?;
     let own = Box::new(
         alloc,
         move |words: &[u64]| -> Action
             ensures { result ≡ action_of (ActionKind.AddOwn 0 0 0) words.entry.now }
         {
+            counted.fetch_add(1, Ordering::SeqCst);
             Action::Add {
                 link: 0,
                 field: 0,
-                amount: words.get(0).copied().unwrap_or(0),
+                amount: words.first().copied().unwrap_or(0),
             }
         },
     )?;
-    let mut list = Vec::new(alloc);
-    list.push(Callback::new(ActionKind::Nothing, nothing))?;
-    list.push(Callback::new(
-        ActionKind::AddOwn {
-            link: 0,
-            field: 0,
-            from: 0,
-        },
-        own,
-    ))?;
-    let table = CallbackTable::new(list);
-    assert_eq!(rt; table.len(), 2);
-    let mut registry = Registry::new(alloc);
-    registry.register(1, 5, &[0, 1])?;
-    registry.register(0, 0, &[0, 1, 0])?;
-    registry.register(1, 5, &[0])?;
-    let mut bodies = TwoObjects {
-        first: 7,
-        second: 8,
-        added: 0,
+    let kind = ActionKind::AddOwn {
+        link: 0,
+        field: 0,
+        from: 0,
     };
+    let table = CallbackTable::new(vec![in alloc; Callback::new(kind, own)]?);
+    let mut registry = Registry::new(alloc);
+    registry.register(1, 5, &[0])?;
+    registry.register(0, 0, &[0, 0])?;
+    let mut bodies = two_objects();
     registry.run_dead(&table, &mut bodies);
-    assert_eq!(rt; registry.ran(), [(0, 0), (0, 1), (0, 0)].as_slice());
+    assert_eq!(rt; registry.ran(), [(0, 0), (0, 0)].as_slice());
     assert_eq!(rt; calls.load(Ordering::SeqCst), 2);
     assert_eq!(rt; bodies.added, 7);
     registry.run_dead(&table, &mut bodies);
     assert_eq!(rt; registry.ran(), [].as_slice());
     assert_eq!(rt; calls.load(Ordering::SeqCst), 2);
+    Ok(())
+}
+
+#[test]
+fn last_registration_runs_first(rt: HostRuntime) -> Result<(), Fail> {
+    let alloc = rt.alloc();
+    let first = Box::new(
+        alloc,
+        |words: &[u64]| -> Action
+            ensures { result ≡ action_of ActionKind.Nothing words.entry.now }
+        {
+            let _ = words;
+            Action::Nothing
+        },
+    )?;
+    let mut list = Vec::new(alloc);
+    list.push(Callback::new(ActionKind::Nothing, first))?;
+    let second = Box::new(
+        alloc,
+        |words: &[u64]| -> Action
+            ensures { result ≡ action_of ActionKind.Nothing words.entry.now }
+        {
+            let _ = words;
+            Action::Nothing
+        },
+    )?;
+    list.push(Callback::new(ActionKind::Nothing, second))?;
+    let table = CallbackTable::new(list);
+    assert_eq!(rt; table.len(), 2);
+    assert_eq!(rt; table.kind(1), ActionKind::Nothing);
+    let mut registry = Registry::new(alloc);
+    registry.register(0, 9, &[0, 1])?;
+    registry.place_last(2, 0);
+    registry.register(0, 0, &[0, 0, 0])?;
+    registry.unregister_last(2);
+    let mut bodies = two_objects();
+    registry.run_dead(&table, &mut bodies);
+    assert_eq!(rt; registry.ran(), [(0, 0), (0, 1), (0, 0)].as_slice());
     Ok(())
 }
