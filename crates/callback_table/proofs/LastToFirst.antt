@@ -1,6 +1,6 @@
 -- Registrations run from the last to the first, so far.
 use Rattle.std.proofs.Common.{◌≡◌, ℕ, ◌+◌, ◌-◌, ◌<◌, ◌≤◌, ◌≢◌, Bool, true, false, List, [], ◌∷◌, ◌++◌, length, get_or, set, drop, map, filter, reverse, not, All, refl, sym, ap, ◌∙◌, subst, cond, arith, length-set, get_or-set_other, length-append}
-use Rattle.std.proofs.lemmas.List.{drop_more, map_push, drop_all}
+use Rattle.std.proofs.lemmas.List.{drop_more, map_push}
 use Rattle.std.proofs.lemmas.Grind.{reverse_onto, drop-set_at}
 use Rattle.gc_graph.specs.declared.action.ActionKind.{ActionKind}
 use Rattle.gc_graph.specs.State.{Node, Registration, node_at}
@@ -46,19 +46,6 @@ pub record IsRun (kinds : List ActionKind) (start : List Node) (old : List Regis
   pub counted : length ran + i ≡ kept
   pub inside : kept ≤ length items
   pub length_is : length items ≡ length old
-
-pub none_run : (kinds : List ActionKind) (start : List Node) (old : List Registered) → IsRun kinds start old (length old) start [] old (length old)
-none_run kinds start old =
-    let none : drop (length old) old ≡ [] = drop_all (length old) old (omega arith) in
-    record {
-      nodes_are = ap (λ es. prefinalised kinds (run_order start (registrations_of es)) start) (sym none);
-      ran_are = ap (pairs_run start) (sym none);
-      left_are = none ∙ ap (entries_left start) (sym none);
-      waiting = λ k d l. refl;
-      counted = omega arith;
-      inside = omega arith;
-      length_is = refl;
-    }
 
 module _ (kinds : List ActionKind) (start : List Node) (old : List Registered) (i : ℕ) (nodes : List Node) (ran : List (ℕ × ℕ))
     (items : List Registered) (kept : ℕ) (e : Registered) (j : ℕ) (up : j ≡ i + 1) (done : IsRun kinds start old j nodes ran items kept)

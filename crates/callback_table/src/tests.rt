@@ -114,29 +114,20 @@ fn dead_object_is_prefinalised_once(rt: HostRuntime) -> Result<(), Fail> {
     Ok(())
 }
 
+fn nothing(words: &[u64]) -> Action
+    ensures { result ≡ action_of ActionKind.Nothing words.now }
+{
+    let _ = words;
+    Action::Nothing
+}
+
 #[test]
 fn last_registration_runs_first(rt: HostRuntime) -> Result<(), Fail> {
     let alloc = rt.alloc();
-    let first = Box::new(
-        alloc,
-        |words: &[u64]| -> Action
-            ensures { result ≡ action_of ActionKind.Nothing words.entry.now }
-        {
-            let _ = words;
-            Action::Nothing
-        },
-    )?;
+    let first = Box::new(alloc, nothing)?;
+    let second = Box::new(alloc, nothing)?;
     let mut list = Vec::new(alloc);
     list.push(Callback::new(ActionKind::Nothing, first))?;
-    let second = Box::new(
-        alloc,
-        |words: &[u64]| -> Action
-            ensures { result ≡ action_of ActionKind.Nothing words.entry.now }
-        {
-            let _ = words;
-            Action::Nothing
-        },
-    )?;
     list.push(Callback::new(ActionKind::Nothing, second))?;
     let table = CallbackTable::new(list);
     assert_eq!(rt; table.len(), 2);
