@@ -1,0 +1,4 @@
+pub mod Looks
+pub mod LastToFirst
+pub mod Answering
+pub mod Rooms

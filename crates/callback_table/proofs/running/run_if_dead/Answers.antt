@@ -1,0 +1,14 @@
+use Rattle.std.proofs.Common.{[], ◌∷◌, ◌∙◌, ap}
+use Rattle.gc_graph.specs.Pause.{prefinalised}
+use Rattle.callback_table.specs.Registry.{registration_of}
+use Rattle.callback_table.specs.Table.{kinds_of}
+use Rattle.callback_table.proofs.Answering.{when_true}
+use Rattle.callback_table.proofs.running.run_if_dead.Goals as goal
+
+pub returns-then-dead-clause-answer : goal.returns-then-dead-clause-answer
+returns-then-dead-clause-answer g c = c.dead-dead.ensures.answer c.args.entry.node c.requires.registered.stands
+
+pub returns-then-dead-clause-nodes : goal.returns-then-dead-clause-nodes
+returns-then-dead-clause-nodes g c =
+    when_true _ _ _ _ c.if-dead.true
+    (c.run.ensures.nodes ∙ ap (prefinalised (kinds_of c.args.table.now) (registration_of c.args.entry ∷ [])) c.dead-dead.ensures.nodes)

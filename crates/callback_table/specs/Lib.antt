@@ -1,0 +1,4 @@
+pub mod Answers
+pub mod Table
+pub mod Bodies
+pub mod Registry
