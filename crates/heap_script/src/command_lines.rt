@@ -50,6 +50,7 @@ fn read_plain(bytes: &[u8], first: &[u8], from: usize, bounds: Bounds) -> Comman
 }
 
 // The line whose first word, before `from`, is `gc`.
+#[inline(never)]
 fn read_gc(bytes: &[u8], from: usize, bounds: Bounds) -> CommandLine
     requires { from ≤ length bytes.now }
     ensures { (first : List ℕ) → is_text first (codes "gc") ≡ true
@@ -66,6 +67,7 @@ fn read_gc(bytes: &[u8], from: usize, bounds: Bounds) -> CommandLine
 }
 
 // The line whose first word, before `from`, is `at`.
+#[inline(never)]
 fn read_at(bytes: &[u8], from: usize, bounds: Bounds) -> CommandLine
     requires { from ≤ length bytes.now }
     ensures { (first : List ℕ) → is_text first (codes "at") ≡ true

@@ -21,6 +21,7 @@ pub(crate) struct Said {
 }
 
 /// Reads the words that are there, one at each place.
+#[inline(always)]
 pub(crate) fn read_places(bytes: &[u8], spots: &[Spot], bounds: Bounds, before: Said) -> Said
     requires within { before.end ≤ length bytes.now }
     requires low { before.rank ≤ 9 }
