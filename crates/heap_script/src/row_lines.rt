@@ -71,7 +71,7 @@ fn read_small_row(
     }
 }
 
-#[inline(never)]
+#[inline(always)]
 fn read_wide_row(
     bytes: &[u8],
     row: &Row,
