@@ -54,3 +54,9 @@ pub record IsWordEnd (bytes : List ℕ) (start end : ℕ) : Type 0 where
   pub within : end ≤ length bytes
   pub inner : list_all is_word_byte (take (end - start) (drop start bytes)) ≡ true
   pub stop : end < length bytes → is_word_byte (slice_index bytes end) ≡ false
+
+-- ---- words by their places
+
+-- the words of a line whose first word stands from `start` to `end`
+abbrev pub words_from : List ℕ → ℕ → ℕ → List (List ℕ)
+words_from bytes start end = take (end - start) (drop start bytes) ∷ line_words (drop end bytes)

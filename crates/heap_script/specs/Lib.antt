@@ -1,14 +1,14 @@
-pub mod Built
-pub mod Cuts
+-- What has to be believed for the headline, in reading order.
 pub mod Causes
 pub mod Devices
 pub mod ListDevices
-pub mod Past
 pub mod Pieces
-pub mod Words
-pub mod Faults
-pub mod Cursor
 pub mod Scripts
+-- What the crate's own code cites.
+pub mod Cursor
+pub mod Past
+pub mod TypeLines
+pub mod Reading
 pub mod Ranks
 pub mod Rows
 pub mod Said

@@ -1,73 +1,129 @@
--- What the lines before say, and of which kind the next one is.
-use Rattle.std.specs.Prelude.{ℕ, ◌+◌, ◌&&◌, not, nat_lt, Bool, true, false, List, [], ◌∷◌, length, Option, Some, None, if◌then◌else◌}
-use Rattle.std.specs.List.{list_all}
+-- What the lines before say, and what one more adds.
+use Rattle.std.specs.Prelude.{◌≡◌, ◌⊎◌, ℕ, ◌+◌, ◌==◌, ◌&&◌, ◌||◌, not, Bool, true, false, List, [], ◌∷◌, ◌++◌, length, Option, Some, None, if◌then◌else◌, codes}
 use Rattle.gc_graph.specs.declared.command.Command.{Command}
 use Rattle.gc_graph.specs.declared.command.Command.TheVariants as C
-use Rattle.gc_graph.specs.Words.{is_blank}
-use Rattle.heap_script.specs.Built.{is_header, is_early, type_of, types_of, command_of, commands_of, opens_sweep, is_sweep_open}
-use Rattle.heap_script.specs.declared.lines.Past.{Past}
-use Rattle.heap_script.specs.declared.lines.LineKind.{LineKind}
-use Rattle.heap_script.specs.declared.lines.LineKind.TheVariants as K
+use Rattle.gc_graph.specs.State.{ObjectType}
+use Rattle.gc_graph.specs.Built.{is_built, opens_sweep, is_built_type}
+use Rattle.gc_graph.specs.Reasons.{Reason, number_of, Bounds, first_is, reason_of_words, command_of_words, type_of_words}
+use Rattle.gc_graph.specs.Reasons.Reason.{Order, Section}
+use Rattle.gc_graph.specs.Script.{Threads, threads_after, breaks_section}
+use Rattle.gc_graph.specs.Script.Threads.{AtRest, Waiting, Going}
+use Rattle.heap_script.specs.declared.past.Past.{Past}
+use Rattle.heap_script.specs.declared.script_lines.Kept.{Kept}
+use Rattle.heap_script.specs.declared.past.Stage.{Stage}
+use Rattle.heap_script.specs.declared.past.Stage.TheVariants as S
 
--- what the lines before say
-abbrev pub past_of : List (List ℕ) → Past
-past_of [] = record { headed = false; bare = true; types = 0; sweeping = false }
-past_of (header ∷ before) = record {
-  headed = true;
-  bare = list_all is_early before;
-  types = length (types_of before);
-  sweeping = is_sweep_open (commands_of before);
+-- ---- the threads
+
+-- the state of the threads, as the grammar says it
+abbrev pub threads_in : Stage → Threads
+threads_in S.AtRest = AtRest
+threads_in S.Waiting = Waiting
+threads_in S.Going = Going
+
+-- orders wait
+abbrev pub is_waiting : Stage → Bool
+is_waiting S.AtRest = false
+is_waiting S.Waiting = true
+is_waiting S.Going = false
+
+-- the threads run
+abbrev pub is_going : Stage → Bool
+is_going S.AtRest = false
+is_going S.Waiting = false
+is_going S.Going = true
+
+-- the threads after a command
+abbrev pub stage_after : Stage → Command → Stage
+stage_after stage (C.At j order) = S.Waiting
+stage_after stage C.ThreadsGo = S.Going
+stage_after stage C.ThreadsJoin = S.AtRest
+stage_after stage command = stage
+
+-- an order while they run, `threads go` where no order waits, `threads join` where none run
+abbrev pub breaks : Stage → Command → Bool
+breaks stage (C.At j order) = is_going stage
+breaks stage C.ThreadsGo = not (is_waiting stage)
+breaks stage C.ThreadsJoin = not (is_going stage)
+breaks stage command = false
+
+-- ---- what is built
+
+-- a new object wants that no sweep is open
+abbrev pub is_timely_in : Bool → Command → Bool
+is_timely_in sweeping (C.New p t e) = not sweeping
+is_timely_in sweeping command = true
+
+-- the number of the first line that says what isn't built, with one more line
+abbrev pub unbuilt_with : Past → Bool → ℕ
+unbuilt_with past built = if past.unbuilt == 0 && not built then past.lines + 1 else past.unbuilt
+
+-- ---- one more line
+
+-- only the header stands there
+abbrev pub past_header : Past
+past_header = record { lines = 1; last = 1; types = 0; bare = true; stage = S.AtRest; sweeping = false; unbuilt = 0 }
+
+-- a line without words more
+abbrev pub with_blank : Past → Past
+with_blank past = record past { lines = past.lines + 1 }
+
+-- a line with words more, where what it says is built or not
+abbrev pub with_words : Past → Bool → Past
+with_words past built = record past { lines = past.lines + 1; last = past.lines + 1; unbuilt = unbuilt_with past built }
+
+-- a type line more
+abbrev pub with_type : Past → Bool → Past
+with_type past built = record (with_words past built) { types = past.types + 1 }
+
+-- a command more
+abbrev pub with_command : Past → Command → Past
+with_command past command = record (with_words past (is_built command && is_timely_in past.sweeping command)) {
+  bare = false;
+  stage = stage_after past.stage command;
+  sweeping = opens_sweep past.sweeping command;
 }
 
--- a new object wants its type line, and no open sweep
-abbrev pub may_stand : Past → Command → Bool
-may_stand past (C.New p t e) = nat_lt t past.types && not past.sweeping
-may_stand past command = true
+-- ---- the reason of a line with words
 
--- a type line may stand after the lines before
-abbrev pub may_declare : Past → Bool
-may_declare past = past.bare && nat_lt past.types 16383
+-- how many types and callbacks the next line may name
+abbrev pub bounds_in : ℕ → Past → Bounds
+bounds_in callbacks past = record { types = past.types; callbacks = callbacks }
 
--- the type line, where one is there and may stand, and the other kind elsewhere
-abbrev pub type_or : Past → Option ℕ → Option LineKind → Option LineKind
-type_or past None other = other
-type_or past (Some fields) other = if may_declare past then Some (K.TypeLine fields) else other
-
--- the command, where it may stand
-abbrev pub order_of : Past → Option Command → Option LineKind
-order_of past None = None
-order_of past (Some command) = if may_stand past command then Some (K.Order command) else None
-
--- what a line after the header is
-abbrev pub kind_after_header : Past → List ℕ → Option LineKind
-kind_after_header past line =
-    if is_blank line then Some K.Blank
-    else type_or past (type_of line) (order_of past (command_of line))
-
--- the kind of a line, where it is of a built form
-abbrev pub kind_of : Past → List ℕ → Option LineKind
-kind_of past line =
-    if past.headed then kind_after_header past line
-    else if is_header line then Some K.Header
+-- the lowest reason of a line, from that of its words, where others with words follow
+abbrev pub reason_with : Past → List (List ℕ) → Option Reason → Option Reason
+reason_with past words (Some reason) = Some reason
+reason_with past words None =
+    if first_is (codes "type") words && not past.bare then Some Order
+    else if breaks_section (threads_in past.stage) words false then Some Section
     else None
 
--- what the lines say with one more
-abbrev pub after : Past → LineKind → Past
-after past K.Header = record past { headed = true }
-after past K.Blank = past
-after past (K.TypeLine fields) = record past { types = past.types + 1 }
-after past (K.Order command) = record past { bare = false; sweeping = opens_sweep past.sweeping command }
+-- the lowest reason of a line with these words, where others with words follow
+abbrev pub reason_after : ℕ → Past → List (List ℕ) → Option Reason
+reason_after callbacks past words = reason_with past words (reason_of_words (bounds_in callbacks past) words)
 
--- the type that a line declares
-abbrev pub types_in : LineKind → List ℕ
-types_in K.Header = []
-types_in K.Blank = []
-types_in (K.TypeLine fields) = fields ∷ []
-types_in (K.Order command) = []
+-- memory was wanting, or this is the number of the reason
+abbrev pub IsReasonOf : Option Reason → ℕ → Type 0
+IsReasonOf reason number = (number ≡ 0) ⊎ ((why : Reason) × (number ≡ number_of why) × (reason ≡ Some why))
 
--- the command that stands on a line
-abbrev pub commands_in : LineKind → List Command
-commands_in K.Header = []
-commands_in K.Blank = []
-commands_in (K.TypeLine fields) = []
-commands_in (K.Order command) = command ∷ []
+-- a line with these words was kept: it declares a type
+pub record IsTypeKept (words : List (List ℕ)) (old new : Kept) : Type 0 where
+  pub type : ObjectType
+  pub says : type_of_words words ≡ Some type
+  pub plain : first_is (codes "type") words ≡ true
+  pub past : new.past ≡ with_type old.past (is_built_type type)
+  pub types : new.types.items ≡ old.types.items ++ type ∷ []
+  pub commands : new.commands.items ≡ old.commands.items
+
+-- the line says a command
+pub record IsCommandKept (words : List (List ℕ)) (old new : Kept) : Type 0 where
+  pub command : Command
+  pub says : command_of_words words ≡ Some command
+  pub plain : first_is (codes "type") words ≡ false
+  pub past : new.past ≡ with_command old.past command
+  pub types : new.types.items ≡ old.types.items
+  pub commands : new.commands.items ≡ old.commands.items ++ command ∷ []
+
+-- a line with these words was kept, as a type or as a command
+abbrev pub IsLineKept : List (List ℕ) → Kept → Kept → Type 0
+IsLineKept words old new = IsTypeKept words old new ⊎ IsCommandKept words old new

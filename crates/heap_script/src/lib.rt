@@ -5,54 +5,57 @@
 //!
 //! The parts: `Source` and `Sink` (devices that may fail), `ListSource`, `ListSink`, `SteadySource`
 //! and `SteadySink` (devices in memory), `read_whole` (all that a source has left), `read_script`
-//! (a script's commands, or its first faulty line), `line_count`, `number_below` (the number that a
-//! word is), `Pieces` (text on its way to a sink), `print_line`.
+//! (a script, or its first fault), `read_built` (the same, where all of it has to be built),
+//! `number_below` (the number that a word is), `Pieces` (text on its way to a sink), `print_line`.
 //!
 //! What is proved: a script that is read is what the grammar of `gc_graph` says of its bytes, and a
-//! fault names the first line that is of no built form. What is printed is the text of the report's
-//! line. A device's failure is answered only where its count of faults has risen, and after it a
-//! beginning of the text was written, and the rest is still held.
+//! fault names the first line that has one and the lowest reason that it has. What is printed is the
+//! text of the report's line. A device's failure is answered only where its count of faults has
+//! risen, and after it a beginning of the text was written, and the rest is still held.
 //!
 //! What is only tested or not said: that memory suffices, where one piece ends and the next begins,
 //! and how long a call takes.
 #![tactic(auto)]
 
+mod built;
 mod command_lines;
-mod commands;
 mod cursor;
-mod cuts;
 mod devices;
 mod forms;
+mod letters;
 mod line_text;
 mod lines;
 mod list_devices;
 mod making;
 mod numbers;
 mod pairs;
+mod past;
 mod pieces;
 mod places;
 mod printing;
 mod reading;
+mod reasons;
 mod region_text;
 mod row_lines;
 mod rows;
 mod said;
 mod script;
+mod script_lines;
+mod script_reader;
 mod steady_devices;
 #[cfg(test)]
 mod tests;
 mod text;
-mod types;
+mod type_lines;
 mod wide;
 mod words;
 
 pub use devices::{Failed, Sink, Source};
 pub use gc_graph::NoMemory;
-pub use lines::line_count;
 pub use list_devices::{ListSink, ListSource};
 pub use numbers::number_below;
 pub use pieces::Pieces;
 pub use printing::print_line;
 pub use reading::{ReadError, read_whole};
-pub use script::{Script, ScriptFault, read_script};
+pub use script::{Script, ScriptFault, read_built, read_script};
 pub use steady_devices::{SteadySink, SteadySource};

@@ -1,134 +1,68 @@
-// The lines of a script, and of which kind each is.
+// Lines of a script: where one ends, where the next begins, and how many there are.
 
-ghost use Rattle.std.specs.Prelude.{◌≡◌, ◌<◌, ◌≤◌, [], ◌∷◌, length};
+ghost use Rattle.std.specs.Prelude.{◌≡◌, ◌⊎◌, ◌<◌, ◌≤◌, true, false, length, drop, Some, slice_get};
+ghost use Rattle.std.specs.Prelude.{MatchOption};
+ghost use Rattle.gc_graph.specs.Script.{is_header};
 ghost use Rattle.gc_graph.specs.Words.{lines_of};
-ghost use Rattle.heap_script.specs.Past as spec;
+ghost use Rattle.heap_script.specs.Cursor.{first_line, lines_after, IsLineEnd};
 
-use super::commands::command_of;
-use super::cuts::cut;
-use super::types::type_of;
-use super::words::{is_blank, is_pair};
-use gc_graph::Command;
+use super::cursor::next_word;
+use super::words::is_text;
 
-// As many as `GCInfoTable` of cppgc numbers.
-const MOST_TYPES: u32 = 16_383;
-
-/// What the lines before say: the header stood, no command stood after it, so many types were
-/// declared, and a sweep is open.
-#[derive(Clone, Copy, Drop)]
-pub(crate) struct Past {
-    pub(crate) headed: bool,
-    pub(crate) bare: bool,
-    pub(crate) types: u32,
-    pub(crate) sweeping: bool,
+/// Where the line after the one that ends there begins.
+pub(crate) fn next_line(bytes: &[u8], end: usize) -> usize
+    requires within { end ≤ length bytes.now }
+    requires stop { (end ≡ length bytes.now) ⊎ (slice_get bytes.now end ≡ Some 10) }
+    ensures lines { lines_of (drop result bytes.now) ≡ lines_after (drop end bytes.now) }
+    ensures order { end ≤ result }
+    ensures within { result ≤ length bytes.now }
+    ensures later { end < length bytes.now → end < result }
+{
+    if end < bytes.len() { end + 1 } else { end }
 }
 
-#[derive(Clone, Copy, Drop)]
-pub(crate) enum LineKind {
-    Header,
-    Blank,
-    TypeLine(u32),
-    Order(Command),
+/// Where the first line ends, if it is the header.
+pub(crate) fn header_end(bytes: &[u8]) -> Option<usize>
+    ensures { MatchOption result (is_header (first_line bytes.now) ≡ false)
+        (λ end. (is_header (first_line bytes.now) ≡ true) × IsLineEnd bytes.now 0 end) }
+{
+    let (name, after) = next_word(bytes, 0);
+    if !is_text(&bytes[name..after], b"oilpan") {
+        return None;
+    }
+    let (version, end) = next_word(bytes, after);
+    if !is_text(&bytes[version..end], b"1") {
+        return None;
+    }
+    let (more, end) = next_word(bytes, end);
+    if more < end { None } else { Some(end) }
 }
 
-impl Past {
-    pub(crate) fn new() -> Past
-        ensures { result ≡ spec.past_of [] }
-    {
-        Past {
-            headed: false,
-            bare: true,
-            types: 0,
-            sweeping: false,
-        }
-    }
-
-    /// The kind of a line, where it is of a built form.
-    pub(crate) fn kind_of(self, line: &[u8]) -> Option<LineKind>
-        ensures { result ≡ spec.kind_of self line.now }
-    {
-        if !self.headed {
-            return if is_pair(line, b"oilpan", b"1") {
-                Some(LineKind::Header)
-            } else {
-                None
-            };
-        }
-        if is_blank(line) {
-            return Some(LineKind::Blank);
-        }
-        match type_of(line) {
-            Some(fields) if self.may_declare() => return Some(LineKind::TypeLine(fields)),
-            _ => {}
-        }
-        match command_of(line) {
-            Some(command) if self.may_stand(command) => Some(LineKind::Order(command)),
-            _ => None,
-        }
-    }
-
-    fn may_declare(self) -> bool
-        ensures { result ≡ spec.may_declare self }
-    {
-        self.bare && self.types < MOST_TYPES
-    }
-
-    fn may_stand(self, command: Command) -> bool
-        ensures { result ≡ spec.may_stand self command }
-    {
-        match command {
-            Command::New { t, .. } => t < self.types && !self.sweeping,
-            _ => true,
-        }
-    }
-
-    /// What the lines say with one more.
-    pub(crate) fn after(self, kind: LineKind) -> Past
-        requires few { self.types ≤ 16383 }
-        ensures { result ≡ spec.after self kind }
-    {
-        match kind {
-            LineKind::Header => Past {
-                headed: true,
-                ..self
-            },
-            LineKind::Blank => self,
-            LineKind::TypeLine(_) => Past {
-                types: self.types + 1,
-                ..self
-            },
-            LineKind::Order(command) => Past {
-                bare: false,
-                sweeping: match command {
-                    Command::GcNow { .. } => true,
-                    Command::SweepAll => false,
-                    _ => self.sweeping,
-                },
-                ..self
-            },
-        }
-    }
-}
-
-/// How many lines there are. The last one may lack its end.
-pub fn line_count(bytes: &[u8]) -> usize
-    ensures { result ≡ length (lines_of bytes.now) }
+/// How many lines begin at `from` or later.
+pub(crate) fn count_from(bytes: &[u8], from: usize) -> usize
+    requires { from ≤ length bytes.now }
+    ensures count { result ≡ length (lines_of (drop from bytes.now)) }
+    ensures few { result ≤ length bytes.now }
 {
     let mut count = 0;
-    let mut rest = bytes;
-    while !rest.is_empty() {
-        let (_line, next) = next_line(rest);
+    let mut at = from;
+    while at < bytes.len() {
+        at = next_line(bytes, line_end(bytes, at));
         count += 1;
-        rest = next;
     }
     count
 }
 
-/// The first line, without its end, and what follows it.
-pub(crate) fn next_line(bytes: &[u8]) -> (&[u8], &[u8])
-    requires { 0 < length bytes.now }
-    ensures lines { lines_of bytes.now ≡ result.0.now ∷ lines_of result.1.now }
-    ensures shorter { length result.1.now < length bytes.now }
+fn line_end(bytes: &[u8], from: usize) -> usize
+    requires { from ≤ length bytes.now }
+    ensures { IsLineEnd bytes.now from result }
 {
-    cut(bytes, b'\n')
+    let mut at = from;
+    loop {
+        let (start, end) = next_word(bytes, at);
+        if start == end {
+            return end;
+        }
+        at = end;
+    }
 }

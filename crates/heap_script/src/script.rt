@@ -1,41 +1,36 @@
 // A script, and how it is read.
 
-ghost use Rattle.std.specs.Prelude.{◌≡◌, ℕ, ◌≤◌, ◌++◌, length, IfOk, IfErr, IsTrue, All};
-ghost use Rattle.gc_graph.specs.Lawful.{IsAllowed};
-ghost use Rattle.gc_graph.specs.Script.{IsInLimits, IsScript};
-ghost use Rattle.gc_graph.specs.Words.{lines_of};
-ghost use Rattle.heap_script.specs.Built.{IsBuiltScript, script_of};
-ghost use Rattle.heap_script.specs.Past as spec;
-ghost use Rattle.heap_script.specs.Faults.{IsFaultOf};
+ghost use Rattle.std.specs.Prelude.{◌≡◌, IfOk, IfErr};
+ghost use Rattle.gc_graph.specs.Script.{IsScript};
+ghost use Rattle.heap_script.specs.Reading.{fault_with};
+ghost use Rattle.heap_script.specs.Scripts.{IsFaultOf, IsBuiltScript, IsUnbuiltFault};
 
-use super::lines::{LineKind, Past, next_line};
+use super::reasons::{NO_MEMORY, NOT_BUILT};
+use super::script_reader::{Stop, read_lines};
 use gc_graph::Command;
 use std::alloc::Global;
 use std::marker::Model;
 use thiserror::Error;
+use type_table::TypeDecl;
 
-const NO_MEMORY: u32 = 0;
-
-const NOT_BUILT: u32 = 9;
-
-/// What a script says: the number of strong fields of each type, and the commands.
+/// What a script says: its types, by number, and its commands.
 #[derive(Drop)]
 pub struct Script {
-    types: Vec<u32>,
+    types: Vec<TypeDecl>,
     commands: Vec<Command>,
 }
 
 impl Model for Script {
-    ghost use Rattle.heap_script.specs.Built as grammar;
+    ghost use Rattle.gc_graph.specs.Script as grammar;
 
-    ghost Value = { grammar.BuiltScript };
+    ghost Value = { grammar.Script };
 
     ghost view = { λ s. record { types = s.types.items; commands = s.commands.items } };
 }
 
 impl Script {
-    /// The number of strong fields of each type, by the type's number.
-    pub fn types(&self) -> &[u32]
+    /// The types in the order of their lines.
+    pub fn types(&self) -> &[TypeDecl]
         ensures { result.now ≡ self.now.types }
     {
         self.types.as_slice()
@@ -49,8 +44,20 @@ impl Script {
     }
 }
 
-/// Why a script was not read: 0 is want of memory, 9 is a line of no built form. Lines are counted
-/// from 1.
+/// Why a script was not read. Lines are counted from 1; a missing first line counts as one.
+///
+/// | reason | what is wrong |
+/// |---|---|
+/// | 0 | memory was wanting |
+/// | 1 | the first line isn't the header |
+/// | 2 | a word is none of those that may stand there |
+/// | 3 | a word is no number where one should be |
+/// | 4 | there are fewer or more words than the form has |
+/// | 5 | a number is out of its range, or there are too many letters, callbacks or types |
+/// | 6 | a type line comes after a command |
+/// | 7 | the threads' orders don't stand between each other as they should |
+/// | 8 | there are over 16,777,216 bytes or over 1,000,000 lines; the line is then 0 |
+/// | 9 | the line has a fault, or says what isn't built (of `read_built` alone) |
 #[derive(Debug, Drop, Error)]
 #[error("line {line}: reason {reason}")]
 pub struct ScriptFault {
@@ -67,53 +74,50 @@ impl ScriptFault {
     }
 }
 
-/// The script that the bytes are, or its first line that is of no built form. A missing first line
-/// counts as one. When memory is wanting is free.
-pub fn read_script(alloc: Global, bytes: &[u8]) -> Result<Script, ScriptFault>
-    requires { length (lines_of bytes.now) ≤ 1000000 }
-    ensures script { IfOk result (IsBuiltScript bytes.now) }
-    ensures whole { IfOk result (λ s. IsInLimits bytes.now → (callbacks : ℕ) →
-        IsScript callbacks bytes.now (script_of s)) }
-    ensures fault { IfErr result (λ f. IsFaultOf bytes.now f) }
-    ensures allowed { IfOk result (λ s. All (IsAllowed (length s.types)) s.commands) }
-    ensures few { IfOk result (λ s. length s.commands ≤ 1000000) }
-    ensures types { IfOk result (λ s. All (λ n. n ≤ 64) s.types) }
-    ensures sorts { IfOk result (λ s. length s.types ≤ 16383) }
+/// The script that the bytes are, with so many callbacks, or the first faulty line with the lowest
+/// reason that it has. When memory is wanting is free.
+pub fn read_script(alloc: Global, bytes: &[u8], callbacks: u32) -> Result<Script, ScriptFault>
+    ensures script { IfOk result (IsScript callbacks bytes.now) }
+    ensures fault { IfErr result (IsFaultOf callbacks bytes.now) }
 {
-    let mut past = Past::new();
-    let mut types = Vec::new(alloc);
-    let mut commands = Vec::new(alloc);
-    let mut line = 0;
-    let mut rest = bytes;
-    while !rest.is_empty() {
-        let (text, next) = next_line(rest);
-        line += 1;
-        match past.kind_of(text) {
-            Some(kind) => {
-                if !keep(kind, &mut types, &mut commands) {
-                    return Err(ScriptFault::at(line, NO_MEMORY));
-                }
-                past = past.after(kind);
-            }
-            None => return Err(ScriptFault::at(line, NOT_BUILT)),
-        }
-        rest = next;
+    match read_lines(alloc, bytes, callbacks) {
+        Ok(kept) => Ok(Script {
+            types: kept.types,
+            commands: kept.commands,
+        }),
+        Err(stop) => Err(ScriptFault::at(stop.line, stop.reason)),
     }
-    if line == 0 {
-        return Err(ScriptFault::at(1, NOT_BUILT));
-    }
-    Ok(Script { types, commands })
 }
 
-// Keeps what a line says, where memory suffices.
-fn keep(kind: LineKind, types: &mut Vec<u32>, commands: &mut Vec<Command>) -> bool
-    ensures types { IsTrue result → types.new.items ≡ types.old.items ++ spec.types_in kind }
-    ensures commands { IsTrue result →
-        commands.new.items ≡ commands.old.items ++ spec.commands_in kind }
+/// The script that the bytes are, where all that it says is built, or the first line that is faulty
+/// or says what isn't. When memory is wanting is free.
+pub fn read_built(alloc: Global, bytes: &[u8], callbacks: u32) -> Result<Script, ScriptFault>
+    ensures script { IfOk result (IsBuiltScript callbacks bytes.now) }
+    ensures fault { IfErr result (IsUnbuiltFault callbacks bytes.now) }
 {
-    match kind {
-        LineKind::TypeLine(fields) => types.push(fields).is_ok(),
-        LineKind::Order(command) => commands.push(command).is_ok(),
-        LineKind::Header | LineKind::Blank => true,
+    match read_lines(alloc, bytes, callbacks) {
+        Ok(kept) => {
+            if kept.past.unbuilt != 0 {
+                return Err(ScriptFault::at(kept.past.unbuilt, NOT_BUILT));
+            }
+            Ok(Script {
+                types: kept.types,
+                commands: kept.commands,
+            })
+        }
+        Err(stop) => Err(unbuilt_fault(&stop)),
     }
+}
+
+// Where a line has a fault, the first up to it that says what isn't built comes first.
+fn unbuilt_fault(stop: &Stop) -> ScriptFault
+    ensures { result ≡ fault_with stop.now }
+{
+    if stop.reason == NO_MEMORY || stop.line == 0 {
+        return ScriptFault::at(stop.line, stop.reason);
+    }
+    if stop.unbuilt == 0 {
+        return ScriptFault::at(stop.line, NOT_BUILT);
+    }
+    ScriptFault::at(stop.unbuilt, NOT_BUILT)
 }

@@ -1,5 +1,11 @@
-use Rattle.heap_script.proofs.Cutting.{line_is_cut}
+use Rattle.std.proofs.Common.{◌≡◌, ◌⊎◌, length, Some, refl, inl, inr, arith}
+use Rattle.std.specs.Prelude.{slice_get}
+use Rattle.heap_script.proofs.WordPlaces.{lines_next}
 use Rattle.heap_script.proofs.lines.next_line.Goals as goal
 
-pub returns-clause-lines : goal.returns-clause-lines
-returns-clause-lines c = line_is_cut _ _ _ c.requires c.cut.ensures.parts
+pub returns-then-end-bytes-clause-lines : goal.returns-then-end-bytes-clause-lines
+returns-then-end-bytes-clause-lines c = elim c.requires.stop [
+  | inl last ↦ absurd (omega arith)
+  | inr mark ↦ lines_next c.args.bytes.now c.args.end c.args.end
+      (record { order = omega arith; within = c.requires.within; stop = c.requires.stop; same = refl }) mark
+]

@@ -1,0 +1,194 @@
+-- The lines that were read so far, with one more.
+use Rattle.std.proofs.Common.{◌≡◌, ℕ, ◌+◌, ◌<◌, ◌≤◌, ◌==◌, ◌&&◌, Bool, true, false, not, cond, None, List, [], ◌∷◌, length, get_or, take, drop, refl, sym, ap, ◌∙◌, subst, inl, inr, ◌⊎◌, arith, below_more}
+use Rattle.std.proofs.lemmas.Bool.{cases_Bool, cond-true, cond-false, and_from, and_left, and_right, not_from_true, not_from_false, eq-eqb, ne_eqb}
+use Rattle.std.proofs.lemmas.List.{drop_more, length-drop}
+use Rattle.gc_graph.specs.declared.command.Command.{Command}
+use Rattle.gc_graph.specs.State.{ObjectType}
+use Rattle.gc_graph.specs.Built.{is_built, is_built_type}
+use Rattle.gc_graph.specs.Words.{words_of, is_blank}
+use Rattle.gc_graph.specs.Script.{threads_of, threads_after}
+use Rattle.gc_graph.specs.Script.Threads.{AtRest}
+use Rattle.heap_script.specs.Scripts.{commands_of, says_built}
+use Rattle.heap_script.specs.declared.past.Past.{Past}
+use Rattle.heap_script.specs.declared.script_lines.Kept.{Kept}
+use Rattle.heap_script.specs.Past.{threads_in, is_timely_in, past_header, unbuilt_with, with_blank, reason_after, IsTypeKept, IsCommandKept, IsLineKept}
+use Rattle.heap_script.proofs.LinesJudged.{judged}
+use Rattle.heap_script.proofs.PastLines.{IsPast, nothing_read, past_blank, past_type, past_command, threads_more, judged_is, type_says, command_says}
+use Rattle.heap_script.proofs.WordPlaces.{none_of_blank, not_blank}
+
+-- what line j after the header says is built
+abbrev pub says_at : List (List ℕ) → ℕ → Bool
+says_at lines j = says_built (commands_of (take j lines)) (words_of (get_or lines j []))
+
+-- the number of the first of n lines after the header that says what isn't built; 0 where none does
+abbrev pub IsUnbuiltIn : List (List ℕ) → ℕ → ℕ → Type 0
+IsUnbuiltIn lines n unbuilt =
+    ((unbuilt ≡ 0) × ((j : ℕ) → j < n → says_at lines j ≡ true))
+    ⊎ ((i : ℕ)
+    × (unbuilt ≡ i + 2) × (i < n) × (says_at lines i ≡ false) × ((j : ℕ) → j < i → says_at lines j ≡ true))
+
+-- the last line with words, and the threads after it
+pub record IsLast (lines : List (List ℕ)) (n : ℕ) (past : Past) : Type 0 where
+  pub first : 1 ≤ past.last
+  pub within : past.last ≤ n + 1
+  pub unbuilt : past.unbuilt ≤ past.last
+  pub blank : (j : ℕ) → j < n → past.last ≤ j + 1 → is_blank (get_or lines j []) ≡ true
+  pub ended :
+      ((past.last ≡ 1) × (threads_in past.stage ≡ AtRest))
+      ⊎ ((k : ℕ)
+      × (past.last ≡ k + 2) × (k < n) × (is_blank (get_or lines k []) ≡ false)
+      × (threads_after (threads_of (take k lines)) (words_of (get_or lines k [])) ≡ threads_in past.stage))
+
+-- n lines after the header were read, and say this
+pub record IsReadTo (callbacks : ℕ) (lines : List (List ℕ)) (n : ℕ) (past : Past) (types : List ObjectType) (commands : List Command) : Type 0 where
+  pub count : past.lines ≡ n + 1
+  pub within : n ≤ length lines
+  pub say : IsPast (take n lines) past types commands
+  pub fine : (j : ℕ) → j < n → judged callbacks (take j lines) (get_or lines j []) ≡ None
+  pub unbuilt : IsUnbuiltIn lines n past.unbuilt
+  pub last : IsLast lines n past
+
+pub begun : (callbacks : ℕ) (lines : List (List ℕ)) → IsReadTo callbacks lines 0 past_header [] []
+begun callbacks lines = record {
+  count = refl;
+  within = omega arith;
+  say = nothing_read;
+  fine = λ j l. absurd (omega arith);
+  unbuilt = inl (refl, λ j l. absurd (omega arith));
+  last = record {
+    first = omega arith;
+    within = omega arith;
+    unbuilt = omega arith;
+    blank = λ j l. absurd (omega arith);
+    ended = inl (refl, refl);
+  };
+}
+
+-- ---- the next line
+
+pub next_there : (lines more : List (List ℕ)) (n : ℕ) (line : List ℕ) → drop n lines ≡ line ∷ more → n < length lines
+next_there lines more n line e = omega (arith, length-drop n lines, ap length e)
+
+pub next_is : (lines more : List (List ℕ)) (n : ℕ) (line : List ℕ) → drop n lines ≡ line ∷ more → get_or lines n [] ≡ line
+next_is lines more n line e =
+    ap (λ (xs : List (List ℕ)). get_or xs 0 []) (sym (drop_more lines n [] (next_there lines more n line e)) ∙ e)
+
+pub rest_is : (lines more : List (List ℕ)) (n : ℕ) (line : List ℕ) → drop n lines ≡ line ∷ more → drop (n + 1) lines ≡ more
+rest_is lines more n line e =
+    ap (λ (xs : List (List ℕ)). drop 1 xs) (sym (drop_more lines n [] (next_there lines more n line e)) ∙ e)
+
+-- ---- what isn't built, with one more line
+
+unbuilt_same : (lines : List (List ℕ)) (n unbuilt : ℕ) → IsUnbuiltIn lines n unbuilt → says_at lines n ≡ true → IsUnbuiltIn lines (n + 1) unbuilt
+unbuilt_same lines n unbuilt (inl (none, all)) says = inl (none, below_more (λ j. says_at lines j ≡ true) n all says)
+unbuilt_same lines n unbuilt (inr (i, is, low, at, before)) says = inr (i, is, omega arith, at, before)
+
+unbuilt_new : (lines : List (List ℕ)) (n : ℕ) (past : Past) → past.lines ≡ n + 1 → IsUnbuiltIn lines n past.unbuilt → says_at lines n ≡ false
+    → IsUnbuiltIn lines (n + 1) (unbuilt_with past false)
+unbuilt_new lines n past count (inl (none, all)) says =
+    let is : unbuilt_with past false ≡ past.lines + 1 =
+    cond-true (past.unbuilt == 0 && true) (past.lines + 1) past.unbuilt (and_from (past.unbuilt == 0) true (eq-eqb past.unbuilt 0 none) refl) in
+    inr (n, omega arith, omega arith, says, all)
+unbuilt_new lines n past count (inr (i, is, low, at, before)) says =
+    let same : unbuilt_with past false ≡ past.unbuilt =
+    cond-false (past.unbuilt == 0 && true) (past.lines + 1) past.unbuilt
+    (and_left (past.unbuilt == 0) true (ne_eqb past.unbuilt 0 (λ e. omega (arith, e, is)))) in
+    inr (i, same ∙ is, omega arith, at, before)
+
+unbuilt_more : (lines : List (List ℕ)) (n : ℕ) (past : Past) (built : Bool) → past.lines ≡ n + 1 → IsUnbuiltIn lines n past.unbuilt
+    → says_at lines n ≡ built → IsUnbuiltIn lines (n + 1) (unbuilt_with past built)
+unbuilt_more lines n past true count unbuilt says =
+    let same : unbuilt_with past true ≡ past.unbuilt =
+    cond-false (past.unbuilt == 0 && false) (past.lines + 1) past.unbuilt (and_right (past.unbuilt == 0) false refl) in
+    subst (IsUnbuiltIn lines (n + 1)) (sym same) (unbuilt_same lines n past.unbuilt unbuilt says)
+unbuilt_more lines n past false count unbuilt says = unbuilt_new lines n past count unbuilt says
+
+unbuilt_low : (past : Past) (built : Bool) → past.unbuilt ≤ past.lines + 1 → unbuilt_with past built ≤ past.lines + 1
+unbuilt_low past built low = elim (cases_Bool (past.unbuilt == 0 && not built)) [
+  | inl so ↦ omega (arith, cond-true (past.unbuilt == 0 && not built) (past.lines + 1) past.unbuilt so)
+  | inr off ↦ omega (arith, low, cond-false (past.unbuilt == 0 && not built) (past.lines + 1) past.unbuilt off)
+]
+
+-- ---- one line more
+
+pub blank_more : (callbacks : ℕ) (lines more : List (List ℕ)) (n : ℕ) (line : List ℕ) (past : Past) (types : List ObjectType) (commands : List Command)
+    → IsReadTo callbacks lines n past types commands → drop n lines ≡ line ∷ more → words_of line ≡ []
+    → IsReadTo callbacks lines (n + 1) (with_blank past) types commands
+blank_more callbacks lines more n line past types commands read e none =
+    let low : n < length lines = next_there lines more n line e in
+    let are : words_of (get_or lines n []) ≡ [] = ap words_of (next_is lines more n line e) ∙ none in
+    let blank : is_blank (get_or lines n []) ≡ true = ap (λ (words : List (List ℕ)). length words == 0) are in
+    record {
+      count = omega (arith, read.count);
+      within = omega arith;
+      say = past_blank lines n past types commands low read.say blank;
+      fine = below_more (λ j. judged callbacks (take j lines) (get_or lines j []) ≡ None) n read.fine (cond-true (is_blank (get_or lines n [])) None _ blank);
+      unbuilt = unbuilt_same lines n past.unbuilt read.unbuilt (ap (says_built (commands_of (take n lines))) are);
+      last = record {
+        first = read.last.first;
+        within = omega (arith, read.last.within);
+        unbuilt = read.last.unbuilt;
+        blank = below_more (λ j. past.last ≤ j + 1 → is_blank (get_or lines j []) ≡ true) n read.last.blank (λ _. blank);
+        ended = elim read.last.ended [
+          | inl none ↦ inl none
+          | inr found ↦ inr (found.0, found.1, omega (arith, found.2), found.3, found.4)
+        ];
+      };
+    }
+
+-- a line with words
+words_more : (callbacks : ℕ) (lines more : List (List ℕ)) (n : ℕ) (line : List ℕ) (past next : Past) (types new_types : List ObjectType)
+    (commands new_commands : List Command) (words : List (List ℕ)) (built : Bool) → IsReadTo callbacks lines n past types commands
+    → drop n lines ≡ line ∷ more → words_of line ≡ words → is_blank line ≡ false → reason_after callbacks past words ≡ None
+    → IsPast (take (n + 1) lines) next new_types new_commands → next.lines ≡ past.lines + 1 → next.last ≡ past.lines + 1
+    → next.unbuilt ≡ unbuilt_with past built → says_at lines n ≡ built
+    → IsReadTo callbacks lines (n + 1) next new_types new_commands
+words_more callbacks lines more n line past next types new_types commands new_commands words built read e are some fine say count last unbuilt says =
+    let low : n < length lines = next_there lines more n line e in
+    let at : get_or lines n [] ≡ line = next_is lines more n line e in
+    let blank : is_blank (get_or lines n []) ≡ false = ap is_blank at ∙ some in
+    let ws : words_of (get_or lines n []) ≡ words = ap words_of at ∙ are in
+    let here : judged callbacks (take n lines) (get_or lines n []) ≡ None =
+    judged_is callbacks (take n lines) words (get_or lines n []) past types commands read.say blank ws ∙ fine in
+    let threads : threads_after (threads_of (take n lines)) (words_of (get_or lines n [])) ≡ threads_in next.stage =
+    ap (threads_after (threads_of (take n lines))) ws ∙ sym (threads_more lines n words low ws) ∙ say.threads in
+    record {
+      count = omega (arith, read.count, count);
+      within = omega arith;
+      say = say;
+      fine = below_more (λ j. judged callbacks (take j lines) (get_or lines j []) ≡ None) n read.fine here;
+      unbuilt = subst (IsUnbuiltIn lines (n + 1)) (sym unbuilt) (unbuilt_more lines n past built read.count read.unbuilt says);
+      last = record {
+        first = omega (arith, last);
+        within = omega (arith, last, read.count);
+        unbuilt = omega (arith, last, unbuilt, unbuilt_low past built (omega (arith, read.last.unbuilt, read.last.within, read.count)));
+        blank = λ j l h. absurd (omega (arith, last, read.count, h, l));
+        ended = inr (n, omega (arith, last, read.count), omega arith, blank, threads);
+      };
+    }
+
+pub line_more : (callbacks : ℕ) (lines more : List (List ℕ)) (n : ℕ) (line : List ℕ) (old new : Kept) (words : List (List ℕ))
+    → IsReadTo callbacks lines n old.past old.types.items old.commands.items → drop n lines ≡ line ∷ more → words_of line ≡ words
+    → is_blank line ≡ false → reason_after callbacks old.past words ≡ None → IsLineKept words old new
+    → IsReadTo callbacks lines (n + 1) new.past new.types.items new.commands.items
+line_more callbacks lines more n line old new words read e are some fine (inl kept) =
+    let low : n < length lines = next_there lines more n line e in
+    let ws : words_of (get_or lines n []) ≡ words = ap words_of (next_is lines more n line e) ∙ are in
+    words_more callbacks lines more n line old.past new.past old.types.items new.types.items old.commands.items new.commands.items words
+    (is_built_type kept.type) read e are some fine (past_type lines n old new words low read.say ws kept)
+    (ap (λ (p : Past). p.lines) kept.past) (ap (λ (p : Past). p.last) kept.past) (ap (λ (p : Past). p.unbuilt) kept.past)
+    (ap (says_built (commands_of (take n lines))) ws ∙ type_says (commands_of (take n lines)) words kept.type kept.says kept.plain)
+line_more callbacks lines more n line old new words read e are some fine (inr kept) =
+    let low : n < length lines = next_there lines more n line e in
+    let at : get_or lines n [] ≡ line = next_is lines more n line e in
+    let ws : words_of (get_or lines n []) ≡ words = ap words_of at ∙ are in
+    words_more callbacks lines more n line old.past new.past old.types.items new.types.items old.commands.items new.commands.items words
+    (is_built kept.command && is_timely_in old.past.sweeping kept.command) read e are some fine
+    (past_command callbacks lines n old new words low read.say ws (ap is_blank at ∙ some) fine kept)
+    (ap (λ (p : Past). p.lines) kept.past) (ap (λ (p : Past). p.last) kept.past) (ap (λ (p : Past). p.unbuilt) kept.past)
+    (ap (says_built (commands_of (take n lines))) ws
+    ∙ command_says (take n lines) old.past old.types.items old.commands.items words kept.command read.say kept.says kept.plain)
+
+pub kept_lines : (words : List (List ℕ)) (old new : Kept) → IsLineKept words old new → new.past.lines ≡ old.past.lines + 1
+kept_lines words old new (inl kept) = ap (λ (p : Past). p.lines) kept.past
+kept_lines words old new (inr kept) = ap (λ (p : Past). p.lines) kept.past

@@ -1,0 +1,119 @@
+// What the lines before say, and what one more adds.
+
+ghost use Rattle.std.specs.Prelude.{◌≡◌, ◌<◌, ◌≤◌, ◌&&◌, nat_lt};
+ghost use Rattle.gc_graph.specs.Built as built;
+ghost use Rattle.gc_graph.specs.Script.{are_at_rest};
+ghost use Rattle.heap_script.specs.Past as spec;
+
+use super::built::is_built;
+use gc_graph::Command;
+
+/// Of the threads of the script: no order waits and none runs, orders wait, or they run.
+#[derive(Clone, Copy, Drop)]
+pub(crate) enum Stage {
+    AtRest,
+    Waiting,
+    Going,
+}
+
+/// How many lines there are, the header among them, the number of the last one with words, how many
+/// types they declare, whether no command stands among them, the stage of the threads, whether a
+/// sweep is open, and the number of the first line that says what isn't built, or 0.
+#[derive(Clone, Copy, Drop)]
+pub(crate) struct Past {
+    pub(crate) lines: u32,
+    pub(crate) last: u32,
+    pub(crate) types: u32,
+    pub(crate) bare: bool,
+    pub(crate) stage: Stage,
+    pub(crate) sweeping: bool,
+    pub(crate) unbuilt: u32,
+}
+
+impl Past {
+    pub(crate) fn new() -> Past
+        ensures { result ≡ spec.past_header }
+    {
+        Past {
+            lines: 1,
+            last: 1,
+            types: 0,
+            bare: true,
+            stage: Stage::AtRest,
+            sweeping: false,
+            unbuilt: 0,
+        }
+    }
+
+    pub(crate) fn add_blank(&mut self)
+        requires { self.old.lines < 1000000 }
+        ensures { self.new ≡ spec.with_blank self.old }
+    {
+        self.lines += 1;
+    }
+
+    pub(crate) fn add_type(&mut self, built: bool)
+        requires lines { self.old.lines < 1000000 }
+        requires types { self.old.types < 16383 }
+        ensures { self.new ≡ spec.with_type self.old built }
+    {
+        self.note(built);
+        self.types += 1;
+    }
+
+    pub(crate) fn add_command(&mut self, command: &Command)
+        requires { self.old.lines < 1000000 }
+        ensures { self.new ≡ spec.with_command self.old command.now }
+    {
+        self.note(is_built(command) && self.is_timely(command));
+        self.bare = false;
+        match *command {
+            Command::GcNow { .. } => self.sweeping = true,
+            Command::SweepAll => self.sweeping = false,
+            Command::At { .. } => self.stage = Stage::Waiting,
+            Command::ThreadsGo => self.stage = Stage::Going,
+            Command::ThreadsJoin => self.stage = Stage::AtRest,
+            _ => {}
+        }
+    }
+
+    // One more line with words.
+    fn note(&mut self, built: bool)
+        requires { self.old.lines < 1000000 }
+        ensures { self.new ≡ spec.with_words self.old built }
+    {
+        self.lines += 1;
+        self.last = self.lines;
+        if self.unbuilt == 0 && !built {
+            self.unbuilt = self.lines;
+        }
+    }
+
+    fn is_timely(&self, command: &Command) -> bool
+        ensures { result ≡ spec.is_timely_in self.now.sweeping command.now }
+    {
+        match *command {
+            Command::New { .. } => !self.sweeping,
+            _ => true,
+        }
+    }
+
+    /// Whether a command doesn't stand where it should among the threads' orders.
+    pub(crate) fn breaks(&self, command: &Command) -> bool
+        ensures { result ≡ spec.breaks self.now.stage command.now }
+    {
+        match *command {
+            Command::At { .. } => matches!(self.stage, Stage::Going),
+            Command::ThreadsGo => !matches!(self.stage, Stage::Waiting),
+            Command::ThreadsJoin => !matches!(self.stage, Stage::Going),
+            _ => false,
+        }
+    }
+
+    /// Whether no order waits and no thread runs.
+    pub(crate) fn is_at_rest(&self) -> bool
+        ensures { result ≡ are_at_rest (spec.threads_in self.now.stage) }
+    {
+        matches!(self.stage, Stage::AtRest)
+    }
+}

@@ -1,0 +1,128 @@
+// One line of a script after the header: a type or a command.
+
+ghost use Rattle.std.specs.Prelude.{◌≡◌, ◌<◌, ◌≤◌, ◌-◌, ◌∷◌, false, take, drop, codes, length, IfOk, IfErr};
+ghost use Rattle.gc_graph.specs.Words.{is_text as is_same};
+ghost use Rattle.heap_script.specs.Cursor.{IsLineEnd, line_words, words_from};
+ghost use Rattle.heap_script.specs.Past.{reason_after, IsReasonOf, IsTypeKept, IsCommandKept, IsLineKept};
+
+use super::built::is_built_type;
+use super::command_lines::read_command;
+use super::past::Past;
+use super::places::Bounds;
+use super::reasons::{NO_MEMORY, ORDER, SECTION};
+use super::type_lines::read_type;
+use super::words::is_text;
+use gc_graph::Command;
+use std::alloc::Global;
+use type_table::TypeDecl;
+
+/// What the lines that were read say.
+#[derive(Drop)]
+pub(crate) struct Kept {
+    pub(crate) past: Past,
+    pub(crate) types: Vec<TypeDecl>,
+    pub(crate) commands: Vec<Command>,
+}
+
+/// Keeps what the line says whose first word stands from `start` to `end`, and tells where the line
+/// ends, or the number of the reason why it says nothing.
+pub(crate) fn keep_line(
+    alloc: Global,
+    bytes: &[u8],
+    start: usize,
+    end: usize,
+    callbacks: u32,
+    kept: &mut Kept,
+) -> Result<usize, u32>
+    requires word { start < end }
+    requires within { end ≤ length bytes.now }
+    requires lines { kept.old.past.lines < 1000000 }
+    ensures kept { IfOk result (λ _.
+        IsLineKept (words_from bytes.now start end) kept.old kept.new) }
+    ensures end { IfOk result (λ line_end. IsLineEnd bytes.now end line_end) }
+    ensures fine { IfOk result (λ _.
+        reason_after callbacks kept.old.past (words_from bytes.now start end) ≡ None) }
+    ensures fault { IfErr result (IsReasonOf
+        (reason_after callbacks kept.old.past (words_from bytes.now start end))) }
+    ensures same { IfErr result (λ _. kept.new.past ≡ kept.old.past) }
+{
+    if is_text(&bytes[start..end], b"type") {
+        keep_type(alloc, bytes, end, callbacks, kept)
+    } else {
+        keep_command(bytes, start, end, callbacks, kept)
+    }
+}
+
+fn keep_type(
+    alloc: Global,
+    bytes: &[u8],
+    from: usize,
+    callbacks: u32,
+    kept: &mut Kept,
+) -> Result<usize, u32>
+    requires within { from ≤ length bytes.now }
+    requires lines { kept.old.past.lines < 1000000 }
+    ensures kept { IfOk result (λ _.
+        IsTypeKept (codes "type" ∷ line_words (drop from bytes.now)) kept.old kept.new) }
+    ensures end { IfOk result (λ end. IsLineEnd bytes.now from end) }
+    ensures fine { IfOk result (λ _. reason_after callbacks kept.old.past
+        (codes "type" ∷ line_words (drop from bytes.now)) ≡ None) }
+    ensures fault { IfErr result (IsReasonOf (reason_after callbacks kept.old.past
+        (codes "type" ∷ line_words (drop from bytes.now)))) }
+    ensures same { IfErr result (λ _. kept.new.past ≡ kept.old.past) }
+{
+    match read_type(alloc, bytes, from, kept.past.types, callbacks) {
+        Ok(line) => {
+            if !kept.past.bare {
+                return Err(ORDER);
+            }
+            let built = is_built_type(&line.decl);
+            if kept.types.push(line.decl).is_err() {
+                return Err(NO_MEMORY);
+            }
+            kept.past.add_type(built);
+            Ok(line.end)
+        }
+        Err(reason) => Err(reason),
+    }
+}
+
+fn keep_command(
+    bytes: &[u8],
+    start: usize,
+    end: usize,
+    callbacks: u32,
+    kept: &mut Kept,
+) -> Result<usize, u32>
+    requires word { start < end }
+    requires within { end ≤ length bytes.now }
+    requires plain { is_same (take (end - start) (drop start bytes.now)) (codes "type") ≡ false }
+    requires lines { kept.old.past.lines < 1000000 }
+    ensures kept { IfOk result (λ _.
+        IsCommandKept (words_from bytes.now start end) kept.old kept.new) }
+    ensures end { IfOk result (λ line_end. IsLineEnd bytes.now end line_end) }
+    ensures fine { IfOk result (λ _.
+        reason_after callbacks kept.old.past (words_from bytes.now start end) ≡ None) }
+    ensures fault { IfErr result (IsReasonOf
+        (reason_after callbacks kept.old.past (words_from bytes.now start end))) }
+    ensures same { IfErr result (λ _. kept.new.past ≡ kept.old.past) }
+{
+    let bounds = Bounds {
+        types: kept.past.types,
+        callbacks,
+    };
+    let line = read_command(bytes, start, end, bounds);
+    match line.said {
+        Ok(command) => {
+            if kept.past.breaks(&command) {
+                return Err(SECTION);
+            }
+            if kept.commands.push(command).is_err() {
+                return Err(NO_MEMORY);
+            }
+            kept.past.add_command(&command);
+            Ok(line.end)
+        }
+        Err(reason) => Err(reason),
+    }
+}
