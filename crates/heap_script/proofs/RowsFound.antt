@@ -1,14 +1,15 @@
 -- The row that a word chooses, found in the code's table.
-use Rattle.std.proofs.Common.{◌≡◌, ℕ, ◌+◌, ◌<◌, ◌≤◌, ◌&&◌, Bool, true, false, Option, Some, None, cond, List, [], ◌∷◌, length, get_or, drop, map, refl, sym, ap, ◌∙◌, subst, arith}
+use Rattle.std.proofs.Common.{◌≡◌, ℕ, zero, suc, not, ◌+◌, ◌<◌, ◌≤◌, ◌&&◌, Bool, true, false, Option, Some, None, cond, List, [], ◌∷◌, length, get_or, drop, map, refl, sym, ap, ◌∙◌, subst, arith}
 use Rattle.std.specs.Borrow.{Bor}
 use Rattle.std.specs.List.{list_all}
 use Rattle.std.proofs.lemmas.List.{drop_more, drop_all, drop-drop}
-use Rattle.std.proofs.lemmas.Bool.{and_parts, cond-true, cond-false}
+use Rattle.std.proofs.lemmas.Bool.{and_parts, cond-true, cond-false, not-true}
+use Rattle.std.proofs.lemmas.Slice.Eq.{bytes_eq-Decides}
 use Rattle.gc_graph.specs.Words.{is_text}
 use Rattle.gc_graph.specs.Forms.{row_named}
 use Rattle.gc_graph.specs.Forms.{Row as GrammarRow}
 use Rattle.heap_script.specs.declared.forms.Row.{Row}
-use Rattle.heap_script.specs.Rows.{row_by, rows_by, SameRow, RowTest}
+use Rattle.heap_script.specs.Rows.{row_by, rows_by, SameRow, RowTest, are_distinct}
 
 -- a row at the front of a table, which the word chooses or doesn't
 named_here : (word : List ℕ) (row : Row) (rows : List Row) → is_text word row.name.now ≡ true
@@ -51,3 +52,24 @@ test_next test table i e =
 
 pub no_row : (found : Option GrammarRow) → found ≡ None → SameRow None found
 no_row found e = subst (λ (o : Option GrammarRow). SameRow None o) (sym e) tt
+
+-- ---- in a table of distinct rows
+
+pub all_at : (test : RowTest) (table : List Row) (i : ℕ) (d : Row) → i < length table → list_all test table ≡ true → test (get_or table i d) ≡ true
+all_at test [] i d low e = absurd (omega arith)
+all_at test (row ∷ table) zero d low e = (and_parts (test row) (list_all test table) e).0
+all_at test (row ∷ table) (suc i) d low e = all_at test table i d (omega arith) (and_parts (test row) (list_all test table) e).1
+
+-- a row whose name is the word is the one that the word chooses
+pub named_distinct : (word : List ℕ) (table : List Row) (i : ℕ) (d : Row) → i < length table → are_distinct table ≡ true
+    → is_text word (get_or table i d).name.now ≡ true → row_named word (rows_by table) ≡ Some (row_by (get_or table i d))
+named_distinct word [] i d low apart e = absurd (omega arith)
+named_distinct word (row ∷ table) zero d low apart e = named_here word row table e
+named_distinct word (row ∷ table) (suc i) d low apart e =
+    let others : RowTest = λ other. not (is_text other.name.now row.name.now) in
+    let parts = and_parts (list_all others table) (are_distinct table) apart in
+    let name : List ℕ = (get_or table i d).name.now in
+    let apart_here : is_text name row.name.now ≡ false =
+    not-true (is_text name row.name.now) (all_at others table i d (omega arith) parts.0) in
+    named_later word row table (ap (λ w. is_text w row.name.now) ((bytes_eq-Decides word name).0 e) ∙ apart_here)
+    ∙ named_distinct word table i d (omega arith) parts.1 e

@@ -6,7 +6,7 @@ use Rattle.gc_graph.specs.declared.command.Command.{Command}
 use Rattle.gc_graph.specs.declared.command.Command.TheVariants as C
 use Rattle.gc_graph.specs.declared.command.Order.TheVariants as Q
 use Rattle.gc_graph.specs.Words.{is_text}
-use Rattle.gc_graph.specs.Forms.{Place, any_number, pages_or_all, none, one, two, three, new_command, set_command, pair_command, sweep_command, threads_command, by_want, order_of_none, order_of_one, order_of_two}
+use Rattle.gc_graph.specs.Forms.{Place, want, any_number, pages_or_all, none, one, two, three, new_command, set_command, pair_command, sweep_command, threads_command, by_want, order_of_none, order_of_one, order_of_two}
 use Rattle.gc_graph.specs.Forms.Place.{Either, Number, NumberOr, TypeNumber}
 use Rattle.gc_graph.specs.Forms.{Row as GrammarRow}
 use Rattle.gc_graph.specs.Reasons.{Bounds as GrammarBounds}
@@ -27,10 +27,11 @@ use Rattle.heap_script.specs.declared.forms.Row.{Row}
 
 -- the place of the grammar that a spot stands for
 abbrev pub place_of : Spot → Place
-place_of (S.Either one other) = Either one.now other.now
 place_of (S.Number from last) = Number from (last + 1)
 place_of (S.NumberOrNull from last) = NumberOr (codes "-") from (last + 1)
 place_of S.TypeNumber = TypeNumber
+place_of S.Want = want
+place_of S.GoOrJoin = Either (codes "go") (codes "join")
 
 -- the word for null
 abbrev pub is_null : List ℕ → Bool
@@ -171,3 +172,8 @@ abbrev pub IsLow : WideForm → ℕ → Type 0
 IsLow W.Put value = Unit {0}
 IsLow W.PushPlain value = Unit {0}
 IsLow W.Sweep value = value ≤ 2 ^ 32
+
+-- no two rows of a table have the same name
+abbrev pub are_distinct : List Row → Bool
+are_distinct [] = true
+are_distinct (row ∷ table) = list_all (λ other. not (is_text other.name.now row.name.now)) table && are_distinct table

@@ -33,6 +33,7 @@ pub(crate) fn read_command(bytes: &[u8], start: usize, end: usize, bounds: Bound
 }
 
 // The line of a form that the first word chooses.
+#[inline(always)]
 fn read_plain(bytes: &[u8], first: &[u8], from: usize, bounds: Bounds) -> CommandLine
     requires within { from ≤ length bytes.now }
     requires no_type { is_text first.now (codes "type") ≡ false }
@@ -50,6 +51,7 @@ fn read_plain(bytes: &[u8], first: &[u8], from: usize, bounds: Bounds) -> Comman
 }
 
 // The line whose first word, before `from`, is `gc`.
+#[inline(never)]
 fn read_gc(bytes: &[u8], from: usize, bounds: Bounds) -> CommandLine
     requires { from ≤ length bytes.now }
     ensures { (first : List ℕ) → is_text first (codes "gc") ≡ true
@@ -66,6 +68,7 @@ fn read_gc(bytes: &[u8], from: usize, bounds: Bounds) -> CommandLine
 }
 
 // The line whose first word, before `from`, is `at`.
+#[inline(never)]
 fn read_at(bytes: &[u8], from: usize, bounds: Bounds) -> CommandLine
     requires { from ≤ length bytes.now }
     ensures { (first : List ℕ) → is_text first (codes "at") ≡ true
@@ -88,6 +91,7 @@ fn read_at(bytes: &[u8], from: usize, bounds: Bounds) -> CommandLine
 
 const THREAD: Spot = Spot::Number(1, 8);
 
+#[inline(always)]
 fn nothing_said(rank: u32, end: usize) -> Said
     ensures rank { result.rank ≡ rank }
     ensures end { result.end ≡ end }
@@ -104,6 +108,7 @@ fn nothing_said(rank: u32, end: usize) -> Said
     }
 }
 
+#[inline(always)]
 fn thread_said(thread: Reading, end: usize) -> Said
     ensures rank { result.rank ≡ thread.rank }
     ensures end { result.end ≡ end }

@@ -4,10 +4,11 @@
 /// What may stand at a place that says a number of 32 bits. Both ends of a range belong to it.
 #[derive(Clone, Copy)]
 pub(crate) enum Spot {
-    Either(&'static [u8], &'static [u8]),
     Number(u32, u32),
     NumberOrNull(u16, u16),
     TypeNumber,
+    Want,
+    GoOrJoin,
 }
 
 /// The command that the numbers of a line make, where each has 32 bits.

@@ -10,6 +10,7 @@ use super::said::Said;
 use gc_graph::{Command, Order, Want};
 
 #[tactic(auto, using(crate::proofs::Shapes::shapes))]
+#[inline(always)]
 pub(crate) fn small_command(form: SmallForm, said: Said) -> Option<Command>
     ensures { result ≡ small_command_of form (list_of said) }
 {
@@ -85,6 +86,7 @@ fn order_command(form: OrderForm, said: Said) -> Option<Command>
     }
 }
 
+#[inline(always)]
 pub(crate) fn when(test: bool, command: Command) -> Option<Command>
     ensures { result ≡ (if test then Some command else None) }
 {
@@ -139,6 +141,7 @@ fn now_command(said: Said) -> Option<Command>
 }
 
 #[tactic(auto, using(crate::proofs::Shapes::shapes))]
+#[inline(always)]
 fn new_command(said: Said) -> Option<Command>
     ensures { result ≡ spec.new_command (list_of said) }
 {
@@ -158,6 +161,7 @@ fn new_command(said: Said) -> Option<Command>
 }
 
 #[tactic(auto, using(crate::proofs::Shapes::shapes))]
+#[inline(always)]
 fn set_command(said: Said) -> Option<Command>
     ensures { result ≡ spec.set_command (list_of said) }
 {

@@ -16,6 +16,7 @@ pub fn number_below(limit: u32, word: &[u8]) -> Option<u32>
 
 /// The number of 64 bits that a word is.
 #[tactic(auto, using(crate::proofs::Values::values))]
+#[inline]
 pub(crate) fn number(word: &[u8]) -> Option<u64>
     ensures { result ≡ (if is_number word.now then Some (value_after 0 word.now) else None) }
 {

@@ -23,6 +23,7 @@ pub(crate) fn half_rank_of(bytes: &[u8], from: usize, make: Make) -> u32
     }
 }
 
+#[inline(never)]
 fn pair_rank(bytes: &[u8], from: usize) -> u32
     requires { from ≤ length bytes.now }
     ensures { result ≡ (if is_half_after (line_words (drop from bytes.now)) then 3 else 9) }

@@ -1,9 +1,9 @@
 // One word at its place: its rank, and the number that it says.
 
-ghost use Rattle.std.specs.Prelude.{◌≡◌, ◌<◌, ◌≤◌, ◌+◌, ◌^◌, ◌||◌, not, false, [], ◌∷◌, if◌then◌else◌, codes};
+ghost use Rattle.std.specs.Prelude.{◌≡◌, ◌<◌, ◌≤◌, ◌+◌, ◌^◌, ◌||◌, not, false, Some, [], ◌∷◌, if◌then◌else◌, codes};
 ghost use Rattle.gc_graph.specs.Reasons.{says, is_beyond, value_of};
 ghost use Rattle.gc_graph.specs.Words.{is_number, is_text};
-ghost use Rattle.heap_script.specs.Ranks.{rank_at, rank_by};
+ghost use Rattle.heap_script.specs.Ranks.{number_rank, rank_at, rank_by};
 ghost use Rattle.heap_script.specs.Rows.{bounds_of, is_null, place_of};
 
 use super::forms::Spot;
@@ -35,6 +35,7 @@ pub(crate) struct Reading {
     pub(crate) value: u32,
 }
 
+#[inline(always)]
 pub(crate) fn read_place(spot: Spot, word: &[u8], bounds: Bounds) -> Reading
     ensures rank { result.rank ≡ rank_at (bounds_of bounds) (place_of spot) word.now }
     ensures value { result.rank ≡ 9 → says (place_of spot) word.now ≡ result.value ∷ [] }
@@ -43,17 +44,30 @@ pub(crate) fn read_place(spot: Spot, word: &[u8], bounds: Bounds) -> Reading
         Spot::Number(from, last) => read_number(word, from, u64::from(last) + 1),
         Spot::TypeNumber => read_number(word, 0, u64::from(bounds.types)),
         Spot::NumberOrNull(from, last) => read_number_or_null(word, from, last),
-        Spot::Either(one, other) => read_either(word, one, other),
+        Spot::Want => read_either(word, b"precise", b"conservative"),
+        Spot::GoOrJoin => read_either(word, b"go", b"join"),
     }
 }
 
+#[tactic(auto, using(crate::proofs::PlacesRead::number_ranks))]
 fn read_number(word: &[u8], from: u32, limit: u64) -> Reading
     requires { limit ≤ 2 ^ 32 }
     ensures rank { result.rank ≡ rank_by false (not (is_number word.now)) false (is_beyond from limit word.now) }
     ensures value { result.rank ≡ 9 → result.value ≡ value_of word.now }
     ensures low { result.rank ≡ 9 → result.value < limit }
 {
-    match number(word) {
+    judged(number(word), from, limit)
+}
+
+/// The rank of a word that is this number, or none, where one from `from` on and below `limit` stands.
+#[inline(always)]
+pub(crate) fn judged(value: Option<u64>, from: u32, limit: u64) -> Reading
+    requires { limit ≤ 2 ^ 32 }
+    ensures rank { result.rank ≡ number_rank from limit value }
+    ensures value { result.rank ≡ 9 → value ≡ Some result.value }
+    ensures low { result.rank ≡ 9 → result.value < limit }
+{
+    match value {
         None => Reading {
             rank: BAD_NUMBER,
             value: 0,
@@ -89,6 +103,7 @@ fn read_number_or_null(word: &[u8], from: u16, last: u16) -> Reading
     reading
 }
 
+#[inline(never)]
 fn read_either(word: &[u8], one: &'static [u8], other: &'static [u8]) -> Reading
     ensures rank { result.rank ≡ rank_by (not (is_text word.now one.now || is_text word.now other.now)) false false false }
     ensures value { result.rank ≡ 9 → (if is_text word.now one.now then 0 else 1) ≡ result.value }

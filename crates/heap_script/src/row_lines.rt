@@ -20,6 +20,7 @@ pub(crate) struct CommandLine {
     pub(crate) end: usize,
 }
 
+#[inline(always)]
 pub(crate) fn read_row(bytes: &[u8], row: &Row, bounds: Bounds, before: Said) -> CommandLine
     requires within { before.end ≤ length bytes.now }
     requires low { before.rank ≤ 9 }
@@ -35,6 +36,7 @@ pub(crate) fn read_row(bytes: &[u8], row: &Row, bounds: Bounds, before: Said) ->
     }
 }
 
+#[inline(always)]
 fn read_small_row(
     bytes: &[u8],
     row: &Row,
@@ -69,6 +71,7 @@ fn read_small_row(
     }
 }
 
+#[inline(always)]
 fn read_wide_row(
     bytes: &[u8],
     row: &Row,
