@@ -22,7 +22,7 @@ use Rattle.heap_script.specs.Said.{list_of, words_left}
 use Rattle.heap_script.specs.RowLines.{row_count_rank, row_rank, row_numbers, IsRowLine}
 use Rattle.heap_script.specs.CommandLines.{IsCommandLine}
 use Rattle.heap_script.proofs.RanksOfWords.{known_rank, missing_rank, faultless, faulty, many_elsewhere, half_elsewhere}
-use Rattle.heap_script.proofs.WideRows.{lowest_nothing, says_nothing}
+use Rattle.heap_script.proofs.PlacesRead.{lowest_nothing, says_nothing}
 use Rattle.heap_script.proofs.RowRanks.{end_from, count_wrong}
 
 -- ---- the places of a row for so many words

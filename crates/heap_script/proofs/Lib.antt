@@ -18,6 +18,7 @@ pub mod RowsFound
 pub mod ScriptEnds
 pub mod Sections
 pub mod Shapes
+pub mod ShortNumbers
 pub mod TypeCallbacks
 pub mod TypeReasons
 pub mod Values

@@ -1,16 +1,19 @@
 -- The words of a line read one after the other, each at its place.
-use Rattle.std.proofs.Common.{◌≡◌, ℕ, ◌+◌, ◌-◌, ◌<◌, ◌≤◌, min, Bool, true, false, List, [], ◌∷◌, ◌++◌, length, map, get_or, take, drop, refl, sym, ap, ◌∙◌, subst, append_assoc, arith}
-use Rattle.std.proofs.lemmas.List.{drop_more, drop_all, drop-drop, append-nil, length-drop}
+use Rattle.std.proofs.Common.{◌≡◌, ℕ, ◌+◌, ◌-◌, ◌<◌, ◌≤◌, ◌&&◌, min, not, Bool, true, false, Option, Some, None, cond, List, [], ◌∷◌, ◌++◌, length, map, get_or, take, drop, refl, sym, ap, ◌∙◌, subst, append_assoc, nat_le, nat_lt, arith}
+use Rattle.std.proofs.lemmas.List.{take_more, take_all, drop-drop, append-nil, length-append, length-drop, length-map, map-append}
+use Rattle.std.proofs.lemmas.Bool.{cases_Bool}
+use Rattle.gc_graph.specs.Words.{is_number}
 use Rattle.gc_graph.specs.Forms.{Place}
-use Rattle.gc_graph.specs.Reasons.{says, all_say, is_unknown, is_bad, is_outside}
+use Rattle.gc_graph.specs.Forms.Place.{Number, TypeNumber}
+use Rattle.gc_graph.specs.Reasons.{Bounds as GrammarBounds, says, all_say, value_of, is_unknown, is_bad, is_outside, is_beyond}
 use Rattle.heap_script.specs.declared.forms.Spot.{Spot}
 use Rattle.heap_script.specs.declared.places.Bounds.{Bounds}
 use Rattle.heap_script.specs.declared.places.Reading.{Reading}
 use Rattle.heap_script.specs.declared.said.Said.{Said}
 use Rattle.heap_script.specs.Cursor.{line_words, lines_after, IsNextWord}
-use Rattle.heap_script.specs.Ranks.{rank_by, rank_at, lowest}
+use Rattle.heap_script.specs.Ranks.{rank_by, rank_at, number_rank, lowest}
 use Rattle.heap_script.specs.Rows.{bounds_of, place_of}
-use Rattle.heap_script.specs.Said.{list_of, words_left, IsReadOn, IsReadPart}
+use Rattle.heap_script.specs.Said.{list_of, words_left, IsReadAt, IsReadOn}
 
 pub rank_le9 : (u b c o : Bool) → rank_by u b c o ≤ 9
 rank_le9 true b c o = omega arith
@@ -19,146 +22,179 @@ rank_le9 false false true o = omega arith
 rank_le9 false false false true = omega arith
 rank_le9 false false false false = omega arith
 
+rank_at_le9 : (bounds : GrammarBounds) (place : Place) (word : List ℕ) → rank_at bounds place word ≤ 9
+rank_at_le9 bounds place word = rank_le9 (is_unknown place word) (is_bad place word) false (is_outside bounds place word)
+
+-- ---- numbers
+
+range_rank : (number inside : Bool) → cond inside 9 5 ≡ rank_by false false false (true && not inside)
+range_rank number true = refl
+range_rank number false = refl
+
+number_rank_by : (word : List ℕ) (from limit : ℕ) (is : Bool) → is_number word ≡ is
+    → number_rank from limit (cond is (Some (value_of word)) None) ≡ rank_by false (not (is_number word)) false (is_beyond from limit word)
+number_rank_by word from limit true e =
+    range_rank true (nat_le from (value_of word) && nat_lt (value_of word) limit)
+    ∙ ap (λ b. rank_by false (not b) false (b && not (nat_le from (value_of word) && nat_lt (value_of word) limit))) (sym e)
+number_rank_by word from limit false e =
+    ap (λ b. rank_by false (not b) false (b && not (nat_le from (value_of word) && nat_lt (value_of word) limit))) (sym e)
+
+pub number_rank_is : (word : List ℕ) (from limit : ℕ) (value : Option ℕ) → value ≡ cond (is_number word) (Some (value_of word)) None
+    → number_rank from limit value ≡ rank_by false (not (is_number word)) false (is_beyond from limit word)
+number_rank_is word from limit value e = ap (number_rank from limit) e ∙ number_rank_by word from limit (is_number word) refl
+
+some_value : (is : Bool) (n m : ℕ) → Some m ≡ cond is (Some n) None → n ≡ m
+some_value true n m e = cc
+some_value false n m e = cc
+
+pub number_said : (word : List ℕ) (value : Option ℕ) (n : ℕ) → value ≡ cond (is_number word) (Some (value_of word)) None → value ≡ Some n → value_of word ≡ n
+number_said word value n is e = some_value (is_number word) (value_of word) n (sym e ∙ is)
+
+pub ruleset number_ranks = (number_rank_is, number_said)
+
 -- ---- one word
 
--- what one more word is, at the first of the places that are left
-pub record IsWordMore (bounds : Bounds) (spot : Spot) (bytes word : List ℕ) (reading : Reading) (old new : Said) : Type 0 where
-  pub before : old.end ≤ new.end
-  pub within : new.end ≤ length bytes
-  pub lines : lines_after (drop old.end bytes) ≡ lines_after (drop new.end bytes)
-  pub words : words_left bytes old ≡ word ∷ words_left bytes new
-  pub rank : new.rank ≡ min old.rank reading.rank
-  pub count : new.count ≡ old.count + 1
-  pub numbers : list_of new ≡ list_of old ++ reading.value ∷ []
-  pub its_rank : reading.rank ≡ rank_at (bounds_of bounds) (place_of spot) word
-  pub its_value : reading.rank ≡ 9 → says (place_of spot) word ≡ reading.value ∷ []
-
-lowest_more : (bounds : Bounds) (spot : Spot) (left : List Spot) (bytes word : List ℕ) (reading : Reading) (old new : Said)
-    → IsWordMore bounds spot bytes word reading old new
-    → lowest (bounds_of bounds) (map place_of (spot ∷ left)) (words_left bytes old)
-    ≡ min reading.rank (lowest (bounds_of bounds) (map place_of left) (words_left bytes new))
-lowest_more bounds spot left bytes word reading old new more =
-    ap (lowest (bounds_of bounds) (map place_of (spot ∷ left))) more.words
-    ∙ ap (λ r. min r (lowest (bounds_of bounds) (map place_of left) (words_left bytes new))) (sym more.its_rank)
-
-says_more : (bounds : Bounds) (spot : Spot) (left : List Spot) (bytes word : List ℕ) (reading : Reading) (old new : Said)
-    → IsWordMore bounds spot bytes word reading old new → reading.rank ≡ 9
-    → list_of new ++ all_say (map place_of left) (words_left bytes new)
-    ≡ list_of old ++ all_say (map place_of (spot ∷ left)) (words_left bytes old)
-says_more bounds spot left bytes word reading old new more good =
-    let rest : List ℕ = all_say (map place_of left) (words_left bytes new) in
-    ap (λ ns. ns ++ rest) more.numbers
-    ∙ append_assoc (list_of old) (reading.value ∷ []) rest
-    ∙ ap (λ ns. list_of old ++ (ns ++ rest)) (sym (more.its_value good))
-    ∙ ap (λ ws. list_of old ++ all_say (map place_of (spot ∷ left)) ws) (sym more.words)
-
-good_parts : (bounds : Bounds) (spot : Spot) (bytes word : List ℕ) (reading : Reading) (old new : Said)
-    → IsWordMore bounds spot bytes word reading old new → old.rank ≤ 9 → new.rank ≡ 9 → (old.rank ≡ 9) × (reading.rank ≡ 9)
-good_parts bounds spot bytes word reading old new more low good =
-    let reads : reading.rank ≤ 9 = subst (λ n. n ≤ 9) (sym more.its_rank)
-    (rank_le9 (is_unknown (place_of spot) word) (is_bad (place_of spot) word) false (is_outside (bounds_of bounds) (place_of spot) word)) in
-    (omega (arith, more.rank), omega (arith, more.rank))
-
-pub part_more : (bounds : Bounds) (all left : List Spot) (spot : Spot) (bytes word : List ℕ) (reading : Reading) (old mid new : Said)
-    → IsReadPart bounds all (spot ∷ left) bytes old mid → IsWordMore bounds spot bytes word reading mid new
-    → IsReadPart bounds all left bytes old new
-part_more bounds all left spot bytes word reading old mid new part more = record {
-  before = omega (arith, part.before, more.before);
-  within = more.within;
-  low = omega (arith, part.low, more.rank);
-  rank = omega (arith, part.rank, more.rank, lowest_more bounds spot left bytes word reading mid new more);
-  numbers = λ good.
-      let parts = good_parts bounds spot bytes word reading mid new more part.low good in
-      says_more bounds spot left bytes word reading mid new more parts.1 ∙ part.numbers parts.0;
-  count = omega (arith, part.count, more.count);
-  words = omega (arith, part.words, more.count, ap length more.words);
-  left_over = sym (ap (λ (ws : List (List ℕ)). drop (length (spot ∷ left)) ws) more.words) ∙ part.left_over;
-  lines = part.lines ∙ more.lines;
-}
-
--- ---- the beginning and the end
-
-pub part_none : (bounds : Bounds) (all : List Spot) (bytes : List ℕ) (old : Said) → old.end ≤ length bytes → old.rank ≤ 9
-    → IsReadPart bounds all all bytes old old
-part_none bounds all bytes old within low = record {
+-- where no word is left
+pub read_none : (bounds : GrammarBounds) (place : Place) (bytes : List ℕ) (said : Said) → said.end ≤ length bytes → said.rank ≤ 9
+    → words_left bytes said ≡ [] → IsReadAt bounds (place ∷ []) bytes said said
+read_none bounds place bytes said within low none = record {
   before = omega arith;
   within = within;
-  low = low;
-  rank = refl;
-  numbers = λ good. refl;
-  count = refl;
-  words = refl;
-  left_over = refl;
+  rank = omega (arith, low, ap (lowest bounds (place ∷ [])) none);
+  numbers = λ good. sym (append-nil (list_of said)) ∙ ap (λ ws. list_of said ++ all_say (place ∷ []) ws) (sym none);
+  count = omega (arith, ap length none);
+  left = none ∙ sym (ap (λ (ws : List (List ℕ)). drop 1 ws) none);
   lines = refl;
 }
 
-lowest_none : (bounds : Bounds) (left : List Spot) → lowest (bounds_of bounds) (map place_of left) [] ≡ 9
-lowest_none bounds [] = refl
-lowest_none bounds (spot ∷ left) = refl
-
-says_none : (left : List Spot) → all_say (map place_of left) [] ≡ []
-says_none [] = refl
-says_none (spot ∷ left) = refl
-
--- all places have their words
-pub part_all : (bounds : Bounds) (all : List Spot) (bytes : List ℕ) (old new : Said) → IsReadPart bounds all [] bytes old new
-    → IsReadOn bounds all bytes old new
-part_all bounds all bytes old new part = record {
-  before = part.before;
-  within = part.within;
-  rank = omega (arith, part.rank, part.low);
-  numbers = λ good. sym (append-nil (list_of new)) ∙ part.numbers good;
-  count = omega (arith, part.count, part.words);
-  left = part.left_over;
-  lines = part.lines;
-}
-
--- no word is left
-pub part_ends : (bounds : Bounds) (all left : List Spot) (bytes : List ℕ) (old new : Said) → IsReadPart bounds all left bytes old new
-    → words_left bytes new ≡ [] → IsReadOn bounds all bytes old new
-part_ends bounds all left bytes old new part none = record {
-  before = part.before;
-  within = part.within;
-  rank = omega (arith, part.rank, part.low, ap (lowest (bounds_of bounds) (map place_of left)) none ∙ lowest_none bounds left);
-  numbers = λ good.
-      sym (append-nil (list_of new))
-      ∙ ap (λ ns. list_of new ++ ns) (sym (ap (all_say (map place_of left)) none ∙ says_none left))
-      ∙ part.numbers good;
-  count = omega (arith, part.count, part.words, ap length none);
-  left = none ∙ sym (drop_all (length left) [] (omega arith)) ∙ sym (ap (λ (ws : List (List ℕ)). drop (length left) ws) none) ∙ part.left_over;
-  lines = part.lines;
-}
-
--- ---- in the bytes
-
-pub word_more : (bounds : Bounds) (spot : Spot) (bytes : List ℕ) (reading : Reading) (old new : Said) (start end : ℕ)
-    → IsNextWord bytes old.end start end → (start ≡ end → ⊥)
+-- what one more word is, at its place
+pub read_word_at : (bounds : GrammarBounds) (place : Place) (bytes : List ℕ) (reading : Reading) (old new : Said) (start end : ℕ)
+    → old.rank ≤ 9 → IsNextWord bytes old.end start end → (start ≡ end → ⊥)
     → new.rank ≡ min old.rank reading.rank → new.end ≡ end → new.count ≡ old.count + 1
     → list_of new ≡ list_of old ++ reading.value ∷ []
-    → reading.rank ≡ rank_at (bounds_of bounds) (place_of spot) (take (end - start) (drop start bytes))
-    → (reading.rank ≡ 9 → says (place_of spot) (take (end - start) (drop start bytes)) ≡ reading.value ∷ [])
-    → IsWordMore bounds spot bytes (take (end - start) (drop start bytes)) reading old new
-word_more bounds spot bytes reading old new start end next ne rank ends count numbers its_rank its_value = record {
-  before = omega (arith, next.before, next.order);
-  within = omega (arith, next.within);
-  lines = next.same ∙ ap (λ n. lines_after (drop n bytes)) (sym ends);
-  words = next.some (omega (arith, next.order)) ∙ ap (λ n. take (end - start) (drop start bytes) ∷ line_words (drop n bytes)) (sym ends);
-  rank = rank;
-  count = count;
-  numbers = numbers;
-  its_rank = its_rank;
-  its_value = its_value;
+    → reading.rank ≡ rank_at bounds place (take (end - start) (drop start bytes))
+    → (reading.rank ≡ 9 → says place (take (end - start) (drop start bytes)) ≡ reading.value ∷ [])
+    → IsReadAt bounds (place ∷ []) bytes old new
+read_word_at bounds place bytes reading old new start end low next ne rank ends count numbers its_rank its_value =
+    let word : List ℕ = take (end - start) (drop start bytes) in
+    let words : words_left bytes old ≡ word ∷ words_left bytes new =
+    next.some (omega (arith, next.order, ne)) ∙ ap (λ n. word ∷ line_words (drop n bytes)) (sym ends) in
+    record {
+      before = omega (arith, next.before, next.order, ends);
+      within = omega (arith, next.within, ends);
+      rank = omega (arith, rank, its_rank, rank_at_le9 bounds place word, ap (lowest bounds (place ∷ [])) words);
+      numbers = λ good.
+          numbers
+          ∙ ap (λ ns. list_of old ++ ns) (sym (its_value (omega (arith, good, rank, its_rank, rank_at_le9 bounds place word)))
+          ∙ sym (append-nil (says place word)) ∙ ap (all_say (place ∷ [])) (sym words));
+      count = omega (arith, count, ap length words);
+      left = sym (ap (λ (ws : List (List ℕ)). drop 1 ws) words);
+      lines = next.same ∙ ap (λ n. lines_after (drop n bytes)) (sym ends);
+    }
+
+same_lowest : (bounds : GrammarBounds) (words : List (List ℕ)) → lowest bounds (Number 0 bounds.types ∷ []) words ≡ lowest bounds (TypeNumber ∷ []) words
+same_lowest bounds [] = refl
+same_lowest bounds (word ∷ words) = refl
+
+same_says : (limit : ℕ) (words : List (List ℕ)) → all_say (Number 0 limit ∷ []) words ≡ all_say (TypeNumber ∷ []) words
+same_says limit [] = refl
+same_says limit (word ∷ words) = refl
+
+-- a type's number is one below the number of types
+pub type_number_read : (bounds : GrammarBounds) (bytes : List ℕ) (old new : Said) → IsReadAt bounds (Number 0 bounds.types ∷ []) bytes old new
+    → IsReadAt bounds (TypeNumber ∷ []) bytes old new
+type_number_read bounds bytes old new read = record {
+  before = read.before;
+  within = read.within;
+  rank = read.rank ∙ ap (min old.rank) (same_lowest bounds (words_left bytes old));
+  numbers = λ good. read.numbers good ∙ ap (λ ns. list_of old ++ ns) (same_says bounds.types (words_left bytes old));
+  count = read.count;
+  left = read.left;
+  lines = read.lines;
 }
 
-pub part_step : (bounds : Bounds) (all : List Spot) (bytes word : List ℕ) (reading : Reading) (old mid new : Said) (i : ℕ) (d : Spot)
-    → i < length all → IsReadPart bounds all (drop i all) bytes old mid
-    → IsWordMore bounds (get_or all i d) bytes word reading mid new → IsReadPart bounds all (drop (i + 1) all) bytes old new
-part_step bounds all bytes word reading old mid new i d low part more =
-    part_more bounds all (drop (i + 1) all) (get_or all i d) bytes word reading old mid new
-    (subst (λ (left : List Spot). IsReadPart bounds all left bytes old mid) (drop_more all i d low) part) more
+-- ---- one place after the other
 
-pub part_end : (bounds : Bounds) (all : List Spot) (bytes : List ℕ) (old new : Said) (i : ℕ) → length all ≤ i
-    → IsReadPart bounds all (drop i all) bytes old new → IsReadOn bounds all bytes old new
-part_end bounds all bytes old new i high part =
-    part_all bounds all bytes old new
-    (subst (λ (left : List Spot). IsReadPart bounds all left bytes old new) (drop_all i all high) part)
+pub lowest_nothing : (bounds : GrammarBounds) (places : List Place) → lowest bounds places [] ≡ 9
+lowest_nothing bounds [] = refl
+lowest_nothing bounds (place ∷ places) = refl
+
+pub says_nothing : (places : List Place) → all_say places [] ≡ []
+says_nothing [] = refl
+says_nothing (place ∷ places) = refl
+
+lowest_low : (bounds : GrammarBounds) (places : List Place) (words : List (List ℕ)) → lowest bounds places words ≤ 9
+lowest_low bounds [] words = omega arith
+lowest_low bounds (place ∷ places) [] = omega arith
+lowest_low bounds (place ∷ places) (word ∷ words) = omega (arith, lowest_low bounds places words)
+
+pub lowest_append : (bounds : GrammarBounds) (places more : List Place) (words : List (List ℕ))
+    → lowest bounds (places ++ more) words ≡ min (lowest bounds places words) (lowest bounds more (drop (length places) words))
+lowest_append bounds [] more words = omega (arith, lowest_low bounds more words)
+lowest_append bounds (place ∷ places) more [] = omega (arith, lowest_nothing bounds more)
+lowest_append bounds (place ∷ places) more (word ∷ words) = omega (arith, lowest_append bounds places more words)
+
+pub says_append : (places more : List Place) (words : List (List ℕ))
+    → all_say (places ++ more) words ≡ all_say places words ++ all_say more (drop (length places) words)
+says_append [] more words = refl
+says_append (place ∷ places) more [] = sym (says_nothing more)
+says_append (place ∷ places) more (word ∷ words) =
+    ap (λ ns. says place word ++ ns) (says_append places more words)
+    ∙ sym (append_assoc (says place word) (all_say places words) (all_say more (drop (length places) words)))
+
+-- nothing was read at no places
+pub on_nothing : (bounds : Bounds) (bytes : List ℕ) (old : Said) → old.end ≤ length bytes → old.rank ≤ 9 → IsReadOn bounds [] bytes old old
+on_nothing bounds bytes old within low = record {
+  before = omega arith;
+  within = within;
+  rank = omega (arith, low);
+  numbers = λ good. sym (append-nil (list_of old));
+  count = omega arith;
+  left = refl;
+  lines = refl;
+}
+
+-- one more place after others
+pub on_more : (bounds : Bounds) (spots : List Spot) (spot : Spot) (bytes : List ℕ) (old mid new : Said) → old.rank ≤ 9
+    → IsReadOn bounds spots bytes old mid → IsReadAt (bounds_of bounds) (place_of spot ∷ []) bytes mid new
+    → IsReadOn bounds (spots ++ spot ∷ []) bytes old new
+on_more bounds spots spot bytes old mid new low first next =
+    let words : List (List ℕ) = words_left bytes old in
+    let places : List Place = map place_of spots in
+    let all = map-append place_of spots (spot ∷ []) in
+    let left : words_left bytes mid ≡ drop (length places) words =
+    first.left ∙ ap (λ n. drop n words) (sym (length-map spots place_of)) in
+    let ranks : lowest (bounds_of bounds) (map place_of (spots ++ spot ∷ [])) words
+    ≡ min (lowest (bounds_of bounds) places words) (lowest (bounds_of bounds) (place_of spot ∷ []) (words_left bytes mid)) =
+    ap (λ (ps : List Place). lowest (bounds_of bounds) ps words) all
+    ∙ lowest_append (bounds_of bounds) places (place_of spot ∷ []) words
+    ∙ ap (λ (ws : List (List ℕ)). min (lowest (bounds_of bounds) places words) (lowest (bounds_of bounds) (place_of spot ∷ []) ws)) (sym left) in
+    record {
+      before = omega (arith, first.before, next.before);
+      within = next.within;
+      rank = omega (arith, first.rank, next.rank, ranks);
+      numbers = λ good.
+          next.numbers good
+          ∙ ap (λ ns. ns ++ all_say (place_of spot ∷ []) (words_left bytes mid)) (first.numbers (omega (arith, good, first.rank, next.rank, low)))
+          ∙ append_assoc (list_of old) (all_say places words) (all_say (place_of spot ∷ []) (words_left bytes mid))
+          ∙ ap (λ (ws : List (List ℕ)). list_of old ++ (all_say places words ++ all_say (place_of spot ∷ []) ws)) left
+          ∙ ap (λ ns. list_of old ++ ns) (sym (says_append places (place_of spot ∷ []) words))
+          ∙ ap (λ (ps : List Place). list_of old ++ all_say ps words) (sym all);
+      count = omega (arith, first.count, next.count, ap length first.left, length-drop (length spots) words, length-append spots (spot ∷ []));
+      left = next.left ∙ ap (λ (ws : List (List ℕ)). drop 1 ws) first.left ∙ drop-drop 1 (length spots) words
+          ∙ ap (λ n. drop n words) (sym (length-append spots (spot ∷ [])));
+      lines = first.lines ∙ next.lines;
+    }
+
+-- one more place of a row
+pub on_next : (bounds : Bounds) (all : List Spot) (i : ℕ) (d : Spot) (bytes : List ℕ) (old mid new : Said) → i < length all → old.rank ≤ 9
+    → IsReadOn bounds (take i all) bytes old mid → IsReadAt (bounds_of bounds) (place_of (get_or all i d) ∷ []) bytes mid new
+    → IsReadOn bounds (take (i + 1) all) bytes old new
+on_next bounds all i d bytes old mid new inside low first next =
+    subst (λ (spots : List Spot). IsReadOn bounds spots bytes old new) (sym (take_more all i d inside))
+    (on_more bounds (take i all) (get_or all i d) bytes old mid new low first next)
+
+pub on_all : (bounds : Bounds) (all : List Spot) (n : ℕ) (bytes : List ℕ) (old new : Said) → length all ≤ n
+    → IsReadOn bounds (take n all) bytes old new → IsReadOn bounds all bytes old new
+on_all bounds all n bytes old new few read =
+    subst (λ (spots : List Spot). IsReadOn bounds spots bytes old new) (take_all n all few) read

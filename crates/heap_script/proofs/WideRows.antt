@@ -15,37 +15,8 @@ use Rattle.heap_script.specs.Ranks.{lowest, rank_at}
 use Rattle.heap_script.specs.Rows.{bounds_of, place_of, places_in, tail_of, wide_place_of, is_sound, is_least_right}
 use Rattle.heap_script.specs.Said.{list_of, words_left, IsReadOn}
 use Rattle.heap_script.specs.RowLines.{row_count_rank, row_rank, row_numbers}
-use Rattle.heap_script.proofs.PlacesRead.{rank_le9}
+use Rattle.heap_script.proofs.PlacesRead.{rank_le9, lowest_append, says_append}
 use Rattle.heap_script.proofs.RowRanks.{IsRowSaid, sound_parts, count_right, count_wrong, left_count, said_length, said_low}
-
--- ---- places after others
-
-pub lowest_nothing : (bounds : GrammarBounds) (places : List Place) → lowest bounds places [] ≡ 9
-lowest_nothing bounds [] = refl
-lowest_nothing bounds (place ∷ places) = refl
-
-pub says_nothing : (places : List Place) → all_say places [] ≡ []
-says_nothing [] = refl
-says_nothing (place ∷ places) = refl
-
-lowest_low : (bounds : GrammarBounds) (places : List Place) (words : List (List ℕ)) → lowest bounds places words ≤ 9
-lowest_low bounds [] words = omega arith
-lowest_low bounds (place ∷ places) [] = omega arith
-lowest_low bounds (place ∷ places) (word ∷ words) = omega (arith, lowest_low bounds places words)
-
-lowest_append : (bounds : GrammarBounds) (places more : List Place) (words : List (List ℕ))
-    → lowest bounds (places ++ more) words ≡ min (lowest bounds places words) (lowest bounds more (drop (length places) words))
-lowest_append bounds [] more words = omega (arith, lowest_low bounds more words)
-lowest_append bounds (place ∷ places) more [] = omega (arith, lowest_nothing bounds more)
-lowest_append bounds (place ∷ places) more (word ∷ words) = omega (arith, lowest_append bounds places more words)
-
-says_append : (places more : List Place) (words : List (List ℕ))
-    → all_say (places ++ more) words ≡ all_say places words ++ all_say more (drop (length places) words)
-says_append [] more words = refl
-says_append (place ∷ places) more [] = sym (says_nothing more)
-says_append (place ∷ places) more (word ∷ words) =
-    ap (λ ns. says place word ++ ns) (says_append places more words)
-    ∙ sym (append_assoc (says place word) (all_say places words) (all_say more (drop (length places) words)))
 
 -- ---- the places of the row
 

@@ -1,7 +1,7 @@
 -- The words of a line, one after the other, by their places in the bytes.
 use Rattle.std.specs.Prelude.{◌≡◌, ◌⊎◌, ℕ, ◌-◌, ◌<◌, ◌≤◌, ◌==◌, ◌&&◌, not, Bool, true, false, List, [], ◌∷◌, length, take, drop, Some, slice_get, slice_index, slice_index_or}
 use Rattle.std.specs.List.{list_all}
-use Rattle.gc_graph.specs.Words.{lines_of, words_of}
+use Rattle.gc_graph.specs.Words.{lines_of, words_of, is_digit, value_after}
 
 -- the first line, empty where there is none
 abbrev pub first_line : List ℕ → List ℕ
@@ -60,3 +60,11 @@ pub record IsWordEnd (bytes : List ℕ) (start end : ℕ) : Type 0 where
 -- the words of a line whose first word stands from `start` to `end`
 abbrev pub words_from : List ℕ → ℕ → ℕ → List (List ℕ)
 words_from bytes start end = take (end - start) (drop start bytes) ∷ line_words (drop end bytes)
+
+-- only digits stand from `start` to `place`, and this is their value, of nine digits at most
+pub record IsDigits (bytes : List ℕ) (start place value : ℕ) : Type 0 where
+  pub order : start ≤ place
+  pub within : place ≤ length bytes
+  pub digits : list_all is_digit (take (place - start) (drop start bytes)) ≡ true
+  pub value_is : value ≡ value_after 0 (take (place - start) (drop start bytes))
+  pub low : value < 1000000000

@@ -1,5 +1,5 @@
 -- The rank of words: the number of the lowest reason that they give, or 9 where they give none.
-use Rattle.std.specs.Prelude.{ℕ, ◌==◌, ◌||◌, min, Bool, true, false, List, [], ◌∷◌, length, Option, Some, None, if◌then◌else◌}
+use Rattle.std.specs.Prelude.{ℕ, ◌==◌, ◌&&◌, ◌||◌, nat_le, nat_lt, min, Bool, true, false, List, [], ◌∷◌, length, Option, Some, None, if◌then◌else◌}
 use Rattle.gc_graph.specs.Forms.{Place, Form}
 use Rattle.gc_graph.specs.Reasons.{Reason, Bounds, is_unknown, is_bad, is_outside, is_half_null, has_unknown_word, has_bad_number, has_other_count, has_outside, has_too_many}
 use Rattle.gc_graph.specs.Reasons.Reason.{UnknownWord, BadNumber, Count, Range}
@@ -12,6 +12,11 @@ rank_by unknown bad count outside =
 -- the rank of a word at its place
 abbrev pub rank_at : Bounds → Place → List ℕ → ℕ
 rank_at bounds place word = rank_by (is_unknown place word) (is_bad place word) false (is_outside bounds place word)
+
+-- the rank of a word that is this number, or none, where one from the first on and below the second stands
+abbrev pub number_rank : ℕ → ℕ → Option ℕ → ℕ
+number_rank from limit None = 3
+number_rank from limit (Some value) = if nat_le from value && nat_lt value limit then 9 else 5
 
 -- the lowest rank of the words that are there, each at its place
 abbrev pub lowest : Bounds → List Place → List (List ℕ) → ℕ

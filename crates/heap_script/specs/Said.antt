@@ -1,7 +1,7 @@
 -- The words after the first, each at its place.
 use Rattle.std.specs.Prelude.{◌≡◌, ℕ, ◌+◌, ◌≤◌, min, List, [], ◌∷◌, ◌++◌, length, map, take, drop}
 use Rattle.gc_graph.specs.Forms.{Place}
-use Rattle.gc_graph.specs.Reasons.{all_say}
+use Rattle.gc_graph.specs.Reasons.{Bounds as GrammarBounds, all_say}
 use Rattle.heap_script.specs.declared.forms.Spot.{Spot}
 use Rattle.heap_script.specs.declared.places.Bounds.{Bounds}
 use Rattle.heap_script.specs.declared.said.Said.{Said}
@@ -27,19 +27,12 @@ pub record IsReadOn (bounds : Bounds) (spots : List Spot) (bytes : List ℕ) (ol
   pub left : words_left bytes new ≡ drop (length spots) (words_left bytes old)
   pub lines : lines_after (drop old.end bytes) ≡ lines_after (drop new.end bytes)
 
--- on the way: these spots are still left
-pub record IsReadPart (bounds : Bounds) (all left : List Spot) (bytes : List ℕ) (old new : Said) : Type 0 where
+-- the same of any places
+pub record IsReadAt (bounds : GrammarBounds) (places : List Place) (bytes : List ℕ) (old new : Said) : Type 0 where
   pub before : old.end ≤ new.end
   pub within : new.end ≤ length bytes
-  pub low : new.rank ≤ 9
-  pub rank :
-      min new.rank (lowest (bounds_of bounds) (map place_of left) (words_left bytes new))
-      ≡ min old.rank (lowest (bounds_of bounds) (map place_of all) (words_left bytes old))
-  pub numbers :
-      new.rank ≡ 9
-      → list_of new ++ all_say (map place_of left) (words_left bytes new)
-      ≡ list_of old ++ all_say (map place_of all) (words_left bytes old)
-  pub count : new.count + length left ≡ old.count + length all
-  pub words : new.count + length (words_left bytes new) ≡ old.count + length (words_left bytes old)
-  pub left_over : drop (length left) (words_left bytes new) ≡ drop (length all) (words_left bytes old)
+  pub rank : new.rank ≡ min old.rank (lowest bounds places (words_left bytes old))
+  pub numbers : new.rank ≡ 9 → list_of new ≡ list_of old ++ all_say places (words_left bytes old)
+  pub count : new.count ≡ old.count + min (length places) (length (words_left bytes old))
+  pub left : words_left bytes new ≡ drop (length places) (words_left bytes old)
   pub lines : lines_after (drop old.end bytes) ≡ lines_after (drop new.end bytes)

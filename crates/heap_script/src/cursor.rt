@@ -14,7 +14,7 @@ pub(crate) fn next_word(bytes: &[u8], from: usize) -> (usize, usize)
 }
 
 #[tactic(auto, using(crate::proofs::WordPlaces::spaces))]
-fn past_spaces(bytes: &[u8], from: usize) -> usize
+pub(crate) fn past_spaces(bytes: &[u8], from: usize) -> usize
     requires { from ≤ length bytes.now }
     ensures { IsPastSpaces bytes.now from result }
 {
@@ -26,7 +26,7 @@ fn past_spaces(bytes: &[u8], from: usize) -> usize
 }
 
 #[tactic(auto, using(crate::proofs::WordPlaces::ends))]
-fn word_end(bytes: &[u8], start: usize) -> usize
+pub(crate) fn word_end(bytes: &[u8], start: usize) -> usize
     requires { start ≤ length bytes.now }
     ensures { IsWordEnd bytes.now start result }
 {

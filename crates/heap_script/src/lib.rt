@@ -28,6 +28,7 @@ mod lines;
 mod list_devices;
 mod making;
 mod numbers;
+mod numerals;
 mod pairs;
 mod past;
 mod pieces;

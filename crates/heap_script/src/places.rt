@@ -1,9 +1,9 @@
 // One word at its place: its rank, and the number that it says.
 
-ghost use Rattle.std.specs.Prelude.{◌≡◌, ◌<◌, ◌≤◌, ◌+◌, ◌^◌, ◌||◌, not, false, [], ◌∷◌, if◌then◌else◌, codes};
+ghost use Rattle.std.specs.Prelude.{◌≡◌, ◌<◌, ◌≤◌, ◌+◌, ◌^◌, ◌||◌, not, false, Some, [], ◌∷◌, if◌then◌else◌, codes};
 ghost use Rattle.gc_graph.specs.Reasons.{says, is_beyond, value_of};
 ghost use Rattle.gc_graph.specs.Words.{is_number, is_text};
-ghost use Rattle.heap_script.specs.Ranks.{rank_at, rank_by};
+ghost use Rattle.heap_script.specs.Ranks.{number_rank, rank_at, rank_by};
 ghost use Rattle.heap_script.specs.Rows.{bounds_of, is_null, place_of};
 
 use super::forms::Spot;
@@ -49,14 +49,25 @@ pub(crate) fn read_place(spot: Spot, word: &[u8], bounds: Bounds) -> Reading
     }
 }
 
-#[inline(always)]
+#[tactic(auto, using(crate::proofs::PlacesRead::number_ranks))]
 fn read_number(word: &[u8], from: u32, limit: u64) -> Reading
     requires { limit ≤ 2 ^ 32 }
     ensures rank { result.rank ≡ rank_by false (not (is_number word.now)) false (is_beyond from limit word.now) }
     ensures value { result.rank ≡ 9 → result.value ≡ value_of word.now }
     ensures low { result.rank ≡ 9 → result.value < limit }
 {
-    match number(word) {
+    judged(number(word), from, limit)
+}
+
+/// The rank of a word that is this number, or none, where one from `from` on and below `limit` stands.
+#[inline(always)]
+pub(crate) fn judged(value: Option<u64>, from: u32, limit: u64) -> Reading
+    requires { limit ≤ 2 ^ 32 }
+    ensures rank { result.rank ≡ number_rank from limit value }
+    ensures value { result.rank ≡ 9 → value ≡ Some result.value }
+    ensures low { result.rank ≡ 9 → result.value < limit }
+{
+    match value {
         None => Reading {
             rank: BAD_NUMBER,
             value: 0,
