@@ -103,11 +103,23 @@ impl Past {
         ensures { result ≡ spec.breaks self.now.stage command.now }
     {
         match *command {
-            Command::At { .. } => matches!(self.stage, Stage::Going),
-            Command::ThreadsGo => !matches!(self.stage, Stage::Waiting),
-            Command::ThreadsJoin => !matches!(self.stage, Stage::Going),
+            Command::At { .. } => self.is_going(),
+            Command::ThreadsGo => !self.is_waiting(),
+            Command::ThreadsJoin => !self.is_going(),
             _ => false,
         }
+    }
+
+    fn is_waiting(&self) -> bool
+        ensures { result ≡ spec.is_waiting self.now.stage }
+    {
+        matches!(self.stage, Stage::Waiting)
+    }
+
+    fn is_going(&self) -> bool
+        ensures { result ≡ spec.is_going self.now.stage }
+    {
+        matches!(self.stage, Stage::Going)
     }
 
     /// Whether no order waits and no thread runs.
