@@ -19,7 +19,7 @@ use Rattle.gc_graph.specs.Valid.{IsTyped, NamesLive, IsReferenceBelow}
 use Rattle.gc_graph.specs.Outcomes.{answered, with_slot, slot_at}
 use Rattle.gc_graph.specs.ObjectSteps.{StepSet, StepGet, IsChanged, IsRead, with_node, first_word}
 use Rattle.heap_engine.specs.Nodes.{place_of, word_of}
-use Rattle.heap_engine.specs.Objects.{IsFieldAt, IsLiveReference, IsWordOf, target_in, written_in, reference_to}
+use Rattle.heap_engine.specs.Objects.{IsFieldAt, IsLiveReference, IsWordOf, target_in, written_in, slot_word}
 use Rattle.heap_engine.specs.Changes.{put_in}
 use Rattle.heap_engine.specs.Parts.{ObjectsView, HandlesView, CycleView, setup_of_objects, state_of, IsReady}
 use Rattle.heap_engine.proofs.StrongFields.{IsStrong, AreKnown, known_nodes, strong_nodes, strong_kind}
@@ -167,6 +167,6 @@ content_live nodes None live = tt
 content_live nodes (Some n) live = live n refl
 
 -- what a slot holds, as a word
-pub content_word : (nodes : List Node) (slot : Option ℕ) → reference_to (option_map (place_of nodes) slot) ≡ word_of (place_of nodes) (content_of slot)
+pub content_word : (nodes : List Node) (slot : Option ℕ) → slot_word (option_map (place_of nodes) slot) ≡ word_of (place_of nodes) (content_of slot)
 content_word nodes None = refl
 content_word nodes (Some n) = refl

@@ -22,12 +22,15 @@
 //! What is only tested or not said: that memory suffices, and how long a command takes.
 #![tactic(auto)]
 
+mod collecting;
 mod creating;
 mod cycle;
 mod entries;
 mod fields;
+mod finding;
 mod handles;
 mod heap;
+mod mark_list;
 mod marking;
 mod nodes;
 mod objects;

@@ -2,7 +2,7 @@ use Rattle.std.proofs.Common.{◌≡◌, ℕ, List, Option, None, Some, inl, inr
 use Rattle.page_words.specs.Seat.{SeatView}
 use Rattle.heap_engine.specs.Marking.{MarksOn}
 use Rattle.heap_engine.proofs.MarkLoops.{MarksOn-then, Contains-take_more_cases, Contains-take_more_old, Contains-take_more_new}
-use Rattle.heap_engine.proofs.marking.MarkList.mark_slots.Goals as goal
+use Rattle.heap_engine.proofs.mark_list.MarkList.mark_slots.Goals as goal
 
 pub loop-slot-preserved : goal.loop-slot-preserved
 loop-slot-preserved c = record {
