@@ -219,31 +219,6 @@ there_is types v b view there =
 pub nowhere : (test : ℕ → Bool) (q : ℕ) → IsLed test no_object q → ⊥
 nowhere test q led = elim led [ inl strong ↦ omega (arith, strong.1) | inr pair ↦ omega (arith, pair.1.1) ]
 
--- what leads anywhere is the object of a body
-pub body_leads : (types : List ObjectType) (v : SeatView) (test : ℕ → Bool) (p q : ℕ) → IsLed test (object_at (graph_in types v) p) q
-    → (b : Body) × Contains v.bodies b × (b.place ≡ p) × IsLed test (object_in types b) q
-body_leads types v test p q led =
-    elim (cases_lt p v.count) [
-      | inl low ↦ somewhere types v.bodies test p q
-          (subst (λ o. IsLed test o q) (get_or-map-range_with_len (object_there types v.bodies) 0 v.count p p no_object low (omega arith)) led)
-      | inr past ↦ absurd (nowhere test q (subst (λ o. IsLed test o q)
-          (get_or_past (graph_in types v) p no_object (omega (arith, past, length-map-range_with_len (object_there types v.bodies) 0 v.count))) led))
-    ] where
-      somewhere : (types : List ObjectType) (bodies : List Body) (test : ℕ → Bool) (p q : ℕ) → IsLed test (object_there types bodies p) q
-          → (b : Body) × Contains bodies b × (b.place ≡ p) × IsLed test (object_in types b) q
-      somewhere types [] test p q led = absurd (nowhere test q led)
-      somewhere types (b ∷ bodies) test p q led = elim (cases_eq b.place p) [
-        | inl same ↦ (
-          b,
-          Contains-head b bodies,
-          same,
-          subst (λ o. IsLed test o q) (cond-true (eqb b.place p) (object_in types b) (object_there types bodies p) (eq-eqb b.place p same)) led,
-        )
-        | inr other ↦
-            (let w = somewhere types bodies test p q (subst (λ o. IsLed test o q) (cond-false (eqb b.place p) (object_in types b) (object_there types bodies p) (ne_eqb b.place p other)) led) in
-            (w.0, Contains-cons b bodies w.0 w.1, w.2, w.3))
-      ]
-
 -- ---- without pairs
 
 pairless_kinds : (types : List ObjectType) (t : ℕ) → ArePairless types → Contains (get_or types t no_type).kinds Pair → ⊥

@@ -19,7 +19,7 @@ use Rattle.gc_graph.specs.Valid.{IsTyped, NamesLive, IsReferenceBelow}
 use Rattle.gc_graph.specs.Outcomes.{answered, with_slot, slot_at}
 use Rattle.gc_graph.specs.ObjectSteps.{StepSet, StepGet, IsChanged, IsRead, with_node, first_word}
 use Rattle.heap_engine.specs.Nodes.{place_of, word_of}
-use Rattle.heap_engine.specs.Objects.{IsFieldAt, IsLiveReference, IsWordOf, target_in, written_in, reference_to}
+use Rattle.heap_engine.specs.Objects.{address_of, IsFieldAt, IsLiveReference, IsWordOf, target_in, written_in, slot_word}
 use Rattle.heap_engine.specs.Changes.{put_in}
 use Rattle.heap_engine.specs.Parts.{ObjectsView, HandlesView, CycleView, setup_of_objects, state_of, IsReady}
 use Rattle.heap_engine.proofs.StrongFields.{IsStrong, AreKnown, known_nodes, strong_nodes, strong_kind}
@@ -54,6 +54,23 @@ reference_field o n f known live kind =
     ] in
     (low, reference_value (length o.nodes) node.object.kinds f node.object.values typed.values_are low kind)
 
+-- and its word holds a reference
+reference_word : (o : ObjectsView) (n f : ℕ) → AreKnown (setup_of_objects o) o.nodes → IsLive o.nodes n → is_reference (kind_of_field (node_at o.nodes n).object f) ≡ true
+    → IsWordOf o.nodes n (word_of_field (node_at o.nodes n).object f) (address_of o.nodes n (word_of_field (node_at o.nodes n).object f))
+reference_word o n f known live kind =
+    let node : Node = node_at o.nodes n in
+    let word : ℕ = word_of_field node.object f in
+    let field = reference_field o n f known live kind in
+    let first : word ≡ first_of node.object.kinds f = omega (arith, field.0) in
+    let within : word < length node.object.values = omega (arith, first, field.1.low) in
+    record {
+      live = live;
+      low = within;
+      at = refl;
+      reference = named_reference o.nodes (length o.nodes) (value_at node word) (All-get_or (NamesLive o.nodes) node.object.values word Null within (known.references n live))
+          (subst (λ w. IsReferenceBelow (length o.nodes) (value_at node w)) (sym first) field.1.value);
+    }
+
 -- a field of a live node
 found_at : (o : ObjectsView) (h : HandlesView) (c : CycleView) (p f a n : ℕ) → IsReady o h c → get_or h.slots p None ≡ Some n → IsFieldAt o.nodes n f (Ok a) → Found o h p f a
 found_at o h c p f a n ready slot told =
@@ -65,34 +82,25 @@ found_at o h c p f a n ready slot told =
     let answer : Result ℕ Refusal = Ok a in
     elim (cases_Bool (ltb f (field_count node))) [
       | inl low ↦
-          (let inside : MatchBool (is_reference (kind_of_field node.object f)) (answer ≡ Ok (place_of o.nodes n + 2 + word)) (answer ≡ Err R.Kind) =
-          subst (λ b. MatchBool b (MatchBool (is_reference (kind_of_field node.object f)) (answer ≡ Ok (place_of o.nodes n + 2 + word)) (answer ≡ Err R.Kind)) (answer ≡ Err R.Field)) low told in
+          (let inside : MatchBool (is_reference (kind_of_field node.object f)) (answer ≡ Ok (address_of o.nodes n word)) (answer ≡ Err R.Kind) =
+          subst (λ b. MatchBool b (MatchBool (is_reference (kind_of_field node.object f)) (answer ≡ Ok (address_of o.nodes n word)) (answer ≡ Err R.Kind)) (answer ≡ Err R.Field)) low told in
           elim (cases_Bool (is_reference (kind_of_field node.object f))) [
             | inl kind ↦
-                (let at : answer ≡ Ok (place_of o.nodes n + 2 + word) = subst (λ b. MatchBool b (answer ≡ Ok (place_of o.nodes n + 2 + word)) (answer ≡ Err R.Kind)) kind inside in
+                (let at : answer ≡ Ok (address_of o.nodes n word) = subst (λ b. MatchBool b (answer ≡ Ok (address_of o.nodes n word)) (answer ≡ Err R.Kind)) kind inside in
                 let field = reference_field o n f known live kind in
-                let first : word ≡ first_of node.object.kinds f = omega (arith, field.0) in
-                let within : word < length node.object.values = omega (arith, first, field.1.low) in
-                let value : IsReferenceBelow (length o.nodes) (value_at node word) =
-                subst (λ w. IsReferenceBelow (length o.nodes) (value_at node w)) (sym first) field.1.value in
+                let is : IsWordOf o.nodes n word (address_of o.nodes n word) = reference_word o n f known live kind in
                 record {
                   node = n;
                   slot = slot;
                   asked = ltb-true f (field_count node) low;
                   reference = kind;
                   strong = ap is_weak (strong_kind node f (All-get_or IsStrong o.nodes n no_node (live_below o.nodes n live) strong) field.0);
-                  word = record {
-                    live = live;
-                    low = within;
-                    at = same a (place_of o.nodes n + 2 + word) at;
-                    reference = named_reference o.nodes (length o.nodes) (value_at node word)
-                        (All-get_or (NamesLive o.nodes) node.object.values word Null within (known.references n live)) value;
-                  };
+                  word = record { live = live; low = is.low; at = same a (address_of o.nodes n word) at; reference = is.reference };
                 })
-            | inr other ↦ absurd (never a R.Kind (subst (λ b. MatchBool b (answer ≡ Ok (place_of o.nodes n + 2 + word)) (answer ≡ Err R.Kind)) other inside))
+            | inr other ↦ absurd (never a R.Kind (subst (λ b. MatchBool b (answer ≡ Ok (address_of o.nodes n word)) (answer ≡ Err R.Kind)) other inside))
           ])
       | inr past ↦ absurd (never a R.Field
-          (subst (λ b. MatchBool b (MatchBool (is_reference (kind_of_field node.object f)) (answer ≡ Ok (place_of o.nodes n + 2 + word)) (answer ≡ Err R.Kind)) (answer ≡ Err R.Field)) past told))
+          (subst (λ b. MatchBool b (MatchBool (is_reference (kind_of_field node.object f)) (answer ≡ Ok (address_of o.nodes n word)) (answer ≡ Err R.Kind)) (answer ≡ Err R.Field)) past told))
     ] where
       never : (a : ℕ) (why : Refusal) → (let answer : Result ℕ Refusal = Ok a in answer ≡ Err why) → ⊥
       never a why e = cc
@@ -167,6 +175,6 @@ content_live nodes None live = tt
 content_live nodes (Some n) live = live n refl
 
 -- what a slot holds, as a word
-pub content_word : (nodes : List Node) (slot : Option ℕ) → reference_to (option_map (place_of nodes) slot) ≡ word_of (place_of nodes) (content_of slot)
+pub content_word : (nodes : List Node) (slot : Option ℕ) → slot_word (option_map (place_of nodes) slot) ≡ word_of (place_of nodes) (content_of slot)
 content_word nodes None = refl
 content_word nodes (Some n) = refl

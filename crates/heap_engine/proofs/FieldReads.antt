@@ -1,6 +1,7 @@
 -- What a field word tells.
 use Rattle.std.proofs.Common.{◌≡◌, ℕ, ◌+◌, ◌<◌, ◌≤◌, ◌^◌, List, length, Some, None, option_map, refl, sym, ap, ◌∙◌, inl, inr, arith}
 use Rattle.std.specs.List.{Contains}
+use Rattle.std.proofs.lemmas.Bool.{cases_eq}
 use Rattle.std.proofs.lemmas.List.{get_or-map, length-map}
 use Rattle.std.proofs.lemmas.List.Elements.{All-contains}
 use Rattle.gc_graph.specs.declared.kind.Value.{Value}
@@ -85,6 +86,15 @@ head_address nodes v n f w m view read =
     let b : Body = body_of (place_of nodes) m (node_at nodes m) in
     let whole : IsWhole v.count b = All-contains (IsWhole v.count) v.bodies b view.whole read.body in
     omega (arith, whole.inside, read.word, whole.fields)
+
+-- a word that was read at a field is null, or one more than a place of the heap
+pub reference_fits : (nodes : List Node) (v : SeatView) (n word a w : ℕ) → IsView v → v.bodies ≡ bodies_of nodes → IsWordOf nodes n word a → IsWordAt v a w → w ≤ 2 ^ 32
+reference_fits nodes v n word a w view held is told = elim (cases_eq w 0) [
+  | inl null ↦ omega (arith, null)
+  | inr other ↦
+      (let read = reads_node nodes v n word a w held is told other in
+      omega (arith, head_address nodes v n word w read.0 view read.1, view.count))
+]
 
 pub head_number : (nodes : List Node) (v : SeatView) (n f w m a number : ℕ) → HasRead nodes v n f w m → a ≡ w → IsWordAt v a number → number ≡ m
 head_number nodes v n f w m a number read at word =

@@ -13,7 +13,7 @@ use Rattle.gc_graph.specs.Valid.{IsTyped, NamesLive, AreLive}
 use Rattle.gc_graph.specs.Pause.{condemn}
 use Rattle.page_words.specs.Seat.{SeatView, IsView, holds}
 use Rattle.heap_engine.specs.Marking.{HoldsSlots, MarksReachable, object_in, object_there, graph_in}
-use Rattle.heap_engine.specs.Nodes.{place_of, body_of, bodies_of}
+use Rattle.heap_engine.specs.Nodes.{place_of, body_of, bodies_of, IsThere}
 use Rattle.heap_engine.specs.Objects.{AreOfValid, IsJudgement}
 use Rattle.heap_engine.specs.View.{kept_of, places_of}
 use Rattle.heap_engine.proofs.MarkCounts.{Contains-cons_cases, Contains-cons, Contains-head}
@@ -154,60 +154,92 @@ reached_some nodes slots p h =
     let rest = and_parts (eqb (place_of nodes w.0) p) (has (Reach (graph_of nodes) (slot_targets slots)) w.0) live.1 in
     (w.0, is_live_life (node_at nodes w.0).life live.0, eqb-true (place_of nodes w.0) p rest.0, rest.1)
 
-pub keeps_reached : (setup : Setup) (nodes : List Node) (slots : List (Option ℕ)) (v new : SeatView) (places : List (Option ℕ)) → ReachIsLeast → IsView v → AreOfValid setup nodes → AreLive nodes (slot_targets slots) → v.bodies ≡ bodies_of nodes
-    → places ≡ places_of nodes slots → MarksReachable setup.types places v new
-    → IsJudgement nodes slots (condemn (kept_of (holds new.marked) nodes) nodes)
-keeps_reached setup nodes slots v new places law view valid live held named marks =
-    let g : List Object = graph_of nodes in
-    let kept : List Bool = kept_of (holds new.marked) nodes in
-    let least : IsLeastClosed g (slot_targets slots) (Reach g (slot_targets slots)) = law g (slot_targets slots) (refers_within setup nodes valid) (are_nodes nodes slots live) in
+-- marking from what the slots name is over, and these are the nodes whose words it went through
+record HasMarked (setup : Setup) (nodes : List Node) (slots : List (Option ℕ)) (v new : SeatView) (places : List (Option ℕ)) : Type 0 where
+  view : IsView v
+  valid : AreOfValid setup nodes
+  live : AreLive nodes (slot_targets slots)
+  held : v.bodies ≡ bodies_of nodes
+  named : places ≡ places_of nodes slots
+  marks : MarksReachable setup.types places v new
+
+in_words : (setup : Setup) (nodes : List Node) (slots : List (Option ℕ)) (v new : SeatView) (places : List (Option ℕ)) → HasMarked setup nodes slots v new places
+    → (m : ℕ) → IsLive nodes m → object_at (graph_in setup.types new) (place_of nodes m) ≡ object_in setup.types (body_of (place_of nodes) m (node_at nodes m))
+in_words setup nodes slots v new places done m live =
     let graph : graph_in setup.types new ≡ graph_in setup.types v =
-    ap (λ bs. map (object_there setup.types bs) (range_with_len 0 new.count)) marks.bodies ∙ ap (λ n. map (object_there setup.types v.bodies) (range_with_len 0 n)) marks.count in
+    ap (λ bs. map (object_there setup.types bs) (range_with_len 0 new.count)) done.marks.bodies
+    ∙ ap (λ n. map (object_there setup.types v.bodies) (range_with_len 0 n)) done.marks.count in
+    ap (λ g. object_at g (place_of nodes m)) graph
+    ∙ there_is setup.types v (body_of (place_of nodes) m (node_at nodes m)) done.view (node_body nodes v m done.held (live_is_there nodes m live))
+
+live_typed : (setup : Setup) (nodes : List Node) (m : ℕ) → AreOfValid setup nodes → IsLive nodes m → IsTyped setup (length nodes) (node_at nodes m)
+live_typed setup nodes m valid live = typed_at setup nodes m valid (there_below nodes m (live_is_there nodes m live))
+
+kept_closed : (setup : Setup) (nodes : List Node) (slots : List (Option ℕ)) (v new : SeatView) (places : List (Option ℕ)) → HasMarked setup nodes slots v new places
+    → IsClosed (graph_of nodes) (kept_of (holds new.marked) nodes)
+kept_closed setup nodes slots v new places done m n is leads =
+    let kept : List Bool = kept_of (holds new.marked) nodes in
     let place : ℕ → ℕ = place_of nodes in
-    let in_words : (m : ℕ) → IsLive nodes m → object_at (graph_in setup.types new) (place m) ≡ object_in setup.types (body_of place m (node_at nodes m)) =
-    λ m m_live. ap (λ g. object_at g (place m)) graph ∙ there_is setup.types v (body_of place m (node_at nodes m)) view (node_body nodes v m held (live_is_there nodes m m_live)) in
-    let typed : (m : ℕ) → IsLive nodes m → IsTyped setup (length nodes) (node_at nodes m) = λ m m_live. typed_at setup nodes m valid (there_below nodes m (live_is_there nodes m m_live)) in
-    let closed : IsClosed g kept = λ m n is leads.
     let parts = kept_parts (holds new.marked) nodes m is in
     let o : Object = (node_at nodes m).object in
     let led : IsLed (has kept) o n = is_led (has kept) o n (subst (λ x. leads_to kept x n ≡ true) (object-at nodes m) leads) in
     let words : IsLed (holds new.marked) (renamed_object place o) (place n) =
     led_renamed place (holds new.marked) o n (led_wider (has kept) (λ k. holds new.marked (place k)) o n (λ k there in_kept. (kept_parts (holds new.marked) nodes k in_kept).1) led) in
-    kept_from (holds new.marked) nodes n (named_live setup nodes m n valid parts.0 (led_named (has kept) o n led))
-    (marks.closed (place m) (place n) parts.1 (led_leads (holds new.marked) (object_at (graph_in setup.types new) (place m)) (place n)
-    (subst (λ x. IsLed (holds new.marked) x (place n)) (sym (in_words m parts.0))
-    (led_node setup place (length nodes) m (node_at nodes m) (holds new.marked) (place n) (typed m parts.0) words)))) in
-    let roots_kept : HoldsAll kept (slot_targets slots) = λ n root.
+    kept_from (holds new.marked) nodes n (named_live setup nodes m n done.valid parts.0 (led_named (has kept) o n led))
+    (done.marks.closed (place m) (place n) parts.1 (led_leads (holds new.marked) (object_at (graph_in setup.types new) (place m)) (place n)
+    (subst (λ x. IsLed (holds new.marked) x (place n)) (sym (in_words setup nodes slots v new places done m parts.0))
+    (led_node setup place (length nodes) m (node_at nodes m) (holds new.marked) (place n) (live_typed setup nodes m done.valid parts.0) words))))
+
+kept_roots : (setup : Setup) (nodes : List Node) (slots : List (Option ℕ)) (v new : SeatView) (places : List (Option ℕ)) → HasMarked setup nodes slots v new places
+    → HoldsAll (kept_of (holds new.marked) nodes) (slot_targets slots)
+kept_roots setup nodes slots v new places done n root =
     let slot : Contains slots (Some n) = slot_of_root slots n root in
-    kept_from (holds new.marked) nodes n (slot_live nodes slots n live slot)
-    (marks.roots (place_of nodes n) (subst (λ l. Contains l (Some (place_of nodes n))) (sym named) (slot_place nodes slots n slot))) in
-    let test_closed : ClosesUnder (graph_in setup.types new) (reached_place nodes slots) = λ p q is leads.
+    kept_from (holds new.marked) nodes n (slot_live nodes slots n done.live slot)
+    (done.marks.roots (place_of nodes n) (subst (λ l. Contains l (Some (place_of nodes n))) (sym done.named) (slot_place nodes slots n slot)))
+
+reached_closed : (setup : Setup) (nodes : List Node) (slots : List (Option ℕ)) (v new : SeatView) (places : List (Option ℕ)) → HasMarked setup nodes slots v new places
+    → IsLeastClosed (graph_of nodes) (slot_targets slots) (Reach (graph_of nodes) (slot_targets slots)) → ClosesUnder (graph_in setup.types new) (reached_place nodes slots)
+reached_closed setup nodes slots v new places done least p q is leads =
+    let place : ℕ → ℕ = place_of nodes in
+    let reach : List Bool = Reach (graph_of nodes) (slot_targets slots) in
     let w = reached_some nodes slots p is in
     let o : Object = (node_at nodes w.0).object in
     let led : IsLed (reached_place nodes slots) (object_at (graph_in setup.types new) (place w.0)) q =
     subst (λ a. IsLed (reached_place nodes slots) (object_at (graph_in setup.types new) a) q) (sym w.2)
     (is_led (reached_place nodes slots) (object_at (graph_in setup.types new) p) q leads) in
     let edge = renamed_led place (reached_place nodes slots) o q
-    (node_led setup place (length nodes) w.0 (node_at nodes w.0) (reached_place nodes slots) q (typed w.0 w.1) (subst (λ x. IsLed (reached_place nodes slots) x q) (in_words w.0 w.1) led)) in
-    let reach : List Bool = Reach g (slot_targets slots) in
+    (node_led setup place (length nodes) w.0 (node_at nodes w.0) (reached_place nodes slots) q (live_typed setup nodes w.0 done.valid w.1)
+    (subst (λ x. IsLed (reached_place nodes slots) x q) (in_words setup nodes slots v new places done w.0 w.1) led)) in
     let within : IsLed (has reach) o edge.0 = led_wider (λ k. reached_place nodes slots (place k)) (has reach) o edge.0
     (λ k there reached.
     let x = reached_some nodes slots (place k) reached in
-    subst (IsIn reach) (same_node nodes v x.0 k view held (live_is_there nodes x.0 x.1) (live_is_there nodes k (named_live setup nodes w.0 k valid w.1 there)) x.2) x.3) edge.2 in
+    let k_there : IsThere nodes k = live_is_there nodes k (named_live setup nodes w.0 k done.valid w.1 there) in
+    subst (IsIn reach) (same_node nodes v x.0 k done.view done.held (live_is_there nodes x.0 x.1) k_there x.2) x.3) edge.2 in
     subst (λ a. reached_place nodes slots a ≡ true) edge.1
-    (reached_from nodes slots edge.0 (named_live setup nodes w.0 edge.0 valid w.1 (led_named (has reach) o edge.0 within))
-    (least.closed w.0 edge.0 w.3 (subst (λ x. leads_to reach x edge.0 ≡ true) (sym (object-at nodes w.0)) (led_leads (has reach) o edge.0 within)))) in
-    let test_slots : HoldsSlots (reached_place nodes slots) places = λ p c.
+    (reached_from nodes slots edge.0 (named_live setup nodes w.0 edge.0 done.valid w.1 (led_named (has reach) o edge.0 within))
+    (least.closed w.0 edge.0 w.3 (subst (λ x. leads_to reach x edge.0 ≡ true) (sym (object-at nodes w.0)) (led_leads (has reach) o edge.0 within))))
+
+pub keeps_reached : (setup : Setup) (nodes : List Node) (slots : List (Option ℕ)) (v new : SeatView) (places : List (Option ℕ)) → ReachIsLeast → IsView v → AreOfValid setup nodes → AreLive nodes (slot_targets slots) → v.bodies ≡ bodies_of nodes
+    → places ≡ places_of nodes slots → MarksReachable setup.types places v new
+    → IsJudgement nodes slots (condemn (kept_of (holds new.marked) nodes) nodes)
+keeps_reached setup nodes slots v new places law view valid live held named marks =
+    let g : List Object = graph_of nodes in
+    let kept : List Bool = kept_of (holds new.marked) nodes in
+    let marked : HasMarked setup nodes slots v new places = record { view = view; valid = valid; live = live; held = held; named = named; marks = marks } in
+    let least : IsLeastClosed g (slot_targets slots) (Reach g (slot_targets slots)) = law g (slot_targets slots) (refers_within setup nodes valid) (are_nodes nodes slots live) in
+    let reached : HoldsSlots (reached_place nodes slots) places = λ p c.
     let w = place_slot nodes slots p (subst (λ l. Contains l (Some p)) named c) in
     subst (λ x. reached_place nodes slots x ≡ true) w.2
     (reached_from nodes slots w.0 (slot_live nodes slots w.0 live w.1) (least.roots_in w.0 (root_of_slot slots w.0 w.1))) in
+    let closed : IsClosed g kept = kept_closed setup nodes slots v new places marked in
     record {
       kept = kept;
       closed = closed;
-      reached = least.least kept closed roots_kept;
+      reached = least.least kept closed (kept_roots setup nodes slots v new places marked);
       bounded = λ n is.
           let parts = kept_parts (holds new.marked) nodes n is in
-          let w = reached_some nodes slots (place_of nodes n) (marks.least (reached_place nodes slots) test_closed test_slots (place_of nodes n) parts.1) in
+          let w = reached_some nodes slots (place_of nodes n)
+          (marks.least (reached_place nodes slots) (reached_closed setup nodes slots v new places marked least) reached (place_of nodes n) parts.1) in
           subst (λ m. IsIn (Reach g (slot_targets slots)) m) (same_node nodes v w.0 n view held (live_is_there nodes w.0 w.1) (live_is_there nodes n parts.0) w.2) w.3;
       low = λ n is. kept_low (holds new.marked) nodes n is;
       nodes_are = refl;

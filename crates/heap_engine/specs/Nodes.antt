@@ -1,9 +1,10 @@
 -- Which body each node has in the words.
-use Rattle.std.specs.Prelude.{◌≡◌, ℕ, suc, ◌+◌, List, [], ◌∷◌, map, if◌then◌else◌}
+use Rattle.std.specs.Prelude.{◌≡◌, ℕ, suc, List, [], ◌∷◌, map, if◌then◌else◌}
 use Rattle.gc_graph.specs.declared.kind.Value.{Value}
 use Rattle.gc_graph.specs.declared.kind.Value.TheVariants.{Null, Ref, Word}
 use Rattle.gc_graph.specs.State.{Node, node_at, is_there, is_dead, size_of}
 pub use Rattle.gc_graph.specs.Valid.{IsThere}
+use Rattle.object_headers.specs.Offsets.{reference_to}
 use Rattle.page_words.specs.Bodies.{Body}
 use Rattle.page_words.specs.Seat.{SeatView, holds}
 
@@ -14,7 +15,7 @@ place_of nodes n = (node_at nodes n).place
 -- the word of a value, where the nodes have these places: a reference is one more than the place
 abbrev pub word_of : (ℕ → ℕ) → Value → ℕ
 word_of place Null = 0
-word_of place (Ref n) = place n + 1
+word_of place (Ref n) = reference_to (place n)
 word_of place (Word w) = w
 
 -- the body of a node: its serial number is the node's number

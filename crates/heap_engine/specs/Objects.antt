@@ -12,6 +12,7 @@ use Rattle.gc_graph.specs.Fields.{field_count, kind_of_field, word_of_field, is_
 use Rattle.gc_graph.specs.Valid.{IsValid}
 use Rattle.gc_graph.specs.Sweep.{buried}
 use Rattle.gc_graph.specs.Pause.{condemn}
+use Rattle.object_headers.specs.Offsets.{first_field, reference_to}
 use Rattle.page_words.specs.Seat.{SeatView}
 use Rattle.page_space.specs.Space.{SpaceView, IsSpaceOf}
 use Rattle.heap_engine.specs.Nodes.{place_of, IsHeld}
@@ -40,11 +41,15 @@ AreOfValid setup nodes = (s : State) × IsValid setup s × (s.nodes ≡ nodes)
 abbrev pub IsLiveAt : List Node → ℕ → ℕ → Type 0
 IsLiveAt nodes n place = IsLive nodes n × (place_of nodes n ≡ place)
 
+-- where the node's word with this number is
+abbrev pub address_of : List Node → ℕ → ℕ → ℕ
+address_of nodes n word = place_of nodes n + first_field + word
+
 -- where the node's field f is, or why it has none that `set` and `get` speak of
 abbrev pub IsFieldAt : List Node → ℕ → ℕ → Result ℕ Refusal → Type 0
 IsFieldAt nodes n f answer =
     MatchBool (nat_lt f (field_count (node_at nodes n)))
-    (MatchBool (is_reference (kind_of_field (node_at nodes n).object f)) (answer ≡ Ok (place_of nodes n + 2 + word_of_field (node_at nodes n).object f)) (answer ≡ Err R.Kind))
+    (MatchBool (is_reference (kind_of_field (node_at nodes n).object f)) (answer ≡ Ok (address_of nodes n (word_of_field (node_at nodes n).object f))) (answer ≡ Err R.Kind))
     (answer ≡ Err R.Field)
 
 -- null, or a reference to a live node
@@ -57,7 +62,7 @@ IsLiveReference nodes (Word w) = ⊥
 pub record IsWordOf (nodes : List Node) (n word a : ℕ) : Type 0 where
   pub live : IsLive nodes n
   pub low : word < length (node_at nodes n).object.values
-  pub at : a ≡ place_of nodes n + 2 + word
+  pub at : a ≡ address_of nodes n word
   pub reference : IsLiveReference nodes (value_at (node_at nodes n) word)
 
 -- the place and the number of what a value names
@@ -65,9 +70,9 @@ abbrev pub target_in : List Node → Value → Option (ℕ × ℕ)
 target_in nodes value = option_map (λ m. (place_of nodes m, m)) (target_of value)
 
 -- the reference word of what a slot holds
-abbrev pub reference_to : Option ℕ → ℕ
-reference_to None = 0
-reference_to (Some place) = place + 1
+abbrev pub slot_word : Option ℕ → ℕ
+slot_word None = 0
+slot_word (Some place) = reference_to place
 
 -- ---- changing
 

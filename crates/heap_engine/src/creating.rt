@@ -26,8 +26,9 @@ pub fn new_object(
     requires ty { t < length objects.old.types }
     requires extra { extra ≤ 33554432 }
     requires swept { cycle.old.phase ≡ Idle }
-    ensures step { StepNew (setup_of_objects objects.old) (state_of objects.old handles.old cycle.old)
-        p t extra (result ∷ []) (answered (state_of objects.new handles.new cycle.new)) }
+    ensures step { StepNew (setup_of_objects objects.old)
+        (state_of objects.old handles.old cycle.old) p t extra (result ∷ [])
+        (answered (state_of objects.new handles.new cycle.new)) }
     ensures frame { IsFrame objects.old cycle.old objects.new handles.new (counted cycle.new) }
 {
     let number = objects.made();

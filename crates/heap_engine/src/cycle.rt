@@ -14,7 +14,7 @@ ghost use Rattle.heap_engine.specs.Changes.{filled};
 
 use crate::entries;
 use crate::handles::Handles;
-use crate::marking::MarkList;
+use crate::mark_list::MarkList;
 use crate::objects::Objects;
 use crate::outcome::Outcome;
 use crate::states::{self, States};

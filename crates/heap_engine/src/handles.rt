@@ -4,11 +4,12 @@ ghost use Rattle.std.specs.Prelude.{◌≡◌, ◌<◌, None, IfOk, length, repl
 ghost use Rattle.std.specs.Prelude.{slice_index_or, slice_set, option_map};
 ghost use Rattle.gc_graph.specs.declared.kind.Value.TheVariants.{Null};
 ghost use Rattle.gc_graph.specs.Fields.{content_of};
-ghost use Rattle.heap_engine.specs.Objects.{reference_to};
+ghost use Rattle.heap_engine.specs.Objects.{slot_word};
 ghost use Rattle.heap_engine.specs.Changes.{put_in};
 
 use gc_graph::NoMemory;
 use ghost_values::GhostValue;
+use object_headers::reference_to;
 use std::alloc::Global;
 use std::marker::Model;
 
@@ -73,7 +74,7 @@ impl Handles {
     /// What slot q holds, as the content of a field.
     pub fn content(&self, q: u32) -> Content
         requires { q < 256 }
-        ensures word { result.word ≡ reference_to (slice_index_or self.now.places q None) }
+        ensures word { result.word ≡ slot_word (slice_index_or self.now.places q None) }
         ensures value { result.value.value
             ≡ content_of (slice_index_or self.now.slots q None) }
     {
@@ -175,10 +176,10 @@ fn value_of(slots: &GhostValue<SlotLists>, q: u32) -> GhostValue<Values>
 
 /// The reference word of what a slot holds.
 fn reference_of(slot: Option<u32>) -> u64
-    ensures { result ≡ reference_to slot }
+    ensures { result ≡ slot_word slot }
 {
     match slot {
-        Some(place) => u64::from(place) + 1,
+        Some(place) => reference_to(place),
         None => 0,
     }
 }

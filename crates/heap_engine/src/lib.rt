@@ -7,27 +7,30 @@
 //! of `objects` (words, pages, types), `handles` (slots), `cycle` (collections and sweeps) and
 //! `outcome` (the lines of the last command). Each part owns what it holds and has a model; the
 //! state of the graph is put together from the models. The commands, in `creating`, `fields`,
-//! `slots`, `totals` and `cycle`, take the parts. Inside, `marking` (what the slots reach) and
-//! `sweeping` (what was dead), and for contracts alone `nodes`, `states` and `entries`. The next
-//! levels down are `page_space` and `page_words`.
+//! `slots`, `totals` and `cycle`, take the parts. Inside, `mark_list` and `marking` (what the slots
+//! reach), `collecting` and `sweeping` (what was dead), `finding` (places and fields), and for
+//! contracts alone `nodes`, `states` and `entries`. Next down are `page_space` and `page_words`.
 //!
 //! What is proved: `act` is a step from the heap's own state to its new state, for every command
 //! that is allowed and that the heap does so far (`IsBuiltIn`), and its lines are those of the step;
-//! the pieces that the commands took are the heap's history of the region. Each node that is not finalised is the
-//! object with its number, type, size, place, field words and extra words. A collection keeps
-//! exactly what the slots reach, and never reads an extra word. Refusals and a full heap are
-//! answered exactly where the step says so; a collection alone may want memory, and then nothing
-//! has changed.
+//! the pieces that the commands took are the heap's history of the region. Each node that is not
+//! finalised is the object with its number, type, size, place, field words and extra words. A
+//! collection keeps exactly what the slots reach, and reads the words of strong fields alone.
+//! Refusals and a full heap are answered exactly where the step says so; a collection alone may
+//! want memory, and then nothing has changed.
 //!
 //! What is only tested or not said: that memory suffices, and how long a command takes.
 #![tactic(auto)]
 
+mod collecting;
 mod creating;
 mod cycle;
 mod entries;
 mod fields;
+mod finding;
 mod handles;
 mod heap;
+mod mark_list;
 mod marking;
 mod nodes;
 mod objects;

@@ -1,36 +1,27 @@
 // The objects of a heap: their words, their pages and their types.
 
-ghost use Rattle.std.specs.Prelude.{◌≡◌, ℕ, ◌+◌, ◌*◌, ◌^◌, ◌<◌};
-ghost use Rattle.std.specs.Prelude.{◌≤◌, [], length, IfOk, IfSome, map};
-ghost use Rattle.std.specs.Prelude.{slice_index_or, vec_capacity, Some, None, Ok, Err};
-ghost use Rattle.std.specs.Prelude.{MatchOption, MatchBool};
-ghost use Rattle.std.specs.Option.{ForSome};
+ghost use Rattle.std.specs.Prelude.{◌≡◌, ℕ, ◌+◌, ◌*◌, ◌<◌};
+ghost use Rattle.std.specs.Prelude.{◌≤◌, [], length, IfOk};
+ghost use Rattle.std.specs.Prelude.{slice_index_or, Some, None, Ok};
 ghost use Rattle.gc_graph.specs.declared.phase.Phase.{Phase};
-ghost use Rattle.gc_graph.specs.State.{node_at, slot_targets, objects_of, used_of};
-ghost use Rattle.gc_graph.specs.Fields.{size_of_type, value_at, word_of_field, is_reference};
+ghost use Rattle.gc_graph.specs.State.{node_at, objects_of, used_of};
+ghost use Rattle.gc_graph.specs.Fields.{size_of_type, value_at, word_of_field};
 ghost use Rattle.gc_graph.specs.declared.line.Refusal.TheVariants as R;
-ghost use Rattle.gc_graph.specs.Pause.{live_count};
 ghost use Rattle.gc_graph.specs.Placement.{IsPlaceFor, IsUsedPages, extents_of};
-ghost use Rattle.gc_graph.specs.Sweep.{AreDeadInOrder};
-ghost use Rattle.gc_graph.specs.Valid.{AreLive};
 ghost use Rattle.page_words.specs.Seat.{IsQuiet, empty_view};
 ghost use Rattle.gc_graph.specs.Shapes.{IsShape};
 ghost use Rattle.page_space.specs.Pages.{word_count};
-ghost use Rattle.page_space.specs.Space.{IsSpaceOf, IsFreePlace, extents_of_bodies};
-ghost use Rattle.heap_engine.specs.Sweeping.{IsJudged};
-ghost use Rattle.heap_engine.specs.View.{places_of};
 ghost use Rattle.heap_engine.specs.Objects.{AreBuilt, AreOfValid, IsLiveAt, IsFieldAt, IsWordOf, IsLiveReference};
-ghost use Rattle.heap_engine.specs.Objects.{IsJudgement, target_in, with_made, written_in, bury};
+ghost use Rattle.heap_engine.specs.Objects.{target_in, with_made, written_in};
 ghost use Rattle.heap_engine.specs.Nodes.{word_of, place_of};
 ghost use Rattle.heap_engine.specs.Parts.{setup_of_objects, HasMarks};
 
+use crate::finding::{find_place, reference_field};
 use crate::handles::{Content, Handles};
-use crate::marking::MarkList;
 use crate::nodes::{self, NodeLists};
-use crate::sweeping::sweep_pages;
-use gc_graph::{Kind, NoMemory, Refusal};
+use gc_graph::{NoMemory, Refusal};
 use ghost_values::GhostValue;
-use object_headers::SERIAL;
+use object_headers::{SERIAL, place_in};
 use page_space::Space;
 use page_words::MutatorSeat;
 use std::alloc::Global;
@@ -40,12 +31,12 @@ use type_table::TypeTable;
 /// The objects of a heap, by place. Places, sizes and offsets are in words.
 #[derive(Drop)]
 pub struct Objects {
-    space: Space,
-    seat: MutatorSeat,
-    types: TypeTable,
+    pub(crate) space: Space,
+    pub(crate) seat: MutatorSeat,
+    pub(crate) types: TypeTable,
     /// How many numbers were given out.
     made: u32,
-    nodes: GhostValue<NodeLists>,
+    pub(crate) nodes: GhostValue<NodeLists>,
 }
 
 impl Model for Objects {
@@ -197,12 +188,13 @@ impl Objects {
     {
         self.seat.bodies_lie_apart();
         let reference = self.space.words().load(&mut self.seat, a);
-        if reference == 0 {
-            return None;
+        match place_in(reference) {
+            Some(place) => {
+                let number = self.space.words().load(&mut self.seat, place + SERIAL) as u32;
+                Some((place, number))
+            }
+            None => None,
         }
-        let place = (reference - 1) as u32;
-        let number = self.space.words().load(&mut self.seat, place + SERIAL) as u32;
-        Some((place, number))
     }
 
     /// Writes the content into the field word at an address, which is that of field f of slot p's
@@ -223,80 +215,5 @@ impl Objects {
         self.space.lasts_while_objects_stay();
         self.space.words().store(&mut self.seat, a, content.word);
         self.nodes = nodes::written(&self.nodes, handles, p, f, content);
-    }
-
-    /// Sweeps all pages. The numbers of the finalised objects are put into `finalised`, which has
-    /// room for one for every second word of the heap.
-    pub fn sweep(&mut self, finalised: &mut Vec<u32>)
-        requires judged { IsJudged self.old.seat }
-        requires few { length self.old.nodes ≤ 1000000 }
-        requires empty { finalised.old.items ≡ [] }
-        requires room { word_count self.old.shape ≤ 2 * vec_capacity finalised.old }
-        ensures order { AreDeadInOrder self.old.nodes (word_count self.old.shape)
-            finalised.new.items }
-        ensures nodes { self.new.nodes ≡ map bury self.old.nodes }
-        ensures quiet { IsQuiet self.new.seat }
-        ensures many { length finalised.new.items ≤ 2 ^ 24 }
-        ensures room { vec_capacity finalised.new ≡ vec_capacity finalised.old }
-        ensures setup { setup_of_objects self.new ≡ setup_of_objects self.old }
-    {
-        self.seat.bodies_lie_apart();
-        sweep_pages(&mut self.space, &mut self.seat, finalised);
-        self.nodes = nodes::buried(&self.nodes);
-    }
-
-    /// Marks what the slots reach, which is kept, and condemns the other objects.
-    pub fn judge(&mut self, handles: &Handles, grey: &mut MarkList)
-        requires valid { AreOfValid (setup_of_objects self.old) self.old.nodes }
-        requires quiet { IsQuiet self.old.seat }
-        requires few { length self.old.nodes ≤ 1000000 }
-        requires slots { handles.now.places ≡ places_of self.old.nodes handles.now.slots }
-        requires live { AreLive self.old.nodes (slot_targets handles.now.slots) }
-        requires empty { grey.old.places ≡ [] }
-        requires room { objects_of self.old.nodes ≤ grey.old.room }
-        ensures judged { IsJudgement self.old.nodes handles.now.slots self.new.nodes }
-        ensures marks { IsJudged self.new.seat }
-        ensures listed { grey.new.places ≡ [] }
-        ensures marked { grey.new.marked ≡ live_count self.new.nodes }
-        ensures traced { grey.new.traced ≡ grey.new.marked }
-        ensures setup { setup_of_objects self.new ≡ setup_of_objects self.old }
-    {
-        self.seat.bodies_lie_apart();
-        gc_graph::reach_is_least();
-        grey.mark_reachable(&self.space, &mut self.seat, &self.types, handles.places());
-        self.nodes = nodes::judged(&self.nodes, &self.seat);
-    }
-}
-
-/// The address of the field that was found in the object at a place, or why it has none.
-fn reference_field(place: u32, found: Option<(Kind, u32)>) -> Result<u32, Refusal>
-    requires { ForSome found (λ t. place + t.1 < 2 ^ 32) }
-    ensures { MatchOption found (result ≡ Err R.Field) (λ t. MatchBool (is_reference t.0)
-        (result ≡ Ok (place + t.1)) (result ≡ Err R.Kind)) }
-{
-    match found {
-        Some((kind, offset)) => match kind {
-            Kind::Strong | Kind::Weak => Ok(place + offset),
-            Kind::Pair | Kind::Plain => Err(Refusal::Kind),
-        },
-        None => Err(Refusal::Field),
-    }
-}
-
-/// Where an object of the size goes: the lowest place in a page of its bucket, and else the first
-/// of the empty pages.
-fn find_place(space: &Space, seat: &mut MutatorSeat, size: u32) -> Option<u32>
-    requires space { IsSpaceOf space.now seat.old }
-    requires least { 2 ≤ size }
-    requires most { size < 2 ^ 26 }
-    ensures place { IsPlaceFor space.now.shape space.now.shape.pages
-        (extents_of_bodies seat.old.bodies) size result }
-    ensures free { IfSome result
-        (IsFreePlace space.now.shape (extents_of_bodies seat.old.bodies) size) }
-    ensures view { seat.new ≡ seat.old }
-{
-    match space.find(seat, size, 0, space.pages()) {
-        Some(a) => Some(a),
-        None => space.find_empty(seat, size),
     }
 }

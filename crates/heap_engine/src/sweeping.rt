@@ -2,6 +2,7 @@
 
 ghost use Rattle.std.specs.Prelude.{◌≡◌, ◌+◌, ◌*◌, ◌^◌, ◌<◌};
 ghost use Rattle.std.specs.Prelude.{◌≤◌, false, not, [], length, All, vec_capacity};
+ghost use Rattle.object_headers.specs.Offsets.{first_field};
 ghost use Rattle.page_words.specs.Bodies.{Body, IsPlace};
 ghost use Rattle.page_words.specs.Seat.{holds};
 ghost use Rattle.page_space.specs.Pages.{word_count};
@@ -47,7 +48,7 @@ fn sweep_object(space: &mut Space, seat: &mut MutatorSeat, a: u32, finalised: &m
     ensures swept { Sweeps a seat.old finalised.old.items seat.new finalised.new.items result }
     ensures space { IsSpaceOf space.new seat.new }
     ensures shape { space.new.shape ≡ space.old.shape }
-    ensures least { 2 ≤ result }
+    ensures least { first_field ≤ result }
     ensures inside { a + result ≤ word_count space.old.shape }
     ensures room { vec_capacity finalised.new ≡ vec_capacity finalised.old }
 {

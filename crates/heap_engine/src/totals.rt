@@ -13,8 +13,9 @@ use gc_graph::Line;
 /// Tells how much the heap holds.
 pub fn stat(objects: &Objects, handles: &Handles, cycle: &Cycle) -> Line
     requires ready { IsReady objects.now handles.now cycle.now }
-    ensures step { StepStat (setup_of_objects objects.now) (state_of objects.now handles.now cycle.now)
-        (result ∷ []) (answered (state_of objects.now handles.now cycle.now)) }
+    ensures step { StepStat (setup_of_objects objects.now)
+        (state_of objects.now handles.now cycle.now) (result ∷ [])
+        (answered (state_of objects.now handles.now cycle.now)) }
     ensures frame { IsFrame objects.now cycle.now objects.now handles.now (counted cycle.now) }
 {
     let _ = handles;

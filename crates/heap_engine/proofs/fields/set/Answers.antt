@@ -1,5 +1,5 @@
 use Rattle.std.proofs.Common.{None, get_or, sym, subst, ◌∙◌, ap}
-use Rattle.heap_engine.specs.Objects.{IsLiveReference, reference_to}
+use Rattle.heap_engine.specs.Objects.{IsLiveReference, slot_word}
 use Rattle.heap_engine.proofs.Ties.{slot_place, slot_live}
 use Rattle.heap_engine.proofs.FieldAnswers.{content_live, content_word}
 use Rattle.heap_engine.proofs.fields.set.Goals as goal
@@ -14,5 +14,5 @@ pub write-requires-clause-word : goal.write-requires-clause-word
 write-requires-clause-word c =
     rw c.content.ensures.value
     (c.content.ensures.word
-    ∙ ap reference_to (slot_place c.args.objects.now c.args.handles.now c.args.cycle.now c.args.q c.requires.ready.tied)
+    ∙ ap slot_word (slot_place c.args.objects.now c.args.handles.now c.args.cycle.now c.args.q c.requires.ready.tied)
     ∙ content_word c.args.objects.now.nodes (get_or c.args.handles.now.slots c.args.q None))

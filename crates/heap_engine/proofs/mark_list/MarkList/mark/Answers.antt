@@ -3,7 +3,7 @@ use Rattle.std.proofs.lemmas.Bool.{not-true, not-false}
 use Rattle.page_words.specs.Seat.{SeatView, holds}
 use Rattle.heap_engine.specs.Marking.{Grey, IsTricolour}
 use Rattle.heap_engine.proofs.MarkSteps.{marked_again, some_unmarked, counted_mark, tricolour_mark}
-use Rattle.heap_engine.proofs.marking.MarkList.mark.Goals as goal
+use Rattle.heap_engine.proofs.mark_list.MarkList.mark.Goals as goal
 
 pub push_reserved-requires : goal.push_reserved-requires
 push_reserved-requires c =

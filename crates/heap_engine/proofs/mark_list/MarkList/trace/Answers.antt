@@ -6,7 +6,7 @@ use Rattle.page_words.specs.Bodies.{IsPlace}
 use Rattle.page_words.specs.Seat.{is_grey, claimed_at, SeatView}
 use Rattle.heap_engine.specs.Marking.{IsTricolour, GrowsWithin}
 use Rattle.heap_engine.proofs.MarkSteps.{tricolour_claim, tricolour_past, tricolour_done}
-use Rattle.heap_engine.proofs.marking.MarkList.trace.Goals as goal
+use Rattle.heap_engine.proofs.mark_list.MarkList.trace.Goals as goal
 
 pub claim-requires-clause-place : goal.claim-requires-clause-place
 claim-requires-clause-place c =

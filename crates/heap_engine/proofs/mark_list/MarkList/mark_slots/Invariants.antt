@@ -3,7 +3,7 @@ use mathlib.Core.Logic.{◌⊎◌}
 use Rattle.std.specs.List.{Contains}
 use Rattle.page_words.specs.Seat.{holds}
 use Rattle.heap_engine.specs.Marking.{IsCounted, KeepsTricolour, MarksOn}
-use Rattle.heap_engine.proofs.marking.MarkList.mark_slots.Given as goal
+use Rattle.heap_engine.proofs.mark_list.MarkList.mark_slots.Given as goal
 
 abbrev pub invariant-loop-slot : goal.invariant-loop-slot
 invariant-loop-slot l = record {

@@ -4,7 +4,7 @@ use Rattle.std.proofs.lemmas.List.Sums.{count_by-le-length}
 use Rattle.page_words.specs.Bodies.{Body}
 use Rattle.page_words.specs.Seat.{holds}
 use Rattle.heap_engine.proofs.MarkLoops.{MarksOn-then, GrowsWithin-then}
-use Rattle.heap_engine.proofs.marking.MarkList.drain.Goals as goal
+use Rattle.heap_engine.proofs.mark_list.MarkList.drain.Goals as goal
 
 pub trace-requires-clause-references : goal.trace-requires-clause-references
 trace-requires-clause-references c = rw c.loop-place.invariant.kept.bodies c.requires.references

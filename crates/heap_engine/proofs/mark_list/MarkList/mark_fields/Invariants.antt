@@ -3,7 +3,7 @@ use Rattle.std.specs.List.{Contains}
 use Rattle.page_words.specs.Bodies.{Body}
 use Rattle.page_words.specs.Seat.{holds}
 use Rattle.heap_engine.specs.Marking.{IsCounted, KeepsTricolour, MarksOn, GrowsWithin, word_at}
-use Rattle.heap_engine.proofs.marking.MarkList.mark_fields.Given as goal
+use Rattle.heap_engine.proofs.mark_list.MarkList.mark_fields.Given as goal
 
 abbrev pub invariant-loop-offset : goal.invariant-loop-offset
 invariant-loop-offset l = record {

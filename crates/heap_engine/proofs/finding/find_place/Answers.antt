@@ -3,7 +3,7 @@ use Rattle.std.specs.Prelude.{IfSome, IfNone}
 use Rattle.gc_graph.specs.State.{Shape}
 use Rattle.gc_graph.specs.Placement.{Extent, Fits, StartsEmptyRun, IsLowest, IsNowhere, IsPlaceFor}
 use Rattle.page_space.specs.Space.{FitsBetween, extents_of_bodies}
-use Rattle.heap_engine.proofs.objects.find_place.Goals as goal
+use Rattle.heap_engine.proofs.finding.find_place.Goals as goal
 
 from_all : (shape : Shape) (pages : ℕ) (es : List Extent) (size a : ℕ) → FitsBetween shape 0 pages es size a → Fits shape pages es size a
 from_all shape pages es size a fits = (fits.0, (fits.1.0, fits.1.2, fits.1.3))

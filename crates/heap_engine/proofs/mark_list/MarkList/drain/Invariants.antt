@@ -1,6 +1,6 @@
 use Rattle.std.proofs.Common.{◌+◌, ◌-◌, ◌*◌, None, length, map}
 use Rattle.heap_engine.specs.Marking.{IsCounted, IsTricolour, MarksOn, GrowsWithin}
-use Rattle.heap_engine.proofs.marking.MarkList.drain.Given as goal
+use Rattle.heap_engine.proofs.mark_list.MarkList.drain.Given as goal
 
 abbrev pub invariant-loop-place : goal.invariant-loop-place
 invariant-loop-place l = record {

@@ -10,7 +10,7 @@ use Rattle.gc_graph.specs.Graph.{object_at, leads_by}
 use Rattle.heap_engine.specs.Marking.{MarksOn, HasType, word_at}
 use Rattle.heap_engine.proofs.MarkLoops.{HasStrong, has_strong, strong_word, MarksOn-then, GrowsWithin-target, Contains-take_more_cases, same_body, same_graph}
 use Rattle.heap_engine.proofs.BodyGraph.{place_leads, led_place}
-use Rattle.heap_engine.proofs.marking.MarkList.mark_fields.Goals as goal
+use Rattle.heap_engine.proofs.mark_list.MarkList.mark_fields.Goals as goal
 
 pub overflow_add-place : goal.overflow_add-place
 overflow_add-place c =

@@ -2,7 +2,7 @@ use Rattle.std.proofs.Common.{rules, ◌≡◌, ◌+◌, ◌<◌, ◌^◌, true,
 use Rattle.page_words.specs.Seat.{is_grey, claimed_at}
 use Rattle.heap_engine.specs.Marking.{Grey}
 use Rattle.heap_engine.proofs.MarkSteps.{counted_claim, some_untraced}
-use Rattle.heap_engine.proofs.marking.MarkList.claim.Goals as goal
+use Rattle.heap_engine.proofs.mark_list.MarkList.claim.Goals as goal
 
 pub overflow_add-self : goal.overflow_add-self
 overflow_add-self c =

@@ -1,6 +1,6 @@
 use Rattle.std.proofs.Common.{sym, ◌∙◌, map}
 use Rattle.heap_engine.proofs.MarkEnds.{counted_begin, all_traced, marks_reachable}
-use Rattle.heap_engine.proofs.marking.MarkList.mark_reachable.Goals as goal
+use Rattle.heap_engine.proofs.mark_list.MarkList.mark_reachable.Goals as goal
 
 pub mark_slots-requires-clause-counted : goal.mark_slots-requires-clause-counted
 mark_slots-requires-clause-counted c =

@@ -1,0 +1,66 @@
+// What a collection does to the objects: it judges them, and sweeps those that are dead.
+
+ghost use Rattle.std.specs.Prelude.{◌≡◌, ◌*◌, ◌^◌, ◌<◌};
+ghost use Rattle.std.specs.Prelude.{◌≤◌, [], length, map};
+ghost use Rattle.std.specs.Prelude.{vec_capacity};
+ghost use Rattle.gc_graph.specs.State.{slot_targets, objects_of};
+ghost use Rattle.gc_graph.specs.Pause.{live_count};
+ghost use Rattle.gc_graph.specs.Sweep.{AreDeadInOrder};
+ghost use Rattle.gc_graph.specs.Valid.{AreLive};
+ghost use Rattle.page_words.specs.Seat.{IsQuiet};
+ghost use Rattle.page_space.specs.Pages.{word_count};
+ghost use Rattle.heap_engine.specs.Sweeping.{IsJudged};
+ghost use Rattle.heap_engine.specs.View.{places_of};
+ghost use Rattle.heap_engine.specs.Objects.{AreOfValid};
+ghost use Rattle.heap_engine.specs.Objects.{IsJudgement, bury};
+ghost use Rattle.heap_engine.specs.Parts.{setup_of_objects};
+
+use crate::handles::Handles;
+use crate::mark_list::MarkList;
+use crate::nodes;
+use crate::objects::Objects;
+use crate::sweeping::sweep_pages;
+
+impl Objects {
+    /// Marks what the slots reach, which is kept, and condemns the other objects.
+    pub fn judge(&mut self, handles: &Handles, grey: &mut MarkList)
+        requires valid { AreOfValid (setup_of_objects self.old) self.old.nodes }
+        requires quiet { IsQuiet self.old.seat }
+        requires few { length self.old.nodes ≤ 1000000 }
+        requires slots { handles.now.places ≡ places_of self.old.nodes handles.now.slots }
+        requires live { AreLive self.old.nodes (slot_targets handles.now.slots) }
+        requires empty { grey.old.places ≡ [] }
+        requires room { objects_of self.old.nodes ≤ grey.old.room }
+        ensures judged { IsJudgement self.old.nodes handles.now.slots self.new.nodes }
+        ensures marks { IsJudged self.new.seat }
+        ensures listed { grey.new.places ≡ [] }
+        ensures marked { grey.new.marked ≡ live_count self.new.nodes }
+        ensures traced { grey.new.traced ≡ grey.new.marked }
+        ensures setup { setup_of_objects self.new ≡ setup_of_objects self.old }
+    {
+        self.seat.bodies_lie_apart();
+        gc_graph::reach_is_least();
+        grey.mark_reachable(&self.space, &mut self.seat, &self.types, handles.places());
+        self.nodes = nodes::judged(&self.nodes, &self.seat);
+    }
+
+    /// Sweeps all pages. The numbers of the finalised objects are put into `finalised`, which has
+    /// room for one for every second word of the heap.
+    pub fn sweep(&mut self, finalised: &mut Vec<u32>)
+        requires judged { IsJudged self.old.seat }
+        requires few { length self.old.nodes ≤ 1000000 }
+        requires empty { finalised.old.items ≡ [] }
+        requires room { word_count self.old.shape ≤ 2 * vec_capacity finalised.old }
+        ensures order { AreDeadInOrder self.old.nodes (word_count self.old.shape)
+            finalised.new.items }
+        ensures nodes { self.new.nodes ≡ map bury self.old.nodes }
+        ensures quiet { IsQuiet self.new.seat }
+        ensures many { length finalised.new.items ≤ 2 ^ 24 }
+        ensures room { vec_capacity finalised.new ≡ vec_capacity finalised.old }
+        ensures setup { setup_of_objects self.new ≡ setup_of_objects self.old }
+    {
+        self.seat.bodies_lie_apart();
+        sweep_pages(&mut self.space, &mut self.seat, finalised);
+        self.nodes = nodes::buried(&self.nodes);
+    }
+}
