@@ -20,7 +20,7 @@ pub(crate) struct CommandLine {
     pub(crate) end: usize,
 }
 
-#[inline(always)]
+#[inline(never)]
 pub(crate) fn read_row(bytes: &[u8], row: &Row, bounds: Bounds, before: Said) -> CommandLine
     requires within { before.end ≤ length bytes.now }
     requires low { before.rank ≤ 9 }
@@ -37,7 +37,7 @@ pub(crate) fn read_row(bytes: &[u8], row: &Row, bounds: Bounds, before: Said) ->
 }
 
 #[inline(always)]
-fn read_small_row(
+pub(crate) fn read_small_row(
     bytes: &[u8],
     row: &Row,
     form: SmallForm,
@@ -71,8 +71,8 @@ fn read_small_row(
     }
 }
 
-#[inline(always)]
-fn read_wide_row(
+#[inline(never)]
+pub(crate) fn read_wide_row(
     bytes: &[u8],
     row: &Row,
     form: WideForm,
