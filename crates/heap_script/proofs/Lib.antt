@@ -2,6 +2,7 @@ pub mod Accepting
 pub mod BuiltScripts
 pub mod CommandForms
 pub mod FormRanks
+pub mod HeaderLine
 pub mod LineReasons
 pub mod LinesByRows
 pub mod LinesJudged

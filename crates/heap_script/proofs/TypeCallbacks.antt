@@ -2,7 +2,7 @@
 use Rattle.std.proofs.Common.{◌≡◌, ℕ, ◌+◌, ◌<◌, ◌≤◌, ◌==◌, ◌&&◌, ◌||◌, Bool, true, false, not, cond, Option, Some, None, List, [], ◌∷◌, ◌++◌, length, drop, map, refl, sym, ap, ◌∙◌, subst, inl, inr, ◌⊎◌, arith}
 use Rattle.std.specs.Prelude.{codes, nat_lt, nat_le, unwrap_or, is_some}
 use Rattle.std.specs.List.{list_all, list_any}
-use Rattle.std.proofs.lemmas.Bool.{true≢false, cases_Bool, cond-true, cond-false, and_from, and_left, and_right, and_parts, and_cases, or_cases, or_parts, or_from, or_left, or_right, not_from_true, not_from_false, ltb-true, ltb-false, lt-ltb, le-ltb, le-leb, eq-eqb}
+use Rattle.std.proofs.lemmas.Bool.{true≢false, cases_Bool, cond-true, cond-false, and_from, and_left, and_right, and_parts, and_cases, or_cases, or_parts, or_from, or_left, or_right, not_from_true, not_from_false, ltb-true, ltb-false, lt-ltb, le-ltb, le-leb, eq-eqb, eqb-true, not-true}
 use Rattle.std.proofs.lemmas.List.{length_push, map_push, length-map, append-nil, nil_from_length}
 use Rattle.std.proofs.lemmas.List.Folds.{list_all-append, list_any-append}
 use Rattle.gc_graph.specs.Words.{is_text, is_number, value_after}
@@ -165,14 +165,21 @@ plain_numbers words rest pre are is plain =
     ∙ cond-false (not (list_all is_number rest)) (Some BadNumber) (cond (length rest == 0) (Some Count) None) (not_from_true (list_all is_number rest) plain)
 
 pub no_numbers : (callbacks : ℕ) (words rest : List (List ℕ)) (pre numbers : List ℕ) (over : Bool) → words ≡ pre ∷ rest → is_pre pre ≡ true
-    → AreCallbacks callbacks rest numbers over → length numbers ≡ 0 → over ≡ false → IsReasonOf (reason_of_callbacks words) 4
-no_numbers callbacks words rest pre numbers over are is called none off = inr (
-  Count,
-  refl,
-  plain_numbers words rest pre are is called.plain
-      ∙ cond-true (length rest == 0) (Some Count) None
-      (eq-eqb (length rest) 0 (omega (arith, none, ap length (called.numbers_are off), length-map rest value_of))),
-)
+    → AreCallbacks callbacks rest numbers over → (length numbers == 0 && not over) ≡ true → IsReasonOf (reason_of_callbacks words) 4
+no_numbers callbacks words rest pre numbers over are is called none =
+    let parts = and_parts (length numbers == 0) (not over) none in
+    inr (
+      Count,
+      refl,
+      plain_numbers words rest pre are is called.plain
+          ∙ cond-true (length rest == 0) (Some Count) None
+          (eq-eqb (length rest) 0 (omega (
+            arith,
+            eqb-true (length numbers) 0 parts.0,
+            ap length (called.numbers_are (not-true over parts.1)),
+            length-map rest value_of,
+          ))),
+    )
 
 -- ---- the whole line
 

@@ -103,9 +103,9 @@ impl Past {
         ensures { result ≡ spec.breaks self.now.stage command.now }
     {
         match *command {
-            Command::At { .. } => matches!(self.stage, Stage::Going),
-            Command::ThreadsGo => !matches!(self.stage, Stage::Waiting),
-            Command::ThreadsJoin => !matches!(self.stage, Stage::Going),
+            Command::At { .. } => self.stage.is_going(),
+            Command::ThreadsGo => !self.stage.is_waiting(),
+            Command::ThreadsJoin => !self.stage.is_going(),
             _ => false,
         }
     }
@@ -114,6 +114,26 @@ impl Past {
     pub(crate) fn is_at_rest(&self) -> bool
         ensures { result ≡ are_at_rest (spec.threads_in self.now.stage) }
     {
-        matches!(self.stage, Stage::AtRest)
+        self.stage.is_at_rest()
+    }
+}
+
+impl Stage {
+    fn is_at_rest(self) -> bool
+        ensures { result ≡ are_at_rest (spec.threads_in self) }
+    {
+        matches!(self, Stage::AtRest)
+    }
+
+    fn is_waiting(self) -> bool
+        ensures { result ≡ spec.is_waiting self }
+    {
+        matches!(self, Stage::Waiting)
+    }
+
+    fn is_going(self) -> bool
+        ensures { result ≡ spec.is_going self }
+    {
+        matches!(self, Stage::Going)
     }
 }

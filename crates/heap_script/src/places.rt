@@ -8,17 +8,7 @@ ghost use Rattle.heap_script.specs.Rows.{bounds_of, is_null, place_of};
 
 use super::forms::Spot;
 use super::numbers::number;
-
-/// A word that is none of those that may stand there.
-pub(crate) const UNKNOWN_WORD: u32 = 2;
-/// A word that is no number where one should be, or half a pair that is null.
-pub(crate) const BAD_NUMBER: u32 = 3;
-/// Fewer or more words than the form has.
-pub(crate) const COUNT: u32 = 4;
-/// A number out of its range.
-pub(crate) const RANGE: u32 = 5;
-/// No fault.
-pub(crate) const FAULTLESS: u32 = 9;
+use super::reasons::{BAD_NUMBER, FAULTLESS, RANGE, UNKNOWN_WORD};
 
 /// How many types the lines before declare, and how many callbacks there are.
 #[derive(Clone, Copy)]

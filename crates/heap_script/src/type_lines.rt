@@ -1,6 +1,6 @@
 // The type lines of a script.
 
-ghost use Rattle.std.specs.Prelude.{◌≡◌, ◌⊎◌, ◌≤◌, ◌&&◌, ◌||◌, nat_lt, nat_le, false, ◌∷◌, length, drop, codes, IfOk, IfErr};
+ghost use Rattle.std.specs.Prelude.{◌≡◌, ◌⊎◌, ◌≤◌, ◌==◌, ◌&&◌, ◌||◌, not, nat_lt, nat_le, false, ◌∷◌, length, drop, codes, IfOk, IfErr};
 ghost use Rattle.std.specs.Prelude.{Some, None};
 ghost use Rattle.std.specs.List.{list_all};
 ghost use Rattle.gc_graph.specs.Words.{is_number};
@@ -117,13 +117,19 @@ fn read_callbacks(
     }
     match read_numbers(alloc, bytes, end, callbacks) {
         Ok(called) => {
-            if called.numbers.is_empty() && !called.over {
+            if is_empty(&called) {
                 return Err(COUNT);
             }
             Ok(called)
         }
         Err(reason) => Err(reason),
     }
+}
+
+fn is_empty(called: &Callbacks) -> bool
+    ensures { result ≡ (length called.now.numbers.items == 0 && not called.now.over) }
+{
+    called.numbers.is_empty() && !called.over
 }
 
 // The numbers that stand there up to the line's end. Only as many are kept as a type can have.

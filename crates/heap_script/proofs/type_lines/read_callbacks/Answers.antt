@@ -6,10 +6,10 @@ pub returns-then-not-is_text-clause-fault : goal.returns-then-not-is_text-clause
 returns-then-not-is_text-clause-fault c =
     wrong_pre _ _ _ (c.next_word-start.ensures.some (omega arith)) (sym c.is_text.ensures ∙ c.if-not-is_text.true)
 
-pub returns-then-not-called-clause-fault : goal.returns-then-not-called-clause-fault
-returns-then-not-called-clause-fault c =
-    no_numbers _ _ _ _ _ _ (c.next_word-start.ensures.some (omega arith)) (sym c.is_text.ensures ∙ c.if-not-is_text.false)
-    c.in-Ok.ensures.called (search rules) c.if-not-called.true
+pub returns-then-is_empty-clause-fault : goal.returns-then-is_empty-clause-fault
+returns-then-is_empty-clause-fault c =
+    no_numbers _ _ _ _ c.in-Ok.called.numbers.items c.in-Ok.called.over (c.next_word-start.ensures.some (omega arith))
+    (sym c.is_text.ensures ∙ c.if-not-is_text.false) c.in-Ok.ensures.called (sym c.is_empty.ensures ∙ c.if-is_empty.true)
 
 pub returns-in-Err-clause-fault : goal.returns-in-Err-clause-fault
 returns-in-Err-clause-fault c =
