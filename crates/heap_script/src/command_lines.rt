@@ -7,10 +7,11 @@ ghost use Rattle.heap_script.specs.CommandLines.{IsCommandLine};
 ghost use Rattle.heap_script.specs.Rows.{bounds_of};
 
 use super::cursor::next_word;
-use super::forms::Spot;
+use super::forms::{Make, Spot};
 use super::pairs::half_rank_of;
-use super::places::{Bounds, COUNT, FAULTLESS, Reading, UNKNOWN_WORD, read_place};
-use super::row_lines::{CommandLine, read_row, refused};
+use super::places::{Bounds, Reading, read_place};
+use super::reasons::{COUNT, FAULTLESS, UNKNOWN_WORD};
+use super::row_lines::{CommandLine, read_row, read_small_row, read_wide_row, refused};
 use super::rows::{at_row_of, gc_row_of, row_of};
 use super::said::Said;
 
@@ -44,7 +45,22 @@ fn read_plain(bytes: &[u8], first: &[u8], from: usize, bounds: Bounds) -> Comman
     match row_of(first) {
         Some(row) => {
             let rank = half_rank_of(bytes, from, row.make);
-            read_row(bytes, row, bounds, nothing_said(rank, from))
+            match row.make {
+                Make::Small(form) => read_small_row(
+                    bytes,
+                    row,
+                    form,
+                    bounds,
+                    nothing_said(rank, from),
+                ),
+                Make::Wide(form) => read_wide_row(
+                    bytes,
+                    row,
+                    form,
+                    bounds,
+                    nothing_said(rank, from),
+                ),
+            }
         }
         None => refused(UNKNOWN_WORD),
     }

@@ -10,7 +10,7 @@ ghost use Rattle.heap_script.specs.Rows.{makes_pair};
 use super::cursor::next_word;
 use super::forms::{Make, SmallForm};
 use super::numbers::number;
-use super::places::{BAD_NUMBER, FAULTLESS};
+use super::reasons::{BAD_NUMBER, FAULTLESS};
 
 /// The rank of a line by its pair, where its form has one; its other words stand from `from` on.
 pub(crate) fn half_rank_of(bytes: &[u8], from: usize, make: Make) -> u32

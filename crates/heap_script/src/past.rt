@@ -103,29 +103,37 @@ impl Past {
         ensures { result ≡ spec.breaks self.now.stage command.now }
     {
         match *command {
-            Command::At { .. } => self.is_going(),
-            Command::ThreadsGo => !self.is_waiting(),
-            Command::ThreadsJoin => !self.is_going(),
+            Command::At { .. } => self.stage.is_going(),
+            Command::ThreadsGo => !self.stage.is_waiting(),
+            Command::ThreadsJoin => !self.stage.is_going(),
             _ => false,
         }
-    }
-
-    fn is_waiting(&self) -> bool
-        ensures { result ≡ spec.is_waiting self.now.stage }
-    {
-        matches!(self.stage, Stage::Waiting)
-    }
-
-    fn is_going(&self) -> bool
-        ensures { result ≡ spec.is_going self.now.stage }
-    {
-        matches!(self.stage, Stage::Going)
     }
 
     /// Whether no order waits and no thread runs.
     pub(crate) fn is_at_rest(&self) -> bool
         ensures { result ≡ are_at_rest (spec.threads_in self.now.stage) }
     {
-        matches!(self.stage, Stage::AtRest)
+        self.stage.is_at_rest()
+    }
+}
+
+impl Stage {
+    fn is_at_rest(self) -> bool
+        ensures { result ≡ are_at_rest (spec.threads_in self) }
+    {
+        matches!(self, Stage::AtRest)
+    }
+
+    fn is_waiting(self) -> bool
+        ensures { result ≡ spec.is_waiting self }
+    {
+        matches!(self, Stage::Waiting)
+    }
+
+    fn is_going(self) -> bool
+        ensures { result ≡ spec.is_going self }
+    {
+        matches!(self, Stage::Going)
     }
 }

@@ -1,6 +1,6 @@
 // One word at its place: its rank, and the number that it says.
 
-ghost use Rattle.std.specs.Prelude.{◌≡◌, ◌<◌, ◌≤◌, ◌+◌, ◌^◌, ◌||◌, not, false, Some, [], ◌∷◌, if◌then◌else◌, codes};
+ghost use Rattle.std.specs.Prelude.{◌≡◌, ◌<◌, ◌≤◌, ◌+◌, ◌^◌, ◌||◌, not, false, Some, None, [], ◌∷◌, if◌then◌else◌, codes};
 ghost use Rattle.gc_graph.specs.Reasons.{says, is_beyond, value_of};
 ghost use Rattle.gc_graph.specs.Words.{is_number, is_text};
 ghost use Rattle.heap_script.specs.Ranks.{number_rank, rank_at, rank_by};
@@ -8,17 +8,7 @@ ghost use Rattle.heap_script.specs.Rows.{bounds_of, is_null, place_of};
 
 use super::forms::Spot;
 use super::numbers::number;
-
-/// A word that is none of those that may stand there.
-pub(crate) const UNKNOWN_WORD: u32 = 2;
-/// A word that is no number where one should be, or half a pair that is null.
-pub(crate) const BAD_NUMBER: u32 = 3;
-/// Fewer or more words than the form has.
-pub(crate) const COUNT: u32 = 4;
-/// A number out of its range.
-pub(crate) const RANGE: u32 = 5;
-/// No fault.
-pub(crate) const FAULTLESS: u32 = 9;
+use super::reasons::{BAD_NUMBER, FAULTLESS, RANGE, UNKNOWN_WORD};
 
 /// How many types the lines before declare, and how many callbacks there are.
 #[derive(Clone, Copy)]
@@ -35,33 +25,34 @@ pub(crate) struct Reading {
     pub(crate) value: u32,
 }
 
-#[inline(always)]
+/// Reads a word at its place.
 pub(crate) fn read_place(spot: Spot, word: &[u8], bounds: Bounds) -> Reading
     ensures rank { result.rank ≡ rank_at (bounds_of bounds) (place_of spot) word.now }
     ensures value { result.rank ≡ 9 → says (place_of spot) word.now ≡ result.value ∷ [] }
 {
+    read_as(spot, word, number(word), bounds)
+}
+
+/// The same, where the number that the word is, or that it is none, is known.
+#[inline(always)]
+#[tactic(auto, using(crate::proofs::PlacesRead::number_ranks))]
+pub(crate) fn read_as(spot: Spot, word: &[u8], value: Option<u64>, bounds: Bounds) -> Reading
+    requires { value ≡ (if is_number word.now then Some (value_of word.now) else None) }
+    ensures rank { result.rank ≡ rank_at (bounds_of bounds) (place_of spot) word.now }
+    ensures value { result.rank ≡ 9 → says (place_of spot) word.now ≡ result.value ∷ [] }
+{
     match spot {
-        Spot::Number(from, last) => read_number(word, from, u64::from(last) + 1),
-        Spot::TypeNumber => read_number(word, 0, u64::from(bounds.types)),
-        Spot::NumberOrNull(from, last) => read_number_or_null(word, from, last),
+        Spot::Number(from, last) => judged(value, from, u64::from(last) + 1),
+        Spot::TypeNumber => judged(value, 0, u64::from(bounds.types)),
+        Spot::NumberOrNull(from, last) => judged_or_null(value, word, from, last),
         Spot::Want => read_either(word, b"precise", b"conservative"),
         Spot::GoOrJoin => read_either(word, b"go", b"join"),
     }
 }
 
-#[tactic(auto, using(crate::proofs::PlacesRead::number_ranks))]
-fn read_number(word: &[u8], from: u32, limit: u64) -> Reading
-    requires { limit ≤ 2 ^ 32 }
-    ensures rank { result.rank ≡ rank_by false (not (is_number word.now)) false (is_beyond from limit word.now) }
-    ensures value { result.rank ≡ 9 → result.value ≡ value_of word.now }
-    ensures low { result.rank ≡ 9 → result.value < limit }
-{
-    judged(number(word), from, limit)
-}
-
-/// The rank of a word that is this number, or none, where one from `from` on and below `limit` stands.
+// The rank of a word that is this number, or none, where one from `from` on and below `limit` stands.
 #[inline(always)]
-pub(crate) fn judged(value: Option<u64>, from: u32, limit: u64) -> Reading
+fn judged(value: Option<u64>, from: u32, limit: u64) -> Reading
     requires { limit ≤ 2 ^ 32 }
     ensures rank { result.rank ≡ number_rank from limit value }
     ensures value { result.rank ≡ 9 → value ≡ Some result.value }
@@ -83,7 +74,10 @@ pub(crate) fn judged(value: Option<u64>, from: u32, limit: u64) -> Reading
     }
 }
 
-fn read_number_or_null(word: &[u8], from: u16, last: u16) -> Reading
+#[inline(always)]
+#[tactic(auto, using(crate::proofs::PlacesRead::number_ranks))]
+fn judged_or_null(value: Option<u64>, word: &[u8], from: u16, last: u16) -> Reading
+    requires { value ≡ (if is_number word.now then Some (value_of word.now) else None) }
     ensures rank { result.rank ≡ rank_by false (not (is_null word.now || is_number word.now)) false (is_beyond from (last + 1) word.now) }
     ensures value { result.rank ≡ 9 → (if is_null word.now then 0 else value_of word.now + 1) ≡ result.value }
 {
@@ -93,7 +87,7 @@ fn read_number_or_null(word: &[u8], from: u16, last: u16) -> Reading
             value: 0,
         };
     }
-    let reading = read_number(word, u32::from(from), u64::from(last) + 1);
+    let reading = judged(value, u32::from(from), u64::from(last) + 1);
     if reading.rank == FAULTLESS {
         return Reading {
             rank: FAULTLESS,

@@ -28,3 +28,6 @@ pub(crate) const TOO_LONG: u32 = 8;
 
 /// The line has a fault, or says what isn't built.
 pub(crate) const NOT_BUILT: u32 = 9;
+
+/// The rank of words that give no reason.
+pub(crate) const FAULTLESS: u32 = 9;

@@ -7,7 +7,8 @@ ghost use Rattle.heap_script.specs.Rows.{command_of, is_sound, makes_pair};
 use super::cursor::next_word;
 use super::forms::{Make, Row, SmallForm, WideForm};
 use super::making::small_command;
-use super::places::{Bounds, COUNT, FAULTLESS};
+use super::places::Bounds;
+use super::reasons::{COUNT, FAULTLESS};
 use super::said::{Said, read_places};
 use super::wide::{read_wide, wide_command};
 use gc_graph::Command;
@@ -20,7 +21,7 @@ pub(crate) struct CommandLine {
     pub(crate) end: usize,
 }
 
-#[inline(always)]
+#[inline(never)]
 pub(crate) fn read_row(bytes: &[u8], row: &Row, bounds: Bounds, before: Said) -> CommandLine
     requires within { before.end ≤ length bytes.now }
     requires low { before.rank ≤ 9 }
@@ -37,7 +38,7 @@ pub(crate) fn read_row(bytes: &[u8], row: &Row, bounds: Bounds, before: Said) ->
 }
 
 #[inline(always)]
-fn read_small_row(
+pub(crate) fn read_small_row(
     bytes: &[u8],
     row: &Row,
     form: SmallForm,
@@ -72,7 +73,7 @@ fn read_small_row(
 }
 
 #[inline(always)]
-fn read_wide_row(
+pub(crate) fn read_wide_row(
     bytes: &[u8],
     row: &Row,
     form: WideForm,

@@ -1,15 +1,12 @@
 // The words after the first, each at its place.
 
-ghost use Rattle.std.specs.Prelude.{◌≡◌, ◌+◌, ◌<◌, ◌≤◌, ◌^◌, min, ◌∷◌, [], ◌++◌, length};
-ghost use Rattle.gc_graph.specs.Forms.Place.{Number};
-ghost use Rattle.gc_graph.specs.Reasons.{Bounds as GrammarBounds};
+ghost use Rattle.std.specs.Prelude.{◌≡◌, ◌+◌, ◌<◌, ◌≤◌, min, ◌∷◌, [], ◌++◌, length};
 ghost use Rattle.heap_script.specs.Rows.{bounds_of, place_of};
 ghost use Rattle.heap_script.specs.Said.{list_of, IsReadAt, IsReadOn};
 
-use super::cursor::next_word;
 use super::forms::Spot;
 use super::numerals::next_number;
-use super::places::{Bounds, Reading, judged, read_place};
+use super::places::{Bounds, Reading, read_as};
 
 /// What the words of a line say as far as they are read, up to the place `end`: the number of their
 /// lowest reason, or 9, and `count` numbers, from `a` on.
@@ -32,22 +29,11 @@ pub(crate) fn read_places(bytes: &[u8], spots: &[Spot], bounds: Bounds, before: 
     requires room { before.count + length spots.now ≤ 4 }
     ensures { IsReadOn bounds spots.now bytes.now before result }
 {
-    if spots.is_empty() {
-        return before;
+    let mut said = before;
+    for spot in spots {
+        said = read_next(bytes, *spot, bounds, said);
     }
-    let one = read_next(bytes, spots[0], bounds, before);
-    if spots.len() == 1 {
-        return one;
-    }
-    let two = read_next(bytes, spots[1], bounds, one);
-    if spots.len() == 2 {
-        return two;
-    }
-    let three = read_next(bytes, spots[2], bounds, two);
-    if spots.len() == 3 {
-        return three;
-    }
-    read_next(bytes, spots[3], bounds, three)
+    said
 }
 
 // Reads the next word, if there is one, at its place.
@@ -58,40 +44,15 @@ fn read_next(bytes: &[u8], spot: Spot, bounds: Bounds, said: Said) -> Said
     requires room { said.count < 4 }
     ensures { IsReadAt (bounds_of bounds) (place_of spot ∷ []) bytes.now said result }
 {
-    match spot {
-        Spot::Number(from, last) => read_numeral(bytes, from, u64::from(last) + 1, said),
-        Spot::TypeNumber => read_numeral(bytes, 0, u64::from(bounds.types), said),
-        _ => read_word(bytes, spot, bounds, said),
-    }
-}
-
-#[inline(always)]
-fn read_numeral(bytes: &[u8], from: u32, limit: u64, said: Said) -> Said
-    requires within { said.end ≤ length bytes.now }
-    requires low { said.rank ≤ 9 }
-    requires room { said.count < 4 }
-    requires limit { limit ≤ 2 ^ 32 }
-    ensures { (bounds : GrammarBounds) → IsReadAt bounds (Number from limit ∷ []) bytes.now said result }
-{
-    let numeral = next_number(bytes, said.end);
-    if numeral.start == numeral.end {
+    let word = next_number(bytes, said.end);
+    if word.start == word.end {
         return said;
     }
-    with_word(said, judged(numeral.value, from, limit), numeral.end)
-}
-
-#[inline(always)]
-fn read_word(bytes: &[u8], spot: Spot, bounds: Bounds, said: Said) -> Said
-    requires within { said.end ≤ length bytes.now }
-    requires low { said.rank ≤ 9 }
-    requires room { said.count < 4 }
-    ensures { IsReadAt (bounds_of bounds) (place_of spot ∷ []) bytes.now said result }
-{
-    let (start, end) = next_word(bytes, said.end);
-    if start == end {
-        return said;
-    }
-    with_word(said, read_place(spot, &bytes[start..end], bounds), end)
+    with_word(
+        said,
+        read_as(spot, &bytes[word.start..word.end], word.value, bounds),
+        word.end,
+    )
 }
 
 #[inline(always)]

@@ -11,7 +11,7 @@ ghost use Rattle.heap_script.specs.Said.{list_of};
 use super::forms::WideForm;
 use super::making::when;
 use super::numbers::number;
-use super::places::{BAD_NUMBER, FAULTLESS, RANGE};
+use super::reasons::{BAD_NUMBER, FAULTLESS, RANGE};
 use super::said::Said;
 use gc_graph::Command;
 

@@ -9,8 +9,7 @@ returns-else-more-end c =
     let version = c.next_word-version.ensures in
     let none = c.next_word-more.ensures.none c.if-more-end.false in
     let one = sym c.is_text.ensures ∙ c.if-not-is_text.false in
-    let two = sym c.is_text-2.ensures ∙ c.if-not-is_text-2.false in
-    (
+    let two = sym c.is_text-2.ensures ∙ c.if-not-is_text-2.false in (
       two_words _ _ _ _ _
           (name.some (word_some bytes _ c.next_word-name.result.0 c.next_word-name.result.1 one (omega arith)))
           (version.some (word_some bytes _ c.next_word-version.result.0 c.next_word-version.result.1 two (omega arith)))
