@@ -54,12 +54,11 @@ impl Outcome {
         })
     }
 
-    /// Forgets the lines.
+    /// Forgets the finalised nodes; the last line stays until another takes its place.
     pub fn begin(&mut self)
-        ensures { self.new ≡ record self.old { numbers = []; last = None; piece = [] } }
+        ensures { self.new ≡ record self.old { numbers = []; piece = [] } }
     {
         self.finalised.clear();
-        self.last = None;
         self.piece = entries::none();
     }
 
