@@ -1,5 +1,5 @@
 -- The graph that the bodies stand for.
-use Rattle.std.proofs.Common.{◌≡◌, ℕ, zero, suc, ◌+◌, ◌<◌, Bool, true, ◌&&◌, List, [], ◌∷◌, get_or, map, length, ◌-◌, refl, sym, ap, ◌∙◌, subst, inl, inr, arith, eqb}
+use Rattle.std.proofs.Common.{◌≡◌, ℕ, ◌+◌, Bool, true, ◌&&◌, List, [], ◌∷◌, get_or, map, length, ◌-◌, refl, sym, ap, ◌∙◌, subst, inl, inr, arith, eqb}
 use mathlib.Core.Logic.{◌⊎◌}
 use Rattle.std.specs.List.{Contains, list_any}
 use Rattle.std.proofs.lemmas.Bool.{true≢false, cases_lt, cases_eq, cond-true, cond-false, or_cases, or_left, or_right, and_parts, and_from, eqb-true, eq-eqb, ne_eqb}
@@ -245,8 +245,11 @@ led_field types test b q pairless led =
           (let names : NamesIn kinds b.fields q = field_of_strong kinds q b.fields strong in
           let at : 2 + first_of kinds names.index - 2 ≡ first_of kinds names.index = omega arith in
           (2 + first_of kinds names.index, offset_strong kinds names.index names.field, ap (λ n. get_or b.fields n 0) at ∙ names.word))
-      | inr pair ↦ absurd (omega (arith, (subst (λ (ps : List (ℕ × ℕ)). Contains ps (pair.0, q))
-          (no_pair_targets kinds (values_in kinds b.fields) (pairless_kinds types b.ty pairless)) pair.1).1))
+      | inr pair ↦ absurd (omega (
+        arith,
+        (subst (λ (ps : List (ℕ × ℕ)). Contains ps (pair.0, q))
+            (no_pair_targets kinds (values_in kinds b.fields) (pairless_kinds types b.ty pairless)) pair.1).1,
+      ))
     ]
 
 -- no key counts

@@ -1,5 +1,5 @@
 -- The steps of the commands on fields.
-use Rattle.std.proofs.Common.{◌≡◌, ℕ, ◌+◌, ◌<◌, true, false, List, [], ◌∷◌, length, get_or, Option, option_map, Some, None, Ok, Err, Result, refl, sym, ap, ◌∙◌, subst, inl, inr, arith, ltb}
+use Rattle.std.proofs.Common.{◌≡◌, ℕ, ◌<◌, true, false, List, [], ◌∷◌, length, get_or, Option, option_map, Some, None, Ok, Err, Result, refl, sym, ap, ◌∙◌, subst, inl, inr, arith, ltb}
 use Rattle.std.specs.Prelude.{MatchOption, MatchBool}
 use Rattle.std.specs.List.{All}
 use Rattle.std.specs.Option.{ForSome}
@@ -17,7 +17,7 @@ use Rattle.gc_graph.specs.State.{State, Node, node_at, no_node, IsLive}
 use Rattle.gc_graph.specs.Fields.{content_of, field_count, kind_of_field, word_of_field, is_reference, value_at, with_value, target_of, is_weak}
 use Rattle.gc_graph.specs.Valid.{IsTyped, NamesLive, IsReferenceBelow}
 use Rattle.gc_graph.specs.Outcomes.{answered, with_slot, slot_at}
-use Rattle.gc_graph.specs.ObjectSteps.{StepSet, StepGet, IsChanged, IsRead, with_node, first_word}
+use Rattle.gc_graph.specs.ObjectSteps.{StepSet, StepGet, IsChanged, IsRead, first_word}
 use Rattle.heap_engine.specs.Nodes.{place_of, word_of}
 use Rattle.heap_engine.specs.Objects.{address_of, IsFieldAt, IsLiveReference, IsWordOf, target_in, written_in, slot_word}
 use Rattle.heap_engine.specs.Changes.{put_in}

@@ -1,17 +1,17 @@
 -- The words of fields of each kind, and what the type table tells of them.
-use Rattle.std.proofs.Common.{◌≡◌, ℕ, zero, suc, ◌+◌, ◌-◌, ◌<◌, ◌≤◌, Bool, true, false, List, [], ◌∷◌, length, get_or, map, take, refl, sym, ap, ◌∙◌, subst, inl, inr, arith}
-use Rattle.std.specs.List.{All, Contains, filter, range_with_len}
+use Rattle.std.proofs.Common.{◌≡◌, ℕ, zero, suc, ◌+◌, ◌-◌, ◌<◌, ◌≤◌, Bool, true, false, List, [], ◌∷◌, length, get_or, take, refl, sym, ap, ◌∙◌, subst, inl, inr, arith}
+use Rattle.std.specs.List.{Contains, filter, range_with_len}
 use Rattle.std.proofs.lemmas.Bool.{true≢false, cond_both, cases_eq}
 use Rattle.std.proofs.lemmas.List.Sums.{sum_by-cons, sum_by_more_le}
 use Rattle.gc_graph.specs.declared.kind.Kind.{Kind}
 use Rattle.gc_graph.specs.declared.kind.Kind.TheVariants.{Strong, Weak, Pair, Plain}
 use Rattle.gc_graph.specs.declared.kind.Value.{Value}
-use Rattle.gc_graph.specs.declared.kind.Value.TheVariants.{Null, Ref, Word}
+use Rattle.gc_graph.specs.declared.kind.Value.TheVariants.{Null}
 use Rattle.gc_graph.specs.Graph.{strong_targets, pair_targets}
 use Rattle.gc_graph.specs.Fields.{words_of_kind, field_words, is_reference}
 use Rattle.gc_graph.specs.Valid.{HaveKinds, IsReferenceBelow}
 use Rattle.type_table.specs.Types.{offset_of, is_kind, is_field, offsets_of_kind}
-use Rattle.heap_engine.specs.Marking.{values_in, reference_in}
+use Rattle.heap_engine.specs.Marking.{values_in}
 use Rattle.heap_engine.proofs.MarkCounts.{Contains-cons_cases, Contains-cons, Contains-head, Contains-map, Contains-map_some}
 
 -- the number of the first word of a declared field

@@ -83,7 +83,12 @@ impl MarkList {
     }
 
     /// Marks and lists the targets of the slots.
-    pub(crate) fn mark_slots(&mut self, words: &Words, seat: &mut MutatorSeat, slots: &[Option<u32>])
+    pub(crate) fn mark_slots(
+        &mut self,
+        words: &Words,
+        seat: &mut MutatorSeat,
+        slots: &[Option<u32>],
+    )
         requires heap { seat.old.count ≡ words.now }
         requires slots { All (λ slot. ForSome slot (IsPlace seat.old.bodies)) slots.now }
         requires counted { IsCounted seat.old self.old }

@@ -34,9 +34,6 @@ settled_was (Some u) a t e = elim (cases_Bool (eqb u a)) [
   | inr other ↦ sym (cond-false (eqb u a) None (Some u) other) ∙ e
 ]
 
-settled_none : (o : Option ℕ) (a : ℕ) → o ≡ None → settled o a ≡ None
-settled_none o a e = ap (λ p. settled p a) e
-
 module _ (s : CoreState) (ok : IsCoreOk s) (on : s.mutator.on ≡ true) (a : ℕ) (place : is_place s.mutator.bodies a ≡ true) (kept : holds s.mutator.may a ≡ true) where
   abbrev after : MutatorView
   after = (marked s a).mutator

@@ -43,9 +43,6 @@ none_from p xs none = false_from_ne_true (list_any p xs) (λ some. let found = a
 pub all_member : {X : Type 0} (p : X → Bool) (xs : List X) (x : X) → list_all p xs ≡ true → Contains xs x → p x ≡ true
 all_member p xs x all h = All-contains (λ y. p y ≡ true) xs x (AllPass-from_list_all p xs all) h
 
-pub all_from : {X : Type 0} (p : X → Bool) (xs : List X) → ((x : X) → Contains xs x → p x ≡ true) → list_all p xs ≡ true
-all_from p xs each = list_all-from_AllPass p xs (λ k d l. each (get_or xs k d) (Contains-get_or xs k d l))
-
 pub in_range : (n i : ℕ) → i < n → Contains (range_with_len 0 n) i
 in_range n i below = (i, omega (arith, length-range_with_len 0 n), get_or-range_with_len 0 n i i below ∙ omega arith)
 

@@ -70,10 +70,6 @@ cover_more marks now pending later grown kept w covered = elim covered [
 abbrev pub Covers : (ℕ → ℕ) → (ℕ → ℕ) → Option ℕ → Option ℕ → Type 0
 Covers marks now pending later = (w : ℕ) → IsCovered marks pending w → IsCovered now later w
 
-abbrev pub PairIsAccounted : (ℕ → ℕ) → Option ℕ → (ℕ → ℕ → Type 0) → (Hand → Type 0) → Body → ℕ → Type 0
-PairIsAccounted marks pending noted hand b i =
-    (word_in b i ≡ 0) ⊎ (IsCovered marks pending (word_in b (i + 1)) ⊎ (noted b.place (i + 2) ⊎ IsInHand hand b.place (i + 2)))
-
 module _ (types : List (List Kind)) (bodies : List Body) (marks now traces : ℕ → ℕ) (pending later : Option ℕ) (hand : Hand → Type 0) (covers : Covers marks now pending later) where
   pub strong_covered : StrongAccounted types bodies marks traces pending hand → StrongAccounted types bodies now traces later hand
   strong_covered all b i h traced role = elim (all b i h traced role) [ inl c ↦ inl (covers (word_in b i) c) | inr held ↦ inr held ]

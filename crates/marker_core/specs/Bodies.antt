@@ -3,6 +3,7 @@ use Rattle.std.specs.Prelude.{ℕ, zero, suc, ◌+◌, ◌-◌, ◌==◌, ◌&&�
 use Rattle.std.specs.List.{list_any, range_with_len}
 use Rattle.gc_graph.specs.declared.kind.Kind.{Kind}
 use Rattle.gc_graph.specs.declared.kind.Kind.TheVariants.{Strong, Weak, Pair, Plain}
+use Rattle.object_headers.specs.Offsets.{first_field, reference_to}
 use Rattle.marker_core.specs.declared.states.Body.{Body}
 use Rattle.marker_core.specs.declared.states.Role.{Role}
 use Rattle.marker_core.specs.declared.states.Role.TheVariants.{StrongWord, WeakWord, KeyWord, ValueWord, PlainWord}
@@ -65,11 +66,11 @@ has_word a b = nat_le b.place a && nat_lt a (end_of b)
 
 -- the body has a field word at a
 abbrev pub has_field : ℕ → Body → Bool
-has_field a b = nat_le (b.place + 2) a && nat_lt a (end_of b)
+has_field a b = nat_le (b.place + first_field) a && nat_lt a (end_of b)
 
 -- the number of the field word at a
 abbrev pub field_number : ℕ → Body → ℕ
-field_number a b = a - (b.place + 2)
+field_number a b = a - (b.place + first_field)
 
 -- the body with w in its field word at a, where it has that word
 abbrev pub with_word : ℕ → ℕ → Body → Body
@@ -87,13 +88,17 @@ is_place bodies a = list_any (λ b. b.place == a) bodies
 abbrev pub in_body : List Body → ℕ → Bool
 in_body bodies a = list_any (has_word a) bodies
 
+-- the place that a reference other than null names
+abbrev pub place_named : ℕ → ℕ
+place_named w = w - 1
+
 -- a reference is null or names a body
 abbrev pub names_body : List Body → ℕ → Bool
-names_body bodies w = (w == 0) || is_place bodies (w - 1)
+names_body bodies w = (w == 0) || is_place bodies (place_named w)
 
 -- one of the body's references names the object at a
 abbrev pub refers_to : List (List Kind) → ℕ → Body → Bool
-refers_to types a b = list_any (λ i. refers (role_in types b i) && (word_in b i == a + 1)) (range_with_len 0 (length b.fields))
+refers_to types a b = list_any (λ i. refers (role_in types b i) && (word_in b i == reference_to a)) (range_with_len 0 (length b.fields))
 
 -- ---- lists of places as sets
 

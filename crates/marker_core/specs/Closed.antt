@@ -10,7 +10,7 @@ use Rattle.gc_graph.specs.Reach.{Reach}
 use Rattle.marker_core.specs.declared.states.Body.{Body}
 use Rattle.marker_core.specs.declared.states.Role.{Role}
 use Rattle.marker_core.specs.declared.states.Role.TheVariants.{StrongWord, KeyWord}
-use Rattle.marker_core.specs.Bodies.{word_count, kinds_of, word_in, role_in, places, is_place}
+use Rattle.marker_core.specs.Bodies.{word_count, kinds_of, word_in, role_in, places, is_place, place_named}
 
 -- ---- closed: it has what the strong words of its members name, and the value of each of their pairs whose key it has
 
@@ -18,15 +18,15 @@ use Rattle.marker_core.specs.Bodies.{word_count, kinds_of, word_in, role_in, pla
 pub record IsClosedOver (types : List (List Kind)) (bodies : List Body) (test : ℕ → Bool) : Type 0 where
   pub strong :
       (b : Body) (i : ℕ) → Contains bodies b → test b.place ≡ true → role_in types b i ≡ StrongWord → 0 < word_in b i
-      → test (word_in b i - 1) ≡ true
+      → test (place_named (word_in b i)) ≡ true
   pub pairs :
       (b : Body) (i : ℕ) → Contains bodies b → test b.place ≡ true → role_in types b i ≡ KeyWord → 0 < word_in b i
-      → test (word_in b i - 1) ≡ true → 0 < word_in b (i + 1) → test (word_in b (i + 1) - 1) ≡ true
+      → test (place_named (word_in b i)) ≡ true → 0 < word_in b (i + 1) → test (place_named (word_in b (i + 1))) ≡ true
 
 -- the same as a test, word by word
 abbrev pub word_closes : (ℕ → Bool) → Role → ℕ → ℕ → Bool
-word_closes test StrongWord w next = (w == 0) || test (w - 1)
-word_closes test KeyWord w next = (w == 0) || not (test (w - 1)) || (next == 0) || test (next - 1)
+word_closes test StrongWord w next = (w == 0) || test (place_named w)
+word_closes test KeyWord w next = (w == 0) || not (test (place_named w)) || (next == 0) || test (place_named next)
 word_closes test role w next = true
 
 -- a body that passes has only words that close

@@ -4,13 +4,14 @@ use Rattle.std.specs.Option.{option_map, option_and_then}
 use Rattle.std.specs.List.{find}
 use Rattle.gc_graph.specs.declared.kind.Kind.{Kind}
 use Rattle.gc_graph.specs.declared.kind.Kind.TheVariants.{Strong, Pair}
+use Rattle.object_headers.specs.Offsets.{first_field}
 use Rattle.marker_core.specs.declared.states.Hand.{Hand}
 use Rattle.marker_core.specs.declared.states.Part.{Part}
 use Rattle.marker_core.specs.declared.states.Part.TheVariants.{Read, Mark, Key, Value}
 use Rattle.marker_core.specs.declared.states.Role.{Role}
 use Rattle.marker_core.specs.declared.states.Role.TheVariants.{KeyWord}
 use Rattle.marker_core.specs.Layout.{has_mark, type_in}
-use Rattle.marker_core.specs.Bodies.{role_at, kinds_of}
+use Rattle.marker_core.specs.Bodies.{role_at, kinds_of, place_named}
 
 -- the offsets of the strong words and of the pairs, from the one at which the fields begin
 abbrev pub traced_offsets : ℕ → List Kind → List ℕ
@@ -23,7 +24,7 @@ traced_offsets at (kind ∷ kinds) = traced_offsets (at + 1) kinds
 abbrev pub hand_past : List (List Kind) → ℕ → ℕ → ℕ → Option Hand
 hand_past types place ty offset =
     option_map (λ next. record { place = place; ty = ty; next = next; part = Read })
-    (find (λ next. nat_lt offset next) (traced_offsets 2 (kinds_of types ty)))
+    (find (λ next. nat_lt offset next) (traced_offsets first_field (kinds_of types ty)))
 
 -- the hand of an object that was just claimed, whose type its header tells
 abbrev pub hand_claimed : List (List Kind) → ℕ → ℕ → Option Hand
@@ -35,7 +36,7 @@ hand_moved types h = hand_past types h.place h.ty h.next
 
 -- what the word at hand is
 abbrev pub role_at_hand : List (List Kind) → Hand → Role
-role_at_hand types h = role_at (kinds_of types h.ty) (h.next - 2)
+role_at_hand types h = role_at (kinds_of types h.ty) (h.next - first_field)
 
 -- what was read is a key, or else to be marked
 abbrev pub part_found : Role → Part → ℕ → Part
@@ -63,7 +64,7 @@ wants_mark part a = false
 -- after it read w in the word that it wanted
 abbrev pub hand_read : List (List Kind) → ℕ → Hand → Option Hand
 hand_read types w h =
-    if w == 0 then hand_moved types h else Some (record h { part = part_found (role_at_hand types h) h.part (w - 1) })
+    if w == 0 then hand_moved types h else Some (record h { part = part_found (role_at_hand types h) h.part (place_named w) })
 
 -- after it looked at the header of its key
 abbrev pub hand_looked : List (List Kind) → ℕ → Hand → Option Hand

@@ -1,13 +1,14 @@
 -- The laws of the machine.
 use Rattle.std.specs.Prelude.{◌≡◌, ◌⊎◌, ℕ, ◌<◌, ◌+◌, ◌-◌, nat_lt, Bool, true, false, List, Some, None, Contains}
 use Rattle.gc_graph.specs.declared.kind.Kind.{Kind}
+use Rattle.object_headers.specs.Offsets.{first_field}
 use Rattle.marker_core.specs.declared.states.Body.{Body}
 use Rattle.marker_core.specs.declared.states.CoreState.{CoreState}
 use Rattle.marker_core.specs.declared.steps.CoreStep.{CoreStep}
 use Rattle.marker_core.specs.declared.states.Why.TheVariants.{Weak}
 use Rattle.marker_core.specs.declared.steps.CoreStep.TheVariants.{Load, Publish, Stop}
 use Rattle.marker_core.specs.declared.states.Hand.{Hand}
-use Rattle.marker_core.specs.Bodies.{refers, word_in, role_in, is_place, names_body, holds}
+use Rattle.marker_core.specs.Bodies.{refers, word_in, role_in, is_place, names_body, holds, place_named}
 use Rattle.marker_core.specs.Closed.{IsClosedOver, reach_over}
 use Rattle.marker_core.specs.Matching.{AreWhole, LieApart}
 use Rattle.marker_core.specs.Views.{marks_at, traces_at, IsHand, IsNoted}
@@ -56,9 +57,9 @@ pub record IsSettled (s : CoreState) : Type 0 where
   pub pending : s.mutator.pending ≡ None
   pub traced : (a : ℕ) → 0 < marks_at s.mutator s.markers a → 0 < traces_at s.mutator s.markers a
   pub noted :
-      (b : Body) (i : ℕ) → Contains s.mutator.bodies b → IsNoted s.mutator s.markers b.place (i + 2)
-      → (marks_at s.mutator s.markers (word_in b i - 1) ≡ 0)
-      ⊎ ((word_in b (i + 1) ≡ 0) ⊎ (0 < marks_at s.mutator s.markers (word_in b (i + 1) - 1)))
+      (b : Body) (i : ℕ) → Contains s.mutator.bodies b → IsNoted s.mutator s.markers b.place (i + first_field)
+      → (marks_at s.mutator s.markers (place_named (word_in b i)) ≡ 0)
+      ⊎ ((word_in b (i + 1) ≡ 0) ⊎ (0 < marks_at s.mutator s.markers (place_named (word_in b (i + 1)))))
 
 -- some view has marked the place
 abbrev pub is_marked_in : CoreState → ℕ → Bool

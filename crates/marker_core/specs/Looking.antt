@@ -3,15 +3,16 @@ use Rattle.std.specs.Prelude.{ℕ, ◌+◌, ◌-◌, ◌==◌, ◌&&◌, ◌||�
 use Rattle.std.specs.List.{list_any, range_with_len}
 use Rattle.gc_graph.specs.declared.kind.Kind.{Kind}
 use Rattle.gc_graph.specs.Graph.{has}
+use Rattle.object_headers.specs.Offsets.{reference_to}
 use Rattle.marker_core.specs.declared.states.Body.{Body}
 use Rattle.marker_core.specs.declared.states.Role.{Role}
 use Rattle.marker_core.specs.declared.states.Role.TheVariants.{StrongWord, KeyWord}
-use Rattle.marker_core.specs.Bodies.{word_in, role_in}
+use Rattle.marker_core.specs.Bodies.{word_in, role_in, place_named}
 
 -- the word leads to n: a strong one that names it, or the key of a pair that passes and whose value names it
 abbrev pub word_leads : (ℕ → Bool) → Role → ℕ → ℕ → ℕ → Bool
-word_leads test StrongWord w next n = w == n + 1
-word_leads test KeyWord w next n = not (w == 0) && test (w - 1) && (next == n + 1)
+word_leads test StrongWord w next n = w == reference_to n
+word_leads test KeyWord w next n = not (w == 0) && test (place_named w) && (next == reference_to n)
 word_leads test role w next n = false
 
 -- some word of the body leads to n

@@ -5,7 +5,7 @@ use Rattle.object_headers.specs.Layout.{word_with_mark, word_with_traced}
 use Rattle.marker_core.specs.declared.states.CoreState.{CoreState}
 use Rattle.marker_core.specs.declared.states.MarkerView.{MarkerView}
 use Rattle.marker_core.specs.Layout.{stop_at, is_start, has_mark, has_traced}
-use Rattle.marker_core.specs.Bodies.{holds}
+use Rattle.marker_core.specs.Bodies.{holds, place_named}
 use Rattle.marker_core.specs.Views.{view_at}
 use Rattle.marker_core.specs.Hands.{hand_claimed, hand_read, hand_looked, hand_moved, wants_word, wants_key, wants_mark, wants, noted_pair, each_hand}
 use Rattle.marker_core.specs.MutatorSteps.{is_grey}
@@ -86,7 +86,7 @@ can_read_field s marker a = wants (λ h. wants_word h h.part a) (view_at s.marke
 
 -- what was read is the place of an object
 abbrev pub known_by : ℕ → List ℕ
-known_by w = if w == 0 then [] else (w - 1) ∷ []
+known_by w = if w == 0 then [] else (place_named w) ∷ []
 
 -- the hand has read the word at a
 abbrev pub field_read : CoreState → ℕ → ℕ → CoreState

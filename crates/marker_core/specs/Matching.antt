@@ -2,6 +2,7 @@
 use Rattle.std.specs.Prelude.{◌≡◌, ◌≢◌, ◌⊎◌, ℕ, ◌+◌, ◌*◌, ◌/◌, ◌^◌, ◌<◌, ◌≤◌, not, nat_lt, Bool, true, false, List, [], length, Option, None, Contains, All, slice_index}
 use Rattle.std.specs.List.{AllPairs, count_by}
 use Rattle.gc_graph.specs.declared.kind.Kind.{Kind}
+use Rattle.object_headers.specs.Offsets.{serial_offset, first_field}
 use Rattle.object_headers.specs.Layout.{header_word}
 use Rattle.marker_core.specs.declared.states.Body.{Body}
 use Rattle.marker_core.specs.declared.states.Hand.{Hand}
@@ -26,7 +27,7 @@ pub record IsWhole (count : ℕ) (types : List (List Kind)) (b : Body) : Type 0 
   pub room : 2 + word_count (kinds_of types b.ty) ≤ b.size
   pub size : b.size < 2 ^ 26
   pub inside : end_of b ≤ count
-  pub fields : length b.fields + 2 ≡ b.size
+  pub fields : length b.fields + first_field ≡ b.size
 
 -- each body is whole
 abbrev pub AreWhole : ℕ → List (List Kind) → List Body → Type 0
@@ -48,7 +49,7 @@ HeadersMatch words marks traces bodies =
 
 -- each body has its serial number in its second word
 abbrev pub SerialsMatch : List ℕ → List Body → Type 0
-SerialsMatch words bodies = (b : Body) → Contains bodies b → slice_index words (b.place + 1) ≡ b.serial
+SerialsMatch words bodies = (b : Body) → Contains bodies b → slice_index words (b.place + serial_offset) ≡ b.serial
 
 -- the start bits are set just at the places of bodies
 abbrev pub StartsMatch : ℕ → List ℕ → List Body → Type 0
@@ -57,7 +58,7 @@ StartsMatch count words bodies = (a : ℕ) → a < count → is_start count word
 -- the words of the fields are those of the bodies
 abbrev pub FieldsMatch : List ℕ → List Body → Type 0
 FieldsMatch words bodies =
-    (b : Body) (i : ℕ) → Contains bodies b → i < length b.fields → slice_index words (b.place + 2 + i) ≡ word_in b i
+    (b : Body) (i : ℕ) → Contains bodies b → i < length b.fields → slice_index words (b.place + first_field + i) ≡ word_in b i
 
 -- what was filled lies in the heap outside the bodies, and is what the word holds; no address stands there twice
 pub record FilledMatch (count : ℕ) (words : List ℕ) (bodies : List Body) (filled : List (ℕ × ℕ)) : Type 0 where

@@ -3,6 +3,7 @@ use Rattle.std.specs.Prelude.{ℕ, ◌+◌, ◌-◌, ◌^◌, ◌==◌, ◌&&◌
 use Rattle.std.specs.Option.{is_none}
 use Rattle.std.specs.List.{list_any, list_all, range_with_len, slice_range}
 use Rattle.gc_graph.specs.declared.kind.Kind.{Kind}
+use Rattle.object_headers.specs.Offsets.{serial_offset, first_field}
 use Rattle.object_headers.specs.Layout.{header_word, word_with_mark, word_with_traced}
 use Rattle.marker_core.specs.declared.states.Body.{Body}
 use Rattle.marker_core.specs.declared.states.CoreState.{CoreState}
@@ -12,7 +13,7 @@ use Rattle.marker_core.specs.declared.states.Role.TheVariants.{KeyWord}
 use Rattle.marker_core.specs.declared.states.Why.{Why}
 use Rattle.marker_core.specs.declared.states.Why.TheVariants.{Read, Weak, Trace}
 use Rattle.marker_core.specs.Layout.{with_start, without_start, has_mark, has_traced, is_marked, is_traced, type_in, size_in}
-use Rattle.marker_core.specs.Bodies.{word_count, refers, keeps, kinds_of, word_in, role_in, end_of, has_word, has_field, field_number, with_word, is_place, in_body, names_body, refers_to, holds, without}
+use Rattle.marker_core.specs.Bodies.{word_count, refers, keeps, kinds_of, word_in, role_in, end_of, has_word, has_field, field_number, with_word, is_place, in_body, names_body, refers_to, holds, without, place_named}
 use Rattle.marker_core.specs.Closed.{reach_over}
 use Rattle.marker_core.specs.Hands.{hand_claimed, hand_read, hand_looked, hand_after_mark, wants_word, wants_key, wants, noted_pair, each_hand}
 
@@ -69,12 +70,12 @@ filled s a w = record s {
 -- was seen marked
 abbrev pub key_fits : Bool → List ℕ → Role → ℕ → ℕ → Bool
 key_fits on seen KeyWord w value =
-    if w == 0 then value == 0 else (not on || (value == 0) || holds seen (value - 1))
+    if w == 0 then value == 0 else (not on || (value == 0) || holds seen (place_named value))
 key_fits on seen role w value = true
 
 -- while marking goes on, holder and target are among what may be kept
 abbrev pub may_store : Bool → List ℕ → ℕ → Role → ℕ → Bool
-may_store on may holder role w = not on || (holds may holder && (not (refers role) || (w == 0) || holds may (w - 1)))
+may_store on may holder role w = not on || (holds may holder && (not (refers role) || (w == 0) || holds may (place_named w)))
 
 -- w may be stored at a in a field of this body
 abbrev pub store_fits : CoreState → ℕ → ℕ → Body → Bool
@@ -101,7 +102,7 @@ stored s a w = record s {
   mutator = record s.mutator {
     bodies = map (with_word a w) s.mutator.bodies;
     pending =
-        if s.mutator.on && not (w == 0) && list_any (keeps_in s.types a) s.mutator.bodies then Some (w - 1) else s.mutator.pending;
+        if s.mutator.on && not (w == 0) && list_any (keeps_in s.types a) s.mutator.bodies then Some (place_named w) else s.mutator.pending;
   };
 }
 
@@ -115,8 +116,8 @@ body_at words a =
       place = a;
       ty = type_in header;
       size = size_in header;
-      serial = slice_index words (a + 1);
-      fields = slice_range words (a + 2) (a + size_in header);
+      serial = slice_index words (a + serial_offset);
+      fields = slice_range words (a + first_field) (a + size_in header);
     }
 
 -- the two share a word

@@ -1,6 +1,7 @@
 -- What marks, hands and noted pairs account for while marking goes on.
 use Rattle.std.specs.Prelude.{◌≡◌, ◌⊎◌, ◌↔◌, ℕ, ◌+◌, ◌-◌, ◌<◌, ◌≤◌, true, false, List, Option, Some, Contains}
 use Rattle.gc_graph.specs.declared.kind.Kind.{Kind}
+use Rattle.object_headers.specs.Offsets.{first_field, reference_to}
 use Rattle.marker_core.specs.declared.states.Body.{Body}
 use Rattle.marker_core.specs.declared.states.Hand.{Hand}
 use Rattle.marker_core.specs.declared.states.MarkerView.{MarkerView}
@@ -8,13 +9,13 @@ use Rattle.marker_core.specs.declared.states.Part.{Part}
 use Rattle.marker_core.specs.declared.states.Part.TheVariants.{Read, Mark, Key, Value}
 use Rattle.marker_core.specs.declared.states.Role.{Role}
 use Rattle.marker_core.specs.declared.states.Role.TheVariants.{StrongWord, KeyWord}
-use Rattle.marker_core.specs.Bodies.{is_traced_role, word_in, role_in, is_place, holds}
+use Rattle.marker_core.specs.Bodies.{is_traced_role, word_in, role_in, is_place, holds, place_named}
 use Rattle.marker_core.specs.Closed.{IsClosedOver}
 use Rattle.marker_core.specs.Hands.{role_at_hand}
 
 -- a reference is null, or its target is marked or waits for its mark
 abbrev pub IsCovered : (ℕ → ℕ) → Option ℕ → ℕ → Type 0
-IsCovered marks pending w = (w ≡ 0) ⊎ ((0 < marks (w - 1)) ⊎ (pending ≡ Some (w - 1)))
+IsCovered marks pending w = (w ≡ 0) ⊎ ((0 < marks (place_named w)) ⊎ (pending ≡ Some (place_named w)))
 
 -- the object at p is in a hand that isn't past the offset
 abbrev pub IsInHand : (Hand → Type 0) → ℕ → ℕ → Type 0
@@ -24,13 +25,13 @@ IsInHand hand p offset = (h : Hand) × hand h × (h.place ≡ p) × (h.next ≤ 
 abbrev pub StrongAccounted : List (List Kind) → List Body → (ℕ → ℕ) → (ℕ → ℕ) → Option ℕ → (Hand → Type 0) → Type 0
 StrongAccounted types bodies marks traces pending hand =
     (b : Body) (i : ℕ) → Contains bodies b → 0 < traces b.place → role_in types b i ≡ StrongWord
-    → IsCovered marks pending (word_in b i) ⊎ IsInHand hand b.place (i + 2)
+    → IsCovered marks pending (word_in b i) ⊎ IsInHand hand b.place (i + first_field)
 
 -- each pair of a traced body has a null key or a covered value, or is noted, or is still to be read
 abbrev pub PairsAccounted : List (List Kind) → List Body → (ℕ → ℕ) → (ℕ → ℕ) → Option ℕ → (Hand → Type 0) → (ℕ → ℕ → Type 0) → Type 0
 PairsAccounted types bodies marks traces pending hand noted =
     (b : Body) (i : ℕ) → Contains bodies b → 0 < traces b.place → role_in types b i ≡ KeyWord
-    → (word_in b i ≡ 0) ⊎ (IsCovered marks pending (word_in b (i + 1)) ⊎ (noted b.place (i + 2) ⊎ IsInHand hand b.place (i + 2)))
+    → (word_in b i ≡ 0) ⊎ (IsCovered marks pending (word_in b (i + 1)) ⊎ (noted b.place (i + first_field) ⊎ IsInHand hand b.place (i + first_field)))
 
 -- the word of the hand's strong word or pair that is marked: the value of a pair
 abbrev pub marking_word : Role → Body → ℕ → ℕ
@@ -42,11 +43,11 @@ marking_word role b i = word_in b i
 abbrev pub PartFits : List Body → (ℕ → ℕ) → Option ℕ → List ℕ → Role → Body → ℕ → Part → Type 0
 PartFits bodies marks pending may role b i Read = Unit {0}
 PartFits bodies marks pending may role b i (Mark t) =
-    (is_place bodies t ≡ true) × ((marking_word role b i ≡ t + 1) ⊎ IsCovered marks pending (marking_word role b i))
+    (is_place bodies t ≡ true) × ((marking_word role b i ≡ reference_to t) ⊎ IsCovered marks pending (marking_word role b i))
 PartFits bodies marks pending may role b i (Key k) =
     (is_place bodies k ≡ true) × (role ≡ KeyWord)
-    × ((word_in b i ≡ k + 1) ⊎ ((word_in b i ≡ 0) ⊎ (holds may (word_in b i - 1) ≡ true)))
-PartFits bodies marks pending may role b i Value = (role ≡ KeyWord) × ((word_in b i ≡ 0) ⊎ (holds may (word_in b i - 1) ≡ true))
+    × ((word_in b i ≡ reference_to k) ⊎ ((word_in b i ≡ 0) ⊎ (holds may (place_named (word_in b i)) ≡ true)))
+PartFits bodies marks pending may role b i Value = (role ≡ KeyWord) × ((word_in b i ≡ 0) ⊎ (holds may (place_named (word_in b i)) ≡ true))
 
 -- a hand holds a body, with its type, at one of its strong words or pairs
 pub record HandFits (types : List (List Kind)) (bodies : List Body) (marks : ℕ → ℕ) (pending : Option ℕ) (may : List ℕ) (h : Hand) : Type 0 where
@@ -54,9 +55,9 @@ pub record HandFits (types : List (List Kind)) (bodies : List Body) (marks : ℕ
   pub there : Contains bodies body
   pub place : body.place ≡ h.place
   pub ty : body.ty ≡ h.ty
-  pub past_serial : 2 ≤ h.next
+  pub past_serial : first_field ≤ h.next
   pub at_hand : is_traced_role (role_at_hand types h) ≡ true
-  pub part : PartFits bodies marks pending may (role_at_hand types h) body (h.next - 2) h.part
+  pub part : PartFits bodies marks pending may (role_at_hand types h) body (h.next - first_field) h.part
 
 -- known places are bodies, and each hand fits one
 pub record HandsAreBodies (types : List (List Kind)) (bodies : List Body) (marks : ℕ → ℕ) (pending : Option ℕ) (may : List ℕ) (hand : Hand → Type 0) (views : List MarkerView) : Type 0 where
@@ -79,7 +80,7 @@ pub record MayIsClosed (types : List (List Kind)) (bodies : List Body) (marks tr
   pub pending_in : (t : ℕ) → pending ≡ Some t → holds may t ≡ true
   pub values :
       (b : Body) (i : ℕ) → Contains bodies b → holds may b.place ≡ true → role_in types b i ≡ KeyWord → word_in b i ≡ 0
-      → 0 < word_in b (i + 1) → holds may (word_in b (i + 1) - 1) ≡ true
+      → 0 < word_in b (i + 1) → holds may (place_named (word_in b (i + 1))) ≡ true
   pub others :
       (b : Body) (i : ℕ) → Contains bodies b → holds may b.place ≡ false → role_in types b i ≡ KeyWord
       → (word_in b i ≡ 0) ↔ (word_in b (i + 1) ≡ 0)

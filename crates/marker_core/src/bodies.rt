@@ -5,10 +5,12 @@ ghost use Rattle.marker_core.specs.Bodies.{word_count, role_at, refers, keeps, i
 ghost use Rattle.marker_core.specs.Bodies.{word_in, role_in, has_word, has_field, field_number};
 ghost use Rattle.marker_core.specs.Bodies.{is_place, in_body, names_body, refers_to, holds};
 ghost use Rattle.marker_core.specs.Bodies.{with_word, places, without};
+ghost use Rattle.object_headers.specs.Offsets.{reference_to};
 
 use crate::lists::List;
 use crate::states::{Body, Role};
 use gc_graph::{Kind, NoMemory};
+use object_headers::{FIRST_FIELD, reference_to};
 use std::alloc::Global;
 
 /// What the field word with a number is. What comes after the declared fields is plain.
@@ -103,7 +105,7 @@ pub fn has_word(a: u64, b: &Body) -> bool
 pub fn has_field(a: u64, b: &Body) -> bool
     ensures { result ≡ has_field a b.now }
 {
-    u64::from(b.place) + 2 <= a && a < u64::from(b.place) + u64::from(b.size)
+    u64::from(b.place) + u64::from(FIRST_FIELD) <= a && a < u64::from(b.place) + u64::from(b.size)
 }
 
 pub fn is_place(bodies: &[Body], a: u64) -> bool
@@ -143,7 +145,7 @@ fn write_word(b: &mut Body, a: u32, w: u64)
     ensures { b.new ≡ with_word a w b.old }
 {
     if has_field(u64::from(a), b) {
-        let i = u64::from(a).saturating_sub(u64::from(b.place) + 2);
+        let i = u64::from(a).saturating_sub(u64::from(b.place) + u64::from(FIRST_FIELD));
         b.fields.set(i as usize, w);
     }
 }
@@ -157,9 +159,9 @@ pub fn refers_to(types: &[List<Kind>], a: u32, b: &Body) -> bool
 }
 
 fn is_reference_to(types: &[List<Kind>], a: u32, b: &Body, i: u64) -> bool
-    ensures { result ≡ (refers (role_in types.now b.now i) && (word_in b.now i == a + 1)) }
+    ensures { result ≡ (refers (role_in types.now b.now i) && (word_in b.now i == reference_to a)) }
 {
-    refers(role_in(types, b, i)) && word_in(b, i) == u64::from(a) + 1
+    refers(role_in(types, b, i)) && word_in(b, i) == reference_to(a)
 }
 
 /// The places of the bodies, in their order.

@@ -7,20 +7,22 @@ ghost use Rattle.marker_core.specs.Hands.{role_at_hand, part_found, wants_word, 
 ghost use Rattle.marker_core.specs.Hands.{hand_read, hand_looked, hand_after_mark};
 ghost use Rattle.marker_core.specs.Bodies.{role_at, is_traced_role};
 ghost use Rattle.marker_core.specs.Matching.{AreTypes};
+ghost use Rattle.object_headers.specs.Offsets.{first_field};
 
 use crate::bodies::{kinds_of, role_at, words_of};
 use crate::lists::List;
 use crate::reading::has_mark;
 use crate::states::{Hand, Part, Role};
 use gc_graph::Kind;
+use object_headers::FIRST_FIELD;
 
 /// The first strong word or pair past an offset.
 #[tactic(auto, using(crate::proofs::NextOffsets::next_offset))]
 fn next_past(kinds: &[Kind], offset: u32) -> Option<u32>
     requires { length kinds.now ≤ 64 }
-    ensures { result ≡ find (λ next. nat_lt offset next) (traced_offsets 2 kinds.now) }
+    ensures { result ≡ find (λ next. nat_lt offset next) (traced_offsets first_field kinds.now) }
 {
-    let mut at: u32 = 2;
+    let mut at = FIRST_FIELD;
     for kind in kinds {
         if is_next(*kind, offset, at) {
             return Some(at);
@@ -69,7 +71,10 @@ pub fn hand_moved(types: &[List<Kind>], h: Hand) -> Option<Hand>
 fn role_at_hand(types: &[List<Kind>], h: Hand) -> Role
     ensures { result ≡ role_at_hand types.now h }
 {
-    role_at(kinds_of(types, h.ty), u64::from(h.next).saturating_sub(2))
+    role_at(
+        kinds_of(types, h.ty),
+        u64::from(h.next).saturating_sub(u64::from(FIRST_FIELD)),
+    )
 }
 
 fn part_found(role: Role, part: Part, t: u32) -> Part

@@ -16,6 +16,7 @@ use crate::reaching::reach_over;
 use crate::reading::{has_mark, is_traced, word_at};
 use crate::states::{Body, CoreState, Role, Why};
 use gc_graph::{Kind, NoMemory};
+use object_headers::FIRST_FIELD;
 use std::alloc::Global;
 
 // ---- load
@@ -148,7 +149,7 @@ fn store_fits(s: &CoreState, a: u32, w: u64, b: &Body) -> bool
     ensures { result ≡ store_fits s.now a w b.now }
 {
     let m = &s.mutator;
-    let i = u64::from(a).saturating_sub(u64::from(b.place) + 2);
+    let i = u64::from(a).saturating_sub(u64::from(b.place) + u64::from(FIRST_FIELD));
     let role = role_in(s.types.as_slice(), b, i);
     has_field(u64::from(a), b)
         && (!refers(role) || names_body(m.bodies.as_slice(), w))
@@ -172,7 +173,7 @@ fn some_body_fits(s: &CoreState, a: u32, w: u64) -> bool
 fn keeps_in(types: &[List<Kind>], a: u32, b: &Body) -> bool
     ensures { result ≡ keeps_in types.now a b.now }
 {
-    let i = u64::from(a).saturating_sub(u64::from(b.place) + 2);
+    let i = u64::from(a).saturating_sub(u64::from(b.place) + u64::from(FIRST_FIELD));
     has_field(u64::from(a), b) && keeps(role_in(types, b, i))
 }
 

@@ -18,7 +18,7 @@ use crate::lists::List;
 use crate::reading::{clear_start, set_start, word_at};
 use crate::states::{Body, CoreState};
 use gc_graph::{Kind, NoMemory};
-use object_headers::Header;
+use object_headers::{FIRST_FIELD, Header, SERIAL};
 use std::alloc::Global;
 
 // ---- publish
@@ -123,16 +123,16 @@ fn read_object(alloc: Global, s: &CoreState, a: u32) -> Result<Option<Body>, NoM
 {
     let words = s.words.as_slice();
     let header = word_at(words, u64::from(a));
-    let serial = word_at(words, u64::from(a) + 1);
+    let serial = word_at(words, u64::from(a) + u64::from(SERIAL));
     let size = header / 131072;
-    if size < 2
+    if size < u64::from(FIRST_FIELD)
         || size >= 1 << 26
         || serial >= 1 << 32
         || u64::from(a) + size > u64::from(s.count)
     {
         return Ok(None);
     }
-    let from = a as usize + 2;
+    let from = a as usize + FIRST_FIELD as usize;
     let to = a as usize + size as usize;
     let fields = Vec::from_slice(alloc, &words[from..to])?;
     Ok(Some(Body {

@@ -7,10 +7,11 @@ ghost use Rattle.marker_core.specs.Faults.{IsFault};
 
 use crate::cycle::{begin, can_begin, can_end, end, ends, stop};
 use crate::laws::every_step_keeps;
+use crate::lending::{can_join, can_split, join, lend};
 use crate::lists::List;
+use crate::looking::{can_look, can_read_bit, look, read_bit};
 use crate::markers::{
-    can_claim_as, can_join, can_look, can_mark_as, can_poll, can_read_bit, can_read_field,
-    can_split, claim_as, join, lend, look, mark_as, poll, read_bit, read_field,
+    can_claim_as, can_mark_as, can_poll, can_read_field, claim_as, mark_as, poll, read_field,
 };
 use crate::marking::{can_claim, can_mark, can_unmark, claim, mark, unmark};
 use crate::mutator::{can_fill, can_load, can_store, fill, load, store};

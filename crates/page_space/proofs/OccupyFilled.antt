@@ -1,5 +1,5 @@
 -- What is filled after one more word.
-use Rattle.std.proofs.Common.{◌≡◌, ℕ, zero, suc, ◌+◌, ◌-◌, ◌^◌, ◌<◌, ◌≤◌, Bool, true, false, not, List, [], ◌∷◌, refl, sym, ap, ◌∙◌, subst, inl, inr, arith, eqb, get_or, replicate}
+use Rattle.std.proofs.Common.{◌≡◌, ℕ, zero, suc, ◌+◌, ◌-◌, ◌^◌, ◌<◌, ◌≤◌, Bool, true, false, not, List, [], ◌∷◌, sym, ap, ◌∙◌, subst, inl, inr, arith, eqb, get_or, replicate}
 use Rattle.std.specs.List.{Contains, filter}
 use Rattle.std.proofs.lemmas.Bool.{ne_eqb, cond-true, cond_both, cases_lt}
 use Rattle.std.proofs.lemmas.List.{length-replicate, get_or-replicate}

@@ -1,5 +1,5 @@
 -- What the words of each kind may hold.
-use Rattle.std.proofs.Common.{◌≡◌, ℕ, ◌+◌, ◌-◌, ◌<◌, Bool, true, false, length, sym, ap, ◌∙◌, subst, inl, inr, arith, Contains}
+use Rattle.std.proofs.Common.{◌≡◌, ℕ, ◌+◌, ◌-◌, ◌<◌, true, false, length, sym, ap, ◌∙◌, subst, inl, inr, arith, Contains}
 use Rattle.std.proofs.lemmas.Bool.{true≢false}
 use Rattle.page_words.specs.Bodies.{Body, IsReference, MayHold, fields_at, is_reference_word}
 use Rattle.page_words.specs.Seat.{SeatView, IsView}

@@ -1,4 +1,4 @@
-use Rattle.std.proofs.Common.{◌+◌, ◌-◌, ◌*◌, None, length, map}
+use Rattle.std.proofs.Common.{◌+◌, ◌-◌, ◌*◌, None, length}
 use Rattle.heap_engine.specs.Marking.{IsCounted, IsTricolour, MarksOn, GrowsWithin}
 use Rattle.heap_engine.proofs.mark_list.MarkList.drain.Given as goal
 

@@ -5,7 +5,7 @@ use Rattle.gc_graph.specs.declared.kind.Kind.TheVariants.{Strong}
 use Rattle.gc_graph.specs.State.{ObjectType}
 use Rattle.type_table.specs.Types.{kinds_of, offsets_of_kind}
 use Rattle.page_words.specs.Bodies.{Body, IsReference}
-use Rattle.page_words.specs.Seat.{SeatView, IsWordAt, holds}
+use Rattle.page_words.specs.Seat.{SeatView, holds}
 use Rattle.gc_graph.specs.Graph.{object_at, leads_by}
 use Rattle.heap_engine.specs.Marking.{MarksOn, HasType, word_at}
 use Rattle.heap_engine.proofs.MarkLoops.{HasStrong, has_strong, strong_word, MarksOn-then, GrowsWithin-target, Contains-take_more_cases, same_body, same_graph}

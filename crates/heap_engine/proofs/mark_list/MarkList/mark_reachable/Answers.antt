@@ -1,4 +1,4 @@
-use Rattle.std.proofs.Common.{sym, ◌∙◌, map}
+use Rattle.std.proofs.Common.{sym, ◌∙◌}
 use Rattle.heap_engine.proofs.MarkEnds.{counted_begin, all_traced, marks_reachable}
 use Rattle.heap_engine.proofs.mark_list.MarkList.mark_reachable.Goals as goal
 

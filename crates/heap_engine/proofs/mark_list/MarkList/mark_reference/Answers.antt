@@ -1,4 +1,4 @@
-use Rattle.std.proofs.Common.{◌^◌, ◌≤◌, arith, inl, inr}
+use Rattle.std.proofs.Common.{arith, inl, inr}
 use Rattle.std.proofs.lemmas.List.Elements.{All-contains}
 use Rattle.page_words.specs.Bodies.{IsWhole}
 use Rattle.heap_engine.proofs.mark_list.MarkList.mark_reference.Goals as goal

@@ -1,6 +1,4 @@
-use Rattle.std.proofs.Common.{◌≡◌, ℕ, List, Option, None, Some, inl, inr, ◌∙◌, sym, get_or}
-use Rattle.page_words.specs.Seat.{SeatView}
-use Rattle.heap_engine.specs.Marking.{MarksOn}
+use Rattle.std.proofs.Common.{None, Some, inl, inr}
 use Rattle.heap_engine.proofs.MarkLoops.{MarksOn-then, Contains-take_more_cases, Contains-take_more_old, Contains-take_more_new}
 use Rattle.heap_engine.proofs.mark_list.MarkList.mark_slots.Goals as goal
 

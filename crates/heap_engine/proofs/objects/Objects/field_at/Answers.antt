@@ -1,5 +1,5 @@
-use Rattle.std.proofs.Common.{◌≡◌, ℕ, ◌+◌, ◌*◌, ◌-◌, ◌^◌, ◌<◌, ◌≤◌, List, [], sym, ap, ◌∙◌, arith, refl}
-use Rattle.gc_graph.specs.State.{Setup, Node, node_at}
+use Rattle.std.proofs.Common.{◌-◌, List, [], arith, refl}
+use Rattle.gc_graph.specs.State.{Setup, Node}
 use Rattle.heap_engine.proofs.FieldPlaces.{IsHead, live_place, live_head, extra_is, field_answered, field_fits}
 use Rattle.heap_engine.proofs.objects.Objects.field_at.Goals as goal
 

@@ -1,4 +1,4 @@
-use Rattle.std.proofs.Common.{◌≡◌, ℕ, ◌+◌, ◌<◌, ◌≤◌, ◌^◌, List, sym, subst, arith}
+use Rattle.std.proofs.Common.{◌≡◌, ℕ, ◌+◌, ◌<◌, List, sym, subst, arith}
 use Rattle.gc_graph.specs.State.{Node}
 use Rattle.page_words.specs.Seat.{SeatView, IsWordAt}
 use Rattle.heap_engine.proofs.FieldReads.{word_address, reads_null, reads_node, reference_fits, head_address, head_number, number_fits, reads_target}

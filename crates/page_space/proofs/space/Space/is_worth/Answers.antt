@@ -1,4 +1,4 @@
-use Rattle.std.proofs.Common.{◌≡◌, ◌<◌, ap, sym, ◌∙◌, true, arith}
+use Rattle.std.proofs.Common.{sym, ◌∙◌, arith}
 use Rattle.std.proofs.lemmas.Bool.{leb-false}
 use Rattle.page_space.specs.Gaps.{is_surveyed}
 use Rattle.page_space.proofs.space.Space.is_worth.Goals as goal

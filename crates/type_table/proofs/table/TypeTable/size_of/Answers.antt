@@ -1,4 +1,4 @@
-use Rattle.std.proofs.Common.{◌≡◌, ◌+◌, ◌≤◌, ap, ◌∙◌, arith}
+use Rattle.std.proofs.Common.{◌≡◌, ap, ◌∙◌, arith}
 use Rattle.gc_graph.specs.Fields.{field_words}
 use Rattle.type_table.specs.Layouts.{LayoutState}
 use Rattle.type_table.specs.Types.{kinds_of}
