@@ -22,7 +22,8 @@ use Rattle.heap_script.specs.Rows.{bounds_of, places_in, row_by, SameRow, comman
 use Rattle.heap_script.specs.Said.{list_of, words_left}
 use Rattle.heap_script.specs.RowLines.{row_count_rank, row_rank, row_numbers, IsRowLine}
 use Rattle.heap_script.proofs.RanksOfWords.{known_rank, missing_rank, faultless, faulty, many_elsewhere, half_elsewhere}
-use Rattle.heap_script.proofs.RowRanks.{count_low, end_from}
+use Rattle.heap_script.proofs.RowRanks.{count_low}
+use Rattle.heap_script.proofs.RowEnds.{end_from}
 use Rattle.heap_script.proofs.FormRanks.{lowest_of_row, says_of_row, count_of_row}
 
 -- the row's rank is that of the form which the words choose, and its command is theirs

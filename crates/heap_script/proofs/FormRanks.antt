@@ -23,7 +23,8 @@ use Rattle.heap_script.specs.RowLines.{row_count_rank, row_rank, row_numbers, Is
 use Rattle.heap_script.specs.CommandLines.{IsCommandLine}
 use Rattle.heap_script.proofs.RanksOfWords.{known_rank, missing_rank, faultless, faulty, many_elsewhere, half_elsewhere}
 use Rattle.heap_script.proofs.PlacesRead.{lowest_nothing, says_nothing}
-use Rattle.heap_script.proofs.RowRanks.{end_from, count_wrong}
+use Rattle.heap_script.proofs.RowRanks.{count_wrong}
+use Rattle.heap_script.proofs.RowEnds.{end_from}
 
 -- ---- the places of a row for so many words
 

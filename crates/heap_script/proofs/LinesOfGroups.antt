@@ -28,16 +28,6 @@ gc_sound row before plain e = ap (λ n. is_sound n row) e ∙ (and_parts (is_sou
 pub at_sound : (row : Row) (before : ℕ) → is_at_row row ≡ true → before ≡ 1 → is_sound before row ≡ true
 at_sound row before plain e = ap (λ n. is_sound n row) e ∙ (and_parts (is_sound 1 row) (not (makes_pair row.make)) plain).0
 
-pub gc_pairs : (bounds : Bounds) (row : Row) (bytes : List ℕ) (before : Said) → is_gc_row row ≡ true → makes_pair row.make ≡ true
-    → row_rank bounds row bytes before ≡ 9 → is_some (command_of row.make (row_numbers row bytes before)) ≡ true
-gc_pairs bounds row bytes before plain pair good =
-    absurd (true≢false (sym pair ∙ not-true (makes_pair row.make) (and_parts (is_sound 0 row) (not (makes_pair row.make)) plain).1))
-
-pub at_pairs : (bounds : Bounds) (row : Row) (bytes : List ℕ) (before : Said) → is_at_row row ≡ true → makes_pair row.make ≡ true
-    → row_rank bounds row bytes before ≡ 9 → is_some (command_of row.make (row_numbers row bytes before)) ≡ true
-at_pairs bounds row bytes before plain pair good =
-    absurd (true≢false (sym pair ∙ not-true (makes_pair row.make) (and_parts (is_sound 1 row) (not (makes_pair row.make)) plain).1))
-
 rank_low : (bounds : GrammarBounds) (place : Place) (word : List ℕ) → rank_at bounds place word ≤ 9
 rank_low bounds place word = rank_le9 (is_unknown place word) (is_bad place word) false (is_outside bounds place word)
 

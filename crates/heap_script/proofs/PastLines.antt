@@ -23,7 +23,7 @@ use Rattle.heap_script.specs.declared.script_lines.Kept.{Kept}
 use Rattle.heap_script.specs.Past.{threads_in, is_timely_in, past_header, with_blank, with_type, with_command, bounds_in, reason_with, reason_after, IsTypeKept, IsCommandKept}
 use Rattle.heap_script.proofs.LineReasons.{threads_after_line}
 use Rattle.heap_script.proofs.LinesJudged.{judged, judged_words}
-use Rattle.heap_script.proofs.WordPlaces.{none_of_blank}
+use Rattle.heap_script.proofs.LinesInTurn.{none_of_blank}
 
 -- the types that the lines declare
 abbrev pub types_of : List (List ℕ) → List ObjectType

@@ -14,7 +14,7 @@ use Rattle.heap_script.specs.declared.script_lines.Kept.{Kept}
 use Rattle.heap_script.specs.Past.{threads_in, is_timely_in, past_header, unbuilt_with, with_blank, reason_after, IsTypeKept, IsCommandKept, IsLineKept}
 use Rattle.heap_script.proofs.LinesJudged.{judged}
 use Rattle.heap_script.proofs.PastLines.{IsPast, nothing_read, past_blank, past_type, past_command, threads_more, judged_is, type_says, command_says}
-use Rattle.heap_script.proofs.WordPlaces.{none_of_blank, not_blank}
+use Rattle.heap_script.proofs.LinesInTurn.{none_of_blank, not_blank}
 
 -- what line j after the header says is built
 abbrev pub says_at : List (List ℕ) → ℕ → Bool

@@ -72,7 +72,7 @@ pub(crate) fn read_small_row(
     }
 }
 
-#[inline(never)]
+#[inline(always)]
 pub(crate) fn read_wide_row(
     bytes: &[u8],
     row: &Row,

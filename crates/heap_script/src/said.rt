@@ -29,22 +29,11 @@ pub(crate) fn read_places(bytes: &[u8], spots: &[Spot], bounds: Bounds, before: 
     requires room { before.count + length spots.now ≤ 4 }
     ensures { IsReadOn bounds spots.now bytes.now before result }
 {
-    if spots.is_empty() {
-        return before;
+    let mut said = before;
+    for spot in spots {
+        said = read_next(bytes, *spot, bounds, said);
     }
-    let one = read_next(bytes, spots[0], bounds, before);
-    if spots.len() == 1 {
-        return one;
-    }
-    let two = read_next(bytes, spots[1], bounds, one);
-    if spots.len() == 2 {
-        return two;
-    }
-    let three = read_next(bytes, spots[2], bounds, two);
-    if spots.len() == 3 {
-        return three;
-    }
-    read_next(bytes, spots[3], bounds, three)
+    said
 }
 
 // Reads the next word, if there is one, at its place.
