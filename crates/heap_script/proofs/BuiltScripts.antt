@@ -15,12 +15,6 @@ use Rattle.heap_script.specs.declared.script_reader.Stop.{Stop}
 use Rattle.heap_script.specs.Reading.{says_built_at, AreBuilt, IsUnbuiltLine, IsWhole, IsFaultyLine, IsStopped, fault_with}
 use Rattle.heap_script.specs.Scripts.{IsFaultOf, IsBuiltScript, commands_of, holds_built_type, holds_built_command, is_built_at, IsFirstUnbuilt, IsUnbuilt, IsUnbuiltFault}
 
-pub script_fault : (callbacks : ℕ) (bytes : List ℕ) (stop : Stop) → IsStopped callbacks bytes stop
-    → IsFaultOf callbacks bytes (record { line = stop.line; reason = stop.reason })
-script_fault callbacks bytes stop (inl none) = inl none
-script_fault callbacks bytes stop (inr (inl long)) = inr (inl long)
-script_fault callbacks bytes stop (inr (inr faulty)) = inr (inr (faulty.limits, (faulty.place, faulty.why, faulty.line, faulty.reason, faulty.first)))
-
 -- ---- the line of a type or of a command
 
 -- the line on which an element of such a list stands
@@ -125,31 +119,6 @@ unbuilt_by_reason : (callbacks : ℕ) (lines : List (List ℕ)) (j : ℕ) (why :
     → is_built_at callbacks lines j ≡ false
 unbuilt_by_reason callbacks lines j why faulty =
     and_left (not (is_some (reason_at callbacks lines j))) (says_built_at lines j) (ap (λ (o : Option Reason). not (is_some o)) faulty)
-
-first_unbuilt : (lines : List (List ℕ)) (n unbuilt : ℕ)
-    → ((unbuilt ≡ 0) × AreBuilt lines n) ⊎ ((i : ℕ) × (unbuilt ≡ i + 1) × (i < n) × IsUnbuiltLine lines i) → (unbuilt ≡ 0 → ⊥)
-    → (i : ℕ) × (unbuilt ≡ i + 1) × (i < n) × IsUnbuiltLine lines i
-first_unbuilt lines n unbuilt (inl (none, all)) some = absurd (some none)
-first_unbuilt lines n unbuilt (inr found) some = found
-
-pub whole_unbuilt : (callbacks : ℕ) (bytes : List ℕ) (kept : Kept) → IsWhole callbacks bytes kept → (kept.past.unbuilt ≡ 0 → ⊥)
-    → IsUnbuilt callbacks bytes kept.past.unbuilt 9
-whole_unbuilt callbacks bytes kept is some =
-    let lines : List (List ℕ) = lines_of bytes in
-    let found = first_unbuilt lines (length lines) kept.past.unbuilt is.unbuilt some in
-    inr (
-      is.script.limits,
-      refl,
-      (
-        found.0,
-        found.1,
-        record {
-          there = inr found.2;
-          unbuilt = unbuilt_by_words callbacks lines found.0 found.3.says;
-          before = λ j l. built_at callbacks lines j (is.script.faultless j (omega (arith, l, found.2))) (found.3.before j l);
-        },
-      ),
-    )
 
 -- ---- a fault, where all has to be built
 

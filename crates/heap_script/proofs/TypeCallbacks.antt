@@ -20,12 +20,6 @@ number_is value word e = elim (cases_Bool (is_number word)) [
   | inr off ↦ absurd (true≢false (ap is_some (e ∙ cond-false (is_number word) (Some (value_after 0 word)) None off)))
 ]
 
-pub no_number_is : (word : List ℕ) → None ≡ cond (is_number word) (Some (value_after 0 word)) None → is_number word ≡ false
-no_number_is word e = elim (cases_Bool (is_number word)) [
-  | inl so ↦ absurd (true≢false (sym (ap is_some (e ∙ cond-true (is_number word) (Some (value_after 0 word)) None so))))
-  | inr off ↦ off
-]
-
 -- ---- one word more
 
 plain_more : (taken : List (List ℕ)) (word : List ℕ) → list_all is_number taken ≡ true → is_number word ≡ true
@@ -119,15 +113,6 @@ one_over callbacks taken word numbers over value called number past =
       ];
       numbers_are = λ off. absurd (true≢false off);
     }
-
--- a word that is no number
-pub one_bad : (words taken rest : List (List ℕ)) (word : List ℕ) → words ≡ taken ++ word ∷ rest
-    → None ≡ cond (is_number word) (Some (value_after 0 word)) None → list_all is_number words ≡ false
-one_bad words taken rest word are none =
-    ap (list_all is_number) are
-    ∙ list_all-append is_number taken (word ∷ rest)
-    ∙ and_right (list_all is_number taken) (is_number word && list_all is_number rest)
-    (and_left (is_number word) (list_all is_number rest) (no_number_is word none))
 
 -- ---- what follows the letters
 
