@@ -1,19 +1,19 @@
 -- From what a reader of the lines tells to a script, or to one of which all is built.
 use Rattle.std.proofs.Common.{◌≡◌, ℕ, zero, suc, ◌+◌, ◌<◌, ◌≤◌, ◌==◌, ◌&&◌, ◌||◌, Bool, true, false, not, cond, Option, Some, None, List, [], ◌∷◌, length, get_or, take, refl, sym, ap, ◌∙◌, subst, inl, inr, ◌⊎◌, arith}
-use Rattle.std.specs.Prelude.{is_some, unwrap_or, slice_get}
+use Rattle.std.specs.Prelude.{is_some, slice_get}
 use Rattle.std.specs.List.{filter_map, cons_option}
-use Rattle.std.proofs.lemmas.Bool.{true≢false, cases_Bool, cond-true, cond-false, and_parts, and_left, and_right, and_from, or_left, or_right, or_from, not_from_false, eq-eqb, eqb-true, eqb-false, ne_eqb}
+use Rattle.std.proofs.lemmas.Bool.{true≢false, cases_Bool, cond-true, cond-false, and_parts, and_left, and_right, and_from, or_left, or_right, or_from, eq-eqb, eqb-true, ne_eqb}
 use Rattle.gc_graph.specs.declared.command.Command.{Command}
 use Rattle.gc_graph.specs.State.{ObjectType}
 use Rattle.gc_graph.specs.Built.{is_built_type, is_built_after, AreBuiltTypes, AreBuiltCommands}
 use Rattle.gc_graph.specs.Words.{lines_of, words_of}
-use Rattle.gc_graph.specs.Reasons.{Reason, number_of, command_of_words, type_of_words}
-use Rattle.gc_graph.specs.Script.{Script, IsScript, IsTooLong, IsInLimits, IsFault, IsFirstFault, reason_at}
+use Rattle.gc_graph.specs.Reasons.{Reason, command_of_words, type_of_words}
+use Rattle.gc_graph.specs.Script.{reason_at}
 use Rattle.heap_script.specs.declared.script.ScriptFault.{ScriptFault}
 use Rattle.heap_script.specs.declared.script_lines.Kept.{Kept}
 use Rattle.heap_script.specs.declared.script_reader.Stop.{Stop}
 use Rattle.heap_script.specs.Reading.{says_built_at, AreBuilt, IsUnbuiltLine, IsWhole, IsFaultyLine, IsStopped, fault_with}
-use Rattle.heap_script.specs.Scripts.{IsFaultOf, IsBuiltScript, commands_of, holds_built_type, holds_built_command, is_built_at, IsFirstUnbuilt, IsUnbuilt, IsUnbuiltFault}
+use Rattle.heap_script.specs.Scripts.{IsFaultOf, IsBuiltScript, commands_of, holds_built_type, holds_built_command, is_built_at, IsUnbuilt, IsUnbuiltFault}
 
 -- ---- the line of a type or of a command
 

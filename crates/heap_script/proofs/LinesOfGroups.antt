@@ -1,20 +1,18 @@
 -- The lines of the forms that a word after `gc`, or after `at` and its thread, chooses.
-use Rattle.std.proofs.Common.{◌≡◌, ℕ, zero, suc, ◌+◌, ◌-◌, ◌<◌, ◌≤◌, ◌&&◌, min, not, Bool, true, false, Option, Some, None, Result, Ok, Err, cond, List, [], ◌∷◌, ◌++◌, length, take, drop, refl, sym, ap, ◌∙◌, subst, inl, inr, arith, codes}
-use Rattle.std.specs.Prelude.{is_some}
-use Rattle.std.proofs.lemmas.Bool.{and_parts, not-true, true≢false}
+use Rattle.std.proofs.Common.{◌≡◌, ℕ, ◌-◌, ◌≤◌, min, not, true, false, Some, None, Err, List, [], ◌∷◌, length, take, drop, refl, sym, ap, ◌∙◌, subst, arith, codes}
+use Rattle.std.proofs.lemmas.Bool.{and_parts}
 use Rattle.gc_graph.specs.Words.{is_text}
-use Rattle.gc_graph.specs.Forms.{Place, form_of, row_named, gc_rows, at_rows, thread, gc_form, at_form}
-use Rattle.gc_graph.specs.Forms.Form.{Missing, Unknown}
-use Rattle.gc_graph.specs.Reasons.{Bounds as GrammarBounds, says, first_is, is_unknown, is_bad, is_outside}
+use Rattle.gc_graph.specs.Forms.{Place, row_named, gc_rows, at_rows, thread, gc_form, at_form}
+use Rattle.gc_graph.specs.Reasons.{Bounds as GrammarBounds, says, is_unknown, is_bad, is_outside}
 use Rattle.heap_script.specs.declared.forms.Row.{Row}
 use Rattle.heap_script.specs.declared.places.Bounds.{Bounds}
 use Rattle.heap_script.specs.declared.said.Said.{Said}
 use Rattle.heap_script.specs.declared.row_lines.CommandLine.{CommandLine}
 use Rattle.heap_script.specs.Cursor.{line_words, lines_after, IsNextWord}
-use Rattle.heap_script.specs.Ranks.{lowest, rank_at, form_rank}
-use Rattle.heap_script.specs.Rows.{bounds_of, places_in, row_by, makes_pair, command_of, is_sound, is_gc_row, is_at_row}
+use Rattle.heap_script.specs.Ranks.{rank_at}
+use Rattle.heap_script.specs.Rows.{bounds_of, row_by, makes_pair, is_sound, is_gc_row, is_at_row}
 use Rattle.heap_script.specs.Said.{list_of, words_left}
-use Rattle.heap_script.specs.RowLines.{row_rank, row_numbers, IsRowLine}
+use Rattle.heap_script.specs.RowLines.{IsRowLine}
 use Rattle.heap_script.specs.CommandLines.{IsCommandLine}
 use Rattle.heap_script.proofs.PlacesRead.{rank_le9}
 use Rattle.heap_script.proofs.RowRanks.{sound_least}

@@ -1,17 +1,13 @@
 -- The words of a line read one after the other, each at its place.
-use Rattle.std.proofs.Common.{◌≡◌, ℕ, ◌+◌, ◌-◌, ◌<◌, ◌≤◌, ◌&&◌, min, not, Bool, true, false, Option, Some, None, cond, List, [], ◌∷◌, ◌++◌, length, map, get_or, take, drop, refl, sym, ap, ◌∙◌, subst, append_assoc, nat_le, nat_lt, arith}
+use Rattle.std.proofs.Common.{◌≡◌, ℕ, ◌+◌, ◌<◌, ◌≤◌, ◌&&◌, min, not, Bool, true, false, Option, Some, None, cond, List, [], ◌∷◌, ◌++◌, length, map, get_or, take, drop, refl, sym, ap, ◌∙◌, subst, append_assoc, nat_le, nat_lt, arith}
 use Rattle.std.proofs.lemmas.List.{take_more, take_all, drop-drop, append-nil, length-append, length-drop, length-map, map-append}
-use Rattle.std.proofs.lemmas.Bool.{cases_Bool}
 use Rattle.gc_graph.specs.Words.{is_number}
 use Rattle.gc_graph.specs.Forms.{Place}
-use Rattle.gc_graph.specs.Forms.Place.{Number, TypeNumber}
-use Rattle.gc_graph.specs.Reasons.{Bounds as GrammarBounds, says, all_say, value_of, is_unknown, is_bad, is_outside, is_beyond}
+use Rattle.gc_graph.specs.Reasons.{Bounds as GrammarBounds, says, all_say, value_of, is_beyond}
 use Rattle.heap_script.specs.declared.forms.Spot.{Spot}
 use Rattle.heap_script.specs.declared.places.Bounds.{Bounds}
-use Rattle.heap_script.specs.declared.places.Reading.{Reading}
 use Rattle.heap_script.specs.declared.said.Said.{Said}
-use Rattle.heap_script.specs.Cursor.{line_words, lines_after, IsNextWord}
-use Rattle.heap_script.specs.Ranks.{rank_by, rank_at, number_rank, lowest}
+use Rattle.heap_script.specs.Ranks.{rank_by, number_rank, lowest}
 use Rattle.heap_script.specs.Rows.{bounds_of, place_of}
 use Rattle.heap_script.specs.Said.{list_of, words_left, IsReadAt, IsReadOn}
 

@@ -1,25 +1,17 @@
 -- The end of a row's line, and the command that its numbers make.
-use Rattle.std.proofs.Common.{◌≡◌, ℕ, ◌+◌, ◌-◌, ◌<◌, ◌≤◌, ◌==◌, ◌||◌, ◌&&◌, min, not, Bool, true, false, Option, Some, None, Result, Ok, Err, cond, List, [], ◌∷◌, ◌++◌, length, map, get_or, take, drop, refl, sym, ap, ◌∙◌, subst, inl, inr, append_assoc, arith, ◌⊎◌}
-use Rattle.std.specs.Prelude.{is_some, nat_le, IfOk, IfErr}
-use Rattle.std.proofs.lemmas.List.{append-nil, length-drop, length-take, length-map, length-append}
-use Rattle.std.proofs.lemmas.Bool.{and_parts, cond-true, cond-false, eq-eqb, ne_eqb, eqb-true, cases_eq, cases_Bool, or_cases, or_from, leb-true, true≢false}
+use Rattle.std.proofs.Common.{◌≡◌, ℕ, ◌≤◌, ◌==◌, min, Bool, true, false, Option, None, cond, List, drop, refl, sym, ap, ◌∙◌, arith}
+use Rattle.std.specs.Prelude.{is_some}
+use Rattle.std.proofs.lemmas.Bool.{eqb-true, true≢false}
 use Rattle.gc_graph.specs.declared.command.Command.{Command}
-use Rattle.gc_graph.specs.Forms.{Place}
-use Rattle.gc_graph.specs.Reasons.{says, all_say}
 use Rattle.heap_script.specs.declared.forms.Row.{Row}
-use Rattle.heap_script.specs.declared.forms.Make.{Make}
 use Rattle.heap_script.specs.declared.forms.Make.TheVariants as M
 use Rattle.heap_script.specs.declared.forms.SmallForm.{SmallForm}
 use Rattle.heap_script.specs.declared.forms.WideForm.{WideForm}
 use Rattle.heap_script.specs.declared.places.Bounds.{Bounds}
 use Rattle.heap_script.specs.declared.said.Said.{Said}
-use Rattle.heap_script.specs.declared.row_lines.CommandLine.{CommandLine}
 use Rattle.heap_script.specs.Cursor.{lines_after, IsLineEnd, IsNextWord}
-use Rattle.heap_script.specs.Ranks.{lowest, rank_at}
-use Rattle.heap_script.specs.Rows.{bounds_of, place_of, places_in, tail_of, wide_place_of, small_command_of, wide_command_of, command_of, takes, makes_pair, is_sound, is_least_right}
-use Rattle.heap_script.specs.Said.{list_of, words_left, IsReadOn}
-use Rattle.heap_script.specs.RowLines.{row_count_rank, row_rank, row_numbers, IsRowLine}
-use Rattle.heap_script.proofs.Accepting.{accepts}
+use Rattle.heap_script.specs.Rows.{small_command_of, wide_command_of, command_of, makes_pair, is_sound}
+use Rattle.heap_script.specs.RowLines.{row_rank, row_numbers}
 use Rattle.heap_script.proofs.RowRanks.{IsRowSaid, row_makes}
 
 -- ---- the end of the line

@@ -1,5 +1,5 @@
 -- Which words give the threads their orders, and which commands they say.
-use Rattle.std.proofs.Common.{◌≡◌, ℕ, zero, suc, ◌==◌, ◌&&◌, ◌||◌, Bool, true, false, not, cond, Option, Some, None, List, [], ◌∷◌, length, refl, sym, ap, ◌∙◌, subst, inl, inr, ◌⊎◌}
+use Rattle.std.proofs.Common.{◌≡◌, ℕ, zero, suc, ◌||◌, Bool, true, false, not, cond, Option, Some, None, List, [], ◌∷◌, length, refl, sym, ap, ◌∙◌, subst, inl, inr, ◌⊎◌}
 use Rattle.std.specs.Prelude.{codes, is_some, unwrap_or, nat_lt}
 use Rattle.std.specs.Cmp.Lexicographic.{bytes_decides}
 use Rattle.std.proofs.lemmas.Bool.{true≢false, cases_Bool, cond-true, cond-false, or_cases, or_parts, and_left, not-false}
@@ -9,9 +9,9 @@ use Rattle.gc_graph.specs.declared.command.Order.{Order}
 use Rattle.gc_graph.specs.declared.command.Order.TheVariants as Q
 use Rattle.gc_graph.specs.declared.command.Want.{Want}
 use Rattle.gc_graph.specs.Words.{is_text}
-use Rattle.gc_graph.specs.Forms.{Place, Row, Form, rows, gc_rows, at_rows, row_named, plain_form, gc_form, at_form, form_after_gc, form_after_at, form_of, places_of, none, one, two, three, new_command, set_command, pair_command, sweep_command, threads_command, by_want, order_of_none, order_of_one, order_of_two}
+use Rattle.gc_graph.specs.Forms.{Place, Row, rows, gc_rows, at_rows, row_named, plain_form, gc_form, at_form, form_after_gc, form_after_at, form_of, none, one, two, three, new_command, set_command, pair_command, sweep_command, threads_command, by_want, order_of_none, order_of_one, order_of_two}
 use Rattle.gc_graph.specs.Forms.Place.{Either}
-use Rattle.gc_graph.specs.Forms.Form.{Missing, Unknown, Known}
+use Rattle.gc_graph.specs.Forms.Form.{Known}
 use Rattle.gc_graph.specs.Reasons.{Reason, Bounds, first_is, has_unknown_word, command_by, command_of_words, reason_of_words}
 use Rattle.gc_graph.specs.Reasons.Reason.{UnknownWord}
 use Rattle.gc_graph.specs.Script.{is_order, is_go, is_join}

@@ -1,13 +1,13 @@
 -- The words of a line by their places.
-use Rattle.std.proofs.Common.{◌≡◌, ℕ, ◌+◌, ◌-◌, ◌<◌, ◌≤◌, ◌==◌, ◌&&◌, Bool, true, false, not, None, Some, cond, List, [], ◌∷◌, ◌++◌, length, get_or, take, drop, refl, sym, ap, ◌∙◌, subst, inl, inr, arith, ◌⊎◌}
+use Rattle.std.proofs.Common.{◌≡◌, ℕ, ◌+◌, ◌-◌, ◌<◌, ◌≤◌, ◌==◌, true, false, not, Some, List, [], ◌∷◌, ◌++◌, length, get_or, take, drop, refl, sym, ap, ◌∙◌, subst, inl, inr, arith, ◌⊎◌}
 use Rattle.std.specs.List.{slice_split, onto_first, list_all, filter, slice_get}
-use Rattle.std.proofs.lemmas.List.{drop_more, drop_all, take-append-drop, drop-drop, get_or-drop, length-drop, length-take, nil_from_length}
+use Rattle.std.proofs.lemmas.List.{drop_more, drop_all, take-append-drop, drop-drop, get_or-drop, length-drop, length-take}
 use Rattle.std.proofs.lemmas.List.Folds.{list_all_more}
-use Rattle.std.proofs.lemmas.List.Splits.{slice_split-cons_yes, slice_split-cons_no, length-slice_split}
-use Rattle.std.proofs.lemmas.Bool.{cond-true, cond-false, and_parts, not-true, not_from_false, ne_eqb, eqb-true, eqb-false, eq-eqb, cases_Bool, and_from, cases_lt}
-use Rattle.std.proofs.lemmas.Option.{slice_get-get_or, get_or_from_slice_get, slice_get_within}
-use Rattle.gc_graph.specs.Words.{lines_of, lines_of_parts, words_of, is_blank}
-use Rattle.heap_script.specs.Cursor.{first_line, line_words, lines_after, is_word_byte, IsLineEnd, IsNextWord, IsPastSpaces, IsWordEnd}
+use Rattle.std.proofs.lemmas.List.Splits.{slice_split-cons_yes, slice_split-cons_no}
+use Rattle.std.proofs.lemmas.Bool.{cond-true, cond-false, and_parts, not-true, not_from_false, ne_eqb, eqb-true, cases_Bool, and_from, cases_lt}
+use Rattle.std.proofs.lemmas.Option.{slice_get-get_or}
+use Rattle.gc_graph.specs.Words.{lines_of, lines_of_parts, words_of}
+use Rattle.heap_script.specs.Cursor.{first_line, line_words, lines_after, is_word_byte, IsNextWord, IsPastSpaces, IsWordEnd}
 
 -- the first line is the first part
 first_of_parts : (parts : List (List ℕ)) → get_or (lines_of_parts parts) 0 [] ≡ get_or parts 0 []

@@ -2,8 +2,8 @@
 
 ghost use Rattle.std.specs.Prelude.{◌≡◌, true, IfSome};
 ghost use Rattle.std.specs.List.{list_all};
-ghost use Rattle.gc_graph.specs.Forms.{row_named, rows, gc_rows, at_rows};
-ghost use Rattle.heap_script.specs.Rows.{SameRow, RowTest, are_distinct, is_plain_row, is_gc_row, is_at_row, rows_by};
+ghost use Rattle.gc_graph.specs.Forms.{row_named};
+ghost use Rattle.heap_script.specs.Rows.{SameRow, RowTest, are_distinct, rows_by};
 
 use super::forms::Row;
 

@@ -1,9 +1,8 @@
 // The table of the forms, and the row that a word chooses.
 
 ghost use Rattle.std.specs.Prelude.{◌≡◌, true, IfSome};
-ghost use Rattle.std.specs.List.{list_all};
 ghost use Rattle.gc_graph.specs.Forms.{row_named, rows, gc_rows, at_rows};
-ghost use Rattle.heap_script.specs.Rows.{SameRow, RowTest, are_distinct, is_plain_row, is_gc_row, is_at_row, rows_by};
+ghost use Rattle.heap_script.specs.Rows.{SameRow, is_plain_row, is_gc_row, is_at_row};
 
 use super::forms::{Make, OrderForm, Row, SmallForm, Spot, WideForm};
 use super::row_search::{likely_place, row_in, row_near};

@@ -1,5 +1,4 @@
-use Rattle.std.proofs.Common.{◌≡◌, ◌⊎◌, length, Some, refl, inl, inr, arith}
-use Rattle.std.specs.Prelude.{slice_get}
+use Rattle.std.proofs.Common.{refl, inl, inr, arith}
 use Rattle.heap_script.proofs.LinesInTurn.{lines_next}
 use Rattle.heap_script.proofs.lines.next_line.Goals as goal
 
