@@ -13,7 +13,7 @@ use Rattle.heap_script.specs.declared.script.ScriptFault.{ScriptFault}
 use Rattle.heap_script.specs.declared.script_lines.Kept.{Kept}
 use Rattle.heap_script.specs.declared.script_reader.Stop.{Stop}
 use Rattle.heap_script.specs.Reading.{says_built_at, AreBuilt, IsUnbuiltLine, IsWhole, IsFaultyLine, IsStopped, fault_with}
-use Rattle.heap_script.specs.Scripts.{IsFaultOf, IsBuiltScript, commands_of, holds_built_type, holds_built_command, is_built_at, IsUnbuilt, IsUnbuiltFault}
+use Rattle.heap_script.specs.Scripts.{IsFaultOf, IsBuiltScript, commands_of, holds_built_type, holds_built_command, is_built_at, IsFirstUnbuilt, IsUnbuilt, IsUnbuiltFault}
 
 -- ---- the line of a type or of a command
 
@@ -126,45 +126,37 @@ there_before : (i j n : ℕ) → j ≤ i → (i ≡ 0) ⊎ (i < n) → (j ≡ 0)
 there_before i j n low (inl none) = inl (omega (arith, low, none))
 there_before i j n low (inr there) = inr (omega (arith, low, there))
 
+-- a line with a fault, before which all is built
+first_by_reason : (callbacks : ℕ) (bytes : List ℕ) (stop : Stop) (faulty : IsFaultyLine callbacks bytes stop) → AreBuilt (lines_of bytes) faulty.place
+    → IsFirstUnbuilt callbacks bytes faulty.place
+first_by_reason callbacks bytes stop faulty all = record {
+  there = faulty.there;
+  unbuilt = unbuilt_by_reason callbacks (lines_of bytes) faulty.place faulty.why faulty.first.faulty;
+  before = λ j l. built_at callbacks (lines_of bytes) j (faulty.first.before j l) (all j l);
+}
+
+-- a line up to that one that says what isn't built
+first_by_words : (callbacks : ℕ) (bytes : List ℕ) (stop : Stop) (faulty : IsFaultyLine callbacks bytes stop) (i : ℕ) → i ≤ faulty.place
+    → IsUnbuiltLine (lines_of bytes) i → IsFirstUnbuilt callbacks bytes i
+first_by_words callbacks bytes stop faulty i low line = record {
+  there = there_before faulty.place i (length (lines_of bytes)) low faulty.there;
+  unbuilt = unbuilt_by_words callbacks (lines_of bytes) i line.says;
+  before = λ j l. built_at callbacks (lines_of bytes) j (faulty.first.before j (omega (arith, l, low))) (line.before j l);
+}
+
 faulty_unbuilt : (callbacks : ℕ) (bytes : List ℕ) (stop : Stop) → IsFaultyLine callbacks bytes stop
     → (line : ℕ) × (((stop.unbuilt ≡ 0) × (line ≡ stop.line)) ⊎ ((stop.unbuilt ≡ 0 → ⊥) × (line ≡ stop.unbuilt))) × IsUnbuilt callbacks bytes line 9
 faulty_unbuilt callbacks bytes stop faulty =
-    let lines : List (List ℕ) = lines_of bytes in
-    let place : ℕ = faulty.place in
     elim faulty.unbuilt [
       | inl none ↦ (
         stop.line,
         inl (none.0, refl),
-        inr (
-          faulty.limits,
-          refl,
-          (
-            place,
-            faulty.line,
-            record {
-              there = faulty.there;
-              unbuilt = unbuilt_by_reason callbacks lines place faulty.why faulty.first.faulty;
-              before = λ j l. built_at callbacks lines j (faulty.first.before j l) (none.1 j l);
-            },
-          ),
-        ),
+        inr (faulty.limits, refl, (faulty.place, faulty.line, first_by_reason callbacks bytes stop faulty none.1)),
       )
       | inr found ↦ (
         stop.unbuilt,
         inr (λ e. omega (arith, e, found.1), refl),
-        inr (
-          faulty.limits,
-          refl,
-          (
-            found.0,
-            found.1,
-            record {
-              there = there_before place found.0 (length lines) found.2 faulty.there;
-              unbuilt = unbuilt_by_words callbacks lines found.0 found.3.says;
-              before = λ j l. built_at callbacks lines j (faulty.first.before j (omega (arith, l, found.2))) (found.3.before j l);
-            },
-          ),
-        ),
+        inr (faulty.limits, refl, (found.0, found.1, first_by_words callbacks bytes stop faulty found.0 found.2 found.3)),
       )
     ]
 

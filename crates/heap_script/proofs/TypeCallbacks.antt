@@ -188,12 +188,6 @@ with_letters bounds words more letters are is =
     ∙ cond-false (not (are_letters letters)) (Some UnknownWord) (or_range (is_over bounds letters more) (reason_of_callbacks more))
     (not_from_true (are_letters letters) is)
 
-pub wrong_callbacks : (bounds : Bounds) (words more : List (List ℕ)) (letters : List ℕ) (reason : ℕ) → words ≡ letters ∷ more
-    → are_letters letters ≡ true → IsReasonOf (reason_of_callbacks more) reason → IsReasonOf (reason_of_type bounds words) reason
-wrong_callbacks bounds words more letters reason are is (inl none) = inl none
-wrong_callbacks bounds words more letters reason are is (inr (why, number, e)) =
-    inr (why, number, with_letters bounds words more letters are is ∙ ap (or_range (is_over bounds letters more)) e)
-
 -- over is told by the parts
 ranged : (bounds : Bounds) (words more : List (List ℕ)) (letters : List ℕ) (called over : Bool) → words ≡ letters ∷ more
     → are_letters letters ≡ true → reason_of_callbacks more ≡ None → called ≡ are_over bounds.callbacks (drop 1 more)
