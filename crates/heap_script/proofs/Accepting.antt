@@ -1,11 +1,11 @@
 -- A command takes any numbers of which there are as many as it takes ones; a pair, where not one alone is null.
-use Rattle.std.proofs.Common.{◌≡◌, ℕ, zero, suc, ◌+◌, ◌<◌, ◌≤◌, Bool, true, false, Option, Some, None, List, [], ◌∷◌, length, replicate, refl, sym, ap, ◌∙◌, subst, arith}
+use Rattle.std.proofs.Common.{◌≡◌, ℕ, zero, suc, true, false, Option, List, [], ◌∷◌, length, replicate, refl, sym, subst}
 use Rattle.std.specs.Prelude.{is_some}
 use Rattle.gc_graph.specs.declared.command.Command.{Command}
 use Rattle.gc_graph.specs.declared.command.Command.TheVariants as C
 use Rattle.gc_graph.specs.declared.command.Want.{Want}
 use Rattle.gc_graph.specs.declared.command.Order.{Order}
-use Rattle.gc_graph.specs.Forms.{none, one, two, three, new_command, set_command, pair_command, sweep_command, threads_command, by_want, order_of_none, order_of_one, order_of_two}
+use Rattle.gc_graph.specs.Forms.{none, one, two, three, new_command, set_command, sweep_command, threads_command, by_want, order_of_none, order_of_one, order_of_two}
 use Rattle.heap_script.specs.declared.forms.SmallForm.{SmallForm}
 use Rattle.heap_script.specs.declared.forms.SmallForm.TheVariants as F
 use Rattle.heap_script.specs.declared.forms.OrderForm.{OrderForm}

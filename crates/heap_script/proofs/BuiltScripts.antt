@@ -1,25 +1,19 @@
 -- From what a reader of the lines tells to a script, or to one of which all is built.
 use Rattle.std.proofs.Common.{◌≡◌, ℕ, zero, suc, ◌+◌, ◌<◌, ◌≤◌, ◌==◌, ◌&&◌, ◌||◌, Bool, true, false, not, cond, Option, Some, None, List, [], ◌∷◌, length, get_or, take, refl, sym, ap, ◌∙◌, subst, inl, inr, ◌⊎◌, arith}
-use Rattle.std.specs.Prelude.{is_some, unwrap_or, slice_get}
+use Rattle.std.specs.Prelude.{is_some, slice_get}
 use Rattle.std.specs.List.{filter_map, cons_option}
-use Rattle.std.proofs.lemmas.Bool.{true≢false, cases_Bool, cond-true, cond-false, and_parts, and_left, and_right, and_from, or_left, or_right, or_from, not_from_false, eq-eqb, eqb-true, eqb-false, ne_eqb}
+use Rattle.std.proofs.lemmas.Bool.{true≢false, cases_Bool, cond-true, cond-false, and_parts, and_left, and_right, and_from, or_left, or_right, or_from, eq-eqb, eqb-true, ne_eqb}
 use Rattle.gc_graph.specs.declared.command.Command.{Command}
 use Rattle.gc_graph.specs.State.{ObjectType}
 use Rattle.gc_graph.specs.Built.{is_built_type, is_built_after, AreBuiltTypes, AreBuiltCommands}
 use Rattle.gc_graph.specs.Words.{lines_of, words_of}
-use Rattle.gc_graph.specs.Reasons.{Reason, number_of, command_of_words, type_of_words}
-use Rattle.gc_graph.specs.Script.{Script, IsScript, IsTooLong, IsInLimits, IsFault, IsFirstFault, reason_at}
+use Rattle.gc_graph.specs.Reasons.{Reason, command_of_words, type_of_words}
+use Rattle.gc_graph.specs.Script.{reason_at}
 use Rattle.heap_script.specs.declared.script.ScriptFault.{ScriptFault}
 use Rattle.heap_script.specs.declared.script_lines.Kept.{Kept}
 use Rattle.heap_script.specs.declared.script_reader.Stop.{Stop}
 use Rattle.heap_script.specs.Reading.{says_built_at, AreBuilt, IsUnbuiltLine, IsWhole, IsFaultyLine, IsStopped, fault_with}
 use Rattle.heap_script.specs.Scripts.{IsFaultOf, IsBuiltScript, commands_of, holds_built_type, holds_built_command, is_built_at, IsFirstUnbuilt, IsUnbuilt, IsUnbuiltFault}
-
-pub script_fault : (callbacks : ℕ) (bytes : List ℕ) (stop : Stop) → IsStopped callbacks bytes stop
-    → IsFaultOf callbacks bytes (record { line = stop.line; reason = stop.reason })
-script_fault callbacks bytes stop (inl none) = inl none
-script_fault callbacks bytes stop (inr (inl long)) = inr (inl long)
-script_fault callbacks bytes stop (inr (inr faulty)) = inr (inr (faulty.limits, (faulty.place, faulty.why, faulty.line, faulty.reason, faulty.first)))
 
 -- ---- the line of a type or of a command
 
@@ -126,76 +120,43 @@ unbuilt_by_reason : (callbacks : ℕ) (lines : List (List ℕ)) (j : ℕ) (why :
 unbuilt_by_reason callbacks lines j why faulty =
     and_left (not (is_some (reason_at callbacks lines j))) (says_built_at lines j) (ap (λ (o : Option Reason). not (is_some o)) faulty)
 
-first_unbuilt : (lines : List (List ℕ)) (n unbuilt : ℕ)
-    → ((unbuilt ≡ 0) × AreBuilt lines n) ⊎ ((i : ℕ) × (unbuilt ≡ i + 1) × (i < n) × IsUnbuiltLine lines i) → (unbuilt ≡ 0 → ⊥)
-    → (i : ℕ) × (unbuilt ≡ i + 1) × (i < n) × IsUnbuiltLine lines i
-first_unbuilt lines n unbuilt (inl (none, all)) some = absurd (some none)
-first_unbuilt lines n unbuilt (inr found) some = found
-
-pub whole_unbuilt : (callbacks : ℕ) (bytes : List ℕ) (kept : Kept) → IsWhole callbacks bytes kept → (kept.past.unbuilt ≡ 0 → ⊥)
-    → IsUnbuilt callbacks bytes kept.past.unbuilt 9
-whole_unbuilt callbacks bytes kept is some =
-    let lines : List (List ℕ) = lines_of bytes in
-    let found = first_unbuilt lines (length lines) kept.past.unbuilt is.unbuilt some in
-    inr (
-      is.script.limits,
-      refl,
-      (
-        found.0,
-        found.1,
-        record {
-          there = inr found.2;
-          unbuilt = unbuilt_by_words callbacks lines found.0 found.3.says;
-          before = λ j l. built_at callbacks lines j (is.script.faultless j (omega (arith, l, found.2))) (found.3.before j l);
-        },
-      ),
-    )
-
 -- ---- a fault, where all has to be built
 
 there_before : (i j n : ℕ) → j ≤ i → (i ≡ 0) ⊎ (i < n) → (j ≡ 0) ⊎ (j < n)
 there_before i j n low (inl none) = inl (omega (arith, low, none))
 there_before i j n low (inr there) = inr (omega (arith, low, there))
 
+-- a line with a fault, before which all is built
+first_by_reason : (callbacks : ℕ) (bytes : List ℕ) (stop : Stop) (faulty : IsFaultyLine callbacks bytes stop) → AreBuilt (lines_of bytes) faulty.place
+    → IsFirstUnbuilt callbacks bytes faulty.place
+first_by_reason callbacks bytes stop faulty all = record {
+  there = faulty.there;
+  unbuilt = unbuilt_by_reason callbacks (lines_of bytes) faulty.place faulty.why faulty.first.faulty;
+  before = λ j l. built_at callbacks (lines_of bytes) j (faulty.first.before j l) (all j l);
+}
+
+-- a line up to that one that says what isn't built
+first_by_words : (callbacks : ℕ) (bytes : List ℕ) (stop : Stop) (faulty : IsFaultyLine callbacks bytes stop) (i : ℕ) → i ≤ faulty.place
+    → IsUnbuiltLine (lines_of bytes) i → IsFirstUnbuilt callbacks bytes i
+first_by_words callbacks bytes stop faulty i low line = record {
+  there = there_before faulty.place i (length (lines_of bytes)) low faulty.there;
+  unbuilt = unbuilt_by_words callbacks (lines_of bytes) i line.says;
+  before = λ j l. built_at callbacks (lines_of bytes) j (faulty.first.before j (omega (arith, l, low))) (line.before j l);
+}
+
 faulty_unbuilt : (callbacks : ℕ) (bytes : List ℕ) (stop : Stop) → IsFaultyLine callbacks bytes stop
     → (line : ℕ) × (((stop.unbuilt ≡ 0) × (line ≡ stop.line)) ⊎ ((stop.unbuilt ≡ 0 → ⊥) × (line ≡ stop.unbuilt))) × IsUnbuilt callbacks bytes line 9
 faulty_unbuilt callbacks bytes stop faulty =
-    let lines : List (List ℕ) = lines_of bytes in
-    let place : ℕ = faulty.place in
     elim faulty.unbuilt [
       | inl none ↦ (
         stop.line,
         inl (none.0, refl),
-        inr (
-          faulty.limits,
-          refl,
-          (
-            place,
-            faulty.line,
-            record {
-              there = faulty.there;
-              unbuilt = unbuilt_by_reason callbacks lines place faulty.why faulty.first.faulty;
-              before = λ j l. built_at callbacks lines j (faulty.first.before j l) (none.1 j l);
-            },
-          ),
-        ),
+        inr (faulty.limits, refl, (faulty.place, faulty.line, first_by_reason callbacks bytes stop faulty none.1)),
       )
       | inr found ↦ (
         stop.unbuilt,
         inr (λ e. omega (arith, e, found.1), refl),
-        inr (
-          faulty.limits,
-          refl,
-          (
-            found.0,
-            found.1,
-            record {
-              there = there_before place found.0 (length lines) found.2 faulty.there;
-              unbuilt = unbuilt_by_words callbacks lines found.0 found.3.says;
-              before = λ j l. built_at callbacks lines j (faulty.first.before j (omega (arith, l, found.2))) (found.3.before j l);
-            },
-          ),
-        ),
+        inr (faulty.limits, refl, (found.0, found.1, first_by_words callbacks bytes stop faulty found.0 found.2 found.3)),
       )
     ]
 

@@ -1,6 +1,5 @@
 -- The form that the first words of a line choose, and what a row's line says of the whole line.
-use Rattle.std.proofs.Common.{◌≡◌, ℕ, zero, suc, ◌+◌, ◌-◌, ◌<◌, ◌≤◌, ◌==◌, min, not, Bool, true, false, Option, Some, None, Result, Ok, Err, cond, List, [], ◌∷◌, ◌++◌, length, take, drop, refl, sym, ap, ◌∙◌, subst, inl, inr, arith, codes}
-use Rattle.std.specs.Prelude.{IfOk, IfErr}
+use Rattle.std.proofs.Common.{◌≡◌, ℕ, suc, ◌≤◌, ◌==◌, min, not, true, false, Option, Some, None, Result, Ok, Err, cond, List, [], ◌∷◌, ◌++◌, length, take, drop, refl, sym, ap, ◌∙◌, subst, inl, inr, arith, codes}
 use Rattle.std.specs.Borrow.{Bor}
 use Rattle.std.proofs.lemmas.Bool.{cond-true, cond-false, eq-eqb, ne_eqb, cases_eq, cases_Bool}
 use Rattle.std.proofs.lemmas.Slice.Eq.{bytes_eq-Decides}
@@ -17,12 +16,13 @@ use Rattle.heap_script.specs.declared.said.Said.{Said}
 use Rattle.heap_script.specs.declared.row_lines.CommandLine.{CommandLine}
 use Rattle.heap_script.specs.Cursor.{lines_after}
 use Rattle.heap_script.specs.CommandLines.{IsCommandLine}
-use Rattle.heap_script.specs.Ranks.{rank_by, lowest, rank_at, count_rank, half_rank, many_rank, form_rank}
+use Rattle.heap_script.specs.Ranks.{rank_by, lowest, rank_at, count_rank, half_rank, form_rank}
 use Rattle.heap_script.specs.Rows.{bounds_of, places_in, row_by, SameRow, command_of}
 use Rattle.heap_script.specs.Said.{list_of, words_left}
-use Rattle.heap_script.specs.RowLines.{row_count_rank, row_rank, row_numbers, IsRowLine}
+use Rattle.heap_script.specs.RowLines.{row_rank, row_numbers, IsRowLine}
 use Rattle.heap_script.proofs.RanksOfWords.{known_rank, missing_rank, faultless, faulty, many_elsewhere, half_elsewhere}
-use Rattle.heap_script.proofs.RowRanks.{count_low, end_from}
+use Rattle.heap_script.proofs.RowRanks.{count_low}
+use Rattle.heap_script.proofs.RowEnds.{end_from}
 use Rattle.heap_script.proofs.FormRanks.{lowest_of_row, says_of_row, count_of_row}
 
 -- the row's rank is that of the form which the words choose, and its command is theirs

@@ -1,29 +1,15 @@
 -- The form of a line by the row that its words choose, and the command line of a row's line.
-use Rattle.std.proofs.Common.{◌≡◌, ℕ, zero, suc, ◌+◌, ◌-◌, ◌<◌, ◌≤◌, ◌==◌, ◌||◌, ◌&&◌, min, not, Bool, true, false, Option, Some, None, Result, Ok, Err, cond, List, [], ◌∷◌, ◌++◌, length, map, take, drop, refl, sym, ap, ◌∙◌, subst, inl, inr, arith, codes, nat_lt}
-use Rattle.std.specs.Prelude.{IfOk, IfErr}
-use Rattle.std.specs.Borrow.{Bor}
-use Rattle.std.proofs.lemmas.List.{append-nil, take-append-drop, length-take}
-use Rattle.std.proofs.lemmas.Bool.{cond-true, cond-false, lt-ltb, le-ltb, eq-eqb, ne_eqb, cases_lt, cases_eq, cases_Bool}
-use Rattle.gc_graph.specs.declared.command.Command.{Command}
-use Rattle.gc_graph.specs.Words.{is_text}
-use Rattle.gc_graph.specs.Forms.{Place, Form, form_of, places_of, plain_form, gc_form, at_form, row_named, rows, gc_rows, at_rows, thread}
-use Rattle.gc_graph.specs.Forms.{Row as GrammarRow}
-use Rattle.gc_graph.specs.Forms.Place.{Fixed}
-use Rattle.gc_graph.specs.Forms.Form.{Missing, Unknown, Known}
-use Rattle.gc_graph.specs.Reasons.{Reason, Bounds as GrammarBounds, number_of, says, all_say, first_is, reason_of_words, command_of_words, command_by}
+use Rattle.std.proofs.Common.{◌≡◌, ℕ, zero, suc, ◌<◌, ◌≤◌, ◌==◌, ◌||◌, min, Bool, cond, List, [], ◌∷◌, ◌++◌, length, take, drop, refl, sym, ap, ◌∙◌, inl, inr, arith, nat_lt}
+use Rattle.std.proofs.lemmas.List.{take-append-drop, length-take}
+use Rattle.std.proofs.lemmas.Bool.{cond-true, cond-false, lt-ltb, le-ltb, eq-eqb, ne_eqb, cases_lt, cases_eq}
+use Rattle.gc_graph.specs.Forms.{Place, places_of}
+use Rattle.gc_graph.specs.Reasons.{Bounds as GrammarBounds, says, all_say}
 use Rattle.heap_script.specs.declared.forms.Row.{Row}
-use Rattle.heap_script.specs.declared.places.Bounds.{Bounds}
-use Rattle.heap_script.specs.declared.said.Said.{Said}
-use Rattle.heap_script.specs.declared.row_lines.CommandLine.{CommandLine}
-use Rattle.heap_script.specs.Cursor.{lines_after, IsLineEnd}
-use Rattle.heap_script.specs.Ranks.{lowest, rank_at, count_rank, half_rank, many_rank, form_rank}
-use Rattle.heap_script.specs.Rows.{bounds_of, places_in, row_by, SameRow, command_of}
-use Rattle.heap_script.specs.Said.{list_of, words_left}
-use Rattle.heap_script.specs.RowLines.{row_count_rank, row_rank, row_numbers, IsRowLine}
-use Rattle.heap_script.specs.CommandLines.{IsCommandLine}
-use Rattle.heap_script.proofs.RanksOfWords.{known_rank, missing_rank, faultless, faulty, many_elsewhere, half_elsewhere}
+use Rattle.heap_script.specs.Ranks.{lowest, rank_at, count_rank}
+use Rattle.heap_script.specs.Rows.{places_in, row_by}
+use Rattle.heap_script.specs.RowLines.{row_count_rank}
 use Rattle.heap_script.proofs.PlacesRead.{lowest_nothing, says_nothing}
-use Rattle.heap_script.proofs.RowRanks.{end_from, count_wrong}
+use Rattle.heap_script.proofs.RowRanks.{count_wrong}
 
 -- ---- the places of a row for so many words
 

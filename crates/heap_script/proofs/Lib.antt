@@ -5,6 +5,7 @@ pub mod FormRanks
 pub mod HeaderLine
 pub mod LineReasons
 pub mod LinesByRows
+pub mod LinesInTurn
 pub mod LinesJudged
 pub mod LinesOfGroups
 pub mod PairLines
@@ -13,6 +14,7 @@ pub mod PieceByPiece
 pub mod PlacesRead
 pub mod RanksOfWords
 pub mod ReadSoFar
+pub mod RowEnds
 pub mod RowRanks
 pub mod RowsFound
 pub mod ScriptEnds

@@ -1,12 +1,12 @@
 -- The reason of a line with words, from that of its words and from what the lines before say.
-use Rattle.std.proofs.Common.{◌≡◌, ℕ, ◌&&◌, ◌||◌, Bool, true, false, not, cond, Option, Some, None, List, [], ◌∷◌, refl, sym, ap, ◌∙◌, inl, inr}
+use Rattle.std.proofs.Common.{◌≡◌, ℕ, ◌&&◌, ◌||◌, Bool, true, false, not, cond, Option, Some, None, List, ◌∷◌, refl, ap, ◌∙◌, inl, inr}
 use Rattle.std.specs.Prelude.{codes, is_some}
 use Rattle.std.proofs.lemmas.Bool.{true≢false, cond-true, cond-false, not_from_true, not_from_false, and_left}
 use Rattle.gc_graph.specs.declared.command.Command.{Command}
 use Rattle.gc_graph.specs.declared.command.Command.TheVariants as C
 use Rattle.gc_graph.specs.Reasons.{Reason, number_of, first_is, reason_of_words, command_of_words}
 use Rattle.gc_graph.specs.Reasons.Reason.{Order, Section}
-use Rattle.gc_graph.specs.Script.{Threads, is_order, is_go, is_join, are_waiting, are_going, are_at_rest, threads_after, breaks_section}
+use Rattle.gc_graph.specs.Script.{Threads, is_go, is_join, are_waiting, are_going, threads_after, breaks_section}
 use Rattle.gc_graph.specs.Script.Threads.{AtRest, Waiting, Going}
 use Rattle.heap_script.specs.declared.past.Past.{Past}
 use Rattle.heap_script.specs.declared.past.Stage.{Stage}

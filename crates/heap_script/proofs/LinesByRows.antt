@@ -1,25 +1,22 @@
 -- The line of a command from the line of the row that its first words choose.
-use Rattle.std.proofs.Common.{◌≡◌, ℕ, zero, suc, ◌+◌, ◌-◌, ◌<◌, ◌≤◌, ◌&&◌, min, Bool, true, false, Option, Some, None, Result, Ok, Err, cond, List, [], ◌∷◌, ◌++◌, length, take, drop, refl, sym, ap, ◌∙◌, subst, inl, inr, arith, codes}
+use Rattle.std.proofs.Common.{◌≡◌, ℕ, ◌≤◌, ◌&&◌, true, false, Some, None, Err, cond, List, ◌∷◌, length, drop, refl, sym, ap, ◌∙◌, subst, arith, codes}
 use Rattle.std.specs.Prelude.{is_some}
-use Rattle.std.specs.Borrow.{Bor}
-use Rattle.std.proofs.lemmas.Bool.{and_parts, not-true, true≢false}
+use Rattle.std.proofs.lemmas.Bool.{and_parts}
 use Rattle.gc_graph.specs.Words.{is_text}
-use Rattle.gc_graph.specs.Forms.{form_of, row_named, rows, gc_rows, at_rows, thread, gc_form, at_form, plain_form}
-use Rattle.gc_graph.specs.Forms.Form.{Missing, Unknown}
-use Rattle.gc_graph.specs.Reasons.{Bounds as GrammarBounds, says, first_is}
+use Rattle.gc_graph.specs.Forms.{row_named, rows, plain_form}
+use Rattle.gc_graph.specs.Reasons.{Bounds as GrammarBounds}
 use Rattle.heap_script.specs.declared.forms.Row.{Row}
 use Rattle.heap_script.specs.declared.places.Bounds.{Bounds}
-use Rattle.heap_script.specs.declared.places.Reading.{Reading}
 use Rattle.heap_script.specs.declared.said.Said.{Said}
 use Rattle.heap_script.specs.declared.row_lines.CommandLine.{CommandLine}
-use Rattle.heap_script.specs.Cursor.{line_words, lines_after, IsNextWord}
-use Rattle.heap_script.specs.Ranks.{lowest, rank_at, half_rank, form_rank}
-use Rattle.heap_script.specs.Rows.{bounds_of, places_in, row_by, agree, makes_pair, command_of, is_sound, is_plain_row, is_gc_row, is_at_row}
-use Rattle.heap_script.specs.Said.{list_of, words_left}
+use Rattle.heap_script.specs.Cursor.{line_words}
+use Rattle.heap_script.specs.Ranks.{half_rank}
+use Rattle.heap_script.specs.Rows.{bounds_of, places_in, row_by, agree, makes_pair, command_of, is_sound, is_plain_row}
+use Rattle.heap_script.specs.Said.{words_left}
 use Rattle.heap_script.specs.RowLines.{row_rank, row_numbers, IsRowLine}
 use Rattle.heap_script.specs.CommandLines.{is_half_after, IsCommandLine}
 use Rattle.heap_script.proofs.RowRanks.{sound_least}
-use Rattle.heap_script.proofs.CommandForms.{form_of_plain, form_of_gc, form_of_at, name_of, other_text, plain_is_row, gc_is_row, at_is_row, command_line, refused_line, unknown_form, missing_form}
+use Rattle.heap_script.proofs.CommandForms.{form_of_plain, name_of, plain_is_row, command_line, refused_line, unknown_form}
 use Rattle.heap_script.proofs.PairLines.{pair_word, half_is_by, pair_makes}
 
 -- ---- before a row's words

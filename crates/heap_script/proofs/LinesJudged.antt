@@ -1,14 +1,14 @@
 -- The reason of a line, judged as if others with words follow it, and what follows at the end.
-use Rattle.std.proofs.Common.{◌≡◌, ℕ, suc, ◌+◌, ◌-◌, ◌<◌, ◌≤◌, ◌&&◌, ◌||◌, Bool, true, false, not, cond, Option, Some, None, List, [], ◌∷◌, length, get_or, take, drop, refl, sym, ap, ◌∙◌, inl, inr, arith}
+use Rattle.std.proofs.Common.{◌≡◌, ℕ, suc, ◌+◌, ◌-◌, ◌<◌, ◌&&◌, ◌||◌, Bool, true, false, not, cond, Option, Some, None, List, [], ◌∷◌, length, get_or, take, drop, refl, sym, ap, ◌∙◌, inl, inr, arith}
 use Rattle.std.specs.Prelude.{codes, is_some}
 use Rattle.std.specs.List.{list_all, list_any}
 use Rattle.std.proofs.lemmas.Bool.{true≢false, cases_Bool, cond-true, cond-false, and_from}
 use Rattle.std.proofs.lemmas.List.{length-drop, get_or-drop}
 use Rattle.std.proofs.lemmas.List.Folds.{list_all_at}
 use Rattle.gc_graph.specs.Words.{words_of, is_blank}
-use Rattle.gc_graph.specs.Reasons.{Reason, Bounds, first_is, reason_of_words}
+use Rattle.gc_graph.specs.Reasons.{Reason, first_is, reason_of_words}
 use Rattle.gc_graph.specs.Reasons.Reason.{Order, Section}
-use Rattle.gc_graph.specs.Script.{Threads, is_command, is_order, is_go, is_join, are_going, are_waiting, are_at_rest, threads_of, threads_after, breaks_section, reason_by_order, bounds_after, reason_of, reason_at}
+use Rattle.gc_graph.specs.Script.{is_command, is_order, is_go, is_join, are_going, are_waiting, are_at_rest, threads_of, threads_after, reason_by_order, bounds_after, reason_of, reason_at}
 
 -- the reason by itself, and before others with words
 abbrev words_reason : ℕ → List (List ℕ) → List ℕ → Option Reason

@@ -1,20 +1,18 @@
 -- The lines of the forms that a word after `gc`, or after `at` and its thread, chooses.
-use Rattle.std.proofs.Common.{◌≡◌, ℕ, zero, suc, ◌+◌, ◌-◌, ◌<◌, ◌≤◌, ◌&&◌, min, not, Bool, true, false, Option, Some, None, Result, Ok, Err, cond, List, [], ◌∷◌, ◌++◌, length, take, drop, refl, sym, ap, ◌∙◌, subst, inl, inr, arith, codes}
-use Rattle.std.specs.Prelude.{is_some}
-use Rattle.std.proofs.lemmas.Bool.{and_parts, not-true, true≢false}
+use Rattle.std.proofs.Common.{◌≡◌, ℕ, ◌-◌, ◌≤◌, min, not, true, false, Some, None, Err, List, [], ◌∷◌, length, take, drop, refl, sym, ap, ◌∙◌, subst, arith, codes}
+use Rattle.std.proofs.lemmas.Bool.{and_parts}
 use Rattle.gc_graph.specs.Words.{is_text}
-use Rattle.gc_graph.specs.Forms.{Place, form_of, row_named, gc_rows, at_rows, thread, gc_form, at_form}
-use Rattle.gc_graph.specs.Forms.Form.{Missing, Unknown}
-use Rattle.gc_graph.specs.Reasons.{Bounds as GrammarBounds, says, first_is, is_unknown, is_bad, is_outside}
+use Rattle.gc_graph.specs.Forms.{Place, row_named, gc_rows, at_rows, thread, gc_form, at_form}
+use Rattle.gc_graph.specs.Reasons.{Bounds as GrammarBounds, says, is_unknown, is_bad, is_outside}
 use Rattle.heap_script.specs.declared.forms.Row.{Row}
 use Rattle.heap_script.specs.declared.places.Bounds.{Bounds}
 use Rattle.heap_script.specs.declared.said.Said.{Said}
 use Rattle.heap_script.specs.declared.row_lines.CommandLine.{CommandLine}
 use Rattle.heap_script.specs.Cursor.{line_words, lines_after, IsNextWord}
-use Rattle.heap_script.specs.Ranks.{lowest, rank_at, form_rank}
-use Rattle.heap_script.specs.Rows.{bounds_of, places_in, row_by, makes_pair, command_of, is_sound, is_gc_row, is_at_row}
+use Rattle.heap_script.specs.Ranks.{rank_at}
+use Rattle.heap_script.specs.Rows.{bounds_of, row_by, makes_pair, is_sound, is_gc_row, is_at_row}
 use Rattle.heap_script.specs.Said.{list_of, words_left}
-use Rattle.heap_script.specs.RowLines.{row_rank, row_numbers, IsRowLine}
+use Rattle.heap_script.specs.RowLines.{IsRowLine}
 use Rattle.heap_script.specs.CommandLines.{IsCommandLine}
 use Rattle.heap_script.proofs.PlacesRead.{rank_le9}
 use Rattle.heap_script.proofs.RowRanks.{sound_least}
@@ -27,16 +25,6 @@ gc_sound row before plain e = ap (λ n. is_sound n row) e ∙ (and_parts (is_sou
 
 pub at_sound : (row : Row) (before : ℕ) → is_at_row row ≡ true → before ≡ 1 → is_sound before row ≡ true
 at_sound row before plain e = ap (λ n. is_sound n row) e ∙ (and_parts (is_sound 1 row) (not (makes_pair row.make)) plain).0
-
-pub gc_pairs : (bounds : Bounds) (row : Row) (bytes : List ℕ) (before : Said) → is_gc_row row ≡ true → makes_pair row.make ≡ true
-    → row_rank bounds row bytes before ≡ 9 → is_some (command_of row.make (row_numbers row bytes before)) ≡ true
-gc_pairs bounds row bytes before plain pair good =
-    absurd (true≢false (sym pair ∙ not-true (makes_pair row.make) (and_parts (is_sound 0 row) (not (makes_pair row.make)) plain).1))
-
-pub at_pairs : (bounds : Bounds) (row : Row) (bytes : List ℕ) (before : Said) → is_at_row row ≡ true → makes_pair row.make ≡ true
-    → row_rank bounds row bytes before ≡ 9 → is_some (command_of row.make (row_numbers row bytes before)) ≡ true
-at_pairs bounds row bytes before plain pair good =
-    absurd (true≢false (sym pair ∙ not-true (makes_pair row.make) (and_parts (is_sound 1 row) (not (makes_pair row.make)) plain).1))
 
 rank_low : (bounds : GrammarBounds) (place : Place) (word : List ℕ) → rank_at bounds place word ≤ 9
 rank_low bounds place word = rank_le9 (is_unknown place word) (is_bad place word) false (is_outside bounds place word)

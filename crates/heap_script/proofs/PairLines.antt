@@ -1,20 +1,19 @@
 -- A pair, of which not one alone is null.
-use Rattle.std.proofs.Common.{◌≡◌, ℕ, zero, suc, ◌+◌, ◌<◌, ◌≤◌, ◌&&◌, ◌||◌, min, not, Bool, true, false, Option, Some, None, cond, List, [], ◌∷◌, ◌++◌, length, take, drop, refl, sym, ap, ◌∙◌, subst, inl, inr, arith, codes}
+use Rattle.std.proofs.Common.{◌≡◌, ℕ, suc, ◌≤◌, ◌&&◌, ◌||◌, Bool, true, false, Some, cond, List, [], ◌∷◌, ◌++◌, length, take, drop, refl, sym, ap, ◌∙◌, inl, inr, arith, codes}
 use Rattle.std.specs.Prelude.{is_some}
-use Rattle.std.proofs.lemmas.Bool.{cond-true, cond-false, cases_Bool, and_parts, true≢false, not-false, and_right}
-use Rattle.std.proofs.lemmas.List.{take-append-drop, length-take, length-append}
+use Rattle.std.proofs.lemmas.Bool.{true≢false, not-false, and_right}
+use Rattle.std.proofs.lemmas.List.{take-append-drop, length-take}
 use Rattle.std.proofs.lemmas.Slice.Eq.{bytes_eq-Decides}
-use Rattle.gc_graph.specs.declared.command.Command.{Command}
 use Rattle.gc_graph.specs.Words.{is_text, is_number}
 use Rattle.gc_graph.specs.Forms.{Place, slot, field, slot_or_null, row_named, rows, row, pair_command}
 use Rattle.gc_graph.specs.Forms.{Row as GrammarRow}
-use Rattle.gc_graph.specs.Reasons.{Bounds as GrammarBounds, says, all_say, is_bad, is_outside, is_half, is_half_null, value_of}
+use Rattle.gc_graph.specs.Reasons.{Bounds as GrammarBounds, all_say, is_bad, is_outside, is_half_null, value_of}
 use Rattle.heap_script.specs.declared.forms.Row.{Row}
 use Rattle.heap_script.specs.declared.places.Bounds.{Bounds}
 use Rattle.heap_script.specs.declared.said.Said.{Said}
 use Rattle.heap_script.specs.Ranks.{rank_by, rank_at, lowest, half_rank}
 use Rattle.heap_script.specs.Rows.{bounds_of, is_null, places_in, row_by, agree, makes_pair, command_of}
-use Rattle.heap_script.specs.Said.{list_of, words_left}
+use Rattle.heap_script.specs.Said.{words_left}
 use Rattle.heap_script.specs.RowLines.{row_rank, row_count_rank, row_numbers}
 use Rattle.heap_script.specs.CommandLines.{is_half_after}
 use Rattle.heap_script.proofs.RowRanks.{count_right}

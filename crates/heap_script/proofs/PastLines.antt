@@ -1,7 +1,7 @@
 -- What the lines before say, with one more.
-use Rattle.std.proofs.Common.{◌≡◌, ℕ, ◌+◌, ◌<◌, ◌&&◌, ◌||◌, Bool, true, false, not, cond, Option, Some, None, List, [], ◌∷◌, ◌++◌, length, get_or, take, refl, sym, ap, ◌∙◌, subst, arith}
+use Rattle.std.proofs.Common.{◌≡◌, ℕ, ◌+◌, ◌<◌, ◌&&◌, ◌||◌, Bool, true, false, not, cond, Option, Some, None, List, [], ◌∷◌, ◌++◌, length, get_or, take, refl, sym, ap, ◌∙◌, subst}
 use Rattle.std.specs.Prelude.{codes, count_by}
-use Rattle.std.specs.List.{list_any, filter_map, fold}
+use Rattle.std.specs.List.{list_any, filter_map}
 use Rattle.std.proofs.lemmas.Bool.{true≢false, cond-false, and_from, and_right, or_right, not_from_true, not_from_false}
 use Rattle.std.proofs.lemmas.List.{take_more, append-nil}
 use Rattle.std.proofs.lemmas.List.Elements.{filter_map-append}
@@ -10,20 +10,20 @@ use Rattle.std.proofs.lemmas.List.Sums.{fold_more, fold-append, count_by_more_ye
 use Rattle.gc_graph.specs.declared.command.Command.{Command}
 use Rattle.gc_graph.specs.declared.command.Command.TheVariants as C
 use Rattle.gc_graph.specs.State.{ObjectType}
-use Rattle.gc_graph.specs.Built.{is_built, is_built_type, is_timely, is_built_after, is_sweep_open, opens_sweep}
+use Rattle.gc_graph.specs.Built.{is_built, is_built_type, is_timely, is_sweep_open, opens_sweep}
 use Rattle.std.specs.Cmp.Lexicographic.{bytes_decides}
 use Rattle.gc_graph.specs.Words.{words_of, is_text, is_blank}
-use Rattle.gc_graph.specs.Reasons.{Reason, Bounds, first_is, reason_of_words, command_of_words, type_of_words}
+use Rattle.gc_graph.specs.Reasons.{Reason, first_is, reason_of_words, command_of_words, type_of_words}
 use Rattle.gc_graph.specs.Reasons.Reason.{Order, Section}
 use Rattle.gc_graph.specs.Script.{Threads, is_type, is_command, threads_of, threads_after, breaks_section, reason_by_order, bounds_after}
 use Rattle.gc_graph.specs.Script.Threads.{AtRest}
 use Rattle.heap_script.specs.Scripts.{commands_of, holds_built_type, holds_built_command, says_built}
 use Rattle.heap_script.specs.declared.past.Past.{Past}
 use Rattle.heap_script.specs.declared.script_lines.Kept.{Kept}
-use Rattle.heap_script.specs.Past.{threads_in, is_timely_in, past_header, with_blank, with_type, with_command, bounds_in, reason_with, reason_after, IsTypeKept, IsCommandKept}
+use Rattle.heap_script.specs.Past.{threads_in, is_timely_in, past_header, with_blank, bounds_in, reason_with, reason_after, IsTypeKept, IsCommandKept}
 use Rattle.heap_script.proofs.LineReasons.{threads_after_line}
 use Rattle.heap_script.proofs.LinesJudged.{judged, judged_words}
-use Rattle.heap_script.proofs.WordPlaces.{none_of_blank}
+use Rattle.heap_script.proofs.LinesInTurn.{none_of_blank}
 
 -- the types that the lines declare
 abbrev pub types_of : List (List ℕ) → List ObjectType

@@ -1,17 +1,13 @@
 -- The words of a line read one after the other, each at its place.
-use Rattle.std.proofs.Common.{◌≡◌, ℕ, ◌+◌, ◌-◌, ◌<◌, ◌≤◌, ◌&&◌, min, not, Bool, true, false, Option, Some, None, cond, List, [], ◌∷◌, ◌++◌, length, map, get_or, take, drop, refl, sym, ap, ◌∙◌, subst, append_assoc, nat_le, nat_lt, arith}
+use Rattle.std.proofs.Common.{◌≡◌, ℕ, ◌+◌, ◌<◌, ◌≤◌, ◌&&◌, min, not, Bool, true, false, Option, Some, None, cond, List, [], ◌∷◌, ◌++◌, length, map, get_or, take, drop, refl, sym, ap, ◌∙◌, subst, append_assoc, nat_le, nat_lt, arith}
 use Rattle.std.proofs.lemmas.List.{take_more, take_all, drop-drop, append-nil, length-append, length-drop, length-map, map-append}
-use Rattle.std.proofs.lemmas.Bool.{cases_Bool}
 use Rattle.gc_graph.specs.Words.{is_number}
 use Rattle.gc_graph.specs.Forms.{Place}
-use Rattle.gc_graph.specs.Forms.Place.{Number, TypeNumber}
-use Rattle.gc_graph.specs.Reasons.{Bounds as GrammarBounds, says, all_say, value_of, is_unknown, is_bad, is_outside, is_beyond}
+use Rattle.gc_graph.specs.Reasons.{Bounds as GrammarBounds, says, all_say, value_of, is_beyond}
 use Rattle.heap_script.specs.declared.forms.Spot.{Spot}
 use Rattle.heap_script.specs.declared.places.Bounds.{Bounds}
-use Rattle.heap_script.specs.declared.places.Reading.{Reading}
 use Rattle.heap_script.specs.declared.said.Said.{Said}
-use Rattle.heap_script.specs.Cursor.{line_words, lines_after, IsNextWord}
-use Rattle.heap_script.specs.Ranks.{rank_by, rank_at, number_rank, lowest}
+use Rattle.heap_script.specs.Ranks.{rank_by, number_rank, lowest}
 use Rattle.heap_script.specs.Rows.{bounds_of, place_of}
 use Rattle.heap_script.specs.Said.{list_of, words_left, IsReadAt, IsReadOn}
 
@@ -21,9 +17,6 @@ rank_le9 false true c o = omega arith
 rank_le9 false false true o = omega arith
 rank_le9 false false false true = omega arith
 rank_le9 false false false false = omega arith
-
-rank_at_le9 : (bounds : GrammarBounds) (place : Place) (word : List ℕ) → rank_at bounds place word ≤ 9
-rank_at_le9 bounds place word = rank_le9 (is_unknown place word) (is_bad place word) false (is_outside bounds place word)
 
 -- ---- numbers
 
@@ -53,65 +46,6 @@ number_said word value n is e = some_value (is_number word) (value_of word) n (s
 pub ruleset number_ranks = (number_rank_is, number_said)
 
 -- ---- one word
-
--- where no word is left
-pub read_none : (bounds : GrammarBounds) (place : Place) (bytes : List ℕ) (said : Said) → said.end ≤ length bytes → said.rank ≤ 9
-    → words_left bytes said ≡ [] → IsReadAt bounds (place ∷ []) bytes said said
-read_none bounds place bytes said within low none = record {
-  before = omega arith;
-  within = within;
-  rank = omega (arith, low, ap (lowest bounds (place ∷ [])) none);
-  numbers = λ good. sym (append-nil (list_of said)) ∙ ap (λ ws. list_of said ++ all_say (place ∷ []) ws) (sym none);
-  count = omega (arith, ap length none);
-  left = none ∙ sym (ap (λ (ws : List (List ℕ)). drop 1 ws) none);
-  lines = refl;
-}
-
--- what one more word is, at its place
-pub read_word_at : (bounds : GrammarBounds) (place : Place) (bytes : List ℕ) (reading : Reading) (old new : Said) (start end : ℕ)
-    → old.rank ≤ 9 → IsNextWord bytes old.end start end → (start ≡ end → ⊥)
-    → new.rank ≡ min old.rank reading.rank → new.end ≡ end → new.count ≡ old.count + 1
-    → list_of new ≡ list_of old ++ reading.value ∷ []
-    → reading.rank ≡ rank_at bounds place (take (end - start) (drop start bytes))
-    → (reading.rank ≡ 9 → says place (take (end - start) (drop start bytes)) ≡ reading.value ∷ [])
-    → IsReadAt bounds (place ∷ []) bytes old new
-read_word_at bounds place bytes reading old new start end low next ne rank ends count numbers its_rank its_value =
-    let word : List ℕ = take (end - start) (drop start bytes) in
-    let words : words_left bytes old ≡ word ∷ words_left bytes new =
-    next.some (omega (arith, next.order, ne)) ∙ ap (λ n. word ∷ line_words (drop n bytes)) (sym ends) in
-    record {
-      before = omega (arith, next.before, next.order, ends);
-      within = omega (arith, next.within, ends);
-      rank = omega (arith, rank, its_rank, rank_at_le9 bounds place word, ap (lowest bounds (place ∷ [])) words);
-      numbers = λ good.
-          numbers
-          ∙ ap (λ ns. list_of old ++ ns) (sym (its_value (omega (arith, good, rank, its_rank, rank_at_le9 bounds place word)))
-          ∙ sym (append-nil (says place word)) ∙ ap (all_say (place ∷ [])) (sym words));
-      count = omega (arith, count, ap length words);
-      left = sym (ap (λ (ws : List (List ℕ)). drop 1 ws) words);
-      lines = next.same ∙ ap (λ n. lines_after (drop n bytes)) (sym ends);
-    }
-
-same_lowest : (bounds : GrammarBounds) (words : List (List ℕ)) → lowest bounds (Number 0 bounds.types ∷ []) words ≡ lowest bounds (TypeNumber ∷ []) words
-same_lowest bounds [] = refl
-same_lowest bounds (word ∷ words) = refl
-
-same_says : (limit : ℕ) (words : List (List ℕ)) → all_say (Number 0 limit ∷ []) words ≡ all_say (TypeNumber ∷ []) words
-same_says limit [] = refl
-same_says limit (word ∷ words) = refl
-
--- a type's number is one below the number of types
-pub type_number_read : (bounds : GrammarBounds) (bytes : List ℕ) (old new : Said) → IsReadAt bounds (Number 0 bounds.types ∷ []) bytes old new
-    → IsReadAt bounds (TypeNumber ∷ []) bytes old new
-type_number_read bounds bytes old new read = record {
-  before = read.before;
-  within = read.within;
-  rank = read.rank ∙ ap (min old.rank) (same_lowest bounds (words_left bytes old));
-  numbers = λ good. read.numbers good ∙ ap (λ ns. list_of old ++ ns) (same_says bounds.types (words_left bytes old));
-  count = read.count;
-  left = read.left;
-  lines = read.lines;
-}
 
 -- ---- one place after the other
 

@@ -1,9 +1,9 @@
 -- From the ranks of words to the reason that they give.
-use Rattle.std.proofs.Common.{◌≡◌, ℕ, ◌<◌, ◌≤◌, ◌==◌, ◌||◌, ◌&&◌, nat_lt, nat_le, codes, not, min, Bool, true, false, Option, Some, None, cond, List, [], ◌∷◌, length, refl, sym, ap, ◌∙◌, arith}
+use Rattle.std.proofs.Common.{◌≡◌, ℕ, ◌≤◌, ◌==◌, ◌||◌, ◌&&◌, nat_lt, nat_le, codes, not, min, Bool, true, false, Option, Some, None, cond, List, [], ◌∷◌, length, refl, sym, ap, ◌∙◌, arith}
 use Rattle.gc_graph.specs.declared.command.Command.{Command}
 use Rattle.gc_graph.specs.Words.{is_text}
 use Rattle.gc_graph.specs.Forms.{Place, Form, form_of}
-use Rattle.gc_graph.specs.Forms.Form.{Missing, Unknown, Known}
+use Rattle.gc_graph.specs.Forms.Form.{Missing, Known}
 use Rattle.gc_graph.specs.Reasons.{Reason, Bounds, number_of, reason_of_words, any_word, rest_of, is_unknown, is_bad, is_outside, is_half, is_half_null, first_is, has_unknown_word, has_bad_number, has_other_count, has_outside, has_too_many}
 use Rattle.gc_graph.specs.Reasons.Reason.{UnknownWord, BadNumber, Count, Range}
 use Rattle.heap_script.specs.Ranks.{rank_by, rank_at, lowest, count_rank, half_rank, many_rank, form_rank, reason_ranked}

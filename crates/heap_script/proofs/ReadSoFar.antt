@@ -1,6 +1,6 @@
 -- The lines that were read so far, with one more.
-use Rattle.std.proofs.Common.{◌≡◌, ℕ, ◌+◌, ◌<◌, ◌≤◌, ◌==◌, ◌&&◌, Bool, true, false, not, cond, None, List, [], ◌∷◌, length, get_or, take, drop, refl, sym, ap, ◌∙◌, subst, inl, inr, ◌⊎◌, arith, below_more}
-use Rattle.std.proofs.lemmas.Bool.{cases_Bool, cond-true, cond-false, and_from, and_left, and_right, not_from_true, not_from_false, eq-eqb, ne_eqb}
+use Rattle.std.proofs.Common.{◌≡◌, ℕ, ◌+◌, ◌<◌, ◌≤◌, ◌==◌, ◌&&◌, Bool, true, false, not, None, List, [], ◌∷◌, length, get_or, take, drop, refl, sym, ap, ◌∙◌, subst, inl, inr, ◌⊎◌, arith, below_more}
+use Rattle.std.proofs.lemmas.Bool.{cases_Bool, cond-true, cond-false, and_from, and_left, and_right, eq-eqb, ne_eqb}
 use Rattle.std.proofs.lemmas.List.{drop_more, length-drop}
 use Rattle.gc_graph.specs.declared.command.Command.{Command}
 use Rattle.gc_graph.specs.State.{ObjectType}
@@ -11,10 +11,9 @@ use Rattle.gc_graph.specs.Script.Threads.{AtRest}
 use Rattle.heap_script.specs.Scripts.{commands_of, says_built}
 use Rattle.heap_script.specs.declared.past.Past.{Past}
 use Rattle.heap_script.specs.declared.script_lines.Kept.{Kept}
-use Rattle.heap_script.specs.Past.{threads_in, is_timely_in, past_header, unbuilt_with, with_blank, reason_after, IsTypeKept, IsCommandKept, IsLineKept}
+use Rattle.heap_script.specs.Past.{threads_in, is_timely_in, past_header, unbuilt_with, with_blank, reason_after, IsLineKept}
 use Rattle.heap_script.proofs.LinesJudged.{judged}
 use Rattle.heap_script.proofs.PastLines.{IsPast, nothing_read, past_blank, past_type, past_command, threads_more, judged_is, type_says, command_says}
-use Rattle.heap_script.proofs.WordPlaces.{none_of_blank, not_blank}
 
 -- what line j after the header says is built
 abbrev pub says_at : List (List ℕ) → ℕ → Bool

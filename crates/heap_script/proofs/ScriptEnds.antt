@@ -1,25 +1,25 @@
 -- What a script is, or why it isn't one, once its lines were read.
-use Rattle.std.proofs.Common.{◌≡◌, ℕ, zero, suc, ◌+◌, ◌<◌, ◌≤◌, ◌==◌, ◌&&◌, Bool, true, false, not, cond, Option, Some, None, List, [], ◌∷◌, length, get_or, take, drop, refl, sym, ap, ◌∙◌, subst, inl, inr, ◌⊎◌, arith}
-use Rattle.std.specs.Prelude.{codes, is_some, nat_lt}
-use Rattle.std.specs.List.{list_all, filter_map, cons_option}
+use Rattle.std.proofs.Common.{◌≡◌, ℕ, zero, suc, ◌+◌, ◌<◌, ◌≤◌, ◌==◌, ◌&&◌, Bool, true, false, not, Option, Some, None, List, [], ◌∷◌, length, get_or, take, drop, refl, sym, ap, ◌∙◌, subst, inl, inr, arith}
+use Rattle.std.specs.Prelude.{codes, nat_lt}
+use Rattle.std.specs.List.{list_all, cons_option}
 use Rattle.std.specs.Cmp.Lexicographic.{pointwise, bytes_decides}
-use Rattle.std.proofs.lemmas.Bool.{true≢false, cases_Bool, cases_lt, cases_order, cond-true, cond-false, and_parts, and_left, and_right, and_from, lt-ltb, le-ltb, not_from_true, not_from_false, eq-eqb, ne_eqb}
+use Rattle.std.proofs.lemmas.Bool.{true≢false, cases_lt, cases_order, cond-true, cond-false, and_parts, and_left, and_right, and_from, lt-ltb, le-ltb, not_from_true, not_from_false, eq-eqb, ne_eqb}
 use Rattle.std.proofs.lemmas.List.{take_all, length-drop, get_or-drop}
 use Rattle.gc_graph.specs.declared.command.Command.{Command}
 use Rattle.gc_graph.specs.State.{ObjectType}
 use Rattle.gc_graph.specs.Words.{lines_of, words_of, is_text, is_blank}
 use Rattle.gc_graph.specs.Reasons.{Reason, number_of, command_of_words, type_of_words}
 use Rattle.gc_graph.specs.Reasons.Reason.{Header, UnknownWord, BadNumber, Count, Range, Order, Section, TooLong}
-use Rattle.gc_graph.specs.Script.{Script, IsScript, IsTooLong, IsInLimits, IsFirstFault, is_header, are_at_rest, threads_of, threads_after, reason_at}
+use Rattle.gc_graph.specs.Script.{IsInLimits, is_header, are_at_rest, threads_of, threads_after, reason_at}
 use Rattle.heap_script.specs.Scripts.{commands_of, says_built}
 use Rattle.heap_script.specs.declared.past.Past.{Past}
 use Rattle.heap_script.specs.Past.{threads_in, IsReasonOf, reason_after}
 use Rattle.heap_script.specs.declared.script_lines.Kept.{Kept}
 use Rattle.heap_script.specs.declared.script_reader.Stop.{Stop}
-use Rattle.heap_script.specs.Reading.{says_built_at, AreBuilt, IsUnbuiltLine, IsUnbuiltOf, IsUnbuiltUpTo, IsWhole, IsFaultyLine, IsStopped, stop_with}
+use Rattle.heap_script.specs.Reading.{says_built_at, AreBuilt, IsUnbuiltOf, IsUnbuiltUpTo, IsWhole, IsFaultyLine, IsStopped, stop_with}
 use Rattle.heap_script.proofs.LinesJudged.{judged, blank_fine, as_judged, found_fault, at_rest_fine, last_fault, all_blank, words_follow, at_line}
 use Rattle.heap_script.proofs.PastLines.{types_of, judged_is}
-use Rattle.heap_script.proofs.ReadSoFar.{IsReadTo, IsLast, IsUnbuiltIn, says_at, next_there, next_is}
+use Rattle.heap_script.proofs.ReadSoFar.{IsReadTo, IsUnbuiltIn, says_at, next_there, next_is}
 
 -- ---- the header
 

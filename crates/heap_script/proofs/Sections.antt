@@ -1,5 +1,5 @@
 -- Which words give the threads their orders, and which commands they say.
-use Rattle.std.proofs.Common.{◌≡◌, ℕ, zero, suc, ◌==◌, ◌&&◌, ◌||◌, Bool, true, false, not, cond, Option, Some, None, List, [], ◌∷◌, length, refl, sym, ap, ◌∙◌, subst, inl, inr, ◌⊎◌}
+use Rattle.std.proofs.Common.{◌≡◌, ℕ, zero, suc, ◌||◌, Bool, true, false, not, cond, Option, Some, None, List, [], ◌∷◌, length, refl, sym, ap, ◌∙◌, subst, inl, inr, ◌⊎◌}
 use Rattle.std.specs.Prelude.{codes, is_some, unwrap_or, nat_lt}
 use Rattle.std.specs.Cmp.Lexicographic.{bytes_decides}
 use Rattle.std.proofs.lemmas.Bool.{true≢false, cases_Bool, cond-true, cond-false, or_cases, or_parts, and_left, not-false}
@@ -9,9 +9,9 @@ use Rattle.gc_graph.specs.declared.command.Order.{Order}
 use Rattle.gc_graph.specs.declared.command.Order.TheVariants as Q
 use Rattle.gc_graph.specs.declared.command.Want.{Want}
 use Rattle.gc_graph.specs.Words.{is_text}
-use Rattle.gc_graph.specs.Forms.{Place, Row, Form, rows, gc_rows, at_rows, row_named, plain_form, gc_form, at_form, form_after_gc, form_after_at, form_of, places_of, none, one, two, three, new_command, set_command, pair_command, sweep_command, threads_command, by_want, order_of_none, order_of_one, order_of_two}
+use Rattle.gc_graph.specs.Forms.{Place, Row, rows, gc_rows, at_rows, row_named, plain_form, gc_form, at_form, form_after_gc, form_after_at, form_of, none, one, two, three, new_command, set_command, pair_command, sweep_command, threads_command, by_want, order_of_none, order_of_one, order_of_two}
 use Rattle.gc_graph.specs.Forms.Place.{Either}
-use Rattle.gc_graph.specs.Forms.Form.{Missing, Unknown, Known}
+use Rattle.gc_graph.specs.Forms.Form.{Known}
 use Rattle.gc_graph.specs.Reasons.{Reason, Bounds, first_is, has_unknown_word, command_by, command_of_words, reason_of_words}
 use Rattle.gc_graph.specs.Reasons.Reason.{UnknownWord}
 use Rattle.gc_graph.specs.Script.{is_order, is_go, is_join}
@@ -143,19 +143,21 @@ by_order_two make (j ∷ x ∷ y ∷ z ∷ more) c e = nothing c e
 
 -- ---- by the rows
 
-abbrev AllRows : (Row → Type 0) → List Row → Type 0
-AllRows P [] = Unit {0}
-AllRows P (row ∷ rows) = P row × AllRows P rows
+-- each row is so
+data AllRows (P : Row → Type 0) : List Row → Type 0 where
+  none_more : AllRows P []
+  ◌&◌ : {row : Row} {rows : List Row} → P row → AllRows P rows → AllRows P (row ∷ rows)
 
+infixr 5 ◌&◌
 row_found : (P : Row → Type 0) (word : List ℕ) (rows : List Row) (row : Row) → AllRows P rows → row_named word rows ≡ Some row
     → P row × (is_text word row.name ≡ true)
 row_found P word [] row all e = absurd (true≢false (sym (ap is_some e)))
-row_found P word (r ∷ rs) row all e =
+row_found P word (r ∷ rs) row (here & more) e =
     let same : is_text word r.name ≡ true → r ≡ row =
     λ so. ap (λ o. unwrap_or o r) (sym (cond-true (is_text word r.name) (Some r) (row_named word rs) so) ∙ e) in
     elim (cases_Bool (is_text word r.name)) [
-      | inl so ↦ subst (λ (x : Row). P x × (is_text word x.name ≡ true)) (same so) (all.0, so)
-      | inr off ↦ row_found P word rs row all.1 (sym (cond-false (is_text word r.name) (Some r) (row_named word rs) off) ∙ e)
+      | inl so ↦ subst (λ (x : Row). P x × (is_text word x.name ≡ true)) (same so) (here, so)
+      | inr off ↦ row_found P word rs row more (sym (cond-false (is_text word r.name) (Some r) (row_named word rs) off) ∙ e)
     ]
 
 -- a row makes no order, or it is that of the threads
@@ -163,106 +165,49 @@ abbrev MakesPlain : Row → Type 0
 MakesPlain row = (is_text row.name (codes "threads") ≡ true) ⊎ Makes false row.command
 
 plain_rows : AllRows MakesPlain rows
-plain_rows = (
-  inr by_new,
-  (
-    inr by_set,
-    (
-      inr by_pair,
-      (
-        inr (by_three false (λ p f n. C.Put p f n) (λ p f n. plain (C.Put p f n) refl refl refl)),
-        (
-          inr (by_two false (λ p f. C.Word p f) (λ p f. plain (C.Word p f) refl refl refl)),
-          (
-            inr (by_three false (λ p f q. C.Get p f q) (λ p f q. plain (C.Get p f q) refl refl refl)),
-            (
-              inr (by_three false (λ p f q. C.Key p f q) (λ p f q. plain (C.Key p f q) refl refl refl)),
-              (
-                inr (by_three false (λ p f q. C.Val p f q) (λ p f q. plain (C.Val p f q) refl refl refl)),
-                (
-                  inr (by_two false (λ p q. C.Copy p q) (λ p q. plain (C.Copy p q) refl refl refl)),
-                  (
-                    inr (by_one false (λ p. C.Drop p) (λ p. plain (C.Drop p) refl refl refl)),
-                    (
-                      inr (by_two false (λ w p. C.Weak w p) (λ w p. plain (C.Weak w p) refl refl refl)),
-                      (
-                        inr (by_two false (λ w p. C.Read w p) (λ w p. plain (C.Read w p) refl refl refl)),
-                        (
-                          inr (by_two false (λ p o. C.Push p o) (λ p o. plain (C.Push p o) refl refl refl)),
-                          (
-                            inr (by_one false (λ n. C.PushPlain n) (λ n. plain (C.PushPlain n) refl refl refl)),
-                            (
-                              inr (by_none false C.Pop (plain C.Pop refl refl refl)),
-                              (
-                                inr (by_two false (λ i q. C.Peek i q) (λ i q. plain (C.Peek i q) refl refl refl)),
-                                (
-                                  inr by_sweep,
-                                  (
-                                    inr (by_none false C.Stat (plain C.Stat refl refl refl)),
-                                    (
-                                      inr (by_two false (λ p x. C.Export p x) (λ p x. plain (C.Export p x) refl refl refl)),
-                                      (
-                                        inr (by_two false (λ x p. C.Import x p) (λ x p. plain (C.Import x p) refl refl refl)),
-                                        (
-                                          inl refl,
-                                          tt,
-                                        ),
-                                      ),
-                                    ),
-                                  ),
-                                ),
-                              ),
-                            ),
-                          ),
-                        ),
-                      ),
-                    ),
-                  ),
-                ),
-              ),
-            ),
-          ),
-        ),
-      ),
-    ),
-  ),
-)
+plain_rows =
+    inr by_new
+    & inr by_set
+    & inr by_pair
+    & inr (by_three false (λ p f n. C.Put p f n) (λ p f n. plain (C.Put p f n) refl refl refl))
+    & inr (by_two false (λ p f. C.Word p f) (λ p f. plain (C.Word p f) refl refl refl))
+    & inr (by_three false (λ p f q. C.Get p f q) (λ p f q. plain (C.Get p f q) refl refl refl))
+    & inr (by_three false (λ p f q. C.Key p f q) (λ p f q. plain (C.Key p f q) refl refl refl))
+    & inr (by_three false (λ p f q. C.Val p f q) (λ p f q. plain (C.Val p f q) refl refl refl))
+    & inr (by_two false (λ p q. C.Copy p q) (λ p q. plain (C.Copy p q) refl refl refl))
+    & inr (by_one false (λ p. C.Drop p) (λ p. plain (C.Drop p) refl refl refl))
+    & inr (by_two false (λ w p. C.Weak w p) (λ w p. plain (C.Weak w p) refl refl refl))
+    & inr (by_two false (λ w p. C.Read w p) (λ w p. plain (C.Read w p) refl refl refl))
+    & inr (by_two false (λ p o. C.Push p o) (λ p o. plain (C.Push p o) refl refl refl))
+    & inr (by_one false (λ n. C.PushPlain n) (λ n. plain (C.PushPlain n) refl refl refl))
+    & inr (by_none false C.Pop (plain C.Pop refl refl refl))
+    & inr (by_two false (λ i q. C.Peek i q) (λ i q. plain (C.Peek i q) refl refl refl))
+    & inr by_sweep
+    & inr (by_none false C.Stat (plain C.Stat refl refl refl))
+    & inr (by_two false (λ p x. C.Export p x) (λ p x. plain (C.Export p x) refl refl refl))
+    & inr (by_two false (λ x p. C.Import x p) (λ x p. plain (C.Import x p) refl refl refl))
+    & inl refl
+    & none_more
 
 abbrev MakesSo : Bool → Row → Type 0
 MakesSo order row = Makes order row.command
 
 plain_gc_rows : AllRows (MakesSo false) gc_rows
-plain_gc_rows = (
-  by_none false C.GcStart (plain C.GcStart refl refl refl),
-  (
-    by_one false (λ n. C.GcStep n) (λ n. plain (C.GcStep n) refl refl refl),
-    (
-      by_wants (λ w. C.GcFinish w) (λ w. plain (C.GcFinish w) refl refl refl),
-      (
-        by_wants (λ w. C.GcNow w) (λ w. plain (C.GcNow w) refl refl refl),
-        tt,
-      ),
-    ),
-  ),
-)
+plain_gc_rows =
+    by_none false C.GcStart (plain C.GcStart refl refl refl)
+    & by_one false (λ n. C.GcStep n) (λ n. plain (C.GcStep n) refl refl refl)
+    & by_wants (λ w. C.GcFinish w) (λ w. plain (C.GcFinish w) refl refl refl)
+    & by_wants (λ w. C.GcNow w) (λ w. plain (C.GcNow w) refl refl refl)
+    & none_more
 
 order_rows : AllRows (MakesSo true) at_rows
-order_rows = (
-  by_order_two (λ x y. Q.Copy x y),
-  (
-    by_order_one (λ x. Q.Clear x),
-    (
-      by_order_one (λ x. Q.Weaken x),
-      (
-        by_order_two (λ x y. Q.Upgrade x y),
-        (
-          by_order_none Q.Totals,
-          tt,
-        ),
-      ),
-    ),
-  ),
-)
+order_rows =
+    by_order_two (λ x y. Q.Copy x y)
+    & by_order_one (λ x. Q.Clear x)
+    & by_order_one (λ x. Q.Weaken x)
+    & by_order_two (λ x y. Q.Upgrade x y)
+    & by_order_none Q.Totals
+    & none_more
 
 -- ---- by the first word
 

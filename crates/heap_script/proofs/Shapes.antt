@@ -1,10 +1,9 @@
 -- Numbers made into commands, one lemma for each number of them.
-use Rattle.std.proofs.Common.{◌≡◌, ℕ, zero, suc, ◌+◌, ◌-◌, ◌==◌, Bool, true, false, Option, Some, None, cond, List, [], ◌∷◌, ◌++◌, take, refl, sym, ap, ◌∙◌, arith}
+use Rattle.std.proofs.Common.{◌≡◌, ℕ, zero, suc, ◌==◌, Some, None, cond, List, [], ◌∷◌, ◌++◌, take, refl, sym, ◌∙◌, arith}
 use Rattle.std.proofs.lemmas.Bool.{cond-false, ne_eqb}
 use Rattle.gc_graph.specs.declared.command.Command.{Command}
 use Rattle.gc_graph.specs.declared.command.Command.TheVariants as C
 use Rattle.gc_graph.specs.declared.command.Want.{Want}
-use Rattle.gc_graph.specs.declared.command.Want.TheVariants.{Precise, Conservative}
 use Rattle.gc_graph.specs.declared.command.Order.{Order}
 use Rattle.gc_graph.specs.Forms.{none, one, two, three, new_command, set_command, pair_command, sweep_command, threads_command, by_want, order_of_none, order_of_one, order_of_two}
 

@@ -1,11 +1,11 @@
 -- Numbers that are read with their word.
-use Rattle.std.proofs.Common.{◌≡◌, ℕ, zero, suc, ◌+◌, ◌-◌, ◌*◌, ◌<◌, ◌≤◌, ◌^◌, ◌==◌, ◌&&◌, not, Bool, true, false, Option, Some, None, cond, List, [], ◌∷◌, ◌++◌, length, get_or, take, drop, refl, sym, ap, ◌∙◌, subst, inl, inr, arith, nat_lt}
+use Rattle.std.proofs.Common.{◌≡◌, ℕ, ◌+◌, ◌-◌, ◌*◌, ◌<◌, ◌≤◌, ◌==◌, not, Bool, true, cond, List, [], ◌∷◌, ◌++◌, length, get_or, take, drop, refl, sym, ap, ◌∙◌, arith}
 use Rattle.std.specs.Prelude.{nat_le}
 use Rattle.std.specs.List.{list_all}
-use Rattle.std.proofs.lemmas.List.{take_more, length-take, length-drop, get_or-drop, get_or-take}
+use Rattle.std.proofs.lemmas.List.{take_more, length-drop, get_or-drop}
 use Rattle.std.proofs.lemmas.List.Folds.{list_all_more}
-use Rattle.std.proofs.lemmas.Bool.{and_parts, and_from, cond-true, cond-false, leb-true, le-leb, lt-ltb, le-ltb, ltb-true, not-true, not_from_false, ne_eqb, cases_lt, cases_Bool}
-use Rattle.gc_graph.specs.Words.{is_digit, is_number, value_after}
+use Rattle.std.proofs.lemmas.Bool.{and_parts, and_from, cond-false, leb-true, le-leb, not-true, not_from_false, ne_eqb}
+use Rattle.gc_graph.specs.Words.{is_digit, value_after}
 use Rattle.heap_script.specs.Cursor.{is_word_byte, IsDigits, IsWordEnd}
 
 value_push : (n : ℕ) (word : List ℕ) (b : ℕ) → value_after n (word ++ b ∷ []) ≡ value_after n word * 10 + (b - 48)

@@ -1,9 +1,9 @@
 -- The callbacks of a type line, one after the other.
-use Rattle.std.proofs.Common.{◌≡◌, ℕ, ◌+◌, ◌<◌, ◌≤◌, ◌==◌, ◌&&◌, ◌||◌, Bool, true, false, not, cond, Option, Some, None, List, [], ◌∷◌, ◌++◌, length, drop, map, refl, sym, ap, ◌∙◌, subst, inl, inr, ◌⊎◌, arith}
+use Rattle.std.proofs.Common.{◌≡◌, ℕ, ◌<◌, ◌≤◌, ◌==◌, ◌&&◌, ◌||◌, Bool, true, false, not, cond, Option, Some, None, List, [], ◌∷◌, ◌++◌, length, drop, map, refl, sym, ap, ◌∙◌, subst, inl, inr, ◌⊎◌, arith}
 use Rattle.std.specs.Prelude.{codes, nat_lt, nat_le, unwrap_or, is_some}
 use Rattle.std.specs.List.{list_all, list_any}
 use Rattle.std.proofs.lemmas.Bool.{true≢false, cases_Bool, cond-true, cond-false, and_from, and_left, and_right, and_parts, and_cases, or_cases, or_parts, or_from, or_left, or_right, not_from_true, not_from_false, ltb-true, ltb-false, lt-ltb, le-ltb, le-leb, eq-eqb, eqb-true, not-true}
-use Rattle.std.proofs.lemmas.List.{length_push, map_push, length-map, append-nil, nil_from_length}
+use Rattle.std.proofs.lemmas.List.{length_push, map_push, length-map}
 use Rattle.std.proofs.lemmas.List.Folds.{list_all-append, list_any-append}
 use Rattle.gc_graph.specs.Words.{is_text, is_number, value_after}
 use Rattle.gc_graph.specs.Reasons.{Reason, Bounds, value_of, are_letters, is_beyond}
@@ -18,12 +18,6 @@ pub number_is : (value : ℕ) (word : List ℕ) → Some value ≡ cond (is_numb
 number_is value word e = elim (cases_Bool (is_number word)) [
   | inl so ↦ (so, ap (λ o. unwrap_or o 0) (e ∙ cond-true (is_number word) (Some (value_after 0 word)) None so))
   | inr off ↦ absurd (true≢false (ap is_some (e ∙ cond-false (is_number word) (Some (value_after 0 word)) None off)))
-]
-
-pub no_number_is : (word : List ℕ) → None ≡ cond (is_number word) (Some (value_after 0 word)) None → is_number word ≡ false
-no_number_is word e = elim (cases_Bool (is_number word)) [
-  | inl so ↦ absurd (true≢false (sym (ap is_some (e ∙ cond-true (is_number word) (Some (value_after 0 word)) None so))))
-  | inr off ↦ off
 ]
 
 -- ---- one word more
@@ -120,15 +114,6 @@ one_over callbacks taken word numbers over value called number past =
       numbers_are = λ off. absurd (true≢false off);
     }
 
--- a word that is no number
-pub one_bad : (words taken rest : List (List ℕ)) (word : List ℕ) → words ≡ taken ++ word ∷ rest
-    → None ≡ cond (is_number word) (Some (value_after 0 word)) None → list_all is_number words ≡ false
-one_bad words taken rest word are none =
-    ap (list_all is_number) are
-    ∙ list_all-append is_number taken (word ∷ rest)
-    ∙ and_right (list_all is_number taken) (is_number word && list_all is_number rest)
-    (and_left (is_number word) (list_all is_number rest) (no_number_is word none))
-
 -- ---- what follows the letters
 
 abbrev after_pre : List (List ℕ) → Option Reason
@@ -202,12 +187,6 @@ with_letters bounds words more letters are is =
     ap (reason_of_type bounds) are
     ∙ cond-false (not (are_letters letters)) (Some UnknownWord) (or_range (is_over bounds letters more) (reason_of_callbacks more))
     (not_from_true (are_letters letters) is)
-
-pub wrong_callbacks : (bounds : Bounds) (words more : List (List ℕ)) (letters : List ℕ) (reason : ℕ) → words ≡ letters ∷ more
-    → are_letters letters ≡ true → IsReasonOf (reason_of_callbacks more) reason → IsReasonOf (reason_of_type bounds words) reason
-wrong_callbacks bounds words more letters reason are is (inl none) = inl none
-wrong_callbacks bounds words more letters reason are is (inr (why, number, e)) =
-    inr (why, number, with_letters bounds words more letters are is ∙ ap (or_range (is_over bounds letters more)) e)
 
 -- over is told by the parts
 ranged : (bounds : Bounds) (words more : List (List ℕ)) (letters : List ℕ) (called over : Bool) → words ≡ letters ∷ more

@@ -1,11 +1,10 @@
 -- A row whose last number may be wide.
-use Rattle.std.proofs.Common.{◌≡◌, ℕ, ◌+◌, ◌-◌, ◌<◌, ◌≤◌, ◌==◌, ◌||◌, min, Bool, true, false, cond, List, [], ◌∷◌, ◌++◌, length, map, take, drop, refl, sym, ap, ◌∙◌, subst, inl, inr, append_assoc, arith, ◌⊎◌}
-use Rattle.std.proofs.lemmas.List.{append-nil, length-drop, length-map, length-append}
+use Rattle.std.proofs.Common.{◌≡◌, ℕ, ◌+◌, ◌-◌, ◌<◌, ◌≤◌, ◌==◌, ◌||◌, min, true, false, cond, List, [], ◌∷◌, ◌++◌, length, map, take, drop, sym, ap, ◌∙◌, subst, inl, inr, append_assoc, arith}
+use Rattle.std.proofs.lemmas.List.{append-nil, length-map, length-append}
 use Rattle.std.proofs.lemmas.Bool.{cond-true, cond-false, eq-eqb, ne_eqb, eqb-true, cases_eq, or_left}
 use Rattle.gc_graph.specs.Forms.{Place}
-use Rattle.gc_graph.specs.Reasons.{Bounds as GrammarBounds, says, all_say, is_unknown, is_bad, is_outside}
+use Rattle.gc_graph.specs.Reasons.{says, all_say, is_unknown, is_bad, is_outside}
 use Rattle.heap_script.specs.declared.forms.Row.{Row}
-use Rattle.heap_script.specs.declared.forms.Make.{Make}
 use Rattle.heap_script.specs.declared.forms.Make.TheVariants as M
 use Rattle.heap_script.specs.declared.forms.WideForm.{WideForm}
 use Rattle.heap_script.specs.declared.places.Bounds.{Bounds}
@@ -14,7 +13,7 @@ use Rattle.heap_script.specs.Cursor.{line_words, IsNextWord}
 use Rattle.heap_script.specs.Ranks.{lowest, rank_at}
 use Rattle.heap_script.specs.Rows.{bounds_of, place_of, places_in, tail_of, wide_place_of, is_sound, is_least_right}
 use Rattle.heap_script.specs.Said.{list_of, words_left, IsReadOn}
-use Rattle.heap_script.specs.RowLines.{row_count_rank, row_rank, row_numbers}
+use Rattle.heap_script.specs.RowLines.{row_count_rank, row_numbers}
 use Rattle.heap_script.proofs.PlacesRead.{rank_le9, lowest_append, says_append}
 use Rattle.heap_script.proofs.RowRanks.{IsRowSaid, sound_parts, count_right, count_wrong, left_count, said_length, said_low}
 

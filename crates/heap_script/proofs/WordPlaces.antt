@@ -1,13 +1,13 @@
 -- The words of a line by their places.
-use Rattle.std.proofs.Common.{◌≡◌, ℕ, ◌+◌, ◌-◌, ◌<◌, ◌≤◌, ◌==◌, ◌&&◌, Bool, true, false, not, None, Some, cond, List, [], ◌∷◌, ◌++◌, length, get_or, take, drop, refl, sym, ap, ◌∙◌, subst, inl, inr, arith, ◌⊎◌}
+use Rattle.std.proofs.Common.{◌≡◌, ℕ, ◌+◌, ◌-◌, ◌<◌, ◌≤◌, ◌==◌, true, false, not, Some, List, [], ◌∷◌, ◌++◌, length, get_or, take, drop, refl, sym, ap, ◌∙◌, subst, inl, inr, arith, ◌⊎◌}
 use Rattle.std.specs.List.{slice_split, onto_first, list_all, filter, slice_get}
-use Rattle.std.proofs.lemmas.List.{drop_more, drop_all, take-append-drop, drop-drop, get_or-drop, length-drop, length-take, nil_from_length}
+use Rattle.std.proofs.lemmas.List.{drop_more, drop_all, take-append-drop, drop-drop, get_or-drop, length-drop, length-take}
 use Rattle.std.proofs.lemmas.List.Folds.{list_all_more}
-use Rattle.std.proofs.lemmas.List.Splits.{slice_split-cons_yes, slice_split-cons_no, length-slice_split}
-use Rattle.std.proofs.lemmas.Bool.{cond-true, cond-false, and_parts, not-true, not_from_false, ne_eqb, eqb-true, eqb-false, eq-eqb, cases_Bool, and_from, cases_lt}
-use Rattle.std.proofs.lemmas.Option.{slice_get-get_or, get_or_from_slice_get, slice_get_within}
-use Rattle.gc_graph.specs.Words.{lines_of, lines_of_parts, words_of, is_blank}
-use Rattle.heap_script.specs.Cursor.{first_line, line_words, lines_after, is_word_byte, IsLineEnd, IsNextWord, IsPastSpaces, IsWordEnd}
+use Rattle.std.proofs.lemmas.List.Splits.{slice_split-cons_yes, slice_split-cons_no}
+use Rattle.std.proofs.lemmas.Bool.{cond-true, cond-false, and_parts, not-true, not_from_false, ne_eqb, eqb-true, cases_Bool, and_from, cases_lt}
+use Rattle.std.proofs.lemmas.Option.{slice_get-get_or}
+use Rattle.gc_graph.specs.Words.{lines_of, lines_of_parts, words_of}
+use Rattle.heap_script.specs.Cursor.{first_line, line_words, lines_after, is_word_byte, IsNextWord, IsPastSpaces, IsWordEnd}
 
 -- the first line is the first part
 first_of_parts : (parts : List (List ℕ)) → get_or (lines_of_parts parts) 0 [] ≡ get_or parts 0 []
@@ -58,15 +58,12 @@ line_end_first b bytes e =
     first_of_parts (slice_split (λ x. x == 10) (b ∷ bytes))
     ∙ ap (λ parts. get_or parts 0 []) (slice_split-cons_yes (λ x. x == 10) b bytes e)
 
-line_end_after : (b : ℕ) (bytes : List ℕ) → (b == 10) ≡ true → lines_after (b ∷ bytes) ≡ lines_of bytes
+pub line_end_after : (b : ℕ) (bytes : List ℕ) → (b == 10) ≡ true → lines_after (b ∷ bytes) ≡ lines_of bytes
 line_end_after b bytes e =
     after_parts (slice_split (λ x. x == 10) (b ∷ bytes))
     ∙ ap (λ (parts : List (List ℕ)). lines_of_parts (drop 1 parts)) (slice_split-cons_yes (λ x. x == 10) b bytes e)
 
 -- ---- words of a line
-
-space_skipped : (line : List ℕ) → words_of (32 ∷ line) ≡ words_of line
-space_skipped line = refl
 
 kept : (word : List ℕ) (words : List (List ℕ)) → 0 < length word
     → filter (λ w. not (length w == 0)) (word ∷ words) ≡ word ∷ filter (λ w. not (length w == 0)) words
@@ -85,9 +82,6 @@ word_byte : (b : ℕ) → is_word_byte b ≡ true → ((b == 32) ≡ false) × (
 word_byte b e =
     let parts = and_parts (not (b == 32)) (not (b == 10)) e in
     (not-true (b == 32) parts.0, not-true (b == 10) parts.1)
-
-onto_word : (b : ℕ) (word : List ℕ) (parts : List (List ℕ)) → onto_first b (word ∷ parts) ≡ (b ∷ word) ∷ parts
-onto_word b word parts = refl
 
 -- the parts of a line that begins with a word
 parts_after : (word rest : List ℕ) → list_all is_word_byte word ≡ true → BeginsBetween rest
@@ -155,12 +149,6 @@ word_in_front : (word rest : List ℕ) → 0 < length word → list_all is_word_
     → line_words (word ++ rest) ≡ word ∷ line_words rest
 word_in_front word rest some all begins =
     ap words_of (line_of_word word rest all) ∙ words_after word (first_line rest) some all (begins_between rest begins)
-
--- no word stands before a line's end
-no_word_in_front : (bytes : List ℕ) → BeginsNoWord bytes → (0 < length bytes → (get_or bytes 0 0 == 32) ≡ false) → line_words bytes ≡ []
-no_word_in_front [] begins plain = refl
-no_word_in_front (b ∷ bytes) begins plain =
-    ap words_of (line_end_first b bytes (no_word_byte b begins (plain (omega arith))))
 
 -- ---- steps of a look for a word
 
@@ -272,63 +260,3 @@ word_found bytes from start end past found =
 pub ruleset spaces = (space_words, space_lines, no_space)
 
 pub ruleset ends = (inner_more, stops_at_space, stops_at_line)
-
--- ---- for who reads the lines one after the other
-
-first_and_rest : (lines : List (List ℕ)) → 0 < length lines → lines ≡ get_or lines 0 [] ∷ drop 1 lines
-first_and_rest [] some = absurd (omega arith)
-first_and_rest (line ∷ lines) some = refl
-
--- parts of which the first isn't empty, or isn't the last, are lines
-lines_of_onto : (b : ℕ) (parts : List (List ℕ)) → 0 < length (lines_of_parts (onto_first b parts))
-lines_of_onto b [] = omega arith
-lines_of_onto b (part ∷ []) =
-    omega (arith, ap length (cond-false (length (b ∷ part) == 0) [] ((b ∷ part) ∷ []) (ne_eqb (length (b ∷ part)) 0 (λ e. omega (arith, e)))))
-lines_of_onto b (part ∷ next ∷ parts) = omega arith
-
-lines_of_mark : (parts : List (List ℕ)) → 0 < length parts → 0 < length (lines_of_parts ([] ∷ parts))
-lines_of_mark [] some = absurd (omega arith)
-lines_of_mark (next ∷ parts) some = omega arith
-
-some_lines : (b : ℕ) (bytes : List ℕ) → lines_of (b ∷ bytes) ≡ first_line (b ∷ bytes) ∷ lines_after (b ∷ bytes)
-some_lines b bytes =
-    let split : List (List ℕ) = slice_split (λ x. x == 10) bytes in
-    first_and_rest (lines_of (b ∷ bytes)) (elim (cases_Bool (b == 10)) [
-      | inl e ↦ subst (λ (parts : List (List ℕ)). 0 < length (lines_of_parts parts)) (sym (slice_split-cons_yes (λ x. x == 10) b bytes e))
-          (lines_of_mark split (omega (arith, length-slice_split (λ x. x == 10) bytes)))
-      | inr e ↦ subst (λ (parts : List (List ℕ)). 0 < length (lines_of_parts parts)) (sym (slice_split-cons_no (λ x. x == 10) b bytes e))
-          (lines_of_onto b split)
-    ])
-
--- where bytes are left, the line stands before the lines after it
-pub lines_left : (bytes : List ℕ) (from : ℕ) → from < length bytes
-    → lines_of (drop from bytes) ≡ first_line (drop from bytes) ∷ lines_after (drop from bytes)
-lines_left bytes from low =
-    ap lines_of (drop_more bytes from 0 low)
-    ∙ some_lines (get_or bytes from 0) (drop (from + 1) bytes)
-    ∙ sym (ap (λ (rest : List ℕ). first_line rest ∷ lines_after rest) (drop_more bytes from 0 low))
-
--- after a line's end the other lines follow
-pub lines_next : (bytes : List ℕ) (from end : ℕ) → IsLineEnd bytes from end → slice_get bytes end ≡ Some 10
-    → lines_of (drop (end + 1) bytes) ≡ lines_after (drop from bytes)
-lines_next bytes from end ends at =
-    let low : end < length bytes = slice_get_within bytes end 10 at in
-    sym (line_end_after (get_or bytes end 0) (drop (end + 1) bytes) (eq-eqb _ _ (get_or_from_slice_get bytes end 10 0 at)))
-    ∙ sym (ap lines_after (drop_more bytes end 0 low))
-    ∙ sym ends.same
-
--- after the last line there are none
-pub lines_none : (bytes : List ℕ) (from end : ℕ) → IsLineEnd bytes from end → end ≡ length bytes → lines_after (drop from bytes) ≡ []
-lines_none bytes from end ends last = ends.same ∙ ap lines_after (drop_all end bytes (omega arith))
-
--- a line without words is blank
-pub blank_of_none : (line : List ℕ) → words_of line ≡ [] → is_blank line ≡ true
-blank_of_none line none = ap (λ (words : List (List ℕ)). length words == 0) none
-
-pub none_of_blank : (line : List ℕ) → is_blank line ≡ true → words_of line ≡ []
-none_of_blank line blank = nil_from_length (words_of line) (eqb-true (length (words_of line)) 0 blank)
-
--- a line with a word isn't
-pub not_blank : (line word : List ℕ) (words : List (List ℕ)) → words_of line ≡ word ∷ words → is_blank line ≡ false
-not_blank line word words some =
-    ap (λ (ws : List (List ℕ)). length ws == 0) some ∙ ne_eqb (length (word ∷ words)) 0 (λ e. omega (arith, e))

@@ -1,5 +1,5 @@
 -- The line of a command.
-use Rattle.std.specs.Prelude.{◌≡◌, ℕ, Bool, false, List, [], ◌∷◌, Some, None, IfOk, IfErr, codes}
+use Rattle.std.specs.Prelude.{◌≡◌, ℕ, Bool, false, List, ◌∷◌, Some, None, IfOk, IfErr, codes}
 use Rattle.gc_graph.specs.Reasons.{Reason, number_of, Bounds, first_is, is_half, reason_of_words, command_of_words}
 use Rattle.heap_script.specs.declared.row_lines.CommandLine.{CommandLine}
 use Rattle.heap_script.specs.Cursor.{IsLineEnd}

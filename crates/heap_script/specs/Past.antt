@@ -1,12 +1,12 @@
 -- What the lines before say, and what one more adds.
-use Rattle.std.specs.Prelude.{◌≡◌, ◌⊎◌, ℕ, ◌+◌, ◌==◌, ◌&&◌, ◌||◌, not, Bool, true, false, List, [], ◌∷◌, ◌++◌, length, Option, Some, None, if◌then◌else◌, codes}
+use Rattle.std.specs.Prelude.{◌≡◌, ◌⊎◌, ℕ, ◌+◌, ◌==◌, ◌&&◌, not, Bool, true, false, List, [], ◌∷◌, ◌++◌, Option, Some, None, if◌then◌else◌, codes}
 use Rattle.gc_graph.specs.declared.command.Command.{Command}
 use Rattle.gc_graph.specs.declared.command.Command.TheVariants as C
 use Rattle.gc_graph.specs.State.{ObjectType}
 use Rattle.gc_graph.specs.Built.{is_built, opens_sweep, is_built_type}
 use Rattle.gc_graph.specs.Reasons.{Reason, number_of, Bounds, first_is, reason_of_words, command_of_words, type_of_words}
 use Rattle.gc_graph.specs.Reasons.Reason.{Order, Section}
-use Rattle.gc_graph.specs.Script.{Threads, threads_after, breaks_section}
+use Rattle.gc_graph.specs.Script.{Threads, breaks_section}
 use Rattle.gc_graph.specs.Script.Threads.{AtRest, Waiting, Going}
 use Rattle.heap_script.specs.declared.past.Past.{Past}
 use Rattle.heap_script.specs.declared.script_lines.Kept.{Kept}

@@ -1,5 +1,5 @@
 -- The rank of words: the number of the lowest reason that they give, or 9 where they give none.
-use Rattle.std.specs.Prelude.{ℕ, ◌==◌, ◌&&◌, ◌||◌, nat_le, nat_lt, min, Bool, true, false, List, [], ◌∷◌, length, Option, Some, None, if◌then◌else◌}
+use Rattle.std.specs.Prelude.{ℕ, ◌==◌, ◌&&◌, ◌||◌, nat_le, nat_lt, min, Bool, false, List, [], ◌∷◌, Option, Some, None, if◌then◌else◌}
 use Rattle.gc_graph.specs.Forms.{Place, Form}
 use Rattle.gc_graph.specs.Reasons.{Reason, Bounds, is_unknown, is_bad, is_outside, is_half_null, has_unknown_word, has_bad_number, has_other_count, has_outside, has_too_many}
 use Rattle.gc_graph.specs.Reasons.Reason.{UnknownWord, BadNumber, Count, Range}

@@ -1,6 +1,6 @@
 -- What a reader of the lines tells.
-use Rattle.std.specs.Prelude.{◌≡◌, ◌⊎◌, ℕ, ◌+◌, ◌<◌, ◌≤◌, ◌==◌, ◌&&◌, ◌||◌, not, nat_lt, if◌then◌else◌, Bool, true, false, List, [], ◌∷◌, length, take, drop, slice_index_or}
-use Rattle.gc_graph.specs.Words.{lines_of, words_of, is_blank}
+use Rattle.std.specs.Prelude.{◌≡◌, ◌⊎◌, ℕ, ◌+◌, ◌<◌, ◌≤◌, ◌==◌, ◌&&◌, ◌||◌, not, nat_lt, if◌then◌else◌, Bool, true, false, List, [], length, take, slice_index_or}
+use Rattle.gc_graph.specs.Words.{lines_of, words_of}
 use Rattle.gc_graph.specs.Reasons.{Reason, number_of}
 use Rattle.gc_graph.specs.Script.{IsScript, IsTooLong, IsInLimits, IsFirstFault}
 use Rattle.heap_script.specs.Scripts.{commands_of, says_built}

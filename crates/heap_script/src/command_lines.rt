@@ -21,7 +21,8 @@ pub(crate) fn read_command(bytes: &[u8], start: usize, end: usize, bounds: Bound
     requires within { end ≤ length bytes.now }
     requires plain { is_text (take (end - start) (drop start bytes.now)) (codes "type") ≡ false }
     ensures { IsCommandLine (bounds_of bounds)
-        (take (end - start) (drop start bytes.now) ∷ line_words (drop end bytes.now)) bytes.now end result }
+        (take (end - start) (drop start bytes.now) ∷ line_words (drop end bytes.now))
+        bytes.now end result }
 {
     let word = &bytes[start..end];
     if word == b"gc".as_slice() {
@@ -40,7 +41,8 @@ fn read_plain(bytes: &[u8], first: &[u8], from: usize, bounds: Bounds) -> Comman
     requires no_type { is_text first.now (codes "type") ≡ false }
     requires no_gc { is_text first.now (codes "gc") ≡ false }
     requires no_at { is_text first.now (codes "at") ≡ false }
-    ensures { IsCommandLine (bounds_of bounds) (first.now ∷ line_words (drop from bytes.now)) bytes.now from result }
+    ensures { IsCommandLine (bounds_of bounds) (first.now ∷ line_words (drop from bytes.now))
+        bytes.now from result }
 {
     match row_of(first) {
         Some(row) => {
@@ -71,7 +73,8 @@ fn read_plain(bytes: &[u8], first: &[u8], from: usize, bounds: Bounds) -> Comman
 fn read_gc(bytes: &[u8], from: usize, bounds: Bounds) -> CommandLine
     requires { from ≤ length bytes.now }
     ensures { (first : List ℕ) → is_text first (codes "gc") ≡ true
-        → IsCommandLine (bounds_of bounds) (first ∷ line_words (drop from bytes.now)) bytes.now from result }
+        → IsCommandLine (bounds_of bounds) (first ∷ line_words (drop from bytes.now))
+        bytes.now from result }
 {
     let (start, end) = next_word(bytes, from);
     if start == end {
@@ -88,7 +91,8 @@ fn read_gc(bytes: &[u8], from: usize, bounds: Bounds) -> CommandLine
 fn read_at(bytes: &[u8], from: usize, bounds: Bounds) -> CommandLine
     requires { from ≤ length bytes.now }
     ensures { (first : List ℕ) → is_text first (codes "at") ≡ true
-        → IsCommandLine (bounds_of bounds) (first ∷ line_words (drop from bytes.now)) bytes.now from result }
+        → IsCommandLine (bounds_of bounds) (first ∷ line_words (drop from bytes.now))
+        bytes.now from result }
 {
     let (start, end) = next_word(bytes, from);
     if start == end {

@@ -39,6 +39,7 @@ mod reading;
 mod reasons;
 mod region_text;
 mod row_lines;
+mod row_search;
 mod rows;
 mod said;
 mod script;

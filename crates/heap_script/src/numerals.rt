@@ -19,7 +19,8 @@ pub(crate) struct Numeral {
 pub(crate) fn next_number(bytes: &[u8], from: usize) -> Numeral
     requires { from ≤ length bytes.now }
     ensures word { IsNextWord bytes.now from result.start result.end }
-    ensures value { result.value ≡ (if is_number (take (result.end - result.start) (drop result.start bytes.now))
+    ensures value { result.value ≡
+        (if is_number (take (result.end - result.start) (drop result.start bytes.now))
         then Some (value_after 0 (take (result.end - result.start) (drop result.start bytes.now)))
         else None) }
 {
@@ -46,7 +47,8 @@ fn long_number(bytes: &[u8], start: usize) -> Numeral
     requires { start ≤ length bytes.now }
     ensures start { result.start ≡ start }
     ensures end { IsWordEnd bytes.now start result.end }
-    ensures value { result.value ≡ (if is_number (take (result.end - result.start) (drop result.start bytes.now))
+    ensures value { result.value ≡
+        (if is_number (take (result.end - result.start) (drop result.start bytes.now))
         then Some (value_after 0 (take (result.end - result.start) (drop result.start bytes.now)))
         else None) }
 {
@@ -81,7 +83,8 @@ fn digits(bytes: &[u8], start: usize) -> (usize, u32)
 #[inline(always)]
 fn is_end(bytes: &[u8], place: usize) -> bool
     requires { place ≤ length bytes.now }
-    ensures { result ≡ (if place == length bytes.now then true else not (is_word_byte (slice_index bytes.now place))) }
+    ensures { result ≡ (if place == length bytes.now then true
+        else not (is_word_byte (slice_index bytes.now place))) }
 {
     place == bytes.len() || bytes[place] == b' ' || bytes[place] == b'\n'
 }
@@ -91,7 +94,8 @@ fn is_end(bytes: &[u8], place: usize) -> bool
 fn is_plain(bytes: &[u8], start: usize, end: usize) -> bool
     requires order { start ≤ end }
     requires within { end ≤ length bytes.now }
-    ensures { result ≡ (nat_lt start end && not (nat_lt (start + 1) end && (slice_index bytes.now start == 48))) }
+    ensures { result ≡ (nat_lt start end
+        && not (nat_lt (start + 1) end && (slice_index bytes.now start == 48))) }
 {
     start < end && (end - start == 1 || bytes[start] != b'0')
 }

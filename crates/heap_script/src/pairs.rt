@@ -15,7 +15,8 @@ use super::reasons::{BAD_NUMBER, FAULTLESS};
 /// The rank of a line by its pair, where its form has one; its other words stand from `from` on.
 pub(crate) fn half_rank_of(bytes: &[u8], from: usize, make: Make) -> u32
     requires { from ≤ length bytes.now }
-    ensures { result ≡ (if makes_pair make && is_half_after (line_words (drop from bytes.now)) then 3 else 9) }
+    ensures { result ≡
+        (if makes_pair make && is_half_after (line_words (drop from bytes.now)) then 3 else 9) }
 {
     match make {
         Make::Small(SmallForm::Pair) => pair_rank(bytes, from),

@@ -78,8 +78,10 @@ fn judged(value: Option<u64>, from: u32, limit: u64) -> Reading
 #[tactic(auto, using(crate::proofs::PlacesRead::number_ranks))]
 fn judged_or_null(value: Option<u64>, word: &[u8], from: u16, last: u16) -> Reading
     requires { value ≡ (if is_number word.now then Some (value_of word.now) else None) }
-    ensures rank { result.rank ≡ rank_by false (not (is_null word.now || is_number word.now)) false (is_beyond from (last + 1) word.now) }
-    ensures value { result.rank ≡ 9 → (if is_null word.now then 0 else value_of word.now + 1) ≡ result.value }
+    ensures rank { result.rank ≡ rank_by false (not (is_null word.now || is_number word.now)) false
+        (is_beyond from (last + 1) word.now) }
+    ensures value { result.rank ≡ 9 →
+        (if is_null word.now then 0 else value_of word.now + 1) ≡ result.value }
 {
     if word == b"-".as_slice() {
         return Reading {
@@ -99,7 +101,8 @@ fn judged_or_null(value: Option<u64>, word: &[u8], from: u16, last: u16) -> Read
 
 #[inline(never)]
 fn read_either(word: &[u8], one: &'static [u8], other: &'static [u8]) -> Reading
-    ensures rank { result.rank ≡ rank_by (not (is_text word.now one.now || is_text word.now other.now)) false false false }
+    ensures rank { result.rank ≡
+        rank_by (not (is_text word.now one.now || is_text word.now other.now)) false false false }
     ensures value { result.rank ≡ 9 → (if is_text word.now one.now then 0 else 1) ≡ result.value }
 {
     if word == one {

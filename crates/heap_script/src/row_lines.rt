@@ -108,7 +108,8 @@ pub(crate) fn read_wide_row(
 
 // The rank of the number of words, where the next word would stand from `start` to `end`.
 fn count_rank(start: usize, end: usize, words: usize, least: usize, most: usize) -> u32
-    ensures { result ≡ (if start == end then (if words == least || words == most then 9 else 4) else 4) }
+    ensures { result ≡
+        (if start == end then (if words == least || words == most then 9 else 4) else 4) }
 {
     if start == end && (words == least || words == most) {
         FAULTLESS

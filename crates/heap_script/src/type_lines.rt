@@ -51,7 +51,8 @@ pub(crate) fn read_type(
 ) -> Result<TypeLine, u32>
     requires { from ≤ length bytes.now }
     ensures fine { IfOk result (λ _. reason_of_type
-        (record { types = types; callbacks = callbacks }) (line_words (drop from bytes.now)) ≡ None) }
+        (record { types = types; callbacks = callbacks })
+        (line_words (drop from bytes.now)) ≡ None) }
     ensures decl { IfOk result (λ line.
         type_of_words (codes "type" ∷ line_words (drop from bytes.now)) ≡ Some line.decl) }
     ensures end { IfOk result (λ line. IsLineEnd bytes.now from line.end) }

@@ -24,7 +24,8 @@ pub(crate) struct WideReading {
 }
 
 pub(crate) fn read_wide(form: WideForm, word: &[u8]) -> WideReading
-    ensures rank { (bounds : GrammarBounds) → result.rank ≡ rank_at bounds (wide_place_of form) word.now }
+    ensures rank { (bounds : GrammarBounds) →
+        result.rank ≡ rank_at bounds (wide_place_of form) word.now }
     ensures value { result.rank ≡ 9 → says (wide_place_of form) word.now ≡ result.value ∷ [] }
     ensures low { IsLow form result.value }
 {
@@ -36,7 +37,8 @@ pub(crate) fn read_wide(form: WideForm, word: &[u8]) -> WideReading
 }
 
 fn read_any(word: &[u8]) -> WideReading
-    ensures rank { result.rank ≡ rank_by false (not (is_number word.now)) false (is_beyond 0 (2 ^ 64) word.now) }
+    ensures rank { result.rank ≡
+        rank_by false (not (is_number word.now)) false (is_beyond 0 (2 ^ 64) word.now) }
     ensures value { result.rank ≡ 9 → result.value ≡ value_of word.now }
 {
     match number(word) {
@@ -52,8 +54,11 @@ fn read_any(word: &[u8]) -> WideReading
 }
 
 fn read_pages(word: &[u8]) -> WideReading
-    ensures rank { result.rank ≡ rank_by false (not (is_text word.now (codes "all") || is_number word.now)) false (is_beyond 1 4294967296 word.now) }
-    ensures value { result.rank ≡ 9 → (if is_text word.now (codes "all") then 0 else value_of word.now + 1) ≡ result.value }
+    ensures rank { result.rank ≡
+        rank_by false (not (is_text word.now (codes "all") || is_number word.now)) false
+        (is_beyond 1 4294967296 word.now) }
+    ensures value { result.rank ≡ 9 →
+        (if is_text word.now (codes "all") then 0 else value_of word.now + 1) ≡ result.value }
     ensures low { result.value ≤ 2 ^ 32 }
 {
     if word == b"all".as_slice() {

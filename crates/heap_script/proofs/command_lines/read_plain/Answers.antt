@@ -1,4 +1,4 @@
-use Rattle.std.proofs.Common.{sym, ◌∙◌}
+use Rattle.std.proofs.Common.{◌∙◌}
 use Rattle.heap_script.proofs.CommandForms.{named_of, no_row_of}
 use Rattle.heap_script.proofs.LinesByRows.{plain_start_sound, plain_start_pairs, plain_done, plain_unknown}
 use Rattle.heap_script.proofs.command_lines.read_plain.Goals as goal

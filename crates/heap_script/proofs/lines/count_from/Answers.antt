@@ -1,7 +1,7 @@
-use Rattle.std.proofs.Common.{◌≡◌, ℕ, ◌∷◌, length, drop, ap, ◌∙◌, sym, arith}
+use Rattle.std.proofs.Common.{◌≡◌, ◌∷◌, length, drop, ap, ◌∙◌, sym, arith}
 use Rattle.gc_graph.specs.Words.{lines_of}
 use Rattle.heap_script.specs.Cursor.{first_line}
-use Rattle.heap_script.proofs.WordPlaces.{lines_left}
+use Rattle.heap_script.proofs.LinesInTurn.{lines_left}
 use Rattle.heap_script.proofs.lines.count_from.Goals as goal
 
 pub loop-at-preserved : goal.loop-at-preserved

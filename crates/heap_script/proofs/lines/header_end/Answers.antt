@@ -1,4 +1,4 @@
-use Rattle.std.proofs.Common.{◌≡◌, ℕ, ◌<◌, List, sym, ◌∙◌, arith}
+use Rattle.std.proofs.Common.{ℕ, List, sym, ◌∙◌, arith}
 use Rattle.heap_script.proofs.HeaderLine.{word_some, two_words}
 use Rattle.heap_script.proofs.lines.header_end.Goals as goal
 

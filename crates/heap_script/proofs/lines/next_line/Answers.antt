@@ -1,6 +1,5 @@
-use Rattle.std.proofs.Common.{◌≡◌, ◌⊎◌, length, Some, refl, inl, inr, arith}
-use Rattle.std.specs.Prelude.{slice_get}
-use Rattle.heap_script.proofs.WordPlaces.{lines_next}
+use Rattle.std.proofs.Common.{refl, inl, inr, arith}
+use Rattle.heap_script.proofs.LinesInTurn.{lines_next}
 use Rattle.heap_script.proofs.lines.next_line.Goals as goal
 
 pub returns-then-end-bytes-clause-lines : goal.returns-then-end-bytes-clause-lines

@@ -1,4 +1,4 @@
-use Rattle.std.proofs.Common.{sym, ap, ◌*◌, ◌+◌, subst}
+use Rattle.std.proofs.Common.{sym, ◌*◌, ◌+◌, subst}
 use Rattle.heap_script.specs.Cursor.{IsDigits}
 use Rattle.heap_script.proofs.ShortNumbers.{digits_none, digit_more}
 use Rattle.heap_script.proofs.numerals.digits.Goals as goal

@@ -1,5 +1,6 @@
 use Rattle.std.proofs.Common.{refl, sym, ◌∙◌}
-use Rattle.heap_script.proofs.RowRanks.{small_said, faulty_line, good_line, ends_there, makes_some, made_small}
+use Rattle.heap_script.proofs.RowRanks.{small_said, faulty_line, good_line}
+use Rattle.heap_script.proofs.RowEnds.{ends_there, makes_some, made_small}
 use Rattle.heap_script.proofs.row_lines.read_small_row.Goals as goal
 
 pub returns-then-rank-ne-FAULTLESS : goal.returns-then-rank-ne-FAULTLESS

@@ -1,5 +1,6 @@
 use Rattle.std.proofs.Common.{min, sym, ap, ◌∙◌, [], arith}
-use Rattle.heap_script.proofs.RowRanks.{faulty_line, good_line, ends_there, makes_some, made_wide, wide_pairs}
+use Rattle.heap_script.proofs.RowRanks.{faulty_line, good_line}
+use Rattle.heap_script.proofs.RowEnds.{ends_there, makes_some, made_wide, wide_pairs}
 use Rattle.heap_script.proofs.WideRows.{short_said, wide_said, wide_word}
 use Rattle.heap_script.proofs.row_lines.read_wide_row.Goals as goal
 

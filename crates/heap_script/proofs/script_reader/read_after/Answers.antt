@@ -1,10 +1,10 @@
-use Rattle.std.proofs.Common.{◌≡◌, ℕ, ◌+◌, ◌-◌, ◌<◌, ◌∷◌, List, length, take, drop, refl, ap, sym, ◌∙◌, arith}
+use Rattle.std.proofs.Common.{◌≡◌, ℕ, ◌+◌, ◌-◌, ◌<◌, ◌∷◌, List, length, take, drop, ap, sym, ◌∙◌, arith}
 use Rattle.std.proofs.lemmas.List.{drop_all}
 use Rattle.gc_graph.specs.Words.{lines_of}
 use Rattle.heap_script.specs.declared.past.Past.{Past}
 use Rattle.heap_script.specs.Cursor.{first_line, line_words, lines_after, words_from}
 use Rattle.heap_script.specs.Reading.{stop_with}
-use Rattle.heap_script.proofs.WordPlaces.{lines_left, not_blank}
+use Rattle.heap_script.proofs.LinesInTurn.{lines_left, not_blank}
 use Rattle.heap_script.proofs.ReadSoFar.{next_there, rest_is, kept_lines, blank_more, line_more}
 use Rattle.heap_script.proofs.ScriptEnds.{all_read, section_stop, line_stop, too_many}
 use Rattle.heap_script.proofs.script_reader.read_after.Goals as goal

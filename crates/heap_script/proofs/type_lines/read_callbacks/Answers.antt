@@ -1,4 +1,4 @@
-use Rattle.std.proofs.Common.{sym, ◌∙◌, arith, rules}
+use Rattle.std.proofs.Common.{sym, ◌∙◌, arith}
 use Rattle.heap_script.proofs.TypeCallbacks.{wrong_pre, bad_numbers, no_numbers}
 use Rattle.heap_script.proofs.type_lines.read_callbacks.Goals as goal
 

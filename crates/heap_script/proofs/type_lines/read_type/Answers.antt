@@ -1,5 +1,5 @@
 use Rattle.std.proofs.Common.{sym, ◌∙◌, arith}
-use Rattle.heap_script.proofs.TypeCallbacks.{no_letters, wrong_letters, wrong_callbacks, too_much}
+use Rattle.heap_script.proofs.TypeCallbacks.{no_letters, wrong_letters, too_much}
 use Rattle.heap_script.proofs.type_lines.read_type.Goals as goal
 
 pub returns-then-start-after-clause-fault : goal.returns-then-start-after-clause-fault

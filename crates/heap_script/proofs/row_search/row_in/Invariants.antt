@@ -2,7 +2,7 @@ use Rattle.std.proofs.Common.{◌≡◌, true, drop}
 use Rattle.std.specs.List.{list_all}
 use Rattle.gc_graph.specs.Forms.{row_named}
 use Rattle.heap_script.specs.Rows.{rows_by}
-use Rattle.heap_script.proofs.rows.row_in.Given as goal
+use Rattle.heap_script.proofs.row_search.row_in.Given as goal
 
 abbrev pub invariant-loop-row : goal.invariant-loop-row
 invariant-loop-row g l = record {

@@ -1,6 +1,6 @@
 use Rattle.std.proofs.Common.{refl, sym, ◌∙◌}
 use Rattle.heap_script.proofs.RowsFound.{named_distinct}
-use Rattle.heap_script.proofs.rows.row_near.Goals as goal
+use Rattle.heap_script.proofs.row_search.row_near.Goals as goal
 
 pub returns-then-eq-clause-same : goal.returns-then-eq-clause-same
 returns-then-eq-clause-same g c =
