@@ -1,6 +1,6 @@
 // The numbers of a script.
 
-ghost use Rattle.std.specs.Prelude.{◌≡◌, ◌==◌, ◌&&◌, ◌<◌, length, nat_lt, slice_index};
+ghost use Rattle.std.specs.Prelude.{◌≡◌, ◌+◌, ◌*◌, ◌^◌, ◌==◌, ◌&&◌, ◌<◌, SomeIff, length, nat_lt, slice_index};
 ghost use Rattle.std.specs.Prelude.{Some, None, if◌then◌else◌};
 ghost use Rattle.gc_graph.specs.Words.{is_number, value_after, number_below as below};
 
@@ -29,11 +29,8 @@ pub(crate) fn number(word: &[u8]) -> Option<u64>
             return None;
         }
         let digit = u64::from(*byte - b'0');
-        match value.checked_mul(10) {
-            Some(tens) => match tens.checked_add(digit) {
-                Some(next) => value = next,
-                None => return None,
-            },
+        match with_digit(value, digit) {
+            Some(next) => value = next,
             None => return None,
         }
     }
@@ -46,4 +43,14 @@ fn begins_in_vain(word: &[u8]) -> bool
     ensures { result ≡ (nat_lt 1 (length word.now) && (slice_index word.now 0 == 48)) }
 {
     word.len() > 1 && word[0] == b'0'
+}
+
+// The number with one more digit, where it has 64 bits.
+fn with_digit(value: u64, digit: u64) -> Option<u64>
+    ensures { SomeIff result (value * 10 + digit < 2 ^ 64) (value * 10 + digit) }
+{
+    match value.checked_mul(10) {
+        Some(tens) => tens.checked_add(digit),
+        None => None,
+    }
 }

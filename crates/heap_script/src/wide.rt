@@ -1,6 +1,6 @@
 // The forms whose last number may be wider than 32 bits.
 
-ghost use Rattle.std.specs.Prelude.{◌≡◌, ℕ, ◌+◌, ◌≤◌, ◌^◌, ◌∷◌, [], ◌++◌, ◌||◌, not, false, if◌then◌else◌, codes};
+ghost use Rattle.std.specs.Prelude.{◌≡◌, ℕ, ◌+◌, ◌≤◌, ◌^◌, ◌∷◌, [], ◌++◌, ◌||◌, ◌&&◌, nat_le, nat_lt, not, false, if◌then◌else◌, codes};
 ghost use Rattle.gc_graph.specs.Forms.{sweep_command as sweep_of};
 ghost use Rattle.gc_graph.specs.Reasons.{Bounds as GrammarBounds, says, is_beyond, value_of};
 ghost use Rattle.gc_graph.specs.Words.{is_number, is_text};
@@ -68,18 +68,28 @@ fn read_pages(word: &[u8]) -> WideReading
         };
     }
     match number(word) {
-        Some(value) if value >= 1 && value <= 4_294_967_295 => WideReading {
-            rank: FAULTLESS,
-            value: value + 1,
-        },
-        Some(_) => WideReading {
-            rank: RANGE,
-            value: 0,
-        },
+        Some(value) => judged_pages(value),
         None => WideReading {
             rank: BAD_NUMBER,
             value: 0,
         },
+    }
+}
+
+fn judged_pages(value: u64) -> WideReading
+    ensures rank { result.rank ≡ (if nat_le 1 value && nat_lt value 4294967296 then 9 else 5) }
+    ensures value { result.rank ≡ 9 → result.value ≡ value + 1 }
+    ensures low { result.value ≤ 2 ^ 32 }
+{
+    if value >= 1 && value < 4_294_967_296 {
+        return WideReading {
+            rank: FAULTLESS,
+            value: value + 1,
+        };
+    }
+    WideReading {
+        rank: RANGE,
+        value: 0,
     }
 }
 
