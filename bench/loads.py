@@ -55,6 +55,11 @@ def filling(count, room):
     return Load(["S"], ["new 0 0"] * count, {"node": count, "full": 0}, pages_for(room, 3))
 
 
+def repeated(line, count, room):
+    """One object in slot 0, and then the same line, so many times, on a heap with room for `room`."""
+    return Load(["S"], ["new 0 0"] + [line] * count, {"full": 0}, pages_for(room + 1, 3))
+
+
 def linked(count):
     """A list of objects of 3 words, the newest in slot 0 or 1, and each named by the next."""
     lines = []

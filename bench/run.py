@@ -27,6 +27,8 @@ NEW_BAR = 2500
 COLLECTION_BAR = 400
 SWEPT_WORD_BAR = 60
 FINALISED_BAR = 400
+# For a line of each kind, read, run and told.
+LINE_BARS = {"drop 0": 400, "set 0 0 0": 560, "new 0 0": 1400}
 
 
 class Figures:
@@ -146,6 +148,14 @@ class Bench:
         tell("holes_instructions_per_new_placed", (placed - none) / room, NEW_BAR)
         tell("holes_instructions_per_new_full", (full - placed) / room, NEW_BAR)
 
+    def lines(self):
+        """What a line costs that is repeated: reading it, running it and telling its answer."""
+        for line, bar in LINE_BARS.items():
+            count, room = self.count, 2 * self.count
+            some, twice = (self.instructions(loads.repeated(line, n * count, room)) for n in (1, 2))
+            name = f"line_{line.split()[0]}_instructions"
+            self.figures.tell(name, (twice - some) / self.count, bar)
+
     def collections(self):
         """What a collection costs for each live object."""
         swept = self.live_list(1, 1).then(SWEEP)
@@ -180,6 +190,7 @@ def main():
         bench = Bench(folder, scale)
         bench.times()
         if shutil.which("valgrind"):
+            bench.lines()
             bench.news()
             bench.collections()
             bench.sweeps()
