@@ -2,7 +2,7 @@
 use Rattle.std.proofs.Common.{◌≡◌, ℕ, ◌<◌, ◌≤◌, ◌==◌, ◌&&◌, ◌||◌, Bool, true, false, not, cond, Option, Some, None, List, [], ◌∷◌, ◌++◌, length, drop, map, refl, sym, ap, ◌∙◌, subst, inl, inr, ◌⊎◌, arith}
 use Rattle.std.specs.Prelude.{codes, nat_lt, nat_le, unwrap_or, is_some}
 use Rattle.std.specs.List.{list_all, list_any}
-use Rattle.std.proofs.lemmas.Bool.{true≢false, cases_Bool, cond-true, cond-false, and_from, and_left, and_right, and_parts, and_cases, or_cases, or_parts, or_from, or_left, or_right, not_from_true, not_from_false, ltb-true, ltb-false, lt-ltb, le-ltb, le-leb, eq-eqb, eqb-true, not-true}
+use Rattle.std.proofs.lemmas.Bool.{true≢false, cases_Bool, cond-true, cond-false, and_from, and_right, and_parts, and_cases, or_cases, or_parts, or_from, or_left, or_right, not_from_true, not_from_false, ltb-true, ltb-false, lt-ltb, le-ltb, le-leb, eq-eqb, eqb-true, not-true}
 use Rattle.std.proofs.lemmas.List.{length_push, map_push, length-map}
 use Rattle.std.proofs.lemmas.List.Folds.{list_all-append, list_any-append}
 use Rattle.gc_graph.specs.Words.{is_text, is_number, value_after}
