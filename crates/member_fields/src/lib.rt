@@ -30,3 +30,6 @@ pub use members::{get, set};
 pub use plain_words::{get_word, put_word};
 pub use weak_members::set_weak;
 pub use words::{words_keep_their_kind, write_is_of_one_word};
+
+#[cfg(test)]
+mod tests;
