@@ -1,5 +1,5 @@
 -- Where a word of an object is, and what a read of it tells.
-use Rattle.std.proofs.Common.{◌≡◌, ℕ, ◌+◌, ◌-◌, Bool, true, length, sym, ap, ◌∙◌, arith, Contains}
+use Rattle.std.proofs.Common.{◌≡◌, ℕ, ◌+◌, ◌-◌, Bool, true, sym, ap, ◌∙◌, arith, Contains}
 use Rattle.std.proofs.lemmas.List.Elements.{All-contains}
 use Rattle.gc_graph.specs.declared.kind.Kind.{Kind}
 use Rattle.page_words.specs.Bodies.{Body, IsWhole, kind_in}

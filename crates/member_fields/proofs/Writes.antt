@@ -1,5 +1,5 @@
 -- A write at the address of a word is a write of that word alone.
-use Rattle.std.proofs.Common.{◌≡◌, ℕ, ◌+◌, ◌-◌, ◌≤◌, ◌<◌, Bool, true, false, ◌&&◌, List, [], ◌∷◌, map, set, get_or, suc, refl, sym, ap, ◌∙◌, arith, leb, ltb, eqb, cond, Contains}
+use Rattle.std.proofs.Common.{◌≡◌, ℕ, ◌+◌, ◌-◌, ◌≤◌, ◌<◌, Bool, true, ◌&&◌, List, [], ◌∷◌, map, set, get_or, suc, refl, sym, ap, ◌∙◌, arith, leb, ltb, eqb, Contains}
 use Rattle.std.proofs.lemmas.Bool.{and_parts, and_from, both_ways, leb-true, ltb-true, le-leb, lt-ltb, eqb-true, eq-eqb, cond_both}
 use Rattle.std.proofs.lemmas.List.{get_or-set_same, get_or-set_other, get_or-map, length-map}
 use Rattle.std.proofs.lemmas.List.Elements.{All-contains, All-map, Contains-get_or}
