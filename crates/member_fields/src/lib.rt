@@ -4,8 +4,8 @@
 //! is named by its holder's place and by the offset of its word, as `TypeTable::field_at` tells it.
 //!
 //! The parts: `get` and `set` (`members`), `set_weak` (`weak_members`), `get_word` and `put_word`
-//! (`plain_words`). Inside, `words` goes from holder and offset to the address. The next level down
-//! is `page_words`.
+//! (`plain_words`), and two laws, `words_keep_their_kind` and `write_is_of_one_word`. Inside,
+//! `words` goes from holder and offset to the address. The next level down is `page_words`.
 //!
 //! | field | read by | written by | it holds |
 //! |---|---|---|---|
