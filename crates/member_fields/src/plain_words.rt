@@ -1,0 +1,32 @@
+// Plain fields, and the extra words of an object, which are plain too
+// (`include/cppgc/allocation.h`, `AdditionalBytes`).
+
+ghost use Rattle.std.specs.Prelude.{◌≡◌, ◌+◌};
+ghost use Rattle.gc_graph.specs.Fields.{is_plain};
+ghost use Rattle.page_words.specs.Seat.{stored};
+ghost use Rattle.page_space.specs.Space.{IsSeatOf};
+ghost use Rattle.member_fields.specs.Words.{HasWord, IsWordIn, written};
+
+use crate::words;
+use page_space::Space;
+use page_words::MutatorSeat;
+
+/// The number in a plain word.
+pub fn get_word(space: &Space, seat: &mut MutatorSeat, holder: u32, word: u32) -> u64
+    requires heap { IsSeatOf space.now seat.old }
+    requires field { HasWord is_plain seat.old holder word }
+    ensures word { IsWordIn seat.old holder word result }
+    ensures view { seat.new ≡ seat.old }
+{
+    words::read(space, seat, holder, word)
+}
+
+/// Puts a number into a plain word. No collection takes it for a reference.
+pub fn put_word(space: &Space, seat: &mut MutatorSeat, holder: u32, word: u32, n: u64)
+    requires heap { IsSeatOf space.now seat.old }
+    requires field { HasWord is_plain seat.old holder word }
+    ensures word { seat.new ≡ written seat.old holder word n }
+    ensures address { seat.new ≡ stored seat.old (holder + word) n }
+{
+    words::write(space, seat, holder, word, n);
+}

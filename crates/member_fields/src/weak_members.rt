@@ -1,0 +1,24 @@
+// Weak fields (`include/cppgc/member.h`).
+
+ghost use Rattle.std.specs.Prelude.{◌≡◌, ◌+◌};
+ghost use Rattle.gc_graph.specs.Fields.{is_weak};
+ghost use Rattle.page_words.specs.Bodies.{IsReference};
+ghost use Rattle.page_words.specs.Seat.{stored};
+ghost use Rattle.page_space.specs.Space.{IsSeatOf};
+ghost use Rattle.member_fields.specs.Words.{HasWord, written};
+
+use crate::words;
+use page_space::Space;
+use page_words::MutatorSeat;
+
+/// Makes a weak field refer to an object, or to none: `target` is a reference, or 0. What is weakly
+/// named is not kept for it.
+pub fn set_weak(space: &Space, seat: &mut MutatorSeat, holder: u32, word: u32, target: u64)
+    requires heap { IsSeatOf space.now seat.old }
+    requires field { HasWord is_weak seat.old holder word }
+    requires target { IsReference seat.old.bodies target }
+    ensures word { seat.new ≡ written seat.old holder word target }
+    ensures address { seat.new ≡ stored seat.old (holder + word) target }
+{
+    words::write(space, seat, holder, word, target);
+}

@@ -1,0 +1,60 @@
+// A word by its object's place and its offset.
+
+ghost use Rattle.std.specs.Prelude.{◌≡◌, ℕ, ◌+◌, ◌≤◌, Bool, true};
+ghost use Rattle.gc_graph.specs.declared.kind.Kind.{Kind};
+ghost use Rattle.object_headers.specs.Offsets.{first_field};
+ghost use Rattle.page_words.specs.Bodies.{MayHold};
+ghost use Rattle.page_words.specs.Seat.{stored};
+ghost use Rattle.page_space.specs.Space.{IsSeatOf};
+ghost use Rattle.member_fields.specs.Words.{HasWord, HasWordOfSomeKind, IsWordIn, written};
+
+use page_space::Space;
+use page_words::MutatorSeat;
+
+/// A word has one kind, and keeps it under each write. Whoever calls this has the law. It reads
+/// nothing.
+pub fn words_keep_their_kind(seat: &MutatorSeat)
+    ensures one { (is_so is_other : Kind → Bool) (holder word : ℕ)
+        → ((kind : Kind) → is_so kind ≡ true → is_other kind ≡ true → ⊥)
+        → HasWord is_so seat.now holder word → HasWord is_other seat.now holder word → ⊥ }
+    ensures kept { (is_so : Kind → Bool) (holder word place offset w : ℕ)
+        → HasWord is_so seat.now holder word
+        → HasWord is_so (written seat.now place offset w) holder word }
+{
+    seat.bodies_lie_apart();
+}
+
+/// After a write the named word holds what was written, and each other word what it held. Whoever
+/// calls this has the law. It reads nothing.
+pub fn write_is_of_one_word(seat: &MutatorSeat)
+    ensures named { (holder word w : ℕ) → HasWordOfSomeKind seat.now holder word
+        → IsWordIn (written seat.now holder word w) holder word w }
+    ensures others { (holder word w place offset x : ℕ) → first_field ≤ word → first_field ≤ offset
+        → (place ≡ holder → offset ≡ word → ⊥) → IsWordIn seat.now place offset x
+        → IsWordIn (written seat.now holder word w) place offset x }
+{
+    seat.bodies_lie_apart();
+}
+
+/// Reads a field word.
+pub fn read(space: &Space, seat: &mut MutatorSeat, holder: u32, word: u32) -> u64
+    requires heap { IsSeatOf space.now seat.old }
+    requires field { HasWordOfSomeKind seat.old holder word }
+    ensures word { IsWordIn seat.old holder word result }
+    ensures view { seat.new ≡ seat.old }
+{
+    seat.bodies_lie_apart();
+    space.words().load(seat, holder + word)
+}
+
+/// Writes a field word.
+pub fn write(space: &Space, seat: &mut MutatorSeat, holder: u32, word: u32, w: u64)
+    requires heap { IsSeatOf space.now seat.old }
+    requires field { HasWordOfSomeKind seat.old holder word }
+    requires word { MayHold seat.old.types seat.old.bodies (holder + word) w }
+    ensures word { seat.new ≡ written seat.old holder word w }
+    ensures address { seat.new ≡ stored seat.old (holder + word) w }
+{
+    seat.bodies_lie_apart();
+    space.words().store(seat, holder + word, w);
+}
