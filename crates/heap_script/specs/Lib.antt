@@ -14,3 +14,4 @@ pub mod Rows
 pub mod Said
 pub mod RowLines
 pub mod CommandLines
+pub mod QuickLines

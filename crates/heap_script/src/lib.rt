@@ -35,6 +35,7 @@ mod past;
 mod pieces;
 mod places;
 mod printing;
+mod quick_lines;
 mod reading;
 mod reasons;
 mod region_text;

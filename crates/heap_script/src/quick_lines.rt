@@ -1,0 +1,150 @@
+// The most frequent lines, read without the table of forms. They are a part of what `read_command`
+// reads, and only quicker.
+
+ghost use Rattle.std.specs.Prelude.{ℕ, ◌-◌, ◌<◌, ◌≤◌, ◌∷◌, length, take, drop, codes, IfSome};
+ghost use Rattle.heap_script.specs.Cursor.{line_words};
+ghost use Rattle.heap_script.specs.CommandLines.{IsCommandLine};
+ghost use Rattle.heap_script.specs.QuickLines.{IsSmall};
+ghost use Rattle.heap_script.specs.Rows.{bounds_of};
+
+use super::cursor::next_word;
+use super::numerals::next_number;
+use super::places::Bounds;
+use super::row_lines::CommandLine;
+use gc_graph::Command;
+
+/// A number of a line, and the place after it.
+#[derive(Clone, Copy)]
+pub(crate) struct Small {
+    pub(crate) value: u32,
+    pub(crate) end: usize,
+}
+
+/// The line whose first word stands from `start` to `end`, where it is one of these and has no fault.
+pub(crate) fn quick_line(
+    bytes: &[u8],
+    start: usize,
+    end: usize,
+    bounds: Bounds,
+) -> Option<CommandLine>
+    requires word { start < end }
+    requires within { end ≤ length bytes.now }
+    ensures { IfSome result (IsCommandLine (bounds_of bounds)
+        (take (end - start) (drop start bytes.now) ∷ line_words (drop end bytes.now))
+        bytes.now end) }
+{
+    let word = &bytes[start..end];
+    if word == b"set".as_slice() {
+        return quick_set(bytes, end, bounds);
+    }
+    if word == b"get".as_slice() {
+        return quick_get(bytes, end, bounds);
+    }
+    if word == b"new".as_slice() {
+        return quick_new(bytes, end, bounds);
+    }
+    if word == b"drop".as_slice() {
+        return quick_drop(bytes, end, bounds);
+    }
+    None
+}
+
+fn quick_set(bytes: &[u8], from: usize, bounds: Bounds) -> Option<CommandLine>
+    requires { from ≤ length bytes.now }
+    ensures { IfSome result (IsCommandLine (bounds_of bounds)
+        (codes "set" ∷ line_words (drop from bytes.now)) bytes.now from) }
+{
+    let _ = bounds;
+    let p = next_small(bytes, from, 256)?;
+    let f = next_small(bytes, p.end, 67_108_864)?;
+    let q = next_small(bytes, f.end, 256)?;
+    let (start, end) = next_word(bytes, q.end);
+    if start < end {
+        return None;
+    }
+    Some(CommandLine {
+        said: Ok(Command::Set {
+            p: p.value,
+            f: f.value,
+            q: q.value,
+        }),
+        end,
+    })
+}
+
+fn quick_get(bytes: &[u8], from: usize, bounds: Bounds) -> Option<CommandLine>
+    requires { from ≤ length bytes.now }
+    ensures { IfSome result (IsCommandLine (bounds_of bounds)
+        (codes "get" ∷ line_words (drop from bytes.now)) bytes.now from) }
+{
+    let _ = bounds;
+    let p = next_small(bytes, from, 256)?;
+    let f = next_small(bytes, p.end, 67_108_864)?;
+    let q = next_small(bytes, f.end, 256)?;
+    let (start, end) = next_word(bytes, q.end);
+    if start < end {
+        return None;
+    }
+    Some(CommandLine {
+        said: Ok(Command::Get {
+            p: p.value,
+            f: f.value,
+            q: q.value,
+        }),
+        end,
+    })
+}
+
+fn quick_new(bytes: &[u8], from: usize, bounds: Bounds) -> Option<CommandLine>
+    requires { from ≤ length bytes.now }
+    ensures { IfSome result (IsCommandLine (bounds_of bounds)
+        (codes "new" ∷ line_words (drop from bytes.now)) bytes.now from) }
+{
+    let p = next_small(bytes, from, 256)?;
+    let t = next_small(bytes, p.end, bounds.types)?;
+    let (start, end) = next_word(bytes, t.end);
+    if start < end {
+        return None;
+    }
+    Some(CommandLine {
+        said: Ok(Command::New {
+            p: p.value,
+            t: t.value,
+            e: 0,
+        }),
+        end,
+    })
+}
+
+fn quick_drop(bytes: &[u8], from: usize, bounds: Bounds) -> Option<CommandLine>
+    requires { from ≤ length bytes.now }
+    ensures { IfSome result (IsCommandLine (bounds_of bounds)
+        (codes "drop" ∷ line_words (drop from bytes.now)) bytes.now from) }
+{
+    let _ = bounds;
+    let p = next_small(bytes, from, 256)?;
+    let (start, end) = next_word(bytes, p.end);
+    if start < end {
+        return None;
+    }
+    Some(CommandLine {
+        said: Ok(Command::Drop { p: p.value }),
+        end,
+    })
+}
+
+// The next word of the line, where it is a number below the limit.
+#[inline(always)]
+fn next_small(bytes: &[u8], from: usize, limit: u32) -> Option<Small>
+    requires { from ≤ length bytes.now }
+    ensures { IfSome result (IsSmall bytes.now from limit) }
+{
+    let word = next_number(bytes, from);
+    match word.value {
+        Some(value) if value < u64::from(limit) => Some(Small {
+            value: value as u32,
+            end: word.end,
+        }),
+        _ => None,
+    }
+}
