@@ -5,3 +5,4 @@ pub mod Lessened
 pub mod Holder
 pub mod Walk
 pub mod InTurn
+pub mod Grounds

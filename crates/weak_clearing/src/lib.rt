@@ -20,3 +20,6 @@ mod slots;
 
 pub use fields::clear_fields;
 pub use slots::clear_slots;
+
+#[cfg(test)]
+mod tests;
