@@ -22,6 +22,10 @@ impl Model for Slots {
     ghost Value = { List (Option ℕ) };
 
     ghost view = { λ s. s.places.items };
+
+    ghost use Rattle.std.specs.Prelude.{◌<◌, ◌^◌, length};
+
+    ghost invariant = { λ s. length s.places.items < 2 ^ 32 };
 }
 
 impl Slots {
@@ -34,6 +38,13 @@ impl Slots {
             places.push_reserved(None);
         }
         Ok(Slots { places })
+    }
+
+    /// How many slots there are.
+    pub fn len(&self) -> u32
+        ensures { result ≡ length self.now }
+    {
+        self.places.len() as u32
     }
 
     /// The place that slot i holds.

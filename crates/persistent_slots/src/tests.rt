@@ -14,6 +14,7 @@ fn slots_hold_what_they_were_given(rt: HostRuntime) -> Result<(), Fail> {
     slots.copy(0, 2);
     slots.set(0, 9);
     slots.copy(1, 0);
+    assert_eq!(rt; slots.len(), 3);
     assert_eq!(rt; slots.get(0), None);
     assert_eq!(rt; slots.get(1), None);
     assert_eq!(rt; slots.get(2), Some(7));

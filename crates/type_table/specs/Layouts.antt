@@ -2,23 +2,24 @@
 use Rattle.std.specs.Prelude.{ℕ, List, [], length, map, replicate}
 use Rattle.std.specs.List.{flat_map, range_with_len}
 use Rattle.gc_graph.specs.declared.kind.Kind.{Kind}
-use Rattle.gc_graph.specs.declared.kind.Kind.TheVariants.{Strong, Pair}
+use Rattle.gc_graph.specs.declared.kind.Kind.TheVariants.{Strong, Weak, Pair}
 use Rattle.gc_graph.specs.State.{ObjectType}
 use Rattle.gc_graph.specs.Fields.{words_of_kind, field_words}
 use Rattle.type_table.specs.Types.{offset_of, offsets_of_kind}
 
 -- how many words the declared fields take, the offset of each field, the kind of each word's field, and the offsets of
--- the strong fields and of the pairs
+-- the strong fields, of the weak ones and of the pairs
 pub record LayoutState : Type 0 where
   pub words : ℕ
   pub offsets : List ℕ
   pub kinds : List Kind
   pub strong : List ℕ
+  pub weak : List ℕ
   pub pairs : List ℕ
 
 -- a type without fields
 abbrev pub no_layout : LayoutState
-no_layout = record { words = 0; offsets = []; kinds = []; strong = []; pairs = [] }
+no_layout = record { words = 0; offsets = []; kinds = []; strong = []; weak = []; pairs = [] }
 
 -- the offsets of the declared fields, in their order
 abbrev pub offsets_of : List Kind → List ℕ
@@ -35,6 +36,7 @@ layout_of kinds = record {
   offsets = offsets_of kinds;
   kinds = kinds_of_words kinds;
   strong = offsets_of_kind Strong kinds;
+  weak = offsets_of_kind Weak kinds;
   pairs = offsets_of_kind Pair kinds;
 }
 

@@ -17,6 +17,7 @@ pub(crate) struct Layout {
     offsets: Vec<u32>,
     kinds: Vec<Kind>,
     strong: Vec<u32>,
+    weak: Vec<u32>,
     pairs: Vec<u32>,
 }
 
@@ -30,6 +31,7 @@ impl Model for Layout {
       offsets = l.offsets.items;
       kinds = l.kinds.items;
       strong = l.strong.items;
+      weak = l.weak.items;
       pairs = l.pairs.items;
     } };
 }
@@ -41,6 +43,7 @@ impl Layout {
     {
         let offsets = offsets_of(alloc, kinds)?;
         let strong = offsets_where(alloc, kinds, &offsets, Kind::Strong)?;
+        let weak = offsets_where(alloc, kinds, &offsets, Kind::Weak)?;
         let pairs = offsets_where(alloc, kinds, &offsets, Kind::Pair)?;
         let by_word = kinds_of_words(alloc, kinds)?;
         Ok(Layout {
@@ -48,6 +51,7 @@ impl Layout {
             offsets,
             kinds: by_word,
             strong,
+            weak,
             pairs,
         })
     }
@@ -81,6 +85,12 @@ impl Layout {
         ensures { result.now ≡ self.now.strong }
     {
         self.strong.as_slice()
+    }
+
+    pub(crate) fn weak(&self) -> &[u32]
+        ensures { result.now ≡ self.now.weak }
+    {
+        self.weak.as_slice()
     }
 
     pub(crate) fn pairs(&self) -> &[u32]

@@ -3,7 +3,7 @@
 ghost use Rattle.std.specs.Prelude.{◌≡◌, ℕ, ◌+◌, ◌-◌, ◌^◌, ◌<◌, ◌≤◌, length};
 ghost use Rattle.std.specs.Prelude.{slice_index_or, MatchOption};
 ghost use Rattle.std.specs.Prelude.{IfOk, OnOk, IfErr, All};
-ghost use Rattle.gc_graph.specs.declared.kind.Kind.TheVariants.{Strong, Pair, Plain};
+ghost use Rattle.gc_graph.specs.declared.kind.Kind.TheVariants.{Strong, Weak, Pair, Plain};
 ghost use Rattle.gc_graph.specs.State.{ObjectType};
 ghost use Rattle.object_headers.specs.Offsets.{first_field};
 ghost use Rattle.type_table.specs.Types as spec;
@@ -121,6 +121,14 @@ impl TypeTable {
         ensures { result.now ≡ spec.offsets_of_kind Strong (spec.kinds_of self.now ty) }
     {
         self.layout(ty).strong()
+    }
+
+    /// The offsets of the weak fields, in their order.
+    pub fn weak_words(&self, ty: u32) -> &[u32]
+        requires { ty < length self.now }
+        ensures { result.now ≡ spec.offsets_of_kind Weak (spec.kinds_of self.now ty) }
+    {
+        self.layout(ty).weak()
     }
 
     /// The offsets of the keys of the pairs, in their order.

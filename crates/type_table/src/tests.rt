@@ -54,6 +54,7 @@ fn fields_have_their_offsets(rt: HostRuntime) -> Result<(), Fail> {
     }
     assert_eq!(rt; table.field_at(1, 0, 0), None);
     assert_eq!(rt; table.strong_words(0), [2].as_slice());
+    assert_eq!(rt; table.weak_words(0), [5].as_slice());
     assert_eq!(rt; table.pair_words(0), [3, 6].as_slice());
     assert_eq!(rt; table.callbacks(1), [3, 0].as_slice());
     Ok(())

@@ -1,0 +1,20 @@
+use Rattle.std.proofs.Common.{◌≡◌, true, false, ap, sym, ◌∙◌}
+use Rattle.page_words.specs.Seat.{SeatView, stored}
+use Rattle.weak_clearing.specs.Clearing.{names_unmarked}
+use Rattle.weak_clearing.proofs.Words.{word_stays, word_nulled}
+use Rattle.weak_clearing.proofs.fields.clear_word.Goals as goal
+
+pub returns-then-is_to_unmarked : goal.returns-then-is_to_unmarked
+returns-then-is_to_unmarked c =
+    let seen : c.is_to_unmarked.new.seat ≡ c.args.seat.now = c.is_to_unmarked.ensures.view ∙ c.load-reference.ensures.view in
+    let named : names_unmarked c.args.seat.now.marked c.load-reference.result ≡ true =
+    ap (λ (v : SeatView). names_unmarked v.marked c.load-reference.result) (sym c.load-reference.ensures.view) ∙ sym c.is_to_unmarked.ensures.names ∙ c.if-is_to_unmarked.true in
+    c.store.ensures ∙ ap (λ (v : SeatView). stored v c.args.a 0) seen
+    ∙ word_nulled c.args.seat.now c.args.a c.load-reference.result c.bodies_lie_apart.ensures c.load-reference.ensures.word named
+
+pub returns-else-is_to_unmarked : goal.returns-else-is_to_unmarked
+returns-else-is_to_unmarked c =
+    let seen : c.is_to_unmarked.new.seat ≡ c.args.seat.now = c.is_to_unmarked.ensures.view ∙ c.load-reference.ensures.view in
+    let kept : names_unmarked c.args.seat.now.marked c.load-reference.result ≡ false =
+    ap (λ (v : SeatView). names_unmarked v.marked c.load-reference.result) (sym c.load-reference.ensures.view) ∙ sym c.is_to_unmarked.ensures.names ∙ c.if-is_to_unmarked.false in
+    seen ∙ word_stays c.args.seat.now c.args.a c.load-reference.result c.bodies_lie_apart.ensures c.load-reference.ensures.word kept

@@ -1,0 +1,10 @@
+use Rattle.std.proofs.Common.{◌≡◌, not}
+use Rattle.page_words.specs.Seat.{holds}
+use Rattle.weak_clearing.proofs.InTurn.{clear_first}
+use Rattle.weak_clearing.proofs.slots.clear_slots.Given as goal
+
+abbrev pub invariant-loop-i : goal.invariant-loop-i
+invariant-loop-i l = record {
+  cleared : l.weak ≡ clear_first (λ a. not (holds l.initial.seat.marked a)) l.i l.initial.weak;
+  view : l.seat ≡ l.initial.seat;
+}

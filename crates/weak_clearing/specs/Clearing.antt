@@ -1,0 +1,53 @@
+-- What weak clearing leaves of the objects, as the words of each tell them (`include/cppgc/member.h`).
+use Rattle.std.specs.Prelude.{◌≡◌, ℕ, zero, suc, ◌<◌, ◌≤◌, Bool, true, false, not, List, [], ◌∷◌, length, map, slice_index, if◌then◌else◌, Contains}
+use Rattle.gc_graph.specs.declared.kind.Kind.{Kind}
+use Rattle.gc_graph.specs.declared.kind.Kind.TheVariants.{Strong, Weak, Pair, Plain}
+use Rattle.gc_graph.specs.Fields.{field_words}
+use Rattle.gc_graph.specs.State.{ObjectType}
+use Rattle.type_table.specs.Types.{kinds_of}
+use Rattle.type_table.specs.Layouts.{kinds_of_words}
+use Rattle.page_words.specs.Bodies.{Body, IsReference, kind_in}
+use Rattle.page_words.specs.Seat.{SeatView, holds}
+
+-- the body is of one of the types and has a word for each declared field, and each of its weak words is null or refers to a
+-- body
+pub record HasWeakReferences (types : List ObjectType) (bodies : List Body) (b : Body) : Type 0 where
+  pub typed : b.ty < length types
+  pub whole : field_words (kinds_of types b.ty) ≤ length b.fields
+  pub named : (i : ℕ) → kind_in types b i ≡ Weak → IsReference bodies (slice_index b.fields i)
+
+-- so does each marked body
+abbrev pub MarkedHaveWeakReferences : SeatView → Type 0
+MarkedHaveWeakReferences v =
+    (b : Body) → Contains v.bodies b → holds v.marked b.place ≡ true → HasWeakReferences v.types v.bodies b
+
+-- whether a reference names a body that is not marked
+abbrev pub names_unmarked : List ℕ → ℕ → Bool
+names_unmarked marked zero = false
+names_unmarked marked (suc place) = not (holds marked place)
+
+-- a weak word becomes null where it names a body that is not marked
+abbrev pub clear_weak : List ℕ → ℕ → ℕ
+clear_weak marked w = if names_unmarked marked w then 0 else w
+
+-- of the words of a field, by its kind, only a weak one's is cleared
+abbrev pub clear_word : List ℕ → Kind → ℕ → ℕ
+clear_word marked Weak w = clear_weak marked w
+clear_word marked Strong w = w
+clear_word marked Pair w = w
+clear_word marked Plain w = w
+
+-- the words of a body, where these are the kinds of the first of them; those after them are plain, and stay
+abbrev pub clear_words : List ℕ → List Kind → List ℕ → List ℕ
+clear_words marked [] words = words
+clear_words marked (kind ∷ kinds) [] = []
+clear_words marked (kind ∷ kinds) (w ∷ words) = clear_word marked kind w ∷ clear_words marked kinds words
+
+-- the weak words of a marked body are cleared, and a body that is not marked stays as it is
+abbrev pub clear_body : List ObjectType → List ℕ → Body → Body
+clear_body types marked b =
+    if holds marked b.place then record b { fields = clear_words marked (kinds_of_words (kinds_of types b.ty)) b.fields } else b
+
+-- each body was cleared, and nothing else changed
+abbrev pub with_weak_cleared : SeatView → SeatView
+with_weak_cleared v = record v { bodies = map (clear_body v.types v.marked) v.bodies }
