@@ -1,5 +1,5 @@
 -- The steps of the loops that mark.
-use Rattle.std.proofs.Common.{◌≡◌, ℕ, ◌+◌, ◌-◌, ◌<◌, ◌≤◌, Bool, true, List, [], ◌∷◌, ◌++◌, length, get_or, map, take, refl, sym, ap, ◌∙◌, subst, inl, inr, arith}
+use Rattle.std.proofs.Common.{◌≡◌, ℕ, ◌+◌, ◌-◌, ◌<◌, ◌≤◌, Bool, true, List, [], ◌∷◌, ◌++◌, length, get_or, map, take, sym, ap, ◌∙◌, subst, inl, inr, arith}
 use mathlib.Core.Logic.{◌⊎◌}
 use Rattle.std.specs.List.{Contains, range_with_len}
 use Rattle.std.proofs.lemmas.List.{take_more}
@@ -33,9 +33,6 @@ MarksOn-then a b c x y = record {
   bodies = y.bodies ∙ x.bodies;
   marked = λ p h. y.marked p (x.marked p h);
 }
-
-pub MarksOn-same : (a : SeatView) → MarksOn a a
-MarksOn-same a = record { count = refl; types = refl; on = refl; bodies = refl; marked = λ p h. h }
 
 -- the words stand for the same graph
 pub same_graph : (types : List ObjectType) (a b : SeatView) → MarksOn a b → graph_in types b ≡ graph_in types a

@@ -102,9 +102,6 @@ there_buried Live there = refl
 there_buried Dead there = refl
 there_buried Gone there = there
 
-pub there-finalise : (nodes : List Node) (n : ℕ) → IsThere (map bury nodes) n → IsThere nodes n
-there-finalise nodes n there = there_buried (node_at nodes n).life (sym (ap is_there (life-finalise nodes n)) ∙ there)
-
 -- ---- counts
 
 each_is_one : (l : Life) → cond (is_live l) 1 0 + cond (is_dead l) 1 0 ≡ cond (is_there l) 1 0
@@ -131,9 +128,6 @@ objects-judged (flag ∷ kept) (x ∷ nodes) =
     sum_by-cons (λ (n : Node). cond (is_there n.life) 1 0) (record x { life = judged flag x.life }) (condemn kept nodes)
     ∙ ap (λ b. cond b 1 0 + objects_of (condemn kept nodes)) (there_judged flag x.life) ∙ ap (λ n. cond (is_there x.life) 1 0 + n) (objects-judged kept nodes)
     ∙ sym (sum_by-cons (λ (n : Node). cond (is_there n.life) 1 0) x nodes)
-
-pub objects-condemn : (kept : List Bool) (nodes : List Node) → live_count (condemn kept nodes) + dead_count (condemn kept nodes) ≡ objects_of nodes
-objects-condemn kept nodes = live_and_dead (condemn kept nodes) ∙ objects-judged kept nodes
 
 -- the live nodes after a pause are the marked bodies, where no node was dead before
 live_flag : (mark : Bool) (l : Life) → (l ≡ Dead → ⊥) → is_live (judged (is_live l && mark) l) ≡ (is_there l && mark)

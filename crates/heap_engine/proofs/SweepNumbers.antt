@@ -3,7 +3,7 @@ use Rattle.std.proofs.Common.{◌≡◌, ℕ, ◌+◌, ◌*◌, ◌<◌, ◌≤�
 use Rattle.std.specs.List.{All, Contains}
 use Rattle.std.proofs.lemmas.Bool.{true≢false, cases_lt}
 use Rattle.std.proofs.lemmas.List.{map_push, length_push, get_or_push, get_or_append_left}
-use Rattle.std.proofs.lemmas.List.Elements.{All-push, All-weaker, All-nil, All-get_or, Contains-push, Contains-append_left}
+use Rattle.std.proofs.lemmas.List.Elements.{All-push, All-weaker, All-nil, Contains-push, Contains-append_left}
 use Rattle.page_words.specs.Bodies.{Body}
 use Rattle.page_words.specs.Seat.{SeatView, holds}
 use Rattle.heap_engine.specs.Sweeping.{AreDeadSerials, no_body}
@@ -61,7 +61,6 @@ ascends dead b a at below ascending i j before low =
           (subst (λ (c : Body). (get_or dead i no_body).place < c.place) (sym second) (ascending i j before early)))
       | inr last ↦
           (let second : get_or (dead ++ b ∷ []) j no_body ≡ b = get_or_push dead b no_body j (omega arith) in
-          let low : (get_or dead i no_body).place < a = All-get_or (λ (c : Body). c.place < a) dead i no_body (omega arith) below in
           omega (arith, ap (λ (c : Body). c.place) first, ap (λ (c : Body). c.place) second, at))
     ]
 

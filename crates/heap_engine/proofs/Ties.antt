@@ -15,9 +15,6 @@ use Rattle.heap_engine.proofs.KeptNodes.{slots_live}
 pub valid_nodes : (o : ObjectsView) (h : HandlesView) (c : CycleView) → IsReady o h c → AreOfValid (setup_of_objects o) o.nodes
 valid_nodes o h c ready = (state_of o h c, ready.valid, refl)
 
-pub nodes_few : (o : ObjectsView) (h : HandlesView) (c : CycleView) → IsReady o h c → length o.nodes ≤ 1000000
-nodes_few o h c ready = omega (arith, ready.tied.made, ready.most)
-
 -- ---- slots
 
 -- a slot holds the place of what it names

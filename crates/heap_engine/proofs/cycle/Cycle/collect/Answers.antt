@@ -26,50 +26,36 @@ pause_line-requires c = omega (arith, c.marked.ensures, c.judge.ensures.marked, 
 pub invariant_of-outcome : goal.invariant_of-outcome
 invariant_of-outcome c = c.end_sweep.ensures.many
 
+-- the collection in its parts
+collects : (c : goal.After-pause_line) → Collects c.args.objects.now c.end_sweep.new.objects c.judge.new.self c.args.handles.now
+    (record { phase = c.self.inside.phase; grey = c.self.inside.grey; rest = c.self.inside.rest.value }) c.end_sweep.new.self
+    (record { phase = Sweeping; grey = c.judge.new.grey; rest = c.collected.result.value }) c.end_sweep.new.finalised.items
+collects c = record {
+  before_rests = c.self.invariant;
+  rests = subst (λ (k : CycleView). IsAtRest k.phase k.grey k.rest) c.self-2.view_is c.self-2.invariant;
+  ends = c.end_sweep.ensures.swept;
+  ready = c.end_sweep.ensures.ready;
+  setup = c.end_sweep.ensures.setup;
+  same_setup = c.judge.ensures.setup;
+  judges = c.judge.ensures.judged;
+  judged = c.judge.ensures.marks;
+  phase = refl;
+  rest = c.collected.ensures;
+  ordinal = c.end_sweep.ensures.ordinal;
+}
+
 pub returns-clause-step : goal.returns-clause-step
 returns-clause-step c =
-    let before : CycleView = record { phase = c.self.inside.phase; grey = c.self.inside.grey; rest = c.self.inside.rest.value } in
-    let between : CycleView = c.end_sweep.new.self in
-    let after : CycleView = record { phase = Sweeping; grey = c.judge.new.grey; rest = c.collected.result.value } in
-    let is : Collects c.args.objects.now c.end_sweep.new.objects c.judge.new.self c.args.handles.now before between after c.end_sweep.new.finalised.items = record {
-      before_rests = c.self.invariant;
-      rests = subst (λ (k : CycleView). IsAtRest k.phase k.grey k.rest) c.self-2.view_is c.self-2.invariant;
-      ends = c.end_sweep.ensures.swept;
-      ready = c.end_sweep.ensures.ready;
-      setup = c.end_sweep.ensures.setup;
-      same_setup = c.judge.ensures.setup;
-      judges = c.judge.ensures.judged;
-      judged = c.judge.ensures.marks;
-      phase = refl;
-      rest = c.collected.ensures;
-      ordinal = c.end_sweep.ensures.ordinal;
-    } in
     let marked : c.marked.result ≡ live_count c.judge.new.self.nodes = c.marked.ensures ∙ c.judge.ensures.marked in
     let line : c.pause_line.result ≡ pause_line c.judge.new.self.nodes =
     c.pause_line.ensures
     ∙ ap (λ k. L.Pause c.marked.result (c.count-2.result - c.marked.result) 0 k false) (c.traced.ensures ∙ c.judge.ensures.traced ∙ sym c.marked.ensures)
     ∙ pause_counts c.judge.new.self.nodes c.count-2.result c.marked.result c.count-2.ensures marked in
     rw (← c.self.view_is)
-    (collection_steps c.args.objects.now c.end_sweep.new.objects c.judge.new.self c.args.handles.now before between after c.end_sweep.new.finalised.items
-    c.of_collection.result.value c.pause_line.result c.reach_is_least.ensures is c.of_collection.ensures line)
+    (collection_steps c.args.objects.now c.end_sweep.new.objects c.judge.new.self c.args.handles.now _ c.end_sweep.new.self _ c.end_sweep.new.finalised.items
+    c.of_collection.result.value c.pause_line.result c.reach_is_least.ensures (collects c) c.of_collection.ensures line)
 
 pub returns-clause-frame : goal.returns-clause-frame
 returns-clause-frame c =
-    let before : CycleView = record { phase = c.self.inside.phase; grey = c.self.inside.grey; rest = c.self.inside.rest.value } in
-    let between : CycleView = c.end_sweep.new.self in
-    let after : CycleView = record { phase = Sweeping; grey = c.judge.new.grey; rest = c.collected.result.value } in
-    let is : Collects c.args.objects.now c.end_sweep.new.objects c.judge.new.self c.args.handles.now before between after c.end_sweep.new.finalised.items = record {
-      before_rests = c.self.invariant;
-      rests = subst (λ (k : CycleView). IsAtRest k.phase k.grey k.rest) c.self-2.view_is c.self-2.invariant;
-      ends = c.end_sweep.ensures.swept;
-      ready = c.end_sweep.ensures.ready;
-      setup = c.end_sweep.ensures.setup;
-      same_setup = c.judge.ensures.setup;
-      judges = c.judge.ensures.judged;
-      judged = c.judge.ensures.marks;
-      phase = refl;
-      rest = c.collected.ensures;
-      ordinal = c.end_sweep.ensures.ordinal;
-    } in
     rw (← c.self.view_is)
-    (collection_frame c.args.objects.now c.end_sweep.new.objects c.judge.new.self c.args.handles.now before between after c.end_sweep.new.finalised.items is)
+    (collection_frame c.args.objects.now c.end_sweep.new.objects c.judge.new.self c.args.handles.now _ c.end_sweep.new.self _ c.end_sweep.new.finalised.items (collects c))

@@ -23,8 +23,7 @@ overflow_add-place c =
 
 pub load-reference-requires-clause-address : goal.load-reference-requires-clause-address
 load-reference-requires-clause-address c =
-    let has : HasStrong c.args.types.now c.args.seat.now c.args.place (get_or c.strong_words-strong.result.now c.loop-offset.offset-index 0) =
-    has_strong c.args.types.now c.args.seat.now c.args.place c.args.ty c.loop-offset.offset-index c.strong_words-strong.result.now c.bodies_lie_apart.ensures.whole
+    let has = has_strong c.args.types.now c.args.seat.now c.args.place c.args.ty c.loop-offset.offset-index c.strong_words-strong.result.now c.bodies_lie_apart.ensures.whole
     c.requires.references c.requires.body c.strong_words-strong.ensures c.loop-offset-test.true in
     omega (arith, has.address, c.loop-offset.invariant.kept.count)
 

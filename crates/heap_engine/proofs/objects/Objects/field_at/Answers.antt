@@ -10,32 +10,23 @@ header_at-header-requires-clause-start c =
 
 pub size_of-requires-clause-ty : goal.size_of-requires-clause-ty
 size_of-requires-clause-ty c =
-    let setup : Setup = record { shape = c.self.inside.space.shape; markers = 0; types = c.self.inside.types; callbacks = [] } in
-    let nodes : List Node = c.self.inside.nodes.value in
     let there = rw (← c.self.view_is) at c.requires.place in
-    let head : IsHead setup nodes there.0 c.header_at-header.result.size c.header_at-header.result.ty =
-    live_head setup nodes c.self.inside.seat there.0 c.args.place c.header_at-header.result (rw (← c.self.view_is) at c.requires.valid) c.self.invariant.held.bodies
-    there.1 c.header_at-header.ensures.header in
+    let head = live_head _ c.self.inside.nodes.value c.self.inside.seat there.0 c.args.place c.header_at-header.result (rw (← c.self.view_is) at c.requires.valid)
+    c.self.invariant.held.bodies there.1 c.header_at-header.ensures.header in
     head.known
 
 pub overflow_sub-extra : goal.overflow_sub-extra
 overflow_sub-extra c =
-    let setup : Setup = record { shape = c.self.inside.space.shape; markers = 0; types = c.self.inside.types; callbacks = [] } in
-    let nodes : List Node = c.self.inside.nodes.value in
     let there = rw (← c.self.view_is) at c.requires.place in
-    let head : IsHead setup nodes there.0 c.header_at-header.result.size c.header_at-header.result.ty =
-    live_head setup nodes c.self.inside.seat there.0 c.args.place c.header_at-header.result (rw (← c.self.view_is) at c.requires.valid) c.self.invariant.held.bodies
-    there.1 c.header_at-header.ensures.header in
+    let head = live_head _ c.self.inside.nodes.value c.self.inside.seat there.0 c.args.place c.header_at-header.result (rw (← c.self.view_is) at c.requires.valid)
+    c.self.invariant.held.bodies there.1 c.header_at-header.ensures.header in
     omega (arith, head.size_is, c.size_of.ensures.size)
 
 pub field_at-requires-clause-ty : goal.field_at-requires-clause-ty
 field_at-requires-clause-ty c =
-    let setup : Setup = record { shape = c.self.inside.space.shape; markers = 0; types = c.self.inside.types; callbacks = [] } in
-    let nodes : List Node = c.self.inside.nodes.value in
     let there = rw (← c.self.view_is) at c.requires.place in
-    let head : IsHead setup nodes there.0 c.header_at-header.result.size c.header_at-header.result.ty =
-    live_head setup nodes c.self.inside.seat there.0 c.args.place c.header_at-header.result (rw (← c.self.view_is) at c.requires.valid) c.self.invariant.held.bodies
-    there.1 c.header_at-header.ensures.header in
+    let head = live_head _ c.self.inside.nodes.value c.self.inside.seat there.0 c.args.place c.header_at-header.result (rw (← c.self.view_is) at c.requires.valid)
+    c.self.invariant.held.bodies there.1 c.header_at-header.ensures.header in
     head.known
 
 pub reference_field-requires : goal.reference_field-requires

@@ -20,25 +20,21 @@ returns-in-None-clause-target c =
     rw (← c.self.view_is) (λ n word is.
     sym (reads_null c.self.inside.nodes.value c.self.inside.seat n word c.args.a c.load-reference.result c.self.invariant.held.bodies is c.load-reference.ensures.word c.in-None.ensures))
 
+-- the place that was read lies in the heap
+place_inside : (c : goal.After-load-arg-in-Some-1) → c.load-reference.result < c.self.inside.seat.count
+place_inside c =
+    let is = rw (← c.self.view_is) at c.requires.word in
+    let read = reads_node c.self.inside.nodes.value c.self.inside.seat is.0 is.1 c.args.a c.load-reference.result c.self.invariant.held.bodies is.2
+    c.load-reference.ensures.word (λ null. omega (arith, null, c.in-Some.ensures)) in
+    head_address c.self.inside.nodes.value c.self.inside.seat is.0 is.1 c.load-reference.result read.0 c.bodies_lie_apart.ensures read.1
+
 pub overflow_add-place : goal.overflow_add-place
 overflow_add-place c =
-    let nodes : List Node = c.self.inside.nodes.value in
-    let v : SeatView = c.self.inside.seat in
-    let is = rw (← c.self.view_is) at c.requires.word in
-    let w : ℕ = c.load-reference.result in
-    let read = reads_node nodes v is.0 is.1 c.args.a w c.self.invariant.held.bodies is.2 c.load-reference.ensures.word (λ null. omega (arith, null, c.in-Some.ensures)) in
-    let low : w < v.count = head_address nodes v is.0 is.1 w read.0 c.bodies_lie_apart.ensures read.1 in
-    omega (arith, low, c.in-Some.ensures, c.bodies_lie_apart.ensures.count)
+    omega (arith, place_inside c, c.in-Some.ensures, c.bodies_lie_apart.ensures.count)
 
 pub load-number-requires-clause-address : goal.load-number-requires-clause-address
 load-number-requires-clause-address c =
-    let nodes : List Node = c.self.inside.nodes.value in
-    let v : SeatView = c.self.inside.seat in
-    let is = rw (← c.self.view_is) at c.requires.word in
-    let w : ℕ = c.load-reference.result in
-    let read = reads_node nodes v is.0 is.1 c.args.a w c.self.invariant.held.bodies is.2 c.load-reference.ensures.word (λ null. omega (arith, null, c.in-Some.ensures)) in
-    let low : w < v.count = head_address nodes v is.0 is.1 w read.0 c.bodies_lie_apart.ensures read.1 in
-    rw c.load-reference.ensures.view (omega (arith, low, c.in-Some.ensures))
+    rw c.load-reference.ensures.view (omega (arith, place_inside c, c.in-Some.ensures))
 
 pub overflow_cast-number : goal.overflow_cast-number
 overflow_cast-number c =
@@ -47,7 +43,6 @@ overflow_cast-number c =
     let is = rw (← c.self.view_is) at c.requires.word in
     let w : ℕ = c.load-reference.result in
     let read = reads_node nodes v is.0 is.1 c.args.a w c.self.invariant.held.bodies is.2 c.load-reference.ensures.word (λ null. omega (arith, null, c.in-Some.ensures)) in
-    let low : w < v.count = head_address nodes v is.0 is.1 w read.0 c.bodies_lie_apart.ensures read.1 in
     let number : c.load-number.result ≡ read.0 =
     head_number nodes v is.0 is.1 w read.0 (c.in-Some.place + 1) c.load-number.result read.1 (sym c.in-Some.ensures)
     (subst (λ (u : SeatView). IsWordAt u (c.in-Some.place + 1) c.load-number.result) c.load-reference.ensures.view c.load-number.ensures.word) in
@@ -59,7 +54,6 @@ returns-in-Some-clause-target c = rw (← c.self.view_is) (λ n word is.
     let v : SeatView = c.self.inside.seat in
     let w : ℕ = c.load-reference.result in
     let read = reads_node nodes v n word c.args.a w c.self.invariant.held.bodies is c.load-reference.ensures.word (λ null. omega (arith, null, c.in-Some.ensures)) in
-    let low : w < v.count = head_address nodes v n word w read.0 c.bodies_lie_apart.ensures read.1 in
     let number : c.load-number.result ≡ read.0 =
     head_number nodes v n word w read.0 (c.in-Some.place + 1) c.load-number.result read.1 (sym c.in-Some.ensures)
     (subst (λ (u : SeatView). IsWordAt u (c.in-Some.place + 1) c.load-number.result) c.load-reference.ensures.view c.load-number.ensures.word) in
