@@ -37,8 +37,9 @@ pub fn run<S: Source, K: Sink>(
     kept: &mut Option<Heap>,
 ) -> Status
     requires { kept.old ≡ None }
-    ensures done { result ≡ Status.Done → MatchOption kept.new ⊥ (λ heap. IsDone (map string_bytes words.now)
-        (S.left source.old) (S.left source.new) (K.written sink.old) (K.written sink.new) heap) }
+    ensures done { result ≡ Status.Done → MatchOption kept.new ⊥ (λ heap. IsDone
+        (map string_bytes words.now) (S.left source.old) (S.left source.new)
+        (K.written sink.old) (K.written sink.new) heap) }
     ensures stopped { result ≡ Status.WriteFault → IsStopped (map string_bytes words.now)
         (S.left source.old) (S.left source.new) (K.written sink.old) (K.written sink.new) }
     ensures too_long { result ≡ Status.TooLong →
