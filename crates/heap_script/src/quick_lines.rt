@@ -1,7 +1,7 @@
 // The most frequent lines, read without the table of forms. They are a part of what `read_command`
 // reads, and only quicker.
 
-ghost use Rattle.std.specs.Prelude.{ℕ, ◌-◌, ◌<◌, ◌≤◌, ◌∷◌, length, take, drop, codes, IfSome};
+ghost use Rattle.std.specs.Prelude.{◌≡◌, ◌-◌, ◌<◌, ◌≤◌, ◌∷◌, length, take, drop, codes, Ok, IfSome};
 ghost use Rattle.heap_script.specs.Cursor.{line_words};
 ghost use Rattle.heap_script.specs.CommandLines.{IsCommandLine};
 ghost use Rattle.heap_script.specs.QuickLines.{IsSmall};
@@ -103,17 +103,26 @@ fn quick_new(bytes: &[u8], from: usize, bounds: Bounds) -> Option<CommandLine>
     let p = next_small(bytes, from, 256)?;
     let t = next_small(bytes, p.end, bounds.types)?;
     let (start, end) = next_word(bytes, t.end);
+    if start == end {
+        return Some(new_line(p.value, t.value, 0, end));
+    }
+    let e = next_small(bytes, t.end, 33_554_433)?;
+    let (start, end) = next_word(bytes, e.end);
     if start < end {
         return None;
     }
-    Some(CommandLine {
-        said: Ok(Command::New {
-            p: p.value,
-            t: t.value,
-            e: 0,
-        }),
+    Some(new_line(p.value, t.value, e.value, end))
+}
+
+#[inline(always)]
+fn new_line(p: u32, t: u32, e: u32, end: usize) -> CommandLine
+    ensures said { result.said ≡ Ok (Command.New p t e) }
+    ensures end { result.end ≡ end }
+{
+    CommandLine {
+        said: Ok(Command::New { p, t, e }),
         end,
-    })
+    }
 }
 
 fn quick_drop(bytes: &[u8], from: usize, bounds: Bounds) -> Option<CommandLine>
