@@ -16,9 +16,9 @@ use Rattle.gc_graph.specs.State.{ObjectType}
 -- the kinds of fields that objects have
 abbrev pub is_built_kind : Kind → Bool
 is_built_kind Strong = true
-is_built_kind Weak = false
+is_built_kind Weak = true
 is_built_kind Pair = false
-is_built_kind Plain = false
+is_built_kind Plain = true
 
 -- only fields of such kinds, and no prefinalizers
 abbrev pub is_built_type : ObjectType → Bool
@@ -31,25 +31,25 @@ abbrev pub is_precise : Want → Bool
 is_precise Precise = true
 is_precise Conservative = false
 
--- objects, their fields, strong slots, whole collections and totals
+-- objects, their fields but for pairs, slots, whole collections and totals
 abbrev pub is_built : Command → Bool
 is_built (C.New p t e) = true
 is_built (C.Set p f q) = true
 is_built (C.SetNull p f) = true
 is_built (C.Get p f q) = true
+is_built (C.Put p f n) = true
+is_built (C.Word p f) = true
+is_built (C.Copy p q) = true
 is_built (C.Drop p) = true
+is_built (C.Weak w p) = true
+is_built (C.Read w p) = true
 is_built (C.GcNow want) = is_precise want
 is_built C.SweepAll = true
 is_built C.Stat = true
 is_built (C.Pair p f k v) = false
 is_built (C.PairNull p f) = false
-is_built (C.Put p f n) = false
-is_built (C.Word p f) = false
 is_built (C.Key p f q) = false
 is_built (C.Val p f q) = false
-is_built (C.Copy p q) = false
-is_built (C.Weak w p) = false
-is_built (C.Read w p) = false
 is_built (C.Push p o) = false
 is_built (C.PushPlain n) = false
 is_built C.Pop = false

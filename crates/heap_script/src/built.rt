@@ -15,7 +15,12 @@ pub(crate) fn is_built(command: &Command) -> bool
         | Command::Set { .. }
         | Command::SetNull { .. }
         | Command::Get { .. }
+        | Command::Put { .. }
+        | Command::Word { .. }
+        | Command::Copy { .. }
         | Command::Drop { .. }
+        | Command::Weak { .. }
+        | Command::Read { .. }
         | Command::SweepAll
         | Command::Stat => true,
         Command::GcNow { want } => matches!(want, Want::Precise),
@@ -38,5 +43,5 @@ fn are_built_kinds(kinds: &[Kind]) -> bool
 fn is_built_kind(kind: Kind) -> bool
     ensures { result ≡ spec.is_built_kind kind }
 {
-    matches!(kind, Kind::Strong)
+    matches!(kind, Kind::Strong | Kind::Weak | Kind::Plain)
 }
