@@ -5,6 +5,7 @@ mod Headers
 mod Remarked
 pub mod Marks
 pub mod Filled
+pub mod Pairs
 pub mod WordKinds
 pub mod Stored
 pub mod Stopped

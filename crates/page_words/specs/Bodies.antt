@@ -1,12 +1,12 @@
 -- The objects of a heap, as the words of each tell them.
-use Rattle.std.specs.Prelude.{◌≡◌, ◌⊎◌, ℕ, ◌+◌, ◌<◌, ◌≤◌, List, length, if◌then◌else◌, ◌&&◌, nat_le, nat_lt, ◌-◌, ◌^◌, slice_set, Contains}
+use Rattle.std.specs.Prelude.{◌≡◌, ◌⊎◌, ◌↔◌, ℕ, ◌+◌, ◌<◌, ◌≤◌, List, length, if◌then◌else◌, ◌&&◌, nat_le, nat_lt, ◌-◌, ◌^◌, slice_set, slice_index, Contains}
 use Rattle.std.specs.Prelude.{Bool, false, not, slice_index_or}
 use Rattle.gc_graph.specs.declared.kind.Kind.{Kind}
-use Rattle.gc_graph.specs.declared.kind.Kind.TheVariants.{Plain}
+use Rattle.gc_graph.specs.declared.kind.Kind.TheVariants.{Pair, Plain}
 use Rattle.gc_graph.specs.State.{ObjectType}
 use Rattle.gc_graph.specs.Fields.{is_plain}
 use Rattle.object_headers.specs.Offsets.{first_field, reference_to}
-use Rattle.type_table.specs.Types.{kinds_of}
+use Rattle.type_table.specs.Types.{kinds_of, offsets_of_kind}
 use Rattle.type_table.specs.Layouts.{kinds_of_words}
 
 -- a body: the address of its header, its type, its size in words, its serial number, and its field words
@@ -54,9 +54,20 @@ abbrev pub IsPlainWord : List ObjectType → List Body → ℕ → Type 0
 IsPlainWord types bodies a =
     (b : Body) × Contains bodies b × (fields_at b ≤ a) × (a < end_of b) × (is_reference_word types b (a - fields_at b) ≡ false)
 
--- w may be stored at a: a plain word takes any number, and any other a reference
-abbrev pub MayHold : List ObjectType → List Body → ℕ → ℕ → Type 0
-MayHold types bodies a w = IsPlainWord types bodies a ⊎ IsReference bodies w
+-- the body's field word with the number i is the key of a pair; the pair's value is in the word after it
+abbrev pub IsKeyWord : List ObjectType → Body → ℕ → Type 0
+IsKeyWord types b i = Contains (offsets_of_kind Pair (kinds_of types b.ty)) (i + first_field)
+
+-- where the word at a is the key of a pair, w is null exactly where the pair's value is: so the value is stored first
+abbrev pub SuitsItsPair : List ObjectType → List Body → ℕ → ℕ → Type 0
+SuitsItsPair types bodies a w =
+    (b : Body) → Contains bodies b → fields_at b ≤ a → a < end_of b → IsKeyWord types b (a - fields_at b)
+    → (w ≡ 0) ↔ (slice_index b.fields (a - fields_at b + 1) ≡ 0)
+
+-- w may be stored at a: a plain word takes any number, and any other a reference; a pair is whole once its key is stored
+pub record MayHold (types : List ObjectType) (bodies : List Body) (a w : ℕ) : Type 0 where
+  pub kind : IsPlainWord types bodies a ⊎ IsReference bodies w
+  pub pair : SuitsItsPair types bodies a w
 
 -- the body with w in its field word at a, where it has that word
 abbrev pub with_word : ℕ → ℕ → Body → Body

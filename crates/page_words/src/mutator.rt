@@ -1,12 +1,15 @@
 // The mutator's seat: the words, and the view of them that contracts see.
 
-ghost use Rattle.std.specs.Prelude.{◌≡◌, ℕ, ◌+◌, ◌<◌, true, false, length, Contains};
+ghost use Rattle.std.specs.Prelude.{◌≡◌, ℕ, ◌+◌, ◌<◌, ◌↔◌, true, false, length, slice_index, Contains};
+ghost use Rattle.gc_graph.specs.declared.kind.Kind.TheVariants.{Pair};
 ghost use Rattle.page_words.specs.Bodies.{Body, IsReference, MayHold, fields_at, is_reference_word};
+ghost use Rattle.page_words.specs.Bodies.{IsKeyWord, SuitsItsPair, kind_in};
 ghost use Rattle.page_words.specs.Seat.{IsView};
 
 use crate::views::SeatViews;
 use ghost_values::GhostValue;
 use std::marker::Model;
+use type_table::fields_stand_apart;
 
 /// The right of the one mutator to read and write the words. It stays on the mutator's thread.
 /// `load` may come at any time; the other calls come in this order:
@@ -60,6 +63,27 @@ impl MutatorSeat {
             → MayHold self.now.types self.now.bodies (fields_at b + i) w
             → IsReference self.now.bodies w }
     {
+        fields_stand_apart();
+        let _words = &self.words;
+    }
+
+    /// What may be stored for the sake of a word's pair: anything where the word belongs to no pair
+    /// or is the value of one, and a key that is null exactly where the value is. So a value is
+    /// stored before its key. Whoever calls this has the law. It reads nothing.
+    pub fn values_come_before_keys(&self)
+        ensures other { (b : Body) (i w : ℕ) → Contains self.now.bodies b → i < length b.fields
+            → (kind_in self.now.types b i ≡ Pair → ⊥)
+            → SuitsItsPair self.now.types self.now.bodies (fields_at b + i) w }
+        ensures value { (b : Body) (i w : ℕ) → Contains self.now.bodies b
+            → i + 1 < length b.fields → IsKeyWord self.now.types b i
+            → SuitsItsPair self.now.types self.now.bodies (fields_at b + (i + 1)) w }
+        ensures key { (b : Body) (i w : ℕ) → Contains self.now.bodies b
+            → i + 1 < length b.fields → (w ≡ 0) ↔ (slice_index b.fields (i + 1) ≡ 0)
+            → SuitsItsPair self.now.types self.now.bodies (fields_at b + i) w }
+        ensures kind { (b : Body) (i : ℕ) → IsKeyWord self.now.types b i
+            → (kind_in self.now.types b i ≡ Pair) × (kind_in self.now.types b (i + 1) ≡ Pair) }
+    {
+        fields_stand_apart();
         let _words = &self.words;
     }
 }

@@ -1,3 +1,4 @@
 pub mod Offsets
 pub mod WordKinds
 pub mod Unknown
+pub mod FieldsApart

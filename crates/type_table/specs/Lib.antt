@@ -1,3 +1,4 @@
 pub mod Types
 pub mod Layouts
 pub mod Faults
+pub mod FieldLaw

@@ -21,6 +21,7 @@
 
 mod decl;
 mod faults;
+mod laws;
 mod layout;
 mod table;
 #[cfg(test)]
@@ -28,4 +29,5 @@ mod tests;
 
 pub use decl::TypeDecl;
 pub use faults::TypeFault;
+pub use laws::fields_stand_apart;
 pub use table::TypeTable;
