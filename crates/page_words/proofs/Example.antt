@@ -1,15 +1,27 @@
 -- A heap of 256 words and one type with a strong field, in which two bodies are filled and published.
-use Rattle.std.proofs.Common.{◌≡◌, ℕ, ◌+◌, ◌<◌, ◌≤◌, List, [], ◌∷◌, refl, sym, ap, ◌∙◌, subst, inl, inr, arith, Contains}
+use Rattle.std.proofs.Common.{◌≡◌, ℕ, zero, suc, ◌+◌, ◌<◌, ◌≤◌, List, [], ◌∷◌, length, refl, sym, ap, ◌∙◌, subst, inl, inr, arith, Contains}
 use Rattle.std.proofs.lemmas.Bool.{cases_eq}
 use Rattle.std.proofs.lemmas.List.{get_or-replicate}
 use Rattle.gc_graph.specs.State.{ObjectType}
 use Rattle.gc_graph.specs.Fields.{strong_type}
-use Rattle.page_words.specs.Bodies.{Body, end_of, IsPlace, IsInBody}
+use Rattle.gc_graph.specs.declared.kind.Kind.TheVariants.{Pair}
+use Rattle.type_table.specs.Types.{kinds_of, offsets_of_kind}
+use Rattle.page_words.specs.Bodies.{Body, end_of, IsPlace, IsInBody, SuitsItsPair}
 use Rattle.page_words.specs.Seat.{SeatView, IsReady, empty_view, filled_with, published, stored}
 use Rattle.page_words.proofs.Members.{head_or_tail}
 
 abbrev pub types : List ObjectType
 types = strong_type 1 ∷ []
+
+-- no word of an object of these types is the key of a pair
+pub no_keys : (t : ℕ) → offsets_of_kind Pair (kinds_of types t) ≡ []
+no_keys zero = refl
+no_keys (suc t) = refl
+
+pub suits_no_pair : (bodies : List Body) (a w : ℕ) → SuitsItsPair types bodies a w
+suits_no_pair bodies a w b there from until key =
+    let none : key.0 < 0 = subst (λ (offsets : List ℕ). key.0 < length offsets) (no_keys b.ty) key.1 in
+    absurd (omega (arith, none))
 
 abbrev pub first_body : Body
 first_body = record { place = 66; ty = 0; size = 3; serial = 7; fields = 0 ∷ [] }

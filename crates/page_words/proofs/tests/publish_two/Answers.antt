@@ -1,7 +1,7 @@
 use Rattle.std.proofs.Common.{rules, ◌≡◌, ap, refl, sym, subst, ◌∙◌, inl, inr, arith}
 use Rattle.page_words.specs.Bodies.{IsFieldWord, MayHold}
 use Rattle.page_words.specs.Seat.{SeatView, IsReady, stored, published}
-use Rattle.page_words.proofs.Example.{first_body, second_body, both_published, first_ready, second_ready, first_chain, second_chain}
+use Rattle.page_words.proofs.Example.{first_body, second_body, both_published, suits_no_pair, first_ready, second_ready, first_chain, second_chain}
 use Rattle.page_words.proofs.tests.publish_two.Goals as goal
 
 pub publish-requires : goal.publish-requires
@@ -27,7 +27,8 @@ store-requires-clause-word c =
     let first = first_chain c.requires.empty c.fill.ensures c.fill-2.ensures c.fill-3.ensures in
     let second = second_chain first c.publish.ensures c.fill-4.ensures c.fill-5.ensures c.fill-6.ensures c.fill-7.ensures in
     let now : c.publish-2.new.seat ≡ both_published = c.publish-2.ensures ∙ ap (λ (v : SeatView). published v second_body) second in
-    subst (λ (v : SeatView). MayHold v.types v.bodies 68 71) (sym now) (inr (inr (second_body, (1, omega arith, refl), refl)))
+    subst (λ (v : SeatView). MayHold v.types v.bodies 68 71) (sym now)
+    (record { kind = inr (inr (second_body, (1, omega arith, refl), refl)); pair = suits_no_pair both_published.bodies 68 71 })
 
 pub store-requires-2-clause-field : goal.store-requires-2-clause-field
 store-requires-2-clause-field c =
@@ -41,7 +42,10 @@ store-requires-2-clause-word c =
     let first = first_chain c.requires.empty c.fill.ensures c.fill-2.ensures c.fill-3.ensures in
     let second = second_chain first c.publish.ensures c.fill-4.ensures c.fill-5.ensures c.fill-6.ensures c.fill-7.ensures in
     let now : c.store.new.seat ≡ stored both_published 68 71 = c.store.ensures ∙ ap (λ (v : SeatView). stored v 68 71) (c.publish-2.ensures ∙ ap (λ (v : SeatView). published v second_body) second) in
-    subst (λ (v : SeatView). MayHold v.types v.bodies 73 9) (sym now) (inl (second_body, (1, omega arith, refl), omega arith, omega arith, refl))
+    subst (λ (v : SeatView). MayHold v.types v.bodies 73 9) (sym now) (record {
+      kind = inl (second_body, (1, omega arith, refl), omega arith, omega arith, refl);
+      pair = suits_no_pair (stored both_published 68 71).bodies 73 9;
+    })
 
 pub returns : goal.returns
 returns c =
