@@ -1,2 +1,3 @@
 pub mod Offsets
 pub mod Writes
+pub mod PairWords

@@ -57,7 +57,7 @@ each_after P v holder word w each c there =
     All-contains P (map (with_word_in holder word w) v.bodies) c
     (All-map P (with_word_in holder word w) v.bodies (λ k d l. each (get_or v.bodies k d) (Contains-get_or v.bodies k d l))) there
 
-by_place : (P : Body → Type 0) (holder word w : ℕ) (b : Body) → (b.place ≡ holder → P (record b { fields = set b.fields (word - 2) w }))
+pub by_place : (P : Body → Type 0) (holder word w : ℕ) (b : Body) → (b.place ≡ holder → P (record b { fields = set b.fields (word - 2) w }))
     → ((b.place ≡ holder → ⊥) → P b) → P (with_word_in holder word w b)
 by_place P holder word w b on off =
     cond_both (eqb b.place holder) (record b { fields = set b.fields (word - 2) w }) b P

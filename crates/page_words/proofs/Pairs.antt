@@ -1,5 +1,5 @@
 -- The words of pairs: no word is the key of one and the value of another.
-use Rattle.std.proofs.Common.{◌≡◌, ℕ, ◌+◌, ◌-◌, ◌<◌, Bool, true, List, length, get_or, refl, sym, ap, ◌∙◌, subst, arith, Contains}
+use Rattle.std.proofs.Common.{◌≡◌, ℕ, ◌+◌, ◌-◌, ◌<◌, true, List, length, get_or, refl, sym, ap, ◌∙◌, subst, arith, Contains}
 use Rattle.std.specs.Prelude.{◌↔◌}
 use Rattle.std.proofs.lemmas.Bool.{true≢false}
 use Rattle.gc_graph.specs.declared.kind.Kind.{Kind}
@@ -10,7 +10,7 @@ use Rattle.type_table.specs.Layouts.{kinds_of_words}
 use Rattle.type_table.specs.FieldLaw.{BeginsAt, FieldsStandApart}
 use Rattle.page_words.specs.Bodies.{Body, IsKeyWord, SuitsItsPair, kind_in, fields_at}
 use Rattle.page_words.specs.Seat.{SeatView, IsView}
-use Rattle.page_words.proofs.Places.{whole_body, same_body, same_offset}
+use Rattle.page_words.proofs.Places.{whole_body}
 
 is_pair_kind : (kind : Kind) → is_kind Pair kind ≡ true → kind ≡ Pair
 is_pair_kind Pair is = refl

@@ -1,0 +1,128 @@
+-- The two words of a pair.
+use Rattle.std.proofs.Common.{◌≡◌, ℕ, ◌+◌, ◌-◌, ◌<◌, length, get_or, refl, sym, ap, ◌∙◌, subst, inl, inr, arith, Contains, Fits, w32}
+use mathlib.Core.Logic.{◌⊎◌}
+use Rattle.std.specs.Prelude.{◌↔◌}
+use Rattle.std.proofs.lemmas.List.{get_or-map, length-map}
+use Rattle.gc_graph.specs.declared.kind.Kind.TheVariants.{Pair}
+use Rattle.object_headers.specs.Offsets.{reference_to}
+use Rattle.type_table.specs.Types.{is_kind}
+use Rattle.page_words.specs.Bodies.{Body, IsReference, IsPlainWord, IsKeyWord, SuitsItsPair, MayHold, kind_in, fields_at}
+use Rattle.page_words.specs.Seat.{SeatView, IsView}
+use Rattle.member_fields.specs.Words.{HasWord, HasLoneWord, HasPair, IsWordIn, with_word_in, written}
+use Rattle.member_fields.proofs.Offsets.{whole_body, one_holder}
+use Rattle.member_fields.proofs.Writes.{by_place}
+
+-- both words of each pair are of the kind of pairs
+abbrev pub KindsOfPairs : SeatView → Type 0
+KindsOfPairs v = (b : Body) (i : ℕ) → IsKeyWord v.types b i → (kind_in v.types b i ≡ Pair) × (kind_in v.types b (i + 1) ≡ Pair)
+
+pub key_word : (v : SeatView) (holder word : ℕ) → KindsOfPairs v → HasPair v holder word → HasWord (is_kind Pair) v holder word
+key_word v holder word kinds has = record {
+  body = has.body;
+  there = has.there;
+  place = has.place;
+  first = has.first;
+  last = omega (arith, has.last);
+  kind = ap (is_kind Pair) (kinds has.body (word - 2) has.key).0;
+}
+
+pub value_word : (v : SeatView) (holder word : ℕ) → KindsOfPairs v → HasPair v holder word → HasWord (is_kind Pair) v holder (word + 1)
+value_word v holder word kinds has =
+    let next : word - 2 + 1 ≡ word + 1 - 2 = omega (arith, has.first) in
+    record {
+      body = has.body;
+      there = has.there;
+      place = has.place;
+      first = omega (arith, has.first);
+      last = has.last;
+      kind = ap (λ i. is_kind Pair (kind_in v.types has.body i)) (sym next) ∙ ap (is_kind Pair) (kinds has.body (word - 2) has.key).1;
+    }
+
+pub next_fits : (v : SeatView) (holder word : ℕ) → IsView v → HasPair v holder word → Fits w32 (word + 1)
+next_fits v holder word is has = let whole = whole_body v is has.body has.there in omega (arith, has.last, whole.size)
+
+-- what the address of a word may hold, for the sake of its pair
+abbrev pub SuitsAt : SeatView → Body → ℕ → ℕ → Type 0
+SuitsAt v b i w = SuitsItsPair v.types v.bodies (fields_at b + i) w
+
+pub holds_value : (v : SeatView) (holder word value : ℕ) → IsView v → (has : HasPair v holder word)
+    → ((b : Body) (i w : ℕ) → Contains v.bodies b → i + 1 < length b.fields → IsKeyWord v.types b i → SuitsAt v b (i + 1) w)
+    → IsReference v.bodies value → MayHold v.types v.bodies (holder + (word + 1)) value
+holds_value v holder word value is has suits reference =
+    let whole = whole_body v is has.body has.there in
+    let at : fields_at has.body + (word - 2 + 1) ≡ holder + (word + 1) = omega (arith, has.place, has.first) in
+    record {
+      kind = inr reference;
+      pair = subst (λ a. SuitsItsPair v.types v.bodies a value) at
+          (suits has.body (word - 2) value has.there (omega (arith, has.first, has.last, whole.fields)) has.key);
+    }
+
+pub holds_lone : (v : SeatView) (holder word w : ℕ) → IsView v → HasLoneWord v holder word
+    → ((b : Body) (i w : ℕ) → Contains v.bodies b → i < length b.fields → (kind_in v.types b i ≡ Pair → ⊥) → SuitsAt v b i w)
+    → IsPlainWord v.types v.bodies (holder + word) ⊎ IsReference v.bodies w → MayHold v.types v.bodies (holder + word) w
+holds_lone v holder word w is (is_so, apart, has) suits kind =
+    let whole = whole_body v is has.body has.there in
+    let at : fields_at has.body + (word - 2) ≡ holder + word = omega (arith, has.place, has.first) in
+    record {
+      kind = kind;
+      pair = subst (λ a. SuitsItsPair v.types v.bodies a w) at
+          (suits has.body (word - 2) w has.there (omega (arith, has.first, has.last, whole.fields)) (λ pair. apart (ap is_so (sym pair) ∙ has.kind)));
+    }
+
+-- the value of the pair, as the words tell it
+pub told_value : (v : SeatView) (holder word : ℕ) → IsView v → (has : HasPair v holder word)
+    → IsWordIn v holder (word + 1) (get_or has.body.fields (word - 2 + 1) 0)
+told_value v holder word is has b there place =
+    let same : has.body ≡ b = one_holder v has.body b is has.there there (has.place ∙ sym place) in
+    let next : word - 2 + 1 ≡ word + 1 - 2 = omega (arith, has.first) in
+    ap (λ (c : Body). get_or c.fields (word - 2 + 1) 0) same ∙ ap (λ i. get_or b.fields i 0) next
+
+pub holds_key : (v : SeatView) (holder word key : ℕ) → IsView v → (has : HasPair v holder word)
+    → ((b : Body) (i w : ℕ) → Contains v.bodies b → i + 1 < length b.fields → (w ≡ 0) ↔ (get_or b.fields (i + 1) 0 ≡ 0) → SuitsAt v b i w)
+    → IsReference v.bodies key → ((value : ℕ) → IsWordIn v holder (word + 1) value → (key ≡ 0) ↔ (value ≡ 0))
+    → MayHold v.types v.bodies (holder + word) key
+holds_key v holder word key is has suits reference both =
+    let whole = whole_body v is has.body has.there in
+    let at : fields_at has.body + (word - 2) ≡ holder + word = omega (arith, has.place, has.first) in
+    record {
+      kind = inr reference;
+      pair = subst (λ a. SuitsItsPair v.types v.bodies a key) at
+          (suits has.body (word - 2) key has.there (omega (arith, has.first, has.last, whole.fields))
+          (both (get_or has.body.fields (word - 2 + 1) 0) (told_value v holder word is has)));
+    }
+
+-- a write leaves the pairs
+pub pair_kept : (v : SeatView) (holder word place offset w : ℕ) → HasPair v holder word → HasPair (written v place offset w) holder word
+pair_kept v holder word place offset w has =
+    let b : Body = has.body in
+    record {
+      body = with_word_in place offset w b;
+      there = (
+        has.there.0,
+        omega (arith, has.there.1, length-map v.bodies (with_word_in place offset w)),
+        get_or-map (with_word_in place offset w) v.bodies has.there.0 b (with_word_in place offset w b) has.there.1 ∙ ap (with_word_in place offset w) has.there.2,
+      );
+      place = by_place (λ c. c.place ≡ holder) place offset w b (λ _. has.place) (λ _. has.place);
+      first = has.first;
+      last = by_place (λ c. word + 1 < c.size) place offset w b (λ _. has.last) (λ _. has.last);
+      key = by_place (λ c. IsKeyWord v.types c (word - 2)) place offset w b (λ _. has.key) (λ _. has.key);
+    }
+
+pub reference_kept : (v : SeatView) (place offset w reference : ℕ) → IsReference v.bodies reference → IsReference (written v place offset w).bodies reference
+reference_kept v place offset w reference (inl null) = inl null
+reference_kept v place offset w reference (inr (b, there, at)) = inr (
+  with_word_in place offset w b,
+  (
+    there.0,
+    omega (arith, there.1, length-map v.bodies (with_word_in place offset w)),
+    get_or-map (with_word_in place offset w) v.bodies there.0 b (with_word_in place offset w b) there.1 ∙ ap (with_word_in place offset w) there.2,
+  ),
+  at ∙ ap reference_to (by_place (λ c. b.place ≡ c.place) place offset w b (λ _. refl) (λ _. refl)),
+)
+
+-- the value that was written is the one that is told
+pub one_value : (v : SeatView) (holder word key value told : ℕ) → HasPair v holder word → IsWordIn v holder (word + 1) value → IsWordIn v holder (word + 1) told
+    → (key ≡ 0) ↔ (value ≡ 0) → (key ≡ 0) ↔ (told ≡ 0)
+one_value v holder word key value told has is also both =
+    let same : value ≡ told = is has.body has.there has.place ∙ sym (also has.body has.there has.place) in
+    subst (λ w. (key ≡ 0) ↔ (w ≡ 0)) same both
