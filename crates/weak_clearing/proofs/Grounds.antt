@@ -4,11 +4,12 @@ use Rattle.std.specs.List.{Contains}
 use Rattle.std.proofs.lemmas.Bool.{cond_both, cases_eq, cases_lt}
 use Rattle.std.proofs.lemmas.List.{get_or-set_same, get_or-set_other, length-set, get_or_past, get_or-replicate, length-replicate}
 use Rattle.std.proofs.lemmas.List.Elements.{Contains-append_left, Contains-push_cases}
+use Rattle.gc_graph.specs.declared.kind.Kind.TheVariants.{Pair}
 use Rattle.gc_graph.specs.State.{ObjectType}
 use Rattle.gc_graph.specs.Fields.{field_words}
 use Rattle.object_headers.specs.Offsets.{reference_to}
-use Rattle.type_table.specs.Types.{kinds_of}
-use Rattle.page_words.specs.Bodies.{Body, IsReference, with_word}
+use Rattle.type_table.specs.Types.{kinds_of, offsets_of_kind}
+use Rattle.page_words.specs.Bodies.{Body, IsReference, SuitsItsPair, with_word}
 use Rattle.page_words.specs.Seat.{SeatView, stored, marked_at}
 use Rattle.gc_graph.specs.Placement.{Extent}
 use Rattle.page_space.specs.Space.{SpaceView, IsSpaceOf, extent_of, extents_of_bodies}
@@ -100,12 +101,23 @@ all_have_cleared v have b there =
 
 -- ---- what is true of the ground
 
+-- no type has a pair
+abbrev pub ArePairless : List ObjectType → Type 0
+ArePairless types = (t : ℕ) → offsets_of_kind Pair (kinds_of types t) ≡ []
+
+-- anything may be stored then, for the sake of pairs
+pub suits_no_pair : (v : SeatView) (types : List ObjectType) (a w : ℕ) → types ≡ v.types → ArePairless types → SuitsItsPair v.types v.bodies a w
+suits_no_pair v types a w known none b there from until key =
+    let few : key.0 < length (offsets_of_kind Pair (kinds_of types b.ty)) =
+    subst (λ (ts : List ObjectType). key.0 < length (offsets_of_kind Pair (kinds_of ts b.ty))) (sym known) key.1 in
+    absurd (omega (arith, subst (λ (offsets : List ℕ). key.0 < length offsets) (none b.ty) few))
+
 abbrev pub IsGround : SpaceView → SeatView → List ObjectType → Type 0
-IsGround space v types = IsSpaceOf space v × (types ≡ v.types) × (v.on ≡ true) × AllHave v
+IsGround space v types = IsSpaceOf space v × (types ≡ v.types) × (v.on ≡ true) × AllHave v × ArePairless types
 
 pub ground_stored : (space : SpaceView) (v : SeatView) (types : List ObjectType) (a w : ℕ)
     → ((x : SeatView) (b y : ℕ) → IsSpaceOf space x → IsSpaceOf space (stored x b y)) → IsReference v.bodies w → IsGround space v types → IsGround space (stored v a w) types
-ground_stored space v types a w lasts new (is, known, on, have) = (lasts v a w is, known, on, all_have_stored a w v new have)
+ground_stored space v types a w lasts new (is, known, on, have, none) = (lasts v a w is, known, on, all_have_stored a w v new have, none)
 
 same_extents : (f : Body → Body) (bodies : List Body) → ((b : Body) → IsLessened b (f b)) → extents_of_bodies (map f bodies) ≡ extents_of_bodies bodies
 same_extents f [] less = refl
@@ -117,15 +129,15 @@ same_extents f (b ∷ bodies) less =
 pub ground_cleared : (space : SpaceView) (v : SeatView) (types : List ObjectType)
     → ((old new : SeatView) → new.count ≡ old.count → extents_of_bodies new.bodies ≡ extents_of_bodies old.bodies → IsSpaceOf space old → IsSpaceOf space new)
     → IsGround space v types → IsGround space (with_weak_cleared v) types
-ground_cleared space v types lasts (is, known, on, have) =
-    (lasts v (with_weak_cleared v) refl (same_extents (clear_body v.types v.marked) v.bodies (body_lessened v.types v.marked)) is, known, on, all_have_cleared v have)
+ground_cleared space v types lasts (is, known, on, have, none) =
+    (lasts v (with_weak_cleared v) refl (same_extents (clear_body v.types v.marked) v.bodies (body_lessened v.types v.marked)) is, known, on, all_have_cleared v have, none)
 
 pub ground_marked : (space : SpaceView) (v : SeatView) (types : List ObjectType) (a : ℕ) → IsGround space v types → IsGround space (marked_at v a) types
 ground_marked space v types a is = is
 
 pub ground_occupied : (before space : SpaceView) (v new : SeatView) (types : List ObjectType) (a size serial : ℕ) → IsSpaceOf space new
     → Occupies v new (new_body a 0 size serial) → 0 < length types → size ≡ 2 + (field_words (kinds_of types 0) + 0) → IsGround before v types → IsGround space new types
-ground_occupied before space v new types a size serial is occupied typed whole (was, known, on, have) =
+ground_occupied before space v new types a size serial is occupied typed whole (was, known, on, have, none) =
     let some : 0 < length v.types = subst (λ (ts : List ObjectType). 0 < length ts) known typed in
     let wide : size ≡ 2 + (field_words (kinds_of v.types 0) + 0) = subst (λ (ts : List ObjectType). size ≡ 2 + (field_words (kinds_of ts 0) + 0)) known whole in
-    (is, known ∙ sym occupied.types, occupied.on ∙ on, all_have_new v new a 0 size serial occupied some (omega (arith, wide)) have)
+    (is, known ∙ sym occupied.types, occupied.on ∙ on, all_have_new v new a 0 size serial occupied some (omega (arith, wide)) have, none)

@@ -3,13 +3,13 @@ use Rattle.std.proofs.Common.{◌≡◌, ℕ, ◌+◌, ◌-◌, ◌<◌, ◌≤�
 use Rattle.std.specs.List.{Contains}
 use Rattle.std.proofs.lemmas.Bool.{cases_Bool, cases_eq, cond-true, cond-false, cond_both, eq-eqb, ne_eqb, and_from, and_parts, le-leb, lt-ltb, leb-true, ltb-true}
 use Rattle.std.proofs.lemmas.List.Elements.{All-contains}
-use Rattle.gc_graph.specs.declared.kind.Kind.TheVariants.{Weak}
+use Rattle.gc_graph.specs.declared.kind.Kind.TheVariants.{Weak, Plain}
 use Rattle.type_table.specs.Types.{kinds_of, offsets_of_kind}
 use Rattle.type_table.specs.Layouts.{kinds_of_words}
-use Rattle.page_words.specs.Bodies.{Body, IsWhole, IsReference, end_of}
+use Rattle.page_words.specs.Bodies.{Body, IsWhole, IsReference, end_of, kind_in}
 use Rattle.page_words.specs.Seat.{SeatView, IsView, holds}
 use Rattle.weak_clearing.specs.Clearing.{MarkedHaveWeakReferences, clear_weak, clear_body, clear_words}
-use Rattle.weak_clearing.specs.Steps.{IsMarkedOf, HasReferenceAt, body_cleared, clear_word_at, word_cleared}
+use Rattle.weak_clearing.specs.Steps.{IsMarkedOf, HasWeakAt, body_cleared, clear_word_at, word_cleared}
 use Rattle.weak_clearing.proofs.Lists.{map_same, map_after, map_stays, contains_map}
 use Rattle.weak_clearing.proofs.WeakWords.{IsWeakAt, weak_told, clear_nth, clear_listed, clear_listed-push, listed_are_cleared}
 use Rattle.weak_clearing.proofs.Words.{has_word, rewritten}
@@ -47,6 +47,7 @@ pub record HasWeak (v : SeatView) (place offset : ℕ) : Type 0 where
   pub low : offset - 2 < length body.fields
   pub inside : place + offset < end_of body
   pub address : place + offset < v.count
+  pub kind : kind_in v.types body (offset - 2) ≡ Weak
   pub reference : IsReference v.bodies (get_or body.fields (offset - 2) 0)
 
 pub has_weak : (v : SeatView) (place ty k : ℕ) (told : List ℕ) → IsView v → MarkedHaveWeakReferences v → IsMarkedOf v place ty
@@ -66,11 +67,12 @@ has_weak v place ty k told view have (b, there, at, of, marked) is low =
       low = omega (arith, field.at, field.low, words);
       inside = omega (arith, field.at, field.low, words, whole.fields, at);
       address = omega (arith, field.at, field.low, words, whole.fields, whole.inside, at);
+      kind = ap (kind_in v.types b) number ∙ field.weak;
       reference = subst (λ i. IsReference v.bodies (get_or b.fields i 0)) (sym number) ((have b there holder).named field.index field.weak);
     }
 
 pub weak_reference : (v : SeatView) (place offset : ℕ) (offsets : List ℕ) → HasWeak v place offset
-    → HasReferenceAt (listed_cleared v place offsets).bodies (place + offset)
+    → HasWeakAt (listed_cleared v place offsets) (place + offset)
 weak_reference v place offset offsets has =
     let f : Body → Body = clear_listed_at v.marked place offsets in
     let less : IsLessened has.body (f has.body) = at_lessened v.marked place offsets has.body in
@@ -79,6 +81,7 @@ weak_reference v place offset offsets has =
       contains_map f v.bodies has.body has.there,
       omega (arith, less.place, has.at, has.least),
       omega (arith, less.place, less.size, has.at, has.inside),
+      ap (λ ty. get_or (kinds_of_words (kinds_of v.types ty)) (place + offset - ((f has.body).place + 2)) Plain) less.ty ∙ ap (kind_in v.types has.body) number ∙ has.kind,
       subst (λ i. IsReference (map f v.bodies) (get_or (f has.body).fields i 0)) (sym number)
           (word_stays_reference f (at_lessened v.marked place offsets) v.bodies has.body (offset - 2) has.reference),
     )

@@ -1,13 +1,15 @@
 -- One word of a body cleared.
-use Rattle.std.proofs.Common.{◌≡◌, ℕ, zero, suc, not, ◌+◌, ◌-◌, ◌<◌, ◌≤◌, Bool, true, false, cond, ◌&&◌, List, get_or, set, refl, sym, ap, ◌∙◌, inl, inr, arith, leb, ltb}
+use Rattle.std.proofs.Common.{◌≡◌, ℕ, zero, suc, not, ◌+◌, ◌-◌, ◌<◌, ◌≤◌, Bool, true, false, cond, ◌&&◌, List, length, get_or, set, refl, sym, ap, ◌∙◌, subst, inl, inr, arith, leb, ltb}
 use Rattle.std.specs.List.{Contains}
-use Rattle.std.proofs.lemmas.Bool.{cases_Bool, and_parts, leb-true, ltb-true, cond-false, cond_both}
+use Rattle.std.proofs.lemmas.Bool.{true≢false, cases_Bool, and_parts, leb-true, ltb-true, cond-false, cond_both}
 use Rattle.std.proofs.lemmas.List.{set-get_or}
 use Rattle.std.proofs.lemmas.List.Elements.{All-contains}
-use Rattle.page_words.specs.Bodies.{Body, IsWhole, end_of, with_word}
+use Rattle.gc_graph.specs.declared.kind.Kind.TheVariants.{Weak, Pair}
+use Rattle.gc_graph.specs.Fields.{is_weak}
+use Rattle.page_words.specs.Bodies.{Body, IsWhole, IsReference, SuitsItsPair, MayHold, end_of, fields_at, kind_in, with_word}
 use Rattle.page_words.specs.Seat.{SeatView, IsView, IsWordAt, holds, stored}
 use Rattle.weak_clearing.specs.Clearing.{names_unmarked, clear_weak}
-use Rattle.weak_clearing.specs.Steps.{clear_word_at, word_cleared}
+use Rattle.weak_clearing.specs.Steps.{HasWeakAt, clear_word_at, word_cleared}
 use Rattle.weak_clearing.proofs.Lists.{map_same, map_stays}
 
 abbrev pub has_word : ℕ → Body → Bool
@@ -64,3 +66,24 @@ names_one marked zero some = absurd (some refl)
 names_one marked (suc place) some =
     let same : place ≡ suc place - 1 = omega arith in
     ap (λ p. not (holds marked p)) same
+
+-- null may be stored in a weak field
+pub holds_null : (v : SeatView) (a : ℕ) → IsView v → HasWeakAt v a
+    → ((b : Body) (i w : ℕ) → Contains v.bodies b → i < length b.fields → (kind_in v.types b i ≡ Pair → ⊥) → SuitsItsPair v.types v.bodies (fields_at b + i) w)
+    → MayHold v.types v.bodies a 0
+holds_null v a view (b, there, above, below, weak, named) suits =
+    let whole : IsWhole v.count b = All-contains (IsWhole v.count) v.bodies b view.whole there in
+    let at : fields_at b + (a - fields_at b) ≡ a = omega (arith, above) in
+    record {
+      kind = inr (inl refl);
+      pair = subst (λ x. SuitsItsPair v.types v.bodies x 0) at
+          (suits b (a - fields_at b) 0 there (omega (arith, above, below, whole.fields)) (λ pair. weak_is_no_pair (sym weak ∙ pair)));
+    } where
+      weak_is_no_pair : Weak ≡ Pair → ⊥
+      weak_is_no_pair e = true≢false (ap is_weak e)
+
+-- what is read of a weak field is a reference
+pub reads_reference : (v : SeatView) (a w : ℕ) → IsView v → HasWeakAt v a → IsWordAt v a w → IsReference v.bodies w
+reads_reference v a w view (b, there, above, below, weak, named) word =
+    let whole : IsWhole v.count b = All-contains (IsWhole v.count) v.bodies b view.whole there in
+    subst (IsReference v.bodies) (sym (word.field b (a - fields_at b) there (omega (arith, above, below, whole.fields)) (omega (arith, above)))) named

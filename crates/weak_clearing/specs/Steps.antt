@@ -1,6 +1,7 @@
 -- The steps of clearing: one body, and one word of it.
 use Rattle.std.specs.Prelude.{◌≡◌, ℕ, ◌-◌, ◌<◌, ◌≤◌, ◌==◌, true, List, map, slice_index, if◌then◌else◌, Contains}
-use Rattle.page_words.specs.Bodies.{Body, IsReference, end_of, fields_at, with_word}
+use Rattle.gc_graph.specs.declared.kind.Kind.TheVariants.{Weak}
+use Rattle.page_words.specs.Bodies.{Body, IsReference, end_of, fields_at, kind_in, with_word}
 use Rattle.page_words.specs.Seat.{SeatView, holds}
 use Rattle.weak_clearing.specs.Clearing.{clear_weak, clear_body}
 
@@ -8,10 +9,11 @@ use Rattle.weak_clearing.specs.Clearing.{clear_weak, clear_body}
 abbrev pub IsMarkedOf : SeatView → ℕ → ℕ → Type 0
 IsMarkedOf v a ty = (b : Body) × Contains v.bodies b × (b.place ≡ a) × (b.ty ≡ ty) × (holds v.marked a ≡ true)
 
--- one of the bodies has a field word at a, which is null or refers to a body
-abbrev pub HasReferenceAt : List Body → ℕ → Type 0
-HasReferenceAt bodies a =
-    (b : Body) × Contains bodies b × (fields_at b ≤ a) × (a < end_of b) × IsReference bodies (slice_index b.fields (a - fields_at b))
+-- one of the bodies has a weak field's word at a, which is null or refers to a body
+abbrev pub HasWeakAt : SeatView → ℕ → Type 0
+HasWeakAt v a =
+    (b : Body) × Contains v.bodies b × (fields_at b ≤ a) × (a < end_of b) × (kind_in v.types b (a - fields_at b) ≡ Weak)
+    × IsReference v.bodies (slice_index b.fields (a - fields_at b))
 
 -- the body at a was cleared
 abbrev pub body_cleared : SeatView → ℕ → SeatView

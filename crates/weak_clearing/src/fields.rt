@@ -8,7 +8,7 @@ ghost use Rattle.page_words.specs.Bodies.{IsPlace, IsReference};
 ghost use Rattle.page_space.specs.Space.{IsSeatOf};
 ghost use Rattle.weak_clearing.specs.Clearing.{MarkedHaveWeakReferences, names_unmarked};
 ghost use Rattle.weak_clearing.specs.Clearing.{with_weak_cleared};
-ghost use Rattle.weak_clearing.specs.Steps.{HasReferenceAt, IsMarkedOf, body_cleared, word_cleared};
+ghost use Rattle.weak_clearing.specs.Steps.{HasWeakAt, IsMarkedOf, body_cleared, word_cleared};
 
 use crate::marks::is_marked;
 use page_space::Space;
@@ -64,10 +64,11 @@ fn clear_holder(space: &Space, types: &TypeTable, seat: &mut MutatorSeat, holder
 /// Sets the weak field word at an address to null, if it names an object that is not marked.
 fn clear_word(space: &Space, seat: &mut MutatorSeat, a: u32)
     requires heap { IsSeatOf space.now seat.old }
-    requires reference { HasReferenceAt seat.old.bodies a }
+    requires reference { HasWeakAt seat.old a }
     ensures { seat.new ≡ word_cleared seat.old a }
 {
     seat.bodies_lie_apart();
+    seat.values_come_before_keys();
     let reference = space.words().load(seat, a);
     if is_to_unmarked(space, seat, reference) {
         space.words().store(seat, a, 0);

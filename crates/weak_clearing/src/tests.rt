@@ -1,6 +1,7 @@
 // Small heaps that were marked and then cleared.
 
-ghost use Rattle.std.specs.Prelude.{◌≡◌, true};
+ghost use Rattle.std.specs.Prelude.{◌≡◌, [], ◌∷◌, true, IfOk};
+ghost use Rattle.gc_graph.specs.declared.kind.Kind.TheVariants.{Strong, Weak};
 ghost use Rattle.page_words.specs.Bodies.{IsPlace};
 
 use super::*;
@@ -27,6 +28,9 @@ impl Model for Ground {
     ghost use Rattle.page_space.specs.Space.{IsSpaceOf};
     ghost use Rattle.page_words.specs.Bodies.{Body};
     ghost use Rattle.weak_clearing.specs.Clearing.{HasWeakReferences};
+    ghost use Rattle.std.specs.Prelude.{ℕ, []};
+    ghost use Rattle.gc_graph.specs.declared.kind.Kind.TheVariants.{Pair};
+    ghost use Rattle.type_table.specs.Types.{kinds_of, offsets_of_kind};
 
     ghost Value = { SeatView };
 
@@ -34,11 +38,15 @@ impl Model for Ground {
 
     ghost invariant = { λ g. IsSpaceOf g.space g.seat × (g.types ≡ g.seat.types)
         × (g.seat.on ≡ true) × ((b : Body) → Contains g.seat.bodies b
-        → HasWeakReferences g.seat.types g.seat.bodies b) };
+        → HasWeakReferences g.seat.types g.seat.bodies b)
+        × ((t : ℕ) → offsets_of_kind Pair (kinds_of g.types t) ≡ []) };
 }
 
 /// One type, of a weak, a strong and a weak field.
-fn one_type(alloc: Global) -> Result<TypeTable, NoMemory> {
+fn one_type(alloc: Global) -> Result<TypeTable, NoMemory>
+    ensures { IfOk result (λ types. types
+        ≡ record { kinds = Weak ∷ Strong ∷ Weak ∷ []; prefinalizers = [] } ∷ []) }
+{
     let mut types = Vec::new(alloc);
     let fields = Vec::from_slice(alloc, &[Kind::Weak, Kind::Strong, Kind::Weak])?;
     types.push(TypeDecl::new(fields, Vec::new(alloc)))?;

@@ -4,7 +4,7 @@ use Rattle.gc_graph.specs.declared.kind.Kind.TheVariants.{Weak}
 use Rattle.gc_graph.specs.State.{ObjectType}
 use Rattle.type_table.specs.Types.{kinds_of, offsets_of_kind}
 use Rattle.page_words.specs.Seat.{SeatView}
-use Rattle.weak_clearing.specs.Steps.{HasReferenceAt, word_cleared}
+use Rattle.weak_clearing.specs.Steps.{HasWeakAt, word_cleared}
 use Rattle.weak_clearing.proofs.Holder.{HasWeak, has_weak, listed_none, listed_cleared, weak_reference, one_more_cleared, all_cleared}
 use Rattle.weak_clearing.proofs.fields.clear_holder.Goals as goal
 
@@ -31,7 +31,7 @@ clear_word-requires-clause-reference c =
     let has : HasWeak c.args.seat.now c.args.holder offset =
     has_weak c.args.seat.now c.args.holder c.args.ty c.loop-offset.offset-index weak c.bodies_lie_apart.ensures c.requires.references c.requires.marked
     (told c.args.types.now c.args.seat.now c.args.ty weak c.requires.types c.weak_words-weak.ensures) c.loop-offset-test.true in
-    subst (λ (v : SeatView). HasReferenceAt v.bodies (c.args.holder + offset)) (sym c.loop-offset.invariant)
+    subst (λ (v : SeatView). HasWeakAt v (c.args.holder + offset)) (sym c.loop-offset.invariant)
     (weak_reference c.args.seat.now c.args.holder offset (take c.loop-offset.offset-index weak) has)
 
 pub loop-offset-preserved : goal.loop-offset-preserved

@@ -1,9 +1,9 @@
-use Rattle.std.proofs.Common.{rules, ◌≡◌, ◌+◌, ◌<◌, ◌^◌, arith, sym, ap, ◌∙◌, subst, inr}
+use Rattle.std.proofs.Common.{rules, ◌≡◌, ℕ, ◌+◌, ◌<◌, ◌^◌, arith, sym, ap, ◌∙◌, subst, inr}
 use Rattle.object_headers.specs.Offsets.{reference_to}
 use Rattle.object_headers.specs.declared.header.Header.{Header}
-use Rattle.page_words.specs.Bodies.{IsPlace, IsReference}
+use Rattle.page_words.specs.Bodies.{IsPlace, IsReference, MayHold}
 use Rattle.page_words.specs.Seat.{SeatView, stored}
-use Rattle.weak_clearing.proofs.Grounds.{IsGround, ground_stored}
+use Rattle.weak_clearing.proofs.Grounds.{IsGround, ground_stored, suits_no_pair}
 use Rattle.weak_clearing.proofs.tests.Ground.point.Goals as goal
 
 pub invariant_of-self-else-word-size : goal.invariant_of-self-else-word-size
@@ -34,3 +34,13 @@ invariant_of-self c =
     (sym (c.store.ensures ∙ ap (λ (v : SeatView). stored v (c.args.holder + c.args.word) c.reference_to-reference.result) c.header_at-size.ensures.view))
     (ground_stored c.self.inside.space c.self.inside.seat c.self.inside.types (c.args.holder + c.args.word) c.reference_to-reference.result
     c.lasts_while_objects_stay.ensures.store named c.self.invariant)
+
+pub store-requires-clause-word : goal.store-requires-clause-word
+store-requires-clause-word c =
+    let target : IsPlace c.self.inside.seat.bodies c.args.target = search rules in
+    let reference : ℕ = c.reference_to-reference.result in
+    subst (λ (v : SeatView). MayHold v.types v.bodies (c.args.holder + c.args.word) reference) (sym c.header_at-size.ensures.view)
+    (record {
+      kind = inr (inr (target.0, target.1, c.reference_to-reference.ensures ∙ ap reference_to (sym target.2)));
+      pair = suits_no_pair c.self.inside.seat c.self.inside.types (c.args.holder + c.args.word) reference c.self.invariant.1 c.self.invariant.4;
+    })
