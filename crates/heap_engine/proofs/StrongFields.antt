@@ -1,4 +1,4 @@
--- What a valid state says of its nodes, and what holds where all fields are strong.
+-- What a valid state says of its nodes, and what the types say that a heap can have so far.
 use Rattle.std.proofs.Common.{◌≡◌, ℕ, zero, suc, ◌+◌, ◌<◌, Bool, true, false, List, [], ◌∷◌, ◌++◌, length, get_or, map, replicate, eqb, refl, sym, ap, ◌∙◌, subst, arith, cond}
 use Rattle.std.specs.List.{All, Contains, list_all}
 use Rattle.std.proofs.lemmas.Bool.{true≢false, and_parts, eqb-true}
@@ -20,47 +20,25 @@ use Rattle.heap_engine.specs.Objects.{AreBuilt, AreOfValid}
 
 -- ---- the types that a heap can have so far
 
-strong_kinds : (kinds : List Kind) → list_all is_built_kind kinds ≡ true → kinds ≡ replicate (length kinds) Strong
-strong_kinds [] built = refl
-strong_kinds (Strong ∷ kinds) built = ap (λ ks. Strong ∷ ks) (strong_kinds kinds built)
-strong_kinds (Weak ∷ kinds) built = absurd (true≢false (sym built))
-strong_kinds (Pair ∷ kinds) built = absurd (true≢false (sym built))
-strong_kinds (Plain ∷ kinds) built = absurd (true≢false (sym built))
-
 no_numbers : (numbers : List ℕ) → length numbers ≡ 0 → numbers ≡ []
 no_numbers [] none = refl
 no_numbers (n ∷ numbers) none = absurd (omega (arith, none))
 
-pub built_is_strong : (type : ObjectType) → is_built_type type ≡ true → type ≡ strong_type (length type.kinds)
-built_is_strong type built =
-    let both = and_parts (list_all is_built_kind type.kinds) (eqb (length type.prefinalizers) 0) built in
-    ap (λ ks. (let made : ObjectType = record { kinds = ks; prefinalizers = type.prefinalizers } in made)) (strong_kinds type.kinds both.0)
-    ∙ ap (λ ns. (let made : ObjectType = record { kinds = replicate (length type.kinds) Strong; prefinalizers = ns } in made))
-    (no_numbers type.prefinalizers (eqb-true (length type.prefinalizers) 0 both.1))
+pub built_unregistered : (type : ObjectType) → is_built_type type ≡ true → type.prefinalizers ≡ []
+built_unregistered type built =
+    no_numbers type.prefinalizers (eqb-true (length type.prefinalizers) 0 (and_parts (list_all is_built_kind type.kinds) (eqb (length type.prefinalizers) 0) built).1)
 
-no_pair : (n : ℕ) → Contains (replicate n Strong) Pair → ⊥
-no_pair zero there = omega (arith, there.1)
-no_pair (suc n) (zero, low, is) = cc
-no_pair (suc n) (suc k, low, is) = no_pair n (k, omega arith, is)
+no_pair : (kinds : List Kind) → list_all is_built_kind kinds ≡ true → Contains kinds Pair → ⊥
+no_pair [] built there = omega (arith, there.1)
+no_pair (kind ∷ kinds) built (zero, low, is) =
+    true≢false (sym (and_parts (is_built_kind kind) (list_all is_built_kind kinds) built).0 ∙ ap is_built_kind is)
+no_pair (kind ∷ kinds) built (suc k, low, is) =
+    no_pair kinds (and_parts (is_built_kind kind) (list_all is_built_kind kinds) built).1 (k, omega arith, is)
 
 pub built_pairless : (types : List ObjectType) → AreBuilt types → ArePairless types
 built_pairless types built =
     All-weaker (λ (type : ObjectType). is_built_type type ≡ true) (λ (type : ObjectType). Contains type.kinds Pair → ⊥)
-    (λ (type : ObjectType) is pair. no_pair (length type.kinds) (subst (λ (t : ObjectType). Contains t.kinds Pair) (built_is_strong type is) pair)) types built
-
--- the object's fields are all strong
-abbrev pub IsStrong : Node → Type 0
-IsStrong node = node.object.kinds ≡ replicate (length node.object.kinds) Strong
-
-strong_node : (setup : Setup) (bound : ℕ) (node : Node) → AreBuilt setup.types → IsTyped setup bound node → IsStrong node
-strong_node setup bound node built typed =
-    let type : type_at setup node.object.ty ≡ strong_type (length (type_at setup node.object.ty).kinds) =
-    built_is_strong (type_at setup node.object.ty) (All-get_or (λ (t : ObjectType). is_built_type t ≡ true) setup.types node.object.ty no_type typed.ty built) in
-    typed.kinds_are ∙ ap (λ (t : ObjectType). t.kinds) type ∙ ap (λ (ks : List Kind). replicate (length ks) Strong) (sym typed.kinds_are)
-
-pub strong_kind : (node : Node) (f : ℕ) → IsStrong node → f < length node.object.kinds → kind_of_field node.object f ≡ Strong
-strong_kind node f strong low =
-    ap (λ (ks : List Kind). get_or ks f Plain) strong ∙ get_or-replicate (length node.object.kinds) f Strong Plain low
+    (λ (type : ObjectType) is. no_pair type.kinds (and_parts (list_all is_built_kind type.kinds) (eqb (length type.prefinalizers) 0) is).0) types built
 
 -- ---- what a valid state says of its nodes
 
@@ -108,9 +86,6 @@ known_nodes setup nodes (s, valid, is) = subst (AreKnown setup) is (record {
   references = valid.named;
 })
 
-pub strong_nodes : (setup : Setup) (nodes : List Node) → AreBuilt setup.types → AreKnown setup nodes → All IsStrong nodes
-strong_nodes setup nodes built known = All-weaker (IsTyped setup (length nodes)) IsStrong (λ x. strong_node setup (length nodes) x built) nodes known.typed
-
 -- ---- a new object
 
 zero_words : (f : ℕ → ℕ) (n : ℕ) → map (word_of f) (replicate n (Word 0)) ≡ replicate n 0
@@ -141,6 +116,10 @@ new_words setup f t extra place =
     ∙ ap (λ ws. replicate (field_words kinds) 0 ++ ws) (zero_words f extra) ∙ replicate-append-replicate (field_words kinds) extra 0
 
 -- ---- a pause
+
+-- the object's fields are all strong
+abbrev pub IsStrong : Node → Type 0
+IsStrong node = node.object.kinds ≡ replicate (length node.object.kinds) Strong
 
 strong_stay : (dead : ℕ → Bool) (n : ℕ) (values : List Value) → cleared_values dead (replicate n Strong) values ≡ values
 strong_stay dead zero values = refl

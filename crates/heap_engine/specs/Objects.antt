@@ -41,30 +41,6 @@ AreOfValid setup nodes = (s : State) × IsValid setup s × (s.nodes ≡ nodes)
 abbrev pub IsLiveAt : List Node → ℕ → ℕ → Type 0
 IsLiveAt nodes n place = IsLive nodes n × (place_of nodes n ≡ place)
 
--- where the node's word with this number is
-abbrev pub address_of : List Node → ℕ → ℕ → ℕ
-address_of nodes n word = place_of nodes n + first_field + word
-
--- where the node's field f is, or why it has none that `set` and `get` speak of
-abbrev pub IsFieldAt : List Node → ℕ → ℕ → Result ℕ Refusal → Type 0
-IsFieldAt nodes n f answer =
-    MatchBool (nat_lt f (field_count (node_at nodes n)))
-    (MatchBool (is_reference (kind_of_field (node_at nodes n).object f)) (answer ≡ Ok (address_of nodes n (word_of_field (node_at nodes n).object f))) (answer ≡ Err R.Kind))
-    (answer ≡ Err R.Field)
-
--- null, or a reference to a live node
-abbrev pub IsLiveReference : List Node → Value → Type 0
-IsLiveReference nodes Null = ⊤
-IsLiveReference nodes (Ref n) = IsLive nodes n
-IsLiveReference nodes (Word w) = ⊥
-
--- the word at the address is the live node's word with this number, which holds a reference
-pub record IsWordOf (nodes : List Node) (n word a : ℕ) : Type 0 where
-  pub live : IsLive nodes n
-  pub low : word < length (node_at nodes n).object.values
-  pub at : a ≡ address_of nodes n word
-  pub reference : IsLiveReference nodes (value_at (node_at nodes n) word)
-
 -- the place and the number of what a value names
 abbrev pub target_in : List Node → Value → Option (ℕ × ℕ)
 target_in nodes value = option_map (λ m. (place_of nodes m, m)) (target_of value)

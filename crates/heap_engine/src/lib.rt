@@ -26,6 +26,7 @@ mod collecting;
 mod creating;
 mod cycle;
 mod entries;
+mod field;
 mod fields;
 mod finding;
 mod handles;
