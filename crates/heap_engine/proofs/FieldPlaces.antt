@@ -5,7 +5,7 @@ use Rattle.std.specs.List.{Contains}
 use Rattle.std.proofs.lemmas.Bool.{lt-ltb, le-ltb}
 use Rattle.std.proofs.lemmas.List.Elements.{All-get_or}
 use Rattle.gc_graph.specs.declared.kind.Kind.{Kind}
-use Rattle.gc_graph.specs.declared.kind.Kind.TheVariants.{Strong, Weak, Pair, Plain}
+use Rattle.gc_graph.specs.declared.kind.Kind.TheVariants.{Plain}
 use Rattle.gc_graph.specs.declared.line.Refusal.{Refusal}
 use Rattle.gc_graph.specs.declared.line.Refusal.TheVariants as R
 use Rattle.gc_graph.specs.Graph.{Object}

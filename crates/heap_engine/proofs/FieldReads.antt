@@ -1,5 +1,5 @@
 -- What a field's word tells, and what may go into it.
-use Rattle.std.proofs.Common.{◌≡◌, ℕ, ◌+◌, ◌-◌, ◌<◌, ◌≤◌, ◌^◌, Bool, true, List, length, get_or, map, Some, None, option_map, refl, sym, ap, ◌∙◌, subst, inl, inr, arith}
+use Rattle.std.proofs.Common.{◌≡◌, ℕ, ◌+◌, ◌-◌, ◌<◌, ◌≤◌, ◌^◌, true, List, length, get_or, map, Some, None, option_map, refl, sym, ap, ◌∙◌, subst, inl, inr, arith}
 use Rattle.std.specs.List.{Contains}
 use Rattle.std.proofs.lemmas.Bool.{true≢false, cases_eq}
 use Rattle.std.proofs.lemmas.List.{get_or-map}
@@ -9,8 +9,8 @@ use Rattle.gc_graph.specs.declared.kind.Kind.TheVariants.{Strong, Weak, Pair, Pl
 use Rattle.gc_graph.specs.declared.kind.Value.{Value}
 use Rattle.gc_graph.specs.declared.kind.Value.TheVariants.{Null, Ref, Word}
 use Rattle.gc_graph.specs.State.{Setup, Node, node_at, IsLive}
-use Rattle.gc_graph.specs.Fields.{kind_of_field, word_of_field, value_at, target_of, is_reference, is_plain}
-use Rattle.gc_graph.specs.Valid.{IsReferenceBelow, IsPlainWord, NamesLive}
+use Rattle.gc_graph.specs.Fields.{word_of_field, target_of, is_reference, is_plain}
+use Rattle.gc_graph.specs.Valid.{IsReferenceBelow, NamesLive}
 use Rattle.type_table.specs.Types.{is_kind}
 use Rattle.page_words.specs.Bodies.{Body, IsWhole, IsReference}
 use Rattle.page_words.specs.Seat.{SeatView, IsWordAt, IsView}

@@ -46,13 +46,12 @@ strong_value setup nodes n offset b known low is there =
     let kinds : (type_at setup b.ty).kinds ≡ x.object.kinds = ap (λ (c : Body). (type_at setup c.ty).kinds) is ∙ sym typed.kinds_are in
     let field = strong_offset x.object.kinds offset (subst (λ ks. Contains (offsets_of_kind Strong ks) offset) kinds there) in
     let word : ℕ = first_word x.object.kinds field.0 in
-    let within : word < length x.object.values = omega (arith, word_below x.object.kinds x.object.extra field.0 (omega (arith, field.1.low)), typed.count) in
-    (
+    let within : word < length x.object.values = omega (arith, word_below x.object.kinds x.object.extra field.0 (omega (arith, field.1.low)), typed.count) in (
       word,
       within,
       omega (arith, field.2, field.1.low),
       subst (λ kind. IsOfKind (length nodes) kind (value_at x word)) field.1.strong
-      (value_of_kind (length nodes) x.object.kinds field.0 x.object.values typed.values_are within),
+          (value_of_kind (length nodes) x.object.kinds field.0 x.object.values typed.values_are within),
     )
 
 -- where no node is dead, each strong field of a body is null or names a body

@@ -11,7 +11,7 @@ use Rattle.gc_graph.specs.State.{Setup, State, ObjectType, Node, Registration, t
 use Rattle.gc_graph.specs.Placement.{IsPlaceFor, IsPlacement, extents_of}
 use Rattle.gc_graph.specs.Sweep.{pages_swept_in, SweepsInPhase}
 use Rattle.gc_graph.specs.Built.{is_built_type}
-use Rattle.gc_graph.specs.Fields.{new_node, size_of_type, strong_type}
+use Rattle.gc_graph.specs.Fields.{new_node, size_of_type}
 use Rattle.gc_graph.specs.May.{may_with_new}
 use Rattle.gc_graph.specs.Outcomes.{answered, with_slot}
 use Rattle.gc_graph.specs.ObjectSteps.{StepNew, with_new, registrations_for}

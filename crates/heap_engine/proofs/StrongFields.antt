@@ -1,18 +1,18 @@
 -- What a valid state says of its nodes, and what the types say that a heap can have so far.
-use Rattle.std.proofs.Common.{◌≡◌, ℕ, zero, suc, ◌+◌, ◌<◌, Bool, true, false, List, [], ◌∷◌, ◌++◌, length, get_or, map, replicate, eqb, refl, sym, ap, ◌∙◌, subst, arith, cond}
+use Rattle.std.proofs.Common.{◌≡◌, ℕ, zero, suc, ◌+◌, ◌<◌, Bool, true, false, List, [], ◌∷◌, ◌++◌, length, map, replicate, eqb, refl, sym, ap, ◌∙◌, subst, arith, cond}
 use Rattle.std.specs.List.{All, Contains, list_all}
 use Rattle.std.proofs.lemmas.Bool.{true≢false, and_parts, eqb-true}
-use Rattle.std.proofs.lemmas.List.{map-append, replicate-append-replicate, get_or-replicate}
-use Rattle.std.proofs.lemmas.List.Elements.{All-head, All-tail, All-cons, All-get_or, All-weaker}
+use Rattle.std.proofs.lemmas.List.{map-append, replicate-append-replicate}
+use Rattle.std.proofs.lemmas.List.Elements.{All-head, All-tail, All-cons, All-weaker}
 use Rattle.std.proofs.lemmas.List.Sums.{sum_by-cons}
 use Rattle.gc_graph.specs.declared.kind.Kind.{Kind}
 use Rattle.gc_graph.specs.declared.kind.Kind.TheVariants.{Strong, Weak, Pair, Plain}
 use Rattle.gc_graph.specs.declared.kind.Value.{Value}
 use Rattle.gc_graph.specs.declared.kind.Value.TheVariants.{Null, Ref, Word}
 use Rattle.gc_graph.specs.Built.{is_built_kind, is_built_type}
-use Rattle.gc_graph.specs.State.{Setup, ObjectType, Node, no_type, node_at, is_live, type_at, IsLive}
+use Rattle.gc_graph.specs.State.{Setup, ObjectType, Node, node_at, is_live, type_at, IsLive}
 use Rattle.gc_graph.specs.Valid.{IsTyped, HaveKinds, IsReferenceBelow, IsPlainWord, NamesLive}
-use Rattle.gc_graph.specs.Fields.{words_of_kind, field_words, kind_of_field, nulls_of_kind, nulls_of, new_node, strong_type}
+use Rattle.gc_graph.specs.Fields.{words_of_kind, field_words, nulls_of_kind, nulls_of, new_node}
 use Rattle.gc_graph.specs.Pause.{cleared_values, with_cleared, clear_node}
 use Rattle.heap_engine.specs.Marking.{ArePairless}
 use Rattle.heap_engine.specs.Nodes.{word_of}

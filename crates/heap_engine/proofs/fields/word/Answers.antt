@@ -1,4 +1,4 @@
-use Rattle.std.proofs.Common.{◌≡◌, None, get_or, refl, sym, ◌∙◌}
+use Rattle.std.proofs.Common.{None, get_or, refl, ◌∙◌}
 use Rattle.gc_graph.specs.Fields.{is_plain}
 use Rattle.heap_engine.specs.Parts.{ObjectsView}
 use Rattle.heap_engine.proofs.FieldAnswers.{Found, found, field_kind, step_word}

@@ -70,7 +70,7 @@ number_at c n f is =
       named.0,
       named.1,
       head_number nodes v (value_in nodes n f) w named.0 (c.in-Some.place + 1) c.load-number.result named.1 (sym c.in-Some.ensures)
-      (subst (λ (u : SeatView). IsWordAt u (c.in-Some.place + 1) c.load-number.result) c.get-reference.ensures.view c.load-number.ensures.word),
+          (subst (λ (u : SeatView). IsWordAt u (c.in-Some.place + 1) c.load-number.result) c.get-reference.ensures.view c.load-number.ensures.word),
     )
 
 pub overflow_cast-number : goal.overflow_cast-number
