@@ -121,8 +121,7 @@ impl TypeTable {
         ensures { (ty field word : ℕ) → spec.IsWordOf (spec.kinds_of self.now ty) field word →
             slice_index_or (layouts.kinds_of_words (spec.kinds_of self.now ty)) (word - first_field)
             Plain ≡ spec.kind_of (spec.kinds_of self.now ty) field }
-    {
-    }
+    {}
 
     /// The offsets of the strong fields, in their order.
     pub fn strong_words(&self, ty: u32) -> &[u32]
