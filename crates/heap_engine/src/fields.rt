@@ -123,7 +123,7 @@ pub fn word(objects: &mut Objects, handles: &Handles, cycle: &Cycle, p: u32, f: 
 {
     match field_of(objects, handles, cycle, p, f, Wanted::Numbers) {
         Ok(field) => Line::Word {
-            n: objects.number_at(field),
+            n: objects.word_at(field),
         },
         Err(why) => Line::Refused(why),
     }

@@ -204,7 +204,7 @@ impl Objects {
     }
 
     /// The number in a plain field.
-    pub fn number_at(&mut self, field: Field) -> u64
+    pub fn word_at(&mut self, field: Field) -> u64
         requires valid { AreOfValid (setup_of_objects self.old) self.old.nodes }
         requires field { (n : ℕ) × (f : ℕ) × IsFieldOf self.old.nodes n f field }
         requires plain { is_plain field.kind ≡ true }

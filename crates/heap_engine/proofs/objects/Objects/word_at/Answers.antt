@@ -3,7 +3,7 @@ use Rattle.gc_graph.specs.State.{Setup}
 use Rattle.gc_graph.specs.Fields.{is_plain}
 use Rattle.heap_engine.proofs.FieldPlaces.{has_word}
 use Rattle.heap_engine.proofs.FieldReads.{reads_number}
-use Rattle.heap_engine.proofs.objects.Objects.number_at.Goals as goal
+use Rattle.heap_engine.proofs.objects.Objects.word_at.Goals as goal
 
 pub get_word-requires-clause-field : goal.get_word-requires-clause-field
 get_word-requires-clause-field c =
