@@ -1,15 +1,17 @@
 -- The words of fields of each kind, and what the type table tells of them.
-use Rattle.std.proofs.Common.{◌≡◌, ℕ, zero, suc, ◌+◌, ◌<◌, ◌≤◌, Bool, true, false, List, [], ◌∷◌, length, get_or, take, refl, sym, ap, ◌∙◌, subst, inl, inr, arith}
+use Rattle.std.proofs.Common.{◌≡◌, ℕ, zero, suc, ◌+◌, ◌-◌, ◌<◌, ◌≤◌, Bool, true, false, List, [], ◌∷◌, length, get_or, take, refl, sym, ap, ◌∙◌, subst, inl, inr, arith}
 use Rattle.std.specs.List.{Contains, filter, range_with_len}
-use Rattle.std.proofs.lemmas.Bool.{true≢false, cond_both, cases_eq}
+use Rattle.std.proofs.lemmas.Bool.{true≢false, cond_both, cases_eq, cases_lt}
+use Rattle.std.proofs.lemmas.List.{take_all}
+use Rattle.std.proofs.lemmas.List.Elements.{All-get_or}
 use Rattle.std.proofs.lemmas.List.Sums.{sum_by-cons, sum_by_more_le}
 use Rattle.gc_graph.specs.declared.kind.Kind.{Kind}
 use Rattle.gc_graph.specs.declared.kind.Kind.TheVariants.{Strong, Weak, Pair, Plain}
 use Rattle.gc_graph.specs.declared.kind.Value.{Value}
 use Rattle.gc_graph.specs.declared.kind.Value.TheVariants.{Null}
 use Rattle.gc_graph.specs.Graph.{strong_targets, pair_targets}
-use Rattle.gc_graph.specs.Fields.{words_of_kind, field_words, is_reference}
-use Rattle.gc_graph.specs.Valid.{HaveKinds, IsReferenceBelow}
+use Rattle.gc_graph.specs.Fields.{words_of_kind, field_words}
+use Rattle.gc_graph.specs.Valid.{HaveKinds, IsReferenceBelow, IsPlainWord}
 use Rattle.type_table.specs.Types.{offset_of, is_kind, is_field, offsets_of_kind}
 use Rattle.heap_engine.specs.Marking.{values_in}
 use Rattle.heap_engine.proofs.MarkCounts.{Contains-cons_cases, Contains-cons, Contains-head, Contains-map, Contains-map_some}
@@ -182,39 +184,64 @@ no_pair_targets (Pair ∷ kinds) values none = absurd (none (Contains-head Pair 
 
 -- ---- the values of a valid object
 
--- the field's value is there, and is null or a reference
-pub record HasReference (bound : ℕ) (kinds : List Kind) (i : ℕ) (values : List Value) : Type 0 where
-  pub low : first_of kinds i < length values
-  pub value : IsReferenceBelow bound (get_or values (first_of kinds i) Null)
+-- the number of a field's first word; the extra words stand after the declared fields
+abbrev pub first_word : List Kind → ℕ → ℕ
+first_word kinds f = field_words (take f kinds) + (f - length kinds)
 
-value_after_one : (bound : ℕ) (kind : Kind) (kinds : List Kind) (i : ℕ) (v : Value) (values : List Value) → words_of_kind kind ≡ 1 → HasReference bound kinds i values
-    → HasReference bound (kind ∷ kinds) (suc i) (v ∷ values)
-value_after_one bound kind kinds i v values one has = record {
-  low = omega (arith, has.low, one_more kind kinds i one);
-  value = subst (λ n. IsReferenceBelow bound (get_or (v ∷ values) n Null)) (sym (one_more kind kinds i one)) has.value;
-}
+pub some_words : (kind : Kind) → 1 ≤ words_of_kind kind
+some_words Strong = omega arith
+some_words Weak = omega arith
+some_words Pair = omega arith
+some_words Plain = omega arith
 
-pub reference_value : (bound : ℕ) (kinds : List Kind) (i : ℕ) (values : List Value) → HaveKinds bound kinds values → i < length kinds
-    → is_reference (get_or kinds i Plain) ≡ true → HasReference bound kinds i values
-reference_value bound [] i values have low is = absurd (omega arith)
-reference_value bound (Strong ∷ kinds) i [] have low is = absurd have
-reference_value bound (Weak ∷ kinds) i [] have low is = absurd have
-reference_value bound (Pair ∷ kinds) i [] have low is = absurd have
-reference_value bound (Plain ∷ kinds) i [] have low is = absurd have
-reference_value bound (Strong ∷ kinds) zero (v ∷ values) have low is = record { low = omega arith; value = have.0 }
-reference_value bound (Weak ∷ kinds) zero (v ∷ values) have low is = record { low = omega arith; value = have.0 }
-reference_value bound (Pair ∷ kinds) zero (v ∷ values) have low is = absurd (true≢false (sym is))
-reference_value bound (Plain ∷ kinds) zero (v ∷ values) have low is = absurd (true≢false (sym is))
-reference_value bound (Strong ∷ kinds) (suc i) (v ∷ values) have low is =
-    value_after_one bound Strong kinds i v values refl (reference_value bound kinds i values have.1 (omega arith) is)
-reference_value bound (Weak ∷ kinds) (suc i) (v ∷ values) have low is =
-    value_after_one bound Weak kinds i v values refl (reference_value bound kinds i values have.1 (omega arith) is)
-reference_value bound (Plain ∷ kinds) (suc i) (v ∷ values) have low is =
-    value_after_one bound Plain kinds i v values refl (reference_value bound kinds i values have.1 (omega arith) is)
-reference_value bound (Pair ∷ kinds) (suc i) (key ∷ []) have low is = absurd have
-reference_value bound (Pair ∷ kinds) (suc i) (key ∷ v ∷ values) have low is =
-    let has : HasReference bound kinds i values = reference_value bound kinds i values have.3 (omega arith) is in
-    record {
-      low = omega (arith, has.low, two_more kinds i);
-      value = subst (λ n. IsReferenceBelow bound (get_or (key ∷ v ∷ values) n Null)) (sym (two_more kinds i)) has.value;
-    }
+-- the first word of a field is one of the object's
+pub word_below : (kinds : List Kind) (extra f : ℕ) → f < length kinds + extra → first_word kinds f < field_words kinds + extra
+word_below kinds extra f low = elim (cases_lt f (length kinds)) [
+  | inl declared ↦ omega (arith, sum_by_more_le words_of_kind kinds f Plain declared, some_words (get_or kinds f Plain))
+  | inr past ↦ omega (arith, low, ap field_words (take_all f kinds past))
+]
+
+-- the value is one that a field of the kind holds
+abbrev pub IsOfKind : ℕ → Kind → Value → Type 0
+IsOfKind bound Strong value = IsReferenceBelow bound value
+IsOfKind bound Weak value = IsReferenceBelow bound value
+IsOfKind bound Pair value = IsReferenceBelow bound value
+IsOfKind bound Plain value = IsPlainWord value
+
+-- field f's value is of its kind, if it is there
+abbrev HasOfKind : ℕ → List Kind → ℕ → List Value → Type 0
+HasOfKind bound kinds f values =
+    first_word kinds f < length values → IsOfKind bound (get_or kinds f Plain) (get_or values (first_word kinds f) Null)
+
+value_here : (bound : ℕ) (kind : Kind) (kinds : List Kind) (v : Value) (values : List Value) → IsOfKind bound kind v → HasOfKind bound (kind ∷ kinds) 0 (v ∷ values)
+value_here bound kind kinds v values is low =
+    let first : 0 ≡ first_word (kind ∷ kinds) 0 = omega arith in
+    subst (λ n. IsOfKind bound kind (get_or (v ∷ values) n Null)) first is
+
+value_later : (bound : ℕ) (kind : Kind) (kinds : List Kind) (f : ℕ) (v : Value) (values : List Value) → words_of_kind kind ≡ 1 → HasOfKind bound kinds f values
+    → HasOfKind bound (kind ∷ kinds) (suc f) (v ∷ values)
+value_later bound kind kinds f v values one has low =
+    let next : suc (first_word kinds f) ≡ first_word (kind ∷ kinds) (suc f) = omega (arith, sum_by-cons words_of_kind kind (take f kinds), one) in
+    subst (λ n. IsOfKind bound (get_or kinds f Plain) (get_or (v ∷ values) n Null)) next (has (omega (arith, low, next)))
+
+value_after_pair : (bound : ℕ) (kinds : List Kind) (f : ℕ) (key v : Value) (values : List Value) → HasOfKind bound kinds f values
+    → HasOfKind bound (Pair ∷ kinds) (suc f) (key ∷ v ∷ values)
+value_after_pair bound kinds f key v values has low =
+    let next : suc (suc (first_word kinds f)) ≡ first_word (Pair ∷ kinds) (suc f) = omega (arith, sum_by-cons words_of_kind Pair (take f kinds)) in
+    subst (λ n. IsOfKind bound (get_or kinds f Plain) (get_or (key ∷ v ∷ values) n Null)) next (has (omega (arith, low, next)))
+
+pub value_of_kind : (bound : ℕ) (kinds : List Kind) (f : ℕ) (values : List Value) → HaveKinds bound kinds values → HasOfKind bound kinds f values
+value_of_kind bound [] f values have = λ low. All-get_or IsPlainWord values (first_word [] f) Null low have
+value_of_kind bound (Strong ∷ kinds) f [] have = absurd have
+value_of_kind bound (Weak ∷ kinds) f [] have = absurd have
+value_of_kind bound (Pair ∷ kinds) f [] have = absurd have
+value_of_kind bound (Plain ∷ kinds) f [] have = absurd have
+value_of_kind bound (Strong ∷ kinds) zero (v ∷ values) have = value_here bound Strong kinds v values have.0
+value_of_kind bound (Weak ∷ kinds) zero (v ∷ values) have = value_here bound Weak kinds v values have.0
+value_of_kind bound (Plain ∷ kinds) zero (v ∷ values) have = value_here bound Plain kinds v values have.0
+value_of_kind bound (Pair ∷ kinds) f (key ∷ []) have = absurd have
+value_of_kind bound (Pair ∷ kinds) zero (key ∷ v ∷ values) have = value_here bound Pair kinds key (v ∷ values) have.0
+value_of_kind bound (Strong ∷ kinds) (suc f) (v ∷ values) have = value_later bound Strong kinds f v values refl (value_of_kind bound kinds f values have.1)
+value_of_kind bound (Weak ∷ kinds) (suc f) (v ∷ values) have = value_later bound Weak kinds f v values refl (value_of_kind bound kinds f values have.1)
+value_of_kind bound (Plain ∷ kinds) (suc f) (v ∷ values) have = value_later bound Plain kinds f v values refl (value_of_kind bound kinds f values have.1)
+value_of_kind bound (Pair ∷ kinds) (suc f) (key ∷ v ∷ values) have = value_after_pair bound kinds f key v values (value_of_kind bound kinds f values have.3)

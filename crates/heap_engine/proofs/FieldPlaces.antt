@@ -1,29 +1,32 @@
 -- Where the fields of an object are.
-use Rattle.std.proofs.Common.{◌≡◌, ℕ, ◌+◌, ◌-◌, ◌^◌, ◌<◌, ◌≤◌, inl, inr, List, length, get_or, Option, Some, None, Ok, Err, sym, ap, ◌∙◌, subst, arith, Result, take}
+use Rattle.std.proofs.Common.{◌≡◌, ℕ, ◌+◌, ◌-◌, ◌<◌, ◌≤◌, Bool, true, List, length, get_or, Option, Some, None, Ok, Err, refl, sym, ap, ◌∙◌, subst, arith, Result, take}
 use Rattle.std.specs.Prelude.{MatchBool, MatchOption}
 use Rattle.std.specs.List.{Contains}
-use Rattle.std.specs.Option.{ForSome}
-use Rattle.std.proofs.lemmas.Bool.{lt-ltb, le-ltb, cases_lt}
-use Rattle.std.proofs.lemmas.List.{take_all}
-use Rattle.std.proofs.lemmas.List.Sums.{sum_by_more_le}
+use Rattle.std.proofs.lemmas.Bool.{lt-ltb, le-ltb}
 use Rattle.std.proofs.lemmas.List.Elements.{All-get_or}
 use Rattle.gc_graph.specs.declared.kind.Kind.{Kind}
-use Rattle.gc_graph.specs.declared.kind.Kind.TheVariants.{Strong, Weak, Pair, Plain}
+use Rattle.gc_graph.specs.declared.kind.Kind.TheVariants.{Plain}
 use Rattle.gc_graph.specs.declared.line.Refusal.{Refusal}
 use Rattle.gc_graph.specs.declared.line.Refusal.TheVariants as R
-use Rattle.gc_graph.specs.State.{Setup, Node, node_at, no_node}
-use Rattle.gc_graph.specs.Fields.{words_of_kind, field_words, field_count, kind_of_field, word_of_field, is_reference}
+use Rattle.gc_graph.specs.Graph.{Object}
+use Rattle.gc_graph.specs.State.{Setup, ObjectType, Node, node_at, no_node, IsLive}
+use Rattle.gc_graph.specs.Fields.{field_words, field_count, kind_of_field, word_of_field}
 use Rattle.gc_graph.specs.Valid.{IsTyped}
 use Rattle.object_headers.specs.declared.header.Header.{Header}
 use Rattle.type_table.specs.Types as table
-use Rattle.page_words.specs.Bodies.{Body, IsPlace}
+use Rattle.type_table.specs.Layouts.{kinds_of_words}
+use Rattle.page_words.specs.Bodies.{Body, IsPlace, kind_in}
 use Rattle.page_words.specs.Seat.{SeatView}
 use Rattle.page_space.specs.Space.{header_in}
+use Rattle.member_fields.specs.Words.{HasWord}
+use Rattle.heap_engine.specs.declared.field.Field.{Field}
 use Rattle.heap_engine.specs.Nodes.{place_of, body_of, bodies_of}
-use Rattle.heap_engine.specs.Objects.{AreOfValid, IsLiveAt, IsFieldAt}
+use Rattle.heap_engine.specs.Fields.{field_of, IsFieldOf, IsFieldAt}
+use Rattle.heap_engine.specs.Objects.{AreOfValid, IsLiveAt}
 use Rattle.heap_engine.proofs.NodePlaces.{live_is_there, node_body}
 use Rattle.heap_engine.proofs.StrongFields.{AreKnown, known_nodes}
 use Rattle.heap_engine.proofs.FieldNodes.{live_below}
+use Rattle.heap_engine.proofs.FieldKinds.{some_words, word_below}
 
 pub live_place : (nodes : List Node) (v : SeatView) (n place : ℕ) → v.bodies ≡ bodies_of nodes → IsLiveAt nodes n place → IsPlace v.bodies place
 live_place nodes v n place held at = (body_of (place_of nodes) n (node_at nodes n), node_body nodes v n held (live_is_there nodes n at.0), at.1)
@@ -70,42 +73,66 @@ field_told setup nodes n f size ty extra found is extras at = record {
 }
 
 -- the answer that the table's answer leads to is the one of the definition
-pub field_answered : (setup : Setup) (nodes : List Node) (n place f size ty extra : ℕ) (found : Option (Kind × ℕ)) (answer : Result ℕ Refusal) → IsHead setup nodes n size ty
+pub field_answered : (setup : Setup) (nodes : List Node) (n place f size ty extra : ℕ) (allowed : Kind → Bool) (found : Option (Kind × ℕ)) (answer : Result Field Refusal) → IsHead setup nodes n size ty
     → extra ≡ (node_at nodes n).object.extra → place_of nodes n ≡ place
     → MatchOption found (table.count_with (table.kinds_of setup.types ty) extra ≤ f) (table.IsFieldAt (table.kinds_of setup.types ty) extra f)
-    → MatchOption found (answer ≡ Err R.Field) (λ t. MatchBool (is_reference t.0) (answer ≡ Ok (place + t.1)) (answer ≡ Err R.Kind)) → IsFieldAt nodes n f answer
-field_answered setup nodes n place f size ty extra None answer is extras at past told =
+    → MatchOption found (answer ≡ Err R.Field) (λ t. MatchBool (allowed t.0) (answer ≡ Ok (record { holder = place; kind = t.0; word = t.1 })) (answer ≡ Err R.Kind)) → IsFieldAt allowed nodes n f answer
+field_answered setup nodes n place f size ty extra allowed None answer is extras at past told =
     let node : Node = node_at nodes n in
-    subst (λ b. MatchBool b (MatchBool (is_reference (kind_of_field node.object f)) (answer ≡ Ok (place_of nodes n + 2 + word_of_field node.object f)) (answer ≡ Err R.Kind)) (answer ≡ Err R.Field))
+    subst (λ b. MatchBool b (MatchBool (allowed (kind_of_field node.object f)) (answer ≡ Ok (field_of nodes n f)) (answer ≡ Err R.Kind)) (answer ≡ Err R.Field))
     (sym (le-ltb f (field_count node) (omega (arith, past, extras, ap length is.kinds)))) told
-field_answered setup nodes n place f size ty extra (Some t) answer is extras at there told =
+field_answered setup nodes n place f size ty extra allowed (Some t) answer is extras at there told =
     let node : Node = node_at nodes n in
     let tells : IsTold node f t.0 t.1 = field_told setup nodes n f size ty extra t is extras there in
-    let word : ℕ = word_of_field node.object f in
-    let address : place + t.1 ≡ place_of nodes n + 2 + word = omega (arith, at, tells.offset_is) in
-    subst (λ b. MatchBool b (MatchBool (is_reference (kind_of_field node.object f)) (answer ≡ Ok (place_of nodes n + 2 + word)) (answer ≡ Err R.Kind)) (answer ≡ Err R.Field))
+    let build : ℕ → Kind → ℕ → Field = λ place kind word. record { holder = place; kind = kind; word = word } in
+    let same : build place t.0 t.1 ≡ field_of nodes n f =
+    ap (λ a. build a t.0 t.1) (sym at) ∙ ap (λ k. build (place_of nodes n) k t.1) tells.kind_is
+    ∙ ap (build (place_of nodes n) (kind_of_field node.object f)) tells.offset_is in
+    subst (λ b. MatchBool b (MatchBool (allowed (kind_of_field node.object f)) (answer ≡ Ok (field_of nodes n f)) (answer ≡ Err R.Kind)) (answer ≡ Err R.Field))
     (sym (lt-ltb f (field_count node) tells.there))
-    (subst (λ k. MatchBool (is_reference k) (answer ≡ Ok (place_of nodes n + 2 + word)) (answer ≡ Err R.Kind)) tells.kind_is
-    (subst (λ x. MatchBool (is_reference t.0) (answer ≡ Ok x) (answer ≡ Err R.Kind)) address told))
+    (subst (λ k. MatchBool (allowed k) (answer ≡ Ok (field_of nodes n f)) (answer ≡ Err R.Kind)) tells.kind_is
+    (subst (λ x. MatchBool (allowed t.0) (answer ≡ Ok x) (answer ≡ Err R.Kind)) same told))
 
--- a field that the table tells lies in the object
-field_below : (kinds : List Kind) (extra f : ℕ) → f < table.count_with kinds extra → table.offset_of kinds f < table.size_with kinds extra
-field_below kinds extra f low = elim (cases_lt f (length kinds)) [
-  | inl declared ↦ omega (arith, sum_by_more_le words_of_kind kinds f Plain declared, some_words (get_or kinds f Plain))
-  | inr past ↦ omega (arith, low, ap field_words (take_all f kinds past))
-] where
-  some_words : (kind : Kind) → 1 ≤ words_of_kind kind
-  some_words Strong = omega arith
-  some_words Weak = omega arith
-  some_words Pair = omega arith
-  some_words Plain = omega arith
+-- ---- the word of a field
 
-pub field_fits : (setup : Setup) (nodes : List Node) (n place f size ty extra count : ℕ) (found : Option (Kind × ℕ)) → IsHead setup nodes n size ty
-    → extra ≡ (node_at nodes n).object.extra → place + size ≤ count → count ≤ 2 ^ 24
-    → MatchOption found (table.count_with (table.kinds_of setup.types ty) extra ≤ f) (table.IsFieldAt (table.kinds_of setup.types ty) extra f)
-    → ForSome found (λ t. place + t.1 < 2 ^ 32)
-field_fits setup nodes n place f size ty extra count None is extras inside few past = λ t e. cc
-field_fits setup nodes n place f size ty extra count (Some t) is extras inside few there = λ u e.
-    let same : t ≡ u = cc in
-    subst (λ (w : Kind × ℕ). place + w.1 < 2 ^ 32) same
-    (omega (arith, there.offset, field_below (table.kinds_of setup.types ty) extra f there.there, is.size_is, extras, inside, few))
+-- each word of a field has the field's kind, as the table of types tells it
+abbrev pub AreKindsOfFields : List ObjectType → Type 0
+AreKindsOfFields types =
+    (ty field word : ℕ) → table.IsWordOf (table.kinds_of types ty) field word
+    → get_or (kinds_of_words (table.kinds_of types ty)) (word - 2) Plain ≡ table.kind_of (table.kinds_of types ty) field
+
+pub live_typed : (setup : Setup) (nodes : List Node) (n : ℕ) → AreOfValid setup nodes → IsLive nodes n → IsTyped setup (length nodes) (node_at nodes n)
+live_typed setup nodes n valid live =
+    All-get_or (IsTyped setup (length nodes)) nodes n no_node (live_below nodes n live) (known_nodes setup nodes valid).typed
+
+-- the field's first word is one of the values
+pub word_low : (setup : Setup) (nodes : List Node) (n f : ℕ) (field : Field) → AreOfValid setup nodes → IsFieldOf nodes n f field
+    → word_of_field (node_at nodes n).object f < length (node_at nodes n).object.values
+word_low setup nodes n f field valid is =
+    let o : Object = (node_at nodes n).object in
+    omega (arith, word_below o.kinds o.extra f is.there, (live_typed setup nodes n valid is.live).count)
+
+-- the holder has the field's word, and it is of the field's kind
+pub has_word : (setup : Setup) (nodes : List Node) (v : SeatView) (n f : ℕ) (field : Field) (is_so : Kind → Bool) → AreKindsOfFields setup.types → AreOfValid setup nodes
+    → v.bodies ≡ bodies_of nodes → v.types ≡ setup.types → IsFieldOf nodes n f field → is_so field.kind ≡ true → HasWord is_so v field.holder field.word
+has_word setup nodes v n f field is_so law valid held known is so =
+    let node : Node = node_at nodes n in
+    let kinds : List Kind = table.kinds_of setup.types node.object.ty in
+    let word : ℕ = 2 + word_of_field node.object f in
+    let typed : IsTyped setup (length nodes) node = live_typed setup nodes n valid is.live in
+    let in_table : table.IsWordOf kinds f word = subst (λ ks. table.IsWordOf ks f word) typed.kinds_are (record {
+      first = omega arith;
+      last = omega (arith, some_words (kind_of_field node.object f));
+    }) in
+    let b : Body = body_of (place_of nodes) n node in
+    let kind : kind_in v.types b (word - 2) ≡ kind_of_field node.object f =
+    ap (λ types. kind_in types b (word - 2)) known ∙ law node.object.ty f word in_table ∙ ap (λ (ks : List Kind). get_or ks f Plain) (sym typed.kinds_are) in
+    let at : HasWord is_so v (place_of nodes n) word = record {
+      body = b;
+      there = node_body nodes v n held (live_is_there nodes n is.live);
+      place = refl;
+      first = omega arith;
+      last = omega (arith, word_low setup nodes n f field valid is);
+      kind = ap is_so (kind ∙ sym (ap (λ (x : Field). x.kind) is.is)) ∙ so;
+    } in
+    subst (λ (x : Field). HasWord is_so v x.holder x.word) (sym is.is) at

@@ -8,7 +8,7 @@ use Rattle.gc_graph.specs.declared.kind.Kind.TheVariants.{Strong}
 use Rattle.gc_graph.specs.declared.kind.Value.{Value}
 use Rattle.gc_graph.specs.declared.kind.Value.TheVariants.{Null, Ref, Word}
 use Rattle.gc_graph.specs.State.{Setup, ObjectType, Node, node_at, type_at, no_node, IsLive, IsDead}
-use Rattle.gc_graph.specs.Fields.{field_words, is_reference, value_at}
+use Rattle.gc_graph.specs.Fields.{field_words, value_at}
 use Rattle.gc_graph.specs.Valid.{IsTyped, IsReferenceBelow, NamesLive}
 use Rattle.type_table.specs.Types.{offsets_of_kind}
 use Rattle.page_words.specs.Bodies.{Body, IsPlace, IsReference}
@@ -20,7 +20,7 @@ use Rattle.heap_engine.specs.View.{places_of}
 use Rattle.heap_engine.proofs.NodePlaces.{live_is_there, node_body, body_node}
 use Rattle.heap_engine.proofs.NodeLives.{live_if_there}
 use Rattle.heap_engine.proofs.StrongFields.{AreKnown}
-use Rattle.heap_engine.proofs.FieldKinds.{HasReference, first_of, strong_offset, reference_value}
+use Rattle.heap_engine.proofs.FieldKinds.{IsOfKind, first_word, strong_offset, word_below, value_of_kind}
 
 -- what a slot names is there, and so its place is a body's
 pub named_places : (nodes : List Node) (v : SeatView) (slots : List (Option ℕ)) → v.bodies ≡ bodies_of nodes → All (λ slot. ForSome slot (IsLive nodes)) slots
@@ -45,9 +45,14 @@ strong_value setup nodes n offset b known low is there =
     let typed : IsTyped setup (length nodes) x = All-get_or (IsTyped setup (length nodes)) nodes n no_node low known.typed in
     let kinds : (type_at setup b.ty).kinds ≡ x.object.kinds = ap (λ (c : Body). (type_at setup c.ty).kinds) is ∙ sym typed.kinds_are in
     let field = strong_offset x.object.kinds offset (subst (λ ks. Contains (offsets_of_kind Strong ks) offset) kinds there) in
-    let has : HasReference (length nodes) x.object.kinds field.0 x.object.values =
-    reference_value (length nodes) x.object.kinds field.0 x.object.values typed.values_are field.1.low (ap is_reference field.1.strong) in
-    (first_of x.object.kinds field.0, has.low, omega (arith, field.2), has.value)
+    let word : ℕ = first_word x.object.kinds field.0 in
+    let within : word < length x.object.values = omega (arith, word_below x.object.kinds x.object.extra field.0 (omega (arith, field.1.low)), typed.count) in (
+      word,
+      within,
+      omega (arith, field.2, field.1.low),
+      subst (λ kind. IsOfKind (length nodes) kind (value_at x word)) field.1.strong
+          (value_of_kind (length nodes) x.object.kinds field.0 x.object.values typed.values_are within),
+    )
 
 -- where no node is dead, each strong field of a body is null or names a body
 pub references_hold : (setup : Setup) (nodes : List Node) (v : SeatView) → AreKnown setup nodes → v.bodies ≡ bodies_of nodes

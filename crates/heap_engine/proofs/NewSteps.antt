@@ -11,7 +11,7 @@ use Rattle.gc_graph.specs.State.{Setup, State, ObjectType, Node, Registration, t
 use Rattle.gc_graph.specs.Placement.{IsPlaceFor, IsPlacement, extents_of}
 use Rattle.gc_graph.specs.Sweep.{pages_swept_in, SweepsInPhase}
 use Rattle.gc_graph.specs.Built.{is_built_type}
-use Rattle.gc_graph.specs.Fields.{new_node, size_of_type, strong_type}
+use Rattle.gc_graph.specs.Fields.{new_node, size_of_type}
 use Rattle.gc_graph.specs.May.{may_with_new}
 use Rattle.gc_graph.specs.Outcomes.{answered, with_slot}
 use Rattle.gc_graph.specs.ObjectSteps.{StepNew, with_new, registrations_for}
@@ -21,7 +21,7 @@ use Rattle.heap_engine.specs.View.{places_of}
 use Rattle.heap_engine.specs.Objects.{AreBuilt, with_made}
 use Rattle.heap_engine.specs.Changes.{put_in, filled}
 use Rattle.heap_engine.specs.Parts.{ObjectsView, HandlesView, CycleView, setup_of_objects, state_of, counted, HasMarks, AreTied}
-use Rattle.heap_engine.proofs.StrongFields.{built_is_strong}
+use Rattle.heap_engine.proofs.StrongFields.{built_unregistered}
 use Rattle.heap_engine.proofs.HeldNodes.{place-old, node-new}
 use Rattle.heap_engine.proofs.NodePlaces.{there_below, live_is_there}
 
@@ -43,14 +43,14 @@ abbrev registration_for : ℕ → ℕ → Registration
 registration_for n c = record { node = n; callback = c }
 
 -- the new node joins the others, and no prefinalizer is registered for it
-joins : (setup : Setup) (s : State) (p t extra place : ℕ) → s.phase ≡ Idle → type_at setup t ≡ strong_type (length (type_at setup t).kinds)
+joins : (setup : Setup) (s : State) (p t extra place : ℕ) → s.phase ≡ Idle → (type_at setup t).prefinalizers ≡ []
     → answered (with_slot (record s { nodes = s.nodes ++ new_node setup t extra place ∷ [] }) p (Some (length s.nodes)))
     ≡ answered (with_slot (with_new setup s t extra place) p (Some (length s.nodes)))
 joins setup s p t extra place idle is =
     let build : List Registration → List Bool → State = λ registrations may.
     answered (with_slot (record s { nodes = s.nodes ++ new_node setup t extra place ∷ []; registrations = registrations; may = may }) p (Some (length s.nodes))) in
     let registered : s.registrations ≡ s.registrations ++ registrations_for setup t (length s.nodes) =
-    sym (ap (λ (type : ObjectType). s.registrations ++ map (registration_for (length s.nodes)) type.prefinalizers) is ∙ append-nil s.registrations) in
+    sym (ap (λ cs. s.registrations ++ map (registration_for (length s.nodes)) cs) is ∙ append-nil s.registrations) in
     ap (λ rs. build rs s.may) registered ∙ ap (build (s.registrations ++ registrations_for setup t (length s.nodes))) (sym (ap (λ ph. may_with_new ph s.may) idle))
 
 pub step_made : (o new : ObjectsView) (h after : HandlesView) (c : CycleView) (p t extra place number : ℕ) → AreBuilt o.types → t < length o.types → c.phase ≡ Idle
@@ -60,8 +60,8 @@ pub step_made : (o new : ObjectsView) (h after : HandlesView) (c : CycleView) (p
 step_made o new h after c p t extra place number built low idle found counted nodes put =
     let setup : Setup = setup_of_objects o in
     let s : State = state_of o h c in
-    let type : type_at setup t ≡ strong_type (length (type_at setup t).kinds) =
-    built_is_strong (type_at setup t) (All-get_or (λ (x : ObjectType). is_built_type x ≡ true) o.types t no_type low built) in
+    let none : (type_at setup t).prefinalizers ≡ [] =
+    built_unregistered (type_at setup t) (All-get_or (λ (x : ObjectType). is_built_type x ≡ true) o.types t no_type low built) in
     inr (record {
       numbers = [];
       mid = s;
@@ -72,7 +72,7 @@ step_made o new h after c p t extra place number built low idle found counted no
         after = ap (λ (x : HandlesView). answered (state_of new x c)) put
             ∙ ap (λ (ns : List Node). answered (with_slot (record s { nodes = ns }) p (Some number))) nodes
             ∙ ap (λ k. answered (with_slot (record s { nodes = o.nodes ++ new_node setup t extra place ∷ [] }) p (Some k))) counted
-            ∙ joins setup s p t extra place idle type;
+            ∙ joins setup s p t extra place idle none;
       };
     })
 

@@ -1,66 +1,43 @@
--- What a valid state says of its nodes, and what holds where all fields are strong.
-use Rattle.std.proofs.Common.{◌≡◌, ℕ, zero, suc, ◌+◌, ◌<◌, Bool, true, false, List, [], ◌∷◌, ◌++◌, length, get_or, map, replicate, eqb, refl, sym, ap, ◌∙◌, subst, arith, cond}
+-- What a valid state says of its nodes, and what the types say that a heap can have so far.
+use Rattle.std.proofs.Common.{◌≡◌, ℕ, zero, suc, ◌+◌, ◌<◌, true, false, List, [], ◌∷◌, ◌++◌, length, map, replicate, eqb, refl, sym, ap, ◌∙◌, subst, arith}
 use Rattle.std.specs.List.{All, Contains, list_all}
 use Rattle.std.proofs.lemmas.Bool.{true≢false, and_parts, eqb-true}
-use Rattle.std.proofs.lemmas.List.{map-append, replicate-append-replicate, get_or-replicate}
-use Rattle.std.proofs.lemmas.List.Elements.{All-head, All-tail, All-cons, All-get_or, All-weaker}
+use Rattle.std.proofs.lemmas.List.{map-append, replicate-append-replicate}
+use Rattle.std.proofs.lemmas.List.Elements.{All-cons, All-weaker}
 use Rattle.std.proofs.lemmas.List.Sums.{sum_by-cons}
 use Rattle.gc_graph.specs.declared.kind.Kind.{Kind}
 use Rattle.gc_graph.specs.declared.kind.Kind.TheVariants.{Strong, Weak, Pair, Plain}
 use Rattle.gc_graph.specs.declared.kind.Value.{Value}
 use Rattle.gc_graph.specs.declared.kind.Value.TheVariants.{Null, Ref, Word}
 use Rattle.gc_graph.specs.Built.{is_built_kind, is_built_type}
-use Rattle.gc_graph.specs.State.{Setup, ObjectType, Node, no_type, node_at, is_live, type_at, IsLive}
+use Rattle.gc_graph.specs.State.{Setup, ObjectType, Node, node_at, type_at, IsLive}
 use Rattle.gc_graph.specs.Valid.{IsTyped, HaveKinds, IsReferenceBelow, IsPlainWord, NamesLive}
-use Rattle.gc_graph.specs.Fields.{words_of_kind, field_words, kind_of_field, nulls_of_kind, nulls_of, new_node, strong_type}
-use Rattle.gc_graph.specs.Pause.{cleared_values, with_cleared, clear_node}
+use Rattle.gc_graph.specs.Fields.{words_of_kind, field_words, nulls_of_kind, nulls_of, new_node}
 use Rattle.heap_engine.specs.Marking.{ArePairless}
 use Rattle.heap_engine.specs.Nodes.{word_of}
 use Rattle.heap_engine.specs.Objects.{AreBuilt, AreOfValid}
 
 -- ---- the types that a heap can have so far
 
-strong_kinds : (kinds : List Kind) → list_all is_built_kind kinds ≡ true → kinds ≡ replicate (length kinds) Strong
-strong_kinds [] built = refl
-strong_kinds (Strong ∷ kinds) built = ap (λ ks. Strong ∷ ks) (strong_kinds kinds built)
-strong_kinds (Weak ∷ kinds) built = absurd (true≢false (sym built))
-strong_kinds (Pair ∷ kinds) built = absurd (true≢false (sym built))
-strong_kinds (Plain ∷ kinds) built = absurd (true≢false (sym built))
-
 no_numbers : (numbers : List ℕ) → length numbers ≡ 0 → numbers ≡ []
 no_numbers [] none = refl
 no_numbers (n ∷ numbers) none = absurd (omega (arith, none))
 
-pub built_is_strong : (type : ObjectType) → is_built_type type ≡ true → type ≡ strong_type (length type.kinds)
-built_is_strong type built =
-    let both = and_parts (list_all is_built_kind type.kinds) (eqb (length type.prefinalizers) 0) built in
-    ap (λ ks. (let made : ObjectType = record { kinds = ks; prefinalizers = type.prefinalizers } in made)) (strong_kinds type.kinds both.0)
-    ∙ ap (λ ns. (let made : ObjectType = record { kinds = replicate (length type.kinds) Strong; prefinalizers = ns } in made))
-    (no_numbers type.prefinalizers (eqb-true (length type.prefinalizers) 0 both.1))
+pub built_unregistered : (type : ObjectType) → is_built_type type ≡ true → type.prefinalizers ≡ []
+built_unregistered type built =
+    no_numbers type.prefinalizers (eqb-true (length type.prefinalizers) 0 (and_parts (list_all is_built_kind type.kinds) (eqb (length type.prefinalizers) 0) built).1)
 
-no_pair : (n : ℕ) → Contains (replicate n Strong) Pair → ⊥
-no_pair zero there = omega (arith, there.1)
-no_pair (suc n) (zero, low, is) = cc
-no_pair (suc n) (suc k, low, is) = no_pair n (k, omega arith, is)
+no_pair : (kinds : List Kind) → list_all is_built_kind kinds ≡ true → Contains kinds Pair → ⊥
+no_pair [] built there = omega (arith, there.1)
+no_pair (kind ∷ kinds) built (zero, low, is) =
+    true≢false (sym (and_parts (is_built_kind kind) (list_all is_built_kind kinds) built).0 ∙ ap is_built_kind is)
+no_pair (kind ∷ kinds) built (suc k, low, is) =
+    no_pair kinds (and_parts (is_built_kind kind) (list_all is_built_kind kinds) built).1 (k, omega arith, is)
 
 pub built_pairless : (types : List ObjectType) → AreBuilt types → ArePairless types
 built_pairless types built =
     All-weaker (λ (type : ObjectType). is_built_type type ≡ true) (λ (type : ObjectType). Contains type.kinds Pair → ⊥)
-    (λ (type : ObjectType) is pair. no_pair (length type.kinds) (subst (λ (t : ObjectType). Contains t.kinds Pair) (built_is_strong type is) pair)) types built
-
--- the object's fields are all strong
-abbrev pub IsStrong : Node → Type 0
-IsStrong node = node.object.kinds ≡ replicate (length node.object.kinds) Strong
-
-strong_node : (setup : Setup) (bound : ℕ) (node : Node) → AreBuilt setup.types → IsTyped setup bound node → IsStrong node
-strong_node setup bound node built typed =
-    let type : type_at setup node.object.ty ≡ strong_type (length (type_at setup node.object.ty).kinds) =
-    built_is_strong (type_at setup node.object.ty) (All-get_or (λ (t : ObjectType). is_built_type t ≡ true) setup.types node.object.ty no_type typed.ty built) in
-    typed.kinds_are ∙ ap (λ (t : ObjectType). t.kinds) type ∙ ap (λ (ks : List Kind). replicate (length ks) Strong) (sym typed.kinds_are)
-
-pub strong_kind : (node : Node) (f : ℕ) → IsStrong node → f < length node.object.kinds → kind_of_field node.object f ≡ Strong
-strong_kind node f strong low =
-    ap (λ (ks : List Kind). get_or ks f Plain) strong ∙ get_or-replicate (length node.object.kinds) f Strong Plain low
+    (λ (type : ObjectType) is. no_pair type.kinds (and_parts (list_all is_built_kind type.kinds) (eqb (length type.prefinalizers) 0) is).0) types built
 
 -- ---- what a valid state says of its nodes
 
@@ -108,9 +85,6 @@ known_nodes setup nodes (s, valid, is) = subst (AreKnown setup) is (record {
   references = valid.named;
 })
 
-pub strong_nodes : (setup : Setup) (nodes : List Node) → AreBuilt setup.types → AreKnown setup nodes → All IsStrong nodes
-strong_nodes setup nodes built known = All-weaker (IsTyped setup (length nodes)) IsStrong (λ x. strong_node setup (length nodes) x built) nodes known.typed
-
 -- ---- a new object
 
 zero_words : (f : ℕ → ℕ) (n : ℕ) → map (word_of f) (replicate n (Word 0)) ≡ replicate n 0
@@ -139,23 +113,3 @@ new_words setup f t extra place =
     map-append (word_of f) (nulls_of kinds) (replicate extra (Word 0))
     ∙ ap (λ ws. ws ++ map (word_of f) (replicate extra (Word 0))) (null_words f kinds)
     ∙ ap (λ ws. replicate (field_words kinds) 0 ++ ws) (zero_words f extra) ∙ replicate-append-replicate (field_words kinds) extra 0
-
--- ---- a pause
-
-strong_stay : (dead : ℕ → Bool) (n : ℕ) (values : List Value) → cleared_values dead (replicate n Strong) values ≡ values
-strong_stay dead zero values = refl
-strong_stay dead (suc n) [] = refl
-strong_stay dead (suc n) (v ∷ values) = ap (λ vs. v ∷ vs) (strong_stay dead n values)
-
-pub clears_nothing : (dead : ℕ → Bool) (nodes : List Node) → All IsStrong nodes → map (clear_node dead) nodes ≡ nodes
-clears_nothing dead [] strong = refl
-clears_nothing dead (x ∷ nodes) strong =
-    let is : IsStrong x = All-head IsStrong x nodes strong in
-    let values : cleared_values dead x.object.kinds x.object.values ≡ x.object.values =
-    ap (λ (ks : List Kind). cleared_values dead ks x.object.values) is ∙ strong_stay dead (length x.object.kinds) x.object.values in
-    let cleared : with_cleared dead x ≡ x = ap (λ (vs : List Value). (let y : Node = record x { object = record x.object { values = vs } } in y)) values in
-    ap (λ (y : Node). cond (is_live x.life) y x ∷ map (clear_node dead) nodes) cleared ∙ ap (λ (y : Node). y ∷ map (clear_node dead) nodes) (same (is_live x.life) x)
-    ∙ ap (λ ns. x ∷ ns) (clears_nothing dead nodes (All-tail IsStrong x nodes strong)) where
-      same : (b : Bool) (y : Node) → cond b y y ≡ y
-      same true y = refl
-      same false y = refl

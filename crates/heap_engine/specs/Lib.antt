@@ -2,6 +2,7 @@ pub mod Marking
 pub mod Sweeping
 pub mod Nodes
 pub mod View
+pub mod Fields
 pub mod Objects
 pub mod Printed
 pub mod Parts

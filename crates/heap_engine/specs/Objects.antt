@@ -1,18 +1,15 @@
 -- The objects in the words are the nodes, and what calls on them change.
-use Rattle.std.specs.Prelude.{◌≡◌, ℕ, ◌+◌, ◌<◌, true, false, Bool, List, [], ◌∷◌, ◌++◌, length, Option, Some, None, option_map, All, MatchBool, nat_lt, slice_set, Result, Ok, Err, ⊤}
+use Rattle.std.specs.Prelude.{◌≡◌, ℕ, ◌<◌, true, false, Bool, List, [], ◌∷◌, ◌++◌, length, Option, Some, None, option_map, All, slice_set}
 use Rattle.gc_graph.specs.declared.kind.Value.{Value}
-use Rattle.gc_graph.specs.declared.kind.Value.TheVariants.{Null, Ref, Word}
-use Rattle.gc_graph.specs.declared.line.Refusal.{Refusal}
-use Rattle.gc_graph.specs.declared.line.Refusal.TheVariants as R
 use Rattle.gc_graph.specs.Graph.{has, IsClosed, IsWithin}
 use Rattle.gc_graph.specs.Reach.{Reach}
 use Rattle.gc_graph.specs.Built.{is_built_type}
 use Rattle.gc_graph.specs.State.{Setup, State, ObjectType, Node, node_at, graph_of, slot_targets, IsLive}
-use Rattle.gc_graph.specs.Fields.{field_count, kind_of_field, word_of_field, is_reference, value_at, with_value, target_of, new_node}
+use Rattle.gc_graph.specs.Fields.{word_of_field, with_value, target_of, new_node}
 use Rattle.gc_graph.specs.Valid.{IsValid}
 use Rattle.gc_graph.specs.Sweep.{buried}
 use Rattle.gc_graph.specs.Pause.{condemn}
-use Rattle.object_headers.specs.Offsets.{first_field, reference_to}
+use Rattle.object_headers.specs.Offsets.{reference_to}
 use Rattle.page_words.specs.Seat.{SeatView}
 use Rattle.page_space.specs.Space.{SpaceView, IsSpaceOf}
 use Rattle.heap_engine.specs.Nodes.{place_of, IsHeld}
@@ -40,30 +37,6 @@ AreOfValid setup nodes = (s : State) × IsValid setup s × (s.nodes ≡ nodes)
 -- a live node is there, and this is its place
 abbrev pub IsLiveAt : List Node → ℕ → ℕ → Type 0
 IsLiveAt nodes n place = IsLive nodes n × (place_of nodes n ≡ place)
-
--- where the node's word with this number is
-abbrev pub address_of : List Node → ℕ → ℕ → ℕ
-address_of nodes n word = place_of nodes n + first_field + word
-
--- where the node's field f is, or why it has none that `set` and `get` speak of
-abbrev pub IsFieldAt : List Node → ℕ → ℕ → Result ℕ Refusal → Type 0
-IsFieldAt nodes n f answer =
-    MatchBool (nat_lt f (field_count (node_at nodes n)))
-    (MatchBool (is_reference (kind_of_field (node_at nodes n).object f)) (answer ≡ Ok (address_of nodes n (word_of_field (node_at nodes n).object f))) (answer ≡ Err R.Kind))
-    (answer ≡ Err R.Field)
-
--- null, or a reference to a live node
-abbrev pub IsLiveReference : List Node → Value → Type 0
-IsLiveReference nodes Null = ⊤
-IsLiveReference nodes (Ref n) = IsLive nodes n
-IsLiveReference nodes (Word w) = ⊥
-
--- the word at the address is the live node's word with this number, which holds a reference
-pub record IsWordOf (nodes : List Node) (n word a : ℕ) : Type 0 where
-  pub live : IsLive nodes n
-  pub low : word < length (node_at nodes n).object.values
-  pub at : a ≡ address_of nodes n word
-  pub reference : IsLiveReference nodes (value_at (node_at nodes n) word)
 
 -- the place and the number of what a value names
 abbrev pub target_in : List Node → Value → Option (ℕ × ℕ)

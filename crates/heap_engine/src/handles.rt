@@ -2,7 +2,7 @@
 
 ghost use Rattle.std.specs.Prelude.{◌≡◌, ◌<◌, None, IfOk, length, replicate};
 ghost use Rattle.std.specs.Prelude.{slice_index_or, slice_set, option_map};
-ghost use Rattle.gc_graph.specs.declared.kind.Value.TheVariants.{Null};
+ghost use Rattle.gc_graph.specs.declared.kind.Value.TheVariants.{Null, Word};
 ghost use Rattle.gc_graph.specs.Fields.{content_of};
 ghost use Rattle.heap_engine.specs.Objects.{slot_word};
 ghost use Rattle.heap_engine.specs.Changes.{put_in};
@@ -103,6 +103,17 @@ impl Content {
             value: null_value(),
         }
     }
+
+    /// A number.
+    pub fn number(n: u64) -> Content
+        ensures word { result.word ≡ n }
+        ensures value { result.value.value ≡ Word n }
+    {
+        Content {
+            word: n,
+            value: number_value(n),
+        }
+    }
 }
 
 /// A value of a field. It is never made.
@@ -162,6 +173,12 @@ fn null_value() -> GhostValue<Values>
     ensures { result.value ≡ Null }
 {
     GhostValue::chosen(&0u8)
+}
+
+fn number_value(n: u64) -> GhostValue<Values>
+    ensures { result.value ≡ Word n }
+{
+    GhostValue::chosen(&n)
 }
 
 fn value_of(slots: &GhostValue<SlotLists>, q: u32) -> GhostValue<Values>

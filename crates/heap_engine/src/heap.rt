@@ -16,7 +16,7 @@ ghost use Rattle.heap_engine.specs.Parts.{setup_of_objects, state_of, counted, I
 
 use crate::creating::new_object;
 use crate::cycle::Cycle;
-use crate::fields::{get, set, set_null};
+use crate::fields::{get, put, set, set_null, word};
 use crate::handles::Handles;
 use crate::objects::Objects;
 use crate::outcome::Outcome;
@@ -166,14 +166,14 @@ fn run(
         Command::Set { p, f, q } => set(objects, handles, cycle, p, f, q),
         Command::SetNull { p, f } => set_null(objects, handles, cycle, p, f),
         Command::Get { p, f, q } => get(objects, handles, cycle, p, f, q),
+        Command::Put { p, f, n } => put(objects, handles, cycle, p, f, n),
+        Command::Word { p, f } => word(objects, handles, cycle, p, f),
         Command::Drop { p } => drop_slot(objects, handles, cycle, p),
         Command::GcNow { want: _ } => cycle.collect(objects, handles, outcome),
         Command::SweepAll => cycle.sweep_all(objects, handles, outcome),
         Command::Stat => stat(objects, handles, cycle),
         Command::Pair { .. }
         | Command::PairNull { .. }
-        | Command::Put { .. }
-        | Command::Word { .. }
         | Command::Key { .. }
         | Command::Val { .. }
         | Command::Copy { .. }

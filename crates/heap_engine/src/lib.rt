@@ -8,8 +8,8 @@
 //! `outcome` (the lines of the last command). Each part owns what it holds and has a model; the
 //! state of the graph is put together from the models. The commands, in `creating`, `fields`,
 //! `slots`, `totals` and `cycle`, take the parts. Inside, `mark_list` and `marking` (what the slots
-//! reach), `collecting` and `sweeping` (what was dead), `finding` (places and fields), and for
-//! contracts alone `nodes`, `states` and `entries`. Next down are `page_space` and `page_words`.
+//! reach), `collecting` and `sweeping` (what was dead), `finding` (places), `field` (fields), and for
+//! contracts alone `nodes`, `states` and `entries`. Next down are `member_fields` and `page_space`.
 //!
 //! What is proved: `act` is a step from the heap's own state to its new state, for every command
 //! that is allowed and that the heap does so far (`IsBuiltIn`), and its lines are those of the step;
@@ -26,6 +26,7 @@ mod collecting;
 mod creating;
 mod cycle;
 mod entries;
+mod field;
 mod fields;
 mod finding;
 mod handles;

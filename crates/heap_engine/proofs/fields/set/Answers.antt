@@ -1,18 +1,19 @@
 use Rattle.std.proofs.Common.{None, get_or, sym, subst, ◌∙◌, ap}
-use Rattle.heap_engine.specs.Objects.{IsLiveReference, slot_word}
+use Rattle.heap_engine.specs.Fields.{IsLiveReference}
+use Rattle.heap_engine.specs.Objects.{slot_word}
 use Rattle.heap_engine.proofs.Ties.{slot_place, slot_live}
 use Rattle.heap_engine.proofs.FieldAnswers.{content_live, content_word}
 use Rattle.heap_engine.proofs.fields.set.Goals as goal
 
-pub write-requires-clause-reference : goal.write-requires-clause-reference
-write-requires-clause-reference c =
-    subst (IsLiveReference c.args.objects.now.nodes) (sym c.content.ensures.value)
+pub write-requires-clause-value : goal.write-requires-clause-value
+write-requires-clause-value c =
+    subst (IsLiveReference c.args.objects.now.nodes) (sym c.content-content.ensures.value)
     (content_live c.args.objects.now.nodes (get_or c.args.handles.now.slots c.args.q None)
     (slot_live c.args.objects.now c.args.handles.now c.args.cycle.now c.args.q c.requires.ready))
 
 pub write-requires-clause-word : goal.write-requires-clause-word
 write-requires-clause-word c =
-    rw c.content.ensures.value
-    (c.content.ensures.word
+    rw c.content-content.ensures.value
+    (c.content-content.ensures.word
     ∙ ap slot_word (slot_place c.args.objects.now c.args.handles.now c.args.cycle.now c.args.q c.requires.ready.tied)
     ∙ content_word c.args.objects.now.nodes (get_or c.args.handles.now.slots c.args.q None))

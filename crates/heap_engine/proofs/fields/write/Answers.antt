@@ -1,24 +1,39 @@
 use Rattle.std.proofs.Common.{◌≡◌, List, None, get_or, length, refl, ap, ◌∙◌, arith}
 use Rattle.gc_graph.specs.State.{Node}
 use Rattle.heap_engine.specs.Nodes.{place_of}
+use Rattle.heap_engine.specs.Fields.{allows}
 use Rattle.heap_engine.specs.Objects.{written_in}
 use Rattle.heap_engine.specs.Parts.{ObjectsView, counted}
-use Rattle.heap_engine.proofs.FieldAnswers.{Found, found, step_set}
+use Rattle.heap_engine.proofs.FieldAnswers.{Found, found, field_kind, step_write}
 use Rattle.heap_engine.proofs.FieldNodes.{place-written, length-written}
-use Rattle.heap_engine.proofs.Ties.{tied_nodes}
+use Rattle.heap_engine.proofs.FieldReads.{takes_suited}
+use Rattle.heap_engine.proofs.Ties.{valid_nodes, tied_nodes}
 use Rattle.heap_engine.proofs.fields.write.Goals as goal
 
-pub store-requires-clause-word : goal.store-requires-clause-word
-store-requires-clause-word c =
-    let is : Found c.args.objects.now c.args.handles.now c.args.p c.args.f c.in-Ok.a =
-    found c.args.objects.now c.args.handles.now c.args.cycle.now c.args.p c.args.f c.in-Ok.a (get_or c.args.handles.now.slots c.args.p None) c.requires.ready refl c.in-Ok.ensures.field in
-    rw c.in-Ok.ensures.same (is.node, is.slot, is.word)
+pub store-requires-clause-valid : goal.store-requires-clause-valid
+store-requires-clause-valid c = rw c.in-Ok.ensures.same (valid_nodes c.args.objects.now c.args.handles.now c.args.cycle.now c.requires.ready)
+
+pub store-requires-clause-field : goal.store-requires-clause-field
+store-requires-clause-field c =
+    let is : Found (allows c.args.wanted) c.args.objects.now c.args.handles.now c.args.p c.args.f c.in-Ok.field =
+    found (allows c.args.wanted) c.args.objects.now c.args.handles.now c.args.cycle.now c.args.p c.args.f c.in-Ok.field (get_or c.args.handles.now.slots c.args.p None) c.requires.ready
+    refl c.in-Ok.ensures.field in
+    rw c.in-Ok.ensures.same (is.node, is.slot, is.is)
+
+pub store-requires-clause-value : goal.store-requires-clause-value
+store-requires-clause-value c =
+    let is : Found (allows c.args.wanted) c.args.objects.now c.args.handles.now c.args.p c.args.f c.in-Ok.field =
+    found (allows c.args.wanted) c.args.objects.now c.args.handles.now c.args.cycle.now c.args.p c.args.f c.in-Ok.field (get_or c.args.handles.now.slots c.args.p None) c.requires.ready
+    refl c.in-Ok.ensures.field in
+    rw c.in-Ok.ensures.same (takes_suited c.args.wanted c.in-Ok.field.kind c.args.objects.now.nodes c.args.content.now.value.value
+    (field_kind (allows c.args.wanted) c.args.objects.now c.args.handles.now c.args.p c.args.f c.in-Ok.field is) c.requires.value)
 
 pub returns-in-Ok-clause-step : goal.returns-in-Ok-clause-step
 returns-in-Ok-clause-step c =
-    let is : Found c.args.objects.now c.args.handles.now c.args.p c.args.f c.in-Ok.a =
-    found c.args.objects.now c.args.handles.now c.args.cycle.now c.args.p c.args.f c.in-Ok.a (get_or c.args.handles.now.slots c.args.p None) c.requires.ready refl c.in-Ok.ensures.field in
-    step_set c.args.objects.now c.store.new.self c.args.handles.now c.args.cycle.now c.args.p c.args.f c.in-Ok.a c.args.content.now.value.value is
+    let is : Found (allows c.args.wanted) c.args.objects.now c.args.handles.now c.args.p c.args.f c.in-Ok.field =
+    found (allows c.args.wanted) c.args.objects.now c.args.handles.now c.args.cycle.now c.args.p c.args.f c.in-Ok.field (get_or c.args.handles.now.slots c.args.p None) c.requires.ready
+    refl c.in-Ok.ensures.field in
+    step_write c.args.wanted c.args.objects.now c.store.new.self c.args.handles.now c.args.cycle.now c.args.p c.args.f c.in-Ok.field c.args.content.now.value.value is
     (rw c.in-Ok.ensures.same at c.store.ensures.setup) (rw c.in-Ok.ensures.same at c.store.ensures.nodes)
 
 pub returns-in-Ok-clause-frame : goal.returns-in-Ok-clause-frame

@@ -1,6 +1,7 @@
 use Rattle.std.proofs.Common.{◌-◌, List, [], arith, refl}
 use Rattle.gc_graph.specs.State.{Setup, Node}
-use Rattle.heap_engine.proofs.FieldPlaces.{IsHead, live_place, live_head, extra_is, field_answered, field_fits}
+use Rattle.heap_engine.specs.Fields.{allows}
+use Rattle.heap_engine.proofs.FieldPlaces.{IsHead, live_place, live_head, extra_is, field_answered}
 use Rattle.heap_engine.proofs.objects.Objects.field_at.Goals as goal
 
 pub header_at-header-requires-clause-start : goal.header_at-header-requires-clause-start
@@ -29,19 +30,6 @@ field_at-requires-clause-ty c =
     c.self.invariant.held.bodies there.1 c.header_at-header.ensures.header in
     head.known
 
-pub reference_field-requires : goal.reference_field-requires
-reference_field-requires c =
-    let setup : Setup = record { shape = c.self.inside.space.shape; markers = 0; types = c.self.inside.types; callbacks = [] } in
-    let nodes : List Node = c.self.inside.nodes.value in
-    let there = rw (← c.self.view_is) at c.requires.place in
-    let head : IsHead setup nodes there.0 c.header_at-header.result.size c.header_at-header.result.ty =
-    live_head setup nodes c.self.inside.seat there.0 c.args.place c.header_at-header.result (rw (← c.self.view_is) at c.requires.valid) c.self.invariant.held.bodies
-    there.1 c.header_at-header.ensures.header in
-    field_fits setup nodes there.0 c.args.place c.args.f c.header_at-header.result.size c.header_at-header.result.ty (c.header_at-header.result.size - c.size_of.result)
-    c.self.inside.seat.count c.field_at.result head
-    (extra_is setup nodes there.0 c.header_at-header.result.size c.header_at-header.result.ty c.size_of.result (c.header_at-header.result.size - c.size_of.result) head c.size_of.ensures.size refl)
-    (omega (arith, c.header_at-header.ensures.inside, c.self.invariant.laid.seat)) c.bodies_lie_apart.ensures.count c.field_at.ensures
-
 pub returns-clause-field : goal.returns-clause-field
 returns-clause-field c =
     let setup : Setup = record { shape = c.self.inside.space.shape; markers = 0; types = c.self.inside.types; callbacks = [] } in
@@ -51,6 +39,6 @@ returns-clause-field c =
     live_head setup nodes c.self.inside.seat n c.args.place c.header_at-header.result (rw (← c.self.view_is) at c.requires.valid) c.self.invariant.held.bodies
     at c.header_at-header.ensures.header in
     field_answered setup nodes n c.args.place c.args.f c.header_at-header.result.size c.header_at-header.result.ty (c.header_at-header.result.size - c.size_of.result)
-    c.field_at.result c.reference_field.result head
+    (allows c.args.wanted) c.field_at.result c.wanted_field.result head
     (extra_is setup nodes n c.header_at-header.result.size c.header_at-header.result.ty c.size_of.result (c.header_at-header.result.size - c.size_of.result) head c.size_of.ensures.size refl)
-    at.1 c.field_at.ensures c.reference_field.ensures)
+    at.1 c.field_at.ensures c.wanted_field.ensures)
