@@ -13,7 +13,6 @@ use Rattle.gc_graph.specs.Built.{is_built_kind, is_built_type}
 use Rattle.gc_graph.specs.State.{Setup, ObjectType, Node, no_type, node_at, is_live, type_at, IsLive}
 use Rattle.gc_graph.specs.Valid.{IsTyped, HaveKinds, IsReferenceBelow, IsPlainWord, NamesLive}
 use Rattle.gc_graph.specs.Fields.{words_of_kind, field_words, kind_of_field, nulls_of_kind, nulls_of, new_node, strong_type}
-use Rattle.gc_graph.specs.Pause.{cleared_values, with_cleared, clear_node}
 use Rattle.heap_engine.specs.Marking.{ArePairless}
 use Rattle.heap_engine.specs.Nodes.{word_of}
 use Rattle.heap_engine.specs.Objects.{AreBuilt, AreOfValid}
@@ -139,23 +138,3 @@ new_words setup f t extra place =
     map-append (word_of f) (nulls_of kinds) (replicate extra (Word 0))
     ∙ ap (λ ws. ws ++ map (word_of f) (replicate extra (Word 0))) (null_words f kinds)
     ∙ ap (λ ws. replicate (field_words kinds) 0 ++ ws) (zero_words f extra) ∙ replicate-append-replicate (field_words kinds) extra 0
-
--- ---- a pause
-
-strong_stay : (dead : ℕ → Bool) (n : ℕ) (values : List Value) → cleared_values dead (replicate n Strong) values ≡ values
-strong_stay dead zero values = refl
-strong_stay dead (suc n) [] = refl
-strong_stay dead (suc n) (v ∷ values) = ap (λ vs. v ∷ vs) (strong_stay dead n values)
-
-pub clears_nothing : (dead : ℕ → Bool) (nodes : List Node) → All IsStrong nodes → map (clear_node dead) nodes ≡ nodes
-clears_nothing dead [] strong = refl
-clears_nothing dead (x ∷ nodes) strong =
-    let is : IsStrong x = All-head IsStrong x nodes strong in
-    let values : cleared_values dead x.object.kinds x.object.values ≡ x.object.values =
-    ap (λ (ks : List Kind). cleared_values dead ks x.object.values) is ∙ strong_stay dead (length x.object.kinds) x.object.values in
-    let cleared : with_cleared dead x ≡ x = ap (λ (vs : List Value). (let y : Node = record x { object = record x.object { values = vs } } in y)) values in
-    ap (λ (y : Node). cond (is_live x.life) y x ∷ map (clear_node dead) nodes) cleared ∙ ap (λ (y : Node). y ∷ map (clear_node dead) nodes) (same (is_live x.life) x)
-    ∙ ap (λ ns. x ∷ ns) (clears_nothing dead nodes (All-tail IsStrong x nodes strong)) where
-      same : (b : Bool) (y : Node) → cond b y y ≡ y
-      same true y = refl
-      same false y = refl

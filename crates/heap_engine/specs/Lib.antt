@@ -3,6 +3,7 @@ pub mod Sweeping
 pub mod Nodes
 pub mod View
 pub mod Objects
+pub mod Judgement
 pub mod Printed
 pub mod Parts
 pub mod Changes
