@@ -25,16 +25,16 @@ use Rattle.gc_graph.specs.Outcomes.{answered, finalise_lines, took, owner_entry}
 use Rattle.gc_graph.specs.Sweep.{SweepsToEnd}
 use Rattle.gc_graph.specs.CycleSteps.{IsStart, IsPause, IsCollection, StepGcNow, WantsMemory, is_marking, is_stack_refused}
 use Rattle.heap_engine.specs.Marking.{Grey}
-use Rattle.heap_engine.specs.View.{start_entry, pause_entry}
-use Rattle.heap_engine.specs.Objects.{IsJudgement}
+use Rattle.heap_engine.specs.View.{places_of, start_entry, pause_entry}
+use Rattle.heap_engine.specs.Judgement.{IsJudgement, nodes_after, weak_after}
 use Rattle.heap_engine.specs.Changes.{collected_from}
 use Rattle.heap_engine.specs.Parts.{ObjectsView, HandlesView, CycleView, setup_of_objects, state_of, counted, HasMarks, IsAtRest, IsReady, IsFrame}
 use Rattle.heap_engine.specs.Nodes.{place_of}
 use Rattle.heap_engine.specs.Sweeping.{IsJudged}
-use Rattle.heap_engine.proofs.NodeLives.{length-condemn, object-condemn, place-condemn, live_and_dead}
-use Rattle.heap_engine.proofs.StrongFields.{IsStrong, strong_nodes, known_nodes, clears_nothing}
+use Rattle.heap_engine.proofs.NodeLives.{live_and_dead}
+use Rattle.heap_engine.proofs.WeakNodes.{place-after, length-after, live-after, dead-after}
 use Rattle.heap_engine.proofs.KeptNodes.{refers_within}
-use Rattle.heap_engine.proofs.Ties.{valid_nodes, tied_nodes}
+use Rattle.heap_engine.proofs.Ties.{valid_nodes, places-same}
 
 -- the line of a pause that kept and condemned these
 abbrev pub pause_line : List Node → Line
@@ -42,7 +42,7 @@ pause_line nodes = L.Pause (live_count nodes) (dead_count nodes) 0 (live_count n
 
 -- the state after the pause of a collection that was started from this one
 abbrev pub collected_state : State → List Bool → State
-collected_state s kept = record (collected_from s) { nodes = condemn kept s.nodes; phase = Sweeping }
+collected_state s kept = record (collected_from s) { nodes = nodes_after kept s.nodes; weak = weak_after kept s.nodes s.weak; phase = Sweeping }
 
 -- the line of a pause counts the nodes that it kept and condemned
 pub pause_counts : (nodes : List Node) (objects marked : ℕ) → objects ≡ objects_of nodes → marked ≡ live_count nodes
@@ -51,14 +51,11 @@ pause_counts nodes objects marked all live =
     let dead : objects - marked ≡ dead_count nodes = omega (arith, all, live, live_and_dead nodes) in
     ap (λ k. L.Pause k (objects - marked) 0 k false) live ∙ ap (λ d. L.Pause (live_count nodes) d 0 (live_count nodes) false) dead
 
--- a condemned object has its fields still
-pub strong_judged : (kept : List Bool) (nodes : List Node) → All IsStrong nodes → All IsStrong (condemn kept nodes)
-strong_judged kept nodes strong =
-    All-from_get_or IsStrong (condemn kept nodes) no_node
-    (λ n low. same_object (node_at nodes n) (node_at (condemn kept nodes) n) (object-condemn kept nodes n)
-    (All-get_or IsStrong nodes n no_node (subst (λ l. n < l) (length-condemn kept nodes) low) strong)) where
-      same_object : (x y : Node) → y.object ≡ x.object → IsStrong x → IsStrong y
-      same_object x y same is = subst (λ (o : Object). o.kinds ≡ replicate (length o.kinds) Strong) (sym same) is
+-- clearing leaves the counts
+pub pause_line_after : (kept : List Bool) (nodes : List Node) → pause_line (nodes_after kept nodes) ≡ pause_line (condemn kept nodes)
+pause_line_after kept nodes =
+    ap (λ k. L.Pause k (dead_count (nodes_after kept nodes)) 0 k false) (live-after kept nodes)
+    ∙ ap (λ d. L.Pause (live_count (condemn kept nodes)) d 0 (live_count (condemn kept nodes)) false) (dead-after kept nodes)
 
 -- ---- the members of a set
 
@@ -97,9 +94,9 @@ plain_roots ph grey s unused =
 abbrev pub started_state : State → State
 started_state s = marking (took s (start_entry ∷ []))
 
-pub pause_keeps : (ph : Phase) (grey : Grey) (s : State) (new : List Node) → ReachIsLeast → RefersWithin (graph_of s.nodes) → IsAtRest ph grey s
-    → (keeps : IsJudgement s.nodes s.slots new) → IsKept (took (started_state s) []) [] keeps.kept
-pause_keeps ph grey s new law refers unused keeps =
+pub pause_keeps : (ph : Phase) (grey : Grey) (s : State) (new : List Node) (weak : List (Option ℕ)) → ReachIsLeast → RefersWithin (graph_of s.nodes) → IsAtRest ph grey s
+    → (keeps : IsJudgement s.nodes s.slots s.weak new weak) → IsKept (took (started_state s) []) [] keeps.kept
+pause_keeps ph grey s new weak law refers unused keeps =
     let kept : List Bool = keeps.kept in
     let g : List Object = graph_of s.nodes in
     let roots : roots_of s ≡ slot_targets s.slots = plain_roots ph grey s unused in
@@ -122,10 +119,6 @@ pause_keeps ph grey s new law refers unused keeps =
 
 -- ---- what isn't used stays so
 
-nulls_stay : (dead : ℕ → Bool) (n : ℕ) → replicate n None ≡ map (clear_slot dead) (replicate n None)
-nulls_stay dead zero = refl
-nulls_stay dead (suc n) = ap (λ l. None ∷ l) (nulls_stay dead n)
-
 vacant_stay : (n : ℕ) → replicate n Vacant ≡ cleared_by 0 (replicate n Vacant)
 vacant_stay zero = refl
 vacant_stay (suc n) = ap (λ l. Vacant ∷ l) (vacant_stay n)
@@ -138,23 +131,21 @@ none_dying : (nodes : List Node) (region : List RegionSlot) → region ≡ repli
 none_dying nodes region is = sym (ap (dying_slots nodes) is)
 
 -- the state after a collection is the one of the pause
-pub collected_is : (ph : Phase) (grey : Grey) (setup : Setup) (s : State) (kept : List Bool) → IsAtRest ph grey s → All IsStrong (condemn kept s.nodes)
+pub collected_is : (ph : Phase) (grey : Grey) (setup : Setup) (s : State) (kept : List Bool) → IsAtRest ph grey s
     → collected_state s kept ≡ paused setup (started_state s) (condemn kept s.nodes)
-collected_is ph grey setup s kept unused strong =
+collected_is ph grey setup s kept unused =
     let c : List Node = condemn kept s.nodes in
-    let dead : ℕ → Bool = is_dead_at c in
-    let build : List Node → List (Option ℕ) → List RegionSlot → List Registration → State = λ nodes weak region registrations.
-    record (collected_state s kept) { nodes = nodes; weak = weak; region = region; registrations = registrations } in
-    let weak : s.weak ≡ map (clear_slot dead) s.weak = unused.weak_null ∙ nulls_stay dead 64 ∙ sym (ap (map (clear_slot dead)) unused.weak_null) in
+    let cleared : List Node = clear_fields c in
+    let build : List Node → List RegionSlot → List Registration → State = λ nodes region registrations.
+    record (collected_state s kept) { nodes = nodes; region = region; registrations = registrations } in
     let region : s.region ≡ cleared_by 0 s.region = unused.region_null ∙ vacant_stay 32 ∙ sym (ap (cleared_by 0) unused.region_null) in
     let left : List Registration → List Registration = λ rs. (paused setup (record (started_state s) { registrations = rs }) c).registrations in
     let registered : s.registrations ≡ left s.registrations = unused.none_registered ∙ sym (ap left unused.none_registered) in
-    let nodes : c ≡ prefinalised setup.callbacks (run_order c s.registrations) (clear_fields c) =
-    sym (ap (λ rs. prefinalised setup.callbacks (run_order c rs) (clear_fields c)) unused.none_registered ∙ clears_nothing dead c strong) in
-    ap (λ ns. build ns s.weak s.region s.registrations) nodes
-    ∙ ap (λ w. build (prefinalised setup.callbacks (run_order c s.registrations) (clear_fields c)) w s.region s.registrations) weak
-    ∙ ap (λ g. build (prefinalised setup.callbacks (run_order c s.registrations) (clear_fields c)) (map (clear_slot dead) s.weak) g s.registrations) region
-    ∙ ap (build (prefinalised setup.callbacks (run_order c s.registrations) (clear_fields c)) (map (clear_slot dead) s.weak) (cleared_by 0 s.region)) registered
+    let ran : List Registration → List Node = λ rs. prefinalised setup.callbacks (run_order c rs) cleared in
+    let nodes : cleared ≡ ran s.registrations = sym (ap ran unused.none_registered) in
+    ap (λ ns. build ns s.region s.registrations) nodes
+    ∙ ap (λ g. build (ran s.registrations) g s.registrations) region
+    ∙ ap (build (ran s.registrations) (cleared_by 0 s.region)) registered
     ∙ ap (λ mask. record (paused setup (started_state s) c) {
       region = cleared_by mask s.region;
       unprinted = (s.unprinted ++ start_entry ∷ []) ++ owner_entry (started_state s) (O.Pause mask) ∷ [];
@@ -165,10 +156,10 @@ collected_is ph grey setup s kept unused strong =
 starts : (setup : Setup) (s : State) → IsStart setup s (start_entry ∷ []) (started_state s)
 starts setup s = record { before = []; others = λ k d low. absurd (omega arith); piece_is = refl; legal = (refl, tt, tt); after = refl }
 
-pauses : (ph : Phase) (grey : Grey) (setup : Setup) (s : State) (kept : List Bool) → IsAtRest ph grey s → All IsStrong (condemn kept s.nodes)
+pauses : (ph : Phase) (grey : Grey) (setup : Setup) (s : State) (kept : List Bool) → IsAtRest ph grey s
     → IsKept (took (started_state s) []) [] kept
     → IsPause setup 0 Precise (started_state s) (pause_entry ∷ []) (pause_line (condemn kept s.nodes) ∷ []) (collected_state s kept)
-pauses ph grey setup s kept unused strong keeps =
+pauses ph grey setup s kept unused keeps =
     let c : List Node = condemn kept s.nodes in
     record {
       before = [];
@@ -182,7 +173,7 @@ pauses ph grey setup s kept unused strong keeps =
         crew_is = λ none. refl;
         counted = omega arith;
         lines_are = ap (λ rs. pause_line c ∷ prefinalise_lines (run_order c rs)) (sym unused.none_registered);
-        after = collected_is ph grey setup s kept unused strong;
+        after = collected_is ph grey setup s kept unused;
       };
       piece_is = ap (λ mask. owner_entry (started_state s) (O.Pause mask) ∷ []) (none_dying c s.region unused.region_null);
       legal = (refl, (refl, subst (NamesWeakSlots 0) (sym unused.region_null) (names_none 32)), tt);
@@ -198,10 +189,10 @@ collects_or_not ph grey setup s piece lines new unused phase done =
     on_false (is_marking s.phase) _ _ (sym (ap is_marking phase) ∙ unused.calm) (on_false (is_stack_refused Precise s.stack) _ _ (ap (is_stack_refused Precise) unused.stack_empty) done)
 
 pub step_collected : (ph : Phase) (grey : Grey) (setup : Setup) (s t new : State) (numbers : List ℕ) (kept : List Bool) (piece : List Entry) (lines : List Line) → SweepsToEnd setup.shape s numbers t
-    → IsAtRest ph grey t → All IsStrong (condemn kept t.nodes) → IsKept (took (started_state t) []) [] kept
+    → IsAtRest ph grey t → IsKept (took (started_state t) []) [] kept
     → piece ≡ start_entry ∷ pause_entry ∷ [] → lines ≡ finalise_lines numbers ++ pause_line (condemn kept t.nodes) ∷ [] → new ≡ answered (collected_state t kept)
     → IsCollection setup Precise s piece lines new
-step_collected ph grey setup s t new numbers kept piece lines ended unused strong keeps taken printed after = record {
+step_collected ph grey setup s t new numbers kept piece lines ended unused keeps taken printed after = record {
   numbers = numbers;
   swept = t;
   ended = ended;
@@ -211,7 +202,7 @@ step_collected ph grey setup s t new numbers kept piece lines ended unused stron
   second = pause_entry ∷ [];
   pause_lines = pause_line (condemn kept t.nodes) ∷ [];
   paused = collected_state t kept;
-  pause = pauses ph grey setup t kept unused strong keeps;
+  pause = pauses ph grey setup t kept unused keeps;
   piece_is = taken;
   lines_are = printed;
   after = after;
@@ -221,7 +212,6 @@ at_rest : (o : ObjectsView) (h : HandlesView) (c : CycleView) → IsAtRest c.pha
 at_rest o h c rest = record {
   calm = rest.calm;
   none_listed = rest.none_listed;
-  weak_null = rest.weak_null;
   stack_empty = rest.stack_empty;
   region_null = rest.region_null;
   none_registered = rest.none_registered;
@@ -229,47 +219,61 @@ at_rest o h c rest = record {
 }
 
 -- from the old parts, through those after the end of an open sweep, to those after the pause
-pub record Collects (o mid new : ObjectsView) (h : HandlesView) (c between after : CycleView) (numbers : List ℕ) : Type 0 where
+pub record Collects (o mid new : ObjectsView) (h left : HandlesView) (c between after : CycleView) (numbers : List ℕ) : Type 0 where
   pub before_rests : IsAtRest c.phase c.grey c.rest
   pub rests : IsAtRest between.phase between.grey between.rest
   pub ends : SweepsToEnd o.shape (state_of o h c) numbers (state_of mid h between)
   pub ready : IsReady mid h between
   pub setup : setup_of_objects mid ≡ setup_of_objects o
   pub same_setup : setup_of_objects new ≡ setup_of_objects mid
-  pub judges : IsJudgement mid.nodes h.slots new.nodes
+  pub judges : IsJudgement mid.nodes h.slots h.weak new.nodes left.weak
+  pub strong_left : left ≡ record h { weak_places = places_of new.nodes left.weak; weak = left.weak }
   pub judged : IsJudged new.seat
   pub phase : after.phase ≡ Sweeping
   pub rest : after.rest ≡ collected_from (state_of mid h between)
   pub ordinal : between.rest.ordinal ≡ c.rest.ordinal
 
-pub collection_steps : (o mid new : ObjectsView) (h : HandlesView) (c between after : CycleView) (numbers : List ℕ) (piece : List Entry) (line : Line) → ReachIsLeast
-    → Collects o mid new h c between after numbers → piece ≡ start_entry ∷ pause_entry ∷ [] → line ≡ pause_line new.nodes
-    → StepGcNow (setup_of_objects o) Precise (state_of o h c) piece (finalise_lines numbers ++ line ∷ []) (answered (state_of new h after))
-collection_steps o mid new h c between after numbers piece line law is taken told =
+-- the state of the parts after the pause
+collected_parts : (o mid new : ObjectsView) (h left : HandlesView) (c between after : CycleView) (numbers : List ℕ) → (is : Collects o mid new h left c between after numbers)
+    → state_of new left after ≡ collected_state (state_of mid h between) is.judges.kept
+collected_parts o mid new h left c between after numbers is =
+    let kept : List Bool = is.judges.kept in
+    let build : List Node → List (Option ℕ) → List (Option ℕ) → Phase → State → State = λ ns slots weak ph r.
+    record r { nodes = ns; slots = slots; weak = weak; phase = ph } in
+    let weak : List (Option ℕ) = weak_after kept mid.nodes h.weak in
+    ap (λ ns. build ns left.slots left.weak after.phase after.rest) is.judges.nodes_are
+    ∙ ap (λ (k : HandlesView). build (nodes_after kept mid.nodes) k.slots left.weak after.phase after.rest) is.strong_left
+    ∙ ap (λ w. build (nodes_after kept mid.nodes) h.slots w after.phase after.rest) is.judges.weak_are
+    ∙ ap (λ ph. build (nodes_after kept mid.nodes) h.slots weak ph after.rest) is.phase
+    ∙ ap (build (nodes_after kept mid.nodes) h.slots weak Sweeping) is.rest
+
+pub collection_steps : (o mid new : ObjectsView) (h left : HandlesView) (c between after : CycleView) (numbers : List ℕ) (piece : List Entry) (line : Line) → ReachIsLeast
+    → Collects o mid new h left c between after numbers → piece ≡ start_entry ∷ pause_entry ∷ [] → line ≡ pause_line new.nodes
+    → StepGcNow (setup_of_objects o) Precise (state_of o h c) piece (finalise_lines numbers ++ line ∷ []) (answered (state_of new left after))
+collection_steps o mid new h left c between after numbers piece line law is taken told =
     let t : State = state_of mid h between in
     let kept : List Bool = is.judges.kept in
-    let strong : All IsStrong mid.nodes = strong_nodes (setup_of_objects mid) mid.nodes is.ready.built (known_nodes (setup_of_objects mid) mid.nodes (valid_nodes mid h between is.ready)) in
     let rests : IsAtRest between.phase between.grey t = at_rest mid h between is.rests in
-    let build : List Node → Phase → State → State = λ ns ph r. answered (record r { nodes = ns; slots = h.slots; phase = ph }) in
-    collects_or_not c.phase c.grey (setup_of_objects o) (state_of o h c) piece (finalise_lines numbers ++ line ∷ []) (answered (state_of new h after)) (at_rest o h c is.before_rests) refl
-    (inr (step_collected between.phase between.grey (setup_of_objects o) (state_of o h c) t (answered (state_of new h after)) numbers kept piece (finalise_lines numbers ++ line ∷ []) is.ends rests
-    (strong_judged kept mid.nodes strong)
-    (pause_keeps between.phase between.grey t new.nodes law (refers_within (setup_of_objects mid) mid.nodes (valid_nodes mid h between is.ready)) rests is.judges)
+    collects_or_not c.phase c.grey (setup_of_objects o) (state_of o h c) piece (finalise_lines numbers ++ line ∷ []) (answered (state_of new left after)) (at_rest o h c is.before_rests) refl
+    (inr (step_collected between.phase between.grey (setup_of_objects o) (state_of o h c) t (answered (state_of new left after)) numbers kept piece (finalise_lines numbers ++ line ∷ []) is.ends rests
+    (pause_keeps between.phase between.grey t new.nodes left.weak law (refers_within (setup_of_objects mid) mid.nodes (valid_nodes mid h between is.ready)) rests is.judges)
     taken
-    (ap (λ l. finalise_lines numbers ++ l ∷ []) (told ∙ ap pause_line is.judges.nodes_are))
-    (ap (λ ns. build ns after.phase after.rest) is.judges.nodes_are
-    ∙ ap (λ ph. build (condemn kept mid.nodes) ph after.rest) is.phase
-    ∙ ap (build (condemn kept mid.nodes) Sweeping) is.rest)))
+    (ap (λ l. finalise_lines numbers ++ l ∷ []) (told ∙ ap pause_line is.judges.nodes_are ∙ pause_line_after kept mid.nodes))
+    (ap answered (collected_parts o mid new h left c between after numbers is))))
 
-pub collection_frame : (o mid new : ObjectsView) (h : HandlesView) (c between after : CycleView) (numbers : List ℕ) → Collects o mid new h c between after numbers
-    → IsFrame o c new h (counted after)
-collection_frame o mid new h c between after numbers is =
+pub collection_frame : (o mid new : ObjectsView) (h left : HandlesView) (c between after : CycleView) (numbers : List ℕ) → Collects o mid new h left c between after numbers
+    → IsFrame o c new left (counted after)
+collection_frame o mid new h left c between after numbers is =
     let ordinal : after.rest.ordinal ≡ c.rest.ordinal = ap (λ (s : State). s.ordinal) is.rest ∙ is.ordinal in
+    let places : (n : ℕ) → place_of new.nodes n ≡ place_of mid.nodes n = λ n. ap (λ (ns : List Node). place_of ns n) is.judges.nodes_are ∙ place-after is.judges.kept mid.nodes n in
     record {
       setup = is.same_setup ∙ is.setup;
       ordinal = ap (λ n. n + 1) ordinal;
-      tied = tied_nodes mid new h between (counted after) is.ready.tied.slots
-          (λ n. ap (λ (ns : List Node). place_of ns n) is.judges.nodes_are ∙ place-condemn is.judges.kept mid.nodes n)
-          (subst (λ ph. HasMarks ph new.seat) (sym is.phase) is.judged)
-          (omega (arith, is.ready.tied.made, ordinal, is.ordinal, ap length is.judges.nodes_are, length-condemn is.judges.kept mid.nodes));
+      tied = record {
+        slots = ap (λ (k : HandlesView). k.places) is.strong_left ∙ is.ready.tied.slots ∙ sym (places-same (place_of new.nodes) (place_of mid.nodes) h.slots places)
+            ∙ sym (ap (λ (k : HandlesView). places_of new.nodes k.slots) is.strong_left);
+        weak = ap (λ (k : HandlesView). k.weak_places) is.strong_left;
+        marks = subst (λ ph. HasMarks ph new.seat) (sym is.phase) is.judged;
+        made = omega (arith, is.ready.tied.made, ordinal, is.ordinal, ap length is.judges.nodes_are, length-after is.judges.kept mid.nodes);
+      };
     }

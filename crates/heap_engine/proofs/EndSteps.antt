@@ -71,7 +71,7 @@ pub ends_sweep : (o new : ObjectsView) (h : HandlesView) (c after : CycleView) (
 ends_sweep o new h c after numbers valid sweeping order nodes idle rest =
     let s : State = state_of o h c in
     let limit : ℕ = word_count o.shape in
-    let build : List Node → Phase → State → State = λ ns ph r. record r { nodes = ns; slots = h.slots; phase = ph } in
+    let build : List Node → Phase → State → State = λ ns ph r. record r { nodes = ns; slots = h.slots; weak = h.weak; phase = ph } in
     let phase : phase_at o.shape o.shape.pages ≡ Idle = ap (λ b. cond b Idle Sweeping) (eq-eqb o.shape.pages o.shape.pages refl) in
     subst (λ ph. SweepsInPhase ph o.shape s o.shape.pages numbers (state_of new h after)) (sym sweeping) (record {
       finalised = order;
@@ -113,7 +113,7 @@ pub ready_swept : (o new : ObjectsView) (h : HandlesView) (c after : CycleView) 
 ready_swept o new h c after numbers law pages ready sweeping ends setup nodes quiet idle ordinal = record {
   valid = subst (λ (st : Setup). IsValid st (state_of new h after)) (sym setup) (valid_swept (setup_of_objects o) (state_of o h c) (state_of new h after) numbers law pages ready.valid sweeping ends idle);
   built = subst AreBuilt (sym (ap (λ (st : Setup). st.types) setup)) ready.built;
-  tied = tied_nodes o new h c after ready.tied.slots (λ n. ap (λ (ns : List Node). place_of ns n) nodes ∙ place-finalise o.nodes n)
+  tied = tied_nodes o new h c after ready.tied (λ n. ap (λ (ns : List Node). place_of ns n) nodes ∙ place-finalise o.nodes n)
       (subst (λ ph. HasMarks ph new.seat) (sym idle) quiet)
       (omega (arith, ready.tied.made, ordinal, ap length nodes, length-map o.nodes bury));
   most = omega (arith, ready.most, ordinal);

@@ -15,10 +15,10 @@ null_places (suc n) = ap (λ l. None ∷ l) (null_places n)
 -- an idle cycle, over slots that are all null and no objects, is ready
 pub ready_empty : (o : ObjectsView) (h : HandlesView) (c : CycleView) (types : List ObjectType) (shape : Shape) → EmptyIsValid → AreBuilt types
     → o ≡ record { shape = shape; types = types; nodes = []; seat = empty_view (shape.pages * shape.page_words) types }
-    → h ≡ record { places = replicate 256 None; slots = replicate 256 None } → c.phase ≡ Idle → c.rest ≡ empty_state → IsReady o h c
+    → h ≡ record { places = replicate 256 None; slots = replicate 256 None; weak_places = replicate 64 None; weak = replicate 64 None } → c.phase ≡ Idle → c.rest ≡ empty_state → IsReady o h c
 ready_empty o h c types shape law built objects handles idle rest =
     let none : ObjectsView = record { shape = shape; types = types; nodes = []; seat = empty_view (shape.pages * shape.page_words) types } in
-    let nulls : HandlesView = record { places = replicate 256 None; slots = replicate 256 None } in
+    let nulls : HandlesView = record { places = replicate 256 None; slots = replicate 256 None; weak_places = replicate 64 None; weak = replicate 64 None } in
     let began : CycleView = record { phase = Idle; grey = c.grey; rest = empty_state } in
     let cycle : began ≡ c = sym (ap (λ ph. (let k : CycleView = record { phase = ph; grey = c.grey; rest = c.rest } in k)) idle
     ∙ ap (λ s. (let k : CycleView = record { phase = Idle; grey = c.grey; rest = s } in k)) rest) in
@@ -27,6 +27,7 @@ ready_empty o h c types shape law built objects handles idle rest =
       built = built;
       tied = record {
         slots = null_places 256;
+        weak = null_places 64;
         marks = record { off = refl; marked = refl; traced = refl; dead = refl };
         made = omega arith;
       };

@@ -10,11 +10,11 @@ use Rattle.gc_graph.specs.Graph.{Object, object_at, no_object, has, IsIn, IsClos
 use Rattle.gc_graph.specs.Reach.{Reach, RefersWithin, AreNodes, HoldsAll, IsLeastClosed, ReachIsLeast, any_below}
 use Rattle.gc_graph.specs.State.{Setup, Node, node_at, no_node, graph_of, slot_targets, is_live, IsLive}
 use Rattle.gc_graph.specs.Valid.{IsTyped, NamesLive, AreLive}
-use Rattle.gc_graph.specs.Pause.{condemn}
 use Rattle.page_words.specs.Seat.{SeatView, IsView, holds}
 use Rattle.heap_engine.specs.Marking.{HoldsSlots, MarksReachable, object_in, object_there, graph_in}
 use Rattle.heap_engine.specs.Nodes.{place_of, body_of, bodies_of, IsThere}
-use Rattle.heap_engine.specs.Objects.{AreOfValid, IsJudgement}
+use Rattle.heap_engine.specs.Objects.{AreOfValid}
+use Rattle.heap_engine.specs.Judgement.{IsJudgement, nodes_after, weak_after}
 use Rattle.heap_engine.specs.View.{kept_of, places_of}
 use Rattle.heap_engine.proofs.MarkCounts.{Contains-cons_cases, Contains-cons, Contains-head}
 use Rattle.heap_engine.proofs.NodePlaces.{live_is_there, live_is_live, is_live_life, there_below, node_body, same_node, object-at}
@@ -219,10 +219,10 @@ reached_closed setup nodes slots v new places done least p q is leads =
     (reached_from nodes slots edge.0 (named_live setup nodes w.0 edge.0 done.valid w.1 (led_named (has reach) o edge.0 within))
     (least.closed w.0 edge.0 w.3 (subst (λ x. leads_to reach x edge.0 ≡ true) (sym (object-at nodes w.0)) (led_leads (has reach) o edge.0 within))))
 
-pub keeps_reached : (setup : Setup) (nodes : List Node) (slots : List (Option ℕ)) (v new : SeatView) (places : List (Option ℕ)) → ReachIsLeast → IsView v → AreOfValid setup nodes → AreLive nodes (slot_targets slots) → v.bodies ≡ bodies_of nodes
+pub keeps_reached : (setup : Setup) (nodes : List Node) (slots weak : List (Option ℕ)) (v new : SeatView) (places : List (Option ℕ)) → ReachIsLeast → IsView v → AreOfValid setup nodes → AreLive nodes (slot_targets slots) → v.bodies ≡ bodies_of nodes
     → places ≡ places_of nodes slots → MarksReachable setup.types places v new
-    → IsJudgement nodes slots (condemn (kept_of (holds new.marked) nodes) nodes)
-keeps_reached setup nodes slots v new places law view valid live held named marks =
+    → IsJudgement nodes slots weak (nodes_after (kept_of (holds new.marked) nodes) nodes) (weak_after (kept_of (holds new.marked) nodes) nodes weak)
+keeps_reached setup nodes slots weak v new places law view valid live held named marks =
     let g : List Object = graph_of nodes in
     let kept : List Bool = kept_of (holds new.marked) nodes in
     let marked : HasMarked setup nodes slots v new places = record { view = view; valid = valid; live = live; held = held; named = named; marks = marks } in
@@ -243,4 +243,5 @@ keeps_reached setup nodes slots v new places law view valid live held named mark
           subst (λ m. IsIn (Reach g (slot_targets slots)) m) (same_node nodes v w.0 n view held (live_is_there nodes w.0 w.1) (live_is_there nodes n parts.0) w.2) w.3;
       low = λ n is. kept_low (holds new.marked) nodes n is;
       nodes_are = refl;
+      weak_are = refl;
     }

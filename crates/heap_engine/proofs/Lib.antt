@@ -23,8 +23,13 @@ pub mod HeldNodes
 pub mod NodeSweeps
 pub mod FieldPlaces
 pub mod FieldReads
+pub mod WeakNodes
+pub mod WeakBodies
+pub mod WeakJudged
+pub mod WeakReferences
 pub mod JudgedNodes
 pub mod Ties
+pub mod SlotSteps
 pub mod FieldAnswers
 pub mod NewSteps
 pub mod HeapEmpty

@@ -99,10 +99,10 @@ places_on nodes x (Some n ∷ slots) live =
     ap (λ p. Some p ∷ places_of (nodes ++ x ∷ []) slots) (place-old nodes x n (there_below nodes n (live_is_there nodes n is)))
     ∙ ap (λ l. Some (place_of nodes n) ∷ l) (places_on nodes x slots (All-tail (λ slot. ForSome slot (IsLive nodes)) (Some n) slots live))
 
--- the places of the slots are as before, and slot p's is that of the new node
+-- the places of the slots, strong and weak, are as before, and slot p's is that of the new node
 pub tied_made : (o new : ObjectsView) (h after : HandlesView) (c : CycleView) (p place number : ℕ) (x : Node) → AreTied o h c → All (λ slot. ForSome slot (IsLive o.nodes)) h.slots
-    → c.phase ≡ Idle → IsQuiet new.seat → number ≡ length o.nodes → x.place ≡ place → new.nodes ≡ o.nodes ++ x ∷ [] → after ≡ put_in h p (Some (place, number)) → AreTied new after (counted c)
-tied_made o new h after c p place number x tied live idle quiet counts at nodes put =
+    → All (λ slot. ForSome slot (IsLive o.nodes)) h.weak → c.phase ≡ Idle → IsQuiet new.seat → number ≡ length o.nodes → x.place ≡ place → new.nodes ≡ o.nodes ++ x ∷ [] → after ≡ put_in h p (Some (place, number)) → AreTied new after (counted c)
+tied_made o new h after c p place number x tied live weak_live idle quiet counts at nodes put =
     let now : List Node = o.nodes ++ x ∷ [] in
     let here : place_of now number ≡ place = ap (place_of now) counts ∙ ap (λ (y : Node). y.place) (node-new o.nodes x) ∙ at in
     let slots : List (Option ℕ) = set h.slots p (Some number) in
@@ -112,6 +112,8 @@ tied_made o new h after c p place number x tied live idle quiet counts at nodes 
           ∙ ap (λ a. set (places_of now h.slots) p (Some a)) (sym here)
           ∙ sym (map-set (λ (slot : Option ℕ). option_map (place_of now) slot) h.slots p (Some number))
           ∙ sym (ap (λ (k : HandlesView). places_of new.nodes k.slots) put ∙ ap (λ (ns : List Node). places_of ns slots) nodes);
+      weak = ap (λ (k : HandlesView). k.weak_places) put ∙ tied.weak ∙ sym (places_on o.nodes x h.weak weak_live)
+          ∙ sym (ap (λ (k : HandlesView). places_of new.nodes k.weak) put ∙ ap (λ (ns : List Node). places_of ns h.weak) nodes);
       marks = subst (λ ph. HasMarks ph new.seat) (sym idle) quiet;
       made = omega (arith, tied.made, ap length nodes, length_push o.nodes x);
     }

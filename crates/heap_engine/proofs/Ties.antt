@@ -4,12 +4,13 @@ use Rattle.std.specs.Option.{ForSome}
 use Rattle.std.proofs.lemmas.Bool.{cases_lt}
 use Rattle.std.proofs.lemmas.List.{map-set, length-map, get_or-map, get_or_past}
 use Rattle.std.proofs.lemmas.List.Elements.{All-get_or}
-use Rattle.gc_graph.specs.State.{IsLive}
+use Rattle.gc_graph.specs.State.{Node, IsLive, slot_targets}
+use Rattle.gc_graph.specs.Valid.{AreLive}
 use Rattle.heap_engine.specs.Nodes.{place_of}
 use Rattle.heap_engine.specs.View.{places_of}
 use Rattle.heap_engine.specs.Objects.{AreOfValid, IsLiveAt}
 use Rattle.heap_engine.specs.Parts.{ObjectsView, HandlesView, CycleView, setup_of_objects, state_of, counted, HasMarks, AreTied, IsReady}
-use Rattle.heap_engine.specs.Changes.{put_in}
+use Rattle.heap_engine.specs.Changes.{put_in, copied_in, weakened_in}
 use Rattle.heap_engine.proofs.KeptNodes.{slots_live}
 
 pub valid_nodes : (o : ObjectsView) (h : HandlesView) (c : CycleView) → IsReady o h c → AreOfValid (setup_of_objects o) o.nodes
@@ -17,32 +18,48 @@ valid_nodes o h c ready = (state_of o h c, ready.valid, refl)
 
 -- ---- slots
 
--- a slot holds the place of what it names
-pub slot_place : (o : ObjectsView) (h : HandlesView) (c : CycleView) (p : ℕ) → AreTied o h c → get_or h.places p None ≡ option_map (place_of o.nodes) (get_or h.slots p None)
-slot_place o h c p tied =
-    ap (λ l. get_or l p None) tied.slots ∙ elim (cases_lt p (length h.slots)) [
-      | inl low ↦ get_or-map (λ (slot : Option ℕ). option_map (place_of o.nodes) slot) h.slots p None None low
-      | inr past ↦ get_or_past (places_of o.nodes h.slots) p None (omega (arith, past, length-map h.slots (λ (slot : Option ℕ). option_map (place_of o.nodes) slot)))
-          ∙ sym (ap (option_map (place_of o.nodes)) (get_or_past h.slots p None past))
+-- slots that hold the places of what they name do so one by one
+place_held : (nodes : List Node) (places slots : List (Option ℕ)) (p : ℕ) → places ≡ places_of nodes slots → get_or places p None ≡ option_map (place_of nodes) (get_or slots p None)
+place_held nodes places slots p held =
+    ap (λ l. get_or l p None) held ∙ elim (cases_lt p (length slots)) [
+      | inl low ↦ get_or-map (λ (slot : Option ℕ). option_map (place_of nodes) slot) slots p None None low
+      | inr past ↦ get_or_past (places_of nodes slots) p None (omega (arith, past, length-map slots (λ (slot : Option ℕ). option_map (place_of nodes) slot)))
+          ∙ sym (ap (option_map (place_of nodes)) (get_or_past slots p None past))
     ]
 
-pub slot_live : (o : ObjectsView) (h : HandlesView) (c : CycleView) (p : ℕ) → IsReady o h c → ForSome (get_or h.slots p None) (IsLive o.nodes)
-slot_live o h c p ready =
-    elim (cases_lt p (length h.slots)) [
-      | inl low ↦ All-get_or (λ slot. ForSome slot (IsLive o.nodes)) h.slots p None low (slots_live o.nodes h.slots ready.valid.slots)
-      | inr past ↦ λ n is. (let never : None ≡ Some n = sym (get_or_past h.slots p None past) ∙ is in cc)
+live_held : (nodes : List Node) (slots : List (Option ℕ)) (p : ℕ) → AreLive nodes (slot_targets slots) → ForSome (get_or slots p None) (IsLive nodes)
+live_held nodes slots p live =
+    elim (cases_lt p (length slots)) [
+      | inl low ↦ All-get_or (λ slot. ForSome slot (IsLive nodes)) slots p None low (slots_live nodes slots live)
+      | inr past ↦ λ n is. (let never : None ≡ Some n = sym (get_or_past slots p None past) ∙ is in cc)
     ]
 
 placed : (place : ℕ → ℕ) (slot : Option ℕ) (a : ℕ) → option_map place slot ≡ Some a → (n : ℕ) × (slot ≡ Some n) × (place n ≡ a)
 placed place None a e = cc
 placed place (Some n) a e = (n, refl, (let same : place n ≡ a = cc in same))
 
+named_held : (nodes : List Node) (places slots : List (Option ℕ)) (p a : ℕ) → places ≡ places_of nodes slots → AreLive nodes (slot_targets slots) → get_or places p None ≡ Some a
+    → (n : ℕ) × (get_or slots p None ≡ Some n) × IsLiveAt nodes n a
+named_held nodes places slots p a held live is =
+    let named = placed (place_of nodes) (get_or slots p None) a (sym (place_held nodes places slots p held) ∙ is) in
+    (named.0, named.1, (live_held nodes slots p live named.0 named.1, named.2))
+
+-- a slot holds the place of what it names
+pub slot_place : (o : ObjectsView) (h : HandlesView) (c : CycleView) (p : ℕ) → AreTied o h c → get_or h.places p None ≡ option_map (place_of o.nodes) (get_or h.slots p None)
+slot_place o h c p tied = place_held o.nodes h.places h.slots p tied.slots
+
+pub slot_live : (o : ObjectsView) (h : HandlesView) (c : CycleView) (p : ℕ) → IsReady o h c → ForSome (get_or h.slots p None) (IsLive o.nodes)
+slot_live o h c p ready = live_held o.nodes h.slots p ready.valid.slots
+
 -- a slot that holds a place names the live node there
 pub slot_names : (o : ObjectsView) (h : HandlesView) (c : CycleView) (p a : ℕ) → IsReady o h c → get_or h.places p None ≡ Some a
     → (n : ℕ) × (get_or h.slots p None ≡ Some n) × IsLiveAt o.nodes n a
-slot_names o h c p a ready is =
-    let named = placed (place_of o.nodes) (get_or h.slots p None) a (sym (slot_place o h c p ready.tied) ∙ is) in
-    (named.0, named.1, (slot_live o h c p ready named.0 named.1, named.2))
+slot_names o h c p a ready is = named_held o.nodes h.places h.slots p a ready.tied.slots ready.valid.slots is
+
+-- and so does a weak slot
+pub weak_slot_names : (o : ObjectsView) (h : HandlesView) (c : CycleView) (w a : ℕ) → IsReady o h c → get_or h.weak_places w None ≡ Some a
+    → (n : ℕ) × (get_or h.weak w None ≡ Some n) × IsLiveAt o.nodes n a
+weak_slot_names o h c w a ready is = named_held o.nodes h.weak_places h.weak w a ready.tied.weak ready.valid.weak is
 
 -- ---- ties
 
@@ -52,6 +69,27 @@ pub tied_slot : (o : ObjectsView) (h : HandlesView) (c : CycleView) (p : ℕ) (t
 tied_slot o h c p target is tied = record {
   slots = ap (λ l. set l p (option_map (λ (t : ℕ × ℕ). t.0) target)) tied.slots ∙ ap (λ x. set (places_of o.nodes h.slots) p x) is
       ∙ sym (map-set (λ (slot : Option ℕ). option_map (place_of o.nodes) slot) h.slots p (option_map (λ (t : ℕ × ℕ). t.1) target));
+  weak = tied.weak;
+  marks = tied.marks;
+  made = omega (arith, tied.made);
+}
+
+-- slot q gets what slot p holds
+pub tied_copy : (o : ObjectsView) (h : HandlesView) (c : CycleView) (p q : ℕ) → AreTied o h c → AreTied o (copied_in h p q) (counted c)
+tied_copy o h c p q tied = record {
+  slots = ap (λ l. set l q (get_or h.places p None)) tied.slots ∙ ap (λ x. set (places_of o.nodes h.slots) q x) (slot_place o h c p tied)
+      ∙ sym (map-set (λ (slot : Option ℕ). option_map (place_of o.nodes) slot) h.slots q (get_or h.slots p None));
+  weak = tied.weak;
+  marks = tied.marks;
+  made = omega (arith, tied.made);
+}
+
+-- weak slot w gets what slot p holds
+pub tied_weak : (o : ObjectsView) (h : HandlesView) (c : CycleView) (w p : ℕ) → AreTied o h c → AreTied o (weakened_in h w p) (counted c)
+tied_weak o h c w p tied = record {
+  slots = tied.slots;
+  weak = ap (λ l. set l w (get_or h.places p None)) tied.weak ∙ ap (λ x. set (places_of o.nodes h.weak) w x) (slot_place o h c p tied)
+      ∙ sym (map-set (λ (slot : Option ℕ). option_map (place_of o.nodes) slot) h.weak w (get_or h.slots p None));
   marks = tied.marks;
   made = omega (arith, tied.made);
 }
@@ -62,10 +100,11 @@ places-same f g (None ∷ slots) same = ap (λ l. None ∷ l) (places-same f g s
 places-same f g (Some n ∷ slots) same = ap (λ p. Some p ∷ map (λ (slot : Option ℕ). option_map f slot) slots) (same n) ∙ ap (λ l. Some (g n) ∷ l) (places-same f g slots same)
 
 -- the nodes change, but their places stay
-pub tied_nodes : (o new : ObjectsView) (h : HandlesView) (c after : CycleView) → h.places ≡ places_of o.nodes h.slots → ((n : ℕ) → place_of new.nodes n ≡ place_of o.nodes n)
+pub tied_nodes : (o new : ObjectsView) (h : HandlesView) (c after : CycleView) → AreTied o h c → ((n : ℕ) → place_of new.nodes n ≡ place_of o.nodes n)
     → HasMarks after.phase new.seat → length new.nodes ≤ after.rest.ordinal → AreTied new h after
-tied_nodes o new h c after slots same marks made = record {
-  slots = slots ∙ sym (places-same (place_of new.nodes) (place_of o.nodes) h.slots same);
+tied_nodes o new h c after tied same marks made = record {
+  slots = tied.slots ∙ sym (places-same (place_of new.nodes) (place_of o.nodes) h.slots same);
+  weak = tied.weak ∙ sym (places-same (place_of new.nodes) (place_of o.nodes) h.weak same);
   marks = marks;
   made = made;
 }

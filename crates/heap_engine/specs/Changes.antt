@@ -1,8 +1,10 @@
--- How handles and the cycle change.
-use Rattle.std.specs.Prelude.{ℕ, ◌+◌, [], ◌∷◌, ◌++◌, List, length, Option, option_map, slice_set}
+-- How the handles and the cycle change.
+use Rattle.std.specs.Prelude.{ℕ, ◌+◌, Bool, not, [], ◌∷◌, ◌++◌, List, length, map, Option, None, option_map, slice_set, slice_index_or}
 use Rattle.gc_graph.specs.Reach.{Reach}
-use Rattle.gc_graph.specs.State.{Shape, State, graph_of, roots_of}
-use Rattle.heap_engine.specs.View.{start_entry, pause_entry}
+use Rattle.gc_graph.specs.State.{Shape, State, Node, graph_of, roots_of}
+use Rattle.gc_graph.specs.Pause.{clear_slot}
+use Rattle.heap_engine.specs.Judgement.{weak_after}
+use Rattle.heap_engine.specs.View.{kept_of, start_entry, pause_entry}
 use Rattle.heap_engine.specs.Parts.{HandlesView}
 
 -- slot p holds the place and the number of the target, where there is one
@@ -10,6 +12,27 @@ abbrev pub put_in : HandlesView → ℕ → Option (ℕ × ℕ) → HandlesView
 put_in h p target = record h {
   places = slice_set h.places p (option_map (λ t. t.0) target);
   slots = slice_set h.slots p (option_map (λ t. t.1) target);
+}
+
+-- slot q holds what slot p holds
+abbrev pub copied_in : HandlesView → ℕ → ℕ → HandlesView
+copied_in h p q = record h {
+  places = slice_set h.places q (slice_index_or h.places p None);
+  slots = slice_set h.slots q (slice_index_or h.slots p None);
+}
+
+-- weak slot w holds what slot p holds
+abbrev pub weakened_in : HandlesView → ℕ → ℕ → HandlesView
+weakened_in h w p = record h {
+  weak_places = slice_set h.weak_places w (slice_index_or h.places p None);
+  weak = slice_set h.weak w (slice_index_or h.slots p None);
+}
+
+-- the weak slots whose place isn't marked are null, and so are those that name a node that a pause condemns
+abbrev pub cleared_in : HandlesView → (ℕ → Bool) → List Node → HandlesView
+cleared_in h marked nodes = record h {
+  weak_places = map (clear_slot (λ a. not (marked a))) h.weak_places;
+  weak = weak_after (kept_of marked nodes) nodes h.weak;
 }
 
 -- one outcome more was full

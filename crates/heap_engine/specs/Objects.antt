@@ -1,14 +1,11 @@
 -- The objects in the words are the nodes, and what calls on them change.
-use Rattle.std.specs.Prelude.{◌≡◌, ℕ, ◌<◌, true, false, Bool, List, [], ◌∷◌, ◌++◌, length, Option, Some, None, option_map, All, slice_set}
+use Rattle.std.specs.Prelude.{◌≡◌, ℕ, ◌<◌, true, List, [], ◌∷◌, ◌++◌, length, Option, Some, None, option_map, All, slice_set}
 use Rattle.gc_graph.specs.declared.kind.Value.{Value}
-use Rattle.gc_graph.specs.Graph.{has, IsClosed, IsWithin}
-use Rattle.gc_graph.specs.Reach.{Reach}
 use Rattle.gc_graph.specs.Built.{is_built_type}
-use Rattle.gc_graph.specs.State.{Setup, State, ObjectType, Node, node_at, graph_of, slot_targets, IsLive}
+use Rattle.gc_graph.specs.State.{Setup, State, ObjectType, Node, node_at, IsLive}
 use Rattle.gc_graph.specs.Fields.{word_of_field, with_value, target_of, new_node}
 use Rattle.gc_graph.specs.Valid.{IsValid}
 use Rattle.gc_graph.specs.Sweep.{buried}
-use Rattle.gc_graph.specs.Pause.{condemn}
 use Rattle.object_headers.specs.Offsets.{reference_to}
 use Rattle.page_words.specs.Seat.{SeatView}
 use Rattle.page_space.specs.Space.{SpaceView, IsSpaceOf}
@@ -62,12 +59,3 @@ written_in nodes (Some n) f value = slice_set nodes n (with_value (node_at nodes
 -- a dead node is gone
 abbrev pub bury : Node → Node
 bury node = record node { life = buried node.life }
-
--- exactly the live nodes that the slots reach were kept, and the others condemned
-pub record IsJudgement (nodes : List Node) (slots : List (Option ℕ)) (new : List Node) : Type 0 where
-  pub kept : List Bool
-  pub closed : IsClosed (graph_of nodes) kept
-  pub reached : IsWithin (Reach (graph_of nodes) (slot_targets slots)) kept
-  pub bounded : IsWithin kept (Reach (graph_of nodes) (slot_targets slots))
-  pub low : (n : ℕ) → has kept n ≡ true → n < length nodes
-  pub nodes_are : new ≡ condemn kept nodes

@@ -1,5 +1,5 @@
 -- The parts of a heap as commands see them, and how the state is put together from them.
-use Rattle.std.specs.Prelude.{◌≡◌, ℕ, ◌+◌, ◌≤◌, false, List, [], length, replicate, Option, None}
+use Rattle.std.specs.Prelude.{◌≡◌, ℕ, ◌+◌, ◌≤◌, false, List, [], length, replicate, Option}
 use Rattle.gc_graph.specs.declared.phase.Phase.{Phase}
 use Rattle.gc_graph.specs.declared.phase.Phase.TheVariants.{Idle, Marking, Sweeping}
 use Rattle.gc_graph.specs.State.{Shape, Setup, State, Node, ObjectType}
@@ -20,10 +20,12 @@ pub record ObjectsView : Type 0 where
   pub nodes : List Node
   pub seat : SeatView
 
--- the strong slots: the place in each, and the node that each names
+-- the strong slots and the weak ones: the place in each, and the node that each names
 pub record HandlesView : Type 0 where
   pub places : List (Option ℕ)
   pub slots : List (Option ℕ)
+  pub weak_places : List (Option ℕ)
+  pub weak : List (Option ℕ)
 
 -- the collection cycle: its phase, its mark list, and what no other part holds of the state
 pub record CycleView : Type 0 where
@@ -37,7 +39,7 @@ setup_of_objects o = record { shape = o.shape; markers = 0; types = o.types; cal
 
 -- the state is put together from what each part holds of it
 abbrev pub state_of : ObjectsView → HandlesView → CycleView → State
-state_of o h c = record c.rest { nodes = o.nodes; slots = h.slots; phase = c.phase }
+state_of o h c = record c.rest { nodes = o.nodes; slots = h.slots; weak = h.weak; phase = c.phase }
 
 -- one command more was answered
 abbrev pub counted : CycleView → CycleView
@@ -52,21 +54,21 @@ HasMarks Idle v = IsQuiet v
 HasMarks Marking v = IsQuiet v
 HasMarks Sweeping v = IsJudged v
 
--- no marking goes on, the mark list is empty, weak slots and region slots are null, the stack is empty, no prefinalizer is
--- registered, and no thread runs
+-- no marking goes on, the mark list is empty, region slots are null, the stack is empty, no prefinalizer is registered, and
+-- no thread runs
 pub record IsAtRest (phase : Phase) (grey : Grey) (s : State) : Type 0 where
   pub calm : is_marking phase ≡ false
   pub none_listed : grey.places ≡ []
-  pub weak_null : s.weak ≡ replicate 64 None
   pub stack_empty : s.stack ≡ []
   pub region_null : s.region ≡ replicate 32 Vacant
   pub none_registered : s.registrations ≡ []
   pub none_running : s.running ≡ []
 
--- the parts belong together: the slots hold the places of what they name, the marks are those of the phase, and no more
--- nodes were made than commands were answered
+-- the parts belong together: slots, strong and weak, hold the places of what they name, the marks are those of the phase, and
+-- no more nodes were made than commands were answered
 pub record AreTied (o : ObjectsView) (h : HandlesView) (c : CycleView) : Type 0 where
   pub slots : h.places ≡ places_of o.nodes h.slots
+  pub weak : h.weak_places ≡ places_of o.nodes h.weak
   pub marks : HasMarks c.phase o.seat
   pub made : length o.nodes ≤ c.rest.ordinal
 

@@ -1,4 +1,5 @@
-// What a collection does to the objects: it judges them, and sweeps those that are dead.
+// What a collection does to the objects: it judges them, clears what is weak, and sweeps those that are
+// dead.
 
 ghost use Rattle.std.specs.Prelude.{◌≡◌, ◌*◌, ◌^◌, ◌<◌};
 ghost use Rattle.std.specs.Prelude.{◌≤◌, [], length, map};
@@ -12,7 +13,8 @@ ghost use Rattle.page_space.specs.Pages.{word_count};
 ghost use Rattle.heap_engine.specs.Sweeping.{IsJudged};
 ghost use Rattle.heap_engine.specs.View.{places_of};
 ghost use Rattle.heap_engine.specs.Objects.{AreOfValid};
-ghost use Rattle.heap_engine.specs.Objects.{IsJudgement, bury};
+ghost use Rattle.heap_engine.specs.Objects.{bury};
+ghost use Rattle.heap_engine.specs.Judgement.{IsJudgement};
 ghost use Rattle.heap_engine.specs.Parts.{setup_of_objects};
 
 use crate::handles::Handles;
@@ -20,18 +22,27 @@ use crate::mark_list::MarkList;
 use crate::nodes;
 use crate::objects::Objects;
 use crate::sweeping::sweep_pages;
+use weak_clearing::clear_fields;
 
 impl Objects {
-    /// Marks what the slots reach, which is kept, and condemns the other objects.
-    pub fn judge(&mut self, handles: &Handles, grey: &mut MarkList)
+    /// Marks what the strong slots reach, which is kept, and condemns the other objects. Weak fields
+    /// of kept objects and weak slots whose object is condemned become null, before any object goes.
+    pub fn judge(&mut self, handles: &mut Handles, grey: &mut MarkList)
         requires valid { AreOfValid (setup_of_objects self.old) self.old.nodes }
         requires quiet { IsQuiet self.old.seat }
         requires few { length self.old.nodes ≤ 1000000 }
-        requires slots { handles.now.places ≡ places_of self.old.nodes handles.now.slots }
-        requires live { AreLive self.old.nodes (slot_targets handles.now.slots) }
+        requires slots { handles.old.places ≡ places_of self.old.nodes handles.old.slots }
+        requires weak { handles.old.weak_places ≡ places_of self.old.nodes handles.old.weak }
+        requires live { AreLive self.old.nodes (slot_targets handles.old.slots) }
+        requires weak_live { AreLive self.old.nodes (slot_targets handles.old.weak) }
         requires empty { grey.old.places ≡ [] }
         requires room { objects_of self.old.nodes ≤ grey.old.room }
-        ensures judged { IsJudgement self.old.nodes handles.now.slots self.new.nodes }
+        ensures judged { IsJudgement self.old.nodes handles.old.slots handles.old.weak
+            self.new.nodes handles.new.weak }
+        ensures strong { handles.new ≡ record handles.old {
+          weak_places = places_of self.new.nodes handles.new.weak;
+          weak = handles.new.weak;
+        } }
         ensures marks { IsJudged self.new.seat }
         ensures listed { grey.new.places ≡ [] }
         ensures marked { grey.new.marked ≡ live_count self.new.nodes }
@@ -40,7 +51,10 @@ impl Objects {
     {
         self.seat.bodies_lie_apart();
         gc_graph::reach_is_least();
-        grey.mark_reachable(&self.space, &mut self.seat, &self.types, handles.places());
+        grey.mark_reachable(&self.space, &mut self.seat, &self.types, handles.strong());
+        // Nothing is grey, so that what is not marked now will never be.
+        clear_fields(&self.space, &self.types, &mut self.seat);
+        handles.clear_weak(&self.space, &mut self.seat, &self.nodes);
         self.nodes = nodes::judged(&self.nodes, &self.seat);
     }
 

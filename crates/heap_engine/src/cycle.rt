@@ -77,23 +77,23 @@ impl Cycle {
         self.rest = states::filled(&self.rest);
     }
 
-    /// A whole collection: an open sweep is ended, what the slots reach is kept, and the other
-    /// objects are condemned.
+    /// A whole collection: an open sweep is ended, what the strong slots reach is kept, the other
+    /// objects are condemned, and what is weak and names one of these becomes null.
     pub fn collect(
         &mut self,
         objects: &mut Objects,
-        handles: &Handles,
+        handles: &mut Handles,
         outcome: &mut Outcome,
     ) -> Line
-        requires ready { IsReady objects.old handles.now self.old }
+        requires ready { IsReady objects.old handles.old self.old }
         requires numbers { outcome.old.numbers ≡ [] }
         requires piece { outcome.old.piece ≡ [] }
         requires room { word_count objects.old.shape ≤ 2 * outcome.old.room }
         ensures step { StepGcNow (setup_of_objects objects.old) Precise
-            (state_of objects.old handles.now self.old) outcome.new.piece
+            (state_of objects.old handles.old self.old) outcome.new.piece
             (finalise_lines outcome.new.numbers ++ result ∷ [])
-            (answered (state_of objects.new handles.now self.new)) }
-        ensures frame { IsFrame objects.old self.old objects.new handles.now (counted self.new) }
+            (answered (state_of objects.new handles.new self.new)) }
+        ensures frame { IsFrame objects.old self.old objects.new handles.new (counted self.new) }
         ensures room { outcome.new.room ≡ outcome.old.room }
         ensures history { outcome.new.history ≡ outcome.old.history }
     {

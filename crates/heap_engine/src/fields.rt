@@ -153,7 +153,7 @@ fn field_of(
 }
 
 /// How an outcome tells the target.
-fn line_of(target: Option<(u32, u32)>) -> Line
+pub(crate) fn line_of(target: Option<(u32, u32)>) -> Line
     ensures { MatchOption target (result ≡ L.Null) (λ t. result ≡ L.Node t.1) }
 {
     match target {

@@ -1,26 +1,41 @@
-// The handles of a heap: its strong slots (`Persistent`, `include/cppgc/persistent.h`).
+// The handles of a heap: its strong slots and its weak ones (`Persistent` and `WeakPersistent`,
+// `include/cppgc/persistent.h`).
 
-ghost use Rattle.std.specs.Prelude.{◌≡◌, ◌<◌, None, IfOk, length, replicate};
-ghost use Rattle.std.specs.Prelude.{slice_index_or, slice_set, option_map};
+ghost use Rattle.std.specs.Prelude.{◌≡◌, ◌<◌, All, None, IfOk, length, replicate};
+ghost use Rattle.std.specs.Prelude.{map, slice_index_or, slice_set, option_map};
 ghost use Rattle.gc_graph.specs.declared.kind.Value.TheVariants.{Null, Word};
 ghost use Rattle.gc_graph.specs.Fields.{content_of};
+ghost use Rattle.page_words.specs.Bodies.{IsPlace};
+ghost use Rattle.page_words.specs.Seat.{holds};
+ghost use Rattle.page_space.specs.Space.{IsSeatOf};
+ghost use Rattle.persistent_slots.specs.Clearing.{taken};
 ghost use Rattle.heap_engine.specs.Objects.{slot_word};
-ghost use Rattle.heap_engine.specs.Changes.{put_in};
+ghost use Rattle.heap_engine.specs.Judgement.{weak_after};
+ghost use Rattle.heap_engine.specs.View.{kept_of};
+ghost use Rattle.heap_engine.specs.Changes.{put_in, copied_in, weakened_in, cleared_in};
 
+use crate::nodes::NodeLists;
 use gc_graph::NoMemory;
 use ghost_values::GhostValue;
 use object_headers::reference_to;
+use page_space::Space;
+use page_words::MutatorSeat;
+use persistent_slots::Slots;
 use std::alloc::Global;
 use std::marker::Model;
+use weak_clearing::clear_slots;
 
-const SLOTS: u32 = 256;
+const STRONG: u32 = 256;
+const WEAK: u32 = 64;
 
-/// The strong slots.
+/// The strong slots and the weak ones. Each holds a place; which node it names is known to
+/// contracts alone.
 #[derive(Drop)]
 pub struct Handles {
-    /// The place of what each slot names.
-    places: Vec<Option<u32>>,
-    slots: GhostValue<SlotLists>,
+    strong: Slots,
+    strong_nodes: GhostValue<SlotLists>,
+    weak: Slots,
+    weak_nodes: GhostValue<SlotLists>,
 }
 
 impl Model for Handles {
@@ -29,21 +44,33 @@ impl Model for Handles {
 
     ghost Value = { HandlesView };
 
-    ghost view = { λ h. record { places = h.places.items; slots = h.slots.value } };
+    ghost view = { λ h. record {
+      places = h.strong;
+      slots = h.strong_nodes.value;
+      weak_places = h.weak;
+      weak = h.weak_nodes.value;
+    } };
 
-    ghost invariant = { λ h. length h.places.items ≡ 256 };
+    ghost invariant = { λ h. (length h.strong ≡ 256) × (length h.weak ≡ 64) };
 }
 
 impl Handles {
     /// Slots that are all null. Want of memory is free.
     pub fn new(alloc: Global) -> Result<Handles, NoMemory>
-        ensures { IfOk result (λ h. h
-            ≡ record { places = replicate 256 None; slots = replicate 256 None }) }
+        ensures { IfOk result (λ h. h ≡ record {
+          places = replicate 256 None;
+          slots = replicate 256 None;
+          weak_places = replicate 64 None;
+          weak = replicate 64 None;
+        }) }
     {
-        let places = empty_places(alloc)?;
+        let strong = Slots::new(alloc, STRONG)?;
+        let weak = Slots::new(alloc, WEAK)?;
         Ok(Handles {
-            places,
-            slots: null_slots(),
+            strong,
+            strong_nodes: null_slots(STRONG),
+            weak,
+            weak_nodes: null_slots(WEAK),
         })
     }
 
@@ -52,14 +79,22 @@ impl Handles {
         requires { p < 256 }
         ensures { result ≡ slice_index_or self.now.places p None }
     {
-        self.places[p as usize]
+        self.strong.get(p)
     }
 
-    /// The places of what the slots name.
-    pub fn places(&self) -> &[Option<u32>]
+    /// The place of what weak slot w names.
+    pub fn weak_place(&self, w: u32) -> Option<u32>
+        requires { w < 64 }
+        ensures { result ≡ slice_index_or self.now.weak_places w None }
+    {
+        self.weak.get(w)
+    }
+
+    /// The places of what the strong slots name.
+    pub fn strong(&self) -> &Slots
         ensures { result.now ≡ self.now.places }
     {
-        &self.places
+        &self.strong
     }
 
     /// Slot p gets the place and the number of the target, or becomes null.
@@ -67,8 +102,46 @@ impl Handles {
         requires { p < 256 }
         ensures { self.new ≡ put_in self.old p target }
     {
-        self.places[p as usize] = place_in(target);
-        self.slots = slots_with(&self.slots, p, target);
+        fill(&mut self.strong, p, place_in(target));
+        self.strong_nodes = slots_with(&self.strong_nodes, p, target);
+    }
+
+    /// Slot q gets what slot p holds.
+    pub fn copy(&mut self, p: u32, q: u32)
+        requires from { p < 256 }
+        requires into { q < 256 }
+        ensures { self.new ≡ copied_in self.old p q }
+    {
+        self.strong.copy(p, q);
+        self.strong_nodes = slot_copied(&self.strong_nodes, p, &self.strong_nodes, q);
+    }
+
+    /// Weak slot w gets what slot p holds.
+    pub fn weaken(&mut self, w: u32, p: u32)
+        requires into { w < 64 }
+        requires from { p < 256 }
+        ensures { self.new ≡ weakened_in self.old w p }
+    {
+        fill(&mut self.weak, w, self.strong.get(p));
+        self.weak_nodes = slot_copied(&self.strong_nodes, p, &self.weak_nodes, w);
+    }
+
+    /// Empties exactly the weak slots whose object is not marked. Only a pause calls this, once
+    /// marking is over and these nodes are still those from before it.
+    pub fn clear_weak(
+        &mut self,
+        space: &Space,
+        seat: &mut MutatorSeat,
+        nodes: &GhostValue<NodeLists>,
+    )
+        requires heap { IsSeatOf space.now seat.old }
+        requires places { All (IsPlace seat.old.bodies) (taken self.old.weak_places) }
+        ensures cleared { self.new
+            ≡ cleared_in self.old (holds seat.old.marked) nodes.now.value }
+        ensures view { seat.new ≡ seat.old }
+    {
+        clear_slots(space, seat, &mut self.weak);
+        self.weak_nodes = weak_judged(&self.weak_nodes, nodes, seat);
     }
 
     /// What slot q holds, as the content of a field.
@@ -79,8 +152,8 @@ impl Handles {
             ≡ content_of (slice_index_or self.now.slots q None) }
     {
         Content {
-            word: reference_of(self.places[q as usize]),
-            value: value_of(&self.slots, q),
+            word: reference_of(self.strong.get(q)),
+            value: value_of(&self.strong_nodes, q),
         }
     }
 }
@@ -153,10 +226,10 @@ struct AboutSlot<'a> {
     target: Option<(u32, u32)>,
 }
 
-fn null_slots() -> GhostValue<SlotLists>
-    ensures { result.value ≡ replicate 256 None }
+fn null_slots(count: u32) -> GhostValue<SlotLists>
+    ensures { result.value ≡ replicate count None }
 {
-    GhostValue::chosen(&0u8)
+    GhostValue::chosen(&count)
 }
 
 fn slots_with(
@@ -167,6 +240,48 @@ fn slots_with(
     ensures { result.value ≡ slice_set slots.now.value p (option_map (λ t. t.1) target) }
 {
     GhostValue::chosen(&AboutSlot { slots, p, target })
+}
+
+/// What a copy from slot to slot looks at.
+#[derive(Drop)]
+struct AboutCopy<'a> {
+    from: &'a GhostValue<SlotLists>,
+    p: u32,
+    into: &'a GhostValue<SlotLists>,
+    q: u32,
+}
+
+/// Slot q of the second list names what slot p of the first one names.
+fn slot_copied(
+    from: &GhostValue<SlotLists>,
+    p: u32,
+    into: &GhostValue<SlotLists>,
+    q: u32,
+) -> GhostValue<SlotLists>
+    ensures { result.value
+        ≡ slice_set into.now.value q (slice_index_or from.now.value p None) }
+{
+    GhostValue::chosen(&AboutCopy { from, p, into, q })
+}
+
+/// What a judgement of weak slots looks at.
+#[derive(Drop)]
+struct AboutWeak<'a> {
+    weak: &'a GhostValue<SlotLists>,
+    nodes: &'a GhostValue<NodeLists>,
+    seat: &'a MutatorSeat,
+}
+
+/// The weak slots that name a node whose place is not marked are null.
+fn weak_judged(
+    weak: &GhostValue<SlotLists>,
+    nodes: &GhostValue<NodeLists>,
+    seat: &MutatorSeat,
+) -> GhostValue<SlotLists>
+    ensures { result.value ≡ weak_after (kept_of (holds seat.now.marked) nodes.now.value)
+        nodes.now.value weak.now.value }
+{
+    GhostValue::chosen(&AboutWeak { weak, nodes, seat })
 }
 
 fn null_value() -> GhostValue<Values>
@@ -211,13 +326,13 @@ fn place_in(target: Option<(u32, u32)>) -> Option<u32>
     }
 }
 
-/// The slots of an empty heap.
-fn empty_places(alloc: Global) -> Result<Vec<Option<u32>>, NoMemory>
-    ensures { IfOk result (λ v. v.items ≡ replicate 256 None) }
+/// Slot i holds the place, or nothing.
+fn fill(slots: &mut Slots, i: u32, place: Option<u32>)
+    requires { i < length slots.old }
+    ensures { slots.new ≡ slice_set slots.old i place }
 {
-    let mut places = Vec::with_capacity(alloc, SLOTS as usize)?;
-    for _slot in 0..SLOTS {
-        places.push_reserved(None);
+    match place {
+        Some(place) => slots.set(i, place),
+        None => slots.clear(i),
     }
-    Ok(places)
 }

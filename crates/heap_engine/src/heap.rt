@@ -20,7 +20,7 @@ use crate::fields::{get, put, set, set_null, word};
 use crate::handles::Handles;
 use crate::objects::Objects;
 use crate::outcome::Outcome;
-use crate::slots::drop_slot;
+use crate::slots::{copy, drop_slot, read, weaken};
 use crate::totals::stat;
 use gc_graph::{Command, Line, NoMemory};
 use std::alloc::Global;
@@ -168,7 +168,10 @@ fn run(
         Command::Get { p, f, q } => get(objects, handles, cycle, p, f, q),
         Command::Put { p, f, n } => put(objects, handles, cycle, p, f, n),
         Command::Word { p, f } => word(objects, handles, cycle, p, f),
+        Command::Copy { p, q } => copy(objects, handles, cycle, p, q),
         Command::Drop { p } => drop_slot(objects, handles, cycle, p),
+        Command::Weak { w, p } => weaken(objects, handles, cycle, w, p),
+        Command::Read { w, p } => read(objects, handles, cycle, w, p),
         Command::GcNow { want: _ } => cycle.collect(objects, handles, outcome),
         Command::SweepAll => cycle.sweep_all(objects, handles, outcome),
         Command::Stat => stat(objects, handles, cycle),
@@ -176,9 +179,6 @@ fn run(
         | Command::PairNull { .. }
         | Command::Key { .. }
         | Command::Val { .. }
-        | Command::Copy { .. }
-        | Command::Weak { .. }
-        | Command::Read { .. }
         | Command::Push { .. }
         | Command::PushPlain { .. }
         | Command::Pop

@@ -13,6 +13,7 @@ ghost use Rattle.heap_engine.specs.Marking.{KeepsTricolour, MarksOn};
 use gc_graph::NoMemory;
 use object_headers::{place_in, with_mark, with_traced};
 use page_words::{MutatorSeat, Words};
+use persistent_slots::Slots;
 use std::alloc::Global;
 use std::marker::Model;
 
@@ -83,12 +84,7 @@ impl MarkList {
     }
 
     /// Marks and lists the targets of the slots.
-    pub(crate) fn mark_slots(
-        &mut self,
-        words: &Words,
-        seat: &mut MutatorSeat,
-        slots: &[Option<u32>],
-    )
+    pub(crate) fn mark_slots(&mut self, words: &Words, seat: &mut MutatorSeat, slots: &Slots)
         requires heap { seat.old.count ≡ words.now }
         requires slots { All (λ slot. ForSome slot (IsPlace seat.old.bodies)) slots.now }
         requires counted { IsCounted seat.old self.old }
@@ -99,8 +95,8 @@ impl MarkList {
         ensures only { (p : ℕ) → holds seat.new.marked p ≡ true
             → (holds seat.old.marked p ≡ true) ⊎ Contains slots.now (Some p) }
     {
-        for slot in slots {
-            self.mark_slot(words, seat, *slot);
+        for i in 0..slots.len() {
+            self.mark_slot(words, seat, slots.get(i));
         }
     }
 

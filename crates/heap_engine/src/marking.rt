@@ -16,6 +16,7 @@ ghost use Rattle.heap_engine.specs.Marking.{ArePairless, HasType, LeadsMarked, m
 use crate::mark_list::MarkList;
 use page_space::Space;
 use page_words::{MutatorSeat, Words};
+use persistent_slots::Slots;
 use type_table::TypeTable;
 
 impl MarkList {
@@ -25,7 +26,7 @@ impl MarkList {
         space: &Space,
         seat: &mut MutatorSeat,
         types: &TypeTable,
-        slots: &[Option<u32>],
+        slots: &Slots,
     )
         requires heap { IsSeatOf space.now seat.old }
         requires quiet { IsQuiet seat.old }

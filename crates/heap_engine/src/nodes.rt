@@ -2,9 +2,9 @@
 // alone.
 
 ghost use Rattle.std.specs.Prelude.{◌≡◌, [], map, Some, None, slice_index_or};
-ghost use Rattle.gc_graph.specs.Pause.{condemn};
 ghost use Rattle.page_words.specs.Seat.{holds};
 ghost use Rattle.heap_engine.specs.View.{kept_of};
+ghost use Rattle.heap_engine.specs.Judgement.{nodes_after};
 ghost use Rattle.heap_engine.specs.Objects.{with_made, written_in, bury};
 
 use crate::handles::{Content, Handles};
@@ -116,10 +116,10 @@ struct AboutMarks<'a> {
     seat: &'a MutatorSeat,
 }
 
-/// The nodes that are not marked are condemned.
+/// The nodes that are not marked are condemned, and the weak fields that named one of them are null.
 pub fn judged(nodes: &GhostValue<NodeLists>, seat: &MutatorSeat) -> GhostValue<NodeLists>
     ensures { result.value
-        ≡ condemn (kept_of (holds seat.now.marked) nodes.now.value) nodes.now.value }
+        ≡ nodes_after (kept_of (holds seat.now.marked) nodes.now.value) nodes.now.value }
 {
     GhostValue::chosen(&AboutMarks { nodes, seat })
 }

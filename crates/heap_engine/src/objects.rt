@@ -135,6 +135,17 @@ impl Objects {
         self.space.objects()
     }
 
+    /// The number of the object at a place.
+    pub fn number_at(&mut self, place: u32) -> u32
+        requires few { length self.old.nodes ≤ 1000000 }
+        requires place { (n : ℕ) × IsLiveAt self.old.nodes n place }
+        ensures number { (n : ℕ) → IsLiveAt self.old.nodes n place → result ≡ n }
+        ensures same { self.new ≡ self.old }
+    {
+        self.seat.bodies_lie_apart();
+        self.space.serial_at(&mut self.seat, place)
+    }
+
     /// Makes an object of a type with so many extra words, where there is a place for it.
     pub fn make(&mut self, t: u32, extra: u32) -> Option<u32>
         requires ty { t < length self.old.types }

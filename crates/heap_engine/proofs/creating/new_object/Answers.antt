@@ -16,7 +16,8 @@ returns-in-Some-clause-frame c = record {
   ordinal = refl;
   tied = tied_made c.args.objects.now c.make.new.self c.args.handles.now c.put.new.self c.args.cycle.now c.args.p c.in-Some.place c.made-number.result
       (new_node (setup_of_objects c.args.objects.now) c.args.t c.args.extra c.in-Some.place) c.requires.ready.tied
-      (slots_live c.args.objects.now.nodes c.args.handles.now.slots c.requires.ready.valid.slots) c.requires.swept c.in-Some.ensures.quiet c.made-number.ensures refl
+      (slots_live c.args.objects.now.nodes c.args.handles.now.slots c.requires.ready.valid.slots)
+      (slots_live c.args.objects.now.nodes c.args.handles.now.weak c.requires.ready.valid.weak) c.requires.swept c.in-Some.ensures.quiet c.made-number.ensures refl
       c.in-Some.ensures.nodes c.put.ensures;
 }
 

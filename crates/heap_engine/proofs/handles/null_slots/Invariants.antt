@@ -2,4 +2,4 @@ use Rattle.std.proofs.Common.{replicate, None}
 use Rattle.heap_engine.proofs.handles.null_slots.Given as goal
 
 abbrev pub ghost-chosen : goal.ghost-chosen
-ghost-chosen a = replicate 256 None
+ghost-chosen a = replicate a.about.now None

@@ -27,7 +27,7 @@ pub invariant_of-outcome : goal.invariant_of-outcome
 invariant_of-outcome c = c.end_sweep.ensures.many
 
 -- the collection in its parts
-collects : (c : goal.After-pause_line) → Collects c.args.objects.now c.end_sweep.new.objects c.judge.new.self c.args.handles.now
+collects : (c : goal.After-pause_line) → Collects c.args.objects.now c.end_sweep.new.objects c.judge.new.self c.args.handles.now c.judge.new.handles
     (record { phase = c.self.inside.phase; grey = c.self.inside.grey; rest = c.self.inside.rest.value }) c.end_sweep.new.self
     (record { phase = Sweeping; grey = c.judge.new.grey; rest = c.collected.result.value }) c.end_sweep.new.finalised.items
 collects c = record {
@@ -38,6 +38,7 @@ collects c = record {
   setup = c.end_sweep.ensures.setup;
   same_setup = c.judge.ensures.setup;
   judges = c.judge.ensures.judged;
+  strong_left = c.judge.ensures.strong;
   judged = c.judge.ensures.marks;
   phase = refl;
   rest = c.collected.ensures;
@@ -52,10 +53,10 @@ returns-clause-step c =
     ∙ ap (λ k. L.Pause c.marked.result (c.count-2.result - c.marked.result) 0 k false) (c.traced.ensures ∙ c.judge.ensures.traced ∙ sym c.marked.ensures)
     ∙ pause_counts c.judge.new.self.nodes c.count-2.result c.marked.result c.count-2.ensures marked in
     rw (← c.self.view_is)
-    (collection_steps c.args.objects.now c.end_sweep.new.objects c.judge.new.self c.args.handles.now _ c.end_sweep.new.self _ c.end_sweep.new.finalised.items
+    (collection_steps c.args.objects.now c.end_sweep.new.objects c.judge.new.self c.args.handles.now c.judge.new.handles _ c.end_sweep.new.self _ c.end_sweep.new.finalised.items
     c.of_collection.result.value c.pause_line.result c.reach_is_least.ensures (collects c) c.of_collection.ensures line)
 
 pub returns-clause-frame : goal.returns-clause-frame
 returns-clause-frame c =
     rw (← c.self.view_is)
-    (collection_frame c.args.objects.now c.end_sweep.new.objects c.judge.new.self c.args.handles.now _ c.end_sweep.new.self _ c.end_sweep.new.finalised.items (collects c))
+    (collection_frame c.args.objects.now c.end_sweep.new.objects c.judge.new.self c.args.handles.now c.judge.new.handles _ c.end_sweep.new.self _ c.end_sweep.new.finalised.items (collects c))

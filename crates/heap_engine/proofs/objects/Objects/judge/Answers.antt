@@ -1,22 +1,31 @@
-use Rattle.std.proofs.Common.{◌≡◌, ℕ, [], List, Option, length, sym, ap, ◌∙◌, subst, arith}
+use Rattle.std.proofs.Common.{◌≡◌, ℕ, Bool, [], List, Option, length, sym, ap, ◌∙◌, subst, arith}
 use Rattle.std.specs.List.{All, count_by}
 use Rattle.std.specs.Option.{ForSome}
 use Rattle.std.proofs.lemmas.List.Sums.{count_by-le-length}
-use Rattle.gc_graph.specs.State.{Setup, Node, is_there}
-use Rattle.gc_graph.specs.Pause.{condemn, live_count}
+use Rattle.gc_graph.specs.State.{Setup, Node, is_there, slot_targets, IsDead}
+use Rattle.gc_graph.specs.Valid.{AreLive}
+use Rattle.gc_graph.specs.Pause.{live_count}
 use Rattle.page_words.specs.Bodies.{Body, IsPlace}
 use Rattle.page_words.specs.Seat.{SeatView, IsQuiet, holds}
-use Rattle.heap_engine.specs.Marking.{MarksReachable}
-use Rattle.heap_engine.specs.Nodes.{place_of, IsHeld}
-use Rattle.heap_engine.specs.Objects.{IsJudgement}
+use Rattle.persistent_slots.specs.Clearing.{taken}
+use Rattle.weak_clearing.specs.Clearing.{with_weak_cleared}
+use Rattle.heap_engine.specs.Sweeping.{IsJudged}
+use Rattle.heap_engine.specs.Nodes.{place_of, bodies_of, IsHeld}
+use Rattle.heap_engine.specs.Objects.{AreObjects}
+use Rattle.heap_engine.specs.Judgement.{IsJudgement, nodes_after, weak_after}
+use Rattle.heap_engine.specs.Changes.{cleared_in}
+use Rattle.heap_engine.specs.Parts.{HandlesView}
 use Rattle.heap_engine.specs.View.{kept_of}
 use Rattle.heap_engine.proofs.NodeBodies.{length-bodies}
 use Rattle.heap_engine.proofs.NodePlaces.{places_differ}
-use Rattle.heap_engine.proofs.NodeLives.{length-condemn, live-condemn}
-use Rattle.heap_engine.proofs.StrongFields.{known_nodes, built_pairless}
+use Rattle.heap_engine.proofs.NodeLives.{live-condemn}
+use Rattle.heap_engine.proofs.StrongFields.{AreKnown, known_nodes, built_pairless}
 use Rattle.heap_engine.proofs.HeldNodes.{none_dead, held_judged, judged_after}
 use Rattle.heap_engine.proofs.KeptNodes.{slots_live, keeps_reached}
 use Rattle.heap_engine.proofs.JudgedNodes.{named_places, references_hold, space_marked}
+use Rattle.heap_engine.proofs.WeakNodes.{length-after, live-after}
+use Rattle.heap_engine.proofs.WeakReferences.{weak_references_hold}
+use Rattle.heap_engine.proofs.WeakJudged.{IsMarked, marked_is, held_after, space_cleared, judged_cleared, weak_are_places, still_there, handles_after}
 use Rattle.heap_engine.proofs.objects.Objects.judge.Goals as goal
 
 pub mark_reachable-requires-clause-slots : goal.mark_reachable-requires-clause-slots
@@ -24,7 +33,7 @@ mark_reachable-requires-clause-slots c =
     let nodes : List Node = c.self.inside.nodes.value in
     let v : SeatView = c.self.inside.seat in
     let slots : List (Option ℕ) = c.args.handles.now.slots in
-    subst (λ l. All (λ slot. ForSome slot (IsPlace v.bodies)) l) (sym (rw (← c.self.view_is) at c.requires.slots) ∙ sym c.places.ensures)
+    subst (λ l. All (λ slot. ForSome slot (IsPlace v.bodies)) l) (sym (rw (← c.self.view_is) at c.requires.slots) ∙ sym c.strong.ensures)
     (named_places nodes v slots c.self.invariant.held.bodies (slots_live nodes slots (rw (← c.self.view_is) at c.requires.live)))
 
 pub mark_reachable-requires-clause-references : goal.mark_reachable-requires-clause-references
@@ -57,10 +66,53 @@ mark_reachable-requires-clause-few c =
       (rw (← c.self.view_is) at c.requires.few),
     )
 
--- what marking did
-marks_of : (c : goal.After-drop-self-inside) → MarksReachable c.self.inside.types c.args.handles.now.places c.self.inside.seat c.mark_reachable.new.seat
-marks_of c =
-    subst (λ l. MarksReachable c.self.inside.types l c.self.inside.seat c.mark_reachable.new.seat) c.places.ensures c.mark_reachable.ensures.marks
+pub clear_fields-requires-clause-references : goal.clear_fields-requires-clause-references
+clear_fields-requires-clause-references c =
+    let nodes : List Node = c.self.inside.nodes.value in
+    let v : SeatView = c.self.inside.seat in
+    let new : SeatView = c.mark_reachable.new.seat in
+    let marks = c.mark_reachable.ensures.marks in
+    let quiet : IsQuiet v = rw (← c.self.view_is) at c.requires.quiet in
+    let setup : Setup = record { shape = c.self.inside.space.shape; markers = 0; types = c.self.inside.types; callbacks = [] } in
+    let known : AreKnown setup nodes = known_nodes setup nodes (rw (← c.self.view_is) at c.requires.valid) in
+    let alive : (n : ℕ) → IsDead nodes n → ⊥ = none_dead nodes v c.self.invariant.held quiet.dead in
+    let held : new.bodies ≡ bodies_of nodes = marks.bodies ∙ c.self.invariant.held.bodies in
+    weak_references_hold setup nodes new known (marks.known ∙ c.self.invariant.known) held alive (references_hold setup nodes new known held alive)
+
+-- the words after marking
+is_marked : (c : goal.After-clear_weak-arg-4-1)
+    → IsMarked (record { shape = c.self.inside.space.shape; markers = 0; types = c.self.inside.types; callbacks = [] }) c.self.inside.nodes.value c.mark_reachable.new.seat
+is_marked c =
+    let setup : Setup = record { shape = c.self.inside.space.shape; markers = 0; types = c.self.inside.types; callbacks = [] } in
+    marked_is setup c.self.inside.nodes.value c.strong.result.now c.self.inside.seat c.mark_reachable.new.seat (rw (← c.self.view_is) at c.requires.valid) c.self.invariant.built
+    c.self.invariant.known (rw (← c.self.view_is) at c.requires.quiet) c.self.invariant.held c.mark_reachable.ensures.marks
+
+pub clear_weak-requires-clause-places : goal.clear_weak-requires-clause-places
+clear_weak-requires-clause-places c =
+    let nodes : List Node = c.self.inside.nodes.value in
+    let v : SeatView = c.mark_reachable.new.seat in
+    let weak : List (Option ℕ) = c.args.handles.now.weak in
+    let setup : Setup = record { shape = c.self.inside.space.shape; markers = 0; types = c.self.inside.types; callbacks = [] } in
+    let live : AreLive nodes (slot_targets weak) = rw (← c.self.view_is) at c.requires.weak_live in
+    subst (λ (u : SeatView). All (IsPlace u.bodies) (taken c.args.handles.now.weak_places)) (sym c.clear_fields.ensures.cleared)
+    (subst (λ l. All (IsPlace (with_weak_cleared v).bodies) (taken l)) (sym (rw (← c.self.view_is) at c.requires.weak))
+    (weak_are_places nodes (kept_of (holds v.marked) nodes) (with_weak_cleared v) weak (held_after setup nodes v (is_marked c)).bodies (still_there (holds v.marked) nodes) (slots_live nodes weak live)))
+
+-- what the whole did to the words
+seat_is : (c : goal.After-drop-self-inside) → c.clear_weak.new.seat ≡ with_weak_cleared c.mark_reachable.new.seat
+seat_is c = c.clear_weak.ensures.view ∙ c.clear_fields.ensures.cleared
+
+-- to the nodes
+nodes_are : (c : goal.After-drop-self-inside)
+    → nodes_after (kept_of (holds c.mark_reachable.new.seat.marked) c.self.inside.nodes.value) c.self.inside.nodes.value ≡ c.judged.result.value
+nodes_are c =
+    let nodes : List Node = c.self.inside.nodes.value in
+    sym (c.judged.ensures ∙ ap (λ (u : SeatView). nodes_after (kept_of (holds u.marked) nodes) nodes) (seat_is c))
+
+-- and to the handles
+handles_are : (c : goal.After-drop-self-inside) → c.clear_weak.new.self ≡ cleared_in c.args.handles.now (holds c.mark_reachable.new.seat.marked) c.self.inside.nodes.value
+handles_are c =
+    c.clear_weak.ensures.cleared ∙ ap (λ (u : SeatView). cleared_in c.args.handles.now (holds u.marked) c.self.inside.nodes.value) c.clear_fields.ensures.cleared
 
 quiet_of : (c : goal.After-drop-self-inside) → IsQuiet c.self.inside.seat
 quiet_of c = rw (← c.self.view_is) at c.requires.quiet
@@ -68,36 +120,53 @@ quiet_of c = rw (← c.self.view_is) at c.requires.quiet
 pub invariant_of-self : goal.invariant_of-self
 invariant_of-self c =
     let nodes : List Node = c.self.inside.nodes.value in
-    let new : SeatView = c.mark_reachable.new.seat in
-    let nodes_are : condemn (kept_of (holds new.marked) nodes) nodes ≡ c.judged.result.value = sym c.judged.ensures in
-    record {
+    let v : SeatView = c.mark_reachable.new.seat in
+    let new : SeatView = with_weak_cleared v in
+    let marks = c.mark_reachable.ensures.marks in
+    let setup : Setup = record { shape = c.self.inside.space.shape; markers = 0; types = c.self.inside.types; callbacks = [] } in
+    let marked : IsMarked setup nodes v =
+    marked_is setup nodes c.strong.result.now c.self.inside.seat v (rw (← c.self.view_is) at c.requires.valid) c.self.invariant.built c.self.invariant.known (quiet_of c)
+    c.self.invariant.held marks in
+    let is : AreObjects c.self.inside.space new c.self.inside.types c.self.inside.made c.judged.result.value = record {
       built = c.self.invariant.built;
       few = c.self.invariant.few;
-      known = (marks_of c).known ∙ c.self.invariant.known;
-      laid = space_marked c.self.inside.space c.self.inside.types c.args.handles.now.places c.self.inside.seat new (marks_of c) c.self.invariant.laid;
-      off = (marks_of c).off;
-      held = subst (λ (ns : List Node). IsHeld ns new) nodes_are
-          (held_judged nodes c.self.inside.types c.args.handles.now.places c.self.inside.seat new (quiet_of c) c.self.invariant.held (marks_of c));
-      numbers_are = c.self.invariant.numbers_are ∙ sym (length-condemn (kept_of (holds new.marked) nodes) nodes) ∙ ap length nodes_are;
-    }
+      known = marks.known ∙ c.self.invariant.known;
+      laid = space_cleared c.self.inside.space v (space_marked c.self.inside.space c.self.inside.types c.strong.result.now c.self.inside.seat v marks c.self.invariant.laid);
+      off = marks.off;
+      held = subst (λ (ns : List Node). IsHeld ns new) (nodes_are c) (held_after setup nodes v marked);
+      numbers_are = c.self.invariant.numbers_are ∙ sym (length-after (kept_of (holds v.marked) nodes) nodes) ∙ ap length (nodes_are c);
+    } in
+    subst (λ (u : SeatView). AreObjects c.self.inside.space u c.self.inside.types c.self.inside.made c.judged.result.value) (sym (seat_is c)) is
 
 pub returns-clause-judged : goal.returns-clause-judged
 returns-clause-judged c =
     let nodes : List Node = c.self.inside.nodes.value in
+    let slots : List (Option ℕ) = c.args.handles.now.slots in
+    let weak : List (Option ℕ) = c.args.handles.now.weak in
+    let v : SeatView = c.mark_reachable.new.seat in
     let setup : Setup = record { shape = c.self.inside.space.shape; markers = 0; types = c.self.inside.types; callbacks = [] } in
-    rw (← c.self.view_is) (subst (IsJudgement nodes c.args.handles.now.slots) (sym c.judged.ensures)
-    (keeps_reached setup nodes c.args.handles.now.slots c.self.inside.seat c.mark_reachable.new.seat c.args.handles.now.places c.reach_is_least.ensures
+    let judges : IsJudgement nodes slots weak (nodes_after (kept_of (holds v.marked) nodes) nodes) (weak_after (kept_of (holds v.marked) nodes) nodes weak) =
+    keeps_reached setup nodes slots weak c.self.inside.seat v c.strong.result.now c.reach_is_least.ensures
     c.bodies_lie_apart.ensures (rw (← c.self.view_is) at c.requires.valid) (rw (← c.self.view_is) at c.requires.live) c.self.invariant.held.bodies
-    (rw (← c.self.view_is) at c.requires.slots) (marks_of c)))
+    (c.strong.ensures ∙ (rw (← c.self.view_is) at c.requires.slots)) c.mark_reachable.ensures.marks in
+    rw (← c.self.view_is) (subst (λ (ns : List Node). IsJudgement nodes slots weak ns c.clear_weak.new.self.weak) (nodes_are c)
+    (subst (IsJudgement nodes slots weak (nodes_after (kept_of (holds v.marked) nodes) nodes)) (sym (ap (λ (h : HandlesView). h.weak) (handles_are c))) judges))
+
+pub returns-clause-strong : goal.returns-clause-strong
+returns-clause-strong c =
+    handles_after c.self.inside.nodes.value c.judged.result.value c.mark_reachable.new.seat c.args.handles.now c.clear_weak.new.self
+    (rw (← c.self.view_is) at c.requires.weak) (rw (← c.self.view_is) at c.requires.weak_live) (handles_are c) (nodes_are c)
 
 pub returns-clause-marks : goal.returns-clause-marks
 returns-clause-marks c =
-    judged_after c.self.inside.types c.places.result.now c.self.inside.seat c.mark_reachable.new.seat c.mark_reachable.ensures.marks
+    subst IsJudged (sym (seat_is c))
+    (judged_cleared c.mark_reachable.new.seat (judged_after c.self.inside.types c.strong.result.now c.self.inside.seat c.mark_reachable.new.seat c.mark_reachable.ensures.marks))
 
 pub returns-clause-marked : goal.returns-clause-marked
 returns-clause-marked c =
     let nodes : List Node = c.self.inside.nodes.value in
-    let new : SeatView = c.mark_reachable.new.seat in
-    c.mark_reachable.ensures.marked ∙ ap (count_by (λ (b : Body). holds new.marked b.place)) ((marks_of c).bodies ∙ c.self.invariant.held.bodies)
-    ∙ sym (live-condemn (place_of nodes) 0 (holds new.marked) nodes (none_dead nodes c.self.inside.seat c.self.invariant.held (quiet_of c).dead))
-    ∙ ap live_count (sym c.judged.ensures)
+    let v : SeatView = c.mark_reachable.new.seat in
+    let kept : List Bool = kept_of (holds v.marked) nodes in
+    c.mark_reachable.ensures.marked ∙ ap (count_by (λ (b : Body). holds v.marked b.place)) (c.mark_reachable.ensures.marks.bodies ∙ c.self.invariant.held.bodies)
+    ∙ sym (live-condemn (place_of nodes) 0 (holds v.marked) nodes (none_dead nodes c.self.inside.seat c.self.invariant.held (quiet_of c).dead))
+    ∙ sym (live-after kept nodes) ∙ ap live_count (nodes_are c)

@@ -1,0 +1,215 @@
+-- After marking and weak clearing the words hold the nodes after the pause.
+use Rattle.std.proofs.Common.{◌≡◌, ℕ, zero, suc, ◌+◌, ◌<◌, Bool, true, false, ◌&&◌, not, List, [], ◌∷◌, length, get_or, map, Option, Some, None, option_map, refl, sym, ap, ◌∙◌, subst, arith, cond}
+use Rattle.std.specs.List.{All, Contains}
+use Rattle.std.specs.Option.{ForSome}
+use Rattle.std.proofs.lemmas.Bool.{true≢false, cases_Bool}
+use Rattle.std.proofs.lemmas.List.Elements.{All-head, All-tail, All-cons, All-get_or, All-from_get_or}
+use Rattle.gc_graph.specs.declared.kind.Kind.{Kind}
+use Rattle.gc_graph.specs.declared.kind.Kind.TheVariants.{Pair}
+use Rattle.gc_graph.specs.Graph.{Object, has}
+use Rattle.gc_graph.specs.State.{Setup, ObjectType, Node, Life, node_at, no_node, no_type, is_live, is_dead, is_there, slot_targets, IsLive, IsDead}
+use Rattle.gc_graph.specs.State.Life.{Live, Dead, Gone}
+use Rattle.gc_graph.specs.Valid.{IsTyped, AreLive}
+use Rattle.gc_graph.specs.Pause.{judged, condemn, is_dead_at, clear_slot, clear_node, cleared_values}
+use Rattle.type_table.specs.Types.{kinds_of}
+use Rattle.type_table.specs.Layouts.{kinds_of_words}
+use Rattle.page_words.specs.Bodies.{Body, IsPlace}
+use Rattle.page_words.specs.Seat.{SeatView, IsQuiet, holds}
+use Rattle.page_space.specs.Space.{SpaceView, IsSpaceOf, IsSpaceOver, extents_of_bodies}
+use Rattle.persistent_slots.specs.Clearing.{taken}
+use Rattle.weak_clearing.specs.Clearing.{clear_words, clear_body, with_weak_cleared}
+use Rattle.heap_engine.specs.Marking.{ArePairless, MarksReachable}
+use Rattle.heap_engine.specs.Objects.{AreBuilt, AreOfValid}
+use Rattle.heap_engine.specs.Sweeping.{IsJudged}
+use Rattle.heap_engine.specs.Judgement.{nodes_after, weak_after}
+use Rattle.heap_engine.specs.Changes.{cleared_in}
+use Rattle.heap_engine.specs.Parts.{HandlesView}
+use Rattle.heap_engine.specs.Nodes.{place_of, word_of, body_of, bodies_from, bodies_of, IsThere, IsHeld}
+use Rattle.heap_engine.specs.View.{kept_of, places_of}
+use Rattle.heap_engine.proofs.MarkCounts.{Contains-map_some}
+use Rattle.heap_engine.proofs.NodeChanges.{bodies-same}
+use Rattle.heap_engine.proofs.NodePlaces.{node_body, live_is_there}
+use Rattle.heap_engine.proofs.NodeLives.{life-condemn, object-condemn, place-condemn, length-condemn, there-condemn, live_if_there, dead_judged}
+use Rattle.heap_engine.proofs.StrongFields.{AreKnown, known_nodes, built_pairless}
+use Rattle.heap_engine.proofs.HeldNodes.{none_dead, held_judged}
+use Rattle.heap_engine.proofs.KeptNodes.{has-kept, slots_live}
+use Rattle.heap_engine.proofs.WeakNodes.{life-after, place-after}
+use Rattle.heap_engine.proofs.WeakBodies.{TellsUnmarked, Clears, cleared_words, bodies_cleared}
+
+-- marking is over in these words, which hold the nodes: none was dead before, and what isn't marked is now condemned
+pub record IsMarked (setup : Setup) (nodes : List Node) (v : SeatView) : Type 0 where
+  pub known : AreKnown setup nodes
+  pub pairless : ArePairless setup.types
+  pub types : v.types ≡ setup.types
+  pub alive : (n : ℕ) → IsDead nodes n → ⊥
+  pub held : IsHeld (condemn (kept_of (holds v.marked) nodes) nodes) v
+
+pub marked_is : (setup : Setup) (nodes : List Node) (places : List (Option ℕ)) (v new : SeatView) → AreOfValid setup nodes → AreBuilt setup.types → v.types ≡ setup.types → IsQuiet v
+    → IsHeld nodes v → MarksReachable setup.types places v new → IsMarked setup nodes new
+marked_is setup nodes places v new valid built types quiet held marks = record {
+  known = known_nodes setup nodes valid;
+  pairless = built_pairless setup.types built;
+  types = marks.known ∙ types;
+  alive = none_dead nodes v held quiet.dead;
+  held = held_judged nodes setup.types places v new quiet held marks;
+}
+
+-- ---- which nodes are dead
+
+flag_is : (marked : ℕ → Bool) (nodes : List Node) (n : ℕ) → IsLive nodes n → has (kept_of marked nodes) n ≡ marked (place_of nodes n)
+flag_is marked nodes n live = has-kept marked nodes n ∙ ap (λ l. is_live l && marked (place_of nodes n)) live
+
+life_is : (marked : ℕ → Bool) (nodes : List Node) (n : ℕ) → IsLive nodes n → (node_at (condemn (kept_of marked nodes) nodes) n).life ≡ judged (marked (place_of nodes n)) Live
+life_is marked nodes n live =
+    life-condemn (kept_of marked nodes) nodes n ∙ ap (λ b. judged b (node_at nodes n).life) (flag_is marked nodes n live) ∙ ap (judged (marked (place_of nodes n))) live
+
+tells_unmarked : (nodes : List Node) (v : SeatView) → TellsUnmarked nodes v.marked (place_of nodes) (is_dead_at (condemn (kept_of (holds v.marked) nodes) nodes))
+tells_unmarked nodes v n live = ap is_dead (life_is (holds v.marked) nodes n live) ∙ dead_judged (holds v.marked (place_of nodes n))
+
+live_judged : (flag : Bool) → is_live (judged flag Live) ≡ flag
+live_judged true = refl
+live_judged false = refl
+
+live_before : (flag : Bool) (l : Life) → is_live (judged flag l) ≡ true → l ≡ Live
+live_before true Live is = refl
+live_before false Live is = refl
+live_before true Dead is = absurd (true≢false (sym is))
+live_before false Dead is = absurd (true≢false (sym is))
+live_before true Gone is = absurd (true≢false (sym is))
+live_before false Gone is = absurd (true≢false (sym is))
+
+-- ---- bodies
+
+no_pair_at : (setup : Setup) (bound : ℕ) (x : Node) → ArePairless setup.types → IsTyped setup bound x → Contains x.object.kinds Pair → ⊥
+no_pair_at setup bound x pairless typed there =
+    All-get_or (λ (type : ObjectType). Contains type.kinds Pair → ⊥) setup.types x.object.ty no_type typed.ty pairless
+    (subst (λ (ks : List Kind). Contains ks Pair) typed.kinds_are there)
+
+-- the words of a live node's object are cleared as its values are
+object_words : (setup : Setup) (nodes : List Node) (v : SeatView) (n : ℕ) → IsMarked setup nodes v → n < length nodes → IsLive nodes n
+    → (o : Object) → o ≡ (node_at nodes n).object
+    → clear_words v.marked (kinds_of_words (kinds_of setup.types o.ty)) (map (word_of (place_of nodes)) o.values)
+    ≡ map (word_of (place_of nodes)) (cleared_values (is_dead_at (condemn (kept_of (holds v.marked) nodes) nodes)) o.kinds o.values)
+object_words setup nodes v n is low live o same =
+    let dead : ℕ → Bool = is_dead_at (condemn (kept_of (holds v.marked) nodes) nodes) in
+    let f : ℕ → ℕ = place_of nodes in
+    let x : Node = node_at nodes n in
+    let typed : IsTyped setup (length nodes) x = All-get_or (IsTyped setup (length nodes)) nodes n no_node low is.known.typed in
+    subst (λ (p : Object). clear_words v.marked (kinds_of_words (kinds_of setup.types p.ty)) (map (word_of f) p.values) ≡ map (word_of f) (cleared_values dead p.kinds p.values)) (sym same)
+    (ap (λ (ks : List Kind). clear_words v.marked (kinds_of_words ks) (map (word_of f) x.object.values)) (sym typed.kinds_are)
+    ∙ cleared_words nodes v.marked f dead (length nodes) x.object.kinds x.object.values (tells_unmarked nodes v) (no_pair_at setup (length nodes) x is.pairless typed) typed.values_are
+    (is.known.references n live))
+
+node_clears : (setup : Setup) (nodes : List Node) (v : SeatView) (n : ℕ) → IsMarked setup nodes v → n < length nodes
+    → Clears setup.types v.marked (place_of nodes) (is_dead_at (condemn (kept_of (holds v.marked) nodes) nodes)) (node_at (condemn (kept_of (holds v.marked) nodes) nodes) n)
+node_clears setup nodes v n is low =
+    let kept : List Bool = kept_of (holds v.marked) nodes in
+    let x : Node = node_at (condemn kept nodes) n in
+    let place : x.place ≡ place_of nodes n = place-condemn kept nodes n in
+    let was_live : is_live x.life ≡ true → IsLive nodes n = λ live. live_before (has kept n) (node_at nodes n).life (sym (ap is_live (life-condemn kept nodes n)) ∙ live) in
+    let flag : IsLive nodes n → is_live x.life ≡ holds v.marked x.place = λ live.
+    ap is_live (life_is (holds v.marked) nodes n live) ∙ live_judged (holds v.marked (place_of nodes n)) ∙ sym (ap (holds v.marked) place) in
+    record {
+      kept = λ live. sym (flag (was_live live)) ∙ live;
+      words = λ live. object_words setup nodes v n is low (was_live live) x.object (object-condemn kept nodes n);
+      left = λ there other. sym (flag (live_if_there (node_at nodes n).life (there-condemn kept nodes n there) (is.alive n))) ∙ other;
+    }
+
+pub held_after : (setup : Setup) (nodes : List Node) (v : SeatView) → IsMarked setup nodes v → IsHeld (nodes_after (kept_of (holds v.marked) nodes) nodes) (with_weak_cleared v)
+held_after setup nodes v is =
+    let kept : List Bool = kept_of (holds v.marked) nodes in
+    let c : List Node = condemn kept nodes in
+    let dead : ℕ → Bool = is_dead_at c in
+    let f : ℕ → ℕ = place_of nodes in
+    let after : List Node = nodes_after kept nodes in
+    let each : All (Clears setup.types v.marked f dead) c =
+    All-from_get_or (Clears setup.types v.marked f dead) c no_node (λ n low. node_clears setup nodes v n is (subst (λ l. n < l) (length-condemn kept nodes) low)) in
+    record {
+      bodies = ap (λ (ts : List ObjectType). map (clear_body ts v.marked) v.bodies) is.types
+          ∙ ap (map (clear_body setup.types v.marked)) (is.held.bodies ∙ bodies-same (place_of c) f c (place-condemn kept nodes))
+          ∙ bodies_cleared setup.types v.marked f dead 0 c each ∙ bodies-same f (place_of after) after (λ n. sym (place-after kept nodes n));
+      dead = λ n there.
+          let life : (node_at after n).life ≡ (node_at c n).life = life-after kept nodes n in
+          ap (holds v.dead) (place-after kept nodes n ∙ sym (place-condemn kept nodes n)) ∙ is.held.dead n (sym (ap is_there life) ∙ there) ∙ sym (ap is_dead life);
+    }
+
+-- ---- the words
+
+same_extent : (types : List ObjectType) (marked : List ℕ) (b : Body) → ((clear_body types marked b).place ≡ b.place) × ((clear_body types marked b).size ≡ b.size)
+same_extent types marked b = go (holds marked b.place) where
+  cleared : Body
+  cleared = record b { fields = clear_words marked (kinds_of_words (kinds_of types b.ty)) b.fields }
+
+  go : (flag : Bool) → ((cond flag cleared b).place ≡ b.place) × ((cond flag cleared b).size ≡ b.size)
+  go true = (refl, refl)
+  go false = (refl, refl)
+
+same_extents : (types : List ObjectType) (marked : List ℕ) (bodies : List Body) → extents_of_bodies (map (clear_body types marked) bodies) ≡ extents_of_bodies bodies
+same_extents types marked [] = refl
+same_extents types marked (b ∷ bodies) =
+    let is = same_extent types marked b in
+    ap (λ p. record { place = p; size = (clear_body types marked b).size } ∷ extents_of_bodies (map (clear_body types marked) bodies)) is.0
+    ∙ ap (λ s. record { place = b.place; size = s } ∷ extents_of_bodies (map (clear_body types marked) bodies)) is.1
+    ∙ ap (λ es. record { place = b.place; size = b.size } ∷ es) (same_extents types marked bodies)
+
+-- weak clearing leaves the space's objects where they are
+pub space_cleared : (space : SpaceView) (v : SeatView) → IsSpaceOf space v → IsSpaceOf space (with_weak_cleared v)
+space_cleared space v is = subst (IsSpaceOver space v.count) (sym (same_extents v.types v.marked v.bodies)) is
+
+pub judged_cleared : (v : SeatView) → IsJudged v → IsJudged (with_weak_cleared v)
+judged_cleared v is b there =
+    let from = Contains-map_some (clear_body v.types v.marked) v.bodies b there in
+    subst (λ p. holds v.dead p ≡ not (holds v.marked p)) (sym (same_extent v.types v.marked from.0).0 ∙ ap (λ (c : Body). c.place) from.2) (is from.0 from.1)
+
+-- ---- the weak slots
+
+-- they hold the places of what is there
+pub weak_are_places : (nodes : List Node) (kept : List Bool) (v : SeatView) (slots : List (Option ℕ)) → v.bodies ≡ bodies_of (nodes_after kept nodes)
+    → ((n : ℕ) → IsLive nodes n → IsThere (nodes_after kept nodes) n) → All (λ slot. ForSome slot (IsLive nodes)) slots
+    → All (IsPlace v.bodies) (taken (places_of nodes slots))
+weak_are_places nodes kept v [] held stays live = λ k d low. absurd (omega arith)
+weak_are_places nodes kept v (None ∷ slots) held stays live = weak_are_places nodes kept v slots held stays (All-tail (λ slot. ForSome slot (IsLive nodes)) None slots live)
+weak_are_places nodes kept v (Some n ∷ slots) held stays live =
+    let after : List Node = nodes_after kept nodes in
+    let is : IsLive nodes n = All-head (λ slot. ForSome slot (IsLive nodes)) (Some n) slots live n refl in
+    All-cons (IsPlace v.bodies) (place_of nodes n) (taken (places_of nodes slots))
+    (body_of (place_of after) n (node_at after n), node_body after v n held (stays n is), place-after kept nodes n)
+    (weak_are_places nodes kept v slots held stays (All-tail (λ slot. ForSome slot (IsLive nodes)) (Some n) slots live))
+
+there_judged : (flag : Bool) → is_there (judged flag Live) ≡ true
+there_judged true = refl
+there_judged false = refl
+
+pub still_there : (marked : ℕ → Bool) (nodes : List Node) (n : ℕ) → IsLive nodes n → IsThere (nodes_after (kept_of marked nodes) nodes) n
+still_there marked nodes n live =
+    ap is_there (life-after (kept_of marked nodes) nodes n ∙ life_is marked nodes n live) ∙ there_judged (marked (place_of nodes n))
+
+-- a slot whose place isn't marked is cleared where its node is dead
+pub weak_places_after : (nodes : List Node) (v : SeatView) (weak : List (Option ℕ)) → All (λ slot. ForSome slot (IsLive nodes)) weak
+    → map (clear_slot (λ a. not (holds v.marked a))) (places_of nodes weak)
+    ≡ places_of (nodes_after (kept_of (holds v.marked) nodes) nodes) (weak_after (kept_of (holds v.marked) nodes) nodes weak)
+weak_places_after nodes v [] live = refl
+weak_places_after nodes v (None ∷ weak) live = ap (λ l. None ∷ l) (weak_places_after nodes v weak (All-tail (λ slot. ForSome slot (IsLive nodes)) None weak live))
+weak_places_after nodes v (Some n ∷ weak) live =
+    let kept : List Bool = kept_of (holds v.marked) nodes in
+    let after : List Node = nodes_after kept nodes in
+    let is : IsLive nodes n = All-head (λ slot. ForSome slot (IsLive nodes)) (Some n) weak live n refl in
+    let unmarked : Bool = not (holds v.marked (place_of nodes n)) in
+    let rest : List (Option ℕ) = map (clear_slot (λ a. not (holds v.marked a))) (places_of nodes weak) in
+    ap (λ p. cond unmarked None (Some p) ∷ rest) (sym (place-after kept nodes n)) ∙ ap (λ s. s ∷ rest) (named unmarked (place_of after) n)
+    ∙ ap (λ b. option_map (place_of after) (cond b None (Some n)) ∷ rest) (sym (tells_unmarked nodes v n is))
+    ∙ ap (λ l. option_map (place_of after) (clear_slot (is_dead_at (condemn kept nodes)) (Some n)) ∷ l)
+    (weak_places_after nodes v weak (All-tail (λ slot. ForSome slot (IsLive nodes)) (Some n) weak live)) where
+      named : (b : Bool) (f : ℕ → ℕ) (m : ℕ) → cond b None (Some (f m)) ≡ option_map f (cond b None (Some m))
+      named true f m = refl
+      named false f m = refl
+
+pub handles_after : (nodes new : List Node) (v : SeatView) (h after : HandlesView) → h.weak_places ≡ places_of nodes h.weak → AreLive nodes (slot_targets h.weak)
+    → after ≡ cleared_in h (holds v.marked) nodes → nodes_after (kept_of (holds v.marked) nodes) nodes ≡ new
+    → after ≡ record h { weak_places = places_of new after.weak; weak = after.weak }
+handles_after nodes new v h after held live cleared is =
+    let weak : List (Option ℕ) = weak_after (kept_of (holds v.marked) nodes) nodes h.weak in
+    let places : map (clear_slot (λ a. not (holds v.marked a))) h.weak_places ≡ places_of new weak =
+    ap (map (clear_slot (λ a. not (holds v.marked a)))) held ∙ weak_places_after nodes v h.weak (slots_live nodes h.weak live) ∙ ap (λ (ns : List Node). places_of ns weak) is in
+    cleared ∙ ap (λ ps. (let k : HandlesView = record h { weak_places = ps; weak = weak } in k)) places
+    ∙ sym (ap (λ (k : HandlesView). (let j : HandlesView = record h { weak_places = places_of new k.weak; weak = k.weak } in j)) cleared)
