@@ -10,10 +10,12 @@ mod large;
 mod limits;
 mod options;
 mod pieces;
+mod plain_words;
 mod reports;
 mod scripts;
 mod statuses;
 mod types;
+mod weakness;
 
 use super::run::run;
 use super::status::Status;
@@ -28,6 +30,13 @@ struct DeviceSetup {
     bad_read: u32,
     bad_write: u32,
     room: usize,
+}
+
+/// A script that a test puts together, with its report.
+#[derive(Drop)]
+struct Scripted {
+    script: String,
+    report: String,
 }
 
 /// What a run left.
