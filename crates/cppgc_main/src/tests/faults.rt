@@ -1,6 +1,6 @@
 // The first fault of a script, by hand from the grammar.
 
-use crate::{read_built, read_script};
+use heap_script::{read_built, read_script};
 use std::alloc::Global;
 use std::test::Fail;
 
