@@ -224,6 +224,31 @@ def tree(count):
     return Load(["SS"], lines, {"node": count, "full": 0, "refused": 0}, pages_for(count, 4))
 
 
+def weak(count):
+    """A list of objects with two weak fields each: one names the object before, and the other the first
+    object of the list, or, in each fifth, an object of two words that nothing else names."""
+    lines = []
+    for number in range(count):
+        newest = number % 2
+        lines += [f"new {newest} 0", f"set {newest} 0 {1 - newest}", f"set {newest} 1 {1 - newest}"]
+        if number == 0:
+            lines.append(f"copy {newest} 3")
+        if number % 5 == 4:
+            lines += ["new 2 1", f"set {newest} 2 2"]
+        else:
+            lines.append(f"set {newest} 2 3")
+    pages = pages_for(count, 5) + pages_for(count // 5, 2)
+    return Load(["SWW", "-"], lines + ["drop 2"], {"full": 0, "refused": 0}, pages)
+
+
+def weak_read(count):
+    """After a collection of that list: the weak fields of the last object of which one is cleared."""
+    load = weak(count).then(COLLECTION)
+    last = (count - 1) % 2
+    tells = {**load.tells, f"pause kept {count} dead {count // 5} ": 1, "null": 1}
+    return load.then(f"get {last} 1 4", f"get {last} 2 4")._replace(tells=tells)
+
+
 def dead_objects(count):
     """Objects of 3 words, all of them dead after the collection."""
     tells = {f"pause kept 0 dead {count} ": 1, "full": 0}

@@ -25,6 +25,7 @@ TRIES = 15
 RATIO_BAR = 2.3
 NEW_BAR = 2500
 COLLECTION_BAR = 400
+WEAK_BAR = 110
 SWEPT_WORD_BAR = 60
 FINALISED_BAR = 400
 # For a line of each kind, read, run and told.
@@ -164,6 +165,14 @@ class Bench:
         more = self.instructions(self.tree(1)) - self.instructions(loads.tree(self.count))
         self.figures.tell("tree_instructions_per_live_object", more / self.count, COLLECTION_BAR)
 
+    def weak_fields(self):
+        """What a collection costs for each live object, where each has two weak fields to be looked at."""
+        count = 2 * self.count
+        Script(self.folder, loads.weak_read(count)).check()
+        load = loads.weak(count)
+        more = self.instructions(load.then(COLLECTION)) - self.instructions(load)
+        self.figures.tell("weak_instructions_per_live_object", more / count, WEAK_BAR)
+
     def sweeps(self):
         """What a sweep costs, with few objects to finalise and with many."""
         few, many = loads.live_objects(self.count), loads.dead_objects(self.count)
@@ -193,6 +202,7 @@ def main():
             bench.lines()
             bench.news()
             bench.collections()
+            bench.weak_fields()
             bench.sweeps()
     bench.figures.end()
 

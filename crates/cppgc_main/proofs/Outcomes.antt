@@ -6,7 +6,7 @@ use Rattle.heap_engine.specs.View.{View}
 use Rattle.cppgc_main.specs.declared.status.Status.{Status}
 use Rattle.cppgc_main.specs.declared.status.Status.TheVariants as S
 use Rattle.cppgc_main.specs.Options.{shape_asked}
-use Rattle.cppgc_main.specs.Headline.{status_of_fault, RunsBytes, RunsScript, IsDone, IsStopped, IsTooLongInput, IsUnbuiltInput}
+use Rattle.cppgc_main.specs.Headline.{status_of_fault, RunsBytes, RunsScript, IsDone, IsStopped, IsUnbuiltInput}
 use Rattle.cppgc_main.proofs.Inputs.{read_whole_of}
 use Rattle.gc_graph.specs.State.{Shape}
 use Rattle.gc_graph.specs.Script.{Script}
@@ -69,12 +69,6 @@ answers_stopped words shape asked lo ln w z kept status a is =
       run = answer.3;
     }
 
-pub answers_too_long : (shape : Shape) (lo ln w z : Option (List ℕ)) (kept : Option View) (status : Status) → Answers shape lo ln w z kept status → status ≡ S.TooLong
-    → IsTooLongInput lo ln
-answers_too_long shape lo ln w z kept status a is =
-    let answer = subst (RunsBytes shape a.bytes w z kept) is a.answer in
-    record { bytes = a.bytes; read = a.read; long = answer.2 }
-
 pub answers_script : (shape : Shape) (lo ln w z : Option (List ℕ)) (kept : Option View) (status : Status) → Answers shape lo ln w z kept status
     → (line reason : ℕ) → status ≡ S.Script line reason → (reason ≡ 9) × IsUnbuiltInput lo ln line
 answers_script shape lo ln w z kept status a line reason is =
@@ -89,38 +83,3 @@ answers_script shape lo ln w z kept status a line reason is =
         unbuilt = answer.4.2;
       },
     )
-
-pub answers_no_usage : (shape : Shape) (lo ln w z : Option (List ℕ)) (kept : Option View) (status : Status) → Answers shape lo ln w z kept status → status ≡ S.Usage → ⊥
-answers_no_usage shape lo ln w z kept status a is = subst (RunsBytes shape a.bytes w z kept) is a.answer
-
-pub answers_no_read_fault : (shape : Shape) (lo ln w z : Option (List ℕ)) (kept : Option View) (status : Status) → Answers shape lo ln w z kept status
-    → status ≡ S.ReadFault → ⊥
-answers_no_read_fault shape lo ln w z kept status a is = subst (RunsBytes shape a.bytes w z kept) is a.answer
-
-silent_of : (shape : Shape) (bytes : List ℕ) (w z : Option (List ℕ)) (kept : Option View) (status : Status) → RunsBytes shape bytes w z kept status
-    → ¬ (status ≡ S.Done) → ¬ (status ≡ S.WriteFault) → Grew w z []
-silent_of shape bytes w z kept S.Done answer not_done not_stopped = absurd (not_done refl)
-silent_of shape bytes w z kept S.WriteFault answer not_done not_stopped = absurd (not_stopped refl)
-silent_of shape bytes w z kept S.NoMemory answer not_done not_stopped = answer.1
-silent_of shape bytes w z kept S.TooLong answer not_done not_stopped = answer.1
-silent_of shape bytes w z kept (S.Script line reason) answer not_done not_stopped = answer.1
-silent_of shape bytes w z kept S.ReadFault answer not_done not_stopped = absurd answer
-silent_of shape bytes w z kept S.Usage answer not_done not_stopped = absurd answer
-
-pub answers_silent : (shape : Shape) (lo ln w z : Option (List ℕ)) (kept : Option View) (status : Status) → Answers shape lo ln w z kept status
-    → ¬ (status ≡ S.Done) → ¬ (status ≡ S.WriteFault) → Grew w z []
-answers_silent shape lo ln w z kept status a = silent_of shape a.bytes w z kept status a.answer
-
-kept_of : (shape : Shape) (bytes : List ℕ) (w z : Option (List ℕ)) (kept : Option View) (status : Status) → RunsBytes shape bytes w z kept status
-    → ¬ (status ≡ S.Done) → kept ≡ None
-kept_of shape bytes w z kept S.Done answer not_done = absurd (not_done refl)
-kept_of shape bytes w z kept S.WriteFault answer not_done = answer.2
-kept_of shape bytes w z kept S.NoMemory answer not_done = answer.0
-kept_of shape bytes w z kept S.TooLong answer not_done = answer.0
-kept_of shape bytes w z kept (S.Script line reason) answer not_done = answer.0
-kept_of shape bytes w z kept S.ReadFault answer not_done = absurd answer
-kept_of shape bytes w z kept S.Usage answer not_done = absurd answer
-
-pub answers_kept : (shape : Shape) (lo ln w z : Option (List ℕ)) (kept : Option View) (status : Status) → Answers shape lo ln w z kept status
-    → ¬ (status ≡ S.Done) → kept ≡ None
-answers_kept shape lo ln w z kept status a = kept_of shape a.bytes w z kept status a.answer

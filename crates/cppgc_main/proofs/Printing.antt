@@ -1,7 +1,7 @@
 -- Runs that are printed command by command, and why they are lawful.
 use Rattle.std.proofs.Common.{◌≡◌, ℕ, zero, suc, ◌+◌, ◌<◌, List, [], ◌∷◌, ◌++◌, length, take, get_or, Option, Some, refl, sym, ap, ◌∙◌, subst, arith}
 use Rattle.std.specs.List.{Contains, slice_get}
-use Rattle.std.proofs.lemmas.List.{append-nil, map-append, take_more, take_all}
+use Rattle.std.proofs.lemmas.List.{append-nil, map-append, take_more}
 use Rattle.std.proofs.lemmas.Bool.{true≢false}
 use Rattle.std.proofs.lemmas.Grind.{flat_map-append}
 use Rattle.gc_graph.specs.declared.command.Command.{Command}
@@ -102,11 +102,6 @@ printed_none setup commands x heap is fresh = record {
   alone = ap (λ (s : State). s.running) is;
   written = grew_by_none x;
 }
-
-pub printed_all : (setup : Setup) (commands : List Command) (i : ℕ) (x y : Option (List ℕ)) (heap : View) → length commands ≡ i
-    → IsPrintedRun setup (take i commands) x y heap → IsPrintedRun setup commands x y heap
-printed_all setup commands i x y heap all run =
-    subst (λ (ks : List Command). IsPrintedRun setup ks x y heap) (take_all i commands (omega arith)) run
 
 -- ---- lawful runs
 

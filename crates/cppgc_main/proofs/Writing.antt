@@ -14,9 +14,6 @@ pub grew_by_none : (a : Option (List ℕ)) → Grew a a []
 grew_by_none None = refl
 grew_by_none (Some old) = ap Some (sym (append-nil old))
 
-pub same_grew : (a b : Option (List ℕ)) → b ≡ a → Grew a b []
-same_grew a b e = subst (λ o. Grew a o []) (sym e) (grew_by_none a)
-
 pub grew : (a b c : Option (List ℕ)) (s t : List ℕ) → Grew a b s → Grew b c t → Grew a c (s ++ t)
 grew None b c s t x y = subst (λ o. Grew o c t) x y
 grew (Some old) b c s t x y = subst (λ o. Grew o c t) x y ∙ ap Some (append_assoc old s t)

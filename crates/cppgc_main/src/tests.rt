@@ -1,4 +1,5 @@
-// Runs over devices in memory. Each expected value was written by hand.
+// Runs over devices in memory, and what is read and printed on the way. Each expected value was
+// written by hand.
 
 ghost use Rattle.std.specs.Prelude.{◌≤◌};
 
@@ -6,14 +7,20 @@ mod adapters;
 mod buckets;
 mod collections;
 mod devices;
+mod faults;
 mod large;
 mod limits;
 mod options;
 mod pieces;
+mod plain_words;
+mod printing;
+mod ranges;
 mod reports;
 mod scripts;
 mod statuses;
+mod text_devices;
 mod types;
+mod weakness;
 
 use super::run::run;
 use super::status::Status;
@@ -28,6 +35,13 @@ struct DeviceSetup {
     bad_read: u32,
     bad_write: u32,
     room: usize,
+}
+
+/// A script that a test puts together, with its report.
+#[derive(Drop)]
+struct Scripted {
+    script: String,
+    report: String,
 }
 
 /// What a run left.

@@ -2,16 +2,16 @@
 
 ghost use Rattle.std.specs.Prelude.{◌≡◌, ◌⊎◌, ℕ, ◌+◌, ◌*◌, ◌/◌};
 ghost use Rattle.std.specs.Prelude.{◌<◌, ◌≤◌, true, [], ◌∷◌, ◌++◌};
-ghost use Rattle.std.specs.Prelude.{length, Some, MatchOption, OnOk, Contains, All};
-ghost use Rattle.std.specs.Option.{ForSome};
+ghost use Rattle.std.specs.Prelude.{length, Some, MatchOption, IfSome, OnOk, Contains, All};
+ghost use Rattle.std.specs.Option.{ForSome, is_some};
 ghost use Rattle.object_headers.specs.Offsets.{reference_to};
 ghost use Rattle.page_words.specs.Bodies.{IsPlace, IsReference};
 ghost use Rattle.page_words.specs.Seat.{holds, is_grey, claimed_at};
-ghost use Rattle.heap_engine.specs.Marking.{IsCounted};
+ghost use Rattle.heap_engine.specs.Marking.{IsCounted, HasType};
 ghost use Rattle.heap_engine.specs.Marking.{KeepsTricolour, MarksOn};
 
 use gc_graph::NoMemory;
-use object_headers::{place_in, with_mark, with_traced};
+use object_headers::{Header, place_in, with_mark, with_traced};
 use page_words::{MutatorSeat, Words};
 use persistent_slots::Slots;
 use std::alloc::Global;
@@ -126,24 +126,27 @@ impl MarkList {
         self.places.pop()
     }
 
-    /// Claims an object. True where it was marked and not yet traced.
-    pub(crate) fn claim(&mut self, words: &Words, seat: &mut MutatorSeat, place: u32) -> bool
+    /// Claims an object. Its type where it was marked and not yet traced: one look at the header
+    /// serves both.
+    pub(crate) fn claim(&mut self, words: &Words, seat: &mut MutatorSeat, place: u32) -> Option<u32>
         requires heap { seat.old.count ≡ words.now }
         requires place { IsPlace seat.old.bodies place }
         requires counted { IsCounted seat.old self.old }
         ensures counted { IsCounted seat.new self.new }
-        ensures grey { result ≡ is_grey seat.old place }
+        ensures grey { is_some result ≡ is_grey seat.old place }
+        ensures body { IfSome result (HasType seat.old.bodies place) }
         ensures view { seat.new ≡ claimed_at seat.old place }
         ensures places { self.new.places ≡ self.old.places }
         ensures marked { self.new.marked ≡ self.old.marked }
     {
         seat.bodies_lie_apart();
-        let header = words.load(seat, place);
-        let claimed = words.claim(seat, place, with_traced(with_mark(header, true), false));
-        if claimed {
-            self.traced += 1;
+        let word = words.load(seat, place);
+        let claimed = words.claim(seat, place, with_traced(with_mark(word, true), false));
+        if !claimed {
+            return None;
         }
-        claimed
+        self.traced += 1;
+        Some(Header::type_in(word))
     }
 
     /// Marks and lists what a field word names.

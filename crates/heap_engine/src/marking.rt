@@ -85,8 +85,7 @@ impl MarkList {
         ensures grew { self.old.marked ≤ self.new.marked }
     {
         seat.bodies_lie_apart();
-        if self.claim(space.words(), seat, place) {
-            let ty = space.header_at(seat, place).ty;
+        if let Some(ty) = self.claim(space.words(), seat, place) {
             self.mark_fields(space.words(), seat, types, place, ty);
         }
     }

@@ -38,11 +38,6 @@ read_to_end (Some old) now after bytes buffer limit low r t =
       u.1 ∙ ap Some u.2.rest,
     )
 
-pub read_past_limit : (old now : Option (List ℕ)) (bytes : List ℕ) (limit : ℕ) → length bytes ≡ limit + 1
-    → IsReadUpTo old now bytes → IsReadFrom old now limit bytes
-read_past_limit None now bytes limit e r = r
-read_past_limit (Some old) now bytes limit e r = (r.0 ∙ ap (λ k. take k old) e, r.2)
-
 -- ---- writing
 
 pub Grew-then : (a b c : Option (List ℕ)) (s t : List ℕ) → Grew a b s → Grew b c t → Grew a c (s ++ t)

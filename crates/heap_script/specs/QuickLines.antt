@@ -1,9 +1,10 @@
 -- Small numbers of a line, for lines that are read without the table of forms.
-use Rattle.std.specs.Prelude.{◌≡◌, ℕ, ◌<◌, ◌≤◌, true, List, ◌∷◌, length, drop}
+use Rattle.std.specs.Prelude.{◌≡◌, ℕ, ◌<◌, ◌≤◌, true, List, [], ◌∷◌, length, drop}
 use Rattle.gc_graph.specs.Words.{is_number}
 use Rattle.gc_graph.specs.Reasons.{value_of}
-use Rattle.heap_script.specs.Cursor.{line_words, lines_after}
+use Rattle.heap_script.specs.Cursor.{line_words, lines_after, IsLineEnd}
 use Rattle.heap_script.specs.declared.quick_lines.Small.{Small}
+use Rattle.heap_script.specs.declared.quick_lines.SlotFieldSlot.{SlotFieldSlot}
 
 -- the next word of the line, from `from` on, is this number, which is below the limit
 pub record IsSmall (bytes : List ℕ) (from limit : ℕ) (small : Small) : Type 0 where
@@ -15,3 +16,25 @@ pub record IsSmall (bytes : List ℕ) (from limit : ℕ) (small : Small) : Type 
   pub order : from ≤ small.end
   pub within : small.end ≤ length bytes
   pub same : lines_after (drop from bytes) ≡ lines_after (drop small.end bytes)
+
+-- the line has no more words from `from` on, and ends at `end`
+pub record IsEndOfWords (bytes : List ℕ) (from end : ℕ) : Type 0 where
+  pub none : line_words (drop from bytes) ≡ []
+  pub ends : IsLineEnd bytes from end
+
+-- the word is this number, which is below the limit
+pub record IsNumberBelow (word : List ℕ) (value limit : ℕ) : Type 0 where
+  pub number : is_number word ≡ true
+  pub is : value_of word ≡ value
+  pub low : value < limit
+
+-- the line's words from `from` on are three: a slot, a field and a slot
+pub record AreSlotFieldSlot (bytes : List ℕ) (from : ℕ) (three : SlotFieldSlot) : Type 0 where
+  pub slot : List ℕ
+  pub field : List ℕ
+  pub other : List ℕ
+  pub words : line_words (drop from bytes) ≡ slot ∷ field ∷ other ∷ []
+  pub p : IsNumberBelow slot three.p 256
+  pub f : IsNumberBelow field three.f 67108864
+  pub q : IsNumberBelow other three.q 256
+  pub ends : IsLineEnd bytes from three.end

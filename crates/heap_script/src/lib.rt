@@ -15,7 +15,7 @@
 //! risen, and after it a beginning of the text was written, and the rest is still held.
 //!
 //! What is only tested or not said: that memory suffices, where one piece ends and the next begins,
-//! and how long a call takes.
+//! and how long a call takes. The tests stand in `cppgc_main`.
 #![tactic(auto)]
 
 mod built;
@@ -47,8 +47,6 @@ mod script;
 mod script_lines;
 mod script_reader;
 mod steady_devices;
-#[cfg(test)]
-mod tests;
 mod text;
 mod type_lines;
 mod wide;

@@ -4,7 +4,7 @@
 ghost use Rattle.std.specs.Prelude.{◌≡◌, ◌-◌, ◌<◌, ◌≤◌, ◌∷◌, length, take, drop, codes, Ok, IfSome};
 ghost use Rattle.heap_script.specs.Cursor.{line_words};
 ghost use Rattle.heap_script.specs.CommandLines.{IsCommandLine};
-ghost use Rattle.heap_script.specs.QuickLines.{IsSmall};
+ghost use Rattle.heap_script.specs.QuickLines.{IsSmall, AreSlotFieldSlot, IsEndOfWords};
 ghost use Rattle.heap_script.specs.Rows.{bounds_of};
 
 use super::cursor::next_word;
@@ -19,6 +19,22 @@ pub(crate) struct Small {
     pub(crate) value: u32,
     pub(crate) end: usize,
 }
+
+/// The last three numbers of a line, and the end of the line.
+#[derive(Clone, Copy)]
+pub(crate) struct SlotFieldSlot {
+    pub(crate) p: u32,
+    pub(crate) f: u32,
+    pub(crate) q: u32,
+    pub(crate) end: usize,
+}
+
+// How many slots there are, how many numbers a field may have, and how many an object's extra words.
+const SLOTS: u32 = 256;
+
+const FIELDS: u32 = 67_108_864;
+
+const EXTRA_WORDS: u32 = 33_554_433;
 
 /// The line whose first word stands from `start` to `end`, where it is one of these and has no fault.
 pub(crate) fn quick_line(
@@ -55,19 +71,9 @@ fn quick_set(bytes: &[u8], from: usize, bounds: Bounds) -> Option<CommandLine>
         (codes "set" ∷ line_words (drop from bytes.now)) bytes.now from) }
 {
     let _ = bounds;
-    let p = next_small(bytes, from, 256)?;
-    let f = next_small(bytes, p.end, 67_108_864)?;
-    let q = next_small(bytes, f.end, 256)?;
-    let (start, end) = next_word(bytes, q.end);
-    if start < end {
-        return None;
-    }
+    let SlotFieldSlot { p, f, q, end } = slot_field_slot(bytes, from)?;
     Some(CommandLine {
-        said: Ok(Command::Set {
-            p: p.value,
-            f: f.value,
-            q: q.value,
-        }),
+        said: Ok(Command::Set { p, f, q }),
         end,
     })
 }
@@ -78,19 +84,27 @@ fn quick_get(bytes: &[u8], from: usize, bounds: Bounds) -> Option<CommandLine>
         (codes "get" ∷ line_words (drop from bytes.now)) bytes.now from) }
 {
     let _ = bounds;
-    let p = next_small(bytes, from, 256)?;
-    let f = next_small(bytes, p.end, 67_108_864)?;
-    let q = next_small(bytes, f.end, 256)?;
-    let (start, end) = next_word(bytes, q.end);
-    if start < end {
-        return None;
-    }
+    let SlotFieldSlot { p, f, q, end } = slot_field_slot(bytes, from)?;
     Some(CommandLine {
-        said: Ok(Command::Get {
-            p: p.value,
-            f: f.value,
-            q: q.value,
-        }),
+        said: Ok(Command::Get { p, f, q }),
+        end,
+    })
+}
+
+// The last three words of a line, where they are a slot, a field and a slot.
+#[inline(always)]
+fn slot_field_slot(bytes: &[u8], from: usize) -> Option<SlotFieldSlot>
+    requires { from ≤ length bytes.now }
+    ensures { IfSome result (AreSlotFieldSlot bytes.now from) }
+{
+    let p = next_small(bytes, from, SLOTS)?;
+    let f = next_small(bytes, p.end, FIELDS)?;
+    let q = next_small(bytes, f.end, SLOTS)?;
+    let end = line_end(bytes, q.end)?;
+    Some(SlotFieldSlot {
+        p: p.value,
+        f: f.value,
+        q: q.value,
         end,
     })
 }
@@ -100,17 +114,13 @@ fn quick_new(bytes: &[u8], from: usize, bounds: Bounds) -> Option<CommandLine>
     ensures { IfSome result (IsCommandLine (bounds_of bounds)
         (codes "new" ∷ line_words (drop from bytes.now)) bytes.now from) }
 {
-    let p = next_small(bytes, from, 256)?;
+    let p = next_small(bytes, from, SLOTS)?;
     let t = next_small(bytes, p.end, bounds.types)?;
-    let (start, end) = next_word(bytes, t.end);
-    if start == end {
+    if let Some(end) = line_end(bytes, t.end) {
         return Some(new_line(p.value, t.value, 0, end));
     }
-    let e = next_small(bytes, t.end, 33_554_433)?;
-    let (start, end) = next_word(bytes, e.end);
-    if start < end {
-        return None;
-    }
+    let e = next_small(bytes, t.end, EXTRA_WORDS)?;
+    let end = line_end(bytes, e.end)?;
     Some(new_line(p.value, t.value, e.value, end))
 }
 
@@ -131,11 +141,8 @@ fn quick_drop(bytes: &[u8], from: usize, bounds: Bounds) -> Option<CommandLine>
         (codes "drop" ∷ line_words (drop from bytes.now)) bytes.now from) }
 {
     let _ = bounds;
-    let p = next_small(bytes, from, 256)?;
-    let (start, end) = next_word(bytes, p.end);
-    if start < end {
-        return None;
-    }
+    let p = next_small(bytes, from, SLOTS)?;
+    let end = line_end(bytes, p.end)?;
     Some(CommandLine {
         said: Ok(Command::Drop { p: p.value }),
         end,
@@ -156,4 +163,14 @@ fn next_small(bytes: &[u8], from: usize, limit: u32) -> Option<Small>
         }),
         _ => None,
     }
+}
+
+// The end of the line, where no word is left on it.
+#[inline(always)]
+fn line_end(bytes: &[u8], from: usize) -> Option<usize>
+    requires { from ≤ length bytes.now }
+    ensures { IfSome result (IsEndOfWords bytes.now from) }
+{
+    let (start, end) = next_word(bytes, from);
+    if start < end { None } else { Some(end) }
 }

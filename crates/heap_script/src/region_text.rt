@@ -21,7 +21,8 @@ pub(crate) fn add_reply<B: TextBuffer>(text: &mut B, j: u32, reply: Reply)
 pub(crate) fn add_seen<B: TextBuffer>(text: &mut B, j: u32, o: u64, n: u64, u: u64, f: u64)
     requires { 200 ≤ B.room text.old }
     ensures items { B.held text.new
-        ≡ B.held text.old ++ (codes "reply " ++ decimal j ++ codes " totals " ++ seen_text o n u f) }
+        ≡ B.held text.old
+        ++ (codes "reply " ++ decimal j ++ codes " totals " ++ seen_text o n u f) }
     ensures room { B.room text.old ≤ B.room text.new + 200 }
 {
     add_named(text, b"reply ", j);

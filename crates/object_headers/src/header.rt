@@ -1,6 +1,7 @@
 // What a header word tells.
 
-ghost use Rattle.std.specs.Prelude.{◌≡◌, ℕ, ◌+◌, ◌*◌, ◌^◌, ◌<◌, ◌↔◌, Bool, true, Some, IfSome, IsSome};
+ghost use Rattle.std.specs.Prelude.{◌≡◌, ℕ, ◌+◌, ◌*◌, ◌/◌, ◌%◌, ◌^◌, ◌<◌, ◌↔◌};
+ghost use Rattle.std.specs.Prelude.{Bool, true, Some, IfSome, IsSome};
 ghost use Rattle.object_headers.specs.Layout.{header_word, IsHeaderWord};
 
 /// The header of a live object. `ty` is the number of its type and `size` its size in words.
@@ -42,8 +43,17 @@ impl Header {
         Some(Header {
             mark: word >> 1 & 1 == 1,
             traced: word >> 2 & 1 == 1,
-            ty: (word >> 3 & 16383) as u32,
+            ty: Header::type_in(word),
             size: size as u32,
         })
+    }
+
+    /// The number of the type that the word of an object's header tells. It tests nothing.
+    pub fn type_in(word: u64) -> u32
+        ensures bits { result ≡ word / 8 % 16384 }
+        ensures header { (live mark traced : Bool) (ty size : ℕ) → ty < 16384
+            → word ≡ header_word live mark traced ty size → result ≡ ty }
+    {
+        (word >> 3 & 16383) as u32
     }
 }

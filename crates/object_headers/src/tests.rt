@@ -23,6 +23,7 @@ fn words_of_headers(rt: HostRuntime) -> Result<(), Fail> {
             size,
         };
         assert_eq!(rt; Header::read(word), Some(header));
+        assert_eq!(rt; Header::type_in(word), ty);
     }
     assert_eq!(rt; Header::pack(false, false, false, 1, 4), 524296);
     Ok(())

@@ -1,5 +1,5 @@
 -- What a table has worked out of each type.
-use Rattle.std.specs.Prelude.{ℕ, List, [], length, map, replicate}
+use Rattle.std.specs.Prelude.{ℕ, List, length, map, replicate}
 use Rattle.std.specs.List.{flat_map, range_with_len}
 use Rattle.gc_graph.specs.declared.kind.Kind.{Kind}
 use Rattle.gc_graph.specs.declared.kind.Kind.TheVariants.{Strong, Weak, Pair}
@@ -16,10 +16,6 @@ pub record LayoutState : Type 0 where
   pub strong : List ℕ
   pub weak : List ℕ
   pub pairs : List ℕ
-
--- a type without fields
-abbrev pub no_layout : LayoutState
-no_layout = record { words = 0; offsets = []; kinds = []; strong = []; weak = []; pairs = [] }
 
 -- the offsets of the declared fields, in their order
 abbrev pub offsets_of : List Kind → List ℕ

@@ -1,6 +1,6 @@
 // Long chains and rings, and a heap that is full.
 
-use super::try_script;
+use super::{Scripted, try_script};
 use crate::run::run_bytes;
 use crate::status::Status;
 use heap_engine::Config;
@@ -9,16 +9,9 @@ use std::alloc::{AllocError, Global};
 use std::fmt::Write;
 use std::test::Fail;
 
-// A script with its report.
-#[derive(Drop)]
-struct Case {
-    script: String,
-    report: String,
-}
-
 // Makes a thousand objects, each of which names the one before it. The first is in slot 2, the
 // last in slot 1, and the one before the last in slot 0.
-fn chain(alloc: Global) -> Result<Case, AllocError> {
+fn chain(alloc: Global) -> Result<Scripted, AllocError> {
     let mut script = String::from_str(alloc, "oilpan 1\ntype S\nnew 2 0\nnew 1 0\nset 1 0 2\n")?;
     let mut report = String::from_str(alloc, "type 0\nnode 0 at 0\nnode 1 at 3\nok\n")?;
     for number in 2..1000u32 {
@@ -28,12 +21,12 @@ fn chain(alloc: Global) -> Result<Case, AllocError> {
         let place = 3 * number;
         write!(report, "node {number} at {place}\nok\n")?;
     }
-    Ok(Case { script, report })
+    Ok(Scripted { script, report })
 }
 
 #[test]
 fn chain_is_kept_whole_by_one_slot(rt: HostRuntime) -> Result<(), Fail> {
-    let Case {
+    let Scripted {
         mut script,
         mut report,
     } = chain(rt.alloc())?;
@@ -48,7 +41,7 @@ fn chain_is_kept_whole_by_one_slot(rt: HostRuntime) -> Result<(), Fail> {
 
 #[test]
 fn ring_that_nothing_names_dies(rt: HostRuntime) -> Result<(), Fail> {
-    let Case {
+    let Scripted {
         mut script,
         mut report,
     } = chain(rt.alloc())?;
@@ -70,7 +63,7 @@ const SMALL: Config = Config {
     page_words: 256,
 };
 
-fn overfull(alloc: Global) -> Result<Case, AllocError> {
+fn overfull(alloc: Global) -> Result<Scripted, AllocError> {
     let mut script = String::from_str(alloc, "oilpan 1\ntype S\n")?;
     let mut report = String::from_str(alloc, "type 0\n")?;
     for number in 0..85u32 {
@@ -84,13 +77,13 @@ fn overfull(alloc: Global) -> Result<Case, AllocError> {
         write!(report, "finalise {number}\n")?;
     }
     report.push_str("swept to 1\nnode 85 at 0\nend objects 1 used 3 pages 1\n")?;
-    Ok(Case { script, report })
+    Ok(Scripted { script, report })
 }
 
 #[test]
 fn full_heap_answers_full_until_it_is_swept(rt: HostRuntime) -> Result<(), Fail> {
     let alloc = rt.alloc();
-    let Case { script, report } = overfull(alloc)?;
+    let Scripted { script, report } = overfull(alloc)?;
     let mut sink = ListSink::new(alloc, 1_000_000, Vec::new(alloc));
     sink.reserve(1_000_000)?;
     let mut kept = None;

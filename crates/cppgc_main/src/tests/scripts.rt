@@ -4,7 +4,7 @@ use super::try_script;
 use crate::status::Status;
 use std::test::Fail;
 
-const FAULTY: [(&str, &[u8], u32); 21] = [
+const FAULTY: [(&str, &[u8], u32); 27] = [
     ("empty input", b"", 1),
     ("no header", b"type S\nnew 0 0\n", 1),
     ("a blank line before the header", b"\noilpan 1\n", 1),
@@ -14,7 +14,21 @@ const FAULTY: [(&str, &[u8], u32); 21] = [
     ("slot 256", b"oilpan 1\ntype S\nnew 0 0\ndrop 256\n", 4),
     ("type 1", b"oilpan 1\ntype S\nnew 0 1\n", 3),
     ("field 67108864", b"oilpan 1\nget 0 67108864 0\n", 2),
-    ("a weak field", b"oilpan 1\ntype S\n\ntype SW\n", 4),
+    ("a pair", b"oilpan 1\ntype SWP\n\ntype SE\n", 4),
+    ("a word of a stack", b"oilpan 1\ntype S\npush 0 0\n", 3),
+    ("weak slot 64", b"oilpan 1\nread 63 0\nread 64 0\n", 3),
+    (
+        "a slot where a weak slot stands first",
+        b"oilpan 1\nweak 0 255\nweak 255 0\n",
+        3,
+    ),
+    (
+        "a number of 65 bits",
+        b"oilpan 1\nput 0 0 18446744073709551616\n",
+        2,
+    ),
+    ("a number that is put nowhere", b"oilpan 1\nput 0 0\n", 2),
+    ("a copy of three", b"oilpan 1\ncopy 0 1 2\n", 2),
     ("a prefinalizer", b"oilpan 1\ntype S pre 0\n", 2),
     (
         "too many extra words",

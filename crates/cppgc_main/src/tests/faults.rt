@@ -1,6 +1,6 @@
 // The first fault of a script, by hand from the grammar.
 
-use crate::{read_built, read_script};
+use heap_script::{read_built, read_script};
 use std::alloc::Global;
 use std::test::Fail;
 
@@ -201,9 +201,13 @@ fn threads_have_their_sections(rt: HostRuntime) -> Result<(), Fail> {
 #[test]
 fn first_line_that_is_not_built_is_named(rt: HostRuntime) {
     let alloc = rt.alloc();
-    let cases: [(&[u8], Option<(u32, u32)>); 11] = [
+    let cases: [(&[u8], Option<(u32, u32)>); 16] = [
         (
             b"oilpan 1\ntype SS\ntype -\nnew 0 0\ngc now precise\nsweep all\nnew 0 1 9\n",
+            None,
+        ),
+        (
+            b"oilpan 1\ntype SWP\nput 0 2 7\nword 0 2\ncopy 0 1\nweak 63 0\nread 63 1\n",
             None,
         ),
         (
@@ -211,7 +215,11 @@ fn first_line_that_is_not_built_is_named(rt: HostRuntime) {
             None,
         ),
         (b"", Some((1, 9))),
-        (b"oilpan 1\ntype SW\n", Some((2, 9))),
+        (b"oilpan 1\ntype WE\n", Some((2, 9))),
+        (b"oilpan 1\npush 0 0\n", Some((2, 9))),
+        (b"oilpan 1\nkey 0 0 1\n", Some((2, 9))),
+        (b"oilpan 1\nweak 64 0\n", Some((2, 9))),
+        (b"oilpan 1\nput 0 0\n", Some((2, 9))),
         (b"oilpan 1\ntype S pre 0\n", Some((2, 9))),
         (b"oilpan 1\nstat\npop\nfoo\n", Some((3, 9))),
         (b"oilpan 1\nstat\nfoo\npop\n", Some((3, 9))),

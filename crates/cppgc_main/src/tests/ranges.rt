@@ -1,8 +1,8 @@
 // What a script says, and the ranges of its numbers, by hand from the grammar.
 
 use super::faults::{fault_after_type, fault_of};
-use crate::{ListSource, read_script, read_whole};
 use gc_graph::{Command, Kind, Order, Want};
+use heap_script::{ListSource, read_script, read_whole};
 use std::test::Fail;
 
 const SCRIPT: &[u8] = b"oilpan 1\n\ntype S\n\ntype - pre 0 0\ntype SWEP\nnew 0 0\nset  0 3 255\n\

@@ -1,7 +1,7 @@
 // Each line of a report. The texts are by hand, from the report's forms.
 
-use crate::{ListSink, Pieces, print_line};
 use gc_graph::{Entry, Line, Op, Refusal, Reply};
+use heap_script::{ListSink, Pieces, print_line};
 use std::test::Fail;
 
 const ANSWERS: [(Line, &[u8]); 23] = [

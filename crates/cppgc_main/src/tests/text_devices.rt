@@ -1,11 +1,9 @@
-// Each public call once. The expected values are by hand, from the grammar.
+// The devices in memory, and text that is held back on its way to one. Expected values are by hand.
 
-mod faults;
-mod printing;
-mod ranges;
-
-use super::*;
 use gc_graph::Line;
+use heap_script::{
+    ListSink, ListSource, Pieces, ReadError, SteadySink, SteadySource, print_line, read_whole,
+};
 use std::test::Fail;
 
 #[test]
