@@ -22,7 +22,7 @@ use Rattle.gc_graph.specs.Sweep.{SweepsInPhase, ContinuesSweep}
 use Rattle.gc_graph.specs.CycleSteps.{HasSwept, StepSweepAll, is_marking, is_sweeping}
 use Rattle.gc_graph.specs.ObjectSteps.{IsFull, IsMade, IsRead, StepNew, StepSet, StepGet}
 use Rattle.gc_graph.specs.Step.{Step}
-use Rattle.gc_graph.specs.Built.{is_built, IsBuiltIn, opens_sweep, is_sweep_open, is_timely, AreBuiltCommands}
+use Rattle.built_forms.specs.Built.{is_built, IsBuiltIn, opens_sweep, is_sweep_open, is_timely, AreBuiltCommands}
 
 -- ---- one command
 

@@ -9,7 +9,7 @@ use Rattle.gc_graph.specs.declared.command.Command.TheVariants as C
 use Rattle.gc_graph.specs.declared.region.Entry.{Entry}
 use Rattle.gc_graph.specs.State.{Setup, State, empty_state}
 use Rattle.gc_graph.specs.Step.{Step}
-use Rattle.gc_graph.specs.Built.{AreBuiltCommands}
+use Rattle.built_forms.specs.Built.{AreBuiltCommands}
 use Rattle.gc_graph.specs.HistoryLaw.{RunsAreReplayed}
 use Rattle.gc_graph.specs.Lawful.{Outcome, Run, IsLawful, history_of, last_state}
 use Rattle.gc_graph.specs.Report.{lines_bytes, outcomes_bytes}

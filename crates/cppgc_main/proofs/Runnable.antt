@@ -7,7 +7,7 @@ use Rattle.std.proofs.lemmas.List.Quantifiers.{position-Some}
 use Rattle.gc_graph.specs.State.{ObjectType, no_type}
 use Rattle.gc_graph.specs.Script.{Script, IsScript}
 use Rattle.gc_graph.specs.ScriptLaw.{ScriptsAreInRanges, IsInRanges}
-use Rattle.gc_graph.specs.Built.{is_built_type, AreBuiltTypes}
+use Rattle.built_forms.specs.Built.{is_built_type, AreBuiltTypes}
 use Rattle.type_table.specs.declared.faults.TypeFault.TheVariants.{TooManyFields, NoCallback}
 use Rattle.type_table.specs.Faults.{AreGoodTypes, IsTypeFault, is_too_wide, names_none}
 use Rattle.heap_script.specs.Scripts.{IsBuiltScript}

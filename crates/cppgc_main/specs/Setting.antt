@@ -4,7 +4,7 @@ use Rattle.gc_graph.specs.declared.command.Command.{Command}
 use Rattle.gc_graph.specs.State.{Setup, Shape, ObjectType}
 use Rattle.gc_graph.specs.Script.{Script}
 use Rattle.gc_graph.specs.ScriptLaw.{IsInRanges}
-use Rattle.gc_graph.specs.Built.{AreBuiltTypes, AreBuiltCommands}
+use Rattle.built_forms.specs.Built.{AreBuiltTypes, AreBuiltCommands}
 use Rattle.heap_engine.specs.declared.heap.Config.{Config}
 
 -- 64 pages of 16,384 words

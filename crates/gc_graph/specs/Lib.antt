@@ -21,7 +21,6 @@ pub mod Words
 pub mod Forms
 pub mod Reasons
 pub mod Script
-pub mod Built
 pub mod Report
 -- What guards it: what holds of every state, the reader of reports, and the laws.
 pub mod Pages

@@ -10,7 +10,7 @@ use Rattle.gc_graph.specs.declared.phase.Phase.TheVariants.{Idle}
 use Rattle.gc_graph.specs.State.{Setup, State, ObjectType, Node, Registration, type_at, no_type, IsLive}
 use Rattle.gc_graph.specs.Placement.{IsPlaceFor, IsPlacement, extents_of}
 use Rattle.gc_graph.specs.Sweep.{pages_swept_in, SweepsInPhase}
-use Rattle.gc_graph.specs.Built.{is_built_type}
+use Rattle.built_forms.specs.Built.{is_built_type}
 use Rattle.gc_graph.specs.Fields.{new_node, size_of_type}
 use Rattle.gc_graph.specs.May.{may_with_new}
 use Rattle.gc_graph.specs.Outcomes.{answered, with_slot}

@@ -9,7 +9,7 @@ use Rattle.gc_graph.specs.declared.kind.Kind.{Kind}
 use Rattle.gc_graph.specs.declared.kind.Kind.TheVariants.{Strong, Weak, Pair, Plain}
 use Rattle.gc_graph.specs.declared.kind.Value.{Value}
 use Rattle.gc_graph.specs.declared.kind.Value.TheVariants.{Null, Ref, Word}
-use Rattle.gc_graph.specs.Built.{is_built_kind, is_built_type}
+use Rattle.built_forms.specs.Built.{is_built_kind, is_built_type}
 use Rattle.gc_graph.specs.State.{Setup, ObjectType, Node, node_at, type_at, IsLive}
 use Rattle.gc_graph.specs.Valid.{IsTyped, HaveKinds, IsReferenceBelow, IsPlainWord, NamesLive}
 use Rattle.gc_graph.specs.Fields.{words_of_kind, field_words, nulls_of_kind, nulls_of, new_node}

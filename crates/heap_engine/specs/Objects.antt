@@ -1,7 +1,7 @@
 -- The objects in the words are the nodes, and what calls on them change.
 use Rattle.std.specs.Prelude.{◌≡◌, ℕ, ◌<◌, true, false, List, [], ◌∷◌, ◌++◌, length, Option, Some, None, option_map, All, slice_set}
 use Rattle.gc_graph.specs.declared.kind.Value.{Value}
-use Rattle.gc_graph.specs.Built.{is_built_type}
+use Rattle.built_forms.specs.Built.{is_built_type}
 use Rattle.gc_graph.specs.State.{Setup, State, ObjectType, Node, node_at, IsLive}
 use Rattle.gc_graph.specs.Fields.{word_of_field, with_value, target_of, new_node}
 use Rattle.gc_graph.specs.Valid.{IsValid}

@@ -5,7 +5,7 @@ ghost use Rattle.std.specs.Prelude.{◌≡◌, ◌+◌, ◌*◌, ◌++◌, ◌<�
 ghost use Rattle.std.specs.Prelude.{true, false, [], ◌∷◌, length, Some, IfOk};
 ghost use Rattle.std.specs.Prelude.{All, slice_get};
 ghost use Rattle.gc_graph.specs.State.{empty_state};
-ghost use Rattle.gc_graph.specs.Built.{is_built_type, IsBuiltIn};
+ghost use Rattle.built_forms.specs.Built.{is_built_type, IsBuiltIn};
 ghost use Rattle.gc_graph.specs.CycleSteps.{is_marking};
 ghost use Rattle.gc_graph.specs.Outcomes.{answered, finalise_lines};
 ghost use Rattle.gc_graph.specs.Step.{Step};

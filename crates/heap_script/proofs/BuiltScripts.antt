@@ -5,7 +5,7 @@ use Rattle.std.specs.List.{filter_map, cons_option}
 use Rattle.std.proofs.lemmas.Bool.{true≢false, cases_Bool, cond-true, cond-false, and_parts, and_left, and_right, and_from, or_left, or_right, or_from, eq-eqb, eqb-true, ne_eqb}
 use Rattle.gc_graph.specs.declared.command.Command.{Command}
 use Rattle.gc_graph.specs.State.{ObjectType}
-use Rattle.gc_graph.specs.Built.{is_built_type, is_built_after, AreBuiltTypes, AreBuiltCommands}
+use Rattle.built_forms.specs.Built.{is_built_type, is_built_after, AreBuiltTypes, AreBuiltCommands}
 use Rattle.gc_graph.specs.Words.{lines_of, words_of}
 use Rattle.gc_graph.specs.Reasons.{Reason, command_of_words, type_of_words}
 use Rattle.gc_graph.specs.Script.{reason_at}

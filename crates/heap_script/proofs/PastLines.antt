@@ -10,7 +10,7 @@ use Rattle.std.proofs.lemmas.List.Sums.{fold_more, fold-append, count_by_more_ye
 use Rattle.gc_graph.specs.declared.command.Command.{Command}
 use Rattle.gc_graph.specs.declared.command.Command.TheVariants as C
 use Rattle.gc_graph.specs.State.{ObjectType}
-use Rattle.gc_graph.specs.Built.{is_built, is_built_type, is_timely, is_sweep_open, opens_sweep}
+use Rattle.built_forms.specs.Built.{is_built, is_built_type, is_timely, is_sweep_open, opens_sweep}
 use Rattle.std.specs.Cmp.Lexicographic.{bytes_decides}
 use Rattle.gc_graph.specs.Words.{words_of, is_text, is_blank}
 use Rattle.gc_graph.specs.Reasons.{Reason, first_is, reason_of_words, command_of_words, type_of_words}

@@ -4,7 +4,7 @@ use Rattle.std.proofs.lemmas.Bool.{cases_Bool, cond-true, cond-false, and_from, 
 use Rattle.std.proofs.lemmas.List.{drop_more, length-drop}
 use Rattle.gc_graph.specs.declared.command.Command.{Command}
 use Rattle.gc_graph.specs.State.{ObjectType}
-use Rattle.gc_graph.specs.Built.{is_built, is_built_type}
+use Rattle.built_forms.specs.Built.{is_built, is_built_type}
 use Rattle.gc_graph.specs.Words.{words_of, is_blank}
 use Rattle.gc_graph.specs.Script.{threads_of, threads_after}
 use Rattle.gc_graph.specs.Script.Threads.{AtRest}

@@ -3,7 +3,7 @@ use Rattle.std.specs.Prelude.{◌≡◌, ◌⊎◌, ℕ, ◌+◌, ◌==◌, ◌&
 use Rattle.gc_graph.specs.declared.command.Command.{Command}
 use Rattle.gc_graph.specs.declared.command.Command.TheVariants as C
 use Rattle.gc_graph.specs.State.{ObjectType}
-use Rattle.gc_graph.specs.Built.{is_built, opens_sweep, is_built_type}
+use Rattle.built_forms.specs.Built.{is_built, opens_sweep, is_built_type}
 use Rattle.gc_graph.specs.Reasons.{Reason, number_of, Bounds, first_is, reason_of_words, command_of_words, type_of_words}
 use Rattle.gc_graph.specs.Reasons.Reason.{Order, Section}
 use Rattle.gc_graph.specs.Script.{Threads, breaks_section}

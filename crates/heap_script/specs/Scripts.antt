@@ -6,7 +6,7 @@ use Rattle.gc_graph.specs.State.{ObjectType}
 use Rattle.gc_graph.specs.Words.{lines_of, words_of}
 use Rattle.gc_graph.specs.Reasons.{command_of_words, type_of_words}
 use Rattle.gc_graph.specs.Script.{Script, IsScript, IsFault, IsTooLong, IsInLimits, reason_at}
-use Rattle.gc_graph.specs.Built.{is_built_type, is_built_after, AreBuiltTypes, AreBuiltCommands}
+use Rattle.built_forms.specs.Built.{is_built_type, is_built_after, AreBuiltTypes, AreBuiltCommands}
 use Rattle.heap_script.specs.declared.script.ScriptFault.{ScriptFault}
 
 -- memory was wanting, or this is the line and the lowest reason for which the bytes are no script

@@ -18,7 +18,6 @@
 //! and how long a call takes. The tests stand in `cppgc_main`.
 #![tactic(auto)]
 
-mod built;
 mod command_lines;
 mod cursor;
 mod devices;

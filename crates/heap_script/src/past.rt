@@ -1,11 +1,11 @@
 // What the lines before say, and what one more adds.
 
 ghost use Rattle.std.specs.Prelude.{◌≡◌, ◌<◌, ◌≤◌, ◌&&◌, nat_lt};
-ghost use Rattle.gc_graph.specs.Built as built;
+ghost use Rattle.built_forms.specs.Built as built;
 ghost use Rattle.gc_graph.specs.Script.{are_at_rest};
 ghost use Rattle.heap_script.specs.Past as spec;
 
-use super::built::is_built;
+use built_forms::is_built;
 use gc_graph::Command;
 
 /// Of the threads of the script: no order waits and none runs, orders wait, or they run.

@@ -5,13 +5,13 @@ ghost use Rattle.gc_graph.specs.Words.{is_text as is_same};
 ghost use Rattle.heap_script.specs.Cursor.{IsLineEnd, line_words, words_from};
 ghost use Rattle.heap_script.specs.Past.{reason_after, IsReasonOf, IsTypeKept, IsCommandKept, IsLineKept};
 
-use super::built::is_built_type;
 use super::command_lines::read_command;
 use super::past::Past;
 use super::places::Bounds;
 use super::reasons::{NO_MEMORY, ORDER, SECTION};
 use super::type_lines::read_type;
 use super::words::is_text;
+use built_forms::is_built_type;
 use gc_graph::Command;
 use std::alloc::Global;
 use type_table::TypeDecl;

@@ -1,6 +1,6 @@
 use Rattle.std.proofs.Common.{◌≡◌, false, take}
 use Rattle.gc_graph.specs.CycleSteps.{is_marking}
-use Rattle.gc_graph.specs.Built.{is_sweep_open}
+use Rattle.built_forms.specs.Built.{is_sweep_open}
 use Rattle.heap_script.specs.Pieces.{with_held, TookMore}
 use Rattle.cppgc_main.proofs.Phases.{IsIdleUnless}
 use Rattle.cppgc_main.specs.Printed.{IsPrintedRun}

@@ -1,6 +1,6 @@
 use Rattle.std.proofs.Common.{◌≡◌, List, All, true, ◌∙◌, sym, subst}
 use Rattle.gc_graph.specs.State.{ObjectType}
-use Rattle.gc_graph.specs.Built.{is_built_type}
+use Rattle.built_forms.specs.Built.{is_built_type}
 use Rattle.type_table.specs.Faults.{AreGoodTypes}
 use Rattle.cppgc_main.proofs.Runnable.{all_built, types_are_good}
 use Rattle.cppgc_main.proofs.run.run_script.Goals as goal

@@ -1,13 +1,14 @@
-// What of a script is built.
+// Which commands and types the program does.
 
 ghost use Rattle.std.specs.Prelude.{◌≡◌};
 ghost use Rattle.std.specs.List.{list_all};
-ghost use Rattle.gc_graph.specs.Built as spec;
+ghost use Rattle.built_forms.specs.Built as spec;
 
 use gc_graph::{Command, Kind, Want};
 use type_table::TypeDecl;
 
-pub(crate) fn is_built(command: &Command) -> bool
+/// Whether the program does the command, wherever it stands.
+pub fn is_built(command: &Command) -> bool
     ensures { result ≡ spec.is_built command.now }
 {
     match *command {
@@ -28,7 +29,8 @@ pub(crate) fn is_built(command: &Command) -> bool
     }
 }
 
-pub(crate) fn is_built_type(decl: &TypeDecl) -> bool
+/// Whether the program does objects of the type.
+pub fn is_built_type(decl: &TypeDecl) -> bool
     ensures { result ≡ spec.is_built_type decl.now }
 {
     are_built_kinds(decl.fields()) && decl.callbacks().is_empty()
