@@ -163,26 +163,16 @@ judged_cleared v is b there =
 
 -- ---- the weak slots
 
--- they hold the places of what is there
-pub weak_are_places : (nodes : List Node) (kept : List Bool) (v : SeatView) (slots : List (Option ℕ)) → v.bodies ≡ bodies_of (nodes_after kept nodes)
-    → ((n : ℕ) → IsLive nodes n → IsThere (nodes_after kept nodes) n) → All (λ slot. ForSome slot (IsLive nodes)) slots
+-- they hold the places of bodies
+pub weak_are_places : (nodes : List Node) (v : SeatView) (slots : List (Option ℕ)) → v.bodies ≡ bodies_of nodes → All (λ slot. ForSome slot (IsLive nodes)) slots
     → All (IsPlace v.bodies) (taken (places_of nodes slots))
-weak_are_places nodes kept v [] held stays live = λ k d low. absurd (omega arith)
-weak_are_places nodes kept v (None ∷ slots) held stays live = weak_are_places nodes kept v slots held stays (All-tail (λ slot. ForSome slot (IsLive nodes)) None slots live)
-weak_are_places nodes kept v (Some n ∷ slots) held stays live =
-    let after : List Node = nodes_after kept nodes in
+weak_are_places nodes v [] held live = λ k d low. absurd (omega arith)
+weak_are_places nodes v (None ∷ slots) held live = weak_are_places nodes v slots held (All-tail (λ slot. ForSome slot (IsLive nodes)) None slots live)
+weak_are_places nodes v (Some n ∷ slots) held live =
     let is : IsLive nodes n = All-head (λ slot. ForSome slot (IsLive nodes)) (Some n) slots live n refl in
     All-cons (IsPlace v.bodies) (place_of nodes n) (taken (places_of nodes slots))
-    (body_of (place_of after) n (node_at after n), node_body after v n held (stays n is), place-after kept nodes n)
-    (weak_are_places nodes kept v slots held stays (All-tail (λ slot. ForSome slot (IsLive nodes)) (Some n) slots live))
-
-there_judged : (flag : Bool) → is_there (judged flag Live) ≡ true
-there_judged true = refl
-there_judged false = refl
-
-pub still_there : (marked : ℕ → Bool) (nodes : List Node) (n : ℕ) → IsLive nodes n → IsThere (nodes_after (kept_of marked nodes) nodes) n
-still_there marked nodes n live =
-    ap is_there (life-after (kept_of marked nodes) nodes n ∙ life_is marked nodes n live) ∙ there_judged (marked (place_of nodes n))
+    (body_of (place_of nodes) n (node_at nodes n), node_body nodes v n held (live_is_there nodes n is), refl)
+    (weak_are_places nodes v slots held (All-tail (λ slot. ForSome slot (IsLive nodes)) (Some n) slots live))
 
 -- a slot whose place isn't marked is cleared where its node is dead
 pub weak_places_after : (nodes : List Node) (v : SeatView) (weak : List (Option ℕ)) → All (λ slot. ForSome slot (IsLive nodes)) weak

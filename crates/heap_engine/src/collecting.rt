@@ -2,26 +2,35 @@
 // dead.
 
 ghost use Rattle.std.specs.Prelude.{◌≡◌, ◌*◌, ◌^◌, ◌<◌};
-ghost use Rattle.std.specs.Prelude.{◌≤◌, [], length, map};
+ghost use Rattle.std.specs.Prelude.{◌≤◌, [], length, map, All};
 ghost use Rattle.std.specs.Prelude.{vec_capacity};
 ghost use Rattle.gc_graph.specs.State.{slot_targets, objects_of};
 ghost use Rattle.gc_graph.specs.Pause.{live_count};
 ghost use Rattle.gc_graph.specs.Sweep.{AreDeadInOrder};
 ghost use Rattle.gc_graph.specs.Valid.{AreLive};
-ghost use Rattle.page_words.specs.Seat.{IsQuiet};
+ghost use Rattle.page_words.specs.Bodies.{IsPlace};
+ghost use Rattle.page_words.specs.Seat.{IsQuiet, holds};
 ghost use Rattle.page_space.specs.Pages.{word_count};
+ghost use Rattle.page_space.specs.Space.{IsSeatOf};
+ghost use Rattle.persistent_slots.specs.Clearing.{taken};
+ghost use Rattle.weak_clearing.specs.Clearing.{MarkedHaveWeakReferences, with_weak_cleared};
 ghost use Rattle.heap_engine.specs.Sweeping.{IsJudged};
 ghost use Rattle.heap_engine.specs.View.{places_of};
 ghost use Rattle.heap_engine.specs.Objects.{AreOfValid};
 ghost use Rattle.heap_engine.specs.Objects.{bury};
 ghost use Rattle.heap_engine.specs.Judgement.{IsJudgement};
+ghost use Rattle.heap_engine.specs.Changes.{cleared_in};
 ghost use Rattle.heap_engine.specs.Parts.{setup_of_objects};
 
 use crate::handles::Handles;
 use crate::mark_list::MarkList;
-use crate::nodes;
+use crate::nodes::{self, NodeLists};
 use crate::objects::Objects;
 use crate::sweeping::sweep_pages;
+use ghost_values::GhostValue;
+use page_space::Space;
+use page_words::MutatorSeat;
+use type_table::TypeTable;
 use weak_clearing::clear_fields;
 
 impl Objects {
@@ -52,9 +61,13 @@ impl Objects {
         self.seat.bodies_lie_apart();
         gc_graph::reach_is_least();
         grey.mark_reachable(&self.space, &mut self.seat, &self.types, handles.strong());
-        // Nothing is grey, so that what is not marked now will never be.
-        clear_fields(&self.space, &self.types, &mut self.seat);
-        handles.clear_weak(&self.space, &mut self.seat, &self.nodes);
+        clear_weak(
+            &self.space,
+            &self.types,
+            &mut self.seat,
+            handles,
+            &self.nodes,
+        );
         self.nodes = nodes::judged(&self.nodes, &self.seat);
     }
 
@@ -77,4 +90,25 @@ impl Objects {
         sweep_pages(&mut self.space, &mut self.seat, finalised);
         self.nodes = nodes::buried(&self.nodes);
     }
+}
+
+/// Sets to null what is weak and names an object that was not marked: weak slots, and weak fields of
+/// marked objects. Nothing is grey any more, so that what is not marked now will never be.
+fn clear_weak(
+    space: &Space,
+    types: &TypeTable,
+    seat: &mut MutatorSeat,
+    handles: &mut Handles,
+    nodes: &GhostValue<NodeLists>,
+)
+    requires heap { IsSeatOf space.now seat.old }
+    requires types { types.now ≡ seat.old.types }
+    requires references { MarkedHaveWeakReferences seat.old }
+    requires places { All (IsPlace seat.old.bodies) (taken handles.old.weak_places) }
+    ensures fields { seat.new ≡ with_weak_cleared seat.old }
+    ensures slots { handles.new
+        ≡ cleared_in handles.old (holds seat.old.marked) nodes.now.value }
+{
+    handles.clear_weak(space, seat, nodes);
+    clear_fields(space, types, seat);
 }

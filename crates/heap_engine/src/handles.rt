@@ -26,6 +26,7 @@ use std::marker::Model;
 use weak_clearing::clear_slots;
 
 const STRONG: u32 = 256;
+
 const WEAK: u32 = 64;
 
 /// The strong slots and the weak ones. Each holds a place; which node it names is known to

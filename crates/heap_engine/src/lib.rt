@@ -4,18 +4,20 @@
 //! each command is one step of the graph that `gc_graph` defines.
 //!
 //! The parts: `Heap` with `new`, `act`, `line` and `close`, and `Config`. A heap is put together
-//! of `objects` (words, pages, types), `handles` (slots), `cycle` (collections and sweeps) and
-//! `outcome` (the lines of the last command). Each part owns what it holds and has a model; the
-//! state of the graph is put together from the models. The commands, in `creating`, `fields`,
-//! `slots`, `totals` and `cycle`, take the parts. Inside, `mark_list` and `marking` (what the slots
-//! reach), `collecting` and `sweeping` (what was dead), `finding` (places), `field` (fields), and for
-//! contracts alone `nodes`, `states` and `entries`. Next down are `member_fields` and `page_space`.
+//! of `objects` (words, pages, types), `handles` (strong and weak slots), `cycle` (collections and
+//! sweeps) and `outcome` (the lines of the last command). Each part owns what it holds and has a
+//! model; the state of the graph is put together from the models. The commands, in `creating`,
+//! `fields`, `slots`, `totals` and `cycle`, take the parts. Inside, `mark_list` and `marking` (what
+//! the strong slots reach), `collecting` and `sweeping` (what is judged, cleared and swept),
+//! `finding` (places), `field` (fields), and for contracts alone `nodes`, `states` and `entries`.
+//! Next down are `member_fields`, `persistent_slots`, `weak_clearing` and `page_space`.
 //!
 //! What is proved: `act` is a step from the heap's own state to its new state, for every command
 //! that is allowed and that the heap does so far (`IsBuiltIn`), and its lines are those of the step;
 //! the pieces that the commands took are the heap's history of the region. Each node that is not
 //! finalised is the object with its number, type, size, place, field words and extra words. A
-//! collection keeps exactly what the slots reach, and reads the words of strong fields alone.
+//! collection keeps exactly what the strong slots reach, and marks by strong fields alone; exactly
+//! the weak fields of kept objects and the weak slots that name a condemned one become null.
 //! Refusals and a full heap are answered exactly where the step says so; a collection alone may
 //! want memory, and then nothing has changed.
 //!

@@ -13,7 +13,6 @@ use Rattle.heap_engine.specs.Sweeping.{IsJudged}
 use Rattle.heap_engine.specs.Nodes.{place_of, bodies_of, IsHeld}
 use Rattle.heap_engine.specs.Objects.{AreObjects}
 use Rattle.heap_engine.specs.Judgement.{IsJudgement, nodes_after, weak_after}
-use Rattle.heap_engine.specs.Changes.{cleared_in}
 use Rattle.heap_engine.specs.Parts.{HandlesView}
 use Rattle.heap_engine.specs.View.{kept_of}
 use Rattle.heap_engine.proofs.NodeBodies.{length-bodies}
@@ -25,7 +24,7 @@ use Rattle.heap_engine.proofs.KeptNodes.{slots_live, keeps_reached}
 use Rattle.heap_engine.proofs.JudgedNodes.{named_places, references_hold, space_marked}
 use Rattle.heap_engine.proofs.WeakNodes.{length-after, live-after}
 use Rattle.heap_engine.proofs.WeakReferences.{weak_references_hold}
-use Rattle.heap_engine.proofs.WeakJudged.{IsMarked, marked_is, held_after, space_cleared, judged_cleared, weak_are_places, still_there, handles_after}
+use Rattle.heap_engine.proofs.WeakJudged.{IsMarked, marked_is, held_after, space_cleared, judged_cleared, weak_are_places, handles_after}
 use Rattle.heap_engine.proofs.objects.Objects.judge.Goals as goal
 
 pub mark_reachable-requires-clause-slots : goal.mark_reachable-requires-clause-slots
@@ -66,8 +65,8 @@ mark_reachable-requires-clause-few c =
       (rw (← c.self.view_is) at c.requires.few),
     )
 
-pub clear_fields-requires-clause-references : goal.clear_fields-requires-clause-references
-clear_fields-requires-clause-references c =
+pub clear_weak-requires-clause-references : goal.clear_weak-requires-clause-references
+clear_weak-requires-clause-references c =
     let nodes : List Node = c.self.inside.nodes.value in
     let v : SeatView = c.self.inside.seat in
     let new : SeatView = c.mark_reachable.new.seat in
@@ -79,40 +78,21 @@ clear_fields-requires-clause-references c =
     let held : new.bodies ≡ bodies_of nodes = marks.bodies ∙ c.self.invariant.held.bodies in
     weak_references_hold setup nodes new known (marks.known ∙ c.self.invariant.known) held alive (references_hold setup nodes new known held alive)
 
--- the words after marking
-is_marked : (c : goal.After-clear_weak-arg-4-1)
-    → IsMarked (record { shape = c.self.inside.space.shape; markers = 0; types = c.self.inside.types; callbacks = [] }) c.self.inside.nodes.value c.mark_reachable.new.seat
-is_marked c =
-    let setup : Setup = record { shape = c.self.inside.space.shape; markers = 0; types = c.self.inside.types; callbacks = [] } in
-    marked_is setup c.self.inside.nodes.value c.strong.result.now c.self.inside.seat c.mark_reachable.new.seat (rw (← c.self.view_is) at c.requires.valid) c.self.invariant.built
-    c.self.invariant.known (rw (← c.self.view_is) at c.requires.quiet) c.self.invariant.held c.mark_reachable.ensures.marks
-
 pub clear_weak-requires-clause-places : goal.clear_weak-requires-clause-places
 clear_weak-requires-clause-places c =
     let nodes : List Node = c.self.inside.nodes.value in
     let v : SeatView = c.mark_reachable.new.seat in
     let weak : List (Option ℕ) = c.args.handles.now.weak in
-    let setup : Setup = record { shape = c.self.inside.space.shape; markers = 0; types = c.self.inside.types; callbacks = [] } in
     let live : AreLive nodes (slot_targets weak) = rw (← c.self.view_is) at c.requires.weak_live in
-    subst (λ (u : SeatView). All (IsPlace u.bodies) (taken c.args.handles.now.weak_places)) (sym c.clear_fields.ensures.cleared)
-    (subst (λ l. All (IsPlace (with_weak_cleared v).bodies) (taken l)) (sym (rw (← c.self.view_is) at c.requires.weak))
-    (weak_are_places nodes (kept_of (holds v.marked) nodes) (with_weak_cleared v) weak (held_after setup nodes v (is_marked c)).bodies (still_there (holds v.marked) nodes) (slots_live nodes weak live)))
+    subst (λ l. All (IsPlace v.bodies) (taken l)) (sym (rw (← c.self.view_is) at c.requires.weak))
+    (weak_are_places nodes v weak (c.mark_reachable.ensures.marks.bodies ∙ c.self.invariant.held.bodies) (slots_live nodes weak live))
 
--- what the whole did to the words
-seat_is : (c : goal.After-drop-self-inside) → c.clear_weak.new.seat ≡ with_weak_cleared c.mark_reachable.new.seat
-seat_is c = c.clear_weak.ensures.view ∙ c.clear_fields.ensures.cleared
-
--- to the nodes
+-- what the pause made of the nodes
 nodes_are : (c : goal.After-drop-self-inside)
     → nodes_after (kept_of (holds c.mark_reachable.new.seat.marked) c.self.inside.nodes.value) c.self.inside.nodes.value ≡ c.judged.result.value
 nodes_are c =
     let nodes : List Node = c.self.inside.nodes.value in
-    sym (c.judged.ensures ∙ ap (λ (u : SeatView). nodes_after (kept_of (holds u.marked) nodes) nodes) (seat_is c))
-
--- and to the handles
-handles_are : (c : goal.After-drop-self-inside) → c.clear_weak.new.self ≡ cleared_in c.args.handles.now (holds c.mark_reachable.new.seat.marked) c.self.inside.nodes.value
-handles_are c =
-    c.clear_weak.ensures.cleared ∙ ap (λ (u : SeatView). cleared_in c.args.handles.now (holds u.marked) c.self.inside.nodes.value) c.clear_fields.ensures.cleared
+    sym (c.judged.ensures ∙ ap (λ (u : SeatView). nodes_after (kept_of (holds u.marked) nodes) nodes) c.clear_weak.ensures.fields)
 
 quiet_of : (c : goal.After-drop-self-inside) → IsQuiet c.self.inside.seat
 quiet_of c = rw (← c.self.view_is) at c.requires.quiet
@@ -136,7 +116,7 @@ invariant_of-self c =
       held = subst (λ (ns : List Node). IsHeld ns new) (nodes_are c) (held_after setup nodes v marked);
       numbers_are = c.self.invariant.numbers_are ∙ sym (length-after (kept_of (holds v.marked) nodes) nodes) ∙ ap length (nodes_are c);
     } in
-    subst (λ (u : SeatView). AreObjects c.self.inside.space u c.self.inside.types c.self.inside.made c.judged.result.value) (sym (seat_is c)) is
+    subst (λ (u : SeatView). AreObjects c.self.inside.space u c.self.inside.types c.self.inside.made c.judged.result.value) (sym c.clear_weak.ensures.fields) is
 
 pub returns-clause-judged : goal.returns-clause-judged
 returns-clause-judged c =
@@ -149,17 +129,17 @@ returns-clause-judged c =
     keeps_reached setup nodes slots weak c.self.inside.seat v c.strong.result.now c.reach_is_least.ensures
     c.bodies_lie_apart.ensures (rw (← c.self.view_is) at c.requires.valid) (rw (← c.self.view_is) at c.requires.live) c.self.invariant.held.bodies
     (c.strong.ensures ∙ (rw (← c.self.view_is) at c.requires.slots)) c.mark_reachable.ensures.marks in
-    rw (← c.self.view_is) (subst (λ (ns : List Node). IsJudgement nodes slots weak ns c.clear_weak.new.self.weak) (nodes_are c)
-    (subst (IsJudgement nodes slots weak (nodes_after (kept_of (holds v.marked) nodes) nodes)) (sym (ap (λ (h : HandlesView). h.weak) (handles_are c))) judges))
+    rw (← c.self.view_is) (subst (λ (ns : List Node). IsJudgement nodes slots weak ns c.clear_weak.new.handles.weak) (nodes_are c)
+    (subst (IsJudgement nodes slots weak (nodes_after (kept_of (holds v.marked) nodes) nodes)) (sym (ap (λ (h : HandlesView). h.weak) c.clear_weak.ensures.slots)) judges))
 
 pub returns-clause-strong : goal.returns-clause-strong
 returns-clause-strong c =
-    handles_after c.self.inside.nodes.value c.judged.result.value c.mark_reachable.new.seat c.args.handles.now c.clear_weak.new.self
-    (rw (← c.self.view_is) at c.requires.weak) (rw (← c.self.view_is) at c.requires.weak_live) (handles_are c) (nodes_are c)
+    handles_after c.self.inside.nodes.value c.judged.result.value c.mark_reachable.new.seat c.args.handles.now c.clear_weak.new.handles
+    (rw (← c.self.view_is) at c.requires.weak) (rw (← c.self.view_is) at c.requires.weak_live) c.clear_weak.ensures.slots (nodes_are c)
 
 pub returns-clause-marks : goal.returns-clause-marks
 returns-clause-marks c =
-    subst IsJudged (sym (seat_is c))
+    subst IsJudged (sym c.clear_weak.ensures.fields)
     (judged_cleared c.mark_reachable.new.seat (judged_after c.self.inside.types c.strong.result.now c.self.inside.seat c.mark_reachable.new.seat c.mark_reachable.ensures.marks))
 
 pub returns-clause-marked : goal.returns-clause-marked
