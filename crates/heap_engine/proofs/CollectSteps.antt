@@ -1,12 +1,10 @@
 -- A collection is a step of the graph.
-use Rattle.std.proofs.Common.{◌≡◌, ℕ, zero, suc, ◌+◌, ◌-◌, ◌<◌, Bool, true, false, List, [], ◌∷◌, ◌++◌, length, map, replicate, Option, None, refl, sym, ap, ◌∙◌, subst, inl, inr, arith, eqb}
+use Rattle.std.proofs.Common.{◌≡◌, ℕ, zero, suc, ◌+◌, ◌-◌, Bool, true, false, List, [], ◌∷◌, ◌++◌, length, replicate, Option, refl, sym, ap, ◌∙◌, subst, inl, inr, arith, eqb}
 use mathlib.Core.Logic.{◌⊎◌}
 use Rattle.std.specs.Prelude.{MatchBool}
-use Rattle.std.specs.List.{All, list_any}
+use Rattle.std.specs.List.{list_any}
 use Rattle.std.proofs.lemmas.Bool.{true≢false, or_cases, or_left, or_right, eqb-true, eq-eqb}
 use Rattle.std.proofs.lemmas.List.{append-nil, length-map}
-use Rattle.std.proofs.lemmas.List.Elements.{All-get_or, All-from_get_or}
-use Rattle.gc_graph.specs.declared.kind.Kind.TheVariants.{Strong}
 use Rattle.gc_graph.specs.declared.command.Want.TheVariants.{Precise}
 use Rattle.gc_graph.specs.declared.line.Line.{Line}
 use Rattle.gc_graph.specs.declared.line.Line.TheVariants as L
@@ -16,11 +14,11 @@ use Rattle.gc_graph.specs.declared.region.Entry.{Entry}
 use Rattle.gc_graph.specs.declared.region.Op.TheVariants as O
 use Rattle.gc_graph.specs.Graph.{Object, IsIn, IsWithin}
 use Rattle.gc_graph.specs.Reach.{Reach, AreNodes, RefersWithin, ReachIsLeast}
-use Rattle.gc_graph.specs.State.{Setup, State, Node, RegionSlot, Registration, node_at, no_node, graph_of, roots_of, slot_targets, stack_targets, strong_region_targets, objects_of}
+use Rattle.gc_graph.specs.State.{Setup, State, Node, RegionSlot, Registration, graph_of, roots_of, slot_targets, stack_targets, strong_region_targets, objects_of}
 use Rattle.gc_graph.specs.State.RegionSlot.{Vacant}
 use Rattle.gc_graph.specs.May.{members, members_from, marking}
 use Rattle.gc_graph.specs.History.{cleared_by, NamesWeakSlots}
-use Rattle.gc_graph.specs.Pause.{IsKept, condemn, clear_slot, is_dead_at, dying_slots, clear_fields, run_order, prefinalised, prefinalise_lines, live_count, dead_count, paused}
+use Rattle.gc_graph.specs.Pause.{IsKept, condemn, dying_slots, clear_fields, run_order, prefinalised, prefinalise_lines, live_count, dead_count, paused}
 use Rattle.gc_graph.specs.Outcomes.{answered, finalise_lines, took, owner_entry}
 use Rattle.gc_graph.specs.Sweep.{SweepsToEnd}
 use Rattle.gc_graph.specs.CycleSteps.{IsStart, IsPause, IsCollection, StepGcNow, WantsMemory, is_marking, is_stack_refused}

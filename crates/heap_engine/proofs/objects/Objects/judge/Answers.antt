@@ -19,7 +19,7 @@ use Rattle.heap_engine.proofs.NodeBodies.{length-bodies}
 use Rattle.heap_engine.proofs.NodePlaces.{places_differ}
 use Rattle.heap_engine.proofs.NodeLives.{live-condemn}
 use Rattle.heap_engine.proofs.StrongFields.{AreKnown, known_nodes, built_pairless}
-use Rattle.heap_engine.proofs.HeldNodes.{none_dead, held_judged, judged_after}
+use Rattle.heap_engine.proofs.HeldNodes.{none_dead, judged_after}
 use Rattle.heap_engine.proofs.KeptNodes.{slots_live, keeps_reached}
 use Rattle.heap_engine.proofs.JudgedNodes.{named_places, references_hold, space_marked}
 use Rattle.heap_engine.proofs.WeakNodes.{length-after, live-after}
