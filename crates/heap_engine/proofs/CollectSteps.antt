@@ -225,7 +225,7 @@ pub record Collects (o mid new : ObjectsView) (h left : HandlesView) (c between 
   pub setup : setup_of_objects mid ≡ setup_of_objects o
   pub same_setup : setup_of_objects new ≡ setup_of_objects mid
   pub judges : IsJudgement mid.nodes h.slots h.weak new.nodes left.weak
-  pub strong_left : left ≡ record h { weak_places = places_of new.nodes left.weak; weak = left.weak }
+  pub handles_left : left ≡ record h { weak_places = places_of new.nodes left.weak; weak = left.weak }
   pub judged : IsJudged new.seat
   pub phase : after.phase ≡ Sweeping
   pub rest : after.rest ≡ collected_from (state_of mid h between)
@@ -240,7 +240,7 @@ collected_parts o mid new h left c between after numbers is =
     record r { nodes = ns; slots = slots; weak = weak; phase = ph } in
     let weak : List (Option ℕ) = weak_after kept mid.nodes h.weak in
     ap (λ ns. build ns left.slots left.weak after.phase after.rest) is.judges.nodes_are
-    ∙ ap (λ (k : HandlesView). build (nodes_after kept mid.nodes) k.slots left.weak after.phase after.rest) is.strong_left
+    ∙ ap (λ (k : HandlesView). build (nodes_after kept mid.nodes) k.slots left.weak after.phase after.rest) is.handles_left
     ∙ ap (λ w. build (nodes_after kept mid.nodes) h.slots w after.phase after.rest) is.judges.weak_are
     ∙ ap (λ ph. build (nodes_after kept mid.nodes) h.slots weak ph after.rest) is.phase
     ∙ ap (build (nodes_after kept mid.nodes) h.slots weak Sweeping) is.rest
@@ -268,9 +268,9 @@ collection_frame o mid new h left c between after numbers is =
       setup = is.same_setup ∙ is.setup;
       ordinal = ap (λ n. n + 1) ordinal;
       tied = record {
-        slots = ap (λ (k : HandlesView). k.places) is.strong_left ∙ is.ready.tied.slots ∙ sym (places-same (place_of new.nodes) (place_of mid.nodes) h.slots places)
-            ∙ sym (ap (λ (k : HandlesView). places_of new.nodes k.slots) is.strong_left);
-        weak = ap (λ (k : HandlesView). k.weak_places) is.strong_left;
+        slots = ap (λ (k : HandlesView). k.places) is.handles_left ∙ is.ready.tied.slots ∙ sym (places-same (place_of new.nodes) (place_of mid.nodes) h.slots places)
+            ∙ sym (ap (λ (k : HandlesView). places_of new.nodes k.slots) is.handles_left);
+        weak = ap (λ (k : HandlesView). k.weak_places) is.handles_left;
         marks = subst (λ ph. HasMarks ph new.seat) (sym is.phase) is.judged;
         made = omega (arith, is.ready.tied.made, ordinal, is.ordinal, ap length is.judges.nodes_are, length-after is.judges.kept mid.nodes);
       };
