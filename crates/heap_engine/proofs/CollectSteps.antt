@@ -1,12 +1,10 @@
 -- A collection is a step of the graph.
-use Rattle.std.proofs.Common.{◌≡◌, ℕ, zero, suc, ◌+◌, ◌-◌, ◌<◌, Bool, true, false, List, [], ◌∷◌, ◌++◌, length, map, replicate, Option, None, refl, sym, ap, ◌∙◌, subst, inl, inr, arith, eqb}
+use Rattle.std.proofs.Common.{◌≡◌, ℕ, zero, suc, ◌+◌, ◌-◌, Bool, true, false, List, [], ◌∷◌, ◌++◌, length, replicate, Option, refl, sym, ap, ◌∙◌, subst, inl, inr, arith, eqb}
 use mathlib.Core.Logic.{◌⊎◌}
 use Rattle.std.specs.Prelude.{MatchBool}
-use Rattle.std.specs.List.{All, list_any}
+use Rattle.std.specs.List.{list_any}
 use Rattle.std.proofs.lemmas.Bool.{true≢false, or_cases, or_left, or_right, eqb-true, eq-eqb}
 use Rattle.std.proofs.lemmas.List.{append-nil, length-map}
-use Rattle.std.proofs.lemmas.List.Elements.{All-get_or, All-from_get_or}
-use Rattle.gc_graph.specs.declared.kind.Kind.TheVariants.{Strong}
 use Rattle.gc_graph.specs.declared.command.Want.TheVariants.{Precise}
 use Rattle.gc_graph.specs.declared.line.Line.{Line}
 use Rattle.gc_graph.specs.declared.line.Line.TheVariants as L
@@ -16,11 +14,11 @@ use Rattle.gc_graph.specs.declared.region.Entry.{Entry}
 use Rattle.gc_graph.specs.declared.region.Op.TheVariants as O
 use Rattle.gc_graph.specs.Graph.{Object, IsIn, IsWithin}
 use Rattle.gc_graph.specs.Reach.{Reach, AreNodes, RefersWithin, ReachIsLeast}
-use Rattle.gc_graph.specs.State.{Setup, State, Node, RegionSlot, Registration, node_at, no_node, graph_of, roots_of, slot_targets, stack_targets, strong_region_targets, objects_of}
+use Rattle.gc_graph.specs.State.{Setup, State, Node, RegionSlot, Registration, graph_of, roots_of, slot_targets, stack_targets, strong_region_targets, objects_of}
 use Rattle.gc_graph.specs.State.RegionSlot.{Vacant}
 use Rattle.gc_graph.specs.May.{members, members_from, marking}
 use Rattle.gc_graph.specs.History.{cleared_by, NamesWeakSlots}
-use Rattle.gc_graph.specs.Pause.{IsKept, condemn, clear_slot, is_dead_at, dying_slots, clear_fields, run_order, prefinalised, prefinalise_lines, live_count, dead_count, paused}
+use Rattle.gc_graph.specs.Pause.{IsKept, condemn, dying_slots, clear_fields, run_order, prefinalised, prefinalise_lines, live_count, dead_count, paused}
 use Rattle.gc_graph.specs.Outcomes.{answered, finalise_lines, took, owner_entry}
 use Rattle.gc_graph.specs.Sweep.{SweepsToEnd}
 use Rattle.gc_graph.specs.CycleSteps.{IsStart, IsPause, IsCollection, StepGcNow, WantsMemory, is_marking, is_stack_refused}
@@ -227,7 +225,7 @@ pub record Collects (o mid new : ObjectsView) (h left : HandlesView) (c between 
   pub setup : setup_of_objects mid ≡ setup_of_objects o
   pub same_setup : setup_of_objects new ≡ setup_of_objects mid
   pub judges : IsJudgement mid.nodes h.slots h.weak new.nodes left.weak
-  pub strong_left : left ≡ record h { weak_places = places_of new.nodes left.weak; weak = left.weak }
+  pub handles_left : left ≡ record h { weak_places = places_of new.nodes left.weak; weak = left.weak }
   pub judged : IsJudged new.seat
   pub phase : after.phase ≡ Sweeping
   pub rest : after.rest ≡ collected_from (state_of mid h between)
@@ -242,7 +240,7 @@ collected_parts o mid new h left c between after numbers is =
     record r { nodes = ns; slots = slots; weak = weak; phase = ph } in
     let weak : List (Option ℕ) = weak_after kept mid.nodes h.weak in
     ap (λ ns. build ns left.slots left.weak after.phase after.rest) is.judges.nodes_are
-    ∙ ap (λ (k : HandlesView). build (nodes_after kept mid.nodes) k.slots left.weak after.phase after.rest) is.strong_left
+    ∙ ap (λ (k : HandlesView). build (nodes_after kept mid.nodes) k.slots left.weak after.phase after.rest) is.handles_left
     ∙ ap (λ w. build (nodes_after kept mid.nodes) h.slots w after.phase after.rest) is.judges.weak_are
     ∙ ap (λ ph. build (nodes_after kept mid.nodes) h.slots weak ph after.rest) is.phase
     ∙ ap (build (nodes_after kept mid.nodes) h.slots weak Sweeping) is.rest
@@ -270,9 +268,9 @@ collection_frame o mid new h left c between after numbers is =
       setup = is.same_setup ∙ is.setup;
       ordinal = ap (λ n. n + 1) ordinal;
       tied = record {
-        slots = ap (λ (k : HandlesView). k.places) is.strong_left ∙ is.ready.tied.slots ∙ sym (places-same (place_of new.nodes) (place_of mid.nodes) h.slots places)
-            ∙ sym (ap (λ (k : HandlesView). places_of new.nodes k.slots) is.strong_left);
-        weak = ap (λ (k : HandlesView). k.weak_places) is.strong_left;
+        slots = ap (λ (k : HandlesView). k.places) is.handles_left ∙ is.ready.tied.slots ∙ sym (places-same (place_of new.nodes) (place_of mid.nodes) h.slots places)
+            ∙ sym (ap (λ (k : HandlesView). places_of new.nodes k.slots) is.handles_left);
+        weak = ap (λ (k : HandlesView). k.weak_places) is.handles_left;
         marks = subst (λ ph. HasMarks ph new.seat) (sym is.phase) is.judged;
         made = omega (arith, is.ready.tied.made, ordinal, is.ordinal, ap length is.judges.nodes_are, length-after is.judges.kept mid.nodes);
       };

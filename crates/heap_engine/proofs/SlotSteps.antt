@@ -7,7 +7,7 @@ use Rattle.gc_graph.specs.declared.line.Line.TheVariants as L
 use Rattle.gc_graph.specs.declared.phase.Phase.{Phase}
 use Rattle.gc_graph.specs.declared.phase.Phase.TheVariants.{Idle, Marking, Sweeping}
 use Rattle.gc_graph.specs.Graph.{Object}
-use Rattle.gc_graph.specs.State.{State, graph_of}
+use Rattle.gc_graph.specs.State.{graph_of}
 use Rattle.gc_graph.specs.Fields.{content_of}
 use Rattle.gc_graph.specs.May.{may_with_read}
 use Rattle.gc_graph.specs.CycleSteps.{is_marking}

@@ -1,13 +1,13 @@
 -- Weak clearing over the bodies of judged nodes leaves the bodies of the nodes with their weak fields cleared.
-use Rattle.std.proofs.Common.{◌≡◌, ℕ, zero, suc, ◌+◌, Bool, true, false, not, List, [], ◌∷◌, length, map, refl, sym, ap, ◌∙◌, subst, inl, inr, arith, cond}
+use Rattle.std.proofs.Common.{◌≡◌, ℕ, suc, ◌+◌, Bool, true, false, not, List, [], ◌∷◌, length, map, refl, sym, ap, ◌∙◌, inl, inr, arith, cond}
 use Rattle.std.specs.List.{All, Contains}
-use Rattle.std.proofs.lemmas.Bool.{true≢false, cases_Bool}
+use Rattle.std.proofs.lemmas.Bool.{cases_Bool}
 use Rattle.std.proofs.lemmas.List.Elements.{All-head, All-tail}
 use Rattle.gc_graph.specs.declared.kind.Kind.{Kind}
 use Rattle.gc_graph.specs.declared.kind.Kind.TheVariants.{Strong, Weak, Pair, Plain}
 use Rattle.gc_graph.specs.declared.kind.Value.{Value}
 use Rattle.gc_graph.specs.declared.kind.Value.TheVariants.{Null, Ref, Word}
-use Rattle.gc_graph.specs.State.{ObjectType, Node, Life, is_live, is_there, IsLive, size_of}
+use Rattle.gc_graph.specs.State.{ObjectType, Node, is_live, is_there, IsLive, size_of}
 use Rattle.gc_graph.specs.Valid.{HaveKinds, IsReferenceBelow, NamesLive}
 use Rattle.gc_graph.specs.Pause.{names_dead, cleared_values, with_cleared, clear_node}
 use Rattle.type_table.specs.Types.{kinds_of}

@@ -1,8 +1,8 @@
 -- After marking and weak clearing the words hold the nodes after the pause.
-use Rattle.std.proofs.Common.{◌≡◌, ℕ, zero, suc, ◌+◌, ◌<◌, Bool, true, false, ◌&&◌, not, List, [], ◌∷◌, length, get_or, map, Option, Some, None, option_map, refl, sym, ap, ◌∙◌, subst, arith, cond}
+use Rattle.std.proofs.Common.{◌≡◌, ℕ, ◌<◌, Bool, true, false, ◌&&◌, not, List, [], ◌∷◌, length, map, Option, Some, None, option_map, refl, sym, ap, ◌∙◌, subst, arith, cond}
 use Rattle.std.specs.List.{All, Contains}
 use Rattle.std.specs.Option.{ForSome}
-use Rattle.std.proofs.lemmas.Bool.{true≢false, cases_Bool}
+use Rattle.std.proofs.lemmas.Bool.{true≢false}
 use Rattle.std.proofs.lemmas.List.Elements.{All-head, All-tail, All-cons, All-get_or, All-from_get_or}
 use Rattle.gc_graph.specs.declared.kind.Kind.{Kind}
 use Rattle.gc_graph.specs.declared.kind.Kind.TheVariants.{Pair}
@@ -10,7 +10,7 @@ use Rattle.gc_graph.specs.Graph.{Object, has}
 use Rattle.gc_graph.specs.State.{Setup, ObjectType, Node, Life, node_at, no_node, no_type, is_live, is_dead, is_there, slot_targets, IsLive, IsDead}
 use Rattle.gc_graph.specs.State.Life.{Live, Dead, Gone}
 use Rattle.gc_graph.specs.Valid.{IsTyped, AreLive}
-use Rattle.gc_graph.specs.Pause.{judged, condemn, is_dead_at, clear_slot, clear_node, cleared_values}
+use Rattle.gc_graph.specs.Pause.{judged, condemn, is_dead_at, clear_slot, cleared_values}
 use Rattle.type_table.specs.Types.{kinds_of}
 use Rattle.type_table.specs.Layouts.{kinds_of_words}
 use Rattle.page_words.specs.Bodies.{Body, IsPlace}
@@ -24,7 +24,7 @@ use Rattle.heap_engine.specs.Sweeping.{IsJudged}
 use Rattle.heap_engine.specs.Judgement.{nodes_after, weak_after}
 use Rattle.heap_engine.specs.Changes.{cleared_in}
 use Rattle.heap_engine.specs.Parts.{HandlesView}
-use Rattle.heap_engine.specs.Nodes.{place_of, word_of, body_of, bodies_from, bodies_of, IsThere, IsHeld}
+use Rattle.heap_engine.specs.Nodes.{place_of, word_of, body_of, bodies_of, IsHeld}
 use Rattle.heap_engine.specs.View.{kept_of, places_of}
 use Rattle.heap_engine.proofs.MarkCounts.{Contains-map_some}
 use Rattle.heap_engine.proofs.NodeChanges.{bodies-same}

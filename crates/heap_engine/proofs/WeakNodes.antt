@@ -3,11 +3,11 @@ use Rattle.std.proofs.Common.{◌≡◌, ℕ, zero, suc, ◌+◌, Bool, true, fa
 use Rattle.std.specs.List.{count_by}
 use Rattle.std.proofs.lemmas.List.Sums.{sum_by-cons}
 use Rattle.std.proofs.lemmas.List.{length-map}
-use Rattle.gc_graph.specs.State.{Node, Life, node_at, is_live, is_dead, is_there}
-use Rattle.gc_graph.specs.Pause.{with_cleared, clear_node, clear_fields, is_dead_at, condemn, live_count, dead_count}
+use Rattle.gc_graph.specs.State.{Node, Life, node_at, is_live, is_dead}
+use Rattle.gc_graph.specs.Pause.{with_cleared, clear_node, is_dead_at, condemn, live_count, dead_count}
 use Rattle.heap_engine.specs.Judgement.{nodes_after}
 use Rattle.heap_engine.specs.Nodes.{place_of}
-use Rattle.heap_engine.proofs.NodeLives.{place-condemn, life-condemn, length-condemn}
+use Rattle.heap_engine.proofs.NodeLives.{place-condemn, length-condemn}
 
 pub life-clear : (dead : ℕ → Bool) (x : Node) → (clear_node dead x).life ≡ x.life
 life-clear dead x = go (is_live x.life) where

@@ -1,5 +1,5 @@
-// What a collection does to the objects: it judges them, clears what is weak, and sweeps those that are
-// dead.
+// What a collection does to the objects: it judges them, clears what is weak, and sweeps those that
+// are dead.
 
 ghost use Rattle.std.specs.Prelude.{◌≡◌, ◌*◌, ◌^◌, ◌<◌};
 ghost use Rattle.std.specs.Prelude.{◌≤◌, [], length, map, All};
@@ -48,7 +48,7 @@ impl Objects {
         requires room { objects_of self.old.nodes ≤ grey.old.room }
         ensures judged { IsJudgement self.old.nodes handles.old.slots handles.old.weak
             self.new.nodes handles.new.weak }
-        ensures strong { handles.new ≡ record handles.old {
+        ensures handles { handles.new ≡ record handles.old {
           weak_places = places_of self.new.nodes handles.new.weak;
           weak = handles.new.weak;
         } }

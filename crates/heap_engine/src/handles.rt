@@ -10,11 +10,10 @@ ghost use Rattle.page_words.specs.Seat.{holds};
 ghost use Rattle.page_space.specs.Space.{IsSeatOf};
 ghost use Rattle.persistent_slots.specs.Clearing.{taken};
 ghost use Rattle.heap_engine.specs.Objects.{slot_word};
-ghost use Rattle.heap_engine.specs.Judgement.{weak_after};
-ghost use Rattle.heap_engine.specs.View.{kept_of};
 ghost use Rattle.heap_engine.specs.Changes.{put_in, copied_in, weakened_in, cleared_in};
 
 use crate::nodes::NodeLists;
+use crate::slot_lists::{self, SlotLists};
 use gc_graph::NoMemory;
 use ghost_values::GhostValue;
 use object_headers::reference_to;
@@ -69,9 +68,9 @@ impl Handles {
         let weak = Slots::new(alloc, WEAK)?;
         Ok(Handles {
             strong,
-            strong_nodes: null_slots(STRONG),
+            strong_nodes: slot_lists::null(STRONG),
             weak,
-            weak_nodes: null_slots(WEAK),
+            weak_nodes: slot_lists::null(WEAK),
         })
     }
 
@@ -104,7 +103,7 @@ impl Handles {
         ensures { self.new ≡ put_in self.old p target }
     {
         fill(&mut self.strong, p, place_in(target));
-        self.strong_nodes = slots_with(&self.strong_nodes, p, target);
+        self.strong_nodes = slot_lists::with_target(&self.strong_nodes, p, target);
     }
 
     /// Slot q gets what slot p holds.
@@ -114,7 +113,7 @@ impl Handles {
         ensures { self.new ≡ copied_in self.old p q }
     {
         self.strong.copy(p, q);
-        self.strong_nodes = slot_copied(&self.strong_nodes, p, &self.strong_nodes, q);
+        self.strong_nodes = slot_lists::copied(&self.strong_nodes, p, &self.strong_nodes, q);
     }
 
     /// Weak slot w gets what slot p holds.
@@ -124,7 +123,7 @@ impl Handles {
         ensures { self.new ≡ weakened_in self.old w p }
     {
         fill(&mut self.weak, w, self.strong.get(p));
-        self.weak_nodes = slot_copied(&self.strong_nodes, p, &self.weak_nodes, w);
+        self.weak_nodes = slot_lists::copied(&self.strong_nodes, p, &self.weak_nodes, w);
     }
 
     /// Empties exactly the weak slots whose object is not marked. Only a pause calls this, once
@@ -142,7 +141,7 @@ impl Handles {
         ensures view { seat.new ≡ seat.old }
     {
         clear_slots(space, seat, &mut self.weak);
-        self.weak_nodes = weak_judged(&self.weak_nodes, nodes, seat);
+        self.weak_nodes = slot_lists::judged(&self.weak_nodes, nodes, seat);
     }
 
     /// What slot q holds, as the content of a field.
@@ -205,84 +204,11 @@ impl Model for Values {
     ghost view = { λ value. Null };
 }
 
-/// A list of what slots name. It is never made.
-#[derive(Drop)]
-pub struct SlotLists {
-    none: u8,
-}
-
-impl Model for SlotLists {
-    ghost use Rattle.std.specs.Prelude.{List, [], ℕ, Option};
-
-    ghost Value = { List (Option ℕ) };
-
-    ghost view = { λ slots. [] };
-}
-
-/// What a change of a slot, and a look at one, look at.
+/// What a look at a slot looks at.
 #[derive(Drop)]
 struct AboutSlot<'a> {
     slots: &'a GhostValue<SlotLists>,
-    p: u32,
-    target: Option<(u32, u32)>,
-}
-
-fn null_slots(count: u32) -> GhostValue<SlotLists>
-    ensures { result.value ≡ replicate count None }
-{
-    GhostValue::chosen(&count)
-}
-
-fn slots_with(
-    slots: &GhostValue<SlotLists>,
-    p: u32,
-    target: Option<(u32, u32)>,
-) -> GhostValue<SlotLists>
-    ensures { result.value ≡ slice_set slots.now.value p (option_map (λ t. t.1) target) }
-{
-    GhostValue::chosen(&AboutSlot { slots, p, target })
-}
-
-/// What a copy from slot to slot looks at.
-#[derive(Drop)]
-struct AboutCopy<'a> {
-    from: &'a GhostValue<SlotLists>,
-    p: u32,
-    into: &'a GhostValue<SlotLists>,
     q: u32,
-}
-
-/// Slot q of the second list names what slot p of the first one names.
-fn slot_copied(
-    from: &GhostValue<SlotLists>,
-    p: u32,
-    into: &GhostValue<SlotLists>,
-    q: u32,
-) -> GhostValue<SlotLists>
-    ensures { result.value
-        ≡ slice_set into.now.value q (slice_index_or from.now.value p None) }
-{
-    GhostValue::chosen(&AboutCopy { from, p, into, q })
-}
-
-/// What a judgement of weak slots looks at.
-#[derive(Drop)]
-struct AboutWeak<'a> {
-    weak: &'a GhostValue<SlotLists>,
-    nodes: &'a GhostValue<NodeLists>,
-    seat: &'a MutatorSeat,
-}
-
-/// The weak slots that name a node whose place is not marked are null.
-fn weak_judged(
-    weak: &GhostValue<SlotLists>,
-    nodes: &GhostValue<NodeLists>,
-    seat: &MutatorSeat,
-) -> GhostValue<SlotLists>
-    ensures { result.value ≡ weak_after (kept_of (holds seat.now.marked) nodes.now.value)
-        nodes.now.value weak.now.value }
-{
-    GhostValue::chosen(&AboutWeak { weak, nodes, seat })
 }
 
 fn null_value() -> GhostValue<Values>
@@ -300,11 +226,7 @@ fn number_value(n: u64) -> GhostValue<Values>
 fn value_of(slots: &GhostValue<SlotLists>, q: u32) -> GhostValue<Values>
     ensures { result.value ≡ content_of (slice_index_or slots.now.value q None) }
 {
-    GhostValue::chosen(&AboutSlot {
-        slots,
-        p: q,
-        target: None,
-    })
+    GhostValue::chosen(&AboutSlot { slots, q })
 }
 
 /// The reference word of what a slot holds.

@@ -9,8 +9,8 @@
 //! model; the state of the graph is put together from the models. The commands, in `creating`,
 //! `fields`, `slots`, `totals` and `cycle`, take the parts. Inside, `mark_list` and `marking` (what
 //! the strong slots reach), `collecting` and `sweeping` (what is judged, cleared and swept),
-//! `finding` (places), `field` (fields), and for contracts alone `nodes`, `states` and `entries`.
-//! Next down are `member_fields`, `persistent_slots`, `weak_clearing` and `page_space`.
+//! `finding` (places), `field` (fields), and for contracts alone `nodes`, `slot_lists`, `states` and
+//! `entries`. Next down are `member_fields`, `persistent_slots`, `weak_clearing` and `page_space`.
 //!
 //! What is proved: `act` is a step from the heap's own state to its new state, for every command
 //! that is allowed and that the heap does so far (`IsBuiltIn`), and its lines are those of the step;
@@ -38,6 +38,7 @@ mod marking;
 mod nodes;
 mod objects;
 mod outcome;
+mod slot_lists;
 mod slots;
 mod states;
 mod sweeping;

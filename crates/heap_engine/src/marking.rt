@@ -1,4 +1,4 @@
-// Marking: the targets of the slots are marked and listed; each listed object is traced, which
+// Marking: the targets of the strong slots are marked and listed; each listed object is traced, which
 // marks and lists the targets of its strong fields. A deep chain needs no deep stack, and no memory is
 // taken on the way.
 

@@ -3,4 +3,4 @@ use Rattle.gc_graph.specs.Fields.{content_of}
 use Rattle.heap_engine.proofs.handles.value_of.Given as goal
 
 abbrev pub ghost-chosen : goal.ghost-chosen
-ghost-chosen a = content_of (get_or a.about.now.slots.now.value a.about.now.p None)
+ghost-chosen a = content_of (get_or a.about.now.slots.now.value a.about.now.q None)

@@ -19,7 +19,7 @@ use Rattle.heap_engine.proofs.NodeBodies.{length-bodies}
 use Rattle.heap_engine.proofs.NodePlaces.{places_differ}
 use Rattle.heap_engine.proofs.NodeLives.{live-condemn}
 use Rattle.heap_engine.proofs.StrongFields.{AreKnown, known_nodes, built_pairless}
-use Rattle.heap_engine.proofs.HeldNodes.{none_dead, held_judged, judged_after}
+use Rattle.heap_engine.proofs.HeldNodes.{none_dead, judged_after}
 use Rattle.heap_engine.proofs.KeptNodes.{slots_live, keeps_reached}
 use Rattle.heap_engine.proofs.JudgedNodes.{named_places, references_hold, space_marked}
 use Rattle.heap_engine.proofs.WeakNodes.{length-after, live-after}
@@ -132,8 +132,8 @@ returns-clause-judged c =
     rw (← c.self.view_is) (subst (λ (ns : List Node). IsJudgement nodes slots weak ns c.clear_weak.new.handles.weak) (nodes_are c)
     (subst (IsJudgement nodes slots weak (nodes_after (kept_of (holds v.marked) nodes) nodes)) (sym (ap (λ (h : HandlesView). h.weak) c.clear_weak.ensures.slots)) judges))
 
-pub returns-clause-strong : goal.returns-clause-strong
-returns-clause-strong c =
+pub returns-clause-handles : goal.returns-clause-handles
+returns-clause-handles c =
     handles_after c.self.inside.nodes.value c.judged.result.value c.mark_reachable.new.seat c.args.handles.now c.clear_weak.new.handles
     (rw (← c.self.view_is) at c.requires.weak) (rw (← c.self.view_is) at c.requires.weak_live) c.clear_weak.ensures.slots (nodes_are c)
 

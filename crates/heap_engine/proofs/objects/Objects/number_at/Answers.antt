@@ -1,6 +1,5 @@
 use Rattle.std.proofs.Common.{List}
 use Rattle.gc_graph.specs.State.{Node, node_at}
-use Rattle.page_words.specs.Seat.{SeatView}
 use Rattle.heap_engine.specs.Nodes.{place_of, body_of}
 use Rattle.heap_engine.proofs.NodePlaces.{live_is_there, node_body}
 use Rattle.heap_engine.proofs.NodeSweeps.{serials_fit}

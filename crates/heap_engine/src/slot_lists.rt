@@ -1,0 +1,93 @@
+// What slots name, and how calls on the handles change it. All of it is for contracts alone.
+
+ghost use Rattle.std.specs.Prelude.{◌≡◌, None, replicate, option_map};
+ghost use Rattle.std.specs.Prelude.{slice_index_or, slice_set};
+ghost use Rattle.page_words.specs.Seat.{holds};
+ghost use Rattle.heap_engine.specs.View.{kept_of};
+ghost use Rattle.heap_engine.specs.Judgement.{weak_after};
+
+use crate::nodes::NodeLists;
+use ghost_values::GhostValue;
+use page_words::MutatorSeat;
+use std::marker::Model;
+
+/// A list of what slots name. It is never made.
+#[derive(Drop)]
+pub struct SlotLists {
+    none: u8,
+}
+
+impl Model for SlotLists {
+    ghost use Rattle.std.specs.Prelude.{List, [], ℕ, Option};
+
+    ghost Value = { List (Option ℕ) };
+
+    ghost view = { λ slots. [] };
+}
+
+pub fn null(count: u32) -> GhostValue<SlotLists>
+    ensures { result.value ≡ replicate count None }
+{
+    GhostValue::chosen(&count)
+}
+
+/// What a change of a slot looks at.
+#[derive(Drop)]
+struct AboutTarget<'a> {
+    slots: &'a GhostValue<SlotLists>,
+    p: u32,
+    target: Option<(u32, u32)>,
+}
+
+/// Slot p names the node of the target, or none.
+pub fn with_target(
+    slots: &GhostValue<SlotLists>,
+    p: u32,
+    target: Option<(u32, u32)>,
+) -> GhostValue<SlotLists>
+    ensures { result.value ≡ slice_set slots.now.value p (option_map (λ t. t.1) target) }
+{
+    GhostValue::chosen(&AboutTarget { slots, p, target })
+}
+
+/// What a copy from slot to slot looks at.
+#[derive(Drop)]
+struct AboutCopy<'a> {
+    from: &'a GhostValue<SlotLists>,
+    p: u32,
+    into: &'a GhostValue<SlotLists>,
+    q: u32,
+}
+
+/// Slot q of the second list names what slot p of the first one names.
+pub fn copied(
+    from: &GhostValue<SlotLists>,
+    p: u32,
+    into: &GhostValue<SlotLists>,
+    q: u32,
+) -> GhostValue<SlotLists>
+    ensures { result.value
+        ≡ slice_set into.now.value q (slice_index_or from.now.value p None) }
+{
+    GhostValue::chosen(&AboutCopy { from, p, into, q })
+}
+
+/// What a judgement of weak slots looks at.
+#[derive(Drop)]
+struct AboutWeak<'a> {
+    weak: &'a GhostValue<SlotLists>,
+    nodes: &'a GhostValue<NodeLists>,
+    seat: &'a MutatorSeat,
+}
+
+/// The weak slots that name a node whose place is not marked are null.
+pub fn judged(
+    weak: &GhostValue<SlotLists>,
+    nodes: &GhostValue<NodeLists>,
+    seat: &MutatorSeat,
+) -> GhostValue<SlotLists>
+    ensures { result.value ≡ weak_after (kept_of (holds seat.now.marked) nodes.now.value)
+        nodes.now.value weak.now.value }
+{
+    GhostValue::chosen(&AboutWeak { weak, nodes, seat })
+}
