@@ -1,0 +1,67 @@
+-- How marking comes to its end.
+use Rattle.std.proofs.Common.{◌≡◌, ℕ, ◌+◌, ◌<◌, ◌^◌, true, List, [], length, Some, None, refl, sym, ap, subst, inl, inr, arith, not}
+use Rattle.std.specs.List.{Contains, range_with_len}
+use Rattle.std.proofs.lemmas.Bool.{cases_Bool}
+use Rattle.std.proofs.lemmas.List.FromFn.{length-range_with_len}
+use Rattle.std.proofs.lemmas.List.Sums.{count_by-le-length}
+use Rattle.gc_graph.specs.State.{ObjectType}
+use Rattle.gc_graph.specs.Graph.{object_at, leads_by}
+use Rattle.page_words.specs.Bodies.{Body, IsPlace}
+use Rattle.page_words.specs.Seat.{SeatView, IsView, holds}
+use Rattle.ephemerons.specs.declared.notes.Note.{Note}
+use Rattle.ephemerons.specs.BodyGraph.{graph_in, pair_offsets, word_at}
+use Rattle.ephemerons.specs.Marking.{IsOver, TracedNameMarked}
+use Rattle.ephemerons.specs.Notes.{NotesState, IsNotedIn, note_of}
+use Rattle.ephemerons.specs.Fixpoint.{IsAccounted, IsSettled, IsSettledAt, untraced_places}
+use Rattle.ephemerons.proofs.Graph.{LeadsOn, place_leads_on}
+
+-- few enough to count
+pub few_untraced : (v : SeatView) → IsView v → untraced_places v < 2 ^ 32
+few_untraced v view =
+    omega (arith, count_by-le-length (λ p. not (holds v.traced p)) (range_with_len 0 v.count), length-range_with_len 0 v.count, view.count)
+
+module _ (types : List ObjectType) (v : SeatView) (view : IsView v) (named : TracedNameMarked types v)
+    (no_grey : (p : ℕ) → holds v.marked p ≡ true → holds v.traced p ≡ true) where
+  -- a marked value of each pair with a marked key closes the marked set
+  closes : ((p : ℕ) → (b : Body) (offset k w : ℕ) → Contains v.bodies b → b.place ≡ p → Contains (pair_offsets types b) offset → word_at b offset ≡ k + 1
+      → word_at b (offset + 1) ≡ w + 1 → holds v.marked p ≡ true → holds v.marked k ≡ true → holds v.marked w ≡ true) → IsOver types v
+  closes pairs = record { no_grey = no_grey; closed = closed } where
+    closed : (m n : ℕ) → holds v.marked m ≡ true → leads_by (holds v.marked) (object_at (graph_in types v) m) n ≡ true → holds v.marked n ≡ true
+    closed m n marked leads =
+        let place : IsPlace v.bodies m = view.marked_are_bodies m marked in
+        let on : LeadsOn types (holds v.marked) place.0 n = place_leads_on types v (holds v.marked) place.0 n view place.1
+        (subst (λ p. leads_by (holds v.marked) (object_at (graph_in types v) p) n ≡ true) (sym place.2) leads) in
+        elim on.by [
+          | inl strong ↦ named m (no_grey m marked) place.0 strong.0 n place.1 place.2 strong.1 strong.2
+          | inr pair ↦ pairs m place.0 pair.0 pair.1 n place.1 place.2 pair.2 pair.3 pair.4 marked pair.5
+        ]
+
+pub over_walked : (types : List ObjectType) (v : SeatView) → IsView v → TracedNameMarked types v
+    → ((p : ℕ) → IsPlace v.bodies p → IsSettledAt types v p) → IsOver types v
+over_walked types v view named settled =
+    closes types v view named (λ p marked. (settled p (view.marked_are_bodies p marked) 0).traced refl marked)
+    (λ p b offset k w there at pair key value marked key_marked.
+    (settled p (b, there, at) offset).value b k w there at pair key value marked key_marked)
+
+pub over_settled : (types : List ObjectType) (v : SeatView) (list : List ℕ) (groups : List NotesState) → IsView v → TracedNameMarked types v → list ≡ []
+    → ((note : Note) → IsNotedIn groups note → IsSettled types v note) → IsAccounted types None v list groups → IsOver types v
+over_settled types v list groups view named empty settled known =
+    closes types v view named no_grey (λ p b offset k w there at pair key value marked key_marked.
+    elim (known.pairs p (no_grey p marked) offset b k w there at pair key value) [
+      | inl done ↦ done
+      | inr noted ↦ (settled (note_of p offset) noted).value b k w there at pair key value marked key_marked
+    ]) where
+      no_hand : (p : ℕ) → None ≡ Some p → ⊥
+      no_hand p is = cc
+
+      no_grey : (p : ℕ) → holds v.marked p ≡ true → holds v.traced p ≡ true
+      no_grey p marked = elim (cases_Bool (holds v.traced p)) [
+        | inl traced ↦ traced
+        | inr untraced ↦ elim (known.grey p marked untraced) [
+          | inl hand ↦ absurd (no_hand p hand)
+          | inr or_else ↦ elim or_else [
+            | inl listed ↦ absurd (omega (arith, listed.1, ap length empty))
+            | inr noted ↦ (settled (note_of p 0) noted).traced refl marked
+          ]
+        ]
+      ]

@@ -1,0 +1,12 @@
+pub mod Lists
+pub mod Fields
+pub mod PairFields
+pub mod Graph
+pub mod Weights
+pub mod MarkSteps
+pub mod PairWords
+pub mod NoteSteps
+pub mod Stages
+pub mod GroupSteps
+pub mod GreySteps
+pub mod Ends

@@ -1,0 +1,92 @@
+-- Marks and the list.
+use Rattle.std.proofs.Common.{◌≡◌, ℕ, ◌+◌, ◌<◌, ◌≤◌, true, false, [], ◌∷◌, ◌++◌, refl, sym, ap, ◌∙◌, subst, inl, inr, arith}
+use Rattle.std.specs.List.{Contains, range_with_len}
+use Rattle.std.proofs.lemmas.Bool.{cond-true, cond-false}
+use Rattle.mark_worklist.specs.declared.marking.Marking.{Marking}
+use Rattle.page_words.specs.Bodies.{IsPlace}
+use Rattle.page_words.specs.Seat.{SeatView, IsView, holds, marked_at}
+use Rattle.ephemerons.specs.Fixpoint.{ListsMarks, IsListed, unmarked_places, weight_of}
+use Rattle.ephemerons.proofs.Lists.{holds_push_old, holds_push_cases}
+use Rattle.ephemerons.proofs.Fields.{to_range}
+use Rattle.ephemerons.proofs.Weights.{one_fewer}
+use Rattle.ephemerons.proofs.Graph.{body_below}
+
+abbrev with_mark : SeatView → ℕ → SeatView
+with_mark v a = record v { marked = v.marked ++ a ∷ [] }
+
+fresh_is : (v new : SeatView) (a : ℕ) → new ≡ marked_at v a → holds v.marked a ≡ false → new ≡ with_mark v a
+fresh_is v new a is fresh = is ∙ ap (λ m. record v { marked = m }) (cond-false (holds v.marked a) v.marked (v.marked ++ a ∷ []) fresh)
+
+-- a marked object is marked again
+pub marked_again : (v new : SeatView) (a : ℕ) → new ≡ marked_at v a → holds v.marked a ≡ true → new ≡ v
+marked_again v new a is marked = is ∙ ap (λ m. record v { marked = m }) (cond-true (holds v.marked a) v.marked (v.marked ++ a ∷ []) marked)
+
+pub place_below : (v : SeatView) (a : ℕ) → IsView v → IsPlace v.bodies a → a < v.count
+place_below v a view place = omega (arith, body_below v place.0 view place.1, place.2)
+
+pub ListsMarks-same : (v : SeatView) (m : Marking) → ListsMarks v m v m
+ListsMarks-same v m = record {
+  view = refl;
+  marked = λ p h. h;
+  on = refl;
+  overflow = λ h. h;
+  kept = λ p h. h;
+  listed = λ p h. inl h;
+  fresh = λ _ p h. inl h;
+  lighter = omega arith;
+}
+
+pub ListsMarks-then : (u v w : SeatView) (l m n : Marking) → ListsMarks u l v m → ListsMarks v m w n → ListsMarks u l w n
+ListsMarks-then u v w l m n x y = record {
+  view = y.view ∙ ap (λ (z : SeatView). record z { marked = w.marked }) x.view;
+  marked = λ p h. y.marked p (x.marked p h);
+  on = y.on ∙ x.on;
+  overflow = λ h. x.overflow (y.overflow h);
+  kept = λ p h. y.kept p (x.kept p h);
+  listed = λ p h. elim (y.listed p h) [
+    | inl before ↦ x.listed p before
+    | inr place ↦ inr (subst (λ bs. IsPlace bs p) (ap (λ (z : SeatView). z.bodies) x.view) place)
+  ];
+  fresh = λ fine p h. elim (y.fresh fine p h) [
+    | inl before ↦ elim (x.fresh (y.overflow fine) p before) [ inl first ↦ inl first | inr there ↦ inr (y.kept p there) ]
+    | inr there ↦ inr there
+  ];
+  lighter = omega (arith, x.lighter, y.lighter);
+}
+
+-- one object is marked that was not
+fewer : (v : SeatView) (a : ℕ) → IsView v → IsPlace v.bodies a → holds v.marked a ≡ false → unmarked_places (with_mark v a) + 1 ≤ unmarked_places v
+fewer v a view place fresh = one_fewer (range_with_len 0 v.count) v.marked a (to_range 0 v.count a (omega arith) (omega (arith, place_below v a view place))) fresh
+
+pub mark_lists : (v new : SeatView) (m n : Marking) (a : ℕ) → IsView v → IsPlace v.bodies a → new ≡ marked_at v a → holds v.marked a ≡ false
+    → IsListed m n a → ListsMarks v m new n × (weight_of new n < weight_of v m)
+mark_lists v new m n a view place is fresh listed =
+    subst (λ (w : SeatView). ListsMarks v m w n × (weight_of w n < weight_of v m)) (sym (fresh_is v new a is fresh)) (
+      record {
+        view = refl;
+        marked = λ p h. holds_push_old v.marked a p h;
+        on = listed.on;
+        overflow = listed.overflow;
+        kept = listed.kept;
+        listed = λ p h. elim (listed.listed p h) [
+          | inl before ↦ inl before
+          | inr here ↦ inr (subst (IsPlace v.bodies) here place)
+        ];
+        fresh = λ fine p h. elim (holds_push_cases v.marked a p h) [
+          | inl before ↦ inl before
+          | inr here ↦ inr (subst (Contains n.list.items) here (listed.there fine))
+        ];
+        lighter = omega (arith, fewer v a view place fresh, listed.length);
+      },
+      omega (arith, fewer v a view place fresh, listed.length),
+    )
+
+-- what marking leaves as it is
+pub same_bodies : (u v : SeatView) (l m : Marking) → ListsMarks u l v m → v.bodies ≡ u.bodies
+same_bodies u v l m x = ap (λ (z : SeatView). z.bodies) x.view
+
+pub same_count : (u v : SeatView) (l m : Marking) → ListsMarks u l v m → v.count ≡ u.count
+same_count u v l m x = ap (λ (z : SeatView). z.count) x.view
+
+pub same_on : (u v : SeatView) (l m : Marking) → ListsMarks u l v m → v.on ≡ u.on
+same_on u v l m x = ap (λ (z : SeatView). z.on) x.view

@@ -1,0 +1,20 @@
+use Rattle.std.proofs.Common.{arith}
+use Rattle.ephemerons.proofs.Ends.{few_untraced}
+use Rattle.ephemerons.proofs.Graph.{GrowsWithin-then}
+use Rattle.ephemerons.proofs.closing.fixpoint.Goals as goal
+
+pub settle_all-requires-clause-ground : goal.settle_all-requires-clause-ground
+settle_all-requires-clause-ground c = record {
+  on = c.requires.on;
+  references = c.requires.references;
+  traced_name_marked = c.requires.traced;
+  listed = c.requires.listed;
+  noted = c.requires.noted;
+  own = c.requires.own;
+  few = omega (arith, few_untraced c.args.seat.now c.bodies_lie_apart.ensures);
+}
+
+pub returns-then-walk-clause-within : goal.returns-then-walk-clause-within
+returns-then-walk-clause-within c =
+    GrowsWithin-then c.args.types.now c.args.seat.now c.settle_all.new.seat c.walk_heap.new.seat c.settle_all.ensures.works.kept.bodies
+    c.settle_all.ensures.works.kept.count c.settle_all.ensures.works.within c.walk_heap.ensures.works.within

@@ -1,0 +1,17 @@
+use Rattle.std.proofs.Common.{◌≡◌, ◌<◌, get_or, length, sym, ap, ◌∙◌, subst, arith}
+use Rattle.std.proofs.lemmas.List.{get_or_default}
+use Rattle.std.proofs.lemmas.List.Elements.{Contains-get_or}
+use Rattle.ephemerons.specs.Notes.{NotesState, IsNote, group_at, no_notes, note_at, note_of}
+use Rattle.ephemerons.proofs.settling.settle_at.Goals as goal
+
+pub settle-requires-clause-note : goal.settle-requires-clause-note
+settle-requires-clause-note c =
+    let group : NotesState = group_at c.args.groups.now c.args.i in
+    let counted : get_or c.args.groups.now c.args.i c.index-groups-i.result ≡ group =
+    get_or_default c.args.groups.now c.args.i c.index-groups-i.result no_notes c.requires.group in
+    let read : get_or c.args.groups.now c.args.i c.index-groups-i-then-j-count.result ≡ group =
+    get_or_default c.args.groups.now c.args.i c.index-groups-i-then-j-count.result no_notes c.requires.group in
+    let low : c.args.j < length group.notes = omega (arith, c.if-j-count.true, c.count.ensures, ap (λ (g : NotesState). length g.notes) counted) in
+    let is : c.at-note.result ≡ note_at group c.args.j = c.at-note.ensures ∙ ap (λ (g : NotesState). note_at g c.args.j) read in
+    subst (IsNote c.args.types.now c.args.seat.now.bodies) (sym is)
+    (c.requires.ground.noted (note_at group c.args.j) (c.args.i, c.requires.group, Contains-get_or group.notes c.args.j (note_of 0 0) low))

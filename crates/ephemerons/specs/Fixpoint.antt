@@ -1,0 +1,124 @@
+-- One stage of the way to the fixpoint, what holds at each, and what a step of the way may change.
+use Rattle.std.specs.Prelude.{◌≡◌, ◌⊎◌, ℕ, ◌+◌, ◌-◌, ◌*◌, ◌^◌, ◌<◌, ◌≤◌, Bool, true, false, not, List, length, Option, Some, None, Contains, count_by}
+use Rattle.std.specs.List.{range_with_len}
+use Rattle.gc_graph.specs.State.{ObjectType}
+use Rattle.object_headers.specs.Offsets.{first_field}
+use Rattle.mark_worklist.specs.declared.marking.Marking.{Marking}
+use Rattle.page_words.specs.Bodies.{Body, IsPlace}
+use Rattle.page_words.specs.Seat.{SeatView, holds}
+use Rattle.ephemerons.specs.declared.notes.Note.{Note}
+use Rattle.ephemerons.specs.BodyGraph.{PlacesDiffer, AreReferences, pair_offsets, word_at}
+use Rattle.ephemerons.specs.Marking.{MarksOn, GrowsWithin, TracedNameMarked, traced_count}
+use Rattle.ephemerons.specs.Notes.{NotesState, group_at, IsNotedIn, IsNote, HasPairsNoted, note_of}
+
+-- how many addresses are not marked
+abbrev pub unmarked_places : SeatView → ℕ
+unmarked_places v = count_by (λ p. not (holds v.marked p)) (range_with_len 0 v.count)
+
+-- how many addresses are not traced
+abbrev pub untraced_places : SeatView → ℕ
+untraced_places v = count_by (λ p. not (holds v.traced p)) (range_with_len 0 v.count)
+
+-- there is a body at the place, and it has a field word at the offset
+abbrev pub HasWord : List Body → ℕ → ℕ → Type 0
+HasWord bodies place offset =
+    (b : Body) × Contains bodies b × (b.place ≡ place) × (first_field ≤ offset) × (offset - first_field < length b.fields)
+
+-- the seat's view, the owner's marking state, the groups of notes, and how many objects were traced
+pub record Stage : Type 0 where
+  pub view : SeatView
+  pub on : Bool
+  pub overflow : Bool
+  pub list : List ℕ
+  pub groups : List NotesState
+  pub traced : ℕ
+
+-- the stage of these
+abbrev pub stage : SeatView → Marking → List NotesState → ℕ → Stage
+stage v m groups n = record { view = v; on = m.on; overflow = m.overflow; list = m.list.items; groups = groups; traced = n }
+
+-- marks and traces that may still come count, and so does what is listed
+abbrev pub weight : Stage → ℕ
+weight s = 2 * unmarked_places s.view + untraced_places s.view + length s.list
+
+-- no push and no note was refused
+pub record IsUnrefused (overflow : Bool) (groups : List NotesState) : Type 0 where
+  pub pushes : overflow ≡ false
+  pub notes : (i : ℕ) → i < length groups → (group_at groups i).overflow ≡ false
+
+-- what holds at each stage
+pub record IsGround (types : List ObjectType) (s : Stage) : Type 0 where
+  pub on : s.view.on ≡ true
+  pub references : AreReferences types s.view.bodies
+  pub traced_name_marked : TracedNameMarked types s.view
+  pub listed : (p : ℕ) → Contains s.list p → IsPlace s.view.bodies p
+  pub noted : (note : Note) → IsNotedIn s.groups note → IsNote types s.view.bodies note
+  pub own : 0 < length s.groups
+  pub few : s.traced + untraced_places s.view < 2 ^ 32
+
+-- each grey object but the one in hand is listed or noted, and each pair of a traced object has a marked or null value or
+-- a null key, or is noted
+pub record IsAccounted (types : List ObjectType) (hand : Option ℕ) (v : SeatView) (list : List ℕ) (groups : List NotesState) : Type 0 where
+  pub grey :
+      (p : ℕ) → holds v.marked p ≡ true → holds v.traced p ≡ false
+      → (hand ≡ Some p) ⊎ (Contains list p ⊎ IsNotedIn groups (note_of p 0))
+  pub pairs : (p : ℕ) → holds v.traced p ≡ true → HasPairsNoted types v p (IsNotedIn groups)
+
+-- the note asks for no more work: the object is traced if it is marked; and if holder and key are marked, so is the value
+pub record IsSettled (types : List ObjectType) (v : SeatView) (note : Note) : Type 0 where
+  pub traced : note.word ≡ 0 → holds v.marked note.holder ≡ true → holds v.traced note.holder ≡ true
+  pub value :
+      (b : Body) (k w : ℕ) → Contains v.bodies b → b.place ≡ note.holder → Contains (pair_offsets types b) note.word
+      → word_at b note.word ≡ k + 1 → word_at b (note.word + 1) ≡ w + 1 → holds v.marked note.holder ≡ true
+      → holds v.marked k ≡ true → holds v.marked w ≡ true
+
+-- marks that may still come count, and so does what is listed
+abbrev pub weight_of : SeatView → Marking → ℕ
+weight_of v m = 2 * unmarked_places v + length m.list.items
+
+-- the place was put on the list, unless the push was refused
+pub record IsListed (before after : Marking) (place : ℕ) : Type 0 where
+  pub on : after.on ≡ before.on
+  pub overflow : after.overflow ≡ false → before.overflow ≡ false
+  pub kept : (p : ℕ) → Contains before.list.items p → Contains after.list.items p
+  pub listed : (p : ℕ) → Contains after.list.items p → Contains before.list.items p ⊎ (place ≡ p)
+  pub there : after.overflow ≡ false → Contains after.list.items place
+  pub length : length after.list.items ≤ length before.list.items + 1
+
+-- objects were marked, and each of them is listed unless a push was refused
+pub record ListsMarks (old : SeatView) (before : Marking) (new : SeatView) (after : Marking) : Type 0 where
+  pub view : new ≡ record old { marked = new.marked }
+  pub marked : (p : ℕ) → holds old.marked p ≡ true → holds new.marked p ≡ true
+  pub on : after.on ≡ before.on
+  pub overflow : after.overflow ≡ false → before.overflow ≡ false
+  pub kept : (p : ℕ) → Contains before.list.items p → Contains after.list.items p
+  pub listed : (p : ℕ) → Contains after.list.items p → Contains before.list.items p ⊎ IsPlace old.bodies p
+  pub fresh :
+      after.overflow ≡ false → (p : ℕ) → holds new.marked p ≡ true → (holds old.marked p ≡ true) ⊎ Contains after.list.items p
+  pub lighter : weight_of new after ≤ weight_of old before
+
+-- from one stage to a later one: more may be marked, traced and noted, and what was accounted for still is, with the
+-- object in hand, unless a push or note was refused
+pub record Works (types : List ObjectType) (hand : Option ℕ) (old new : Stage) : Type 0 where
+  pub kept : MarksOn old.view new.view
+  pub within : GrowsWithin types old.view new.view
+  pub on : new.on ≡ old.on
+  pub unrefused : IsUnrefused new.overflow new.groups → IsUnrefused old.overflow old.groups
+  pub many : length new.groups ≡ length old.groups
+  pub noted : (note : Note) → IsNotedIn old.groups note → IsNotedIn new.groups note
+  pub accounted :
+      IsUnrefused new.overflow new.groups → IsAccounted types hand old.view old.list old.groups
+      → IsAccounted types None new.view new.list new.groups
+  pub lighter : weight new ≤ weight old
+  pub fewer : new.traced + untraced_places new.view ≤ old.traced + untraced_places old.view
+  pub counted : PlacesDiffer old.view.bodies → traced_count new.view + old.traced ≡ traced_count old.view + new.traced
+
+-- work was found and done, and there is less to do; or none was found, and all is as before
+pub record Looks (types : List ObjectType) (hand : Option ℕ) (old new : Stage) (found : Bool) : Type 0 where
+  pub works : Works types hand old new
+  pub lighter : found ≡ true → weight new < weight old
+  pub still : found ≡ false → new ≡ old
+
+-- the object at the place asks for no more work, and none of its pairs does
+abbrev pub IsSettledAt : List ObjectType → SeatView → ℕ → Type 0
+IsSettledAt types v p = (offset : ℕ) → IsSettled types v (note_of p offset)

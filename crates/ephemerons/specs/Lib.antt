@@ -1,0 +1,4 @@
+pub mod BodyGraph
+pub mod Marking
+pub mod Notes
+pub mod Fixpoint

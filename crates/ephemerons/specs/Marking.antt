@@ -1,0 +1,43 @@
+-- What marking may change, what it may mark, and how it ends.
+use Rattle.std.specs.Prelude.{◌≡◌, ℕ, ◌+◌, Bool, true, List, Contains, count_by}
+use Rattle.gc_graph.specs.Graph.{ClosesUnder}
+use Rattle.gc_graph.specs.State.{ObjectType}
+use Rattle.page_words.specs.Bodies.{Body}
+use Rattle.page_words.specs.Seat.{SeatView, holds}
+use Rattle.ephemerons.specs.BodyGraph.{graph_in, strong_offsets, word_at}
+
+-- the bodies and all else but marks are as before, and what was marked or traced still is
+pub record MarksOn (old new : SeatView) : Type 0 where
+  pub count : new.count ≡ old.count
+  pub types : new.types ≡ old.types
+  pub on : new.on ≡ old.on
+  pub bodies : new.bodies ≡ old.bodies
+  pub filled : new.filled ≡ old.filled
+  pub dead : new.dead ≡ old.dead
+  pub marked : (p : ℕ) → holds old.marked p ≡ true → holds new.marked p ≡ true
+  pub traced : (p : ℕ) → holds old.traced p ≡ true → holds new.traced p ≡ true
+
+-- what is marked now lies in each closed test that holds of what was marked
+abbrev pub GrowsWithin : List ObjectType → SeatView → SeatView → Type 0
+GrowsWithin types old new =
+    (test : ℕ → Bool) → ClosesUnder (graph_in types old) test → ((p : ℕ) → holds old.marked p ≡ true → test p ≡ true)
+    → (p : ℕ) → holds new.marked p ≡ true → test p ≡ true
+
+-- what the strong fields of the body at the place name is marked
+abbrev pub HasStrongMarked : List ObjectType → SeatView → ℕ → Type 0
+HasStrongMarked types v place =
+    (b : Body) (offset q : ℕ) → Contains v.bodies b → b.place ≡ place → Contains (strong_offsets types b) offset
+    → word_at b offset ≡ q + 1 → holds v.marked q ≡ true
+
+-- what the strong fields of traced bodies name is marked
+abbrev pub TracedNameMarked : List ObjectType → SeatView → Type 0
+TracedNameMarked types v = (p : ℕ) → holds v.traced p ≡ true → HasStrongMarked types v p
+
+-- how many bodies are traced
+abbrev pub traced_count : SeatView → ℕ
+traced_count v = count_by (λ b. holds v.traced b.place) v.bodies
+
+-- marking has come to its end: nothing is grey, and what is marked is closed
+pub record IsOver (types : List ObjectType) (v : SeatView) : Type 0 where
+  pub no_grey : (p : ℕ) → holds v.marked p ≡ true → holds v.traced p ≡ true
+  pub closed : ClosesUnder (graph_in types v) (holds v.marked)

@@ -1,0 +1,177 @@
+// The fixpoint: what is listed is traced, and what is noted is settled, until nothing asks for more.
+
+ghost use Rattle.std.specs.Prelude.{◌≡◌, ◌⊎◌, ℕ, ◌+◌, ◌<◌, true, false, [], Contains, None};
+ghost use Rattle.std.specs.Prelude.{length};
+ghost use Rattle.page_words.specs.Bodies.{IsPlace};
+ghost use Rattle.page_space.specs.Space.{IsSeatOf};
+ghost use Rattle.ephemerons.specs.declared.notes.Note.{Note};
+ghost use Rattle.ephemerons.specs.BodyGraph.{PlacesDiffer, AreReferences};
+ghost use Rattle.ephemerons.specs.Marking.{MarksOn, GrowsWithin, TracedNameMarked};
+ghost use Rattle.ephemerons.specs.Marking.{IsOver, traced_count};
+ghost use Rattle.ephemerons.specs.Notes.{IsNote, IsNotedIn};
+ghost use Rattle.ephemerons.specs.Fixpoint.{IsGround, IsAccounted, IsSettled, IsUnrefused};
+ghost use Rattle.ephemerons.specs.Fixpoint.{Works, stage, weight};
+
+use crate::notes::Pairs;
+use crate::settling::settle_notes;
+use crate::tracing::trace_grey;
+use crate::walking::walk_heap;
+use mark_worklist::Marking;
+use page_space::Space;
+use page_words::MutatorSeat;
+use type_table::TypeTable;
+
+/// Traces all that is marked, and marks what that asks for, until nothing is grey and what is
+/// marked is closed. It answers how many objects it traced. New notes go to the first group. With
+/// `walk`, or where a push or a note was refused, it looks at all objects of the heap: then neither
+/// list nor notes need be whole. It can't be refused.
+pub fn fixpoint(
+    space: &Space,
+    types: &TypeTable,
+    seat: &mut MutatorSeat,
+    marking: &mut Marking,
+    groups: &mut [Pairs],
+    walk: bool,
+) -> u32
+    requires heap { IsSeatOf space.now seat.old }
+    requires on { seat.old.on ≡ true }
+    requires references { AreReferences types.now seat.old.bodies }
+    requires traced { TracedNameMarked types.now seat.old }
+    requires listed { (p : ℕ) → Contains marking.old.list.items p → IsPlace seat.old.bodies p }
+    requires noted { (note : Note) → IsNotedIn groups.old note
+        → IsNote types.now seat.old.bodies note }
+    requires own { 0 < length groups.old }
+    ensures over { (walk ≡ true)
+        ⊎ IsAccounted types.now None seat.old marking.old.list.items groups.old
+        → IsOver types.now seat.new }
+    ensures within { GrowsWithin types.now seat.old seat.new }
+    ensures kept { MarksOn seat.old seat.new }
+    ensures counted { PlacesDiffer seat.old.bodies
+        → traced_count seat.new ≡ traced_count seat.old + result }
+    ensures list { marking.new.list.items ≡ [] }
+    ensures on { marking.new.on ≡ marking.old.on }
+    ensures noted { (note : Note) → IsNotedIn groups.old note → IsNotedIn groups.new note }
+    ensures refused { IsUnrefused marking.new.overflow groups.new
+        → IsUnrefused marking.old.overflow groups.old }
+{
+    seat.bodies_lie_apart();
+    let mut traced = 0;
+    settle_all(space, types, seat, marking, groups, &mut traced);
+    if walk || is_refused(marking, groups) {
+        walk_heap(space, types, seat, marking, groups, &mut traced);
+    }
+    traced
+}
+
+/// Drains the list and settles the notes, until neither asks for more.
+fn settle_all(
+    space: &Space,
+    types: &TypeTable,
+    seat: &mut MutatorSeat,
+    marking: &mut Marking,
+    groups: &mut [Pairs],
+    traced: &mut u32,
+)
+    requires heap { IsSeatOf space.now seat.old }
+    requires ground { IsGround types.now (stage seat.old marking.old groups.old traced.old) }
+    ensures ground { IsGround types.now (stage seat.new marking.new groups.new traced.new) }
+    ensures works { Works types.now None
+        (stage seat.old marking.old groups.old traced.old)
+        (stage seat.new marking.new groups.new traced.new) }
+    ensures list { marking.new.list.items ≡ [] }
+    ensures over { IsUnrefused marking.new.overflow groups.new
+        → IsAccounted types.now None seat.old marking.old.list.items groups.old
+        → IsOver types.now seat.new }
+{
+    while turn(space, types, seat, marking, groups, traced) {}
+    seat.bodies_lie_apart();
+}
+
+/// Drains the list, and then settles each note. True where a note asked for work.
+fn turn(
+    space: &Space,
+    types: &TypeTable,
+    seat: &mut MutatorSeat,
+    marking: &mut Marking,
+    groups: &mut [Pairs],
+    traced: &mut u32,
+) -> bool
+    requires heap { IsSeatOf space.now seat.old }
+    requires ground { IsGround types.now (stage seat.old marking.old groups.old traced.old) }
+    ensures ground { IsGround types.now (stage seat.new marking.new groups.new traced.new) }
+    ensures works { Works types.now None
+        (stage seat.old marking.old groups.old traced.old)
+        (stage seat.new marking.new groups.new traced.new) }
+    ensures list { result ≡ false → marking.new.list.items ≡ [] }
+    ensures settled { result ≡ false → (note : Note) → IsNotedIn groups.new note
+        → IsSettled types.now seat.new note }
+    ensures found { result ≡ true → weight (stage seat.new marking.new groups.new traced.new)
+        < weight (stage seat.old marking.old groups.old traced.old) }
+{
+    drain(space, types, seat, marking, groups, traced);
+    settle_notes(space, types, seat, marking, groups, traced)
+}
+
+/// Traces what is listed, until the list is empty.
+pub(crate) fn drain(
+    space: &Space,
+    types: &TypeTable,
+    seat: &mut MutatorSeat,
+    marking: &mut Marking,
+    groups: &mut [Pairs],
+    traced: &mut u32,
+)
+    requires heap { IsSeatOf space.now seat.old }
+    requires ground { IsGround types.now (stage seat.old marking.old groups.old traced.old) }
+    ensures ground { IsGround types.now (stage seat.new marking.new groups.new traced.new) }
+    ensures works { Works types.now None
+        (stage seat.old marking.old groups.old traced.old)
+        (stage seat.new marking.new groups.new traced.new) }
+    ensures list { marking.new.list.items ≡ [] }
+{
+    while trace_next(space, types, seat, marking, groups, traced) {}
+}
+
+/// Takes an object from the list and traces it, if that is to be done. False where the list is
+/// empty.
+fn trace_next(
+    space: &Space,
+    types: &TypeTable,
+    seat: &mut MutatorSeat,
+    marking: &mut Marking,
+    groups: &mut [Pairs],
+    traced: &mut u32,
+) -> bool
+    requires heap { IsSeatOf space.now seat.old }
+    requires ground { IsGround types.now (stage seat.old marking.old groups.old traced.old) }
+    ensures ground { IsGround types.now (stage seat.new marking.new groups.new traced.new) }
+    ensures works { Works types.now None
+        (stage seat.old marking.old groups.old traced.old)
+        (stage seat.new marking.new groups.new traced.new) }
+    ensures found { result ≡ true → weight (stage seat.new marking.new groups.new traced.new)
+        < weight (stage seat.old marking.old groups.old traced.old) }
+    ensures list { result ≡ false → marking.new.list.items ≡ [] }
+{
+    match marking.list.pop() {
+        Some(place) => {
+            trace_grey(space, types, seat, marking, groups, traced, place);
+            true
+        }
+        None => false,
+    }
+}
+
+/// Whether a push or a note was refused.
+fn is_refused(marking: &Marking, groups: &[Pairs]) -> bool
+    ensures { result ≡ false → IsUnrefused marking.now.overflow groups.now }
+{
+    if marking.overflow {
+        return true;
+    }
+    for group in groups {
+        if group.overflow() {
+            return true;
+        }
+    }
+    false
+}

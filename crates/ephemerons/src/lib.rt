@@ -1,0 +1,26 @@
+//! # Ephemeron pairs, and the owner's tracing
+//!
+//! What it is: marking from object to object over the words of a heap. A strong field marks what it
+//! names; a pair marks its value once its key is marked (`include/cppgc/ephemeron-pair.h`).
+//!
+//! The parts: `Pairs` (notes of pairs whose key was not marked yet, and of objects that may still
+//! have to be traced), `trace` (one object that was claimed), `fixpoint` (all that is marked, until
+//! nothing asks for more). The next level down is `page_words`.
+//!
+//! What is proved: `fixpoint` ends with a closed marked set in which nothing is grey, and marks
+//! nothing but what each closed set holds that holds what was marked before; its answer is how many
+//! objects it traced. Neither needs memory: where a push or a note is refused, the heap is walked.
+//!
+//! What is only tested or not said: how long it takes.
+#![tactic(auto)]
+
+mod closing;
+mod marks;
+mod notes;
+mod settling;
+mod tracing;
+mod walking;
+
+pub use closing::fixpoint;
+pub use notes::{Note, Pairs};
+pub use tracing::trace;

@@ -1,0 +1,102 @@
+// Marks of objects, and the words of their fields.
+
+ghost use Rattle.std.specs.Prelude.{◌≡◌, ◌⊎◌, ℕ, ◌+◌, ◌-◌, ◌<◌, ◌≤◌, true, false, length};
+ghost use Rattle.std.specs.Prelude.{Contains};
+ghost use Rattle.object_headers.specs.Offsets.{first_field, reference_to};
+ghost use Rattle.page_words.specs.Bodies.{Body, IsPlace, IsReference};
+ghost use Rattle.page_words.specs.Seat.{holds, marked_at};
+ghost use Rattle.page_space.specs.Space.{IsSeatOf};
+ghost use Rattle.ephemerons.specs.BodyGraph.{word_at};
+ghost use Rattle.ephemerons.specs.Fixpoint.{ListsMarks, IsListed, HasWord, weight_of};
+
+use mark_worklist::Marking;
+use object_headers::place_in;
+use page_space::Space;
+use page_words::{MutatorSeat, Words};
+
+/// Whether the object that a reference names is marked. Null names none.
+pub(crate) fn names_marked(space: &Space, seat: &mut MutatorSeat, reference: u64) -> bool
+    requires heap { IsSeatOf space.now seat.old }
+    requires reference { IsReference seat.old.bodies reference }
+    ensures named { (p : ℕ) → reference ≡ reference_to p → result ≡ holds seat.old.marked p }
+    ensures null { reference ≡ 0 → result ≡ false }
+    ensures view { seat.new ≡ seat.old }
+{
+    seat.bodies_lie_apart();
+    reference != 0 && is_marked(space, seat, (reference - 1) as u32)
+}
+
+/// Whether the object at a place is marked.
+pub(crate) fn is_marked(space: &Space, seat: &mut MutatorSeat, place: u32) -> bool
+    requires heap { IsSeatOf space.now seat.old }
+    requires place { IsPlace seat.old.bodies place }
+    ensures mark { result ≡ holds seat.old.marked place }
+    ensures view { seat.new ≡ seat.old }
+{
+    space.header_at(seat, place).mark
+}
+
+/// The field word at an offset of the object at a place.
+pub(crate) fn word_of(words: &Words, seat: &mut MutatorSeat, holder: u32, offset: u32) -> u64
+    requires heap { seat.old.count ≡ words.now }
+    requires field { HasWord seat.old.bodies holder offset }
+    ensures word { (b : Body) → Contains seat.old.bodies b → b.place ≡ holder
+        → result ≡ word_at b offset }
+    ensures view { seat.new ≡ seat.old }
+{
+    seat.bodies_lie_apart();
+    words.load(seat, holder + offset)
+}
+
+/// Marks and lists what a field word names. True where it was not marked.
+pub(crate) fn mark_reference(
+    words: &Words,
+    seat: &mut MutatorSeat,
+    marking: &mut Marking,
+    reference: u64,
+) -> bool
+    requires heap { seat.old.count ≡ words.now }
+    requires on { seat.old.on ≡ true }
+    requires reference { IsReference seat.old.bodies reference }
+    ensures marks { ListsMarks seat.old marking.old seat.new marking.new }
+    ensures target { (p : ℕ) → reference ≡ reference_to p → holds seat.new.marked p ≡ true }
+    ensures only { (p : ℕ) → holds seat.new.marked p ≡ true
+        → (holds seat.old.marked p ≡ true) ⊎ (reference ≡ reference_to p) }
+    ensures found { result ≡ true → weight_of seat.new marking.new < weight_of seat.old marking.old }
+    ensures still { result ≡ false → (seat.new ≡ seat.old) × (marking.new ≡ marking.old) }
+{
+    seat.bodies_lie_apart();
+    match place_in(reference) {
+        Some(place) => mark(words, seat, marking, place),
+        None => false,
+    }
+}
+
+/// Marks an object, and lists it if it was not marked. True where it was not.
+fn mark(words: &Words, seat: &mut MutatorSeat, marking: &mut Marking, place: u32) -> bool
+    requires heap { seat.old.count ≡ words.now }
+    requires on { seat.old.on ≡ true }
+    requires place { IsPlace seat.old.bodies place }
+    ensures marks { ListsMarks seat.old marking.old seat.new marking.new }
+    ensures target { holds seat.new.marked place ≡ true }
+    ensures only { (p : ℕ) → holds seat.new.marked p ≡ true
+        → (holds seat.old.marked p ≡ true) ⊎ (place ≡ p) }
+    ensures found { result ≡ true → weight_of seat.new marking.new < weight_of seat.old marking.old }
+    ensures still { result ≡ false → (seat.new ≡ seat.old) × (marking.new ≡ marking.old) }
+{
+    seat.bodies_lie_apart();
+    let fresh = words.mark(seat, place);
+    if fresh {
+        list(marking, place);
+    }
+    fresh
+}
+
+/// Lists a place, or raises `overflow` where the push is refused.
+fn list(marking: &mut Marking, place: u32)
+    ensures { IsListed marking.old marking.new place }
+{
+    if marking.list.push(place).is_err() {
+        marking.overflow = true;
+    }
+}

@@ -1,0 +1,169 @@
+// Settling: a note is looked at, and what it asks for is done.
+
+ghost use Rattle.std.specs.Prelude.{◌≡◌, ℕ, ◌<◌, true, false, Contains, None, length};
+ghost use Rattle.std.specs.Prelude.{slice_index_or};
+ghost use Rattle.page_words.specs.Bodies.{IsPlace};
+ghost use Rattle.page_space.specs.Space.{IsSeatOf};
+ghost use Rattle.ephemerons.specs.BodyGraph.{HasPair};
+ghost use Rattle.ephemerons.specs.declared.notes.Note.{Note};
+ghost use Rattle.ephemerons.specs.Notes.{IsNote, IsNotedIn, group_at, note_at, note_of};
+ghost use Rattle.ephemerons.specs.Fixpoint.{IsGround, IsSettled, Looks, stage};
+
+use crate::marks::{is_marked, mark_reference, names_marked, word_of};
+use crate::notes::{Note, Pairs};
+use crate::tracing::trace_grey;
+use mark_worklist::Marking;
+use page_space::Space;
+use page_words::MutatorSeat;
+use type_table::TypeTable;
+
+/// Settles each note of each group. True where one asked for work.
+pub(crate) fn settle_notes(
+    space: &Space,
+    types: &TypeTable,
+    seat: &mut MutatorSeat,
+    marking: &mut Marking,
+    groups: &mut [Pairs],
+    traced: &mut u32,
+) -> bool
+    requires heap { IsSeatOf space.now seat.old }
+    requires ground { IsGround types.now (stage seat.old marking.old groups.old traced.old) }
+    ensures ground { IsGround types.now (stage seat.new marking.new groups.new traced.new) }
+    ensures looks { Looks types.now None
+        (stage seat.old marking.old groups.old traced.old)
+        (stage seat.new marking.new groups.new traced.new) result }
+    ensures settled { result ≡ false → (note : Note) → IsNotedIn groups.new note
+        → IsSettled types.now seat.new note }
+{
+    let mut found = false;
+    for i in 0..groups.len() {
+        let more = settle_group(space, types, seat, marking, groups, traced, i);
+        found = found || more;
+    }
+    found
+}
+
+/// Settles each note of a group. True where one asked for work.
+fn settle_group(
+    space: &Space,
+    types: &TypeTable,
+    seat: &mut MutatorSeat,
+    marking: &mut Marking,
+    groups: &mut [Pairs],
+    traced: &mut u32,
+    i: usize,
+) -> bool
+    requires heap { IsSeatOf space.now seat.old }
+    requires ground { IsGround types.now (stage seat.old marking.old groups.old traced.old) }
+    requires group { i < length groups.old }
+    ensures ground { IsGround types.now (stage seat.new marking.new groups.new traced.new) }
+    ensures looks { Looks types.now None
+        (stage seat.old marking.old groups.old traced.old)
+        (stage seat.new marking.new groups.new traced.new) result }
+    ensures settled { result ≡ false → (note : Note) → Contains (group_at groups.new i).notes note
+        → IsSettled types.now seat.new note }
+{
+    let mut found = false;
+    for j in 0..groups[i].count() {
+        let more = settle_at(space, types, seat, marking, groups, traced, i, j);
+        found = found || more;
+    }
+    found
+}
+
+/// Settles the note with a number of a group, where there is one. True where it asked for work.
+fn settle_at(
+    space: &Space,
+    types: &TypeTable,
+    seat: &mut MutatorSeat,
+    marking: &mut Marking,
+    groups: &mut [Pairs],
+    traced: &mut u32,
+    i: usize,
+    j: usize,
+) -> bool
+    requires heap { IsSeatOf space.now seat.old }
+    requires ground { IsGround types.now (stage seat.old marking.old groups.old traced.old) }
+    requires group { i < length groups.old }
+    ensures ground { IsGround types.now (stage seat.new marking.new groups.new traced.new) }
+    ensures looks { Looks types.now None
+        (stage seat.old marking.old groups.old traced.old)
+        (stage seat.new marking.new groups.new traced.new) result }
+    ensures settled { result ≡ false → j < length (group_at groups.new i).notes
+        → IsSettled types.now seat.new (note_at (group_at groups.new i) j) }
+{
+    if j < groups[i].count() {
+        let note = groups[i].at(j);
+        settle(space, types, seat, marking, groups, traced, note)
+    } else {
+        false
+    }
+}
+
+/// Does what a note asks for: an object is traced, if it is marked and not yet traced; and a pair's
+/// value is marked, if holder and key are. True where that was to be done.
+fn settle(
+    space: &Space,
+    types: &TypeTable,
+    seat: &mut MutatorSeat,
+    marking: &mut Marking,
+    groups: &mut [Pairs],
+    traced: &mut u32,
+    note: Note,
+) -> bool
+    requires heap { IsSeatOf space.now seat.old }
+    requires ground { IsGround types.now (stage seat.old marking.old groups.old traced.old) }
+    requires note { IsNote types.now seat.old.bodies note }
+    ensures ground { IsGround types.now (stage seat.new marking.new groups.new traced.new) }
+    ensures looks { Looks types.now None
+        (stage seat.old marking.old groups.old traced.old)
+        (stage seat.new marking.new groups.new traced.new) result }
+    ensures settled { result ≡ false → IsSettled types.now seat.new note }
+{
+    if note.word == 0 {
+        trace_grey(space, types, seat, marking, groups, traced, note.holder)
+    } else {
+        settle_pair(
+            space,
+            types,
+            seat,
+            marking,
+            groups,
+            *traced,
+            note.holder,
+            note.word,
+        )
+    }
+}
+
+/// Marks and lists the value of a pair, if holder and key are marked. True where it was not marked.
+pub(crate) fn settle_pair(
+    space: &Space,
+    types: &TypeTable,
+    seat: &mut MutatorSeat,
+    marking: &mut Marking,
+    groups: &[Pairs],
+    traced: u32,
+    holder: u32,
+    word: u32,
+) -> bool
+    requires heap { IsSeatOf space.now seat.old }
+    requires ground { IsGround types.now (stage seat.old marking.old groups.now traced) }
+    requires pair { HasPair types.now seat.old.bodies holder word }
+    ensures ground { IsGround types.now (stage seat.new marking.new groups.now traced) }
+    ensures looks { Looks types.now None
+        (stage seat.old marking.old groups.now traced)
+        (stage seat.new marking.new groups.now traced) result }
+    ensures settled { result ≡ false → IsSettled types.now seat.new (note_of holder word) }
+{
+    seat.bodies_lie_apart();
+    if !is_marked(space, seat, holder) {
+        return false;
+    }
+    let key = word_of(space.words(), seat, holder, word);
+    if !names_marked(space, seat, key) {
+        return false;
+    }
+    let value = word_of(space.words(), seat, holder, word + 1);
+    mark_reference(space.words(), seat, marking, value)
+}

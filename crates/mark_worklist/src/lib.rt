@@ -1,0 +1,24 @@
+//! # The marking list
+//!
+//! What it is: the places of objects that were marked and may still have to be traced, as the owner
+//! of a heap keeps them, with the rest of the owner's marking state. It knows nothing of a heap's
+//! words.
+//!
+//! The parts: `Worklist` (a list that grows as it can), `Refused` (what a push hands back where
+//! memory is wanting), `Marking` (whether marking goes on, whether a push was refused, the list).
+//!
+//! What is proved: a push puts its address at the end, or hands it back, counts that, and leaves the
+//! list as it was; a pop takes the last address, and answers that there is none exactly where the
+//! list is empty; the list is idle exactly where the last pop found nothing and nothing was pushed
+//! since.
+//!
+//! What is only tested or not said: that memory suffices for a push.
+#![tactic(auto)]
+
+mod marking;
+#[cfg(test)]
+mod tests;
+mod worklist;
+
+pub use marking::Marking;
+pub use worklist::{Refused, Worklist};
