@@ -153,7 +153,7 @@ impl Handles {
     {
         Content {
             word: reference_of(self.strong.get(q)),
-            value: value_of(&self.strong_nodes, q),
+            value: slot_lists::value_of(&self.strong_nodes, q),
         }
     }
 }
@@ -193,23 +193,10 @@ impl Model for Values {
     ghost view = { λ value. Null };
 }
 
-/// What a look at a slot looks at.
-#[derive(Drop)]
-struct AboutSlot<'a> {
-    slots: &'a GhostValue<SlotLists>,
-    q: u32,
-}
-
 fn null_value() -> GhostValue<Values>
     ensures { result.value ≡ Null }
 {
     GhostValue::chosen(&0u8)
-}
-
-fn value_of(slots: &GhostValue<SlotLists>, q: u32) -> GhostValue<Values>
-    ensures { result.value ≡ content_of (slice_index_or slots.now.value q None) }
-{
-    GhostValue::chosen(&AboutSlot { slots, q })
 }
 
 /// The reference word of what a slot holds.
