@@ -2,7 +2,7 @@
 // `include/cppgc/persistent.h`).
 
 ghost use Rattle.std.specs.Prelude.{◌≡◌, ◌<◌, All, None, IfOk, length, replicate};
-ghost use Rattle.std.specs.Prelude.{map, slice_index_or, slice_set, option_map};
+ghost use Rattle.std.specs.Prelude.{slice_index_or, slice_set, option_map};
 ghost use Rattle.gc_graph.specs.declared.kind.Value.TheVariants.{Null};
 ghost use Rattle.gc_graph.specs.Fields.{content_of};
 ghost use Rattle.page_words.specs.Bodies.{IsPlace};
