@@ -2,7 +2,7 @@
 // `include/cppgc/persistent.h`).
 
 ghost use Rattle.std.specs.Prelude.{◌≡◌, ◌<◌, All, None, IfOk, length, replicate};
-ghost use Rattle.std.specs.Prelude.{map, slice_index_or, slice_set, option_map};
+ghost use Rattle.std.specs.Prelude.{slice_index_or, slice_set, option_map};
 ghost use Rattle.gc_graph.specs.declared.kind.Value.TheVariants.{Null, Word};
 ghost use Rattle.gc_graph.specs.Fields.{content_of};
 ghost use Rattle.page_words.specs.Bodies.{IsPlace};
@@ -153,7 +153,7 @@ impl Handles {
     {
         Content {
             word: reference_of(self.strong.get(q)),
-            value: value_of(&self.strong_nodes, q),
+            value: slot_lists::value_of(&self.strong_nodes, q),
         }
     }
 }
@@ -204,13 +204,6 @@ impl Model for Values {
     ghost view = { λ value. Null };
 }
 
-/// What a look at a slot looks at.
-#[derive(Drop)]
-struct AboutSlot<'a> {
-    slots: &'a GhostValue<SlotLists>,
-    q: u32,
-}
-
 fn null_value() -> GhostValue<Values>
     ensures { result.value ≡ Null }
 {
@@ -221,12 +214,6 @@ fn number_value(n: u64) -> GhostValue<Values>
     ensures { result.value ≡ Word n }
 {
     GhostValue::chosen(&n)
-}
-
-fn value_of(slots: &GhostValue<SlotLists>, q: u32) -> GhostValue<Values>
-    ensures { result.value ≡ content_of (slice_index_or slots.now.value q None) }
-{
-    GhostValue::chosen(&AboutSlot { slots, q })
 }
 
 /// The reference word of what a slot holds.

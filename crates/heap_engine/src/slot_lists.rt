@@ -2,10 +2,12 @@
 
 ghost use Rattle.std.specs.Prelude.{◌≡◌, None, replicate, option_map};
 ghost use Rattle.std.specs.Prelude.{slice_index_or, slice_set};
+ghost use Rattle.gc_graph.specs.Fields.{content_of};
 ghost use Rattle.page_words.specs.Seat.{holds};
 ghost use Rattle.heap_engine.specs.View.{kept_of};
 ghost use Rattle.heap_engine.specs.Judgement.{weak_after};
 
+use crate::handles::Values;
 use crate::nodes::NodeLists;
 use ghost_values::GhostValue;
 use page_words::MutatorSeat;
@@ -90,4 +92,18 @@ pub fn judged(
         nodes.now.value weak.now.value }
 {
     GhostValue::chosen(&AboutWeak { weak, nodes, seat })
+}
+
+/// What a look at a slot looks at.
+#[derive(Drop)]
+struct AboutSlot<'a> {
+    slots: &'a GhostValue<SlotLists>,
+    q: u32,
+}
+
+/// What slot q names, as the value of a field.
+pub fn value_of(slots: &GhostValue<SlotLists>, q: u32) -> GhostValue<Values>
+    ensures { result.value ≡ content_of (slice_index_or slots.now.value q None) }
+{
+    GhostValue::chosen(&AboutSlot { slots, q })
 }
