@@ -12,15 +12,16 @@ use Rattle.gc_graph.specs.declared.command.Command.TheVariants as C
 use Rattle.gc_graph.specs.declared.line.Line.{Line}
 use Rattle.gc_graph.specs.declared.line.Refusal.TheVariants as R
 use Rattle.gc_graph.specs.declared.region.Entry.{Entry}
+use Rattle.gc_graph.specs.declared.kind.Kind.{Kind}
 use Rattle.gc_graph.specs.declared.kind.Value.{Value}
 use Rattle.gc_graph.specs.declared.kind.Value.TheVariants.{Null, Ref, Word}
 use Rattle.gc_graph.specs.State.{Setup, State, node_at}
-use Rattle.gc_graph.specs.Fields.{field_count, kind_of_field, is_reference}
+use Rattle.gc_graph.specs.Fields.{field_count, kind_of_field, is_reference, is_plain}
 use Rattle.gc_graph.specs.May.{read_node}
 use Rattle.gc_graph.specs.Outcomes.{answered, IsRefused, slot_at}
 use Rattle.gc_graph.specs.Sweep.{SweepsInPhase, ContinuesSweep}
 use Rattle.gc_graph.specs.CycleSteps.{HasSwept, StepSweepAll, is_marking, is_sweeping}
-use Rattle.gc_graph.specs.ObjectSteps.{IsFull, IsMade, IsRead, StepNew, StepSet, StepGet}
+use Rattle.gc_graph.specs.ObjectSteps.{IsFull, IsMade, IsNumber, IsRead, StepNew, StepSet, StepGet, StepPut, StepWord}
 use Rattle.gc_graph.specs.Step.{Step}
 use Rattle.built_forms.specs.Built.{is_built, IsBuiltIn, opens_sweep, is_sweep_open, is_timely, AreBuiltCommands}
 
@@ -43,16 +44,16 @@ refused_keeps : (old new : State) (lines : List Line) (test : Bool) (Done Refuse
 refused_keeps old new lines true Done Refused keeps leaves done = keeps done
 refused_keeps old new lines false Done Refused keeps leaves done = leaves done
 
-field_keeps : (old new : State) (f : ℕ) (lines : List Line) (Done : ℕ → Type 0) (slot : Option ℕ) → ((n : ℕ) → Done n → new.phase ≡ old.phase)
+field_keeps : (allowed : Kind → Bool) (old new : State) (f : ℕ) (lines : List Line) (Done : ℕ → Type 0) (slot : Option ℕ) → ((n : ℕ) → Done n → new.phase ≡ old.phase)
     → MatchOption slot (IsRefused R.Null old lines new)
     (λ n. MatchBool (nat_lt f (field_count (node_at old.nodes n)))
-    (MatchBool (is_reference (kind_of_field (node_at old.nodes n).object f)) (Done n) (IsRefused R.Kind old lines new))
+    (MatchBool (allowed (kind_of_field (node_at old.nodes n).object f)) (Done n) (IsRefused R.Kind old lines new))
     (IsRefused R.Field old lines new))
     → new.phase ≡ old.phase
-field_keeps old new f lines Done None keeps done = ap (λ (s : State). s.phase) done.1
-field_keeps old new f lines Done (Some n) keeps done =
+field_keeps allowed old new f lines Done None keeps done = ap (λ (s : State). s.phase) done.1
+field_keeps allowed old new f lines Done (Some n) keeps done =
     refused_keeps old new lines (nat_lt f (field_count (node_at old.nodes n))) _ (IsRefused R.Field old lines new)
-    (refused_keeps old new lines (is_reference (kind_of_field (node_at old.nodes n).object f)) (Done n) (IsRefused R.Kind old lines new) (keeps n)
+    (refused_keeps old new lines (allowed (kind_of_field (node_at old.nodes n).object f)) (Done n) (IsRefused R.Kind old lines new) (keeps n)
     (λ refused. ap (λ (s : State). s.phase) refused.1))
     (λ refused. ap (λ (s : State). s.phase) refused.1) done
 
@@ -65,11 +66,22 @@ read_keeps weak old new Null q lines done = ap (λ (s : State). s.phase) done.1
 read_keeps weak old new (Ref n) q lines done = ap (λ (s : State). s.phase) done.1 ∙ read_node_keeps weak old n
 read_keeps weak old new (Word n) q lines done = absurd done
 
+number_keeps : (old new : State) (value : Value) (lines : List Line) → IsNumber old value lines new → new.phase ≡ old.phase
+number_keeps old new (Word n) lines done = ap (λ (s : State). s.phase) done.1
+number_keeps old new Null lines done = absurd done
+number_keeps old new (Ref n) lines done = absurd done
+
 set_keeps : (old new : State) (p f : ℕ) (value : Value) (lines : List Line) → StepSet old p f value lines new → new.phase ≡ old.phase
-set_keeps old new p f value lines step = field_keeps old new f lines _ (slot_at old p) (λ n done. ap (λ (s : State). s.phase) done.1) step
+set_keeps old new p f value lines step = field_keeps is_reference old new f lines _ (slot_at old p) (λ n done. ap (λ (s : State). s.phase) done.1) step
 
 get_keeps : (old new : State) (p f q : ℕ) (lines : List Line) → StepGet old p f q lines new → new.phase ≡ old.phase
-get_keeps old new p f q lines step = field_keeps old new f lines _ (slot_at old p) (λ n done. read_keeps _ old new _ q lines done) step
+get_keeps old new p f q lines step = field_keeps is_reference old new f lines _ (slot_at old p) (λ n done. read_keeps _ old new _ q lines done) step
+
+put_keeps : (old new : State) (p f n : ℕ) (lines : List Line) → StepPut old p f n lines new → new.phase ≡ old.phase
+put_keeps old new p f n lines step = field_keeps is_plain old new f lines _ (slot_at old p) (λ m done. ap (λ (s : State). s.phase) done.1) step
+
+word_keeps : (old new : State) (p f : ℕ) (lines : List Line) → StepWord old p f lines new → new.phase ≡ old.phase
+word_keeps old new p f lines step = field_keeps is_plain old new f lines _ (slot_at old p) (λ n done. number_keeps old new _ lines done) step
 
 -- where marking doesn't go on, the heap is idle after the sweep of all pages
 sweep_ends : (setup : Setup) (old new : State) (lines : List Line) (phase : Phase) → old.phase ≡ phase → is_marking phase ≡ false
@@ -97,6 +109,11 @@ step_phase setup old new (C.New p t e) piece lines opened calm built idle step =
 step_phase setup old new (C.Set p f q) piece lines opened calm built idle step = λ off. set_keeps old new p f _ lines step.1 ∙ idle off
 step_phase setup old new (C.SetNull p f) piece lines opened calm built idle step = λ off. set_keeps old new p f Null lines step.1 ∙ idle off
 step_phase setup old new (C.Get p f q) piece lines opened calm built idle step = λ off. get_keeps old new p f q lines step.1 ∙ idle off
+step_phase setup old new (C.Put p f n) piece lines opened calm built idle step = λ off. put_keeps old new p f n lines step.1 ∙ idle off
+step_phase setup old new (C.Word p f) piece lines opened calm built idle step = λ off. word_keeps old new p f lines step.1 ∙ idle off
+step_phase setup old new (C.Copy p q) piece lines opened calm built idle step = λ off. ap (λ (s : State). s.phase) step.1.1 ∙ idle off
+step_phase setup old new (C.Weak w p) piece lines opened calm built idle step = λ off. ap (λ (s : State). s.phase) step.1.1 ∙ idle off
+step_phase setup old new (C.Read w p) piece lines opened calm built idle step = λ off. read_keeps true old new _ p lines step.1 ∙ idle off
 step_phase setup old new (C.Drop p) piece lines opened calm built idle step = λ off. ap (λ (s : State). s.phase) step.1.1 ∙ idle off
 step_phase setup old new (C.GcNow want) piece lines opened calm built idle step = λ off. absurd (true≢false off)
 step_phase setup old new C.SweepAll piece lines opened calm built idle step = λ off. sweep_ends setup old new lines old.phase refl calm step.1
