@@ -5,8 +5,8 @@ use Rattle.std.specs.List.{list_all}
 use Rattle.std.proofs.lemmas.Bool.{ltb-true, not-true}
 use Rattle.std.proofs.lemmas.List.Quantifiers.{position-Some}
 use Rattle.gc_graph.specs.State.{ObjectType, no_type}
-use Rattle.gc_graph.specs.Script.{Script, IsScript}
-use Rattle.gc_graph.specs.ScriptLaw.{ScriptsAreInRanges, IsInRanges}
+use Rattle.gc_graph.specs.Script.{Script}
+use Rattle.gc_graph.specs.ScriptLaw.{ScriptsAreInRanges}
 use Rattle.built_forms.specs.Built.{is_built_type, AreBuiltTypes}
 use Rattle.type_table.specs.declared.faults.TypeFault.TheVariants.{TooManyFields, NoCallback}
 use Rattle.type_table.specs.Faults.{AreGoodTypes, IsTypeFault, is_too_wide, names_none}

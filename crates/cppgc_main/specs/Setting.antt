@@ -1,5 +1,5 @@
 -- The heap that the program makes, and the scripts that it can run.
-use Rattle.std.specs.Prelude.{ℕ, List, []}
+use Rattle.std.specs.Prelude.{List, []}
 use Rattle.gc_graph.specs.declared.command.Command.{Command}
 use Rattle.gc_graph.specs.State.{Setup, Shape, ObjectType}
 use Rattle.gc_graph.specs.Script.{Script}

@@ -1,5 +1,5 @@
 use Rattle.cppgc_main.proofs.Runnable.{script_is_runnable}
-use Rattle.cppgc_main.proofs.Outcomes.{bytes_of_script, bytes_of_fault}
+use Rattle.cppgc_main.proofs.Outcomes.{bytes_of_script}
 use Rattle.cppgc_main.proofs.run.run_bytes.Goals as goal
 
 pub run_script-requires-clause-runnable : goal.run_script-requires-clause-runnable

@@ -1,4 +1,4 @@
-use Rattle.std.proofs.Common.{◌≡◌, List, All, true, ◌∙◌, sym, subst}
+use Rattle.std.proofs.Common.{◌≡◌, All, true, ◌∙◌, sym, subst}
 use Rattle.gc_graph.specs.State.{ObjectType}
 use Rattle.built_forms.specs.Built.{is_built_type}
 use Rattle.type_table.specs.Faults.{AreGoodTypes}
