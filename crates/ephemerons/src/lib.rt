@@ -15,6 +15,7 @@
 #![tactic(auto)]
 
 mod closing;
+mod index;
 mod marks;
 mod notes;
 mod settling;
