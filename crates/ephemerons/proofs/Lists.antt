@@ -4,7 +4,7 @@ use mathlib.Core.Logic.{◌⊎◌}
 use Rattle.std.specs.List.{Contains}
 use Rattle.std.proofs.lemmas.Bool.{true≢false, or_cases, or_left, or_right, eqb-true, eq-eqb, ne_eqb}
 use Rattle.std.proofs.lemmas.List.{take_more}
-use Rattle.std.proofs.lemmas.List.Elements.{Contains-append_left, Contains-push, Contains-push_cases}
+use Rattle.std.proofs.lemmas.List.Elements.{Contains-push_cases}
 use Rattle.std.proofs.lemmas.List.Folds.{list_any-append}
 use Rattle.page_words.specs.Seat.{holds}
 
@@ -59,10 +59,3 @@ module _ {X Y : Type 0} where
 module _ {X : Type 0} where
   pub Contains-take_more_cases : (xs : List X) (i : ℕ) (d x : X) → i < length xs → Contains (take (i + 1) xs) x → Contains (take i xs) x ⊎ (get_or xs i d ≡ x)
   Contains-take_more_cases xs i d x low c = Contains-push_cases (take i xs) (get_or xs i d) x (subst (λ l. Contains l x) (take_more xs i d low) c)
-
-  pub Contains-take_more_old : (xs : List X) (i : ℕ) (d x : X) → i < length xs → Contains (take i xs) x → Contains (take (i + 1) xs) x
-  Contains-take_more_old xs i d x low c = subst (λ l. Contains l x) (sym (take_more xs i d low)) (Contains-append_left (take i xs) (get_or xs i d ∷ []) x c)
-
-  pub Contains-take_more_new : (xs : List X) (i : ℕ) (d x : X) → i < length xs → get_or xs i d ≡ x → Contains (take (i + 1) xs) x
-  Contains-take_more_new xs i d x low e =
-      subst (λ l. Contains l x) (sym (take_more xs i d low)) (subst (λ y. Contains (take i xs ++ get_or xs i d ∷ []) y) e (Contains-push (take i xs) (get_or xs i d)))

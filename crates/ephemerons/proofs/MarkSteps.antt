@@ -1,7 +1,7 @@
 -- Marks and the list.
-use Rattle.std.proofs.Common.{◌≡◌, ℕ, ◌+◌, ◌<◌, ◌≤◌, true, false, [], ◌∷◌, ◌++◌, refl, sym, ap, ◌∙◌, subst, inl, inr, arith}
+use Rattle.std.proofs.Common.{◌≡◌, ℕ, ◌+◌, ◌<◌, ◌≤◌, false, [], ◌∷◌, ◌++◌, refl, sym, ap, ◌∙◌, subst, inl, inr, arith}
 use Rattle.std.specs.List.{Contains, range_with_len}
-use Rattle.std.proofs.lemmas.Bool.{cond-true, cond-false}
+use Rattle.std.proofs.lemmas.Bool.{cond-false}
 use Rattle.mark_worklist.specs.declared.marking.Marking.{Marking}
 use Rattle.page_words.specs.Bodies.{IsPlace}
 use Rattle.page_words.specs.Seat.{SeatView, IsView, holds, marked_at}
@@ -17,24 +17,8 @@ with_mark v a = record v { marked = v.marked ++ a ∷ [] }
 fresh_is : (v new : SeatView) (a : ℕ) → new ≡ marked_at v a → holds v.marked a ≡ false → new ≡ with_mark v a
 fresh_is v new a is fresh = is ∙ ap (λ m. record v { marked = m }) (cond-false (holds v.marked a) v.marked (v.marked ++ a ∷ []) fresh)
 
--- a marked object is marked again
-pub marked_again : (v new : SeatView) (a : ℕ) → new ≡ marked_at v a → holds v.marked a ≡ true → new ≡ v
-marked_again v new a is marked = is ∙ ap (λ m. record v { marked = m }) (cond-true (holds v.marked a) v.marked (v.marked ++ a ∷ []) marked)
-
 pub place_below : (v : SeatView) (a : ℕ) → IsView v → IsPlace v.bodies a → a < v.count
 place_below v a view place = omega (arith, body_below v place.0 view place.1, place.2)
-
-pub ListsMarks-same : (v : SeatView) (m : Marking) → ListsMarks v m v m
-ListsMarks-same v m = record {
-  view = refl;
-  marked = λ p h. h;
-  on = refl;
-  overflow = λ h. h;
-  kept = λ p h. h;
-  listed = λ p h. inl h;
-  fresh = λ _ p h. inl h;
-  lighter = omega arith;
-}
 
 pub ListsMarks-then : (u v w : SeatView) (l m n : Marking) → ListsMarks u l v m → ListsMarks v m w n → ListsMarks u l w n
 ListsMarks-then u v w l m n x y = record {

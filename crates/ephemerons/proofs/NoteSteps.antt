@@ -9,9 +9,6 @@ use Rattle.ephemerons.specs.declared.notes.Note.{Note}
 use Rattle.ephemerons.specs.BodyGraph.{HasPair}
 use Rattle.ephemerons.specs.Notes.{NotesState, NotesGrow, note_of, noted, overflowed}
 
-pub NotesGrow-same : (types : List ObjectType) (bodies : List Body) (s : NotesState) → NotesGrow types bodies s s
-NotesGrow-same types bodies s = record { kept = λ note h. h; pairs = λ note h. inl h; overflow = λ h. h }
-
 pub NotesGrow-then : (types : List ObjectType) (bodies : List Body) (r s t : NotesState) → NotesGrow types bodies r s → NotesGrow types bodies s t
     → NotesGrow types bodies r t
 NotesGrow-then types bodies r s t x y = record {

@@ -13,7 +13,7 @@ ghost use Rattle.ephemerons.specs.Fixpoint.{IsGround, IsAccounted, IsSettled, Is
 ghost use Rattle.ephemerons.specs.Fixpoint.{Works, stage, weight};
 
 use crate::notes::Pairs;
-use crate::settling::settle_notes;
+use crate::settling::{settle_notes, settle_under};
 use crate::tracing::trace_grey;
 use crate::walking::walk_heap;
 use mark_worklist::Marking;
@@ -55,12 +55,22 @@ pub fn fixpoint(
         → IsUnrefused marking.old.overflow groups.old }
 {
     seat.bodies_lie_apart();
+    begin_indexes(groups);
     let mut traced = 0;
     settle_all(space, types, seat, marking, groups, &mut traced);
     if walk || is_refused(marking, groups) {
         walk_heap(space, types, seat, marking, groups, &mut traced);
     }
     traced
+}
+
+/// Empties the index of each group.
+fn begin_indexes(groups: &mut [Pairs])
+    ensures { groups.new ≡ groups.old }
+{
+    for i in 0..groups.len() {
+        groups[i].begin_index();
+    }
 }
 
 /// Drains the list and settles the notes, until neither asks for more.
@@ -155,6 +165,7 @@ fn trace_next(
     match marking.list.pop() {
         Some(place) => {
             trace_grey(space, types, seat, marking, groups, traced, place);
+            settle_under(space, types, seat, marking, groups, traced, place);
             true
         }
         None => false,

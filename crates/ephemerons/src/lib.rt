@@ -11,13 +11,17 @@
 //! nothing but what each closed set holds that holds what was marked before; its answer is how many
 //! objects it traced. Neither needs memory: where a push or a note is refused, the heap is walked.
 //!
-//! What is only tested or not said: how long it takes.
+//! What is only tested or not said: how long it takes, and that the tree over keys (`index`) tells
+//! all notes of a key.
 #![tactic(auto)]
 
 mod closing;
+mod index;
 mod marks;
 mod notes;
 mod settling;
+#[cfg(test)]
+mod tests;
 mod tracing;
 mod walking;
 

@@ -62,7 +62,8 @@ pub(crate) fn mark_reference(
     ensures target { (p : ℕ) → reference ≡ reference_to p → holds seat.new.marked p ≡ true }
     ensures only { (p : ℕ) → holds seat.new.marked p ≡ true
         → (holds seat.old.marked p ≡ true) ⊎ (reference ≡ reference_to p) }
-    ensures found { result ≡ true → weight_of seat.new marking.new < weight_of seat.old marking.old }
+    ensures found { result ≡ true
+        → weight_of seat.new marking.new < weight_of seat.old marking.old }
     ensures still { result ≡ false → (seat.new ≡ seat.old) × (marking.new ≡ marking.old) }
 {
     seat.bodies_lie_apart();
@@ -81,7 +82,8 @@ fn mark(words: &Words, seat: &mut MutatorSeat, marking: &mut Marking, place: u32
     ensures target { holds seat.new.marked place ≡ true }
     ensures only { (p : ℕ) → holds seat.new.marked p ≡ true
         → (holds seat.old.marked p ≡ true) ⊎ (place ≡ p) }
-    ensures found { result ≡ true → weight_of seat.new marking.new < weight_of seat.old marking.old }
+    ensures found { result ≡ true
+        → weight_of seat.new marking.new < weight_of seat.old marking.old }
     ensures still { result ≡ false → (seat.new ≡ seat.old) × (marking.new ≡ marking.old) }
 {
     seat.bodies_lie_apart();

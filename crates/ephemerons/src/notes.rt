@@ -3,8 +3,13 @@
 ghost use Rattle.std.specs.Prelude.{◌≡◌, true, false, ◌<◌, length};
 ghost use Rattle.ephemerons.specs.Notes.{no_notes, note_at, noted, overflowed};
 
+use crate::index::Index;
+use page_words::{MutatorSeat, Words};
 use std::alloc::Global;
 use std::marker::Model;
+
+/// So many keys there can be.
+const KEYS: u64 = 1 << 32;
 
 /// A note: of the pair whose key stands at the offset `word` of the object at `holder`, or, where
 /// `word` is 0, of the object itself, which may still have to be traced.
@@ -19,6 +24,8 @@ pub struct Note {
 pub struct Pairs {
     notes: Vec<Note>,
     overflow: bool,
+    index: Index,
+    indexed: usize,
 }
 
 impl Model for Pairs {
@@ -37,6 +44,8 @@ impl Pairs {
         Pairs {
             notes: Vec::new(alloc),
             overflow: false,
+            index: Index::new(alloc),
+            indexed: 0,
         }
     }
 
@@ -45,7 +54,8 @@ impl Pairs {
         ensures noted { result ≡ true → self.new ≡ noted self.old holder word }
         ensures refused { result ≡ false → self.new ≡ overflowed self.old }
     {
-        let done = self.notes.push(Note { holder, word }).is_ok();
+        let count = self.notes.len();
+        let done = self.index.make_room(count) && self.notes.push(Note { holder, word }).is_ok();
         if !done {
             self.overflow = true;
         }
@@ -70,5 +80,40 @@ impl Pairs {
         ensures { result ≡ note_at self.now i }
     {
         self.notes[i]
+    }
+
+    /// Empties the index: keys may have changed since the notes were made.
+    pub(crate) fn begin_index(&mut self)
+        ensures { self.new ≡ self.old }
+    {
+        self.index.begin();
+        self.indexed = 0;
+    }
+
+    /// Brings the notes that were made since the last call into the index.
+    pub(crate) fn index_notes(&mut self, words: &Words, seat: &mut MutatorSeat)
+        requires heap { seat.old.count ≡ words.now }
+        ensures view { seat.new ≡ seat.old }
+        ensures notes { self.new ≡ self.old }
+    {
+        for i in self.indexed..self.notes.len() {
+            let note = self.notes[i];
+            let address = note.holder.wrapping_add(note.word);
+            if note.word != 0 && address < words.count() {
+                let key = words.load(seat, address) % KEYS;
+                self.index.link(i, key as u32);
+            }
+        }
+        self.indexed = self.notes.len();
+    }
+
+    /// The number of the first note under a key, or a number past all notes.
+    pub(crate) fn first_under(&self, key: u32) -> usize {
+        self.index.first_under(key.wrapping_add(1))
+    }
+
+    /// The number of the note after another under its key, or a number past all notes.
+    pub(crate) fn after(&self, i: usize) -> usize {
+        self.index.after(i)
     }
 }

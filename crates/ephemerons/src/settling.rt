@@ -7,7 +7,7 @@ ghost use Rattle.page_space.specs.Space.{IsSeatOf};
 ghost use Rattle.ephemerons.specs.BodyGraph.{HasPair};
 ghost use Rattle.ephemerons.specs.declared.notes.Note.{Note};
 ghost use Rattle.ephemerons.specs.Notes.{IsNote, IsNotedIn, group_at, note_at, note_of};
-ghost use Rattle.ephemerons.specs.Fixpoint.{IsGround, IsSettled, Looks, stage};
+ghost use Rattle.ephemerons.specs.Fixpoint.{IsGround, IsSettled, Looks, Works, stage};
 
 use crate::marks::{is_marked, mark_reference, names_marked, word_of};
 use crate::notes::{Note, Pairs};
@@ -69,6 +69,60 @@ fn settle_group(
         found = found || more;
     }
     found
+}
+
+/// Settles the notes that the index tells under a key.
+pub(crate) fn settle_under(
+    space: &Space,
+    types: &TypeTable,
+    seat: &mut MutatorSeat,
+    marking: &mut Marking,
+    groups: &mut [Pairs],
+    traced: &mut u32,
+    key: u32,
+)
+    requires heap { IsSeatOf space.now seat.old }
+    requires ground { IsGround types.now (stage seat.old marking.old groups.old traced.old) }
+    ensures ground { IsGround types.now (stage seat.new marking.new groups.new traced.new) }
+    ensures works { Works types.now None
+        (stage seat.old marking.old groups.old traced.old)
+        (stage seat.new marking.new groups.new traced.new) }
+{
+    for i in 0..groups.len() {
+        settle_chain(space, types, seat, marking, groups, traced, i, key);
+    }
+}
+
+/// Settles the notes that the index of a group tells under a key: first the one in the tree, and
+/// then its chain from the latest on, whose numbers fall.
+fn settle_chain(
+    space: &Space,
+    types: &TypeTable,
+    seat: &mut MutatorSeat,
+    marking: &mut Marking,
+    groups: &mut [Pairs],
+    traced: &mut u32,
+    i: usize,
+    key: u32,
+)
+    requires heap { IsSeatOf space.now seat.old }
+    requires ground { IsGround types.now (stage seat.old marking.old groups.old traced.old) }
+    requires group { i < length groups.old }
+    ensures ground { IsGround types.now (stage seat.new marking.new groups.new traced.new) }
+    ensures works { Works types.now None
+        (stage seat.old marking.old groups.old traced.old)
+        (stage seat.new marking.new groups.new traced.new) }
+{
+    groups[i].index_notes(space.words(), seat);
+    let first = groups[i].first_under(key);
+    let mut bound = groups[i].count();
+    let mut j = groups[i].after(first);
+    settle_at(space, types, seat, marking, groups, traced, i, first);
+    while j < bound {
+        settle_at(space, types, seat, marking, groups, traced, i, j);
+        bound = j;
+        j = groups[i].after(j);
+    }
 }
 
 /// Settles the note with a number of a group, where there is one. True where it asked for work.

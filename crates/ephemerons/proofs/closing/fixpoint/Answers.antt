@@ -1,18 +1,21 @@
-use Rattle.std.proofs.Common.{arith}
+use Rattle.std.proofs.Common.{arith, subst, sym, List}
+use Rattle.ephemerons.specs.Notes.{NotesState}
+use Rattle.ephemerons.specs.Fixpoint.{IsGround, stage}
 use Rattle.ephemerons.proofs.Ends.{few_untraced}
 use Rattle.ephemerons.proofs.Graph.{GrowsWithin-then}
 use Rattle.ephemerons.proofs.closing.fixpoint.Goals as goal
 
 pub settle_all-requires-clause-ground : goal.settle_all-requires-clause-ground
-settle_all-requires-clause-ground c = record {
-  on = c.requires.on;
-  references = c.requires.references;
-  traced_name_marked = c.requires.traced;
-  listed = c.requires.listed;
-  noted = c.requires.noted;
-  own = c.requires.own;
-  few = omega (arith, few_untraced c.args.seat.now c.bodies_lie_apart.ensures);
-}
+settle_all-requires-clause-ground c =
+    subst (λ (gs : List NotesState). IsGround c.args.types.now (stage c.args.seat.now c.args.marking.now gs 0)) (sym c.begin_indexes.ensures) (record {
+      on = c.requires.on;
+      references = c.requires.references;
+      traced_name_marked = c.requires.traced;
+      listed = c.requires.listed;
+      noted = c.requires.noted;
+      own = c.requires.own;
+      few = omega (arith, few_untraced c.args.seat.now c.bodies_lie_apart.ensures);
+    })
 
 pub returns-then-walk-clause-within : goal.returns-then-walk-clause-within
 returns-then-walk-clause-within c =

@@ -1,0 +1,9 @@
+use Rattle.std.proofs.Common.{◌≡◌}
+use Rattle.ephemerons.proofs.notes.Pairs.index_notes.Given as goal
+
+abbrev pub invariant-loop-i : goal.invariant-loop-i
+invariant-loop-i l = record {
+  view : l.seat ≡ l.initial.seat;
+  notes : l.self-inside.notes ≡ l.initial.self-inside.notes;
+  overflow : l.self-inside.overflow ≡ l.initial.self-inside.overflow;
+}
