@@ -1,9 +1,9 @@
 -- One handle of a body cleared.
-use Rattle.std.proofs.Common.{◌≡◌, ℕ, zero, suc, not, ◌+◌, ◌-◌, ◌<◌, ◌≤◌, Bool, true, false, cond, List, get_or, set, map, refl, sym, ap, ◌∙◌, subst, inl, inr, arith, eqb}
+use Rattle.std.proofs.Common.{◌≡◌, ℕ, zero, suc, not, ◌+◌, ◌-◌, ◌≤◌, Bool, true, false, cond, List, get_or, set, refl, sym, ap, ◌∙◌, subst, inl, inr, arith, eqb}
 use Rattle.std.specs.List.{Contains}
 use Rattle.std.proofs.lemmas.Bool.{cases_Bool, cond_both, cond-true, cond-false, eqb-true}
+use Rattle.gc_graph.specs.declared.kind.Kind.{Kind}
 use Rattle.gc_graph.specs.declared.kind.Kind.TheVariants.{Weak, Pair}
-use Rattle.gc_graph.specs.Fields.{is_reference, is_weak}
 use Rattle.type_table.specs.Types.{kinds_of, offsets_of_kind}
 use Rattle.page_words.specs.Bodies.{Body, IsReference}
 use Rattle.page_words.specs.Seat.{SeatView, holds}
@@ -27,24 +27,14 @@ names_one marked (suc place) some =
 
 -- ---- a handle is a weak field's word, or a pair
 
-pub weak_word : (v : SeatView) (holder word : ℕ) → HasHandle WeakFields v holder word → HasWord is_weak v holder word
-weak_word v holder word has = record {
+pub field_word : (is_so : Kind → Bool) (v : SeatView) (holder word : ℕ) → is_so Weak ≡ true → HasHandle WeakFields v holder word → HasWord is_so v holder word
+field_word is_so v holder word passes has = record {
   body = has.body;
   there = has.there;
   place = has.place;
   first = has.first;
   last = omega (arith, has.last);
-  kind = ap is_weak has.kind;
-}
-
-pub reference_word : (v : SeatView) (holder word : ℕ) → HasHandle WeakFields v holder word → HasWord is_reference v holder word
-reference_word v holder word has = record {
-  body = has.body;
-  there = has.there;
-  place = has.place;
-  first = has.first;
-  last = omega (arith, has.last);
-  kind = ap is_reference has.kind;
+  kind = ap is_so has.kind ∙ passes;
 }
 
 pub whole_pair : (v : SeatView) (holder word : ℕ) → HasHandle Pairs v holder word → HasPair v holder word

@@ -38,9 +38,9 @@ impl Model for Ground {
     ghost invariant = { λ g. IsSpaceOf g.space g.seat × (g.types ≡ g.seat.types)
         × (g.seat.on ≡ true)
         × ((b : Body) → Contains g.seat.bodies b
-            → HasReferencesOf Weak g.seat.types g.seat.bodies b)
+        → HasReferencesOf Weak g.seat.types g.seat.bodies b)
         × ((b : Body) → Contains g.seat.bodies b
-            → HasReferencesOf Pair g.seat.types g.seat.bodies b) };
+        → HasReferencesOf Pair g.seat.types g.seat.bodies b) };
 }
 
 /// One type, of a weak field, a pair and a weak field.
@@ -110,7 +110,14 @@ impl Ground {
             self.space.lasts_while_objects_stay();
             let to_key = reference_to(key);
             let to_value = reference_to(value);
-            set_pair(&self.space, &mut self.seat, holder, words[0], to_key, to_value);
+            set_pair(
+                &self.space,
+                &mut self.seat,
+                holder,
+                words[0],
+                to_key,
+                to_value,
+            );
         }
     }
 
@@ -142,15 +149,14 @@ impl Ground {
     }
 }
 
-/// Four objects with these pairs, and with weak fields to the second and the first. The first and
-/// the last object are marked.
-fn marked_ground(alloc: Global, pairs: &[(u32, u32, u32)]) -> Result<Ground, NoMemory> {
+/// Four objects, of which the first and the last are marked. Each has weak fields to the second and
+/// the first, and a pair.
+fn marked_ground(alloc: Global) -> Result<Ground, NoMemory> {
     let mut ground = Ground::new(alloc)?;
     for _ in 0..4 {
         ground.put();
     }
-    for pair in pairs {
-        let (holder, key, value) = *pair;
+    for (holder, key, value) in [(0, 256, 768), (256, 512, 0), (512, 0, 0), (768, 0, 256)] {
         ground.point(holder, 0, 256);
         ground.join(holder, key, value);
         ground.point(holder, 1, 0);
@@ -162,8 +168,7 @@ fn marked_ground(alloc: Global, pairs: &[(u32, u32, u32)]) -> Result<Ground, NoM
 
 #[test]
 fn weak_fields_of_marked_objects_are_cleared(rt: HostRuntime) -> Result<(), Fail> {
-    let pairs = [(0, 256, 768), (256, 512, 0), (512, 0, 0), (768, 0, 256)];
-    let mut ground = marked_ground(rt.alloc(), &pairs)?;
+    let mut ground = marked_ground(rt.alloc())?;
     ground.clear_fields();
     for (holder, weak, key) in [(0, 0, 257), (256, 257, 513), (512, 257, 1), (768, 0, 1)] {
         assert_eq!(rt; ground.word(holder + 2), weak, "{holder}");
@@ -174,9 +179,10 @@ fn weak_fields_of_marked_objects_are_cleared(rt: HostRuntime) -> Result<(), Fail
 }
 
 #[test]
-fn pairs_of_marked_objects_are_cleared_whose_key_is_not_marked(rt: HostRuntime) -> Result<(), Fail> {
-    let pairs = [(0, 256, 768), (256, 512, 0), (512, 0, 0), (768, 0, 256)];
-    let mut ground = marked_ground(rt.alloc(), &pairs)?;
+fn pairs_of_marked_objects_are_cleared_whose_key_is_not_marked(
+    rt: HostRuntime,
+) -> Result<(), Fail> {
+    let mut ground = marked_ground(rt.alloc())?;
     ground.clear_pairs();
     for (holder, key, value) in [(0, 0, 0), (256, 513, 1), (512, 1, 1), (768, 1, 257)] {
         assert_eq!(rt; ground.word(holder + 2), 257, "{holder}");

@@ -32,13 +32,7 @@ pub fn clear_handles(space: &Space, types: &TypeTable, seat: &mut MutatorSeat, h
 }
 
 /// Clears the handles of an object, if it is marked.
-fn clear_object(
-    space: &Space,
-    types: &TypeTable,
-    seat: &mut MutatorSeat,
-    handles: Handles,
-    a: u32,
-)
+fn clear_object(space: &Space, types: &TypeTable, seat: &mut MutatorSeat, handles: Handles, a: u32)
     requires heap { IsSeatOf space.now seat.old }
     requires types { types.now ≡ seat.old.types }
     requires references { MarkedHaveReferencesOf (kind_of_handles handles) seat.old }
@@ -74,13 +68,7 @@ fn clear_holder(
 }
 
 /// Clears the handle at an offset, if it names an object that is not marked.
-fn clear_handle(
-    space: &Space,
-    seat: &mut MutatorSeat,
-    handles: Handles,
-    holder: u32,
-    word: u32,
-)
+fn clear_handle(space: &Space, seat: &mut MutatorSeat, handles: Handles, holder: u32, word: u32)
     requires heap { IsSeatOf space.now seat.old }
     requires handle { HasHandle handles seat.old holder word }
     ensures { seat.new ≡ handle_cleared handles seat.old holder word }

@@ -1,15 +1,15 @@
 use Rattle.std.proofs.Common.{◌≡◌, true, false, refl, ap, sym, ◌∙◌, subst, inl}
-use Rattle.gc_graph.specs.Fields.{is_weak}
+use Rattle.gc_graph.specs.Fields.{is_reference, is_weak}
 use Rattle.page_words.specs.Bodies.{IsReference}
 use Rattle.page_words.specs.Seat.{SeatView}
 use Rattle.member_fields.specs.Words.{HasWord, written}
 use Rattle.weak_clearing.specs.declared.handles.Handles.TheVariants.{WeakFields}
 use Rattle.weak_clearing.specs.Clearing.{names_unmarked}
-use Rattle.weak_clearing.proofs.Words.{weak_word, reference_word, reads_reference, handle_stays, field_nulled}
+use Rattle.weak_clearing.proofs.Words.{field_word, reads_reference, handle_stays, field_nulled}
 use Rattle.weak_clearing.proofs.fields.clear_field.Goals as goal
 
 pub get-target-requires-clause-field : goal.get-target-requires-clause-field
-get-target-requires-clause-field c = reference_word c.args.seat.now c.args.holder c.args.word c.requires.field
+get-target-requires-clause-field c = field_word is_reference c.args.seat.now c.args.holder c.args.word refl c.requires.field
 
 pub is_to_unmarked-requires-clause-reference : goal.is_to_unmarked-requires-clause-reference
 is_to_unmarked-requires-clause-reference c =
@@ -19,7 +19,7 @@ is_to_unmarked-requires-clause-reference c =
 pub set_weak-requires-clause-field : goal.set_weak-requires-clause-field
 set_weak-requires-clause-field c =
     subst (λ (v : SeatView). HasWord is_weak v c.args.holder c.args.word) (sym (c.is_to_unmarked.ensures.view ∙ c.get-target.ensures.view))
-    (weak_word c.args.seat.now c.args.holder c.args.word c.requires.field)
+    (field_word is_weak c.args.seat.now c.args.holder c.args.word refl c.requires.field)
 
 pub set_weak-requires-clause-target : goal.set_weak-requires-clause-target
 set_weak-requires-clause-target c = inl refl

@@ -1,4 +1,4 @@
-use Rattle.std.proofs.Common.{rules, ◌≡◌, ℕ, ◌+◌, List, get_or, sym, ap, ◌∙◌, subst, inr}
+use Rattle.std.proofs.Common.{rules, ◌≡◌, ℕ, ◌+◌, List, get_or, refl, sym, ap, ◌∙◌, subst, inr}
 use Rattle.object_headers.specs.Offsets.{reference_to}
 use Rattle.object_headers.specs.declared.header.Header.{Header}
 use Rattle.page_words.specs.Bodies.{IsPlace, IsReference}
@@ -7,7 +7,7 @@ use Rattle.gc_graph.specs.Fields.{is_weak}
 use Rattle.member_fields.specs.Words.{HasWord, written}
 use Rattle.weak_clearing.specs.declared.handles.Handles.TheVariants.{WeakFields}
 use Rattle.weak_clearing.proofs.Grounds.{ground_typed, ground_handle, ground_written}
-use Rattle.weak_clearing.proofs.Words.{weak_word}
+use Rattle.weak_clearing.proofs.Words.{field_word}
 use Rattle.weak_clearing.proofs.tests.Ground.point.Goals as goal
 
 pub weak_words-words-requires : goal.weak_words-words-requires
@@ -22,7 +22,7 @@ set_weak-requires-clause-field c =
     let of : c.header_at-ty.result.ty ≡ start.0.ty = ap (λ (h : Header). h.ty) (c.header_at-ty.ensures.header start.0 start.1 start.2) in
     let words : List ℕ = c.weak_words-words.result.now in
     subst (λ (v : SeatView). HasWord is_weak v c.args.holder (get_or words c.args.field 0)) (sym c.header_at-ty.ensures.view)
-    (weak_word c.self.inside.seat c.args.holder (get_or words c.args.field 0)
+    (field_word is_weak c.self.inside.seat c.args.holder (get_or words c.args.field 0) refl
     (ground_handle WeakFields c.self.inside.space c.self.inside.seat c.self.inside.types start.0 c.args.holder c.header_at-ty.result.ty c.args.field words
     c.bodies_lie_apart.ensures c.self.invariant start.1 start.2 of c.weak_words-words.ensures c.if-field-words.true))
 
