@@ -16,8 +16,8 @@ use Rattle.gc_graph.specs.Placement.{Extent}
 use Rattle.page_space.specs.Space.{SpaceView, IsSpaceOf, extent_of, extents_of_bodies}
 use Rattle.page_space.specs.Occupying.{Occupies, new_body}
 use Rattle.member_fields.specs.Words.{with_word_in, written, pair_written}
-use Rattle.weak_clearing.specs.declared.handles.Handles.{Handles}
-use Rattle.weak_clearing.specs.declared.handles.Handles.TheVariants.{WeakFields, Pairs}
+use Rattle.weak_clearing.specs.declared.weak_handles.WeakHandles.{WeakHandles}
+use Rattle.weak_clearing.specs.declared.weak_handles.WeakHandles.TheVariants.{Fields, Pairs}
 use Rattle.weak_clearing.specs.Clearing.{HasReferencesOf}
 use Rattle.weak_clearing.specs.Steps.{HasHandle, kind_of_handles, clear_handles, all_cleared}
 use Rattle.weak_clearing.proofs.Lists.{contains_map, comes_from}
@@ -107,7 +107,7 @@ all_have_paired kind v holder word key value to_key to_value have =
     all_have_written holder word key kind (written v holder (word + 1) value) (still_named holder (word + 1) value v.bodies key to_key)
     (all_have_written holder (word + 1) value kind v to_value have)
 
-all_have_cleared : (handles : Handles) (kind : Kind) (v : SeatView) → AllHave kind v → AllHave kind (all_cleared handles v)
+all_have_cleared : (handles : WeakHandles) (kind : Kind) (v : SeatView) → AllHave kind v → AllHave kind (all_cleared handles v)
 all_have_cleared handles kind v have b there =
     let f : Body → Body = clear_handles handles v.types v.marked in
     let from = comes_from f v.bodies b there in
@@ -123,8 +123,8 @@ IsGround space v types = IsSpaceOf space v × (types ≡ v.types) × (v.on ≡ t
 abbrev pub LastsUnderStores : SpaceView → Type 0
 LastsUnderStores space = (x : SeatView) (a w : ℕ) → IsSpaceOf space x → IsSpaceOf space (stored x a w)
 
-have_of : (handles : Handles) (space : SpaceView) (v : SeatView) (types : List ObjectType) → IsGround space v types → AllHave (kind_of_handles handles) v
-have_of WeakFields space v types is = is.3
+have_of : (handles : WeakHandles) (space : SpaceView) (v : SeatView) (types : List ObjectType) → IsGround space v types → AllHave (kind_of_handles handles) v
+have_of Fields space v types is = is.3
 have_of Pairs space v types is = is.4
 
 pub ground_typed : (space : SpaceView) (v : SeatView) (types : List ObjectType) (b : Body) (ty : ℕ) → IsGround space v types → Contains v.bodies b → ty ≡ b.ty
@@ -132,7 +132,7 @@ pub ground_typed : (space : SpaceView) (v : SeatView) (types : List ObjectType) 
 ground_typed space v types b ty is there of =
     subst (λ (ts : List ObjectType). ty < length ts) (sym is.1) (subst (λ t. t < length v.types) (sym of) (is.3 b there).typed)
 
-pub ground_handle : (handles : Handles) (space : SpaceView) (v : SeatView) (types : List ObjectType) (b : Body) (a ty k : ℕ) (told : List ℕ) → IsView v
+pub ground_handle : (handles : WeakHandles) (space : SpaceView) (v : SeatView) (types : List ObjectType) (b : Body) (a ty k : ℕ) (told : List ℕ) → IsView v
     → IsGround space v types → Contains v.bodies b → b.place ≡ a → ty ≡ b.ty → told ≡ offsets_of_kind (kind_of_handles handles) (kinds_of types ty)
     → k < length told → HasHandle handles v a (get_or told k 0)
 ground_handle handles space v types b a ty k told view is there at of listed low =
@@ -170,7 +170,7 @@ same_extents f (b ∷ bodies) less =
     ∙ ap (λ n. (let e : Extent = record { place = b.place; size = n } in e) ∷ extents_of_bodies (map f bodies)) (less b).size
     ∙ ap (λ es. extent_of b ∷ es) (same_extents f bodies less)
 
-pub ground_cleared : (handles : Handles) (space : SpaceView) (v : SeatView) (types : List ObjectType)
+pub ground_cleared : (handles : WeakHandles) (space : SpaceView) (v : SeatView) (types : List ObjectType)
     → ((old new : SeatView) → new.count ≡ old.count → extents_of_bodies new.bodies ≡ extents_of_bodies old.bodies → IsSpaceOf space old → IsSpaceOf space new)
     → IsGround space v types → IsGround space (all_cleared handles v) types
 ground_cleared handles space v types lasts (is, known, on, weak, pairs) = (

@@ -10,8 +10,8 @@ use Rattle.gc_graph.specs.declared.kind.Kind.TheVariants.{Strong, Weak, Pair, Pl
 use Rattle.gc_graph.specs.Fields.{words_of_kind, field_words}
 use Rattle.type_table.specs.Types.{offset_of, is_kind, is_field, offsets_of_kind}
 use Rattle.type_table.specs.Layouts.{kinds_of_words}
-use Rattle.weak_clearing.specs.declared.handles.Handles.{Handles}
-use Rattle.weak_clearing.specs.declared.handles.Handles.TheVariants.{WeakFields, Pairs}
+use Rattle.weak_clearing.specs.declared.weak_handles.WeakHandles.{WeakHandles}
+use Rattle.weak_clearing.specs.declared.weak_handles.WeakHandles.TheVariants.{Fields, Pairs}
 use Rattle.weak_clearing.specs.Clearing.{names_unmarked, clear_words, clear_pair_words}
 use Rattle.weak_clearing.specs.Steps.{kind_of_handles, cleared_at, clear_words_of}
 use Rattle.weak_clearing.proofs.Lists.{at_seam, set_seam, append_one, length_push}
@@ -19,11 +19,11 @@ use Rattle.weak_clearing.proofs.Lists.{at_seam, set_seam, append_one, length_pus
 -- ---- handles cleared one after the other
 
 -- those at these offsets
-abbrev pub clear_listed : Handles → List ℕ → List ℕ → List ℕ → List ℕ
+abbrev pub clear_listed : WeakHandles → List ℕ → List ℕ → List ℕ → List ℕ
 clear_listed handles marked [] words = words
 clear_listed handles marked (offset ∷ offsets) words = clear_listed handles marked offsets (cleared_at handles marked (offset - 2) words)
 
-pub clear_listed-push : (handles : Handles) (marked offsets : List ℕ) (offset : ℕ) (words : List ℕ)
+pub clear_listed-push : (handles : WeakHandles) (marked offsets : List ℕ) (offset : ℕ) (words : List ℕ)
     → clear_listed handles marked (offsets ++ offset ∷ []) words ≡ cleared_at handles marked (offset - 2) (clear_listed handles marked offsets words)
 clear_listed-push handles marked [] offset words = refl
 clear_listed-push handles marked (o ∷ offsets) offset words = clear_listed-push handles marked offsets offset (cleared_at handles marked (o - 2) words)
@@ -36,10 +36,10 @@ begin_from wanted offset (kind ∷ kinds) =
     let rest : List ℕ = begin_from wanted (offset + words_of_kind kind) kinds in cond (is_kind wanted kind) (offset ∷ rest) rest
 
 -- the words after the first so many, where the first field begins after these
-abbrev cleared_after : Handles → List ℕ → List Kind → ℕ → List ℕ → List ℕ
+abbrev cleared_after : WeakHandles → List ℕ → List Kind → ℕ → List ℕ → List ℕ
 cleared_after handles marked kinds many words = clear_listed handles marked (begin_from (kind_of_handles handles) (2 + many) kinds) words
 
-one_word : (handles : Handles) (marked : List ℕ) (kinds : List Kind) (before : List ℕ) (v : ℕ) (words rest : List ℕ)
+one_word : (handles : WeakHandles) (marked : List ℕ) (kinds : List Kind) (before : List ℕ) (v : ℕ) (words rest : List ℕ)
     → cleared_after handles marked kinds (length (before ++ v ∷ [])) ((before ++ v ∷ []) ++ words) ≡ (before ++ v ∷ []) ++ rest
     → clear_listed handles marked (begin_from (kind_of_handles handles) (2 + length before + 1) kinds) (before ++ v ∷ words) ≡ before ++ v ∷ rest
 one_word handles marked kinds before v words rest is =
@@ -47,7 +47,7 @@ one_word handles marked kinds before v words rest is =
     ap (λ o. clear_listed handles marked (begin_from (kind_of_handles handles) o kinds) (before ++ v ∷ words)) same
     ∙ ap (cleared_after handles marked kinds (length (before ++ v ∷ []))) (append_one before v words) ∙ is ∙ sym (append_one before v rest)
 
-two_words : (handles : Handles) (marked : List ℕ) (kinds : List Kind) (before : List ℕ) (v w : ℕ) (words rest : List ℕ)
+two_words : (handles : WeakHandles) (marked : List ℕ) (kinds : List Kind) (before : List ℕ) (v w : ℕ) (words rest : List ℕ)
     → cleared_after handles marked kinds (length ((before ++ v ∷ []) ++ w ∷ [])) (((before ++ v ∷ []) ++ w ∷ []) ++ words) ≡ ((before ++ v ∷ []) ++ w ∷ []) ++ rest
     → clear_listed handles marked (begin_from (kind_of_handles handles) (2 + length before + 2) kinds) (before ++ v ∷ w ∷ words) ≡ before ++ v ∷ w ∷ rest
 two_words handles marked kinds before v w words rest is =
@@ -65,10 +65,10 @@ module _ (marked before : List ℕ) where
   one_nulled false w words = refl
 
   weak_here : (w : ℕ) (words : List ℕ)
-      → cleared_at WeakFields marked (2 + length before - 2) (before ++ w ∷ words) ≡ before ++ cond (names_unmarked marked w) 0 w ∷ words
+      → cleared_at Fields marked (2 + length before - 2) (before ++ w ∷ words) ≡ before ++ cond (names_unmarked marked w) 0 w ∷ words
   weak_here w words =
       let at : 2 + length before - 2 ≡ length before = omega arith in
-      ap (λ i. cleared_at WeakFields marked i (before ++ w ∷ words)) at
+      ap (λ i. cleared_at Fields marked i (before ++ w ∷ words)) at
       ∙ ap (λ x. cond (names_unmarked marked x) (set (before ++ w ∷ words) (length before) 0) (before ++ w ∷ words)) (at_seam before w 0 words)
       ∙ one_nulled (names_unmarked marked w) w words
 
@@ -103,23 +103,23 @@ some_word kind kinds few = omega (arith, few, sum_by-cons words_of_kind kind kin
   some Pair = omega arith
   some Plain = omega arith
 
-cleared_from : (handles : Handles) (marked : List ℕ) (kinds : List Kind) (before words : List ℕ) → field_words kinds ≤ length words
+cleared_from : (handles : WeakHandles) (marked : List ℕ) (kinds : List Kind) (before words : List ℕ) → field_words kinds ≤ length words
     → cleared_after handles marked kinds (length before) (before ++ words) ≡ before ++ clear_words_of handles marked kinds words
-cleared_from WeakFields marked [] before words few = refl
+cleared_from Fields marked [] before words few = refl
 cleared_from Pairs marked [] before words few = refl
-cleared_from WeakFields marked (kind ∷ kinds) before [] few = absurd (some_word kind kinds few)
+cleared_from Fields marked (kind ∷ kinds) before [] few = absurd (some_word kind kinds few)
 cleared_from Pairs marked (kind ∷ kinds) before [] few = absurd (some_word kind kinds few)
-cleared_from WeakFields marked (Strong ∷ kinds) before (w ∷ words) few =
-    one_word WeakFields marked kinds before w words (clear_words marked (kinds_of_words kinds) words)
-    (cleared_from WeakFields marked kinds (before ++ w ∷ []) words (omega (arith, few, sum_by-cons words_of_kind Strong kinds)))
-cleared_from WeakFields marked (Plain ∷ kinds) before (w ∷ words) few =
-    one_word WeakFields marked kinds before w words (clear_words marked (kinds_of_words kinds) words)
-    (cleared_from WeakFields marked kinds (before ++ w ∷ []) words (omega (arith, few, sum_by-cons words_of_kind Plain kinds)))
-cleared_from WeakFields marked (Weak ∷ kinds) before (w ∷ words) few =
+cleared_from Fields marked (Strong ∷ kinds) before (w ∷ words) few =
+    one_word Fields marked kinds before w words (clear_words marked (kinds_of_words kinds) words)
+    (cleared_from Fields marked kinds (before ++ w ∷ []) words (omega (arith, few, sum_by-cons words_of_kind Strong kinds)))
+cleared_from Fields marked (Plain ∷ kinds) before (w ∷ words) few =
+    one_word Fields marked kinds before w words (clear_words marked (kinds_of_words kinds) words)
+    (cleared_from Fields marked kinds (before ++ w ∷ []) words (omega (arith, few, sum_by-cons words_of_kind Plain kinds)))
+cleared_from Fields marked (Weak ∷ kinds) before (w ∷ words) few =
     let v : ℕ = cond (names_unmarked marked w) 0 w in
-    ap (clear_listed WeakFields marked (begin_from Weak (2 + length before + 1) kinds)) (weak_here marked before w words)
-    ∙ one_word WeakFields marked kinds before v words (clear_words marked (kinds_of_words kinds) words)
-    (cleared_from WeakFields marked kinds (before ++ v ∷ []) words (omega (arith, few, sum_by-cons words_of_kind Weak kinds)))
+    ap (clear_listed Fields marked (begin_from Weak (2 + length before + 1) kinds)) (weak_here marked before w words)
+    ∙ one_word Fields marked kinds before v words (clear_words marked (kinds_of_words kinds) words)
+    (cleared_from Fields marked kinds (before ++ v ∷ []) words (omega (arith, few, sum_by-cons words_of_kind Weak kinds)))
 cleared_from Pairs marked (Strong ∷ kinds) before (w ∷ words) few =
     one_word Pairs marked kinds before w words (clear_pair_words marked kinds words)
     (cleared_from Pairs marked kinds (before ++ w ∷ []) words (omega (arith, few, sum_by-cons words_of_kind Strong kinds)))
@@ -129,11 +129,11 @@ cleared_from Pairs marked (Plain ∷ kinds) before (w ∷ words) few =
 cleared_from Pairs marked (Weak ∷ kinds) before (w ∷ words) few =
     one_word Pairs marked kinds before w words (clear_pair_words marked kinds words)
     (cleared_from Pairs marked kinds (before ++ w ∷ []) words (omega (arith, few, sum_by-cons words_of_kind Weak kinds)))
-cleared_from WeakFields marked (Pair ∷ kinds) before (k ∷ []) few = absurd (omega (arith, few, sum_by-cons words_of_kind Pair kinds))
+cleared_from Fields marked (Pair ∷ kinds) before (k ∷ []) few = absurd (omega (arith, few, sum_by-cons words_of_kind Pair kinds))
 cleared_from Pairs marked (Pair ∷ kinds) before (k ∷ []) few = absurd (omega (arith, few, sum_by-cons words_of_kind Pair kinds))
-cleared_from WeakFields marked (Pair ∷ kinds) before (k ∷ w ∷ words) few =
-    two_words WeakFields marked kinds before k w words (clear_words marked (kinds_of_words kinds) words)
-    (cleared_from WeakFields marked kinds ((before ++ k ∷ []) ++ w ∷ []) words (omega (arith, few, sum_by-cons words_of_kind Pair kinds)))
+cleared_from Fields marked (Pair ∷ kinds) before (k ∷ w ∷ words) few =
+    two_words Fields marked kinds before k w words (clear_words marked (kinds_of_words kinds) words)
+    (cleared_from Fields marked kinds ((before ++ k ∷ []) ++ w ∷ []) words (omega (arith, few, sum_by-cons words_of_kind Pair kinds)))
 cleared_from Pairs marked (Pair ∷ kinds) before (k ∷ w ∷ words) few =
     let key : ℕ = cond (names_unmarked marked k) 0 k in
     let value : ℕ = cond (names_unmarked marked k) 0 w in
@@ -188,7 +188,7 @@ told_is wanted before (kind ∷ kinds) =
     (told_after wanted before kind kinds (told_is wanted (before ++ kind ∷ []) kinds))
 
 -- clearing the handles at the told offsets, one after the other, clears the words by the kinds of their fields
-pub listed_are_cleared : (handles : Handles) (marked : List ℕ) (kinds : List Kind) (words : List ℕ) → field_words kinds ≤ length words
+pub listed_are_cleared : (handles : WeakHandles) (marked : List ℕ) (kinds : List Kind) (words : List ℕ) → field_words kinds ≤ length words
     → clear_listed handles marked (offsets_of_kind (kind_of_handles handles) kinds) words ≡ clear_words_of handles marked kinds words
 listed_are_cleared handles marked kinds words few =
     ap (λ offsets. clear_listed handles marked offsets words) (told_is (kind_of_handles handles) [] kinds) ∙ cleared_from handles marked kinds [] words few

@@ -9,7 +9,7 @@ use Rattle.type_table.specs.Types.{kinds_of, offsets_of_kind}
 use Rattle.type_table.specs.Layouts.{kinds_of_words}
 use Rattle.page_words.specs.Bodies.{Body, IsWhole, IsReference, kind_in}
 use Rattle.page_words.specs.Seat.{SeatView, IsView, holds}
-use Rattle.weak_clearing.specs.declared.handles.Handles.{Handles}
+use Rattle.weak_clearing.specs.declared.weak_handles.WeakHandles.{WeakHandles}
 use Rattle.weak_clearing.specs.Clearing.{HasReferencesOf, MarkedHaveReferencesOf}
 use Rattle.weak_clearing.specs.Steps.{IsMarkedOf, HasHandle, kind_of_handles, cleared_at, clear_handle_in, clear_handles, clear_words_of, handle_cleared, body_cleared}
 use Rattle.weak_clearing.proofs.Lists.{map_same, map_after, map_stays, contains_map}
@@ -17,23 +17,23 @@ use Rattle.weak_clearing.proofs.HandleWords.{BeginsField, field_told, clear_list
 use Rattle.weak_clearing.proofs.Words.{at_twice}
 use Rattle.weak_clearing.proofs.Lessened.{IsLessened, same_body, with_fields, listed_lessened, word_stays_reference}
 
-abbrev listed_body : Handles → List ℕ → List ℕ → Body → Body
+abbrev listed_body : WeakHandles → List ℕ → List ℕ → Body → Body
 listed_body handles marked offsets b = record b { fields = clear_listed handles marked offsets b.fields }
 
 -- the body at the place with the handles at these offsets cleared
-abbrev pub clear_listed_at : Handles → List ℕ → ℕ → List ℕ → Body → Body
+abbrev pub clear_listed_at : WeakHandles → List ℕ → ℕ → List ℕ → Body → Body
 clear_listed_at handles marked place offsets b = cond (eqb b.place place) (listed_body handles marked offsets b) b
 
 -- the same, in a view
-abbrev pub listed_cleared : Handles → SeatView → ℕ → List ℕ → SeatView
+abbrev pub listed_cleared : WeakHandles → SeatView → ℕ → List ℕ → SeatView
 listed_cleared handles v place offsets = record v { bodies = map (clear_listed_at handles v.marked place offsets) v.bodies }
 
-at_lessened : (handles : Handles) (marked : List ℕ) (place : ℕ) (offsets : List ℕ) (b : Body) → IsLessened b (clear_listed_at handles marked place offsets b)
+at_lessened : (handles : WeakHandles) (marked : List ℕ) (place : ℕ) (offsets : List ℕ) (b : Body) → IsLessened b (clear_listed_at handles marked place offsets b)
 at_lessened handles marked place offsets b =
     cond_both (eqb b.place place) (listed_body handles marked offsets b) b (IsLessened b)
     (λ _. with_fields b (clear_listed handles marked offsets b.fields) (listed_lessened handles marked offsets b.fields)) (λ _. same_body b)
 
-pub listed_none : (handles : Handles) (v : SeatView) (place : ℕ) → v ≡ listed_cleared handles v place []
+pub listed_none : (handles : WeakHandles) (v : SeatView) (place : ℕ) → v ≡ listed_cleared handles v place []
 listed_none handles v place =
     ap (λ (bs : List Body). (let x : SeatView = record v { bodies = bs } in x))
     (sym (map_stays (clear_listed_at handles v.marked place []) v.bodies (λ b there. cond_both (eqb b.place place) b b (λ c. c ≡ b) (λ _. refl) (λ _. refl))))
@@ -41,7 +41,7 @@ listed_none handles v place =
 -- ---- the holder and the handle in hand
 
 -- a body with references has a handle at each told offset
-pub has_handle : (handles : Handles) (v : SeatView) (b : Body) (told : List ℕ) (k : ℕ) → IsView v → Contains v.bodies b
+pub has_handle : (handles : WeakHandles) (v : SeatView) (b : Body) (told : List ℕ) (k : ℕ) → IsView v → Contains v.bodies b
     → HasReferencesOf (kind_of_handles handles) v.types v.bodies b → told ≡ offsets_of_kind (kind_of_handles handles) (kinds_of v.types b.ty) → k < length told
     → HasHandle handles v b.place (get_or told k 0)
 has_handle handles v b told k view there has is low =
@@ -61,7 +61,7 @@ has_handle handles v b told k view there has is low =
     }
 
 -- so it has while others are cleared
-pub handle_stays : (handles : Handles) (v : SeatView) (place offset : ℕ) (offsets : List ℕ) → HasHandle handles v place offset
+pub handle_stays : (handles : WeakHandles) (v : SeatView) (place offset : ℕ) (offsets : List ℕ) → HasHandle handles v place offset
     → HasHandle handles (listed_cleared handles v place offsets) place offset
 handle_stays handles v place offset offsets has =
     let f : Body → Body = clear_listed_at handles v.marked place offsets in
@@ -77,7 +77,7 @@ handle_stays handles v place offset offsets has =
       reference = word_stays_reference f (at_lessened handles v.marked place offsets) v.bodies has.body (offset - 2) has.reference;
     }
 
-pub holder_handle : (handles : Handles) (v : SeatView) (place ty : ℕ) (told : List ℕ) (k : ℕ) → IsView v → MarkedHaveReferencesOf (kind_of_handles handles) v
+pub holder_handle : (handles : WeakHandles) (v : SeatView) (place ty : ℕ) (told : List ℕ) (k : ℕ) → IsView v → MarkedHaveReferencesOf (kind_of_handles handles) v
     → IsMarkedOf v place ty → told ≡ offsets_of_kind (kind_of_handles handles) (kinds_of v.types ty) → k < length told → HasHandle handles v place (get_or told k 0)
 holder_handle handles v place ty told k view have (b, there, at, of, marked) is low =
     subst (λ p. HasHandle handles v p (get_or told k 0)) at
@@ -86,13 +86,13 @@ holder_handle handles v place ty told k view have (b, there, at, of, marked) is 
 
 -- ---- one more handle
 
-one_more : (handles : Handles) (marked : List ℕ) (place offset : ℕ) (offsets : List ℕ) (b : Body)
+one_more : (handles : WeakHandles) (marked : List ℕ) (place offset : ℕ) (offsets : List ℕ) (b : Body)
     → clear_handle_in handles marked place offset (clear_listed_at handles marked place offsets b) ≡ clear_listed_at handles marked place (offsets ++ offset ∷ []) b
 one_more handles marked place offset offsets b =
     at_twice place (λ x. record x { fields = cleared_at handles marked (offset - 2) x.fields }) (listed_body handles marked offsets) b refl
     ∙ ap (λ (fs : List ℕ). cond (eqb b.place place) (record b { fields = fs }) b) (sym (clear_listed-push handles marked offsets offset b.fields))
 
-pub one_more_cleared : (handles : Handles) (v : SeatView) (place offset : ℕ) (offsets : List ℕ)
+pub one_more_cleared : (handles : WeakHandles) (v : SeatView) (place offset : ℕ) (offsets : List ℕ)
     → handle_cleared handles (listed_cleared handles v place offsets) place offset ≡ listed_cleared handles v place (offsets ++ offset ∷ [])
 one_more_cleared handles v place offset offsets =
     let one : Body → Body = clear_handle_in handles v.marked place offset in
@@ -110,7 +110,7 @@ one_body v b c view b_there c_there same =
     let c_whole : IsWhole v.count c = All-contains (IsWhole v.count) v.bodies c view.whole c_there in
     view.apart b c b.place b_there c_there (omega arith) (omega (arith, b_whole.fields)) (omega (arith, same)) (omega (arith, same, c_whole.fields))
 
-module _ (handles : Handles) (v : SeatView) where
+module _ (handles : WeakHandles) (v : SeatView) where
   listed_whole : (b : Body) (ty : ℕ) → holds v.marked b.place ≡ true → b.ty ≡ ty → HasReferencesOf (kind_of_handles handles) v.types v.bodies b
       → listed_body handles v.marked (offsets_of_kind (kind_of_handles handles) (kinds_of v.types ty)) b ≡ clear_handles handles v.types v.marked b
   listed_whole b ty marked of has =

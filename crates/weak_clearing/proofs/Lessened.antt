@@ -12,8 +12,8 @@ use Rattle.type_table.specs.Types.{kinds_of}
 use Rattle.type_table.specs.Layouts.{kinds_of_words}
 use Rattle.page_words.specs.Bodies.{Body, IsReference}
 use Rattle.page_words.specs.Seat.{SeatView, holds}
-use Rattle.weak_clearing.specs.declared.handles.Handles.{Handles}
-use Rattle.weak_clearing.specs.declared.handles.Handles.TheVariants.{WeakFields, Pairs}
+use Rattle.weak_clearing.specs.declared.weak_handles.WeakHandles.{WeakHandles}
+use Rattle.weak_clearing.specs.declared.weak_handles.WeakHandles.TheVariants.{Fields, Pairs}
 use Rattle.weak_clearing.specs.Clearing.{names_unmarked, clear_word, clear_words, clear_pair_words, HasReferencesOf, MarkedHaveReferencesOf}
 use Rattle.weak_clearing.specs.Steps.{nulled, cleared_at, clear_words_of, clear_handles}
 use Rattle.weak_clearing.proofs.Lists.{contains_map, comes_from}
@@ -72,8 +72,8 @@ pairs_lessened marked (Pair ∷ kinds) (k ∷ w ∷ words) =
     one_lessened k (cond (names_unmarked marked k) 0 k) (w ∷ words) (value ∷ rest) (null_or_same k marked k)
     (one_lessened w value words rest (null_or_same k marked w) (pairs_lessened marked kinds words))
 
-words_lessened : (handles : Handles) (marked : List ℕ) (kinds : List Kind) (words : List ℕ) → AreLessened words (clear_words_of handles marked kinds words)
-words_lessened WeakFields marked kinds words = weak_lessened marked (kinds_of_words kinds) words
+words_lessened : (handles : WeakHandles) (marked : List ℕ) (kinds : List Kind) (words : List ℕ) → AreLessened words (clear_words_of handles marked kinds words)
+words_lessened Fields marked kinds words = weak_lessened marked (kinds_of_words kinds) words
 words_lessened Pairs marked kinds words = pairs_lessened marked kinds words
 
 -- ---- words cleared handle by handle
@@ -90,16 +90,16 @@ null_lessened n words = record {
   ];
 }
 
-nulled_lessened : (handles : Handles) (n : ℕ) (words : List ℕ) → AreLessened words (nulled handles n words)
-nulled_lessened WeakFields n words = null_lessened n words
+nulled_lessened : (handles : WeakHandles) (n : ℕ) (words : List ℕ) → AreLessened words (nulled handles n words)
+nulled_lessened Fields n words = null_lessened n words
 nulled_lessened Pairs n words =
     then_lessened words (set words (n + 1) 0) (set (set words (n + 1) 0) n 0) (null_lessened (n + 1) words) (null_lessened n (set words (n + 1) 0))
 
-handle_lessened : (handles : Handles) (marked : List ℕ) (n : ℕ) (words : List ℕ) → AreLessened words (cleared_at handles marked n words)
+handle_lessened : (handles : WeakHandles) (marked : List ℕ) (n : ℕ) (words : List ℕ) → AreLessened words (cleared_at handles marked n words)
 handle_lessened handles marked n words =
     cond_both (names_unmarked marked (get_or words n 0)) (nulled handles n words) words (AreLessened words) (λ _. nulled_lessened handles n words) (λ _. same_words words)
 
-pub listed_lessened : (handles : Handles) (marked offsets words : List ℕ) → AreLessened words (clear_listed handles marked offsets words)
+pub listed_lessened : (handles : WeakHandles) (marked offsets words : List ℕ) → AreLessened words (clear_listed handles marked offsets words)
 listed_lessened handles marked [] words = same_words words
 listed_lessened handles marked (o ∷ offsets) words =
     let first : List ℕ = cleared_at handles marked (o - 2) words in
@@ -121,7 +121,7 @@ same_body b = record { place = refl; ty = refl; size = refl; words = same_words 
 pub with_fields : (b : Body) (fields : List ℕ) → AreLessened b.fields fields → IsLessened b (record b { fields = fields })
 with_fields b fields is = record { place = refl; ty = refl; size = refl; words = is }
 
-pub body_lessened : (handles : Handles) (types : List ObjectType) (marked : List ℕ) (b : Body) → IsLessened b (clear_handles handles types marked b)
+pub body_lessened : (handles : WeakHandles) (types : List ObjectType) (marked : List ℕ) (b : Body) → IsLessened b (clear_handles handles types marked b)
 body_lessened handles types marked b =
     let cleared : List ℕ = clear_words_of handles marked (kinds_of types b.ty) b.fields in
     cond_both (holds marked b.place) (record b { fields = cleared }) b (IsLessened b)

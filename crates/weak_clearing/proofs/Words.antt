@@ -8,8 +8,8 @@ use Rattle.type_table.specs.Types.{kinds_of, offsets_of_kind}
 use Rattle.page_words.specs.Bodies.{Body, IsReference}
 use Rattle.page_words.specs.Seat.{SeatView, holds}
 use Rattle.member_fields.specs.Words.{HasWord, HasPair, IsWordIn, with_word_in, written, pair_written}
-use Rattle.weak_clearing.specs.declared.handles.Handles.{Handles}
-use Rattle.weak_clearing.specs.declared.handles.Handles.TheVariants.{WeakFields, Pairs}
+use Rattle.weak_clearing.specs.declared.weak_handles.WeakHandles.{WeakHandles}
+use Rattle.weak_clearing.specs.declared.weak_handles.WeakHandles.TheVariants.{Fields, Pairs}
 use Rattle.weak_clearing.specs.Clearing.{names_unmarked}
 use Rattle.weak_clearing.specs.Steps.{HasHandle, nulled, cleared_at, clear_handle_in, handle_cleared}
 use Rattle.weak_clearing.proofs.Lists.{map_same, map_after, map_stays}
@@ -27,7 +27,7 @@ names_one marked (suc place) some =
 
 -- ---- a handle is a weak field's word, or a pair
 
-pub field_word : (is_so : Kind → Bool) (v : SeatView) (holder word : ℕ) → is_so Weak ≡ true → HasHandle WeakFields v holder word → HasWord is_so v holder word
+pub field_word : (is_so : Kind → Bool) (v : SeatView) (holder word : ℕ) → is_so Weak ≡ true → HasHandle Fields v holder word → HasWord is_so v holder word
 field_word is_so v holder word passes has = record {
   body = has.body;
   there = has.there;
@@ -50,7 +50,7 @@ whole_pair v holder word has =
     }
 
 -- what is read of its first word is a reference
-pub reads_reference : (handles : Handles) (v : SeatView) (holder word w : ℕ) → HasHandle handles v holder word → IsWordIn v holder word w → IsReference v.bodies w
+pub reads_reference : (handles : WeakHandles) (v : SeatView) (holder word w : ℕ) → HasHandle handles v holder word → IsWordIn v holder word w → IsReference v.bodies w
 reads_reference handles v holder word w has is = subst (IsReference v.bodies) (sym (is has.body has.there has.place)) has.reference
 
 -- ---- what is left of it
@@ -73,19 +73,19 @@ module _ (v : SeatView) (holder word w : ℕ) (is : IsWordIn v holder word w) wh
       → names_unmarked v.marked (get_or b.fields (word - 2) 0) ≡ t
   named_by t b there named here = ap (names_unmarked v.marked) (sym (is b there (eqb-true b.place holder here))) ∙ named
 
-  kept : (handles : Handles) (b : Body) → Contains v.bodies b → names_unmarked v.marked w ≡ false → clear_handle_in handles v.marked holder word b ≡ b
+  kept : (handles : WeakHandles) (b : Body) → Contains v.bodies b → names_unmarked v.marked w ≡ false → clear_handle_in handles v.marked holder word b ≡ b
   kept handles b there named =
       cond_both (eqb b.place holder) (record b { fields = cleared_at handles v.marked (word - 2) b.fields }) b (λ c. c ≡ b)
       (λ here. ap (λ t. (let x : Body = record b { fields = cond t (nulled handles (word - 2) b.fields) b.fields } in x)) (named_by false b there named here))
       (λ _. refl)
 
   -- a handle that names no unmarked body stays
-  pub handle_stays : (handles : Handles) → names_unmarked v.marked w ≡ false → v ≡ handle_cleared handles v holder word
+  pub handle_stays : (handles : WeakHandles) → names_unmarked v.marked w ≡ false → v ≡ handle_cleared handles v holder word
   handle_stays handles named =
       ap (λ (bs : List Body). (let x : SeatView = record v { bodies = bs } in x))
       (sym (map_stays (clear_handle_in handles v.marked holder word) v.bodies (λ b there. kept handles b there named)))
 
-  null_body : (handles : Handles) (b : Body) → Contains v.bodies b → names_unmarked v.marked w ≡ true
+  null_body : (handles : WeakHandles) (b : Body) → Contains v.bodies b → names_unmarked v.marked w ≡ true
       → cond (eqb b.place holder) (record b { fields = nulled handles (word - 2) b.fields }) b ≡ clear_handle_in handles v.marked holder word b
   null_body handles b there named =
       let null : Body = record b { fields = nulled handles (word - 2) b.fields } in
@@ -97,10 +97,10 @@ module _ (v : SeatView) (holder word w : ℕ) (is : IsWordIn v holder word w) wh
         with_flag false x y z same = refl
 
   -- a weak field that names one becomes null
-  pub field_nulled : names_unmarked v.marked w ≡ true → written v holder word 0 ≡ handle_cleared WeakFields v holder word
+  pub field_nulled : names_unmarked v.marked w ≡ true → written v holder word 0 ≡ handle_cleared Fields v holder word
   field_nulled named =
       ap (λ (bs : List Body). (let x : SeatView = record v { bodies = bs } in x))
-      (map_same (with_word_in holder word 0) (clear_handle_in WeakFields v.marked holder word) v.bodies (λ b there. null_body WeakFields b there named))
+      (map_same (with_word_in holder word 0) (clear_handle_in Fields v.marked holder word) v.bodies (λ b there. null_body Fields b there named))
 
   -- and so do both words of a pair whose key names one
   pub pair_nulled : 2 ≤ word → names_unmarked v.marked w ≡ true → pair_written v holder word 0 0 ≡ handle_cleared Pairs v holder word

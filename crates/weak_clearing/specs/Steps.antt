@@ -9,8 +9,8 @@ use Rattle.type_table.specs.Types.{kinds_of, offsets_of_kind}
 use Rattle.type_table.specs.Layouts.{kinds_of_words}
 use Rattle.page_words.specs.Bodies.{Body, IsReference, kind_in}
 use Rattle.page_words.specs.Seat.{SeatView, holds}
-use Rattle.weak_clearing.specs.declared.handles.Handles.{Handles}
-use Rattle.weak_clearing.specs.declared.handles.Handles.TheVariants.{WeakFields, Pairs}
+use Rattle.weak_clearing.specs.declared.weak_handles.WeakHandles.{WeakHandles}
+use Rattle.weak_clearing.specs.declared.weak_handles.WeakHandles.TheVariants.{Fields, Pairs}
 use Rattle.weak_clearing.specs.Clearing.{names_unmarked, clear_words, clear_pair_words}
 
 -- one of the bodies is marked, and has the place and the type
@@ -18,13 +18,13 @@ abbrev pub IsMarkedOf : SeatView → ℕ → ℕ → Type 0
 IsMarkedOf v a ty = (b : Body) × Contains v.bodies b × (b.place ≡ a) × (b.ty ≡ ty) × (holds v.marked a ≡ true)
 
 -- the kind of the fields that are such handles
-abbrev pub kind_of_handles : Handles → Kind
-kind_of_handles WeakFields = Weak
+abbrev pub kind_of_handles : WeakHandles → Kind
+kind_of_handles Fields = Weak
 kind_of_handles Pairs = Pair
 
 -- the object at `holder` has such a handle at this offset: a weak field's word, or the key of a pair and its value after it.
 -- That word is null or refers to a body
-pub record HasHandle (handles : Handles) (v : SeatView) (holder word : ℕ) : Type 0 where
+pub record HasHandle (handles : WeakHandles) (v : SeatView) (holder word : ℕ) : Type 0 where
   pub body : Body
   pub there : Contains v.bodies body
   pub place : body.place ≡ holder
@@ -35,38 +35,38 @@ pub record HasHandle (handles : Handles) (v : SeatView) (holder word : ℕ) : Ty
   pub reference : IsReference v.bodies (slice_index body.fields (word - first_field))
 
 -- the words of the handle whose first one has the number i are null
-abbrev pub nulled : Handles → ℕ → List ℕ → List ℕ
-nulled WeakFields i words = slice_set words i 0
+abbrev pub nulled : WeakHandles → ℕ → List ℕ → List ℕ
+nulled Fields i words = slice_set words i 0
 nulled Pairs i words = slice_set (slice_set words (i + 1) 0) i 0
 
 -- so they are, where the first one names a body that is not marked
-abbrev pub cleared_at : Handles → List ℕ → ℕ → List ℕ → List ℕ
+abbrev pub cleared_at : WeakHandles → List ℕ → ℕ → List ℕ → List ℕ
 cleared_at handles marked i words = if names_unmarked marked (slice_index words i) then nulled handles i words else words
 
 -- the body, with the handle at this offset cleared where it is the one at `holder`
-abbrev pub clear_handle_in : Handles → List ℕ → ℕ → ℕ → Body → Body
+abbrev pub clear_handle_in : WeakHandles → List ℕ → ℕ → ℕ → Body → Body
 clear_handle_in handles marked holder word b =
     if b.place == holder then record b { fields = cleared_at handles marked (word - first_field) b.fields } else b
 
 -- the handle at this offset of the object at `holder` was cleared
-abbrev pub handle_cleared : Handles → SeatView → ℕ → ℕ → SeatView
+abbrev pub handle_cleared : WeakHandles → SeatView → ℕ → ℕ → SeatView
 handle_cleared handles v holder word = record v { bodies = map (clear_handle_in handles v.marked holder word) v.bodies }
 
 -- the words of a body, where these are the kinds of its fields, with the handles among them cleared
-abbrev pub clear_words_of : Handles → List ℕ → List Kind → List ℕ → List ℕ
-clear_words_of WeakFields marked kinds words = clear_words marked (kinds_of_words kinds) words
+abbrev pub clear_words_of : WeakHandles → List ℕ → List Kind → List ℕ → List ℕ
+clear_words_of Fields marked kinds words = clear_words marked (kinds_of_words kinds) words
 clear_words_of Pairs marked kinds words = clear_pair_words marked kinds words
 
 -- the handles of a marked body are cleared, and a body that is not marked stays as it is
-abbrev pub clear_handles : Handles → List ObjectType → List ℕ → Body → Body
+abbrev pub clear_handles : WeakHandles → List ObjectType → List ℕ → Body → Body
 clear_handles handles types marked b =
     if holds marked b.place then record b { fields = clear_words_of handles marked (kinds_of types b.ty) b.fields } else b
 
 -- the handles of the body at a were cleared
-abbrev pub body_cleared : Handles → SeatView → ℕ → SeatView
+abbrev pub body_cleared : WeakHandles → SeatView → ℕ → SeatView
 body_cleared handles v a =
     record v { bodies = map (λ b. if b.place == a then clear_handles handles v.types v.marked b else b) v.bodies }
 
 -- the handles of each body were cleared
-abbrev pub all_cleared : Handles → SeatView → SeatView
+abbrev pub all_cleared : WeakHandles → SeatView → SeatView
 all_cleared handles v = record v { bodies = map (clear_handles handles v.types v.marked) v.bodies }

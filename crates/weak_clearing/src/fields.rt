@@ -3,13 +3,13 @@
 
 ghost use Rattle.std.specs.Prelude.{◌≡◌};
 ghost use Rattle.page_space.specs.Space.{IsSeatOf};
-ghost use Rattle.weak_clearing.specs.declared.handles.Handles.TheVariants.{WeakFields};
+ghost use Rattle.weak_clearing.specs.declared.weak_handles.WeakHandles.TheVariants.{Fields};
 ghost use Rattle.weak_clearing.specs.Clearing.{MarkedHaveWeakReferences, with_weak_cleared};
 ghost use Rattle.weak_clearing.specs.Steps.{HasHandle, handle_cleared};
 
-use crate::handles::Handles;
 use crate::marks::is_to_unmarked;
 use crate::walk::clear_handles;
+use crate::weak_handles::WeakHandles;
 use member_fields::{get, set_weak};
 use page_space::Space;
 use page_words::MutatorSeat;
@@ -22,14 +22,14 @@ pub fn clear_fields(space: &Space, types: &TypeTable, seat: &mut MutatorSeat)
     requires references { MarkedHaveWeakReferences seat.old }
     ensures cleared { seat.new ≡ with_weak_cleared seat.old }
 {
-    clear_handles(space, types, seat, Handles::WeakFields);
+    clear_handles(space, types, seat, WeakHandles::Fields);
 }
 
 /// Sets a weak field to null, if it names an object that is not marked.
 pub(crate) fn clear_field(space: &Space, seat: &mut MutatorSeat, holder: u32, word: u32)
     requires heap { IsSeatOf space.now seat.old }
-    requires field { HasHandle WeakFields seat.old holder word }
-    ensures { seat.new ≡ handle_cleared WeakFields seat.old holder word }
+    requires field { HasHandle Fields seat.old holder word }
+    ensures { seat.new ≡ handle_cleared Fields seat.old holder word }
 {
     let target = get(space, seat, holder, word);
     if is_to_unmarked(space, seat, target) {

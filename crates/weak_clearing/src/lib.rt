@@ -17,11 +17,11 @@
 #![tactic(auto)]
 
 mod fields;
-mod handles;
 mod marks;
 mod pairs;
 mod slots;
 mod walk;
+mod weak_handles;
 
 pub use fields::clear_fields;
 pub use pairs::clear_pairs;

@@ -4,13 +4,13 @@
 ghost use Rattle.std.specs.Prelude.{◌≡◌};
 ghost use Rattle.gc_graph.specs.declared.kind.Kind.TheVariants.{Pair};
 ghost use Rattle.page_space.specs.Space.{IsSeatOf};
-ghost use Rattle.weak_clearing.specs.declared.handles.Handles.TheVariants.{Pairs};
+ghost use Rattle.weak_clearing.specs.declared.weak_handles.WeakHandles.TheVariants.{Pairs};
 ghost use Rattle.weak_clearing.specs.Clearing.{MarkedHaveReferencesOf, with_pairs_cleared};
 ghost use Rattle.weak_clearing.specs.Steps.{HasHandle, handle_cleared};
 
-use crate::handles::Handles;
 use crate::marks::is_to_unmarked;
 use crate::walk::clear_handles;
+use crate::weak_handles::WeakHandles;
 use member_fields::{read_pair, set_pair};
 use page_space::Space;
 use page_words::MutatorSeat;
@@ -23,7 +23,7 @@ pub fn clear_pairs(space: &Space, types: &TypeTable, seat: &mut MutatorSeat)
     requires references { MarkedHaveReferencesOf Pair seat.old }
     ensures cleared { seat.new ≡ with_pairs_cleared seat.old }
 {
-    clear_handles(space, types, seat, Handles::Pairs);
+    clear_handles(space, types, seat, WeakHandles::Pairs);
 }
 
 /// Sets a pair to null, its value first, if its key names an object that is not marked. The value's

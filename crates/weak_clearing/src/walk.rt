@@ -8,15 +8,15 @@ ghost use Rattle.weak_clearing.specs.Steps.{HasHandle, IsMarkedOf, kind_of_handl
 ghost use Rattle.weak_clearing.specs.Steps.{handle_cleared, body_cleared, all_cleared};
 
 use crate::fields::clear_field;
-use crate::handles::Handles;
 use crate::pairs::clear_pair;
+use crate::weak_handles::WeakHandles;
 use page_space::Space;
 use page_words::MutatorSeat;
 use type_table::TypeTable;
 
 /// Sets to null exactly those of these handles of marked objects that name an object that is not
 /// marked.
-pub fn clear_handles(space: &Space, types: &TypeTable, seat: &mut MutatorSeat, handles: Handles)
+pub fn clear_handles(space: &Space, types: &TypeTable, seat: &mut MutatorSeat, handles: WeakHandles)
     requires heap { IsSeatOf space.now seat.old }
     requires types { types.now ≡ seat.old.types }
     requires references { MarkedHaveReferencesOf (kind_of_handles handles) seat.old }
@@ -32,7 +32,13 @@ pub fn clear_handles(space: &Space, types: &TypeTable, seat: &mut MutatorSeat, h
 }
 
 /// Clears the handles of an object, if it is marked.
-fn clear_object(space: &Space, types: &TypeTable, seat: &mut MutatorSeat, handles: Handles, a: u32)
+fn clear_object(
+    space: &Space,
+    types: &TypeTable,
+    seat: &mut MutatorSeat,
+    handles: WeakHandles,
+    a: u32,
+)
     requires heap { IsSeatOf space.now seat.old }
     requires types { types.now ≡ seat.old.types }
     requires references { MarkedHaveReferencesOf (kind_of_handles handles) seat.old }
@@ -50,7 +56,7 @@ fn clear_holder(
     space: &Space,
     types: &TypeTable,
     seat: &mut MutatorSeat,
-    handles: Handles,
+    handles: WeakHandles,
     holder: u32,
     ty: u32,
 )
@@ -68,13 +74,13 @@ fn clear_holder(
 }
 
 /// Clears the handle at an offset, if it names an object that is not marked.
-fn clear_handle(space: &Space, seat: &mut MutatorSeat, handles: Handles, holder: u32, word: u32)
+fn clear_handle(space: &Space, seat: &mut MutatorSeat, handles: WeakHandles, holder: u32, word: u32)
     requires heap { IsSeatOf space.now seat.old }
     requires handle { HasHandle handles seat.old holder word }
     ensures { seat.new ≡ handle_cleared handles seat.old holder word }
 {
     match handles {
-        Handles::WeakFields => clear_field(space, seat, holder, word),
-        Handles::Pairs => clear_pair(space, seat, holder, word),
+        WeakHandles::Fields => clear_field(space, seat, holder, word),
+        WeakHandles::Pairs => clear_pair(space, seat, holder, word),
     }
 }

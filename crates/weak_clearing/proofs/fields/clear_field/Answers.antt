@@ -3,7 +3,7 @@ use Rattle.gc_graph.specs.Fields.{is_reference, is_weak}
 use Rattle.page_words.specs.Bodies.{IsReference}
 use Rattle.page_words.specs.Seat.{SeatView}
 use Rattle.member_fields.specs.Words.{HasWord, written}
-use Rattle.weak_clearing.specs.declared.handles.Handles.TheVariants.{WeakFields}
+use Rattle.weak_clearing.specs.declared.weak_handles.WeakHandles.TheVariants.{Fields}
 use Rattle.weak_clearing.specs.Clearing.{names_unmarked}
 use Rattle.weak_clearing.proofs.Words.{field_word, reads_reference, handle_stays, field_nulled}
 use Rattle.weak_clearing.proofs.fields.clear_field.Goals as goal
@@ -14,7 +14,7 @@ get-target-requires-clause-field c = field_word is_reference c.args.seat.now c.a
 pub is_to_unmarked-requires-clause-reference : goal.is_to_unmarked-requires-clause-reference
 is_to_unmarked-requires-clause-reference c =
     subst (λ (v : SeatView). IsReference v.bodies c.get-target.result) (sym c.get-target.ensures.view)
-    (reads_reference WeakFields c.args.seat.now c.args.holder c.args.word c.get-target.result c.requires.field c.get-target.ensures.word)
+    (reads_reference Fields c.args.seat.now c.args.holder c.args.word c.get-target.result c.requires.field c.get-target.ensures.word)
 
 pub set_weak-requires-clause-field : goal.set_weak-requires-clause-field
 set_weak-requires-clause-field c =
@@ -37,4 +37,4 @@ returns-else-is_to_unmarked c =
     let kept : names_unmarked c.args.seat.now.marked c.get-target.result ≡ false =
     ap (λ (v : SeatView). names_unmarked v.marked c.get-target.result) (sym c.get-target.ensures.view) ∙ sym c.is_to_unmarked.ensures.names ∙ c.if-is_to_unmarked.false in
     c.is_to_unmarked.ensures.view ∙ c.get-target.ensures.view
-    ∙ handle_stays c.args.seat.now c.args.holder c.args.word c.get-target.result c.get-target.ensures.word WeakFields kept
+    ∙ handle_stays c.args.seat.now c.args.holder c.args.word c.get-target.result c.get-target.ensures.word Fields kept

@@ -2,7 +2,7 @@ use Rattle.std.proofs.Common.{◌≡◌, true, false, ap, sym, ◌∙◌, subst}
 use Rattle.page_words.specs.Bodies.{IsReference}
 use Rattle.page_words.specs.Seat.{SeatView}
 use Rattle.member_fields.specs.Words.{HasPair, pair_written}
-use Rattle.weak_clearing.specs.declared.handles.Handles.TheVariants.{Pairs}
+use Rattle.weak_clearing.specs.declared.weak_handles.WeakHandles.TheVariants.{Pairs}
 use Rattle.weak_clearing.specs.Clearing.{names_unmarked}
 use Rattle.weak_clearing.proofs.Words.{whole_pair, reads_reference, handle_stays, pair_nulled}
 use Rattle.weak_clearing.proofs.pairs.clear_pair.Goals as goal

@@ -3,7 +3,7 @@ use Rattle.std.proofs.lemmas.List.{take_all, take_more}
 use Rattle.gc_graph.specs.State.{ObjectType}
 use Rattle.type_table.specs.Types.{kinds_of, offsets_of_kind}
 use Rattle.page_words.specs.Seat.{SeatView}
-use Rattle.weak_clearing.specs.declared.handles.Handles.{Handles}
+use Rattle.weak_clearing.specs.declared.weak_handles.WeakHandles.{WeakHandles}
 use Rattle.weak_clearing.specs.Steps.{HasHandle, kind_of_handles, handle_cleared}
 use Rattle.weak_clearing.proofs.Holder.{holder_handle, handle_stays, listed_none, listed_cleared, one_more_cleared, all_listed}
 use Rattle.weak_clearing.proofs.walk.clear_holder.Goals as goal
@@ -11,7 +11,7 @@ use Rattle.weak_clearing.proofs.walk.clear_holder.Goals as goal
 pub loop-word-init : goal.loop-word-init
 loop-word-init c = listed_none c.args.handles c.args.seat.now c.args.holder
 
-told : (handles : Handles) (types : List ObjectType) (v : SeatView) (ty : ℕ) (words : List ℕ) → types ≡ v.types
+told : (handles : WeakHandles) (types : List ObjectType) (v : SeatView) (ty : ℕ) (words : List ℕ) → types ≡ v.types
     → words ≡ offsets_of_kind (kind_of_handles handles) (kinds_of types ty) → words ≡ offsets_of_kind (kind_of_handles handles) (kinds_of v.types ty)
 told handles types v ty words same is = is ∙ ap (λ ts. offsets_of_kind (kind_of_handles handles) (kinds_of ts ty)) same
 

@@ -1,6 +1,6 @@
 use Rattle.std.proofs.Common.{sym, subst}
 use Rattle.page_words.specs.Seat.{SeatView}
-use Rattle.weak_clearing.specs.declared.handles.Handles.TheVariants.{Pairs}
+use Rattle.weak_clearing.specs.declared.weak_handles.WeakHandles.TheVariants.{Pairs}
 use Rattle.weak_clearing.proofs.Grounds.{IsGround, ground_cleared}
 use Rattle.weak_clearing.proofs.tests.Ground.clear_pairs.Goals as goal
 

@@ -4,7 +4,7 @@ use Rattle.object_headers.specs.declared.header.Header.{Header}
 use Rattle.page_words.specs.Bodies.{IsPlace, IsReference}
 use Rattle.page_words.specs.Seat.{SeatView, stored}
 use Rattle.member_fields.specs.Words.{HasPair, pair_written}
-use Rattle.weak_clearing.specs.declared.handles.Handles.TheVariants.{Pairs}
+use Rattle.weak_clearing.specs.declared.weak_handles.WeakHandles.TheVariants.{Pairs}
 use Rattle.weak_clearing.proofs.Grounds.{ground_typed, ground_handle, ground_paired}
 use Rattle.weak_clearing.proofs.Words.{whole_pair}
 use Rattle.weak_clearing.proofs.tests.Ground.join.Goals as goal

@@ -5,7 +5,7 @@ use Rattle.page_words.specs.Bodies.{IsPlace, IsReference}
 use Rattle.page_words.specs.Seat.{SeatView, stored}
 use Rattle.gc_graph.specs.Fields.{is_weak}
 use Rattle.member_fields.specs.Words.{HasWord, written}
-use Rattle.weak_clearing.specs.declared.handles.Handles.TheVariants.{WeakFields}
+use Rattle.weak_clearing.specs.declared.weak_handles.WeakHandles.TheVariants.{Fields}
 use Rattle.weak_clearing.proofs.Grounds.{ground_typed, ground_handle, ground_written}
 use Rattle.weak_clearing.proofs.Words.{field_word}
 use Rattle.weak_clearing.proofs.tests.Ground.point.Goals as goal
@@ -23,7 +23,7 @@ set_weak-requires-clause-field c =
     let words : List ℕ = c.weak_words-words.result.now in
     subst (λ (v : SeatView). HasWord is_weak v c.args.holder (get_or words c.args.field 0)) (sym c.header_at-ty.ensures.view)
     (field_word is_weak c.self.inside.seat c.args.holder (get_or words c.args.field 0) refl
-    (ground_handle WeakFields c.self.inside.space c.self.inside.seat c.self.inside.types start.0 c.args.holder c.header_at-ty.result.ty c.args.field words
+    (ground_handle Fields c.self.inside.space c.self.inside.seat c.self.inside.types start.0 c.args.holder c.header_at-ty.result.ty c.args.field words
     c.bodies_lie_apart.ensures c.self.invariant start.1 start.2 of c.weak_words-words.ensures c.if-field-words.true))
 
 pub invariant_of-self : goal.invariant_of-self
