@@ -13,7 +13,6 @@ use Rattle.built_forms.specs.Built.{is_built_kind, is_built_type}
 use Rattle.gc_graph.specs.State.{Setup, ObjectType, Node, node_at, type_at, IsLive}
 use Rattle.gc_graph.specs.Valid.{IsTyped, HaveKinds, IsReferenceBelow, IsPlainWord, NamesLive}
 use Rattle.gc_graph.specs.Fields.{words_of_kind, field_words, nulls_of_kind, nulls_of, new_node}
-use Rattle.heap_engine.specs.Marking.{ArePairless}
 use Rattle.heap_engine.specs.Nodes.{word_of}
 use Rattle.heap_engine.specs.Objects.{AreBuilt, AreOfValid}
 
@@ -33,6 +32,10 @@ no_pair (kind ∷ kinds) built (zero, low, is) =
     true≢false (sym (and_parts (is_built_kind kind) (list_all is_built_kind kinds) built).0 ∙ ap is_built_kind is)
 no_pair (kind ∷ kinds) built (suc k, low, is) =
     no_pair kinds (and_parts (is_built_kind kind) (list_all is_built_kind kinds) built).1 (k, omega arith, is)
+
+-- no type has a pair
+abbrev pub ArePairless : List ObjectType → Type 0
+ArePairless types = All (λ type. Contains type.kinds Pair → ⊥) types
 
 pub built_pairless : (types : List ObjectType) → AreBuilt types → ArePairless types
 built_pairless types built =

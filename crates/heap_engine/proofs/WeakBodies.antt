@@ -18,7 +18,7 @@ use Rattle.weak_clearing.specs.Clearing.{clear_weak, clear_words, clear_body}
 use Rattle.heap_engine.specs.Nodes.{word_of, body_of, bodies_from}
 use Rattle.heap_engine.proofs.NodeBodies.{bodies-there, bodies-gone}
 use Rattle.heap_engine.proofs.WeakNodes.{life-clear}
-use Rattle.heap_engine.proofs.MarkCounts.{Contains-cons, Contains-head}
+use Rattle.heap_engine.proofs.Lists.{Contains-cons, Contains-head}
 
 -- ---- the values of a live node
 

@@ -18,7 +18,7 @@ use Rattle.page_words.specs.Seat.{SeatView, IsQuiet, holds}
 use Rattle.page_space.specs.Space.{SpaceView, IsSpaceOf, IsSpaceOver, extents_of_bodies}
 use Rattle.persistent_slots.specs.Clearing.{taken}
 use Rattle.weak_clearing.specs.Clearing.{clear_words, clear_body, with_weak_cleared}
-use Rattle.heap_engine.specs.Marking.{ArePairless, MarksReachable}
+use Rattle.heap_engine.specs.Marking.{MarksReachable}
 use Rattle.heap_engine.specs.Objects.{AreBuilt, AreOfValid}
 use Rattle.heap_engine.specs.Sweeping.{IsJudged}
 use Rattle.heap_engine.specs.Judgement.{nodes_after, weak_after}
@@ -26,11 +26,11 @@ use Rattle.heap_engine.specs.Changes.{cleared_in}
 use Rattle.heap_engine.specs.Parts.{HandlesView}
 use Rattle.heap_engine.specs.Nodes.{place_of, word_of, body_of, bodies_of, IsHeld}
 use Rattle.heap_engine.specs.View.{kept_of, places_of}
-use Rattle.heap_engine.proofs.MarkCounts.{Contains-map_some}
+use Rattle.heap_engine.proofs.Lists.{Contains-map_some}
 use Rattle.heap_engine.proofs.NodeChanges.{bodies-same}
 use Rattle.heap_engine.proofs.NodePlaces.{node_body, live_is_there}
 use Rattle.heap_engine.proofs.NodeLives.{life-condemn, object-condemn, place-condemn, length-condemn, there-condemn, live_if_there, dead_judged}
-use Rattle.heap_engine.proofs.StrongFields.{AreKnown, known_nodes, built_pairless}
+use Rattle.heap_engine.proofs.StrongFields.{AreKnown, ArePairless, known_nodes, built_pairless}
 use Rattle.heap_engine.proofs.HeldNodes.{none_dead, held_judged}
 use Rattle.heap_engine.proofs.KeptNodes.{has-kept, slots_live}
 use Rattle.heap_engine.proofs.WeakNodes.{life-after, place-after}

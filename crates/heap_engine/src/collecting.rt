@@ -4,7 +4,7 @@
 ghost use Rattle.std.specs.Prelude.{◌≡◌, ◌*◌, ◌^◌, ◌<◌};
 ghost use Rattle.std.specs.Prelude.{◌≤◌, [], length, map, All};
 ghost use Rattle.std.specs.Prelude.{vec_capacity};
-ghost use Rattle.gc_graph.specs.State.{slot_targets, objects_of};
+ghost use Rattle.gc_graph.specs.State.{slot_targets};
 ghost use Rattle.gc_graph.specs.Pause.{live_count};
 ghost use Rattle.gc_graph.specs.Sweep.{AreDeadInOrder};
 ghost use Rattle.gc_graph.specs.Valid.{AreLive};
@@ -23,7 +23,7 @@ ghost use Rattle.heap_engine.specs.Changes.{cleared_in};
 ghost use Rattle.heap_engine.specs.Parts.{setup_of_objects};
 
 use crate::handles::Handles;
-use crate::mark_list::MarkList;
+use crate::marking::{Grey, Marked};
 use crate::nodes::{self, NodeLists};
 use crate::objects::Objects;
 use crate::sweeping::sweep_pages;
@@ -36,7 +36,7 @@ use weak_clearing::clear_fields;
 impl Objects {
     /// Marks what the strong slots reach, which is kept, and condemns the other objects. Weak fields
     /// of kept objects and weak slots whose object is condemned become null, before any object goes.
-    pub fn judge(&mut self, handles: &mut Handles, grey: &mut MarkList)
+    pub fn judge(&mut self, handles: &mut Handles, grey: &mut Grey) -> Marked
         requires valid { AreOfValid (setup_of_objects self.old) self.old.nodes }
         requires quiet { IsQuiet self.old.seat }
         requires few { length self.old.nodes ≤ 1000000 }
@@ -44,8 +44,6 @@ impl Objects {
         requires weak { handles.old.weak_places ≡ places_of self.old.nodes handles.old.weak }
         requires live { AreLive self.old.nodes (slot_targets handles.old.slots) }
         requires weak_live { AreLive self.old.nodes (slot_targets handles.old.weak) }
-        requires empty { grey.old.places ≡ [] }
-        requires room { objects_of self.old.nodes ≤ grey.old.room }
         ensures judged { IsJudgement self.old.nodes handles.old.slots handles.old.weak
             self.new.nodes handles.new.weak }
         ensures handles { handles.new ≡ record handles.old {
@@ -53,14 +51,18 @@ impl Objects {
           weak = handles.new.weak;
         } }
         ensures marks { IsJudged self.new.seat }
-        ensures listed { grey.new.places ≡ [] }
-        ensures marked { grey.new.marked ≡ live_count self.new.nodes }
-        ensures traced { grey.new.traced ≡ grey.new.marked }
+        ensures kept { result.kept ≡ live_count self.new.nodes }
         ensures setup { setup_of_objects self.new ≡ setup_of_objects self.old }
     {
         self.seat.bodies_lie_apart();
         gc_graph::reach_is_least();
-        grey.mark_reachable(&self.space, &mut self.seat, &self.types, handles.strong());
+        type_table::fields_stand_apart();
+        let marked = grey.mark_reachable(
+            &self.space,
+            &mut self.seat,
+            &self.types,
+            handles.strong(),
+        );
         clear_weak(
             &self.space,
             &self.types,
@@ -69,6 +71,7 @@ impl Objects {
             &self.nodes,
         );
         self.nodes = nodes::judged(&self.nodes, &self.seat);
+        marked
     }
 
     /// Sweeps all pages. The numbers of the finalised objects are put into `finalised`, which has
