@@ -92,14 +92,7 @@ impl Grey {
         mark_slots(space.words(), seat, &mut self.marking, slots);
         // A slot's object that is marked and not listed can be found by a walk alone.
         let walk = self.marking.overflow;
-        let kept = fixpoint(
-            space,
-            types,
-            seat,
-            &mut self.marking,
-            &mut self.notes,
-            walk,
-        );
+        let kept = fixpoint(space, types, seat, &mut self.marking, &mut self.notes, walk);
         seat.bodies_lie_apart();
         space.words().set_stop(seat, true);
         let walked = clear(&mut self.marking, &mut self.notes);
