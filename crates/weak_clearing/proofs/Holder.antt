@@ -1,163 +1,142 @@
--- The weak words of one body cleared, one after the other.
-use Rattle.std.proofs.Common.{◌≡◌, ℕ, ◌+◌, ◌-◌, ◌<◌, ◌≤◌, true, false, cond, List, [], ◌∷◌, ◌++◌, length, get_or, map, refl, sym, ap, ◌∙◌, subst, inl, inr, arith, eqb, leb, ltb}
+-- The handles of one body cleared, one after the other.
+use Rattle.std.proofs.Common.{◌≡◌, ℕ, ◌+◌, ◌-◌, ◌<◌, ◌≤◌, true, cond, List, [], ◌∷◌, ◌++◌, length, get_or, map, refl, sym, ap, ◌∙◌, subst, inl, inr, arith, eqb}
 use Rattle.std.specs.List.{Contains}
-use Rattle.std.proofs.lemmas.Bool.{cases_Bool, cases_eq, cond-true, cond-false, cond_both, eq-eqb, ne_eqb, and_from, and_parts, le-leb, lt-ltb, leb-true, ltb-true}
-use Rattle.std.proofs.lemmas.List.Elements.{All-contains}
-use Rattle.gc_graph.specs.declared.kind.Kind.TheVariants.{Weak, Plain}
+use Rattle.std.proofs.lemmas.Bool.{cases_eq, cond-true, cond-false, cond_both, ne_eqb}
+use Rattle.std.proofs.lemmas.List.Elements.{All-contains, Contains-get_or}
+use Rattle.gc_graph.specs.declared.kind.Kind.{Kind}
+use Rattle.gc_graph.specs.declared.kind.Kind.TheVariants.{Plain}
 use Rattle.type_table.specs.Types.{kinds_of, offsets_of_kind}
 use Rattle.type_table.specs.Layouts.{kinds_of_words}
-use Rattle.page_words.specs.Bodies.{Body, IsWhole, IsReference, end_of, kind_in}
+use Rattle.page_words.specs.Bodies.{Body, IsWhole, IsReference, kind_in}
 use Rattle.page_words.specs.Seat.{SeatView, IsView, holds}
-use Rattle.weak_clearing.specs.Clearing.{MarkedHaveWeakReferences, clear_weak, clear_body, clear_words}
-use Rattle.weak_clearing.specs.Steps.{IsMarkedOf, HasWeakAt, body_cleared, clear_word_at, word_cleared}
+use Rattle.weak_clearing.specs.declared.handles.Handles.{Handles}
+use Rattle.weak_clearing.specs.Clearing.{HasReferencesOf, MarkedHaveReferencesOf}
+use Rattle.weak_clearing.specs.Steps.{IsMarkedOf, HasHandle, kind_of_handles, cleared_at, clear_handle_in, clear_handles, clear_words_of, handle_cleared, body_cleared}
 use Rattle.weak_clearing.proofs.Lists.{map_same, map_after, map_stays, contains_map}
-use Rattle.weak_clearing.proofs.WeakWords.{IsWeakAt, weak_told, clear_nth, clear_listed, clear_listed-push, listed_are_cleared}
-use Rattle.weak_clearing.proofs.Words.{has_word, rewritten}
+use Rattle.weak_clearing.proofs.HandleWords.{BeginsField, field_told, clear_listed, clear_listed-push, listed_are_cleared}
+use Rattle.weak_clearing.proofs.Words.{at_twice}
 use Rattle.weak_clearing.proofs.Lessened.{IsLessened, same_body, with_fields, listed_lessened, word_stays_reference}
 
-abbrev listed_body : List ℕ → List ℕ → Body → Body
-listed_body marked offsets b = record b { fields = clear_listed marked offsets b.fields }
+abbrev listed_body : Handles → List ℕ → List ℕ → Body → Body
+listed_body handles marked offsets b = record b { fields = clear_listed handles marked offsets b.fields }
 
--- the body at the place with the words at these offsets cleared
-abbrev pub clear_listed_at : List ℕ → ℕ → List ℕ → Body → Body
-clear_listed_at marked place offsets b = cond (eqb b.place place) (listed_body marked offsets b) b
+-- the body at the place with the handles at these offsets cleared
+abbrev pub clear_listed_at : Handles → List ℕ → ℕ → List ℕ → Body → Body
+clear_listed_at handles marked place offsets b = cond (eqb b.place place) (listed_body handles marked offsets b) b
 
 -- the same, in a view
-abbrev pub listed_cleared : SeatView → ℕ → List ℕ → SeatView
-listed_cleared v place offsets = record v { bodies = map (clear_listed_at v.marked place offsets) v.bodies }
+abbrev pub listed_cleared : Handles → SeatView → ℕ → List ℕ → SeatView
+listed_cleared handles v place offsets = record v { bodies = map (clear_listed_at handles v.marked place offsets) v.bodies }
 
-at_lessened : (marked : List ℕ) (place : ℕ) (offsets : List ℕ) (b : Body) → IsLessened b (clear_listed_at marked place offsets b)
-at_lessened marked place offsets b =
-    cond_both (eqb b.place place) (listed_body marked offsets b) b (IsLessened b)
-    (λ _. with_fields b (clear_listed marked offsets b.fields) (listed_lessened marked offsets b.fields)) (λ _. same_body b)
+at_lessened : (handles : Handles) (marked : List ℕ) (place : ℕ) (offsets : List ℕ) (b : Body) → IsLessened b (clear_listed_at handles marked place offsets b)
+at_lessened handles marked place offsets b =
+    cond_both (eqb b.place place) (listed_body handles marked offsets b) b (IsLessened b)
+    (λ _. with_fields b (clear_listed handles marked offsets b.fields) (listed_lessened handles marked offsets b.fields)) (λ _. same_body b)
 
-pub listed_none : (v : SeatView) (place : ℕ) → v ≡ listed_cleared v place []
-listed_none v place =
+pub listed_none : (handles : Handles) (v : SeatView) (place : ℕ) → v ≡ listed_cleared handles v place []
+listed_none handles v place =
     ap (λ (bs : List Body). (let x : SeatView = record v { bodies = bs } in x))
-    (sym (map_stays (clear_listed_at v.marked place []) v.bodies (λ b there. cond_both (eqb b.place place) b b (λ c. c ≡ b) (λ _. refl) (λ _. refl))))
+    (sym (map_stays (clear_listed_at handles v.marked place []) v.bodies (λ b there. cond_both (eqb b.place place) b b (λ c. c ≡ b) (λ _. refl) (λ _. refl))))
 
--- ---- the holder and the word in hand
+-- ---- the holder and the handle in hand
 
--- one of the bodies has the place, and a word of a weak field at the offset
-pub record HasWeak (v : SeatView) (place offset : ℕ) : Type 0 where
-  pub body : Body
-  pub there : Contains v.bodies body
-  pub at : body.place ≡ place
-  pub least : 2 ≤ offset
-  pub low : offset - 2 < length body.fields
-  pub inside : place + offset < end_of body
-  pub address : place + offset < v.count
-  pub kind : kind_in v.types body (offset - 2) ≡ Weak
-  pub reference : IsReference v.bodies (get_or body.fields (offset - 2) 0)
-
-pub has_weak : (v : SeatView) (place ty k : ℕ) (told : List ℕ) → IsView v → MarkedHaveWeakReferences v → IsMarkedOf v place ty
-    → told ≡ offsets_of_kind Weak (kinds_of v.types ty) → k < length told → HasWeak v place (get_or told k 0)
-has_weak v place ty k told view have (b, there, at, of, marked) is low =
+-- a body with references has a handle at each told offset
+pub has_handle : (handles : Handles) (v : SeatView) (b : Body) (told : List ℕ) (k : ℕ) → IsView v → Contains v.bodies b
+    → HasReferencesOf (kind_of_handles handles) v.types v.bodies b → told ≡ offsets_of_kind (kind_of_handles handles) (kinds_of v.types b.ty) → k < length told
+    → HasHandle handles v b.place (get_or told k 0)
+has_handle handles v b told k view there has is low =
+    let kind : Kind = kind_of_handles handles in
     let whole : IsWhole v.count b = All-contains (IsWhole v.count) v.bodies b view.whole there in
-    let holder : holds v.marked b.place ≡ true = ap (holds v.marked) at ∙ marked in
-    let words = (have b there holder).whole in
-    let field : IsWeakAt 2 (kinds_of v.types b.ty) (get_or told k 0) =
-    weak_told (kinds_of v.types b.ty) told k (is ∙ ap (λ t. offsets_of_kind Weak (kinds_of v.types t)) (sym of)) low in
+    let field : BeginsField kind 2 (kinds_of v.types b.ty) (get_or told k 0) = field_told kind (kinds_of v.types b.ty) told k is low in
     let number : get_or told k 0 - 2 ≡ field.index = omega (arith, field.at) in
     record {
       body = b;
       there = there;
-      at = at;
-      least = omega (arith, field.at);
-      low = omega (arith, field.at, field.low, words);
-      inside = omega (arith, field.at, field.low, words, whole.fields, at);
-      address = omega (arith, field.at, field.low, words, whole.fields, whole.inside, at);
-      kind = ap (kind_in v.types b) number ∙ field.weak;
-      reference = subst (λ i. IsReference v.bodies (get_or b.fields i 0)) (sym number) ((have b there holder).named field.index field.weak);
+      place = refl;
+      first = omega (arith, field.at);
+      last = omega (arith, field.at, field.low, has.whole, whole.fields);
+      told = subst (λ offsets. Contains offsets (get_or told k 0)) is (Contains-get_or told k 0 low);
+      kind = ap (kind_in v.types b) number ∙ field.kind;
+      reference = subst (λ i. IsReference v.bodies (get_or b.fields i 0)) (sym number) (has.named field.index field.kind);
     }
 
-pub weak_reference : (v : SeatView) (place offset : ℕ) (offsets : List ℕ) → HasWeak v place offset
-    → HasWeakAt (listed_cleared v place offsets) (place + offset)
-weak_reference v place offset offsets has =
-    let f : Body → Body = clear_listed_at v.marked place offsets in
-    let less : IsLessened has.body (f has.body) = at_lessened v.marked place offsets has.body in
-    let number : place + offset - ((f has.body).place + 2) ≡ offset - 2 = omega (arith, less.place, has.at) in (
-      f has.body,
-      contains_map f v.bodies has.body has.there,
-      omega (arith, less.place, has.at, has.least),
-      omega (arith, less.place, less.size, has.at, has.inside),
-      ap (λ ty. get_or (kinds_of_words (kinds_of v.types ty)) (place + offset - ((f has.body).place + 2)) Plain) less.ty ∙ ap (kind_in v.types has.body) number ∙ has.kind,
-      subst (λ i. IsReference (map f v.bodies) (get_or (f has.body).fields i 0)) (sym number)
-          (word_stays_reference f (at_lessened v.marked place offsets) v.bodies has.body (offset - 2) has.reference),
-    )
+-- so it has while others are cleared
+pub handle_stays : (handles : Handles) (v : SeatView) (place offset : ℕ) (offsets : List ℕ) → HasHandle handles v place offset
+    → HasHandle handles (listed_cleared handles v place offsets) place offset
+handle_stays handles v place offset offsets has =
+    let f : Body → Body = clear_listed_at handles v.marked place offsets in
+    let less : IsLessened has.body (f has.body) = at_lessened handles v.marked place offsets has.body in
+    record {
+      body = f has.body;
+      there = contains_map f v.bodies has.body has.there;
+      place = less.place ∙ has.place;
+      first = has.first;
+      last = omega (arith, less.size, has.last);
+      told = subst (λ ty. Contains (offsets_of_kind (kind_of_handles handles) (kinds_of v.types ty)) offset) (sym less.ty) has.told;
+      kind = ap (λ ty. get_or (kinds_of_words (kinds_of v.types ty)) (offset - 2) Plain) less.ty ∙ has.kind;
+      reference = word_stays_reference f (at_lessened handles v.marked place offsets) v.bodies has.body (offset - 2) has.reference;
+    }
 
--- ---- one more word
+pub holder_handle : (handles : Handles) (v : SeatView) (place ty : ℕ) (told : List ℕ) (k : ℕ) → IsView v → MarkedHaveReferencesOf (kind_of_handles handles) v
+    → IsMarkedOf v place ty → told ≡ offsets_of_kind (kind_of_handles handles) (kinds_of v.types ty) → k < length told → HasHandle handles v place (get_or told k 0)
+holder_handle handles v place ty told k view have (b, there, at, of, marked) is low =
+    subst (λ p. HasHandle handles v p (get_or told k 0)) at
+    (has_handle handles v b told k view there (have b there (ap (holds v.marked) at ∙ marked))
+    (is ∙ ap (λ t. offsets_of_kind (kind_of_handles handles) (kinds_of v.types t)) (sym of)) low)
+
+-- ---- one more handle
+
+one_more : (handles : Handles) (marked : List ℕ) (place offset : ℕ) (offsets : List ℕ) (b : Body)
+    → clear_handle_in handles marked place offset (clear_listed_at handles marked place offsets b) ≡ clear_listed_at handles marked place (offsets ++ offset ∷ []) b
+one_more handles marked place offset offsets b =
+    at_twice place (λ x. record x { fields = cleared_at handles marked (offset - 2) x.fields }) (listed_body handles marked offsets) b refl
+    ∙ ap (λ (fs : List ℕ). cond (eqb b.place place) (record b { fields = fs }) b) (sym (clear_listed-push handles marked offsets offset b.fields))
+
+pub one_more_cleared : (handles : Handles) (v : SeatView) (place offset : ℕ) (offsets : List ℕ)
+    → handle_cleared handles (listed_cleared handles v place offsets) place offset ≡ listed_cleared handles v place (offsets ++ offset ∷ [])
+one_more_cleared handles v place offset offsets =
+    let one : Body → Body = clear_handle_in handles v.marked place offset in
+    ap (λ (bs : List Body). (let x : SeatView = record v { bodies = bs } in x))
+    (map_after one (clear_listed_at handles v.marked place offsets) v.bodies
+    ∙ map_same (λ b. one (clear_listed_at handles v.marked place offsets b)) (clear_listed_at handles v.marked place (offsets ++ offset ∷ [])) v.bodies
+    (λ b there. one_more handles v.marked place offset offsets b))
+
+-- ---- all of them
 
 -- one body alone has the place
-pub one_body : (v : SeatView) (b c : Body) → IsView v → Contains v.bodies b → Contains v.bodies c → b.place ≡ c.place → b ≡ c
+one_body : (v : SeatView) (b c : Body) → IsView v → Contains v.bodies b → Contains v.bodies c → b.place ≡ c.place → b ≡ c
 one_body v b c view b_there c_there same =
     let b_whole : IsWhole v.count b = All-contains (IsWhole v.count) v.bodies b view.whole b_there in
     let c_whole : IsWhole v.count c = All-contains (IsWhole v.count) v.bodies c view.whole c_there in
     view.apart b c b.place b_there c_there (omega arith) (omega (arith, b_whole.fields)) (omega (arith, same)) (omega (arith, same, c_whole.fields))
 
-one_more : (v : SeatView) (place offset : ℕ) (offsets : List ℕ) (b : Body) → IsView v → HasWeak v place offset → Contains v.bodies b
-    → clear_word_at v.marked (place + offset) (clear_listed_at v.marked place offsets b) ≡ clear_listed_at v.marked place (offsets ++ offset ∷ []) b
-one_more v place offset offsets b view has there = elim (cases_eq b.place place) [
-  | inl here ↦
-      (let c : Body = listed_body v.marked offsets b in
-      let now : clear_listed_at v.marked place offsets b ≡ c = cond-true (eqb b.place place) c b (eq-eqb b.place place here) in
-      let one : b ≡ has.body = one_body v b has.body view there has.there (here ∙ sym has.at) in
-      let inside : place + offset < end_of b = subst (λ (x : Body). place + offset < end_of x) (sym one) has.inside in
-      let number : place + offset - (b.place + 2) ≡ offset - 2 = omega (arith, here) in
-      let within : has_word (place + offset) c ≡ true =
-      and_from (leb (b.place + 2) (place + offset)) (ltb (place + offset) (end_of b)) (le-leb (b.place + 2) (place + offset) (omega (arith, here, has.least)))
-      (lt-ltb (place + offset) (end_of b) inside) in
-      ap (clear_word_at v.marked (place + offset)) now
-      ∙ cond-true (has_word (place + offset) c) (rewritten (place + offset) (clear_weak v.marked (get_or c.fields (place + offset - (b.place + 2)) 0)) c) c within
-      ∙ ap (λ i. (let x : Body = record b { fields = clear_nth v.marked i c.fields } in x)) number
-      ∙ ap (λ (fs : List ℕ). (let x : Body = record b { fields = fs } in x)) (sym (clear_listed-push v.marked offsets offset b.fields))
-      ∙ sym (cond-true (eqb b.place place) (listed_body v.marked (offsets ++ offset ∷ []) b) b (eq-eqb b.place place here)))
-  | inr other ↦
-      (let off : eqb b.place place ≡ false = ne_eqb b.place place other in
-      let outside : has_word (place + offset) b ≡ false = elim (cases_Bool (has_word (place + offset) b)) [
-        | inl within ↦ (let both = and_parts (leb (b.place + 2) (place + offset)) (ltb (place + offset) (end_of b)) within in
-            absurd (other (ap (λ (x : Body). x.place) (view.apart b has.body (place + offset) there has.there
-            (omega (arith, leb-true (b.place + 2) (place + offset) both.0)) (ltb-true (place + offset) (end_of b) both.1) (omega (arith, has.at)) has.inside) ∙ has.at)))
-        | inr out ↦ out
-      ] in
-      ap (clear_word_at v.marked (place + offset)) (cond-false (eqb b.place place) (listed_body v.marked offsets b) b off)
-      ∙ cond-false (has_word (place + offset) b) (rewritten (place + offset) (clear_weak v.marked (get_or b.fields (place + offset - (b.place + 2)) 0)) b) b outside
-      ∙ sym (cond-false (eqb b.place place) (listed_body v.marked (offsets ++ offset ∷ []) b) b off))
-]
+module _ (handles : Handles) (v : SeatView) where
+  listed_whole : (b : Body) (ty : ℕ) → holds v.marked b.place ≡ true → b.ty ≡ ty → HasReferencesOf (kind_of_handles handles) v.types v.bodies b
+      → listed_body handles v.marked (offsets_of_kind (kind_of_handles handles) (kinds_of v.types ty)) b ≡ clear_handles handles v.types v.marked b
+  listed_whole b ty marked of has =
+      let kind : Kind = kind_of_handles handles in
+      let cleared : List ℕ = clear_words_of handles v.marked (kinds_of v.types b.ty) b.fields in
+      let words : clear_listed handles v.marked (offsets_of_kind kind (kinds_of v.types ty)) b.fields ≡ cleared =
+      ap (λ t. clear_listed handles v.marked (offsets_of_kind kind (kinds_of v.types t)) b.fields) (sym of)
+      ∙ listed_are_cleared handles v.marked (kinds_of v.types b.ty) b.fields has.whole in
+      ap (λ (fs : List ℕ). (let x : Body = record b { fields = fs } in x)) words
+      ∙ sym (cond-true (holds v.marked b.place) (record b { fields = cleared }) b marked)
 
-pub one_more_cleared : (v : SeatView) (place offset : ℕ) (offsets : List ℕ) → IsView v → HasWeak v place offset
-    → word_cleared (listed_cleared v place offsets) (place + offset) ≡ listed_cleared v place (offsets ++ offset ∷ [])
-one_more_cleared v place offset offsets view has =
-    ap (λ (bs : List Body). (let x : SeatView = record v { bodies = bs } in x))
-    (map_after (clear_word_at v.marked (place + offset)) (clear_listed_at v.marked place offsets) v.bodies
-    ∙ map_same (λ b. clear_word_at v.marked (place + offset) (clear_listed_at v.marked place offsets b)) (clear_listed_at v.marked place (offsets ++ offset ∷ []))
-    v.bodies (λ b there. one_more v place offset offsets b view has there))
+  pub all_listed : (place ty : ℕ) → IsView v → MarkedHaveReferencesOf (kind_of_handles handles) v → IsMarkedOf v place ty
+      → listed_cleared handles v place (offsets_of_kind (kind_of_handles handles) (kinds_of v.types ty)) ≡ body_cleared handles v place
+  all_listed place ty view have (h, h_there, h_at, h_ty, marked) =
+      ap (λ (bs : List Body). (let x : SeatView = record v { bodies = bs } in x))
+      (map_same (clear_listed_at handles v.marked place offsets) (λ b. cond (eqb b.place place) (clear_handles handles v.types v.marked b) b) v.bodies each) where
+        offsets : List ℕ
+        offsets = offsets_of_kind (kind_of_handles handles) (kinds_of v.types ty)
 
--- ---- all of them
-
-pub all_cleared : (v : SeatView) (place ty : ℕ) → IsView v → MarkedHaveWeakReferences v → IsMarkedOf v place ty
-    → listed_cleared v place (offsets_of_kind Weak (kinds_of v.types ty)) ≡ body_cleared v place
-all_cleared v place ty view have (h, h_there, h_at, h_ty, marked) =
-    ap (λ (bs : List Body). (let x : SeatView = record v { bodies = bs } in x))
-    (map_same (clear_listed_at v.marked place offsets) (λ b. cond (eqb b.place place) (clear_body v.types v.marked b) b) v.bodies each) where
-      offsets : List ℕ
-      offsets = offsets_of_kind Weak (kinds_of v.types ty)
-
-      each : (b : Body) → Contains v.bodies b → clear_listed_at v.marked place offsets b ≡ cond (eqb b.place place) (clear_body v.types v.marked b) b
-      each b there = elim (cases_eq b.place place) [
-        | inl here ↦
-            (let one : b ≡ h = one_body v b h view there h_there (here ∙ sym h_at) in
-            let of : b.ty ≡ ty = ap (λ (x : Body). x.ty) one ∙ h_ty in
-            let holder : holds v.marked b.place ≡ true = ap (holds v.marked) here ∙ marked in
-            let cleared : List ℕ = clear_words v.marked (kinds_of_words (kinds_of v.types b.ty)) b.fields in
-            let words : clear_listed v.marked offsets b.fields ≡ cleared =
-            ap (λ t. clear_listed v.marked (offsets_of_kind Weak (kinds_of v.types t)) b.fields) (sym of)
-            ∙ listed_are_cleared v.marked (kinds_of v.types b.ty) b.fields ((have b there holder).whole) in
-            let body : listed_body v.marked offsets b ≡ clear_body v.types v.marked b =
-            ap (λ (fs : List ℕ). (let x : Body = record b { fields = fs } in x)) words
-            ∙ sym (cond-true (holds v.marked b.place) (record b { fields = cleared }) b holder) in
-            ap (λ (x : Body). cond (eqb b.place place) x b) body)
-        | inr other ↦
-            cond-false (eqb b.place place) (listed_body v.marked offsets b) b (ne_eqb b.place place other)
-            ∙ sym (cond-false (eqb b.place place) (clear_body v.types v.marked b) b (ne_eqb b.place place other))
-      ]
+        each : (b : Body) → Contains v.bodies b → clear_listed_at handles v.marked place offsets b ≡ cond (eqb b.place place) (clear_handles handles v.types v.marked b) b
+        each b there = elim (cases_eq b.place place) [
+          | inl here ↦
+              (let one : b ≡ h = one_body v b h view there h_there (here ∙ sym h_at) in
+              let holder : holds v.marked b.place ≡ true = ap (holds v.marked) here ∙ marked in
+              ap (λ (x : Body). cond (eqb b.place place) x b) (listed_whole b ty holder (ap (λ (x : Body). x.ty) one ∙ h_ty) (have b there holder)))
+          | inr other ↦
+              cond-false (eqb b.place place) (listed_body handles v.marked offsets b) b (ne_eqb b.place place other)
+              ∙ sym (cond-false (eqb b.place place) (clear_handles handles v.types v.marked b) b (ne_eqb b.place place other))
+        ]

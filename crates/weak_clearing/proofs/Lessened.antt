@@ -1,5 +1,5 @@
 -- Bodies in which some words became null.
-use Rattle.std.proofs.Common.{◌≡◌, ℕ, zero, suc, ◌-◌, ◌<◌, ◌≤◌, true, List, [], ◌∷◌, length, get_or, map, refl, sym, ap, ◌∙◌, subst, inl, inr, arith}
+use Rattle.std.proofs.Common.{◌≡◌, ℕ, zero, suc, ◌+◌, ◌<◌, ◌≤◌, true, cond, List, [], ◌∷◌, length, get_or, set, map, refl, sym, ap, ◌∙◌, subst, inl, inr, arith, ◌-◌}
 use mathlib.Core.Logic.{◌⊎◌}
 use Rattle.std.proofs.lemmas.Bool.{cond_both, cases_eq, cases_lt}
 use Rattle.std.proofs.lemmas.List.{get_or-set_same, get_or-set_other, length-set, get_or_past}
@@ -12,9 +12,12 @@ use Rattle.type_table.specs.Types.{kinds_of}
 use Rattle.type_table.specs.Layouts.{kinds_of_words}
 use Rattle.page_words.specs.Bodies.{Body, IsReference}
 use Rattle.page_words.specs.Seat.{SeatView, holds}
-use Rattle.weak_clearing.specs.Clearing.{names_unmarked, clear_weak, clear_word, clear_words, clear_body, HasWeakReferences, MarkedHaveWeakReferences}
+use Rattle.weak_clearing.specs.declared.handles.Handles.{Handles}
+use Rattle.weak_clearing.specs.declared.handles.Handles.TheVariants.{WeakFields, Pairs}
+use Rattle.weak_clearing.specs.Clearing.{names_unmarked, clear_word, clear_words, clear_pair_words, HasReferencesOf, MarkedHaveReferencesOf}
+use Rattle.weak_clearing.specs.Steps.{nulled, cleared_at, clear_words_of, clear_handles}
 use Rattle.weak_clearing.proofs.Lists.{contains_map, comes_from}
-use Rattle.weak_clearing.proofs.WeakWords.{clear_nth, clear_listed}
+use Rattle.weak_clearing.proofs.HandleWords.{clear_listed}
 
 -- as many words, each of which stayed or is null
 pub record AreLessened (old new : List ℕ) : Type 0 where
@@ -33,49 +36,75 @@ then_lessened a b c x y = record {
   ];
 }
 
-weak_lessened : (marked : List ℕ) (w : ℕ) → (clear_weak marked w ≡ 0) ⊎ (clear_weak marked w ≡ w)
-weak_lessened marked w = cond_both (names_unmarked marked w) 0 w (λ x. (x ≡ 0) ⊎ (x ≡ w)) (λ _. inl refl) (λ _. inr refl)
+one_lessened : (w x : ℕ) (words rest : List ℕ) → (x ≡ 0) ⊎ (x ≡ w) → AreLessened words rest → AreLessened (w ∷ words) (x ∷ rest)
+one_lessened w x words rest one is = record { many = ap suc is.many; each = each } where
+  each : (i : ℕ) → (get_or (x ∷ rest) i 0 ≡ 0) ⊎ (get_or (x ∷ rest) i 0 ≡ get_or (w ∷ words) i 0)
+  each zero = one
+  each (suc i) = is.each i
+
+-- ---- words cleared by their kinds
+
+null_or_same : (t : ℕ) (marked : List ℕ) (w : ℕ) → (cond (names_unmarked marked t) 0 w ≡ 0) ⊎ (cond (names_unmarked marked t) 0 w ≡ w)
+null_or_same t marked w = cond_both (names_unmarked marked t) 0 w (λ x. (x ≡ 0) ⊎ (x ≡ w)) (λ _. inl refl) (λ _. inr refl)
 
 word_lessened : (marked : List ℕ) (kind : Kind) (w : ℕ) → (clear_word marked kind w ≡ 0) ⊎ (clear_word marked kind w ≡ w)
-word_lessened marked Weak w = weak_lessened marked w
+word_lessened marked Weak w = null_or_same w marked w
 word_lessened marked Strong w = inr refl
 word_lessened marked Pair w = inr refl
 word_lessened marked Plain w = inr refl
 
-pub words_lessened : (marked : List ℕ) (kinds : List Kind) (words : List ℕ) → AreLessened words (clear_words marked kinds words)
-words_lessened marked [] words = same_words words
-words_lessened marked (kind ∷ kinds) [] = same_words []
-words_lessened marked (kind ∷ kinds) (w ∷ words) =
-    let rest : AreLessened words (clear_words marked kinds words) = words_lessened marked kinds words in
-    record { many = ap suc rest.many; each = each rest } where
-      each : AreLessened words (clear_words marked kinds words) → (i : ℕ)
-          → (get_or (clear_words marked (kind ∷ kinds) (w ∷ words)) i 0 ≡ 0) ⊎ (get_or (clear_words marked (kind ∷ kinds) (w ∷ words)) i 0 ≡ get_or (w ∷ words) i 0)
-      each rest zero = word_lessened marked kind w
-      each rest (suc i) = rest.each i
+weak_lessened : (marked : List ℕ) (kinds : List Kind) (words : List ℕ) → AreLessened words (clear_words marked kinds words)
+weak_lessened marked [] words = same_words words
+weak_lessened marked (kind ∷ kinds) [] = same_words []
+weak_lessened marked (kind ∷ kinds) (w ∷ words) =
+    one_lessened w (clear_word marked kind w) words (clear_words marked kinds words) (word_lessened marked kind w) (weak_lessened marked kinds words)
 
-nth_lessened : (marked : List ℕ) (n : ℕ) (words : List ℕ) → AreLessened words (clear_nth marked n words)
-nth_lessened marked n words = record {
-  many = length-set words n (clear_weak marked (get_or words n 0));
+pairs_lessened : (marked : List ℕ) (kinds : List Kind) (words : List ℕ) → AreLessened words (clear_pair_words marked kinds words)
+pairs_lessened marked [] words = same_words words
+pairs_lessened marked (kind ∷ kinds) [] = same_words []
+pairs_lessened marked (Strong ∷ kinds) (w ∷ words) = one_lessened w w words (clear_pair_words marked kinds words) (inr refl) (pairs_lessened marked kinds words)
+pairs_lessened marked (Weak ∷ kinds) (w ∷ words) = one_lessened w w words (clear_pair_words marked kinds words) (inr refl) (pairs_lessened marked kinds words)
+pairs_lessened marked (Plain ∷ kinds) (w ∷ words) = one_lessened w w words (clear_pair_words marked kinds words) (inr refl) (pairs_lessened marked kinds words)
+pairs_lessened marked (Pair ∷ kinds) (k ∷ []) = same_words (k ∷ [])
+pairs_lessened marked (Pair ∷ kinds) (k ∷ w ∷ words) =
+    let rest : List ℕ = clear_pair_words marked kinds words in
+    let value : ℕ = cond (names_unmarked marked k) 0 w in
+    one_lessened k (cond (names_unmarked marked k) 0 k) (w ∷ words) (value ∷ rest) (null_or_same k marked k)
+    (one_lessened w value words rest (null_or_same k marked w) (pairs_lessened marked kinds words))
+
+words_lessened : (handles : Handles) (marked : List ℕ) (kinds : List Kind) (words : List ℕ) → AreLessened words (clear_words_of handles marked kinds words)
+words_lessened WeakFields marked kinds words = weak_lessened marked (kinds_of_words kinds) words
+words_lessened Pairs marked kinds words = pairs_lessened marked kinds words
+
+-- ---- words cleared handle by handle
+
+null_lessened : (n : ℕ) (words : List ℕ) → AreLessened words (set words n 0)
+null_lessened n words = record {
+  many = length-set words n 0;
   each = λ i. elim (cases_eq i n) [
     | inl here ↦ elim (cases_lt n (length words)) [
-      | inl low ↦
-          (let at : get_or (clear_nth marked n words) i 0 ≡ clear_weak marked (get_or words n 0) =
-          ap (λ j. get_or (clear_nth marked n words) j 0) here ∙ get_or-set_same words n (clear_weak marked (get_or words n 0)) 0 low in
-          elim (weak_lessened marked (get_or words n 0)) [
-            | inl null ↦ inl (at ∙ null)
-            | inr same ↦ inr (at ∙ same ∙ ap (λ j. get_or words j 0) (sym here))
-          ])
-      | inr past ↦ inl (get_or_past (clear_nth marked n words) i 0 (omega (arith, here, length-set words n (clear_weak marked (get_or words n 0)))))
+      | inl low ↦ inl (ap (λ j. get_or (set words n 0) j 0) here ∙ get_or-set_same words n 0 0 low)
+      | inr past ↦ inl (get_or_past (set words n 0) i 0 (omega (arith, here, length-set words n 0)))
     ]
-    | inr other ↦ inr (get_or-set_other words n i (clear_weak marked (get_or words n 0)) 0 other)
+    | inr other ↦ inr (get_or-set_other words n i 0 0 other)
   ];
 }
 
-pub listed_lessened : (marked offsets words : List ℕ) → AreLessened words (clear_listed marked offsets words)
-listed_lessened marked [] words = same_words words
-listed_lessened marked (o ∷ offsets) words =
-    then_lessened words (clear_nth marked (o - 2) words) (clear_listed marked (o ∷ offsets) words) (nth_lessened marked (o - 2) words)
-    (listed_lessened marked offsets (clear_nth marked (o - 2) words))
+nulled_lessened : (handles : Handles) (n : ℕ) (words : List ℕ) → AreLessened words (nulled handles n words)
+nulled_lessened WeakFields n words = null_lessened n words
+nulled_lessened Pairs n words =
+    then_lessened words (set words (n + 1) 0) (set (set words (n + 1) 0) n 0) (null_lessened (n + 1) words) (null_lessened n (set words (n + 1) 0))
+
+handle_lessened : (handles : Handles) (marked : List ℕ) (n : ℕ) (words : List ℕ) → AreLessened words (cleared_at handles marked n words)
+handle_lessened handles marked n words =
+    cond_both (names_unmarked marked (get_or words n 0)) (nulled handles n words) words (AreLessened words) (λ _. nulled_lessened handles n words) (λ _. same_words words)
+
+pub listed_lessened : (handles : Handles) (marked offsets words : List ℕ) → AreLessened words (clear_listed handles marked offsets words)
+listed_lessened handles marked [] words = same_words words
+listed_lessened handles marked (o ∷ offsets) words =
+    let first : List ℕ = cleared_at handles marked (o - 2) words in
+    then_lessened words first (clear_listed handles marked offsets first) (handle_lessened handles marked (o - 2) words)
+    (listed_lessened handles marked offsets first)
 
 -- ---- bodies
 
@@ -92,11 +121,11 @@ same_body b = record { place = refl; ty = refl; size = refl; words = same_words 
 pub with_fields : (b : Body) (fields : List ℕ) → AreLessened b.fields fields → IsLessened b (record b { fields = fields })
 with_fields b fields is = record { place = refl; ty = refl; size = refl; words = is }
 
-pub body_lessened : (types : List ObjectType) (marked : List ℕ) (b : Body) → IsLessened b (clear_body types marked b)
-body_lessened types marked b =
-    let cleared : List ℕ = clear_words marked (kinds_of_words (kinds_of types b.ty)) b.fields in
+pub body_lessened : (handles : Handles) (types : List ObjectType) (marked : List ℕ) (b : Body) → IsLessened b (clear_handles handles types marked b)
+body_lessened handles types marked b =
+    let cleared : List ℕ = clear_words_of handles marked (kinds_of types b.ty) b.fields in
     cond_both (holds marked b.place) (record b { fields = cleared }) b (IsLessened b)
-    (λ _. with_fields b cleared (words_lessened marked (kinds_of_words (kinds_of types b.ty)) b.fields)) (λ _. same_body b)
+    (λ _. with_fields b cleared (words_lessened handles marked (kinds_of types b.ty) b.fields)) (λ _. same_body b)
 
 module _ (f : Body → Body) (less : (b : Body) → IsLessened b (f b)) where
   pub reference_stays : (bodies : List Body) (w : ℕ) → IsReference bodies w → IsReference (map f bodies) w
@@ -111,16 +140,17 @@ module _ (f : Body → Body) (less : (b : Body) → IsLessened b (f b)) where
     | inr same ↦ subst (IsReference (map f bodies)) (sym same) (reference_stays bodies (get_or b.fields i 0) is)
   ]
 
-  pub has_still : (types : List ObjectType) (bodies : List Body) (b : Body) → HasWeakReferences types bodies b → HasWeakReferences types (map f bodies) (f b)
-  has_still types bodies b has = record {
+  pub has_still : (kind : Kind) (types : List ObjectType) (bodies : List Body) (b : Body) → HasReferencesOf kind types bodies b
+      → HasReferencesOf kind types (map f bodies) (f b)
+  has_still kind types bodies b has = record {
     typed = subst (λ ty. ty < length types) (sym (less b).ty) has.typed;
     whole = subst (λ ty. field_words (kinds_of types ty) ≤ length (f b).fields) (sym (less b).ty)
         (subst (λ n. field_words (kinds_of types b.ty) ≤ n) (sym (less b).words.many) has.whole);
-    named = λ i weak. word_stays_reference bodies b i (has.named i (ap (λ ty. get_or (kinds_of_words (kinds_of types ty)) i Plain) (sym (less b).ty) ∙ weak));
+    named = λ i is. word_stays_reference bodies b i (has.named i (ap (λ ty. get_or (kinds_of_words (kinds_of types ty)) i Plain) (sym (less b).ty) ∙ is));
   }
 
-  pub references_stay : (v : SeatView) → MarkedHaveWeakReferences v → MarkedHaveWeakReferences (record v { bodies = map f v.bodies })
-  references_stay v have b there marked =
+  pub references_stay : (kind : Kind) (v : SeatView) → MarkedHaveReferencesOf kind v → MarkedHaveReferencesOf kind (record v { bodies = map f v.bodies })
+  references_stay kind v have b there marked =
       let from = comes_from f v.bodies b there in
       let was : holds v.marked from.0.place ≡ true = ap (holds v.marked) (sym (less from.0).place ∙ ap (λ (x : Body). x.place) from.2) ∙ marked in
-      subst (HasWeakReferences v.types (map f v.bodies)) from.2 (has_still v.types v.bodies from.0 (have from.0 from.1 was))
+      subst (HasReferencesOf kind v.types (map f v.bodies)) from.2 (has_still kind v.types v.bodies from.0 (have from.0 from.1 was))

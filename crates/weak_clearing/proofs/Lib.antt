@@ -1,8 +1,8 @@
 pub mod Lists
-pub mod WeakWords
+pub mod HandleWords
 pub mod Words
 pub mod Lessened
 pub mod Holder
-pub mod Walk
+pub mod ObjectWalk
 pub mod InTurn
 pub mod Grounds

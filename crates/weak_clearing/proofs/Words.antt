@@ -1,60 +1,18 @@
--- One word of a body cleared.
-use Rattle.std.proofs.Common.{◌≡◌, ℕ, zero, suc, not, ◌+◌, ◌-◌, ◌<◌, ◌≤◌, Bool, true, false, cond, ◌&&◌, List, length, get_or, set, refl, sym, ap, ◌∙◌, subst, inl, inr, arith, leb, ltb}
+-- One handle of a body cleared.
+use Rattle.std.proofs.Common.{◌≡◌, ℕ, zero, suc, not, ◌+◌, ◌-◌, ◌<◌, ◌≤◌, Bool, true, false, cond, List, get_or, set, map, refl, sym, ap, ◌∙◌, subst, inl, inr, arith, eqb}
 use Rattle.std.specs.List.{Contains}
-use Rattle.std.proofs.lemmas.Bool.{true≢false, cases_Bool, and_parts, leb-true, ltb-true, cond-false, cond_both}
-use Rattle.std.proofs.lemmas.List.{set-get_or}
-use Rattle.std.proofs.lemmas.List.Elements.{All-contains}
+use Rattle.std.proofs.lemmas.Bool.{cases_Bool, cond_both, cond-true, cond-false, eqb-true}
 use Rattle.gc_graph.specs.declared.kind.Kind.TheVariants.{Weak, Pair}
-use Rattle.gc_graph.specs.Fields.{is_weak}
-use Rattle.page_words.specs.Bodies.{Body, IsWhole, IsReference, SuitsItsPair, MayHold, end_of, fields_at, kind_in, with_word}
-use Rattle.page_words.specs.Seat.{SeatView, IsView, IsWordAt, holds, stored}
-use Rattle.weak_clearing.specs.Clearing.{names_unmarked, clear_weak}
-use Rattle.weak_clearing.specs.Steps.{HasWeakAt, clear_word_at, word_cleared}
-use Rattle.weak_clearing.proofs.Lists.{map_same, map_stays}
-
-abbrev pub has_word : ℕ → Body → Bool
-has_word a b = leb (b.place + 2) a && ltb a (end_of b)
-
-abbrev pub rewritten : ℕ → ℕ → Body → Body
-rewritten a w b = record b { fields = set b.fields (a - (b.place + 2)) w }
-
--- the word was read
-abbrev field_at : ℕ → Body → ℕ
-field_at a b = get_or b.fields (a - (b.place + 2)) 0
-
-read : (v : SeatView) (a w : ℕ) (b : Body) → IsView v → IsWordAt v a w → Contains v.bodies b → has_word a b ≡ true → w ≡ field_at a b
-read v a w b view word there has =
-    let both = and_parts (leb (b.place + 2) a) (ltb a (end_of b)) has in
-    let above : b.place + 2 ≤ a = leb-true (b.place + 2) a both.0 in
-    let below : a < end_of b = ltb-true a (end_of b) both.1 in
-    let whole : IsWhole v.count b = All-contains (IsWhole v.count) v.bodies b view.whole there in
-    word.field b (a - (b.place + 2)) there (omega (arith, whole.fields)) (omega arith)
-
-kept_word : (marked : List ℕ) (a : ℕ) (b : Body) → (has_word a b ≡ true → names_unmarked marked (field_at a b) ≡ false) → clear_word_at marked a b ≡ b
-kept_word marked a b kept =
-    cond_both (has_word a b) (rewritten a (clear_weak marked (field_at a b)) b) b (λ c. c ≡ b)
-    (λ has. ap (λ t. rewritten a (cond t 0 (field_at a b)) b) (kept has)
-    ∙ ap (λ (fs : List ℕ). (let x : Body = record b { fields = fs } in x)) (set-get_or b.fields (a - (b.place + 2)) 0)) (λ _. refl)
-
-null_word : (marked : List ℕ) (a : ℕ) (b : Body) → (has_word a b ≡ true → names_unmarked marked (field_at a b) ≡ true) → with_word a 0 b ≡ clear_word_at marked a b
-null_word marked a b named = elim (cases_Bool (has_word a b)) [
-  | inl has ↦ ap (λ t. with_word a (cond t 0 (field_at a b)) b) (sym (named has))
-  | inr off ↦ cond-false (has_word a b) (rewritten a 0 b) b off ∙ sym (cond-false (has_word a b) (rewritten a (clear_weak marked (field_at a b)) b) b off)
-]
-
--- a word that names no unmarked body stays
-pub word_stays : (v : SeatView) (a w : ℕ) → IsView v → IsWordAt v a w → names_unmarked v.marked w ≡ false → v ≡ word_cleared v a
-word_stays v a w view word kept =
-    ap (λ (bs : List Body). (let x : SeatView = record v { bodies = bs } in x))
-    (sym (map_stays (clear_word_at v.marked a) v.bodies
-    (λ b there. kept_word v.marked a b (λ has. ap (names_unmarked v.marked) (sym (read v a w b view word there has)) ∙ kept))))
-
--- and one that names one becomes null
-pub word_nulled : (v : SeatView) (a w : ℕ) → IsView v → IsWordAt v a w → names_unmarked v.marked w ≡ true → stored v a 0 ≡ word_cleared v a
-word_nulled v a w view word named =
-    ap (λ (bs : List Body). (let x : SeatView = record v { bodies = bs } in x))
-    (map_same (with_word a 0) (clear_word_at v.marked a) v.bodies
-    (λ b there. null_word v.marked a b (λ has. ap (names_unmarked v.marked) (sym (read v a w b view word there has)) ∙ named)))
+use Rattle.gc_graph.specs.Fields.{is_reference, is_weak}
+use Rattle.type_table.specs.Types.{kinds_of, offsets_of_kind}
+use Rattle.page_words.specs.Bodies.{Body, IsReference}
+use Rattle.page_words.specs.Seat.{SeatView, holds}
+use Rattle.member_fields.specs.Words.{HasWord, HasPair, IsWordIn, with_word_in, written, pair_written}
+use Rattle.weak_clearing.specs.declared.handles.Handles.{Handles}
+use Rattle.weak_clearing.specs.declared.handles.Handles.TheVariants.{WeakFields, Pairs}
+use Rattle.weak_clearing.specs.Clearing.{names_unmarked}
+use Rattle.weak_clearing.specs.Steps.{HasHandle, nulled, cleared_at, clear_handle_in, handle_cleared}
+use Rattle.weak_clearing.proofs.Lists.{map_same, map_after, map_stays}
 
 -- ---- what a reference names
 
@@ -67,23 +25,105 @@ names_one marked (suc place) some =
     let same : place ≡ suc place - 1 = omega arith in
     ap (λ p. not (holds marked p)) same
 
--- null may be stored in a weak field
-pub holds_null : (v : SeatView) (a : ℕ) → IsView v → HasWeakAt v a
-    → ((b : Body) (i w : ℕ) → Contains v.bodies b → i < length b.fields → (kind_in v.types b i ≡ Pair → ⊥) → SuitsItsPair v.types v.bodies (fields_at b + i) w)
-    → MayHold v.types v.bodies a 0
-holds_null v a view (b, there, above, below, weak, named) suits =
-    let whole : IsWhole v.count b = All-contains (IsWhole v.count) v.bodies b view.whole there in
-    let at : fields_at b + (a - fields_at b) ≡ a = omega (arith, above) in
-    record {
-      kind = inr (inl refl);
-      pair = subst (λ x. SuitsItsPair v.types v.bodies x 0) at
-          (suits b (a - fields_at b) 0 there (omega (arith, above, below, whole.fields)) (λ pair. weak_is_no_pair (sym weak ∙ pair)));
-    } where
-      weak_is_no_pair : Weak ≡ Pair → ⊥
-      weak_is_no_pair e = true≢false (ap is_weak e)
+-- ---- a handle is a weak field's word, or a pair
 
--- what is read of a weak field is a reference
-pub reads_reference : (v : SeatView) (a w : ℕ) → IsView v → HasWeakAt v a → IsWordAt v a w → IsReference v.bodies w
-reads_reference v a w view (b, there, above, below, weak, named) word =
-    let whole : IsWhole v.count b = All-contains (IsWhole v.count) v.bodies b view.whole there in
-    subst (IsReference v.bodies) (sym (word.field b (a - fields_at b) there (omega (arith, above, below, whole.fields)) (omega (arith, above)))) named
+pub weak_word : (v : SeatView) (holder word : ℕ) → HasHandle WeakFields v holder word → HasWord is_weak v holder word
+weak_word v holder word has = record {
+  body = has.body;
+  there = has.there;
+  place = has.place;
+  first = has.first;
+  last = omega (arith, has.last);
+  kind = ap is_weak has.kind;
+}
+
+pub reference_word : (v : SeatView) (holder word : ℕ) → HasHandle WeakFields v holder word → HasWord is_reference v holder word
+reference_word v holder word has = record {
+  body = has.body;
+  there = has.there;
+  place = has.place;
+  first = has.first;
+  last = omega (arith, has.last);
+  kind = ap is_reference has.kind;
+}
+
+pub whole_pair : (v : SeatView) (holder word : ℕ) → HasHandle Pairs v holder word → HasPair v holder word
+whole_pair v holder word has =
+    let same : word ≡ word - 2 + 2 = omega (arith, has.first) in
+    record {
+      body = has.body;
+      there = has.there;
+      place = has.place;
+      first = has.first;
+      last = omega (arith, has.last);
+      key = subst (Contains (offsets_of_kind Pair (kinds_of v.types has.body.ty))) same has.told;
+    }
+
+-- what is read of its first word is a reference
+pub reads_reference : (handles : Handles) (v : SeatView) (holder word w : ℕ) → HasHandle handles v holder word → IsWordIn v holder word w → IsReference v.bodies w
+reads_reference handles v holder word w has is = subst (IsReference v.bodies) (sym (is has.body has.there has.place)) has.reference
+
+-- ---- what is left of it
+
+-- what is done to the body at a place, and then again
+pub at_twice : (place : ℕ) (f g : Body → Body) (b : Body) → (g b).place ≡ b.place
+    → (let c : Body = cond (eqb b.place place) (g b) b in cond (eqb c.place place) (f c) c) ≡ cond (eqb b.place place) (f (g b)) b
+at_twice place f g b same =
+    let again : Body → Body = λ x. cond (eqb x.place place) (f x) x in
+    elim (cases_Bool (eqb b.place place)) [
+      | inl here ↦ ap again (cond-true (eqb b.place place) (g b) b here)
+          ∙ cond-true (eqb (g b).place place) (f (g b)) (g b) (ap (λ n. eqb n place) same ∙ here)
+          ∙ sym (cond-true (eqb b.place place) (f (g b)) b here)
+      | inr off ↦ ap again (cond-false (eqb b.place place) (g b) b off) ∙ cond-false (eqb b.place place) (f b) b off
+          ∙ sym (cond-false (eqb b.place place) (f (g b)) b off)
+    ]
+
+module _ (v : SeatView) (holder word w : ℕ) (is : IsWordIn v holder word w) where
+  named_by : (t : Bool) (b : Body) → Contains v.bodies b → names_unmarked v.marked w ≡ t → eqb b.place holder ≡ true
+      → names_unmarked v.marked (get_or b.fields (word - 2) 0) ≡ t
+  named_by t b there named here = ap (names_unmarked v.marked) (sym (is b there (eqb-true b.place holder here))) ∙ named
+
+  kept : (handles : Handles) (b : Body) → Contains v.bodies b → names_unmarked v.marked w ≡ false → clear_handle_in handles v.marked holder word b ≡ b
+  kept handles b there named =
+      cond_both (eqb b.place holder) (record b { fields = cleared_at handles v.marked (word - 2) b.fields }) b (λ c. c ≡ b)
+      (λ here. ap (λ t. (let x : Body = record b { fields = cond t (nulled handles (word - 2) b.fields) b.fields } in x)) (named_by false b there named here))
+      (λ _. refl)
+
+  -- a handle that names no unmarked body stays
+  pub handle_stays : (handles : Handles) → names_unmarked v.marked w ≡ false → v ≡ handle_cleared handles v holder word
+  handle_stays handles named =
+      ap (λ (bs : List Body). (let x : SeatView = record v { bodies = bs } in x))
+      (sym (map_stays (clear_handle_in handles v.marked holder word) v.bodies (λ b there. kept handles b there named)))
+
+  null_body : (handles : Handles) (b : Body) → Contains v.bodies b → names_unmarked v.marked w ≡ true
+      → cond (eqb b.place holder) (record b { fields = nulled handles (word - 2) b.fields }) b ≡ clear_handle_in handles v.marked holder word b
+  null_body handles b there named =
+      let null : Body = record b { fields = nulled handles (word - 2) b.fields } in
+      let cleared : Body = record b { fields = cleared_at handles v.marked (word - 2) b.fields } in
+      with_flag (eqb b.place holder) null cleared b
+      (λ here. ap (λ t. (let x : Body = record b { fields = cond t (nulled handles (word - 2) b.fields) b.fields } in x)) (sym (named_by true b there named here))) where
+        with_flag : (t : Bool) (x y z : Body) → (t ≡ true → x ≡ y) → cond t x z ≡ cond t y z
+        with_flag true x y z same = same refl
+        with_flag false x y z same = refl
+
+  -- a weak field that names one becomes null
+  pub field_nulled : names_unmarked v.marked w ≡ true → written v holder word 0 ≡ handle_cleared WeakFields v holder word
+  field_nulled named =
+      ap (λ (bs : List Body). (let x : SeatView = record v { bodies = bs } in x))
+      (map_same (with_word_in holder word 0) (clear_handle_in WeakFields v.marked holder word) v.bodies (λ b there. null_body WeakFields b there named))
+
+  -- and so do both words of a pair whose key names one
+  pub pair_nulled : 2 ≤ word → names_unmarked v.marked w ≡ true → pair_written v holder word 0 0 ≡ handle_cleared Pairs v holder word
+  pair_nulled first named =
+      ap (λ (bs : List Body). (let x : SeatView = record v { bodies = bs } in x))
+      (map_after (with_word_in holder word 0) (with_word_in holder (word + 1) 0) v.bodies
+      ∙ map_same (λ b. with_word_in holder word 0 (with_word_in holder (word + 1) 0 b)) (clear_handle_in Pairs v.marked holder word) v.bodies
+      (λ b there. both_words b ∙ null_body Pairs b there named)) where
+        next : word + 1 - 2 ≡ word - 2 + 1
+        next = omega (arith, first)
+
+        both_words : (b : Body) → with_word_in holder word 0 (with_word_in holder (word + 1) 0 b)
+            ≡ cond (eqb b.place holder) (record b { fields = nulled Pairs (word - 2) b.fields }) b
+        both_words b =
+            at_twice holder (λ x. record x { fields = set x.fields (word - 2) 0 }) (λ x. record x { fields = set x.fields (word + 1 - 2) 0 }) b refl
+            ∙ ap (λ i. cond (eqb b.place holder) (record b { fields = set (set b.fields i 0) (word - 2) 0 }) b) next

@@ -9,17 +9,21 @@ use Rattle.type_table.specs.Layouts.{kinds_of_words}
 use Rattle.page_words.specs.Bodies.{Body, IsReference, kind_in}
 use Rattle.page_words.specs.Seat.{SeatView, holds}
 
--- the body is of one of the types and has a word for each declared field, and each of its weak words is null or refers to a
--- body
-pub record HasWeakReferences (types : List ObjectType) (bodies : List Body) (b : Body) : Type 0 where
+-- the body is of one of the types and has a word for each declared field, and each of its words of fields of the kind is null
+-- or refers to a body
+pub record HasReferencesOf (kind : Kind) (types : List ObjectType) (bodies : List Body) (b : Body) : Type 0 where
   pub typed : b.ty < length types
   pub whole : field_words (kinds_of types b.ty) ≤ length b.fields
-  pub named : (i : ℕ) → kind_in types b i ≡ Weak → IsReference bodies (slice_index b.fields i)
+  pub named : (i : ℕ) → kind_in types b i ≡ kind → IsReference bodies (slice_index b.fields i)
 
--- so does each marked body
+-- so has each marked body
+abbrev pub MarkedHaveReferencesOf : Kind → SeatView → Type 0
+MarkedHaveReferencesOf kind v =
+    (b : Body) → Contains v.bodies b → holds v.marked b.place ≡ true → HasReferencesOf kind v.types v.bodies b
+
+-- each weak word of a marked body is null or refers to a body
 abbrev pub MarkedHaveWeakReferences : SeatView → Type 0
-MarkedHaveWeakReferences v =
-    (b : Body) → Contains v.bodies b → holds v.marked b.place ≡ true → HasWeakReferences v.types v.bodies b
+MarkedHaveWeakReferences v = MarkedHaveReferencesOf Weak v
 
 -- whether a reference names a body that is not marked
 abbrev pub names_unmarked : List ℕ → ℕ → Bool
@@ -51,3 +55,26 @@ clear_body types marked b =
 -- each body was cleared, and nothing else changed
 abbrev pub with_weak_cleared : SeatView → SeatView
 with_weak_cleared v = record v { bodies = map (clear_body v.types v.marked) v.bodies }
+
+-- ---- pairs (`include/cppgc/ephemeron-pair.h`)
+
+-- the words of a body, where these are the kinds of its fields: both words of a pair become null where its key names a body
+-- that is not marked, and every other word stays
+abbrev pub clear_pair_words : List ℕ → List Kind → List ℕ → List ℕ
+clear_pair_words marked [] words = words
+clear_pair_words marked (kind ∷ kinds) [] = []
+clear_pair_words marked (Strong ∷ kinds) (w ∷ words) = w ∷ clear_pair_words marked kinds words
+clear_pair_words marked (Weak ∷ kinds) (w ∷ words) = w ∷ clear_pair_words marked kinds words
+clear_pair_words marked (Plain ∷ kinds) (w ∷ words) = w ∷ clear_pair_words marked kinds words
+clear_pair_words marked (Pair ∷ kinds) (key ∷ []) = key ∷ []
+clear_pair_words marked (Pair ∷ kinds) (key ∷ value ∷ words) =
+    (if names_unmarked marked key then 0 else key) ∷ (if names_unmarked marked key then 0 else value) ∷ clear_pair_words marked kinds words
+
+-- the pairs of a marked body are cleared, and a body that is not marked stays as it is
+abbrev pub clear_pairs_of : List ObjectType → List ℕ → Body → Body
+clear_pairs_of types marked b =
+    if holds marked b.place then record b { fields = clear_pair_words marked (kinds_of types b.ty) b.fields } else b
+
+-- each body's pairs were cleared, and nothing else changed
+abbrev pub with_pairs_cleared : SeatView → SeatView
+with_pairs_cleared v = record v { bodies = map (clear_pairs_of v.types v.marked) v.bodies }

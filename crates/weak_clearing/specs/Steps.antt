@@ -1,28 +1,72 @@
--- The steps of clearing: one body, and one word of it.
-use Rattle.std.specs.Prelude.{◌≡◌, ℕ, ◌-◌, ◌<◌, ◌≤◌, ◌==◌, true, List, map, slice_index, if◌then◌else◌, Contains}
-use Rattle.gc_graph.specs.declared.kind.Kind.TheVariants.{Weak}
-use Rattle.page_words.specs.Bodies.{Body, IsReference, end_of, fields_at, kind_in, with_word}
+-- The steps of clearing: one body, and one handle of it.
+use Rattle.std.specs.Prelude.{◌≡◌, ℕ, ◌+◌, ◌-◌, ◌≤◌, ◌==◌, true, List, map, slice_index, slice_set, if◌then◌else◌, Contains}
+use Rattle.gc_graph.specs.declared.kind.Kind.{Kind}
+use Rattle.gc_graph.specs.declared.kind.Kind.TheVariants.{Weak, Pair}
+use Rattle.gc_graph.specs.State.{ObjectType}
+use Rattle.gc_graph.specs.Fields.{words_of_kind}
+use Rattle.object_headers.specs.Offsets.{first_field}
+use Rattle.type_table.specs.Types.{kinds_of, offsets_of_kind}
+use Rattle.type_table.specs.Layouts.{kinds_of_words}
+use Rattle.page_words.specs.Bodies.{Body, IsReference, kind_in}
 use Rattle.page_words.specs.Seat.{SeatView, holds}
-use Rattle.weak_clearing.specs.Clearing.{clear_weak, clear_body}
+use Rattle.weak_clearing.specs.declared.handles.Handles.{Handles}
+use Rattle.weak_clearing.specs.declared.handles.Handles.TheVariants.{WeakFields, Pairs}
+use Rattle.weak_clearing.specs.Clearing.{names_unmarked, clear_words, clear_pair_words}
 
 -- one of the bodies is marked, and has the place and the type
 abbrev pub IsMarkedOf : SeatView → ℕ → ℕ → Type 0
 IsMarkedOf v a ty = (b : Body) × Contains v.bodies b × (b.place ≡ a) × (b.ty ≡ ty) × (holds v.marked a ≡ true)
 
--- one of the bodies has a weak field's word at a, which is null or refers to a body
-abbrev pub HasWeakAt : SeatView → ℕ → Type 0
-HasWeakAt v a =
-    (b : Body) × Contains v.bodies b × (fields_at b ≤ a) × (a < end_of b) × (kind_in v.types b (a - fields_at b) ≡ Weak)
-    × IsReference v.bodies (slice_index b.fields (a - fields_at b))
+-- the kind of the fields that are such handles
+abbrev pub kind_of_handles : Handles → Kind
+kind_of_handles WeakFields = Weak
+kind_of_handles Pairs = Pair
 
--- the body at a was cleared
-abbrev pub body_cleared : SeatView → ℕ → SeatView
-body_cleared v a = record v { bodies = map (λ b. if b.place == a then clear_body v.types v.marked b else b) v.bodies }
+-- the object at `holder` has such a handle at this offset: a weak field's word, or the key of a pair and its value after it.
+-- That word is null or refers to a body
+pub record HasHandle (handles : Handles) (v : SeatView) (holder word : ℕ) : Type 0 where
+  pub body : Body
+  pub there : Contains v.bodies body
+  pub place : body.place ≡ holder
+  pub first : first_field ≤ word
+  pub last : word + words_of_kind (kind_of_handles handles) ≤ body.size
+  pub told : Contains (offsets_of_kind (kind_of_handles handles) (kinds_of v.types body.ty)) word
+  pub kind : kind_in v.types body (word - first_field) ≡ kind_of_handles handles
+  pub reference : IsReference v.bodies (slice_index body.fields (word - first_field))
 
--- the body with its field word at a, where it has one, cleared as a weak one
-abbrev pub clear_word_at : List ℕ → ℕ → Body → Body
-clear_word_at marked a b = with_word a (clear_weak marked (slice_index b.fields (a - fields_at b))) b
+-- the words of the handle whose first one has the number i are null
+abbrev pub nulled : Handles → ℕ → List ℕ → List ℕ
+nulled WeakFields i words = slice_set words i 0
+nulled Pairs i words = slice_set (slice_set words (i + 1) 0) i 0
 
--- the field word at a was cleared
-abbrev pub word_cleared : SeatView → ℕ → SeatView
-word_cleared v a = record v { bodies = map (clear_word_at v.marked a) v.bodies }
+-- so they are, where the first one names a body that is not marked
+abbrev pub cleared_at : Handles → List ℕ → ℕ → List ℕ → List ℕ
+cleared_at handles marked i words = if names_unmarked marked (slice_index words i) then nulled handles i words else words
+
+-- the body, with the handle at this offset cleared where it is the one at `holder`
+abbrev pub clear_handle_in : Handles → List ℕ → ℕ → ℕ → Body → Body
+clear_handle_in handles marked holder word b =
+    if b.place == holder then record b { fields = cleared_at handles marked (word - first_field) b.fields } else b
+
+-- the handle at this offset of the object at `holder` was cleared
+abbrev pub handle_cleared : Handles → SeatView → ℕ → ℕ → SeatView
+handle_cleared handles v holder word = record v { bodies = map (clear_handle_in handles v.marked holder word) v.bodies }
+
+-- the words of a body, where these are the kinds of its fields, with the handles among them cleared
+abbrev pub clear_words_of : Handles → List ℕ → List Kind → List ℕ → List ℕ
+clear_words_of WeakFields marked kinds words = clear_words marked (kinds_of_words kinds) words
+clear_words_of Pairs marked kinds words = clear_pair_words marked kinds words
+
+-- the handles of a marked body are cleared, and a body that is not marked stays as it is
+abbrev pub clear_handles : Handles → List ObjectType → List ℕ → Body → Body
+clear_handles handles types marked b =
+    if holds marked b.place then record b { fields = clear_words_of handles marked (kinds_of types b.ty) b.fields } else b
+
+-- the handles of the body at a were cleared
+abbrev pub body_cleared : Handles → SeatView → ℕ → SeatView
+body_cleared handles v a =
+    record v { bodies = map (λ b. if b.place == a then clear_handles handles v.types v.marked b else b) v.bodies }
+
+-- the handles of each body were cleared
+abbrev pub all_cleared : Handles → SeatView → SeatView
+all_cleared handles v = record v { bodies = map (clear_handles handles v.types v.marked) v.bodies }

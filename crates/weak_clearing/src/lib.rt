@@ -15,10 +15,14 @@
 #![tactic(auto)]
 
 mod fields;
+mod handles;
 mod marks;
+mod pairs;
 mod slots;
+mod walk;
 
 pub use fields::clear_fields;
+pub use pairs::clear_pairs;
 pub use slots::clear_slots;
 
 #[cfg(test)]

@@ -1,12 +1,13 @@
 // Small heaps that were marked and then cleared.
 
 ghost use Rattle.std.specs.Prelude.{◌≡◌, [], ◌∷◌, true, IfOk};
-ghost use Rattle.gc_graph.specs.declared.kind.Kind.TheVariants.{Strong, Weak};
+ghost use Rattle.gc_graph.specs.declared.kind.Kind.TheVariants.{Weak, Pair};
 ghost use Rattle.page_words.specs.Bodies.{IsPlace};
 
 use super::*;
 use gc_graph::{Kind, NoMemory};
-use object_headers::{FIRST_FIELD, reference_to};
+use member_fields::{set_pair, set_weak};
+use object_headers::reference_to;
 use page_space::Space;
 use page_words::MutatorSeat;
 use std::alloc::Global;
@@ -24,31 +25,31 @@ struct Ground {
 
 impl Model for Ground {
     ghost use Rattle.std.specs.Prelude.{◌≡◌, true, Contains};
+    ghost use Rattle.gc_graph.specs.declared.kind.Kind.TheVariants.{Weak, Pair};
+    ghost use Rattle.page_words.specs.Bodies.{Body};
     ghost use Rattle.page_words.specs.Seat.{SeatView};
     ghost use Rattle.page_space.specs.Space.{IsSpaceOf};
-    ghost use Rattle.page_words.specs.Bodies.{Body};
-    ghost use Rattle.weak_clearing.specs.Clearing.{HasWeakReferences};
-    ghost use Rattle.std.specs.Prelude.{ℕ, []};
-    ghost use Rattle.gc_graph.specs.declared.kind.Kind.TheVariants.{Pair};
-    ghost use Rattle.type_table.specs.Types.{kinds_of, offsets_of_kind};
+    ghost use Rattle.weak_clearing.specs.Clearing.{HasReferencesOf};
 
     ghost Value = { SeatView };
 
     ghost view = { λ g. g.seat };
 
     ghost invariant = { λ g. IsSpaceOf g.space g.seat × (g.types ≡ g.seat.types)
-        × (g.seat.on ≡ true) × ((b : Body) → Contains g.seat.bodies b
-        → HasWeakReferences g.seat.types g.seat.bodies b)
-        × ((t : ℕ) → offsets_of_kind Pair (kinds_of g.types t) ≡ []) };
+        × (g.seat.on ≡ true)
+        × ((b : Body) → Contains g.seat.bodies b
+            → HasReferencesOf Weak g.seat.types g.seat.bodies b)
+        × ((b : Body) → Contains g.seat.bodies b
+            → HasReferencesOf Pair g.seat.types g.seat.bodies b) };
 }
 
-/// One type, of a weak, a strong and a weak field.
+/// One type, of a weak field, a pair and a weak field.
 fn one_type(alloc: Global) -> Result<TypeTable, NoMemory>
     ensures { IfOk result (λ types. types
-        ≡ record { kinds = Weak ∷ Strong ∷ Weak ∷ []; prefinalizers = [] } ∷ []) }
+        ≡ record { kinds = Weak ∷ Pair ∷ Weak ∷ []; prefinalizers = [] } ∷ []) }
 {
     let mut types = Vec::new(alloc);
-    let fields = Vec::from_slice(alloc, &[Kind::Weak, Kind::Strong, Kind::Weak])?;
+    let fields = Vec::from_slice(alloc, &[Kind::Weak, Kind::Pair, Kind::Weak])?;
     types.push(TypeDecl::new(fields, Vec::new(alloc)))?;
     match TypeTable::new(alloc, types, 0) {
         Ok(types) => Ok(types),
@@ -82,19 +83,34 @@ impl Ground {
         a < self.space.word_count() && self.space.is_start(&mut self.seat, a)
     }
 
-    /// Points a field word of an object to another one.
-    fn point(&mut self, holder: u32, word: u32, target: u32) {
+    /// Points a weak field of an object to another one.
+    fn point(&mut self, holder: u32, field: usize, target: u32) {
         if !self.is_object(holder) || !self.is_object(target) {
             return;
         }
         self.seat.bodies_lie_apart();
-        let size = self.space.header_at(&mut self.seat, holder).size;
-        if FIRST_FIELD <= word && word < size {
+        let ty = self.space.header_at(&mut self.seat, holder).ty;
+        let words = self.types.weak_words(ty);
+        if field < words.len() {
             self.space.lasts_while_objects_stay();
             let reference = reference_to(target);
-            self.space
-                .words()
-                .store(&mut self.seat, holder + word, reference);
+            set_weak(&self.space, &mut self.seat, holder, words[field], reference);
+        }
+    }
+
+    /// Fills the pair of an object.
+    fn join(&mut self, holder: u32, key: u32, value: u32) {
+        if !self.is_object(holder) || !self.is_object(key) || !self.is_object(value) {
+            return;
+        }
+        self.seat.bodies_lie_apart();
+        let ty = self.space.header_at(&mut self.seat, holder).ty;
+        let words = self.types.pair_words(ty);
+        if words.len() > 0 {
+            self.space.lasts_while_objects_stay();
+            let to_key = reference_to(key);
+            let to_value = reference_to(value);
+            set_pair(&self.space, &mut self.seat, holder, words[0], to_key, to_value);
         }
     }
 
@@ -104,9 +120,14 @@ impl Ground {
         }
     }
 
-    fn clear(&mut self) {
+    fn clear_fields(&mut self) {
         self.space.lasts_while_objects_stay();
         clear_fields(&self.space, &self.types, &mut self.seat);
+    }
+
+    fn clear_pairs(&mut self) {
+        self.space.lasts_while_objects_stay();
+        clear_pairs(&self.space, &self.types, &mut self.seat);
     }
 
     /// A word of the heap.
@@ -121,25 +142,46 @@ impl Ground {
     }
 }
 
-#[test]
-fn weak_fields_of_marked_objects_are_cleared(rt: HostRuntime) -> Result<(), Fail> {
-    let mut ground = Ground::new(rt.alloc())?;
+/// Four objects with these pairs, and with weak fields to the second and the first. The first and
+/// the last object are marked.
+fn marked_ground(alloc: Global, pairs: &[(u32, u32, u32)]) -> Result<Ground, NoMemory> {
+    let mut ground = Ground::new(alloc)?;
     for _ in 0..4 {
         ground.put();
     }
-    // The first and the last object are marked; each object names the second and the first.
-    for holder in [0, 256, 512, 768] {
-        ground.point(holder, 2, 256);
-        ground.point(holder, 3, 256);
-        ground.point(holder, 4, 0);
+    for pair in pairs {
+        let (holder, key, value) = *pair;
+        ground.point(holder, 0, 256);
+        ground.join(holder, key, value);
+        ground.point(holder, 1, 0);
     }
     ground.mark(0);
     ground.mark(768);
-    ground.clear();
-    for (holder, weak) in [(0, 0), (256, 257), (512, 257), (768, 0)] {
+    Ok(ground)
+}
+
+#[test]
+fn weak_fields_of_marked_objects_are_cleared(rt: HostRuntime) -> Result<(), Fail> {
+    let pairs = [(0, 256, 768), (256, 512, 0), (512, 0, 0), (768, 0, 256)];
+    let mut ground = marked_ground(rt.alloc(), &pairs)?;
+    ground.clear_fields();
+    for (holder, weak, key) in [(0, 0, 257), (256, 257, 513), (512, 257, 1), (768, 0, 1)] {
         assert_eq!(rt; ground.word(holder + 2), weak, "{holder}");
-        assert_eq!(rt; ground.word(holder + 3), 257, "{holder}");
-        assert_eq!(rt; ground.word(holder + 4), 1, "{holder}");
+        assert_eq!(rt; ground.word(holder + 3), key, "{holder}");
+        assert_eq!(rt; ground.word(holder + 5), 1, "{holder}");
+    }
+    Ok(())
+}
+
+#[test]
+fn pairs_of_marked_objects_are_cleared_whose_key_is_not_marked(rt: HostRuntime) -> Result<(), Fail> {
+    let pairs = [(0, 256, 768), (256, 512, 0), (512, 0, 0), (768, 0, 256)];
+    let mut ground = marked_ground(rt.alloc(), &pairs)?;
+    ground.clear_pairs();
+    for (holder, key, value) in [(0, 0, 0), (256, 513, 1), (512, 1, 1), (768, 1, 257)] {
+        assert_eq!(rt; ground.word(holder + 2), 257, "{holder}");
+        assert_eq!(rt; ground.word(holder + 3), key, "{holder}");
+        assert_eq!(rt; ground.word(holder + 4), value, "{holder}");
     }
     Ok(())
 }

@@ -1,46 +1,39 @@
-use Rattle.std.proofs.Common.{rules, ◌≡◌, ℕ, ◌+◌, ◌<◌, ◌^◌, arith, sym, ap, ◌∙◌, subst, inr}
+use Rattle.std.proofs.Common.{rules, ◌≡◌, ℕ, ◌+◌, List, get_or, sym, ap, ◌∙◌, subst, inr}
 use Rattle.object_headers.specs.Offsets.{reference_to}
 use Rattle.object_headers.specs.declared.header.Header.{Header}
-use Rattle.page_words.specs.Bodies.{IsPlace, IsReference, MayHold}
+use Rattle.page_words.specs.Bodies.{IsPlace, IsReference}
 use Rattle.page_words.specs.Seat.{SeatView, stored}
-use Rattle.weak_clearing.proofs.Grounds.{IsGround, ground_stored, suits_no_pair}
+use Rattle.gc_graph.specs.Fields.{is_weak}
+use Rattle.member_fields.specs.Words.{HasWord, written}
+use Rattle.weak_clearing.specs.declared.handles.Handles.TheVariants.{WeakFields}
+use Rattle.weak_clearing.proofs.Grounds.{ground_typed, ground_handle, ground_written}
+use Rattle.weak_clearing.proofs.Words.{weak_word}
 use Rattle.weak_clearing.proofs.tests.Ground.point.Goals as goal
 
-pub invariant_of-self-else-word-size : goal.invariant_of-self-else-word-size
-invariant_of-self-else-word-size c = rw c.header_at-size.ensures.view c.self.invariant
-
-pub invariant_of-self-else-word-ge-FIRST_FIELD : goal.invariant_of-self-else-word-ge-FIRST_FIELD
-invariant_of-self-else-word-ge-FIRST_FIELD c = rw c.header_at-size.ensures.view c.self.invariant
-
-pub overflow_add-holder : goal.overflow_add-holder
-overflow_add-holder c =
-    let low : c.args.holder + c.args.word < 2 ^ 32 =
-    omega (arith, c.header_at-size.ensures.inside, c.if-word-size.true, c.bodies_lie_apart.ensures.count, c.self.invariant.0.seat) in
-    search rules
-
-pub store-requires-clause-field : goal.store-requires-clause-field
-store-requires-clause-field c =
+pub weak_words-words-requires : goal.weak_words-words-requires
+weak_words-words-requires c =
     let start : IsPlace c.self.inside.seat.bodies c.args.holder = search rules in
-    let size : c.header_at-size.result.size ≡ start.0.size = ap (λ (h : Header). h.size) (c.header_at-size.ensures.header start.0 start.1 start.2) in
-    rw c.header_at-size.ensures.view
-    (start.0, start.1, omega (arith, start.2, c.if-word-ge-FIRST_FIELD.true), omega (arith, start.2, size, c.if-word-size.true))
+    let of : c.header_at-ty.result.ty ≡ start.0.ty = ap (λ (h : Header). h.ty) (c.header_at-ty.ensures.header start.0 start.1 start.2) in
+    ground_typed c.self.inside.space c.self.inside.seat c.self.inside.types start.0 c.header_at-ty.result.ty c.self.invariant start.1 of
+
+pub set_weak-requires-clause-field : goal.set_weak-requires-clause-field
+set_weak-requires-clause-field c =
+    let start : IsPlace c.self.inside.seat.bodies c.args.holder = search rules in
+    let of : c.header_at-ty.result.ty ≡ start.0.ty = ap (λ (h : Header). h.ty) (c.header_at-ty.ensures.header start.0 start.1 start.2) in
+    let words : List ℕ = c.weak_words-words.result.now in
+    subst (λ (v : SeatView). HasWord is_weak v c.args.holder (get_or words c.args.field 0)) (sym c.header_at-ty.ensures.view)
+    (weak_word c.self.inside.seat c.args.holder (get_or words c.args.field 0)
+    (ground_handle WeakFields c.self.inside.space c.self.inside.seat c.self.inside.types start.0 c.args.holder c.header_at-ty.result.ty c.args.field words
+    c.bodies_lie_apart.ensures c.self.invariant start.1 start.2 of c.weak_words-words.ensures c.if-field-words.true))
 
 pub invariant_of-self : goal.invariant_of-self
 invariant_of-self c =
     let target : IsPlace c.self.inside.seat.bodies c.args.target = search rules in
     let named : IsReference c.self.inside.seat.bodies c.reference_to-reference.result =
     inr (target.0, target.1, c.reference_to-reference.ensures ∙ ap reference_to (sym target.2)) in
-    subst (λ (v : SeatView). IsGround c.self.inside.space v c.self.inside.types)
-    (sym (c.store.ensures ∙ ap (λ (v : SeatView). stored v (c.args.holder + c.args.word) c.reference_to-reference.result) c.header_at-size.ensures.view))
-    (ground_stored c.self.inside.space c.self.inside.seat c.self.inside.types (c.args.holder + c.args.word) c.reference_to-reference.result
-    c.lasts_while_objects_stay.ensures.store named c.self.invariant)
-
-pub store-requires-clause-word : goal.store-requires-clause-word
-store-requires-clause-word c =
-    let target : IsPlace c.self.inside.seat.bodies c.args.target = search rules in
-    let reference : ℕ = c.reference_to-reference.result in
-    subst (λ (v : SeatView). MayHold v.types v.bodies (c.args.holder + c.args.word) reference) (sym c.header_at-size.ensures.view)
-    (record {
-      kind = inr (inr (target.0, target.1, c.reference_to-reference.ensures ∙ ap reference_to (sym target.2)));
-      pair = suits_no_pair c.self.inside.seat c.self.inside.types (c.args.holder + c.args.word) reference c.self.invariant.1 c.self.invariant.4;
-    })
+    let word : ℕ = get_or c.weak_words-words.result.now c.args.field 0 in
+    ground_written c.self.inside.space c.self.inside.seat c.set_weak.new.seat c.self.inside.types c.args.holder word c.reference_to-reference.result
+    c.lasts_while_objects_stay.ensures.store
+    (c.set_weak.ensures.word ∙ ap (λ (v : SeatView). written v c.args.holder word c.reference_to-reference.result) c.header_at-ty.ensures.view)
+    (c.set_weak.ensures.address ∙ ap (λ (v : SeatView). stored v (c.args.holder + word) c.reference_to-reference.result) c.header_at-ty.ensures.view)
+    named c.self.invariant

@@ -1,7 +1,7 @@
 use Rattle.std.proofs.Common.{ap, not, sym, ◌∙◌}
 use Rattle.std.proofs.lemmas.Bool.{eq-eqb}
 use Rattle.weak_clearing.proofs.Words.{names_none, names_one}
-use Rattle.weak_clearing.proofs.fields.is_to_unmarked.Goals as goal
+use Rattle.weak_clearing.proofs.marks.is_to_unmarked.Goals as goal
 
 pub returns-else-reference-ne0-clause-names : goal.returns-else-reference-ne0-clause-names
 returns-else-reference-ne0-clause-names c =

@@ -1,0 +1,40 @@
+use Rattle.std.proofs.Common.{◌≡◌, true, false, refl, ap, sym, ◌∙◌, subst, inl}
+use Rattle.gc_graph.specs.Fields.{is_weak}
+use Rattle.page_words.specs.Bodies.{IsReference}
+use Rattle.page_words.specs.Seat.{SeatView}
+use Rattle.member_fields.specs.Words.{HasWord, written}
+use Rattle.weak_clearing.specs.declared.handles.Handles.TheVariants.{WeakFields}
+use Rattle.weak_clearing.specs.Clearing.{names_unmarked}
+use Rattle.weak_clearing.proofs.Words.{weak_word, reference_word, reads_reference, handle_stays, field_nulled}
+use Rattle.weak_clearing.proofs.fields.clear_field.Goals as goal
+
+pub get-target-requires-clause-field : goal.get-target-requires-clause-field
+get-target-requires-clause-field c = reference_word c.args.seat.now c.args.holder c.args.word c.requires.field
+
+pub is_to_unmarked-requires-clause-reference : goal.is_to_unmarked-requires-clause-reference
+is_to_unmarked-requires-clause-reference c =
+    subst (λ (v : SeatView). IsReference v.bodies c.get-target.result) (sym c.get-target.ensures.view)
+    (reads_reference WeakFields c.args.seat.now c.args.holder c.args.word c.get-target.result c.requires.field c.get-target.ensures.word)
+
+pub set_weak-requires-clause-field : goal.set_weak-requires-clause-field
+set_weak-requires-clause-field c =
+    subst (λ (v : SeatView). HasWord is_weak v c.args.holder c.args.word) (sym (c.is_to_unmarked.ensures.view ∙ c.get-target.ensures.view))
+    (weak_word c.args.seat.now c.args.holder c.args.word c.requires.field)
+
+pub set_weak-requires-clause-target : goal.set_weak-requires-clause-target
+set_weak-requires-clause-target c = inl refl
+
+pub returns-then-is_to_unmarked : goal.returns-then-is_to_unmarked
+returns-then-is_to_unmarked c =
+    let named : names_unmarked c.args.seat.now.marked c.get-target.result ≡ true =
+    ap (λ (v : SeatView). names_unmarked v.marked c.get-target.result) (sym c.get-target.ensures.view) ∙ sym c.is_to_unmarked.ensures.names ∙ c.if-is_to_unmarked.true in
+    c.set_weak.ensures.word
+    ∙ ap (λ (v : SeatView). written v c.args.holder c.args.word 0) (c.is_to_unmarked.ensures.view ∙ c.get-target.ensures.view)
+    ∙ field_nulled c.args.seat.now c.args.holder c.args.word c.get-target.result c.get-target.ensures.word named
+
+pub returns-else-is_to_unmarked : goal.returns-else-is_to_unmarked
+returns-else-is_to_unmarked c =
+    let kept : names_unmarked c.args.seat.now.marked c.get-target.result ≡ false =
+    ap (λ (v : SeatView). names_unmarked v.marked c.get-target.result) (sym c.get-target.ensures.view) ∙ sym c.is_to_unmarked.ensures.names ∙ c.if-is_to_unmarked.false in
+    c.is_to_unmarked.ensures.view ∙ c.get-target.ensures.view
+    ∙ handle_stays c.args.seat.now c.args.holder c.args.word c.get-target.result c.get-target.ensures.word WeakFields kept

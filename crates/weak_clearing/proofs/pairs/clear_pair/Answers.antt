@@ -1,0 +1,36 @@
+use Rattle.std.proofs.Common.{◌≡◌, true, false, ap, sym, ◌∙◌, subst}
+use Rattle.page_words.specs.Bodies.{IsReference}
+use Rattle.page_words.specs.Seat.{SeatView}
+use Rattle.member_fields.specs.Words.{HasPair, pair_written}
+use Rattle.weak_clearing.specs.declared.handles.Handles.TheVariants.{Pairs}
+use Rattle.weak_clearing.specs.Clearing.{names_unmarked}
+use Rattle.weak_clearing.proofs.Words.{whole_pair, reads_reference, handle_stays, pair_nulled}
+use Rattle.weak_clearing.proofs.pairs.clear_pair.Goals as goal
+
+pub read_pair-key-requires-clause-pair : goal.read_pair-key-requires-clause-pair
+read_pair-key-requires-clause-pair c = whole_pair c.args.seat.now c.args.holder c.args.word c.requires.pair
+
+pub is_to_unmarked-requires-clause-reference : goal.is_to_unmarked-requires-clause-reference
+is_to_unmarked-requires-clause-reference c =
+    subst (λ (v : SeatView). IsReference v.bodies c.read_pair-key.result.0) (sym c.read_pair-key.ensures.view)
+    (reads_reference Pairs c.args.seat.now c.args.holder c.args.word c.read_pair-key.result.0 c.requires.pair c.read_pair-key.ensures.key)
+
+pub set_pair-requires-clause-pair : goal.set_pair-requires-clause-pair
+set_pair-requires-clause-pair c =
+    subst (λ (v : SeatView). HasPair v c.args.holder c.args.word) (sym (c.is_to_unmarked.ensures.view ∙ c.read_pair-key.ensures.view))
+    (whole_pair c.args.seat.now c.args.holder c.args.word c.requires.pair)
+
+pub returns-then-is_to_unmarked : goal.returns-then-is_to_unmarked
+returns-then-is_to_unmarked c =
+    let named : names_unmarked c.args.seat.now.marked c.read_pair-key.result.0 ≡ true =
+    ap (λ (v : SeatView). names_unmarked v.marked c.read_pair-key.result.0) (sym c.read_pair-key.ensures.view) ∙ sym c.is_to_unmarked.ensures.names ∙ c.if-is_to_unmarked.true in
+    c.set_pair.ensures.words
+    ∙ ap (λ (v : SeatView). pair_written v c.args.holder c.args.word 0 0) (c.is_to_unmarked.ensures.view ∙ c.read_pair-key.ensures.view)
+    ∙ pair_nulled c.args.seat.now c.args.holder c.args.word c.read_pair-key.result.0 c.read_pair-key.ensures.key c.requires.pair.first named
+
+pub returns-else-is_to_unmarked : goal.returns-else-is_to_unmarked
+returns-else-is_to_unmarked c =
+    let kept : names_unmarked c.args.seat.now.marked c.read_pair-key.result.0 ≡ false =
+    ap (λ (v : SeatView). names_unmarked v.marked c.read_pair-key.result.0) (sym c.read_pair-key.ensures.view) ∙ sym c.is_to_unmarked.ensures.names ∙ c.if-is_to_unmarked.false in
+    c.is_to_unmarked.ensures.view ∙ c.read_pair-key.ensures.view
+    ∙ handle_stays c.args.seat.now c.args.holder c.args.word c.read_pair-key.result.0 c.read_pair-key.ensures.key Pairs kept

@@ -1,0 +1,46 @@
+use Rattle.std.proofs.Common.{◌≡◌, ℕ, List, get_or, take, arith, ap, sym, ◌∙◌, subst}
+use Rattle.std.proofs.lemmas.List.{take_all, take_more}
+use Rattle.gc_graph.specs.State.{ObjectType}
+use Rattle.type_table.specs.Types.{kinds_of, offsets_of_kind}
+use Rattle.page_words.specs.Seat.{SeatView}
+use Rattle.weak_clearing.specs.declared.handles.Handles.{Handles}
+use Rattle.weak_clearing.specs.Steps.{HasHandle, kind_of_handles, handle_cleared}
+use Rattle.weak_clearing.proofs.Holder.{holder_handle, handle_stays, listed_none, listed_cleared, one_more_cleared, all_listed}
+use Rattle.weak_clearing.proofs.walk.clear_holder.Goals as goal
+
+pub loop-word-init : goal.loop-word-init
+loop-word-init c = listed_none c.args.handles c.args.seat.now c.args.holder
+
+told : (handles : Handles) (types : List ObjectType) (v : SeatView) (ty : ℕ) (words : List ℕ) → types ≡ v.types
+    → words ≡ offsets_of_kind (kind_of_handles handles) (kinds_of types ty) → words ≡ offsets_of_kind (kind_of_handles handles) (kinds_of v.types ty)
+told handles types v ty words same is = is ∙ ap (λ ts. offsets_of_kind (kind_of_handles handles) (kinds_of ts ty)) same
+
+pub clear_handle-requires-clause-handle : goal.clear_handle-requires-clause-handle
+clear_handle-requires-clause-handle c =
+    let words : List ℕ = c.words_of-words.result.now in
+    let offset : ℕ = get_or words c.loop-word.word-index 0 in
+    let has : HasHandle c.args.handles c.args.seat.now c.args.holder offset =
+    holder_handle c.args.handles c.args.seat.now c.args.holder c.args.ty words c.loop-word.word-index c.bodies_lie_apart.ensures c.requires.references c.requires.marked
+    (told c.args.handles c.args.types.now c.args.seat.now c.args.ty words c.requires.types c.words_of-words.ensures) c.loop-word-test.true in
+    subst (λ (v : SeatView). HasHandle c.args.handles v c.args.holder offset) (sym c.loop-word.invariant)
+    (handle_stays c.args.handles c.args.seat.now c.args.holder offset (take c.loop-word.word-index words) has)
+
+pub loop-word-preserved : goal.loop-word-preserved
+loop-word-preserved c =
+    let words : List ℕ = c.words_of-words.result.now in
+    let k : ℕ = c.loop-word.word-index in
+    let offset : ℕ = get_or words k 0 in
+    c.clear_handle.ensures
+    ∙ ap (λ (v : SeatView). handle_cleared c.args.handles v c.args.holder offset) c.loop-word.invariant
+    ∙ one_more_cleared c.args.handles c.args.seat.now c.args.holder offset (take k words)
+    ∙ ap (listed_cleared c.args.handles c.args.seat.now c.args.holder) (sym (take_more words k 0 c.loop-word-test.true))
+
+pub returns : goal.returns
+returns c =
+    let words : List ℕ = c.words_of-words.result.now in
+    c.loop-word.invariant
+    ∙ ap (listed_cleared c.args.handles c.args.seat.now c.args.holder) (
+    take_all c.loop-word.word-index words (omega arith)
+    ∙ told c.args.handles c.args.types.now c.args.seat.now c.args.ty words c.requires.types c.words_of-words.ensures
+    )
+    ∙ all_listed c.args.handles c.args.seat.now c.args.holder c.args.ty c.bodies_lie_apart.ensures c.requires.references c.requires.marked

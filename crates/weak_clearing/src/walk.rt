@@ -1,0 +1,92 @@
+// From object to object, and from handle to handle of each.
+
+ghost use Rattle.std.specs.Prelude.{◌≡◌};
+ghost use Rattle.page_words.specs.Bodies.{IsPlace};
+ghost use Rattle.page_space.specs.Space.{IsSeatOf};
+ghost use Rattle.weak_clearing.specs.Clearing.{MarkedHaveReferencesOf};
+ghost use Rattle.weak_clearing.specs.Steps.{HasHandle, IsMarkedOf, kind_of_handles};
+ghost use Rattle.weak_clearing.specs.Steps.{handle_cleared, body_cleared, all_cleared};
+
+use crate::fields::clear_field;
+use crate::handles::Handles;
+use crate::pairs::clear_pair;
+use page_space::Space;
+use page_words::MutatorSeat;
+use type_table::TypeTable;
+
+/// Sets to null exactly those of these handles of marked objects that name an object that is not
+/// marked.
+pub fn clear_handles(space: &Space, types: &TypeTable, seat: &mut MutatorSeat, handles: Handles)
+    requires heap { IsSeatOf space.now seat.old }
+    requires types { types.now ≡ seat.old.types }
+    requires references { MarkedHaveReferencesOf (kind_of_handles handles) seat.old }
+    ensures { seat.new ≡ all_cleared handles seat.old }
+{
+    seat.bodies_lie_apart();
+    let mut from = 0;
+    // From object to object and not from word to word: the time is to grow with the objects.
+    while let Some(a) = space.next_object(seat, from) {
+        clear_object(space, types, seat, handles, a);
+        from = a + 1;
+    }
+}
+
+/// Clears the handles of an object, if it is marked.
+fn clear_object(
+    space: &Space,
+    types: &TypeTable,
+    seat: &mut MutatorSeat,
+    handles: Handles,
+    a: u32,
+)
+    requires heap { IsSeatOf space.now seat.old }
+    requires types { types.now ≡ seat.old.types }
+    requires references { MarkedHaveReferencesOf (kind_of_handles handles) seat.old }
+    requires start { IsPlace seat.old.bodies a }
+    ensures { seat.new ≡ body_cleared handles seat.old a }
+{
+    let header = space.header_at(seat, a);
+    if header.mark {
+        clear_holder(space, types, seat, handles, a, header.ty);
+    }
+}
+
+/// Clears the handles of a marked object of a type. Its other words are never read.
+fn clear_holder(
+    space: &Space,
+    types: &TypeTable,
+    seat: &mut MutatorSeat,
+    handles: Handles,
+    holder: u32,
+    ty: u32,
+)
+    requires heap { IsSeatOf space.now seat.old }
+    requires types { types.now ≡ seat.old.types }
+    requires references { MarkedHaveReferencesOf (kind_of_handles handles) seat.old }
+    requires marked { IsMarkedOf seat.old holder ty }
+    ensures { seat.new ≡ body_cleared handles seat.old holder }
+{
+    seat.bodies_lie_apart();
+    let words = handles.words_of(types, ty);
+    for word in words {
+        clear_handle(space, seat, handles, holder, *word);
+    }
+}
+
+/// Clears the handle at an offset, if it names an object that is not marked.
+fn clear_handle(
+    space: &Space,
+    seat: &mut MutatorSeat,
+    handles: Handles,
+    holder: u32,
+    word: u32,
+)
+    requires heap { IsSeatOf space.now seat.old }
+    requires handle { HasHandle handles seat.old holder word }
+    ensures { seat.new ≡ handle_cleared handles seat.old holder word }
+{
+    match handles {
+        Handles::WeakFields => clear_field(space, seat, holder, word),
+        Handles::Pairs => clear_pair(space, seat, holder, word),
+    }
+}
