@@ -1,5 +1,5 @@
 -- The reference words of the bodies of live nodes are null or refer to bodies.
-use Rattle.std.proofs.Common.{◌≡◌, ℕ, zero, suc, ◌+◌, ◌-◌, ◌<◌, ◌≤◌, Bool, true, false, List, [], ◌∷◌, length, get_or, map, refl, sym, ap, ◌∙◌, subst, inl, inr, arith}
+use Rattle.std.proofs.Common.{◌≡◌, ℕ, zero, suc, ◌+◌, ◌-◌, ◌<◌, ◌≤◌, Bool, true, false, List, [], ◌∷◌, length, get_or, map, Option, refl, sym, ap, ◌∙◌, subst, inl, inr, arith}
 use Rattle.std.specs.List.{All, Contains}
 use Rattle.std.proofs.lemmas.Bool.{true≢false}
 use Rattle.std.proofs.lemmas.List.{length-map}
@@ -15,14 +15,17 @@ use Rattle.type_table.specs.FieldLaw.{FieldsStandApart}
 use Rattle.type_table.specs.Types.{kinds_of, kind_of, is_kind, offsets_of_kind}
 use Rattle.type_table.specs.Layouts.{kinds_of_words}
 use Rattle.page_words.specs.Bodies.{Body, IsReference, kind_in, is_reference_word}
-use Rattle.page_words.specs.Seat.{SeatView}
+use Rattle.page_words.specs.Seat.{SeatView, IsQuiet, holds}
 use Rattle.ephemerons.specs.BodyGraph.{AreReferences}
-use Rattle.weak_clearing.specs.Clearing.{MarkedHaveWeakReferences}
-use Rattle.heap_engine.specs.Nodes.{place_of, word_of, body_of, bodies_of}
+use Rattle.weak_clearing.specs.Clearing.{MarkedHaveReferencesOf}
+use Rattle.heap_engine.specs.Marking.{MarksReachable}
+use Rattle.heap_engine.specs.Nodes.{place_of, word_of, body_of, bodies_of, IsHeld}
+use Rattle.heap_engine.specs.Objects.{AreOfValid}
 use Rattle.heap_engine.proofs.FieldKinds.{some_words}
 use Rattle.heap_engine.proofs.NodePlaces.{node_body, body_node, live_is_there}
 use Rattle.heap_engine.proofs.NodeLives.{live_if_there}
-use Rattle.heap_engine.proofs.StrongFields.{AreKnown}
+use Rattle.heap_engine.proofs.HeldNodes.{none_dead}
+use Rattle.heap_engine.proofs.StrongFields.{AreKnown, known_nodes}
 
 -- a reference to a live node is one to its body
 live_reference : (nodes : List Node) (v : SeatView) (bound : ℕ) (x : Value) → v.bodies ≡ bodies_of nodes → NamesLive nodes x → IsReferenceBelow bound x
@@ -62,8 +65,20 @@ pub record AreAlive (setup : Setup) (nodes : List Node) (v : SeatView) : Type 0 
   pub held : v.bodies ≡ bodies_of nodes
   pub alive : (n : ℕ) → IsDead nodes n → ⊥
 
+pub alive_quiet : (setup : Setup) (nodes : List Node) (v : SeatView) → AreOfValid setup nodes → IsHeld nodes v → IsQuiet v → AreAlive setup nodes v
+alive_quiet setup nodes v valid held quiet = record { known = known_nodes setup nodes valid; held = held.bodies; alive = none_dead nodes v held quiet.dead }
+
+-- marking moves no object, and no node dies before it is over
+pub alive_marked : (setup : Setup) (nodes : List Node) (slots : List (Option ℕ)) (v new : SeatView) → AreOfValid setup nodes → IsHeld nodes v → IsQuiet v
+    → MarksReachable setup.types slots v new → AreAlive setup nodes new
+alive_marked setup nodes slots v new valid held quiet marks = record {
+  known = known_nodes setup nodes valid;
+  held = marks.bodies ∙ held.bodies;
+  alive = none_dead nodes v held quiet.dead;
+}
+
 -- each reference word of a body is null or names a body
-pub body_reference : (setup : Setup) (nodes : List Node) (v : SeatView) (b : Body) (i : ℕ) → AreAlive setup nodes v → Contains v.bodies b
+body_reference : (setup : Setup) (nodes : List Node) (v : SeatView) (b : Body) (i : ℕ) → AreAlive setup nodes v → Contains v.bodies b
     → is_plain (kind_in setup.types b i) ≡ false → IsReference v.bodies (get_or b.fields i 0)
 body_reference setup nodes v b i is there told =
     let node = body_node nodes v b is.held there in
@@ -150,11 +165,12 @@ references_hold setup nodes v law is = record {
       body_reference setup nodes v b (offset + 1 - 2) is there (second_word_plain (kinds_of setup.types b.ty) offset law pair);
 }
 
--- each weak word is null or names a body
-pub weak_references_hold : (setup : Setup) (nodes : List Node) (v : SeatView) → v.types ≡ setup.types → AreAlive setup nodes v → MarkedHaveWeakReferences v
-weak_references_hold setup nodes v types is b there marked = record {
+-- each word of fields of a kind that holds references is null or names a body
+pub marked_references : (kind : Kind) (setup : Setup) (nodes : List Node) (v : SeatView) → is_plain kind ≡ false → v.types ≡ setup.types
+    → AreAlive setup nodes v → MarkedHaveReferencesOf kind v
+marked_references kind setup nodes v reference types is b there marked = record {
   typed = subst (λ (ts : List ObjectType). b.ty < length ts) (sym types) (body_typed setup nodes v b is there);
   whole = subst (λ (ts : List ObjectType). field_words (kinds_of ts b.ty) ≤ length b.fields) (sym types) (body_whole setup nodes v b is there);
-  named = λ i weak.
-      body_reference setup nodes v b i is there (ap is_plain (sym (ap (λ (ts : List ObjectType). kind_in ts b i) types) ∙ weak));
+  named = λ i told.
+      body_reference setup nodes v b i is there (ap is_plain (sym (ap (λ (ts : List ObjectType). kind_in ts b i) types) ∙ told) ∙ reference);
 }

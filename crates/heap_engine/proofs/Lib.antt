@@ -24,6 +24,7 @@ pub mod WeakNodes
 pub mod WeakBodies
 pub mod WeakJudged
 pub mod BodyReferences
+pub mod PairReferences
 pub mod JudgedNodes
 pub mod Ties
 pub mod SlotSteps

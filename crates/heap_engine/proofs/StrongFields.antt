@@ -26,22 +26,6 @@ pub built_unregistered : (type : ObjectType) → is_built_type type ≡ true →
 built_unregistered type built =
     no_numbers type.prefinalizers (eqb-true (length type.prefinalizers) 0 (and_parts (list_all is_built_kind type.kinds) (eqb (length type.prefinalizers) 0) built).1)
 
-no_pair : (kinds : List Kind) → list_all is_built_kind kinds ≡ true → Contains kinds Pair → ⊥
-no_pair [] built there = omega (arith, there.1)
-no_pair (kind ∷ kinds) built (zero, low, is) =
-    true≢false (sym (and_parts (is_built_kind kind) (list_all is_built_kind kinds) built).0 ∙ ap is_built_kind is)
-no_pair (kind ∷ kinds) built (suc k, low, is) =
-    no_pair kinds (and_parts (is_built_kind kind) (list_all is_built_kind kinds) built).1 (k, omega arith, is)
-
--- no type has a pair
-abbrev pub ArePairless : List ObjectType → Type 0
-ArePairless types = All (λ type. Contains type.kinds Pair → ⊥) types
-
-pub built_pairless : (types : List ObjectType) → AreBuilt types → ArePairless types
-built_pairless types built =
-    All-weaker (λ (type : ObjectType). is_built_type type ≡ true) (λ (type : ObjectType). Contains type.kinds Pair → ⊥)
-    (λ (type : ObjectType) is. no_pair type.kinds (and_parts (list_all is_built_kind type.kinds) (eqb (length type.prefinalizers) 0) is).0) types built
-
 -- ---- what a valid state says of its nodes
 
 -- it names no node, or one whose number is below the bound

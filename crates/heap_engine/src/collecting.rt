@@ -13,7 +13,9 @@ ghost use Rattle.page_words.specs.Seat.{IsQuiet, holds};
 ghost use Rattle.page_space.specs.Pages.{word_count};
 ghost use Rattle.page_space.specs.Space.{IsSeatOf};
 ghost use Rattle.persistent_slots.specs.Clearing.{taken};
+ghost use Rattle.gc_graph.specs.declared.kind.Kind.TheVariants.{Pair};
 ghost use Rattle.weak_clearing.specs.Clearing.{MarkedHaveWeakReferences, with_weak_cleared};
+ghost use Rattle.weak_clearing.specs.Clearing.{MarkedHaveReferencesOf, with_pairs_cleared};
 ghost use Rattle.heap_engine.specs.Sweeping.{IsJudged};
 ghost use Rattle.heap_engine.specs.View.{places_of};
 ghost use Rattle.heap_engine.specs.Objects.{AreOfValid};
@@ -31,11 +33,12 @@ use ghost_values::GhostValue;
 use page_space::Space;
 use page_words::MutatorSeat;
 use type_table::TypeTable;
-use weak_clearing::clear_fields;
+use weak_clearing::{clear_fields, clear_pairs};
 
 impl Objects {
-    /// Marks what the strong slots reach, which is kept, and condemns the other objects. Weak fields
-    /// of kept objects and weak slots whose object is condemned become null, before any object goes.
+    /// Marks what the strong slots reach, which is kept, and condemns the other objects. Weak slots,
+    /// and weak fields of kept objects, whose object is condemned become null, and so do the pairs
+    /// of kept objects whose key is, before any object goes.
     pub fn judge(&mut self, handles: &mut Handles, grey: &mut Grey) -> Marked
         requires valid { AreOfValid (setup_of_objects self.old) self.old.nodes }
         requires quiet { IsQuiet self.old.seat }
@@ -95,8 +98,8 @@ impl Objects {
     }
 }
 
-/// Sets to null what is weak and names an object that was not marked: weak slots, and weak fields of
-/// marked objects. Nothing is grey any more, so that what is not marked now will never be.
+/// Sets to null what is weak and names an object that was not marked: weak slots, and of marked
+/// objects weak fields, and pairs by their key. Nothing is grey any more, so that what is not marked now will never be.
 fn clear_weak(
     space: &Space,
     types: &TypeTable,
@@ -107,11 +110,13 @@ fn clear_weak(
     requires heap { IsSeatOf space.now seat.old }
     requires types { types.now ≡ seat.old.types }
     requires references { MarkedHaveWeakReferences seat.old }
+    requires pairs { MarkedHaveReferencesOf Pair seat.old }
     requires places { All (IsPlace seat.old.bodies) (taken handles.old.weak_places) }
-    ensures fields { seat.new ≡ with_weak_cleared seat.old }
+    ensures fields { seat.new ≡ with_pairs_cleared (with_weak_cleared seat.old) }
     ensures slots { handles.new
         ≡ cleared_in handles.old (holds seat.old.marked) nodes.now.value }
 {
     handles.clear_weak(space, seat, nodes);
     clear_fields(space, types, seat);
+    clear_pairs(space, types, seat);
 }

@@ -1,13 +1,13 @@
-use Rattle.std.proofs.Common.{◌≡◌, ℕ, Bool, [], List, Option, length, sym, ap, ◌∙◌, subst}
+use Rattle.std.proofs.Common.{◌≡◌, ℕ, Bool, [], List, Option, length, refl, sym, ap, ◌∙◌, subst}
 use Rattle.std.specs.List.{All, count_by}
 use Rattle.std.specs.Option.{ForSome}
 use Rattle.gc_graph.specs.State.{Setup, Node, slot_targets}
 use Rattle.gc_graph.specs.Valid.{AreLive}
 use Rattle.gc_graph.specs.Pause.{live_count}
+use Rattle.gc_graph.specs.declared.kind.Kind.TheVariants.{Weak, Pair}
 use Rattle.page_words.specs.Bodies.{Body, IsPlace}
 use Rattle.page_words.specs.Seat.{SeatView, IsQuiet, holds}
 use Rattle.persistent_slots.specs.Clearing.{taken}
-use Rattle.weak_clearing.specs.Clearing.{with_weak_cleared}
 use Rattle.heap_engine.specs.Sweeping.{IsJudged}
 use Rattle.heap_engine.specs.Nodes.{place_of, IsHeld}
 use Rattle.heap_engine.specs.Objects.{AreObjects}
@@ -16,13 +16,12 @@ use Rattle.heap_engine.specs.Parts.{HandlesView}
 use Rattle.heap_engine.specs.View.{kept_of}
 use Rattle.heap_engine.proofs.NodePlaces.{places_differ}
 use Rattle.heap_engine.proofs.NodeLives.{live-condemn}
-use Rattle.heap_engine.proofs.StrongFields.{known_nodes}
 use Rattle.heap_engine.proofs.HeldNodes.{none_dead, judged_after}
 use Rattle.heap_engine.proofs.KeptNodes.{slots_live, keeps_reached}
 use Rattle.heap_engine.proofs.JudgedNodes.{named_places, space_marked}
 use Rattle.heap_engine.proofs.WeakNodes.{length-after, live-after}
-use Rattle.heap_engine.proofs.BodyReferences.{references_hold, weak_references_hold}
-use Rattle.heap_engine.proofs.WeakJudged.{IsMarked, marked_is, held_after, space_cleared, judged_cleared, weak_are_places, handles_after}
+use Rattle.heap_engine.proofs.BodyReferences.{alive_quiet, alive_marked, references_hold, marked_references}
+use Rattle.heap_engine.proofs.WeakJudged.{IsMarked, both_cleared, marked_is, held_after, space_cleared, judged_cleared, weak_are_places, handles_after}
 use Rattle.heap_engine.proofs.objects.Objects.judge.Goals as goal
 
 pub mark_reachable-marked-requires-clause-slots : goal.mark_reachable-marked-requires-clause-slots
@@ -39,11 +38,7 @@ mark_reachable-marked-requires-clause-references c =
     let v : SeatView = c.self.inside.seat in
     let quiet : IsQuiet v = rw (← c.self.view_is) at c.requires.quiet in
     let setup : Setup = record { shape = c.self.inside.space.shape; markers = 0; types = c.self.inside.types; callbacks = [] } in
-    references_hold setup nodes v c.fields_stand_apart.ensures (record {
-      known = known_nodes setup nodes (rw (← c.self.view_is) at c.requires.valid);
-      held = c.self.invariant.held.bodies;
-      alive = none_dead nodes v c.self.invariant.held quiet.dead;
-    })
+    references_hold setup nodes v c.fields_stand_apart.ensures (alive_quiet setup nodes v (rw (← c.self.view_is) at c.requires.valid) c.self.invariant.held quiet)
 
 pub mark_reachable-marked-requires-clause-differ : goal.mark_reachable-marked-requires-clause-differ
 mark_reachable-marked-requires-clause-differ c = places_differ c.self.inside.nodes.value c.self.inside.seat c.bodies_lie_apart.ensures c.self.invariant.held.bodies
@@ -52,15 +47,21 @@ pub clear_weak-requires-clause-references : goal.clear_weak-requires-clause-refe
 clear_weak-requires-clause-references c =
     let nodes : List Node = c.self.inside.nodes.value in
     let v : SeatView = c.self.inside.seat in
-    let new : SeatView = c.mark_reachable-marked.new.seat in
     let marks = c.mark_reachable-marked.ensures.marks in
-    let quiet : IsQuiet v = rw (← c.self.view_is) at c.requires.quiet in
     let setup : Setup = record { shape = c.self.inside.space.shape; markers = 0; types = c.self.inside.types; callbacks = [] } in
-    weak_references_hold setup nodes new (marks.known ∙ c.self.invariant.known) (record {
-      known = known_nodes setup nodes (rw (← c.self.view_is) at c.requires.valid);
-      held = marks.bodies ∙ c.self.invariant.held.bodies;
-      alive = none_dead nodes v c.self.invariant.held quiet.dead;
-    })
+    marked_references Weak setup nodes c.mark_reachable-marked.new.seat refl (marks.known ∙ c.self.invariant.known)
+    (alive_marked setup nodes c.strong.result.now v c.mark_reachable-marked.new.seat (rw (← c.self.view_is) at c.requires.valid) c.self.invariant.held
+    (rw (← c.self.view_is) at c.requires.quiet) marks)
+
+pub clear_weak-requires-clause-pairs : goal.clear_weak-requires-clause-pairs
+clear_weak-requires-clause-pairs c =
+    let nodes : List Node = c.self.inside.nodes.value in
+    let v : SeatView = c.self.inside.seat in
+    let marks = c.mark_reachable-marked.ensures.marks in
+    let setup : Setup = record { shape = c.self.inside.space.shape; markers = 0; types = c.self.inside.types; callbacks = [] } in
+    marked_references Pair setup nodes c.mark_reachable-marked.new.seat refl (marks.known ∙ c.self.invariant.known)
+    (alive_marked setup nodes c.strong.result.now v c.mark_reachable-marked.new.seat (rw (← c.self.view_is) at c.requires.valid) c.self.invariant.held
+    (rw (← c.self.view_is) at c.requires.quiet) marks)
 
 pub clear_weak-requires-clause-places : goal.clear_weak-requires-clause-places
 clear_weak-requires-clause-places c =
@@ -85,11 +86,11 @@ pub invariant_of-self : goal.invariant_of-self
 invariant_of-self c =
     let nodes : List Node = c.self.inside.nodes.value in
     let v : SeatView = c.mark_reachable-marked.new.seat in
-    let new : SeatView = with_weak_cleared v in
+    let new : SeatView = both_cleared v in
     let marks = c.mark_reachable-marked.ensures.marks in
     let setup : Setup = record { shape = c.self.inside.space.shape; markers = 0; types = c.self.inside.types; callbacks = [] } in
     let marked : IsMarked setup nodes v =
-    marked_is setup nodes c.strong.result.now c.self.inside.seat v (rw (← c.self.view_is) at c.requires.valid) c.self.invariant.built c.self.invariant.known (quiet_of c)
+    marked_is setup nodes c.strong.result.now c.self.inside.seat v (rw (← c.self.view_is) at c.requires.valid) c.self.invariant.known (quiet_of c)
     c.self.invariant.held marks in
     let is : AreObjects c.self.inside.space new c.self.inside.types c.self.inside.made c.judged.result.value = record {
       built = c.self.invariant.built;
