@@ -1,5 +1,5 @@
 -- The reference words of the bodies of live nodes are null or refer to bodies.
-use Rattle.std.proofs.Common.{◌≡◌, ℕ, zero, suc, ◌+◌, ◌-◌, ◌<◌, ◌≤◌, Bool, true, false, List, [], ◌∷◌, length, get_or, map, Option, refl, sym, ap, ◌∙◌, subst, inl, inr, arith}
+use Rattle.std.proofs.Common.{◌≡◌, ℕ, zero, suc, ◌+◌, ◌-◌, ◌<◌, ◌≤◌, true, false, List, [], ◌∷◌, length, get_or, map, Option, refl, sym, ap, ◌∙◌, subst, inl, inr, arith}
 use Rattle.std.specs.List.{All, Contains}
 use Rattle.std.proofs.lemmas.Bool.{true≢false}
 use Rattle.std.proofs.lemmas.List.{length-map}
@@ -14,8 +14,8 @@ use Rattle.gc_graph.specs.Valid.{IsTyped, HaveKinds, IsReferenceBelow, NamesLive
 use Rattle.type_table.specs.FieldLaw.{FieldsStandApart}
 use Rattle.type_table.specs.Types.{kinds_of, kind_of, is_kind, offsets_of_kind}
 use Rattle.type_table.specs.Layouts.{kinds_of_words}
-use Rattle.page_words.specs.Bodies.{Body, IsReference, kind_in, is_reference_word}
-use Rattle.page_words.specs.Seat.{SeatView, IsQuiet, holds}
+use Rattle.page_words.specs.Bodies.{Body, IsReference, kind_in}
+use Rattle.page_words.specs.Seat.{SeatView, IsQuiet}
 use Rattle.ephemerons.specs.BodyGraph.{AreReferences}
 use Rattle.weak_clearing.specs.Clearing.{MarkedHaveReferencesOf}
 use Rattle.heap_engine.specs.Marking.{MarksReachable}

@@ -1,12 +1,12 @@
 -- After marking and weak clearing the words hold the nodes after the pause.
 use Rattle.std.proofs.Common.{◌≡◌, ℕ, ◌<◌, Bool, true, false, ◌&&◌, not, List, [], ◌∷◌, length, map, Option, Some, None, option_map, refl, sym, ap, ◌∙◌, subst, arith, cond}
-use Rattle.std.specs.List.{All, Contains}
+use Rattle.std.specs.List.{All}
 use Rattle.std.specs.Option.{ForSome}
 use Rattle.std.proofs.lemmas.Bool.{true≢false}
 use Rattle.std.proofs.lemmas.List.Elements.{All-head, All-tail, All-cons, All-get_or, All-from_get_or}
 use Rattle.gc_graph.specs.declared.kind.Kind.{Kind}
 use Rattle.gc_graph.specs.Graph.{Object, has}
-use Rattle.gc_graph.specs.State.{Setup, ObjectType, Node, Life, node_at, no_node, no_type, is_live, is_dead, is_there, slot_targets, IsLive, IsDead}
+use Rattle.gc_graph.specs.State.{Setup, ObjectType, Node, Life, node_at, no_node, is_live, is_dead, is_there, slot_targets, IsLive, IsDead}
 use Rattle.gc_graph.specs.State.Life.{Live, Dead, Gone}
 use Rattle.gc_graph.specs.Valid.{IsTyped, AreLive}
 use Rattle.gc_graph.specs.Pause.{judged, condemn, is_dead_at, clear_slot, cleared_values}

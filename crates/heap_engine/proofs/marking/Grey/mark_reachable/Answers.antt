@@ -1,4 +1,4 @@
-use Rattle.std.proofs.Common.{◌≡◌, true}
+use Rattle.std.proofs.Common.{true}
 use Rattle.mark_worklist.specs.declared.marking.Marking.{Marking}
 use Rattle.ephemerons.specs.Marking.{IsOver}
 use Rattle.heap_engine.proofs.MarkEnds.{HasMarkedSlots, listed_are_places, walked_or_listed, kept_are_counted, marks_reachable}
