@@ -4,8 +4,8 @@
 //! names; a pair marks its value once its key is marked (`include/cppgc/ephemeron-pair.h`).
 //!
 //! The parts: `Pairs` (notes of pairs whose key was not marked yet, and of objects that may still
-//! have to be traced), `trace` (one object that was claimed), `fixpoint` (all that is marked, until
-//! nothing asks for more). The next level down is `page_words`.
+//! have to be traced), `mark` (one object, as a root does it), `trace` (one object that was claimed),
+//! `fixpoint` (all that is marked, until nothing asks for more). The next level down is `page_words`.
 //!
 //! What is proved: `fixpoint` ends with a closed marked set in which nothing is grey, and marks
 //! nothing but what each closed set holds that holds what was marked before; its answer is how many
@@ -26,5 +26,6 @@ mod tracing;
 mod walking;
 
 pub use closing::fixpoint;
+pub use marks::mark;
 pub use notes::{Note, Pairs};
 pub use tracing::trace;

@@ -73,8 +73,9 @@ pub(crate) fn mark_reference(
     }
 }
 
-/// Marks an object, and lists it if it was not marked. True where it was not.
-fn mark(words: &Words, seat: &mut MutatorSeat, marking: &mut Marking, place: u32) -> bool
+/// Marks an object, and lists it if it was not marked. True where it was not. A refused push leaves
+/// it marked, and raises `overflow`.
+pub fn mark(words: &Words, seat: &mut MutatorSeat, marking: &mut Marking, place: u32) -> bool
     requires heap { seat.old.count ≡ words.now }
     requires on { seat.old.on ≡ true }
     requires place { IsPlace seat.old.bodies place }

@@ -62,6 +62,14 @@ impl Pairs {
         done
     }
 
+    /// Forgets all notes, and that one was refused. The room stays.
+    pub fn clear(&mut self)
+        ensures { self.new ≡ no_notes }
+    {
+        self.notes.clear();
+        self.overflow = false;
+    }
+
     /// Whether a note was refused.
     pub fn overflow(&self) -> bool
         ensures { result ≡ self.now.overflow }

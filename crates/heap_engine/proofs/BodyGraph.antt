@@ -1,23 +1,20 @@
 -- The graph that the bodies stand for.
-use Rattle.std.proofs.Common.{◌≡◌, ℕ, ◌+◌, Bool, true, ◌&&◌, List, [], ◌∷◌, get_or, map, length, ◌-◌, refl, sym, ap, ◌∙◌, subst, inl, inr, arith, eqb}
+use Rattle.std.proofs.Common.{◌≡◌, ℕ, Bool, true, ◌&&◌, List, [], ◌∷◌, map, refl, sym, ap, ◌∙◌, subst, inl, inr, arith, eqb}
 use mathlib.Core.Logic.{◌⊎◌}
 use Rattle.std.specs.List.{Contains, list_any}
-use Rattle.std.proofs.lemmas.Bool.{true≢false, cases_lt, cases_eq, cond-true, cond-false, or_cases, or_left, or_right, and_parts, and_from, eqb-true, eq-eqb, ne_eqb}
-use Rattle.std.proofs.lemmas.List.{get_or_past}
-use Rattle.std.proofs.lemmas.List.Elements.{All-get_or}
-use Rattle.std.proofs.lemmas.List.FromFn.{get_or-map-range_with_len, length-map-range_with_len}
+use Rattle.std.proofs.lemmas.Bool.{true≢false, cases_eq, cond-true, cond-false, or_cases, or_left, or_right, and_parts, and_from, eqb-true, eq-eqb, ne_eqb}
+use Rattle.std.proofs.lemmas.List.FromFn.{get_or-map-range_with_len}
 use Rattle.gc_graph.specs.declared.kind.Kind.{Kind}
 use Rattle.gc_graph.specs.declared.kind.Kind.TheVariants.{Strong, Weak, Pair, Plain}
 use Rattle.gc_graph.specs.declared.kind.Value.{Value}
 use Rattle.gc_graph.specs.declared.kind.Value.TheVariants.{Null, Ref, Word}
 use Rattle.gc_graph.specs.Graph.{Object, object_at, no_object, strong_targets, pair_targets, leads_by}
-use Rattle.gc_graph.specs.State.{ObjectType, no_type}
+use Rattle.gc_graph.specs.State.{ObjectType}
 use Rattle.page_words.specs.Bodies.{Body}
 use Rattle.page_words.specs.Seat.{SeatView, IsView}
-use Rattle.heap_engine.specs.Marking.{ArePairless, strong_offsets, word_at, values_in, object_in, object_there, graph_in}
-use Rattle.heap_engine.proofs.MarkCounts.{Contains-cons_cases, Contains-cons, Contains-head, Contains-map, Contains-map_some}
-use Rattle.heap_engine.proofs.FieldKinds.{NamesIn, first_of, strong_offset, offset_strong, field_of_strong, strong_of_field, no_pair_targets}
-use Rattle.heap_engine.proofs.MarkLoops.{same_body}
+use Rattle.ephemerons.specs.BodyGraph.{object_in, object_there, graph_in}
+use Rattle.heap_engine.proofs.Lists.{Contains-cons_cases, Contains-cons, Contains-head, Contains-map, Contains-map_some}
+use Rattle.heap_engine.proofs.PlaceBodies.{same_body}
 use Rattle.heap_engine.proofs.SweepSteps.{body_below}
 
 -- ---- what an object leads to
@@ -218,79 +215,3 @@ there_is types v b view there =
 
 pub nowhere : (test : ℕ → Bool) (q : ℕ) → IsLed test no_object q → ⊥
 nowhere test q led = elim led [ inl strong ↦ omega (arith, strong.1) | inr pair ↦ omega (arith, pair.1.1) ]
-
--- ---- without pairs
-
-pairless_kinds : (types : List ObjectType) (t : ℕ) → ArePairless types → Contains (get_or types t no_type).kinds Pair → ⊥
-pairless_kinds types t pairless pair = elim (cases_lt t (length types)) [
-  | inl low ↦ All-get_or (λ (type : ObjectType). Contains type.kinds Pair → ⊥) types t no_type low pairless pair
-  | inr past ↦ omega (arith, (subst (λ (type : ObjectType). Contains type.kinds Pair) (get_or_past types t no_type past) pair).1)
-]
-
--- a body leads to what its strong fields name, and to nothing else
-pub field_leads : (types : List ObjectType) (test : ℕ → Bool) (b : Body) (offset q : ℕ) → Contains (strong_offsets types b) offset → word_at b offset ≡ q + 1
-    → IsLed test (object_in types b) q
-field_leads types test b offset q there is =
-    let kinds : List Kind = (get_or types b.ty no_type).kinds in
-    let field = strong_offset kinds offset there in
-    let at : offset - 2 ≡ first_of kinds field.0 = omega (arith, field.2) in
-    inl (strong_of_field kinds q field.0 b.fields field.1 (ap (λ n. get_or b.fields n 0) (sym at) ∙ is))
-
-pub led_field : (types : List ObjectType) (test : ℕ → Bool) (b : Body) (q : ℕ) → ArePairless types → IsLed test (object_in types b) q
-    → (offset : ℕ) × Contains (strong_offsets types b) offset × (word_at b offset ≡ q + 1)
-led_field types test b q pairless led =
-    let kinds : List Kind = (get_or types b.ty no_type).kinds in
-    elim led [
-      | inl strong ↦
-          (let names : NamesIn kinds b.fields q = field_of_strong kinds q b.fields strong in
-          let at : 2 + first_of kinds names.index - 2 ≡ first_of kinds names.index = omega arith in
-          (2 + first_of kinds names.index, offset_strong kinds names.index names.field, ap (λ n. get_or b.fields n 0) at ∙ names.word))
-      | inr pair ↦ absurd (omega (
-        arith,
-        (subst (λ (ps : List (ℕ × ℕ)). Contains ps (pair.0, q))
-            (no_pair_targets kinds (values_in kinds b.fields) (pairless_kinds types b.ty pairless)) pair.1).1,
-      ))
-    ]
-
--- no key counts
-whatever_there : (types : List ObjectType) (bodies : List Body) (test other : ℕ → Bool) (p q : ℕ) → ArePairless types → IsLed test (object_there types bodies p) q
-    → IsLed other (object_there types bodies p) q
-whatever_there types [] test other p q pairless led = absurd (nowhere test q led)
-whatever_there types (b ∷ bodies) test other p q pairless led = elim (cases_eq b.place p) [
-  | inl same ↦
-      (let is : object_there types (b ∷ bodies) p ≡ object_in types b =
-      cond-true (eqb b.place p) (object_in types b) (object_there types bodies p) (eq-eqb b.place p same) in
-      let f = led_field types test b q pairless (subst (λ o. IsLed test o q) is led) in
-      subst (λ o. IsLed other o q) (sym is) (field_leads types other b f.0 q f.1 f.2))
-  | inr elsewhere ↦
-      (let is : object_there types (b ∷ bodies) p ≡ object_there types bodies p =
-      cond-false (eqb b.place p) (object_in types b) (object_there types bodies p) (ne_eqb b.place p elsewhere) in
-      subst (λ o. IsLed other o q) (sym is) (whatever_there types bodies test other p q pairless (subst (λ o. IsLed test o q) is led)))
-]
-
-pub leads_whatever : (types : List ObjectType) (v : SeatView) (test other : ℕ → Bool) (p q : ℕ) → ArePairless types
-    → leads_by test (object_at (graph_in types v) p) q ≡ true → leads_by other (object_at (graph_in types v) p) q ≡ true
-leads_whatever types v test other p q pairless leads =
-    let led : IsLed test (object_at (graph_in types v) p) q = is_led test (object_at (graph_in types v) p) q leads in
-    elim (cases_lt p v.count) [
-      | inl low ↦
-          (let is : object_at (graph_in types v) p ≡ object_there types v.bodies p =
-          get_or-map-range_with_len (object_there types v.bodies) 0 v.count p p no_object low (omega arith) in
-          led_leads other (object_at (graph_in types v) p) q (subst (λ o. IsLed other o q) (sym is)
-          (whatever_there types v.bodies test other p q pairless (subst (λ o. IsLed test o q) is led))))
-      | inr past ↦ absurd (nowhere test q (subst (λ o. IsLed test o q)
-          (get_or_past (graph_in types v) p no_object (omega (arith, past, length-map-range_with_len (object_there types v.bodies) 0 v.count))) led))
-    ]
-
--- the one body at the place leads to what its strong fields name
-pub place_leads : (types : List ObjectType) (v : SeatView) (place : ℕ) (b : Body) (test : ℕ → Bool) (offset q : ℕ) → IsView v → Contains v.bodies b → b.place ≡ place
-    → Contains (strong_offsets types b) offset → word_at b offset ≡ q + 1 → leads_by test (object_at (graph_in types v) place) q ≡ true
-place_leads types v place b test offset q view there at strong is =
-    led_leads test (object_at (graph_in types v) place) q (subst (λ a. IsLed test (object_at (graph_in types v) a) q) at
-    (subst (λ o. IsLed test o q) (sym (there_is types v b view there)) (field_leads types test b offset q strong is)))
-
-pub led_place : (types : List ObjectType) (v : SeatView) (place : ℕ) (b : Body) (test : ℕ → Bool) (q : ℕ) → ArePairless types → IsView v → Contains v.bodies b
-    → b.place ≡ place → leads_by test (object_at (graph_in types v) place) q ≡ true → (offset : ℕ) × Contains (strong_offsets types b) offset × (word_at b offset ≡ q + 1)
-led_place types v place b test q pairless view there at leads =
-    led_field types test b q pairless (subst (λ o. IsLed test o q) (there_is types v b view there)
-    (subst (λ a. IsLed test (object_at (graph_in types v) a) q) (sym at) (is_led test (object_at (graph_in types v) place) q leads)))

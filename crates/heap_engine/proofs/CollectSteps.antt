@@ -22,7 +22,6 @@ use Rattle.gc_graph.specs.Pause.{IsKept, condemn, dying_slots, clear_fields, run
 use Rattle.gc_graph.specs.Outcomes.{answered, finalise_lines, took, owner_entry}
 use Rattle.gc_graph.specs.Sweep.{SweepsToEnd}
 use Rattle.gc_graph.specs.CycleSteps.{IsStart, IsPause, IsCollection, StepGcNow, WantsMemory, is_marking, is_stack_refused}
-use Rattle.heap_engine.specs.Marking.{Grey}
 use Rattle.heap_engine.specs.View.{places_of, start_entry, pause_entry}
 use Rattle.heap_engine.specs.Judgement.{IsJudgement, nodes_after, weak_after}
 use Rattle.heap_engine.specs.Changes.{collected_from}
@@ -34,26 +33,26 @@ use Rattle.heap_engine.proofs.WeakNodes.{place-after, length-after, live-after, 
 use Rattle.heap_engine.proofs.KeptNodes.{refers_within}
 use Rattle.heap_engine.proofs.Ties.{valid_nodes, places-same}
 
--- the line of a pause that kept and condemned these
-abbrev pub pause_line : List Node → Line
-pause_line nodes = L.Pause (live_count nodes) (dead_count nodes) 0 (live_count nodes) false
+-- the line of a pause that kept and condemned these, and walked the heap or not
+abbrev pub pause_line : List Node → Bool → Line
+pause_line nodes walked = L.Pause (live_count nodes) (dead_count nodes) 0 (live_count nodes) walked
 
 -- the state after the pause of a collection that was started from this one
 abbrev pub collected_state : State → List Bool → State
 collected_state s kept = record (collected_from s) { nodes = nodes_after kept s.nodes; weak = weak_after kept s.nodes s.weak; phase = Sweeping }
 
 -- the line of a pause counts the nodes that it kept and condemned
-pub pause_counts : (nodes : List Node) (objects marked : ℕ) → objects ≡ objects_of nodes → marked ≡ live_count nodes
-    → L.Pause marked (objects - marked) 0 marked false ≡ pause_line nodes
-pause_counts nodes objects marked all live =
+pub pause_counts : (nodes : List Node) (objects marked : ℕ) (walked : Bool) → objects ≡ objects_of nodes → marked ≡ live_count nodes
+    → L.Pause marked (objects - marked) 0 marked walked ≡ pause_line nodes walked
+pause_counts nodes objects marked walked all live =
     let dead : objects - marked ≡ dead_count nodes = omega (arith, all, live, live_and_dead nodes) in
-    ap (λ k. L.Pause k (objects - marked) 0 k false) live ∙ ap (λ d. L.Pause (live_count nodes) d 0 (live_count nodes) false) dead
+    ap (λ k. L.Pause k (objects - marked) 0 k walked) live ∙ ap (λ d. L.Pause (live_count nodes) d 0 (live_count nodes) walked) dead
 
 -- clearing leaves the counts
-pub pause_line_after : (kept : List Bool) (nodes : List Node) → pause_line (nodes_after kept nodes) ≡ pause_line (condemn kept nodes)
-pause_line_after kept nodes =
-    ap (λ k. L.Pause k (dead_count (nodes_after kept nodes)) 0 k false) (live-after kept nodes)
-    ∙ ap (λ d. L.Pause (live_count (condemn kept nodes)) d 0 (live_count (condemn kept nodes)) false) (dead-after kept nodes)
+pub pause_line_after : (kept : List Bool) (nodes : List Node) (walked : Bool) → pause_line (nodes_after kept nodes) walked ≡ pause_line (condemn kept nodes) walked
+pause_line_after kept nodes walked =
+    ap (λ k. L.Pause k (dead_count (nodes_after kept nodes)) 0 k walked) (live-after kept nodes)
+    ∙ ap (λ d. L.Pause (live_count (condemn kept nodes)) d 0 (live_count (condemn kept nodes)) walked) (dead-after kept nodes)
 
 -- ---- the members of a set
 
@@ -82,8 +81,8 @@ no_region_targets : (n : ℕ) → strong_region_targets (replicate n Vacant) ≡
 no_region_targets zero = refl
 no_region_targets (suc n) = no_region_targets n
 
-plain_roots : (ph : Phase) (grey : Grey) (s : State) → IsAtRest ph grey s → roots_of s ≡ slot_targets s.slots
-plain_roots ph grey s unused =
+plain_roots : (ph : Phase) (s : State) → IsAtRest ph s → roots_of s ≡ slot_targets s.slots
+plain_roots ph s unused =
     ap (λ k. slot_targets s.slots ++ stack_targets k ++ strong_region_targets s.region) unused.stack_empty
     ∙ ap (λ ts. slot_targets s.slots ++ [] ++ ts) (ap strong_region_targets unused.region_null ∙ no_region_targets 32)
     ∙ append-nil (slot_targets s.slots ++ []) ∙ append-nil (slot_targets s.slots)
@@ -92,12 +91,12 @@ plain_roots ph grey s unused =
 abbrev pub started_state : State → State
 started_state s = marking (took s (start_entry ∷ []))
 
-pub pause_keeps : (ph : Phase) (grey : Grey) (s : State) (new : List Node) (weak : List (Option ℕ)) → ReachIsLeast → RefersWithin (graph_of s.nodes) → IsAtRest ph grey s
+pub pause_keeps : (ph : Phase) (s : State) (new : List Node) (weak : List (Option ℕ)) → ReachIsLeast → RefersWithin (graph_of s.nodes) → IsAtRest ph s
     → (keeps : IsJudgement s.nodes s.slots s.weak new weak) → IsKept (took (started_state s) []) [] keeps.kept
-pause_keeps ph grey s new weak law refers unused keeps =
+pause_keeps ph s new weak law refers unused keeps =
     let kept : List Bool = keeps.kept in
     let g : List Object = graph_of s.nodes in
-    let roots : roots_of s ≡ slot_targets s.slots = plain_roots ph grey s unused in
+    let roots : roots_of s ≡ slot_targets s.slots = plain_roots ph s unused in
     let may : List Bool = Reach g (roots_of s) in
     let same : may ≡ Reach g (slot_targets s.slots) = ap (Reach g) roots in
     let nodes : AreNodes g (members may) = λ m root.
@@ -129,9 +128,9 @@ none_dying : (nodes : List Node) (region : List RegionSlot) → region ≡ repli
 none_dying nodes region is = sym (ap (dying_slots nodes) is)
 
 -- the state after a collection is the one of the pause
-pub collected_is : (ph : Phase) (grey : Grey) (setup : Setup) (s : State) (kept : List Bool) → IsAtRest ph grey s
+pub collected_is : (ph : Phase) (setup : Setup) (s : State) (kept : List Bool) → IsAtRest ph s
     → collected_state s kept ≡ paused setup (started_state s) (condemn kept s.nodes)
-collected_is ph grey setup s kept unused =
+collected_is ph setup s kept unused =
     let c : List Node = condemn kept s.nodes in
     let cleared : List Node = clear_fields c in
     let build : List Node → List RegionSlot → List Registration → State = λ nodes region registrations.
@@ -154,10 +153,10 @@ collected_is ph grey setup s kept unused =
 starts : (setup : Setup) (s : State) → IsStart setup s (start_entry ∷ []) (started_state s)
 starts setup s = record { before = []; others = λ k d low. absurd (omega arith); piece_is = refl; legal = (refl, tt, tt); after = refl }
 
-pauses : (ph : Phase) (grey : Grey) (setup : Setup) (s : State) (kept : List Bool) → IsAtRest ph grey s
+pauses : (ph : Phase) (setup : Setup) (s : State) (kept : List Bool) (walked : Bool) → IsAtRest ph s
     → IsKept (took (started_state s) []) [] kept
-    → IsPause setup 0 Precise (started_state s) (pause_entry ∷ []) (pause_line (condemn kept s.nodes) ∷ []) (collected_state s kept)
-pauses ph grey setup s kept unused keeps =
+    → IsPause setup 0 Precise (started_state s) (pause_entry ∷ []) (pause_line (condemn kept s.nodes) walked ∷ []) (collected_state s kept)
+pauses ph setup s kept walked unused keeps =
     let c : List Node = condemn kept s.nodes in
     record {
       before = [];
@@ -167,11 +166,11 @@ pauses ph grey setup s kept unused keeps =
         keeps = keeps;
         crew = 0;
         traced = live_count c;
-        walked = false;
+        walked = walked;
         crew_is = λ none. refl;
         counted = omega arith;
-        lines_are = ap (λ rs. pause_line c ∷ prefinalise_lines (run_order c rs)) (sym unused.none_registered);
-        after = collected_is ph grey setup s kept unused;
+        lines_are = ap (λ rs. pause_line c walked ∷ prefinalise_lines (run_order c rs)) (sym unused.none_registered);
+        after = collected_is ph setup s kept unused;
       };
       piece_is = ap (λ mask. owner_entry (started_state s) (O.Pause mask) ∷ []) (none_dying c s.region unused.region_null);
       legal = (refl, (refl, subst (NamesWeakSlots 0) (sym unused.region_null) (names_none 32)), tt);
@@ -181,16 +180,16 @@ on_false : (b : Bool) (P Q : Type 0) → b ≡ false → Q → MatchBool b P Q
 on_false b P Q is q = subst (λ x. MatchBool x P Q) (sym is) q
 
 -- where marking doesn't go on and the stack is empty, gc now wants memory or collects
-pub collects_or_not : (ph : Phase) (grey : Grey) (setup : Setup) (s : State) (piece : List Entry) (lines : List Line) (new : State) → IsAtRest ph grey s → ph ≡ s.phase
+pub collects_or_not : (ph : Phase) (setup : Setup) (s : State) (piece : List Entry) (lines : List Line) (new : State) → IsAtRest ph s → ph ≡ s.phase
     → WantsMemory s piece lines new ⊎ IsCollection setup Precise s piece lines new → StepGcNow setup Precise s piece lines new
-collects_or_not ph grey setup s piece lines new unused phase done =
+collects_or_not ph setup s piece lines new unused phase done =
     on_false (is_marking s.phase) _ _ (sym (ap is_marking phase) ∙ unused.calm) (on_false (is_stack_refused Precise s.stack) _ _ (ap (is_stack_refused Precise) unused.stack_empty) done)
 
-pub step_collected : (ph : Phase) (grey : Grey) (setup : Setup) (s t new : State) (numbers : List ℕ) (kept : List Bool) (piece : List Entry) (lines : List Line) → SweepsToEnd setup.shape s numbers t
-    → IsAtRest ph grey t → IsKept (took (started_state t) []) [] kept
-    → piece ≡ start_entry ∷ pause_entry ∷ [] → lines ≡ finalise_lines numbers ++ pause_line (condemn kept t.nodes) ∷ [] → new ≡ answered (collected_state t kept)
+pub step_collected : (ph : Phase) (setup : Setup) (s t new : State) (numbers : List ℕ) (kept : List Bool) (walked : Bool) (piece : List Entry) (lines : List Line) → SweepsToEnd setup.shape s numbers t
+    → IsAtRest ph t → IsKept (took (started_state t) []) [] kept
+    → piece ≡ start_entry ∷ pause_entry ∷ [] → lines ≡ finalise_lines numbers ++ pause_line (condemn kept t.nodes) walked ∷ [] → new ≡ answered (collected_state t kept)
     → IsCollection setup Precise s piece lines new
-step_collected ph grey setup s t new numbers kept piece lines ended unused keeps taken printed after = record {
+step_collected ph setup s t new numbers kept walked piece lines ended unused keeps taken printed after = record {
   numbers = numbers;
   swept = t;
   ended = ended;
@@ -198,18 +197,17 @@ step_collected ph grey setup s t new numbers kept piece lines ended unused keeps
   started = started_state t;
   start = starts setup t;
   second = pause_entry ∷ [];
-  pause_lines = pause_line (condemn kept t.nodes) ∷ [];
+  pause_lines = pause_line (condemn kept t.nodes) walked ∷ [];
   paused = collected_state t kept;
-  pause = pauses ph grey setup t kept unused keeps;
+  pause = pauses ph setup t kept walked unused keeps;
   piece_is = taken;
   lines_are = printed;
   after = after;
 }
 
-at_rest : (o : ObjectsView) (h : HandlesView) (c : CycleView) → IsAtRest c.phase c.grey c.rest → IsAtRest c.phase c.grey (state_of o h c)
+at_rest : (o : ObjectsView) (h : HandlesView) (c : CycleView) → IsAtRest c.phase c.rest → IsAtRest c.phase (state_of o h c)
 at_rest o h c rest = record {
   calm = rest.calm;
-  none_listed = rest.none_listed;
   stack_empty = rest.stack_empty;
   region_null = rest.region_null;
   none_registered = rest.none_registered;
@@ -218,8 +216,8 @@ at_rest o h c rest = record {
 
 -- from the old parts, through those after the end of an open sweep, to those after the pause
 pub record Collects (o mid new : ObjectsView) (h left : HandlesView) (c between after : CycleView) (numbers : List ℕ) : Type 0 where
-  pub before_rests : IsAtRest c.phase c.grey c.rest
-  pub rests : IsAtRest between.phase between.grey between.rest
+  pub before_rests : IsAtRest c.phase c.rest
+  pub rests : IsAtRest between.phase between.rest
   pub ends : SweepsToEnd o.shape (state_of o h c) numbers (state_of mid h between)
   pub ready : IsReady mid h between
   pub setup : setup_of_objects mid ≡ setup_of_objects o
@@ -245,18 +243,18 @@ collected_parts o mid new h left c between after numbers is =
     ∙ ap (λ ph. build (nodes_after kept mid.nodes) h.slots weak ph after.rest) is.phase
     ∙ ap (build (nodes_after kept mid.nodes) h.slots weak Sweeping) is.rest
 
-pub collection_steps : (o mid new : ObjectsView) (h left : HandlesView) (c between after : CycleView) (numbers : List ℕ) (piece : List Entry) (line : Line) → ReachIsLeast
-    → Collects o mid new h left c between after numbers → piece ≡ start_entry ∷ pause_entry ∷ [] → line ≡ pause_line new.nodes
+pub collection_steps : (o mid new : ObjectsView) (h left : HandlesView) (c between after : CycleView) (numbers : List ℕ) (walked : Bool) (piece : List Entry) (line : Line) → ReachIsLeast
+    → Collects o mid new h left c between after numbers → piece ≡ start_entry ∷ pause_entry ∷ [] → line ≡ pause_line new.nodes walked
     → StepGcNow (setup_of_objects o) Precise (state_of o h c) piece (finalise_lines numbers ++ line ∷ []) (answered (state_of new left after))
-collection_steps o mid new h left c between after numbers piece line law is taken told =
+collection_steps o mid new h left c between after numbers walked piece line law is taken told =
     let t : State = state_of mid h between in
     let kept : List Bool = is.judges.kept in
-    let rests : IsAtRest between.phase between.grey t = at_rest mid h between is.rests in
-    collects_or_not c.phase c.grey (setup_of_objects o) (state_of o h c) piece (finalise_lines numbers ++ line ∷ []) (answered (state_of new left after)) (at_rest o h c is.before_rests) refl
-    (inr (step_collected between.phase between.grey (setup_of_objects o) (state_of o h c) t (answered (state_of new left after)) numbers kept piece (finalise_lines numbers ++ line ∷ []) is.ends rests
-    (pause_keeps between.phase between.grey t new.nodes left.weak law (refers_within (setup_of_objects mid) mid.nodes (valid_nodes mid h between is.ready)) rests is.judges)
+    let rests : IsAtRest between.phase t = at_rest mid h between is.rests in
+    collects_or_not c.phase (setup_of_objects o) (state_of o h c) piece (finalise_lines numbers ++ line ∷ []) (answered (state_of new left after)) (at_rest o h c is.before_rests) refl
+    (inr (step_collected between.phase (setup_of_objects o) (state_of o h c) t (answered (state_of new left after)) numbers kept walked piece (finalise_lines numbers ++ line ∷ []) is.ends rests
+    (pause_keeps between.phase t new.nodes left.weak law (refers_within (setup_of_objects mid) mid.nodes (valid_nodes mid h between is.ready)) rests is.judges)
     taken
-    (ap (λ l. finalise_lines numbers ++ l ∷ []) (told ∙ ap pause_line is.judges.nodes_are ∙ pause_line_after kept mid.nodes))
+    (ap (λ l. finalise_lines numbers ++ l ∷ []) (told ∙ ap (λ ns. pause_line ns walked) is.judges.nodes_are ∙ pause_line_after kept mid.nodes walked))
     (ap answered (collected_parts o mid new h left c between after numbers is))))
 
 pub collection_frame : (o mid new : ObjectsView) (h left : HandlesView) (c between after : CycleView) (numbers : List ℕ) → Collects o mid new h left c between after numbers

@@ -19,9 +19,9 @@ pub ready_empty : (o : ObjectsView) (h : HandlesView) (c : CycleView) (types : L
 ready_empty o h c types shape law built objects handles idle rest =
     let none : ObjectsView = record { shape = shape; types = types; nodes = []; seat = empty_view (shape.pages * shape.page_words) types } in
     let nulls : HandlesView = record { places = replicate 256 None; slots = replicate 256 None; weak_places = replicate 64 None; weak = replicate 64 None } in
-    let began : CycleView = record { phase = Idle; grey = c.grey; rest = empty_state } in
-    let cycle : began ≡ c = sym (ap (λ ph. (let k : CycleView = record { phase = ph; grey = c.grey; rest = c.rest } in k)) idle
-    ∙ ap (λ s. (let k : CycleView = record { phase = Idle; grey = c.grey; rest = s } in k)) rest) in
+    let began : CycleView = record { phase = Idle; rest = empty_state } in
+    let cycle : began ≡ c = sym (ap (λ ph. (let k : CycleView = record { phase = ph; rest = c.rest } in k)) idle
+    ∙ ap (λ s. (let k : CycleView = record { phase = Idle; rest = s } in k)) rest) in
     let ready : IsReady none nulls began = record {
       valid = law (setup_of_objects none);
       built = built;

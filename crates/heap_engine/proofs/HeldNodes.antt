@@ -26,7 +26,7 @@ use Rattle.heap_engine.proofs.StrongFields.{AreKnown, NamesBelow, new_words}
 use Rattle.heap_engine.proofs.NodeBodies.{bodies-push}
 use Rattle.heap_engine.proofs.NodeChanges.{AgreeOn, AgreeIn, bodies-places, bodies-same, bodies-condemn, bodies-finalise}
 use Rattle.heap_engine.proofs.NodePlaces.{there_below, node_body}
-use Rattle.heap_engine.proofs.MarkCounts.{Contains-map, Contains-map_some}
+use Rattle.heap_engine.proofs.Lists.{Contains-map, Contains-map_some}
 use Rattle.heap_engine.proofs.NodeLives.{life-condemn, place-condemn, there-condemn, life-finalise, place-finalise, not_dead_buried, live_if_there, dead_judged}
 use Rattle.heap_engine.proofs.KeptNodes.{has-kept}
 use Rattle.heap_engine.proofs.FieldNodes.{with_field, place-field, life-field}

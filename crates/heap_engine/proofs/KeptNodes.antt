@@ -11,12 +11,13 @@ use Rattle.gc_graph.specs.Reach.{Reach, RefersWithin, AreNodes, HoldsAll, IsLeas
 use Rattle.gc_graph.specs.State.{Setup, Node, node_at, no_node, graph_of, slot_targets, is_live, IsLive}
 use Rattle.gc_graph.specs.Valid.{IsTyped, NamesLive, AreLive}
 use Rattle.page_words.specs.Seat.{SeatView, IsView, holds}
-use Rattle.heap_engine.specs.Marking.{HoldsSlots, MarksReachable, object_in, object_there, graph_in}
+use Rattle.ephemerons.specs.BodyGraph.{object_in, object_there, graph_in}
+use Rattle.heap_engine.specs.Marking.{HoldsSlots, MarksReachable}
 use Rattle.heap_engine.specs.Nodes.{place_of, body_of, bodies_of, IsThere}
 use Rattle.heap_engine.specs.Objects.{AreOfValid}
 use Rattle.heap_engine.specs.Judgement.{IsJudgement, nodes_after, weak_after}
 use Rattle.heap_engine.specs.View.{kept_of, places_of}
-use Rattle.heap_engine.proofs.MarkCounts.{Contains-cons_cases, Contains-cons, Contains-head}
+use Rattle.heap_engine.proofs.Lists.{Contains-cons_cases, Contains-cons, Contains-head}
 use Rattle.heap_engine.proofs.NodePlaces.{live_is_there, live_is_live, is_live_life, there_below, node_body, same_node, object-at}
 use Rattle.heap_engine.proofs.StrongFields.{NamesBelow, below_from}
 use Rattle.heap_engine.proofs.BodyGraph.{IsLed, is_led, led_leads, led_named, led_wider, nowhere, renamed_object, led_renamed, renamed_led, there_is}

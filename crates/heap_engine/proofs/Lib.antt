@@ -1,9 +1,6 @@
-pub mod MarkLists
-pub mod MarkCounts
-pub mod MarkSteps
-pub mod MarkLoops
+pub mod Lists
 pub mod MarkEnds
-mod PlaceBodies
+pub mod PlaceBodies
 pub mod SweepPlaces
 pub mod SweepBodies
 pub mod SweepNumbers
@@ -26,7 +23,8 @@ pub mod FieldReads
 pub mod WeakNodes
 pub mod WeakBodies
 pub mod WeakJudged
-pub mod WeakReferences
+pub mod BodyReferences
+pub mod PairReferences
 pub mod JudgedNodes
 pub mod Ties
 pub mod SlotSteps

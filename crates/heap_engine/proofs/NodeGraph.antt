@@ -10,7 +10,7 @@ use Rattle.gc_graph.specs.Graph.{Object}
 use Rattle.gc_graph.specs.State.{Setup, Node}
 use Rattle.gc_graph.specs.Valid.{IsTyped, HaveKinds, IsReferenceBelow, IsPlainWord}
 use Rattle.heap_engine.specs.Nodes.{word_of, body_of}
-use Rattle.heap_engine.specs.Marking.{reference_in, values_in, object_in}
+use Rattle.ephemerons.specs.BodyGraph.{reference_in, values_in, object_in}
 use Rattle.heap_engine.proofs.BodyGraph.{IsLed, renamed, renamed_object}
 
 reference_told : (f : ℕ → ℕ) (bound : ℕ) (v : Value) → IsReferenceBelow bound v → reference_in (word_of f v) ≡ renamed f v

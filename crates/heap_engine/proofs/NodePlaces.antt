@@ -9,11 +9,11 @@ use Rattle.gc_graph.specs.State.{Node, Life, node_at, no_node, graph_of, is_ther
 use Rattle.gc_graph.specs.State.Life.{Live, Dead, Gone}
 use Rattle.page_words.specs.Bodies.{Body}
 use Rattle.page_words.specs.Seat.{SeatView, IsView}
-use Rattle.heap_engine.specs.Marking.{PlacesDiffer}
+use Rattle.ephemerons.specs.BodyGraph.{PlacesDiffer}
 use Rattle.heap_engine.specs.Nodes.{place_of, body_of, bodies_from, bodies_of, IsThere}
 use Rattle.heap_engine.proofs.NodeBodies.{bodies-there, bodies-gone, node_of_body, body_of_node}
-use Rattle.heap_engine.proofs.MarkCounts.{Contains-cons, Contains-head}
-use Rattle.heap_engine.proofs.MarkLoops.{same_body}
+use Rattle.heap_engine.proofs.Lists.{Contains-cons, Contains-head}
+use Rattle.heap_engine.proofs.PlaceBodies.{same_body}
 
 pub live_is_there : (nodes : List Node) (n : ℕ) → IsLive nodes n → IsThere nodes n
 live_is_there nodes n live = ap is_there live

@@ -10,7 +10,7 @@ use Rattle.page_words.specs.Seat.{SeatView, IsView, holds}
 use Rattle.heap_engine.specs.Nodes.{place_of, body_of, bodies_of, IsThere, IsHeld}
 use Rattle.heap_engine.specs.Sweeping.{AreDeadSerials, no_body}
 use Rattle.heap_engine.proofs.NodePlaces.{node_body, body_node}
-use Rattle.heap_engine.proofs.MarkCounts.{Contains-map}
+use Rattle.heap_engine.proofs.Lists.{Contains-map}
 use Rattle.heap_engine.proofs.SweepSteps.{body_below}
 use Rattle.heap_engine.proofs.NodeLives.{is_dead_life}
 

@@ -5,7 +5,7 @@ use Rattle.std.proofs.lemmas.Bool.{cond-true, cond-false, cases_Bool, cases_lt, 
 use Rattle.page_words.specs.Bodies.{Body}
 use Rattle.page_words.specs.Seat.{holds}
 use Rattle.heap_engine.proofs.PlaceBodies.{contains_first, contains_later}
-use Rattle.heap_engine.proofs.MarkCounts.{Contains-cons_cases}
+use Rattle.heap_engine.proofs.Lists.{Contains-cons_cases}
 
 module _ {X : Type 0} where
   -- two tests that agree at each element keep the same elements

@@ -1,13 +1,12 @@
 -- After marking and weak clearing the words hold the nodes after the pause.
 use Rattle.std.proofs.Common.{◌≡◌, ℕ, ◌<◌, Bool, true, false, ◌&&◌, not, List, [], ◌∷◌, length, map, Option, Some, None, option_map, refl, sym, ap, ◌∙◌, subst, arith, cond}
-use Rattle.std.specs.List.{All, Contains}
+use Rattle.std.specs.List.{All}
 use Rattle.std.specs.Option.{ForSome}
 use Rattle.std.proofs.lemmas.Bool.{true≢false}
 use Rattle.std.proofs.lemmas.List.Elements.{All-head, All-tail, All-cons, All-get_or, All-from_get_or}
 use Rattle.gc_graph.specs.declared.kind.Kind.{Kind}
-use Rattle.gc_graph.specs.declared.kind.Kind.TheVariants.{Pair}
 use Rattle.gc_graph.specs.Graph.{Object, has}
-use Rattle.gc_graph.specs.State.{Setup, ObjectType, Node, Life, node_at, no_node, no_type, is_live, is_dead, is_there, slot_targets, IsLive, IsDead}
+use Rattle.gc_graph.specs.State.{Setup, ObjectType, Node, Life, node_at, no_node, is_live, is_dead, is_there, slot_targets, IsLive, IsDead}
 use Rattle.gc_graph.specs.State.Life.{Live, Dead, Gone}
 use Rattle.gc_graph.specs.Valid.{IsTyped, AreLive}
 use Rattle.gc_graph.specs.Pause.{judged, condemn, is_dead_at, clear_slot, cleared_values}
@@ -17,38 +16,36 @@ use Rattle.page_words.specs.Bodies.{Body, IsPlace}
 use Rattle.page_words.specs.Seat.{SeatView, IsQuiet, holds}
 use Rattle.page_space.specs.Space.{SpaceView, IsSpaceOf, IsSpaceOver, extents_of_bodies}
 use Rattle.persistent_slots.specs.Clearing.{taken}
-use Rattle.weak_clearing.specs.Clearing.{clear_words, clear_body, with_weak_cleared}
-use Rattle.heap_engine.specs.Marking.{ArePairless, MarksReachable}
-use Rattle.heap_engine.specs.Objects.{AreBuilt, AreOfValid}
+use Rattle.weak_clearing.specs.Clearing.{clear_words, clear_body, with_weak_cleared, clear_pair_words, clear_pairs_of, with_pairs_cleared}
+use Rattle.heap_engine.specs.Marking.{MarksReachable}
+use Rattle.heap_engine.specs.Objects.{AreOfValid}
 use Rattle.heap_engine.specs.Sweeping.{IsJudged}
 use Rattle.heap_engine.specs.Judgement.{nodes_after, weak_after}
 use Rattle.heap_engine.specs.Changes.{cleared_in}
 use Rattle.heap_engine.specs.Parts.{HandlesView}
 use Rattle.heap_engine.specs.Nodes.{place_of, word_of, body_of, bodies_of, IsHeld}
 use Rattle.heap_engine.specs.View.{kept_of, places_of}
-use Rattle.heap_engine.proofs.MarkCounts.{Contains-map_some}
+use Rattle.heap_engine.proofs.Lists.{Contains-map_some}
 use Rattle.heap_engine.proofs.NodeChanges.{bodies-same}
 use Rattle.heap_engine.proofs.NodePlaces.{node_body, live_is_there}
 use Rattle.heap_engine.proofs.NodeLives.{life-condemn, object-condemn, place-condemn, length-condemn, there-condemn, live_if_there, dead_judged}
-use Rattle.heap_engine.proofs.StrongFields.{AreKnown, known_nodes, built_pairless}
+use Rattle.heap_engine.proofs.StrongFields.{AreKnown, known_nodes}
 use Rattle.heap_engine.proofs.HeldNodes.{none_dead, held_judged}
 use Rattle.heap_engine.proofs.KeptNodes.{has-kept, slots_live}
 use Rattle.heap_engine.proofs.WeakNodes.{life-after, place-after}
-use Rattle.heap_engine.proofs.WeakBodies.{TellsUnmarked, Clears, cleared_words, bodies_cleared}
+use Rattle.heap_engine.proofs.WeakBodies.{TellsUnmarked, Clears, cleared_both, cleared_words, clear_all, bodies_cleared}
 
 -- marking is over in these words, which hold the nodes: none was dead before, and what isn't marked is now condemned
 pub record IsMarked (setup : Setup) (nodes : List Node) (v : SeatView) : Type 0 where
   pub known : AreKnown setup nodes
-  pub pairless : ArePairless setup.types
   pub types : v.types ≡ setup.types
   pub alive : (n : ℕ) → IsDead nodes n → ⊥
   pub held : IsHeld (condemn (kept_of (holds v.marked) nodes) nodes) v
 
-pub marked_is : (setup : Setup) (nodes : List Node) (places : List (Option ℕ)) (v new : SeatView) → AreOfValid setup nodes → AreBuilt setup.types → v.types ≡ setup.types → IsQuiet v
+pub marked_is : (setup : Setup) (nodes : List Node) (places : List (Option ℕ)) (v new : SeatView) → AreOfValid setup nodes → v.types ≡ setup.types → IsQuiet v
     → IsHeld nodes v → MarksReachable setup.types places v new → IsMarked setup nodes new
-marked_is setup nodes places v new valid built types quiet held marks = record {
+marked_is setup nodes places v new valid types quiet held marks = record {
   known = known_nodes setup nodes valid;
-  pairless = built_pairless setup.types built;
   types = marks.known ∙ types;
   alive = none_dead nodes v held quiet.dead;
   held = held_judged nodes setup.types places v new quiet held marks;
@@ -80,24 +77,23 @@ live_before false Gone is = absurd (true≢false (sym is))
 
 -- ---- bodies
 
-no_pair_at : (setup : Setup) (bound : ℕ) (x : Node) → ArePairless setup.types → IsTyped setup bound x → Contains x.object.kinds Pair → ⊥
-no_pair_at setup bound x pairless typed there =
-    All-get_or (λ (type : ObjectType). Contains type.kinds Pair → ⊥) setup.types x.object.ty no_type typed.ty pairless
-    (subst (λ (ks : List Kind). Contains ks Pair) typed.kinds_are there)
+-- the view after both clearings
+abbrev pub both_cleared : SeatView → SeatView
+both_cleared v = with_pairs_cleared (with_weak_cleared v)
 
 -- the words of a live node's object are cleared as its values are
 object_words : (setup : Setup) (nodes : List Node) (v : SeatView) (n : ℕ) → IsMarked setup nodes v → n < length nodes → IsLive nodes n
     → (o : Object) → o ≡ (node_at nodes n).object
-    → clear_words v.marked (kinds_of_words (kinds_of setup.types o.ty)) (map (word_of (place_of nodes)) o.values)
+    → cleared_both v.marked (kinds_of setup.types o.ty) (map (word_of (place_of nodes)) o.values)
     ≡ map (word_of (place_of nodes)) (cleared_values (is_dead_at (condemn (kept_of (holds v.marked) nodes) nodes)) o.kinds o.values)
 object_words setup nodes v n is low live o same =
     let dead : ℕ → Bool = is_dead_at (condemn (kept_of (holds v.marked) nodes) nodes) in
     let f : ℕ → ℕ = place_of nodes in
     let x : Node = node_at nodes n in
     let typed : IsTyped setup (length nodes) x = All-get_or (IsTyped setup (length nodes)) nodes n no_node low is.known.typed in
-    subst (λ (p : Object). clear_words v.marked (kinds_of_words (kinds_of setup.types p.ty)) (map (word_of f) p.values) ≡ map (word_of f) (cleared_values dead p.kinds p.values)) (sym same)
-    (ap (λ (ks : List Kind). clear_words v.marked (kinds_of_words ks) (map (word_of f) x.object.values)) (sym typed.kinds_are)
-    ∙ cleared_words nodes v.marked f dead (length nodes) x.object.kinds x.object.values (tells_unmarked nodes v) (no_pair_at setup (length nodes) x is.pairless typed) typed.values_are
+    subst (λ (p : Object). cleared_both v.marked (kinds_of setup.types p.ty) (map (word_of f) p.values) ≡ map (word_of f) (cleared_values dead p.kinds p.values)) (sym same)
+    (ap (λ (ks : List Kind). cleared_both v.marked ks (map (word_of f) x.object.values)) (sym typed.kinds_are)
+    ∙ cleared_words nodes v.marked f dead (length nodes) x.object.kinds x.object.values (tells_unmarked nodes v) typed.values_are
     (is.known.references n live))
 
 node_clears : (setup : Setup) (nodes : List Node) (v : SeatView) (n : ℕ) → IsMarked setup nodes v → n < length nodes
@@ -115,7 +111,7 @@ node_clears setup nodes v n is low =
       left = λ there other. sym (flag (live_if_there (node_at nodes n).life (there-condemn kept nodes n there) (is.alive n))) ∙ other;
     }
 
-pub held_after : (setup : Setup) (nodes : List Node) (v : SeatView) → IsMarked setup nodes v → IsHeld (nodes_after (kept_of (holds v.marked) nodes) nodes) (with_weak_cleared v)
+pub held_after : (setup : Setup) (nodes : List Node) (v : SeatView) → IsMarked setup nodes v → IsHeld (nodes_after (kept_of (holds v.marked) nodes) nodes) (both_cleared v)
 held_after setup nodes v is =
     let kept : List Bool = kept_of (holds v.marked) nodes in
     let c : List Node = condemn kept nodes in
@@ -125,8 +121,8 @@ held_after setup nodes v is =
     let each : All (Clears setup.types v.marked f dead) c =
     All-from_get_or (Clears setup.types v.marked f dead) c no_node (λ n low. node_clears setup nodes v n is (subst (λ l. n < l) (length-condemn kept nodes) low)) in
     record {
-      bodies = ap (λ (ts : List ObjectType). map (clear_body ts v.marked) v.bodies) is.types
-          ∙ ap (map (clear_body setup.types v.marked)) (is.held.bodies ∙ bodies-same (place_of c) f c (place-condemn kept nodes))
+      bodies = ap (λ (ts : List ObjectType). clear_all ts v.marked v.bodies) is.types
+          ∙ ap (clear_all setup.types v.marked) (is.held.bodies ∙ bodies-same (place_of c) f c (place-condemn kept nodes))
           ∙ bodies_cleared setup.types v.marked f dead 0 c each ∙ bodies-same f (place_of after) after (λ n. sym (place-after kept nodes n));
       dead = λ n there.
           let life : (node_at after n).life ≡ (node_at c n).life = life-after kept nodes n in
@@ -135,8 +131,12 @@ held_after setup nodes v is =
 
 -- ---- the words
 
-same_extent : (types : List ObjectType) (marked : List ℕ) (b : Body) → ((clear_body types marked b).place ≡ b.place) × ((clear_body types marked b).size ≡ b.size)
-same_extent types marked b = go (holds marked b.place) where
+-- a change of bodies that leaves each at its place, with its size
+abbrev KeepsExtents : (Body → Body) → Type 0
+KeepsExtents change = (b : Body) → ((change b).place ≡ b.place) × ((change b).size ≡ b.size)
+
+weak_keeps : (types : List ObjectType) (marked : List ℕ) → KeepsExtents (clear_body types marked)
+weak_keeps types marked b = go (holds marked b.place) where
   cleared : Body
   cleared = record b { fields = clear_words marked (kinds_of_words (kinds_of types b.ty)) b.fields }
 
@@ -144,22 +144,39 @@ same_extent types marked b = go (holds marked b.place) where
   go true = (refl, refl)
   go false = (refl, refl)
 
-same_extents : (types : List ObjectType) (marked : List ℕ) (bodies : List Body) → extents_of_bodies (map (clear_body types marked) bodies) ≡ extents_of_bodies bodies
-same_extents types marked [] = refl
-same_extents types marked (b ∷ bodies) =
-    let is = same_extent types marked b in
-    ap (λ p. record { place = p; size = (clear_body types marked b).size } ∷ extents_of_bodies (map (clear_body types marked) bodies)) is.0
-    ∙ ap (λ s. record { place = b.place; size = s } ∷ extents_of_bodies (map (clear_body types marked) bodies)) is.1
-    ∙ ap (λ es. record { place = b.place; size = b.size } ∷ es) (same_extents types marked bodies)
+pairs_keep : (types : List ObjectType) (marked : List ℕ) → KeepsExtents (clear_pairs_of types marked)
+pairs_keep types marked b = go (holds marked b.place) where
+  cleared : Body
+  cleared = record b { fields = clear_pair_words marked (kinds_of types b.ty) b.fields }
+
+  go : (flag : Bool) → ((cond flag cleared b).place ≡ b.place) × ((cond flag cleared b).size ≡ b.size)
+  go true = (refl, refl)
+  go false = (refl, refl)
+
+same_extents : (change : Body → Body) → KeepsExtents change → (bodies : List Body) → extents_of_bodies (map change bodies) ≡ extents_of_bodies bodies
+same_extents change keeps [] = refl
+same_extents change keeps (b ∷ bodies) =
+    let is = keeps b in
+    ap (λ p. record { place = p; size = (change b).size } ∷ extents_of_bodies (map change bodies)) is.0
+    ∙ ap (λ s. record { place = b.place; size = s } ∷ extents_of_bodies (map change bodies)) is.1
+    ∙ ap (λ es. record { place = b.place; size = b.size } ∷ es) (same_extents change keeps bodies)
 
 -- weak clearing leaves the space's objects where they are
-pub space_cleared : (space : SpaceView) (v : SeatView) → IsSpaceOf space v → IsSpaceOf space (with_weak_cleared v)
-space_cleared space v is = subst (IsSpaceOver space v.count) (sym (same_extents v.types v.marked v.bodies)) is
+pub space_cleared : (space : SpaceView) (v : SeatView) → IsSpaceOf space v → IsSpaceOf space (both_cleared v)
+space_cleared space v is =
+    subst (IsSpaceOver space v.count)
+    (sym (same_extents (clear_pairs_of v.types v.marked) (pairs_keep v.types v.marked) (map (clear_body v.types v.marked) v.bodies)
+    ∙ same_extents (clear_body v.types v.marked) (weak_keeps v.types v.marked) v.bodies)) is
 
-pub judged_cleared : (v : SeatView) → IsJudged v → IsJudged (with_weak_cleared v)
-judged_cleared v is b there =
-    let from = Contains-map_some (clear_body v.types v.marked) v.bodies b there in
-    subst (λ p. holds v.dead p ≡ not (holds v.marked p)) (sym (same_extent v.types v.marked from.0).0 ∙ ap (λ (c : Body). c.place) from.2) (is from.0 from.1)
+judged_changed : (change : Body → Body) → KeepsExtents change → (v : SeatView) → IsJudged v → IsJudged (record v { bodies = map change v.bodies })
+judged_changed change keeps v is b there =
+    let from = Contains-map_some change v.bodies b there in
+    subst (λ p. holds v.dead p ≡ not (holds v.marked p)) (sym (keeps from.0).0 ∙ ap (λ (c : Body). c.place) from.2) (is from.0 from.1)
+
+pub judged_cleared : (v : SeatView) → IsJudged v → IsJudged (both_cleared v)
+judged_cleared v is =
+    judged_changed (clear_pairs_of v.types v.marked) (pairs_keep v.types v.marked) (with_weak_cleared v)
+    (judged_changed (clear_body v.types v.marked) (weak_keeps v.types v.marked) v is)
 
 -- ---- the weak slots
 

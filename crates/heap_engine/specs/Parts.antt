@@ -8,7 +8,6 @@ use Rattle.gc_graph.specs.CycleSteps.{is_marking}
 use Rattle.gc_graph.specs.Valid.{IsValid}
 use Rattle.gc_graph.specs.Outcomes.{answered}
 use Rattle.page_words.specs.Seat.{SeatView, IsQuiet}
-use Rattle.heap_engine.specs.Marking.{Grey}
 use Rattle.heap_engine.specs.Objects.{AreBuilt}
 use Rattle.heap_engine.specs.Sweeping.{IsJudged}
 use Rattle.heap_engine.specs.View.{places_of}
@@ -27,10 +26,9 @@ pub record HandlesView : Type 0 where
   pub weak_places : List (Option ℕ)
   pub weak : List (Option ℕ)
 
--- the collection cycle: its phase, its mark list, and what no other part holds of the state
+-- the collection cycle: its phase, and what no other part holds of the state
 pub record CycleView : Type 0 where
   pub phase : Phase
-  pub grey : Grey
   pub rest : State
 
 -- what was set up
@@ -54,11 +52,9 @@ HasMarks Idle v = IsQuiet v
 HasMarks Marking v = IsQuiet v
 HasMarks Sweeping v = IsJudged v
 
--- no marking goes on, the mark list is empty, region slots are null, the stack is empty, no prefinalizer is registered, and
--- no thread runs
-pub record IsAtRest (phase : Phase) (grey : Grey) (s : State) : Type 0 where
+-- no marking goes on, region slots are null, the stack is empty, no prefinalizer is registered, and no thread runs
+pub record IsAtRest (phase : Phase) (s : State) : Type 0 where
   pub calm : is_marking phase ≡ false
-  pub none_listed : grey.places ≡ []
   pub stack_empty : s.stack ≡ []
   pub region_null : s.region ≡ replicate 32 Vacant
   pub none_registered : s.registrations ≡ []

@@ -4,7 +4,7 @@
 ghost use Rattle.std.specs.Prelude.{◌≡◌, ◌*◌, ◌^◌, ◌<◌};
 ghost use Rattle.std.specs.Prelude.{◌≤◌, [], length, map, All};
 ghost use Rattle.std.specs.Prelude.{vec_capacity};
-ghost use Rattle.gc_graph.specs.State.{slot_targets, objects_of};
+ghost use Rattle.gc_graph.specs.State.{slot_targets};
 ghost use Rattle.gc_graph.specs.Pause.{live_count};
 ghost use Rattle.gc_graph.specs.Sweep.{AreDeadInOrder};
 ghost use Rattle.gc_graph.specs.Valid.{AreLive};
@@ -13,7 +13,9 @@ ghost use Rattle.page_words.specs.Seat.{IsQuiet, holds};
 ghost use Rattle.page_space.specs.Pages.{word_count};
 ghost use Rattle.page_space.specs.Space.{IsSeatOf};
 ghost use Rattle.persistent_slots.specs.Clearing.{taken};
+ghost use Rattle.gc_graph.specs.declared.kind.Kind.TheVariants.{Pair};
 ghost use Rattle.weak_clearing.specs.Clearing.{MarkedHaveWeakReferences, with_weak_cleared};
+ghost use Rattle.weak_clearing.specs.Clearing.{MarkedHaveReferencesOf, with_pairs_cleared};
 ghost use Rattle.heap_engine.specs.Sweeping.{IsJudged};
 ghost use Rattle.heap_engine.specs.View.{places_of};
 ghost use Rattle.heap_engine.specs.Objects.{AreOfValid};
@@ -23,7 +25,7 @@ ghost use Rattle.heap_engine.specs.Changes.{cleared_in};
 ghost use Rattle.heap_engine.specs.Parts.{setup_of_objects};
 
 use crate::handles::Handles;
-use crate::mark_list::MarkList;
+use crate::marking::{Grey, Marked};
 use crate::nodes::{self, NodeLists};
 use crate::objects::Objects;
 use crate::sweeping::sweep_pages;
@@ -31,12 +33,13 @@ use ghost_values::GhostValue;
 use page_space::Space;
 use page_words::MutatorSeat;
 use type_table::TypeTable;
-use weak_clearing::clear_fields;
+use weak_clearing::{clear_fields, clear_pairs};
 
 impl Objects {
-    /// Marks what the strong slots reach, which is kept, and condemns the other objects. Weak fields
-    /// of kept objects and weak slots whose object is condemned become null, before any object goes.
-    pub fn judge(&mut self, handles: &mut Handles, grey: &mut MarkList)
+    /// Marks what the strong slots reach, which is kept, and condemns the other objects. Weak slots,
+    /// and weak fields of kept objects, whose object is condemned become null, and so do the pairs
+    /// of kept objects whose key is, before any object goes.
+    pub fn judge(&mut self, handles: &mut Handles, grey: &mut Grey) -> Marked
         requires valid { AreOfValid (setup_of_objects self.old) self.old.nodes }
         requires quiet { IsQuiet self.old.seat }
         requires few { length self.old.nodes ≤ 1000000 }
@@ -44,8 +47,6 @@ impl Objects {
         requires weak { handles.old.weak_places ≡ places_of self.old.nodes handles.old.weak }
         requires live { AreLive self.old.nodes (slot_targets handles.old.slots) }
         requires weak_live { AreLive self.old.nodes (slot_targets handles.old.weak) }
-        requires empty { grey.old.places ≡ [] }
-        requires room { objects_of self.old.nodes ≤ grey.old.room }
         ensures judged { IsJudgement self.old.nodes handles.old.slots handles.old.weak
             self.new.nodes handles.new.weak }
         ensures handles { handles.new ≡ record handles.old {
@@ -53,14 +54,18 @@ impl Objects {
           weak = handles.new.weak;
         } }
         ensures marks { IsJudged self.new.seat }
-        ensures listed { grey.new.places ≡ [] }
-        ensures marked { grey.new.marked ≡ live_count self.new.nodes }
-        ensures traced { grey.new.traced ≡ grey.new.marked }
+        ensures kept { result.kept ≡ live_count self.new.nodes }
         ensures setup { setup_of_objects self.new ≡ setup_of_objects self.old }
     {
         self.seat.bodies_lie_apart();
         gc_graph::reach_is_least();
-        grey.mark_reachable(&self.space, &mut self.seat, &self.types, handles.strong());
+        type_table::fields_stand_apart();
+        let marked = grey.mark_reachable(
+            &self.space,
+            &mut self.seat,
+            &self.types,
+            handles.strong(),
+        );
         clear_weak(
             &self.space,
             &self.types,
@@ -69,6 +74,7 @@ impl Objects {
             &self.nodes,
         );
         self.nodes = nodes::judged(&self.nodes, &self.seat);
+        marked
     }
 
     /// Sweeps all pages. The numbers of the finalised objects are put into `finalised`, which has
@@ -92,8 +98,8 @@ impl Objects {
     }
 }
 
-/// Sets to null what is weak and names an object that was not marked: weak slots, and weak fields of
-/// marked objects. Nothing is grey any more, so that what is not marked now will never be.
+/// Sets to null what is weak and names an object that was not marked: weak slots, and of marked
+/// objects weak fields, and pairs by their key. Nothing is grey any more, so that what is not marked now will never be.
 fn clear_weak(
     space: &Space,
     types: &TypeTable,
@@ -104,11 +110,13 @@ fn clear_weak(
     requires heap { IsSeatOf space.now seat.old }
     requires types { types.now ≡ seat.old.types }
     requires references { MarkedHaveWeakReferences seat.old }
+    requires pairs { MarkedHaveReferencesOf Pair seat.old }
     requires places { All (IsPlace seat.old.bodies) (taken handles.old.weak_places) }
-    ensures fields { seat.new ≡ with_weak_cleared seat.old }
+    ensures fields { seat.new ≡ with_pairs_cleared (with_weak_cleared seat.old) }
     ensures slots { handles.new
         ≡ cleared_in handles.old (holds seat.old.marked) nodes.now.value }
 {
     handles.clear_weak(space, seat, nodes);
     clear_fields(space, types, seat);
+    clear_pairs(space, types, seat);
 }

@@ -14,7 +14,7 @@ ghost use Rattle.heap_engine.specs.Changes.{filled};
 
 use crate::entries;
 use crate::handles::Handles;
-use crate::mark_list::MarkList;
+use crate::marking::{Grey, Marked};
 use crate::objects::Objects;
 use crate::outcome::Outcome;
 use crate::states::{self, States};
@@ -23,11 +23,11 @@ use ghost_values::GhostValue;
 use std::alloc::Global;
 use std::marker::Model;
 
-/// The phase of the cycle, and the mark list.
+/// The phase of the cycle, and what is kept of marking.
 #[derive(Drop)]
 pub struct Cycle {
     phase: Phase,
-    grey: MarkList,
+    grey: Grey,
     /// What no other part holds of the state.
     rest: GhostValue<States>,
 }
@@ -37,9 +37,9 @@ impl Model for Cycle {
 
     ghost Value = { CycleView };
 
-    ghost view = { λ c. record { phase = c.phase; grey = c.grey; rest = c.rest.value } };
+    ghost view = { λ c. record { phase = c.phase; rest = c.rest.value } };
 
-    ghost invariant = { λ c. IsAtRest c.phase c.grey c.rest.value };
+    ghost invariant = { λ c. IsAtRest c.phase c.rest.value };
 }
 
 impl Cycle {
@@ -50,7 +50,7 @@ impl Cycle {
     {
         Cycle {
             phase: Phase::Idle,
-            grey: MarkList::new(alloc),
+            grey: Grey::new(alloc),
             rest: states::empty(),
         }
     }
@@ -97,17 +97,18 @@ impl Cycle {
         ensures room { outcome.new.room ≡ outcome.old.room }
         ensures history { outcome.new.history ≡ outcome.old.history }
     {
-        // The mark list's room is taken before anything else is done, so that marking can't fail.
-        if self.grey.reserve(objects.count()).is_err() {
+        // Room for a list of an ordinary length, so that a walk of the heap is rare. From here on
+        // nothing can be refused.
+        if self.grey.reserve().is_err() {
             return Line::Memory;
         }
         self.end_sweep(objects, handles, &mut outcome.finalised);
         self.rest = states::collected(objects, handles, self);
         gc_graph::reach_is_least();
-        objects.judge(handles, &mut self.grey);
+        let marked = objects.judge(handles, &mut self.grey);
         self.phase = Phase::Sweeping;
         outcome.piece = entries::of_collection();
-        pause_line(objects.count(), self.grey.marked(), self.grey.traced())
+        pause_line(objects.count(), marked)
     }
 
     /// Ends the open sweep, or refuses where none is open.
@@ -149,7 +150,6 @@ impl Cycle {
         ensures idle { self.new.phase ≡ Idle }
         ensures setup { setup_of_objects objects.new ≡ setup_of_objects objects.old }
         ensures ordinal { self.new.rest.ordinal ≡ self.old.rest.ordinal }
-        ensures grey { self.new.grey ≡ self.old.grey }
         ensures fewer { objects_of objects.new.nodes ≤ objects_of objects.old.nodes }
         ensures many { length finalised.new.items ≤ 2 ^ 24 }
         ensures room { vec_capacity finalised.new ≡ vec_capacity finalised.old }
@@ -168,16 +168,18 @@ impl Cycle {
     }
 }
 
-/// The line of a pause that kept so many of the objects.
-fn pause_line(objects: u32, kept: u32, traced: u32) -> Line
-    requires { kept ≤ objects }
-    ensures { result ≡ Line.Pause kept (objects - kept) 0 traced false }
+/// The line of a pause that kept so many of the objects, each of which it traced.
+fn pause_line(objects: u32, marked: Marked) -> Line
+    requires { marked.kept ≤ objects }
+    ensures { result
+        ≡ Line.Pause marked.kept (objects - marked.kept) 0 marked.kept marked.walked }
 {
+    let kept = marked.kept;
     Line::Pause {
         kept,
         dead: objects - kept,
         crew: 0,
-        traced,
-        walked: false,
+        traced: kept,
+        walked: marked.walked,
     }
 }

@@ -1,126 +1,143 @@
-// Marking: the targets of the strong slots are marked and listed; each listed object is traced, which
-// marks and lists the targets of its strong fields. A deep chain needs no deep stack, and no memory is
-// taken on the way.
+// Marking: the targets of the strong slots are marked and listed, and the fixpoint marks and traces
+// what they lead to. A deep chain needs no deep stack. Only the room for an ordinary list is taken
+// before; where memory is wanting on the way, the heap is walked.
 
-ghost use Rattle.std.specs.Prelude.{◌≡◌, ℕ, ◌+◌, ◌*◌, ◌/◌};
-ghost use Rattle.std.specs.Prelude.{◌^◌, ◌<◌, ◌≤◌, true, [], ◌∷◌, ◌++◌};
-ghost use Rattle.std.specs.Prelude.{length, Some, None, All};
+ghost use Rattle.std.specs.Prelude.{◌≡◌, ◌⊎◌, ℕ, true, [], Contains, All, Some};
 ghost use Rattle.std.specs.Option.{ForSome};
 ghost use Rattle.page_words.specs.Bodies.{IsPlace};
-ghost use Rattle.page_words.specs.Seat.{holds, IsQuiet};
+ghost use Rattle.page_words.specs.Seat.{IsQuiet, holds};
 ghost use Rattle.page_space.specs.Space.{IsSeatOf};
-ghost use Rattle.heap_engine.specs.Marking.{PlacesDiffer, AreReferences, IsCounted, IsTricolour};
-ghost use Rattle.heap_engine.specs.Marking.{KeepsTricolour, MarksOn, GrowsWithin, MarksReachable};
-ghost use Rattle.heap_engine.specs.Marking.{ArePairless, HasType, LeadsMarked, marked_count};
+ghost use Rattle.ephemerons.specs.BodyGraph.{AreReferences, PlacesDiffer};
+ghost use Rattle.ephemerons.specs.Fixpoint.{ListsMarks};
+ghost use Rattle.heap_engine.specs.Marking.{IsClear, MarksReachable, marked_count};
 
-use crate::mark_list::MarkList;
+use ephemerons::{Pairs, fixpoint, mark};
+use gc_graph::NoMemory;
+use mark_worklist::{Marking, Worklist};
 use page_space::Space;
 use page_words::{MutatorSeat, Words};
 use persistent_slots::Slots;
+use std::alloc::Global;
+use std::marker::Model;
 use type_table::TypeTable;
 
-impl MarkList {
-    /// Marks exactly the objects that the slots reach, and traces each of them once.
+/// Places for which a collection takes room before it begins: four for each strong slot.
+const ROOM: u32 = 1024;
+
+/// The marking state of the heap's owner, and the notes of pairs. Between collections no marking
+/// goes on, nothing is listed or noted, and no refusal is remembered.
+#[derive(Drop)]
+pub struct Grey {
+    marking: Marking,
+    notes: [Pairs; 1],
+}
+
+impl Model for Grey {
+    ghost use Rattle.mark_worklist.specs.declared.marking.Marking.{Marking};
+    ghost use Rattle.heap_engine.specs.Marking.{IsClear};
+
+    ghost Value = { Marking };
+
+    ghost view = { λ g. g.marking };
+
+    ghost invariant = { λ g. IsClear g.marking g.notes };
+}
+
+/// What a marking tells: how many objects it kept, each of which it traced, and whether it walked
+/// the heap, because a push or a note was refused.
+#[derive(Clone, Copy, Drop)]
+pub struct Marked {
+    pub kept: u32,
+    pub walked: bool,
+}
+
+impl Grey {
+    /// A list and notes without room.
+    pub fn new(alloc: Global) -> Grey {
+        Grey {
+            marking: Marking {
+                on: false,
+                overflow: false,
+                list: Worklist::new(alloc),
+            },
+            notes: [Pairs::new(alloc)],
+        }
+    }
+
+    /// Takes room for a list of an ordinary length. Want of memory is free.
+    pub fn reserve(&mut self) -> Result<(), NoMemory> {
+        self.marking.list.reserve(ROOM)?;
+        Ok(())
+    }
+
+    /// Marks exactly the objects that the slots reach, and traces each of them once. It can't be
+    /// refused.
     pub fn mark_reachable(
         &mut self,
         space: &Space,
         seat: &mut MutatorSeat,
         types: &TypeTable,
         slots: &Slots,
-    )
+    ) -> Marked
         requires heap { IsSeatOf space.now seat.old }
         requires quiet { IsQuiet seat.old }
         requires slots { All (λ slot. ForSome slot (IsPlace seat.old.bodies)) slots.now }
-        requires pairless { ArePairless types.now }
         requires references { AreReferences types.now seat.old.bodies }
         requires differ { PlacesDiffer seat.old.bodies }
-        requires empty { self.old.places ≡ [] }
-        requires room { length seat.old.bodies ≤ self.old.room }
-        requires few { length seat.old.bodies < 2 ^ 32 }
         ensures marks { MarksReachable types.now slots.now seat.old seat.new }
-        ensures places { self.new.places ≡ [] }
-        ensures marked { self.new.marked ≡ marked_count seat.new }
-        ensures traced { self.new.traced ≡ self.new.marked }
+        ensures kept { result.kept ≡ marked_count seat.new }
     {
-        self.begin();
         space.words().set_stop(seat, false);
-        self.mark_slots(space.words(), seat, slots);
-        self.drain(space, seat, types);
+        self.marking.on = true;
+        mark_slots(space.words(), seat, &mut self.marking, slots);
+        // A slot's object that is marked and not listed can be found by a walk alone.
+        let walk = self.marking.overflow;
+        let kept = fixpoint(space, types, seat, &mut self.marking, &mut self.notes, walk);
         seat.bodies_lie_apart();
         space.words().set_stop(seat, true);
+        let walked = clear(&mut self.marking, &mut self.notes);
+        Marked { kept, walked }
     }
+}
 
-    /// Traces each listed object, until none is left.
-    fn drain(&mut self, space: &Space, seat: &mut MutatorSeat, types: &TypeTable)
-        requires heap { IsSeatOf space.now seat.old }
-        requires pairless { ArePairless types.now }
-        requires references { AreReferences types.now seat.old.bodies }
-        requires counted { IsCounted seat.old self.old }
-        requires tricolour { IsTricolour types.now None seat.old self.old.places }
-        ensures counted { IsCounted seat.new self.new }
-        ensures tricolour { IsTricolour types.now None seat.new [] }
-        ensures places { self.new.places ≡ [] }
-        ensures kept { MarksOn seat.old seat.new }
-        ensures grows { GrowsWithin types.now seat.old seat.new }
-    {
-        while let Some(place) = self.take() {
-            self.trace(space, seat, types, place);
-        }
+/// Marks and lists the targets of the slots.
+fn mark_slots(words: &Words, seat: &mut MutatorSeat, marking: &mut Marking, slots: &Slots)
+    requires heap { seat.old.count ≡ words.now }
+    requires on { seat.old.on ≡ true }
+    requires slots { All (λ slot. ForSome slot (IsPlace seat.old.bodies)) slots.now }
+    ensures marks { ListsMarks seat.old marking.old seat.new marking.new }
+    ensures roots { (p : ℕ) → Contains slots.now (Some p) → holds seat.new.marked p ≡ true }
+    ensures only { (p : ℕ) → holds seat.new.marked p ≡ true
+        → (holds seat.old.marked p ≡ true) ⊎ Contains slots.now (Some p) }
+{
+    for i in 0..slots.len() {
+        mark_slot(words, seat, marking, slots.get(i));
     }
+}
 
-    /// Claims a listed object, and marks and lists the targets of its strong fields.
-    fn trace(&mut self, space: &Space, seat: &mut MutatorSeat, types: &TypeTable, place: u32)
-        requires heap { IsSeatOf space.now seat.old }
-        requires pairless { ArePairless types.now }
-        requires references { AreReferences types.now seat.old.bodies }
-        requires counted { IsCounted seat.old self.old }
-        requires tricolour { IsTricolour types.now None seat.old
-            (self.old.places ++ place ∷ []) }
-        ensures counted { IsCounted seat.new self.new }
-        ensures tricolour { IsTricolour types.now None seat.new self.new.places }
-        ensures kept { MarksOn seat.old seat.new }
-        ensures grows { GrowsWithin types.now seat.old seat.new }
-        ensures pushed { length self.new.places + self.old.marked
-            ≡ length self.old.places + self.new.marked }
-        ensures grew { self.old.marked ≤ self.new.marked }
-    {
-        seat.bodies_lie_apart();
-        if let Some(ty) = self.claim(space.words(), seat, place) {
-            self.mark_fields(space.words(), seat, types, place, ty);
-        }
+fn mark_slot(words: &Words, seat: &mut MutatorSeat, marking: &mut Marking, slot: Option<u32>)
+    requires heap { seat.old.count ≡ words.now }
+    requires on { seat.old.on ≡ true }
+    requires slot { ForSome slot (IsPlace seat.old.bodies) }
+    ensures marks { ListsMarks seat.old marking.old seat.new marking.new }
+    ensures root { (p : ℕ) → slot ≡ Some p → holds seat.new.marked p ≡ true }
+    ensures only { (p : ℕ) → holds seat.new.marked p ≡ true
+        → (holds seat.old.marked p ≡ true) ⊎ (slot ≡ Some p) }
+{
+    if let Some(place) = slot {
+        mark(words, seat, marking, place);
     }
+}
 
-    /// Marks and lists the targets of the strong fields of an object of a type. Its other words are
-    /// never read.
-    fn mark_fields(
-        &mut self,
-        words: &Words,
-        seat: &mut MutatorSeat,
-        types: &TypeTable,
-        place: u32,
-        ty: u32,
-    )
-        requires heap { seat.old.count ≡ words.now }
-        requires pairless { ArePairless types.now }
-        requires references { AreReferences types.now seat.old.bodies }
-        requires body { HasType seat.old.bodies place ty }
-        requires counted { IsCounted seat.old self.old }
-        requires hand { holds seat.old.marked place ≡ true }
-        ensures counted { IsCounted seat.new self.new }
-        ensures tricolour { KeepsTricolour seat.old self.old seat.new self.new }
-        ensures kept { MarksOn seat.old seat.new }
-        ensures targets { (q : ℕ) → LeadsMarked types.now seat.new place q
-            → holds seat.new.marked q ≡ true }
-        ensures grows { GrowsWithin types.now seat.old seat.new }
-        ensures pushed { length self.new.places + self.old.marked
-            ≡ length self.old.places + self.new.marked }
-        ensures grew { self.old.marked ≤ self.new.marked }
-    {
-        seat.bodies_lie_apart();
-        let strong = types.strong_words(ty);
-        for offset in strong {
-            let reference = words.load(seat, place + *offset);
-            self.mark_reference(words, seat, reference);
-        }
-    }
+/// Ends a marking whose list is empty, and forgets what was noted and refused. True where a push or
+/// a note was refused.
+fn clear(marking: &mut Marking, notes: &mut [Pairs; 1]) -> bool
+    requires { marking.old.list.items ≡ [] }
+    ensures { IsClear marking.new notes.new }
+{
+    let walked = marking.overflow || notes[0].overflow();
+    marking.on = false;
+    marking.overflow = false;
+    notes[0].clear();
+    walked
 }

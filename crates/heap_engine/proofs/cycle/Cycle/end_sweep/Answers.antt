@@ -11,8 +11,8 @@ pub returns-in-Sweeping-clause-swept : goal.returns-in-Sweeping-clause-swept
 returns-in-Sweeping-clause-swept c =
     let old : ObjectsView = c.args.objects.now in
     let new : ObjectsView = c.sweep.new.self in
-    let before : CycleView = record { phase = c.self.inside.phase; grey = c.self.inside.grey; rest = c.self.inside.rest.value } in
-    let after : CycleView = record { phase = Idle; grey = c.self.inside.grey; rest = c.ended.result.value } in
+    let before : CycleView = record { phase = c.self.inside.phase; rest = c.self.inside.rest.value } in
+    let after : CycleView = record { phase = Idle; rest = c.ended.result.value } in
     let numbers : List ℕ = c.sweep.new.finalised.items in
     let ready : IsReady old c.args.handles.now before = rw (← c.self.view_is) at c.requires.ready in
     let rest : after.rest ≡ ended_in old.shape before.rest numbers =
@@ -25,8 +25,8 @@ pub returns-in-Sweeping-clause-ready : goal.returns-in-Sweeping-clause-ready
 returns-in-Sweeping-clause-ready c =
     let old : ObjectsView = c.args.objects.now in
     let new : ObjectsView = c.sweep.new.self in
-    let before : CycleView = record { phase = c.self.inside.phase; grey = c.self.inside.grey; rest = c.self.inside.rest.value } in
-    let after : CycleView = record { phase = Idle; grey = c.self.inside.grey; rest = c.ended.result.value } in
+    let before : CycleView = record { phase = c.self.inside.phase; rest = c.self.inside.rest.value } in
+    let after : CycleView = record { phase = Idle; rest = c.ended.result.value } in
     let numbers : List ℕ = c.sweep.new.finalised.items in
     let ready : IsReady old c.args.handles.now before = rw (← c.self.view_is) at c.requires.ready in
     let rest : after.rest ≡ ended_in old.shape before.rest numbers =

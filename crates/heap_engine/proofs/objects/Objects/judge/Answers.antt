@@ -1,95 +1,80 @@
-use Rattle.std.proofs.Common.{◌≡◌, ℕ, Bool, [], List, Option, length, sym, ap, ◌∙◌, subst, arith}
+use Rattle.std.proofs.Common.{◌≡◌, ℕ, Bool, [], List, Option, length, refl, sym, ap, ◌∙◌, subst}
 use Rattle.std.specs.List.{All, count_by}
 use Rattle.std.specs.Option.{ForSome}
-use Rattle.std.proofs.lemmas.List.Sums.{count_by-le-length}
-use Rattle.gc_graph.specs.State.{Setup, Node, is_there, slot_targets, IsDead}
+use Rattle.gc_graph.specs.State.{Setup, Node, slot_targets}
 use Rattle.gc_graph.specs.Valid.{AreLive}
 use Rattle.gc_graph.specs.Pause.{live_count}
+use Rattle.gc_graph.specs.declared.kind.Kind.TheVariants.{Weak, Pair}
 use Rattle.page_words.specs.Bodies.{Body, IsPlace}
 use Rattle.page_words.specs.Seat.{SeatView, IsQuiet, holds}
 use Rattle.persistent_slots.specs.Clearing.{taken}
-use Rattle.weak_clearing.specs.Clearing.{with_weak_cleared}
 use Rattle.heap_engine.specs.Sweeping.{IsJudged}
-use Rattle.heap_engine.specs.Nodes.{place_of, bodies_of, IsHeld}
+use Rattle.heap_engine.specs.Nodes.{place_of, IsHeld}
 use Rattle.heap_engine.specs.Objects.{AreObjects}
 use Rattle.heap_engine.specs.Judgement.{IsJudgement, nodes_after, weak_after}
 use Rattle.heap_engine.specs.Parts.{HandlesView}
 use Rattle.heap_engine.specs.View.{kept_of}
-use Rattle.heap_engine.proofs.NodeBodies.{length-bodies}
 use Rattle.heap_engine.proofs.NodePlaces.{places_differ}
 use Rattle.heap_engine.proofs.NodeLives.{live-condemn}
-use Rattle.heap_engine.proofs.StrongFields.{AreKnown, known_nodes, built_pairless}
 use Rattle.heap_engine.proofs.HeldNodes.{none_dead, judged_after}
 use Rattle.heap_engine.proofs.KeptNodes.{slots_live, keeps_reached}
-use Rattle.heap_engine.proofs.JudgedNodes.{named_places, references_hold, space_marked}
+use Rattle.heap_engine.proofs.JudgedNodes.{named_places, space_marked}
 use Rattle.heap_engine.proofs.WeakNodes.{length-after, live-after}
-use Rattle.heap_engine.proofs.WeakReferences.{weak_references_hold}
-use Rattle.heap_engine.proofs.WeakJudged.{IsMarked, marked_is, held_after, space_cleared, judged_cleared, weak_are_places, handles_after}
+use Rattle.heap_engine.proofs.BodyReferences.{alive_quiet, alive_marked, references_hold, marked_references}
+use Rattle.heap_engine.proofs.WeakJudged.{IsMarked, both_cleared, marked_is, held_after, space_cleared, judged_cleared, weak_are_places, handles_after}
 use Rattle.heap_engine.proofs.objects.Objects.judge.Goals as goal
 
-pub mark_reachable-requires-clause-slots : goal.mark_reachable-requires-clause-slots
-mark_reachable-requires-clause-slots c =
+pub mark_reachable-marked-requires-clause-slots : goal.mark_reachable-marked-requires-clause-slots
+mark_reachable-marked-requires-clause-slots c =
     let nodes : List Node = c.self.inside.nodes.value in
     let v : SeatView = c.self.inside.seat in
     let slots : List (Option ℕ) = c.args.handles.now.slots in
     subst (λ l. All (λ slot. ForSome slot (IsPlace v.bodies)) l) (sym (rw (← c.self.view_is) at c.requires.slots) ∙ sym c.strong.ensures)
     (named_places nodes v slots c.self.invariant.held.bodies (slots_live nodes slots (rw (← c.self.view_is) at c.requires.live)))
 
-pub mark_reachable-requires-clause-references : goal.mark_reachable-requires-clause-references
-mark_reachable-requires-clause-references c =
+pub mark_reachable-marked-requires-clause-references : goal.mark_reachable-marked-requires-clause-references
+mark_reachable-marked-requires-clause-references c =
     let nodes : List Node = c.self.inside.nodes.value in
     let v : SeatView = c.self.inside.seat in
     let quiet : IsQuiet v = rw (← c.self.view_is) at c.requires.quiet in
     let setup : Setup = record { shape = c.self.inside.space.shape; markers = 0; types = c.self.inside.types; callbacks = [] } in
-    references_hold setup nodes v (known_nodes setup nodes (rw (← c.self.view_is) at c.requires.valid)) c.self.invariant.held.bodies (none_dead nodes v c.self.invariant.held quiet.dead)
+    references_hold setup nodes v c.fields_stand_apart.ensures (alive_quiet setup nodes v (rw (← c.self.view_is) at c.requires.valid) c.self.invariant.held quiet)
 
-pub mark_reachable-requires-clause-pairless : goal.mark_reachable-requires-clause-pairless
-mark_reachable-requires-clause-pairless c = built_pairless c.self.inside.types c.self.invariant.built
-
-pub mark_reachable-requires-clause-differ : goal.mark_reachable-requires-clause-differ
-mark_reachable-requires-clause-differ c = places_differ c.self.inside.nodes.value c.self.inside.seat c.bodies_lie_apart.ensures c.self.invariant.held.bodies
-
-pub mark_reachable-requires-clause-room : goal.mark_reachable-requires-clause-room
-mark_reachable-requires-clause-room c =
-    let nodes : List Node = c.self.inside.nodes.value in
-    omega (arith, ap length c.self.invariant.held.bodies, length-bodies (place_of nodes) 0 nodes, (rw (← c.self.view_is) at c.requires.room))
-
-pub mark_reachable-requires-clause-few : goal.mark_reachable-requires-clause-few
-mark_reachable-requires-clause-few c =
-    let nodes : List Node = c.self.inside.nodes.value in
-    omega (
-      arith,
-      ap length c.self.invariant.held.bodies,
-      length-bodies (place_of nodes) 0 nodes,
-      count_by-le-length (λ (n : Node). is_there n.life) nodes,
-      (rw (← c.self.view_is) at c.requires.few),
-    )
+pub mark_reachable-marked-requires-clause-differ : goal.mark_reachable-marked-requires-clause-differ
+mark_reachable-marked-requires-clause-differ c = places_differ c.self.inside.nodes.value c.self.inside.seat c.bodies_lie_apart.ensures c.self.invariant.held.bodies
 
 pub clear_weak-requires-clause-references : goal.clear_weak-requires-clause-references
 clear_weak-requires-clause-references c =
     let nodes : List Node = c.self.inside.nodes.value in
     let v : SeatView = c.self.inside.seat in
-    let new : SeatView = c.mark_reachable.new.seat in
-    let marks = c.mark_reachable.ensures.marks in
-    let quiet : IsQuiet v = rw (← c.self.view_is) at c.requires.quiet in
+    let marks = c.mark_reachable-marked.ensures.marks in
     let setup : Setup = record { shape = c.self.inside.space.shape; markers = 0; types = c.self.inside.types; callbacks = [] } in
-    let known : AreKnown setup nodes = known_nodes setup nodes (rw (← c.self.view_is) at c.requires.valid) in
-    let alive : (n : ℕ) → IsDead nodes n → ⊥ = none_dead nodes v c.self.invariant.held quiet.dead in
-    let held : new.bodies ≡ bodies_of nodes = marks.bodies ∙ c.self.invariant.held.bodies in
-    weak_references_hold setup nodes new known (marks.known ∙ c.self.invariant.known) held alive (references_hold setup nodes new known held alive)
+    marked_references Weak setup nodes c.mark_reachable-marked.new.seat refl (marks.known ∙ c.self.invariant.known)
+    (alive_marked setup nodes c.strong.result.now v c.mark_reachable-marked.new.seat (rw (← c.self.view_is) at c.requires.valid) c.self.invariant.held
+    (rw (← c.self.view_is) at c.requires.quiet) marks)
+
+pub clear_weak-requires-clause-pairs : goal.clear_weak-requires-clause-pairs
+clear_weak-requires-clause-pairs c =
+    let nodes : List Node = c.self.inside.nodes.value in
+    let v : SeatView = c.self.inside.seat in
+    let marks = c.mark_reachable-marked.ensures.marks in
+    let setup : Setup = record { shape = c.self.inside.space.shape; markers = 0; types = c.self.inside.types; callbacks = [] } in
+    marked_references Pair setup nodes c.mark_reachable-marked.new.seat refl (marks.known ∙ c.self.invariant.known)
+    (alive_marked setup nodes c.strong.result.now v c.mark_reachable-marked.new.seat (rw (← c.self.view_is) at c.requires.valid) c.self.invariant.held
+    (rw (← c.self.view_is) at c.requires.quiet) marks)
 
 pub clear_weak-requires-clause-places : goal.clear_weak-requires-clause-places
 clear_weak-requires-clause-places c =
     let nodes : List Node = c.self.inside.nodes.value in
-    let v : SeatView = c.mark_reachable.new.seat in
+    let v : SeatView = c.mark_reachable-marked.new.seat in
     let weak : List (Option ℕ) = c.args.handles.now.weak in
     let live : AreLive nodes (slot_targets weak) = rw (← c.self.view_is) at c.requires.weak_live in
     subst (λ l. All (IsPlace v.bodies) (taken l)) (sym (rw (← c.self.view_is) at c.requires.weak))
-    (weak_are_places nodes v weak (c.mark_reachable.ensures.marks.bodies ∙ c.self.invariant.held.bodies) (slots_live nodes weak live))
+    (weak_are_places nodes v weak (c.mark_reachable-marked.ensures.marks.bodies ∙ c.self.invariant.held.bodies) (slots_live nodes weak live))
 
 -- what the pause made of the nodes
 nodes_are : (c : goal.After-drop-self-inside)
-    → nodes_after (kept_of (holds c.mark_reachable.new.seat.marked) c.self.inside.nodes.value) c.self.inside.nodes.value ≡ c.judged.result.value
+    → nodes_after (kept_of (holds c.mark_reachable-marked.new.seat.marked) c.self.inside.nodes.value) c.self.inside.nodes.value ≡ c.judged.result.value
 nodes_are c =
     let nodes : List Node = c.self.inside.nodes.value in
     sym (c.judged.ensures ∙ ap (λ (u : SeatView). nodes_after (kept_of (holds u.marked) nodes) nodes) c.clear_weak.ensures.fields)
@@ -100,12 +85,12 @@ quiet_of c = rw (← c.self.view_is) at c.requires.quiet
 pub invariant_of-self : goal.invariant_of-self
 invariant_of-self c =
     let nodes : List Node = c.self.inside.nodes.value in
-    let v : SeatView = c.mark_reachable.new.seat in
-    let new : SeatView = with_weak_cleared v in
-    let marks = c.mark_reachable.ensures.marks in
+    let v : SeatView = c.mark_reachable-marked.new.seat in
+    let new : SeatView = both_cleared v in
+    let marks = c.mark_reachable-marked.ensures.marks in
     let setup : Setup = record { shape = c.self.inside.space.shape; markers = 0; types = c.self.inside.types; callbacks = [] } in
     let marked : IsMarked setup nodes v =
-    marked_is setup nodes c.strong.result.now c.self.inside.seat v (rw (← c.self.view_is) at c.requires.valid) c.self.invariant.built c.self.invariant.known (quiet_of c)
+    marked_is setup nodes c.strong.result.now c.self.inside.seat v (rw (← c.self.view_is) at c.requires.valid) c.self.invariant.known (quiet_of c)
     c.self.invariant.held marks in
     let is : AreObjects c.self.inside.space new c.self.inside.types c.self.inside.made c.judged.result.value = record {
       built = c.self.invariant.built;
@@ -123,30 +108,30 @@ returns-clause-judged c =
     let nodes : List Node = c.self.inside.nodes.value in
     let slots : List (Option ℕ) = c.args.handles.now.slots in
     let weak : List (Option ℕ) = c.args.handles.now.weak in
-    let v : SeatView = c.mark_reachable.new.seat in
+    let v : SeatView = c.mark_reachable-marked.new.seat in
     let setup : Setup = record { shape = c.self.inside.space.shape; markers = 0; types = c.self.inside.types; callbacks = [] } in
     let judges : IsJudgement nodes slots weak (nodes_after (kept_of (holds v.marked) nodes) nodes) (weak_after (kept_of (holds v.marked) nodes) nodes weak) =
     keeps_reached setup nodes slots weak c.self.inside.seat v c.strong.result.now c.reach_is_least.ensures
     c.bodies_lie_apart.ensures (rw (← c.self.view_is) at c.requires.valid) (rw (← c.self.view_is) at c.requires.live) c.self.invariant.held.bodies
-    (c.strong.ensures ∙ (rw (← c.self.view_is) at c.requires.slots)) c.mark_reachable.ensures.marks in
+    (c.strong.ensures ∙ (rw (← c.self.view_is) at c.requires.slots)) c.mark_reachable-marked.ensures.marks in
     rw (← c.self.view_is) (subst (λ (ns : List Node). IsJudgement nodes slots weak ns c.clear_weak.new.handles.weak) (nodes_are c)
     (subst (IsJudgement nodes slots weak (nodes_after (kept_of (holds v.marked) nodes) nodes)) (sym (ap (λ (h : HandlesView). h.weak) c.clear_weak.ensures.slots)) judges))
 
 pub returns-clause-handles : goal.returns-clause-handles
 returns-clause-handles c =
-    handles_after c.self.inside.nodes.value c.judged.result.value c.mark_reachable.new.seat c.args.handles.now c.clear_weak.new.handles
+    handles_after c.self.inside.nodes.value c.judged.result.value c.mark_reachable-marked.new.seat c.args.handles.now c.clear_weak.new.handles
     (rw (← c.self.view_is) at c.requires.weak) (rw (← c.self.view_is) at c.requires.weak_live) c.clear_weak.ensures.slots (nodes_are c)
 
 pub returns-clause-marks : goal.returns-clause-marks
 returns-clause-marks c =
     subst IsJudged (sym c.clear_weak.ensures.fields)
-    (judged_cleared c.mark_reachable.new.seat (judged_after c.self.inside.types c.strong.result.now c.self.inside.seat c.mark_reachable.new.seat c.mark_reachable.ensures.marks))
+    (judged_cleared c.mark_reachable-marked.new.seat (judged_after c.self.inside.types c.strong.result.now c.self.inside.seat c.mark_reachable-marked.new.seat c.mark_reachable-marked.ensures.marks))
 
-pub returns-clause-marked : goal.returns-clause-marked
-returns-clause-marked c =
+pub returns-clause-kept : goal.returns-clause-kept
+returns-clause-kept c =
     let nodes : List Node = c.self.inside.nodes.value in
-    let v : SeatView = c.mark_reachable.new.seat in
+    let v : SeatView = c.mark_reachable-marked.new.seat in
     let kept : List Bool = kept_of (holds v.marked) nodes in
-    c.mark_reachable.ensures.marked ∙ ap (count_by (λ (b : Body). holds v.marked b.place)) (c.mark_reachable.ensures.marks.bodies ∙ c.self.invariant.held.bodies)
+    c.mark_reachable-marked.ensures.kept ∙ ap (count_by (λ (b : Body). holds v.marked b.place)) (c.mark_reachable-marked.ensures.marks.bodies ∙ c.self.invariant.held.bodies)
     ∙ sym (live-condemn (place_of nodes) 0 (holds v.marked) nodes (none_dead nodes c.self.inside.seat c.self.invariant.held (quiet_of c).dead))
     ∙ sym (live-after kept nodes) ∙ ap live_count (nodes_are c)
