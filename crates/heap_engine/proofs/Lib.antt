@@ -28,9 +28,12 @@ pub mod WeakBodies
 pub mod WeakJudged
 pub mod WeakReferences
 pub mod JudgedNodes
+pub mod PairFields
+pub mod PairBodies
 pub mod Ties
 pub mod SlotSteps
 pub mod FieldAnswers
+pub mod PairAnswers
 pub mod NewSteps
 pub mod HeapEmpty
 pub mod EndSteps
