@@ -13,6 +13,9 @@ TABLE_FIELDS = 38
 LEAF_SLOT = 254
 TABLE_SLOT = 255
 
+# For a side table: how many pairs a table has.
+TABLE_PAIRS = 31
+
 
 class Load(NamedTuple):
     """A script and its heap. `tells` has how many lines of the report begin with which text."""
@@ -247,6 +250,63 @@ def weak_read(count):
     last = (count - 1) % 2
     tells = {**load.tells, f"pause kept {count} dead {count // 5} ": 1, "null": 1}
     return load.then(f"get {last} 1 4", f"get {last} 2 4")._replace(tells=tells)
+
+
+def pair_chain(count):
+    """A list of holders, the newest named by a slot, with a pair each, and a chain of pairs through them:
+    each pair's key is the value of the next one in the list, and the key of the last one alone is named by
+    a slot. So marking comes to every pair before its key lives, but for the last."""
+    lines = ["new 2 1", "copy 2 4"]
+    for number in range(count):
+        holder = number % 2
+        key, value = 2 + holder, 3 - holder
+        lines += [f"new {value} 1", f"new {holder} 0", f"set {holder} 0 {1 - holder}"]
+        lines.append(f"pair {holder} 1 {key} {value}")
+    pages = pages_for(count, 5) + pages_for(count + 1, 2)
+    return Load(["SE", "-"], lines + ["drop 2", "drop 3"], {"full": 0, "refused": 0}, pages)
+
+
+def pair_chain_read(count):
+    """After a collection of that chain: the value that only the whole chain keeps."""
+    load = pair_chain(count).then(COLLECTION)
+    tells = {**load.tells, f"pause kept {2 * count + 1} dead 0 ": 1, "null": 0}
+    return load.then(f"val {(count - 1) % 2} 1 5")._replace(tells=tells)
+
+
+def side_table(count):
+    """A list of tables of 31 pairs. Every second pair's key is in a list that a slot names, and nothing
+    names the other keys; nothing but its pair names a value."""
+    lines = []
+    for number in range(count):
+        table, pair = divmod(number, TABLE_PAIRS)
+        newest = table % 2
+        if pair == 0:
+            lines += [f"new {newest} 0", f"set {newest} 0 {1 - newest}"]
+        key = 2 + number // 2 % 2 if number % 2 == 0 else 4
+        lines.append(f"new {key} 1")
+        if key != 4:
+            lines.append(f"set {key} 0 {5 - key}")
+        lines += ["new 5 2", f"pair {newest} {1 + pair} {key} 5"]
+    # Keys of 3 words and values of 2 have pages in common.
+    pages = pages_for(count // TABLE_PAIRS + 1, 3 + 2 * TABLE_PAIRS) + pages_for(count, 5) + 1
+    types = ["S" + "E" * TABLE_PAIRS, "S", "-"]
+    return Load(types, lines + ["drop 4", "drop 5"], {"full": 0, "refused": 0}, pages)
+
+
+def side_table_kept(count):
+    """How many objects of that table live on: the tables, every second key and every second value."""
+    return math.ceil(count / TABLE_PAIRS) + 2 * math.ceil(count / 2)
+
+
+def side_table_read(count):
+    """After a collection of that table, with an even number of pairs: the last pair but one is whole, and
+    the last is cleared."""
+    load = side_table(count).then(COLLECTION)
+    kept, newest = side_table_kept(count), (count - 1) // TABLE_PAIRS % 2
+    tells = {**load.tells, f"pause kept {kept} dead {2 * (count // 2)} ": 1, "null": 2}
+    last = [1 + number % TABLE_PAIRS for number in (count - 2, count - 1)]
+    lines = [f"{part} {newest} {field} 6" for field in last for part in ("key", "val")]
+    return load.then(*lines)._replace(tells=tells)
 
 
 def dead_objects(count):

@@ -26,6 +26,7 @@ RATIO_BAR = 2.3
 NEW_BAR = 2500
 COLLECTION_BAR = 400
 WEAK_BAR = 110
+PAIR_BAR = 150
 SWEPT_WORD_BAR = 60
 FINALISED_BAR = 400
 # For a line of each kind, read, run and told.
@@ -173,6 +174,23 @@ class Bench:
         more = self.instructions(load.then(COLLECTION)) - self.instructions(load)
         self.figures.tell("weak_instructions_per_live_object", more / count, WEAK_BAR)
 
+    def pairs(self):
+        """What a collection costs of pairs whose keys come to live one by one, from the far end, and of a
+        side table half of whose keys die."""
+        costs = []
+        for count in (self.count, 2 * self.count):
+            Script(self.folder, loads.pair_chain_read(count)).check()
+            load = loads.pair_chain(count)
+            costs.append(self.instructions(load.then(COLLECTION)) - self.instructions(load))
+        self.figures.tell("pair_chain_instructions_per_pair", costs[1] / (2 * self.count))
+        self.figures.tell("pair_chain_instructions_ratio", costs[1] / costs[0], RATIO_BAR)
+        Script(self.folder, loads.side_table_read(self.count)).check()
+        load = loads.side_table(self.count)
+        more = self.instructions(load.then(COLLECTION)) - self.instructions(load)
+        visited = loads.side_table_kept(self.count) + self.count
+        name = "side_table_instructions_per_live_object_and_pair"
+        self.figures.tell(name, more / visited, PAIR_BAR)
+
     def sweeps(self):
         """What a sweep costs, with few objects to finalise and with many."""
         few, many = loads.live_objects(self.count), loads.dead_objects(self.count)
@@ -203,6 +221,7 @@ def main():
             bench.news()
             bench.collections()
             bench.weak_fields()
+            bench.pairs()
             bench.sweeps()
     bench.figures.end()
 

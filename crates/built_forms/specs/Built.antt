@@ -1,28 +1,18 @@
 -- What the program does so far. A script with a line of another form is refused, and nothing of it is run.
 use Rattle.std.specs.Prelude.{◌≡◌, ℕ, ◌==◌, ◌&&◌, not, Bool, true, false, List, length, fold, take, Some, slice_get}
-use Rattle.std.specs.List.{list_all}
 use Rattle.gc_graph.specs.declared.command.Command.{Command}
 use Rattle.gc_graph.specs.declared.command.Command.TheVariants as C
 use Rattle.gc_graph.specs.declared.command.Want.{Want}
 use Rattle.gc_graph.specs.declared.command.Want.TheVariants.{Precise, Conservative}
 use Rattle.gc_graph.specs.declared.phase.Phase.{Phase}
 use Rattle.gc_graph.specs.declared.phase.Phase.TheVariants.{Idle}
-use Rattle.gc_graph.specs.declared.kind.Kind.{Kind}
-use Rattle.gc_graph.specs.declared.kind.Kind.TheVariants.{Strong, Weak, Pair, Plain}
 use Rattle.gc_graph.specs.State.{ObjectType}
 
 -- ---- types
 
--- the kinds of fields that objects have
-abbrev pub is_built_kind : Kind → Bool
-is_built_kind Strong = true
-is_built_kind Weak = true
-is_built_kind Pair = false
-is_built_kind Plain = true
-
--- only fields of such kinds, and no prefinalizers
+-- fields of all kinds, and no prefinalizers
 abbrev pub is_built_type : ObjectType → Bool
-is_built_type type = list_all is_built_kind type.kinds && (length type.prefinalizers == 0)
+is_built_type type = length type.prefinalizers == 0
 
 -- ---- commands
 
@@ -31,7 +21,7 @@ abbrev pub is_precise : Want → Bool
 is_precise Precise = true
 is_precise Conservative = false
 
--- objects, their fields but for pairs, slots, whole collections and totals
+-- objects, their fields, slots, whole collections and totals
 abbrev pub is_built : Command → Bool
 is_built (C.New p t e) = true
 is_built (C.Set p f q) = true
@@ -39,6 +29,10 @@ is_built (C.SetNull p f) = true
 is_built (C.Get p f q) = true
 is_built (C.Put p f n) = true
 is_built (C.Word p f) = true
+is_built (C.Pair p f k v) = true
+is_built (C.PairNull p f) = true
+is_built (C.Key p f q) = true
+is_built (C.Val p f q) = true
 is_built (C.Copy p q) = true
 is_built (C.Drop p) = true
 is_built (C.Weak w p) = true
@@ -46,10 +40,6 @@ is_built (C.Read w p) = true
 is_built (C.GcNow want) = is_precise want
 is_built C.SweepAll = true
 is_built C.Stat = true
-is_built (C.Pair p f k v) = false
-is_built (C.PairNull p f) = false
-is_built (C.Key p f q) = false
-is_built (C.Val p f q) = false
 is_built (C.Push p o) = false
 is_built (C.PushPlain n) = false
 is_built C.Pop = false

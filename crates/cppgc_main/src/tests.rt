@@ -11,6 +11,7 @@ mod faults;
 mod large;
 mod limits;
 mod options;
+mod pairs;
 mod pieces;
 mod plain_words;
 mod printing;

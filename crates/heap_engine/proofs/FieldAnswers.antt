@@ -77,7 +77,7 @@ pub field_kind : (allowed : Kind → Bool) (o : ObjectsView) (h : HandlesView) (
 field_kind allowed o h p f field is = ap (λ (x : Field). allowed x.kind) is.is.is ∙ is.kind
 
 -- what is to be done at the field is done
-asked : (allowed : Kind → Bool) (nodes : List Node) (slot : Option ℕ) (f n : ℕ) (none : Type 0) (Done : ℕ → Type 0) (other past : Type 0) → slot ≡ Some n → f < field_count (node_at nodes n)
+pub asked : (allowed : Kind → Bool) (nodes : List Node) (slot : Option ℕ) (f n : ℕ) (none : Type 0) (Done : ℕ → Type 0) (other past : Type 0) → slot ≡ Some n → f < field_count (node_at nodes n)
     → allowed (kind_of_field (node_at nodes n).object f) ≡ true → Done n
     → MatchOption slot none (λ m. MatchBool (ltb f (field_count (node_at nodes m))) (MatchBool (allowed (kind_of_field (node_at nodes m).object f)) (Done m) other) past)
 asked allowed nodes slot f n none Done other past is low kind done =
@@ -119,14 +119,14 @@ calm_read : (weak : Bool) (s : State) (n : ℕ) → is_marking s.phase ≡ false
 calm_read false s n calm = refl
 calm_read true s n calm = ap (λ may. record s { may = may }) (may_stays s.phase (graph_of s.nodes) s.may n calm)
 
-read_value : (weak : Bool) (s : State) (x : Value) (q : ℕ) (line : Line) → is_marking s.phase ≡ false → IsLiveReference s.nodes x
+pub read_value : (weak : Bool) (s : State) (x : Value) (q : ℕ) (line : Line) → is_marking s.phase ≡ false → IsLiveReference s.nodes x
     → MatchOption (target_in s.nodes x) (line ≡ L.Null) (λ t. line ≡ L.Node t.1) → IsRead weak s x q (line ∷ []) (answered (with_slot s q (target_of x)))
 read_value weak s Null q said calm names told = (ap (λ l. l ∷ []) told, refl)
 read_value weak s (Ref n) q said calm names told =
     (ap (λ l. l ∷ []) told, ap (λ (t : State). answered (with_slot t q (Some n))) (sym (calm_read weak s n calm)))
 read_value weak s (Word w) q said calm names told = absurd names
 
-target_numbers : (nodes : List Node) (content : Option ℕ) → option_map (λ (t : ℕ × ℕ). t.1) (option_map (λ (m : ℕ). (place_of nodes m, m)) content) ≡ content
+pub target_numbers : (nodes : List Node) (content : Option ℕ) → option_map (λ (t : ℕ × ℕ). t.1) (option_map (λ (m : ℕ). (place_of nodes m, m)) content) ≡ content
 target_numbers nodes None = refl
 target_numbers nodes (Some m) = refl
 

@@ -73,7 +73,7 @@ bodies-elsewhere g k a w (y ∷ nodes) off =
       | inr gone ↦ ap (map (with_word a w)) (bodies-gone g k y nodes gone) ∙ rest ∙ sym (bodies-gone g k y nodes gone)
     ]
 
-bodies-field : (g : ℕ → ℕ) (k a n f : ℕ) (x : Value) (nodes : List Node) → IsThere nodes n → a ≡ (node_at nodes n).place + 2 + f
+pub bodies-field : (g : ℕ → ℕ) (k a n f : ℕ) (x : Value) (nodes : List Node) → IsThere nodes n → a ≡ (node_at nodes n).place + 2 + f
     → f < length (node_at nodes n).object.values → ((m : ℕ) → IsThere nodes m → (m ≡ n → ⊥) → IsElsewhere a (node_at nodes m))
     → map (with_word a (word_of g x)) (bodies_from g k nodes) ≡ bodies_from g k (with_field nodes n f x)
 bodies-field g k a n f x [] there at low off = absurd (true≢false (sym there))
@@ -95,7 +95,7 @@ bodies-field g k a (suc n) f x (y ∷ nodes) there at low off =
       | inr gone ↦ ap (map (with_word a w)) (bodies-gone g k y nodes gone) ∙ rest ∙ sym (bodies-gone g k y (with_field nodes n f x) gone)
     ]
 
-only_there : (nodes : List Node) (v : SeatView) (a n f m : ℕ) → IsView v → v.bodies ≡ bodies_of nodes → IsThere nodes n
+pub only_there : (nodes : List Node) (v : SeatView) (a n f m : ℕ) → IsView v → v.bodies ≡ bodies_of nodes → IsThere nodes n
     → a ≡ place_of nodes n + 2 + f → f < length (node_at nodes n).object.values → IsThere nodes m → (m ≡ n → ⊥) → IsElsewhere a (node_at nodes m)
 only_there nodes v a n f m view held there at low present other =
     elim (cases_lt a (place_of nodes m + 2)) [

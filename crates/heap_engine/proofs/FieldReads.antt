@@ -17,10 +17,10 @@ use Rattle.page_words.specs.Seat.{SeatView, IsWordAt, IsView}
 use Rattle.member_fields.specs.Words.{IsWordIn}
 use Rattle.heap_engine.specs.declared.field.Field.{Field}
 use Rattle.heap_engine.specs.declared.field.Wanted.{Wanted}
-use Rattle.heap_engine.specs.declared.field.Wanted.TheVariants.{References, Numbers}
+use Rattle.heap_engine.specs.declared.field.Wanted.TheVariants.{References, Numbers, Pairs}
 use Rattle.heap_engine.specs.Nodes.{place_of, word_of, body_of, bodies_of}
 use Rattle.heap_engine.specs.Fields.{allows, IsFieldOf, value_in, IsLiveReference, Suits, TakesValue, TakesWord}
-use Rattle.heap_engine.specs.Objects.{AreOfValid, target_in}
+use Rattle.heap_engine.specs.Objects.{AreOfValid, IsReferenceTo, target_in}
 use Rattle.heap_engine.proofs.NodePlaces.{live_is_there, node_body}
 use Rattle.heap_engine.proofs.StrongFields.{known_nodes}
 use Rattle.heap_engine.proofs.FieldKinds.{IsOfKind, value_of_kind}
@@ -45,8 +45,9 @@ takes_suited Numbers Strong nodes x is suits = absurd (true≢false (sym is))
 takes_suited Numbers Weak nodes x is suits = absurd (true≢false (sym is))
 takes_suited Numbers Pair nodes x is suits = absurd (true≢false (sym is))
 takes_suited Numbers Plain nodes x is suits = suits
+takes_suited Pairs kind nodes x is suits = absurd suits
 
-value_is_reference : (nodes : List Node) (v : SeatView) (x : Value) → v.bodies ≡ bodies_of nodes → IsLiveReference nodes x → IsReference v.bodies (word_of (place_of nodes) x)
+pub value_is_reference : (nodes : List Node) (v : SeatView) (x : Value) → v.bodies ≡ bodies_of nodes → IsLiveReference nodes x → IsReference v.bodies (word_of (place_of nodes) x)
 value_is_reference nodes v Null held names = inl refl
 value_is_reference nodes v (Ref n) held names = inr (body_of (place_of nodes) n (node_at nodes n), node_body nodes v n held (live_is_there nodes n names), refl)
 value_is_reference nodes v (Word w) held names = absurd names
@@ -69,7 +70,7 @@ field_value setup nodes n f field valid is =
     subst (λ kind. IsOfKind (length nodes) kind (value_in nodes n f)) (sym (ap (λ (x : Field). x.kind) is.is))
     (value_of_kind (length nodes) node.object.kinds f node.object.values (live_typed setup nodes n valid is.live).values_are (word_low setup nodes n f field valid is))
 
-named : (nodes : List Node) (bound : ℕ) (x : Value) → NamesLive nodes x → IsReferenceBelow bound x → IsLiveReference nodes x
+pub named : (nodes : List Node) (bound : ℕ) (x : Value) → NamesLive nodes x → IsReferenceBelow bound x → IsLiveReference nodes x
 named nodes bound Null live of = tt
 named nodes bound (Ref n) live of = live
 named nodes bound (Word w) live of = of
@@ -118,13 +119,8 @@ reads_number setup nodes v n f field w valid held is plain read =
 
 -- ---- the object that a reference names
 
--- a word that was read, and the value for which it stands: null or a live node
-pub record IsReadOf (nodes : List Node) (x : Value) (w : ℕ) : Type 0 where
-  pub word : w ≡ word_of (place_of nodes) x
-  pub names : IsLiveReference nodes x
-
 pub reads_reference : (setup : Setup) (nodes : List Node) (v : SeatView) (n f : ℕ) (field : Field) (w : ℕ) → AreOfValid setup nodes → v.bodies ≡ bodies_of nodes
-    → IsFieldOf nodes n f field → is_reference field.kind ≡ true → IsWordIn v field.holder field.word w → IsReadOf nodes (value_in nodes n f) w
+    → IsFieldOf nodes n f field → is_reference field.kind ≡ true → IsWordIn v field.holder field.word w → IsReferenceTo nodes (value_in nodes n f) w
 reads_reference setup nodes v n f field w valid held is reference read = record {
   word = reads_value setup nodes v n f field w valid held is read;
   names = holds_reference setup nodes n f field valid is reference;
@@ -150,10 +146,10 @@ pub record NamesNode (nodes : List Node) (v : SeatView) (x : Value) (w m : ℕ) 
   pub live : IsLive nodes m
   pub body : Contains v.bodies (body_of (place_of nodes) m (node_at nodes m))
 
-pub reads_null : (nodes : List Node) (x : Value) (w : ℕ) → IsReadOf nodes x w → w ≡ 0 → target_in nodes x ≡ None
+pub reads_null : (nodes : List Node) (x : Value) (w : ℕ) → IsReferenceTo nodes x w → w ≡ 0 → target_in nodes x ≡ None
 reads_null nodes x w read null = ap (option_map (λ (m : ℕ). (place_of nodes m, m))) (null_value nodes x read.names (sym read.word ∙ null))
 
-pub reads_node : (nodes : List Node) (v : SeatView) (x : Value) (w : ℕ) → v.bodies ≡ bodies_of nodes → IsReadOf nodes x w → (w ≡ 0 → ⊥) → (m : ℕ) × NamesNode nodes v x w m
+pub reads_node : (nodes : List Node) (v : SeatView) (x : Value) (w : ℕ) → v.bodies ≡ bodies_of nodes → IsReferenceTo nodes x w → (w ≡ 0 → ⊥) → (m : ℕ) × NamesNode nodes v x w m
 reads_node nodes v x w held read other =
     let named = ref_value nodes x read.names (λ null. other (read.word ∙ null)) in (
       named.0,
@@ -168,7 +164,7 @@ head_address nodes v x w m view read =
     omega (arith, whole.inside, read.word, whole.fields)
 
 -- a word that was read at a field is null, or one more than a place of the heap
-pub reference_fits : (nodes : List Node) (v : SeatView) (x : Value) (w : ℕ) → IsView v → v.bodies ≡ bodies_of nodes → IsReadOf nodes x w → w ≤ 2 ^ 32
+pub reference_fits : (nodes : List Node) (v : SeatView) (x : Value) (w : ℕ) → IsView v → v.bodies ≡ bodies_of nodes → IsReferenceTo nodes x w → w ≤ 2 ^ 32
 reference_fits nodes v x w view held read = elim (cases_eq w 0) [
   | inl null ↦ omega (arith, null)
   | inr other ↦ (let named = reads_node nodes v x w held read other in omega (arith, head_address nodes v x w named.0 view named.1, view.count))

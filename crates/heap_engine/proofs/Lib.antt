@@ -26,9 +26,12 @@ pub mod WeakJudged
 pub mod BodyReferences
 pub mod PairReferences
 pub mod JudgedNodes
+pub mod PairFields
+pub mod PairBodies
 pub mod Ties
 pub mod SlotSteps
 pub mod FieldAnswers
+pub mod PairAnswers
 pub mod NewSteps
 pub mod HeapEmpty
 pub mod EndSteps

@@ -1,7 +1,7 @@
 -- What a valid state says of its nodes, and what the types say that a heap can have so far.
 use Rattle.std.proofs.Common.{◌≡◌, ℕ, zero, suc, ◌+◌, ◌<◌, true, List, [], ◌∷◌, ◌++◌, length, map, replicate, eqb, refl, sym, ap, ◌∙◌, subst, arith}
-use Rattle.std.specs.List.{All, list_all}
-use Rattle.std.proofs.lemmas.Bool.{and_parts, eqb-true}
+use Rattle.std.specs.List.{All}
+use Rattle.std.proofs.lemmas.Bool.{eqb-true}
 use Rattle.std.proofs.lemmas.List.{map-append, replicate-append-replicate}
 use Rattle.std.proofs.lemmas.List.Elements.{All-cons, All-weaker}
 use Rattle.std.proofs.lemmas.List.Sums.{sum_by-cons}
@@ -9,7 +9,7 @@ use Rattle.gc_graph.specs.declared.kind.Kind.{Kind}
 use Rattle.gc_graph.specs.declared.kind.Kind.TheVariants.{Strong, Weak, Pair, Plain}
 use Rattle.gc_graph.specs.declared.kind.Value.{Value}
 use Rattle.gc_graph.specs.declared.kind.Value.TheVariants.{Null, Ref, Word}
-use Rattle.built_forms.specs.Built.{is_built_kind, is_built_type}
+use Rattle.built_forms.specs.Built.{is_built_type}
 use Rattle.gc_graph.specs.State.{Setup, ObjectType, Node, node_at, type_at, IsLive}
 use Rattle.gc_graph.specs.Valid.{IsTyped, HaveKinds, IsReferenceBelow, IsPlainWord, NamesLive}
 use Rattle.gc_graph.specs.Fields.{words_of_kind, field_words, nulls_of_kind, nulls_of, new_node}
@@ -23,8 +23,7 @@ no_numbers [] none = refl
 no_numbers (n ∷ numbers) none = absurd (omega (arith, none))
 
 pub built_unregistered : (type : ObjectType) → is_built_type type ≡ true → type.prefinalizers ≡ []
-built_unregistered type built =
-    no_numbers type.prefinalizers (eqb-true (length type.prefinalizers) 0 (and_parts (list_all is_built_kind type.kinds) (eqb (length type.prefinalizers) 0) built).1)
+built_unregistered type built = no_numbers type.prefinalizers (eqb-true (length type.prefinalizers) 0 built)
 
 -- ---- what a valid state says of its nodes
 

@@ -1,5 +1,5 @@
 -- The fields of objects: which ones a command wants, where they are, and what they take.
-use Rattle.std.specs.Prelude.{◌≡◌, ℕ, ◌+◌, ◌<◌, Bool, List, MatchBool, nat_lt, Result, Ok, Err, ⊤}
+use Rattle.std.specs.Prelude.{◌≡◌, ℕ, ◌+◌, ◌<◌, Bool, List, MatchBool, nat_lt, true, Result, Ok, Err, ⊤}
 use Rattle.gc_graph.specs.declared.kind.Kind.{Kind}
 use Rattle.gc_graph.specs.declared.kind.Kind.TheVariants.{Strong, Weak, Pair, Plain}
 use Rattle.gc_graph.specs.declared.kind.Value.{Value}
@@ -8,20 +8,23 @@ use Rattle.gc_graph.specs.declared.line.Line.{Line}
 use Rattle.gc_graph.specs.declared.line.Refusal.{Refusal}
 use Rattle.gc_graph.specs.declared.line.Refusal.TheVariants as R
 use Rattle.gc_graph.specs.State.{State, Node, node_at, IsLive}
-use Rattle.gc_graph.specs.Fields.{field_count, kind_of_field, word_of_field, value_at, with_value, is_reference, is_plain}
-use Rattle.gc_graph.specs.Valid.{IsPlainWord}
-use Rattle.gc_graph.specs.ObjectSteps.{AtField, IsChanged, first_word}
+use Rattle.gc_graph.specs.Fields.{field_count, kind_of_field, word_of_field, value_at, with_value, is_reference, is_pair, is_plain}
+use Rattle.gc_graph.specs.Valid.{IsPlainWord, ArePaired}
+use Rattle.gc_graph.specs.ObjectSteps.{AtField, IsChanged, IsRead, first_word}
 use Rattle.object_headers.specs.Offsets.{first_field}
 use Rattle.page_words.specs.Bodies.{Body, IsReference}
 use Rattle.heap_engine.specs.declared.field.Field.{Field}
+use Rattle.heap_engine.specs.declared.field.Part.{Part}
+use Rattle.heap_engine.specs.declared.field.Part.TheVariants as P
 use Rattle.heap_engine.specs.declared.field.Wanted.{Wanted}
-use Rattle.heap_engine.specs.declared.field.Wanted.TheVariants.{References, Numbers}
+use Rattle.heap_engine.specs.declared.field.Wanted.TheVariants.{References, Numbers, Pairs}
 use Rattle.heap_engine.specs.Nodes.{place_of}
 
--- `set` and `get` speak of strong and weak fields, `put` and `word` of plain ones
+-- `set` and `get` speak of strong and weak fields, `put` and `word` of plain ones, `pair`, `key` and `val` of pairs
 abbrev pub allows : Wanted → Kind → Bool
 allows References kind = is_reference kind
 allows Numbers kind = is_plain kind
+allows Pairs kind = is_pair kind
 
 -- ---- where a field is
 
@@ -50,6 +53,15 @@ IsFieldAt allowed nodes n f answer =
 abbrev pub value_in : List Node → ℕ → ℕ → Value
 value_in nodes n f = value_at (node_at nodes n) (word_of_field (node_at nodes n).object f)
 
+-- a pair's key is in the pair's first word, and its value in the next
+abbrev pub part_word : Part → ℕ → ℕ
+part_word P.Key first = first
+part_word P.Value first = first + 1
+
+-- what this part of the pair that is the node's field f holds
+abbrev pub part_in : Part → List Node → ℕ → ℕ → Value
+part_in part nodes n f = value_at (node_at nodes n) (part_word part (word_of_field (node_at nodes n).object f))
+
 -- ---- what a field takes
 
 -- null, or a reference to a live node
@@ -58,10 +70,11 @@ IsLiveReference nodes Null = ⊤
 IsLiveReference nodes (Ref n) = IsLive nodes n
 IsLiveReference nodes (Word w) = ⊥
 
--- the value may go into the fields that are wanted
+-- the value may go into the fields that are wanted; none goes alone into a pair
 abbrev pub Suits : Wanted → List Node → Value → Type 0
 Suits References nodes value = IsLiveReference nodes value
 Suits Numbers nodes value = IsPlainWord value
+Suits Pairs nodes value = ⊥
 
 -- the value may go into a field of the kind
 abbrev pub TakesValue : Kind → List Node → Value → Type 0
@@ -77,9 +90,26 @@ TakesWord Weak bodies w = IsReference bodies w
 TakesWord Pair bodies w = ⊥
 TakesWord Plain bodies w = ⊤
 
--- ---- the step of a write
+-- the two may go into a pair as its key and its value: each is null or names a live node, and both are null or neither
+pub record ArePartsOf (nodes : List Node) (key value : Value) : Type 0 where
+  pub key_names : IsLiveReference nodes key
+  pub value_names : IsLiveReference nodes value
+  pub both : ArePaired key value
+
+-- ---- the steps of writes and reads
 
 -- field f of the slot's object got the value, or was refused as one that isn't wanted
 abbrev pub StepWrite : Wanted → State → ℕ → ℕ → Value → List Line → State → Type 0
 StepWrite wanted old p f value lines new =
     AtField (allows wanted) old p f lines new (λ n. IsChanged old n (with_value (node_at old.nodes n) (first_word old n f) value) lines new)
+
+-- the pair that is field f of the slot's object got the key and the value
+abbrev pub StepWholePair : State → ℕ → ℕ → Value → Value → List Line → State → Type 0
+StepWholePair old p f key value lines new =
+    AtField is_pair old p f lines new
+    (λ n. IsChanged old n (with_value (with_value (node_at old.nodes n) (first_word old n f) key) (first_word old n f + 1) value) lines new)
+
+-- slot q got this part of the pair that is field f of the slot's object; the read is a weak one
+abbrev pub StepPart : Part → State → ℕ → ℕ → ℕ → List Line → State → Type 0
+StepPart part old p f q lines new =
+    AtField is_pair old p f lines new (λ n. IsRead true old (value_at (node_at old.nodes n) (part_word part (first_word old n f))) q lines new)

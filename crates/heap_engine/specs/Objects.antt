@@ -1,5 +1,5 @@
 -- The objects in the words are the nodes, and what calls on them change.
-use Rattle.std.specs.Prelude.{◌≡◌, ℕ, ◌<◌, true, false, List, [], ◌∷◌, ◌++◌, length, Option, Some, None, option_map, All, slice_set}
+use Rattle.std.specs.Prelude.{◌≡◌, ℕ, ◌+◌, ◌<◌, true, false, List, [], ◌∷◌, ◌++◌, length, Option, Some, None, option_map, All, slice_set}
 use Rattle.gc_graph.specs.declared.kind.Value.{Value}
 use Rattle.built_forms.specs.Built.{is_built_type}
 use Rattle.gc_graph.specs.State.{Setup, State, ObjectType, Node, node_at, IsLive}
@@ -9,7 +9,8 @@ use Rattle.gc_graph.specs.Sweep.{buried}
 use Rattle.object_headers.specs.Offsets.{reference_to}
 use Rattle.page_words.specs.Seat.{SeatView}
 use Rattle.page_space.specs.Space.{SpaceView, IsSpaceOf}
-use Rattle.heap_engine.specs.Nodes.{place_of, IsHeld}
+use Rattle.heap_engine.specs.Nodes.{place_of, word_of, IsHeld}
+use Rattle.heap_engine.specs.Fields.{IsLiveReference}
 
 -- each type is one that the heap can have so far
 abbrev pub AreBuilt : List ObjectType → Type 0
@@ -35,6 +36,11 @@ AreOfValid setup nodes = (s : State) × IsValid setup s × (s.nodes ≡ nodes)
 abbrev pub IsLiveAt : List Node → ℕ → ℕ → Type 0
 IsLiveAt nodes n place = IsLive nodes n × (place_of nodes n ≡ place)
 
+-- the word stands for the value, which is null or names a live node
+pub record IsReferenceTo (nodes : List Node) (x : Value) (w : ℕ) : Type 0 where
+  pub word : w ≡ word_of (place_of nodes) x
+  pub names : IsLiveReference nodes x
+
 -- the place and the number of what a value names
 abbrev pub target_in : List Node → Value → Option (ℕ × ℕ)
 target_in nodes value = option_map (λ m. (place_of nodes m, m)) (target_of value)
@@ -43,6 +49,12 @@ target_in nodes value = option_map (λ m. (place_of nodes m, m)) (target_of valu
 abbrev pub slot_word : Option ℕ → ℕ
 slot_word None = 0
 slot_word (Some place) = reference_to place
+
+-- the reference word of what a slot holds, as one part of a pair whose other part another slot holds: null where either is
+abbrev pub slot_part : Option ℕ → Option ℕ → ℕ
+slot_part None other = 0
+slot_part (Some place) None = 0
+slot_part (Some place) (Some other) = reference_to place
 
 -- ---- changing
 
@@ -55,6 +67,13 @@ with_made setup nodes t extra (Some place) = nodes ++ new_node setup t extra pla
 abbrev pub written_in : List Node → Option ℕ → ℕ → Value → List Node
 written_in nodes None f value = nodes
 written_in nodes (Some n) f value = slice_set nodes n (with_value (node_at nodes n) (word_of_field (node_at nodes n).object f) value)
+
+-- the pair that is field f of the named node got the key and the value
+abbrev pub paired_in : List Node → Option ℕ → ℕ → Value → Value → List Node
+paired_in nodes None f key value = nodes
+paired_in nodes (Some n) f key value =
+    slice_set nodes n
+    (with_value (with_value (node_at nodes n) (word_of_field (node_at nodes n).object f) key) (word_of_field (node_at nodes n).object f + 1) value)
 
 -- a dead node is gone
 abbrev pub bury : Node → Node

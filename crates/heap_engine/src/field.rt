@@ -23,6 +23,13 @@ pub struct Field {
     pub word: u32,
 }
 
+/// One of the two words of a pair.
+#[derive(Clone, Copy, Drop)]
+pub enum Part {
+    Key,
+    Value,
+}
+
 /// Which fields a command speaks of.
 #[derive(Clone, Copy, Drop)]
 pub enum Wanted {
@@ -30,6 +37,8 @@ pub enum Wanted {
     References,
     /// Plain fields, the extra words among them.
     Numbers,
+    /// Ephemeron pairs.
+    Pairs,
 }
 
 impl Wanted {
@@ -45,6 +54,10 @@ impl Wanted {
             Wanted::Numbers => match kind {
                 Kind::Plain => true,
                 Kind::Strong | Kind::Weak | Kind::Pair => false,
+            },
+            Wanted::Pairs => match kind {
+                Kind::Pair => true,
+                Kind::Strong | Kind::Weak | Kind::Plain => false,
             },
         }
     }
@@ -72,7 +85,7 @@ pub fn wanted_field(
     }
 }
 
-/// Writes a field's word, as fields of its kind are written.
+/// Writes the word of a field that is no pair, as fields of its kind are written.
 pub fn write_field(space: &Space, seat: &mut MutatorSeat, field: Field, w: u64)
     requires heap { IsSeatOf space.now seat.old }
     requires field { HasWord (is_kind field.kind) seat.old field.holder field.word }

@@ -131,7 +131,7 @@ pub fn word(objects: &mut Objects, handles: &Handles, cycle: &Cycle, p: u32, f: 
 
 /// Field f of slot p's object, where it is one of those wanted. A null slot is told before a
 /// missing field, and that before a field of another kind.
-fn field_of(
+pub(crate) fn field_of(
     objects: &mut Objects,
     handles: &Handles,
     cycle: &Cycle,

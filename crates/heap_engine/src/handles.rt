@@ -5,11 +5,12 @@ ghost use Rattle.std.specs.Prelude.{◌≡◌, ◌<◌, All, None, IfOk, length,
 ghost use Rattle.std.specs.Prelude.{slice_index_or, slice_set, option_map};
 ghost use Rattle.gc_graph.specs.declared.kind.Value.TheVariants.{Null, Word};
 ghost use Rattle.gc_graph.specs.Fields.{content_of};
+ghost use Rattle.gc_graph.specs.ObjectSteps.{part_of};
 ghost use Rattle.page_words.specs.Bodies.{IsPlace};
 ghost use Rattle.page_words.specs.Seat.{holds};
 ghost use Rattle.page_space.specs.Space.{IsSeatOf};
 ghost use Rattle.persistent_slots.specs.Clearing.{taken};
-ghost use Rattle.heap_engine.specs.Objects.{slot_word};
+ghost use Rattle.heap_engine.specs.Objects.{slot_word, slot_part};
 ghost use Rattle.heap_engine.specs.Changes.{put_in, copied_in, weakened_in, cleared_in};
 
 use crate::nodes::NodeLists;
@@ -156,6 +157,22 @@ impl Handles {
             value: slot_lists::value_of(&self.strong_nodes, q),
         }
     }
+
+    /// What slot q holds, as one part of a pair whose other part slot `other` holds: null where
+    /// either slot is.
+    pub fn part(&self, q: u32, other: u32) -> Content
+        requires own { q < 256 }
+        requires other { other < 256 }
+        ensures word { result.word ≡ slot_part (slice_index_or self.now.places q None)
+            (slice_index_or self.now.places other None) }
+        ensures value { result.value.value ≡ part_of (slice_index_or self.now.slots q None)
+            (slice_index_or self.now.slots other None) }
+    {
+        Content {
+            word: part_reference(self.strong.get(q), self.strong.get(other)),
+            value: slot_lists::part_of(&self.strong_nodes, q, other),
+        }
+    }
 }
 
 /// What goes into a field word, and for contracts the value that it stands for.
@@ -214,6 +231,16 @@ fn number_value(n: u64) -> GhostValue<Values>
     ensures { result.value ≡ Word n }
 {
     GhostValue::chosen(&n)
+}
+
+/// The reference word of what a slot holds, where another slot holds something too.
+fn part_reference(slot: Option<u32>, other: Option<u32>) -> u64
+    ensures { result ≡ slot_part slot other }
+{
+    match (slot, other) {
+        (Some(place), Some(_)) => reference_to(place),
+        _ => 0,
+    }
 }
 
 /// The reference word of what a slot holds.

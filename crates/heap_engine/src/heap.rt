@@ -20,6 +20,7 @@ use crate::fields::{get, put, set, set_null, word};
 use crate::handles::Handles;
 use crate::objects::Objects;
 use crate::outcome::Outcome;
+use crate::pairs::{key, pair, pair_null, value};
 use crate::slots::{copy, drop_slot, read, weaken};
 use crate::totals::stat;
 use gc_graph::{Command, Line, NoMemory};
@@ -175,11 +176,11 @@ fn run(
         Command::GcNow { want: _ } => cycle.collect(objects, handles, outcome),
         Command::SweepAll => cycle.sweep_all(objects, handles, outcome),
         Command::Stat => stat(objects, handles, cycle),
-        Command::Pair { .. }
-        | Command::PairNull { .. }
-        | Command::Key { .. }
-        | Command::Val { .. }
-        | Command::Push { .. }
+        Command::Pair { p, f, k, v } => pair(objects, handles, cycle, p, f, k, v),
+        Command::PairNull { p, f } => pair_null(objects, handles, cycle, p, f),
+        Command::Key { p, f, q } => key(objects, handles, cycle, p, f, q),
+        Command::Val { p, f, q } => value(objects, handles, cycle, p, f, q),
+        Command::Push { .. }
         | Command::PushPlain { .. }
         | Command::Pop
         | Command::Peek { .. }

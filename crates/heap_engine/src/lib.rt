@@ -7,10 +7,11 @@
 //! of `objects` (words, pages, types), `handles` (strong and weak slots), `cycle` (collections and
 //! sweeps) and `outcome` (the lines of the last command). Each part owns what it holds and has a
 //! model; the state of the graph is put together from the models. The commands, in `creating`,
-//! `fields`, `slots`, `totals` and `cycle`, take the parts. Inside, `marking` (what the strong slots
-//! reach), `collecting` and `sweeping` (what is judged, cleared and swept), `finding` (places),
-//! `field` (fields), and for contracts alone `nodes`, `slot_lists`, `states` and `entries`. Next down
-//! are `member_fields`, `persistent_slots`, `ephemerons`, `weak_clearing` and `page_space`.
+//! `fields`, `pairs`, `slots`, `totals` and `cycle`, take the parts. Inside, `marking` (what the
+//! strong slots reach), `collecting` and `sweeping` (what is judged, cleared and swept), `finding`
+//! (places), `field` and `pair_fields` (fields), and for contracts alone `nodes`, `slot_lists`,
+//! `states` and `entries`. Next down are `member_fields`, `persistent_slots`, `ephemerons`,
+//! `weak_clearing` and `page_space`.
 //!
 //! What is proved: `act` is a step from the heap's own state to its new state, for every command
 //! that is allowed and that the heap does so far (`IsBuiltIn`), and its lines are those of the step;
@@ -37,6 +38,8 @@ mod marking;
 mod nodes;
 mod objects;
 mod outcome;
+mod pair_fields;
+mod pairs;
 mod slot_lists;
 mod slots;
 mod states;

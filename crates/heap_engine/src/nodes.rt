@@ -5,9 +5,10 @@ ghost use Rattle.std.specs.Prelude.{◌≡◌, [], map, Some, None, slice_index_
 ghost use Rattle.page_words.specs.Seat.{holds};
 ghost use Rattle.heap_engine.specs.View.{kept_of};
 ghost use Rattle.heap_engine.specs.Judgement.{nodes_after};
-ghost use Rattle.heap_engine.specs.Objects.{with_made, written_in, bury};
+ghost use Rattle.heap_engine.specs.Objects.{with_made, written_in, paired_in, bury};
 
 use crate::handles::{Content, Handles};
+use crate::pair_fields::PairContent;
 use ghost_values::GhostValue;
 use page_space::Space;
 use page_words::MutatorSeat;
@@ -99,6 +100,36 @@ pub fn written(
         p,
         f,
         content,
+    })
+}
+
+/// What a write of a pair looks at.
+#[derive(Drop)]
+struct AboutPair<'a> {
+    nodes: &'a GhostValue<NodeLists>,
+    handles: &'a Handles,
+    p: u32,
+    f: u32,
+    pair: &'a PairContent,
+}
+
+/// The pair that is field f of slot p's node got the key and the value.
+pub fn paired(
+    nodes: &GhostValue<NodeLists>,
+    handles: &Handles,
+    p: u32,
+    f: u32,
+    pair: &PairContent,
+) -> GhostValue<NodeLists>
+    ensures { result.value ≡ paired_in nodes.now.value (slice_index_or handles.now.slots p None)
+        f pair.now.key.value.value pair.now.value.value.value }
+{
+    GhostValue::chosen(&AboutPair {
+        nodes,
+        handles,
+        p,
+        f,
+        pair,
     })
 }
 

@@ -3,6 +3,7 @@
 ghost use Rattle.std.specs.Prelude.{◌≡◌, ℕ, ◌+◌, ◌*◌, ◌<◌};
 ghost use Rattle.std.specs.Prelude.{◌≤◌, true, [], length, IfOk};
 ghost use Rattle.std.specs.Prelude.{slice_index_or, Some, None};
+ghost use Rattle.gc_graph.specs.declared.kind.Value.{Value};
 ghost use Rattle.gc_graph.specs.declared.kind.Value.TheVariants.{Word};
 ghost use Rattle.gc_graph.specs.declared.phase.Phase.{Phase};
 ghost use Rattle.gc_graph.specs.State.{objects_of, used_of};
@@ -13,7 +14,7 @@ ghost use Rattle.gc_graph.specs.Shapes.{IsShape};
 ghost use Rattle.page_space.specs.Pages.{word_count};
 ghost use Rattle.heap_engine.specs.Fields.{allows, IsFieldAt, IsFieldOf, value_in, TakesValue};
 ghost use Rattle.heap_engine.specs.Objects.{AreBuilt, AreOfValid, IsLiveAt};
-ghost use Rattle.heap_engine.specs.Objects.{target_in, with_made, written_in};
+ghost use Rattle.heap_engine.specs.Objects.{IsReferenceTo, target_in, with_made, written_in};
 ghost use Rattle.heap_engine.specs.Nodes.{word_of, place_of};
 ghost use Rattle.heap_engine.specs.Parts.{setup_of_objects, HasMarks};
 
@@ -202,9 +203,20 @@ impl Objects {
             → result ≡ target_in self.old.nodes (value_in self.old.nodes n f) }
         ensures same { self.new ≡ self.old }
     {
-        self.seat.bodies_lie_apart();
         self.types.words_have_kinds_of_fields();
         let reference = get(&self.space, &mut self.seat, field.holder, field.word);
+        self.named_by(reference)
+    }
+
+    /// The place and the number of what a reference names, or none where it is null.
+    pub(crate) fn named_by(&mut self, reference: u64) -> Option<(u32, u32)>
+        requires few { length self.old.nodes ≤ 1000000 }
+        requires reference { (x : Value) × IsReferenceTo self.old.nodes x reference }
+        ensures target { (x : Value) → IsReferenceTo self.old.nodes x reference
+            → result ≡ target_in self.old.nodes x }
+        ensures same { self.new ≡ self.old }
+    {
+        self.seat.bodies_lie_apart();
         match place_in(reference) {
             Some(place) => {
                 let number = self.space.words().load(&mut self.seat, place + SERIAL) as u32;

@@ -3,6 +3,7 @@
 ghost use Rattle.std.specs.Prelude.{◌≡◌, None, replicate, option_map};
 ghost use Rattle.std.specs.Prelude.{slice_index_or, slice_set};
 ghost use Rattle.gc_graph.specs.Fields.{content_of};
+ghost use Rattle.gc_graph.specs.ObjectSteps.{part_of};
 ghost use Rattle.page_words.specs.Seat.{holds};
 ghost use Rattle.heap_engine.specs.View.{kept_of};
 ghost use Rattle.heap_engine.specs.Judgement.{weak_after};
@@ -106,4 +107,20 @@ pub fn value_of(slots: &GhostValue<SlotLists>, q: u32) -> GhostValue<Values>
     ensures { result.value ≡ content_of (slice_index_or slots.now.value q None) }
 {
     GhostValue::chosen(&AboutSlot { slots, q })
+}
+
+/// What a look at two slots looks at.
+#[derive(Drop)]
+struct AboutSlots<'a> {
+    slots: &'a GhostValue<SlotLists>,
+    q: u32,
+    other: u32,
+}
+
+/// What slot q names, as one part of a pair whose other part the other slot names.
+pub fn part_of(slots: &GhostValue<SlotLists>, q: u32, other: u32) -> GhostValue<Values>
+    ensures { result.value ≡ part_of (slice_index_or slots.now.value q None)
+        (slice_index_or slots.now.value other None) }
+{
+    GhostValue::chosen(&AboutSlots { slots, q, other })
 }
