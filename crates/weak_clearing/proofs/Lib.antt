@@ -6,3 +6,5 @@ pub mod Holder
 pub mod ObjectWalk
 pub mod InTurn
 pub mod Grounds
+pub mod MarkWords
+pub mod NoHandles

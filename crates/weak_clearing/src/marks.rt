@@ -1,11 +1,13 @@
 // Whether an object was marked.
 
-ghost use Rattle.std.specs.Prelude.{◌≡◌};
+ghost use Rattle.std.specs.Prelude.{◌≡◌, false, IfSome, IfNone};
 ghost use Rattle.page_words.specs.Bodies.{IsPlace, IsReference};
 ghost use Rattle.page_words.specs.Seat.{holds};
 ghost use Rattle.page_space.specs.Space.{IsSeatOf};
 ghost use Rattle.weak_clearing.specs.Clearing.{names_unmarked};
+ghost use Rattle.weak_clearing.specs.Steps.{IsMarkedOf};
 
+use object_headers::{Header, with_mark};
 use page_space::Space;
 use page_words::MutatorSeat;
 
@@ -20,12 +22,31 @@ pub(crate) fn is_to_unmarked(space: &Space, seat: &mut MutatorSeat, reference: u
     reference != 0 && !is_marked(space, seat, (reference - 1) as u32)
 }
 
-/// Whether the object at a place is marked.
+/// Whether the object at a place is marked. No more of its header is looked at.
 pub(crate) fn is_marked(space: &Space, seat: &mut MutatorSeat, place: u32) -> bool
     requires heap { IsSeatOf space.now seat.old }
     requires place { IsPlace seat.old.bodies place }
     ensures mark { result ≡ holds seat.old.marked place }
     ensures view { seat.new ≡ seat.old }
 {
-    space.header_at(seat, place).mark
+    seat.bodies_lie_apart();
+    let word = space.words().load(seat, place);
+    word == with_mark(word, true)
+}
+
+/// The type of the object at a place, if that is marked.
+pub(crate) fn marked_type(space: &Space, seat: &mut MutatorSeat, place: u32) -> Option<u32>
+    requires heap { IsSeatOf space.now seat.old }
+    requires place { IsPlace seat.old.bodies place }
+    ensures marked { IfSome result (IsMarkedOf seat.old place) }
+    ensures unmarked { IfNone result (holds seat.old.marked place ≡ false) }
+    ensures view { seat.new ≡ seat.old }
+{
+    seat.bodies_lie_apart();
+    let word = space.words().load(seat, place);
+    if with_mark(word, true) == word {
+        Some(Header::type_in(word))
+    } else {
+        None
+    }
 }

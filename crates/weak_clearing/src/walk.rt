@@ -8,6 +8,7 @@ ghost use Rattle.weak_clearing.specs.Steps.{HasHandle, IsMarkedOf, kind_of_handl
 ghost use Rattle.weak_clearing.specs.Steps.{handle_cleared, body_cleared, all_cleared};
 
 use crate::fields::clear_field;
+use crate::marks::marked_type;
 use crate::pairs::clear_pair;
 use crate::weak_handles::WeakHandles;
 use page_space::Space;
@@ -22,6 +23,9 @@ pub fn clear_handles(space: &Space, types: &TypeTable, seat: &mut MutatorSeat, h
     requires references { MarkedHaveReferencesOf (kind_of_handles handles) seat.old }
     ensures { seat.new ≡ all_cleared handles seat.old }
 {
+    if !handles.are_in(types) {
+        return;
+    }
     seat.bodies_lie_apart();
     let mut from = 0;
     // From object to object and not from word to word: the time is to grow with the objects.
@@ -45,9 +49,8 @@ fn clear_object(
     requires start { IsPlace seat.old.bodies a }
     ensures { seat.new ≡ body_cleared handles seat.old a }
 {
-    let header = space.header_at(seat, a);
-    if header.mark {
-        clear_holder(space, types, seat, handles, a, header.ty);
+    if let Some(ty) = marked_type(space, seat, a) {
+        clear_holder(space, types, seat, handles, a, ty);
     }
 }
 

@@ -1,6 +1,6 @@
 // The weak handles that objects hold.
 
-ghost use Rattle.std.specs.Prelude.{◌≡◌, ◌<◌, length};
+ghost use Rattle.std.specs.Prelude.{◌≡◌, ℕ, ◌<◌, false, [], length};
 ghost use Rattle.type_table.specs.Types.{kinds_of, offsets_of_kind};
 ghost use Rattle.weak_clearing.specs.Steps.{kind_of_handles};
 
@@ -25,5 +25,18 @@ impl WeakHandles {
             WeakHandles::Fields => types.weak_words(ty),
             WeakHandles::Pairs => types.pair_words(ty),
         }
+    }
+
+    /// Whether a type has any of these.
+    pub fn are_in(self, types: &TypeTable) -> bool
+        ensures none { result ≡ false → (ty : ℕ) → ty < length types.now
+            → offsets_of_kind (kind_of_handles self) (kinds_of types.now ty) ≡ [] }
+    {
+        for ty in 0..types.count() {
+            if !self.words_of(types, ty).is_empty() {
+                return true;
+            }
+        }
+        false
     }
 }

@@ -1,10 +1,13 @@
-use Rattle.std.proofs.Common.{rules, ◌+◌, ◌<◌, ◌^◌, arith, ap, sym, ◌∙◌, subst}
+use Rattle.std.proofs.Common.{rules, ◌≡◌, ℕ, List, [], length, ◌+◌, ◌<◌, ◌^◌, arith, ap, sym, ◌∙◌, subst}
+use Rattle.gc_graph.specs.State.{ObjectType}
 use Rattle.gc_graph.specs.Placement.{IsLowest, IsNowhere}
 use Rattle.page_words.specs.Seat.{SeatView}
 use Rattle.page_space.specs.Space.{IsPlaceFrom}
 use Rattle.weak_clearing.specs.Clearing.{MarkedHaveReferencesOf}
 use Rattle.weak_clearing.specs.Steps.{kind_of_handles, body_cleared}
 use Rattle.weak_clearing.proofs.ObjectWalk.{cleared_below, walk_begins, walk_on, walk_ends, below_references, place_inside}
+use Rattle.type_table.specs.Types.{kinds_of, offsets_of_kind}
+use Rattle.weak_clearing.proofs.NoHandles.{none_cleared}
 use Rattle.weak_clearing.proofs.walk.clear_handles.Goals as goal
 
 pub loop-a-init : goal.loop-a-init
@@ -47,3 +50,9 @@ returns c =
     c.next_object.ensures.view ∙ c.loop-a.invariant.cleared
     ∙ walk_ends c.args.handles c.args.seat.now c.loop-a.from
     (subst (λ (v : SeatView). IsNowhere (IsPlaceFrom v.bodies c.loop-a.from)) c.loop-a.invariant.cleared c.in_default.ensures.none)
+
+pub returns-then-not-are_in : goal.returns-then-not-are_in
+returns-then-not-are_in c =
+    none_cleared c.args.handles c.args.seat.now c.requires.references
+    (subst (λ (ts : List ObjectType). (ty : ℕ) → ty < length ts → offsets_of_kind (kind_of_handles c.args.handles) (kinds_of ts ty) ≡ []) c.requires.types
+    (c.are_in.ensures.none c.if-not-are_in.true))
