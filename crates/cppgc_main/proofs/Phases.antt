@@ -16,12 +16,12 @@ use Rattle.gc_graph.specs.declared.kind.Kind.{Kind}
 use Rattle.gc_graph.specs.declared.kind.Value.{Value}
 use Rattle.gc_graph.specs.declared.kind.Value.TheVariants.{Null, Ref, Word}
 use Rattle.gc_graph.specs.State.{Setup, State, node_at}
-use Rattle.gc_graph.specs.Fields.{field_count, kind_of_field, is_reference, is_plain}
+use Rattle.gc_graph.specs.Fields.{field_count, kind_of_field, is_reference, is_pair, is_plain}
 use Rattle.gc_graph.specs.May.{read_node}
 use Rattle.gc_graph.specs.Outcomes.{answered, IsRefused, slot_at}
 use Rattle.gc_graph.specs.Sweep.{SweepsInPhase, ContinuesSweep}
 use Rattle.gc_graph.specs.CycleSteps.{HasSwept, StepSweepAll, is_marking, is_sweeping}
-use Rattle.gc_graph.specs.ObjectSteps.{IsFull, IsMade, IsNumber, IsRead, StepNew, StepSet, StepGet, StepPut, StepWord}
+use Rattle.gc_graph.specs.ObjectSteps.{IsFull, IsMade, IsNumber, IsRead, StepNew, StepSet, StepGet, StepPut, StepWord, StepPair, StepKey, StepVal}
 use Rattle.gc_graph.specs.Step.{Step}
 use Rattle.built_forms.specs.Built.{is_built, IsBuiltIn, opens_sweep, is_sweep_open, is_timely, AreBuiltCommands}
 
@@ -83,6 +83,15 @@ put_keeps old new p f n lines step = field_keeps is_plain old new f lines _ (slo
 word_keeps : (old new : State) (p f : ℕ) (lines : List Line) → StepWord old p f lines new → new.phase ≡ old.phase
 word_keeps old new p f lines step = field_keeps is_plain old new f lines _ (slot_at old p) (λ n done. number_keeps old new _ lines done) step
 
+pair_keeps : (old new : State) (p f : ℕ) (key value : Option ℕ) (lines : List Line) → StepPair old p f key value lines new → new.phase ≡ old.phase
+pair_keeps old new p f key value lines step = field_keeps is_pair old new f lines _ (slot_at old p) (λ n done. ap (λ (s : State). s.phase) done.1) step
+
+key_keeps : (old new : State) (p f q : ℕ) (lines : List Line) → StepKey old p f q lines new → new.phase ≡ old.phase
+key_keeps old new p f q lines step = field_keeps is_pair old new f lines _ (slot_at old p) (λ n done. read_keeps true old new _ q lines done) step
+
+value_keeps : (old new : State) (p f q : ℕ) (lines : List Line) → StepVal old p f q lines new → new.phase ≡ old.phase
+value_keeps old new p f q lines step = field_keeps is_pair old new f lines _ (slot_at old p) (λ n done. read_keeps true old new _ q lines done) step
+
 -- where marking doesn't go on, the heap is idle after the sweep of all pages
 sweep_ends : (setup : Setup) (old new : State) (lines : List Line) (phase : Phase) → old.phase ≡ phase → is_marking phase ≡ false
     → StepSweepAll setup old lines new → new.phase ≡ Idle
@@ -111,6 +120,10 @@ step_phase setup old new (C.SetNull p f) piece lines opened calm built idle step
 step_phase setup old new (C.Get p f q) piece lines opened calm built idle step = λ off. get_keeps old new p f q lines step.1 ∙ idle off
 step_phase setup old new (C.Put p f n) piece lines opened calm built idle step = λ off. put_keeps old new p f n lines step.1 ∙ idle off
 step_phase setup old new (C.Word p f) piece lines opened calm built idle step = λ off. word_keeps old new p f lines step.1 ∙ idle off
+step_phase setup old new (C.Pair p f k v) piece lines opened calm built idle step = λ off. pair_keeps old new p f _ _ lines step.1 ∙ idle off
+step_phase setup old new (C.PairNull p f) piece lines opened calm built idle step = λ off. pair_keeps old new p f None None lines step.1 ∙ idle off
+step_phase setup old new (C.Key p f q) piece lines opened calm built idle step = λ off. key_keeps old new p f q lines step.1 ∙ idle off
+step_phase setup old new (C.Val p f q) piece lines opened calm built idle step = λ off. value_keeps old new p f q lines step.1 ∙ idle off
 step_phase setup old new (C.Copy p q) piece lines opened calm built idle step = λ off. ap (λ (s : State). s.phase) step.1.1 ∙ idle off
 step_phase setup old new (C.Weak w p) piece lines opened calm built idle step = λ off. ap (λ (s : State). s.phase) step.1.1 ∙ idle off
 step_phase setup old new (C.Read w p) piece lines opened calm built idle step = λ off. read_keeps true old new _ p lines step.1 ∙ idle off
