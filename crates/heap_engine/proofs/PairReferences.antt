@@ -61,7 +61,7 @@ reference_stays types marked bodies w is = elim is [
   )
 ]
 
-pub pair_references_stay : (v : SeatView) → MarkedHaveReferencesOf Pair v → MarkedHaveReferencesOf Pair (with_weak_cleared v)
+pair_references_stay : (v : SeatView) → MarkedHaveReferencesOf Pair v → MarkedHaveReferencesOf Pair (with_weak_cleared v)
 pair_references_stay v are b there marked =
     let from = Contains-map_some (clear_body v.types v.marked) v.bodies b there in
     let old : Body = from.0 in
@@ -75,3 +75,6 @@ pair_references_stay v are b there marked =
           let kind : kind_in v.types old i ≡ Pair = sym (ap (λ t. get_or (kinds_of_words (kinds_of v.types t)) i Plain) stays.ty) ∙ told in
           reference_stays v.types v.marked v.bodies (get_or b.fields i 0) (subst (IsReference v.bodies) (sym (stays.pairs i kind)) (has.named i kind));
     }
+
+pub pairs_still_refer : (v new : SeatView) → new ≡ with_weak_cleared v → MarkedHaveReferencesOf Pair v → MarkedHaveReferencesOf Pair new
+pairs_still_refer v new cleared are = subst (MarkedHaveReferencesOf Pair) (sym cleared) (pair_references_stay v are)

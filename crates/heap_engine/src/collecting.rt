@@ -99,7 +99,8 @@ impl Objects {
 }
 
 /// Sets to null what is weak and names an object that was not marked: weak slots, and of marked
-/// objects weak fields, and pairs by their key. Nothing is grey any more, so that what is not marked now will never be.
+/// objects weak fields, and pairs by their key. Nothing is grey any more, so that what is not marked
+/// now will never be.
 fn clear_weak(
     space: &Space,
     types: &TypeTable,
@@ -117,6 +118,17 @@ fn clear_weak(
         ≡ cleared_in handles.old (holds seat.old.marked) nodes.now.value }
 {
     handles.clear_weak(space, seat, nodes);
+    clear_objects(space, types, seat);
+}
+
+/// Weak fields first: a pair's words are then still as they were.
+fn clear_objects(space: &Space, types: &TypeTable, seat: &mut MutatorSeat)
+    requires heap { IsSeatOf space.now seat.old }
+    requires types { types.now ≡ seat.old.types }
+    requires references { MarkedHaveWeakReferences seat.old }
+    requires pairs { MarkedHaveReferencesOf Pair seat.old }
+    ensures { seat.new ≡ with_pairs_cleared (with_weak_cleared seat.old) }
+{
     clear_fields(space, types, seat);
     clear_pairs(space, types, seat);
 }

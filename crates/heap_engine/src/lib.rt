@@ -17,10 +17,10 @@
 //! that is allowed and that the heap does so far (`IsBuiltIn`), and its lines are those of the step;
 //! the pieces that the commands took are the heap's history of the region. Each node that is not
 //! finalised is the object with its number, type, size, place, field words and extra words. A
-//! collection keeps exactly what the strong slots reach, and marks by strong fields alone; exactly
-//! the weak fields of kept objects and the weak slots that name a condemned one become null.
-//! Refusals and a full heap are answered exactly where the step says so; a collection alone may
-//! want memory, and then nothing has changed.
+//! collection keeps exactly what the strong slots reach, by strong fields and by pairs whose key is
+//! kept; exactly the weak slots and the weak fields of kept objects that name a condemned one become
+//! null, and so do their pairs whose key is condemned. Refusals and a full heap are answered exactly
+//! where the step says so; a collection alone may want memory, and then nothing has changed.
 //!
 //! What is only tested or not said: that memory suffices, and how long a command takes.
 #![tactic(auto)]

@@ -2,13 +2,13 @@
 // what they lead to. A deep chain needs no deep stack. Only the room for an ordinary list is taken
 // before; where memory is wanting on the way, the heap is walked.
 
-ghost use Rattle.std.specs.Prelude.{◌≡◌, ◌⊎◌, ℕ, true, [], Contains, All, Some};
+ghost use Rattle.std.specs.Prelude.{◌≡◌, ◌⊎◌, ℕ, true, false, [], Contains, All, Some};
 ghost use Rattle.std.specs.Option.{ForSome};
 ghost use Rattle.page_words.specs.Bodies.{IsPlace};
 ghost use Rattle.page_words.specs.Seat.{IsQuiet, holds};
 ghost use Rattle.page_space.specs.Space.{IsSeatOf};
 ghost use Rattle.ephemerons.specs.BodyGraph.{AreReferences, PlacesDiffer};
-ghost use Rattle.ephemerons.specs.Fixpoint.{ListsMarks};
+ghost use Rattle.ephemerons.specs.Fixpoint.{ListsMarks, IsUnrefused};
 ghost use Rattle.heap_engine.specs.Marking.{IsClear, MarksReachable, marked_count};
 
 use ephemerons::{Pairs, fixpoint, mark};
@@ -130,10 +130,12 @@ fn mark_slot(words: &Words, seat: &mut MutatorSeat, marking: &mut Marking, slot:
 }
 
 /// Ends a marking whose list is empty, and forgets what was noted and refused. True where a push or
-/// a note was refused.
+/// a note was refused, and so the heap was walked.
 fn clear(marking: &mut Marking, notes: &mut [Pairs; 1]) -> bool
     requires { marking.old.list.items ≡ [] }
-    ensures { IsClear marking.new notes.new }
+    ensures clear { IsClear marking.new notes.new }
+    ensures whole { result ≡ false → IsUnrefused marking.old.overflow notes.old }
+    ensures walked { result ≡ true → IsUnrefused marking.old.overflow notes.old → ⊥ }
 {
     let walked = marking.overflow || notes[0].overflow();
     marking.on = false;
