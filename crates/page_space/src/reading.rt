@@ -13,7 +13,7 @@ use object_headers::{Header, SERIAL};
 use page_words::{BLOCK_WORDS, MutatorSeat};
 
 impl Space {
-    /// The lowest place that is not below an address.
+    /// The lowest place that is not below an address. It looks at a word of start bits at a time.
     pub fn next_object(&self, seat: &mut MutatorSeat, from: u32) -> Option<u32>
         requires heap { IsSeatOf self.now seat.old }
         ensures found { IfSome result (IsLowest (IsPlaceFrom seat.old.bodies from)) }
@@ -21,12 +21,17 @@ impl Space {
         ensures view { seat.new ≡ seat.old }
     {
         seat.bodies_lie_apart();
-        let end = self.word_count();
-        if from >= end {
-            return None;
+        self.shape_is_valid();
+        let count = self.words.count();
+        let mut at = from;
+        while at < count {
+            let bits = self.words.load(seat, count + at / BLOCK_WORDS) >> (at % BLOCK_WORDS);
+            if bits != 0 {
+                return Some(at + bits.trailing_zeros());
+            }
+            at = at / BLOCK_WORDS * BLOCK_WORDS + BLOCK_WORDS;
         }
-        let place = self.start_from(seat, from, end);
-        if place < end { Some(place) } else { None }
+        None
     }
 
     /// The lowest place from an address up to, and without, `end`, or `end`. It looks at a
