@@ -59,6 +59,10 @@ abbrev pub HasPair : List ObjectType → List Body → ℕ → ℕ → Type 0
 HasPair types bodies place offset =
     (b : Body) × Contains bodies b × (b.place ≡ place) × Contains (pair_offsets types b) offset
 
+-- no type has a pair
+abbrev pub HaveNoPairs : List ObjectType → Type 0
+HaveNoPairs types = (ty : ℕ) → ty < length types → offsets_of_kind Pair (kinds_of types ty) ≡ []
+
 -- ---- the graph
 
 -- what a reference word stands for: null, or what lies at the place

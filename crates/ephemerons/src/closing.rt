@@ -5,7 +5,7 @@ ghost use Rattle.std.specs.Prelude.{length};
 ghost use Rattle.page_words.specs.Bodies.{IsPlace};
 ghost use Rattle.page_space.specs.Space.{IsSeatOf};
 ghost use Rattle.ephemerons.specs.declared.notes.Note.{Note};
-ghost use Rattle.ephemerons.specs.BodyGraph.{PlacesDiffer, AreReferences};
+ghost use Rattle.ephemerons.specs.BodyGraph.{PlacesDiffer, AreReferences, HaveNoPairs};
 ghost use Rattle.ephemerons.specs.Marking.{MarksOn, GrowsWithin, TracedNameMarked};
 ghost use Rattle.ephemerons.specs.Marking.{IsOver, traced_count};
 ghost use Rattle.ephemerons.specs.Notes.{IsNote, IsNotedIn};
@@ -14,7 +14,7 @@ ghost use Rattle.ephemerons.specs.Fixpoint.{Works, stage, weight};
 
 use crate::notes::Pairs;
 use crate::settling::{settle_notes, settle_under};
-use crate::tracing::trace_grey;
+use crate::tracing::{trace_grey, trace_pairless};
 use crate::walking::walk_heap;
 use mark_worklist::Marking;
 use page_space::Space;
@@ -93,6 +93,7 @@ fn settle_all(
         → IsAccounted types.now None seat.old marking.old.list.items groups.old
         → IsOver types.now seat.new }
 {
+    drain_if_pairless(space, types, seat, marking, groups, traced);
     while turn(space, types, seat, marking, groups, traced) {}
     seat.bodies_lie_apart();
 }
@@ -140,6 +141,62 @@ pub(crate) fn drain(
     ensures list { marking.new.list.items ≡ [] }
 {
     while trace_next(space, types, seat, marking, groups, traced) {}
+}
+
+/// Traces what is listed, where no type has a pair. It is the way of most heaps, and neither notes
+/// nor their index are looked at for each object.
+fn drain_if_pairless(
+    space: &Space,
+    types: &TypeTable,
+    seat: &mut MutatorSeat,
+    marking: &mut Marking,
+    groups: &[Pairs],
+    traced: &mut u32,
+)
+    requires heap { IsSeatOf space.now seat.old }
+    requires ground { IsGround types.now (stage seat.old marking.old groups.now traced.old) }
+    ensures ground { IsGround types.now (stage seat.new marking.new groups.now traced.new) }
+    ensures works { Works types.now None
+        (stage seat.old marking.old groups.now traced.old)
+        (stage seat.new marking.new groups.now traced.new) }
+{
+    if !has_pairs(types) {
+        drain_pairless(space, types, seat, marking, groups, traced);
+    }
+}
+
+/// Traces what is listed, until the list is empty. Nothing waits for a key.
+fn drain_pairless(
+    space: &Space,
+    types: &TypeTable,
+    seat: &mut MutatorSeat,
+    marking: &mut Marking,
+    groups: &[Pairs],
+    traced: &mut u32,
+)
+    requires heap { IsSeatOf space.now seat.old }
+    requires ground { IsGround types.now (stage seat.old marking.old groups.now traced.old) }
+    requires pairless { HaveNoPairs types.now }
+    ensures ground { IsGround types.now (stage seat.new marking.new groups.now traced.new) }
+    ensures works { Works types.now None
+        (stage seat.old marking.old groups.now traced.old)
+        (stage seat.new marking.new groups.now traced.new) }
+{
+    while let Some(place) = marking.list.pop() {
+        trace_pairless(space, types, seat, marking, groups, traced, place);
+    }
+}
+
+/// Whether a type has a pair.
+fn has_pairs(types: &TypeTable) -> bool
+    ensures { result ≡ false → HaveNoPairs types.now }
+{
+    for ty in 0..types.count() {
+        if !types.pair_words(ty).is_empty() {
+            return true;
+        }
+    }
+    false
 }
 
 /// Takes an object from the list and traces it, if that is to be done. False where the list is

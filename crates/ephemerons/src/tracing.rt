@@ -1,12 +1,13 @@
 // Tracing: what the strong fields of an object name is marked, and so is the value of each pair
 // whose key is marked.
 
-ghost use Rattle.std.specs.Prelude.{◌≡◌, ◌⊎◌, ℕ, ◌+◌, ◌<◌, true, false, Contains, Some, length};
+ghost use Rattle.std.specs.Prelude.{◌≡◌, ◌⊎◌, ℕ, ◌+◌, ◌<◌, true, false, Contains, Some, IfSome, length};
+ghost use Rattle.std.specs.Option.{is_some};
 ghost use Rattle.object_headers.specs.Offsets.{reference_to};
 ghost use Rattle.page_words.specs.Bodies.{Body, IsPlace};
-ghost use Rattle.page_words.specs.Seat.{holds, is_grey};
+ghost use Rattle.page_words.specs.Seat.{holds, is_grey, claimed_at};
 ghost use Rattle.page_space.specs.Space.{IsSeatOf};
-ghost use Rattle.ephemerons.specs.BodyGraph.{AreReferences, HasType, HasPair};
+ghost use Rattle.ephemerons.specs.BodyGraph.{AreReferences, HasType, HasPair, HaveNoPairs};
 ghost use Rattle.ephemerons.specs.BodyGraph.{strong_offsets, word_at};
 ghost use Rattle.ephemerons.specs.Marking.{MarksOn, GrowsWithin, HasStrongMarked};
 ghost use Rattle.ephemerons.specs.Notes.{NotesGrow, HasPairsNoted, HasPairNoted};
@@ -15,7 +16,7 @@ ghost use Rattle.ephemerons.specs.Fixpoint.{ListsMarks, IsGround, Looks, stage};
 use crate::marks::{mark_reference, names_marked, word_of};
 use crate::notes::Pairs;
 use mark_worklist::Marking;
-use object_headers::Header;
+use object_headers::{Header, with_mark, with_traced};
 use page_space::Space;
 use page_words::{MutatorSeat, Words};
 use type_table::TypeTable;
@@ -181,14 +182,63 @@ pub(crate) fn trace_grey(
     ensures settled { holds seat.new.marked place ≡ true → holds seat.new.traced place ≡ true }
 {
     seat.bodies_lie_apart();
-    // One load of the header serves the claim and the type.
-    let header = space.header_at(seat, place);
-    let unclaimed = Header::pack(true, true, false, header.ty, header.size);
-    let claimed = space.words().claim(seat, place, unclaimed);
-    if claimed {
-        *traced += 1;
-        let own = &mut groups[0];
-        trace_fields(space, types, seat, marking, own, place, header.ty);
+    match claim(space.words(), seat, place) {
+        Some(ty) => {
+            *traced += 1;
+            let own = &mut groups[0];
+            trace_fields(space, types, seat, marking, own, place, ty);
+            true
+        }
+        None => false,
     }
-    claimed
+}
+
+/// The same where no type has a pair: the strong fields are all that there is to trace.
+pub(crate) fn trace_pairless(
+    space: &Space,
+    types: &TypeTable,
+    seat: &mut MutatorSeat,
+    marking: &mut Marking,
+    groups: &[Pairs],
+    traced: &mut u32,
+    place: u32,
+) -> bool
+    requires heap { IsSeatOf space.now seat.old }
+    requires ground { IsGround types.now (stage seat.old marking.old groups.now traced.old) }
+    requires pairless { HaveNoPairs types.now }
+    requires place { IsPlace seat.old.bodies place }
+    ensures ground { IsGround types.now (stage seat.new marking.new groups.now traced.new) }
+    ensures looks { Looks types.now (Some place)
+        (stage seat.old marking.old groups.now traced.old)
+        (stage seat.new marking.new groups.now traced.new) result }
+{
+    let _ = groups;
+    seat.bodies_lie_apart();
+    match claim(space.words(), seat, place) {
+        Some(ty) => {
+            *traced += 1;
+            trace_strong(space.words(), types, seat, marking, place, ty);
+            true
+        }
+        None => false,
+    }
+}
+
+/// Claims an object. Its type where it was marked and not yet traced: one look at the header serves
+/// both.
+fn claim(words: &Words, seat: &mut MutatorSeat, place: u32) -> Option<u32>
+    requires heap { seat.old.count ≡ words.now }
+    requires on { seat.old.on ≡ true }
+    requires place { IsPlace seat.old.bodies place }
+    ensures grey { is_some result ≡ is_grey seat.old place }
+    ensures body { IfSome result (HasType seat.old.bodies place) }
+    ensures view { seat.new ≡ claimed_at seat.old place }
+{
+    seat.bodies_lie_apart();
+    let word = words.load(seat, place);
+    let claimed = words.claim(seat, place, with_traced(with_mark(word, true), false));
+    if !claimed {
+        return None;
+    }
+    Some(Header::type_in(word))
 }

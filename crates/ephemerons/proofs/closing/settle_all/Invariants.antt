@@ -5,7 +5,7 @@ use Rattle.ephemerons.proofs.closing.settle_all.Given as goal
 abbrev pub invariant-loop : goal.invariant-loop
 invariant-loop l = record {
   ground : IsGround l.types (stage l.seat l.marking l.groups l.traced);
-  works : Works l.types None (stage l.initial.seat l.initial.marking l.initial.groups l.initial.traced) (stage l.seat l.marking l.groups l.traced);
+  works : Works l.types None (stage l.fn.seat l.fn.marking l.fn.groups l.fn.traced) (stage l.seat l.marking l.groups l.traced);
 }
 
 abbrev pub decreases-loop : goal.decreases-loop

@@ -1,6 +1,5 @@
 use Rattle.std.proofs.Common.{sym, ◌∙◌, arith}
 use Rattle.std.proofs.lemmas.Bool.{leb-false}
-use Rattle.page_space.specs.Gaps.{is_surveyed}
 use Rattle.page_space.proofs.space.Space.is_worth.Goals as goal
 
 -- each bound of the page is at most the one that was asked for, and this one is below the size
