@@ -10,5 +10,4 @@ pub mod Stages
 pub mod GroupSteps
 pub mod GreySteps
 pub mod Ends
-pub mod Grounds
 pub mod NoPairs

@@ -43,13 +43,6 @@ pub record AreReferences (types : List ObjectType) (bodies : List Body) : Type 0
       (b : Body) (offset : ℕ) → Contains bodies b → Contains (pair_offsets types b) offset
       → IsReference bodies (word_at b (offset + 1))
 
--- the body is of one of the types and has a word for each declared field, and each of its words is null or refers to a
--- body
-pub record HasReferences (types : List ObjectType) (bodies : List Body) (b : Body) : Type 0 where
-  pub typed : b.ty < length types
-  pub whole : field_words (kinds_of types b.ty) ≤ length b.fields
-  pub named : (i : ℕ) → IsReference bodies (slice_index b.fields i)
-
 -- there is a body at the place, and this is its type
 abbrev pub HasType : List Body → ℕ → ℕ → Type 0
 HasType bodies place ty = (b : Body) × Contains bodies b × (b.place ≡ place) × (b.ty ≡ ty)
