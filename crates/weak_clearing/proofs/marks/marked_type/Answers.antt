@@ -15,6 +15,6 @@ returns-then-with_mark-word-clause-marked c =
       c.requires.place.2,
       sym (c.type_in.ensures.header true (holds v.marked b.place) (holds v.traced b.place) b.ty b.size whole.ty word),
       ap (holds v.marked) (sym c.requires.place.2)
-      ∙ marked_word (holds v.marked b.place) (holds v.traced b.place) b.ty b.size c.load-word.result c.with_mark.result word
-      (c.with_mark.ensures.header true (holds v.marked b.place) (holds v.traced b.place) b.ty b.size word) c.if-with_mark-word.true,
+          ∙ marked_word (holds v.marked b.place) (holds v.traced b.place) b.ty b.size c.load-word.result c.with_mark.result word
+          (c.with_mark.ensures.header true (holds v.marked b.place) (holds v.traced b.place) b.ty b.size word) c.if-with_mark-word.true,
     )
