@@ -22,6 +22,7 @@ mod ValidWrites
 mod ValidReads
 mod Condemned
 mod Prefinalising
+mod ActionsStay
 mod MayBounds
 mod Since
 mod MayGrows

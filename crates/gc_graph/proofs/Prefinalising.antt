@@ -21,10 +21,10 @@ use Rattle.gc_graph.proofs.NodeWrites.{IsLikeNode, like_same, LookSame, look_sam
 use Rattle.gc_graph.proofs.FieldWrites.{with_values, one_typed, pair_typed, one_like, pair_like}
 
 -- the node became one that names no more than it did
-record IsGentle (setup : Setup) (nodes : List Node) (x y : Node) : Type 0 where
-  like : IsLikeNode x y
-  typed : IsTyped setup (length nodes) x → IsTyped setup (length nodes) y
-  names : All (NamesLive nodes) x.object.values → All (NamesLive nodes) y.object.values
+pub record IsGentle (setup : Setup) (nodes : List Node) (x y : Node) : Type 0 where
+  pub like : IsLikeNode x y
+  pub typed : IsTyped setup (length nodes) x → IsTyped setup (length nodes) y
+  pub names : All (NamesLive nodes) x.object.values → All (NamesLive nodes) y.object.values
 
 gentle_same : (setup : Setup) (nodes : List Node) (x : Node) → IsGentle setup nodes x x
 gentle_same setup nodes x = record { like = like_same x; typed = λ t. t; names = λ h. h }
@@ -60,7 +60,7 @@ module _ (setup : Setup) (nodes : List Node) (node : Node) (f : ℕ) where
         (All-set (NamesLive nodes) node.object.values (word_of_field node.object f) Null tt h);
   }
 
-  cleared_at_gentle : IsGentle setup nodes node (cleared_at node f)
+  pub cleared_at_gentle : IsGentle setup nodes node (cleared_at node f)
   cleared_at_gentle =
       cond_both (nat_lt f (field_count node)) (cleared_field (kind_of_field node.object f) node (word_of_field node.object f)) node (IsGentle setup nodes node)
       (λ e. cleared_gentle (kind_of_field node.object f) refl) (λ e. gentle_same setup nodes node)
@@ -111,7 +111,7 @@ module _ (setup : Setup) (nodes : List Node) (node : Node) (f : ℕ) where
             }
       ]
 
-  added_at_gentle : (amount : ℕ) → IsGentle setup nodes node (added_at node f amount)
+  pub added_at_gentle : (amount : ℕ) → IsGentle setup nodes node (added_at node f amount)
   added_at_gentle amount =
       cond_both (nat_lt f (field_count node)) (added_field (kind_of_field node.object f) node (word_of_field node.object f) amount) node (IsGentle setup nodes node)
       (λ e. added_gentle (kind_of_field node.object f) amount refl) (λ e. gentle_same setup nodes node)

@@ -56,10 +56,16 @@ command_allowed bounds types words c low f e =
 
 -- ---- a type
 
--- few fields, and prefinalizers that are callbacks
+-- few fields, and few prefinalizers, which are callbacks
 pub record IsGoodType (callbacks : ℕ) (type : ObjectType) : Type 0 where
   pub narrow : length type.kinds ≤ 64
+  pub few : length type.prefinalizers ≤ 16
   pub known : All (λ number. number < callbacks) type.prefinalizers
+
+-- at most 19 words say at most 16 callbacks
+few_numbers : (first letters : List ℕ) (more : List (List ℕ)) → length (first ∷ letters ∷ more) ≤ 19 → length (map value_of (drop 1 more)) ≤ 16
+few_numbers first letters [] short = omega arith
+few_numbers first letters (pre ∷ callbacks) short = omega (arith, short, length-map callbacks value_of)
 
 kinds_by : (word : List ℕ) (none : Bool) → length (cond none [] (map kind_of_letter word)) ≤ length word
 kinds_by word true = omega arith
@@ -83,15 +89,16 @@ type_form text rest is = rw is refl
 
 good_by : (bounds : Bounds) (first letters : List ℕ) (more : List (List ℕ)) (form : Form) → form ≡ Known (type_places (letters ∷ more)) (λ numbers. None)
     → has_bad_number form (first ∷ letters ∷ more) ≡ false → has_other_count form (first ∷ letters ∷ more) ≡ false
-    → has_outside bounds form (first ∷ letters ∷ more) ≡ false
+    → has_outside bounds form (first ∷ letters ∷ more) ≡ false → length (first ∷ letters ∷ more) ≤ 19
     → IsGoodType bounds.callbacks (record { kinds = kinds_of letters; prefinalizers = map value_of (drop 1 more) })
-good_by bounds first letters [] form is good count inside =
+good_by bounds first letters [] form is good count inside short =
     let i : has_outside bounds (Known (Letters ∷ []) (λ numbers. None)) (first ∷ letters ∷ []) ≡ false = rw is at inside in
     record {
       narrow = omega (arith, kinds_few letters, ltb-false _ _ (or_parts (nat_lt 64 (length letters)) false i).0);
+      few = omega arith;
       known = All-nil (λ number. number < bounds.callbacks);
     }
-good_by bounds first letters (pre ∷ callbacks) form is good count inside =
+good_by bounds first letters (pre ∷ callbacks) form is good count inside short =
     let places : List Place = Letters ∷ Fixed (codes "pre") ∷ replicate (max 1 (length callbacks)) Callback in
     let i : any_word (is_outside bounds) (Letters ∷ Fixed (codes "pre") ∷ replicate (max 1 (length callbacks)) Callback) (letters ∷ pre ∷ callbacks) ≡ false =
     rw is at inside in
@@ -103,8 +110,24 @@ good_by bounds first letters (pre ∷ callbacks) form is good count inside =
     let same : length callbacks ≡ max 1 (length callbacks) = omega (arith, eqb-true _ _ (not-false _ n), length-replicate (max 1 (length callbacks)) Callback) in
     record {
       narrow = omega (arith, kinds_few letters, ltb-false _ _ parts.0);
+      few = few_numbers first letters (pre ∷ callbacks) short;
       known = callbacks_known bounds callbacks (max 1 (length callbacks)) same (or_parts _ _ g).0 parts.1;
     }
+
+-- a type line has at most 19 words, and before it stand fewer types than there can be
+type_fits : (bounds : Bounds) (words : List (List ℕ)) → AreFaultless bounds words → first_is (codes "type") words ≡ true
+    → (length words ≤ 19) × (bounds.types < 16383)
+type_fits bounds words f is =
+    elim (and_cases (first_is (codes "type") words) (nat_lt 19 (length words) || nat_le 16383 bounds.types) f.few) [
+      | inl other ↦ absurd (true≢false (sym is ∙ other))
+      | inr small ↦
+          (let parts = or_parts (nat_lt 19 (length words)) (nat_le 16383 bounds.types) small in
+          let short = ltb-false _ _ parts.0 in
+          let low = leb-false _ _ parts.1 in (omega arith, omega arith))
+    ]
+
+type_is_short : (bounds : Bounds) (words : List (List ℕ)) → AreFaultless bounds words → first_is (codes "type") words ≡ true → length words ≤ 19
+type_is_short bounds words f is = (type_fits bounds words f is).0
 
 type_by : (bounds : Bounds) (first letters : List ℕ) (more : List (List ℕ)) (type : ObjectType) (is : Bool) → is_text first (codes "type") ≡ is
     → AreFaultless bounds (first ∷ letters ∷ more)
@@ -112,7 +135,8 @@ type_by : (bounds : Bounds) (first letters : List ℕ) (more : List (List ℕ)) 
     → IsGoodType bounds.callbacks type
 type_by bounds first letters more type true is f e =
     subst (IsGoodType bounds.callbacks) (same_Some _ type e)
-    (good_by bounds first letters more (form_of (first ∷ letters ∷ more)) (type_form first (letters ∷ more) is) f.good f.count f.inside)
+    (good_by bounds first letters more (form_of (first ∷ letters ∷ more)) (type_form first (letters ∷ more) is) f.good f.count f.inside
+    (type_is_short bounds (first ∷ letters ∷ more) f is))
 type_by bounds first letters more type false is f e = absurd (none-some type e)
 
 pub type_is_good : (bounds : Bounds) (words : List (List ℕ)) (type : ObjectType) → AreFaultless bounds words → type_of_words words ≡ Some type
@@ -141,8 +165,4 @@ type_lines_say bounds (first ∷ letters ∷ more) f =
 
 -- before a type line stand fewer types than there can be
 pub room_for_type : (bounds : Bounds) (words : List (List ℕ)) → AreFaultless bounds words → first_is (codes "type") words ≡ true → bounds.types < 16383
-room_for_type bounds words f is =
-    elim (and_cases (first_is (codes "type") words) (nat_lt 19 (length words) || nat_le 16383 bounds.types) f.few) [
-      | inl other ↦ absurd (true≢false (sym is ∙ other))
-      | inr small ↦ (let low = leb-false _ _ (or_parts (nat_lt 19 (length words)) (nat_le 16383 bounds.types) small).1 in omega arith)
-    ]
+room_for_type bounds words f is = (type_fits bounds words f is).1

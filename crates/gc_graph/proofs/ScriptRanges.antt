@@ -148,6 +148,7 @@ said callbacks header rest script head fine short types commands =
     record {
       sorts = omega (arith, few_types callbacks rest fine (length rest) (omega arith), whole, counted);
       narrow = λ i d low. (each i d low).narrow;
+      modest = λ i d low. (each i d low).few;
       known = λ i d low. (each i d low).known;
       allowed = subst (All (IsAllowed (length script.types))) (sym commands_are)
           (kept_all (IsAllowed (length script.types)) (λ line. command_of_words (words_of line)) rest

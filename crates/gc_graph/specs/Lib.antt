@@ -27,6 +27,7 @@ pub mod Pages
 pub mod Valid
 pub mod ReadBack
 pub mod ValidLaw
+pub mod ActionLaw
 pub mod MayLaw
 pub mod CollectionLaw
 pub mod RefusalLaw

@@ -24,10 +24,11 @@ TextsAreJudged = (callbacks : ℕ) (bytes : List ℕ) → IsJudged callbacks byt
 
 -- ---- what a script says is never too much for a heap
 
--- few types of few fields, whose prefinalizers are callbacks, and few commands, whose numbers are in their ranges
+-- few types of few fields, whose few prefinalizers are callbacks, and few commands, whose numbers are in their ranges
 pub record IsInRanges (callbacks : ℕ) (script : Script) : Type 0 where
   pub sorts : length script.types ≤ 16383
   pub narrow : All (λ type. length type.kinds ≤ 64) script.types
+  pub modest : All (λ type. length type.prefinalizers ≤ 16) script.types
   pub known : All (λ type. All (λ number. number < callbacks) type.prefinalizers) script.types
   pub allowed : All (IsAllowed (length script.types)) script.commands
   pub few : length script.commands ≤ 1000000

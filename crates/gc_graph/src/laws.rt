@@ -1,5 +1,6 @@
 // The laws of the definitions. Whoever calls one of these has its law; none of them does anything.
 
+ghost use Rattle.gc_graph.specs.ActionLaw.{ActionsLeaveNodes};
 ghost use Rattle.gc_graph.specs.HistoryLaw.{RepliesAreOfOneThread, RunsAreReplayed};
 ghost use Rattle.gc_graph.specs.MayLaw.{StartsHaveStarted, CollectionsHaveStarted, MayIsBounded, PauseBoundsMeet};
 ghost use Rattle.gc_graph.specs.PlacementLaw.{PagesHaveOneBucket, PlacementIsFree, SweepsFinaliseDead};
@@ -17,6 +18,12 @@ pub fn empty_is_valid()
 /// on, what may be kept stays closed, holds the roots, and has live nodes alone.
 pub fn step_keeps_valid()
     ensures { StepKeepsValid }
+{}
+
+/// What a prefinalizer's action does leaves each object its place, its life and the fields of its
+/// type.
+pub fn actions_leave_nodes()
+    ensures { ActionsLeaveNodes }
 {}
 
 /// While marking goes on, and at the pause, what may be kept is new since the start, or was reached

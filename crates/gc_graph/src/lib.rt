@@ -45,10 +45,10 @@ pub use command::{Command, Order, Want};
 pub use graphs::Graph;
 pub use kind::{Kind, Value};
 pub use laws::{
-    empty_is_valid, full_leaves_rest, lines_read_back, may_is_bounded, memory_leaves_all,
-    pages_have_one_bucket, pause_bounds_meet, placement_is_free, refused_leaves_all,
-    replies_are_of_one_thread, report_reads_back, runs_are_replayed, scripts_are_in_ranges,
-    step_keeps_valid, sweeps_finalise_dead, texts_are_judged,
+    actions_leave_nodes, empty_is_valid, full_leaves_rest, lines_read_back, may_is_bounded,
+    memory_leaves_all, pages_have_one_bucket, pause_bounds_meet, placement_is_free,
+    refused_leaves_all, replies_are_of_one_thread, report_reads_back, runs_are_replayed,
+    scripts_are_in_ranges, step_keeps_valid, sweeps_finalise_dead, texts_are_judged,
 };
 pub use laws_of_lives::lives_end_once;
 pub use laws_of_marking::{kept_is_accounted_for, precise_collection_is_exact};
