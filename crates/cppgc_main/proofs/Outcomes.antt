@@ -24,18 +24,6 @@ bytes_of_script shape bytes script w z kept (S.Script line reason) is answer = a
 bytes_of_script shape bytes script w z kept S.ReadFault is answer = absurd answer
 bytes_of_script shape bytes script w z kept S.Usage is answer = absurd answer
 
--- the answer where not all of the bytes is built
-pub bytes_of_fault : (shape : Shape) (bytes : List ℕ) (fault : ScriptFault) (w z : Option (List ℕ)) (kept : Option View) → IsUnbuiltFault 0 bytes fault
-    → kept ≡ None → Grew w z [] → RunsBytes shape bytes w z kept (status_of_fault fault)
-bytes_of_fault shape bytes fault w z kept unbuilt empty silent = elim unbuilt [
-  | inl wanting ↦ subst Answers (sym wanting) (empty, silent)
-  | inr (inl long) ↦ subst Answers (sym long.2) (empty, silent, long.0)
-  | inr (inr line) ↦ subst Answers (sym line.1) (empty, silent, refl, line.0, line.2)
-] where
-  Answers : ℕ → Type 0
-  Answers reason =
-      RunsBytes shape bytes w z kept (if reason == 0 then S.NoMemory else if reason == 8 then S.TooLong else S.Script fault.line reason)
-
 -- the bytes with which a run was answered were read
 pub record Answers (shape : Shape) (lo ln w z : Option (List ℕ)) (kept : Option View) (status : Status) : Type 0 where
   pub bytes : List ℕ

@@ -25,7 +25,7 @@ use Rattle.heap_engine.proofs.FieldKinds.{some_words}
 use Rattle.heap_engine.proofs.NodePlaces.{node_body, body_node, live_is_there}
 use Rattle.heap_engine.proofs.NodeLives.{live_if_there}
 use Rattle.heap_engine.proofs.HeldNodes.{none_dead}
-use Rattle.heap_engine.proofs.StrongFields.{AreKnown, known_nodes}
+use Rattle.heap_engine.proofs.TypedNodes.{AreKnown, known_nodes}
 
 -- a reference to a live node is one to its body
 live_reference : (nodes : List Node) (v : SeatView) (bound : ℕ) (x : Value) → v.bodies ≡ bodies_of nodes → NamesLive nodes x → IsReferenceBelow bound x

@@ -24,7 +24,8 @@ use Rattle.heap_engine.specs.Nodes.{place_of, body_of, bodies_of}
 use Rattle.heap_engine.specs.Fields.{field_of, IsFieldOf, IsFieldAt}
 use Rattle.heap_engine.specs.Objects.{AreOfValid, IsLiveAt}
 use Rattle.heap_engine.proofs.NodePlaces.{live_is_there, node_body}
-use Rattle.heap_engine.proofs.StrongFields.{AreKnown, known_nodes}
+use Rattle.type_table.specs.FieldLaw.{FieldsStandApart}
+use Rattle.heap_engine.proofs.TypedNodes.{AreKnown, known_nodes}
 use Rattle.heap_engine.proofs.FieldNodes.{live_below}
 use Rattle.heap_engine.proofs.FieldKinds.{some_words, word_below}
 
@@ -95,12 +96,6 @@ field_answered setup nodes n place f size ty extra allowed (Some t) answer is ex
 
 -- ---- the word of a field
 
--- each word of a field has the field's kind, as the table of types tells it
-abbrev pub AreKindsOfFields : List ObjectType → Type 0
-AreKindsOfFields types =
-    (ty field word : ℕ) → table.IsWordOf (table.kinds_of types ty) field word
-    → get_or (kinds_of_words (table.kinds_of types ty)) (word - 2) Plain ≡ table.kind_of (table.kinds_of types ty) field
-
 pub live_typed : (setup : Setup) (nodes : List Node) (n : ℕ) → AreOfValid setup nodes → IsLive nodes n → IsTyped setup (length nodes) (node_at nodes n)
 live_typed setup nodes n valid live =
     All-get_or (IsTyped setup (length nodes)) nodes n no_node (live_below nodes n live) (known_nodes setup nodes valid).typed
@@ -113,7 +108,7 @@ word_low setup nodes n f field valid is =
     omega (arith, word_below o.kinds o.extra f is.there, (live_typed setup nodes n valid is.live).count)
 
 -- the holder has the field's word, and it is of the field's kind
-pub has_word : (setup : Setup) (nodes : List Node) (v : SeatView) (n f : ℕ) (field : Field) (is_so : Kind → Bool) → AreKindsOfFields setup.types → AreOfValid setup nodes
+pub has_word : (setup : Setup) (nodes : List Node) (v : SeatView) (n f : ℕ) (field : Field) (is_so : Kind → Bool) → FieldsStandApart → AreOfValid setup nodes
     → v.bodies ≡ bodies_of nodes → v.types ≡ setup.types → IsFieldOf nodes n f field → is_so field.kind ≡ true → HasWord is_so v field.holder field.word
 has_word setup nodes v n f field is_so law valid held known is so =
     let node : Node = node_at nodes n in
@@ -126,7 +121,7 @@ has_word setup nodes v n f field is_so law valid held known is so =
     }) in
     let b : Body = body_of (place_of nodes) n node in
     let kind : kind_in v.types b (word - 2) ≡ kind_of_field node.object f =
-    ap (λ types. kind_in types b (word - 2)) known ∙ law node.object.ty f word in_table ∙ ap (λ (ks : List Kind). get_or ks f Plain) (sym typed.kinds_are) in
+    ap (λ types. kind_in types b (word - 2)) known ∙ law.kind kinds f word in_table ∙ ap (λ (ks : List Kind). get_or ks f Plain) (sym typed.kinds_are) in
     let at : HasWord is_so v (place_of nodes n) word = record {
       body = b;
       there = node_body nodes v n held (live_is_there nodes n is.live);

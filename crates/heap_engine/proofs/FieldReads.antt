@@ -22,7 +22,7 @@ use Rattle.heap_engine.specs.Nodes.{place_of, word_of, body_of, bodies_of}
 use Rattle.heap_engine.specs.Fields.{allows, IsFieldOf, value_in, IsLiveReference, Suits, TakesValue, TakesWord}
 use Rattle.heap_engine.specs.Objects.{AreOfValid, IsReferenceTo, target_in}
 use Rattle.heap_engine.proofs.NodePlaces.{live_is_there, node_body}
-use Rattle.heap_engine.proofs.StrongFields.{known_nodes}
+use Rattle.heap_engine.proofs.TypedNodes.{known_nodes}
 use Rattle.heap_engine.proofs.FieldKinds.{IsOfKind, value_of_kind}
 use Rattle.heap_engine.proofs.FieldNodes.{live_below}
 use Rattle.heap_engine.proofs.FieldPlaces.{live_typed, word_low}

@@ -22,7 +22,7 @@ use Rattle.heap_engine.specs.Nodes.{place_of, word_of, body_of, bodies_of, IsThe
 use Rattle.heap_engine.specs.View.{kept_of}
 use Rattle.heap_engine.specs.Objects.{bury}
 use Rattle.heap_engine.specs.Parts.{HasMarks}
-use Rattle.heap_engine.proofs.StrongFields.{AreKnown, NamesBelow, new_words}
+use Rattle.heap_engine.proofs.TypedNodes.{AreKnown, NamesBelow, new_words}
 use Rattle.heap_engine.proofs.NodeBodies.{bodies-push}
 use Rattle.heap_engine.proofs.NodeChanges.{AgreeOn, AgreeIn, bodies-places, bodies-same, bodies-condemn, bodies-finalise}
 use Rattle.heap_engine.proofs.NodePlaces.{there_below, node_body}

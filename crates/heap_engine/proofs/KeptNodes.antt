@@ -19,7 +19,7 @@ use Rattle.heap_engine.specs.Judgement.{IsJudgement, nodes_after, weak_after}
 use Rattle.heap_engine.specs.View.{kept_of, places_of}
 use Rattle.heap_engine.proofs.Lists.{Contains-cons_cases, Contains-cons, Contains-head}
 use Rattle.heap_engine.proofs.NodePlaces.{live_is_there, live_is_live, is_live_life, there_below, node_body, same_node, object-at}
-use Rattle.heap_engine.proofs.StrongFields.{NamesBelow, below_from}
+use Rattle.heap_engine.proofs.TypedNodes.{NamesBelow, below_from}
 use Rattle.heap_engine.proofs.BodyGraph.{IsLed, is_led, led_leads, led_named, led_wider, nowhere, renamed_object, led_renamed, renamed_led, there_is}
 use Rattle.heap_engine.proofs.NodeGraph.{node_led, led_node}
 

@@ -7,7 +7,7 @@ pub mod SweepNumbers
 pub mod SweepSteps
 pub mod FieldKinds
 pub mod BodyGraph
-pub mod StrongFields
+pub mod TypedNodes
 pub mod NodeGraph
 pub mod NodeBodies
 pub mod NodeChanges

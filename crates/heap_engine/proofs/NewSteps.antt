@@ -21,7 +21,7 @@ use Rattle.heap_engine.specs.View.{places_of}
 use Rattle.heap_engine.specs.Objects.{AreBuilt, with_made}
 use Rattle.heap_engine.specs.Changes.{put_in, filled}
 use Rattle.heap_engine.specs.Parts.{ObjectsView, HandlesView, CycleView, setup_of_objects, state_of, counted, HasMarks, AreTied}
-use Rattle.heap_engine.proofs.StrongFields.{built_unregistered}
+use Rattle.heap_engine.proofs.TypedNodes.{built_unregistered}
 use Rattle.heap_engine.proofs.HeldNodes.{place-old, node-new}
 use Rattle.heap_engine.proofs.NodePlaces.{there_below, live_is_there}
 

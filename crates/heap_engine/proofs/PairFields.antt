@@ -28,7 +28,7 @@ use Rattle.heap_engine.specs.Nodes.{place_of, word_of, body_of, bodies_of}
 use Rattle.heap_engine.specs.Fields.{IsFieldOf, part_word, part_in, IsLiveReference, ArePartsOf}
 use Rattle.heap_engine.specs.Objects.{AreOfValid, IsReferenceTo, slot_part}
 use Rattle.heap_engine.proofs.NodePlaces.{live_is_there, node_body}
-use Rattle.heap_engine.proofs.StrongFields.{known_nodes}
+use Rattle.heap_engine.proofs.TypedNodes.{known_nodes}
 use Rattle.heap_engine.proofs.FieldKinds.{first_word, IsOfKind, value_of_kind}
 use Rattle.heap_engine.proofs.FieldPlaces.{live_typed}
 use Rattle.heap_engine.proofs.FieldReads.{named}

@@ -29,7 +29,7 @@ use Rattle.heap_engine.proofs.Lists.{Contains-map_some}
 use Rattle.heap_engine.proofs.NodeChanges.{bodies-same}
 use Rattle.heap_engine.proofs.NodePlaces.{node_body, live_is_there}
 use Rattle.heap_engine.proofs.NodeLives.{life-condemn, object-condemn, place-condemn, length-condemn, there-condemn, live_if_there, dead_judged}
-use Rattle.heap_engine.proofs.StrongFields.{AreKnown, known_nodes}
+use Rattle.heap_engine.proofs.TypedNodes.{AreKnown, known_nodes}
 use Rattle.heap_engine.proofs.HeldNodes.{none_dead, held_judged}
 use Rattle.heap_engine.proofs.KeptNodes.{has-kept, slots_live}
 use Rattle.heap_engine.proofs.WeakNodes.{life-after, place-after}

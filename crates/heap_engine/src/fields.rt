@@ -12,9 +12,10 @@ ghost use Rattle.heap_engine.specs.Nodes.{place_of, word_of};
 ghost use Rattle.heap_engine.specs.Fields.{allows, IsFieldAt, Suits, StepWrite};
 ghost use Rattle.heap_engine.specs.Parts.{state_of, counted, IsReady, IsFrame};
 
+use crate::content::Content;
 use crate::cycle::Cycle;
 use crate::field::{Field, Wanted};
-use crate::handles::{Content, Handles};
+use crate::handles::Handles;
 use crate::objects::Objects;
 use gc_graph::{Line, Refusal};
 

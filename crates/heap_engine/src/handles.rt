@@ -3,7 +3,6 @@
 
 ghost use Rattle.std.specs.Prelude.{◌≡◌, ◌<◌, All, None, IfOk, length, replicate};
 ghost use Rattle.std.specs.Prelude.{slice_index_or, slice_set, option_map};
-ghost use Rattle.gc_graph.specs.declared.kind.Value.TheVariants.{Null, Word};
 ghost use Rattle.gc_graph.specs.Fields.{content_of};
 ghost use Rattle.gc_graph.specs.ObjectSteps.{part_of};
 ghost use Rattle.page_words.specs.Bodies.{IsPlace};
@@ -13,6 +12,7 @@ ghost use Rattle.persistent_slots.specs.Clearing.{taken};
 ghost use Rattle.heap_engine.specs.Objects.{slot_word, slot_part};
 ghost use Rattle.heap_engine.specs.Changes.{put_in, copied_in, weakened_in, cleared_in};
 
+use crate::content::Content;
 use crate::nodes::NodeLists;
 use crate::slot_lists::{self, SlotLists};
 use gc_graph::NoMemory;
@@ -173,64 +173,6 @@ impl Handles {
             value: slot_lists::part_of(&self.strong_nodes, q, other),
         }
     }
-}
-
-/// What goes into a field word, and for contracts the value that it stands for.
-#[derive(Drop)]
-pub struct Content {
-    pub word: u64,
-    pub value: GhostValue<Values>,
-}
-
-impl Content {
-    /// Null.
-    pub fn null() -> Content
-        ensures word { result.word ≡ 0 }
-        ensures value { result.value.value ≡ Null }
-    {
-        Content {
-            word: 0,
-            value: null_value(),
-        }
-    }
-
-    /// A number.
-    pub fn number(n: u64) -> Content
-        ensures word { result.word ≡ n }
-        ensures value { result.value.value ≡ Word n }
-    {
-        Content {
-            word: n,
-            value: number_value(n),
-        }
-    }
-}
-
-/// A value of a field. It is never made.
-#[derive(Drop)]
-pub struct Values {
-    none: u8,
-}
-
-impl Model for Values {
-    ghost use Rattle.gc_graph.specs.declared.kind.Value.{Value as Held};
-    ghost use Rattle.gc_graph.specs.declared.kind.Value.TheVariants.{Null};
-
-    ghost Value = { Held };
-
-    ghost view = { λ value. Null };
-}
-
-fn null_value() -> GhostValue<Values>
-    ensures { result.value ≡ Null }
-{
-    GhostValue::chosen(&0u8)
-}
-
-fn number_value(n: u64) -> GhostValue<Values>
-    ensures { result.value ≡ Word n }
-{
-    GhostValue::chosen(&n)
 }
 
 /// The reference word of what a slot holds, where another slot holds something too.

@@ -26,6 +26,7 @@
 #![tactic(auto)]
 
 mod collecting;
+mod content;
 mod creating;
 mod cycle;
 mod entries;
@@ -36,6 +37,7 @@ mod handles;
 mod heap;
 mod marking;
 mod nodes;
+mod object_fields;
 mod objects;
 mod outcome;
 mod pair_fields;

@@ -7,7 +7,8 @@ ghost use Rattle.heap_engine.specs.View.{kept_of};
 ghost use Rattle.heap_engine.specs.Judgement.{nodes_after};
 ghost use Rattle.heap_engine.specs.Objects.{with_made, written_in, paired_in, bury};
 
-use crate::handles::{Content, Handles};
+use crate::content::Content;
+use crate::handles::Handles;
 use crate::pair_fields::PairContent;
 use ghost_values::GhostValue;
 use page_space::Space;

@@ -10,8 +10,9 @@ ghost use Rattle.heap_engine.specs.Objects.{AreOfValid, target_in, paired_in};
 ghost use Rattle.heap_engine.specs.Nodes.{word_of, place_of};
 ghost use Rattle.heap_engine.specs.Parts.{setup_of_objects, HasMarks};
 
+use crate::content::Content;
 use crate::field::{Field, Part};
-use crate::handles::{Content, Handles};
+use crate::handles::Handles;
 use crate::nodes;
 use crate::objects::Objects;
 use member_fields::{read_pair, set_pair};

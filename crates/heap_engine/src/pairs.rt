@@ -7,10 +7,11 @@ ghost use Rattle.heap_engine.specs.Nodes.{place_of, word_of};
 ghost use Rattle.heap_engine.specs.Fields.{ArePartsOf, StepPart, StepWholePair};
 ghost use Rattle.heap_engine.specs.Parts.{state_of, counted, IsReady, IsFrame};
 
+use crate::content::Content;
 use crate::cycle::Cycle;
 use crate::field::{Part, Wanted};
 use crate::fields::{field_of, line_of};
-use crate::handles::{Content, Handles};
+use crate::handles::Handles;
 use crate::objects::Objects;
 use crate::pair_fields::PairContent;
 use gc_graph::Line;

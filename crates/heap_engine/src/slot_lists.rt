@@ -8,7 +8,7 @@ ghost use Rattle.page_words.specs.Seat.{holds};
 ghost use Rattle.heap_engine.specs.View.{kept_of};
 ghost use Rattle.heap_engine.specs.Judgement.{weak_after};
 
-use crate::handles::Values;
+use crate::content::Values;
 use crate::nodes::NodeLists;
 use ghost_values::GhostValue;
 use page_words::MutatorSeat;

@@ -4,7 +4,7 @@
 //! an object's words. It knows nothing of any object.
 //!
 //! The parts: `TypeDecl` (the fields and the prefinalizers that a type line declares), `TypeTable`
-//! (all of them, with their layouts worked out, and a law, `words_have_kinds_of_fields`),
+//! (all of them, with their layouts worked out, and a law, `fields_stand_apart`),
 //! `TypeFault` (why there is no such table).
 //!
 //! | offset | word of an object |

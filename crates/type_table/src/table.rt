@@ -115,14 +115,6 @@ impl TypeTable {
         self.layout(ty).kind(word as usize - FIRST_FIELD as usize)
     }
 
-    /// Each word of a field has the field's kind; an extra word is plain. Whoever calls this has the
-    /// law. It reads nothing.
-    pub fn words_have_kinds_of_fields(&self)
-        ensures { (ty field word : ℕ) → spec.IsWordOf (spec.kinds_of self.now ty) field word →
-            slice_index_or (layouts.kinds_of_words (spec.kinds_of self.now ty)) (word - first_field)
-            Plain ≡ spec.kind_of (spec.kinds_of self.now ty) field }
-    {}
-
     /// The offsets of the strong fields, in their order.
     pub fn strong_words(&self, ty: u32) -> &[u32]
         requires { ty < length self.now }

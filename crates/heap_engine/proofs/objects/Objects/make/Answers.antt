@@ -9,7 +9,7 @@ use Rattle.page_space.specs.Space.{extents_of_bodies}
 use Rattle.heap_engine.specs.Nodes.{place_of, IsHeld}
 use Rattle.heap_engine.specs.Objects.{with_made}
 use Rattle.heap_engine.proofs.NodeBodies.{extents-bodies}
-use Rattle.heap_engine.proofs.StrongFields.{known_nodes}
+use Rattle.heap_engine.proofs.TypedNodes.{known_nodes}
 use Rattle.heap_engine.proofs.HeldNodes.{held_made}
 use Rattle.heap_engine.proofs.objects.Objects.make.Goals as goal
 

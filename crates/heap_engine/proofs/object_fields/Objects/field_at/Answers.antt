@@ -2,7 +2,7 @@ use Rattle.std.proofs.Common.{◌-◌, List, [], arith, refl}
 use Rattle.gc_graph.specs.State.{Setup, Node}
 use Rattle.heap_engine.specs.Fields.{allows}
 use Rattle.heap_engine.proofs.FieldPlaces.{IsHead, live_place, live_head, extra_is, field_answered}
-use Rattle.heap_engine.proofs.objects.Objects.field_at.Goals as goal
+use Rattle.heap_engine.proofs.object_fields.Objects.field_at.Goals as goal
 
 pub header_at-header-requires-clause-start : goal.header_at-header-requires-clause-start
 header_at-header-requires-clause-start c =

@@ -15,13 +15,13 @@ use Rattle.heap_engine.proofs.FieldNodes.{with_field, length-field}
 use Rattle.heap_engine.proofs.FieldPlaces.{has_word, word_low}
 use Rattle.heap_engine.proofs.FieldReads.{kind_itself, takes_word}
 use Rattle.heap_engine.proofs.HeldNodes.{marks_stored, held_stored}
-use Rattle.heap_engine.proofs.objects.Objects.store.Goals as goal
+use Rattle.heap_engine.proofs.object_fields.Objects.store.Goals as goal
 
 pub write_field-requires-clause-field : goal.write_field-requires-clause-field
 write_field-requires-clause-field c =
     let setup : Setup = record { shape = c.self.inside.space.shape; markers = 0; types = c.self.inside.types; callbacks = [] } in
     let is = rw (← c.self.view_is) at c.requires.field in
-    has_word setup c.self.inside.nodes.value c.self.inside.seat is.0 c.args.f c.args.field (is_kind c.args.field.kind) c.words_have_kinds_of_fields.ensures
+    has_word setup c.self.inside.nodes.value c.self.inside.seat is.0 c.args.f c.args.field (is_kind c.args.field.kind) c.fields_stand_apart.ensures
     (rw (← c.self.view_is) at c.requires.valid) c.self.invariant.held.bodies c.self.invariant.known is.2 (kind_itself c.args.field.kind)
 
 pub write_field-requires-clause-word : goal.write_field-requires-clause-word
