@@ -1,0 +1,4 @@
+pub mod FieldWords
+pub mod BodiesChanged
+pub mod BodiesKept
+pub mod WordsShown

@@ -1,0 +1,67 @@
+use Rattle.std.proofs.Common.{◌≡◌, ℕ, ◌+◌, ◌<◌, ◌≤◌, List, length, take, get_or, sym, ap, ◌∙◌, subst, inl, inr, arith}
+use Rattle.std.proofs.lemmas.Bool.{cases_lt}
+use Rattle.std.proofs.lemmas.List.{length-set}
+use Rattle.gc_graph.specs.declared.kind.Kind.{Kind}
+use Rattle.gc_graph.specs.Fields.{field_words}
+use Rattle.type_table.specs.Types.{kinds_of, kind_of, IsWordOf}
+use Rattle.type_table.specs.Layouts.{kinds_of_words}
+use Rattle.page_words.specs.Seat.{SeatView, IsWordAt}
+use Rattle.prefinalizer_effects.specs.Shown.{shown_of_kinds}
+use Rattle.prefinalizer_effects.proofs.FieldWords.{type_known, kinds_told, size_told, long_fields, fields_inside}
+use Rattle.prefinalizer_effects.proofs.WordsShown.{words_length, shown_length, word_shown, one_more_shown, first_words}
+use Rattle.prefinalizer_effects.proofs.shown.shown_words.Goals as goal
+
+pub size_of-requires-clause-ty : goal.size_of-requires-clause-ty
+size_of-requires-clause-ty c =
+    let at = c.requires.place in
+    type_known c.args.seat.now c.args.types.now at.0 c.header_at-ty.result c.requires.types (c.header_at-ty.ensures.header at.0 at.1 at.2) (c.requires.typed at.0 at.1)
+
+pub load-w-requires-clause-address : goal.load-w-requires-clause-address
+load-w-requires-clause-address c =
+    let v : SeatView = c.args.seat.now in
+    let at = c.requires.place in
+    let size = size_told v c.args.types.now at.0 c.header_at-ty.result c.size_of.result c.requires.types (c.header_at-ty.ensures.header at.0 at.1 at.2) c.size_of.ensures.size in
+    let long = long_fields v at.0 c.bodies_lie_apart.ensures at.1 (c.requires.typed at.0 at.1) in
+    let count : c.loop-i.seat.count ≡ v.count = ap (λ (x : SeatView). x.count) c.loop-i.invariant.view in
+    let low : c.loop-i.i < length at.0.fields = omega (arith, c.loop-i-test.true, c.min-count.ensures, size, long) in
+    let inside : c.args.place + (2 + c.loop-i.i) ≤ c.loop-i.seat.count = omega (arith, low, count, at.2, fields_inside v at.0 c.bodies_lie_apart.ensures at.1) in
+    omega (arith, inside)
+
+pub loop-i-preserved : goal.loop-i-preserved
+loop-i-preserved c = record {
+  view = c.load-w.ensures.view ∙ c.loop-i.invariant.view;
+  long = length-set c.loop-i.into c.loop-i.i c.shown.result ∙ c.loop-i.invariant.long;
+  front = λ b there at.
+      let v : SeatView = c.args.seat.now in
+      let i : ℕ = c.loop-i.i in
+      let kinds : List Kind = kinds_of v.types b.ty in
+      let is_head = c.header_at-ty.ensures.header b there at in
+      let same = kinds_told v c.args.types.now b c.header_at-ty.result c.requires.types is_head in
+      let size = size_told v c.args.types.now b c.header_at-ty.result c.size_of.result c.requires.types is_head c.size_of.ensures.size in
+      let long = long_fields v b c.bodies_lie_apart.ensures there (c.requires.typed b there) in
+      let low : i < field_words kinds = omega (arith, c.loop-i-test.true, c.min-count.ensures, size) in
+      let word : IsWordAt v (c.args.place + (2 + i)) c.load-w.result =
+      subst (λ (x : SeatView). IsWordAt x (c.args.place + (2 + i)) c.load-w.result) c.loop-i.invariant.view c.load-w.ensures.word in
+      let is : c.load-w.result ≡ get_or b.fields i 0 = word.field b i there (omega (arith, low, long)) (omega (arith, at)) in
+      let tells : (field : ℕ) → IsWordOf kinds field (2 + i) → c.kind_at.result ≡ kind_of kinds field =
+      subst (λ (ks : List Kind). (field : ℕ) → IsWordOf ks field (2 + i) → c.kind_at.result ≡ kind_of ks field) same c.kind_at.ensures in
+      one_more_shown c.loop-i.into (shown_of_kinds (kinds_of_words kinds) b.fields) i c.shown.result (omega (arith, c.loop-i.invariant.long, c.loop-i-test.true, c.min-count.ensures))
+      (omega (arith, low, shown_length (kinds_of_words kinds) b.fields (omega (arith, words_length kinds, long)), words_length kinds))
+      (word_shown kinds b.fields i c.kind_at.result c.load-w.result c.shown.result c.fields_stand_apart.ensures low long tells is c.shown.ensures)
+      (c.loop-i.invariant.front b there at);
+}
+
+pub returns-clause-words : goal.returns-clause-words
+returns-clause-words c b there at =
+    let v : SeatView = c.args.seat.now in
+    let kinds : List Kind = kinds_of v.types b.ty in
+    let xs : List ℕ = shown_of_kinds (kinds_of_words kinds) b.fields in
+    let size = size_told v c.args.types.now b c.header_at-ty.result c.size_of.result c.requires.types (c.header_at-ty.ensures.header b there at) c.size_of.ensures.size in
+    let long = long_fields v b c.bodies_lie_apart.ensures there (c.requires.typed b there) in
+    let count : length xs ≡ field_words kinds = omega (arith, shown_length (kinds_of_words kinds) b.fields (omega (arith, words_length kinds, long)), words_length kinds) in
+    let done : c.loop-i.i ≡ c.min-count.result = omega (arith, c.loop-i-test.false, c.loop-i.auto.i-end) in
+    ap (λ n. take n c.loop-i.into) (sym done) ∙ c.loop-i.invariant.front b there at ∙ ap (λ n. take n xs) done
+    ∙ first_words xs c.min-count.result (elim (cases_lt 64 (field_words kinds)) [
+      | inl more ↦ inl (omega (arith, more, size, c.min-count.ensures))
+      | inr few ↦ inr (omega (arith, few, size, c.min-count.ensures, count), omega (arith, few, count))
+    ])

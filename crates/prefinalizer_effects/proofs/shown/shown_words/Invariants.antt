@@ -1,0 +1,15 @@
+use Rattle.std.proofs.Common.{◌≡◌, length, take}
+use Rattle.std.specs.List.{Contains}
+use Rattle.type_table.specs.Types.{kinds_of}
+use Rattle.type_table.specs.Layouts.{kinds_of_words}
+use Rattle.page_words.specs.Bodies.{Body}
+use Rattle.prefinalizer_effects.specs.Shown.{shown_of_kinds}
+use Rattle.prefinalizer_effects.proofs.shown.shown_words.Given as goal
+
+abbrev pub invariant-loop-i : goal.invariant-loop-i
+invariant-loop-i l = record {
+  view : l.seat ≡ l.fn.seat;
+  long : length l.into ≡ 64;
+  front : (b : Body) → Contains l.fn.seat.bodies b → b.place ≡ l.place
+      → take l.i l.into ≡ take l.i (shown_of_kinds (kinds_of_words (kinds_of l.fn.seat.types b.ty)) b.fields);
+}

@@ -1,0 +1,91 @@
+// What the action of a prefinalizer does (`include/cppgc/prefinalizer.h`). Marking is over then, so
+// that no barrier is needed, and to clear adds no reference.
+
+ghost use Rattle.std.specs.Prelude.{◌≡◌, Contains};
+ghost use Rattle.page_words.specs.Bodies.{Body, IsPlace};
+ghost use Rattle.page_space.specs.Space.{IsSeatOf};
+ghost use Rattle.prefinalizer_effects.specs.Acting.{AreTyped, AreLinked, acted};
+ghost use Rattle.prefinalizer_effects.specs.Acting.{changed_at, cleared_at, added_at};
+
+use crate::fields::{field_in, linked_from};
+use gc_graph::{Action, Kind};
+use member_fields::{get_word, put_word, set, set_pair, set_weak};
+use page_space::Space;
+use page_words::MutatorSeat;
+use type_table::{TypeTable, fields_stand_apart};
+
+/// Does what the action says for the dying object at a place.
+pub fn apply(space: &Space, types: &TypeTable, seat: &mut MutatorSeat, place: u32, action: Action)
+    requires heap { IsSeatOf space.now seat.old }
+    requires types { types.now ≡ seat.old.types }
+    requires typed { AreTyped seat.old }
+    requires links { AreLinked seat.old }
+    requires place { IsPlace seat.old.bodies place }
+    ensures acted { (b : Body) → Contains seat.old.bodies b → b.place ≡ place
+        → seat.new ≡ acted seat.old b action }
+    ensures typed { AreTyped seat.new }
+    ensures links { AreLinked seat.new }
+{
+    fields_stand_apart();
+    match action {
+        Action::Nothing => {}
+        Action::Clear { link, field } => {
+            if let Some(named) = linked_from(space, types, seat, place, link) {
+                clear(space, types, seat, named, field);
+            }
+        }
+        Action::Add {
+            link,
+            field,
+            amount,
+        } => {
+            if let Some(named) = linked_from(space, types, seat, place, link) {
+                add(space, types, seat, named, field, amount);
+            }
+        }
+    }
+}
+
+/// Sets a field to null, where it is there and holds references.
+fn clear(space: &Space, types: &TypeTable, seat: &mut MutatorSeat, place: u32, field: u32)
+    requires heap { IsSeatOf space.now seat.old }
+    requires types { types.now ≡ seat.old.types }
+    requires typed { AreTyped seat.old }
+    requires place { IsPlace seat.old.bodies place }
+    ensures { seat.new ≡ changed_at seat.old place (cleared_at seat.old.types field) }
+{
+    match field_in(space, types, seat, place, field) {
+        Some((Kind::Strong, word)) => set(space, seat, place, word, 0),
+        Some((Kind::Weak, word)) => set_weak(space, seat, place, word, 0),
+        Some((Kind::Pair, word)) => set_pair(space, seat, place, word, 0, 0),
+        Some((Kind::Plain, _)) => {}
+        None => {}
+    }
+}
+
+/// Adds to a field, where it is there and plain, modulo 2^64.
+fn add(
+    space: &Space,
+    types: &TypeTable,
+    seat: &mut MutatorSeat,
+    place: u32,
+    field: u32,
+    amount: u64,
+)
+    requires heap { IsSeatOf space.now seat.old }
+    requires types { types.now ≡ seat.old.types }
+    requires typed { AreTyped seat.old }
+    requires place { IsPlace seat.old.bodies place }
+    ensures { seat.new ≡ changed_at seat.old place (added_at seat.old.types field amount) }
+{
+    match field_in(space, types, seat, place, field) {
+        Some((Kind::Plain, word)) => {
+            let before = get_word(space, seat, place, word);
+            put_word(space, seat, place, word, before.wrapping_add(amount));
+        }
+        Some((Kind::Strong, _)) => {}
+        Some((Kind::Weak, _)) => {}
+        Some((Kind::Pair, _)) => {}
+        None => {}
+    }
+}

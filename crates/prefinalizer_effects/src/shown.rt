@@ -1,0 +1,53 @@
+// The words of a dying object as its prefinalizers are shown them (`include/cppgc/prefinalizer.h`).
+
+ghost use Rattle.std.specs.Prelude.{◌≡◌, ◌≤◌, Contains, take};
+ghost use Rattle.page_words.specs.Bodies.{Body, IsPlace};
+ghost use Rattle.page_space.specs.Space.{IsSeatOf};
+ghost use Rattle.prefinalizer_effects.specs.Shown as spec;
+ghost use Rattle.prefinalizer_effects.specs.Acting.{AreTyped};
+
+use gc_graph::Kind;
+use object_headers::FIRST_FIELD;
+use page_space::Space;
+use page_words::MutatorSeat;
+use type_table::{TypeTable, fields_stand_apart};
+
+/// Writes the shown words of the object at a place to the front of `into`, and answers how many
+/// these are: one for each word of the declared fields, at most 64.
+pub fn shown_words(
+    space: &Space,
+    types: &TypeTable,
+    seat: &mut MutatorSeat,
+    place: u32,
+    into: &mut [u64; 64],
+) -> u32
+    requires heap { IsSeatOf space.now seat.old }
+    requires types { types.now ≡ seat.old.types }
+    requires typed { AreTyped seat.old }
+    requires place { IsPlace seat.old.bodies place }
+    ensures few { result ≤ 64 }
+    ensures words { (b : Body) → Contains seat.old.bodies b → b.place ≡ place
+        → take result into.new ≡ spec.shown_words seat.old.types b }
+    ensures view { seat.new ≡ seat.old }
+{
+    fields_stand_apart();
+    seat.bodies_lie_apart();
+    let ty = space.header_at(seat, place).ty;
+    let count = (types.size_of(ty, 0) - FIRST_FIELD).min(64);
+    for i in 0..count {
+        let word = FIRST_FIELD + i;
+        let w = space.words().load(seat, place + word);
+        into[i as usize] = shown(types.kind_at(ty, word), w);
+    }
+    count
+}
+
+/// How a word of a field of the kind is shown.
+fn shown(kind: Kind, w: u64) -> u64
+    ensures { result ≡ spec.shown kind w }
+{
+    match kind {
+        Kind::Strong | Kind::Weak | Kind::Pair => u64::from(w != 0),
+        Kind::Plain => w,
+    }
+}
