@@ -22,11 +22,14 @@ pub struct Worklist {
 }
 
 impl Model for Worklist {
+    ghost use Rattle.std.specs.Prelude.{◌≡◌, true, []};
     ghost use Rattle.mark_worklist.specs.Lists.{ListState};
 
     ghost Value = { ListState };
 
     ghost view = { λ l. record { items = l.items.items; refused = l.refused; idle = l.idle } };
+
+    ghost invariant = { λ l. l.idle ≡ true → l.items.items ≡ [] };
 }
 
 impl Worklist {
@@ -71,8 +74,18 @@ impl Worklist {
         ensures refused { self.new.refused ≡ self.old.refused }
     {
         let last = self.items.pop();
-        self.idle = last.is_none();
+        // A list with an item isn't idle, so that only the end of a list is written down.
+        if last.is_none() {
+            self.idle = true;
+        }
         last
+    }
+
+    /// How many addresses the list has.
+    pub fn len(&self) -> usize
+        ensures { result ≡ length self.now.items }
+    {
+        self.items.len()
     }
 
     /// How many pushes were refused. It stays at its last value once it is there.

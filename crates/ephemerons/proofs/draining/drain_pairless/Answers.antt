@@ -1,7 +1,7 @@
 use Rattle.std.proofs.Common.{None}
 use Rattle.ephemerons.specs.Fixpoint.{stage}
 use Rattle.ephemerons.proofs.Stages.{Works-popped, Works-then}
-use Rattle.ephemerons.proofs.closing.drain_pairless.Goals as goal
+use Rattle.ephemerons.proofs.draining.drain_pairless.Goals as goal
 
 pub loop-place-preserved : goal.loop-place-preserved
 loop-place-preserved c = record {

@@ -1,7 +1,7 @@
 use Rattle.std.proofs.Common.{None}
 use Rattle.ephemerons.specs.Fixpoint.{stage}
 use Rattle.ephemerons.proofs.Stages.{Works-popped, Works-then}
-use Rattle.ephemerons.proofs.closing.trace_next.Goals as goal
+use Rattle.ephemerons.proofs.draining.trace_next.Goals as goal
 
 pub returns-in-Some-clause-works : goal.returns-in-Some-clause-works
 returns-in-Some-clause-works c =
