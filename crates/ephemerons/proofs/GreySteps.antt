@@ -16,6 +16,7 @@ use Rattle.ephemerons.proofs.Fields.{to_range}
 use Rattle.ephemerons.proofs.Weights.{one_fewer, one_more}
 use Rattle.ephemerons.proofs.MarkSteps.{place_below}
 use Rattle.ephemerons.proofs.GroupSteps.{GroupsGrow, first_grows}
+use Rattle.ephemerons.proofs.Refused.{told_same}
 use Rattle.ephemerons.proofs.Stages.{MarksOn-same}
 
 abbrev pub with_trace : SeatView → ℕ → SeatView
@@ -149,6 +150,7 @@ module _ (types : List ObjectType) (v w : SeatView) (m n : Marking) (groups : Li
         within = r.within;
         on = r.marks.on;
         unrefused = λ fine. record { pushes = r.marks.overflow fine.pushes; notes = grow.overflow fine.notes };
+        told = r.marks.told;
         many = grow.many;
         noted = grow.kept;
         accounted = grey_accounted r ground;
@@ -173,6 +175,7 @@ Works-black types s a black = record {
   within = λ test closed held p marked. held p marked;
   on = refl;
   unrefused = λ h. h;
+  told = told_same s.refusals;
   many = refl;
   noted = λ note h. h;
   accounted = λ fine h. record {

@@ -2,6 +2,7 @@
 
 ghost use Rattle.std.specs.Prelude.{◌≡◌, ◌⊎◌, ℕ, ◌+◌, ◌<◌, true, false, [], Contains, None};
 ghost use Rattle.std.specs.Prelude.{length};
+ghost use Rattle.mark_worklist.specs.Refusals.{TellsRefused, refusals_of};
 ghost use Rattle.page_words.specs.Bodies.{IsPlace};
 ghost use Rattle.page_space.specs.Space.{IsSeatOf};
 ghost use Rattle.ephemerons.specs.declared.notes.Note.{Note};
@@ -53,6 +54,7 @@ pub fn fixpoint(
     ensures noted { (note : Note) → IsNotedIn groups.old note → IsNotedIn groups.new note }
     ensures refused { IsUnrefused marking.new.overflow groups.new
         → IsUnrefused marking.old.overflow groups.old }
+    ensures told { TellsRefused (refusals_of marking.old) (refusals_of marking.new) }
 {
     seat.bodies_lie_apart();
     begin_indexes(groups);

@@ -1,8 +1,8 @@
 // A marking list (`src/heap/base/worklist.h`, of which this is the owner's view alone).
 
-ghost use Rattle.std.specs.Prelude.{◌≡◌, [], ◌∷◌, ◌++◌, true, false, length};
+ghost use Rattle.std.specs.Prelude.{◌≡◌, ◌≤◌, [], ◌∷◌, ◌++◌, true, false, length};
 ghost use Rattle.std.specs.Prelude.{IfErr, OnOk, MatchOption, MatchResult};
-ghost use Rattle.mark_worklist.specs.Lists.{no_items, pushed, refused_once};
+ghost use Rattle.mark_worklist.specs.Lists.{no_items, pushed, refused_once, last_count};
 
 use gc_graph::NoMemory;
 use std::alloc::Global;
@@ -57,6 +57,7 @@ impl Worklist {
         ensures done { OnOk result (self.new ≡ pushed self.old a) }
         ensures refused { IfErr result (λ back.
             (back.0 ≡ a) × (self.new ≡ refused_once self.old)) }
+        ensures fits { self.old.refused ≤ last_count }
     {
         if let Err(_) = self.items.push(a) {
             self.refused = self.refused.saturating_add(1);

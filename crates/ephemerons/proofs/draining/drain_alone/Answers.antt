@@ -10,5 +10,5 @@ loop-place-preserved c = record {
       Works-then c.args.types.now None _ _ _ c.loop-place.invariant.works
       (Works-popped c.args.types.now (stage c.loop-place.seat c.loop-place.marking c.loop-place.groups c.loop-place.traced)
       (stage c.trace_grey.new.seat c.trace_grey.new.marking c.trace_grey.new.groups c.trace_grey.new.traced) c.pop.new.self.items c.in-Some.place
-      c.in-Some.ensures.items c.trace_grey.ensures.looks.works);
+      c.pop.new.self.refused c.in-Some.ensures.items c.pop.ensures.refused c.trace_grey.ensures.looks.works);
 }
