@@ -1,5 +1,5 @@
 -- The graph that the bodies of a heap stand for: its nodes are addresses.
-use Rattle.std.specs.Prelude.{◌≡◌, ℕ, zero, suc, ◌+◌, ◌-◌, ◌<◌, ◌≤◌, ◌==◌, true, List, [], ◌∷◌, length, map, slice_index, slice_index_or, if◌then◌else◌, Contains, All, ⊤}
+use Rattle.std.specs.Prelude.{◌≡◌, ℕ, zero, suc, ◌+◌, ◌-◌, ◌<◌, ◌≤◌, ◌==◌, List, [], ◌∷◌, length, map, slice_index, slice_index_or, if◌then◌else◌, Contains, All, ⊤}
 use Rattle.std.specs.List.{range_with_len}
 use Rattle.gc_graph.specs.declared.kind.Kind.{Kind}
 use Rattle.gc_graph.specs.declared.kind.Kind.TheVariants.{Strong, Weak, Pair, Plain}

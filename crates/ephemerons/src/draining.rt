@@ -1,6 +1,6 @@
 // Draining: what is listed is traced, until the list is empty.
 
-ghost use Rattle.std.specs.Prelude.{◌≡◌, ℕ, ◌<◌, true, false, [], None};
+ghost use Rattle.std.specs.Prelude.{◌≡◌, ◌<◌, true, false, [], None};
 ghost use Rattle.page_space.specs.Space.{IsSeatOf};
 ghost use Rattle.ephemerons.specs.BodyGraph.{HaveNoPairs};
 ghost use Rattle.ephemerons.specs.Fixpoint.{IsGround, Works, stage, weight};
@@ -13,8 +13,8 @@ use page_space::Space;
 use page_words::MutatorSeat;
 use type_table::TypeTable;
 
-/// A list is short where it has fewer objects than this share of the notes.
-const SHARE: usize = 8;
+/// A list is short where it has less than one object for so many notes.
+const NOTES_FOR_ONE: usize = 8;
 
 /// Traces what is listed, until the list is empty. Which way it goes is told by the list's length
 /// alone: a short list may be the head of a long chain of pairs, and there each note is settled as
@@ -49,7 +49,7 @@ fn is_short(marking: &Marking, groups: &[Pairs]) -> bool {
     for group in groups {
         notes = notes.saturating_add(group.count());
     }
-    marking.list.len() < notes / SHARE
+    marking.list.len() < notes / NOTES_FOR_ONE
 }
 
 /// Traces what is listed, until the list is empty, and settles the notes under each key.
@@ -147,6 +147,8 @@ pub(crate) fn drain_if_pairless(
 }
 
 /// Traces what is listed, until the list is empty. Nothing waits for a key.
+// The loop of most collections: alone, it has all registers.
+#[inline(never)]
 fn drain_pairless(
     space: &Space,
     types: &TypeTable,

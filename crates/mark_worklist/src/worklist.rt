@@ -75,11 +75,14 @@ impl Worklist {
         ensures refused { self.new.refused ≡ self.old.refused }
     {
         let last = self.items.pop();
-        // A list with an item isn't idle, so that only the end of a list is written down.
-        if last.is_none() {
-            self.idle = true;
+        match last {
+            // A list with an item isn't idle, so that only the end of a list is written down.
+            Some(a) => Some(a),
+            None => {
+                self.idle = true;
+                None
+            }
         }
-        last
     }
 
     /// How many addresses the list has.

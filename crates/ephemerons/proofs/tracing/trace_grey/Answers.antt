@@ -1,8 +1,7 @@
-use Rattle.std.proofs.Common.{rules, ◌≡◌, ◌+◌, ◌<◌, ◌^◌, true, false, Some, sym, ap, ◌∙◌, subst, arith}
+use Rattle.std.proofs.Common.{rules, ◌≡◌, ◌+◌, ◌<◌, ◌^◌, true, sym, subst, arith}
 use Rattle.std.proofs.lemmas.List.{get_or_default}
-use Rattle.page_words.specs.Seat.{SeatView, is_grey}
+use Rattle.page_words.specs.Seat.{is_grey}
 use Rattle.ephemerons.specs.Notes.{NotesState, NotesGrow, group_at, no_notes}
-
 use Rattle.ephemerons.proofs.GreySteps.{ReadsFields, with_trace, claim_is, fewer_untraced, grey_ground, grey_looks, black_ground, black_looks}
 use Rattle.ephemerons.proofs.tracing.trace_grey.Goals as goal
 

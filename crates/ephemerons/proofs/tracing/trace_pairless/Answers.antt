@@ -1,4 +1,4 @@
-use Rattle.std.proofs.Common.{rules, ◌≡◌, ◌+◌, ◌<◌, ◌^◌, true, false, List, Some, sym, ap, ◌∙◌, subst, arith}
+use Rattle.std.proofs.Common.{rules, ◌≡◌, ◌+◌, ◌<◌, ◌^◌, true, List, Some, sym, ap, subst, arith}
 use Rattle.std.specs.List.{Contains}
 use Rattle.page_words.specs.Seat.{SeatView, is_grey}
 use Rattle.ephemerons.specs.Notes.{NotesState, group_at}
