@@ -10,12 +10,13 @@ use Rattle.page_words.specs.Seat.{SeatView, IsView, holds, is_grey, claimed_at}
 use Rattle.ephemerons.specs.BodyGraph.{AreReferences}
 use Rattle.ephemerons.specs.Marking.{GrowsWithin, HasStrongMarked, traced_count}
 use Rattle.ephemerons.specs.Notes.{NotesState, NotesGrow, HasPairsNoted, group_at, IsNotedIn, IsNote, note_of}
-use Rattle.ephemerons.specs.Fixpoint.{Stage, stage, weight, IsGround, IsAccounted, IsUnrefused, Works, ListsMarks, untraced_places}
+use Rattle.ephemerons.specs.Fixpoint.{Stage, stage, weight, IsGround, IsAccounted, IsUnrefused, Works, Looks, ListsMarks, untraced_places}
 use Rattle.ephemerons.proofs.Lists.{holds_push_old, holds_push_new, holds_push_cases}
 use Rattle.ephemerons.proofs.Fields.{to_range}
 use Rattle.ephemerons.proofs.Weights.{one_fewer, one_more}
 use Rattle.ephemerons.proofs.MarkSteps.{place_below}
 use Rattle.ephemerons.proofs.GroupSteps.{GroupsGrow, first_grows}
+use Rattle.ephemerons.proofs.Refused.{told_same}
 use Rattle.ephemerons.proofs.Stages.{MarksOn-same}
 
 abbrev pub with_trace : SeatView → ℕ → SeatView
@@ -149,6 +150,7 @@ module _ (types : List ObjectType) (v w : SeatView) (m n : Marking) (groups : Li
         within = r.within;
         on = r.marks.on;
         unrefused = λ fine. record { pushes = r.marks.overflow fine.pushes; notes = grow.overflow fine.notes };
+        told = r.marks.told;
         many = grow.many;
         noted = grow.kept;
         accounted = grey_accounted r ground;
@@ -159,6 +161,13 @@ module _ (types : List ObjectType) (v w : SeatView) (m n : Marking) (groups : Li
             omega (arith, same, one_more v.bodies v.traced a differ r.place (untraced v a r.grey)));
       }
 
+  pub grey_looks : ReadsFields types v w m n (group_at groups 0) g a → IsGround types before → Looks types (Some a) before after true
+  grey_looks r ground = record {
+    works = grey_works r ground;
+    lighter = λ told. grey_lighter r;
+    still = λ none. absurd (true≢false none);
+  }
+
 -- an object in hand that isn't grey is accounted for
 pub Works-black : (types : List ObjectType) (s : Stage) (a : ℕ) → is_grey s.view a ≡ false → Works types (Some a) s s
 Works-black types s a black = record {
@@ -166,6 +175,7 @@ Works-black types s a black = record {
   within = λ test closed held p marked. held p marked;
   on = refl;
   unrefused = λ h. h;
+  told = told_same s.refusals;
   many = refl;
   noted = λ note h. h;
   accounted = λ fine h. record {
@@ -180,3 +190,15 @@ Works-black types s a black = record {
   not_grey p marked new hand =
       let same : a ≡ p = cc in
       true≢false (sym (was_traced s.view p (subst (λ q. is_grey s.view q ≡ false) same black) marked) ∙ new)
+
+module _ (types : List ObjectType) (v w : SeatView) (m : Marking) (groups : List NotesState) (t a : ℕ) (is : w ≡ claimed_at v a) (black : is_grey v a ≡ false) where
+  pub black_ground : IsGround types (stage v m groups t) → IsGround types (stage w m groups t)
+  black_ground = subst (λ (x : SeatView). IsGround types (stage x m groups t)) (sym (claim_fails v w a is black))
+
+  pub black_looks : Looks types (Some a) (stage v m groups t) (stage w m groups t) false
+  black_looks = record {
+    works = subst (λ (x : SeatView). Works types (Some a) (stage v m groups t) (stage x m groups t)) (sym (claim_fails v w a is black))
+        (Works-black types (stage v m groups t) a black);
+    lighter = λ found. absurd (true≢false (sym found));
+    still = λ none. ap (λ (x : SeatView). stage x m groups t) (claim_fails v w a is black);
+  }

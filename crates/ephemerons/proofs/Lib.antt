@@ -11,3 +11,4 @@ pub mod GroupSteps
 pub mod GreySteps
 pub mod Ends
 pub mod NoPairs
+pub mod Refused

@@ -2,6 +2,7 @@
 use Rattle.std.proofs.Common.{◌≡◌, ℕ, ◌+◌, ◌<◌, ◌≤◌, false, [], ◌∷◌, ◌++◌, refl, sym, ap, ◌∙◌, subst, inl, inr, arith}
 use Rattle.std.specs.List.{Contains, range_with_len}
 use Rattle.std.proofs.lemmas.Bool.{cond-false}
+use Rattle.mark_worklist.specs.Refusals.{refusals_of}
 use Rattle.mark_worklist.specs.declared.marking.Marking.{Marking}
 use Rattle.page_words.specs.Bodies.{IsPlace}
 use Rattle.page_words.specs.Seat.{SeatView, IsView, holds, marked_at}
@@ -10,6 +11,7 @@ use Rattle.ephemerons.proofs.Lists.{holds_push_old, holds_push_cases}
 use Rattle.ephemerons.proofs.Fields.{to_range}
 use Rattle.ephemerons.proofs.Weights.{one_fewer}
 use Rattle.ephemerons.proofs.Graph.{body_below}
+use Rattle.ephemerons.proofs.Refused.{told_then}
 
 abbrev with_mark : SeatView → ℕ → SeatView
 with_mark v a = record v { marked = v.marked ++ a ∷ [] }
@@ -26,6 +28,7 @@ ListsMarks-then u v w l m n x y = record {
   marked = λ p h. y.marked p (x.marked p h);
   on = y.on ∙ x.on;
   overflow = λ h. x.overflow (y.overflow h);
+  told = told_then (refusals_of l) (refusals_of m) (refusals_of n) x.told y.told;
   kept = λ p h. y.kept p (x.kept p h);
   listed = λ p h. elim (y.listed p h) [
     | inl before ↦ x.listed p before
@@ -51,6 +54,7 @@ mark_lists v new m n a view place is fresh listed =
         marked = λ p h. holds_push_old v.marked a p h;
         on = listed.on;
         overflow = listed.overflow;
+        told = listed.told;
         kept = listed.kept;
         listed = λ p h. elim (listed.listed p h) [
           | inl before ↦ inl before

@@ -1,13 +1,11 @@
 -- Where no type has a pair, no pair is noted.
-use Rattle.std.proofs.Common.{◌≡◌, ℕ, ◌<◌, List, [], length, set, get_or, refl, sym, ap, ◌∙◌, subst, inl, arith}
+use Rattle.std.proofs.Common.{◌≡◌, ℕ, ◌<◌, List, length, set, subst, inl, arith}
 use Rattle.std.specs.List.{Contains}
 use Rattle.std.proofs.lemmas.List.{set-get_or}
-use Rattle.gc_graph.specs.declared.kind.Kind.TheVariants.{Pair}
 use Rattle.gc_graph.specs.State.{ObjectType}
-use Rattle.type_table.specs.Types.{kinds_of, offsets_of_kind}
 use Rattle.page_words.specs.Bodies.{Body}
 use Rattle.page_words.specs.Seat.{SeatView}
-use Rattle.ephemerons.specs.BodyGraph.{AreReferences, HaveNoPairs, pair_offsets}
+use Rattle.ephemerons.specs.BodyGraph.{AreReferences, HaveNoPairs}
 use Rattle.ephemerons.specs.declared.notes.Note.{Note}
 use Rattle.ephemerons.specs.Notes.{NotesState, NotesGrow, HasPairsNoted, group_at, no_notes}
 

@@ -14,6 +14,7 @@ use Rattle.ephemerons.specs.Marking.{MarksOn, GrowsWithin, traced_count}
 use Rattle.ephemerons.specs.Notes.{NotesState, IsNote}
 use Rattle.ephemerons.specs.Fixpoint.{Stage, stage, weight, IsGround, Works, Looks, ListsMarks, untraced_places, weight_of}
 use Rattle.ephemerons.proofs.Graph.{GrowsWithin-then}
+use Rattle.ephemerons.proofs.Refused.{told_same, told_then, told_from}
 
 pub MarksOn-same : (v : SeatView) → MarksOn v v
 MarksOn-same v = record {
@@ -45,6 +46,7 @@ Works-same types s = record {
   within = λ test closed held p marked. held p marked;
   on = refl;
   unrefused = λ h. h;
+  told = told_same s.refusals;
   many = refl;
   noted = λ note h. h;
   accounted = λ fine h. h;
@@ -59,6 +61,7 @@ Works-then types hand a b c x y = record {
   within = GrowsWithin-then types a.view b.view c.view x.kept.bodies x.kept.count x.within y.within;
   on = y.on ∙ x.on;
   unrefused = λ fine. x.unrefused (y.unrefused fine);
+  told = told_then a.refusals b.refusals c.refusals x.told y.told;
   many = y.many ∙ x.many;
   noted = λ note h. y.noted note (x.noted note h);
   accounted = λ fine h. y.accounted fine (x.accounted (y.unrefused fine) h);
@@ -77,6 +80,7 @@ Works-free types p a b x = record {
   within = x.within;
   on = x.on;
   unrefused = x.unrefused;
+  told = x.told;
   many = x.many;
   noted = x.noted;
   accounted = λ fine h. x.accounted fine (record {
@@ -92,13 +96,14 @@ pub popped_lighter : (s t : Stage) (list : List ℕ) (a : ℕ) → s.list ≡ li
 popped_lighter s t list a last less = omega (arith, less, ap length last, length_push list a)
 
 -- the object in hand is the last one that was listed
-pub Works-popped : (types : List ObjectType) (s t : Stage) (list : List ℕ) (a : ℕ) → s.list ≡ list ++ a ∷ [] → Works types (Some a) (record s { list = list }) t
-    → Works types None s t
-Works-popped types s t list a last x = record {
+pub Works-popped : (types : List ObjectType) (s t : Stage) (list : List ℕ) (a count : ℕ) → s.list ≡ list ++ a ∷ [] → count ≡ s.refusals.count
+    → Works types (Some a) (record s { list = list; refusals = record { told = s.refusals.told; count = count } }) t → Works types None s t
+Works-popped types s t list a count last same x = record {
   kept = x.kept;
   within = x.within;
   on = x.on;
   unrefused = x.unrefused;
+  told = told_from s.refusals t.refusals count same x.told;
   many = x.many;
   noted = x.noted;
   accounted = λ fine h. x.accounted fine (record {
@@ -183,6 +188,7 @@ marks_work types v w m n groups t x within =
       within = within;
       on = x.on;
       unrefused = λ fine. record { pushes = x.overflow fine.pushes; notes = fine.notes };
+      told = x.told;
       many = refl;
       noted = λ note h. h;
       accounted = λ fine h. record {

@@ -1,17 +1,17 @@
 -- The graph that the bodies of a heap stand for: its nodes are addresses.
-use Rattle.std.specs.Prelude.{◌≡◌, ℕ, zero, suc, ◌+◌, ◌-◌, ◌<◌, ◌≤◌, ◌==◌, true, List, [], ◌∷◌, length, map, slice_index, slice_index_or, if◌then◌else◌, Contains, All, ⊤}
+use Rattle.std.specs.Prelude.{◌≡◌, ℕ, zero, suc, ◌+◌, ◌-◌, ◌<◌, ◌≤◌, ◌==◌, List, [], ◌∷◌, length, map, slice_index, slice_index_or, if◌then◌else◌, Contains, All, ⊤}
 use Rattle.std.specs.List.{range_with_len}
 use Rattle.gc_graph.specs.declared.kind.Kind.{Kind}
 use Rattle.gc_graph.specs.declared.kind.Kind.TheVariants.{Strong, Weak, Pair, Plain}
 use Rattle.gc_graph.specs.declared.kind.Value.{Value}
 use Rattle.gc_graph.specs.declared.kind.Value.TheVariants.{Null, Ref, Word}
-use Rattle.gc_graph.specs.Graph.{Object, object_at, no_object, leads_by}
+use Rattle.gc_graph.specs.Graph.{Object, no_object}
 use Rattle.gc_graph.specs.State.{ObjectType, no_type}
 use Rattle.gc_graph.specs.Fields.{field_words}
 use Rattle.object_headers.specs.Offsets.{first_field}
 use Rattle.type_table.specs.Types.{kinds_of, offsets_of_kind}
 use Rattle.page_words.specs.Bodies.{Body, IsReference}
-use Rattle.page_words.specs.Seat.{SeatView, holds}
+use Rattle.page_words.specs.Seat.{SeatView}
 
 -- no two bodies have one place
 abbrev pub PlacesDiffer : List Body → Type 0
@@ -90,7 +90,3 @@ object_there types (b ∷ bodies) place = if b.place == place then object_in typ
 -- the graph of the bodies: for each address the object there
 abbrev pub graph_in : List ObjectType → SeatView → List Object
 graph_in types v = map (object_there types v.bodies) (range_with_len 0 v.count)
-
--- the object at p leads to q by a strong field, or by a pair whose key is marked
-abbrev pub LeadsMarked : List ObjectType → SeatView → ℕ → ℕ → Type 0
-LeadsMarked types v p q = leads_by (holds v.marked) (object_at (graph_in types v) p) q ≡ true

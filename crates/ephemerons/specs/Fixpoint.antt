@@ -3,6 +3,7 @@ use Rattle.std.specs.Prelude.{◌≡◌, ◌⊎◌, ℕ, ◌+◌, ◌-◌, ◌*�
 use Rattle.std.specs.List.{range_with_len}
 use Rattle.gc_graph.specs.State.{ObjectType}
 use Rattle.object_headers.specs.Offsets.{first_field}
+use Rattle.mark_worklist.specs.Refusals.{Refusals, TellsRefused, refusals_of}
 use Rattle.mark_worklist.specs.declared.marking.Marking.{Marking}
 use Rattle.page_words.specs.Bodies.{Body, IsPlace}
 use Rattle.page_words.specs.Seat.{SeatView, holds}
@@ -28,14 +29,14 @@ HasWord bodies place offset =
 pub record Stage : Type 0 where
   pub view : SeatView
   pub on : Bool
-  pub overflow : Bool
+  pub refusals : Refusals
   pub list : List ℕ
   pub groups : List NotesState
   pub traced : ℕ
 
 -- the stage of these
 abbrev pub stage : SeatView → Marking → List NotesState → ℕ → Stage
-stage v m groups n = record { view = v; on = m.on; overflow = m.overflow; list = m.list.items; groups = groups; traced = n }
+stage v m groups n = record { view = v; on = m.on; refusals = refusals_of m; list = m.list.items; groups = groups; traced = n }
 
 -- marks and traces that may still come count, and so does what is listed
 abbrev pub weight : Stage → ℕ
@@ -80,6 +81,7 @@ weight_of v m = 2 * unmarked_places v + length m.list.items
 pub record IsListed (before after : Marking) (place : ℕ) : Type 0 where
   pub on : after.on ≡ before.on
   pub overflow : after.overflow ≡ false → before.overflow ≡ false
+  pub told : TellsRefused (refusals_of before) (refusals_of after)
   pub kept : (p : ℕ) → Contains before.list.items p → Contains after.list.items p
   pub listed : (p : ℕ) → Contains after.list.items p → Contains before.list.items p ⊎ (place ≡ p)
   pub there : after.overflow ≡ false → Contains after.list.items place
@@ -91,6 +93,7 @@ pub record ListsMarks (old : SeatView) (before : Marking) (new : SeatView) (afte
   pub marked : (p : ℕ) → holds old.marked p ≡ true → holds new.marked p ≡ true
   pub on : after.on ≡ before.on
   pub overflow : after.overflow ≡ false → before.overflow ≡ false
+  pub told : TellsRefused (refusals_of before) (refusals_of after)
   pub kept : (p : ℕ) → Contains before.list.items p → Contains after.list.items p
   pub listed : (p : ℕ) → Contains after.list.items p → Contains before.list.items p ⊎ IsPlace old.bodies p
   pub fresh :
@@ -103,11 +106,12 @@ pub record Works (types : List ObjectType) (hand : Option ℕ) (old new : Stage)
   pub kept : MarksOn old.view new.view
   pub within : GrowsWithin types old.view new.view
   pub on : new.on ≡ old.on
-  pub unrefused : IsUnrefused new.overflow new.groups → IsUnrefused old.overflow old.groups
+  pub unrefused : IsUnrefused new.refusals.told new.groups → IsUnrefused old.refusals.told old.groups
+  pub told : TellsRefused old.refusals new.refusals
   pub many : length new.groups ≡ length old.groups
   pub noted : (note : Note) → IsNotedIn old.groups note → IsNotedIn new.groups note
   pub accounted :
-      IsUnrefused new.overflow new.groups → IsAccounted types hand old.view old.list old.groups
+      IsUnrefused new.refusals.told new.groups → IsAccounted types hand old.view old.list old.groups
       → IsAccounted types None new.view new.list new.groups
   pub lighter : weight new ≤ weight old
   pub fewer : new.traced + untraced_places new.view ≤ old.traced + untraced_places old.view

@@ -2,19 +2,20 @@
 
 ghost use Rattle.std.specs.Prelude.{◌≡◌, ◌⊎◌, ℕ, ◌+◌, ◌<◌, true, false, [], Contains, None};
 ghost use Rattle.std.specs.Prelude.{length};
+ghost use Rattle.mark_worklist.specs.Refusals.{TellsRefused, refusals_of};
 ghost use Rattle.page_words.specs.Bodies.{IsPlace};
 ghost use Rattle.page_space.specs.Space.{IsSeatOf};
 ghost use Rattle.ephemerons.specs.declared.notes.Note.{Note};
-ghost use Rattle.ephemerons.specs.BodyGraph.{PlacesDiffer, AreReferences, HaveNoPairs};
+ghost use Rattle.ephemerons.specs.BodyGraph.{PlacesDiffer, AreReferences};
 ghost use Rattle.ephemerons.specs.Marking.{MarksOn, GrowsWithin, TracedNameMarked};
 ghost use Rattle.ephemerons.specs.Marking.{IsOver, traced_count};
 ghost use Rattle.ephemerons.specs.Notes.{IsNote, IsNotedIn};
 ghost use Rattle.ephemerons.specs.Fixpoint.{IsGround, IsAccounted, IsSettled, IsUnrefused};
 ghost use Rattle.ephemerons.specs.Fixpoint.{Works, stage, weight};
 
+use crate::draining::{drain, drain_if_pairless};
 use crate::notes::Pairs;
-use crate::settling::{settle_notes, settle_under};
-use crate::tracing::{trace_grey, trace_pairless};
+use crate::settling::settle_notes;
 use crate::walking::walk_heap;
 use mark_worklist::Marking;
 use page_space::Space;
@@ -53,6 +54,7 @@ pub fn fixpoint(
     ensures noted { (note : Note) → IsNotedIn groups.old note → IsNotedIn groups.new note }
     ensures refused { IsUnrefused marking.new.overflow groups.new
         → IsUnrefused marking.old.overflow groups.old }
+    ensures told { TellsRefused (refusals_of marking.old) (refusals_of marking.new) }
 {
     seat.bodies_lie_apart();
     begin_indexes(groups);
@@ -121,112 +123,6 @@ fn turn(
 {
     drain(space, types, seat, marking, groups, traced);
     settle_notes(space, types, seat, marking, groups, traced)
-}
-
-/// Traces what is listed, until the list is empty.
-pub(crate) fn drain(
-    space: &Space,
-    types: &TypeTable,
-    seat: &mut MutatorSeat,
-    marking: &mut Marking,
-    groups: &mut [Pairs],
-    traced: &mut u32,
-)
-    requires heap { IsSeatOf space.now seat.old }
-    requires ground { IsGround types.now (stage seat.old marking.old groups.old traced.old) }
-    ensures ground { IsGround types.now (stage seat.new marking.new groups.new traced.new) }
-    ensures works { Works types.now None
-        (stage seat.old marking.old groups.old traced.old)
-        (stage seat.new marking.new groups.new traced.new) }
-    ensures list { marking.new.list.items ≡ [] }
-{
-    while trace_next(space, types, seat, marking, groups, traced) {}
-}
-
-/// Traces what is listed, where no type has a pair. It is the way of most heaps, and neither notes
-/// nor their index are looked at for each object.
-fn drain_if_pairless(
-    space: &Space,
-    types: &TypeTable,
-    seat: &mut MutatorSeat,
-    marking: &mut Marking,
-    groups: &[Pairs],
-    traced: &mut u32,
-)
-    requires heap { IsSeatOf space.now seat.old }
-    requires ground { IsGround types.now (stage seat.old marking.old groups.now traced.old) }
-    ensures ground { IsGround types.now (stage seat.new marking.new groups.now traced.new) }
-    ensures works { Works types.now None
-        (stage seat.old marking.old groups.now traced.old)
-        (stage seat.new marking.new groups.now traced.new) }
-{
-    if !has_pairs(types) {
-        drain_pairless(space, types, seat, marking, groups, traced);
-    }
-}
-
-/// Traces what is listed, until the list is empty. Nothing waits for a key.
-fn drain_pairless(
-    space: &Space,
-    types: &TypeTable,
-    seat: &mut MutatorSeat,
-    marking: &mut Marking,
-    groups: &[Pairs],
-    traced: &mut u32,
-)
-    requires heap { IsSeatOf space.now seat.old }
-    requires ground { IsGround types.now (stage seat.old marking.old groups.now traced.old) }
-    requires pairless { HaveNoPairs types.now }
-    ensures ground { IsGround types.now (stage seat.new marking.new groups.now traced.new) }
-    ensures works { Works types.now None
-        (stage seat.old marking.old groups.now traced.old)
-        (stage seat.new marking.new groups.now traced.new) }
-{
-    while let Some(place) = marking.list.pop() {
-        trace_pairless(space, types, seat, marking, groups, traced, place);
-    }
-}
-
-/// Whether a type has a pair.
-fn has_pairs(types: &TypeTable) -> bool
-    ensures { result ≡ false → HaveNoPairs types.now }
-{
-    for ty in 0..types.count() {
-        if !types.pair_words(ty).is_empty() {
-            return true;
-        }
-    }
-    false
-}
-
-/// Takes an object from the list and traces it, if that is to be done. False where the list is
-/// empty.
-fn trace_next(
-    space: &Space,
-    types: &TypeTable,
-    seat: &mut MutatorSeat,
-    marking: &mut Marking,
-    groups: &mut [Pairs],
-    traced: &mut u32,
-) -> bool
-    requires heap { IsSeatOf space.now seat.old }
-    requires ground { IsGround types.now (stage seat.old marking.old groups.old traced.old) }
-    ensures ground { IsGround types.now (stage seat.new marking.new groups.new traced.new) }
-    ensures works { Works types.now None
-        (stage seat.old marking.old groups.old traced.old)
-        (stage seat.new marking.new groups.new traced.new) }
-    ensures found { result ≡ true → weight (stage seat.new marking.new groups.new traced.new)
-        < weight (stage seat.old marking.old groups.old traced.old) }
-    ensures list { result ≡ false → marking.new.list.items ≡ [] }
-{
-    match marking.list.pop() {
-        Some(place) => {
-            trace_grey(space, types, seat, marking, groups, traced, place);
-            settle_under(space, types, seat, marking, groups, traced, place);
-            true
-        }
-        None => false,
-    }
 }
 
 /// Whether a push or a note was refused.

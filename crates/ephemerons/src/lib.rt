@@ -16,6 +16,7 @@
 #![tactic(auto)]
 
 mod closing;
+mod draining;
 mod index;
 mod marks;
 mod notes;

@@ -10,7 +10,7 @@ ghost use Rattle.ephemerons.specs.BodyGraph.{word_at};
 ghost use Rattle.ephemerons.specs.Fixpoint.{ListsMarks, IsListed, HasWord, weight_of};
 
 use mark_worklist::Marking;
-use object_headers::place_in;
+use object_headers::{place_in, with_mark};
 use page_space::Space;
 use page_words::{MutatorSeat, Words};
 
@@ -26,14 +26,16 @@ pub(crate) fn names_marked(space: &Space, seat: &mut MutatorSeat, reference: u64
     reference != 0 && is_marked(space, seat, (reference - 1) as u32)
 }
 
-/// Whether the object at a place is marked.
+/// Whether the object at a place is marked. No more of its header is looked at.
 pub(crate) fn is_marked(space: &Space, seat: &mut MutatorSeat, place: u32) -> bool
     requires heap { IsSeatOf space.now seat.old }
     requires place { IsPlace seat.old.bodies place }
     ensures mark { result ≡ holds seat.old.marked place }
     ensures view { seat.new ≡ seat.old }
 {
-    space.header_at(seat, place).mark
+    seat.bodies_lie_apart();
+    let word = space.words().load(seat, place);
+    word == with_mark(word, true)
 }
 
 /// The field word at an offset of the object at a place.

@@ -236,8 +236,14 @@ fn claim(words: &Words, seat: &mut MutatorSeat, place: u32) -> Option<u32>
 {
     seat.bodies_lie_apart();
     let word = words.load(seat, place);
-    let claimed = words.claim(seat, place, with_traced(with_mark(word, true), false));
-    if !claimed {
+    // Two tests, of a bit each: the compiler makes one of them.
+    if word != with_mark(word, true) {
+        return None;
+    }
+    if word != with_traced(word, false) {
+        return None;
+    }
+    if !words.claim(seat, place, word) {
         return None;
     }
     Some(Header::type_in(word))

@@ -9,7 +9,7 @@ ghost use Rattle.ephemerons.specs.Notes.{note_of};
 ghost use Rattle.ephemerons.specs.Fixpoint.{IsGround, IsSettled, IsSettledAt, Looks};
 ghost use Rattle.ephemerons.specs.Fixpoint.{Works, stage, weight};
 
-use crate::closing::drain;
+use crate::draining::drain;
 use crate::notes::Pairs;
 use crate::settling::settle_pair;
 use crate::tracing::trace_grey;

@@ -2,7 +2,7 @@
 // what they lead to. A deep chain needs no deep stack. Only the room for an ordinary list is taken
 // before; where memory is wanting on the way, the heap is walked.
 
-ghost use Rattle.std.specs.Prelude.{◌≡◌, ◌⊎◌, ℕ, true, false, [], Contains, All, Some};
+ghost use Rattle.std.specs.Prelude.{◌≡◌, ◌⊎◌, ◌<◌, ℕ, true, false, [], Contains, All, Some};
 ghost use Rattle.std.specs.Option.{ForSome};
 ghost use Rattle.page_words.specs.Bodies.{IsPlace};
 ghost use Rattle.page_words.specs.Seat.{IsQuiet, holds};
@@ -86,6 +86,7 @@ impl Grey {
         requires differ { PlacesDiffer seat.old.bodies }
         ensures marks { MarksReachable types.now slots.now seat.old seat.new }
         ensures kept { result.kept ≡ marked_count seat.new }
+        ensures refused { self.old.list.refused < self.new.list.refused → result.walked ≡ true }
     {
         space.words().set_stop(seat, false);
         self.marking.on = true;
@@ -134,6 +135,7 @@ fn mark_slot(words: &Words, seat: &mut MutatorSeat, marking: &mut Marking, slot:
 fn clear(marking: &mut Marking, notes: &mut [Pairs; 1]) -> bool
     requires { marking.old.list.items ≡ [] }
     ensures clear { IsClear marking.new notes.new }
+    ensures refused { marking.new.list.refused ≡ marking.old.list.refused }
     ensures whole { result ≡ false → IsUnrefused marking.old.overflow notes.old }
     ensures walked { result ≡ true → IsUnrefused marking.old.overflow notes.old → ⊥ }
 {

@@ -10,7 +10,7 @@
 //! What is proved: a push puts its address at the end, or hands it back, counts that, and leaves the
 //! list as it was; a pop takes the last address, and answers that there is none exactly where the
 //! list is empty; the list is idle exactly where the last pop found nothing and nothing was pushed
-//! since.
+//! since; its length is how many addresses it has.
 //!
 //! What is only tested or not said: that memory suffices for a push.
 #![tactic(auto)]

@@ -9,6 +9,7 @@ fn the_last_one_pushed_comes_first(rt: HostRuntime) -> Result<(), Fail> {
     for a in [7, 3, 9] {
         assert_eq!(rt; list.push(a), Ok(()));
     }
+    assert_eq!(rt; list.len(), 3);
     for a in [9, 3, 7] {
         assert_eq!(rt; list.pop(), Some(a));
         assert!(rt; !list.idle());

@@ -1,8 +1,8 @@
 // A marking list (`src/heap/base/worklist.h`, of which this is the owner's view alone).
 
-ghost use Rattle.std.specs.Prelude.{◌≡◌, [], ◌∷◌, ◌++◌, true, false, length};
+ghost use Rattle.std.specs.Prelude.{◌≡◌, ◌≤◌, [], ◌∷◌, ◌++◌, true, false, length};
 ghost use Rattle.std.specs.Prelude.{IfErr, OnOk, MatchOption, MatchResult};
-ghost use Rattle.mark_worklist.specs.Lists.{no_items, pushed, refused_once};
+ghost use Rattle.mark_worklist.specs.Lists.{no_items, pushed, refused_once, last_count};
 
 use gc_graph::NoMemory;
 use std::alloc::Global;
@@ -22,11 +22,14 @@ pub struct Worklist {
 }
 
 impl Model for Worklist {
+    ghost use Rattle.std.specs.Prelude.{◌≡◌, true, []};
     ghost use Rattle.mark_worklist.specs.Lists.{ListState};
 
     ghost Value = { ListState };
 
     ghost view = { λ l. record { items = l.items.items; refused = l.refused; idle = l.idle } };
+
+    ghost invariant = { λ l. l.idle ≡ true → l.items.items ≡ [] };
 }
 
 impl Worklist {
@@ -54,6 +57,7 @@ impl Worklist {
         ensures done { OnOk result (self.new ≡ pushed self.old a) }
         ensures refused { IfErr result (λ back.
             (back.0 ≡ a) × (self.new ≡ refused_once self.old)) }
+        ensures fits { self.old.refused ≤ last_count }
     {
         if let Err(_) = self.items.push(a) {
             self.refused = self.refused.saturating_add(1);
@@ -71,8 +75,21 @@ impl Worklist {
         ensures refused { self.new.refused ≡ self.old.refused }
     {
         let last = self.items.pop();
-        self.idle = last.is_none();
-        last
+        match last {
+            // A list with an item isn't idle, so that only the end of a list is written down.
+            Some(a) => Some(a),
+            None => {
+                self.idle = true;
+                None
+            }
+        }
+    }
+
+    /// How many addresses the list has.
+    pub fn len(&self) -> usize
+        ensures { result ≡ length self.now.items }
+    {
+        self.items.len()
     }
 
     /// How many pushes were refused. It stays at its last value once it is there.

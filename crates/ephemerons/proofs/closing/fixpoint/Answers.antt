@@ -1,8 +1,10 @@
 use Rattle.std.proofs.Common.{arith, subst, sym, List}
+use Rattle.mark_worklist.specs.Refusals.{refusals_of}
 use Rattle.ephemerons.specs.Notes.{NotesState}
 use Rattle.ephemerons.specs.Fixpoint.{IsGround, stage}
 use Rattle.ephemerons.proofs.Ends.{few_untraced}
 use Rattle.ephemerons.proofs.Graph.{GrowsWithin-then}
+use Rattle.ephemerons.proofs.Refused.{told_then}
 use Rattle.ephemerons.proofs.closing.fixpoint.Goals as goal
 
 pub settle_all-requires-clause-ground : goal.settle_all-requires-clause-ground
@@ -21,3 +23,8 @@ pub returns-then-walk-clause-within : goal.returns-then-walk-clause-within
 returns-then-walk-clause-within c =
     GrowsWithin-then c.args.types.now c.args.seat.now c.settle_all.new.seat c.walk_heap.new.seat c.settle_all.ensures.works.kept.bodies
     c.settle_all.ensures.works.kept.count c.settle_all.ensures.works.within c.walk_heap.ensures.works.within
+
+pub returns-then-walk-clause-told : goal.returns-then-walk-clause-told
+returns-then-walk-clause-told c =
+    told_then (refusals_of c.args.marking.now) (refusals_of c.settle_all.new.marking) (refusals_of c.walk_heap.new.marking)
+    c.settle_all.ensures.works.told c.walk_heap.ensures.works.told

@@ -1,10 +1,8 @@
-use Rattle.std.proofs.Common.{rules, ◌≡◌, ◌+◌, ◌<◌, ◌^◌, true, false, Some, sym, ap, ◌∙◌, subst, arith}
-use Rattle.std.proofs.lemmas.Bool.{true≢false}
+use Rattle.std.proofs.Common.{rules, ◌≡◌, ◌+◌, ◌<◌, ◌^◌, true, sym, subst, arith}
 use Rattle.std.proofs.lemmas.List.{get_or_default}
-use Rattle.page_words.specs.Seat.{SeatView, is_grey}
+use Rattle.page_words.specs.Seat.{is_grey}
 use Rattle.ephemerons.specs.Notes.{NotesState, NotesGrow, group_at, no_notes}
-use Rattle.ephemerons.specs.Fixpoint.{IsGround, Works, stage}
-use Rattle.ephemerons.proofs.GreySteps.{ReadsFields, with_trace, claim_is, claim_fails, fewer_untraced, grey_lighter, grey_ground, grey_works, Works-black}
+use Rattle.ephemerons.proofs.GreySteps.{ReadsFields, with_trace, claim_is, fewer_untraced, grey_ground, grey_looks, black_ground, black_looks}
 use Rattle.ephemerons.proofs.tracing.trace_grey.Goals as goal
 
 pub overflow_add-traced : goal.overflow_add-traced
@@ -39,27 +37,16 @@ returns-in-Some-clause-ground c =
     c.trace_fields.new.notes c.args.traced.now c.args.place (read c) c.requires.ground
 
 pub returns-in-Some-clause-looks : goal.returns-in-Some-clause-looks
-returns-in-Some-clause-looks c = record {
-  works = grey_works c.args.types.now c.args.seat.now c.trace_fields.new.seat c.args.marking.now c.trace_fields.new.marking c.args.groups.now
-      c.trace_fields.new.notes c.args.traced.now c.args.place (read c) c.requires.ground;
-  lighter = λ told. grey_lighter c.args.types.now c.args.seat.now c.trace_fields.new.seat c.args.marking.now c.trace_fields.new.marking c.args.groups.now
-      c.trace_fields.new.notes c.args.traced.now c.args.place (read c);
-  still = λ none. absurd (true≢false none);
-}
-
-same : (c : goal.In-None) → c.claim.new.seat ≡ c.args.seat.now
-same c = claim_fails c.args.seat.now c.claim.new.seat c.args.place c.claim.ensures.view (sym c.in-None.ensures.grey)
+returns-in-Some-clause-looks c =
+    grey_looks c.args.types.now c.args.seat.now c.trace_fields.new.seat c.args.marking.now c.trace_fields.new.marking c.args.groups.now
+    c.trace_fields.new.notes c.args.traced.now c.args.place (read c) c.requires.ground
 
 pub returns-in-None-clause-ground : goal.returns-in-None-clause-ground
 returns-in-None-clause-ground c =
-    subst (λ (v : SeatView). IsGround c.args.types.now (stage v c.args.marking.now c.args.groups.now c.args.traced.now)) (sym (same c)) c.requires.ground
+    black_ground c.args.types.now c.args.seat.now c.claim.new.seat c.args.marking.now c.args.groups.now c.args.traced.now c.args.place
+    c.claim.ensures.view (sym c.in-None.ensures.grey) c.requires.ground
 
 pub returns-in-None-clause-looks : goal.returns-in-None-clause-looks
-returns-in-None-clause-looks c = record {
-  works = subst
-      (λ (v : SeatView). Works c.args.types.now (Some c.args.place) (stage c.args.seat.now c.args.marking.now c.args.groups.now c.args.traced.now)
-      (stage v c.args.marking.now c.args.groups.now c.args.traced.now)) (sym (same c))
-      (Works-black c.args.types.now (stage c.args.seat.now c.args.marking.now c.args.groups.now c.args.traced.now) c.args.place (sym c.in-None.ensures.grey));
-  lighter = λ found. absurd (true≢false (sym found));
-  still = λ none. ap (λ (v : SeatView). stage v c.args.marking.now c.args.groups.now c.args.traced.now) (same c);
-}
+returns-in-None-clause-looks c =
+    black_looks c.args.types.now c.args.seat.now c.claim.new.seat c.args.marking.now c.args.groups.now c.args.traced.now c.args.place
+    c.claim.ensures.view (sym c.in-None.ensures.grey)

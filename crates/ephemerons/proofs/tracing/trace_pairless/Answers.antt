@@ -1,10 +1,9 @@
-use Rattle.std.proofs.Common.{rules, ◌≡◌, ◌+◌, ◌<◌, ◌^◌, true, false, List, Some, sym, ap, ◌∙◌, subst, arith}
+use Rattle.std.proofs.Common.{rules, ◌≡◌, ◌+◌, ◌<◌, ◌^◌, true, List, Some, sym, ap, subst, arith}
 use Rattle.std.specs.List.{Contains}
-use Rattle.std.proofs.lemmas.Bool.{true≢false}
 use Rattle.page_words.specs.Seat.{SeatView, is_grey}
 use Rattle.ephemerons.specs.Notes.{NotesState, group_at}
-use Rattle.ephemerons.specs.Fixpoint.{IsGround, Works, stage}
-use Rattle.ephemerons.proofs.GreySteps.{ReadsFields, with_trace, claim_is, claim_fails, fewer_untraced, grey_lighter, grey_ground, grey_works, Works-black}
+use Rattle.ephemerons.specs.Fixpoint.{IsGround, Looks, stage}
+use Rattle.ephemerons.proofs.GreySteps.{ReadsFields, with_trace, claim_is, fewer_untraced, grey_ground, grey_looks, black_ground, black_looks}
 use Rattle.ephemerons.proofs.NoPairs.{nothing_noted, none_noted, same_groups}
 use Rattle.ephemerons.proofs.tracing.trace_pairless.Goals as goal
 
@@ -43,30 +42,19 @@ returns-in-Some-clause-ground c =
     (group_at c.args.groups.now 0) c.args.traced.now c.args.place (read c) c.requires.ground)
 
 pub returns-in-Some-clause-looks : goal.returns-in-Some-clause-looks
-returns-in-Some-clause-looks c = record {
-  works = subst
-      (λ (gs : List NotesState). Works c.args.types.now (Some c.args.place) (stage c.args.seat.now c.args.marking.now c.args.groups.now c.args.traced.now)
-      (stage c.trace_strong.new.seat c.trace_strong.new.marking gs (c.args.traced.now + 1))) (same_groups c.args.groups.now c.requires.ground.own)
-      (grey_works c.args.types.now c.args.seat.now c.trace_strong.new.seat c.args.marking.now c.trace_strong.new.marking c.args.groups.now
-      (group_at c.args.groups.now 0) c.args.traced.now c.args.place (read c) c.requires.ground);
-  lighter = λ told. grey_lighter c.args.types.now c.args.seat.now c.trace_strong.new.seat c.args.marking.now c.trace_strong.new.marking c.args.groups.now
-      (group_at c.args.groups.now 0) c.args.traced.now c.args.place (read c);
-  still = λ none. absurd (true≢false none);
-}
-
-same : (c : goal.In-None) → c.claim.new.seat ≡ c.args.seat.now
-same c = claim_fails c.args.seat.now c.claim.new.seat c.args.place c.claim.ensures.view (sym c.in-None.ensures.grey)
+returns-in-Some-clause-looks c =
+    subst
+    (λ (gs : List NotesState). Looks c.args.types.now (Some c.args.place) (stage c.args.seat.now c.args.marking.now c.args.groups.now c.args.traced.now)
+    (stage c.trace_strong.new.seat c.trace_strong.new.marking gs (c.args.traced.now + 1)) true) (same_groups c.args.groups.now c.requires.ground.own)
+    (grey_looks c.args.types.now c.args.seat.now c.trace_strong.new.seat c.args.marking.now c.trace_strong.new.marking c.args.groups.now
+    (group_at c.args.groups.now 0) c.args.traced.now c.args.place (read c) c.requires.ground)
 
 pub returns-in-None-clause-ground : goal.returns-in-None-clause-ground
 returns-in-None-clause-ground c =
-    subst (λ (v : SeatView). IsGround c.args.types.now (stage v c.args.marking.now c.args.groups.now c.args.traced.now)) (sym (same c)) c.requires.ground
+    black_ground c.args.types.now c.args.seat.now c.claim.new.seat c.args.marking.now c.args.groups.now c.args.traced.now c.args.place
+    c.claim.ensures.view (sym c.in-None.ensures.grey) c.requires.ground
 
 pub returns-in-None-clause-looks : goal.returns-in-None-clause-looks
-returns-in-None-clause-looks c = record {
-  works = subst
-      (λ (v : SeatView). Works c.args.types.now (Some c.args.place) (stage c.args.seat.now c.args.marking.now c.args.groups.now c.args.traced.now)
-      (stage v c.args.marking.now c.args.groups.now c.args.traced.now)) (sym (same c))
-      (Works-black c.args.types.now (stage c.args.seat.now c.args.marking.now c.args.groups.now c.args.traced.now) c.args.place (sym c.in-None.ensures.grey));
-  lighter = λ found. absurd (true≢false (sym found));
-  still = λ none. ap (λ (v : SeatView). stage v c.args.marking.now c.args.groups.now c.args.traced.now) (same c);
-}
+returns-in-None-clause-looks c =
+    black_looks c.args.types.now c.args.seat.now c.claim.new.seat c.args.marking.now c.args.groups.now c.args.traced.now c.args.place
+    c.claim.ensures.view (sym c.in-None.ensures.grey)

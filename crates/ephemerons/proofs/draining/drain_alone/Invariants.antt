@@ -1,6 +1,6 @@
 use Rattle.std.proofs.Common.{None}
 use Rattle.ephemerons.specs.Fixpoint.{IsGround, Works, stage, weight}
-use Rattle.ephemerons.proofs.closing.drain_pairless.Given as goal
+use Rattle.ephemerons.proofs.draining.drain_alone.Given as goal
 
 abbrev pub invariant-loop-place : goal.invariant-loop-place
 invariant-loop-place l = record {

@@ -1,6 +1,6 @@
 use Rattle.std.proofs.Common.{None}
 use Rattle.ephemerons.proofs.Stages.{Works-then}
-use Rattle.ephemerons.proofs.closing.drain.Goals as goal
+use Rattle.ephemerons.proofs.draining.drain_under_keys.Goals as goal
 
 pub loop-preserved : goal.loop-preserved
 loop-preserved c = record {

@@ -1,0 +1,33 @@
+-- What tells of refused pushes, from state to state.
+use Rattle.std.proofs.Common.{◌≡◌, ℕ, inl, inr, arith}
+use Rattle.std.proofs.lemmas.Bool.{cases_lt}
+use Rattle.mark_worklist.specs.Refusals.{Refusals, TellsRefused}
+
+pub told_same : (a : Refusals) → TellsRefused a a
+told_same a = record { kept = λ h. h; no_fewer = omega arith; counted = λ more. absurd (omega (arith, more)); only = λ h. inl h }
+
+pub told_then : (a b c : Refusals) → TellsRefused a b → TellsRefused b c → TellsRefused a c
+told_then a b c x y = record {
+  kept = λ h. y.kept (x.kept h);
+  no_fewer = omega (arith, x.no_fewer, y.no_fewer);
+  counted = λ more. elim (cases_lt a.count b.count) [ inl first ↦ y.kept (x.counted first) | inr not_yet ↦ y.counted (omega (arith, more, not_yet)) ];
+  only = λ h. elim (y.only h) [
+    | inl before ↦ elim (x.only before) [
+      | inl first ↦ inl first
+      | inr rose ↦ inr (elim rose [ inl more ↦ inl (omega (arith, more, y.no_fewer)) | inr last ↦ inr (omega (arith, last, y.no_fewer)) ])
+    ]
+    | inr rose ↦ inr (elim rose [ inl more ↦ inl (omega (arith, more, x.no_fewer)) | inr last ↦ inr last ])
+  ];
+}
+
+-- where the count is the same, the beginning is
+pub told_from : (a c : Refusals) (k : ℕ) → k ≡ a.count → TellsRefused (record { told = a.told; count = k }) c → TellsRefused a c
+told_from a c k same x = record {
+  kept = x.kept;
+  no_fewer = omega (arith, x.no_fewer, same);
+  counted = λ more. x.counted (omega (arith, more, same));
+  only = λ h. elim (x.only h) [
+    | inl before ↦ inl before
+    | inr rose ↦ inr (elim rose [ inl more ↦ inl (omega (arith, more, same)) | inr last ↦ inr last ])
+  ];
+}

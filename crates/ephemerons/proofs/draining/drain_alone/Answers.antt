@@ -1,0 +1,14 @@
+use Rattle.std.proofs.Common.{None}
+use Rattle.ephemerons.specs.Fixpoint.{stage}
+use Rattle.ephemerons.proofs.Stages.{Works-popped, Works-then}
+use Rattle.ephemerons.proofs.draining.drain_alone.Goals as goal
+
+pub loop-place-preserved : goal.loop-place-preserved
+loop-place-preserved c = record {
+  ground = c.trace_grey.ensures.ground;
+  works =
+      Works-then c.args.types.now None _ _ _ c.loop-place.invariant.works
+      (Works-popped c.args.types.now (stage c.loop-place.seat c.loop-place.marking c.loop-place.groups c.loop-place.traced)
+      (stage c.trace_grey.new.seat c.trace_grey.new.marking c.trace_grey.new.groups c.trace_grey.new.traced) c.pop.new.self.items c.in-Some.place
+      c.pop.new.self.refused c.in-Some.ensures.items c.pop.ensures.refused c.trace_grey.ensures.looks.works);
+}

@@ -1,0 +1,183 @@
+// Draining: what is listed is traced, until the list is empty.
+
+ghost use Rattle.std.specs.Prelude.{◌≡◌, ◌<◌, true, false, [], None};
+ghost use Rattle.page_space.specs.Space.{IsSeatOf};
+ghost use Rattle.ephemerons.specs.BodyGraph.{HaveNoPairs};
+ghost use Rattle.ephemerons.specs.Fixpoint.{IsGround, Works, stage, weight};
+
+use crate::notes::Pairs;
+use crate::settling::settle_under;
+use crate::tracing::{trace_grey, trace_pairless};
+use mark_worklist::Marking;
+use page_space::Space;
+use page_words::MutatorSeat;
+use type_table::TypeTable;
+
+/// A list is short where it has less than one object for so many notes.
+const NOTES_FOR_ONE: usize = 8;
+
+/// Traces what is listed, until the list is empty. Which way it goes is told by the list's length
+/// alone: a short list may be the head of a long chain of pairs, and there each note is settled as
+/// soon as its key is traced. After a long one the next look at all notes costs no more than the
+/// objects did, and their index isn't asked for.
+pub(crate) fn drain(
+    space: &Space,
+    types: &TypeTable,
+    seat: &mut MutatorSeat,
+    marking: &mut Marking,
+    groups: &mut [Pairs],
+    traced: &mut u32,
+)
+    requires heap { IsSeatOf space.now seat.old }
+    requires ground { IsGround types.now (stage seat.old marking.old groups.old traced.old) }
+    ensures ground { IsGround types.now (stage seat.new marking.new groups.new traced.new) }
+    ensures works { Works types.now None
+        (stage seat.old marking.old groups.old traced.old)
+        (stage seat.new marking.new groups.new traced.new) }
+    ensures list { marking.new.list.items ≡ [] }
+{
+    if is_short(marking, groups) {
+        drain_under_keys(space, types, seat, marking, groups, traced);
+    } else {
+        drain_alone(space, types, seat, marking, groups, traced);
+    }
+}
+
+/// Whether the list is short beside the notes.
+fn is_short(marking: &Marking, groups: &[Pairs]) -> bool {
+    let mut notes = 0usize;
+    for group in groups {
+        notes = notes.saturating_add(group.count());
+    }
+    marking.list.len() < notes / NOTES_FOR_ONE
+}
+
+/// Traces what is listed, until the list is empty, and settles the notes under each key.
+fn drain_under_keys(
+    space: &Space,
+    types: &TypeTable,
+    seat: &mut MutatorSeat,
+    marking: &mut Marking,
+    groups: &mut [Pairs],
+    traced: &mut u32,
+)
+    requires heap { IsSeatOf space.now seat.old }
+    requires ground { IsGround types.now (stage seat.old marking.old groups.old traced.old) }
+    ensures ground { IsGround types.now (stage seat.new marking.new groups.new traced.new) }
+    ensures works { Works types.now None
+        (stage seat.old marking.old groups.old traced.old)
+        (stage seat.new marking.new groups.new traced.new) }
+    ensures list { marking.new.list.items ≡ [] }
+{
+    while trace_next(space, types, seat, marking, groups, traced) {}
+}
+
+/// Takes an object from the list and traces it, if that is to be done. False where the list is
+/// empty.
+fn trace_next(
+    space: &Space,
+    types: &TypeTable,
+    seat: &mut MutatorSeat,
+    marking: &mut Marking,
+    groups: &mut [Pairs],
+    traced: &mut u32,
+) -> bool
+    requires heap { IsSeatOf space.now seat.old }
+    requires ground { IsGround types.now (stage seat.old marking.old groups.old traced.old) }
+    ensures ground { IsGround types.now (stage seat.new marking.new groups.new traced.new) }
+    ensures works { Works types.now None
+        (stage seat.old marking.old groups.old traced.old)
+        (stage seat.new marking.new groups.new traced.new) }
+    ensures found { result ≡ true → weight (stage seat.new marking.new groups.new traced.new)
+        < weight (stage seat.old marking.old groups.old traced.old) }
+    ensures list { result ≡ false → marking.new.list.items ≡ [] }
+{
+    match marking.list.pop() {
+        Some(place) => {
+            trace_grey(space, types, seat, marking, groups, traced, place);
+            settle_under(space, types, seat, marking, groups, traced, place);
+            true
+        }
+        None => false,
+    }
+}
+
+/// Traces what is listed, until the list is empty, and settles no note.
+fn drain_alone(
+    space: &Space,
+    types: &TypeTable,
+    seat: &mut MutatorSeat,
+    marking: &mut Marking,
+    groups: &mut [Pairs],
+    traced: &mut u32,
+)
+    requires heap { IsSeatOf space.now seat.old }
+    requires ground { IsGround types.now (stage seat.old marking.old groups.old traced.old) }
+    ensures ground { IsGround types.now (stage seat.new marking.new groups.new traced.new) }
+    ensures works { Works types.now None
+        (stage seat.old marking.old groups.old traced.old)
+        (stage seat.new marking.new groups.new traced.new) }
+    ensures list { marking.new.list.items ≡ [] }
+{
+    while let Some(place) = marking.list.pop() {
+        trace_grey(space, types, seat, marking, groups, traced, place);
+    }
+}
+
+/// Traces what is listed, where no type has a pair. It is the way of most heaps, and neither notes
+/// nor their index are looked at for each object.
+pub(crate) fn drain_if_pairless(
+    space: &Space,
+    types: &TypeTable,
+    seat: &mut MutatorSeat,
+    marking: &mut Marking,
+    groups: &[Pairs],
+    traced: &mut u32,
+)
+    requires heap { IsSeatOf space.now seat.old }
+    requires ground { IsGround types.now (stage seat.old marking.old groups.now traced.old) }
+    ensures ground { IsGround types.now (stage seat.new marking.new groups.now traced.new) }
+    ensures works { Works types.now None
+        (stage seat.old marking.old groups.now traced.old)
+        (stage seat.new marking.new groups.now traced.new) }
+{
+    if !has_pairs(types) {
+        drain_pairless(space, types, seat, marking, groups, traced);
+    }
+}
+
+/// Traces what is listed, until the list is empty. Nothing waits for a key.
+// The loop of most collections: alone, it has all registers.
+#[inline(never)]
+fn drain_pairless(
+    space: &Space,
+    types: &TypeTable,
+    seat: &mut MutatorSeat,
+    marking: &mut Marking,
+    groups: &[Pairs],
+    traced: &mut u32,
+)
+    requires heap { IsSeatOf space.now seat.old }
+    requires ground { IsGround types.now (stage seat.old marking.old groups.now traced.old) }
+    requires pairless { HaveNoPairs types.now }
+    ensures ground { IsGround types.now (stage seat.new marking.new groups.now traced.new) }
+    ensures works { Works types.now None
+        (stage seat.old marking.old groups.now traced.old)
+        (stage seat.new marking.new groups.now traced.new) }
+{
+    while let Some(place) = marking.list.pop() {
+        trace_pairless(space, types, seat, marking, groups, traced, place);
+    }
+}
+
+/// Whether a type has a pair.
+fn has_pairs(types: &TypeTable) -> bool
+    ensures { result ≡ false → HaveNoPairs types.now }
+{
+    for ty in 0..types.count() {
+        if !types.pair_words(ty).is_empty() {
+            return true;
+        }
+    }
+    false
+}
