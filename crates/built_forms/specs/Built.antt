@@ -6,13 +6,6 @@ use Rattle.gc_graph.specs.declared.command.Want.{Want}
 use Rattle.gc_graph.specs.declared.command.Want.TheVariants.{Precise, Conservative}
 use Rattle.gc_graph.specs.declared.phase.Phase.{Phase}
 use Rattle.gc_graph.specs.declared.phase.Phase.TheVariants.{Idle}
-use Rattle.gc_graph.specs.State.{ObjectType}
-
--- ---- types
-
--- fields of all kinds, and no prefinalizers
-abbrev pub is_built_type : ObjectType → Bool
-is_built_type type = length type.prefinalizers == 0
 
 -- ---- commands
 
@@ -79,10 +72,6 @@ is_timely before command = true
 -- such a command, where it can come
 abbrev pub is_built_after : List Command → Command → Bool
 is_built_after before command = is_built command && is_timely before command
-
--- each type is built
-abbrev pub AreBuiltTypes : List ObjectType → Type 0
-AreBuiltTypes types = (t : ℕ) (type : ObjectType) → slice_get types t ≡ Some type → is_built_type type ≡ true
 
 -- each command is built, after those before it
 abbrev pub AreBuiltCommands : List Command → Type 0

@@ -1,10 +1,9 @@
-// Which commands and types the program does.
+// Which commands the program does.
 
 ghost use Rattle.std.specs.Prelude.{◌≡◌};
 ghost use Rattle.built_forms.specs.Built as spec;
 
 use gc_graph::{Command, Want};
-use type_table::TypeDecl;
 
 /// Whether the program does the command, wherever it stands.
 pub fn is_built(command: &Command) -> bool
@@ -30,11 +29,4 @@ pub fn is_built(command: &Command) -> bool
         Command::GcNow { want } => matches!(want, Want::Precise),
         _ => false,
     }
-}
-
-/// Whether the program does objects of the type.
-pub fn is_built_type(decl: &TypeDecl) -> bool
-    ensures { result ≡ spec.is_built_type decl.now }
-{
-    decl.callbacks().is_empty()
 }

@@ -2,6 +2,7 @@
 use Rattle.std.proofs.Common.{◌≡◌, ℕ, List, ◌++◌, Option, Some, None, refl, sym, ap, ◌∙◌, subst}
 use Rattle.std.specs.Prelude.{Result, Ok, Err, OnOk, OnErr}
 use Rattle.std.proofs.lemmas.List.{append-nil, append_assoc, append_cancel_left}
+use Rattle.gc_graph.specs.declared.action.ActionKind.{ActionKind}
 use Rattle.gc_graph.specs.State.{Shape}
 use Rattle.gc_graph.specs.Script.{Script}
 use Rattle.heap_script.specs.Devices.{GrewByFront}
@@ -28,10 +29,10 @@ front_taken (Some old) z pieces text t g =
     let front : t.text ++ pieces.held ≡ g.0 = append_cancel_left old (t.text ++ pieces.held) g.0 (sym (append_assoc old t.text pieces.held) ∙ bytes) in
     (t.text, pieces.held ++ g.1, g.2 ∙ ap (λ (f : List ℕ). f ++ g.1) (sym front) ∙ append_assoc t.text pieces.held g.1, t.grew)
 
-pub cut_out : (shape : Shape) (script : Script) (w z : Option (List ℕ)) (first last : PiecesState) → first ≡ no_pieces → TookMore w z
-    → IsCutShort shape script (with_held w first) (with_held z last) → IsCutShort shape script w z
-cut_out shape script w z first last none t cut =
-    let from = subst (λ (o : Option (List ℕ)). IsCutShort shape script o (with_held z last)) (nothing_held w first none) cut in
+pub cut_out : (kinds : List ActionKind) (shape : Shape) (script : Script) (w z : Option (List ℕ)) (first last : PiecesState) → first ≡ no_pieces → TookMore w z
+    → IsCutShort kinds shape script (with_held w first) (with_held z last) → IsCutShort kinds shape script w z
+cut_out kinds shape script w z first last none t cut =
+    let from = subst (λ (o : Option (List ℕ)). IsCutShort kinds shape script o (with_held z last)) (nothing_held w first none) cut in
     record {
       number = from.number;
       within = from.within;
@@ -45,16 +46,16 @@ cut_out shape script w z first last none t cut =
 
 -- ---- at the end
 
-pub whole_at_last : {T E : Type 0} (shape : Shape) (script : Script) (w z : Option (List ℕ)) (first last : PiecesState) (heap : View) (result : Result T E)
-    → first ≡ no_pieces → OnOk result (last ≡ no_pieces) → OnOk result (IsWholeRun shape script (with_held w first) (with_held z last) heap)
-    → OnOk result (IsWholeRun shape script w z heap)
-whole_at_last shape script w z first last heap (Ok u) none out whole =
-    subst (λ (o : Option (List ℕ)). IsWholeRun shape script w o heap) (nothing_held z last out)
-    (subst (λ (o : Option (List ℕ)). IsWholeRun shape script o (with_held z last) heap) (nothing_held w first none) whole)
-whole_at_last shape script w z first last heap (Err e) none out whole = tt
+pub whole_at_last : {T E : Type 0} (kinds : List ActionKind) (shape : Shape) (script : Script) (w z : Option (List ℕ)) (first last : PiecesState) (heap : View) (result : Result T E)
+    → first ≡ no_pieces → OnOk result (last ≡ no_pieces) → OnOk result (IsWholeRun kinds shape script (with_held w first) (with_held z last) heap)
+    → OnOk result (IsWholeRun kinds shape script w z heap)
+whole_at_last kinds shape script w z first last heap (Ok u) none out whole =
+    subst (λ (o : Option (List ℕ)). IsWholeRun kinds shape script w o heap) (nothing_held z last out)
+    (subst (λ (o : Option (List ℕ)). IsWholeRun kinds shape script o (with_held z last) heap) (nothing_held w first none) whole)
+whole_at_last kinds shape script w z first last heap (Err e) none out whole = tt
 
-pub cut_at_last : {T E : Type 0} (shape : Shape) (script : Script) (w z : Option (List ℕ)) (first last : PiecesState) (result : Result T E)
-    → first ≡ no_pieces → TookMore w z → OnErr result (IsCutShort shape script (with_held w first) (with_held z last))
-    → OnErr result (IsCutShort shape script w z)
-cut_at_last shape script w z first last (Ok u) none t cut = tt
-cut_at_last shape script w z first last (Err e) none t cut = cut_out shape script w z first last none t cut
+pub cut_at_last : {T E : Type 0} (kinds : List ActionKind) (shape : Shape) (script : Script) (w z : Option (List ℕ)) (first last : PiecesState) (result : Result T E)
+    → first ≡ no_pieces → TookMore w z → OnErr result (IsCutShort kinds shape script (with_held w first) (with_held z last))
+    → OnErr result (IsCutShort kinds shape script w z)
+cut_at_last kinds shape script w z first last (Ok u) none t cut = tt
+cut_at_last kinds shape script w z first last (Err e) none t cut = cut_out kinds shape script w z first last none t cut

@@ -1,5 +1,5 @@
 -- What a run answers, where its bytes were read.
-use Rattle.std.proofs.Common.{◌≡◌, ℕ, List, [], Option, Some, None, refl, sym, subst, inl, inr}
+use Rattle.std.proofs.Common.{◌≡◌, ℕ, List, [], length, Option, option_map, Some, None, refl, sym, subst, inl, inr}
 use Rattle.std.specs.Prelude.{MatchOption, ◌==◌, if◌then◌else◌}
 use Rattle.heap_script.specs.Devices.{Grew, IsReadFrom}
 use Rattle.heap_engine.specs.View.{View}
@@ -8,32 +8,33 @@ use Rattle.cppgc_main.specs.declared.status.Status.TheVariants as S
 use Rattle.cppgc_main.specs.Options.{shape_asked}
 use Rattle.cppgc_main.specs.Headline.{status_of_fault, RunsBytes, RunsScript, IsDone, IsStopped, IsUnbuiltInput}
 use Rattle.cppgc_main.proofs.Inputs.{read_whole_of}
+use Rattle.gc_graph.specs.declared.action.ActionKind.{ActionKind}
 use Rattle.gc_graph.specs.State.{Shape}
 use Rattle.gc_graph.specs.Script.{Script}
 use Rattle.heap_script.specs.Scripts.{IsBuiltScript, IsUnbuiltFault}
 use Rattle.heap_script.specs.declared.script.ScriptFault.{ScriptFault}
 
 -- an answer to the script is one to its bytes
-pub bytes_of_script : (shape : Shape) (bytes : List ℕ) (script : Script) (w z : Option (List ℕ)) (kept : Option View) (status : Status)
-    → IsBuiltScript 0 bytes script → RunsScript shape script w z kept status → RunsBytes shape bytes w z kept status
-bytes_of_script shape bytes script w z kept S.Done is answer = (script, is, answer)
-bytes_of_script shape bytes script w z kept S.WriteFault is answer = (script, is, answer.0, answer.1)
-bytes_of_script shape bytes script w z kept S.NoMemory is answer = answer
-bytes_of_script shape bytes script w z kept S.TooLong is answer = absurd answer
-bytes_of_script shape bytes script w z kept (S.Script line reason) is answer = absurd answer
-bytes_of_script shape bytes script w z kept S.ReadFault is answer = absurd answer
-bytes_of_script shape bytes script w z kept S.Usage is answer = absurd answer
+pub bytes_of_script : (kinds : List ActionKind) (shape : Shape) (bytes : List ℕ) (script : Script) (w z : Option (List ℕ)) (kept : Option View) (status : Status)
+    → IsBuiltScript (length kinds) bytes script → RunsScript kinds shape script w z kept status → RunsBytes kinds shape bytes w z kept status
+bytes_of_script kinds shape bytes script w z kept S.Done is answer = (script, is, answer)
+bytes_of_script kinds shape bytes script w z kept S.WriteFault is answer = (script, is, answer.0, answer.1)
+bytes_of_script kinds shape bytes script w z kept S.NoMemory is answer = answer
+bytes_of_script kinds shape bytes script w z kept S.TooLong is answer = absurd answer
+bytes_of_script kinds shape bytes script w z kept (S.Script line reason) is answer = absurd answer
+bytes_of_script kinds shape bytes script w z kept S.ReadFault is answer = absurd answer
+bytes_of_script kinds shape bytes script w z kept S.Usage is answer = absurd answer
 
 -- the bytes with which a run was answered were read
-pub record Answers (shape : Shape) (lo ln w z : Option (List ℕ)) (kept : Option View) (status : Status) : Type 0 where
+pub record Answers (kinds : List ActionKind) (shape : Shape) (lo ln w z : Option (List ℕ)) (kept : Option View) (status : Status) : Type 0 where
   pub bytes : List ℕ
   pub read : IsReadFrom lo ln 16777216 bytes
-  pub answer : RunsBytes shape bytes w z kept status
+  pub answer : RunsBytes kinds shape bytes w z kept status
 
-done_of : (words : List (List ℕ)) (shape : Shape) → shape_asked words ≡ Some shape → (lo ln w z : Option (List ℕ)) (kept : Option View) (bytes : List ℕ) → IsReadFrom lo ln 16777216 bytes
-    → RunsBytes shape bytes w z kept S.Done → MatchOption kept ⊥ (λ heap. IsDone words lo ln w z heap)
-done_of words shape asked lo ln w z None bytes read answer = answer.2
-done_of words shape asked lo ln w z (Some heap) bytes read answer = record {
+done_of : (kinds : List ActionKind) (words : List (List ℕ)) (shape : Shape) → shape_asked words ≡ Some shape → (lo ln w z : Option (List ℕ)) (kept : Option View) (bytes : List ℕ) → IsReadFrom lo ln 16777216 bytes
+    → RunsBytes kinds shape bytes w z kept S.Done → MatchOption kept ⊥ (λ heap. IsDone kinds words lo ln w z heap)
+done_of kinds words shape asked lo ln w z None bytes read answer = answer.2
+done_of kinds words shape asked lo ln w z (Some heap) bytes read answer = record {
   shape = shape;
   asked = asked;
   script = answer.0;
@@ -41,14 +42,14 @@ done_of words shape asked lo ln w z (Some heap) bytes read answer = record {
   run = answer.2;
 }
 
-pub answers_done : (words : List (List ℕ)) (shape : Shape) → shape_asked words ≡ Some shape → (lo ln w z : Option (List ℕ)) (kept : Option View) (status : Status) → Answers shape lo ln w z kept status → status ≡ S.Done
-    → MatchOption kept ⊥ (λ heap. IsDone words lo ln w z heap)
-answers_done words shape asked lo ln w z kept status a is = done_of words shape asked lo ln w z kept a.bytes a.read (subst (RunsBytes shape a.bytes w z kept) is a.answer)
+pub answers_done : (kinds : List ActionKind) (words : List (List ℕ)) (shape : Shape) → shape_asked words ≡ Some shape → (lo ln w z : Option (List ℕ)) (kept : Option View) (status : Status) → Answers kinds shape lo ln w z kept status → status ≡ S.Done
+    → MatchOption kept ⊥ (λ heap. IsDone kinds words lo ln w z heap)
+answers_done kinds words shape asked lo ln w z kept status a is = done_of kinds words shape asked lo ln w z kept a.bytes a.read (subst (RunsBytes kinds shape a.bytes w z kept) is a.answer)
 
-pub answers_stopped : (words : List (List ℕ)) (shape : Shape) → shape_asked words ≡ Some shape → (lo ln w z : Option (List ℕ)) (kept : Option View) (status : Status) → Answers shape lo ln w z kept status → status ≡ S.WriteFault
-    → IsStopped words lo ln w z
-answers_stopped words shape asked lo ln w z kept status a is =
-    let answer = subst (RunsBytes shape a.bytes w z kept) is a.answer in
+pub answers_stopped : (kinds : List ActionKind) (words : List (List ℕ)) (shape : Shape) → shape_asked words ≡ Some shape → (lo ln w z : Option (List ℕ)) (kept : Option View) (status : Status) → Answers kinds shape lo ln w z kept status → status ≡ S.WriteFault
+    → IsStopped kinds words lo ln w z
+answers_stopped kinds words shape asked lo ln w z kept status a is =
+    let answer = subst (RunsBytes kinds shape a.bytes w z kept) is a.answer in
     record {
       shape = shape;
       asked = asked;
@@ -57,10 +58,10 @@ answers_stopped words shape asked lo ln w z kept status a is =
       run = answer.3;
     }
 
-pub answers_script : (shape : Shape) (lo ln w z : Option (List ℕ)) (kept : Option View) (status : Status) → Answers shape lo ln w z kept status
-    → (line reason : ℕ) → status ≡ S.Script line reason → (reason ≡ 9) × IsUnbuiltInput lo ln line
-answers_script shape lo ln w z kept status a line reason is =
-    let answer = subst (RunsBytes shape a.bytes w z kept) is a.answer in (
+pub answers_script : (kinds : List ActionKind) (shape : Shape) (lo ln w z : Option (List ℕ)) (kept : Option View) (status : Status) → Answers kinds shape lo ln w z kept status
+    → (line reason : ℕ) → status ≡ S.Script line reason → (reason ≡ 9) × IsUnbuiltInput (length kinds) lo ln line
+answers_script kinds shape lo ln w z kept status a line reason is =
+    let answer = subst (RunsBytes kinds shape a.bytes w z kept) is a.answer in (
       answer.2,
       record {
         bytes = a.bytes;
@@ -71,3 +72,10 @@ answers_script shape lo ln w z kept status a line reason is =
         unbuilt = answer.4.2;
       },
     )
+
+-- ---- a heap is seen by its core
+
+-- what is so of what is seen of a heap, where one is kept
+pub of_kept : {A B : Type 0} (seen : A → B) (P : B → Type 0) (kept : Option A) → MatchOption (option_map seen kept) ⊥ P → MatchOption kept ⊥ (λ heap. P (seen heap))
+of_kept seen P None is = is
+of_kept seen P (Some heap) is = is

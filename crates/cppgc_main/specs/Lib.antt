@@ -1,3 +1,4 @@
+pub mod Callbacks
 pub mod Setting
 pub mod Options
 pub mod Printed

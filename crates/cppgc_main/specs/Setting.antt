@@ -1,10 +1,11 @@
 -- The heap that the program makes, and the scripts that it can run.
-use Rattle.std.specs.Prelude.{List, []}
+use Rattle.std.specs.Prelude.{ℕ, List}
+use Rattle.gc_graph.specs.declared.action.ActionKind.{ActionKind}
 use Rattle.gc_graph.specs.declared.command.Command.{Command}
 use Rattle.gc_graph.specs.State.{Setup, Shape, ObjectType}
 use Rattle.gc_graph.specs.Script.{Script}
 use Rattle.gc_graph.specs.ScriptLaw.{IsInRanges}
-use Rattle.built_forms.specs.Built.{AreBuiltTypes, AreBuiltCommands}
+use Rattle.built_forms.specs.Built.{AreBuiltCommands}
 use Rattle.heap_engine.specs.declared.heap.Config.{Config}
 
 -- 64 pages of 16,384 words
@@ -15,16 +16,15 @@ default_shape = record { pages = 64; page_words = 16384 }
 abbrev pub shape_of : Config → Shape
 shape_of config = record { pages = config.pages; page_words = config.page_words }
 
--- a heap of the shape without markers and callbacks, with the types of a script
-abbrev pub setup_of : Shape → List ObjectType → Setup
-setup_of shape types = record { shape = shape; markers = 0; types = types; callbacks = [] }
+-- a heap of the shape without markers, with callbacks of these kinds and the types of a script
+abbrev pub setup_of : List ActionKind → Shape → List ObjectType → Setup
+setup_of kinds shape types = record { shape = shape; markers = 0; types = types; callbacks = kinds }
 
 -- the script whose types a heap has, with these commands
 abbrev pub script_on : Setup → List Command → Script
 script_on setup commands = record { types = setup.types; commands = commands }
 
--- what the script says is built, and in the ranges that a heap without callbacks wants
-pub record IsRunnable (script : Script) : Type 0 where
-  pub types : AreBuiltTypes script.types
+-- what the script says is built, and in the ranges that a heap with so many callbacks wants
+pub record IsRunnable (callbacks : ℕ) (script : Script) : Type 0 where
   pub commands : AreBuiltCommands script.commands
-  pub ranges : IsInRanges 0 script
+  pub ranges : IsInRanges callbacks script

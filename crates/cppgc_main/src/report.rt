@@ -22,24 +22,28 @@ use heap_script::{Failed, Pieces, Sink};
 /// Does the commands of a script on a new heap, prints the report, and closes the heap. So many
 /// types has the heap.
 pub(crate) fn print_report<K: Sink>(
-    heap: &mut Heap,
+    heap: &mut Heap<'_>,
     types: u32,
     commands: &[Command],
     pieces: &mut Pieces,
     sink: &mut K,
 ) -> Result<(), Failed>
-    requires runnable { IsRunnable (script_on heap.old.setup commands.now) }
-    requires setup { heap.old.setup ≡ setup_of heap.old.setup.shape heap.old.setup.types }
-    requires types { types ≡ length heap.old.setup.types }
-    requires start { heap.old.state ≡ empty_state }
-    requires fresh { heap.old.history ≡ [] }
-    requires opened { heap.old.closed ≡ false }
+    requires runnable { IsRunnable (length heap.old.core.setup.callbacks)
+        (script_on heap.old.core.setup commands.now) }
+    requires setup { heap.old.core.setup ≡ setup_of heap.old.core.setup.callbacks
+        heap.old.core.setup.shape heap.old.core.setup.types }
+    requires types { types ≡ length heap.old.core.setup.types }
+    requires start { heap.old.core.state ≡ empty_state }
+    requires fresh { heap.old.core.history ≡ [] }
+    requires opened { heap.old.core.closed ≡ false }
     requires empty { pieces.old ≡ no_pieces }
     ensures done { OnOk result
-        (IsWholeRun heap.old.setup.shape (script_on heap.old.setup commands.now)
-        (K.written sink.old) (K.written sink.new) heap.new) }
+        (IsWholeRun heap.old.core.setup.callbacks heap.old.core.setup.shape
+        (script_on heap.old.core.setup commands.now)
+        (K.written sink.old) (K.written sink.new) heap.new.core) }
     ensures part { OnErr result
-        (IsCutShort heap.old.setup.shape (script_on heap.old.setup commands.now)
+        (IsCutShort heap.old.core.setup.callbacks heap.old.core.setup.shape
+        (script_on heap.old.core.setup commands.now)
         (K.written sink.old) (K.written sink.new)) }
     ensures cause { HasCause (K.faults sink.old) (K.faults sink.new) result }
 {
@@ -88,26 +92,26 @@ fn print_types<K: Sink>(count: u32, pieces: &mut Pieces, sink: &mut K) -> Result
 
 /// Does the commands in order, and prints each outcome.
 fn print_all<K: Sink>(
-    heap: &mut Heap,
+    heap: &mut Heap<'_>,
     commands: &[Command],
     pieces: &mut Pieces,
     sink: &mut K,
 ) -> Result<(), Failed>
-    requires start { heap.old.state ≡ empty_state }
-    requires fresh { heap.old.history ≡ [] }
-    requires opened { heap.old.closed ≡ false }
-    requires allowed { All (IsAllowed (length heap.old.setup.types)) commands.now }
+    requires start { heap.old.core.state ≡ empty_state }
+    requires fresh { heap.old.core.history ≡ [] }
+    requires opened { heap.old.core.closed ≡ false }
+    requires allowed { All (IsAllowed (length heap.old.core.setup.types)) commands.now }
     requires few { length commands.now ≤ 1000000 }
     requires built { AreBuiltCommands commands.now }
-    ensures done { OnOk result (IsPrintedRun heap.old.setup commands.now
+    ensures done { OnOk result (IsPrintedRun heap.old.core.setup commands.now
         (with_held (K.written sink.old) pieces.old)
-        (with_held (K.written sink.new) pieces.new) heap.new) }
-    ensures part { OnErr result (IsPartRun heap.old.setup commands.now
+        (with_held (K.written sink.new) pieces.new) heap.new.core) }
+    ensures part { OnErr result (IsPartRun heap.old.core.setup commands.now
         (with_held (K.written sink.old) pieces.old)
         (with_held (K.written sink.new) pieces.new)) }
     ensures taken { TookMore (K.written sink.old) (K.written sink.new) }
-    ensures setup { heap.new.setup ≡ heap.old.setup }
-    ensures count { OnOk result (heap.new.state.ordinal ≡ length commands.now) }
+    ensures setup { heap.new.core.setup ≡ heap.old.core.setup }
+    ensures count { OnOk result (heap.new.core.state.ordinal ≡ length commands.now) }
     ensures cause { HasCause (K.faults sink.old) (K.faults sink.new) result }
 {
     for command in commands {
@@ -121,26 +125,26 @@ fn print_all<K: Sink>(
 
 /// Does a command, and prints the lines of its outcome.
 fn print_outcome<K: Sink>(
-    heap: &mut Heap,
+    heap: &mut Heap<'_>,
     command: &Command,
     pieces: &mut Pieces,
     sink: &mut K,
 ) -> Result<(), Failed>
-    requires few { heap.old.state.ordinal < 1000000 }
-    requires opened { heap.old.closed ≡ false }
-    requires allowed { IsAllowed (length heap.old.setup.types) command.now }
-    requires built { IsBuiltIn heap.old.state.phase command.now }
-    ensures step { Step heap.old.setup heap.old.state command.now
-        heap.new.piece heap.new.lines heap.new.state }
-    ensures calm { is_marking heap.new.state.phase ≡ false }
-    ensures alone { heap.new.state.running ≡ [] }
+    requires few { heap.old.core.state.ordinal < 1000000 }
+    requires opened { heap.old.core.closed ≡ false }
+    requires allowed { IsAllowed (length heap.old.core.setup.types) command.now }
+    requires built { IsBuiltIn heap.old.core.state.phase command.now }
+    ensures step { Step heap.old.core.setup heap.old.core.state command.now
+        heap.new.core.piece heap.new.core.lines heap.new.core.state }
+    ensures calm { is_marking heap.new.core.state.phase ≡ false }
+    ensures alone { heap.new.core.state.running ≡ [] }
     ensures bytes { Writes (with_held (K.written sink.old) pieces.old)
-        (with_held (K.written sink.new) pieces.new) (lines_bytes heap.new.lines) result }
+        (with_held (K.written sink.new) pieces.new) (lines_bytes heap.new.core.lines) result }
     ensures taken { TookMore (K.written sink.old) (K.written sink.new) }
-    ensures history { heap.new.history ≡ heap.old.history ++ heap.new.piece }
-    ensures ordinal { heap.new.state.ordinal ≡ heap.old.state.ordinal + 1 }
-    ensures setup { heap.new.setup ≡ heap.old.setup }
-    ensures closed { heap.new.closed ≡ false }
+    ensures history { heap.new.core.history ≡ heap.old.core.history ++ heap.new.core.piece }
+    ensures ordinal { heap.new.core.state.ordinal ≡ heap.old.core.state.ordinal + 1 }
+    ensures setup { heap.new.core.setup ≡ heap.old.core.setup }
+    ensures closed { heap.new.core.closed ≡ false }
     ensures cause { HasCause (K.faults sink.old) (K.faults sink.new) result }
 {
     let count = heap.act(command);

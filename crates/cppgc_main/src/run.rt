@@ -2,6 +2,8 @@
 
 ghost use Rattle.std.specs.Prelude.{◌≡◌, ◌↔◌, ℕ, ◌<◌};
 ghost use Rattle.std.specs.Prelude.{◌≤◌, [], length, map, string_bytes, None, MatchOption, IfOk};
+ghost use Rattle.std.specs.Prelude.{option_map};
+ghost use Rattle.callback_table.specs.Table.{kinds_of};
 ghost use Rattle.heap_script.specs.Causes.{Rose};
 ghost use Rattle.heap_script.specs.Devices.{Grew};
 ghost use Rattle.gc_graph.specs.Shapes.{IsShape};
@@ -14,6 +16,7 @@ ghost use Rattle.cppgc_main.specs.Headline.{IsDone, IsStopped, IsTooLongInput, I
 use super::options::config_asked;
 use super::report::print_report;
 use super::status::Status;
+use callback_table::CallbackTable;
 use heap_engine::{Config, Heap};
 use heap_script::{
     NoMemory, Pieces, ReadError, Script, ScriptFault, Sink, Source, read_built, read_whole,
@@ -29,23 +32,26 @@ const NO_MEMORY: u32 = 0;
 const TOO_LONG: u32 = 8;
 
 /// Reads a script, runs it on one heap, and writes its report. When memory is wanting is free.
-pub fn run<S: Source, K: Sink>(
+pub fn run<'a, S: Source, K: Sink>(
     alloc: Global,
     words: &[String],
     source: &mut S,
     sink: &mut K,
-    kept: &mut Option<Heap>,
+    callbacks: &'a CallbackTable,
+    kept: &mut Option<Heap<'a>>,
 ) -> Status
     requires { kept.old ≡ None }
     ensures done { result ≡ Status.Done → MatchOption kept.new ⊥ (λ heap. IsDone
+        (kinds_of callbacks.now) (map string_bytes words.now) (S.left source.old)
+        (S.left source.new) (K.written sink.old) (K.written sink.new) heap.core) }
+    ensures stopped { result ≡ Status.WriteFault → IsStopped (kinds_of callbacks.now)
         (map string_bytes words.now) (S.left source.old) (S.left source.new)
-        (K.written sink.old) (K.written sink.new) heap) }
-    ensures stopped { result ≡ Status.WriteFault → IsStopped (map string_bytes words.now)
-        (S.left source.old) (S.left source.new) (K.written sink.old) (K.written sink.new) }
+        (K.written sink.old) (K.written sink.new) }
     ensures too_long { result ≡ Status.TooLong →
         IsTooLongInput (S.left source.old) (S.left source.new) }
     ensures script { (line reason : ℕ) → result ≡ Status.Script line reason →
-        (reason ≡ 9) × IsUnbuiltInput (S.left source.old) (S.left source.new) line }
+        (reason ≡ 9) × IsUnbuiltInput (length (kinds_of callbacks.now))
+        (S.left source.old) (S.left source.new) line }
     ensures usage { (result ≡ Status.Usage) ↔ (shape_asked (map string_bytes words.now) ≡ None) }
     ensures source_untouched { result ≡ Status.Usage → IsUntouched
         (S.left source.old) (S.left source.new) (S.faults source.old) (S.faults source.new) }
@@ -70,31 +76,32 @@ pub fn run<S: Source, K: Sink>(
         None => return Status::Usage,
     };
     match read_whole(alloc, source, MOST_BYTES) {
-        Ok(bytes) => run_bytes(alloc, config, &bytes, sink, kept),
+        Ok(bytes) => run_bytes(alloc, config, &bytes, sink, callbacks, kept),
         Err(ReadError::Fault) => Status::ReadFault,
         Err(ReadError::Memory) => Status::NoMemory,
     }
 }
 
 /// Runs the script that the bytes are, on a heap of this shape.
-pub(crate) fn run_bytes<K: Sink>(
+pub(crate) fn run_bytes<'a, K: Sink>(
     alloc: Global,
     config: Config,
     bytes: &[u8],
     sink: &mut K,
-    kept: &mut Option<Heap>,
+    callbacks: &'a CallbackTable,
+    kept: &mut Option<Heap<'a>>,
 ) -> Status
     requires empty { kept.old ≡ None }
     requires shape { IsShape (shape_of config) }
-    ensures answer { RunsBytes (shape_of config) bytes.now
-        (K.written sink.old) (K.written sink.new) kept.new result }
+    ensures answer { RunsBytes (kinds_of callbacks.now) (shape_of config) bytes.now
+        (K.written sink.old) (K.written sink.new) (option_map (λ heap. heap.core) kept.new) result }
     ensures fault { result ≡ Status.WriteFault → Rose (K.faults sink.old) (K.faults sink.new) }
     ensures later { K.faults sink.old ≤ K.faults sink.new }
     ensures steady { ¬ (result ≡ Status.WriteFault) → K.faults sink.new ≡ K.faults sink.old }
 {
     gc_graph::scripts_are_in_ranges();
-    match read_built(alloc, bytes, 0) {
-        Ok(script) => run_script(alloc, config, script, sink, kept),
+    match read_built(alloc, bytes, callbacks.len()) {
+        Ok(script) => run_script(alloc, config, script, sink, callbacks, kept),
         Err(fault) => status_of(fault),
     }
 }
@@ -113,18 +120,19 @@ fn status_of(fault: ScriptFault) -> Status
 }
 
 /// Runs a script on a heap of its own.
-fn run_script<K: Sink>(
+fn run_script<'a, K: Sink>(
     alloc: Global,
     config: Config,
     script: Script,
     sink: &mut K,
-    kept: &mut Option<Heap>,
+    callbacks: &'a CallbackTable,
+    kept: &mut Option<Heap<'a>>,
 ) -> Status
     requires empty { kept.old ≡ None }
     requires shape { IsShape (shape_of config) }
-    requires runnable { IsRunnable script }
-    ensures answer { RunsScript (shape_of config) script
-        (K.written sink.old) (K.written sink.new) kept.new result }
+    requires runnable { IsRunnable (length (kinds_of callbacks.now)) script }
+    ensures answer { RunsScript (kinds_of callbacks.now) (shape_of config) script
+        (K.written sink.old) (K.written sink.new) (option_map (λ heap. heap.core) kept.new) result }
     ensures fault { result ≡ Status.WriteFault → Rose (K.faults sink.old) (K.faults sink.new) }
     ensures later { K.faults sink.old ≤ K.faults sink.new }
     ensures steady { ¬ (result ≡ Status.WriteFault) → K.faults sink.new ≡ K.faults sink.old }
@@ -135,11 +143,11 @@ fn run_script<K: Sink>(
     };
     let count = script.types().len() as u32;
     let (types, commands) = script.into_parts();
-    let table = match table_of(alloc, types) {
+    let table = match table_of(alloc, types, callbacks.len()) {
         Ok(table) => table,
         Err(_) => return Status::NoMemory,
     };
-    match Heap::new(alloc, config, table) {
+    match Heap::new(alloc, config, table, callbacks) {
         Ok(mut heap) => match print_report(&mut heap, count, &commands, &mut pieces, sink) {
             Ok(()) => {
                 *kept = Some(heap);
@@ -152,11 +160,11 @@ fn run_script<K: Sink>(
 }
 
 /// The types that a script declares make a table, where memory suffices.
-fn table_of(alloc: Global, types: Vec<TypeDecl>) -> Result<TypeTable, NoMemory>
-    requires { AreGoodTypes 0 types.items }
+fn table_of(alloc: Global, types: Vec<TypeDecl>, callbacks: u32) -> Result<TypeTable, NoMemory>
+    requires { AreGoodTypes callbacks types.items }
     ensures { IfOk result (λ table. table ≡ types.items) }
 {
-    match TypeTable::new(alloc, types, 0) {
+    match TypeTable::new(alloc, types, callbacks) {
         Ok(table) => Ok(table),
         Err(TypeFault::NoMemory) => Err(NoMemory),
         Err(TypeFault::TooManyTypes { .. }) => unreachable!(),

@@ -23,6 +23,7 @@ mod text_devices;
 mod types;
 mod weakness;
 
+use super::callbacks::program_callbacks;
 use super::run::run;
 use super::status::Status;
 use heap_script::{ListSink, ListSource, NoMemory, read_whole};
@@ -78,8 +79,9 @@ fn try_on(
     let mut source = ListSource::new(script, devices.most, bad_reads);
     let mut sink = ListSink::new(alloc, devices.most, bad_writes);
     sink.reserve(devices.room)?;
+    let callbacks = program_callbacks(alloc)?;
     let mut kept = None;
-    let status = run(alloc, &owned, &mut source, &mut sink, &mut kept);
+    let status = run(alloc, &owned, &mut source, &mut sink, &callbacks, &mut kept);
     let left = read_whole(alloc, &mut source, 1000).ok();
     Ok(Trial {
         status,

@@ -34,30 +34,28 @@ live_reference nodes v bound Null held live is = inl refl
 live_reference nodes v bound (Ref n) held live is = inr (body_of (place_of nodes) n (node_at nodes n), node_body nodes v n held (live_is_there nodes n live), refl)
 live_reference nodes v bound (Word w) held live is = absurd is
 
--- the words of an object's values that hold references
-reference_word : (nodes : List Node) (v : SeatView) (bound : ℕ) (kinds : List Kind) (values : List Value) (i : ℕ) → v.bodies ≡ bodies_of nodes → HaveKinds bound kinds values
-    → All (NamesLive nodes) values → is_plain (get_or (kinds_of_words kinds) i Plain) ≡ false → IsReference v.bodies (get_or (map (word_of (place_of nodes)) values) i 0)
-reference_word nodes v bound [] values i held have live told = absurd (true≢false told)
-reference_word nodes v bound (Strong ∷ kinds) [] i held have live told = absurd have
-reference_word nodes v bound (Weak ∷ kinds) [] i held have live told = absurd have
-reference_word nodes v bound (Pair ∷ kinds) [] i held have live told = absurd have
-reference_word nodes v bound (Plain ∷ kinds) [] i held have live told = absurd have
-reference_word nodes v bound (Strong ∷ kinds) (x ∷ values) zero held have live told = live_reference nodes v bound x held (All-head (NamesLive nodes) x values live) have.0
-reference_word nodes v bound (Strong ∷ kinds) (x ∷ values) (suc i) held have live told =
-    reference_word nodes v bound kinds values i held have.1 (All-tail (NamesLive nodes) x values live) told
-reference_word nodes v bound (Weak ∷ kinds) (x ∷ values) zero held have live told = live_reference nodes v bound x held (All-head (NamesLive nodes) x values live) have.0
-reference_word nodes v bound (Weak ∷ kinds) (x ∷ values) (suc i) held have live told =
-    reference_word nodes v bound kinds values i held have.1 (All-tail (NamesLive nodes) x values live) told
-reference_word nodes v bound (Plain ∷ kinds) (x ∷ values) zero held have live told = absurd (true≢false told)
-reference_word nodes v bound (Plain ∷ kinds) (x ∷ values) (suc i) held have live told =
-    reference_word nodes v bound kinds values i held have.1 (All-tail (NamesLive nodes) x values live) told
-reference_word nodes v bound (Pair ∷ kinds) (key ∷ []) i held have live told = absurd have
-reference_word nodes v bound (Pair ∷ kinds) (key ∷ x ∷ values) zero held have live told =
-    live_reference nodes v bound key held (All-head (NamesLive nodes) key (x ∷ values) live) have.0
-reference_word nodes v bound (Pair ∷ kinds) (key ∷ x ∷ values) (suc zero) held have live told =
-    live_reference nodes v bound x held (All-head (NamesLive nodes) x values (All-tail (NamesLive nodes) key (x ∷ values) live)) have.1
-reference_word nodes v bound (Pair ∷ kinds) (key ∷ x ∷ values) (suc (suc i)) held have live told =
-    reference_word nodes v bound kinds values i held have.3 (All-tail (NamesLive nodes) x values (All-tail (NamesLive nodes) key (x ∷ values) live)) told
+-- the words of an object's values that hold references, where values that are so refer to bodies
+module _ (place : ℕ → ℕ) (v : SeatView) (bound : ℕ) (Named : Value → Type 0)
+    (refers : (x : Value) → Named x → IsReferenceBelow bound x → IsReference v.bodies (word_of place x)) where
+  pub reference_word : (kinds : List Kind) (values : List Value) (i : ℕ) → HaveKinds bound kinds values
+      → All Named values → is_plain (get_or (kinds_of_words kinds) i Plain) ≡ false → IsReference v.bodies (get_or (map (word_of place) values) i 0)
+  reference_word [] values i have named told = absurd (true≢false told)
+  reference_word (Strong ∷ kinds) [] i have named told = absurd have
+  reference_word (Weak ∷ kinds) [] i have named told = absurd have
+  reference_word (Pair ∷ kinds) [] i have named told = absurd have
+  reference_word (Plain ∷ kinds) [] i have named told = absurd have
+  reference_word (Strong ∷ kinds) (x ∷ values) zero have named told = refers x (All-head Named x values named) have.0
+  reference_word (Strong ∷ kinds) (x ∷ values) (suc i) have named told = reference_word kinds values i have.1 (All-tail Named x values named) told
+  reference_word (Weak ∷ kinds) (x ∷ values) zero have named told = refers x (All-head Named x values named) have.0
+  reference_word (Weak ∷ kinds) (x ∷ values) (suc i) have named told = reference_word kinds values i have.1 (All-tail Named x values named) told
+  reference_word (Plain ∷ kinds) (x ∷ values) zero have named told = absurd (true≢false told)
+  reference_word (Plain ∷ kinds) (x ∷ values) (suc i) have named told = reference_word kinds values i have.1 (All-tail Named x values named) told
+  reference_word (Pair ∷ kinds) (key ∷ []) i have named told = absurd have
+  reference_word (Pair ∷ kinds) (key ∷ x ∷ values) zero have named told = refers key (All-head Named key (x ∷ values) named) have.0
+  reference_word (Pair ∷ kinds) (key ∷ x ∷ values) (suc zero) have named told =
+      refers x (All-head Named x values (All-tail Named key (x ∷ values) named)) have.1
+  reference_word (Pair ∷ kinds) (key ∷ x ∷ values) (suc (suc i)) have named told =
+      reference_word kinds values i have.3 (All-tail Named x values (All-tail Named key (x ∷ values) named)) told
 
 -- no node is dead, and these words hold the nodes
 pub record AreAlive (setup : Setup) (nodes : List Node) (v : SeatView) : Type 0 where
@@ -88,7 +86,8 @@ body_reference setup nodes v b i is there told =
     let kind : is_plain (get_or (kinds_of_words x.object.kinds) i Plain) ≡ false =
     ap (λ ks. is_plain (get_or (kinds_of_words ks) i Plain)) (typed.kinds_are ∙ sym (ap (λ (c : Body). kinds_of setup.types c.ty) node.3)) ∙ told in
     subst (IsReference v.bodies) (sym (ap (λ (c : Body). get_or c.fields i 0) node.3))
-    (reference_word nodes v (length nodes) x.object.kinds x.object.values i is.held typed.values_are (is.known.references node.0 live) kind)
+    (reference_word (place_of nodes) v (length nodes) (NamesLive nodes) (λ y named below. live_reference nodes v (length nodes) y is.held named below)
+    x.object.kinds x.object.values i typed.values_are (is.known.references node.0 live) kind)
 
 -- ---- by the offsets that the type table tells
 

@@ -1,10 +1,11 @@
 -- A collection is a step of the graph.
-use Rattle.std.proofs.Common.{◌≡◌, ℕ, zero, suc, ◌+◌, ◌-◌, Bool, true, false, List, [], ◌∷◌, ◌++◌, length, replicate, Option, refl, sym, ap, ◌∙◌, subst, inl, inr, arith, eqb}
+use Rattle.std.proofs.Common.{◌≡◌, ℕ, zero, suc, ◌+◌, ◌-◌, Bool, true, false, not, All, List, [], ◌∷◌, ◌++◌, length, filter, replicate, Option, refl, sym, ap, ◌∙◌, subst, inl, inr, arith, eqb}
 use mathlib.Core.Logic.{◌⊎◌}
 use Rattle.std.specs.Prelude.{MatchBool}
 use Rattle.std.specs.List.{list_any}
 use Rattle.std.proofs.lemmas.Bool.{true≢false, or_cases, or_left, or_right, eqb-true, eq-eqb}
 use Rattle.std.proofs.lemmas.List.{append-nil, length-map}
+use Rattle.std.proofs.lemmas.List.Elements.{All-filter}
 use Rattle.gc_graph.specs.declared.command.Want.TheVariants.{Precise}
 use Rattle.gc_graph.specs.declared.line.Line.{Line}
 use Rattle.gc_graph.specs.declared.line.Line.TheVariants as L
@@ -14,32 +15,41 @@ use Rattle.gc_graph.specs.declared.region.Entry.{Entry}
 use Rattle.gc_graph.specs.declared.region.Op.TheVariants as O
 use Rattle.gc_graph.specs.Graph.{Object, IsIn, IsWithin}
 use Rattle.gc_graph.specs.Reach.{Reach, AreNodes, RefersWithin, ReachIsLeast}
-use Rattle.gc_graph.specs.State.{Setup, State, Node, RegionSlot, Registration, graph_of, roots_of, slot_targets, stack_targets, strong_region_targets, objects_of}
+use Rattle.gc_graph.specs.State.{Setup, State, Node, node_at, RegionSlot, Registration, graph_of, roots_of, slot_targets, stack_targets, strong_region_targets, objects_of}
 use Rattle.gc_graph.specs.State.RegionSlot.{Vacant}
 use Rattle.gc_graph.specs.May.{members, members_from, marking}
 use Rattle.gc_graph.specs.History.{cleared_by, NamesWeakSlots}
-use Rattle.gc_graph.specs.Pause.{IsKept, condemn, dying_slots, clear_fields, run_order, prefinalised, prefinalise_lines, live_count, dead_count, paused}
+use Rattle.gc_graph.specs.Pause.{IsKept, condemn, dies, dying_slots, run_order, prefinalised, prefinalise_lines, live_count, dead_count, paused}
 use Rattle.gc_graph.specs.Outcomes.{answered, finalise_lines, took, owner_entry}
 use Rattle.gc_graph.specs.Sweep.{SweepsToEnd}
 use Rattle.gc_graph.specs.CycleSteps.{IsStart, IsPause, IsCollection, StepGcNow, WantsMemory, is_marking, is_stack_refused}
+use Rattle.gc_graph.specs.ActionLaw.{HaveStayed}
+use Rattle.callback_table.specs.Registry.{registration_of, registrations_of, pairs_run, entries_left}
 use Rattle.heap_engine.specs.View.{places_of, start_entry, pause_entry}
 use Rattle.heap_engine.specs.Judgement.{IsJudgement, nodes_after, weak_after}
 use Rattle.heap_engine.specs.Changes.{collected_from}
-use Rattle.heap_engine.specs.Parts.{ObjectsView, HandlesView, CycleView, setup_of_objects, state_of, counted, HasMarks, IsAtRest, IsReady, IsFrame}
+use Rattle.heap_engine.specs.Printed.{ran_lines}
+use Rattle.heap_engine.specs.Parts.{ObjectsView, HandlesView, CycleView, setup_of_objects, state_of, counted, HasMarks, IsPlaced, IsAtRest, IsReady, IsFrame}
 use Rattle.heap_engine.specs.Nodes.{place_of}
 use Rattle.heap_engine.specs.Sweeping.{IsJudged}
 use Rattle.heap_engine.proofs.NodeLives.{live_and_dead}
-use Rattle.heap_engine.proofs.WeakNodes.{place-after, length-after, live-after, dead-after}
+use Rattle.heap_engine.proofs.WeakNodes.{life-after, place-after, length-after, live-after, dead-after}
 use Rattle.heap_engine.proofs.KeptNodes.{refers_within}
-use Rattle.heap_engine.proofs.Ties.{valid_nodes, places-same}
+use Rattle.heap_engine.proofs.Registrations.{same_order, registrations_left, lines_ran, counts_run}
+use Rattle.heap_engine.proofs.Ties.{valid_nodes, places-same, placed_still}
 
 -- the line of a pause that kept and condemned these, and walked the heap or not
 abbrev pub pause_line : List Node → Bool → Line
 pause_line nodes walked = L.Pause (live_count nodes) (dead_count nodes) 0 (live_count nodes) walked
 
 -- the state after the pause of a collection that was started from this one
-abbrev pub collected_state : State → List Bool → State
-collected_state s kept = record (collected_from s) { nodes = nodes_after kept s.nodes; weak = weak_after kept s.nodes s.weak; phase = Sweeping }
+abbrev pub collected_state : Setup → State → List Bool → State
+collected_state setup s kept = record (collected_from s) {
+  nodes = prefinalised setup.callbacks (run_order (condemn kept s.nodes) s.registrations) (nodes_after kept s.nodes);
+  weak = weak_after kept s.nodes s.weak;
+  registrations = filter (λ r. not (dies (condemn kept s.nodes) r)) s.registrations;
+  phase = Sweeping;
+}
 
 -- the line of a pause counts the nodes that it kept and condemned
 pub pause_counts : (nodes : List Node) (objects marked : ℕ) (walked : Bool) → objects ≡ objects_of nodes → marked ≡ live_count nodes
@@ -129,20 +139,11 @@ none_dying nodes region is = sym (ap (dying_slots nodes) is)
 
 -- the state after a collection is the one of the pause
 pub collected_is : (ph : Phase) (setup : Setup) (s : State) (kept : List Bool) → IsAtRest ph s
-    → collected_state s kept ≡ paused setup (started_state s) (condemn kept s.nodes)
+    → collected_state setup s kept ≡ paused setup (started_state s) (condemn kept s.nodes)
 collected_is ph setup s kept unused =
     let c : List Node = condemn kept s.nodes in
-    let cleared : List Node = clear_fields c in
-    let build : List Node → List RegionSlot → List Registration → State = λ nodes region registrations.
-    record (collected_state s kept) { nodes = nodes; region = region; registrations = registrations } in
     let region : s.region ≡ cleared_by 0 s.region = unused.region_null ∙ vacant_stay 32 ∙ sym (ap (cleared_by 0) unused.region_null) in
-    let left : List Registration → List Registration = λ rs. (paused setup (record (started_state s) { registrations = rs }) c).registrations in
-    let registered : s.registrations ≡ left s.registrations = unused.none_registered ∙ sym (ap left unused.none_registered) in
-    let ran : List Registration → List Node = λ rs. prefinalised setup.callbacks (run_order c rs) cleared in
-    let nodes : cleared ≡ ran s.registrations = sym (ap ran unused.none_registered) in
-    ap (λ ns. build ns s.region s.registrations) nodes
-    ∙ ap (λ g. build (ran s.registrations) g s.registrations) region
-    ∙ ap (build (ran s.registrations) (cleared_by 0 s.region)) registered
+    ap (λ (g : List RegionSlot). record (collected_state setup s kept) { region = g }) region
     ∙ ap (λ mask. record (paused setup (started_state s) c) {
       region = cleared_by mask s.region;
       unprinted = (s.unprinted ++ start_entry ∷ []) ++ owner_entry (started_state s) (O.Pause mask) ∷ [];
@@ -155,7 +156,8 @@ starts setup s = record { before = []; others = λ k d low. absurd (omega arith)
 
 pauses : (ph : Phase) (setup : Setup) (s : State) (kept : List Bool) (walked : Bool) → IsAtRest ph s
     → IsKept (took (started_state s) []) [] kept
-    → IsPause setup 0 Precise (started_state s) (pause_entry ∷ []) (pause_line (condemn kept s.nodes) walked ∷ []) (collected_state s kept)
+    → IsPause setup 0 Precise (started_state s) (pause_entry ∷ [])
+    (pause_line (condemn kept s.nodes) walked ∷ prefinalise_lines (run_order (condemn kept s.nodes) s.registrations)) (collected_state setup s kept)
 pauses ph setup s kept walked unused keeps =
     let c : List Node = condemn kept s.nodes in
     record {
@@ -169,7 +171,7 @@ pauses ph setup s kept walked unused keeps =
         walked = walked;
         crew_is = λ none. refl;
         counted = omega arith;
-        lines_are = ap (λ rs. pause_line c walked ∷ prefinalise_lines (run_order c rs)) (sym unused.none_registered);
+        lines_are = refl;
         after = collected_is ph setup s kept unused;
       };
       piece_is = ap (λ mask. owner_entry (started_state s) (O.Pause mask) ∷ []) (none_dying c s.region unused.region_null);
@@ -187,7 +189,9 @@ collects_or_not ph setup s piece lines new unused phase done =
 
 pub step_collected : (ph : Phase) (setup : Setup) (s t new : State) (numbers : List ℕ) (kept : List Bool) (walked : Bool) (piece : List Entry) (lines : List Line) → SweepsToEnd setup.shape s numbers t
     → IsAtRest ph t → IsKept (took (started_state t) []) [] kept
-    → piece ≡ start_entry ∷ pause_entry ∷ [] → lines ≡ finalise_lines numbers ++ pause_line (condemn kept t.nodes) walked ∷ [] → new ≡ answered (collected_state t kept)
+    → piece ≡ start_entry ∷ pause_entry ∷ []
+    → lines ≡ finalise_lines numbers ++ pause_line (condemn kept t.nodes) walked ∷ prefinalise_lines (run_order (condemn kept t.nodes) t.registrations)
+    → new ≡ answered (collected_state setup t kept)
     → IsCollection setup Precise s piece lines new
 step_collected ph setup s t new numbers kept walked piece lines ended unused keeps taken printed after = record {
   numbers = numbers;
@@ -197,8 +201,8 @@ step_collected ph setup s t new numbers kept walked piece lines ended unused kee
   started = started_state t;
   start = starts setup t;
   second = pause_entry ∷ [];
-  pause_lines = pause_line (condemn kept t.nodes) walked ∷ [];
-  paused = collected_state t kept;
+  pause_lines = pause_line (condemn kept t.nodes) walked ∷ prefinalise_lines (run_order (condemn kept t.nodes) t.registrations);
+  paused = collected_state setup t kept;
   pause = pauses ph setup t kept walked unused keeps;
   piece_is = taken;
   lines_are = printed;
@@ -210,66 +214,113 @@ at_rest o h c rest = record {
   calm = rest.calm;
   stack_empty = rest.stack_empty;
   region_null = rest.region_null;
-  none_registered = rest.none_registered;
   none_running = rest.none_running;
 }
 
--- from the old parts, through those after the end of an open sweep, to those after the pause
-pub record Collects (o mid new : ObjectsView) (h left : HandlesView) (c between after : CycleView) (numbers : List ℕ) : Type 0 where
+-- from the old parts, through those after the end of an open sweep and the objects once they are judged, to those after the
+-- pause
+pub record Collects (o mid judged new : ObjectsView) (h left : HandlesView) (c between after : CycleView) (numbers : List ℕ) : Type 0 where
   pub before_rests : IsAtRest c.phase c.rest
   pub rests : IsAtRest between.phase between.rest
   pub ends : SweepsToEnd o.shape (state_of o h c) numbers (state_of mid h between)
   pub ready : IsReady mid h between
   pub setup : setup_of_objects mid ≡ setup_of_objects o
-  pub same_setup : setup_of_objects new ≡ setup_of_objects mid
-  pub judges : IsJudgement mid.nodes h.slots h.weak new.nodes left.weak
-  pub handles_left : left ≡ record h { weak_places = places_of new.nodes left.weak; weak = left.weak }
-  pub judged : IsJudged new.seat
+  pub judged_setup : setup_of_objects judged ≡ setup_of_objects mid
+  pub same_setup : setup_of_objects new ≡ setup_of_objects judged
+  pub judges : IsJudgement mid.nodes h.slots h.weak judged.nodes left.weak
+  pub nodes_are : new.nodes ≡ prefinalised mid.callbacks (run_order judged.nodes (registrations_of between.registered)) judged.nodes
+  pub stayed : HaveStayed judged.nodes new.nodes
+  pub registered_are : after.registered ≡ entries_left judged.nodes between.registered
+  pub ran_are : after.ran ≡ pairs_run judged.nodes between.registered
+  pub handles_left : left ≡ record h { weak_places = places_of judged.nodes left.weak; weak = left.weak }
+  pub judged_marks : IsJudged new.seat
   pub phase : after.phase ≡ Sweeping
   pub rest : after.rest ≡ collected_from (state_of mid h between)
   pub ordinal : between.rest.ordinal ≡ c.rest.ordinal
 
--- the state of the parts after the pause
-collected_parts : (o mid new : ObjectsView) (h left : HandlesView) (c between after : CycleView) (numbers : List ℕ) → (is : Collects o mid new h left c between after numbers)
-    → state_of new left after ≡ collected_state (state_of mid h between) is.judges.kept
-collected_parts o mid new h left c between after numbers is =
-    let kept : List Bool = is.judges.kept in
-    let build : List Node → List (Option ℕ) → List (Option ℕ) → Phase → State → State = λ ns slots weak ph r.
-    record r { nodes = ns; slots = slots; weak = weak; phase = ph } in
-    let weak : List (Option ℕ) = weak_after kept mid.nodes h.weak in
-    ap (λ ns. build ns left.slots left.weak after.phase after.rest) is.judges.nodes_are
-    ∙ ap (λ (k : HandlesView). build (nodes_after kept mid.nodes) k.slots left.weak after.phase after.rest) is.handles_left
-    ∙ ap (λ w. build (nodes_after kept mid.nodes) h.slots w after.phase after.rest) is.judges.weak_are
-    ∙ ap (λ ph. build (nodes_after kept mid.nodes) h.slots weak ph after.rest) is.phase
-    ∙ ap (build (nodes_after kept mid.nodes) h.slots weak Sweeping) is.rest
+-- judgement gave the nodes these lives
+lives_judged : (mid judged : List Node) (kept : List Bool) (n : ℕ) → judged ≡ nodes_after kept mid → (node_at judged n).life ≡ (node_at (condemn kept mid) n).life
+lives_judged mid judged kept n is = ap (λ (ns : List Node). (node_at ns n).life) is ∙ life-after kept mid n
 
-pub collection_steps : (o mid new : ObjectsView) (h left : HandlesView) (c between after : CycleView) (numbers : List ℕ) (walked : Bool) (piece : List Entry) (line : Line) → ReachIsLeast
-    → Collects o mid new h left c between after numbers → piece ≡ start_entry ∷ pause_entry ∷ [] → line ≡ pause_line new.nodes walked
-    → StepGcNow (setup_of_objects o) Precise (state_of o h c) piece (finalise_lines numbers ++ line ∷ []) (answered (state_of new left after))
-collection_steps o mid new h left c between after numbers walked piece line law is taken told =
-    let t : State = state_of mid h between in
-    let kept : List Bool = is.judges.kept in
-    let rests : IsAtRest between.phase t = at_rest mid h between is.rests in
-    collects_or_not c.phase (setup_of_objects o) (state_of o h c) piece (finalise_lines numbers ++ line ∷ []) (answered (state_of new left after)) (at_rest o h c is.before_rests) refl
-    (inr (step_collected between.phase (setup_of_objects o) (state_of o h c) t (answered (state_of new left after)) numbers kept walked piece (finalise_lines numbers ++ line ∷ []) is.ends rests
-    (pause_keeps between.phase t new.nodes left.weak law (refers_within (setup_of_objects mid) mid.nodes (valid_nodes mid h between is.ready)) rests is.judges)
-    taken
-    (ap (λ l. finalise_lines numbers ++ l ∷ []) (told ∙ ap (λ ns. pause_line ns walked) is.judges.nodes_are ∙ pause_line_after kept mid.nodes walked))
-    (ap answered (collected_parts o mid new h left c between after numbers is))))
+module _ (o mid judged new : ObjectsView) (h left : HandlesView) (c between after : CycleView) (numbers : List ℕ)
+    (is : Collects o mid judged new h left c between after numbers) where
+  abbrev kept : List Bool
+  kept = is.judges.kept
 
-pub collection_frame : (o mid new : ObjectsView) (h left : HandlesView) (c between after : CycleView) (numbers : List ℕ) → Collects o mid new h left c between after numbers
-    → IsFrame o c new left (counted after)
-collection_frame o mid new h left c between after numbers is =
-    let ordinal : after.rest.ordinal ≡ c.rest.ordinal = ap (λ (s : State). s.ordinal) is.rest ∙ is.ordinal in
-    let places : (n : ℕ) → place_of new.nodes n ≡ place_of mid.nodes n = λ n. ap (λ (ns : List Node). place_of ns n) is.judges.nodes_are ∙ place-after is.judges.kept mid.nodes n in
-    record {
-      setup = is.same_setup ∙ is.setup;
-      ordinal = ap (λ n. n + 1) ordinal;
-      tied = record {
-        slots = ap (λ (k : HandlesView). k.places) is.handles_left ∙ is.ready.tied.slots ∙ sym (places-same (place_of new.nodes) (place_of mid.nodes) h.slots places)
-            ∙ sym (ap (λ (k : HandlesView). places_of new.nodes k.slots) is.handles_left);
-        weak = ap (λ (k : HandlesView). k.weak_places) is.handles_left;
-        marks = subst (λ ph. HasMarks ph new.seat) (sym is.phase) is.judged;
-        made = omega (arith, is.ready.tied.made, ordinal, is.ordinal, ap length is.judges.nodes_are, length-after is.judges.kept mid.nodes);
-      };
-    }
+  abbrev registrations : List Registration
+  registrations = registrations_of between.registered
+
+  lives : (n : ℕ) → (node_at judged.nodes n).life ≡ (node_at (condemn kept mid.nodes) n).life
+  lives n = lives_judged mid.nodes judged.nodes kept n is.judges.nodes_are
+
+  -- what the prefinalizers left of the nodes
+  nodes_left : new.nodes ≡ prefinalised mid.callbacks (run_order (condemn kept mid.nodes) registrations) (nodes_after kept mid.nodes)
+  nodes_left =
+      is.nodes_are
+      ∙ ap (λ rs. prefinalised mid.callbacks rs judged.nodes) (same_order judged.nodes (condemn kept mid.nodes) registrations lives)
+      ∙ ap (prefinalised mid.callbacks (run_order (condemn kept mid.nodes) registrations)) is.judges.nodes_are
+
+  -- the state of the parts after the pause
+  collected_parts : state_of new left after ≡ collected_state (setup_of_objects mid) (state_of mid h between) kept
+  collected_parts =
+      let build : List Node → List (Option ℕ) → List (Option ℕ) → List Registration → Phase → State → State = λ ns slots weak rs ph r.
+      record r { nodes = ns; slots = slots; weak = weak; registrations = rs; phase = ph } in
+      let weak : List (Option ℕ) = weak_after kept mid.nodes h.weak in
+      let nodes : List Node = prefinalised mid.callbacks (run_order (condemn kept mid.nodes) registrations) (nodes_after kept mid.nodes) in
+      let rest : List Registration = filter (λ r. not (dies (condemn kept mid.nodes) r)) registrations in
+      ap (λ ns. build ns left.slots left.weak (registrations_of after.registered) after.phase after.rest) nodes_left
+      ∙ ap (λ (k : HandlesView). build nodes k.slots left.weak (registrations_of after.registered) after.phase after.rest) is.handles_left
+      ∙ ap (λ w. build nodes h.slots w (registrations_of after.registered) after.phase after.rest) is.judges.weak_are
+      ∙ ap (λ rs. build nodes h.slots weak rs after.phase after.rest)
+      (ap registrations_of is.registered_are ∙ registrations_left judged.nodes (condemn kept mid.nodes) between.registered lives)
+      ∙ ap (λ ph. build nodes h.slots weak rest ph after.rest) is.phase
+      ∙ ap (build nodes h.slots weak rest Sweeping) is.rest
+
+  pub collection_steps : (walked : Bool) (piece : List Entry) (lines : List Line) (told : Line) → ReachIsLeast → piece ≡ start_entry ∷ pause_entry ∷ []
+      → told ≡ pause_line judged.nodes walked → lines ≡ finalise_lines numbers ++ told ∷ ran_lines true after.ran
+      → StepGcNow (setup_of_objects o) Precise (state_of o h c) piece lines (answered (state_of new left after))
+  collection_steps walked piece lines told law taken told_is printed =
+      let t : State = state_of mid h between in
+      let rests : IsAtRest between.phase t = at_rest mid h between is.rests in
+      let same : StepGcNow (setup_of_objects mid) Precise (state_of o h c) piece lines (answered (state_of new left after)) =
+      collects_or_not c.phase (setup_of_objects mid) (state_of o h c) piece lines (answered (state_of new left after)) (at_rest o h c is.before_rests) refl
+      (inr (step_collected between.phase (setup_of_objects mid) (state_of o h c) t (answered (state_of new left after)) numbers kept walked piece lines
+      (subst (λ (st : Setup). SweepsToEnd st.shape (state_of o h c) numbers t) (sym is.setup) is.ends) rests
+      (pause_keeps between.phase t judged.nodes left.weak law (refers_within (setup_of_objects mid) mid.nodes (valid_nodes mid h between is.ready)) rests is.judges)
+      taken
+      (printed
+      ∙ ap (λ l. finalise_lines numbers ++ l ∷ ran_lines true after.ran)
+      (told_is ∙ ap (λ ns. pause_line ns walked) is.judges.nodes_are ∙ pause_line_after kept mid.nodes walked)
+      ∙ ap (λ ls. finalise_lines numbers ++ pause_line (condemn kept mid.nodes) walked ∷ ls)
+      (ap (ran_lines true) is.ran_are ∙ lines_ran judged.nodes (condemn kept mid.nodes) between.registered lives))
+      (ap answered collected_parts))) in
+      subst (λ (st : Setup). StepGcNow st Precise (state_of o h c) piece lines (answered (state_of new left after))) is.setup same
+
+  -- the registrations that are left hold the places of their nodes
+  registered_left : All (IsPlaced new.nodes (length new.callbacks)) after.registered
+  registered_left =
+      let same : (n : ℕ) → place_of new.nodes n ≡ place_of mid.nodes n = λ n.
+      is.stayed.place n ∙ ap (λ (ns : List Node). place_of ns n) is.judges.nodes_are ∙ place-after kept mid.nodes n in
+      subst (All (IsPlaced new.nodes (length new.callbacks))) (sym is.registered_are)
+      (All-filter (λ e. not (dies judged.nodes (registration_of e))) (IsPlaced new.nodes (length new.callbacks)) between.registered
+      (placed_still mid new between.registered same (ap (λ (st : Setup). st.callbacks) (is.same_setup ∙ is.judged_setup)) is.ready.tied.registered))
+
+  pub collection_frame : IsFrame o c new left (counted after)
+  collection_frame =
+      let ordinal : after.rest.ordinal ≡ c.rest.ordinal = ap (λ (s : State). s.ordinal) is.rest ∙ is.ordinal in
+      let judged_places : (n : ℕ) → place_of judged.nodes n ≡ place_of mid.nodes n = λ n.
+      ap (λ (ns : List Node). place_of ns n) is.judges.nodes_are ∙ place-after kept mid.nodes n in
+      let places : (n : ℕ) → place_of new.nodes n ≡ place_of mid.nodes n = λ n. is.stayed.place n ∙ judged_places n in
+      record {
+        setup = is.same_setup ∙ is.judged_setup ∙ is.setup;
+        ordinal = ap (λ n. n + 1) ordinal;
+        tied = record {
+          slots = ap (λ (k : HandlesView). k.places) is.handles_left ∙ is.ready.tied.slots ∙ sym (places-same (place_of new.nodes) (place_of mid.nodes) h.slots places)
+              ∙ sym (ap (λ (k : HandlesView). places_of new.nodes k.slots) is.handles_left);
+          weak = ap (λ (k : HandlesView). k.weak_places) is.handles_left ∙ sym (places-same (place_of new.nodes) (place_of judged.nodes) left.weak is.stayed.place);
+          registered = registered_left;
+          few = omega (arith, is.ready.tied.few, ordinal, is.ordinal, ap length is.registered_are, ap length is.ran_are, counts_run judged.nodes between.registered);
+          marks = subst (λ ph. HasMarks ph new.seat) (sym is.phase) is.judged_marks;
+          made = omega (arith, is.ready.tied.made, ordinal, is.ordinal, is.stayed.count, ap length is.judges.nodes_are, length-after kept mid.nodes);
+        };
+      }

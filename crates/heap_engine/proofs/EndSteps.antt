@@ -17,9 +17,11 @@ use Rattle.gc_graph.specs.Outcomes.{answered, finalise_lines, IsRefused}
 use Rattle.gc_graph.specs.Sweep.{buried, finalise, phase_at, AreDeadInOrder, SweepsInPhase, SweepsToEnd}
 use Rattle.gc_graph.specs.Valid.{IsValid, HasMay, word_count}
 use Rattle.gc_graph.specs.ValidLaw.{StepKeepsValid}
+use Rattle.callback_table.specs.declared.registry.Registered.{Registered}
+use Rattle.callback_table.specs.Registry.{registrations_of}
 use Rattle.page_words.specs.Seat.{IsQuiet}
 use Rattle.heap_engine.specs.Nodes.{place_of}
-use Rattle.heap_engine.specs.Objects.{AreBuilt, bury}
+use Rattle.heap_engine.specs.Objects.{HaveCallbacks, bury}
 use Rattle.heap_engine.specs.Changes.{ended_in}
 use Rattle.heap_engine.specs.Parts.{ObjectsView, HandlesView, CycleView, setup_of_objects, state_of, HasMarks, IsReady}
 use Rattle.heap_engine.proofs.NodeLives.{place-finalise}
@@ -66,19 +68,21 @@ dead_below : (setup : Setup) (s : State) (n : ℕ) → IsValid setup s → IsDea
 dead_below setup s n valid dead = omega (arith, valid.within n (ap is_there dead))
 
 pub ends_sweep : (o new : ObjectsView) (h : HandlesView) (c after : CycleView) (numbers : List ℕ) → IsValid (setup_of_objects o) (state_of o h c) → c.phase ≡ Sweeping
-    → AreDeadInOrder o.nodes (word_count o.shape) numbers → new.nodes ≡ map bury o.nodes → after.phase ≡ Idle → after.rest ≡ ended_in o.shape c.rest numbers
+    → AreDeadInOrder o.nodes (word_count o.shape) numbers → new.nodes ≡ map bury o.nodes → after.phase ≡ Idle → after.registered ≡ c.registered → after.rest ≡ ended_in o.shape c.rest numbers
     → SweepsToEnd o.shape (state_of o h c) numbers (state_of new h after)
-ends_sweep o new h c after numbers valid sweeping order nodes idle rest =
+ends_sweep o new h c after numbers valid sweeping order nodes idle registered rest =
     let s : State = state_of o h c in
     let limit : ℕ = word_count o.shape in
-    let build : List Node → Phase → State → State = λ ns ph r. record r { nodes = ns; slots = h.slots; weak = h.weak; phase = ph } in
+    let build : List Node → List Registered → Phase → State → State = λ ns es ph r.
+    record r { nodes = ns; slots = h.slots; weak = h.weak; registrations = registrations_of es; phase = ph } in
     let phase : phase_at o.shape o.shape.pages ≡ Idle = ap (λ b. cond b Idle Sweeping) (eq-eqb o.shape.pages o.shape.pages refl) in
     subst (λ ph. SweepsInPhase ph o.shape s o.shape.pages numbers (state_of new h after)) (sym sweeping) (record {
       finalised = order;
       after =
-          ap (λ ns. build ns after.phase after.rest) (nodes ∙ all_below o.nodes limit (λ n dead. dead_below (setup_of_objects o) s n valid dead))
-          ∙ ap (λ ph. build (map (finalise limit) o.nodes) ph after.rest) (idle ∙ sym phase)
-          ∙ ap (build (map (finalise limit) o.nodes) (phase_at o.shape o.shape.pages)) rest;
+          ap (λ ns. build ns after.registered after.phase after.rest) (nodes ∙ all_below o.nodes limit (λ n dead. dead_below (setup_of_objects o) s n valid dead))
+          ∙ ap (λ es. build (map (finalise limit) o.nodes) es after.phase after.rest) registered
+          ∙ ap (λ ph. build (map (finalise limit) o.nodes) c.registered ph after.rest) (idle ∙ sym phase)
+          ∙ ap (build (map (finalise limit) o.nodes) c.registered (phase_at o.shape o.shape.pages)) rest;
     })
 
 -- the count of commands has no part in validity, where no marking goes on
@@ -108,12 +112,13 @@ valid_swept setup s t numbers law pages valid sweeping ends idle =
     uncounted setup t idle (law setup s (answered t) C.SweepAll [] lines pages tt valid (refl, step))
 
 pub ready_swept : (o new : ObjectsView) (h : HandlesView) (c after : CycleView) (numbers : List ℕ) → StepKeepsValid → 0 < o.shape.pages → IsReady o h c → c.phase ≡ Sweeping
-    → SweepsToEnd o.shape (state_of o h c) numbers (state_of new h after) → setup_of_objects new ≡ setup_of_objects o → new.nodes ≡ map bury o.nodes → IsQuiet new.seat → after.phase ≡ Idle
+    → SweepsToEnd o.shape (state_of o h c) numbers (state_of new h after) → setup_of_objects new ≡ setup_of_objects o → new.nodes ≡ map bury o.nodes → IsQuiet new.seat → after.phase ≡ Idle → after.registered ≡ c.registered → after.ran ≡ c.ran
     → after.rest.ordinal ≡ c.rest.ordinal → IsReady new h after
-ready_swept o new h c after numbers law pages ready sweeping ends setup nodes quiet idle ordinal = record {
+ready_swept o new h c after numbers law pages ready sweeping ends setup nodes quiet idle registered ran ordinal = record {
   valid = subst (λ (st : Setup). IsValid st (state_of new h after)) (sym setup) (valid_swept (setup_of_objects o) (state_of o h c) (state_of new h after) numbers law pages ready.valid sweeping ends idle);
-  built = subst AreBuilt (sym (ap (λ (st : Setup). st.types) setup)) ready.built;
+  called = subst (λ (st : Setup). HaveCallbacks (length st.callbacks) st.types) (sym setup) ready.called;
   tied = tied_nodes o new h c after ready.tied (λ n. ap (λ (ns : List Node). place_of ns n) nodes ∙ place-finalise o.nodes n)
+      setup registered ran (omega (arith, ordinal))
       (subst (λ ph. HasMarks ph new.seat) (sym idle) quiet)
       (omega (arith, ready.tied.made, ordinal, ap length nodes, length-map o.nodes bury));
   most = omega (arith, ready.most, ordinal);

@@ -28,6 +28,14 @@ pub mod PairReferences
 pub mod JudgedNodes
 pub mod PairFields
 pub mod PairBodies
+pub mod StandingNodes
+pub mod Registrations
+pub mod RegisteredNodes
+pub mod PreparedNodes
+pub mod ActedNodes
+pub mod PrefinalizerFields
+pub mod PrefinalizerShown
+pub mod PrefinalizerBodies
 pub mod Ties
 pub mod SlotSteps
 pub mod FieldAnswers

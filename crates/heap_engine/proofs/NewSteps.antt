@@ -1,27 +1,29 @@
 -- The step of a new object.
-use Rattle.std.proofs.Common.{◌≡◌, ℕ, ◌<◌, List, [], ◌∷◌, ◌++◌, length, map, set, Bool, true, Option, Some, None, option_map, refl, sym, ap, ◌∙◌, subst, inr, arith}
+use Rattle.std.proofs.Common.{◌≡◌, ℕ, ◌+◌, ◌*◌, ◌<◌, ◌≤◌, List, [], ◌∷◌, ◌++◌, length, map, set, Bool, true, Option, Some, None, option_map, refl, sym, ap, ◌∙◌, subst, inr, arith}
 use Rattle.std.specs.List.{All}
 use Rattle.std.specs.Option.{ForSome}
-use Rattle.std.proofs.lemmas.List.{append-nil, length_push, map-set}
-use Rattle.std.proofs.lemmas.List.Elements.{All-get_or, All-head, All-tail}
+use Rattle.std.proofs.lemmas.List.{length_push, map-set, length-append, length-map}
+use Rattle.std.proofs.lemmas.List.Elements.{All-get_or, All-head, All-tail, All-append, All-map, All-weaker}
 use Rattle.gc_graph.specs.declared.line.Line.TheVariants as L
 use Rattle.gc_graph.specs.declared.phase.Phase.{Phase}
 use Rattle.gc_graph.specs.declared.phase.Phase.TheVariants.{Idle}
 use Rattle.gc_graph.specs.State.{Setup, State, ObjectType, Node, Registration, type_at, no_type, IsLive}
 use Rattle.gc_graph.specs.Placement.{IsPlaceFor, IsPlacement, extents_of}
 use Rattle.gc_graph.specs.Sweep.{pages_swept_in, SweepsInPhase}
-use Rattle.built_forms.specs.Built.{is_built_type}
 use Rattle.gc_graph.specs.Fields.{new_node, size_of_type}
 use Rattle.gc_graph.specs.May.{may_with_new}
 use Rattle.gc_graph.specs.Outcomes.{answered, with_slot}
 use Rattle.gc_graph.specs.ObjectSteps.{StepNew, with_new, registrations_for}
+use Rattle.callback_table.specs.declared.registry.Registered.{Registered}
+use Rattle.callback_table.specs.Registry.{registrations_of, registered}
 use Rattle.page_words.specs.Seat.{IsQuiet}
 use Rattle.heap_engine.specs.Nodes.{place_of}
 use Rattle.heap_engine.specs.View.{places_of}
-use Rattle.heap_engine.specs.Objects.{AreBuilt, with_made}
-use Rattle.heap_engine.specs.Changes.{put_in, filled}
-use Rattle.heap_engine.specs.Parts.{ObjectsView, HandlesView, CycleView, setup_of_objects, state_of, counted, HasMarks, AreTied}
-use Rattle.heap_engine.proofs.TypedNodes.{built_unregistered}
+use Rattle.heap_engine.specs.Objects.{HaveCallbacks, with_made}
+use Rattle.heap_engine.specs.Changes.{put_in, filled, registered_in}
+use Rattle.heap_engine.specs.Parts.{ObjectsView, HandlesView, CycleView, setup_of_objects, state_of, counted, HasMarks, IsPlaced, AreTied, IsReady}
+use Rattle.heap_engine.proofs.KeptNodes.{slots_live}
+use Rattle.heap_engine.proofs.Registrations.{registrations_join, live_entries}
 use Rattle.heap_engine.proofs.HeldNodes.{place-old, node-new}
 use Rattle.heap_engine.proofs.NodePlaces.{there_below, live_is_there}
 
@@ -39,29 +41,23 @@ placed setup s t extra place idle found =
       placed = found;
     }
 
-abbrev registration_for : ℕ → ℕ → Registration
-registration_for n c = record { node = n; callback = c }
-
--- the new node joins the others, and no prefinalizer is registered for it
-joins : (setup : Setup) (s : State) (p t extra place : ℕ) → s.phase ≡ Idle → (type_at setup t).prefinalizers ≡ []
-    → answered (with_slot (record s { nodes = s.nodes ++ new_node setup t extra place ∷ [] }) p (Some (length s.nodes)))
+-- the new node joins the others, and its prefinalizers those that are registered
+joins : (setup : Setup) (s : State) (p t extra place : ℕ) (rs : List Registration) → s.phase ≡ Idle → rs ≡ s.registrations ++ registrations_for setup t (length s.nodes)
+    → answered (with_slot (record s { nodes = s.nodes ++ new_node setup t extra place ∷ []; registrations = rs }) p (Some (length s.nodes)))
     ≡ answered (with_slot (with_new setup s t extra place) p (Some (length s.nodes)))
-joins setup s p t extra place idle is =
+joins setup s p t extra place rs idle registered =
     let build : List Registration → List Bool → State = λ registrations may.
     answered (with_slot (record s { nodes = s.nodes ++ new_node setup t extra place ∷ []; registrations = registrations; may = may }) p (Some (length s.nodes))) in
-    let registered : s.registrations ≡ s.registrations ++ registrations_for setup t (length s.nodes) =
-    sym (ap (λ cs. s.registrations ++ map (registration_for (length s.nodes)) cs) is ∙ append-nil s.registrations) in
-    ap (λ rs. build rs s.may) registered ∙ ap (build (s.registrations ++ registrations_for setup t (length s.nodes))) (sym (ap (λ ph. may_with_new ph s.may) idle))
+    ap (λ r. build r s.may) registered ∙ ap (build (s.registrations ++ registrations_for setup t (length s.nodes))) (sym (ap (λ ph. may_with_new ph s.may) idle))
 
-pub step_made : (o new : ObjectsView) (h after : HandlesView) (c : CycleView) (p t extra place number : ℕ) → AreBuilt o.types → t < length o.types → c.phase ≡ Idle
+pub step_made : (o new : ObjectsView) (h after : HandlesView) (c left : CycleView) (p t extra place number : ℕ) → c.phase ≡ Idle
     → IsPlaceFor o.shape o.shape.pages (extents_of o.nodes) (size_of_type (setup_of_objects o) t extra) (Some place) → number ≡ length o.nodes
-    → new.nodes ≡ with_made (setup_of_objects o) o.nodes t extra (Some place) → after ≡ put_in h p (Some (place, number))
-    → StepNew (setup_of_objects o) (state_of o h c) p t extra (L.Placed number place ∷ []) (answered (state_of new after c))
-step_made o new h after c p t extra place number built low idle found counted nodes put =
+    → new.nodes ≡ with_made (setup_of_objects o) o.nodes t extra (Some place) → left ≡ registered_in o c t place → after ≡ put_in h p (Some (place, number))
+    → StepNew (setup_of_objects o) (state_of o h c) p t extra (L.Placed number place ∷ []) (answered (state_of new after left))
+step_made o new h after c left p t extra place number idle found counted nodes registers put =
     let setup : Setup = setup_of_objects o in
     let s : State = state_of o h c in
-    let none : (type_at setup t).prefinalizers ≡ [] =
-    built_unregistered (type_at setup t) (All-get_or (λ (x : ObjectType). is_built_type x ≡ true) o.types t no_type low built) in
+    let entries : List Registered = (registered_in o c t place).registered in
     inr (record {
       numbers = [];
       mid = s;
@@ -69,10 +65,11 @@ step_made o new h after c p t extra place number built low idle found counted no
       placed = placed setup s t extra (Some place) idle found;
       done = record {
         lines_are = ap (λ k. L.Placed k place ∷ []) counted;
-        after = ap (λ (x : HandlesView). answered (state_of new x c)) put
-            ∙ ap (λ (ns : List Node). answered (with_slot (record s { nodes = ns }) p (Some number))) nodes
-            ∙ ap (λ k. answered (with_slot (record s { nodes = o.nodes ++ new_node setup t extra place ∷ [] }) p (Some k))) counted
-            ∙ joins setup s p t extra place idle none;
+        after = ap (λ (x : HandlesView). answered (state_of new x left)) put
+            ∙ ap (λ (x : CycleView). answered (state_of new (put_in h p (Some (place, number))) x)) registers
+            ∙ ap (λ (ns : List Node). answered (with_slot (record s { nodes = ns; registrations = registrations_of entries }) p (Some number))) nodes
+            ∙ ap (λ k. answered (with_slot (record s { nodes = o.nodes ++ new_node setup t extra place ∷ []; registrations = registrations_of entries }) p (Some k))) counted
+            ∙ joins setup s p t extra place (registrations_of entries) idle (registrations_join (length o.nodes) place c.registered (type_at setup t).prefinalizers);
       };
     })
 
@@ -99,21 +96,53 @@ places_on nodes x (Some n ∷ slots) live =
     ap (λ p. Some p ∷ places_of (nodes ++ x ∷ []) slots) (place-old nodes x n (there_below nodes n (live_is_there nodes n is)))
     ∙ ap (λ l. Some (place_of nodes n) ∷ l) (places_on nodes x slots (All-tail (λ slot. ForSome slot (IsLive nodes)) (Some n) slots live))
 
--- the places of the slots, strong and weak, are as before, and slot p's is that of the new node
-pub tied_made : (o new : ObjectsView) (h after : HandlesView) (c : CycleView) (p place number : ℕ) (x : Node) → AreTied o h c → All (λ slot. ForSome slot (IsLive o.nodes)) h.slots
-    → All (λ slot. ForSome slot (IsLive o.nodes)) h.weak → c.phase ≡ Idle → IsQuiet new.seat → number ≡ length o.nodes → x.place ≡ place → new.nodes ≡ o.nodes ++ x ∷ [] → after ≡ put_in h p (Some (place, number)) → AreTied new after (counted c)
-tied_made o new h after c p place number x tied live weak_live idle quiet counts at nodes put =
+-- the registrations hold the places of their nodes, the new ones that of the new node
+registered_made : (o new : ObjectsView) (c : CycleView) (t place : ℕ) (x : Node) → HaveCallbacks (length o.callbacks) o.types → t < length o.types
+    → All (IsPlaced o.nodes (length o.callbacks)) c.registered → All (λ e. IsLive o.nodes e.node) c.registered → x.place ≡ place → new.nodes ≡ o.nodes ++ x ∷ []
+    → new.callbacks ≡ o.callbacks → All (IsPlaced new.nodes (length new.callbacks)) (registered_in o c t place).registered
+registered_made o new c t place x called low old live at nodes callbacks =
     let now : List Node = o.nodes ++ x ∷ [] in
+    let prefinalizers : List ℕ = (type_at (setup_of_objects o) t).prefinalizers in
+    let known : All (λ number. number < length o.callbacks) prefinalizers =
+    All-get_or (λ (type : ObjectType). All (λ number. number < length o.callbacks) type.prefinalizers) o.types t no_type low called.known in
+    let same : length new.callbacks ≡ length o.callbacks = ap length callbacks in
+    subst (λ (ns : List Node). All (IsPlaced ns (length new.callbacks)) (registered_in o c t place).registered) (sym nodes)
+    (subst (λ k. All (IsPlaced now k) (registered_in o c t place).registered) (sym same)
+    (All-append (IsPlaced now (length o.callbacks)) c.registered (map (registered (length o.nodes) place) prefinalizers)
+    (λ k d l. (let is = old k d l in let lives = live k d l in
+    record { place = place-old o.nodes x _ (there_below o.nodes _ (live_is_there o.nodes _ lives)) ∙ is.place; known = is.known }))
+    (All-map (IsPlaced now (length o.callbacks)) (registered (length o.nodes) place) prefinalizers
+    (All-weaker (λ number. number < length o.callbacks) (λ number. IsPlaced now (length o.callbacks) (registered (length o.nodes) place number))
+    (λ number is. record { place = ap (λ (y : Node). y.place) (node-new o.nodes x) ∙ at; known = is }) prefinalizers known))))
+
+few_made : (o : ObjectsView) (c : CycleView) (t place ordinal : ℕ) → HaveCallbacks (length o.callbacks) o.types → t < length o.types
+    → length c.registered + length c.ran ≤ 16 * ordinal → length (registered_in o c t place).registered + length c.ran ≤ 16 * (ordinal + 1)
+few_made o c t place ordinal called low few =
+    let prefinalizers : List ℕ = (type_at (setup_of_objects o) t).prefinalizers in
+    let most : length prefinalizers ≤ 16 = All-get_or (λ (type : ObjectType). length type.prefinalizers ≤ 16) o.types t no_type low called.few in
+    omega (arith, few, most, length-append c.registered (map (registered (length o.nodes) place) prefinalizers), length-map prefinalizers (registered (length o.nodes) place))
+
+-- the places of the slots, strong and weak, are as before, and slot p's is that of the new node
+pub tied_made : (o new : ObjectsView) (h after : HandlesView) (c left : CycleView) (p t place number : ℕ) (x : Node) → IsReady o h c → t < length o.types → c.phase ≡ Idle
+    → IsQuiet new.seat → setup_of_objects new ≡ setup_of_objects o → number ≡ length o.nodes → x.place ≡ place → new.nodes ≡ o.nodes ++ x ∷ []
+    → left ≡ registered_in o c t place → after ≡ put_in h p (Some (place, number)) → AreTied new after (counted left)
+tied_made o new h after c left p t place number x ready low idle quiet setup counts at nodes registers put =
+    let now : List Node = o.nodes ++ x ∷ [] in
+    let tied : AreTied o h c = ready.tied in
     let here : place_of now number ≡ place = ap (place_of now) counts ∙ ap (λ (y : Node). y.place) (node-new o.nodes x) ∙ at in
     let slots : List (Option ℕ) = set h.slots p (Some number) in
-    record {
+    let callbacks : new.callbacks ≡ o.callbacks = ap (λ (st : Setup). st.callbacks) setup in
+    let is : AreTied new after (counted (registered_in o c t place)) = record {
       slots = ap (λ (k : HandlesView). k.places) put
-          ∙ ap (λ l. set l p (Some place)) (tied.slots ∙ sym (places_on o.nodes x h.slots live))
+          ∙ ap (λ l. set l p (Some place)) (tied.slots ∙ sym (places_on o.nodes x h.slots (slots_live o.nodes h.slots ready.valid.slots)))
           ∙ ap (λ a. set (places_of now h.slots) p (Some a)) (sym here)
           ∙ sym (map-set (λ (slot : Option ℕ). option_map (place_of now) slot) h.slots p (Some number))
           ∙ sym (ap (λ (k : HandlesView). places_of new.nodes k.slots) put ∙ ap (λ (ns : List Node). places_of ns slots) nodes);
-      weak = ap (λ (k : HandlesView). k.weak_places) put ∙ tied.weak ∙ sym (places_on o.nodes x h.weak weak_live)
+      weak = ap (λ (k : HandlesView). k.weak_places) put ∙ tied.weak ∙ sym (places_on o.nodes x h.weak (slots_live o.nodes h.weak ready.valid.weak))
           ∙ sym (ap (λ (k : HandlesView). places_of new.nodes k.weak) put ∙ ap (λ (ns : List Node). places_of ns h.weak) nodes);
+      registered = registered_made o new c t place x ready.called low tied.registered (live_entries o.nodes c.registered ready.valid.registered) at nodes callbacks;
+      few = few_made o c t place c.rest.ordinal ready.called low tied.few;
       marks = subst (λ ph. HasMarks ph new.seat) (sym idle) quiet;
       made = omega (arith, tied.made, ap length nodes, length_push o.nodes x);
-    }
+    } in
+    subst (λ (k : CycleView). AreTied new after (counted k)) (sym registers) is

@@ -1,15 +1,16 @@
 -- What a command leaves tied, and what a ready heap tells of its parts.
-use Rattle.std.proofs.Common.{◌≡◌, ℕ, ◌≤◌, List, [], ◌∷◌, length, get_or, set, map, Option, Some, None, option_map, refl, sym, ap, ◌∙◌, inl, inr, arith}
+use Rattle.std.proofs.Common.{◌≡◌, ℕ, ◌≤◌, All, List, [], ◌∷◌, length, get_or, set, map, Option, Some, None, option_map, refl, sym, ap, ◌∙◌, subst, inl, inr, arith}
 use Rattle.std.specs.Option.{ForSome}
 use Rattle.std.proofs.lemmas.Bool.{cases_lt}
 use Rattle.std.proofs.lemmas.List.{map-set, length-map, get_or-map, get_or_past}
-use Rattle.std.proofs.lemmas.List.Elements.{All-get_or}
-use Rattle.gc_graph.specs.State.{Node, IsLive, slot_targets}
+use Rattle.std.proofs.lemmas.List.Elements.{All-get_or, All-weaker}
+use Rattle.gc_graph.specs.State.{Setup, Node, IsLive, slot_targets}
 use Rattle.gc_graph.specs.Valid.{AreLive}
+use Rattle.callback_table.specs.declared.registry.Registered.{Registered}
 use Rattle.heap_engine.specs.Nodes.{place_of}
 use Rattle.heap_engine.specs.View.{places_of}
 use Rattle.heap_engine.specs.Objects.{AreOfValid, IsLiveAt}
-use Rattle.heap_engine.specs.Parts.{ObjectsView, HandlesView, CycleView, setup_of_objects, state_of, counted, HasMarks, AreTied, IsReady}
+use Rattle.heap_engine.specs.Parts.{ObjectsView, HandlesView, CycleView, setup_of_objects, state_of, counted, HasMarks, IsPlaced, AreTied, IsReady}
 use Rattle.heap_engine.specs.Changes.{put_in, copied_in, weakened_in}
 use Rattle.heap_engine.proofs.KeptNodes.{slots_live}
 
@@ -70,6 +71,8 @@ tied_slot o h c p target is tied = record {
   slots = ap (λ l. set l p (option_map (λ (t : ℕ × ℕ). t.0) target)) tied.slots ∙ ap (λ x. set (places_of o.nodes h.slots) p x) is
       ∙ sym (map-set (λ (slot : Option ℕ). option_map (place_of o.nodes) slot) h.slots p (option_map (λ (t : ℕ × ℕ). t.1) target));
   weak = tied.weak;
+  registered = tied.registered;
+  few = omega (arith, tied.few);
   marks = tied.marks;
   made = omega (arith, tied.made);
 }
@@ -80,6 +83,8 @@ tied_copy o h c p q tied = record {
   slots = ap (λ l. set l q (get_or h.places p None)) tied.slots ∙ ap (λ x. set (places_of o.nodes h.slots) q x) (slot_place o h c p tied)
       ∙ sym (map-set (λ (slot : Option ℕ). option_map (place_of o.nodes) slot) h.slots q (get_or h.slots p None));
   weak = tied.weak;
+  registered = tied.registered;
+  few = omega (arith, tied.few);
   marks = tied.marks;
   made = omega (arith, tied.made);
 }
@@ -90,6 +95,8 @@ tied_weak o h c w p tied = record {
   slots = tied.slots;
   weak = ap (λ l. set l w (get_or h.places p None)) tied.weak ∙ ap (λ x. set (places_of o.nodes h.weak) w x) (slot_place o h c p tied)
       ∙ sym (map-set (λ (slot : Option ℕ). option_map (place_of o.nodes) slot) h.weak w (get_or h.slots p None));
+  registered = tied.registered;
+  few = omega (arith, tied.few);
   marks = tied.marks;
   made = omega (arith, tied.made);
 }
@@ -99,12 +106,23 @@ places-same f g [] same = refl
 places-same f g (None ∷ slots) same = ap (λ l. None ∷ l) (places-same f g slots same)
 places-same f g (Some n ∷ slots) same = ap (λ p. Some p ∷ map (λ (slot : Option ℕ). option_map f slot) slots) (same n) ∙ ap (λ l. Some (g n) ∷ l) (places-same f g slots same)
 
--- the nodes change, but their places stay
+-- the registrations hold the places of their nodes, where these stay
+pub placed_still : (o new : ObjectsView) (entries : List Registered) → ((n : ℕ) → place_of new.nodes n ≡ place_of o.nodes n) → new.callbacks ≡ o.callbacks
+    → All (IsPlaced o.nodes (length o.callbacks)) entries → All (IsPlaced new.nodes (length new.callbacks)) entries
+placed_still o new entries same callbacks placed =
+    All-weaker (IsPlaced o.nodes (length o.callbacks)) (IsPlaced new.nodes (length new.callbacks))
+    (λ e is. record { place = same e.node ∙ is.place; known = omega (arith, is.known, ap length callbacks) }) entries placed
+
+-- the nodes change, but their places stay, and no prefinalizer is registered or run
 pub tied_nodes : (o new : ObjectsView) (h : HandlesView) (c after : CycleView) → AreTied o h c → ((n : ℕ) → place_of new.nodes n ≡ place_of o.nodes n)
+    → setup_of_objects new ≡ setup_of_objects o → after.registered ≡ c.registered → after.ran ≡ c.ran → c.rest.ordinal ≤ after.rest.ordinal
     → HasMarks after.phase new.seat → length new.nodes ≤ after.rest.ordinal → AreTied new h after
-tied_nodes o new h c after tied same marks made = record {
+tied_nodes o new h c after tied same setup registered ran later marks made = record {
   slots = tied.slots ∙ sym (places-same (place_of new.nodes) (place_of o.nodes) h.slots same);
   weak = tied.weak ∙ sym (places-same (place_of new.nodes) (place_of o.nodes) h.weak same);
+  registered = subst (All (IsPlaced new.nodes (length new.callbacks))) (sym registered)
+      (placed_still o new c.registered same (ap (λ (st : Setup). st.callbacks) setup) tied.registered);
+  few = omega (arith, tied.few, ap length registered, ap length ran, later);
   marks = marks;
   made = made;
 }

@@ -1,4 +1,4 @@
--- What a valid state says of its nodes, and what the types say that a heap can have so far.
+-- What a valid state says of its nodes.
 use Rattle.std.proofs.Common.{◌≡◌, ℕ, zero, suc, ◌+◌, ◌<◌, true, List, [], ◌∷◌, ◌++◌, length, map, replicate, eqb, refl, sym, ap, ◌∙◌, subst, arith}
 use Rattle.std.specs.List.{All}
 use Rattle.std.proofs.lemmas.Bool.{eqb-true}
@@ -9,21 +9,11 @@ use Rattle.gc_graph.specs.declared.kind.Kind.{Kind}
 use Rattle.gc_graph.specs.declared.kind.Kind.TheVariants.{Strong, Weak, Pair, Plain}
 use Rattle.gc_graph.specs.declared.kind.Value.{Value}
 use Rattle.gc_graph.specs.declared.kind.Value.TheVariants.{Null, Ref, Word}
-use Rattle.built_forms.specs.Built.{is_built_type}
 use Rattle.gc_graph.specs.State.{Setup, ObjectType, Node, node_at, type_at, IsLive}
 use Rattle.gc_graph.specs.Valid.{IsTyped, HaveKinds, IsReferenceBelow, IsPlainWord, NamesLive}
 use Rattle.gc_graph.specs.Fields.{words_of_kind, field_words, nulls_of_kind, nulls_of, new_node}
 use Rattle.heap_engine.specs.Nodes.{word_of}
 use Rattle.heap_engine.specs.Objects.{AreOfValid}
-
--- ---- the types that a heap can have so far
-
-no_numbers : (numbers : List ℕ) → length numbers ≡ 0 → numbers ≡ []
-no_numbers [] none = refl
-no_numbers (n ∷ numbers) none = absurd (omega (arith, none))
-
-pub built_unregistered : (type : ObjectType) → is_built_type type ≡ true → type.prefinalizers ≡ []
-built_unregistered type built = no_numbers type.prefinalizers (eqb-true (length type.prefinalizers) 0 built)
 
 -- ---- what a valid state says of its nodes
 

@@ -132,7 +132,7 @@ held_after setup nodes v is =
 -- ---- the words
 
 -- a change of bodies that leaves each at its place, with its size
-abbrev KeepsExtents : (Body → Body) → Type 0
+abbrev pub KeepsExtents : (Body → Body) → Type 0
 KeepsExtents change = (b : Body) → ((change b).place ≡ b.place) × ((change b).size ≡ b.size)
 
 weak_keeps : (types : List ObjectType) (marked : List ℕ) → KeepsExtents (clear_body types marked)
@@ -153,7 +153,7 @@ pairs_keep types marked b = go (holds marked b.place) where
   go true = (refl, refl)
   go false = (refl, refl)
 
-same_extents : (change : Body → Body) → KeepsExtents change → (bodies : List Body) → extents_of_bodies (map change bodies) ≡ extents_of_bodies bodies
+pub same_extents : (change : Body → Body) → KeepsExtents change → (bodies : List Body) → extents_of_bodies (map change bodies) ≡ extents_of_bodies bodies
 same_extents change keeps [] = refl
 same_extents change keeps (b ∷ bodies) =
     let is = keeps b in
@@ -168,7 +168,7 @@ space_cleared space v is =
     (sym (same_extents (clear_pairs_of v.types v.marked) (pairs_keep v.types v.marked) (map (clear_body v.types v.marked) v.bodies)
     ∙ same_extents (clear_body v.types v.marked) (weak_keeps v.types v.marked) v.bodies)) is
 
-judged_changed : (change : Body → Body) → KeepsExtents change → (v : SeatView) → IsJudged v → IsJudged (record v { bodies = map change v.bodies })
+pub judged_changed : (change : Body → Body) → KeepsExtents change → (v : SeatView) → IsJudged v → IsJudged (record v { bodies = map change v.bodies })
 judged_changed change keeps v is b there =
     let from = Contains-map_some change v.bodies b there in
     subst (λ p. holds v.dead p ≡ not (holds v.marked p)) (sym (keeps from.0).0 ∙ ap (λ (c : Body). c.place) from.2) (is from.0 from.1)

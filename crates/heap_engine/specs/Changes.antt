@@ -1,11 +1,13 @@
 -- How the handles and the cycle change.
-use Rattle.std.specs.Prelude.{ℕ, ◌+◌, Bool, not, [], ◌∷◌, ◌++◌, List, length, map, Option, None, option_map, slice_set, slice_index_or}
+use Rattle.std.specs.Prelude.{ℕ, ◌+◌, ◌-◌, Bool, not, [], ◌∷◌, ◌++◌, List, length, map, take, drop, Option, None, option_map, slice_set, slice_index_or}
 use Rattle.gc_graph.specs.Reach.{Reach}
-use Rattle.gc_graph.specs.State.{Shape, State, Node, graph_of, roots_of}
+use Rattle.gc_graph.specs.State.{Shape, State, Node, type_at, graph_of, roots_of}
 use Rattle.gc_graph.specs.Pause.{clear_slot}
+use Rattle.callback_table.specs.declared.registry.Registered.{Registered}
+use Rattle.callback_table.specs.Registry.{registered, placed_at}
 use Rattle.heap_engine.specs.Judgement.{weak_after}
 use Rattle.heap_engine.specs.View.{kept_of, start_entry, pause_entry}
-use Rattle.heap_engine.specs.Parts.{HandlesView}
+use Rattle.heap_engine.specs.Parts.{ObjectsView, HandlesView, CycleView, setup_of_objects}
 
 -- slot p holds the place and the number of the target, where there is one
 abbrev pub put_in : HandlesView → ℕ → Option (ℕ × ℕ) → HandlesView
@@ -33,6 +35,17 @@ abbrev pub cleared_in : HandlesView → (ℕ → Bool) → List Node → Handles
 cleared_in h marked nodes = record h {
   weak_places = map (clear_slot (λ a. not (marked a))) h.weak_places;
   weak = weak_after (kept_of marked nodes) nodes h.weak;
+}
+
+-- the last registrations, so many of them, got this place
+abbrev pub placed_last : ℕ → ℕ → List Registered → List Registered
+placed_last count place entries =
+    take (length entries - count) entries ++ map (placed_at place) (drop (length entries - count) entries)
+
+-- the prefinalizers of the type are registered for the next node, with this place
+abbrev pub registered_in : ObjectsView → CycleView → ℕ → ℕ → CycleView
+registered_in o c t place = record c {
+  registered = c.registered ++ map (registered (length o.nodes) place) (type_at (setup_of_objects o) t).prefinalizers;
 }
 
 -- one outcome more was full

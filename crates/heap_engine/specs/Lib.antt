@@ -7,5 +7,6 @@ pub mod Objects
 pub mod Judgement
 pub mod Printed
 pub mod Parts
+pub mod Prefinalizing
 pub mod Changes
 pub mod Sound

@@ -1,7 +1,7 @@
 -- The objects in the words are the nodes, and what calls on them change.
-use Rattle.std.specs.Prelude.{◌≡◌, ℕ, ◌+◌, ◌<◌, true, false, List, [], ◌∷◌, ◌++◌, length, Option, Some, None, option_map, All, slice_set}
+use Rattle.std.specs.Prelude.{◌≡◌, ℕ, ◌+◌, ◌<◌, ◌≤◌, false, List, [], ◌∷◌, ◌++◌, length, Option, Some, None, option_map, All, slice_set}
 use Rattle.gc_graph.specs.declared.kind.Value.{Value}
-use Rattle.built_forms.specs.Built.{is_built_type}
+use Rattle.gc_graph.specs.declared.action.ActionKind.{ActionKind}
 use Rattle.gc_graph.specs.State.{Setup, State, ObjectType, Node, node_at, IsLive}
 use Rattle.gc_graph.specs.Fields.{word_of_field, with_value, target_of, new_node}
 use Rattle.gc_graph.specs.Valid.{IsValid}
@@ -12,13 +12,15 @@ use Rattle.page_space.specs.Space.{SpaceView, IsSpaceOf}
 use Rattle.heap_engine.specs.Nodes.{place_of, word_of, IsHeld}
 use Rattle.heap_engine.specs.Fields.{IsLiveReference}
 
--- each type is one that the heap can have so far
-abbrev pub AreBuilt : List ObjectType → Type 0
-AreBuilt types = All (λ type. is_built_type type ≡ true) types
+-- each type has at most 16 prefinalizers, and there are so many callbacks that each of these is one
+pub record HaveCallbacks (callbacks : ℕ) (types : List ObjectType) : Type 0 where
+  pub few : All (λ type. length type.prefinalizers ≤ 16) types
+  pub known : All (λ type. All (λ number. number < callbacks) type.prefinalizers) types
 
 -- the words hold the nodes, and the next number is the one that no node has; a header can name each type
-pub record AreObjects (space : SpaceView) (v : SeatView) (types : List ObjectType) (made : ℕ) (nodes : List Node) : Type 0 where
-  pub built : AreBuilt types
+pub record AreObjects
+    (space : SpaceView) (v : SeatView) (types : List ObjectType) (callbacks : List ActionKind) (made : ℕ) (nodes : List Node) : Type 0 where
+  pub called : HaveCallbacks (length callbacks) types
   pub few : length types < 16384
   pub known : v.types ≡ types
   pub laid : IsSpaceOf space v

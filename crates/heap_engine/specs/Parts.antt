@@ -1,5 +1,6 @@
 -- The parts of a heap as commands see them, and how the state is put together from them.
-use Rattle.std.specs.Prelude.{◌≡◌, ℕ, ◌+◌, ◌≤◌, false, List, [], length, replicate, Option}
+use Rattle.std.specs.Prelude.{◌≡◌, ℕ, ◌+◌, ◌*◌, ◌<◌, ◌≤◌, false, List, [], length, replicate, Option, All}
+use Rattle.gc_graph.specs.declared.action.ActionKind.{ActionKind}
 use Rattle.gc_graph.specs.declared.phase.Phase.{Phase}
 use Rattle.gc_graph.specs.declared.phase.Phase.TheVariants.{Idle, Marking, Sweeping}
 use Rattle.gc_graph.specs.State.{Shape, Setup, State, Node, ObjectType}
@@ -7,15 +8,19 @@ use Rattle.gc_graph.specs.State.RegionSlot.{Vacant}
 use Rattle.gc_graph.specs.CycleSteps.{is_marking}
 use Rattle.gc_graph.specs.Valid.{IsValid}
 use Rattle.gc_graph.specs.Outcomes.{answered}
+use Rattle.callback_table.specs.declared.registry.Registered.{Registered}
+use Rattle.callback_table.specs.Registry.{registrations_of}
 use Rattle.page_words.specs.Seat.{SeatView, IsQuiet}
-use Rattle.heap_engine.specs.Objects.{AreBuilt}
+use Rattle.heap_engine.specs.Objects.{HaveCallbacks}
 use Rattle.heap_engine.specs.Sweeping.{IsJudged}
+use Rattle.heap_engine.specs.Nodes.{place_of}
 use Rattle.heap_engine.specs.View.{places_of}
 
--- the objects: the heap's shape and types, the nodes, and what is known of the words
+-- the objects: the heap's shape and types, the kinds of its callbacks, the nodes, and what is known of the words
 pub record ObjectsView : Type 0 where
   pub shape : Shape
   pub types : List ObjectType
+  pub callbacks : List ActionKind
   pub nodes : List Node
   pub seat : SeatView
 
@@ -26,18 +31,22 @@ pub record HandlesView : Type 0 where
   pub weak_places : List (Option ℕ)
   pub weak : List (Option ℕ)
 
--- the collection cycle: its phase, and what no other part holds of the state
+-- the collection cycle: its phase, the prefinalizers that are registered, with the places of their objects, those that the last
+-- pause ran, each the number of its object and that of its callback, and what no other part holds of the state
 pub record CycleView : Type 0 where
   pub phase : Phase
+  pub registered : List Registered
+  pub ran : List (ℕ × ℕ)
   pub rest : State
 
 -- what was set up
 abbrev pub setup_of_objects : ObjectsView → Setup
-setup_of_objects o = record { shape = o.shape; markers = 0; types = o.types; callbacks = [] }
+setup_of_objects o = record { shape = o.shape; markers = 0; types = o.types; callbacks = o.callbacks }
 
 -- the state is put together from what each part holds of it
 abbrev pub state_of : ObjectsView → HandlesView → CycleView → State
-state_of o h c = record c.rest { nodes = o.nodes; slots = h.slots; weak = h.weak; phase = c.phase }
+state_of o h c =
+    record c.rest { nodes = o.nodes; slots = h.slots; weak = h.weak; registrations = registrations_of c.registered; phase = c.phase }
 
 -- one command more was answered
 abbrev pub counted : CycleView → CycleView
@@ -52,26 +61,32 @@ HasMarks Idle v = IsQuiet v
 HasMarks Marking v = IsQuiet v
 HasMarks Sweeping v = IsJudged v
 
--- no marking goes on, region slots are null, the stack is empty, no prefinalizer is registered, and no thread runs
+-- no marking goes on, region slots are null, the stack is empty, and no thread runs
 pub record IsAtRest (phase : Phase) (s : State) : Type 0 where
   pub calm : is_marking phase ≡ false
   pub stack_empty : s.stack ≡ []
   pub region_null : s.region ≡ replicate 32 Vacant
-  pub none_registered : s.registrations ≡ []
   pub none_running : s.running ≡ []
 
--- the parts belong together: slots, strong and weak, hold the places of what they name, the marks are those of the phase, and
--- no more nodes were made than commands were answered
+-- the callback is registered with the place of its node, and there are so many callbacks that it is one
+pub record IsPlaced (nodes : List Node) (callbacks : ℕ) (entry : Registered) : Type 0 where
+  pub place : place_of nodes entry.node ≡ entry.place
+  pub known : entry.callback < callbacks
+
+-- the parts belong together: slots, strong and weak, hold the places of what they name, and so do registrations; the marks are
+-- those of the phase, and no more nodes were made than commands were answered, and at most 16 registrations for each
 pub record AreTied (o : ObjectsView) (h : HandlesView) (c : CycleView) : Type 0 where
   pub slots : h.places ≡ places_of o.nodes h.slots
   pub weak : h.weak_places ≡ places_of o.nodes h.weak
+  pub registered : All (IsPlaced o.nodes (length o.callbacks)) c.registered
+  pub few : length c.registered + length c.ran ≤ 16 * c.rest.ordinal
   pub marks : HasMarks c.phase o.seat
   pub made : length o.nodes ≤ c.rest.ordinal
 
 -- the parts are ready for a command: their state is valid, and they belong together
 pub record IsReady (o : ObjectsView) (h : HandlesView) (c : CycleView) : Type 0 where
   pub valid : IsValid (setup_of_objects o) (state_of o h c)
-  pub built : AreBuilt o.types
+  pub called : HaveCallbacks (length o.callbacks) o.types
   pub tied : AreTied o h c
   pub most : c.rest.ordinal ≤ 1000000
 

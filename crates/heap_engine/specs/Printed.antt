@@ -1,19 +1,34 @@
 -- The outcome of a command.
-use Rattle.std.specs.Prelude.{ℕ, List, ◌++◌, Option}
+use Rattle.std.specs.Prelude.{ℕ, Bool, true, false, List, [], ◌∷◌, ◌++◌, map, Option}
 use Rattle.std.specs.Option.{option_to_list}
 use Rattle.gc_graph.specs.declared.line.Line.{Line}
+use Rattle.gc_graph.specs.declared.line.Line.TheVariants as L
 use Rattle.gc_graph.specs.declared.region.Entry.{Entry}
 use Rattle.gc_graph.specs.Outcomes.{finalise_lines}
 
--- the finalised nodes, and then at most one more line; what the command took of the region's history, and the history
--- before it; and for how many nodes there is room
+-- the finalised nodes, then at most one more line, and then the prefinalizers where the command ran some; what it took of the
+-- region's history, and the history before it; and for how many nodes there is room
 pub record Printed : Type 0 where
   pub numbers : List ℕ
   pub last : Option Line
+  pub prefinalises : Bool
   pub piece : List Entry
   pub history : List Entry
   pub room : ℕ
 
--- the lines of the outcome
-abbrev pub outcome_lines : Printed → List Line
-outcome_lines o = finalise_lines o.numbers ++ option_to_list o.last
+-- a line for each of these prefinalizers, where the command ran them: the number of the object and that of the callback
+abbrev pub ran_lines : Bool → List (ℕ × ℕ) → List Line
+ran_lines true ran = map (λ r. L.Prefinalise r.0 r.1) ran
+ran_lines false ran = []
+
+-- the lines of an outcome after those of the finalised nodes, where the last pause ran these prefinalizers
+abbrev pub later_lines : Printed → List (ℕ × ℕ) → List Line
+later_lines o ran = option_to_list o.last ++ ran_lines o.prefinalises ran
+
+-- all of its lines
+abbrev pub outcome_lines : Printed → List (ℕ × ℕ) → List Line
+outcome_lines o ran = finalise_lines o.numbers ++ later_lines o ran
+
+-- the lines of a command that answers this line besides what it finalises and what it runs
+abbrev pub lines_with : Printed → List (ℕ × ℕ) → Line → List Line
+lines_with o ran line = finalise_lines o.numbers ++ line ∷ ran_lines o.prefinalises ran

@@ -1,7 +1,7 @@
 -- How a heap's fields are seen, and what is true of them.
 use Rattle.std.specs.Prelude.{◌*◌, ◌≤◌}
 use Rattle.page_space.specs.Pages.{word_count}
-use Rattle.heap_engine.specs.declared.heap.Heap.TheInside.{Inside}
+use Rattle.heap_engine.specs.declared.heap.Core.TheInside.{Inside}
 use Rattle.heap_engine.specs.View.{View}
 use Rattle.heap_engine.specs.Printed.{outcome_lines}
 use Rattle.heap_engine.specs.Parts.{setup_of_objects, state_of, IsReady}
@@ -12,7 +12,7 @@ view_of h = record {
   setup = setup_of_objects h.objects;
   state = state_of h.objects h.handles h.cycle;
   history = h.outcome.history;
-  lines = outcome_lines h.outcome;
+  lines = outcome_lines h.outcome h.cycle.ran;
   piece = h.outcome.piece;
   closed = h.closed;
 }

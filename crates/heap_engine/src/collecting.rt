@@ -17,6 +17,7 @@ ghost use Rattle.gc_graph.specs.declared.kind.Kind.TheVariants.{Pair};
 ghost use Rattle.weak_clearing.specs.Clearing.{MarkedHaveWeakReferences, with_weak_cleared};
 ghost use Rattle.weak_clearing.specs.Clearing.{MarkedHaveReferencesOf, with_pairs_cleared};
 ghost use Rattle.heap_engine.specs.Sweeping.{IsJudged};
+ghost use Rattle.heap_engine.specs.Prefinalizing.{IsPrepared};
 ghost use Rattle.heap_engine.specs.View.{places_of};
 ghost use Rattle.heap_engine.specs.Objects.{AreOfValid};
 ghost use Rattle.heap_engine.specs.Objects.{bury};
@@ -53,7 +54,7 @@ impl Objects {
           weak_places = places_of self.new.nodes handles.new.weak;
           weak = handles.new.weak;
         } }
-        ensures marks { IsJudged self.new.seat }
+        ensures prepared { IsPrepared self.new }
         ensures kept { result.kept ≡ live_count self.new.nodes }
         ensures setup { setup_of_objects self.new ≡ setup_of_objects self.old }
     {

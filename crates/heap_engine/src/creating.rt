@@ -1,18 +1,22 @@
 // New objects (`include/cppgc/allocation.h`).
 
-ghost use Rattle.std.specs.Prelude.{◌≡◌, ◌<◌, ◌≤◌, [], ◌∷◌, length};
+ghost use Rattle.std.specs.Prelude.{◌≡◌, ◌≢◌, ◌<◌, ◌≤◌, [], ◌∷◌, length, IfOk, OnOk, OnErr};
+ghost use Rattle.gc_graph.specs.State.{type_at};
 ghost use Rattle.gc_graph.specs.declared.phase.Phase.TheVariants.{Idle};
 ghost use Rattle.gc_graph.specs.Outcomes.{answered};
 ghost use Rattle.gc_graph.specs.ObjectSteps.{StepNew};
+ghost use Rattle.heap_engine.specs.Changes.{registered_in};
+ghost use Rattle.heap_engine.specs.Objects.{HaveCallbacks};
 ghost use Rattle.heap_engine.specs.Parts.{setup_of_objects, state_of, counted, IsReady, IsFrame};
 
 use crate::cycle::Cycle;
 use crate::handles::Handles;
 use crate::objects::Objects;
-use gc_graph::Line;
+use gc_graph::{Line, NoMemory};
 
-/// Makes an object of a type with so many extra words, and puts it into slot p. The heap may be
-/// full.
+/// Makes an object of a type with so many extra words, and puts it into slot p. Its prefinalizers
+/// are registered first, and taken away again where the heap is full. Memory can be wanting for
+/// them alone.
 pub fn new_object(
     objects: &mut Objects,
     handles: &mut Handles,
@@ -32,8 +36,12 @@ pub fn new_object(
     ensures frame { IsFrame objects.old cycle.old objects.new handles.new (counted cycle.new) }
 {
     let number = objects.made();
+    let Ok(count) = register(objects, cycle, t) else {
+        return Line::Memory;
+    };
     match objects.make(t, extra) {
         Some(place) => {
+            cycle.place_last(count, place);
             handles.put(p, Some((place, number)));
             Line::Placed {
                 k: number,
@@ -41,8 +49,29 @@ pub fn new_object(
             }
         }
         None => {
+            cycle.unregister_last(count);
             cycle.count_full();
             Line::Full
         }
     }
+}
+
+/// Registers the prefinalizers of the type for the next object, which has no place yet, and answers
+/// how many these are. Memory is not wanting where there are none.
+fn register(objects: &Objects, cycle: &mut Cycle, t: u32) -> Result<u32, NoMemory>
+    requires ty { t < length objects.now.types }
+    requires called { HaveCallbacks (length objects.now.callbacks) objects.now.types }
+    ensures count { IfOk result (λ count. count
+        ≡ length (type_at (setup_of_objects objects.now) t).prefinalizers) }
+    ensures registered { OnOk result (cycle.new ≡ registered_in objects.now cycle.old t 0) }
+    ensures some { OnErr result
+        ((type_at (setup_of_objects objects.now) t).prefinalizers ≢ []) }
+    ensures same { OnErr result (cycle.new ≡ cycle.old) }
+{
+    let callbacks = objects.callbacks(t);
+    let count = callbacks.len() as u32;
+    if count > 0 {
+        cycle.register(objects.made(), callbacks)?;
+    }
+    Ok(count)
 }

@@ -1,33 +1,39 @@
 // The collection cycle: collections and sweeps (`include/cppgc/heap.h`).
 
 ghost use Rattle.std.specs.Prelude.{◌≡◌, ◌+◌, ◌-◌, ◌*◌, ◌^◌, ◌≤◌, false};
-ghost use Rattle.std.specs.Prelude.{[], ◌∷◌, ◌++◌, length, vec_capacity};
+ghost use Rattle.std.specs.Prelude.{[], ◌++◌, OnOk, OnErr, length, map, take, vec_capacity};
 ghost use Rattle.gc_graph.specs.declared.command.Want.TheVariants.{Precise};
 ghost use Rattle.gc_graph.specs.declared.phase.Phase.TheVariants.{Idle};
 ghost use Rattle.gc_graph.specs.State.{empty_state, objects_of};
-ghost use Rattle.gc_graph.specs.Outcomes.{answered, finalise_lines};
+ghost use Rattle.gc_graph.specs.Outcomes.{answered};
 ghost use Rattle.gc_graph.specs.CycleSteps.{StepGcNow, StepSweepAll, is_marking};
 ghost use Rattle.gc_graph.specs.Sweep.{SweepsToEnd};
 ghost use Rattle.page_space.specs.Pages.{word_count};
 ghost use Rattle.heap_engine.specs.Parts.{setup_of_objects, state_of, counted, IsReady, IsFrame};
-ghost use Rattle.heap_engine.specs.Changes.{filled};
+ghost use Rattle.callback_table.specs.Registry.{registered};
+ghost use Rattle.callback_table.specs.Table.{kinds_of};
+ghost use Rattle.heap_engine.specs.Changes.{filled, placed_last};
+ghost use Rattle.heap_engine.specs.Printed.{lines_with};
 
 use crate::entries;
 use crate::handles::Handles;
 use crate::marking::{Grey, Marked};
 use crate::objects::Objects;
 use crate::outcome::Outcome;
+use crate::prefinalizing::prefinalise;
 use crate::states::{self, States};
-use gc_graph::{Line, Phase, Refusal};
+use callback_table::{CallbackTable, Registry};
+use gc_graph::{Line, NoMemory, Phase, Refusal};
 use ghost_values::GhostValue;
 use std::alloc::Global;
 use std::marker::Model;
 
-/// The phase of the cycle, and what is kept of marking.
+/// The phase of the cycle, the registered prefinalizers, and what is kept of marking.
 #[derive(Drop)]
 pub struct Cycle {
     phase: Phase,
     grey: Grey,
+    registry: Registry,
     /// What no other part holds of the state.
     rest: GhostValue<States>,
 }
@@ -37,7 +43,12 @@ impl Model for Cycle {
 
     ghost Value = { CycleView };
 
-    ghost view = { λ c. record { phase = c.phase; rest = c.rest.value } };
+    ghost view = { λ c. record {
+      phase = c.phase;
+      registered = c.registry.entries;
+      ran = c.registry.ran;
+      rest = c.rest.value;
+    } };
 
     ghost invariant = { λ c. IsAtRest c.phase c.rest.value };
 }
@@ -45,12 +56,13 @@ impl Model for Cycle {
 impl Cycle {
     /// The cycle of a heap that has done nothing.
     pub fn new(alloc: Global) -> Cycle
-        ensures phase { result.phase ≡ Idle }
-        ensures rest { result.rest ≡ empty_state }
+        ensures { result
+            ≡ record { phase = Idle; registered = []; ran = []; rest = empty_state } }
     {
         Cycle {
             phase: Phase::Idle,
             grey: Grey::new(alloc),
+            registry: Registry::new(alloc),
             rest: states::empty(),
         }
     }
@@ -77,21 +89,64 @@ impl Cycle {
         self.rest = states::filled(&self.rest);
     }
 
+    /// Registers the callbacks, in their order, for the object with this number, which has no place
+    /// yet. Want of memory is free.
+    pub fn register(&mut self, number: u32, callbacks: &[u32]) -> Result<(), NoMemory>
+        ensures entries { OnOk result (self.new ≡ record self.old {
+          registered = self.old.registered ++ map (registered number 0) callbacks.now;
+        }) }
+        ensures full { OnErr result (self.new ≡ self.old) }
+    {
+        self.registry.register(number, 0, callbacks)
+    }
+
+    /// The object of the last registrations got its place.
+    pub fn place_last(&mut self, count: u32, place: u32)
+        requires { count ≤ length self.old.registered }
+        ensures { self.new ≡ record self.old {
+          registered = placed_last count place self.old.registered;
+        } }
+    {
+        self.registry.place_last(count, place);
+    }
+
+    /// Takes the last registrations away.
+    pub fn unregister_last(&mut self, count: u32)
+        requires { count ≤ length self.old.registered }
+        ensures { self.new ≡ record self.old {
+          registered = take (length self.old.registered - count) self.old.registered;
+        } }
+    {
+        self.registry.unregister_last(count);
+    }
+
+    /// The number of the object and that of the callback of each prefinalizer that the last pause
+    /// ran, in the order in which they ran.
+    pub fn ran(&self) -> &[(u32, u32)]
+        ensures { result.now ≡ self.now.ran }
+    {
+        self.registry.ran()
+    }
+
     /// A whole collection: an open sweep is ended, what the strong slots reach is kept, the other
-    /// objects are condemned, and what is weak and names one of these becomes null.
+    /// objects are condemned, what is weak and names one of these becomes null, and their
+    /// prefinalizers run.
     pub fn collect(
         &mut self,
         objects: &mut Objects,
         handles: &mut Handles,
         outcome: &mut Outcome,
+        callbacks: &CallbackTable,
     ) -> Line
         requires ready { IsReady objects.old handles.old self.old }
+        requires kinds { kinds_of callbacks.now ≡ objects.old.callbacks }
         requires numbers { outcome.old.numbers ≡ [] }
+        requires calm { outcome.old.prefinalises ≡ false }
         requires piece { outcome.old.piece ≡ [] }
         requires room { word_count objects.old.shape ≤ 2 * outcome.old.room }
         ensures step { StepGcNow (setup_of_objects objects.old) Precise
             (state_of objects.old handles.old self.old) outcome.new.piece
-            (finalise_lines outcome.new.numbers ++ result ∷ [])
+            (lines_with outcome.new self.new.ran result)
             (answered (state_of objects.new handles.new self.new)) }
         ensures frame { IsFrame objects.old self.old objects.new handles.new (counted self.new) }
         ensures room { outcome.new.room ≡ outcome.old.room }
@@ -106,9 +161,12 @@ impl Cycle {
         self.rest = states::collected(objects, handles, self);
         gc_graph::reach_is_least();
         let marked = objects.judge(handles, &mut self.grey);
+        let line = pause_line(objects.count(), marked);
+        prefinalise(&mut self.registry, callbacks, objects);
+        outcome.prefinalise();
         self.phase = Phase::Sweeping;
         outcome.piece = entries::of_collection();
-        pause_line(objects.count(), marked)
+        line
     }
 
     /// Ends the open sweep, or refuses where none is open.
@@ -120,10 +178,11 @@ impl Cycle {
     ) -> Line
         requires ready { IsReady objects.old handles.now self.old }
         requires numbers { outcome.old.numbers ≡ [] }
+        requires calm { outcome.old.prefinalises ≡ false }
         requires room { word_count objects.old.shape ≤ 2 * outcome.old.room }
         ensures step { StepSweepAll (setup_of_objects objects.old)
             (state_of objects.old handles.now self.old)
-            (finalise_lines outcome.new.numbers ++ result ∷ [])
+            (lines_with outcome.new self.new.ran result)
             (answered (state_of objects.new handles.now self.new)) }
         ensures frame { IsFrame objects.old self.old objects.new handles.now (counted self.new) }
         ensures piece { outcome.new.piece ≡ outcome.old.piece }
@@ -150,6 +209,7 @@ impl Cycle {
         ensures idle { self.new.phase ≡ Idle }
         ensures setup { setup_of_objects objects.new ≡ setup_of_objects objects.old }
         ensures ordinal { self.new.rest.ordinal ≡ self.old.rest.ordinal }
+        ensures registered { self.new.registered ≡ self.old.registered }
         ensures fewer { objects_of objects.new.nodes ≤ objects_of objects.old.nodes }
         ensures many { length finalised.new.items ≤ 2 ^ 24 }
         ensures room { vec_capacity finalised.new ≡ vec_capacity finalised.old }

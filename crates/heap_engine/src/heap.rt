@@ -2,17 +2,19 @@
 // them.
 
 ghost use Rattle.std.specs.Prelude.{◌≡◌, ◌+◌, ◌*◌, ◌++◌, ◌<◌, ◌≤◌};
-ghost use Rattle.std.specs.Prelude.{true, false, [], ◌∷◌, length, Some, IfOk};
-ghost use Rattle.std.specs.Prelude.{All, slice_get};
+ghost use Rattle.std.specs.Prelude.{true, false, [], length, Some, IfOk, slice_get};
 ghost use Rattle.gc_graph.specs.State.{empty_state};
-ghost use Rattle.built_forms.specs.Built.{is_built_type, IsBuiltIn};
+ghost use Rattle.built_forms.specs.Built.{IsBuiltIn};
 ghost use Rattle.gc_graph.specs.CycleSteps.{is_marking};
-ghost use Rattle.gc_graph.specs.Outcomes.{answered, finalise_lines};
+ghost use Rattle.gc_graph.specs.Outcomes.{answered};
 ghost use Rattle.gc_graph.specs.Step.{Step};
 ghost use Rattle.gc_graph.specs.Lawful.{IsAllowed, IsEndLine};
 ghost use Rattle.gc_graph.specs.Shapes.{IsShape};
 ghost use Rattle.page_space.specs.Pages.{word_count};
+ghost use Rattle.callback_table.specs.Table.{kinds_of};
+ghost use Rattle.heap_engine.specs.Objects.{HaveCallbacks};
 ghost use Rattle.heap_engine.specs.Parts.{setup_of_objects, state_of, counted, IsReady, IsFrame};
+ghost use Rattle.heap_engine.specs.Printed.{lines_with};
 
 use crate::creating::new_object;
 use crate::cycle::Cycle;
@@ -23,6 +25,7 @@ use crate::outcome::Outcome;
 use crate::pairs::{key, pair, pair_null, value};
 use crate::slots::{copy, drop_slot, read, weaken};
 use crate::totals::stat;
+use callback_table::CallbackTable;
 use gc_graph::{Command, Line, NoMemory};
 use std::alloc::Global;
 use std::marker::Model;
@@ -35,9 +38,17 @@ pub struct Config {
     pub page_words: u32,
 }
 
-/// A heap. It belongs to one thread (`include/cppgc/heap.h`).
+/// A heap, with the callbacks of its program. It belongs to one thread (`include/cppgc/heap.h`).
 #[derive(Drop)]
-pub struct Heap {
+pub struct Heap<'a> {
+    callbacks: &'a CallbackTable,
+    core: Core,
+    pub ghost kinds: { kinds_of callbacks.now ≡ core.setup.callbacks },
+}
+
+/// A heap but for its callbacks: what contracts speak of.
+#[derive(Drop)]
+pub struct Core {
     objects: Objects,
     handles: Handles,
     cycle: Cycle,
@@ -45,7 +56,7 @@ pub struct Heap {
     closed: bool,
 }
 
-impl Model for Heap {
+impl Model for Core {
     ghost use Rattle.heap_engine.specs.View.{View};
 
     ghost Value = { View };
@@ -57,17 +68,84 @@ impl Model for Heap {
     ghost invariant = { IsSound };
 }
 
-impl Heap {
+impl<'a> Heap<'a> {
     /// An empty heap for objects of these types, which takes all the memory that its commands need
-    /// but for collections. Want of memory is free.
-    pub fn new(alloc: Global, config: Config, types: TypeTable) -> Result<Heap, NoMemory>
+    /// but for collections and prefinalizers. Want of memory is free.
+    pub fn new(
+        alloc: Global,
+        config: Config,
+        types: TypeTable,
+        callbacks: &'a CallbackTable,
+    ) -> Result<Heap<'a>, NoMemory>
         requires shape { IsShape (record { pages = config.pages; page_words = config.page_words }) }
-        requires built { All (λ type. is_built_type type ≡ true) types }
+        requires called { HaveCallbacks (length (kinds_of callbacks.now)) types }
+        ensures setup { IfOk result (λ h. h.core.setup ≡ record {
+          shape = record { pages = config.pages; page_words = config.page_words };
+          markers = 0;
+          types = types;
+          callbacks = kinds_of callbacks.now;
+        }) }
+        ensures state { IfOk result (λ h. h.core.state ≡ empty_state) }
+        ensures history { IfOk result (λ h. h.core.history ≡ []) }
+        ensures lines { IfOk result (λ h. h.core.lines ≡ []) }
+        ensures closed { IfOk result (λ h. h.core.closed ≡ false) }
+    {
+        let core = Core::new(alloc, config, types, callbacks)?;
+        Ok(Heap { callbacks, core })
+    }
+
+    /// Runs a command. The answer is the number of lines that `line` then tells.
+    pub fn act(&mut self, command: &Command) -> u32
+        requires few { self.old.core.state.ordinal < 1000000 }
+        requires opened { self.old.core.closed ≡ false }
+        requires allowed { IsAllowed (length self.old.core.setup.types) command.now }
+        requires built { IsBuiltIn self.old.core.state.phase command.now }
+        ensures step { Step self.old.core.setup self.old.core.state command.now
+            self.new.core.piece self.new.core.lines self.new.core.state }
+        ensures count { result ≡ length self.new.core.lines }
+        ensures calm { is_marking self.new.core.state.phase ≡ false }
+        ensures alone { self.new.core.state.running ≡ [] }
+        ensures ordinal { self.new.core.state.ordinal ≡ self.old.core.state.ordinal + 1 }
+        ensures history { self.new.core.history ≡ self.old.core.history ++ self.new.core.piece }
+        ensures setup { self.new.core.setup ≡ self.old.core.setup }
+        ensures closed { self.new.core.closed ≡ false }
+    {
+        self.core.act(command, self.callbacks)
+    }
+
+    /// A line of the last outcome.
+    pub fn line(&mut self, index: u32) -> Line
+        requires { index < length self.old.core.lines }
+        ensures line { slice_get self.old.core.lines index ≡ Some result }
+        ensures same { self.new.core ≡ self.old.core }
+    {
+        self.core.line(index)
+    }
+
+    /// Ends the heap's run, and answers the line that counts what is not finalised.
+    pub fn close(&mut self) -> Line
+        ensures line { IsEndLine self.old.core.setup self.old.core.state result }
+        ensures same { self.new.core ≡ record self.old.core { closed = true } }
+    {
+        self.core.close()
+    }
+}
+
+impl Core {
+    /// An empty heap. Want of memory is free.
+    fn new(
+        alloc: Global,
+        config: Config,
+        types: TypeTable,
+        callbacks: &CallbackTable,
+    ) -> Result<Core, NoMemory>
+        requires shape { IsShape (record { pages = config.pages; page_words = config.page_words }) }
+        requires called { HaveCallbacks (length (kinds_of callbacks.now)) types }
         ensures setup { IfOk result (λ h. h.setup ≡ record {
           shape = record { pages = config.pages; page_words = config.page_words };
           markers = 0;
           types = types;
-          callbacks = [];
+          callbacks = kinds_of callbacks.now;
         }) }
         ensures state { IfOk result (λ h. h.state ≡ empty_state) }
         ensures history { IfOk result (λ h. h.history ≡ []) }
@@ -77,10 +155,10 @@ impl Heap {
         gc_graph::empty_is_valid();
         // A header can name each type.
         let _count = types.count();
-        let objects = Objects::new(alloc, config.pages, config.page_words, types)?;
+        let objects = Objects::new(alloc, config.pages, config.page_words, types, callbacks)?;
         let outcome = Outcome::new(alloc, objects.word_count() as usize / 2 + 1)?;
         let handles = Handles::new(alloc)?;
-        Ok(Heap {
+        Ok(Core {
             objects,
             handles,
             cycle: Cycle::new(alloc),
@@ -89,12 +167,12 @@ impl Heap {
         })
     }
 
-    /// Runs a command. The answer is the number of lines that `line` then tells.
-    pub fn act(&mut self, command: &Command) -> u32
+    fn act(&mut self, command: &Command, callbacks: &CallbackTable) -> u32
         requires few { self.old.state.ordinal < 1000000 }
         requires opened { self.old.closed ≡ false }
         requires allowed { IsAllowed (length self.old.setup.types) command.now }
         requires built { IsBuiltIn self.old.state.phase command.now }
+        requires kinds { kinds_of callbacks.now ≡ self.old.setup.callbacks }
         ensures step { Step self.old.setup self.old.state command.now
             self.new.piece self.new.lines self.new.state }
         ensures count { result ≡ length self.new.lines }
@@ -113,25 +191,24 @@ impl Heap {
             &mut self.handles,
             &mut self.cycle,
             &mut self.outcome,
+            callbacks,
             command,
         );
         self.outcome.end(line);
         self.cycle.count_command();
         self.cycle.rests();
-        self.outcome.count()
+        self.outcome.count(self.cycle.ran())
     }
 
-    /// A line of the last outcome.
-    pub fn line(&mut self, index: u32) -> Line
+    fn line(&mut self, index: u32) -> Line
         requires { index < length self.old.lines }
         ensures line { slice_get self.old.lines index ≡ Some result }
         ensures same { self.new ≡ self.old }
     {
-        self.outcome.line(index)
+        self.outcome.line(index, self.cycle.ran())
     }
 
-    /// Ends the heap's run, and answers the line that counts what is not finalised.
-    pub fn close(&mut self) -> Line
+    fn close(&mut self) -> Line
         ensures line { IsEndLine self.old.setup self.old.state result }
         ensures same { self.new ≡ record self.old { closed = true } }
     {
@@ -147,16 +224,19 @@ fn run(
     handles: &mut Handles,
     cycle: &mut Cycle,
     outcome: &mut Outcome,
+    callbacks: &CallbackTable,
     command: &Command,
 ) -> Line
     requires ready { IsReady objects.old handles.old cycle.old }
+    requires kinds { kinds_of callbacks.now ≡ objects.old.callbacks }
     requires numbers { outcome.old.numbers ≡ [] }
+    requires calm { outcome.old.prefinalises ≡ false }
     requires piece { outcome.old.piece ≡ [] }
     requires room { word_count objects.old.shape ≤ 2 * outcome.old.room }
     requires allowed { IsAllowed (length objects.old.types) command.now }
     requires built { IsBuiltIn cycle.old.phase command.now }
     ensures step { Step (setup_of_objects objects.old) (state_of objects.old handles.old cycle.old)
-        command.now outcome.new.piece (finalise_lines outcome.new.numbers ++ result ∷ [])
+        command.now outcome.new.piece (lines_with outcome.new cycle.new.ran result)
         (answered (state_of objects.new handles.new cycle.new)) }
     ensures frame { IsFrame objects.old cycle.old objects.new handles.new (counted cycle.new) }
     ensures room { outcome.new.room ≡ outcome.old.room }
@@ -173,7 +253,7 @@ fn run(
         Command::Drop { p } => drop_slot(objects, handles, cycle, p),
         Command::Weak { w, p } => weaken(objects, handles, cycle, w, p),
         Command::Read { w, p } => read(objects, handles, cycle, w, p),
-        Command::GcNow { want: _ } => cycle.collect(objects, handles, outcome),
+        Command::GcNow { want: _ } => cycle.collect(objects, handles, outcome, callbacks),
         Command::SweepAll => cycle.sweep_all(objects, handles, outcome),
         Command::Stat => stat(objects, handles, cycle),
         Command::Pair { p, f, k, v } => pair(objects, handles, cycle, p, f, k, v),

@@ -2,6 +2,7 @@
 // alone.
 
 ghost use Rattle.std.specs.Prelude.{◌≡◌, [], map, Some, None, slice_index_or};
+ghost use Rattle.gc_graph.specs.Actions.{acted};
 ghost use Rattle.page_words.specs.Seat.{holds};
 ghost use Rattle.heap_engine.specs.View.{kept_of};
 ghost use Rattle.heap_engine.specs.Judgement.{nodes_after};
@@ -10,6 +11,7 @@ ghost use Rattle.heap_engine.specs.Objects.{with_made, written_in, paired_in, bu
 use crate::content::Content;
 use crate::handles::Handles;
 use crate::pair_fields::PairContent;
+use gc_graph::Action;
 use ghost_values::GhostValue;
 use page_space::Space;
 use page_words::MutatorSeat;
@@ -154,4 +156,23 @@ pub fn judged(nodes: &GhostValue<NodeLists>, seat: &MutatorSeat) -> GhostValue<N
         ≡ nodes_after (kept_of (holds seat.now.marked) nodes.now.value) nodes.now.value }
 {
     GhostValue::chosen(&AboutMarks { nodes, seat })
+}
+
+/// What an action looks at.
+#[derive(Drop)]
+struct AboutAction<'a> {
+    nodes: &'a GhostValue<NodeLists>,
+    dying: u32,
+    action: Action,
+}
+
+/// The action was done for a dying node.
+pub fn acted(nodes: &GhostValue<NodeLists>, dying: u32, action: Action) -> GhostValue<NodeLists>
+    ensures { result.value ≡ acted nodes.now.value dying action }
+{
+    GhostValue::chosen(&AboutAction {
+        nodes,
+        dying,
+        action,
+    })
 }

@@ -2,18 +2,21 @@
 
 ghost use Rattle.std.specs.Prelude.{◌≡◌, ℕ, ◌+◌, ◌*◌, ◌<◌};
 ghost use Rattle.std.specs.Prelude.{◌≤◌, [], length, IfOk};
-ghost use Rattle.gc_graph.specs.State.{objects_of, used_of};
+ghost use Rattle.gc_graph.specs.State.{type_at, objects_of, used_of};
 ghost use Rattle.gc_graph.specs.Fields.{size_of_type};
 ghost use Rattle.gc_graph.specs.Placement.{IsPlaceFor, IsUsedPages, extents_of};
 ghost use Rattle.page_words.specs.Seat.{IsQuiet, empty_view};
 ghost use Rattle.gc_graph.specs.Shapes.{IsShape};
 ghost use Rattle.page_space.specs.Pages.{word_count};
-ghost use Rattle.heap_engine.specs.Objects.{AreBuilt, AreOfValid, IsLiveAt};
+ghost use Rattle.callback_table.specs.Table.{kinds_of};
+ghost use Rattle.heap_engine.specs.Objects.{HaveCallbacks, AreOfValid, IsLiveAt};
 ghost use Rattle.heap_engine.specs.Objects.{with_made};
 ghost use Rattle.heap_engine.specs.Parts.{setup_of_objects};
 
 use crate::finding::find_place;
+use crate::kinds::{self, Kinds};
 use crate::nodes::{self, NodeLists};
+use callback_table::CallbackTable;
 use gc_graph::NoMemory;
 use ghost_values::GhostValue;
 use page_space::Space;
@@ -28,6 +31,8 @@ pub struct Objects {
     pub(crate) space: Space,
     pub(crate) seat: MutatorSeat,
     pub(crate) types: TypeTable,
+    /// The kinds of the callbacks.
+    pub(crate) kinds: GhostValue<Kinds>,
     /// How many numbers were given out.
     made: u32,
     pub(crate) nodes: GhostValue<NodeLists>,
@@ -42,11 +47,13 @@ impl Model for Objects {
     ghost view = { λ o. record {
       shape = o.space.shape;
       types = o.types;
+      callbacks = o.kinds.value;
       nodes = o.nodes.value;
       seat = o.seat;
     } };
 
-    ghost invariant = { λ o. AreObjects o.space o.seat o.types o.made o.nodes.value };
+    ghost invariant = { λ o. AreObjects o.space o.seat o.types o.kinds.value o.made
+        o.nodes.value };
 }
 
 impl Objects {
@@ -56,13 +63,15 @@ impl Objects {
         pages: u32,
         page_words: u32,
         types: TypeTable,
+        callbacks: &CallbackTable,
     ) -> Result<Objects, NoMemory>
         requires shape { IsShape (record { pages = pages; page_words = page_words }) }
-        requires built { AreBuilt types }
+        requires called { HaveCallbacks (length (kinds_of callbacks.now)) types }
         requires few { length types < 16384 }
         ensures view { IfOk result (λ o. o ≡ record {
           shape = record { pages = pages; page_words = page_words };
           types = types;
+          callbacks = kinds_of callbacks.now;
           nodes = [];
           seat = empty_view (pages * page_words) types;
         }) }
@@ -72,6 +81,7 @@ impl Objects {
             space,
             seat,
             types,
+            kinds: kinds::of(callbacks),
             made: 0,
             nodes: nodes::none(),
         })
@@ -103,6 +113,14 @@ impl Objects {
         ensures { result ≡ length self.now.nodes }
     {
         self.made
+    }
+
+    /// The numbers of the callbacks that are a type's prefinalizers, in their order.
+    pub fn callbacks(&self, t: u32) -> &[u32]
+        requires { t < length self.now.types }
+        ensures { result.now ≡ (type_at (setup_of_objects self.now) t).prefinalizers }
+    {
+        self.types.callbacks(t)
     }
 
     /// How many objects are not finalised, how many words they have, and how many pages hold one

@@ -1,9 +1,10 @@
-// The outcome of a command: finalised nodes, and then at most one more line. It takes no memory
-// after it was made.
+// The outcome of a command: finalised nodes, then at most one more line, and then the prefinalizers
+// that it ran. It takes no memory after it was made.
 
-ghost use Rattle.std.specs.Prelude.{◌≡◌, ◌++◌, ◌<◌, [], length, Some};
+ghost use Rattle.std.specs.Prelude.{◌≡◌, ◌++◌, ◌<◌, ◌≤◌, [], length, Some, true, false};
 ghost use Rattle.std.specs.Prelude.{None, IfOk, slice_get};
-ghost use Rattle.heap_engine.specs.Printed.{outcome_lines};
+ghost use Rattle.gc_graph.specs.declared.line.Line.TheVariants as L;
+ghost use Rattle.heap_engine.specs.Printed.{later_lines, outcome_lines};
 
 use crate::entries::{self, Entries};
 use gc_graph::{Line, NoMemory};
@@ -17,6 +18,8 @@ pub struct Outcome {
     /// The numbers of finalised nodes, which a sweep fills.
     pub(crate) finalised: Vec<u32>,
     last: Option<Line>,
+    /// Whether the last command ran prefinalizers, which the cycle holds.
+    prefinalises: bool,
     /// What the last command took of the history.
     pub(crate) piece: GhostValue<Entries>,
     history: GhostValue<Entries>,
@@ -31,6 +34,7 @@ impl Model for Outcome {
     ghost view = { λ o. record {
       numbers = o.finalised.items;
       last = o.last;
+      prefinalises = o.prefinalises;
       piece = o.piece.value;
       history = o.history.value;
       room = vec_capacity o.finalised;
@@ -43,12 +47,20 @@ impl Outcome {
     /// An outcome without lines, with room for so many finalised nodes. Want of memory is free.
     pub fn new(alloc: Global, room: usize) -> Result<Outcome, NoMemory>
         ensures { IfOk result (λ o. o
-            ≡ record { numbers = []; last = None; piece = []; history = []; room = room }) }
+            ≡ record {
+              numbers = [];
+              last = None;
+              prefinalises = false;
+              piece = [];
+              history = [];
+              room = room;
+            }) }
     {
         let finalised = Vec::with_capacity(alloc, room)?;
         Ok(Outcome {
             finalised,
             last: None,
+            prefinalises: false,
             piece: entries::none(),
             history: entries::none(),
         })
@@ -56,10 +68,19 @@ impl Outcome {
 
     /// Forgets the finalised nodes; the last line stays until another takes its place.
     pub fn begin(&mut self)
-        ensures { self.new ≡ record self.old { numbers = []; piece = [] } }
+        ensures { self.new
+            ≡ record self.old { numbers = []; prefinalises = false; piece = [] } }
     {
         self.finalised.clear();
+        self.prefinalises = false;
         self.piece = entries::none();
+    }
+
+    /// The lines of the prefinalizers that the pause ran follow the last line.
+    pub fn prefinalise(&mut self)
+        ensures { self.new ≡ record self.old { prefinalises = true } }
+    {
+        self.prefinalises = true;
     }
 
     /// Adds the last line, and to the history what the command took of it.
@@ -73,24 +94,46 @@ impl Outcome {
         self.history = entries::grown(&self.history, &self.piece);
     }
 
-    /// How many lines there are.
-    pub fn count(&self) -> u32
-        ensures { result ≡ length (outcome_lines self.now) }
+    /// How many lines there are, where the last pause ran these prefinalizers.
+    pub fn count(&self, ran: &[(u32, u32)]) -> u32
+        requires { length ran.now ≤ 16000000 }
+        ensures { result ≡ length (outcome_lines self.now ran.now) }
     {
-        self.finalised.len() as u32 + u32::from(self.last.is_some())
+        let prefinalised = if self.prefinalises {
+            ran.len() as u32
+        } else {
+            0
+        };
+        self.finalised.len() as u32 + u32::from(self.last.is_some()) + prefinalised
     }
 
-    /// A line of the outcome.
-    pub fn line(&self, index: u32) -> Line
-        requires { index < length (outcome_lines self.now) }
-        ensures { slice_get (outcome_lines self.now) index ≡ Some result }
+    /// A line of the outcome, where the last pause ran these prefinalizers.
+    pub fn line(&self, index: u32, ran: &[(u32, u32)]) -> Line
+        requires { index < length (outcome_lines self.now ran.now) }
+        ensures { slice_get (outcome_lines self.now ran.now) index ≡ Some result }
     {
         match self.finalised.get(index as usize) {
             Some(number) => Line::Finalise { k: *number },
-            None => match self.last {
-                Some(line) => line,
-                None => unreachable!(),
-            },
+            None => self.later_line(index - self.finalised.len() as u32, ran),
         }
     }
+
+    /// A line after those of the finalised nodes.
+    fn later_line(&self, index: u32, ran: &[(u32, u32)]) -> Line
+        requires { index < length (later_lines self.now ran.now) }
+        ensures { slice_get (later_lines self.now ran.now) index ≡ Some result }
+    {
+        match self.last {
+            Some(line) if index == 0 => line,
+            Some(_) => prefinalise_line(ran[index as usize - 1]),
+            None => prefinalise_line(ran[index as usize]),
+        }
+    }
+}
+
+/// The line of a prefinalizer: the number of its object and that of its callback.
+fn prefinalise_line(ran: (u32, u32)) -> Line
+    ensures { result ≡ L.Prefinalise ran.0 ran.1 }
+{
+    Line::Prefinalise { k: ran.0, c: ran.1 }
 }

@@ -5,7 +5,7 @@ use Rattle.std.specs.List.{filter_map, cons_option}
 use Rattle.std.proofs.lemmas.Bool.{true≢false, cases_Bool, cond-true, cond-false, and_parts, and_left, and_right, and_from, or_left, or_right, or_from, eq-eqb, eqb-true, ne_eqb}
 use Rattle.gc_graph.specs.declared.command.Command.{Command}
 use Rattle.gc_graph.specs.State.{ObjectType}
-use Rattle.built_forms.specs.Built.{is_built_type, is_built_after, AreBuiltTypes, AreBuiltCommands}
+use Rattle.built_forms.specs.Built.{is_built_after, AreBuiltCommands}
 use Rattle.gc_graph.specs.Words.{lines_of, words_of}
 use Rattle.gc_graph.specs.Reasons.{Reason, command_of_words, type_of_words}
 use Rattle.gc_graph.specs.Script.{reason_at}
@@ -13,7 +13,7 @@ use Rattle.heap_script.specs.declared.script.ScriptFault.{ScriptFault}
 use Rattle.heap_script.specs.declared.script_lines.Kept.{Kept}
 use Rattle.heap_script.specs.declared.script_reader.Stop.{Stop}
 use Rattle.heap_script.specs.Reading.{says_built_at, AreBuilt, IsUnbuiltLine, IsWhole, IsFaultyLine, IsStopped, fault_with}
-use Rattle.heap_script.specs.Scripts.{IsBuiltScript, commands_of, holds_built_type, holds_built_command, is_built_at, IsFirstUnbuilt, IsUnbuilt, IsUnbuiltFault}
+use Rattle.heap_script.specs.Scripts.{IsBuiltScript, commands_of, holds_built_command, is_built_at, IsFirstUnbuilt, IsUnbuilt, IsUnbuiltFault}
 
 -- ---- the line of a type or of a command
 
@@ -62,25 +62,9 @@ line_of f (line ∷ lines) i x at = line_of_by f line lines i x (f line) refl at
 
 -- ---- scripts of which all is built
 
--- what a line says, by its words
-type_built : (commands : List Command) (words : List (List ℕ)) (type : ObjectType) → type_of_words words ≡ Some type
-    → (holds_built_type (type_of_words words) && holds_built_command commands (command_of_words words)) ≡ true → is_built_type type ≡ true
-type_built commands words type says built =
-    sym (ap holds_built_type says)
-    ∙ (and_parts (holds_built_type (type_of_words words)) (holds_built_command commands (command_of_words words)) built).0
-
 command_built : (commands : List Command) (words : List (List ℕ)) (command : Command) → command_of_words words ≡ Some command
-    → (holds_built_type (type_of_words words) && holds_built_command commands (command_of_words words)) ≡ true
-    → is_built_after commands command ≡ true
-command_built commands words command says built =
-    sym (ap (holds_built_command commands) says)
-    ∙ (and_parts (holds_built_type (type_of_words words)) (holds_built_command commands (command_of_words words)) built).1
-
-types_built : (lines : List (List ℕ)) → AreBuilt lines (length lines)
-    → AreBuiltTypes (filter_map (λ line. type_of_words (words_of line)) lines)
-types_built lines built t type at =
-    let found = line_of (λ line. type_of_words (words_of line)) lines t type at in
-    type_built (commands_of (take found.0 lines)) (words_of (get_or lines found.0 [])) type found.2 (built found.0 found.1)
+    → holds_built_command commands (command_of_words words) ≡ true → is_built_after commands command ≡ true
+command_built commands words command says built = sym (ap (holds_built_command commands) says) ∙ built
 
 commands_built : (lines : List (List ℕ)) → AreBuilt lines (length lines) → AreBuiltCommands (commands_of lines)
 commands_built lines built i command at =
@@ -101,7 +85,6 @@ whole_built callbacks bytes kept is none =
     let all : AreBuilt lines (length lines) = none_unbuilt lines (length lines) kept.past.unbuilt is.unbuilt none in
     record {
       whole = is.script;
-      types = subst AreBuiltTypes (sym is.script.types) (types_built lines all);
       commands = subst AreBuiltCommands (sym is.script.commands) (commands_built lines all);
     }
 

@@ -10,14 +10,14 @@ use Rattle.std.proofs.lemmas.List.Sums.{fold_more, fold-append, count_by_more_ye
 use Rattle.gc_graph.specs.declared.command.Command.{Command}
 use Rattle.gc_graph.specs.declared.command.Command.TheVariants as C
 use Rattle.gc_graph.specs.State.{ObjectType}
-use Rattle.built_forms.specs.Built.{is_built, is_built_type, is_timely, is_sweep_open, opens_sweep}
+use Rattle.built_forms.specs.Built.{is_built, is_timely, is_sweep_open, opens_sweep}
 use Rattle.std.specs.Cmp.Lexicographic.{bytes_decides}
 use Rattle.gc_graph.specs.Words.{words_of, is_text, is_blank}
 use Rattle.gc_graph.specs.Reasons.{Reason, first_is, reason_of_words, command_of_words, type_of_words}
 use Rattle.gc_graph.specs.Reasons.Reason.{Order, Section}
 use Rattle.gc_graph.specs.Script.{Threads, is_type, is_command, threads_of, threads_after, breaks_section, reason_by_order, bounds_after}
 use Rattle.gc_graph.specs.Script.Threads.{AtRest}
-use Rattle.heap_script.specs.Scripts.{commands_of, holds_built_type, holds_built_command, says_built}
+use Rattle.heap_script.specs.Scripts.{commands_of, holds_built_command, says_built}
 use Rattle.heap_script.specs.declared.past.Past.{Past}
 use Rattle.heap_script.specs.declared.script_lines.Kept.{Kept}
 use Rattle.heap_script.specs.Past.{threads_in, is_timely_in, past_header, with_blank, bounds_in, reason_with, reason_after, IsTypeKept, IsCommandKept}
@@ -181,21 +181,9 @@ judged_is callbacks before words line past types commands read some are =
 
 -- ---- what the next line says
 
-says_by : (commands : List Command) (words : List (List ℕ)) (type : Option ObjectType) (command : Option Command)
-    → type_of_words words ≡ type → command_of_words words ≡ command
-    → says_built commands words ≡ (holds_built_type type && holds_built_command commands command)
-says_by commands words type command a b =
-    ap (λ t. holds_built_type t && holds_built_command commands (command_of_words words)) a
-    ∙ ap (λ c. holds_built_type type && holds_built_command commands c) b
-
-and_true : (b : Bool) → (b && true) ≡ b
-and_true true = refl
-and_true false = refl
-
 pub type_says : (commands : List Command) (words : List (List ℕ)) (type : ObjectType) → type_of_words words ≡ Some type
-    → first_is (codes "type") words ≡ true → says_built commands words ≡ is_built_type type
-type_says commands words type says plain =
-    says_by commands words (Some type) None says (no_command words plain) ∙ and_true (is_built_type type)
+    → first_is (codes "type") words ≡ true → says_built commands words ≡ true
+type_says commands words type says plain = ap (holds_built_command commands) (no_command words plain)
 
 timely_is : (commands : List Command) (command : Command) → is_timely commands command ≡ is_timely_in (is_sweep_open commands) command
 timely_is commands (C.New p t e) = refl
@@ -206,5 +194,5 @@ pub command_says : (before : List (List ℕ)) (past : Past) (types : List Object
     → says_built (commands_of before) words ≡ (is_built command && is_timely_in past.sweeping command)
 command_says before past types commands words command read says plain =
     ap (λ (cs : List Command). says_built cs words) (sym read.commands_are)
-    ∙ says_by commands words None (Some command) (no_type words plain) says
+    ∙ ap (holds_built_command commands) says
     ∙ ap (λ b. is_built command && b) (timely_is commands command ∙ ap (λ b. is_timely_in b command) read.sweeping)

@@ -4,7 +4,7 @@ use Rattle.std.proofs.lemmas.Bool.{cases_Bool, cond-true, cond-false, and_from, 
 use Rattle.std.proofs.lemmas.List.{drop_more, length-drop}
 use Rattle.gc_graph.specs.declared.command.Command.{Command}
 use Rattle.gc_graph.specs.State.{ObjectType}
-use Rattle.built_forms.specs.Built.{is_built, is_built_type}
+use Rattle.built_forms.specs.Built.{is_built}
 use Rattle.gc_graph.specs.Words.{words_of, is_blank}
 use Rattle.gc_graph.specs.Script.{threads_of, threads_after}
 use Rattle.gc_graph.specs.Script.Threads.{AtRest}
@@ -174,7 +174,7 @@ line_more callbacks lines more n line old new words read e are some fine (inl ke
     let low : n < length lines = next_there lines more n line e in
     let ws : words_of (get_or lines n []) ≡ words = ap words_of (next_is lines more n line e) ∙ are in
     words_more callbacks lines more n line old.past new.past old.types.items new.types.items old.commands.items new.commands.items words
-    (is_built_type kept.type) read e are some fine (past_type lines n old new words low read.say ws kept)
+    true read e are some fine (past_type lines n old new words low read.say ws kept)
     (ap (λ (p : Past). p.lines) kept.past) (ap (λ (p : Past). p.last) kept.past) (ap (λ (p : Past). p.unbuilt) kept.past)
     (ap (says_built (commands_of (take n lines))) ws ∙ type_says (commands_of (take n lines)) words kept.type kept.says kept.plain)
 line_more callbacks lines more n line old new words read e are some fine (inr kept) =

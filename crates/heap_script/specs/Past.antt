@@ -3,7 +3,7 @@ use Rattle.std.specs.Prelude.{◌≡◌, ◌⊎◌, ℕ, ◌+◌, ◌==◌, ◌&
 use Rattle.gc_graph.specs.declared.command.Command.{Command}
 use Rattle.gc_graph.specs.declared.command.Command.TheVariants as C
 use Rattle.gc_graph.specs.State.{ObjectType}
-use Rattle.built_forms.specs.Built.{is_built, opens_sweep, is_built_type}
+use Rattle.built_forms.specs.Built.{is_built, opens_sweep}
 use Rattle.gc_graph.specs.Reasons.{Reason, number_of, Bounds, first_is, reason_of_words, command_of_words, type_of_words}
 use Rattle.gc_graph.specs.Reasons.Reason.{Order, Section}
 use Rattle.gc_graph.specs.Script.{Threads, breaks_section}
@@ -72,9 +72,9 @@ with_blank past = record past { lines = past.lines + 1 }
 abbrev pub with_words : Past → Bool → Past
 with_words past built = record past { lines = past.lines + 1; last = past.lines + 1; unbuilt = unbuilt_with past built }
 
--- a type line more
-abbrev pub with_type : Past → Bool → Past
-with_type past built = record (with_words past built) { types = past.types + 1 }
+-- a type line more; each type is built
+abbrev pub with_type : Past → Past
+with_type past = record (with_words past true) { types = past.types + 1 }
 
 -- a command more
 abbrev pub with_command : Past → Command → Past
@@ -111,7 +111,7 @@ pub record IsTypeKept (words : List (List ℕ)) (old new : Kept) : Type 0 where
   pub type : ObjectType
   pub says : type_of_words words ≡ Some type
   pub plain : first_is (codes "type") words ≡ true
-  pub past : new.past ≡ with_type old.past (is_built_type type)
+  pub past : new.past ≡ with_type old.past
   pub types : new.types.items ≡ old.types.items ++ type ∷ []
   pub commands : new.commands.items ≡ old.commands.items
 

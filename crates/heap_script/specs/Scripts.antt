@@ -2,11 +2,10 @@
 use Rattle.std.specs.Prelude.{◌≡◌, ◌⊎◌, ℕ, ◌+◌, ◌<◌, ◌&&◌, not, is_some, Bool, true, false, List, length, take, [], Option, Some, None, slice_index_or}
 use Rattle.std.specs.List.{filter_map}
 use Rattle.gc_graph.specs.declared.command.Command.{Command}
-use Rattle.gc_graph.specs.State.{ObjectType}
 use Rattle.gc_graph.specs.Words.{lines_of, words_of}
-use Rattle.gc_graph.specs.Reasons.{command_of_words, type_of_words}
+use Rattle.gc_graph.specs.Reasons.{command_of_words}
 use Rattle.gc_graph.specs.Script.{Script, IsScript, IsFault, IsTooLong, IsInLimits, reason_at}
-use Rattle.built_forms.specs.Built.{is_built_type, is_built_after, AreBuiltTypes, AreBuiltCommands}
+use Rattle.built_forms.specs.Built.{is_built_after, AreBuiltCommands}
 use Rattle.heap_script.specs.declared.script.ScriptFault.{ScriptFault}
 
 -- memory was wanting, or this is the line and the lowest reason for which the bytes are no script
@@ -15,20 +14,14 @@ IsFaultOf callbacks bytes fault = (fault.reason ≡ 0) ⊎ IsFault callbacks byt
 
 -- ---- what is built
 
--- the bytes are a script and say this, and all of it is built
+-- the bytes are a script and say this, and all of its commands are built
 pub record IsBuiltScript (callbacks : ℕ) (bytes : List ℕ) (script : Script) : Type 0 where
   pub whole : IsScript callbacks bytes script
-  pub types : AreBuiltTypes script.types
   pub commands : AreBuiltCommands script.commands
 
 -- the commands that the lines say
 abbrev pub commands_of : List (List ℕ) → List Command
 commands_of lines = filter_map (λ line. command_of_words (words_of line)) lines
-
--- no type, or one that is built
-abbrev pub holds_built_type : Option ObjectType → Bool
-holds_built_type None = true
-holds_built_type (Some type) = is_built_type type
 
 -- no command, or one that is built, after those before it
 abbrev pub holds_built_command : List Command → Option Command → Bool
@@ -37,7 +30,7 @@ holds_built_command before (Some command) = is_built_after before command
 
 -- what the words say is built, after the commands before them
 abbrev pub says_built : List Command → List (List ℕ) → Bool
-says_built before words = holds_built_type (type_of_words words) && holds_built_command before (command_of_words words)
+says_built before words = holds_built_command before (command_of_words words)
 
 -- line i + 1 has no fault, and what it says is built
 abbrev pub is_built_at : ℕ → List (List ℕ) → ℕ → Bool

@@ -52,12 +52,12 @@ impl Past {
         self.lines += 1;
     }
 
-    pub(crate) fn add_type(&mut self, built: bool)
+    pub(crate) fn add_type(&mut self)
         requires lines { self.old.lines < 1000000 }
         requires types { self.old.types < 16383 }
-        ensures { self.new ≡ spec.with_type self.old built }
+        ensures { self.new ≡ spec.with_type self.old }
     {
-        self.note(built);
+        self.note(true);
         self.types += 1;
     }
 

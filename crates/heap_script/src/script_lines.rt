@@ -11,7 +11,6 @@ use super::places::Bounds;
 use super::reasons::{NO_MEMORY, ORDER, SECTION};
 use super::type_lines::read_type;
 use super::words::is_text;
-use built_forms::is_built_type;
 use gc_graph::Command;
 use std::alloc::Global;
 use type_table::TypeDecl;
@@ -76,11 +75,10 @@ fn keep_type(
             if !kept.past.bare {
                 return Err(ORDER);
             }
-            let built = is_built_type(&line.decl);
             if kept.types.push(line.decl).is_err() {
                 return Err(NO_MEMORY);
             }
-            kept.past.add_type(built);
+            kept.past.add_type();
             Ok(line.end)
         }
         Err(reason) => Err(reason),

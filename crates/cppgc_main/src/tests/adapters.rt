@@ -4,6 +4,7 @@
 ghost use Rattle.std.specs.Prelude.{◌≤◌};
 
 use crate::adapters::{StdinSource, StdoutSink};
+use crate::callbacks::program_callbacks;
 use crate::run::run;
 use crate::status::Status;
 use std::alloc::{AllocError, Global};
@@ -104,12 +105,16 @@ fn run_over(alloc: Global, case: &Case, sink: &mut Drip) -> Status {
         bad: case.bad_read,
         calls: 0,
     });
+    let Ok(callbacks) = program_callbacks(alloc) else {
+        return Status::NoMemory;
+    };
     let mut kept = None;
     run(
         alloc,
         &[],
         &mut source,
         &mut StdoutSink::over(sink),
+        &callbacks,
         &mut kept,
     )
 }

@@ -1,6 +1,7 @@
 // Long chains and rings, and a heap that is full.
 
 use super::{Scripted, try_script};
+use crate::callbacks::program_callbacks;
 use crate::run::run_bytes;
 use crate::status::Status;
 use heap_engine::Config;
@@ -87,7 +88,15 @@ fn full_heap_answers_full_until_it_is_swept(rt: HostRuntime) -> Result<(), Fail>
     let mut sink = ListSink::new(alloc, 1_000_000, Vec::new(alloc));
     sink.reserve(1_000_000)?;
     let mut kept = None;
-    let status = run_bytes(alloc, SMALL, script.as_bytes(), &mut sink, &mut kept);
+    let callbacks = program_callbacks(alloc)?;
+    let status = run_bytes(
+        alloc,
+        SMALL,
+        script.as_bytes(),
+        &mut sink,
+        &callbacks,
+        &mut kept,
+    );
     assert_eq!(rt; status, Status::Done);
     assert!(rt; sink.bytes() == report.as_bytes());
     Ok(())

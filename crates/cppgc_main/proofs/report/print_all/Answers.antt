@@ -6,12 +6,12 @@ use Rattle.cppgc_main.proofs.report.print_all.Goals as goal
 
 pub print_outcome-requires-clause-built : goal.print_outcome-requires-clause-built
 print_outcome-requires-clause-built g c =
-    built_next c.args.commands.now c.loop-command.command-index _ c.loop-command.heap.state c.loop-command-test.true c.requires.built
+    built_next c.args.commands.now c.loop-command.command-index _ c.loop-command.heap.core.state c.loop-command-test.true c.requires.built
     c.loop-command.invariant.idle
 
 pub returns-in-Err-clause-part : goal.returns-in-Err-clause-part
 returns-in-Err-clause-part g c =
-    printed_part c.args.heap.now.setup c.loop-command.heap c.print_outcome.new.heap c.args.commands.now c.loop-command.command-index _ _ _ _ c.loop-command-test.true
+    printed_part c.args.heap.now.core.setup c.loop-command.heap.core c.print_outcome.new.heap.core c.args.commands.now c.loop-command.command-index _ _ _ _ c.loop-command-test.true
     c.loop-command.invariant.printed (rw c.loop-command.invariant.setup at c.print_outcome.ensures.step) c.print_outcome.ensures.alone c.in-Err.ensures.bytes
 
 pub loop-command-preserved : goal.loop-command-preserved
@@ -20,13 +20,13 @@ loop-command-preserved g c = record {
   ordinal = search rules;
   calm = c.print_outcome.ensures.calm;
   idle =
-      idle_more c.loop-command.heap.setup c.loop-command.heap.state c.print_outcome.new.heap.state c.args.commands.now c.loop-command.command-index _ _ _ c.loop-command-test.true
+      idle_more c.loop-command.heap.core.setup c.loop-command.heap.core.state c.print_outcome.new.heap.core.state c.args.commands.now c.loop-command.command-index _ _ _ c.loop-command-test.true
       c.requires.built c.loop-command.invariant.calm c.loop-command.invariant.idle c.print_outcome.ensures.step;
   opened = search rules;
   steady = search rules;
   taken = taken_on _ _ _ c.loop-command.invariant.taken c.print_outcome.ensures.taken;
   printed =
-      printed_more c.args.heap.now.setup c.loop-command.heap c.print_outcome.new.heap c.args.commands.now c.loop-command.command-index _ _ _ _ c.loop-command-test.true
+      printed_more c.args.heap.now.core.setup c.loop-command.heap.core c.print_outcome.new.heap.core c.args.commands.now c.loop-command.command-index _ _ _ _ c.loop-command-test.true
       c.loop-command.invariant.printed (rw c.loop-command.invariant.setup at c.print_outcome.ensures.step) c.print_outcome.ensures.history c.print_outcome.ensures.alone c.in-Ok.ensures.bytes;
 }
 

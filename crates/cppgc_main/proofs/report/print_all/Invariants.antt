@@ -8,13 +8,13 @@ use Rattle.cppgc_main.proofs.report.print_all.Given as goal
 
 abbrev pub invariant-loop-command : goal.invariant-loop-command
 invariant-loop-command g l = record {
-  setup : l.heap.setup ≡ l.initial.heap.setup;
-  ordinal : l.heap.state.ordinal ≡ l.command-index;
-  calm : is_marking l.heap.state.phase ≡ false;
-  idle : IsIdleUnless (is_sweep_open (take l.command-index l.commands)) l.heap.state;
-  opened : l.heap.closed ≡ false;
+  setup : l.heap.core.setup ≡ l.initial.heap.core.setup;
+  ordinal : l.heap.core.state.ordinal ≡ l.command-index;
+  calm : is_marking l.heap.core.state.phase ≡ false;
+  idle : IsIdleUnless (is_sweep_open (take l.command-index l.commands)) l.heap.core.state;
+  opened : l.heap.core.closed ≡ false;
   steady : g.K.Sink.faults l.sink ≡ g.K.Sink.faults l.initial.sink;
   taken : TookMore (g.K.Sink.written l.initial.sink) (g.K.Sink.written l.sink);
-  printed : IsPrintedRun l.initial.heap.setup (take l.command-index l.commands)
-      (with_held (g.K.Sink.written l.initial.sink) l.initial.pieces) (with_held (g.K.Sink.written l.sink) l.pieces) l.heap;
+  printed : IsPrintedRun l.initial.heap.core.setup (take l.command-index l.commands)
+      (with_held (g.K.Sink.written l.initial.sink) l.initial.pieces) (with_held (g.K.Sink.written l.sink) l.pieces) l.heap.core;
 }

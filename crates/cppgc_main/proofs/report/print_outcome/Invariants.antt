@@ -6,8 +6,8 @@ use Rattle.cppgc_main.proofs.report.print_outcome.Given as goal
 
 abbrev pub invariant-loop-index : goal.invariant-loop-index
 invariant-loop-index g l = record {
-  same : l.heap ≡ l.initial.heap;
+  same : l.heap.core ≡ l.initial.heap.core;
   steady : g.K.Sink.faults l.sink ≡ g.K.Sink.faults l.initial.sink;
   taken : TookMore (g.K.Sink.written l.initial.sink) (g.K.Sink.written l.sink);
-  printed : Grew (with_held (g.K.Sink.written l.initial.sink) l.initial.pieces) (with_held (g.K.Sink.written l.sink) l.pieces) (lines_bytes (take l.index l.initial.heap.lines));
+  printed : Grew (with_held (g.K.Sink.written l.initial.sink) l.initial.pieces) (with_held (g.K.Sink.written l.sink) l.pieces) (lines_bytes (take l.index l.initial.heap.core.lines));
 }

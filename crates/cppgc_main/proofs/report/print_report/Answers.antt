@@ -9,33 +9,33 @@ use Rattle.cppgc_main.proofs.report.print_report.Goals as goal
 
 pub returns-in-Err-clause-part : goal.returns-in-Err-clause-part
 returns-in-Err-clause-part g c =
-    cut_out _ _ _ _ c.args.pieces.now c.print_types.new.pieces c.requires.empty c.print_types.ensures.taken
-    (cut_in_types c.args.heap.now.setup.shape (script_on c.args.heap.now.setup c.args.commands.now) c.runs_are_replayed.ensures (built_let_none_go c.args.commands.now c.requires.runnable.commands) _ _ c.args.heap.now c.requires.start c.requires.fresh (rw (counted_are_types c.args.heap.now.setup.types c.args.types c.requires.types) at c.in-Err.ensures.bytes))
+    cut_out _ _ _ _ _ c.args.pieces.now c.print_types.new.pieces c.requires.empty c.print_types.ensures.taken
+    (cut_in_types c.args.heap.now.core.setup.callbacks c.args.heap.now.core.setup.shape (script_on c.args.heap.now.core.setup c.args.commands.now) c.runs_are_replayed.ensures (built_let_none_go c.args.commands.now c.requires.runnable.commands) _ _ c.args.heap.now.core c.requires.start c.requires.fresh (rw (counted_are_types c.args.heap.now.core.setup.types c.args.types c.requires.types) at c.in-Err.ensures.bytes))
 
 pub returns-in-Err-print_all-clause-part : goal.returns-in-Err-print_all-clause-part
 returns-in-Err-print_all-clause-part g c =
-    cut_out _ _ _ _ c.args.pieces.now c.print_all.new.pieces c.requires.empty (taken_on _ _ _ c.print_types.ensures.taken c.print_all.ensures.taken)
-    (cut_in_outcomes c.args.heap.now.setup.shape (script_on c.args.heap.now.setup c.args.commands.now) c.runs_are_replayed.ensures (built_let_none_go c.args.commands.now c.requires.runnable.commands) _ _ _ c.args.heap.now (rw (counted_are_types c.args.heap.now.setup.types c.args.types c.requires.types) at c.in-Ok.ensures.bytes) c.requires.setup
+    cut_out _ _ _ _ _ c.args.pieces.now c.print_all.new.pieces c.requires.empty (taken_on _ _ _ c.print_types.ensures.taken c.print_all.ensures.taken)
+    (cut_in_outcomes c.args.heap.now.core.setup.callbacks c.args.heap.now.core.setup.shape (script_on c.args.heap.now.core.setup c.args.commands.now) c.runs_are_replayed.ensures (built_let_none_go c.args.commands.now c.requires.runnable.commands) _ _ _ c.args.heap.now.core (rw (counted_are_types c.args.heap.now.core.setup.types c.args.types c.requires.types) at c.in-Ok.ensures.bytes) c.requires.setup
     c.in-Err-print_all.ensures.part)
 
 pub returns-clause-done : goal.returns-clause-done
 returns-clause-done g c =
-    let run : HasRun c.args.heap.now.setup.shape (script_on c.args.heap.now.setup c.args.commands.now) (with_held (g.K.Sink.written c.print_types.new.sink) c.print_types.new.pieces)
-    (with_held (g.K.Sink.written c.print_all.new.sink) c.print_all.new.pieces) c.args.heap.now c.print_all.new.heap =
+    let run : HasRun c.args.heap.now.core.setup.callbacks c.args.heap.now.core.setup.shape (script_on c.args.heap.now.core.setup c.args.commands.now) (with_held (g.K.Sink.written c.print_types.new.sink) c.print_types.new.pieces)
+    (with_held (g.K.Sink.written c.print_all.new.sink) c.print_all.new.pieces) c.args.heap.now.core c.print_all.new.heap.core =
     record {
       setup = c.requires.setup;
       same = c.print_all.ensures.setup;
       run = c.in-Ok-print_all.ensures.done;
     } in
-    let count : c.print_all.new.heap.state.ordinal ≡ length c.args.commands.now = search rules in
-    whole_at_last _ _ _ _ c.args.pieces.now c.print_end.new.pieces _ c.print_end.result c.requires.empty c.print_end.ensures.empty
-    (whole_at_end c.args.heap.now.setup.shape (script_on c.args.heap.now.setup c.args.commands.now) c.runs_are_replayed.ensures (built_let_none_go c.args.commands.now c.requires.runnable.commands) _ _ _ _ c.args.heap.now c.print_all.new.heap _ c.close-end.result c.print_end.result
-    (rw (counted_are_types c.args.heap.now.setup.types c.args.types c.requires.types) at c.in-Ok.ensures.bytes) run count c.close-end.ensures.line c.close-end.ensures.same c.print_end.ensures.bytes)
+    let count : c.print_all.new.heap.core.state.ordinal ≡ length c.args.commands.now = search rules in
+    whole_at_last _ _ _ _ _ c.args.pieces.now c.print_end.new.pieces _ c.print_end.result c.requires.empty c.print_end.ensures.empty
+    (whole_at_end c.args.heap.now.core.setup.callbacks c.args.heap.now.core.setup.shape (script_on c.args.heap.now.core.setup c.args.commands.now) c.runs_are_replayed.ensures (built_let_none_go c.args.commands.now c.requires.runnable.commands) _ _ _ _ c.args.heap.now.core c.print_all.new.heap.core _ c.close-end.result c.print_end.result
+    (rw (counted_are_types c.args.heap.now.core.setup.types c.args.types c.requires.types) at c.in-Ok.ensures.bytes) run count c.close-end.ensures.line c.close-end.ensures.same c.print_end.ensures.bytes)
 
 pub returns-clause-part : goal.returns-clause-part
 returns-clause-part g c =
-    let run : HasRun c.args.heap.now.setup.shape (script_on c.args.heap.now.setup c.args.commands.now) (with_held (g.K.Sink.written c.print_types.new.sink) c.print_types.new.pieces)
-    (with_held (g.K.Sink.written c.print_all.new.sink) c.print_all.new.pieces) c.args.heap.now c.print_all.new.heap =
+    let run : HasRun c.args.heap.now.core.setup.callbacks c.args.heap.now.core.setup.shape (script_on c.args.heap.now.core.setup c.args.commands.now) (with_held (g.K.Sink.written c.print_types.new.sink) c.print_types.new.pieces)
+    (with_held (g.K.Sink.written c.print_all.new.sink) c.print_all.new.pieces) c.args.heap.now.core c.print_all.new.heap.core =
     record {
       setup = c.requires.setup;
       same = c.print_all.ensures.setup;
@@ -43,6 +43,6 @@ returns-clause-part g c =
     } in
     let taken : TookMore (g.K.Sink.written c.args.sink.now) (g.K.Sink.written c.print_end.new.sink) =
     taken_on _ _ _ (taken_on _ _ _ c.print_types.ensures.taken c.print_all.ensures.taken) c.print_end.ensures.taken in
-    cut_at_last _ _ _ _ c.args.pieces.now c.print_end.new.pieces c.print_end.result c.requires.empty taken
-    (cut_at_end c.args.heap.now.setup.shape (script_on c.args.heap.now.setup c.args.commands.now) c.runs_are_replayed.ensures (built_let_none_go c.args.commands.now c.requires.runnable.commands) _ _ _ _ c.args.heap.now c.print_all.new.heap c.close-end.result c.print_end.result
-    (rw (counted_are_types c.args.heap.now.setup.types c.args.types c.requires.types) at c.in-Ok.ensures.bytes) run c.close-end.ensures.line c.print_end.ensures.bytes)
+    cut_at_last _ _ _ _ _ c.args.pieces.now c.print_end.new.pieces c.print_end.result c.requires.empty taken
+    (cut_at_end c.args.heap.now.core.setup.callbacks c.args.heap.now.core.setup.shape (script_on c.args.heap.now.core.setup c.args.commands.now) c.runs_are_replayed.ensures (built_let_none_go c.args.commands.now c.requires.runnable.commands) _ _ _ _ c.args.heap.now.core c.print_all.new.heap.core c.close-end.result c.print_end.result
+    (rw (counted_are_types c.args.heap.now.core.setup.types c.args.types c.requires.types) at c.in-Ok.ensures.bytes) run c.close-end.ensures.line c.print_end.ensures.bytes)

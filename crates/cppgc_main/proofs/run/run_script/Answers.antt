@@ -1,15 +1,16 @@
-use Rattle.std.proofs.Common.{◌≡◌, All, true, ◌∙◌, sym, subst}
-use Rattle.gc_graph.specs.State.{ObjectType}
-use Rattle.built_forms.specs.Built.{is_built_type}
+use Rattle.std.proofs.Common.{◌≡◌, length, ◌∙◌, sym, subst}
 use Rattle.type_table.specs.Faults.{AreGoodTypes}
-use Rattle.cppgc_main.proofs.Runnable.{all_built, types_are_good}
+use Rattle.callback_table.specs.Table.{kinds_of}
+use Rattle.heap_engine.specs.Objects.{HaveCallbacks}
+use Rattle.cppgc_main.proofs.Runnable.{have_callbacks, types_are_good}
 use Rattle.cppgc_main.proofs.run.run_script.Goals as goal
 
 pub table_of-requires : goal.table_of-requires
 table_of-requires g c =
-    subst (AreGoodTypes 0) (sym c.into_parts-types.ensures.types) (types_are_good c.args.script c.requires.runnable)
+    subst (λ n. AreGoodTypes n c.into_parts-types.result.0.items) (sym c.len.ensures)
+    (subst (AreGoodTypes (length (kinds_of c.args.callbacks.now))) (sym c.into_parts-types.ensures.types) (types_are_good _ c.args.script c.requires.runnable))
 
-pub new-requires-2-clause-built : goal.new-requires-2-clause-built
-new-requires-2-clause-built g c =
+pub new-requires-2-clause-called : goal.new-requires-2-clause-called
+new-requires-2-clause-called g c =
     let same : c.in-Ok-table_of.table ≡ c.args.script.types = c.in-Ok-table_of.ensures ∙ c.into_parts-types.ensures.types in
-    subst (All (λ (type : ObjectType). is_built_type type ≡ true)) (sym same) (all_built c.args.script.types c.requires.runnable.types)
+    subst (HaveCallbacks (length (kinds_of c.args.callbacks.now))) (sym same) (have_callbacks _ c.args.script c.requires.runnable)

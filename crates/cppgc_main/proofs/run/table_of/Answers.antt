@@ -5,10 +5,10 @@ use Rattle.cppgc_main.proofs.run.table_of.Goals as goal
 
 pub unreachable-requires-in-Err-TooManyFields : goal.unreachable-requires-in-Err-TooManyFields
 unreachable-requires-in-Err-TooManyFields c =
-    none_too_wide c.args.types.items c.in-Err-TooManyFields.field-0-0 c.requires
-    (subst (IsTypeFault 0 c.args.types.items) c.in-Err-TooManyFields.field-0-is c.in-Err-TooManyFields.ensures.fault)
+    none_too_wide _ c.args.types.items c.in-Err-TooManyFields.field-0-0 c.requires
+    (subst (IsTypeFault _ c.args.types.items) c.in-Err-TooManyFields.field-0-is c.in-Err-TooManyFields.ensures.fault)
 
 pub unreachable-requires-in-Err-NoCallback : goal.unreachable-requires-in-Err-NoCallback
 unreachable-requires-in-Err-NoCallback c =
-    none_unknown c.args.types.items c.in-Err-NoCallback.field-0-0 c.in-Err-NoCallback.field-0-1 c.requires
-    (subst (IsTypeFault 0 c.args.types.items) c.in-Err-NoCallback.field-0-is c.in-Err-NoCallback.ensures.fault)
+    none_unknown _ c.args.types.items c.in-Err-NoCallback.field-0-0 c.in-Err-NoCallback.field-0-1 c.requires
+    (subst (IsTypeFault _ c.args.types.items) c.in-Err-NoCallback.field-0-is c.in-Err-NoCallback.ensures.fault)

@@ -47,6 +47,7 @@ returns-in-Ok-clause-frame c =
       ordinal = refl;
       tied = tied_nodes old new c.args.handles.now c.args.cycle.now (counted c.args.cycle.now) c.requires.ready.tied
           (λ n. ap (λ (ns : List Node). place_of ns n) nodes ∙ place-written old.nodes (get_or c.args.handles.now.slots c.args.p None) c.args.f c.args.content.now.value.value n)
+          (rw c.in-Ok.ensures.same at c.store.ensures.setup) refl refl (omega arith)
           (c.store.ensures.marks c.args.cycle.now.phase (rw c.in-Ok.ensures.same c.requires.ready.tied.marks))
           (omega (arith, c.requires.ready.tied.made, ap length nodes, length-written old.nodes (get_or c.args.handles.now.slots c.args.p None) c.args.f c.args.content.now.value.value));
     }

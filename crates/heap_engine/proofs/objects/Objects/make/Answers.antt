@@ -22,7 +22,7 @@ placed setup nodes v size place held found =
 pub invariant_of-self : goal.invariant_of-self
 invariant_of-self c =
     let nodes : List Node = c.self.inside.nodes.value in
-    let setup : Setup = record { shape = c.self.inside.space.shape; markers = 0; types = c.self.inside.types; callbacks = [] } in
+    let setup : Setup = record { shape = c.self.inside.space.shape; markers = 0; types = c.self.inside.types; callbacks = c.self.inside.kinds.value } in
     let size : ℕ = size_of_type setup c.args.t c.args.extra in
     let occupies : Occupies c.self.inside.seat c.occupy.new.seat (new_body c.in-Some.place c.args.t size (length nodes)) =
     subst (λ k. Occupies c.self.inside.seat c.occupy.new.seat (new_body c.in-Some.place c.args.t size k)) c.self.invariant.numbers_are
@@ -30,9 +30,9 @@ invariant_of-self c =
     (subst (λ (w : SeatView). Occupies w c.occupy.new.seat (new_body c.in-Some.place c.args.t c.size_of-size.result c.self.inside.made)) c.find_place.ensures.view c.occupy.ensures.occupied)) in
     let new : with_made setup nodes c.args.t c.args.extra (Some c.in-Some.place) ≡ c.made.result.value =
     sym (c.made.ensures
-    ∙ ap (λ sh. with_made (record { shape = sh; markers = 0; types = c.self.inside.types; callbacks = [] }) nodes c.args.t c.args.extra (Some c.in-Some.place)) c.occupy.ensures.shape) in
+    ∙ ap (λ sh. with_made (record { shape = sh; markers = 0; types = c.self.inside.types; callbacks = c.self.inside.kinds.value }) nodes c.args.t c.args.extra (Some c.in-Some.place)) c.occupy.ensures.shape) in
     record {
-      built = c.self.invariant.built;
+      called = c.self.invariant.called;
       few = c.self.invariant.few;
       known = occupies.types ∙ c.self.invariant.known;
       laid = c.occupy.ensures.space;
@@ -46,13 +46,13 @@ invariant_of-self c =
 pub returns-in-Some-clause-place : goal.returns-in-Some-clause-place
 returns-in-Some-clause-place c =
     let nodes : List Node = c.self.inside.nodes.value in
-    let setup : Setup = record { shape = c.self.inside.space.shape; markers = 0; types = c.self.inside.types; callbacks = [] } in
+    let setup : Setup = record { shape = c.self.inside.space.shape; markers = 0; types = c.self.inside.types; callbacks = c.self.inside.kinds.value } in
     rw (← c.self.view_is) (subst (λ n. IsPlaceFor setup.shape setup.shape.pages (extents_of nodes) n (Some c.in-Some.place)) c.size_of-size.ensures.size
     (placed setup nodes c.self.inside.seat c.size_of-size.result (Some c.in-Some.place) c.self.invariant.held c.in-Some.ensures.place))
 
 pub returns-in-None-clause-place : goal.returns-in-None-clause-place
 returns-in-None-clause-place c =
     let nodes : List Node = c.self.inside.nodes.value in
-    let setup : Setup = record { shape = c.self.inside.space.shape; markers = 0; types = c.self.inside.types; callbacks = [] } in
+    let setup : Setup = record { shape = c.self.inside.space.shape; markers = 0; types = c.self.inside.types; callbacks = c.self.inside.kinds.value } in
     rw (← c.self.view_is) (subst (λ n. IsPlaceFor setup.shape setup.shape.pages (extents_of nodes) n None) c.size_of-size.ensures.size
     (placed setup nodes c.self.inside.seat c.size_of-size.result None c.self.invariant.held c.in-None.ensures.place))

@@ -22,7 +22,7 @@ after v holder word key value = stored (stored v (holder + (word + 1)) value) (h
 
 pub set_pair-requires-clause-pair : goal.set_pair-requires-clause-pair
 set_pair-requires-clause-pair c =
-    let setup : Setup = record { shape = c.self.inside.space.shape; markers = 0; types = c.self.inside.types; callbacks = [] } in
+    let setup : Setup = record { shape = c.self.inside.space.shape; markers = 0; types = c.self.inside.types; callbacks = c.self.inside.kinds.value } in
     let is = rw (← c.self.view_is) at c.requires.field in
     has_pair setup c.self.inside.nodes.value c.self.inside.seat is.0 c.args.f c.args.field c.fields_stand_apart.ensures (rw (← c.self.view_is) at c.requires.valid)
     c.self.invariant.held.bodies c.self.invariant.known is.2 c.requires.kind
@@ -52,7 +52,7 @@ set_pair-requires-clause-both c =
 
 pub invariant_of-self : goal.invariant_of-self
 invariant_of-self c =
-    let setup : Setup = record { shape = c.self.inside.space.shape; markers = 0; types = c.self.inside.types; callbacks = [] } in
+    let setup : Setup = record { shape = c.self.inside.space.shape; markers = 0; types = c.self.inside.types; callbacks = c.self.inside.kinds.value } in
     let nodes : List Node = c.self.inside.nodes.value in
     let v : SeatView = c.self.inside.seat in
     let k : Value = c.args.pair.now.key.value.value in
@@ -69,7 +69,7 @@ invariant_of-self c =
     sym (c.set_pair.ensures.addresses ∙ ap (λ w. after v holder word w c.args.pair.now.value.word) key ∙ ap (after v holder word (word_of (place_of nodes) k)) value) in
     let new : with_pair nodes is.0 index k x ≡ c.paired.result.value = sym (c.paired.ensures ∙ ap (λ slot. paired_in nodes slot c.args.f k x) is.1) in
     record {
-      built = c.self.invariant.built;
+      called = c.self.invariant.called;
       few = c.self.invariant.few;
       known = ap (λ (u : SeatView). u.types) c.set_pair.ensures.addresses ∙ c.self.invariant.known;
       laid = subst (IsSpaceOf c.self.inside.space) (sym c.set_pair.ensures.addresses)

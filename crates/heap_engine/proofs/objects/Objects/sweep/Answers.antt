@@ -19,7 +19,7 @@ pub invariant_of-self : goal.invariant_of-self
 invariant_of-self c =
     let new : map bury c.self.inside.nodes.value ≡ c.buried.result.value = sym c.buried.ensures in
     record {
-      built = c.self.invariant.built;
+      called = c.self.invariant.called;
       few = c.self.invariant.few;
       known = c.sweep_pages.ensures.swept.types ∙ c.self.invariant.known;
       laid = c.sweep_pages.ensures.space;

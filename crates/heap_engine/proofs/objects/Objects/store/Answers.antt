@@ -15,11 +15,11 @@ use Rattle.heap_engine.proofs.FieldNodes.{with_field, length-field}
 use Rattle.heap_engine.proofs.FieldPlaces.{has_word, word_low}
 use Rattle.heap_engine.proofs.FieldReads.{kind_itself, takes_word}
 use Rattle.heap_engine.proofs.HeldNodes.{marks_stored, held_stored}
-use Rattle.heap_engine.proofs.object_fields.Objects.store.Goals as goal
+use Rattle.heap_engine.proofs.objects.Objects.store.Goals as goal
 
 pub write_field-requires-clause-field : goal.write_field-requires-clause-field
 write_field-requires-clause-field c =
-    let setup : Setup = record { shape = c.self.inside.space.shape; markers = 0; types = c.self.inside.types; callbacks = [] } in
+    let setup : Setup = record { shape = c.self.inside.space.shape; markers = 0; types = c.self.inside.types; callbacks = c.self.inside.kinds.value } in
     let is = rw (← c.self.view_is) at c.requires.field in
     has_word setup c.self.inside.nodes.value c.self.inside.seat is.0 c.args.f c.args.field (is_kind c.args.field.kind) c.fields_stand_apart.ensures
     (rw (← c.self.view_is) at c.requires.valid) c.self.invariant.held.bodies c.self.invariant.known is.2 (kind_itself c.args.field.kind)
@@ -33,7 +33,7 @@ write_field-requires-clause-word c =
 
 pub invariant_of-self : goal.invariant_of-self
 invariant_of-self c =
-    let setup : Setup = record { shape = c.self.inside.space.shape; markers = 0; types = c.self.inside.types; callbacks = [] } in
+    let setup : Setup = record { shape = c.self.inside.space.shape; markers = 0; types = c.self.inside.types; callbacks = c.self.inside.kinds.value } in
     let nodes : List Node = c.self.inside.nodes.value in
     let x : Value = c.args.content.now.value.value in
     let is = rw (← c.self.view_is) at c.requires.field in
@@ -45,7 +45,7 @@ invariant_of-self c =
     let seat : stored c.self.inside.seat a (word_of (place_of nodes) x) ≡ c.write_field.new.seat = sym (c.write_field.ensures ∙ ap (stored c.self.inside.seat a) word) in
     let new : with_field nodes is.0 index x ≡ c.written.result.value = sym (c.written.ensures ∙ ap (λ slot. written_in nodes slot c.args.f x) is.1) in
     record {
-      built = c.self.invariant.built;
+      called = c.self.invariant.called;
       few = c.self.invariant.few;
       known = ap (λ (v : SeatView). v.types) c.write_field.ensures ∙ c.self.invariant.known;
       laid = subst (IsSpaceOf c.self.inside.space) (sym c.write_field.ensures) (c.lasts_while_objects_stay.ensures.store c.self.inside.seat a c.args.content.now.word c.self.invariant.laid);

@@ -4,7 +4,7 @@ use Rattle.gc_graph.specs.State.{Node}
 use Rattle.page_words.specs.Seat.{SeatView}
 use Rattle.heap_engine.specs.Objects.{IsReferenceTo}
 use Rattle.heap_engine.proofs.FieldReads.{NamesNode, reads_null, reads_node, reference_fits, head_address, head_number, number_fits, reads_target}
-use Rattle.heap_engine.proofs.object_fields.Objects.named_by.Goals as goal
+use Rattle.heap_engine.proofs.objects.Objects.named_by.Goals as goal
 
 pub place_in-requires : goal.place_in-requires
 place_in-requires c =

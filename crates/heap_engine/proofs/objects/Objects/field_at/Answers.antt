@@ -2,7 +2,7 @@ use Rattle.std.proofs.Common.{◌-◌, List, [], arith, refl}
 use Rattle.gc_graph.specs.State.{Setup, Node}
 use Rattle.heap_engine.specs.Fields.{allows}
 use Rattle.heap_engine.proofs.FieldPlaces.{IsHead, live_place, live_head, extra_is, field_answered}
-use Rattle.heap_engine.proofs.object_fields.Objects.field_at.Goals as goal
+use Rattle.heap_engine.proofs.objects.Objects.field_at.Goals as goal
 
 pub header_at-header-requires-clause-start : goal.header_at-header-requires-clause-start
 header_at-header-requires-clause-start c =
@@ -32,7 +32,7 @@ field_at-requires-clause-ty c =
 
 pub returns-clause-field : goal.returns-clause-field
 returns-clause-field c =
-    let setup : Setup = record { shape = c.self.inside.space.shape; markers = 0; types = c.self.inside.types; callbacks = [] } in
+    let setup : Setup = record { shape = c.self.inside.space.shape; markers = 0; types = c.self.inside.types; callbacks = c.self.inside.kinds.value } in
     let nodes : List Node = c.self.inside.nodes.value in
     rw (← c.self.view_is) (λ n at.
     let head : IsHead setup nodes n c.header_at-header.result.size c.header_at-header.result.ty =

@@ -1,0 +1,111 @@
+-- Lists of registrations: what joins them, and what a pause takes away.
+use Rattle.std.proofs.Common.{◌≡◌, ℕ, ◌+◌, ◌-◌, ◌<◌, ◌≤◌, Bool, true, false, not, All, List, [], ◌∷◌, ◌++◌, length, map, filter, take, drop, reverse, cond, refl, sym, ap, ◌∙◌, subst, arith}
+use Rattle.std.proofs.lemmas.List.{length-append, length-map, length-reverse, map-append}
+use Rattle.std.proofs.lemmas.List.Filters.{length-filter_both}
+use Rattle.std.proofs.lemmas.List.Elements.{All-head, All-tail, All-nil, All-cons, filter_agree}
+use Rattle.std.proofs.Math.Seq.{take-append_seam, drop-append_seam}
+use Rattle.gc_graph.specs.declared.line.Line.{Line}
+use Rattle.gc_graph.specs.declared.line.Line.TheVariants as L
+use Rattle.gc_graph.specs.State.{Setup, Node, Registration, node_at, IsLive, is_dead}
+use Rattle.gc_graph.specs.State.Life.{Live, Gone}
+use Rattle.gc_graph.specs.Pause.{dies, run_order, prefinalise_lines, is_dead_at}
+use Rattle.callback_table.specs.declared.registry.Registered.{Registered}
+use Rattle.callback_table.specs.Bodies.{StandsAt}
+use Rattle.callback_table.specs.Registry.{registration_of, registrations_of, registered, placed_at, pair_of, pairs_run, entries_left, IsRegistered}
+use Rattle.heap_engine.specs.Changes.{placed_last}
+use Rattle.heap_engine.specs.Nodes.{place_of}
+use Rattle.heap_engine.specs.Parts.{IsPlaced}
+use Rattle.heap_engine.specs.Printed.{ran_lines}
+use Rattle.heap_engine.proofs.NodePlaces.{live_is_there, there_below}
+
+-- ---- a new object's
+
+placed_each : (n place : ℕ) (cs : List ℕ) → map (placed_at place) (map (registered n 0) cs) ≡ map (registered n place) cs
+placed_each n place [] = refl
+placed_each n place (c ∷ cs) = ap (λ es. registered n place c ∷ es) (placed_each n place cs)
+
+before_last : (n : ℕ) (xs : List Registered) (cs : List ℕ) → length (xs ++ map (registered n 0) cs) - length cs ≡ length xs
+before_last n xs cs = omega (arith, length-append xs (map (registered n 0) cs), length-map cs (registered n 0))
+
+-- the last registrations got their place
+pub placed_is : (n place : ℕ) (xs : List Registered) (cs : List ℕ) → placed_last (length cs) place (xs ++ map (registered n 0) cs) ≡ xs ++ map (registered n place) cs
+placed_is n place xs cs =
+    let ys : List Registered = map (registered n 0) cs in
+    ap (λ k. take k (xs ++ ys) ++ map (placed_at place) (drop k (xs ++ ys))) (before_last n xs cs)
+    ∙ ap (λ front. front ++ map (placed_at place) (drop (length xs) (xs ++ ys))) (take-append_seam xs ys)
+    ∙ ap (λ back. xs ++ map (placed_at place) back) (drop-append_seam xs ys)
+    ∙ ap (λ back. xs ++ back) (placed_each n place cs)
+
+-- or they were taken away
+pub taken_away : (n : ℕ) (xs : List Registered) (cs : List ℕ)
+    → take (length (xs ++ map (registered n 0) cs) - length cs) (xs ++ map (registered n 0) cs) ≡ xs
+taken_away n xs cs =
+    let ys : List Registered = map (registered n 0) cs in ap (λ k. take k (xs ++ ys)) (before_last n xs cs) ∙ take-append_seam xs ys
+
+abbrev registration_for : ℕ → ℕ → Registration
+registration_for n c = record { node = n; callback = c }
+
+without_places : (n place : ℕ) (cs : List ℕ) → map registration_of (map (registered n place) cs) ≡ map (registration_for n) cs
+without_places n place [] = refl
+without_places n place (c ∷ cs) = ap (λ rs. registration_for n c ∷ rs) (without_places n place cs)
+
+pub registrations_join : (n place : ℕ) (xs : List Registered) (cs : List ℕ)
+    → registrations_of (xs ++ map (registered n place) cs) ≡ registrations_of xs ++ map (registration_for n) cs
+registrations_join n place xs cs =
+    map-append registration_of xs (map (registered n place) cs) ∙ ap (λ rs. registrations_of xs ++ rs) (without_places n place cs)
+
+-- ---- those of live nodes
+
+pub live_entries : (nodes : List Node) (entries : List Registered) → All (λ r. IsLive nodes r.node) (registrations_of entries) → All (λ e. IsLive nodes e.node) entries
+live_entries nodes [] live = All-nil (λ (e : Registered). IsLive nodes e.node)
+live_entries nodes (e ∷ entries) live =
+    All-cons (λ (e : Registered). IsLive nodes e.node) e entries (All-head (λ (r : Registration). IsLive nodes r.node) (registration_of e) (registrations_of entries) live)
+    (live_entries nodes entries (All-tail (λ (r : Registration). IsLive nodes r.node) (registration_of e) (registrations_of entries) live))
+
+-- ---- at a pause
+
+-- what dies among these nodes dies among others with the same lives
+same_deaths : (xs ys : List Node) → ((n : ℕ) → (node_at xs n).life ≡ (node_at ys n).life) → (r : Registration) → dies xs r ≡ dies ys r
+same_deaths xs ys same r = ap is_dead (same r.node)
+
+pub same_order : (xs ys : List Node) (rs : List Registration) → ((n : ℕ) → (node_at xs n).life ≡ (node_at ys n).life) → run_order xs rs ≡ run_order ys rs
+same_order xs ys rs same = ap reverse (filter_agree (dies xs) (dies ys) (same_deaths xs ys same) rs)
+
+one_left : (e : Registered) (entries : List Registered) (rs : List Registration) (kept : Bool) → registrations_of entries ≡ rs
+    → registrations_of (cond kept (e ∷ entries) entries) ≡ cond kept (registration_of e ∷ rs) rs
+one_left e entries rs true same = ap (λ more. registration_of e ∷ more) same
+one_left e entries rs false same = same
+
+left_by : (keep : Registration → Bool) (entries : List Registered) → registrations_of (filter (λ e. keep (registration_of e)) entries) ≡ filter keep (registrations_of entries)
+left_by keep [] = refl
+left_by keep (e ∷ entries) = one_left e (filter (λ x. keep (registration_of x)) entries) (filter keep (registrations_of entries)) (keep (registration_of e)) (left_by keep entries)
+
+-- the registrations that are left
+pub registrations_left : (xs ys : List Node) (entries : List Registered) → ((n : ℕ) → (node_at xs n).life ≡ (node_at ys n).life)
+    → registrations_of (entries_left xs entries) ≡ filter (λ r. not (dies ys r)) (registrations_of entries)
+registrations_left xs ys entries same =
+    left_by (λ r. not (dies xs r)) entries
+    ∙ filter_agree (λ r. not (dies xs r)) (λ r. not (dies ys r)) (λ r. ap not (same_deaths xs ys same r)) (registrations_of entries)
+
+lines_of_pairs : (rs : List Registration) → ran_lines true (map pair_of rs) ≡ prefinalise_lines rs
+lines_of_pairs [] = refl
+lines_of_pairs (r ∷ rs) = ap (λ ls. L.Prefinalise r.node r.callback ∷ ls) (lines_of_pairs rs)
+
+-- the lines of those that ran
+pub lines_ran : (xs ys : List Node) (entries : List Registered) → ((n : ℕ) → (node_at xs n).life ≡ (node_at ys n).life)
+    → ran_lines true (pairs_run xs entries) ≡ prefinalise_lines (run_order ys (registrations_of entries))
+lines_ran xs ys entries same =
+    lines_of_pairs (run_order xs (registrations_of entries)) ∙ ap prefinalise_lines (same_order xs ys (registrations_of entries) same)
+
+twice : (b : Bool) → b ≡ not (not b)
+twice true = refl
+twice false = refl
+
+-- each registration ran or is left
+pub counts_run : (xs : List Node) (entries : List Registered) → length (entries_left xs entries) + length (pairs_run xs entries) ≡ length entries
+counts_run xs entries =
+    let dies_of : Registered → Bool = λ e. dies xs (registration_of e) in
+    let ran : length (pairs_run xs entries) ≡ length (filter dies_of entries) =
+    length-map (run_order xs (registrations_of entries)) pair_of ∙ length-reverse (filter (dies xs) (registrations_of entries))
+    ∙ sym (ap length (left_by (dies xs) entries)) ∙ length-map (filter dies_of entries) registration_of in
+    omega (arith, ran, length-filter_both (λ e. not (dies_of e)) dies_of (λ e. twice (dies_of e)) entries)
