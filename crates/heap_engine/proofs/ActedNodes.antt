@@ -1,6 +1,6 @@
 -- An action of a prefinalizer stores no reference, and moves no object.
-use Rattle.std.proofs.Common.{◌≡◌, ℕ, ◌+◌, ◌<◌, ◌≤◌, Bool, true, false, not, cond, List, length, set, map, get_or, Option, Some, None, refl, sym, ap, ◌∙◌, subst, inl, inr, eqb, ltb}
-use Rattle.std.specs.List.{All, Contains}
+use Rattle.std.proofs.Common.{◌≡◌, ℕ, ◌+◌, Bool, true, false, cond, List, length, set, Option, Some, None, refl, sym, ap, ◌∙◌, subst, inl, inr, eqb, ltb}
+use Rattle.std.specs.List.{All}
 use Rattle.std.proofs.lemmas.Bool.{cases_lt, cases_eq, cond_both}
 use Rattle.std.proofs.lemmas.List.{get_or_past, get_or-set_same, get_or-set_other, set_past}
 use Rattle.std.proofs.lemmas.List.Elements.{All-set, All-weaker}
@@ -11,12 +11,12 @@ use Rattle.gc_graph.specs.declared.kind.Kind.TheVariants.{Strong, Weak, Pair, Pl
 use Rattle.gc_graph.specs.declared.kind.Value.{Value}
 use Rattle.gc_graph.specs.declared.kind.Value.TheVariants.{Null, Ref, Word}
 use Rattle.gc_graph.specs.State.{Node, node_at, no_node, is_there}
-use Rattle.gc_graph.specs.Fields.{kind_of_field, word_of_field, field_count, value_at, target_of}
+use Rattle.gc_graph.specs.Fields.{kind_of_field, word_of_field, field_count, value_at}
 use Rattle.gc_graph.specs.Actions.{cleared_field, cleared_at, added, added_field, added_at, linked, linked_by, change_linked, acted}
 use Rattle.gc_graph.specs.ActionLaw.{HaveStayed}
 use Rattle.gc_graph.specs.State.{ObjectType}
 use Rattle.page_words.specs.Bodies.{Body}
-use Rattle.page_words.specs.Seat.{SeatView, holds}
+use Rattle.page_words.specs.Seat.{SeatView}
 use Rattle.page_space.specs.Space.{extents_of_bodies}
 use Rattle.prefinalizer_effects.specs.Acting as words
 use Rattle.heap_engine.specs.Nodes.{IsThere}

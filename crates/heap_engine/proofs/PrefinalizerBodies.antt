@@ -1,32 +1,22 @@
 -- The nodes and the words after the action of a prefinalizer.
-use Rattle.std.proofs.Common.{◌≡◌, ℕ, zero, suc, ◌+◌, ◌-◌, ◌%◌, ◌^◌, ◌<◌, ◌≤◌, Bool, true, false, cond, eqb, ltb, List, [], ◌∷◌, length, set, map, take, get_or, Option, Some, None, option_map, refl, sym, ap, ◌∙◌, subst, inl, inr, arith}
-use Rattle.std.specs.List.{Contains}
-use Rattle.std.proofs.lemmas.Bool.{true≢false, cases_Bool, cases_lt, cond-true, cond-false, cond_both, eq-eqb, eqb-true, ltb-true, false_from_ne_true}
-use Rattle.std.proofs.lemmas.List.{take-map, map-set, length-set, get_or-map, get_or_past, get_or-set_same}
-use Rattle.std.proofs.lemmas.List.Elements.{All-get_or}
-use Rattle.std.proofs.lemmas.List.Sums.{sum_by-cons}
+use Rattle.std.proofs.Common.{◌≡◌, ℕ, zero, suc, Bool, true, false, cond, eqb, ltb, List, [], ◌∷◌, length, set, map, Option, Some, None, option_map, refl, sym, ap, ◌∙◌, subst, inl, inr, arith}
+use Rattle.std.proofs.lemmas.Bool.{true≢false, cases_Bool, cond-true, cond-false, eq-eqb, eqb-true, false_from_ne_true}
 use Rattle.gc_graph.specs.declared.action.Action.{Action}
 use Rattle.gc_graph.specs.declared.action.Action.TheVariants as A
 use Rattle.gc_graph.specs.declared.kind.Kind.{Kind}
 use Rattle.gc_graph.specs.declared.kind.Kind.TheVariants.{Strong, Weak, Pair, Plain}
-use Rattle.gc_graph.specs.declared.kind.Value.{Value}
-use Rattle.gc_graph.specs.declared.kind.Value.TheVariants.{Null, Ref, Word}
-use Rattle.gc_graph.specs.State.{Setup, ObjectType, Node, node_at, no_node, is_there, is_dead, size_of}
+use Rattle.gc_graph.specs.State.{Setup, Node, node_at, is_there, is_dead}
 use Rattle.gc_graph.specs.Fields.{words_of_kind, field_words, with_value, value_at}
-use Rattle.gc_graph.specs.Valid.{IsReferenceBelow, IsPlainWord, HaveKinds, IsTyped}
+use Rattle.gc_graph.specs.Valid.{IsTyped}
 use Rattle.gc_graph.specs.Actions as graph
 use Rattle.gc_graph.specs.Fields as fields
-use Rattle.type_table.specs.Types.{kinds_of}
-use Rattle.type_table.specs.Layouts.{kinds_of_words}
 use Rattle.page_words.specs.Bodies.{Body}
 use Rattle.page_words.specs.Seat.{SeatView, IsView, holds}
-use Rattle.prefinalizer_effects.specs.Shown as words
 use Rattle.prefinalizer_effects.specs.Acting as bodies
-use Rattle.heap_engine.specs.Nodes.{place_of, word_of, body_of, bodies_from, bodies_of, IsThere, IsHeld}
+use Rattle.heap_engine.specs.Nodes.{place_of, body_of, bodies_from, IsThere, IsHeld}
 use Rattle.heap_engine.proofs.NodeBodies.{bodies-there, bodies-gone}
-use Rattle.heap_engine.proofs.NodePlaces.{there_below, same_node}
+use Rattle.heap_engine.proofs.NodePlaces.{same_node}
 use Rattle.heap_engine.proofs.NodeChanges.{bodies-same}
-use Rattle.heap_engine.proofs.FieldKinds.{IsOfKind, value_of_kind, word_below}
 use Rattle.heap_engine.proofs.PrefinalizerFields.{cleared_body, added_body, links_body}
 
 -- ---- all bodies

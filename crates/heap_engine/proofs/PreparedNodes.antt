@@ -1,23 +1,22 @@
 -- The objects after judgement and weak clearing: prefinalizers can run on them.
-use Rattle.std.proofs.Common.{◌≡◌, ℕ, zero, suc, ◌+◌, ◌<◌, ◌≤◌, Bool, true, false, All, List, [], ◌∷◌, length, get_or, map, cond, refl, sym, ap, ◌∙◌, subst, inl, inr, arith}
-use Rattle.std.specs.List.{Contains}
-use Rattle.std.proofs.lemmas.Bool.{true≢false, cond_both}
-use Rattle.std.proofs.lemmas.List.{length-map, get_or-map}
-use Rattle.std.proofs.lemmas.List.Elements.{All-head, All-tail, All-nil, All-cons, All-weaker, All-get_or, All-from_get_or}
+use Rattle.std.proofs.Common.{◌≡◌, ℕ, ◌<◌, Bool, true, false, All, List, [], ◌∷◌, length, get_or, cond, refl, sym, ap, ◌∙◌, subst, inl, inr, arith}
+use Rattle.std.proofs.lemmas.Bool.{cond_both}
+use Rattle.std.proofs.lemmas.List.{get_or-map}
+use Rattle.std.proofs.lemmas.List.Elements.{All-head, All-tail, All-cons, All-weaker, All-get_or, All-from_get_or}
 use Rattle.gc_graph.specs.declared.kind.Kind.{Kind}
 use Rattle.gc_graph.specs.declared.kind.Kind.TheVariants.{Strong, Weak, Pair, Plain}
 use Rattle.gc_graph.specs.declared.kind.Value.{Value}
 use Rattle.gc_graph.specs.declared.kind.Value.TheVariants.{Null, Ref, Word}
 use Rattle.gc_graph.specs.Graph.{Object, has}
-use Rattle.gc_graph.specs.State.{Setup, ObjectType, Node, Life, node_at, no_node, is_there, is_live, IsLive, IsDead, type_at}
-use Rattle.gc_graph.specs.State.Life.{Live, Dead, Gone}
+use Rattle.gc_graph.specs.State.{Setup, ObjectType, Node, node_at, no_node, is_there, is_live, IsLive, IsDead}
+use Rattle.gc_graph.specs.State.Life.{Live}
 use Rattle.gc_graph.specs.Fields.{field_words, is_plain}
 use Rattle.gc_graph.specs.Pause.{judged, condemn, names_dead, cleared_values, with_cleared, clear_node, is_dead_at}
-use Rattle.gc_graph.specs.Valid.{IsTyped, HaveKinds, IsReferenceBelow, IsPlainWord, ArePaired, NamesLive}
+use Rattle.gc_graph.specs.Valid.{IsTyped, HaveKinds, IsReferenceBelow, ArePaired, NamesLive}
 use Rattle.gc_graph.specs.ActionLaw.{AreTyped}
 use Rattle.type_table.specs.Types.{kinds_of}
 use Rattle.type_table.specs.Layouts.{kinds_of_words}
-use Rattle.page_words.specs.Bodies.{Body, IsReference, kind_in}
+use Rattle.page_words.specs.Bodies.{Body, IsReference}
 use Rattle.page_words.specs.Seat.{SeatView}
 use Rattle.prefinalizer_effects.specs.Acting as words
 use Rattle.heap_engine.specs.Judgement.{nodes_after}

@@ -1,15 +1,13 @@
 -- The registered prefinalizers at a pause.
-use Rattle.std.proofs.Common.{◌≡◌, ℕ, ◌<◌, Bool, true, false, All, List, Option, length, refl, sym, ap, ◌∙◌, subst, arith}
-use Rattle.std.proofs.lemmas.List.Elements.{All-weaker}
+use Rattle.std.proofs.Common.{◌≡◌, ℕ, Bool, true, false, All, List, Option, length, sym, ap, ◌∙◌, subst, arith}
 use Rattle.gc_graph.specs.declared.action.ActionKind.{ActionKind}
 use Rattle.gc_graph.specs.Graph.{has}
-use Rattle.gc_graph.specs.State.{Node, Life, node_at, IsLive}
-use Rattle.gc_graph.specs.State.Life.{Live, Dead, Gone}
-use Rattle.gc_graph.specs.Pause.{judged, condemn}
+use Rattle.gc_graph.specs.State.{Node, IsLive}
+use Rattle.gc_graph.specs.State.Life.{Live, Gone}
+use Rattle.gc_graph.specs.Pause.{judged}
 use Rattle.callback_table.specs.declared.registry.Registered.{Registered}
 use Rattle.callback_table.specs.Registry.{IsRegistered}
 use Rattle.heap_engine.specs.Judgement.{IsJudgement, nodes_after}
-use Rattle.heap_engine.specs.Nodes.{place_of}
 use Rattle.heap_engine.specs.Parts.{ObjectsView, HandlesView, CycleView, IsPlaced, IsReady}
 use Rattle.heap_engine.proofs.NodeLives.{life-condemn}
 use Rattle.heap_engine.proofs.NodePlaces.{live_is_there, there_below}

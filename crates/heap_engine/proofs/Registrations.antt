@@ -1,22 +1,16 @@
 -- Lists of registrations: what joins them, and what a pause takes away.
-use Rattle.std.proofs.Common.{◌≡◌, ℕ, ◌+◌, ◌-◌, ◌<◌, ◌≤◌, Bool, true, false, not, All, List, [], ◌∷◌, ◌++◌, length, map, filter, take, drop, reverse, cond, refl, sym, ap, ◌∙◌, subst, arith}
+use Rattle.std.proofs.Common.{◌≡◌, ℕ, ◌+◌, ◌-◌, Bool, true, false, not, All, List, [], ◌∷◌, ◌++◌, length, map, filter, take, drop, reverse, cond, refl, sym, ap, ◌∙◌, arith}
 use Rattle.std.proofs.lemmas.List.{length-append, length-map, length-reverse, map-append}
 use Rattle.std.proofs.lemmas.List.Filters.{length-filter_both}
 use Rattle.std.proofs.lemmas.List.Elements.{All-head, All-tail, All-nil, All-cons, filter_agree}
 use Rattle.std.proofs.Math.Seq.{take-append_seam, drop-append_seam}
-use Rattle.gc_graph.specs.declared.line.Line.{Line}
 use Rattle.gc_graph.specs.declared.line.Line.TheVariants as L
-use Rattle.gc_graph.specs.State.{Setup, Node, Registration, node_at, IsLive, is_dead}
-use Rattle.gc_graph.specs.State.Life.{Live, Gone}
-use Rattle.gc_graph.specs.Pause.{dies, run_order, prefinalise_lines, is_dead_at}
+use Rattle.gc_graph.specs.State.{Node, Registration, node_at, IsLive, is_dead}
+use Rattle.gc_graph.specs.Pause.{dies, run_order, prefinalise_lines}
 use Rattle.callback_table.specs.declared.registry.Registered.{Registered}
-use Rattle.callback_table.specs.Bodies.{StandsAt}
-use Rattle.callback_table.specs.Registry.{registration_of, registrations_of, registered, placed_at, pair_of, pairs_run, entries_left, IsRegistered}
+use Rattle.callback_table.specs.Registry.{registration_of, registrations_of, registered, placed_at, pair_of, pairs_run, entries_left}
 use Rattle.heap_engine.specs.Changes.{placed_last}
-use Rattle.heap_engine.specs.Nodes.{place_of}
-use Rattle.heap_engine.specs.Parts.{IsPlaced}
 use Rattle.heap_engine.specs.Printed.{ran_lines}
-use Rattle.heap_engine.proofs.NodePlaces.{live_is_there, there_below}
 
 -- ---- a new object's
 

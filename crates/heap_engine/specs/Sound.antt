@@ -1,7 +1,7 @@
 -- How a heap's fields are seen, and what is true of them.
 use Rattle.std.specs.Prelude.{◌*◌, ◌≤◌}
 use Rattle.page_space.specs.Pages.{word_count}
-use Rattle.heap_engine.specs.declared.heap.Core.TheInside.{Inside}
+use Rattle.heap_engine.specs.declared.heap_core.Core.TheInside.{Inside}
 use Rattle.heap_engine.specs.View.{View}
 use Rattle.heap_engine.specs.Printed.{outcome_lines}
 use Rattle.heap_engine.specs.Parts.{setup_of_objects, state_of, IsReady}

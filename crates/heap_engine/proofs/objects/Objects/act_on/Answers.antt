@@ -1,4 +1,4 @@
-use Rattle.std.proofs.Common.{◌≡◌, ℕ, ◌≤◌, List, length, refl, sym, ap, ◌∙◌, subst, arith}
+use Rattle.std.proofs.Common.{◌≡◌, ℕ, List, length, refl, sym, ap, ◌∙◌, subst, arith}
 use Rattle.std.specs.List.{Contains}
 use Rattle.std.proofs.lemmas.List.Elements.{All-get_or}
 use Rattle.gc_graph.specs.State.{Setup, Node, node_at, no_node}
@@ -8,12 +8,9 @@ use Rattle.gc_graph.specs.Valid.{IsTyped}
 use Rattle.callback_table.specs.Bodies.{StandsAt, IsNodePlace}
 use Rattle.page_words.specs.Bodies.{Body}
 use Rattle.page_words.specs.Seat.{SeatView}
-use Rattle.page_space.specs.Space.{IsSpaceOf}
 use Rattle.prefinalizer_effects.specs.Acting as words
 use Rattle.heap_engine.specs.Nodes.{IsThere, place_of, body_of, IsHeld}
-use Rattle.heap_engine.specs.Objects.{AreObjects}
-use Rattle.heap_engine.specs.Prefinalizing.{AllNameThere, IsPrepared}
-use Rattle.heap_engine.specs.Sweeping.{IsJudged}
+use Rattle.heap_engine.specs.Prefinalizing.{AllNameThere}
 use Rattle.heap_engine.proofs.ActedNodes.{StayPut, acted_put, named_acted, linked_there}
 use Rattle.heap_engine.proofs.NodePlaces.{node_body, there_below}
 use Rattle.heap_engine.proofs.NodeSweeps.{serials_fit}

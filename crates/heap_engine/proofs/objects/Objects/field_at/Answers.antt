@@ -1,4 +1,4 @@
-use Rattle.std.proofs.Common.{◌-◌, List, [], arith, refl}
+use Rattle.std.proofs.Common.{◌-◌, List, arith, refl}
 use Rattle.gc_graph.specs.State.{Setup, Node}
 use Rattle.heap_engine.specs.Fields.{allows}
 use Rattle.heap_engine.proofs.FieldPlaces.{IsHead, live_place, live_head, extra_is, field_answered}

@@ -1,4 +1,4 @@
-use Rattle.std.proofs.Common.{List, [], sym, ap, ◌∙◌}
+use Rattle.std.proofs.Common.{List, sym, ap, ◌∙◌}
 use Rattle.gc_graph.specs.State.{Setup, Node}
 use Rattle.heap_engine.specs.declared.field.Part.TheVariants as P
 use Rattle.heap_engine.specs.Fields.{part_in}

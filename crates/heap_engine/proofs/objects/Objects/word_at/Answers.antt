@@ -1,4 +1,3 @@
-use Rattle.std.proofs.Common.{[]}
 use Rattle.gc_graph.specs.State.{Setup}
 use Rattle.gc_graph.specs.Fields.{is_plain}
 use Rattle.heap_engine.proofs.FieldPlaces.{has_word}

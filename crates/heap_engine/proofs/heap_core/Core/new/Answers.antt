@@ -5,7 +5,7 @@ use Rattle.callback_table.specs.Table.{kinds_of}
 use Rattle.heap_engine.specs.Parts.{ObjectsView, HandlesView, state_of}
 use Rattle.heap_engine.specs.Printed.{Printed}
 use Rattle.heap_engine.proofs.HeapEmpty.{ready_empty}
-use Rattle.heap_engine.proofs.heap.Core.new.Goals as goal
+use Rattle.heap_engine.proofs.heap_core.Core.new.Goals as goal
 
 pub invariant_of-result : goal.invariant_of-result
 invariant_of-result d c = record {

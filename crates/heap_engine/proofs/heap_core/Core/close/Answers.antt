@@ -1,4 +1,4 @@
-use Rattle.heap_engine.proofs.heap.Core.close.Goals as goal
+use Rattle.heap_engine.proofs.heap_core.Core.close.Goals as goal
 
 pub returns-clause-line : goal.returns-clause-line
 returns-clause-line c =

@@ -1,0 +1,200 @@
+// The parts of a heap, and its commands. Each command is one step of the graph; the files beside this
+// one do them.
+
+ghost use Rattle.std.specs.Prelude.{◌≡◌, ◌+◌, ◌*◌, ◌++◌, ◌<◌, ◌≤◌};
+ghost use Rattle.std.specs.Prelude.{true, false, [], length, Some, IfOk, slice_get};
+ghost use Rattle.gc_graph.specs.State.{empty_state};
+ghost use Rattle.built_forms.specs.Built.{IsBuiltIn};
+ghost use Rattle.gc_graph.specs.CycleSteps.{is_marking};
+ghost use Rattle.gc_graph.specs.Outcomes.{answered};
+ghost use Rattle.gc_graph.specs.Step.{Step};
+ghost use Rattle.gc_graph.specs.Lawful.{IsAllowed, IsEndLine};
+ghost use Rattle.gc_graph.specs.Shapes.{IsShape};
+ghost use Rattle.page_space.specs.Pages.{word_count};
+ghost use Rattle.callback_table.specs.Table.{kinds_of};
+ghost use Rattle.heap_engine.specs.Objects.{HaveCallbacks};
+ghost use Rattle.heap_engine.specs.Parts.{setup_of_objects, state_of, counted, IsReady, IsFrame};
+ghost use Rattle.heap_engine.specs.Printed.{lines_with};
+
+use crate::creating::new_object;
+use crate::cycle::Cycle;
+use crate::fields::{get, put, set, set_null, word};
+use crate::handles::Handles;
+use crate::heap::Config;
+use crate::objects::Objects;
+use crate::outcome::Outcome;
+use crate::pairs::{key, pair, pair_null, value};
+use crate::slots::{copy, drop_slot, read, weaken};
+use crate::totals::stat;
+use callback_table::CallbackTable;
+use gc_graph::{Command, Line, NoMemory};
+use std::alloc::Global;
+use std::marker::Model;
+use type_table::TypeTable;
+
+/// A heap but for its callbacks: what contracts speak of.
+#[derive(Drop)]
+pub struct Core {
+    objects: Objects,
+    handles: Handles,
+    cycle: Cycle,
+    outcome: Outcome,
+    closed: bool,
+}
+
+impl Model for Core {
+    ghost use Rattle.heap_engine.specs.View.{View};
+
+    ghost Value = { View };
+
+    ghost use Rattle.heap_engine.specs.Sound.{view_of, IsSound};
+
+    ghost view = { view_of };
+
+    ghost invariant = { IsSound };
+}
+
+impl Core {
+    /// An empty heap. Want of memory is free.
+    pub fn new(
+        alloc: Global,
+        config: Config,
+        types: TypeTable,
+        callbacks: &CallbackTable,
+    ) -> Result<Core, NoMemory>
+        requires shape { IsShape (record { pages = config.pages; page_words = config.page_words }) }
+        requires called { HaveCallbacks (length (kinds_of callbacks.now)) types }
+        ensures setup { IfOk result (λ h. h.setup ≡ record {
+          shape = record { pages = config.pages; page_words = config.page_words };
+          markers = 0;
+          types = types;
+          callbacks = kinds_of callbacks.now;
+        }) }
+        ensures state { IfOk result (λ h. h.state ≡ empty_state) }
+        ensures history { IfOk result (λ h. h.history ≡ []) }
+        ensures lines { IfOk result (λ h. h.lines ≡ []) }
+        ensures closed { IfOk result (λ h. h.closed ≡ false) }
+    {
+        gc_graph::empty_is_valid();
+        // A header can name each type.
+        let _count = types.count();
+        let objects = Objects::new(alloc, config.pages, config.page_words, types, callbacks)?;
+        let outcome = Outcome::new(alloc, objects.word_count() as usize / 2 + 1)?;
+        let handles = Handles::new(alloc)?;
+        Ok(Core {
+            objects,
+            handles,
+            cycle: Cycle::new(alloc),
+            outcome,
+            closed: false,
+        })
+    }
+
+    pub fn act(&mut self, command: &Command, callbacks: &CallbackTable) -> u32
+        requires few { self.old.state.ordinal < 1000000 }
+        requires opened { self.old.closed ≡ false }
+        requires allowed { IsAllowed (length self.old.setup.types) command.now }
+        requires built { IsBuiltIn self.old.state.phase command.now }
+        requires kinds { kinds_of callbacks.now ≡ self.old.setup.callbacks }
+        ensures step { Step self.old.setup self.old.state command.now
+            self.new.piece self.new.lines self.new.state }
+        ensures count { result ≡ length self.new.lines }
+        ensures calm { is_marking self.new.state.phase ≡ false }
+        ensures alone { self.new.state.running ≡ [] }
+        ensures ordinal { self.new.state.ordinal ≡ self.old.state.ordinal + 1 }
+        ensures history { self.new.history ≡ self.old.history ++ self.new.piece }
+        ensures setup { self.new.setup ≡ self.old.setup }
+        ensures closed { self.new.closed ≡ false }
+    {
+        self.objects.shape_is_valid();
+        gc_graph::step_keeps_valid();
+        self.outcome.begin();
+        let line = run(
+            &mut self.objects,
+            &mut self.handles,
+            &mut self.cycle,
+            &mut self.outcome,
+            callbacks,
+            command,
+        );
+        self.outcome.end(line);
+        self.cycle.count_command();
+        self.cycle.rests();
+        self.outcome.count(self.cycle.ran())
+    }
+
+    pub fn line(&mut self, index: u32) -> Line
+        requires { index < length self.old.lines }
+        ensures line { slice_get self.old.lines index ≡ Some result }
+        ensures same { self.new ≡ self.old }
+    {
+        self.outcome.line(index, self.cycle.ran())
+    }
+
+    pub fn close(&mut self) -> Line
+        ensures line { IsEndLine self.old.setup self.old.state result }
+        ensures same { self.new ≡ record self.old { closed = true } }
+    {
+        let (n, u, g) = self.objects.totals();
+        self.closed = true;
+        Line::End { n, u, g }
+    }
+}
+
+/// Does the command, and answers the last line of its outcome.
+fn run(
+    objects: &mut Objects,
+    handles: &mut Handles,
+    cycle: &mut Cycle,
+    outcome: &mut Outcome,
+    callbacks: &CallbackTable,
+    command: &Command,
+) -> Line
+    requires ready { IsReady objects.old handles.old cycle.old }
+    requires kinds { kinds_of callbacks.now ≡ objects.old.callbacks }
+    requires numbers { outcome.old.numbers ≡ [] }
+    requires calm { outcome.old.prefinalises ≡ false }
+    requires piece { outcome.old.piece ≡ [] }
+    requires room { word_count objects.old.shape ≤ 2 * outcome.old.room }
+    requires allowed { IsAllowed (length objects.old.types) command.now }
+    requires built { IsBuiltIn cycle.old.phase command.now }
+    ensures step { Step (setup_of_objects objects.old) (state_of objects.old handles.old cycle.old)
+        command.now outcome.new.piece (lines_with outcome.new cycle.new.ran result)
+        (answered (state_of objects.new handles.new cycle.new)) }
+    ensures frame { IsFrame objects.old cycle.old objects.new handles.new (counted cycle.new) }
+    ensures room { outcome.new.room ≡ outcome.old.room }
+    ensures history { outcome.new.history ≡ outcome.old.history }
+{
+    match *command {
+        Command::New { p, t, e } => new_object(objects, handles, cycle, p, t, e),
+        Command::Set { p, f, q } => set(objects, handles, cycle, p, f, q),
+        Command::SetNull { p, f } => set_null(objects, handles, cycle, p, f),
+        Command::Get { p, f, q } => get(objects, handles, cycle, p, f, q),
+        Command::Put { p, f, n } => put(objects, handles, cycle, p, f, n),
+        Command::Word { p, f } => word(objects, handles, cycle, p, f),
+        Command::Copy { p, q } => copy(objects, handles, cycle, p, q),
+        Command::Drop { p } => drop_slot(objects, handles, cycle, p),
+        Command::Weak { w, p } => weaken(objects, handles, cycle, w, p),
+        Command::Read { w, p } => read(objects, handles, cycle, w, p),
+        Command::GcNow { want: _ } => cycle.collect(objects, handles, outcome, callbacks),
+        Command::SweepAll => cycle.sweep_all(objects, handles, outcome),
+        Command::Stat => stat(objects, handles, cycle),
+        Command::Pair { p, f, k, v } => pair(objects, handles, cycle, p, f, k, v),
+        Command::PairNull { p, f } => pair_null(objects, handles, cycle, p, f),
+        Command::Key { p, f, q } => key(objects, handles, cycle, p, f, q),
+        Command::Val { p, f, q } => value(objects, handles, cycle, p, f, q),
+        Command::Push { .. }
+        | Command::PushPlain { .. }
+        | Command::Pop
+        | Command::Peek { .. }
+        | Command::GcStart
+        | Command::GcStep { .. }
+        | Command::GcFinish { .. }
+        | Command::Sweep { .. }
+        | Command::Export { .. }
+        | Command::Import { .. }
+        | Command::At { .. }
+        | Command::ThreadsGo
+        | Command::ThreadsJoin => unreachable!(),
+    }
+}
