@@ -27,10 +27,12 @@ impl Registry {
         ensures rest { B.keeps bodies.old bodies.new }
     {
         self.ran.clear();
+        // The words that each call is shown, in one place for all.
+        let mut shown = [0; 64];
         let mut kept = self.entries.len();
         for i in (0..self.entries.len()).rev() {
             let entry = self.entries[i];
-            if run_if_dead(entry, table, bodies) {
+            if run_if_dead(entry, table, bodies, &mut shown) {
                 self.ran.push_reserved((entry.node, entry.callback));
             } else {
                 // What is kept stands at the end, from `kept` on.
@@ -43,7 +45,12 @@ impl Registry {
 }
 
 /// Whether the registered node is dead; if so its callback was run.
-fn run_if_dead<B: Bodies>(entry: Registered, table: &CallbackTable, bodies: &mut B) -> bool
+fn run_if_dead<B: Bodies>(
+    entry: Registered,
+    table: &CallbackTable,
+    bodies: &mut B,
+    shown: &mut [u64; 64],
+) -> bool
     requires ready { B.is_ready bodies.old }
     requires registered { IsRegistered (B.nodes bodies.old) (length (kinds_of table.now)) entry }
     ensures answer { result ≡ dies (B.nodes bodies.old) (registration_of entry) }
@@ -56,13 +63,13 @@ fn run_if_dead<B: Bodies>(entry: Registered, table: &CallbackTable, bodies: &mut
 {
     let dead = bodies.dead(entry.place);
     if dead {
-        run(entry, table, bodies);
+        run(entry, table, bodies, shown);
     }
     dead
 }
 
 /// Calls the callback with the shown words of the object, and does what it answers.
-fn run<B: Bodies>(entry: Registered, table: &CallbackTable, bodies: &mut B)
+fn run<B: Bodies>(entry: Registered, table: &CallbackTable, bodies: &mut B, shown: &mut [u64; 64])
     requires ready { B.is_ready bodies.old }
     requires registered { IsRegistered (B.nodes bodies.old) (length (kinds_of table.now)) entry }
     ensures nodes { B.nodes bodies.new
@@ -71,8 +78,7 @@ fn run<B: Bodies>(entry: Registered, table: &CallbackTable, bodies: &mut B)
     ensures registered { IsRegistered (B.nodes bodies.new) (length (kinds_of table.now)) entry }
     ensures rest { B.keeps bodies.old bodies.new }
 {
-    let mut shown = [0; 64];
-    let count = bodies.words(entry.place, &mut shown);
+    let count = bodies.words(entry.place, shown);
     let action = table.call(entry.callback, &shown[..count as usize]);
     bodies.apply(entry.place, action);
 }
