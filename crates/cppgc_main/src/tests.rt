@@ -14,6 +14,7 @@ mod options;
 mod pairs;
 mod pieces;
 mod plain_words;
+mod prefinalizers;
 mod printing;
 mod ranges;
 mod reports;

@@ -87,8 +87,8 @@ fn full_heap_answers_full_until_it_is_swept(rt: HostRuntime) -> Result<(), Fail>
     let Scripted { script, report } = overfull(alloc)?;
     let mut sink = ListSink::new(alloc, 1_000_000, Vec::new(alloc));
     sink.reserve(1_000_000)?;
-    let mut kept = None;
     let callbacks = program_callbacks(alloc)?;
+    let mut kept = None;
     let status = run_bytes(
         alloc,
         SMALL,

@@ -223,7 +223,7 @@ fn first_line_that_is_not_built_is_named(rt: HostRuntime) {
         (b"oilpan 1\npair 0 0 0 -\n", Some((2, 9))),
         (b"oilpan 1\nweak 64 0\n", Some((2, 9))),
         (b"oilpan 1\nput 0 0\n", Some((2, 9))),
-        (b"oilpan 1\ntype S pre 0\n", Some((2, 9))),
+        (b"oilpan 1\ntype S pre 99\n", Some((2, 9))),
         (b"oilpan 1\nstat\npop\nfoo\n", Some((3, 9))),
         (b"oilpan 1\nstat\nfoo\npop\n", Some((3, 9))),
         (

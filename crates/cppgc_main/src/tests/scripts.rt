@@ -29,7 +29,11 @@ const FAULTY: [(&str, &[u8], u32); 27] = [
     ),
     ("a number that is put nowhere", b"oilpan 1\nput 0 0\n", 2),
     ("a copy of three", b"oilpan 1\ncopy 0 1 2\n", 2),
-    ("a prefinalizer", b"oilpan 1\ntype S pre 0\n", 2),
+    (
+        "a prefinalizer that is no callback",
+        b"oilpan 1\ntype S pre 5\n",
+        2,
+    ),
     (
         "too many extra words",
         b"oilpan 1\ntype S\nnew 0 0 33554433\n",
