@@ -309,6 +309,20 @@ def side_table_read(count):
     return load.then(*lines)._replace(tells=tells)
 
 
+def prefinalizers(count):
+    """Objects with two prefinalizers each, which add to a word of an object that lives. Nothing else names
+    them, so that all of them die."""
+    lines = ["new 0 0"] + ["new 1 1", "set 1 0 0"] * count + ["drop 1"]
+    return Load(["SP", "S pre 2 3"], lines, {"full": 0, "refused": 0}, pages_for(count, 3) + 1)
+
+
+def prefinalizers_read(count):
+    """After their collection: one prefinalizer of each added 1, and the other one nothing."""
+    load = prefinalizers(count).then(COLLECTION)
+    tells = {**load.tells, "prefinalise ": 2 * count, f"word {count}": 1}
+    return load.then("word 0 1")._replace(tells=tells)
+
+
 def dead_objects(count):
     """Objects of 3 words, all of them dead after the collection."""
     tells = {f"pause kept 0 dead {count} ": 1, "full": 0}

@@ -29,6 +29,8 @@ WEAK_BAR = 110
 PAIR_BAR = 150
 SWEPT_WORD_BAR = 60
 FINALISED_BAR = 400
+PREFINALISED_BAR = 500
+PREFINALISED_RATIO_BAR = 2.1
 # For a line of each kind, read, run and told.
 LINE_BARS = {"drop 0": 400, "set 0 0 0": 560, "new 0 0": 1400}
 
@@ -191,6 +193,17 @@ class Bench:
         name = "side_table_instructions_per_live_object_and_pair"
         self.figures.tell(name, more / visited, PAIR_BAR)
 
+    def prefinalizers(self):
+        """What a prefinalizer costs, with its line, in a collection in which all objects but one die."""
+        costs = []
+        for count in (self.count, 2 * self.count):
+            Script(self.folder, loads.prefinalizers_read(count)).check()
+            load = loads.prefinalizers(count)
+            costs.append(self.instructions(load.then(COLLECTION)) - self.instructions(load))
+        tell = self.figures.tell
+        tell("prefinalizers_instructions_per_line", costs[0] / (2 * self.count), PREFINALISED_BAR)
+        tell("prefinalizers_instructions_ratio", costs[1] / costs[0], PREFINALISED_RATIO_BAR)
+
     def sweeps(self):
         """What a sweep costs, with few objects to finalise and with many."""
         few, many = loads.live_objects(self.count), loads.dead_objects(self.count)
@@ -222,6 +235,7 @@ def main():
             bench.collections()
             bench.weak_fields()
             bench.pairs()
+            bench.prefinalizers()
             bench.sweeps()
     bench.figures.end()
 
