@@ -17,6 +17,7 @@ mod plain_words;
 mod prefinalizers;
 mod printing;
 mod ranges;
+mod registrations;
 mod reports;
 mod scripts;
 mod statuses;
