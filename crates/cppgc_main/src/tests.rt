@@ -25,8 +25,7 @@ mod text_devices;
 mod types;
 mod weakness;
 
-use super::callbacks::program_callbacks;
-use super::run::run;
+use super::callbacks::run_program;
 use super::status::Status;
 use heap_script::{ListSink, ListSource, NoMemory, read_whole};
 use std::alloc::Global;
@@ -81,15 +80,13 @@ fn try_on(
     let mut source = ListSource::new(script, devices.most, bad_reads);
     let mut sink = ListSink::new(alloc, devices.most, bad_writes);
     sink.reserve(devices.room)?;
-    let callbacks = program_callbacks(alloc)?;
-    let mut kept = None;
-    let status = run(alloc, &owned, &mut source, &mut sink, &callbacks, &mut kept);
+    let ran = run_program(alloc, &owned, &mut source, &mut sink)?;
     let left = read_whole(alloc, &mut source, 1000).ok();
     Ok(Trial {
-        status,
+        status: ran.status,
         sink,
         left,
-        is_kept: kept.is_some(),
+        is_kept: ran.is_kept,
     })
 }
 

@@ -4,8 +4,7 @@
 ghost use Rattle.std.specs.Prelude.{◌≤◌};
 
 use crate::adapters::{StdinSource, StdoutSink};
-use crate::callbacks::program_callbacks;
-use crate::run::run;
+use crate::callbacks::run_program;
 use crate::status::Status;
 use std::alloc::{AllocError, Global};
 use std::io;
@@ -105,18 +104,10 @@ fn run_over(alloc: Global, case: &Case, sink: &mut Drip) -> Status {
         bad: case.bad_read,
         calls: 0,
     });
-    let Ok(callbacks) = program_callbacks(alloc) else {
-        return Status::NoMemory;
-    };
-    let mut kept = None;
-    run(
-        alloc,
-        &[],
-        &mut source,
-        &mut StdoutSink::over(sink),
-        &callbacks,
-        &mut kept,
-    )
+    match run_program(alloc, &[], &mut source, &mut StdoutSink::over(sink)) {
+        Ok(ran) => ran.status,
+        Err(_) => Status::NoMemory,
+    }
 }
 
 fn expect(rt: &impl Abort, alloc: Global, case: &Case) -> Result<(), AllocError> {

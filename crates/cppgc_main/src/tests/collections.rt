@@ -1,11 +1,7 @@
 // Long chains and rings, and a heap that is full.
 
-use super::{Scripted, try_script};
-use crate::callbacks::program_callbacks;
-use crate::run::run_bytes;
+use super::{Scripted, try_script, try_small};
 use crate::status::Status;
-use heap_engine::Config;
-use heap_script::ListSink;
 use std::alloc::{AllocError, Global};
 use std::fmt::Write;
 use std::test::Fail;
@@ -59,11 +55,6 @@ fn ring_that_nothing_names_dies(rt: HostRuntime) -> Result<(), Fail> {
 }
 
 // A page of 256 words holds 85 objects of three words each.
-const SMALL: Config = Config {
-    pages: 1,
-    page_words: 256,
-};
-
 fn overfull(alloc: Global) -> Result<Scripted, AllocError> {
     let mut script = String::from_str(alloc, "oilpan 1\ntype S\n")?;
     let mut report = String::from_str(alloc, "type 0\n")?;
@@ -85,19 +76,8 @@ fn overfull(alloc: Global) -> Result<Scripted, AllocError> {
 fn full_heap_answers_full_until_it_is_swept(rt: HostRuntime) -> Result<(), Fail> {
     let alloc = rt.alloc();
     let Scripted { script, report } = overfull(alloc)?;
-    let mut sink = ListSink::new(alloc, 1_000_000, Vec::new(alloc));
-    sink.reserve(1_000_000)?;
-    let callbacks = program_callbacks(alloc)?;
-    let mut kept = None;
-    let status = run_bytes(
-        alloc,
-        SMALL,
-        script.as_bytes(),
-        &mut sink,
-        &callbacks,
-        &mut kept,
-    );
-    assert_eq!(rt; status, Status::Done);
-    assert!(rt; sink.bytes() == report.as_bytes());
+    let trial = try_small(alloc, "1", script.as_bytes())?;
+    assert_eq!(rt; trial.status, Status::Done);
+    assert!(rt; trial.sink.bytes() == report.as_bytes());
     Ok(())
 }
