@@ -13,7 +13,7 @@ use std::sync::atomic::{AtomicU64, Ordering};
 use std::test::Fail;
 
 // A name, the script and its report, on four pages.
-const CASES: [(&str, &[u8], &[u8]); 16] = [
+const CASES: [(&str, &[u8], &[u8]); 18] = [
     (
         "the last that was registered runs first",
         b"oilpan 1\ntype S pre 0 1\nnew 0 0\nnew 1 0\ndrop 0\ndrop 1\ngc now precise\nsweep all\n",
@@ -80,6 +80,25 @@ node 3 at 6\nok\nnode 4 at 9\nnode 5 at 12\nok\nok\nok\nok\n\
 pause kept 2 dead 4 crew 0 traced 2 walked 0\nprefinalise 5 2\nprefinalise 4 2\nprefinalise 3 2\n\
 prefinalise 2 2\nnode 0\nnull\nfinalise 2\nfinalise 3\nfinalise 4\nfinalise 5\nswept to 4\n\
 end objects 2 used 7 pages 2\n",
+    ),
+    (
+        "a weak field and a pair are not added to, and a missing field is not cleared",
+        b"oilpan 1\ntype S pre 2\ntype SW\ntype SE\ntype S pre 1\ntype -\nnew 0 1\nnew 1 2\n\
+new 2 4\nset 0 1 1\npair 1 1 0 2\nnew 3 0\nset 3 0 0\nnew 4 0\nset 4 0 1\nnew 5 3\nset 5 0 2\n\
+drop 3\ndrop 4\ndrop 5\ngc now precise\nget 0 1 6\nkey 1 1 7\nval 1 1 8\nsweep all\n",
+        b"type 0\ntype 1\ntype 2\ntype 3\ntype 4\nnode 0 at 0\nnode 1 at 4\nnode 2 at 256\nok\nok\n\
+node 3 at 258\nok\nnode 4 at 261\nok\nnode 5 at 264\nok\nok\nok\nok\n\
+pause kept 3 dead 3 crew 0 traced 3 walked 0\nprefinalise 5 1\nprefinalise 4 2\nprefinalise 3 2\n\
+node 1\nnode 0\nnode 2\nfinalise 3\nfinalise 4\nfinalise 5\nswept to 4\n\
+end objects 3 used 11 pages 2\n",
+    ),
+    (
+        "an own word that is not there counts as null",
+        b"oilpan 1\ntype S pre 3 4\ntype SP\nnew 0 1\nset 0 0 0\nput 0 1 4\nnew 1 0\nset 1 0 0\n\
+drop 1\ngc now precise\nword 0 1\nget 0 0 2\nsweep all\n",
+        b"type 0\ntype 1\nnode 0 at 0\nok\nok\nnode 1 at 256\nok\nok\n\
+pause kept 1 dead 1 crew 0 traced 1 walked 0\nprefinalise 1 4\nprefinalise 1 3\nword 4\nnode 0\n\
+finalise 1\nswept to 4\nend objects 1 used 4 pages 1\n",
     ),
     (
         "an own plain word is shown as it is",
