@@ -66,5 +66,6 @@ empty_space shape count table gaps whole zeros knows = record {
   free = omega (arith, all_free count);
   held = λ page within. ap (λ xs. get_or xs page 0) zeros ∙ get_or-replicate shape.pages page 0 0 within;
   buckets = λ page e there _. absurd (omega (arith, there.1));
+  starts = λ page e there _. absurd (omega (arith, there.1));
   gaps = knows;
 }

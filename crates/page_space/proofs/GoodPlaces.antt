@@ -5,10 +5,10 @@ use Rattle.std.proofs.lemmas.Bool.{cases_lt}
 use Rattle.std.proofs.Math.Nat.{mul-le-mul_right, add-mul}
 use Rattle.gc_graph.specs.State.{Shape}
 use Rattle.gc_graph.specs.Placement.{Extent, HasWord, IsTaken, IsEmptyPage, Fits, StartsEmptyRun, bucket_of}
-use Rattle.page_space.specs.Pages.{is_in_page, word_count}
+use Rattle.page_space.specs.Pages.{first_page, is_in_page, word_count}
 use Rattle.page_space.specs.Space.{SpaceView, IsSpaceOver, IsPlacedWell, IsFreePlace}
 use Rattle.page_space.proofs.PageSpan.{next_page, page_before, same_page, page_of, page_is, in_page_from, in_page_word}
-use Rattle.page_space.proofs.PlaceFound.{small_bucket}
+use Rattle.page_space.proofs.PlaceFound.{small_bucket, large_bucket}
 
 pub record IsGoodPlace (shape : Shape) (extents : List Extent) (e : Extent) : Type 0 where
   pub inside : e.place + e.size ≤ word_count shape
@@ -23,6 +23,23 @@ HasSizes extents = (e : Extent) → Contains extents e → 0 < e.size
 
 pub sizes_of : (space : SpaceView) (count : ℕ) (extents : List Extent) → IsSpaceOver space count extents → HasSizes extents
 sizes_of space count extents over e there = (let size : 2 ≤ e.size = over.sizes e there in omega arith)
+
+-- an object that isn't large starts in each page in which it has a word
+pub starts_in_page : (shape : Shape) (e : Extent) (page : ℕ) → 0 < shape.page_words → 0 < e.size → IsPlacedWell shape e
+    → (bucket_of shape.page_words e.size ≡ 4 → ⊥) → is_in_page shape.page_words page e ≡ true → first_page shape.page_words e ≡ page
+starts_in_page shape e page words some well small e_in =
+    let w : ℕ = shape.page_words in
+    elim well [
+      | inl lies ↦
+          (let word : (x : ℕ) × HasWord e x × (page * w ≤ x) × (x < (page + 1) * w) = in_page_word w page e words some e_in in
+          let low : lies.1.page * w ≤ e.place = lies.1.first in
+          let high : e.place + e.size ≤ (lies.1.page + 1) * w = lies.1.last in
+          let from : e.place ≤ word.0 = word.1.0 in
+          let to : word.0 < e.place + e.size = word.1.1 in
+          let same : lies.1.page ≡ page = same_page w lies.1.page page word.0 (omega arith) (omega arith) word.2 word.3 in
+          page_is w lies.1.page e.place words low (omega arith) ∙ same)
+      | inr takes ↦ absurd (small (large_bucket w e.size takes.0))
+    ]
 
 good_fit : (space : SpaceView) (count : ℕ) (extents : List Extent) (e : Extent) → 0 < space.shape.page_words → 0 < e.size
     → IsSpaceOver space count extents → Fits space.shape space.shape.pages extents e.size e.place → IsGoodPlace space.shape extents e

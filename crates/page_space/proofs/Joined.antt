@@ -7,17 +7,18 @@ use Rattle.std.proofs.lemmas.List.Elements.{Contains-push, Contains-append_left,
 use Rattle.std.proofs.lemmas.List.Sums.{sum_by_push}
 use Rattle.gc_graph.specs.State.{Shape}
 use Rattle.gc_graph.specs.Placement.{Extent, HasWord, IsTaken, bucket_of}
-use Rattle.page_space.specs.Pages.{PageTable, is_in_page, free_words}
+use Rattle.page_space.specs.Pages.{PageTable, first_page, is_in_page, free_words}
 use Rattle.page_space.specs.Gaps.{GapTable, KnowsGaps}
 use Rattle.page_space.specs.Space.{SpaceView, IsSpaceOver, IsPlacedWell}
 use Rattle.page_space.proofs.FreeWords.{TakesMore, free_differs}
 use Rattle.page_space.proofs.Extents.{any_from_taken, any_none, any_same, differ_push}
-use Rattle.page_space.proofs.GoodPlaces.{IsGoodPlace}
+use Rattle.page_space.proofs.GoodPlaces.{IsGoodPlace, sizes_of, starts_in_page}
 
 -- the table counts the object in each of its pages
 pub record Enters (w : ℕ) (e : Extent) (old new : PageTable) : Type 0 where
   pub objects : (page : ℕ) → get_or new.objects page 0 ≡ get_or old.objects page 0 + cond (is_in_page w page e) 1 0
   pub buckets : (page : ℕ) → get_or new.buckets page 0 ≡ cond (is_in_page w page e) (bucket_of w e.size) (get_or old.buckets page 0)
+  pub starts : (page : ℕ) → get_or new.starts page 0 ≡ cond (is_in_page w page e) (first_page w e) (get_or old.starts page 0)
 
 pub one_more : (f : Extent → Bool) (es : List Extent) (e : Extent) → count_by f (es ++ e ∷ []) ≡ count_by f es + cond (f e) 1 0
 one_more f es e = sum_by_push (λ d. cond (f d) 1 0) es e
@@ -100,10 +101,34 @@ buckets_push space count es e table over good enters page d there d_in =
           ∙ ap (λ (f : Extent). bucket_of w f.size) new
     ]
 
-pub joined : (space : SpaceView) (count : ℕ) (es : List Extent) (e : Extent) (table : PageTable) (gaps : GapTable) → IsSpaceOver space count es → 2 ≤ e.size
+-- the table tells where the objects of each page start, those of the new object's pages with them
+starts_push : (space : SpaceView) (count : ℕ) (es : List Extent) (e : Extent) (table : PageTable) → 0 < space.shape.page_words
+    → IsSpaceOver space count es → 2 ≤ e.size → IsGoodPlace space.shape es e → Enters space.shape.page_words e space.table table
+    → (page : ℕ) (d : Extent) → Contains (es ++ e ∷ []) d → is_in_page space.shape.page_words page d ≡ true
+    → get_or table.starts page 0 ≡ first_page space.shape.page_words d
+starts_push space count es e table words over some good enters page d there d_in =
+    let w : ℕ = space.shape.page_words in
+    elim (Contains-push_cases es e d there) [
+      | inl old ↦ elim (cases_Bool (is_in_page w page e)) [
+        | inl e_in ↦
+            (let both = good.shared page d old d_in e_in in
+            let d_starts : first_page w d ≡ page =
+            starts_in_page space.shape d page words (sizes_of space count es over d old) (over.placed d old) (λ large. both.1 (sym both.0 ∙ large)) d_in in
+            let e_starts : first_page w e ≡ page = starts_in_page space.shape e page words (omega arith) good.well both.1 e_in in
+            enters.starts page ∙ ap (λ t. cond t (first_page w e) (get_or space.table.starts page 0)) e_in ∙ e_starts ∙ sym d_starts)
+        | inr e_out ↦
+            enters.starts page ∙ ap (λ t. cond t (first_page w e) (get_or space.table.starts page 0)) e_out
+            ∙ over.starts page d old d_in
+      ]
+      | inr new ↦
+          enters.starts page ∙ ap (λ t. cond t (first_page w e) (get_or space.table.starts page 0)) (ap (is_in_page w page) new ∙ d_in)
+          ∙ ap (first_page w) new
+    ]
+
+pub joined : (space : SpaceView) (count : ℕ) (es : List Extent) (e : Extent) (table : PageTable) (gaps : GapTable) → 0 < space.shape.page_words → IsSpaceOver space count es → 2 ≤ e.size
     → IsGoodPlace space.shape es e → Enters space.shape.page_words e space.table table → KnowsGaps space.shape (es ++ e ∷ []) gaps
     → IsSpaceOver (record { shape = space.shape; objects = space.objects + 1; used = space.used + e.size; table = table; gaps = gaps }) count (es ++ e ∷ [])
-joined space count es e table gaps over some good enters knows =
+joined space count es e table gaps words over some good enters knows =
     let w : ℕ = space.shape.page_words in
     record {
       seat = over.seat;
@@ -131,5 +156,6 @@ joined space count es e table gaps over some good enters knows =
           omega arith);
       held = λ page within. enters.objects page ∙ ap (λ n. n + cond (is_in_page w page e) 1 0) (over.held page within) ∙ sym (one_more (is_in_page w page) es e);
       buckets = buckets_push space count es e table over good enters;
+      starts = starts_push space count es e table words over some good enters;
       gaps = knows;
     }

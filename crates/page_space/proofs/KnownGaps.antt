@@ -47,6 +47,7 @@ with_gaps space count es gaps over knows = record {
   free = over.free;
   held = over.held;
   buckets = over.buckets;
+  starts = over.starts;
   gaps = knows;
 }
 

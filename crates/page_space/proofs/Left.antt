@@ -13,6 +13,7 @@ use Rattle.page_space.proofs.Extents.{any_from_taken, any_none, any_same, others
 pub record Leaves (w : ℕ) (e : Extent) (old new : PageTable) : Type 0 where
   pub objects : (page : ℕ) → get_or old.objects page 0 ≡ get_or new.objects page 0 + cond (is_in_page w page e) 1 0
   pub buckets : new.buckets ≡ old.buckets
+  pub starts : new.starts ≡ old.starts
 
 -- objects with a common word are one
 abbrev pub LieApart : List Extent → Type 0
@@ -72,5 +73,6 @@ left space count es e table gaps some over apart there inside leaves forgets =
           one_less (λ d. cond (is_in_page w page d) 1 0) es e e.place over.differ there refl in
           omega (arith, leaves.objects page, over.held page within);
       buckets = λ page d d_there d_in. ap (λ bs. get_or bs page 0) leaves.buckets ∙ over.buckets page d (from d d_there) d_in;
+      starts = λ page d d_there d_in. ap (λ ps. get_or ps page 0) leaves.starts ∙ over.starts page d (from d d_there) d_in;
       gaps = knows_left space.shape es e space.gaps gaps some over.gaps one forgets;
     }

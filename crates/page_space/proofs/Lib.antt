@@ -1,3 +1,4 @@
+mod OnlyStarts
 mod GapSearch
 mod KnownGaps
 mod WalkSteps

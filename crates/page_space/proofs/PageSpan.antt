@@ -60,6 +60,15 @@ page_is w page a some first last =
     let own : (a / w * w ≤ a) × (a < (a / w + 1) * w) = page_of w a some in
     same_page w (a / w) page a own.0 own.1 first last
 
+-- the page of an address within the first so many pages
+pub page_inside : (w pages a : ℕ) → 0 < w → a < pages * w → a / w < pages
+page_inside w pages a some inside =
+    let own : (a / w * w ≤ a) × (a < (a / w + 1) * w) = page_of w a some in
+    elim (cases_lt (a / w) pages) [
+      | inl below ↦ below
+      | inr past ↦ absurd (omega (arith, mul-le-mul_right w past))
+    ]
+
 -- an object with a word in the page
 pub in_page_from : (w page : ℕ) (e : Extent) (a : ℕ) → 0 < w → HasWord e a → page * w ≤ a → a < (page + 1) * w → is_in_page w page e ≡ true
 in_page_from w page e a some covers first last =

@@ -35,15 +35,15 @@ counts_more old mid new first page within low so_far is q =
           there ∙ so_far q ∙ ap (λ t. get_or old q 0 + one_if t) (sym (between_more first page q other)))
     ]
 
-pub buckets_more : (old mid new : List ℕ) (first page bucket : ℕ) → page < length mid → first ≤ page
-    → ((q : ℕ) → get_or mid q 0 ≡ cond (is_between first page q) bucket (get_or old q 0)) → new ≡ set mid page bucket
-    → (q : ℕ) → get_or new q 0 ≡ cond (is_between first (page + 1) q) bucket (get_or old q 0)
-buckets_more old mid new first page bucket within low so_far is q =
+pub values_more : (old mid new : List ℕ) (first page value : ℕ) → page < length mid → first ≤ page
+    → ((q : ℕ) → get_or mid q 0 ≡ cond (is_between first page q) value (get_or old q 0)) → new ≡ set mid page value
+    → (q : ℕ) → get_or new q 0 ≡ cond (is_between first (page + 1) q) value (get_or old q 0)
+values_more old mid new first page value within low so_far is q =
     elim (cases_eq q page) [
       | inl same ↦
-          (let here : get_or new q 0 ≡ bucket = ap (λ xs. get_or xs q 0) is ∙ ap (λ k. get_or (set mid page bucket) k 0) same ∙ get_or-set_same mid page bucket 0 within in
-          here ∙ sym (ap (λ t. cond t bucket (get_or old q 0)) (between_from first (page + 1) q (omega arith) (omega arith))))
+          (let here : get_or new q 0 ≡ value = ap (λ xs. get_or xs q 0) is ∙ ap (λ k. get_or (set mid page value) k 0) same ∙ get_or-set_same mid page value 0 within in
+          here ∙ sym (ap (λ t. cond t value (get_or old q 0)) (between_from first (page + 1) q (omega arith) (omega arith))))
       | inr other ↦
-          (let there : get_or new q 0 ≡ get_or mid q 0 = ap (λ xs. get_or xs q 0) is ∙ get_or-set_other mid page q bucket 0 other in
-          there ∙ so_far q ∙ ap (λ t. cond t bucket (get_or old q 0)) (sym (between_more first page q other)))
+          (let there : get_or new q 0 ≡ get_or mid q 0 = ap (λ xs. get_or xs q 0) is ∙ get_or-set_other mid page q value 0 other in
+          there ∙ so_far q ∙ ap (λ t. cond t value (get_or old q 0)) (sym (between_more first page q other)))
     ]

@@ -20,10 +20,11 @@ page_after page_words e = (e.place + e.size - 1) / page_words + 1
 abbrev pub is_in_page : ℕ → ℕ → Extent → Bool
 is_in_page page_words page e = is_between (first_page page_words e) (page_after page_words e) page
 
--- for each page, how many objects have a word in it, and the bucket of these
+-- for each page, how many objects have a word in it, the bucket of these, and the page in which they start
 pub record PageTable : Type 0 where
   pub objects : List ℕ
   pub buckets : List ℕ
+  pub starts : List ℕ
 
 -- how many pages some object has a word in
 abbrev pub count_in_use : List ℕ → ℕ

@@ -6,7 +6,7 @@ use Rattle.gc_graph.specs.PlacementLaw.{LiesInPage, TakesPages}
 use Rattle.object_headers.specs.declared.header.Header.{Header}
 use Rattle.page_words.specs.Bodies.{Body, end_of, IsPlace}
 use Rattle.page_words.specs.Seat.{SeatView, holds}
-use Rattle.page_space.specs.Pages.{PageTable, word_count, is_in_page, free_words}
+use Rattle.page_space.specs.Pages.{PageTable, word_count, first_page, is_in_page, free_words}
 use Rattle.page_space.specs.Gaps.{GapTable, KnowsGaps}
 
 -- what a space keeps beside the words: its shape, how many objects it has and how many words these, its table, and what
@@ -67,6 +67,9 @@ pub record IsSpaceOver (space : SpaceView) (count : ℕ) (extents : List Extent)
   pub buckets :
       (page : ℕ) (e : Extent) → Contains extents e → is_in_page space.shape.page_words page e ≡ true
       → slice_index space.table.buckets page ≡ bucket_of space.shape.page_words e.size
+  pub starts :
+      (page : ℕ) (e : Extent) → Contains extents e → is_in_page space.shape.page_words page e ≡ true
+      → slice_index space.table.starts page ≡ first_page space.shape.page_words e
   pub gaps : KnowsGaps space.shape extents space.gaps
 
 -- the space belongs to the words of the seat
@@ -94,6 +97,14 @@ IsPlaceFrom bodies from a = (from ≤ a) × IsPlace bodies a
 -- no object starts from low up to high
 abbrev pub HasNoStart : List Body → ℕ → ℕ → Type 0
 HasNoStart bodies low high = (a : ℕ) → low ≤ a → a < high → IsPlace bodies a → ⊥
+
+-- the body at a has the word at the address
+abbrev pub HoldsAddress : List Body → ℕ → ℕ → Type 0
+HoldsAddress bodies address a = (b : Body) × Contains bodies b × (b.place ≡ a) × (a ≤ address) × (address < end_of b)
+
+-- the highest start from low up to, and without, high
+abbrev pub IsLastStart : List Body → ℕ → ℕ → ℕ → Type 0
+IsLastStart bodies low high a = IsPlace bodies a × (low ≤ a) × (a < high) × HasNoStart bodies (a + 1) high
 
 -- each body with a word in the page lies in the page
 abbrev pub HoldsWhole : Shape → List Body → ℕ → Type 0

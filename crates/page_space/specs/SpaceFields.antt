@@ -18,5 +18,6 @@ pub record IsSpace (s : Inside) : Type 0 where
   pub words : s.words ≡ word_count (shape_of s)
   pub objects : length s.table.objects ≡ s.pages
   pub buckets : length s.table.buckets ≡ s.pages
+  pub starts : length s.table.starts ≡ s.pages
   pub gaps : length s.gaps.pages ≡ s.pages
   pub blocks : HasBlocks s.gaps.pages (s.page_words / block_words)

@@ -4,13 +4,13 @@
 //! large one has pages of its own. New objects are placed here, and dead ones taken away.
 //!
 //! The parts: `Space` with `new`, `find` and `find_empty` (where a new object goes), `occupy` and
-//! `free` (an object that comes or goes), `next_object`, `page_bucket` and the readers of one
-//! object, and `objects`, `used` and `pages_in_use`, which are kept as counts; `survey`, which
-//! looks at a page again after a sweep. Inside, a table tells of each page how many objects have
-//! a word in it, and their bucket, and `gaps` remembers where a search is worth its time: bounds
-//! for the gaps that begin in each block of 64 words of a page (`tree`), the lowest word that may
-//! be free, and for each size the lowest page worth a look. `walking` goes from object to object,
-//! `surveying` works the bounds out, `passing` the lowest page. The next level down is `page_words`.
+//! `free` (an object that comes or goes), `next_object`, `start_of` (whose word an address is),
+//! `page_bucket` and the readers of one object, and the counts `objects`, `used`, `pages_in_use`;
+//! `survey`, which looks at a page again after a sweep. Inside, a table tells of each page how many
+//! objects have a word in it, their bucket and where they start, and `gaps` where a search is worth
+//! its time: bounds for the gaps that begin in each block of 64 words of a page (`tree`), the least
+//! word that may be free, and for each size the first page worth a look. `walking` goes from object
+//! to object, `surveying` works out bounds, `passing` the first page. Below is `page_words`.
 //!
 //! | size in words | bucket |
 //! |---|---|
@@ -23,7 +23,8 @@
 //! What is proved: `find` and `find_empty` answer the lowest place, and none exactly where there
 //! is none. `occupy` publishes an object whose fields are null, and `free` takes one away. After
 //! each of them small objects lie in one page, large ones share none, and the counts are right.
-//! No gap is longer than what is remembered says, so no answer depends on it.
+//! No gap is longer than what is remembered says, so no answer depends on it. `start_of` answers
+//! the object that has the word, an inner one too, and none exactly where none has it.
 //!
 //! What is only tested or not said: that `Space::new` succeeds where there is memory is tested.
 //! How long a search takes is not said; `bench` measures it.
@@ -31,6 +32,7 @@
 
 mod changing;
 mod gaps;
+mod holding;
 mod passing;
 mod placing;
 mod reading;

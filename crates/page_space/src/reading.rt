@@ -7,6 +7,7 @@ ghost use Rattle.page_words.specs.Bodies.{Body, IsPlace};
 ghost use Rattle.page_words.specs.Seat.{block_words};
 ghost use Rattle.page_space.specs.Pages.{word_count};
 ghost use Rattle.page_space.specs.Space.{IsSeatOf, IsPlaceFrom, HasNoStart, header_in};
+ghost use Rattle.page_space.specs.Space.{IsLastStart};
 
 use crate::space::Space;
 use object_headers::{Header, SERIAL};
@@ -63,8 +64,8 @@ impl Space {
     pub(crate) fn last_start(&self, seat: &mut MutatorSeat, first: u32, end: u32) -> Option<u32>
         requires heap { IsSeatOf self.now seat.old }
         requires end { block_words * end ≤ word_count self.now.shape }
-        ensures found { IfSome result (λ p. IsPlace seat.old.bodies p × (block_words * first ≤ p)
-            × (p < block_words * end) × HasNoStart seat.old.bodies (p + 1) (block_words * end)) }
+        ensures found { IfSome result
+            (IsLastStart seat.old.bodies (block_words * first) (block_words * end)) }
         ensures none { IfNone result
             (HasNoStart seat.old.bodies (block_words * first) (block_words * end)) }
         ensures view { seat.new ≡ seat.old }

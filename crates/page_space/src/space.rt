@@ -16,6 +16,9 @@ use std::alloc::Global;
 use std::marker::Model;
 use type_table::TypeTable;
 
+/// The bucket of large objects.
+pub(crate) const LARGE: u32 = 4;
+
 /// The pages of a heap over its words, which belong to the mutator's thread. Addresses and sizes
 /// are in words. See "Heap partitioning" in `include/cppgc/README.md`.
 #[derive(Drop)]
@@ -172,7 +175,7 @@ pub fn bucket_of(page_words: u32, size: u32) -> u32
     ensures { result ≡ bucket_of page_words size }
 {
     match size {
-        large if large > page_words / 2 => 4,
+        large if large > page_words / 2 => LARGE,
         16.. => 3,
         8.. => 2,
         4.. => 1,

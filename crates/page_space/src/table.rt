@@ -1,4 +1,5 @@
-// What is known of each page: how many objects have a word in it, and their bucket.
+// What is known of each page: how many objects have a word in it, their bucket, and the page in
+// which they start.
 
 ghost use Rattle.std.specs.Prelude.{◌≡◌, ℕ, ◌+◌, ◌-◌, ◌^◌, ◌<◌, ◌≤◌, true};
 ghost use Rattle.std.specs.Prelude.{IfOk, if◌then◌else◌, length, slice_index, slice_set, replicate};
@@ -8,11 +9,13 @@ use gc_graph::NoMemory;
 use std::alloc::Global;
 use std::marker::Model;
 
-/// For each page, how many objects have a word in it, and the bucket of these.
+/// For each page, how many objects have a word in it, the bucket of these, and the page in which
+/// they start: another one where a large object runs on.
 #[derive(Drop)]
 pub struct Table {
     objects: Vec<u32>,
     buckets: Vec<u32>,
+    starts: Vec<u32>,
     in_use: u32,
 }
 
@@ -23,7 +26,11 @@ impl Model for Table {
 
     ghost use Rattle.page_space.specs.TableFields.{IsTable};
 
-    ghost view = { λ t. record { objects = t.objects.items; buckets = t.buckets.items } };
+    ghost view = { λ t. record {
+      objects = t.objects.items;
+      buckets = t.buckets.items;
+      starts = t.starts.items;
+    } };
 
     ghost invariant = { IsTable };
 }
@@ -34,12 +41,15 @@ impl Table {
         requires { pages ≤ 1024 }
         ensures objects { IfOk result (λ t. t.objects ≡ replicate pages 0) }
         ensures buckets { IfOk result (λ t. t.buckets ≡ replicate pages 0) }
+        ensures starts { IfOk result (λ t. t.starts ≡ replicate pages 0) }
     {
         let objects = vec![in alloc; 0u32; pages as usize]?;
         let buckets = vec![in alloc; 0u32; pages as usize]?;
+        let starts = vec![in alloc; 0u32; pages as usize]?;
         Ok(Table {
             objects,
             buckets,
+            starts,
             in_use: 0,
         })
     }
@@ -67,21 +77,33 @@ impl Table {
         self.buckets[page as usize]
     }
 
+    /// The page in which the objects with a word in the page start, if there are such.
+    pub fn start_of_page(&self, page: u32) -> u32
+        requires page { page < length self.now.objects }
+        ensures { result ≡ slice_index self.now.starts page }
+    {
+        self.starts[page as usize]
+    }
+
     /// Counts an object of the bucket in the pages from `first` up to `end`.
     pub fn enter(&mut self, first: u32, end: u32, bucket: u32)
         requires order { first ≤ end }
         requires end { end ≤ length self.old.objects }
         requires buckets { end ≤ length self.old.buckets }
+        requires starts { end ≤ length self.old.starts }
         requires room { (page : ℕ) → slice_index self.old.objects page < 2 ^ 32 - 1 }
         ensures size { length self.new.objects ≡ length self.old.objects }
         ensures sizes { length self.new.buckets ≡ length self.old.buckets }
+        ensures rows { length self.new.starts ≡ length self.old.starts }
         ensures objects { (page : ℕ) → slice_index self.new.objects page
             ≡ slice_index self.old.objects page + (if is_between first end page then 1 else 0) }
         ensures buckets { (page : ℕ) → slice_index self.new.buckets page
             ≡ (if is_between first end page then bucket else slice_index self.old.buckets page) }
+        ensures starts { (page : ℕ) → slice_index self.new.starts page
+            ≡ (if is_between first end page then first else slice_index self.old.starts page) }
     {
         for page in first..end {
-            self.enter_page(page, bucket);
+            self.enter_page(page, bucket, first);
         }
     }
 
@@ -95,18 +117,20 @@ impl Table {
         ensures objects { (page : ℕ) → slice_index self.old.objects page
             ≡ slice_index self.new.objects page + (if is_between first end page then 1 else 0) }
         ensures buckets { self.new.buckets ≡ self.old.buckets }
+        ensures starts { self.new.starts ≡ self.old.starts }
     {
         for page in first..end {
             self.leave_page(page);
         }
     }
 
-    fn enter_page(&mut self, page: u32, bucket: u32)
+    fn enter_page(&mut self, page: u32, bucket: u32, first: u32)
         requires page { page < length self.old.objects }
         requires room { slice_index self.old.objects page < 2 ^ 32 - 1 }
         ensures objects { self.new.objects
             ≡ slice_set self.old.objects page (slice_index self.old.objects page + 1) }
         ensures buckets { self.new.buckets ≡ slice_set self.old.buckets page bucket }
+        ensures starts { self.new.starts ≡ slice_set self.old.starts page first }
     {
         let at = page as usize;
         let before = self.objects[at];
@@ -115,6 +139,7 @@ impl Table {
         }
         self.objects[at] = before + 1;
         self.buckets[at] = bucket;
+        self.starts[at] = first;
     }
 
     fn leave_page(&mut self, page: u32)
@@ -123,6 +148,7 @@ impl Table {
         ensures objects { self.new.objects
             ≡ slice_set self.old.objects page (slice_index self.old.objects page - 1) }
         ensures buckets { self.new.buckets ≡ self.old.buckets }
+        ensures starts { self.new.starts ≡ self.old.starts }
     {
         let at = page as usize;
         let after = self.objects[at] - 1;

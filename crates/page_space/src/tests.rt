@@ -5,6 +5,7 @@ ghost use Rattle.page_words.specs.Seat.{IsQuiet};
 
 mod aged;
 mod histories;
+mod holding;
 mod plain;
 
 use crate::space::Space;

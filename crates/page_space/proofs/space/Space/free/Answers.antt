@@ -71,7 +71,7 @@ returns-clause-space c =
     c.args.seat.now.count (filter (others c.args.a) es) =
     left space c.args.seat.now.count es e c.leave.new.self c.forget.new.self (omega (arith, (shape_words space.shape c.self.invariant.shape).0)) over (seat_apart c.args.seat.now c.bodies_lie_apart.ensures) there
     (omega (arith, c.header_at-size.ensures.inside, c.requires.space.seat))
-    (record { objects = c.leave.ensures.objects; buckets = c.leave.ensures.buckets })
+    (record { objects = c.leave.ensures.objects; buckets = c.leave.ensures.buckets; starts = c.leave.ensures.starts })
     (record {
       pages = c.forget.ensures.pages;
       low = c.forget.ensures.low;

@@ -20,6 +20,7 @@ invariant_of-space c = record {
   words = c.in_ok-words.ensures.words;
   objects = ap length c.in_ok-table.ensures.objects ∙ length-replicate {A = ℕ} c.args.pages 0;
   buckets = ap length c.in_ok-table.ensures.buckets ∙ length-replicate {A = ℕ} c.args.pages 0;
+  starts = ap length c.in_ok-table.ensures.starts ∙ length-replicate {A = ℕ} c.args.pages 0;
   gaps = c.in_ok-gaps.ensures.pages;
   blocks = λ page within.
       c.in_ok-gaps.ensures.blocks page within ∙ (let e : 2 ^ c.depth_of.result ≡ c.args.page_words / 64 = omega (arith, c.depth_of.ensures.depth) in e);

@@ -66,12 +66,13 @@ returns-clause-space c =
     let now : IsSpaceOver
     (record { shape = space.shape; objects = space.objects + 1; used = space.used + c.args.size; table = c.enter.new.self; gaps = c.lower_where_empty.new.gaps })
     c.args.seat.now.count (es ++ e ∷ []) =
-    joined space c.args.seat.now.count es e c.enter.new.self c.lower_where_empty.new.gaps over c.requires.least good
+    joined space c.args.seat.now.count es e c.enter.new.self c.lower_where_empty.new.gaps (omega (arith, words.0)) over c.requires.least good
     (record {
       objects = c.enter.ensures.objects;
       buckets = λ page.
           c.enter.ensures.buckets page
           ∙ ap (λ k. cond (is_in_page space.shape.page_words page e) k (get_or space.table.buckets page 0)) c.bucket_of-bucket.ensures;
+      starts = c.enter.ensures.starts;
     })
     (knows_joined space c.args.seat.now.count es e c.lower_where_empty.new.gaps words.0 c.requires.least over good (record {
       pages = c.lower_where_empty.ensures.pages;

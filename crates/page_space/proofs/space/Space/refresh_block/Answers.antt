@@ -39,6 +39,7 @@ invariant_of-self c = record {
   words = c.self.invariant.words;
   objects = c.self.invariant.objects;
   buckets = c.self.invariant.buckets;
+  starts = c.self.invariant.starts;
   gaps = c.set_bound.ensures.pages ∙ c.self.invariant.gaps;
   blocks = blocks_kept c.args.self.now.gaps c.set_bound.new.self c.args.page c.args.k c.tightened-bound.result (c.self.inside.page_words / 64) (sets c)
       (c.set_bound.ensures.pages ∙ ap (λ s. length s.gaps.pages) c.self.view_is)

@@ -7,4 +7,5 @@ invariant-loop-page l = record {
   size : length l.self.objects ≡ length l.fn.self.objects;
   objects : (page : ℕ) → get_or l.fn.self.objects page 0 ≡ get_or l.self.objects page 0 + cond (is_between l.first l.page page) 1 0;
   buckets : l.self.buckets ≡ l.fn.self.buckets;
+  starts : l.self.starts ≡ l.fn.self.starts;
 }
