@@ -14,7 +14,7 @@ abbrev pub is_precise : Want → Bool
 is_precise Precise = true
 is_precise Conservative = false
 
--- objects, their fields, slots, whole collections and totals
+-- objects, their fields, slots, the stack, whole collections that don't look at it, and totals
 abbrev pub is_built : Command → Bool
 is_built (C.New p t e) = true
 is_built (C.Set p f q) = true
@@ -30,13 +30,13 @@ is_built (C.Copy p q) = true
 is_built (C.Drop p) = true
 is_built (C.Weak w p) = true
 is_built (C.Read w p) = true
+is_built (C.Push p o) = true
+is_built (C.PushPlain n) = true
+is_built C.Pop = true
+is_built (C.Peek i q) = true
 is_built (C.GcNow want) = is_precise want
 is_built C.SweepAll = true
 is_built C.Stat = true
-is_built (C.Push p o) = false
-is_built (C.PushPlain n) = false
-is_built C.Pop = false
-is_built (C.Peek i q) = false
 is_built C.GcStart = false
 is_built (C.GcStep n) = false
 is_built (C.GcFinish want) = false

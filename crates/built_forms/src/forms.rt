@@ -24,6 +24,10 @@ pub fn is_built(command: &Command) -> bool
         | Command::Drop { .. }
         | Command::Weak { .. }
         | Command::Read { .. }
+        | Command::Push { .. }
+        | Command::PushPlain { .. }
+        | Command::Pop
+        | Command::Peek { .. }
         | Command::SweepAll
         | Command::Stat => true,
         Command::GcNow { want } => matches!(want, Want::Precise),

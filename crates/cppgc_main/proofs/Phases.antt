@@ -15,13 +15,15 @@ use Rattle.gc_graph.specs.declared.region.Entry.{Entry}
 use Rattle.gc_graph.specs.declared.kind.Kind.{Kind}
 use Rattle.gc_graph.specs.declared.kind.Value.{Value}
 use Rattle.gc_graph.specs.declared.kind.Value.TheVariants.{Null, Ref, Word}
-use Rattle.gc_graph.specs.State.{Setup, State, node_at}
+use Rattle.gc_graph.specs.State.{Setup, State, StackWord, node_at, size_of}
+use Rattle.gc_graph.specs.State.StackWord.{Pointer, Number}
 use Rattle.gc_graph.specs.Fields.{field_count, kind_of_field, is_reference, is_pair, is_plain}
 use Rattle.gc_graph.specs.May.{read_node}
 use Rattle.gc_graph.specs.Outcomes.{answered, IsRefused, slot_at}
 use Rattle.gc_graph.specs.Sweep.{SweepsInPhase, ContinuesSweep}
 use Rattle.gc_graph.specs.CycleSteps.{HasSwept, StepSweepAll, is_marking, is_sweeping}
 use Rattle.gc_graph.specs.ObjectSteps.{IsFull, IsMade, IsNumber, IsRead, StepNew, StepSet, StepGet, StepPut, StepWord, StepPair, StepKey, StepVal}
+use Rattle.gc_graph.specs.HandleSteps.{IsPushed, IsPeeked, StepPop}
 use Rattle.gc_graph.specs.Step.{Step}
 use Rattle.built_forms.specs.Built.{is_built, IsBuiltIn, opens_sweep, is_sweep_open, is_timely, AreBuiltCommands}
 
@@ -92,6 +94,31 @@ key_keeps old new p f q lines step = field_keeps is_pair old new f lines _ (slot
 value_keeps : (old new : State) (p f q : ℕ) (lines : List Line) → StepVal old p f q lines new → new.phase ≡ old.phase
 value_keeps old new p f q lines step = field_keeps is_pair old new f lines _ (slot_at old p) (λ n done. read_keeps true old new _ q lines done) step
 
+pushed_keeps : (old new : State) (word : StackWord) (lines : List Line) → IsPushed old word lines new → new.phase ≡ old.phase
+pushed_keeps old new word lines step =
+    refused_keeps old new lines (nat_lt (length old.stack) 1024) _ (IsRefused R.Stack old lines new) (λ done. ap (λ (s : State). s.phase) done.1)
+    (λ refused. ap (λ (s : State). s.phase) refused.1) step
+
+push_keeps : (old new : State) (offset : ℕ) (lines : List Line) (slot : Option ℕ)
+    → MatchOption slot (IsRefused R.Null old lines new)
+    (λ n. MatchBool (nat_lt offset (size_of (node_at old.nodes n))) (IsPushed old (Pointer n offset) lines new) (IsRefused R.Field old lines new))
+    → new.phase ≡ old.phase
+push_keeps old new offset lines None done = ap (λ (s : State). s.phase) done.1
+push_keeps old new offset lines (Some n) step =
+    refused_keeps old new lines (nat_lt offset (size_of (node_at old.nodes n))) _ (IsRefused R.Field old lines new) (pushed_keeps old new (Pointer n offset) lines)
+    (λ refused. ap (λ (s : State). s.phase) refused.1) step
+
+pop_keeps : (old new : State) (lines : List Line) → StepPop old lines new → new.phase ≡ old.phase
+pop_keeps old new lines step =
+    refused_keeps old new lines (nat_lt 0 (length old.stack)) _ (IsRefused R.Empty old lines new) (λ done. ap (λ (s : State). s.phase) done.1)
+    (λ refused. ap (λ (s : State). s.phase) refused.1) step
+
+peek_keeps : (old new : State) (q : ℕ) (lines : List Line) (word : Option StackWord)
+    → MatchOption word (IsRefused R.Empty old lines new) (λ x. IsPeeked old x q lines new) → new.phase ≡ old.phase
+peek_keeps old new q lines None done = ap (λ (s : State). s.phase) done.1
+peek_keeps old new q lines (Some (Pointer n offset)) done = ap (λ (s : State). s.phase) done.1
+peek_keeps old new q lines (Some (Number w)) done = ap (λ (s : State). s.phase) done.1
+
 -- where marking doesn't go on, the heap is idle after the sweep of all pages
 sweep_ends : (setup : Setup) (old new : State) (lines : List Line) (phase : Phase) → old.phase ≡ phase → is_marking phase ≡ false
     → StepSweepAll setup old lines new → new.phase ≡ Idle
@@ -128,6 +155,10 @@ step_phase setup old new (C.Copy p q) piece lines opened calm built idle step = 
 step_phase setup old new (C.Weak w p) piece lines opened calm built idle step = λ off. ap (λ (s : State). s.phase) step.1.1 ∙ idle off
 step_phase setup old new (C.Read w p) piece lines opened calm built idle step = λ off. read_keeps true old new _ p lines step.1 ∙ idle off
 step_phase setup old new (C.Drop p) piece lines opened calm built idle step = λ off. ap (λ (s : State). s.phase) step.1.1 ∙ idle off
+step_phase setup old new (C.Push p o) piece lines opened calm built idle step = λ off. push_keeps old new o lines (slot_at old p) step.1 ∙ idle off
+step_phase setup old new (C.PushPlain n) piece lines opened calm built idle step = λ off. pushed_keeps old new (Number n) lines step.1 ∙ idle off
+step_phase setup old new C.Pop piece lines opened calm built idle step = λ off. pop_keeps old new lines step.1 ∙ idle off
+step_phase setup old new (C.Peek i q) piece lines opened calm built idle step = λ off. peek_keeps old new q lines (slice_get old.stack i) step.1 ∙ idle off
 step_phase setup old new (C.GcNow want) piece lines opened calm built idle step = λ off. absurd (true≢false off)
 step_phase setup old new C.SweepAll piece lines opened calm built idle step = λ off. sweep_ends setup old new lines old.phase refl calm step.1
 step_phase setup old new C.Stat piece lines opened calm built idle step = λ off. ap (λ (s : State). s.phase) step.1.3 ∙ idle off

@@ -26,6 +26,7 @@ use Rattle.gc_graph.specs.CycleSteps.{IsStart, IsPause, IsCollection, StepGcNow,
 use Rattle.gc_graph.specs.ActionLaw.{HaveStayed}
 use Rattle.callback_table.specs.Registry.{registration_of, registrations_of, pairs_run, entries_left}
 use Rattle.heap_engine.specs.View.{places_of, start_entry, pause_entry}
+use Rattle.heap_engine.specs.Stack.{HoldsWords}
 use Rattle.heap_engine.specs.Judgement.{IsJudgement, nodes_after, weak_after}
 use Rattle.heap_engine.specs.Changes.{collected_from}
 use Rattle.heap_engine.specs.Printed.{ran_lines}
@@ -36,6 +37,7 @@ use Rattle.heap_engine.proofs.NodeLives.{live_and_dead}
 use Rattle.heap_engine.proofs.WeakNodes.{life-after, place-after, length-after, live-after, dead-after}
 use Rattle.heap_engine.proofs.KeptNodes.{refers_within}
 use Rattle.heap_engine.proofs.Registrations.{same_order, registrations_left, lines_ran, counts_run}
+use Rattle.heap_engine.proofs.StackWords.{words_held}
 use Rattle.heap_engine.proofs.Ties.{valid_nodes, places-same, placed_still}
 
 -- the line of a pause that kept and condemned these, and walked the heap or not
@@ -91,9 +93,9 @@ no_region_targets : (n : ℕ) → strong_region_targets (replicate n Vacant) ≡
 no_region_targets zero = refl
 no_region_targets (suc n) = no_region_targets n
 
-plain_roots : (ph : Phase) (s : State) → IsAtRest ph s → roots_of s ≡ slot_targets s.slots
-plain_roots ph s unused =
-    ap (λ k. slot_targets s.slots ++ stack_targets k ++ strong_region_targets s.region) unused.stack_empty
+plain_roots : (ph : Phase) (s : State) → IsAtRest ph s → s.stack ≡ [] → roots_of s ≡ slot_targets s.slots
+plain_roots ph s unused empty =
+    ap (λ k. slot_targets s.slots ++ stack_targets k ++ strong_region_targets s.region) empty
     ∙ ap (λ ts. slot_targets s.slots ++ [] ++ ts) (ap strong_region_targets unused.region_null ∙ no_region_targets 32)
     ∙ append-nil (slot_targets s.slots ++ []) ∙ append-nil (slot_targets s.slots)
 
@@ -101,12 +103,12 @@ plain_roots ph s unused =
 abbrev pub started_state : State → State
 started_state s = marking (took s (start_entry ∷ []))
 
-pub pause_keeps : (ph : Phase) (s : State) (new : List Node) (weak : List (Option ℕ)) → ReachIsLeast → RefersWithin (graph_of s.nodes) → IsAtRest ph s
+pub pause_keeps : (ph : Phase) (s : State) (new : List Node) (weak : List (Option ℕ)) → ReachIsLeast → RefersWithin (graph_of s.nodes) → IsAtRest ph s → s.stack ≡ []
     → (keeps : IsJudgement s.nodes s.slots s.weak new weak) → IsKept (took (started_state s) []) [] keeps.kept
-pause_keeps ph s new weak law refers unused keeps =
+pause_keeps ph s new weak law refers unused empty keeps =
     let kept : List Bool = keeps.kept in
     let g : List Object = graph_of s.nodes in
-    let roots : roots_of s ≡ slot_targets s.slots = plain_roots ph s unused in
+    let roots : roots_of s ≡ slot_targets s.slots = plain_roots ph s unused empty in
     let may : List Bool = Reach g (roots_of s) in
     let same : may ≡ Reach g (slot_targets s.slots) = ap (Reach g) roots in
     let nodes : AreNodes g (members may) = λ m root.
@@ -182,10 +184,10 @@ on_false : (b : Bool) (P Q : Type 0) → b ≡ false → Q → MatchBool b P Q
 on_false b P Q is q = subst (λ x. MatchBool x P Q) (sym is) q
 
 -- where marking doesn't go on and the stack is empty, gc now wants memory or collects
-pub collects_or_not : (ph : Phase) (setup : Setup) (s : State) (piece : List Entry) (lines : List Line) (new : State) → IsAtRest ph s → ph ≡ s.phase
+pub collects_or_not : (ph : Phase) (setup : Setup) (s : State) (piece : List Entry) (lines : List Line) (new : State) → IsAtRest ph s → s.stack ≡ [] → ph ≡ s.phase
     → WantsMemory s piece lines new ⊎ IsCollection setup Precise s piece lines new → StepGcNow setup Precise s piece lines new
-collects_or_not ph setup s piece lines new unused phase done =
-    on_false (is_marking s.phase) _ _ (sym (ap is_marking phase) ∙ unused.calm) (on_false (is_stack_refused Precise s.stack) _ _ (ap (is_stack_refused Precise) unused.stack_empty) done)
+collects_or_not ph setup s piece lines new unused empty phase done =
+    on_false (is_marking s.phase) _ _ (sym (ap is_marking phase) ∙ unused.calm) (on_false (is_stack_refused Precise s.stack) _ _ (ap (is_stack_refused Precise) empty) done)
 
 pub step_collected : (ph : Phase) (setup : Setup) (s t new : State) (numbers : List ℕ) (kept : List Bool) (walked : Bool) (piece : List Entry) (lines : List Line) → SweepsToEnd setup.shape s numbers t
     → IsAtRest ph t → IsKept (took (started_state t) []) [] kept
@@ -212,7 +214,6 @@ step_collected ph setup s t new numbers kept walked piece lines ended unused kee
 at_rest : (o : ObjectsView) (h : HandlesView) (c : CycleView) → IsAtRest c.phase c.rest → IsAtRest c.phase (state_of o h c)
 at_rest o h c rest = record {
   calm = rest.calm;
-  stack_empty = rest.stack_empty;
   region_null = rest.region_null;
   none_running = rest.none_running;
 }
@@ -224,6 +225,7 @@ pub record Collects (o mid judged new : ObjectsView) (h left : HandlesView) (c b
   pub rests : IsAtRest between.phase between.rest
   pub ends : SweepsToEnd o.shape (state_of o h c) numbers (state_of mid h between)
   pub ready : IsReady mid h between
+  pub stack_empty : h.stack.words ≡ []
   pub setup : setup_of_objects mid ≡ setup_of_objects o
   pub judged_setup : setup_of_objects judged ≡ setup_of_objects mid
   pub same_setup : setup_of_objects new ≡ setup_of_objects judged
@@ -263,18 +265,18 @@ module _ (o mid judged new : ObjectsView) (h left : HandlesView) (c between afte
   -- the state of the parts after the pause
   collected_parts : state_of new left after ≡ collected_state (setup_of_objects mid) (state_of mid h between) kept
   collected_parts =
-      let build : List Node → List (Option ℕ) → List (Option ℕ) → List Registration → Phase → State → State = λ ns slots weak rs ph r.
-      record r { nodes = ns; slots = slots; weak = weak; registrations = rs; phase = ph } in
+      let build : List Node → HandlesView → List (Option ℕ) → List Registration → Phase → State → State = λ ns k weak rs ph r.
+      record r { nodes = ns; slots = k.slots; weak = weak; stack = k.stack.words; registrations = rs; phase = ph } in
       let weak : List (Option ℕ) = weak_after kept mid.nodes h.weak in
       let nodes : List Node = prefinalised mid.callbacks (run_order (condemn kept mid.nodes) registrations) (nodes_after kept mid.nodes) in
       let rest : List Registration = filter (λ r. not (dies (condemn kept mid.nodes) r)) registrations in
-      ap (λ ns. build ns left.slots left.weak (registrations_of after.registered) after.phase after.rest) nodes_left
-      ∙ ap (λ (k : HandlesView). build nodes k.slots left.weak (registrations_of after.registered) after.phase after.rest) is.handles_left
-      ∙ ap (λ w. build nodes h.slots w (registrations_of after.registered) after.phase after.rest) is.judges.weak_are
-      ∙ ap (λ rs. build nodes h.slots weak rs after.phase after.rest)
+      ap (λ ns. build ns left left.weak (registrations_of after.registered) after.phase after.rest) nodes_left
+      ∙ ap (λ (k : HandlesView). build nodes k left.weak (registrations_of after.registered) after.phase after.rest) is.handles_left
+      ∙ ap (λ w. build nodes h w (registrations_of after.registered) after.phase after.rest) is.judges.weak_are
+      ∙ ap (λ rs. build nodes h weak rs after.phase after.rest)
       (ap registrations_of is.registered_are ∙ registrations_left judged.nodes (condemn kept mid.nodes) between.registered lives)
-      ∙ ap (λ ph. build nodes h.slots weak rest ph after.rest) is.phase
-      ∙ ap (build nodes h.slots weak rest Sweeping) is.rest
+      ∙ ap (λ ph. build nodes h weak rest ph after.rest) is.phase
+      ∙ ap (build nodes h weak rest Sweeping) is.rest
 
   pub collection_steps : (walked : Bool) (piece : List Entry) (lines : List Line) (told : Line) → ReachIsLeast → piece ≡ start_entry ∷ pause_entry ∷ []
       → told ≡ pause_line judged.nodes walked → lines ≡ finalise_lines numbers ++ told ∷ ran_lines true after.ran
@@ -283,10 +285,10 @@ module _ (o mid judged new : ObjectsView) (h left : HandlesView) (c between afte
       let t : State = state_of mid h between in
       let rests : IsAtRest between.phase t = at_rest mid h between is.rests in
       let same : StepGcNow (setup_of_objects mid) Precise (state_of o h c) piece lines (answered (state_of new left after)) =
-      collects_or_not c.phase (setup_of_objects mid) (state_of o h c) piece lines (answered (state_of new left after)) (at_rest o h c is.before_rests) refl
+      collects_or_not c.phase (setup_of_objects mid) (state_of o h c) piece lines (answered (state_of new left after)) (at_rest o h c is.before_rests) is.stack_empty refl
       (inr (step_collected between.phase (setup_of_objects mid) (state_of o h c) t (answered (state_of new left after)) numbers kept walked piece lines
       (subst (λ (st : Setup). SweepsToEnd st.shape (state_of o h c) numbers t) (sym is.setup) is.ends) rests
-      (pause_keeps between.phase t judged.nodes left.weak law (refers_within (setup_of_objects mid) mid.nodes (valid_nodes mid h between is.ready)) rests is.judges)
+      (pause_keeps between.phase t judged.nodes left.weak law (refers_within (setup_of_objects mid) mid.nodes (valid_nodes mid h between is.ready)) rests is.stack_empty is.judges)
       taken
       (printed
       ∙ ap (λ l. finalise_lines numbers ++ l ∷ ran_lines true after.ran)
@@ -318,6 +320,8 @@ module _ (o mid judged new : ObjectsView) (h left : HandlesView) (c between afte
           slots = ap (λ (k : HandlesView). k.places) is.handles_left ∙ is.ready.tied.slots ∙ sym (places-same (place_of new.nodes) (place_of mid.nodes) h.slots places)
               ∙ sym (ap (λ (k : HandlesView). places_of new.nodes k.slots) is.handles_left);
           weak = ap (λ (k : HandlesView). k.weak_places) is.handles_left ∙ sym (places-same (place_of new.nodes) (place_of judged.nodes) left.weak is.stayed.place);
+          stack = subst (λ (k : HandlesView). HoldsWords new.nodes k.stack) (sym is.handles_left)
+              (words_held mid.nodes new.nodes h.stack (λ k d low. places _) is.ready.tied.stack);
           registered = registered_left;
           few = omega (arith, is.ready.tied.few, ordinal, is.ordinal, ap length is.registered_are, ap length is.ran_are, counts_run judged.nodes between.registered);
           marks = subst (λ ph. HasMarks ph new.seat) (sym is.phase) is.judged_marks;

@@ -74,7 +74,7 @@ ends_sweep o new h c after numbers valid sweeping order nodes idle registered re
     let s : State = state_of o h c in
     let limit : ℕ = word_count o.shape in
     let build : List Node → List Registered → Phase → State → State = λ ns es ph r.
-    record r { nodes = ns; slots = h.slots; weak = h.weak; registrations = registrations_of es; phase = ph } in
+    record r { nodes = ns; slots = h.slots; weak = h.weak; stack = h.stack.words; registrations = registrations_of es; phase = ph } in
     let phase : phase_at o.shape o.shape.pages ≡ Idle = ap (λ b. cond b Idle Sweeping) (eq-eqb o.shape.pages o.shape.pages refl) in
     subst (λ ph. SweepsInPhase ph o.shape s o.shape.pages numbers (state_of new h after)) (sym sweeping) (record {
       finalised = order;

@@ -7,6 +7,7 @@ use Rattle.gc_graph.specs.ValidLaw.{EmptyIsValid}
 use Rattle.page_words.specs.Seat.{empty_view}
 use Rattle.heap_engine.specs.View.{places_of}
 use Rattle.heap_engine.specs.Objects.{HaveCallbacks}
+use Rattle.heap_engine.specs.Stack.{empty_stack}
 use Rattle.heap_engine.specs.Parts.{ObjectsView, HandlesView, CycleView, setup_of_objects, IsReady}
 
 null_places : (n : ℕ) → replicate n None ≡ places_of [] (replicate n None)
@@ -17,11 +18,11 @@ null_places (suc n) = ap (λ l. None ∷ l) (null_places n)
 pub ready_empty : (o : ObjectsView) (h : HandlesView) (c : CycleView) (types : List ObjectType) (callbacks : List ActionKind) (shape : Shape) → EmptyIsValid
     → HaveCallbacks (length callbacks) types
     → o ≡ record { shape = shape; types = types; callbacks = callbacks; nodes = []; seat = empty_view (shape.pages * shape.page_words) types }
-    → h ≡ record { places = replicate 256 None; slots = replicate 256 None; weak_places = replicate 64 None; weak = replicate 64 None }
+    → h ≡ record { places = replicate 256 None; slots = replicate 256 None; weak_places = replicate 64 None; weak = replicate 64 None; stack = empty_stack }
     → c ≡ record { phase = Idle; registered = []; ran = []; rest = empty_state } → IsReady o h c
 ready_empty o h c types callbacks shape law called objects handles cycle =
     let none : ObjectsView = record { shape = shape; types = types; callbacks = callbacks; nodes = []; seat = empty_view (shape.pages * shape.page_words) types } in
-    let nulls : HandlesView = record { places = replicate 256 None; slots = replicate 256 None; weak_places = replicate 64 None; weak = replicate 64 None } in
+    let nulls : HandlesView = record { places = replicate 256 None; slots = replicate 256 None; weak_places = replicate 64 None; weak = replicate 64 None; stack = empty_stack } in
     let began : CycleView = record { phase = Idle; registered = []; ran = []; rest = empty_state } in
     let ready : IsReady none nulls began = record {
       valid = law (setup_of_objects none);
@@ -29,6 +30,7 @@ ready_empty o h c types callbacks shape law called objects handles cycle =
       tied = record {
         slots = null_places 256;
         weak = null_places 64;
+        stack = record { addresses = refl; places = refl };
         registered = λ k d low. absurd (omega arith);
         few = omega arith;
         marks = record { off = refl; marked = refl; traced = refl; dead = refl };

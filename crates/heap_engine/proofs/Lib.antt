@@ -36,6 +36,8 @@ pub mod ActedNodes
 pub mod PrefinalizerFields
 pub mod PrefinalizerShown
 pub mod PrefinalizerBodies
+pub mod StackWords
+pub mod StackSteps
 pub mod Ties
 pub mod SlotSteps
 pub mod FieldAnswers

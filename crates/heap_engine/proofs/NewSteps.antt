@@ -7,7 +7,7 @@ use Rattle.std.proofs.lemmas.List.Elements.{All-get_or, All-head, All-tail, All-
 use Rattle.gc_graph.specs.declared.line.Line.TheVariants as L
 use Rattle.gc_graph.specs.declared.phase.Phase.{Phase}
 use Rattle.gc_graph.specs.declared.phase.Phase.TheVariants.{Idle}
-use Rattle.gc_graph.specs.State.{Setup, State, ObjectType, Node, Registration, type_at, no_type, IsLive}
+use Rattle.gc_graph.specs.State.{Setup, State, ObjectType, Node, Registration, type_at, no_type, IsLive, stack_targets}
 use Rattle.gc_graph.specs.Placement.{IsPlaceFor, IsPlacement, extents_of}
 use Rattle.gc_graph.specs.Sweep.{pages_swept_in, SweepsInPhase}
 use Rattle.gc_graph.specs.Fields.{new_node, size_of_type}
@@ -19,6 +19,7 @@ use Rattle.callback_table.specs.Registry.{registrations_of, registered}
 use Rattle.page_words.specs.Seat.{IsQuiet}
 use Rattle.heap_engine.specs.Nodes.{place_of}
 use Rattle.heap_engine.specs.View.{places_of}
+use Rattle.heap_engine.specs.Stack.{HoldsWords}
 use Rattle.heap_engine.specs.Objects.{HaveCallbacks, with_made}
 use Rattle.heap_engine.specs.Changes.{put_in, filled, registered_in}
 use Rattle.heap_engine.specs.Parts.{ObjectsView, HandlesView, CycleView, setup_of_objects, state_of, counted, HasMarks, IsPlaced, AreTied, IsReady}
@@ -26,6 +27,7 @@ use Rattle.heap_engine.proofs.KeptNodes.{slots_live}
 use Rattle.heap_engine.proofs.Registrations.{registrations_join, live_entries}
 use Rattle.heap_engine.proofs.HeldNodes.{place-old, node-new}
 use Rattle.heap_engine.proofs.NodePlaces.{there_below, live_is_there}
+use Rattle.heap_engine.proofs.StackWords.{StaysAt, words_held}
 
 -- while the heap is idle, all its pages are swept, and placement sweeps none
 placed : (setup : Setup) (s : State) (t extra : ℕ) (place : Option ℕ) → s.phase ≡ Idle
@@ -140,6 +142,11 @@ tied_made o new h after c left p t place number x ready low idle quiet setup cou
           ∙ sym (ap (λ (k : HandlesView). places_of new.nodes k.slots) put ∙ ap (λ (ns : List Node). places_of ns slots) nodes);
       weak = ap (λ (k : HandlesView). k.weak_places) put ∙ tied.weak ∙ sym (places_on o.nodes x h.weak (slots_live o.nodes h.weak ready.valid.weak))
           ∙ sym (ap (λ (k : HandlesView). places_of new.nodes k.weak) put ∙ ap (λ (ns : List Node). places_of ns h.weak) nodes);
+      stack = subst (λ (k : HandlesView). HoldsWords new.nodes k.stack) (sym put)
+          (subst (λ (ns : List Node). HoldsWords ns h.stack) (sym nodes)
+          (words_held o.nodes now h.stack
+          (All-weaker (IsLive o.nodes) (StaysAt o.nodes now) (λ n is. place-old o.nodes x n (there_below o.nodes n (live_is_there o.nodes n is)))
+          (stack_targets h.stack.words) ready.valid.stack) tied.stack));
       registered = registered_made o new c t place x ready.called low tied.registered (live_entries o.nodes c.registered ready.valid.registered) at nodes callbacks;
       few = few_made o c t place c.rest.ordinal ready.called low tied.few;
       marks = subst (λ ph. HasMarks ph new.seat) (sym idle) quiet;

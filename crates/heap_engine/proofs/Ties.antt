@@ -13,6 +13,7 @@ use Rattle.heap_engine.specs.Objects.{AreOfValid, IsLiveAt}
 use Rattle.heap_engine.specs.Parts.{ObjectsView, HandlesView, CycleView, setup_of_objects, state_of, counted, HasMarks, IsPlaced, AreTied, IsReady}
 use Rattle.heap_engine.specs.Changes.{put_in, copied_in, weakened_in}
 use Rattle.heap_engine.proofs.KeptNodes.{slots_live}
+use Rattle.heap_engine.proofs.StackWords.{words_held}
 
 pub valid_nodes : (o : ObjectsView) (h : HandlesView) (c : CycleView) → IsReady o h c → AreOfValid (setup_of_objects o) o.nodes
 valid_nodes o h c ready = (state_of o h c, ready.valid, refl)
@@ -71,6 +72,7 @@ tied_slot o h c p target is tied = record {
   slots = ap (λ l. set l p (option_map (λ (t : ℕ × ℕ). t.0) target)) tied.slots ∙ ap (λ x. set (places_of o.nodes h.slots) p x) is
       ∙ sym (map-set (λ (slot : Option ℕ). option_map (place_of o.nodes) slot) h.slots p (option_map (λ (t : ℕ × ℕ). t.1) target));
   weak = tied.weak;
+  stack = tied.stack;
   registered = tied.registered;
   few = omega (arith, tied.few);
   marks = tied.marks;
@@ -83,6 +85,7 @@ tied_copy o h c p q tied = record {
   slots = ap (λ l. set l q (get_or h.places p None)) tied.slots ∙ ap (λ x. set (places_of o.nodes h.slots) q x) (slot_place o h c p tied)
       ∙ sym (map-set (λ (slot : Option ℕ). option_map (place_of o.nodes) slot) h.slots q (get_or h.slots p None));
   weak = tied.weak;
+  stack = tied.stack;
   registered = tied.registered;
   few = omega (arith, tied.few);
   marks = tied.marks;
@@ -95,6 +98,7 @@ tied_weak o h c w p tied = record {
   slots = tied.slots;
   weak = ap (λ l. set l w (get_or h.places p None)) tied.weak ∙ ap (λ x. set (places_of o.nodes h.weak) w x) (slot_place o h c p tied)
       ∙ sym (map-set (λ (slot : Option ℕ). option_map (place_of o.nodes) slot) h.weak w (get_or h.slots p None));
+  stack = tied.stack;
   registered = tied.registered;
   few = omega (arith, tied.few);
   marks = tied.marks;
@@ -120,6 +124,7 @@ pub tied_nodes : (o new : ObjectsView) (h : HandlesView) (c after : CycleView) �
 tied_nodes o new h c after tied same setup registered ran later marks made = record {
   slots = tied.slots ∙ sym (places-same (place_of new.nodes) (place_of o.nodes) h.slots same);
   weak = tied.weak ∙ sym (places-same (place_of new.nodes) (place_of o.nodes) h.weak same);
+  stack = words_held o.nodes new.nodes h.stack (λ k d low. same _) tied.stack;
   registered = subst (All (IsPlaced new.nodes (length new.callbacks))) (sym registered)
       (placed_still o new c.registered same (ap (λ (st : Setup). st.callbacks) setup) tied.registered);
   few = omega (arith, tied.few, ap length registered, ap length ran, later);

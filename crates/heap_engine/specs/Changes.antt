@@ -1,12 +1,13 @@
 -- How the handles and the cycle change.
 use Rattle.std.specs.Prelude.{ℕ, ◌+◌, ◌-◌, Bool, not, [], ◌∷◌, ◌++◌, List, length, map, take, drop, Option, None, option_map, slice_set, slice_index_or}
 use Rattle.gc_graph.specs.Reach.{Reach}
-use Rattle.gc_graph.specs.State.{Shape, State, Node, type_at, graph_of, roots_of}
+use Rattle.gc_graph.specs.State.{Shape, State, Node, StackWord, type_at, graph_of, roots_of}
 use Rattle.gc_graph.specs.Pause.{clear_slot}
 use Rattle.callback_table.specs.declared.registry.Registered.{Registered}
 use Rattle.callback_table.specs.Registry.{registered, placed_at}
 use Rattle.heap_engine.specs.Judgement.{weak_after}
 use Rattle.heap_engine.specs.View.{kept_of, start_entry, pause_entry}
+use Rattle.heap_engine.specs.Stack.{with_word, without_last}
 use Rattle.heap_engine.specs.Parts.{ObjectsView, HandlesView, CycleView, setup_of_objects}
 
 -- slot p holds the place and the number of the target, where there is one
@@ -36,6 +37,14 @@ cleared_in h marked nodes = record h {
   weak_places = map (clear_slot (λ a. not (marked a))) h.weak_places;
   weak = weak_after (kept_of marked nodes) nodes h.weak;
 }
+
+-- the word is the last of the stack, with its address and its place
+abbrev pub pushed_in : HandlesView → StackWord → ℕ → Option ℕ → HandlesView
+pushed_in h word address place = record h { stack = with_word h.stack word address place }
+
+-- the last word of the stack was taken away
+abbrev pub popped_in : HandlesView → HandlesView
+popped_in h = record h { stack = without_last h.stack }
 
 -- the last registrations, so many of them, got this place
 abbrev pub placed_last : ℕ → ℕ → List Registered → List Registered

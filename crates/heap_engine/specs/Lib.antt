@@ -4,6 +4,7 @@ pub mod Nodes
 pub mod View
 pub mod Fields
 pub mod Objects
+pub mod Stack
 pub mod Judgement
 pub mod Printed
 pub mod Parts

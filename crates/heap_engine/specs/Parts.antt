@@ -15,6 +15,7 @@ use Rattle.heap_engine.specs.Objects.{HaveCallbacks}
 use Rattle.heap_engine.specs.Sweeping.{IsJudged}
 use Rattle.heap_engine.specs.Nodes.{place_of}
 use Rattle.heap_engine.specs.View.{places_of}
+use Rattle.heap_engine.specs.Stack.{StackView, HoldsWords}
 
 -- the objects: the heap's shape and types, the kinds of its callbacks, the nodes, and what is known of the words
 pub record ObjectsView : Type 0 where
@@ -24,12 +25,13 @@ pub record ObjectsView : Type 0 where
   pub nodes : List Node
   pub seat : SeatView
 
--- the strong slots and the weak ones: the place in each, and the node that each names
+-- the strong slots and the weak ones: the place in each, and the node that each names; and the stack
 pub record HandlesView : Type 0 where
   pub places : List (Option ℕ)
   pub slots : List (Option ℕ)
   pub weak_places : List (Option ℕ)
   pub weak : List (Option ℕ)
+  pub stack : StackView
 
 -- the collection cycle: its phase, the prefinalizers that are registered, with the places of their objects, those that the last
 -- pause ran, each the number of its object and that of its callback, and what no other part holds of the state
@@ -46,7 +48,14 @@ setup_of_objects o = record { shape = o.shape; markers = 0; types = o.types; cal
 -- the state is put together from what each part holds of it
 abbrev pub state_of : ObjectsView → HandlesView → CycleView → State
 state_of o h c =
-    record c.rest { nodes = o.nodes; slots = h.slots; weak = h.weak; registrations = registrations_of c.registered; phase = c.phase }
+    record c.rest {
+      nodes = o.nodes;
+      slots = h.slots;
+      weak = h.weak;
+      stack = h.stack.words;
+      registrations = registrations_of c.registered;
+      phase = c.phase;
+    }
 
 -- one command more was answered
 abbrev pub counted : CycleView → CycleView
@@ -61,10 +70,9 @@ HasMarks Idle v = IsQuiet v
 HasMarks Marking v = IsQuiet v
 HasMarks Sweeping v = IsJudged v
 
--- no marking goes on, region slots are null, the stack is empty, and no thread runs
+-- no marking goes on, region slots are null, and no thread runs
 pub record IsAtRest (phase : Phase) (s : State) : Type 0 where
   pub calm : is_marking phase ≡ false
-  pub stack_empty : s.stack ≡ []
   pub region_null : s.region ≡ replicate 32 Vacant
   pub none_running : s.running ≡ []
 
@@ -73,11 +81,13 @@ pub record IsPlaced (nodes : List Node) (callbacks : ℕ) (entry : Registered) :
   pub place : place_of nodes entry.node ≡ entry.place
   pub known : entry.callback < callbacks
 
--- the parts belong together: slots, strong and weak, hold the places of what they name, and so do registrations; the marks are
--- those of the phase, and no more nodes were made than commands were answered, and at most 16 registrations for each
+-- the parts belong together: slots, strong and weak, hold the places of what they name, and so do registrations; the stack holds
+-- its words; the marks are those of the phase, and no more nodes were made than commands were answered, and at most 16
+-- registrations for each
 pub record AreTied (o : ObjectsView) (h : HandlesView) (c : CycleView) : Type 0 where
   pub slots : h.places ≡ places_of o.nodes h.slots
   pub weak : h.weak_places ≡ places_of o.nodes h.weak
+  pub stack : HoldsWords o.nodes h.stack
   pub registered : All (IsPlaced o.nodes (length o.callbacks)) c.registered
   pub few : length c.registered + length c.ran ≤ 16 * c.rest.ordinal
   pub marks : HasMarks c.phase o.seat

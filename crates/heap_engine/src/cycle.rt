@@ -128,7 +128,7 @@ impl Cycle {
         self.registry.ran()
     }
 
-    /// A whole collection: an open sweep is ended, what the strong slots reach is kept, the other
+    /// A whole collection, which is refused unless the stack is empty: an open sweep is ended, what the strong slots reach is kept, the other
     /// objects are condemned, what is weak and names one of these becomes null, and their
     /// prefinalizers run.
     pub fn collect(
@@ -152,6 +152,10 @@ impl Cycle {
         ensures room { outcome.new.room ≡ outcome.old.room }
         ensures history { outcome.new.history ≡ outcome.old.history }
     {
+        self.rests();
+        if handles.stack().has_words() {
+            return Line::Refused(Refusal::Stack);
+        }
         // Room for a list of an ordinary length, so that a walk of the heap is rare. From here on
         // nothing can be refused.
         if self.grey.reserve().is_err() {

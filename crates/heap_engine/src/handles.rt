@@ -1,5 +1,5 @@
 // The handles of a heap: its strong slots and its weak ones (`Persistent` and `WeakPersistent`,
-// `include/cppgc/persistent.h`).
+// `include/cppgc/persistent.h`), and its stack.
 
 ghost use Rattle.std.specs.Prelude.{◌≡◌, ◌<◌, All, None, IfOk, length, replicate};
 ghost use Rattle.std.specs.Prelude.{slice_index_or, slice_set, option_map};
@@ -10,11 +10,13 @@ ghost use Rattle.page_words.specs.Seat.{holds};
 ghost use Rattle.page_space.specs.Space.{IsSeatOf};
 ghost use Rattle.persistent_slots.specs.Clearing.{taken};
 ghost use Rattle.heap_engine.specs.Objects.{slot_word, slot_part};
+ghost use Rattle.heap_engine.specs.Stack.{empty_stack};
 ghost use Rattle.heap_engine.specs.Changes.{put_in, copied_in, weakened_in, cleared_in};
 
 use crate::content::Content;
 use crate::nodes::NodeLists;
 use crate::slot_lists::{self, SlotLists};
+use crate::stack::Stack;
 use gc_graph::NoMemory;
 use ghost_values::GhostValue;
 use object_headers::reference_to;
@@ -29,14 +31,15 @@ const STRONG: u32 = 256;
 
 const WEAK: u32 = 64;
 
-/// The strong slots and the weak ones. Each holds a place; which node it names is known to
-/// contracts alone.
+/// The strong slots and the weak ones, and the stack. Each slot holds a place; which node it names
+/// is known to contracts alone.
 #[derive(Drop)]
 pub struct Handles {
     strong: Slots,
-    strong_nodes: GhostValue<SlotLists>,
+    pub(crate) strong_nodes: GhostValue<SlotLists>,
     weak: Slots,
     weak_nodes: GhostValue<SlotLists>,
+    pub(crate) stack: Stack,
 }
 
 impl Model for Handles {
@@ -50,28 +53,32 @@ impl Model for Handles {
       slots = h.strong_nodes.value;
       weak_places = h.weak;
       weak = h.weak_nodes.value;
+      stack = h.stack;
     } };
 
     ghost invariant = { λ h. (length h.strong ≡ 256) × (length h.weak ≡ 64) };
 }
 
 impl Handles {
-    /// Slots that are all null. Want of memory is free.
+    /// Slots that are all null, and a stack without words. Want of memory is free.
     pub fn new(alloc: Global) -> Result<Handles, NoMemory>
         ensures { IfOk result (λ h. h ≡ record {
           places = replicate 256 None;
           slots = replicate 256 None;
           weak_places = replicate 64 None;
           weak = replicate 64 None;
+          stack = empty_stack;
         }) }
     {
         let strong = Slots::new(alloc, STRONG)?;
         let weak = Slots::new(alloc, WEAK)?;
+        let stack = Stack::new(alloc)?;
         Ok(Handles {
             strong,
             strong_nodes: slot_lists::null(STRONG),
             weak,
             weak_nodes: slot_lists::null(WEAK),
+            stack,
         })
     }
 

@@ -25,6 +25,7 @@ use crate::objects::Objects;
 use crate::outcome::Outcome;
 use crate::pairs::{key, pair, pair_null, value};
 use crate::slots::{copy, drop_slot, read, weaken};
+use crate::stacking::{peek, pop, push, push_plain};
 use crate::totals::stat;
 use callback_table::CallbackTable;
 use gc_graph::{Command, Line, NoMemory};
@@ -183,11 +184,11 @@ fn run(
         Command::PairNull { p, f } => pair_null(objects, handles, cycle, p, f),
         Command::Key { p, f, q } => key(objects, handles, cycle, p, f, q),
         Command::Val { p, f, q } => value(objects, handles, cycle, p, f, q),
-        Command::Push { .. }
-        | Command::PushPlain { .. }
-        | Command::Pop
-        | Command::Peek { .. }
-        | Command::GcStart
+        Command::Push { p, o } => push(objects, handles, cycle, p, o),
+        Command::PushPlain { n } => push_plain(objects, handles, cycle, n),
+        Command::Pop => pop(objects, handles, cycle),
+        Command::Peek { i, q } => peek(objects, handles, cycle, i, q),
+        Command::GcStart
         | Command::GcStep { .. }
         | Command::GcFinish { .. }
         | Command::Sweep { .. }

@@ -4,14 +4,15 @@
 //! each command is one step of the graph that `gc_graph` defines.
 //!
 //! The parts: `Heap` with `new`, `act`, `line` and `close`, and `Config`. A heap is put together
-//! of `objects` (words, pages, types), `handles` (strong and weak slots), `cycle` (collections,
-//! prefinalizers and sweeps) and `outcome` (the lines of the last command). Each part owns what it
-//! holds and has a model, from which the state of the graph is put together. The commands, in
-//! `creating`, `fields`, `pairs`, `slots`, `totals` and `cycle`, take the parts. Inside, `marking`
-//! (what the strong slots reach), `collecting`, `prefinalizing` and `sweeping` (what dies), `finding`
-//! (places), `field` and `pair_fields` (fields), and for contracts alone `nodes`, `slot_lists`,
-//! `states`, `entries` and `kinds`. Next down are `member_fields`, `persistent_slots`, `ephemerons`,
-//! `weak_clearing`, `prefinalizer_effects` and `page_space`.
+//! of `objects` (words, pages, types), `handles` (strong and weak slots, and the `stack`), `cycle`
+//! (collections, prefinalizers and sweeps) and `outcome` (the lines of the last command). Each part
+//! owns what it holds and has a model, from which the state of the graph is put together. The
+//! commands, in `creating`, `fields`, `pairs`, `slots`, `stacking`, `totals` and `cycle`, take the
+//! parts. Inside, `marking` (what the strong slots reach), `collecting`, `prefinalizing` and
+//! `sweeping` (what dies), `finding` (places), `field` and `pair_fields` (fields), and for contracts
+//! alone `nodes`, `slot_lists`, `stack_words`, `states`, `entries` and `kinds`. Next down are
+//! `member_fields`, `persistent_slots`, `ephemerons`, `weak_clearing`, `prefinalizer_effects` and
+//! `page_space`.
 //!
 //! What is proved: `act` is a step from the heap's own state to its new state, for every command
 //! that is allowed and that the heap does so far (`IsBuiltIn`), and its lines are those of the step;
@@ -19,7 +20,7 @@
 //! finalised is the object with its number, type, size, place, field words and extra words. A
 //! collection keeps exactly what the strong slots reach, by strong fields and by pairs whose key is
 //! kept; exactly the weak handles of kept objects to condemned ones become null, and the condemned
-//! ones' prefinalizers run. Refusals and a full heap are answered exactly where the step says so;
+//! ones' prefinalizers run; with a word on the stack it is refused. Refusals and a full heap are answered exactly where the step says so;
 //! collections and prefinalizers alone may want memory, and then nothing has changed.
 //!
 //! What is only tested or not said: that memory suffices, and how long a command takes.
@@ -33,6 +34,7 @@ mod entries;
 mod field;
 mod fields;
 mod finding;
+mod handle_stack;
 mod handles;
 mod heap;
 mod heap_core;
@@ -47,6 +49,9 @@ mod pairs;
 mod prefinalizing;
 mod slot_lists;
 mod slots;
+mod stack;
+mod stack_words;
+mod stacking;
 mod states;
 mod sweeping;
 mod totals;

@@ -2,7 +2,7 @@
 
 ghost use Rattle.std.specs.Prelude.{◌≡◌, ℕ, ◌+◌, ◌*◌, ◌<◌};
 ghost use Rattle.std.specs.Prelude.{◌≤◌, [], length, IfOk};
-ghost use Rattle.gc_graph.specs.State.{type_at, objects_of, used_of};
+ghost use Rattle.gc_graph.specs.State.{type_at, node_at, size_of, objects_of, used_of};
 ghost use Rattle.gc_graph.specs.Fields.{size_of_type};
 ghost use Rattle.gc_graph.specs.Placement.{IsPlaceFor, IsUsedPages, extents_of};
 ghost use Rattle.page_words.specs.Seat.{IsQuiet, empty_view};
@@ -153,6 +153,16 @@ impl Objects {
     {
         self.seat.bodies_lie_apart();
         self.space.serial_at(&mut self.seat, place)
+    }
+
+    /// How many words the object at a place has.
+    pub fn size_at(&mut self, place: u32) -> u32
+        requires place { (n : ℕ) × IsLiveAt self.old.nodes n place }
+        ensures size { (n : ℕ) → IsLiveAt self.old.nodes n place
+            → result ≡ size_of (node_at self.old.nodes n) }
+        ensures same { self.new ≡ self.old }
+    {
+        self.space.header_at(&mut self.seat, place).size
     }
 
     /// Makes an object of a type with so many extra words, where there is a place for it.

@@ -1,15 +1,20 @@
-use Rattle.std.proofs.Common.{◌≡◌, ℕ, All, List, ◌∷◌, ◌++◌, true, length, refl, sym, ap, ◌∙◌, subst, arith}
+use Rattle.std.proofs.Common.{◌≡◌, ℕ, All, List, ◌∷◌, ◌++◌, true, length, ltb, refl, sym, ap, ◌∙◌, subst, arith}
 use Rattle.gc_graph.specs.State.{Setup, Node}
 use Rattle.gc_graph.specs.Pause.{run_order, prefinalised}
 use Rattle.callback_table.specs.Registry.{registrations_of, pairs_run, entries_left, IsRegistered}
 use Rattle.callback_table.specs.Table.{kinds_of}
 use Rattle.gc_graph.specs.declared.phase.Phase.TheVariants.{Sweeping}
 use Rattle.std.specs.Prelude.{vec_capacity}
+use Rattle.gc_graph.specs.declared.line.Line.{Line}
+use Rattle.gc_graph.specs.declared.line.Line.TheVariants as L
+use Rattle.gc_graph.specs.declared.line.Refusal.TheVariants as R
 use Rattle.gc_graph.specs.Outcomes.{finalise_lines}
+use Rattle.heap_engine.specs.Stack.{StackView}
 use Rattle.heap_engine.specs.Printed.{Printed, ran_lines}
-use Rattle.heap_engine.specs.Parts.{CycleView, IsAtRest}
+use Rattle.heap_engine.specs.Parts.{CycleView, IsAtRest, setup_of_objects, state_of}
 use Rattle.heap_engine.proofs.RegisteredNodes.{registered_judged}
 use Rattle.heap_engine.proofs.NodeLives.{live_and_dead}
+use Rattle.heap_engine.proofs.StackSteps.{stack_refused, no_words}
 use Rattle.heap_engine.proofs.CollectSteps.{Collects, pause_line, pause_counts, collection_steps, collection_frame}
 use Rattle.heap_engine.proofs.cycle.Cycle.collect.Given as given
 use Rattle.heap_engine.proofs.cycle.Cycle.collect.Goals as goal
@@ -28,6 +33,16 @@ prefinalise-requires-clause-registered d c =
     (kinds_of c.args.callbacks.now) c.end_sweep.ensures.ready c.judge-marked.ensures.judged kinds in
     subst (λ (k : CycleView). All (IsRegistered c.judge-marked.new.self.nodes (length (kinds_of c.args.callbacks.now))) k.registered) (sym c.self-2.view_is) all
 
+pub returns-then-has_words-clause-step : goal.returns-then-has_words-clause-step
+returns-then-has_words-clause-step d c =
+    let line : Line = L.Refused R.Stack in
+    stack_refused (setup_of_objects c.args.objects.now) (state_of c.args.objects.now c.args.handles.now c.args.self.now) c.args.outcome.now.piece _ _
+    c.rests.ensures.calm (ap (λ (s : StackView). ltb 0 (length s.words)) (sym c.stack.ensures) ∙ sym c.has_words.ensures ∙ c.if-has_words.true) c.requires.piece (
+      ap (λ ns. finalise_lines ns ++ line ∷ ran_lines c.args.outcome.now.prefinalises c.args.self.now.ran) c.requires.numbers
+          ∙ ap (λ b. line ∷ ran_lines b c.args.self.now.ran) c.requires.calm,
+      refl,
+    )
+
 -- the collection in its parts
 collects : (d : given.Over) (c : goal.After-drop-outcome-inside d) → Collects c.args.objects.now c.end_sweep.new.objects c.judge-marked.new.self c.prefinalise.new.objects c.args.handles.now c.judge-marked.new.handles
     (record { phase = c.self.inside.phase; registered = c.self.inside.registry.entries; ran = c.self.inside.registry.ran; rest = c.self.inside.rest.value }) c.end_sweep.new.self
@@ -42,6 +57,8 @@ collects d c =
       rests = subst (λ (k : CycleView). IsAtRest k.phase k.rest) c.self-2.view_is c.self-2.invariant;
       ends = c.end_sweep.ensures.swept;
       ready = c.end_sweep.ensures.ready;
+      stack_empty = no_words c.args.handles.now.stack.words
+          (ap (λ (s : StackView). ltb 0 (length s.words)) (sym c.stack.ensures) ∙ sym c.has_words.ensures ∙ c.if-has_words.false);
       setup = c.end_sweep.ensures.setup;
       judged_setup = c.judge-marked.ensures.setup;
       same_setup = c.prefinalise.ensures.rest.setup;

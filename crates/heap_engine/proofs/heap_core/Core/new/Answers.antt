@@ -2,6 +2,7 @@ use Rattle.std.proofs.Common.{◌*◌, List, [], None, replicate, ap, ◌∙◌,
 use Rattle.gc_graph.specs.State.{Shape, ObjectType}
 use Rattle.page_words.specs.Seat.{empty_view}
 use Rattle.callback_table.specs.Table.{kinds_of}
+use Rattle.heap_engine.specs.Stack.{empty_stack}
 use Rattle.heap_engine.specs.Parts.{ObjectsView, HandlesView, state_of}
 use Rattle.heap_engine.specs.Printed.{Printed}
 use Rattle.heap_engine.proofs.HeapEmpty.{ready_empty}
@@ -27,7 +28,7 @@ returns-clause-state d c =
       nodes = [];
       seat = empty_view (shape.pages * shape.page_words) types;
     } in
-    let nulls : HandlesView = record { places = replicate 256 None; slots = replicate 256 None; weak_places = replicate 64 None; weak = replicate 64 None } in
-    ap (λ (o : ObjectsView). state_of o c.in_ok-handles.handles c.new-4.result) c.in_ok-objects.ensures.view
+    let nulls : HandlesView = record { places = replicate 256 None; slots = replicate 256 None; weak_places = replicate 64 None; weak = replicate 64 None; stack = empty_stack } in
+    ap (λ (o : ObjectsView). state_of o c.in_ok-handles.handles c.new-4.result) {y = none} c.in_ok-objects.ensures.view
     ∙ ap (λ (h : HandlesView). state_of none h c.new-4.result) c.in_ok-handles.ensures
     ∙ ap (state_of none nulls) c.new-4.ensures
