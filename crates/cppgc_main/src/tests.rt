@@ -20,6 +20,7 @@ mod ranges;
 mod registrations;
 mod reports;
 mod scripts;
+mod stack;
 mod statuses;
 mod text_devices;
 mod types;

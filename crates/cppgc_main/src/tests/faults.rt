@@ -201,7 +201,7 @@ fn threads_have_their_sections(rt: HostRuntime) -> Result<(), Fail> {
 #[test]
 fn first_line_that_is_not_built_is_named(rt: HostRuntime) {
     let alloc = rt.alloc();
-    let cases: [(&[u8], Option<(u32, u32)>); 16] = [
+    let cases: [(&[u8], Option<(u32, u32)>); 17] = [
         (
             b"oilpan 1\ntype SS\ntype -\nnew 0 0\ngc now precise\nsweep all\nnew 0 1 9\n",
             None,
@@ -219,13 +219,17 @@ fn first_line_that_is_not_built_is_named(rt: HostRuntime) {
             b"oilpan 1\ntype WE\npair 0 1 0 0\npair 0 1 - -\nval 0 1 2\nkey 0 0 1\n",
             None,
         ),
-        (b"oilpan 1\npush 0 0\n", Some((2, 9))),
+        (
+            b"oilpan 1\npush 0 0\npush# 18446744073709551615\npeek 1023 255\npop\n",
+            None,
+        ),
+        (b"oilpan 1\npeek 1024 0\n", Some((2, 9))),
         (b"oilpan 1\npair 0 0 0 -\n", Some((2, 9))),
         (b"oilpan 1\nweak 64 0\n", Some((2, 9))),
         (b"oilpan 1\nput 0 0\n", Some((2, 9))),
         (b"oilpan 1\ntype S pre 99\n", Some((2, 9))),
-        (b"oilpan 1\nstat\npop\nfoo\n", Some((3, 9))),
-        (b"oilpan 1\nstat\nfoo\npop\n", Some((3, 9))),
+        (b"oilpan 1\nstat\ngc start\nfoo\n", Some((3, 9))),
+        (b"oilpan 1\nstat\nfoo\ngc start\n", Some((3, 9))),
         (
             b"oilpan 1\ntype S\ngc now precise\nnew 0 0\nfoo\n",
             Some((4, 9)),

@@ -15,7 +15,7 @@ const FAULTY: [(&str, &[u8], u32); 27] = [
     ("type 1", b"oilpan 1\ntype S\nnew 0 1\n", 3),
     ("field 67108864", b"oilpan 1\nget 0 67108864 0\n", 2),
     ("half a pair", b"oilpan 1\ntype SE\n\npair 0 1 0 -\n", 4),
-    ("a word of a stack", b"oilpan 1\ntype S\npush 0 0\n", 3),
+    ("the start of a collection", b"oilpan 1\ngc start\n", 2),
     ("weak slot 64", b"oilpan 1\nread 63 0\nread 64 0\n", 3),
     (
         "a slot where a weak slot stands first",
