@@ -4,13 +4,13 @@
 //! large one has pages of its own. New objects are placed here, and dead ones taken away.
 //!
 //! The parts: `Space` with `new`, `find` and `find_empty` (where a new object goes), `occupy` and
-//! `free` (an object that comes or goes), `next_object`, `start_of` (whose word an address is),
-//! `page_bucket` and the readers of one object, and the counts `objects`, `used`, `pages_in_use`;
-//! `survey`, which looks at a page again after a sweep. Inside, a table tells of each page how many
-//! objects have a word in it, their bucket and where they start, and `gaps` where a search is worth
-//! its time: bounds for the gaps that begin in each block of 64 words of a page (`tree`), the least
-//! word that may be free, and for each size the first page worth a look. `walking` goes from object
-//! to object, `surveying` works out bounds, `passing` the first page. Below is `page_words`.
+//! `free` (an object that comes or goes), `next_object` and `start_from` (where the next object
+//! starts), `start_of` (whose word an address is), `page_bucket` and the readers of one object, and
+//! the counts `objects`, `used`, `pages_in_use`; `survey`, which looks at a page again after a sweep.
+//! Inside, a table tells of each page how many objects have a word in it, their bucket and where
+//! they start, and `gaps` where a search is worth its time: bounds for the gaps that begin in each
+//! block of 64 words of a page (`tree`), the least word that may be free, and for each size the first
+//! page worth a look. `walking` goes from object to object. Below is `page_words`.
 //!
 //! | size in words | bucket |
 //! |---|---|

@@ -37,7 +37,7 @@ impl Space {
 
     /// The lowest place from an address up to, and without, `end`, or `end`. It looks at a
     /// word of start bits at a time.
-    pub(crate) fn start_from(&self, seat: &mut MutatorSeat, from: u32, end: u32) -> u32
+    pub fn start_from(&self, seat: &mut MutatorSeat, from: u32, end: u32) -> u32
         requires heap { IsSeatOf self.now seat.old }
         requires order { from ≤ end }
         requires end { end ≤ word_count self.now.shape }
