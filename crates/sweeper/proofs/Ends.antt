@@ -1,0 +1,76 @@
+-- What is true where all is swept, and how many dead there can be.
+use Rattle.std.proofs.Common.{◌≡◌, ℕ, ◌*◌, ◌<◌, ◌≤◌, true, false, not, ◌&&◌, List, [], ◌∷◌, refl, sym, ap, ◌∙◌, inl, inr, arith, eqb, leb}
+use Rattle.std.specs.List.{Contains, filter}
+use Rattle.std.proofs.lemmas.Bool.{true≢false, cases_lt, and_right, or_left, eq-eqb}
+use Rattle.std.proofs.lemmas.List.Elements.{All-contains}
+use Rattle.gc_graph.specs.Placement.{Extent}
+use Rattle.page_words.specs.Bodies.{Body, IsPlace, IsWhole}
+use Rattle.page_words.specs.Seat.{SeatView, IsView, IsQuiet, holds}
+use Rattle.page_space.specs.Pages.{word_count, is_between}
+use Rattle.page_space.specs.Space.{SpaceView, IsSpaceOf, extent_of}
+use Rattle.sweeper.specs.Sweeping.{IsClearBelow, is_dead_in, swept_in, all_swept, dead_from, outside}
+use Rattle.sweeper.proofs.Filters.{filter_same}
+use Rattle.sweeper.proofs.Places.{between, outside_none}
+use Rattle.sweeper.proofs.Sweeping.{changed_same, unmarked_without_body, undead_without_body, untraced_if_unmarked}
+use Rattle.sweeper.proofs.Counts.{count_half}
+
+body_below : (v : SeatView) (b : Body) → IsView v → Contains v.bodies b → b.place < v.count
+body_below v b view there =
+    let whole : IsWhole v.count b = All-contains (IsWhole v.count) v.bodies b view.whole there in
+    omega (arith, whole.inside, whole.fields)
+
+place_below : (v : SeatView) (a : ℕ) → IsView v → IsPlace v.bodies a → a < v.count
+place_below v a view at = omega (arith, body_below v at.0 view at.1, at.2)
+
+no_place_behind : (v : SeatView) (a : ℕ) → IsView v → v.count ≤ a → IsPlace v.bodies a → ⊥
+no_place_behind v a view high at = omega (arith, place_below v a view at)
+
+-- a list that holds no place is empty
+holds_nothing : (places : List ℕ) → ((x : ℕ) → holds places x ≡ false) → places ≡ []
+holds_nothing [] none = refl
+holds_nothing (p ∷ places) none = absurd (true≢false (sym (or_left (eqb p p) (holds places p) (eq-eqb p p refl)) ∙ none p))
+
+-- a heap is quiet where nothing below its end is marked, traced or dead
+pub quiet_end : (v : SeatView) → IsView v → v.on ≡ false → IsClearBelow v.count v → IsQuiet v
+quiet_end v view off clear =
+    let unmarked : (x : ℕ) → holds v.marked x ≡ false = λ x. elim (cases_lt x v.count) [
+      | inl low ↦ clear.marked x low
+      | inr high ↦ unmarked_without_body v x view (no_place_behind v x view high)
+    ] in
+    record {
+      off = off;
+      marked = holds_nothing v.marked unmarked;
+      traced = holds_nothing v.traced (λ x. untraced_if_unmarked v x view (unmarked x));
+      dead = holds_nothing v.dead (λ x. elim (cases_lt x v.count) [
+        | inl low ↦ clear.dead x low
+        | inr high ↦ undead_without_body v x view (no_place_behind v x view high)
+      ]);
+    }
+
+-- what is held lies from the cursor up to the end
+held_between : (from : ℕ) (v : SeatView) (places : List ℕ) → IsView v → ((a : ℕ) → a < from → holds places a ≡ false)
+    → ((a : ℕ) → holds places a ≡ true → IsPlace v.bodies a) → (a : ℕ) → holds places a ≡ true → is_between from v.count a ≡ true
+held_between from v places view none at a held = elim (cases_lt a from) [
+  | inl low ↦ absurd (true≢false (sym held ∙ none a low))
+  | inr high ↦ between from v.count a high (place_below v a view (at a held))
+]
+
+-- a sweep to the end leaves nothing that is marked, traced or dead, where there was nothing of it below its beginning
+pub all_end : (from : ℕ) (v : SeatView) → IsView v → IsClearBelow from v → swept_in from v.count v ≡ all_swept v
+all_end from v view clear =
+    changed_same v (filter (λ b. not (is_dead_in from v.count v b)) v.bodies) (filter (λ (b : Body). not (holds v.dead b.place)) v.bodies)
+    (outside from v.count v.marked) [] (outside from v.count v.traced) [] (outside from v.count v.dead) []
+    (filter_same (λ b. not (is_dead_in from v.count v b)) (λ (b : Body). not (holds v.dead b.place)) v.bodies (λ b there. ap not (elim (cases_lt b.place from) [
+      | inl low ↦ and_right (is_between from v.count b.place) _ (clear.dead b.place low) ∙ sym (clear.dead b.place low)
+      | inr high ↦ ap (λ t. t && holds v.dead b.place) (between from v.count b.place high (body_below v b view there))
+    ])))
+    (outside_none from v.count v.marked (held_between from v v.marked view clear.marked view.marked_are_bodies))
+    (outside_none from v.count v.traced
+    (held_between from v v.traced view clear.traced (λ a traced. view.marked_are_bodies a (view.traced_are_marked a traced))))
+    (outside_none from v.count v.dead (held_between from v v.dead view clear.dead (λ a dead. (view.dead_are_unmarked a dead).0)))
+
+-- each dead body has two words at least
+pub dead_few : (space : SpaceView) (v : SeatView) (from : ℕ) → IsSpaceOf space v → 2 * dead_from from v ≤ word_count space.shape
+dead_few space v from over =
+    let half = count_half (λ (b : Body). leb from b.place && holds v.dead b.place) extent_of (λ (e : Extent). e.size) v.bodies over.sizes in
+    omega (arith, half, over.free, over.seat)
