@@ -18,22 +18,25 @@ module _ {X : Type 0} where
   count_cons : (p : X → Bool) (x : X) (xs : List X) → count_by p (x ∷ xs) ≡ one (p x) + count_by p xs
   count_cons p x xs = sum_by-cons (λ y. cond (p y) 1 0) x xs
 
+  -- one element more at the front
+  count_step : (p q : X → Bool) (keep : X → Bool) (x : X) (xs : List X) (n : ℕ) → (keep x ≡ true → q x ≡ true → p x ≡ true)
+      → n + count_by q (filter keep xs) ≤ count_by p xs → n + count_by q (filter keep (x ∷ xs)) ≤ count_by p (x ∷ xs)
+  count_step p q keep x xs n less rest = elim (cases_Bool (keep x)) [
+    | inl kept ↦
+        (let head : one (q x) ≤ one (p x) = elim (cases_Bool (q x)) [
+          | inl passes ↦ omega (arith, one_is (q x) passes, one_is (p x) (less kept passes))
+          | inr fails ↦ omega (arith, one_isnt (q x) fails)
+        ] in
+        omega (arith, rest, head, count_cons p x xs, count_cons q x (filter keep xs), ap (count_by q) (cond-true (keep x) (x ∷ filter keep xs) (filter keep xs) kept)))
+    | inr dropped ↦
+        omega (arith, rest, count_cons p x xs, ap (count_by q) (cond-false (keep x) (x ∷ filter keep xs) (filter keep xs) dropped))
+  ]
+
   -- what is left by a filter and passes one test passed the other
   pub count_left : (p q : X → Bool) (keep : X → Bool) (xs : List X) → ((x : X) → keep x ≡ true → q x ≡ true → p x ≡ true)
       → count_by q (filter keep xs) ≤ count_by p xs
   count_left p q keep [] less = omega arith
-  count_left p q keep (x ∷ xs) less =
-      let rest : count_by q (filter keep xs) ≤ count_by p xs = count_left p q keep xs less in
-      elim (cases_Bool (keep x)) [
-        | inl kept ↦
-            (let head : one (q x) ≤ one (p x) = elim (cases_Bool (q x)) [
-              | inl passes ↦ omega (arith, one_is (q x) passes, one_is (p x) (less x kept passes))
-              | inr fails ↦ omega (arith, one_isnt (q x) fails)
-            ] in
-            omega (arith, rest, head, count_cons p x xs, count_cons q x (filter keep xs), ap (count_by q) (cond-true (keep x) (x ∷ filter keep xs) (filter keep xs) kept)))
-        | inr dropped ↦
-            omega (arith, rest, count_cons p x xs, ap (count_by q) (cond-false (keep x) (x ∷ filter keep xs) (filter keep xs) dropped))
-      ]
+  count_left p q keep (x ∷ xs) less = omega (arith, count_step p q keep x xs 0 (less x) (omega (arith, count_left p q keep xs less)))
 
   -- and one fewer is left where one that passed is dropped
   pub count_less : (p q : X → Bool) (keep : X → Bool) (xs : List X) (b : X) → ((x : X) → keep x ≡ true → q x ≡ true → p x ≡ true)
@@ -41,26 +44,14 @@ module _ {X : Type 0} where
   count_less p q keep [] b less there passed dropped = absurd (omega (arith, there.1))
   count_less p q keep (x ∷ xs) b less there passed dropped = elim (contains_cases x xs b there) [
     | inl here ↦
-        (let rest : count_by q (filter keep xs) ≤ count_by p xs = count_left p q keep xs less in
         omega (
           arith,
-          rest,
+          count_left p q keep xs less,
           count_cons p x xs,
           one_is (p x) (ap p here ∙ passed),
           ap (count_by q) (cond-false (keep x) (x ∷ filter keep xs) (filter keep xs) (ap keep here ∙ dropped)),
-        ))
-    | inr later ↦
-        (let rest : 1 + count_by q (filter keep xs) ≤ count_by p xs = count_less p q keep xs b less later passed dropped in
-        elim (cases_Bool (keep x)) [
-          | inl kept ↦
-              (let head : one (q x) ≤ one (p x) = elim (cases_Bool (q x)) [
-                | inl passes ↦ omega (arith, one_is (q x) passes, one_is (p x) (less x kept passes))
-                | inr fails ↦ omega (arith, one_isnt (q x) fails)
-              ] in
-              omega (arith, rest, head, count_cons p x xs, count_cons q x (filter keep xs), ap (count_by q) (cond-true (keep x) (x ∷ filter keep xs) (filter keep xs) kept)))
-          | inr gone ↦
-              omega (arith, rest, count_cons p x xs, ap (count_by q) (cond-false (keep x) (x ∷ filter keep xs) (filter keep xs) gone))
-        ])
+        )
+    | inr later ↦ count_step p q keep x xs 1 (less x) (count_less p q keep xs b less later passed dropped)
   ]
 
   pub count_some : (p : X → Bool) (xs : List X) (b : X) → Contains xs b → p b ≡ true → 1 ≤ count_by p xs

@@ -12,7 +12,7 @@ use Rattle.sweeper.specs.Sweeping.{IsJudgedFrom, IsClearBelow, outside, is_dead_
 use Rattle.sweeper.proofs.Filters.{filter_filter, filter_all, filtered_was_there}
 use Rattle.sweeper.proofs.Places.{between, before, behind, is_first, is_last, outside_on, outside_all, outside_one, outside_behind, outside_before, outside_between, only}
 use Rattle.sweeper.proofs.Serials.{serials_none, serials_kept, serials_one, serials_on}
-use Rattle.sweeper.proofs.Counts.{count_less, count_fewer}
+use Rattle.sweeper.proofs.Counts.{count_less, count_fewer, count_some}
 
 -- ---- what holds at no body's place holds nowhere
 
@@ -136,6 +136,11 @@ one_gone a v b numbers view there at gone =
           there (and_from _ _ (le-leb a b.place (omega arith)) (ap (holds v.dead) at ∙ gone)) (ap not (eq-eqb b.place a at)) in
           omega (arith, fewer, length_push numbers b.serial));
     }
+
+pub dead_here : (a : ℕ) (v : SeatView) (b : Body) → Contains v.bodies b → b.place ≡ a → holds v.dead a ≡ true → 1 ≤ dead_from a v
+dead_here a v b there at gone =
+    count_some (λ c. leb a c.place && holds v.dead c.place) v.bodies b there
+    (and_from _ _ (le-leb a b.place (omega arith)) (ap (holds v.dead) at ∙ gone))
 
 -- ---- one part after another
 

@@ -1,9 +1,9 @@
-use Rattle.std.proofs.Common.{◌≡◌, ◌+◌, not, subst, sym, ap, ◌∙◌}
+use Rattle.std.proofs.Common.{◌≡◌, ◌+◌, ◌≤◌, true, not, arith, subst, sym, ap, ◌∙◌}
 use Rattle.object_headers.specs.declared.header.Header.{Header}
 use Rattle.page_words.specs.Bodies.{IsPlace}
 use Rattle.page_words.specs.Seat.{SeatView, holds, unmarked_at, retracted}
-use Rattle.sweeper.specs.Sweeping.{Sweeps}
-use Rattle.sweeper.proofs.Sweeping.{one_kept, one_gone, alone}
+use Rattle.sweeper.specs.Sweeping.{Sweeps, dead_from}
+use Rattle.sweeper.proofs.Sweeping.{one_kept, one_gone, alone, dead_here}
 use Rattle.sweeper.proofs.objects.sweep_object.Goals as goal
 
 pub returns-then-header-clause-swept : goal.returns-then-header-clause-swept
@@ -20,6 +20,16 @@ returns-then-header-clause-alone c =
     let start : IsPlace c.args.seat.now.bodies c.args.a = c.requires.start in
     alone c.args.seat.now start.0 c.args.a c.header_at-header.result.size c.bodies_lie_apart.ensures start.1 start.2
     (ap (λ (h : Header). h.size) (c.header_at-header.ensures.header start.0 start.1 start.2))
+
+-- a dead object is one of those for which there is room
+pub push_reserved-requires : goal.push_reserved-requires
+push_reserved-requires c =
+    let start : IsPlace c.args.seat.now.bodies c.args.a = c.requires.start in
+    let marked : c.header_at-header.result.mark ≡ holds c.args.seat.now.marked c.args.a =
+    ap (λ (h : Header). h.mark) (c.header_at-header.ensures.header start.0 start.1 start.2) ∙ ap (holds c.args.seat.now.marked) start.2 in
+    let dead : holds c.args.seat.now.dead c.args.a ≡ true = c.requires.judged ∙ ap not (sym marked ∙ c.if-header.false) in
+    let one : 1 ≤ dead_from c.args.a c.args.seat.now = dead_here c.args.a c.args.seat.now start.0 start.1 start.2 dead in
+    omega (arith, one, c.requires.room)
 
 pub returns-else-header-clause-swept : goal.returns-else-header-clause-swept
 returns-else-header-clause-swept c =

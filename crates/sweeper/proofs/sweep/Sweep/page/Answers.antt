@@ -1,4 +1,5 @@
-use Rattle.std.proofs.Common.{rules, ◌≡◌, ℕ, ◌+◌, ◌-◌, ◌*◌, ◌^◌, ◌<◌, ◌≤◌, subst, sym, ap, ◌∙◌, arith}
+use Rattle.std.proofs.Common.{rules, length, ◌≡◌, ℕ, ◌+◌, ◌-◌, ◌*◌, ◌^◌, ◌<◌, ◌≤◌, subst, sym, ap, ◌∙◌, arith}
+use Rattle.std.proofs.lemmas.List.{length-append}
 use Rattle.gc_graph.specs.State.{Shape}
 use Rattle.page_words.specs.Bodies.{Body}
 use Rattle.page_words.specs.Seat.{SeatView}
@@ -78,3 +79,9 @@ returns-clause-quiet c clear over =
     quiet_end c.survey.new.seat c.bodies_lie_apart.ensures (ap (λ (w : SeatView). w.on) (swept c).view ∙ c.requires.sweeping.off)
     (subst (λ n. IsClearBelow n c.survey.new.seat) all
     (clear_on (cursor_at c.args.space.now.shape c.args.self.now) (until c) c.args.seat.now c.survey.new.seat (swept c).view clear))
+
+pub returns-clause-finalised : goal.returns-clause-finalised
+returns-clause-finalised c =
+    let told : length c.sweep_objects.new.done.items ≡ length c.args.done.now.items + length (swept c).told.numbers =
+    ap length (swept c).told.follow ∙ length-append c.args.done.now.items (swept c).told.numbers in
+    omega (arith, told, c.len.ensures, c.len-before.ensures)
