@@ -1,0 +1,15 @@
+pub mod Nodes
+pub mod Places
+pub mod Judgement
+pub mod Lists
+pub mod PlaceBodies
+pub mod NodeBodies
+pub mod NodePlaces
+pub mod NodeChanges
+pub mod NodeLives
+pub mod TypedNodes
+pub mod FieldKinds
+pub mod BodyGraph
+pub mod NodeGraph
+pub mod WeakNodes
+pub mod KeptNodes

@@ -1,0 +1,102 @@
+-- How the bodies change with the nodes.
+use Rattle.std.proofs.Common.{◌≡◌, ℕ, suc, ◌+◌, Bool, true, false, not, List, [], ◌∷◌, map, filter, refl, sym, ap, ◌∙◌, inl, inr, cond}
+use Rattle.std.specs.List.{All}
+use Rattle.std.proofs.lemmas.Bool.{true≢false, cases_Bool}
+use Rattle.std.proofs.lemmas.List.Elements.{All-head, All-tail}
+use Rattle.gc_graph.specs.declared.kind.Value.{Value}
+use Rattle.gc_graph.specs.declared.kind.Value.TheVariants.{Null, Ref, Word}
+use Rattle.gc_graph.specs.State.{Node, Life, node_at, is_there, is_dead, size_of}
+use Rattle.gc_graph.specs.State.Life.{Live, Dead, Gone}
+use Rattle.gc_graph.specs.Pause.{judged, condemn}
+use Rattle.gc_graph.specs.Sweep.{buried}
+use Rattle.node_bodies.specs.Nodes.{bury, word_of, body_of, bodies_from, IsThere}
+use Rattle.page_words.specs.Bodies.{Body}
+use Rattle.node_bodies.specs.NodeBodies.{bodies-there, bodies-gone}
+
+-- two functions agree on the node that the value names
+abbrev pub AgreeOn : (ℕ → ℕ) → (ℕ → ℕ) → Value → Type 0
+AgreeOn f g Null = Unit {0}
+AgreeOn f g (Ref n) = f n ≡ g n
+AgreeOn f g (Word w) = Unit {0}
+
+-- and on all that the node names
+abbrev pub AgreeIn : (ℕ → ℕ) → (ℕ → ℕ) → Node → Type 0
+AgreeIn f g x = All (AgreeOn f g) x.object.values
+
+pub agrees : (f g : ℕ → ℕ) (v : Value) → ((n : ℕ) → f n ≡ g n) → AgreeOn f g v
+agrees f g Null same = tt
+agrees f g (Ref n) same = same n
+agrees f g (Word w) same = tt
+
+word-places : (f g : ℕ → ℕ) (v : Value) → AgreeOn f g v → word_of f v ≡ word_of g v
+word-places f g Null same = refl
+word-places f g (Ref n) same = ap (λ p. p + 1) same
+word-places f g (Word w) same = refl
+
+words-places : (f g : ℕ → ℕ) (vs : List Value) → All (AgreeOn f g) vs → map (word_of f) vs ≡ map (word_of g) vs
+words-places f g [] same = refl
+words-places f g (v ∷ vs) same =
+    ap (λ w. w ∷ map (word_of f) vs) (word-places f g v (All-head (AgreeOn f g) v vs same))
+    ∙ ap (λ ws. word_of g v ∷ ws) (words-places f g vs (All-tail (AgreeOn f g) v vs same))
+
+body-places : (f g : ℕ → ℕ) (k : ℕ) (x : Node) → AgreeIn f g x → body_of f k x ≡ body_of g k x
+body-places f g k x same =
+    ap (λ ws. let b : Body = record { place = x.place; ty = x.object.ty; size = size_of x; serial = k; fields = ws } in b) (words-places f g x.object.values same)
+
+-- the bodies depend on the places of the nodes that are named
+pub bodies-places : (f g : ℕ → ℕ) (k : ℕ) (nodes : List Node) → All (AgreeIn f g) nodes → bodies_from f k nodes ≡ bodies_from g k nodes
+bodies-places f g k [] same = refl
+bodies-places f g k (x ∷ nodes) same =
+    let first : body_of f k x ≡ body_of g k x = body-places f g k x (All-head (AgreeIn f g) x nodes same) in
+    let rest : bodies_from f (suc k) nodes ≡ bodies_from g (suc k) nodes = bodies-places f g (suc k) nodes (All-tail (AgreeIn f g) x nodes same) in
+    ap (λ b. cond (is_there x.life) (b ∷ bodies_from f (suc k) nodes) (bodies_from f (suc k) nodes)) first
+    ∙ ap (λ bs. cond (is_there x.life) (body_of g k x ∷ bs) bs) rest
+
+pub bodies-same : (f g : ℕ → ℕ) (nodes : List Node) → ((n : ℕ) → f n ≡ g n) → bodies_from f 0 nodes ≡ bodies_from g 0 nodes
+bodies-same f g nodes same = bodies-places f g 0 nodes (λ i x low j v inside. agrees f g _ same)
+
+there-judged : (flag : Bool) (l : Life) → is_there (judged flag l) ≡ is_there l
+there-judged true l = refl
+there-judged false Live = refl
+there-judged false Dead = refl
+there-judged false Gone = refl
+
+-- a condemned node keeps its body
+pub bodies-condemn : (f : ℕ → ℕ) (k : ℕ) (kept : List Bool) (nodes : List Node) → bodies_from f k (condemn kept nodes) ≡ bodies_from f k nodes
+bodies-condemn f k [] [] = refl
+bodies-condemn f k (flag ∷ kept) [] = refl
+bodies-condemn f k [] (x ∷ nodes) =
+    ap (λ b. cond b (body_of f k x ∷ bodies_from f (suc k) (condemn [] nodes)) (bodies_from f (suc k) (condemn [] nodes))) (there-judged false x.life)
+    ∙ ap (λ bs. cond (is_there x.life) (body_of f k x ∷ bs) bs) (bodies-condemn f (suc k) [] nodes)
+bodies-condemn f k (flag ∷ kept) (x ∷ nodes) =
+    ap (λ b. cond b (body_of f k x ∷ bodies_from f (suc k) (condemn kept nodes)) (bodies_from f (suc k) (condemn kept nodes))) (there-judged flag x.life)
+    ∙ ap (λ bs. cond (is_there x.life) (body_of f k x ∷ bs) bs) (bodies-condemn f (suc k) kept nodes)
+
+there-buried : (l : Life) → is_there l ≡ true → is_there (buried l) ≡ not (is_dead l)
+there-buried Live is = refl
+there-buried Dead is = refl
+there-buried Gone is = absurd (true≢false (sym is))
+
+gone-buried : (l : Life) → is_there l ≡ false → is_there (buried l) ≡ false
+gone-buried Live is = absurd (true≢false is)
+gone-buried Dead is = refl
+gone-buried Gone is = refl
+
+-- the bodies of the dead nodes go, where a test of places tells which these are
+pub bodies-finalise : (f : ℕ → ℕ) (k : ℕ) (nodes : List Node) (dead : ℕ → Bool)
+    → ((n : ℕ) → IsThere nodes n → dead (node_at nodes n).place ≡ is_dead (node_at nodes n).life)
+    → bodies_from f k (map bury nodes) ≡ filter (λ (b : Body). not (dead b.place)) (bodies_from f k nodes)
+bodies-finalise f k [] dead tells = refl
+bodies-finalise f k (x ∷ nodes) dead tells =
+    let kept : List Body = filter (λ (b : Body). not (dead b.place)) (bodies_from f (suc k) nodes) in
+    let rest : bodies_from f (suc k) (map bury nodes) ≡ kept = bodies-finalise f (suc k) nodes dead (λ n there. tells (suc n) there) in
+    elim (cases_Bool (is_there x.life)) [
+      | inl present ↦
+          (let test : is_there (buried x.life) ≡ not (dead x.place) = there-buried x.life present ∙ ap not (sym (tells 0 present)) in
+          ap (λ b. cond b (body_of f k x ∷ bodies_from f (suc k) (map bury nodes)) (bodies_from f (suc k) (map bury nodes))) test
+          ∙ ap (λ bs. cond (not (dead x.place)) (body_of f k x ∷ bs) bs) rest
+          ∙ sym (ap (filter (λ (b : Body). not (dead b.place))) (bodies-there f k x nodes present)))
+      | inr gone ↦
+          ap (λ b. cond b (body_of f k x ∷ bodies_from f (suc k) (map bury nodes)) (bodies_from f (suc k) (map bury nodes))) (gone-buried x.life gone)
+          ∙ rest ∙ sym (ap (filter (λ (b : Body). not (dead b.place))) (bodies-gone f k x nodes gone))
+    ]

@@ -1,0 +1,18 @@
+-- The places that slots hold, and the nodes whose places are marked.
+use Rattle.std.specs.Prelude.{◌≡◌, ℕ, Bool, ◌&&◌, not, List, map, Option, option_map, Contains}
+use Rattle.gc_graph.specs.State.{Node, is_live}
+use Rattle.page_words.specs.Bodies.{Body}
+use Rattle.page_words.specs.Seat.{SeatView, holds}
+use Rattle.node_bodies.specs.Nodes.{place_of}
+
+-- the places of what the slots name
+abbrev pub places_of : List Node → List (Option ℕ) → List (Option ℕ)
+places_of nodes slots = map (λ slot. option_map (place_of nodes) slot) slots
+
+-- the live nodes whose places are marked
+abbrev pub kept_of : (ℕ → Bool) → List Node → List Bool
+kept_of marked nodes = map (λ node. is_live node.life && marked node.place) nodes
+
+-- each body is dead or marked, and not both
+abbrev pub IsJudged : SeatView → Type 0
+IsJudged v = (b : Body) → Contains v.bodies b → holds v.dead b.place ≡ not (holds v.marked b.place)
