@@ -1,5 +1,5 @@
 -- A collection is a step of the graph.
-use Rattle.std.proofs.Common.{◌≡◌, ℕ, zero, suc, ◌+◌, ◌-◌, Bool, true, false, not, All, List, [], ◌∷◌, ◌++◌, length, filter, replicate, Option, refl, sym, ap, ◌∙◌, subst, inl, inr, arith, eqb}
+use Rattle.std.proofs.Common.{◌≡◌, ℕ, zero, suc, ◌+◌, Bool, true, false, not, All, List, [], ◌∷◌, ◌++◌, length, filter, replicate, Option, Some, None, map, cond, refl, sym, ap, ◌∙◌, subst, inl, inr, arith, eqb}
 use mathlib.Core.Logic.{◌⊎◌}
 use Rattle.std.specs.Prelude.{MatchBool}
 use Rattle.std.specs.List.{list_any}
@@ -15,34 +15,38 @@ use Rattle.gc_graph.specs.declared.region.Entry.{Entry}
 use Rattle.gc_graph.specs.declared.region.Op.TheVariants as O
 use Rattle.gc_graph.specs.Graph.{Object, IsIn, IsWithin}
 use Rattle.gc_graph.specs.Reach.{Reach, AreNodes, RefersWithin, ReachIsLeast}
-use Rattle.gc_graph.specs.State.{Setup, State, Node, node_at, RegionSlot, Registration, graph_of, roots_of, slot_targets, stack_targets, strong_region_targets, objects_of}
+use Rattle.gc_graph.specs.State.{Setup, State, Node, node_at, is_live, is_dead, RegionSlot, Registration, graph_of, roots_of, slot_targets, stack_targets, strong_region_targets}
 use Rattle.gc_graph.specs.State.RegionSlot.{Vacant}
 use Rattle.gc_graph.specs.May.{members, members_from, marking}
 use Rattle.gc_graph.specs.History.{cleared_by, NamesWeakSlots}
-use Rattle.gc_graph.specs.Pause.{IsKept, condemn, dies, dying_slots, run_order, prefinalised, prefinalise_lines, live_count, dead_count, paused}
+use Rattle.gc_graph.specs.Pause.{IsKept, condemn, dies, clear_slot, is_dead_at, dying_slots, run_order, prefinalised, prefinalise_lines, live_count, dead_count, paused}
 use Rattle.gc_graph.specs.Outcomes.{answered, finalise_lines, took, owner_entry}
 use Rattle.gc_graph.specs.Sweep.{SweepsToEnd}
 use Rattle.gc_graph.specs.CycleSteps.{IsStart, IsPause, IsCollection, StepGcNow, WantsMemory, is_marking, is_stack_refused}
 use Rattle.gc_graph.specs.ActionLaw.{HaveStayed}
-use Rattle.callback_table.specs.Registry.{registration_of, registrations_of, pairs_run, entries_left}
-use Rattle.heap_engine.specs.View.{places_of, start_entry, pause_entry}
+use Rattle.callback_table.specs.Registry.{RegistryView, registration_of, registrations_of}
+use Rattle.atomic_pause.specs.Pausing.{IsPaused}
+use Rattle.heap_engine.specs.View.{start_entry, pause_entry}
+use Rattle.node_bodies.specs.Places.{places_of, IsJudged}
+use Rattle.node_bodies.specs.Judgement.{nodes_after, IsReached}
 use Rattle.heap_engine.specs.Stack.{HoldsWords}
-use Rattle.heap_engine.specs.Judgement.{IsJudgement, nodes_after, weak_after}
 use Rattle.heap_engine.specs.Changes.{collected_from}
 use Rattle.heap_engine.specs.Printed.{ran_lines}
 use Rattle.heap_engine.specs.Parts.{ObjectsView, HandlesView, CycleView, setup_of_objects, state_of, counted, HasMarks, IsPlaced, IsAtRest, IsReady, IsFrame}
-use Rattle.heap_engine.specs.Nodes.{place_of}
-use Rattle.heap_engine.specs.Sweeping.{IsJudged}
-use Rattle.heap_engine.proofs.NodeLives.{live_and_dead}
-use Rattle.heap_engine.proofs.WeakNodes.{life-after, place-after, length-after, live-after, dead-after}
-use Rattle.heap_engine.proofs.KeptNodes.{refers_within}
-use Rattle.heap_engine.proofs.Registrations.{same_order, registrations_left, lines_ran, counts_run}
+use Rattle.node_bodies.specs.Nodes.{place_of}
+use Rattle.node_bodies.specs.WeakNodes.{life-after, place-after, length-after, live-after, dead-after, count-stays}
+use Rattle.node_bodies.specs.KeptNodes.{refers_within}
+use Rattle.heap_engine.proofs.Registrations.{registrations_left, lines_ran, counts_run}
 use Rattle.heap_engine.proofs.StackWords.{words_held}
 use Rattle.heap_engine.proofs.Ties.{valid_nodes, places-same, placed_still}
 
 -- the line of a pause that kept and condemned these, and walked the heap or not
 abbrev pub pause_line : List Node → Bool → Line
 pause_line nodes walked = L.Pause (live_count nodes) (dead_count nodes) 0 (live_count nodes) walked
+
+-- the weak slots that name a condemned node are null
+abbrev pub weak_after : List Bool → List Node → List (Option ℕ) → List (Option ℕ)
+weak_after kept nodes weak = map (clear_slot (is_dead_at (condemn kept nodes))) weak
 
 -- the state after the pause of a collection that was started from this one
 abbrev pub collected_state : Setup → State → List Bool → State
@@ -54,17 +58,24 @@ collected_state setup s kept = record (collected_from s) {
 }
 
 -- the line of a pause counts the nodes that it kept and condemned
-pub pause_counts : (nodes : List Node) (objects marked : ℕ) (walked : Bool) → objects ≡ objects_of nodes → marked ≡ live_count nodes
-    → L.Pause marked (objects - marked) 0 marked walked ≡ pause_line nodes walked
-pause_counts nodes objects marked walked all live =
-    let dead : objects - marked ≡ dead_count nodes = omega (arith, all, live, live_and_dead nodes) in
-    ap (λ k. L.Pause k (objects - marked) 0 k walked) live ∙ ap (λ d. L.Pause (live_count nodes) d 0 (live_count nodes) walked) dead
+pub pause_counts : (nodes : List Node) (kept dead traced : ℕ) (walked : Bool) → kept ≡ live_count nodes → dead ≡ dead_count nodes → traced ≡ kept
+    → L.Pause kept dead 0 traced walked ≡ pause_line nodes walked
+pause_counts nodes kept dead traced walked live gone all =
+    ap (λ t. L.Pause kept dead 0 t walked) all ∙ ap (λ k. L.Pause k dead 0 k walked) live ∙ ap (λ d. L.Pause (live_count nodes) d 0 (live_count nodes) walked) gone
 
--- clearing leaves the counts
-pub pause_line_after : (kept : List Bool) (nodes : List Node) (walked : Bool) → pause_line (nodes_after kept nodes) walked ≡ pause_line (condemn kept nodes) walked
-pause_line_after kept nodes walked =
-    ap (λ k. L.Pause k (dead_count (nodes_after kept nodes)) 0 k walked) (live-after kept nodes)
-    ∙ ap (λ d. L.Pause (live_count (condemn kept nodes)) d 0 (live_count (condemn kept nodes)) walked) (dead-after kept nodes)
+-- clearing and prefinalizers leave the counts
+pub pause_line_after : (kept : List Bool) (nodes new : List Node) (walked : Bool) → HaveStayed (nodes_after kept nodes) new → pause_line new walked ≡ pause_line (condemn kept nodes) walked
+pause_line_after kept nodes new walked stayed =
+    let live : live_count new ≡ live_count (condemn kept nodes) = count-stays is_live (nodes_after kept nodes) new stayed.count stayed.life ∙ live-after kept nodes in
+    let dead : dead_count new ≡ dead_count (condemn kept nodes) = count-stays is_dead (nodes_after kept nodes) new stayed.count stayed.life ∙ dead-after kept nodes in
+    ap (λ k. L.Pause k (dead_count new) 0 k walked) live ∙ ap (λ d. L.Pause (live_count (condemn kept nodes)) d 0 (live_count (condemn kept nodes)) walked) dead
+
+-- the weak slots that are left
+clear_agree : (f g : ℕ → Bool) (slots : List (Option ℕ)) → ((n : ℕ) → f n ≡ g n) → map (clear_slot f) slots ≡ map (clear_slot g) slots
+clear_agree f g [] same = refl
+clear_agree f g (None ∷ slots) same = ap (λ l. None ∷ l) (clear_agree f g slots same)
+clear_agree f g (Some n ∷ slots) same =
+    ap (λ b. cond b None (Some n) ∷ map (clear_slot f) slots) (same n) ∙ ap (λ l. clear_slot g (Some n) ∷ l) (clear_agree f g slots same)
 
 -- ---- the members of a set
 
@@ -103,14 +114,13 @@ plain_roots ph s unused empty =
 abbrev pub started_state : State → State
 started_state s = marking (took s (start_entry ∷ []))
 
-pub pause_keeps : (ph : Phase) (s : State) (new : List Node) (weak : List (Option ℕ)) → ReachIsLeast → RefersWithin (graph_of s.nodes) → IsAtRest ph s → s.stack ≡ []
-    → (keeps : IsJudgement s.nodes s.slots s.weak new weak) → IsKept (took (started_state s) []) [] keeps.kept
-pause_keeps ph s new weak law refers unused empty keeps =
-    let kept : List Bool = keeps.kept in
+pub pause_keeps : (ph : Phase) (s : State) (kept : List Bool) → ReachIsLeast → RefersWithin (graph_of s.nodes) → IsAtRest ph s → s.stack ≡ []
+    → IsReached s.nodes (slot_targets s.slots ++ []) kept → IsKept (took (started_state s) []) [] kept
+pause_keeps ph s kept law refers unused empty keeps =
     let g : List Object = graph_of s.nodes in
-    let roots : roots_of s ≡ slot_targets s.slots = plain_roots ph s unused empty in
+    let roots : roots_of s ≡ slot_targets s.slots ++ [] = plain_roots ph s unused empty ∙ sym (append-nil (slot_targets s.slots)) in
     let may : List Bool = Reach g (roots_of s) in
-    let same : may ≡ Reach g (slot_targets s.slots) = ap (Reach g) roots in
+    let same : may ≡ Reach g (slot_targets s.slots ++ []) = ap (Reach g) roots in
     let nodes : AreNodes g (members may) = λ m root.
     let w = member_in 0 may m root in
     let is : IsIn kept w.0 = keeps.reached w.0 (subst (λ set. IsIn set w.0) same w.2) in
@@ -218,49 +228,39 @@ at_rest o h c rest = record {
   none_running = rest.none_running;
 }
 
--- from the old parts, through those after the end of an open sweep and the objects once they are judged, to those after the
--- pause
-pub record Collects (o mid judged new : ObjectsView) (h left : HandlesView) (c between after : CycleView) (numbers : List ℕ) : Type 0 where
+-- the registered prefinalizers
+abbrev pub registry_of : CycleView → RegistryView
+registry_of c = record { entries = c.registered; ran = c.ran }
+
+-- from the old parts, through those after the end of an open sweep, to those after the pause
+pub record Collects (o mid new : ObjectsView) (h left : HandlesView) (c between after : CycleView) (numbers : List ℕ) : Type 0 where
   pub before_rests : IsAtRest c.phase c.rest
   pub rests : IsAtRest between.phase between.rest
   pub ends : SweepsToEnd o.shape (state_of o h c) numbers (state_of mid h between)
   pub ready : IsReady mid h between
   pub stack_empty : h.stack.words ≡ []
   pub setup : setup_of_objects mid ≡ setup_of_objects o
-  pub judged_setup : setup_of_objects judged ≡ setup_of_objects mid
-  pub same_setup : setup_of_objects new ≡ setup_of_objects judged
-  pub judges : IsJudgement mid.nodes h.slots h.weak judged.nodes left.weak
-  pub nodes_are : new.nodes ≡ prefinalised mid.callbacks (run_order judged.nodes (registrations_of between.registered)) judged.nodes
-  pub stayed : HaveStayed judged.nodes new.nodes
-  pub registered_are : after.registered ≡ entries_left judged.nodes between.registered
-  pub ran_are : after.ran ≡ pairs_run judged.nodes between.registered
-  pub handles_left : left ≡ record h { weak_places = places_of judged.nodes left.weak; weak = left.weak }
+  pub same_setup : setup_of_objects new ≡ setup_of_objects mid
+  pub paused : IsPaused mid.callbacks (slot_targets h.slots ++ []) mid.nodes new.nodes (registry_of between) (registry_of after)
+  pub handles_left : left ≡ record h { weak_places = places_of new.nodes left.weak; weak = map (clear_slot (is_dead_at new.nodes)) h.weak }
   pub judged_marks : IsJudged new.seat
   pub phase : after.phase ≡ Sweeping
   pub rest : after.rest ≡ collected_from (state_of mid h between)
   pub ordinal : between.rest.ordinal ≡ c.rest.ordinal
 
--- judgement gave the nodes these lives
-lives_judged : (mid judged : List Node) (kept : List Bool) (n : ℕ) → judged ≡ nodes_after kept mid → (node_at judged n).life ≡ (node_at (condemn kept mid) n).life
-lives_judged mid judged kept n is = ap (λ (ns : List Node). (node_at ns n).life) is ∙ life-after kept mid n
-
-module _ (o mid judged new : ObjectsView) (h left : HandlesView) (c between after : CycleView) (numbers : List ℕ)
-    (is : Collects o mid judged new h left c between after numbers) where
+module _ (o mid new : ObjectsView) (h left : HandlesView) (c between after : CycleView) (numbers : List ℕ)
+    (is : Collects o mid new h left c between after numbers) where
   abbrev kept : List Bool
-  kept = is.judges.kept
+  kept = is.paused.kept
+
+  abbrev judged_nodes : List Node
+  judged_nodes = condemn kept mid.nodes
 
   abbrev registrations : List Registration
   registrations = registrations_of between.registered
 
-  lives : (n : ℕ) → (node_at judged.nodes n).life ≡ (node_at (condemn kept mid.nodes) n).life
-  lives n = lives_judged mid.nodes judged.nodes kept n is.judges.nodes_are
-
-  -- what the prefinalizers left of the nodes
-  nodes_left : new.nodes ≡ prefinalised mid.callbacks (run_order (condemn kept mid.nodes) registrations) (nodes_after kept mid.nodes)
-  nodes_left =
-      is.nodes_are
-      ∙ ap (λ rs. prefinalised mid.callbacks rs judged.nodes) (same_order judged.nodes (condemn kept mid.nodes) registrations lives)
-      ∙ ap (prefinalised mid.callbacks (run_order (condemn kept mid.nodes) registrations)) is.judges.nodes_are
+  lives : (n : ℕ) → (node_at new.nodes n).life ≡ (node_at judged_nodes n).life
+  lives n = is.paused.stayed.life n ∙ life-after kept mid.nodes n
 
   -- the state of the parts after the pause
   collected_parts : state_of new left after ≡ collected_state (setup_of_objects mid) (state_of mid h between) kept
@@ -268,18 +268,18 @@ module _ (o mid judged new : ObjectsView) (h left : HandlesView) (c between afte
       let build : List Node → HandlesView → List (Option ℕ) → List Registration → Phase → State → State = λ ns k weak rs ph r.
       record r { nodes = ns; slots = k.slots; weak = weak; stack = k.stack.words; registrations = rs; phase = ph } in
       let weak : List (Option ℕ) = weak_after kept mid.nodes h.weak in
-      let nodes : List Node = prefinalised mid.callbacks (run_order (condemn kept mid.nodes) registrations) (nodes_after kept mid.nodes) in
-      let rest : List Registration = filter (λ r. not (dies (condemn kept mid.nodes) r)) registrations in
-      ap (λ ns. build ns left left.weak (registrations_of after.registered) after.phase after.rest) nodes_left
-      ∙ ap (λ (k : HandlesView). build nodes k left.weak (registrations_of after.registered) after.phase after.rest) is.handles_left
-      ∙ ap (λ w. build nodes h w (registrations_of after.registered) after.phase after.rest) is.judges.weak_are
-      ∙ ap (λ rs. build nodes h weak rs after.phase after.rest)
-      (ap registrations_of is.registered_are ∙ registrations_left judged.nodes (condemn kept mid.nodes) between.registered lives)
+      let nodes : List Node = prefinalised mid.callbacks (run_order judged_nodes registrations) (nodes_after kept mid.nodes) in
+      let rest : List Registration = filter (λ r. not (dies judged_nodes r)) registrations in
+      ap (λ ns. build ns left left.weak (registrations_of after.registered) after.phase after.rest) is.paused.nodes_are
+      ∙ ap (λ (k : HandlesView). build nodes k k.weak (registrations_of after.registered) after.phase after.rest) is.handles_left
+      ∙ ap (λ w. build nodes h w (registrations_of after.registered) after.phase after.rest)
+      (clear_agree (is_dead_at new.nodes) (is_dead_at judged_nodes) h.weak (λ n. ap is_dead (lives n)))
+      ∙ ap (λ rs. build nodes h weak rs after.phase after.rest) (ap registrations_of is.paused.left ∙ registrations_left judged_nodes between.registered)
       ∙ ap (λ ph. build nodes h weak rest ph after.rest) is.phase
       ∙ ap (build nodes h weak rest Sweeping) is.rest
 
   pub collection_steps : (walked : Bool) (piece : List Entry) (lines : List Line) (told : Line) → ReachIsLeast → piece ≡ start_entry ∷ pause_entry ∷ []
-      → told ≡ pause_line judged.nodes walked → lines ≡ finalise_lines numbers ++ told ∷ ran_lines true after.ran
+      → told ≡ pause_line new.nodes walked → lines ≡ finalise_lines numbers ++ told ∷ ran_lines true after.ran
       → StepGcNow (setup_of_objects o) Precise (state_of o h c) piece lines (answered (state_of new left after))
   collection_steps walked piece lines told law taken told_is printed =
       let t : State = state_of mid h between in
@@ -288,43 +288,40 @@ module _ (o mid judged new : ObjectsView) (h left : HandlesView) (c between afte
       collects_or_not c.phase (setup_of_objects mid) (state_of o h c) piece lines (answered (state_of new left after)) (at_rest o h c is.before_rests) is.stack_empty refl
       (inr (step_collected between.phase (setup_of_objects mid) (state_of o h c) t (answered (state_of new left after)) numbers kept walked piece lines
       (subst (λ (st : Setup). SweepsToEnd st.shape (state_of o h c) numbers t) (sym is.setup) is.ends) rests
-      (pause_keeps between.phase t judged.nodes left.weak law (refers_within (setup_of_objects mid) mid.nodes (valid_nodes mid h between is.ready)) rests is.stack_empty is.judges)
+      (pause_keeps between.phase t kept law (refers_within (setup_of_objects mid) mid.nodes (valid_nodes mid h between is.ready)) rests is.stack_empty is.paused.reached)
       taken
       (printed
-      ∙ ap (λ l. finalise_lines numbers ++ l ∷ ran_lines true after.ran)
-      (told_is ∙ ap (λ ns. pause_line ns walked) is.judges.nodes_are ∙ pause_line_after kept mid.nodes walked)
-      ∙ ap (λ ls. finalise_lines numbers ++ pause_line (condemn kept mid.nodes) walked ∷ ls)
-      (ap (ran_lines true) is.ran_are ∙ lines_ran judged.nodes (condemn kept mid.nodes) between.registered lives))
+      ∙ ap (λ l. finalise_lines numbers ++ l ∷ ran_lines true after.ran) (told_is ∙ pause_line_after kept mid.nodes new.nodes walked is.paused.stayed)
+      ∙ ap (λ ls. finalise_lines numbers ++ pause_line judged_nodes walked ∷ ls)
+      (ap (ran_lines true) is.paused.ran ∙ lines_ran judged_nodes between.registered))
       (ap answered collected_parts))) in
       subst (λ (st : Setup). StepGcNow st Precise (state_of o h c) piece lines (answered (state_of new left after))) is.setup same
+
+  places : (n : ℕ) → place_of new.nodes n ≡ place_of mid.nodes n
+  places n = is.paused.stayed.place n ∙ place-after kept mid.nodes n
 
   -- the registrations that are left hold the places of their nodes
   registered_left : All (IsPlaced new.nodes (length new.callbacks)) after.registered
   registered_left =
-      let same : (n : ℕ) → place_of new.nodes n ≡ place_of mid.nodes n = λ n.
-      is.stayed.place n ∙ ap (λ (ns : List Node). place_of ns n) is.judges.nodes_are ∙ place-after kept mid.nodes n in
-      subst (All (IsPlaced new.nodes (length new.callbacks))) (sym is.registered_are)
-      (All-filter (λ e. not (dies judged.nodes (registration_of e))) (IsPlaced new.nodes (length new.callbacks)) between.registered
-      (placed_still mid new between.registered same (ap (λ (st : Setup). st.callbacks) (is.same_setup ∙ is.judged_setup)) is.ready.tied.registered))
+      subst (All (IsPlaced new.nodes (length new.callbacks))) (sym is.paused.left)
+      (All-filter (λ e. not (dies judged_nodes (registration_of e))) (IsPlaced new.nodes (length new.callbacks)) between.registered
+      (placed_still mid new between.registered places (ap (λ (st : Setup). st.callbacks) is.same_setup) is.ready.tied.registered))
 
   pub collection_frame : IsFrame o c new left (counted after)
   collection_frame =
       let ordinal : after.rest.ordinal ≡ c.rest.ordinal = ap (λ (s : State). s.ordinal) is.rest ∙ is.ordinal in
-      let judged_places : (n : ℕ) → place_of judged.nodes n ≡ place_of mid.nodes n = λ n.
-      ap (λ (ns : List Node). place_of ns n) is.judges.nodes_are ∙ place-after kept mid.nodes n in
-      let places : (n : ℕ) → place_of new.nodes n ≡ place_of mid.nodes n = λ n. is.stayed.place n ∙ judged_places n in
       record {
-        setup = is.same_setup ∙ is.judged_setup ∙ is.setup;
+        setup = is.same_setup ∙ is.setup;
         ordinal = ap (λ n. n + 1) ordinal;
         tied = record {
           slots = ap (λ (k : HandlesView). k.places) is.handles_left ∙ is.ready.tied.slots ∙ sym (places-same (place_of new.nodes) (place_of mid.nodes) h.slots places)
               ∙ sym (ap (λ (k : HandlesView). places_of new.nodes k.slots) is.handles_left);
-          weak = ap (λ (k : HandlesView). k.weak_places) is.handles_left ∙ sym (places-same (place_of new.nodes) (place_of judged.nodes) left.weak is.stayed.place);
+          weak = ap (λ (k : HandlesView). k.weak_places) is.handles_left;
           stack = subst (λ (k : HandlesView). HoldsWords new.nodes k.stack) (sym is.handles_left)
               (words_held mid.nodes new.nodes h.stack (λ k d low. places _) is.ready.tied.stack);
           registered = registered_left;
-          few = omega (arith, is.ready.tied.few, ordinal, is.ordinal, ap length is.registered_are, ap length is.ran_are, counts_run judged.nodes between.registered);
+          few = omega (arith, is.ready.tied.few, ordinal, is.ordinal, ap length is.paused.left, ap length is.paused.ran, counts_run judged_nodes between.registered);
           marks = subst (λ ph. HasMarks ph new.seat) (sym is.phase) is.judged_marks;
-          made = omega (arith, is.ready.tied.made, ordinal, is.ordinal, is.stayed.count, ap length is.judges.nodes_are, length-after kept mid.nodes);
+          made = omega (arith, is.ready.tied.made, ordinal, is.ordinal, is.paused.stayed.count, length-after kept mid.nodes);
         };
       }

@@ -20,11 +20,11 @@ use Rattle.gc_graph.specs.ValidLaw.{StepKeepsValid}
 use Rattle.callback_table.specs.declared.registry.Registered.{Registered}
 use Rattle.callback_table.specs.Registry.{registrations_of}
 use Rattle.page_words.specs.Seat.{IsQuiet}
-use Rattle.heap_engine.specs.Nodes.{place_of}
-use Rattle.heap_engine.specs.Objects.{HaveCallbacks, bury}
+use Rattle.node_bodies.specs.Nodes.{place_of, bury}
+use Rattle.heap_engine.specs.Objects.{HaveCallbacks}
 use Rattle.heap_engine.specs.Changes.{ended_in}
 use Rattle.heap_engine.specs.Parts.{ObjectsView, HandlesView, CycleView, setup_of_objects, state_of, HasMarks, IsReady}
-use Rattle.heap_engine.proofs.NodeLives.{place-finalise}
+use Rattle.node_bodies.specs.NodeLives.{place-finalise}
 use Rattle.heap_engine.proofs.Ties.{tied_nodes}
 
 buried_same : (l : Life) → (l ≡ Dead → ⊥) → buried l ≡ l

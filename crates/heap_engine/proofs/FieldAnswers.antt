@@ -21,7 +21,7 @@ use Rattle.gc_graph.specs.Outcomes.{answered, with_slot, slot_at}
 use Rattle.gc_graph.specs.ObjectSteps.{StepGet, StepWord, IsChanged, IsNumber, IsRead, first_word}
 use Rattle.heap_engine.specs.declared.field.Field.{Field}
 use Rattle.heap_engine.specs.declared.field.Wanted.{Wanted}
-use Rattle.heap_engine.specs.Nodes.{place_of, word_of}
+use Rattle.node_bodies.specs.Nodes.{place_of, word_of}
 use Rattle.heap_engine.specs.Fields.{allows, field_of, IsFieldOf, IsFieldAt, value_in, IsLiveReference, StepWrite}
 use Rattle.heap_engine.specs.Objects.{target_in, written_in, slot_word}
 use Rattle.heap_engine.specs.Changes.{put_in}

@@ -8,9 +8,9 @@ use Rattle.gc_graph.specs.State.{Node, node_at, is_there, size_of}
 use Rattle.gc_graph.specs.Fields.{with_value}
 use Rattle.page_words.specs.Bodies.{Body, end_of, with_word}
 use Rattle.page_words.specs.Seat.{SeatView, IsView}
-use Rattle.heap_engine.specs.Nodes.{place_of, word_of, body_of, bodies_from, bodies_of, IsThere}
-use Rattle.heap_engine.proofs.NodeBodies.{bodies-there, bodies-gone}
-use Rattle.heap_engine.proofs.NodePlaces.{node_body}
+use Rattle.node_bodies.specs.Nodes.{place_of, word_of, body_of, bodies_from, bodies_of, IsThere}
+use Rattle.node_bodies.specs.NodeBodies.{bodies-there, bodies-gone}
+use Rattle.node_bodies.specs.NodePlaces.{node_body}
 use Rattle.heap_engine.proofs.FieldNodes.{with_field, size_field}
 
 abbrev has_word : ℕ → Body → Bool

@@ -4,9 +4,9 @@ use Rattle.std.proofs.lemmas.List.{length-set}
 use Rattle.gc_graph.specs.declared.kind.Value.{Value}
 use Rattle.gc_graph.specs.State.{Node, node_at, size_of, IsLive}
 use Rattle.gc_graph.specs.Fields.{word_of_field, with_value}
-use Rattle.heap_engine.specs.Nodes.{place_of}
+use Rattle.node_bodies.specs.Nodes.{place_of}
 use Rattle.heap_engine.specs.Objects.{written_in}
-use Rattle.heap_engine.proofs.NodePlaces.{live_is_there, there_below}
+use Rattle.node_bodies.specs.NodePlaces.{live_is_there, there_below}
 
 abbrev pub with_field : List Node → ℕ → ℕ → Value → List Node
 with_field nodes n f x = set nodes n (with_value (node_at nodes n) f x)

@@ -19,14 +19,14 @@ use Rattle.page_words.specs.Seat.{SeatView}
 use Rattle.page_space.specs.Space.{header_in}
 use Rattle.member_fields.specs.Words.{HasWord}
 use Rattle.heap_engine.specs.declared.field.Field.{Field}
-use Rattle.heap_engine.specs.Nodes.{place_of, body_of, bodies_of}
+use Rattle.node_bodies.specs.Nodes.{place_of, body_of, bodies_of, AreOfValid}
 use Rattle.heap_engine.specs.Fields.{field_of, IsFieldOf, IsFieldAt}
-use Rattle.heap_engine.specs.Objects.{AreOfValid, IsLiveAt}
-use Rattle.heap_engine.proofs.NodePlaces.{live_is_there, node_body}
+use Rattle.heap_engine.specs.Objects.{IsLiveAt}
+use Rattle.node_bodies.specs.NodePlaces.{live_is_there, node_body}
 use Rattle.type_table.specs.FieldLaw.{FieldsStandApart}
-use Rattle.heap_engine.proofs.TypedNodes.{AreKnown, known_nodes}
+use Rattle.node_bodies.specs.TypedNodes.{AreKnown, known_nodes}
 use Rattle.heap_engine.proofs.FieldNodes.{live_below}
-use Rattle.heap_engine.proofs.FieldKinds.{some_words, word_below}
+use Rattle.node_bodies.specs.FieldKinds.{some_words, word_below}
 
 pub live_place : (nodes : List Node) (v : SeatView) (n place : ℕ) → v.bodies ≡ bodies_of nodes → IsLiveAt nodes n place → IsPlace v.bodies place
 live_place nodes v n place held at = (body_of (place_of nodes) n (node_at nodes n), node_body nodes v n held (live_is_there nodes n at.0), at.1)

@@ -18,12 +18,12 @@ use Rattle.member_fields.specs.Words.{IsWordIn}
 use Rattle.heap_engine.specs.declared.field.Field.{Field}
 use Rattle.heap_engine.specs.declared.field.Wanted.{Wanted}
 use Rattle.heap_engine.specs.declared.field.Wanted.TheVariants.{References, Numbers, Pairs}
-use Rattle.heap_engine.specs.Nodes.{place_of, word_of, body_of, bodies_of}
+use Rattle.node_bodies.specs.Nodes.{place_of, word_of, body_of, bodies_of, AreOfValid}
 use Rattle.heap_engine.specs.Fields.{allows, IsFieldOf, value_in, IsLiveReference, Suits, TakesValue, TakesWord}
-use Rattle.heap_engine.specs.Objects.{AreOfValid, IsReferenceTo, target_in}
-use Rattle.heap_engine.proofs.NodePlaces.{live_is_there, node_body}
-use Rattle.heap_engine.proofs.TypedNodes.{known_nodes}
-use Rattle.heap_engine.proofs.FieldKinds.{IsOfKind, value_of_kind}
+use Rattle.heap_engine.specs.Objects.{IsReferenceTo, target_in}
+use Rattle.node_bodies.specs.NodePlaces.{live_is_there, node_body}
+use Rattle.node_bodies.specs.TypedNodes.{known_nodes}
+use Rattle.node_bodies.specs.FieldKinds.{IsOfKind, value_of_kind}
 use Rattle.heap_engine.proofs.FieldNodes.{live_below}
 use Rattle.heap_engine.proofs.FieldPlaces.{live_typed, word_low}
 

@@ -5,7 +5,7 @@ use Rattle.gc_graph.specs.declared.phase.Phase.TheVariants.{Idle}
 use Rattle.gc_graph.specs.State.{ObjectType, Shape, empty_state}
 use Rattle.gc_graph.specs.ValidLaw.{EmptyIsValid}
 use Rattle.page_words.specs.Seat.{empty_view}
-use Rattle.heap_engine.specs.View.{places_of}
+use Rattle.node_bodies.specs.Places.{places_of}
 use Rattle.heap_engine.specs.Objects.{HaveCallbacks}
 use Rattle.heap_engine.specs.Stack.{empty_stack}
 use Rattle.heap_engine.specs.Parts.{ObjectsView, HandlesView, CycleView, setup_of_objects, IsReady}

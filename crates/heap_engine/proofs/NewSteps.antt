@@ -17,16 +17,16 @@ use Rattle.gc_graph.specs.ObjectSteps.{StepNew, with_new, registrations_for}
 use Rattle.callback_table.specs.declared.registry.Registered.{Registered}
 use Rattle.callback_table.specs.Registry.{registrations_of, registered}
 use Rattle.page_words.specs.Seat.{IsQuiet}
-use Rattle.heap_engine.specs.Nodes.{place_of}
-use Rattle.heap_engine.specs.View.{places_of}
+use Rattle.node_bodies.specs.Nodes.{place_of}
+use Rattle.node_bodies.specs.Places.{places_of}
 use Rattle.heap_engine.specs.Stack.{HoldsWords}
 use Rattle.heap_engine.specs.Objects.{HaveCallbacks, with_made}
 use Rattle.heap_engine.specs.Changes.{put_in, filled, registered_in}
 use Rattle.heap_engine.specs.Parts.{ObjectsView, HandlesView, CycleView, setup_of_objects, state_of, counted, HasMarks, IsPlaced, AreTied, IsReady}
-use Rattle.heap_engine.proofs.KeptNodes.{slots_live}
+use Rattle.node_bodies.specs.KeptNodes.{slots_live}
 use Rattle.heap_engine.proofs.Registrations.{registrations_join, live_entries}
 use Rattle.heap_engine.proofs.HeldNodes.{place-old, node-new}
-use Rattle.heap_engine.proofs.NodePlaces.{there_below, live_is_there}
+use Rattle.node_bodies.specs.NodePlaces.{there_below, live_is_there}
 use Rattle.heap_engine.proofs.StackWords.{StaysAt, words_held}
 
 -- while the heap is idle, all its pages are swept, and placement sweeps none

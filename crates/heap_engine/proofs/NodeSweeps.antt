@@ -1,18 +1,18 @@
 -- A sweep finalises the dead nodes in the order of their places.
-use Rattle.std.proofs.Common.{◌≡◌, ℕ, ◌<◌, ◌≤◌, ◌^◌, true, List, length, get_or, map, sym, ap, ◌∙◌, subst, arith}
-use Rattle.std.specs.List.{All, Contains}
+use Rattle.std.proofs.Common.{◌≡◌, ℕ, ◌<◌, true, List, length, get_or, map, sym, ap, ◌∙◌, subst, arith}
+use Rattle.std.specs.List.{Contains}
 use Rattle.std.proofs.lemmas.List.{length-map, get_or-map}
-use Rattle.std.proofs.lemmas.List.Elements.{All-get_or, All-from_get_or, Contains-get_or}
+use Rattle.std.proofs.lemmas.List.Elements.{All-get_or, All-from_get_or}
 use Rattle.gc_graph.specs.State.{Node, node_at, is_there, is_dead, IsDead}
 use Rattle.gc_graph.specs.Sweep.{IsDeadBelow, AreDeadInOrder}
 use Rattle.page_words.specs.Bodies.{Body}
 use Rattle.page_words.specs.Seat.{SeatView, IsView, holds}
-use Rattle.heap_engine.specs.Nodes.{place_of, body_of, bodies_of, IsThere, IsHeld}
+use Rattle.node_bodies.specs.Nodes.{place_of, body_of, IsThere, IsHeld}
 use Rattle.heap_engine.specs.Sweeping.{AreDeadSerials, no_body}
-use Rattle.heap_engine.proofs.NodePlaces.{node_body, body_node}
-use Rattle.heap_engine.proofs.Lists.{Contains-map}
-use Rattle.heap_engine.proofs.SweepSteps.{body_below}
-use Rattle.heap_engine.proofs.NodeLives.{is_dead_life}
+use Rattle.node_bodies.specs.NodePlaces.{node_body, body_node}
+use Rattle.node_bodies.specs.Lists.{Contains-map}
+use Rattle.node_bodies.specs.PlaceBodies.{body_below}
+use Rattle.node_bodies.specs.NodeLives.{is_dead_life}
 
 -- the node of a dead body
 dead_node : (nodes : List Node) (v : SeatView) (b : Body) → IsHeld nodes v → Contains v.bodies b → holds v.dead b.place ≡ true
@@ -54,11 +54,3 @@ dead_in_order nodes v numbers view held serials =
           let places : (get_or serials.dead i no_body).place < (get_or serials.dead j no_body).place = serials.ascending i j before (subst (λ l. j < l) long low) in
           omega (arith, places, (node i early).1, (node j low).1);
     }
-
--- serial numbers are numbers of nodes
-pub serials_fit : (nodes : List Node) (v : SeatView) → v.bodies ≡ bodies_of nodes → length nodes ≤ 1000000 → All (λ (b : Body). b.serial < 2 ^ 32) v.bodies
-serials_fit nodes v held few =
-    All-from_get_or (λ (b : Body). b.serial < 2 ^ 32) v.bodies no_body
-    (λ i low.
-    let node = body_node nodes v (get_or v.bodies i no_body) held (Contains-get_or v.bodies i no_body low) in
-    omega (arith, node.1, ap (λ (b : Body). b.serial) node.3))

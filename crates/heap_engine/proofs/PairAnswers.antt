@@ -15,7 +15,7 @@ use Rattle.heap_engine.specs.Fields.{part_in, IsLiveReference, StepPart, StepWho
 use Rattle.heap_engine.specs.Objects.{target_in, paired_in}
 use Rattle.heap_engine.specs.Changes.{put_in}
 use Rattle.heap_engine.specs.Parts.{ObjectsView, HandlesView, CycleView, setup_of_objects, state_of, counted, AreTied, IsReady, IsFrame}
-use Rattle.heap_engine.specs.Nodes.{place_of}
+use Rattle.node_bodies.specs.Nodes.{place_of}
 use Rattle.heap_engine.proofs.FieldAnswers.{Found, field_kind, asked, read_value, target_numbers, target_places}
 use Rattle.heap_engine.proofs.PairFields.{pair_is, holds_part}
 use Rattle.heap_engine.proofs.Ties.{valid_nodes, tied_slot}

@@ -6,10 +6,10 @@ use Rattle.gc_graph.specs.State.{Node, node_at, no_node, is_there, is_dead}
 use Rattle.gc_graph.specs.Fields.{word_of_field, with_value}
 use Rattle.page_words.specs.Bodies.{with_word}
 use Rattle.page_words.specs.Seat.{SeatView, IsView, stored, holds}
-use Rattle.heap_engine.specs.Nodes.{place_of, word_of, bodies_from, bodies_of, IsThere, IsHeld}
+use Rattle.node_bodies.specs.Nodes.{place_of, word_of, bodies_from, bodies_of, IsThere, IsHeld}
 use Rattle.heap_engine.specs.Objects.{paired_in}
-use Rattle.heap_engine.proofs.NodePlaces.{there_below}
-use Rattle.heap_engine.proofs.NodeChanges.{bodies-same}
+use Rattle.node_bodies.specs.NodePlaces.{there_below}
+use Rattle.node_bodies.specs.NodeChanges.{bodies-same}
 use Rattle.heap_engine.proofs.FieldNodes.{with_field, place-field, life-field}
 use Rattle.heap_engine.proofs.FieldBodies.{IsElsewhere, bodies-field, only_there, bodies_stored}
 

@@ -24,12 +24,12 @@ use Rattle.member_fields.specs.Words.{HasPair, IsWordIn}
 use Rattle.heap_engine.specs.declared.field.Field.{Field}
 use Rattle.heap_engine.specs.declared.field.Part.{Part}
 use Rattle.heap_engine.specs.declared.field.Part.TheVariants as P
-use Rattle.heap_engine.specs.Nodes.{place_of, word_of, body_of, bodies_of}
+use Rattle.node_bodies.specs.Nodes.{place_of, word_of, body_of, bodies_of, AreOfValid}
 use Rattle.heap_engine.specs.Fields.{IsFieldOf, part_word, part_in, IsLiveReference, ArePartsOf}
-use Rattle.heap_engine.specs.Objects.{AreOfValid, IsReferenceTo, slot_part}
-use Rattle.heap_engine.proofs.NodePlaces.{live_is_there, node_body}
-use Rattle.heap_engine.proofs.TypedNodes.{known_nodes}
-use Rattle.heap_engine.proofs.FieldKinds.{first_word, IsOfKind, value_of_kind}
+use Rattle.heap_engine.specs.Objects.{IsReferenceTo, slot_part}
+use Rattle.node_bodies.specs.NodePlaces.{live_is_there, node_body}
+use Rattle.node_bodies.specs.TypedNodes.{known_nodes}
+use Rattle.node_bodies.specs.FieldKinds.{first_word, IsOfKind, value_of_kind}
 use Rattle.heap_engine.proofs.FieldPlaces.{live_typed}
 use Rattle.heap_engine.proofs.FieldReads.{named}
 

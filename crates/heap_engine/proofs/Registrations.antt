@@ -1,11 +1,11 @@
 -- Lists of registrations: what joins them, and what a pause takes away.
-use Rattle.std.proofs.Common.{◌≡◌, ℕ, ◌+◌, ◌-◌, Bool, true, false, not, All, List, [], ◌∷◌, ◌++◌, length, map, filter, take, drop, reverse, cond, refl, sym, ap, ◌∙◌, arith}
+use Rattle.std.proofs.Common.{◌≡◌, ℕ, ◌+◌, ◌-◌, Bool, true, false, not, All, List, [], ◌∷◌, ◌++◌, length, map, filter, take, drop, cond, refl, sym, ap, ◌∙◌, arith}
 use Rattle.std.proofs.lemmas.List.{length-append, length-map, length-reverse, map-append}
 use Rattle.std.proofs.lemmas.List.Filters.{length-filter_both}
-use Rattle.std.proofs.lemmas.List.Elements.{All-head, All-tail, All-nil, All-cons, filter_agree}
+use Rattle.std.proofs.lemmas.List.Elements.{All-head, All-tail, All-nil, All-cons}
 use Rattle.std.proofs.Math.Seq.{take-append_seam, drop-append_seam}
 use Rattle.gc_graph.specs.declared.line.Line.TheVariants as L
-use Rattle.gc_graph.specs.State.{Node, Registration, node_at, IsLive, is_dead}
+use Rattle.gc_graph.specs.State.{Node, Registration, IsLive}
 use Rattle.gc_graph.specs.Pause.{dies, run_order, prefinalise_lines}
 use Rattle.callback_table.specs.declared.registry.Registered.{Registered}
 use Rattle.callback_table.specs.Registry.{registration_of, registrations_of, registered, placed_at, pair_of, pairs_run, entries_left}
@@ -58,13 +58,6 @@ live_entries nodes (e ∷ entries) live =
 
 -- ---- at a pause
 
--- what dies among these nodes dies among others with the same lives
-same_deaths : (xs ys : List Node) → ((n : ℕ) → (node_at xs n).life ≡ (node_at ys n).life) → (r : Registration) → dies xs r ≡ dies ys r
-same_deaths xs ys same r = ap is_dead (same r.node)
-
-pub same_order : (xs ys : List Node) (rs : List Registration) → ((n : ℕ) → (node_at xs n).life ≡ (node_at ys n).life) → run_order xs rs ≡ run_order ys rs
-same_order xs ys rs same = ap reverse (filter_agree (dies xs) (dies ys) (same_deaths xs ys same) rs)
-
 one_left : (e : Registered) (entries : List Registered) (rs : List Registration) (kept : Bool) → registrations_of entries ≡ rs
     → registrations_of (cond kept (e ∷ entries) entries) ≡ cond kept (registration_of e ∷ rs) rs
 one_left e entries rs true same = ap (λ more. registration_of e ∷ more) same
@@ -75,21 +68,17 @@ left_by keep [] = refl
 left_by keep (e ∷ entries) = one_left e (filter (λ x. keep (registration_of x)) entries) (filter keep (registrations_of entries)) (keep (registration_of e)) (left_by keep entries)
 
 -- the registrations that are left
-pub registrations_left : (xs ys : List Node) (entries : List Registered) → ((n : ℕ) → (node_at xs n).life ≡ (node_at ys n).life)
-    → registrations_of (entries_left xs entries) ≡ filter (λ r. not (dies ys r)) (registrations_of entries)
-registrations_left xs ys entries same =
-    left_by (λ r. not (dies xs r)) entries
-    ∙ filter_agree (λ r. not (dies xs r)) (λ r. not (dies ys r)) (λ r. ap not (same_deaths xs ys same r)) (registrations_of entries)
+pub registrations_left : (nodes : List Node) (entries : List Registered)
+    → registrations_of (entries_left nodes entries) ≡ filter (λ r. not (dies nodes r)) (registrations_of entries)
+registrations_left nodes entries = left_by (λ r. not (dies nodes r)) entries
 
 lines_of_pairs : (rs : List Registration) → ran_lines true (map pair_of rs) ≡ prefinalise_lines rs
 lines_of_pairs [] = refl
 lines_of_pairs (r ∷ rs) = ap (λ ls. L.Prefinalise r.node r.callback ∷ ls) (lines_of_pairs rs)
 
 -- the lines of those that ran
-pub lines_ran : (xs ys : List Node) (entries : List Registered) → ((n : ℕ) → (node_at xs n).life ≡ (node_at ys n).life)
-    → ran_lines true (pairs_run xs entries) ≡ prefinalise_lines (run_order ys (registrations_of entries))
-lines_ran xs ys entries same =
-    lines_of_pairs (run_order xs (registrations_of entries)) ∙ ap prefinalise_lines (same_order xs ys (registrations_of entries) same)
+pub lines_ran : (nodes : List Node) (entries : List Registered) → ran_lines true (pairs_run nodes entries) ≡ prefinalise_lines (run_order nodes (registrations_of entries))
+lines_ran nodes entries = lines_of_pairs (run_order nodes (registrations_of entries))
 
 twice : (b : Bool) → b ≡ not (not b)
 twice true = refl

@@ -14,7 +14,7 @@ use Rattle.gc_graph.specs.CycleSteps.{is_marking}
 use Rattle.gc_graph.specs.Outcomes.{answered}
 use Rattle.gc_graph.specs.ObjectSteps.{IsRead}
 use Rattle.gc_graph.specs.HandleSteps.{StepRead}
-use Rattle.heap_engine.specs.Nodes.{place_of}
+use Rattle.node_bodies.specs.Nodes.{place_of}
 use Rattle.heap_engine.specs.Changes.{put_in}
 use Rattle.heap_engine.specs.Parts.{ObjectsView, HandlesView, CycleView, state_of, counted, AreTied, IsFrame}
 use Rattle.heap_engine.proofs.Ties.{tied_slot}

@@ -6,7 +6,7 @@ use Rattle.gc_graph.specs.State.{Node, StackWord, IsLive, stack_targets}
 use Rattle.gc_graph.specs.State.StackWord.{Pointer, Number}
 use Rattle.gc_graph.specs.May.{address_of}
 use Rattle.gc_graph.specs.Valid.{AreLive}
-use Rattle.heap_engine.specs.Nodes.{place_of}
+use Rattle.node_bodies.specs.Nodes.{place_of}
 use Rattle.heap_engine.specs.Objects.{IsLiveAt}
 use Rattle.heap_engine.specs.Stack.{StackView, pointed_place, HoldsWords}
 

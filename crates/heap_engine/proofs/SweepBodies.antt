@@ -4,8 +4,8 @@ use Rattle.std.specs.List.{filter, Contains}
 use Rattle.std.proofs.lemmas.Bool.{cond-true, cond-false, cases_Bool, cases_lt, and_left, and_right, lt-ltb, le-ltb, eq-eqb, ne_eqb}
 use Rattle.page_words.specs.Bodies.{Body}
 use Rattle.page_words.specs.Seat.{holds}
-use Rattle.heap_engine.proofs.PlaceBodies.{contains_first, contains_later}
-use Rattle.heap_engine.proofs.Lists.{Contains-cons_cases}
+use Rattle.node_bodies.specs.PlaceBodies.{contains_first, contains_later}
+use Rattle.node_bodies.specs.Lists.{Contains-cons_cases}
 
 module _ {X : Type 0} where
   -- two tests that agree at each element keep the same elements

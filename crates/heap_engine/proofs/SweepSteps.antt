@@ -3,11 +3,12 @@ use Rattle.std.proofs.Common.{◌≡◌, ℕ, ◌+◌, ◌<◌, ◌≤◌, true,
 use Rattle.std.specs.List.{Contains, filter}
 use Rattle.std.proofs.lemmas.Bool.{true≢false, cases_eq, cases_lt, false_from_ne_true}
 use Rattle.gc_graph.specs.Placement.{IsLowest, IsNowhere}
-use Rattle.page_words.specs.Bodies.{Body, IsPlace, IsWhole}
+use Rattle.page_words.specs.Bodies.{Body, IsPlace}
 use Rattle.page_words.specs.Seat.{SeatView, IsView, holds, unmarked_at}
 use Rattle.page_space.specs.Space.{IsPlaceFrom}
-use Rattle.heap_engine.specs.Sweeping.{IsJudged, IsSweptView, AreDeadSerials, Keeps, Finalises, Sweeps}
-use Rattle.heap_engine.proofs.PlaceBodies.{whole_body, body_size}
+use Rattle.heap_engine.specs.Sweeping.{IsSweptView, AreDeadSerials, Keeps, Finalises, Sweeps}
+use Rattle.node_bodies.specs.Places.{IsJudged}
+use Rattle.node_bodies.specs.PlaceBodies.{body_size}
 use Rattle.heap_engine.proofs.SweepPlaces.{IsClearedBelow, cleared_none, cleared_past, cleared_without, cleared_all}
 use Rattle.heap_engine.proofs.SweepBodies.{stays, stays_from, stays_below, filter_same, filter_all, filtered_was_there, filtered_is_there, left_same, left_without}
 use Rattle.heap_engine.proofs.SweepNumbers.{AreDeadBelow, none_below, dead_past, dead_on, dead_all}
@@ -163,11 +164,6 @@ judged_at v now from a numbers judged high start swept =
     swept.dead.rest a high
     ∙ subst (λ x. holds v.dead x ≡ not (holds v.marked x)) start.2 (judged start.0 (was_there v now from numbers start.0 swept start.1))
     ∙ ap not (sym (swept.marked.rest a high))
-
-pub body_below : (v : SeatView) (b : Body) → IsView v → Contains v.bodies b → b.place < v.count
-body_below v b view there =
-    let whole : IsWhole v.count b = whole_body v.count v.bodies b view.whole there in
-    omega (arith, whole.inside, body_size v.count v.bodies b view.whole there)
 
 all_below : (v now : SeatView) (a : ℕ) (numbers : List ℕ) → IsNowhere (IsPlaceFrom now.bodies a) → IsSweptBelow v a now numbers
     → (b : Body) → Contains v.bodies b → b.place < a

@@ -7,12 +7,12 @@ use Rattle.std.proofs.lemmas.List.Elements.{All-get_or, All-weaker}
 use Rattle.gc_graph.specs.State.{Setup, Node, IsLive, slot_targets}
 use Rattle.gc_graph.specs.Valid.{AreLive}
 use Rattle.callback_table.specs.declared.registry.Registered.{Registered}
-use Rattle.heap_engine.specs.Nodes.{place_of}
-use Rattle.heap_engine.specs.View.{places_of}
-use Rattle.heap_engine.specs.Objects.{AreOfValid, IsLiveAt}
+use Rattle.node_bodies.specs.Nodes.{place_of, AreOfValid}
+use Rattle.node_bodies.specs.Places.{places_of}
+use Rattle.heap_engine.specs.Objects.{IsLiveAt}
 use Rattle.heap_engine.specs.Parts.{ObjectsView, HandlesView, CycleView, setup_of_objects, state_of, counted, HasMarks, IsPlaced, AreTied, IsReady}
 use Rattle.heap_engine.specs.Changes.{put_in, copied_in, weakened_in}
-use Rattle.heap_engine.proofs.KeptNodes.{slots_live}
+use Rattle.node_bodies.specs.KeptNodes.{slots_live}
 use Rattle.heap_engine.proofs.StackWords.{words_held}
 
 pub valid_nodes : (o : ObjectsView) (h : HandlesView) (c : CycleView) → IsReady o h c → AreOfValid (setup_of_objects o) o.nodes

@@ -1,12 +1,10 @@
 -- How the handles and the cycle change.
-use Rattle.std.specs.Prelude.{ℕ, ◌+◌, ◌-◌, Bool, not, [], ◌∷◌, ◌++◌, List, length, map, take, drop, Option, None, option_map, slice_set, slice_index_or}
+use Rattle.std.specs.Prelude.{ℕ, ◌+◌, ◌-◌, [], ◌∷◌, ◌++◌, List, length, map, take, drop, Option, None, option_map, slice_set, slice_index_or}
 use Rattle.gc_graph.specs.Reach.{Reach}
-use Rattle.gc_graph.specs.State.{Shape, State, Node, StackWord, type_at, graph_of, roots_of}
-use Rattle.gc_graph.specs.Pause.{clear_slot}
+use Rattle.gc_graph.specs.State.{Shape, State, StackWord, type_at, graph_of, roots_of}
 use Rattle.callback_table.specs.declared.registry.Registered.{Registered}
 use Rattle.callback_table.specs.Registry.{registered, placed_at}
-use Rattle.heap_engine.specs.Judgement.{weak_after}
-use Rattle.heap_engine.specs.View.{kept_of, start_entry, pause_entry}
+use Rattle.heap_engine.specs.View.{start_entry, pause_entry}
 use Rattle.heap_engine.specs.Stack.{with_word, without_last}
 use Rattle.heap_engine.specs.Parts.{ObjectsView, HandlesView, CycleView, setup_of_objects}
 
@@ -29,13 +27,6 @@ abbrev pub weakened_in : HandlesView → ℕ → ℕ → HandlesView
 weakened_in h w p = record h {
   weak_places = slice_set h.weak_places w (slice_index_or h.places p None);
   weak = slice_set h.weak w (slice_index_or h.slots p None);
-}
-
--- the weak slots whose place isn't marked are null, and so are those that name a node that a pause condemns
-abbrev pub cleared_in : HandlesView → (ℕ → Bool) → List Node → HandlesView
-cleared_in h marked nodes = record h {
-  weak_places = map (clear_slot (λ a. not (marked a))) h.weak_places;
-  weak = weak_after (kept_of marked nodes) nodes h.weak;
 }
 
 -- the word is the last of the stack, with its address and its place

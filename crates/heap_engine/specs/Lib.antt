@@ -1,13 +1,10 @@
 pub mod Marking
 pub mod Sweeping
-pub mod Nodes
 pub mod View
 pub mod Fields
 pub mod Objects
 pub mod Stack
-pub mod Judgement
 pub mod Printed
 pub mod Parts
-pub mod Prefinalizing
 pub mod Changes
 pub mod Sound

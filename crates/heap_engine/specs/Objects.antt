@@ -2,14 +2,12 @@
 use Rattle.std.specs.Prelude.{◌≡◌, ℕ, ◌+◌, ◌<◌, ◌≤◌, false, List, [], ◌∷◌, ◌++◌, length, Option, Some, None, option_map, All, slice_set}
 use Rattle.gc_graph.specs.declared.kind.Value.{Value}
 use Rattle.gc_graph.specs.declared.action.ActionKind.{ActionKind}
-use Rattle.gc_graph.specs.State.{Setup, State, ObjectType, Node, node_at, IsLive}
+use Rattle.gc_graph.specs.State.{Setup, ObjectType, Node, node_at, IsLive}
 use Rattle.gc_graph.specs.Fields.{word_of_field, with_value, target_of, new_node}
-use Rattle.gc_graph.specs.Valid.{IsValid}
-use Rattle.gc_graph.specs.Sweep.{buried}
 use Rattle.object_headers.specs.Offsets.{reference_to}
 use Rattle.page_words.specs.Seat.{SeatView}
 use Rattle.page_space.specs.Space.{SpaceView, IsSpaceOf}
-use Rattle.heap_engine.specs.Nodes.{place_of, word_of, IsHeld}
+use Rattle.node_bodies.specs.Nodes.{place_of, word_of, IsHeld}
 use Rattle.heap_engine.specs.Fields.{IsLiveReference}
 
 -- each type has at most 16 prefinalizers, and there are so many callbacks that each of these is one
@@ -27,10 +25,6 @@ pub record AreObjects
   pub off : v.on ≡ false
   pub held : IsHeld nodes v
   pub numbers_are : made ≡ length nodes
-
--- the nodes of some valid state
-abbrev pub AreOfValid : Setup → List Node → Type 0
-AreOfValid setup nodes = (s : State) × IsValid setup s × (s.nodes ≡ nodes)
 
 -- ---- reading
 
@@ -76,7 +70,3 @@ paired_in nodes None f key value = nodes
 paired_in nodes (Some n) f key value =
     slice_set nodes n
     (with_value (with_value (node_at nodes n) (word_of_field (node_at nodes n).object f) key) (word_of_field (node_at nodes n).object f + 1) value)
-
--- a dead node is gone
-abbrev pub bury : Node → Node
-bury node = record node { life = buried node.life }

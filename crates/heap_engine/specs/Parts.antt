@@ -12,9 +12,8 @@ use Rattle.callback_table.specs.declared.registry.Registered.{Registered}
 use Rattle.callback_table.specs.Registry.{registrations_of}
 use Rattle.page_words.specs.Seat.{SeatView, IsQuiet}
 use Rattle.heap_engine.specs.Objects.{HaveCallbacks}
-use Rattle.heap_engine.specs.Sweeping.{IsJudged}
-use Rattle.heap_engine.specs.Nodes.{place_of}
-use Rattle.heap_engine.specs.View.{places_of}
+use Rattle.node_bodies.specs.Places.{IsJudged, places_of}
+use Rattle.node_bodies.specs.Nodes.{place_of}
 use Rattle.heap_engine.specs.Stack.{StackView, HoldsWords}
 
 -- the objects: the heap's shape and types, the kinds of its callbacks, the nodes, and what is known of the words

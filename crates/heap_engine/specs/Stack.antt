@@ -3,7 +3,7 @@ use Rattle.std.specs.Prelude.{◌≡◌, ℕ, ◌-◌, ◌≤◌, List, [], ◌�
 use Rattle.gc_graph.specs.State.{Node, StackWord}
 use Rattle.gc_graph.specs.State.StackWord.{Pointer, Number}
 use Rattle.gc_graph.specs.May.{address_of}
-use Rattle.heap_engine.specs.Nodes.{place_of}
+use Rattle.node_bodies.specs.Nodes.{place_of}
 
 -- the words of the stack, the last one first; and in the order in which they were pushed the address that each is, and the place
 -- of the object to which it points, if it is a pointer

@@ -3,10 +3,6 @@ use Rattle.std.specs.Prelude.{◌≡◌, ◌⊎◌, ℕ, ◌<◌, true, false, n
 use Rattle.page_words.specs.Bodies.{Body}
 use Rattle.page_words.specs.Seat.{SeatView, holds, unmarked_at, retracted}
 
--- each body is dead or marked, and not both
-abbrev pub IsJudged : SeatView → Type 0
-IsJudged v = (b : Body) → Contains v.bodies b → holds v.dead b.place ≡ not (holds v.marked b.place)
-
 -- what a sweep leaves: the bodies that were not dead, and no mark
 pub record IsSweptView (old new : SeatView) : Type 0 where
   pub count : new.count ≡ old.count

@@ -1,11 +1,10 @@
 -- A heap as its callers see it, and how slots and marks tell nodes.
-use Rattle.std.specs.Prelude.{ℕ, Bool, ◌&&◌, List, [], ◌∷◌, map, Option, option_map}
+use Rattle.std.specs.Prelude.{Bool, List, [], ◌∷◌}
 use Rattle.gc_graph.specs.declared.line.Line.{Line}
 use Rattle.gc_graph.specs.declared.region.Entry.{Entry}
 use Rattle.gc_graph.specs.declared.region.Op.TheVariants as O
 use Rattle.gc_graph.specs.declared.region.Reply.TheVariants as R
-use Rattle.gc_graph.specs.State.{Setup, State, Node, is_live}
-use Rattle.heap_engine.specs.Nodes.{place_of}
+use Rattle.gc_graph.specs.State.{Setup, State}
 
 -- what was set up, the state of the graph, the region's history as far as it was taken, the lines of the last outcome and
 -- the piece of the history that it took, and whether the heap was closed
@@ -16,14 +15,6 @@ pub record View : Type 0 where
   pub lines : List Line
   pub piece : List Entry
   pub closed : Bool
-
--- the places of what the slots name
-abbrev pub places_of : List Node → List (Option ℕ) → List (Option ℕ)
-places_of nodes slots = map (λ slot. option_map (place_of nodes) slot) slots
-
--- the live nodes whose places are marked
-abbrev pub kept_of : (ℕ → Bool) → List Node → List Bool
-kept_of marked nodes = map (λ node. is_live node.life && marked node.place) nodes
 
 -- the entry of a collection's start
 abbrev pub start_entry : Entry

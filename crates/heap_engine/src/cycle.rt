@@ -17,11 +17,11 @@ ghost use Rattle.heap_engine.specs.Printed.{lines_with};
 
 use crate::entries;
 use crate::handles::Handles;
-use crate::marking::{Grey, Marked};
+use crate::marking::Grey;
 use crate::objects::Objects;
 use crate::outcome::Outcome;
-use crate::prefinalizing::prefinalise;
 use crate::states::{self, States};
+use atomic_pause::PauseResult;
 use callback_table::{CallbackTable, Registry};
 use gc_graph::{Line, NoMemory, Phase, Refusal};
 use ghost_values::GhostValue;
@@ -128,9 +128,8 @@ impl Cycle {
         self.registry.ran()
     }
 
-    /// A whole collection, which is refused unless the stack is empty: an open sweep is ended, what the strong slots reach is kept, the other
-    /// objects are condemned, what is weak and names one of these becomes null, and their
-    /// prefinalizers run.
+    /// A whole collection, which is refused unless the stack is empty: an open sweep is ended, marking
+    /// begins, and the pause ends it.
     pub fn collect(
         &mut self,
         objects: &mut Objects,
@@ -164,13 +163,11 @@ impl Cycle {
         self.end_sweep(objects, handles, &mut outcome.finalised);
         self.rest = states::collected(objects, handles, self);
         gc_graph::reach_is_least();
-        let marked = objects.judge(handles, &mut self.grey);
-        let line = pause_line(objects.count(), marked);
-        prefinalise(&mut self.registry, callbacks, objects);
+        let result = objects.pause(handles, &mut self.grey, &mut self.registry, callbacks);
         outcome.prefinalise();
         self.phase = Phase::Sweeping;
         outcome.piece = entries::of_collection();
-        line
+        line_of(result)
     }
 
     /// Ends the open sweep, or refuses where none is open.
@@ -232,18 +229,15 @@ impl Cycle {
     }
 }
 
-/// The line of a pause that kept so many of the objects, each of which it traced.
-fn pause_line(objects: u32, marked: Marked) -> Line
-    requires { marked.kept ≤ objects }
-    ensures { result
-        ≡ Line.Pause marked.kept (objects - marked.kept) 0 marked.kept marked.walked }
+/// The line of a pause without a crew.
+fn line_of(paused: PauseResult) -> Line
+    ensures { result ≡ Line.Pause paused.kept paused.dead 0 paused.traced paused.walked }
 {
-    let kept = marked.kept;
     Line::Pause {
-        kept,
-        dead: objects - kept,
+        kept: paused.kept,
+        dead: paused.dead,
         crew: 0,
-        traced: kept,
-        walked: marked.walked,
+        traced: paused.traced,
+        walked: paused.walked,
     }
 }

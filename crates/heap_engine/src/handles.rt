@@ -1,31 +1,23 @@
 // The handles of a heap: its strong slots and its weak ones (`Persistent` and `WeakPersistent`,
 // `include/cppgc/persistent.h`), and its stack.
 
-ghost use Rattle.std.specs.Prelude.{◌≡◌, ◌<◌, All, None, IfOk, length, replicate};
+ghost use Rattle.std.specs.Prelude.{◌≡◌, ◌<◌, None, IfOk, length, replicate};
 ghost use Rattle.std.specs.Prelude.{slice_index_or, slice_set, option_map};
 ghost use Rattle.gc_graph.specs.Fields.{content_of};
 ghost use Rattle.gc_graph.specs.ObjectSteps.{part_of};
-ghost use Rattle.page_words.specs.Bodies.{IsPlace};
-ghost use Rattle.page_words.specs.Seat.{holds};
-ghost use Rattle.page_space.specs.Space.{IsSeatOf};
-ghost use Rattle.persistent_slots.specs.Clearing.{taken};
 ghost use Rattle.heap_engine.specs.Objects.{slot_word, slot_part};
 ghost use Rattle.heap_engine.specs.Stack.{empty_stack};
-ghost use Rattle.heap_engine.specs.Changes.{put_in, copied_in, weakened_in, cleared_in};
+ghost use Rattle.heap_engine.specs.Changes.{put_in, copied_in, weakened_in};
 
 use crate::content::Content;
-use crate::nodes::NodeLists;
 use crate::slot_lists::{self, SlotLists};
 use crate::stack::Stack;
 use gc_graph::NoMemory;
 use ghost_values::GhostValue;
 use object_headers::reference_to;
-use page_space::Space;
-use page_words::MutatorSeat;
 use persistent_slots::Slots;
 use std::alloc::Global;
 use std::marker::Model;
-use weak_clearing::clear_slots;
 
 const STRONG: u32 = 256;
 
@@ -35,10 +27,10 @@ const WEAK: u32 = 64;
 /// is known to contracts alone.
 #[derive(Drop)]
 pub struct Handles {
-    strong: Slots,
+    pub(crate) strong: Slots,
     pub(crate) strong_nodes: GhostValue<SlotLists>,
-    weak: Slots,
-    weak_nodes: GhostValue<SlotLists>,
+    pub(crate) weak: Slots,
+    pub(crate) weak_nodes: GhostValue<SlotLists>,
     pub(crate) stack: Stack,
 }
 
@@ -98,13 +90,6 @@ impl Handles {
         self.weak.get(w)
     }
 
-    /// The places of what the strong slots name.
-    pub fn strong(&self) -> &Slots
-        ensures { result.now ≡ self.now.places }
-    {
-        &self.strong
-    }
-
     /// Slot p gets the place and the number of the target, or becomes null.
     pub fn put(&mut self, p: u32, target: Option<(u32, u32)>)
         requires { p < 256 }
@@ -132,24 +117,6 @@ impl Handles {
     {
         fill(&mut self.weak, w, self.strong.get(p));
         self.weak_nodes = slot_lists::copied(&self.strong_nodes, p, &self.weak_nodes, w);
-    }
-
-    /// Empties exactly the weak slots whose object is not marked. Only a pause calls this, once
-    /// marking is over and these nodes are still those from before it.
-    pub fn clear_weak(
-        &mut self,
-        space: &Space,
-        seat: &mut MutatorSeat,
-        nodes: &GhostValue<NodeLists>,
-    )
-        requires heap { IsSeatOf space.now seat.old }
-        requires places { All (IsPlace seat.old.bodies) (taken self.old.weak_places) }
-        ensures cleared { self.new
-            ≡ cleared_in self.old (holds seat.old.marked) nodes.now.value }
-        ensures view { seat.new ≡ seat.old }
-    {
-        clear_slots(space, seat, &mut self.weak);
-        self.weak_nodes = slot_lists::judged(&self.weak_nodes, nodes, seat);
     }
 
     /// What slot q holds, as the content of a field.

@@ -8,20 +8,17 @@
 //! (collections, prefinalizers and sweeps) and `outcome` (the lines of the last command). Each part
 //! owns what it holds and has a model, from which the state of the graph is put together. The
 //! commands, in `creating`, `fields`, `pairs`, `slots`, `stacking`, `totals` and `cycle`, take the
-//! parts. Inside, `marking` (what the strong slots reach), `collecting`, `prefinalizing` and
-//! `sweeping` (what dies), `finding` (places), `field` and `pair_fields` (fields), and for contracts
-//! alone `nodes`, `slot_lists`, `stack_words`, `states`, `entries` and `kinds`. Next down are
-//! `member_fields`, `persistent_slots`, `ephemerons`, `weak_clearing`, `prefinalizer_effects` and
-//! `page_space`.
+//! parts. Inside, `marking`, `collecting` and `sweeping` (what comes before a pause and after it),
+//! `finding` (places), `field` and `pair_fields` (fields), and for contracts alone `nodes`,
+//! `slot_lists`, `stack_words`, `states`, `entries` and `kinds`. Next down are `atomic_pause`,
+//! `member_fields`, `persistent_slots` and `page_space`.
 //!
 //! What is proved: `act` is a step from the heap's own state to its new state, for every command
 //! that is allowed and that the heap does so far (`IsBuiltIn`), and its lines are those of the step;
 //! the pieces that the commands took are the heap's history of the region. Each node that is not
-//! finalised is the object with its number, type, size, place, field words and extra words. A
-//! collection keeps exactly what the strong slots reach, by strong fields and by pairs whose key is
-//! kept; exactly the weak handles of kept objects to condemned ones become null, and the condemned
-//! ones' prefinalizers run; with a word on the stack it is refused. Refusals and a full heap are answered exactly where the step says so;
-//! collections and prefinalizers alone may want memory, and then nothing has changed.
+//! finalised is the object with its number, type, size, place, field words and extra words.
+//! Refusals and a full heap are answered exactly where the step says so; collections and
+//! prefinalizers alone may want memory, and then nothing has changed.
 //!
 //! What is only tested or not said: that memory suffices, and how long a command takes.
 #![tactic(auto)]
@@ -46,7 +43,6 @@ mod objects;
 mod outcome;
 mod pair_fields;
 mod pairs;
-mod prefinalizing;
 mod slot_lists;
 mod slots;
 mod stack;

@@ -1,43 +1,17 @@
 // The nodes of the graph, and how calls on the objects change them. All of it is for contracts
 // alone.
 
-ghost use Rattle.std.specs.Prelude.{◌≡◌, [], map, Some, None, slice_index_or};
-ghost use Rattle.gc_graph.specs.Actions.{acted};
-ghost use Rattle.page_words.specs.Seat.{holds};
-ghost use Rattle.heap_engine.specs.View.{kept_of};
-ghost use Rattle.heap_engine.specs.Judgement.{nodes_after};
-ghost use Rattle.heap_engine.specs.Objects.{with_made, written_in, paired_in, bury};
+ghost use Rattle.std.specs.Prelude.{◌≡◌, [], map, Some, slice_index_or, None};
+ghost use Rattle.heap_engine.specs.Objects.{with_made, written_in, paired_in};
+ghost use Rattle.node_bodies.specs.Nodes.{bury};
 
 use crate::content::Content;
 use crate::handles::Handles;
 use crate::pair_fields::PairContent;
-use gc_graph::Action;
 use ghost_values::GhostValue;
+use node_bodies::NodeLists;
 use page_space::Space;
-use page_words::MutatorSeat;
-use std::marker::Model;
 use type_table::TypeTable;
-
-/// A list of nodes. It is never made.
-#[derive(Drop)]
-pub struct NodeLists {
-    none: u8,
-}
-
-impl Model for NodeLists {
-    ghost use Rattle.std.specs.Prelude.{List, []};
-    ghost use Rattle.gc_graph.specs.State.{Node};
-
-    ghost Value = { List Node };
-
-    ghost view = { λ nodes. [] };
-}
-
-pub fn none() -> GhostValue<NodeLists>
-    ensures { result.value ≡ [] }
-{
-    GhostValue::chosen(&0u8)
-}
 
 /// What a new node looks at.
 #[derive(Drop)]
@@ -141,38 +115,4 @@ pub fn buried(nodes: &GhostValue<NodeLists>) -> GhostValue<NodeLists>
     ensures { result.value ≡ map bury nodes.now.value }
 {
     GhostValue::chosen(nodes)
-}
-
-/// What a judgement looks at.
-#[derive(Drop)]
-struct AboutMarks<'a> {
-    nodes: &'a GhostValue<NodeLists>,
-    seat: &'a MutatorSeat,
-}
-
-/// The nodes that are not marked are condemned, and the weak fields that named one of them are null.
-pub fn judged(nodes: &GhostValue<NodeLists>, seat: &MutatorSeat) -> GhostValue<NodeLists>
-    ensures { result.value
-        ≡ nodes_after (kept_of (holds seat.now.marked) nodes.now.value) nodes.now.value }
-{
-    GhostValue::chosen(&AboutMarks { nodes, seat })
-}
-
-/// What an action looks at.
-#[derive(Drop)]
-struct AboutAction<'a> {
-    nodes: &'a GhostValue<NodeLists>,
-    dying: u32,
-    action: Action,
-}
-
-/// The action was done for a dying node.
-pub fn acted(nodes: &GhostValue<NodeLists>, dying: u32, action: Action) -> GhostValue<NodeLists>
-    ensures { result.value ≡ acted nodes.now.value dying action }
-{
-    GhostValue::chosen(&AboutAction {
-        nodes,
-        dying,
-        action,
-    })
 }

@@ -7,9 +7,9 @@ ghost use Rattle.gc_graph.specs.declared.kind.Value.TheVariants.{Word};
 ghost use Rattle.gc_graph.specs.declared.phase.Phase.{Phase};
 ghost use Rattle.gc_graph.specs.Fields.{is_reference, is_plain};
 ghost use Rattle.heap_engine.specs.Fields.{allows, IsFieldAt, IsFieldOf, value_in, TakesValue};
-ghost use Rattle.heap_engine.specs.Objects.{AreOfValid, IsLiveAt};
+ghost use Rattle.heap_engine.specs.Objects.{IsLiveAt};
+ghost use Rattle.node_bodies.specs.Nodes.{AreOfValid, word_of, place_of};
 ghost use Rattle.heap_engine.specs.Objects.{IsReferenceTo, target_in, written_in};
-ghost use Rattle.heap_engine.specs.Nodes.{word_of, place_of};
 ghost use Rattle.heap_engine.specs.Parts.{setup_of_objects, HasMarks};
 
 use crate::content::Content;

@@ -9,16 +9,18 @@ ghost use Rattle.page_words.specs.Seat.{IsQuiet, empty_view};
 ghost use Rattle.gc_graph.specs.Shapes.{IsShape};
 ghost use Rattle.page_space.specs.Pages.{word_count};
 ghost use Rattle.callback_table.specs.Table.{kinds_of};
-ghost use Rattle.heap_engine.specs.Objects.{HaveCallbacks, AreOfValid, IsLiveAt};
+ghost use Rattle.heap_engine.specs.Objects.{HaveCallbacks, IsLiveAt};
+ghost use Rattle.node_bodies.specs.Nodes.{AreOfValid};
 ghost use Rattle.heap_engine.specs.Objects.{with_made};
 ghost use Rattle.heap_engine.specs.Parts.{setup_of_objects};
 
 use crate::finding::find_place;
 use crate::kinds::{self, Kinds};
-use crate::nodes::{self, NodeLists};
+use crate::nodes;
 use callback_table::CallbackTable;
 use gc_graph::NoMemory;
 use ghost_values::GhostValue;
+use node_bodies::NodeLists;
 use page_space::Space;
 use page_words::MutatorSeat;
 use std::alloc::Global;
@@ -83,7 +85,7 @@ impl Objects {
             types,
             kinds: kinds::of(callbacks),
             made: 0,
-            nodes: nodes::none(),
+            nodes: node_bodies::none(),
         })
     }
 

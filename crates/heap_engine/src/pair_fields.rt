@@ -6,8 +6,8 @@ ghost use Rattle.std.specs.Prelude.{slice_index_or, Some, None};
 ghost use Rattle.gc_graph.specs.declared.phase.Phase.{Phase};
 ghost use Rattle.gc_graph.specs.Fields.{is_pair};
 ghost use Rattle.heap_engine.specs.Fields.{IsFieldOf, part_in, ArePartsOf};
-ghost use Rattle.heap_engine.specs.Objects.{AreOfValid, target_in, paired_in};
-ghost use Rattle.heap_engine.specs.Nodes.{word_of, place_of};
+ghost use Rattle.heap_engine.specs.Objects.{target_in, paired_in};
+ghost use Rattle.node_bodies.specs.Nodes.{AreOfValid, word_of, place_of};
 ghost use Rattle.heap_engine.specs.Parts.{setup_of_objects, HasMarks};
 
 use crate::content::Content;

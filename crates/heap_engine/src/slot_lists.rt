@@ -1,17 +1,14 @@
 // What slots name, and how calls on the handles change it. All of it is for contracts alone.
 
-ghost use Rattle.std.specs.Prelude.{◌≡◌, None, replicate, option_map};
+ghost use Rattle.std.specs.Prelude.{◌≡◌, None, replicate, option_map, map};
 ghost use Rattle.std.specs.Prelude.{slice_index_or, slice_set};
 ghost use Rattle.gc_graph.specs.Fields.{content_of};
 ghost use Rattle.gc_graph.specs.ObjectSteps.{part_of};
-ghost use Rattle.page_words.specs.Seat.{holds};
-ghost use Rattle.heap_engine.specs.View.{kept_of};
-ghost use Rattle.heap_engine.specs.Judgement.{weak_after};
+ghost use Rattle.gc_graph.specs.Pause.{is_dead_at, clear_slot};
 
 use crate::content::Values;
-use crate::nodes::NodeLists;
 use ghost_values::GhostValue;
-use page_words::MutatorSeat;
+use node_bodies::NodeLists;
 use std::marker::Model;
 
 /// A list of what slots name. It is never made.
@@ -75,24 +72,18 @@ pub fn copied(
     GhostValue::chosen(&AboutCopy { from, p, into, q })
 }
 
-/// What a judgement of weak slots looks at.
+/// What weak clearing looks at.
 #[derive(Drop)]
 struct AboutWeak<'a> {
     weak: &'a GhostValue<SlotLists>,
     nodes: &'a GhostValue<NodeLists>,
-    seat: &'a MutatorSeat,
 }
 
-/// The weak slots that name a node whose place is not marked are null.
-pub fn judged(
-    weak: &GhostValue<SlotLists>,
-    nodes: &GhostValue<NodeLists>,
-    seat: &MutatorSeat,
-) -> GhostValue<SlotLists>
-    ensures { result.value ≡ weak_after (kept_of (holds seat.now.marked) nodes.now.value)
-        nodes.now.value weak.now.value }
+/// The weak slots that name a dead node are null.
+pub fn cleared(weak: &GhostValue<SlotLists>, nodes: &GhostValue<NodeLists>) -> GhostValue<SlotLists>
+    ensures { result.value ≡ map (clear_slot (is_dead_at nodes.now.value)) weak.now.value }
 {
-    GhostValue::chosen(&AboutWeak { weak, nodes, seat })
+    GhostValue::chosen(&AboutWeak { weak, nodes })
 }
 
 /// What a look at a slot looks at.

@@ -7,7 +7,8 @@ ghost use Rattle.page_words.specs.Bodies.{Body, IsPlace};
 ghost use Rattle.page_words.specs.Seat.{holds};
 ghost use Rattle.page_space.specs.Pages.{word_count};
 ghost use Rattle.page_space.specs.Space.{IsSpaceOf};
-ghost use Rattle.heap_engine.specs.Sweeping.{IsJudged, IsSweptView, AreDeadSerials, Sweeps};
+ghost use Rattle.heap_engine.specs.Sweeping.{IsSweptView, AreDeadSerials, Sweeps};
+ghost use Rattle.node_bodies.specs.Places.{IsJudged};
 
 use page_space::Space;
 use page_words::MutatorSeat;

@@ -2,7 +2,7 @@ use Rattle.std.proofs.Common.{◌≡◌, ℕ, [], ◌∷◌, None, get_or, optio
 use Rattle.gc_graph.specs.Fields.{target_of, is_reference}
 use Rattle.gc_graph.specs.ObjectSteps.{StepGet}
 use Rattle.gc_graph.specs.Outcomes.{answered}
-use Rattle.heap_engine.specs.Nodes.{place_of}
+use Rattle.node_bodies.specs.Nodes.{place_of}
 use Rattle.heap_engine.specs.Fields.{value_in}
 use Rattle.heap_engine.specs.Objects.{target_in}
 use Rattle.heap_engine.specs.Parts.{ObjectsView, HandlesView, AreTied, IsFrame, counted, state_of}

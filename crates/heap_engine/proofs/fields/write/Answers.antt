@@ -1,6 +1,6 @@
 use Rattle.std.proofs.Common.{◌≡◌, List, None, get_or, length, refl, ap, ◌∙◌, arith}
 use Rattle.gc_graph.specs.State.{Node}
-use Rattle.heap_engine.specs.Nodes.{place_of}
+use Rattle.node_bodies.specs.Nodes.{place_of}
 use Rattle.heap_engine.specs.Fields.{allows}
 use Rattle.heap_engine.specs.Objects.{written_in}
 use Rattle.heap_engine.specs.Parts.{ObjectsView, counted}

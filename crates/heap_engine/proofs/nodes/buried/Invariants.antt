@@ -1,5 +1,5 @@
 use Rattle.std.proofs.Common.{map}
-use Rattle.heap_engine.specs.Objects.{bury}
+use Rattle.node_bodies.specs.Nodes.{bury}
 use Rattle.heap_engine.proofs.nodes.buried.Given as goal
 
 abbrev pub ghost-chosen : goal.ghost-chosen

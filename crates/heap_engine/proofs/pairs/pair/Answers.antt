@@ -2,7 +2,7 @@ use Rattle.std.proofs.Common.{◌≡◌, ℕ, List, Option, None, get_or, sym, �
 use Rattle.gc_graph.specs.declared.kind.Value.{Value}
 use Rattle.gc_graph.specs.State.{Node}
 use Rattle.gc_graph.specs.ObjectSteps.{part_of}
-use Rattle.heap_engine.specs.Nodes.{place_of, word_of}
+use Rattle.node_bodies.specs.Nodes.{place_of, word_of}
 use Rattle.heap_engine.specs.Objects.{slot_part}
 use Rattle.heap_engine.specs.Parts.{ObjectsView, HandlesView, CycleView, IsReady}
 use Rattle.heap_engine.proofs.Ties.{slot_place, slot_live}

@@ -2,7 +2,7 @@ use Rattle.std.proofs.Common.{◌≡◌, ℕ, List, Option, None, get_or, length
 use Rattle.gc_graph.specs.declared.kind.Value.{Value}
 use Rattle.gc_graph.specs.State.{Node}
 use Rattle.gc_graph.specs.Fields.{is_pair}
-use Rattle.heap_engine.specs.Nodes.{place_of}
+use Rattle.node_bodies.specs.Nodes.{place_of}
 use Rattle.heap_engine.specs.Objects.{paired_in}
 use Rattle.heap_engine.specs.Parts.{ObjectsView, counted}
 use Rattle.heap_engine.proofs.FieldAnswers.{Found, found, field_kind}

@@ -1,7 +1,7 @@
 use Rattle.std.proofs.Common.{◌≡◌, [], ◌∷◌, Some, refl, sym, ap, ◌∙◌, subst}
 use Rattle.gc_graph.specs.declared.line.Line.TheVariants as L
 use Rattle.gc_graph.specs.Outcomes.{answered, with_slot}
-use Rattle.heap_engine.specs.Nodes.{place_of}
+use Rattle.node_bodies.specs.Nodes.{place_of}
 use Rattle.heap_engine.specs.Parts.{ObjectsView, HandlesView, CycleView, state_of, counted, AreTied, IsFrame}
 use Rattle.heap_engine.proofs.StackSteps.{word_points, peek_pointer, peek_number, peek_none}
 use Rattle.heap_engine.proofs.Ties.{tied_slot}

@@ -5,7 +5,8 @@ use Rattle.page_words.specs.Seat.{SeatView, holds}
 use Rattle.page_space.specs.Pages.{word_count}
 use Rattle.heap_engine.specs.Sweeping.{IsSweptView}
 use Rattle.heap_engine.proofs.SweepBodies.{stays}
-use Rattle.heap_engine.proofs.SweepSteps.{IsSweptBelow, sweep_begins, swept_up_to, judged_at, was_there, body_below, sweeps_on, sweep_ends, numbers_end}
+use Rattle.heap_engine.proofs.SweepSteps.{IsSweptBelow, sweep_begins, swept_up_to, judged_at, was_there, sweeps_on, sweep_ends, numbers_end}
+use Rattle.node_bodies.specs.PlaceBodies.{body_below}
 use Rattle.heap_engine.proofs.sweeping.sweep_pages.Goals as goal
 
 pub loop-a-init : goal.loop-a-init

@@ -1,6 +1,6 @@
 use Rattle.std.proofs.Common.{ap, ◌∙◌, length}
-use Rattle.heap_engine.specs.Nodes.{place_of}
-use Rattle.heap_engine.proofs.NodeBodies.{length-bodies}
+use Rattle.node_bodies.specs.Nodes.{place_of}
+use Rattle.node_bodies.specs.NodeBodies.{length-bodies}
 use Rattle.heap_engine.proofs.objects.Objects.count.Goals as goal
 
 pub returns : goal.returns

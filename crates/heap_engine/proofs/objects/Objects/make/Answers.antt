@@ -6,10 +6,10 @@ use Rattle.gc_graph.specs.Placement.{IsPlaceFor, extents_of}
 use Rattle.page_words.specs.Seat.{SeatView}
 use Rattle.page_space.specs.Occupying.{Occupies, new_body}
 use Rattle.page_space.specs.Space.{extents_of_bodies}
-use Rattle.heap_engine.specs.Nodes.{place_of, IsHeld}
+use Rattle.node_bodies.specs.Nodes.{place_of, IsHeld}
 use Rattle.heap_engine.specs.Objects.{with_made}
-use Rattle.heap_engine.proofs.NodeBodies.{extents-bodies}
-use Rattle.heap_engine.proofs.TypedNodes.{known_nodes}
+use Rattle.node_bodies.specs.NodeBodies.{extents-bodies}
+use Rattle.node_bodies.specs.TypedNodes.{known_nodes}
 use Rattle.heap_engine.proofs.HeldNodes.{held_made}
 use Rattle.heap_engine.proofs.objects.Objects.make.Goals as goal
 

@@ -6,11 +6,11 @@ use Rattle.type_table.specs.Types.{is_kind}
 use Rattle.page_words.specs.Seat.{SeatView, stored}
 use Rattle.page_space.specs.Space.{IsSpaceOf}
 use Rattle.heap_engine.specs.declared.field.Field.{Field}
-use Rattle.heap_engine.specs.Nodes.{place_of, word_of, IsHeld}
+use Rattle.node_bodies.specs.Nodes.{place_of, word_of, IsHeld}
 use Rattle.heap_engine.specs.Fields.{TakesWord}
 use Rattle.heap_engine.specs.Objects.{written_in}
 use Rattle.heap_engine.specs.Parts.{HasMarks}
-use Rattle.heap_engine.proofs.NodePlaces.{live_is_there}
+use Rattle.node_bodies.specs.NodePlaces.{live_is_there}
 use Rattle.heap_engine.proofs.FieldNodes.{with_field, length-field}
 use Rattle.heap_engine.proofs.FieldPlaces.{has_word, word_low}
 use Rattle.heap_engine.proofs.FieldReads.{kind_itself, takes_word}

@@ -6,10 +6,10 @@ use Rattle.page_words.specs.Bodies.{IsReference}
 use Rattle.page_words.specs.Seat.{SeatView, stored}
 use Rattle.page_space.specs.Space.{IsSpaceOf}
 use Rattle.heap_engine.specs.declared.field.Field.{Field}
-use Rattle.heap_engine.specs.Nodes.{place_of, word_of, IsHeld}
+use Rattle.node_bodies.specs.Nodes.{place_of, word_of, IsHeld}
 use Rattle.heap_engine.specs.Objects.{paired_in}
 use Rattle.heap_engine.specs.Parts.{HasMarks}
-use Rattle.heap_engine.proofs.NodePlaces.{live_is_there}
+use Rattle.node_bodies.specs.NodePlaces.{live_is_there}
 use Rattle.heap_engine.proofs.FieldReads.{value_is_reference}
 use Rattle.heap_engine.proofs.HeldNodes.{marks_stored}
 use Rattle.heap_engine.proofs.PairBodies.{with_pair, length-pair, held_paired}

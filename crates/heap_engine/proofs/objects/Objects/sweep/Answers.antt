@@ -2,10 +2,10 @@ use Rattle.std.proofs.Common.{◌≡◌, ◌∙◌, List, length, map, sym, ap, 
 use Rattle.std.proofs.lemmas.List.{length-map}
 use Rattle.gc_graph.specs.State.{Node}
 use Rattle.gc_graph.specs.Sweep.{AreDeadInOrder}
-use Rattle.heap_engine.specs.Nodes.{IsHeld}
-use Rattle.heap_engine.specs.Objects.{bury}
+use Rattle.node_bodies.specs.Nodes.{IsHeld, bury}
 use Rattle.heap_engine.proofs.HeldNodes.{held_swept}
-use Rattle.heap_engine.proofs.NodeSweeps.{serials_fit, dead_in_order}
+use Rattle.heap_engine.proofs.NodeSweeps.{dead_in_order}
+use Rattle.node_bodies.specs.NodePlaces.{serials_fit}
 use Rattle.heap_engine.proofs.objects.Objects.sweep.Goals as goal
 
 pub sweep_pages-requires-clause-judged : goal.sweep_pages-requires-clause-judged

@@ -1,0 +1,14 @@
+pub mod MarkEnds
+pub mod HeldNodes
+pub mod ReachedNodes
+pub mod BodyReferences
+pub mod PairReferences
+pub mod WeakBodies
+pub mod WeakJudged
+pub mod StandingNodes
+pub mod PreparedNodes
+pub mod ActedNodes
+pub mod PrefinalizerFields
+pub mod PrefinalizerShown
+pub mod PrefinalizerBodies
+pub mod PausedNodes

@@ -1,0 +1,153 @@
+-- How marking begins and ends.
+use Rattle.std.proofs.Common.{◌≡◌, ℕ, ◌+◌, Bool, true, List, [], ◌∷◌, None, refl, sym, ap, ◌∙◌, subst, inl, inr, arith, cond, map}
+use mathlib.Core.Logic.{◌⊎◌}
+use Rattle.std.specs.List.{Contains, count_by, range_with_len}
+use Rattle.std.proofs.lemmas.Bool.{true≢false, cases_Bool, cases_lt}
+use Rattle.std.proofs.lemmas.List.Sums.{sum_by-cons}
+use Rattle.gc_graph.specs.Graph.{ClosesUnder}
+use Rattle.gc_graph.specs.State.{ObjectType}
+use Rattle.mark_worklist.specs.Refusals.{Refusals, TellsRefused, refusals_of}
+use Rattle.mark_worklist.specs.declared.marking.Marking.{Marking}
+use Rattle.page_words.specs.Bodies.{Body, IsPlace}
+use Rattle.page_words.specs.Seat.{SeatView, IsView, holds, ended}
+use Rattle.ephemerons.specs.BodyGraph.{object_there, graph_in}
+use Rattle.ephemerons.specs.Marking.{MarksOn, GrowsWithin, IsOver, traced_count}
+use Rattle.ephemerons.specs.Notes.{NotesState}
+use Rattle.ephemerons.specs.Fixpoint.{ListsMarks, IsAccounted}
+use Rattle.atomic_pause.specs.Marking.{ListsMarked, MarksReachable, marked_count}
+
+count_agrees : (bodies : List Body) (p q : ℕ → Bool) → ((x : ℕ) → p x ≡ q x) → count_by (λ (b : Body). p b.place) bodies ≡ count_by (λ (b : Body). q b.place) bodies
+count_agrees [] p q same = refl
+count_agrees (b ∷ bodies) p q same =
+    sum_by-cons (λ (c : Body). cond (p c.place) 1 0) b bodies
+    ∙ ap (λ t. cond t 1 0 + count_by (λ (c : Body). p c.place) bodies) (same b.place)
+    ∙ ap (λ n. cond (q b.place) 1 0 + n) (count_agrees bodies p q same)
+    ∙ sym (sum_by-cons (λ (c : Body). cond (q c.place) 1 0) b bodies)
+
+count_none : (bodies : List Body) → count_by (λ (b : Body). holds [] b.place) bodies ≡ 0
+count_none [] = refl
+count_none (b ∷ bodies) =
+    let one : count_by (λ (c : Body). holds [] c.place) (b ∷ bodies) ≡ 0 + count_by (λ (c : Body). holds [] c.place) bodies =
+    sum_by-cons (λ (c : Body). cond (holds [] c.place) 1 0) b bodies in
+    omega (arith, one, count_none bodies)
+
+-- ---- the end
+
+black_or_white : (types : List ObjectType) (v : SeatView) → IsView v → IsOver types v → (p : ℕ) → holds v.traced p ≡ holds v.marked p
+black_or_white types v view over p =
+    elim (cases_Bool (holds v.marked p)) [
+      | inl marked ↦ over.no_grey p marked ∙ sym marked
+      | inr white ↦ elim (cases_Bool (holds v.traced p)) [
+        | inl traced ↦ absurd (true≢false (sym (view.traced_are_marked p traced) ∙ white))
+        | inr not_traced ↦ not_traced ∙ sym white
+      ]
+    ]
+
+-- the fixpoint traced as many objects as are marked
+pub kept_are_counted : (types : List ObjectType) (w x y : SeatView) (n : ℕ) → w.traced ≡ [] → IsView x → IsOver types x → traced_count x ≡ traced_count w + n
+    → y ≡ ended x → n ≡ marked_count y
+kept_are_counted types w x y n untraced view over counted ends =
+    let none : traced_count w ≡ 0 = ap (λ ps. count_by (λ (b : Body). holds ps b.place) w.bodies) untraced ∙ count_none w.bodies in
+    let all : traced_count x ≡ marked_count x = count_agrees x.bodies (holds x.traced) (holds x.marked) (black_or_white types x view over) in
+    let last : marked_count y ≡ marked_count x = ap marked_count ends in
+    omega (arith, counted, none, all, last)
+
+-- the words stand for the same graph
+same_graph : (types : List ObjectType) (a b : SeatView) → MarksOn a b → graph_in types b ≡ graph_in types a
+same_graph types a b x =
+    ap (λ bs. map (object_there types bs) (range_with_len 0 b.count)) x.bodies ∙ ap (λ n. map (object_there types a.bodies) (range_with_len 0 n)) x.count
+
+-- the places that a view marks
+abbrev pub IsMarkedIn : SeatView → ℕ → Type 0
+IsMarkedIn w p = holds w.marked p ≡ true
+
+-- from what is marked (w), through what that leads to (x), to the end of marking (y)
+pub marks_reachable : (types : List ObjectType) (w x y : SeatView) → MarksOn w x → IsOver types x → GrowsWithin types w x → y ≡ ended x
+    → MarksReachable types (IsMarkedIn w) w y
+marks_reachable types w x y led over grows ends =
+    subst (λ (z : SeatView). MarksReachable types (IsMarkedIn w) w z) (sym ends) (record {
+      count = led.count;
+      known = led.types;
+      off = refl;
+      bodies = led.bodies;
+      roots = λ p marked. led.marked p marked;
+      closed = over.closed;
+      least = λ test closed held p marked. grows test (subst (λ g. ClosesUnder g test) (same_graph types w x led) closed) held p marked;
+      dead = refl;
+    })
+
+-- marking began with nothing marked (v), the roots were marked (w), and marking came to its end (y)
+pub roots_reach : (types : List ObjectType) (root : ℕ → Type 0) (v w y : SeatView) (l m : Marking) → v.marked ≡ [] → ListsMarks v l w m
+    → ((p : ℕ) → root p → holds w.marked p ≡ true) → ((p : ℕ) → holds w.marked p ≡ true → (holds v.marked p ≡ true) ⊎ root p)
+    → MarksReachable types (IsMarkedIn w) w y → MarksReachable types root v y
+roots_reach types root v w y l m none marks roots only ends = record {
+  count = ends.count ∙ ap (λ (z : SeatView). z.count) marks.view;
+  known = ends.known ∙ ap (λ (z : SeatView). z.types) marks.view;
+  off = ends.off;
+  bodies = ends.bodies ∙ ap (λ (z : SeatView). z.bodies) marks.view;
+  roots = λ p is. ends.roots p (roots p is);
+  closed = ends.closed;
+  least = λ test closed held p marked.
+      ends.least test closed
+      (λ q early. elim (only q early) [ inl before ↦ absurd (true≢false (sym before ∙ ap (λ ps. holds ps q) none)) | inr is ↦ held q is ]) p marked;
+  dead = ends.dead;
+}
+
+-- what is marked is listed, unless a push was refused
+pub listed_from : (v w : SeatView) (l m : Marking) → v.marked ≡ [] → l.list.items ≡ [] → ListsMarks v l w m → ListsMarked w m
+listed_from v w l m none empty marks = record {
+  whole = λ fine p marked. elim (marks.fresh fine p marked) [
+    | inl before ↦ absurd (true≢false (sym before ∙ ap (λ ps. holds ps p) none))
+    | inr there ↦ there
+  ];
+  places = λ p there. elim (marks.listed p there) [
+    | inl before ↦ absurd (omega (arith, (subst (λ ps. Contains ps p) empty before).1))
+    | inr place ↦ subst (λ bs. IsPlace bs p) (sym (ap (λ (z : SeatView). z.bodies) marks.view)) place
+  ];
+}
+
+-- what is grey is listed, unless a push was refused, and then the heap is walked
+pub walked_or_listed : (types : List ObjectType) (w : SeatView) (m : Marking) (groups : List NotesState) → w.traced ≡ [] → ListsMarked w m
+    → (m.overflow ≡ true) ⊎ IsAccounted types None w m.list.items groups
+walked_or_listed types w m groups untraced listed = elim (cases_Bool m.overflow) [
+  | inl refused ↦ inl refused
+  | inr fine ↦ inr (record {
+    grey = λ p marked white. inr (inl (listed.whole fine p marked));
+    pairs = λ p traced. absurd (true≢false (sym traced ∙ ap (λ ps. holds ps p) untraced));
+  })
+]
+
+-- ---- from slot to slot
+
+pub told_then : (a b c : Refusals) → TellsRefused a b → TellsRefused b c → TellsRefused a c
+told_then a b c x y = record {
+  kept = λ h. y.kept (x.kept h);
+  no_fewer = omega (arith, x.no_fewer, y.no_fewer);
+  counted = λ more. elim (cases_lt a.count b.count) [ inl first ↦ y.kept (x.counted first) | inr not_yet ↦ y.counted (omega (arith, more, not_yet)) ];
+  only = λ h. elim (y.only h) [
+    | inl before ↦ elim (x.only before) [
+      | inl first ↦ inl first
+      | inr rose ↦ inr (elim rose [ inl more ↦ inl (omega (arith, more, y.no_fewer)) | inr last ↦ inr (omega (arith, last, y.no_fewer)) ])
+    ]
+    | inr rose ↦ inr (elim rose [ inl more ↦ inl (omega (arith, more, x.no_fewer)) | inr last ↦ inr last ])
+  ];
+}
+
+pub lists_then : (u v w : SeatView) (l m n : Marking) → ListsMarks u l v m → ListsMarks v m w n → ListsMarks u l w n
+lists_then u v w l m n x y = record {
+  view = y.view ∙ ap (λ (z : SeatView). record z { marked = w.marked }) x.view;
+  marked = λ p h. y.marked p (x.marked p h);
+  on = y.on ∙ x.on;
+  overflow = λ h. x.overflow (y.overflow h);
+  told = told_then (refusals_of l) (refusals_of m) (refusals_of n) x.told y.told;
+  kept = λ p h. y.kept p (x.kept p h);
+  listed = λ p h. elim (y.listed p h) [
+    | inl before ↦ x.listed p before
+    | inr place ↦ inr (subst (λ bs. IsPlace bs p) (ap (λ (z : SeatView). z.bodies) x.view) place)
+  ];
+  fresh = λ fine p h. elim (y.fresh fine p h) [
+    | inl before ↦ elim (x.fresh (y.overflow fine) p before) [ inl first ↦ inl first | inr there ↦ inr (y.kept p there) ]
+    | inr there ↦ inr there
+  ];
+  lighter = omega (arith, x.lighter, y.lighter);
+}

@@ -1,0 +1,20 @@
+use Rattle.ephemerons.specs.Marking.{IsOver}
+use Rattle.atomic_pause.proofs.MarkEnds.{walked_or_listed, kept_are_counted, marks_reachable}
+use Rattle.atomic_pause.proofs.closing.close.Goals as goal
+
+pub fixpoint-traced-requires-clause-listed : goal.fixpoint-traced-requires-clause-listed
+fixpoint-traced-requires-clause-listed c = c.requires.listed.places
+
+over : (c : goal.After-marking-1) → IsOver c.args.types.now c.fixpoint-traced.new.seat
+over c =
+    c.fixpoint-traced.ensures.over (walked_or_listed c.args.types.now c.args.seat.now c.args.marking.now c.args.notes.now c.requires.untraced c.requires.listed)
+
+pub returns-clause-over : goal.returns-clause-over
+returns-clause-over c =
+    marks_reachable c.args.types.now c.args.seat.now c.fixpoint-traced.new.seat c.set_stop.new.seat c.fixpoint-traced.ensures.kept (over c)
+    c.fixpoint-traced.ensures.within c.set_stop.ensures
+
+pub returns-clause-traced : goal.returns-clause-traced
+returns-clause-traced c =
+    kept_are_counted c.args.types.now c.args.seat.now c.fixpoint-traced.new.seat c.set_stop.new.seat c.fixpoint-traced.result c.requires.untraced
+    c.bodies_lie_apart.ensures (over c) (c.fixpoint-traced.ensures.counted c.requires.differ) c.set_stop.ensures

@@ -1,0 +1,7 @@
+use Rattle.page_words.specs.Seat.{holds}
+use Rattle.node_bodies.specs.Judgement.{nodes_after}
+use Rattle.node_bodies.specs.Places.{kept_of}
+use Rattle.atomic_pause.proofs.judging.judged.Given as goal
+
+abbrev pub ghost-chosen : goal.ghost-chosen
+ghost-chosen a = nodes_after (kept_of (holds a.about.now.seat.now.marked) a.about.now.nodes.now.value) a.about.now.nodes.now.value

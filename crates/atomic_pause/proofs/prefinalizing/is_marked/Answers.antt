@@ -1,0 +1,23 @@
+use Rattle.std.proofs.Common.{◌≡◌, List, ap, ◌∙◌}
+use Rattle.gc_graph.specs.State.{Node, node_at}
+use Rattle.object_headers.specs.declared.header.Header.{Header}
+use Rattle.page_words.specs.Bodies.{Body}
+use Rattle.page_words.specs.Seat.{SeatView, holds}
+use Rattle.node_bodies.specs.Nodes.{place_of, body_of}
+use Rattle.node_bodies.specs.NodePlaces.{node_body}
+use Rattle.atomic_pause.proofs.StandingNodes.{stands_there, stands_body, mark_tells}
+use Rattle.atomic_pause.proofs.prefinalizing.is_marked.Goals as goal
+
+pub header_at-requires-clause-start : goal.header_at-requires-clause-start
+header_at-requires-clause-start c =
+    stands_body c.args.nodes.now.value c.args.seat.now c.args.place c.requires.ready.held.bodies c.requires.place
+
+pub returns-clause-mark : goal.returns-clause-mark
+returns-clause-mark c = (λ n stands.
+    let nodes : List Node = c.args.nodes.now.value in
+    let v : SeatView = c.args.seat.now in
+    let b : Body = body_of (place_of nodes) n (node_at nodes n) in
+    let ready = c.requires.ready in
+    let at : b.place ≡ c.args.place = stands.place_is in
+    ap (λ (h : Header). h.mark) (c.header_at.ensures.header b (node_body nodes v n c.requires.ready.held.bodies (stands_there nodes c.args.place n stands)) at)
+    ∙ ap (holds v.marked) at ∙ mark_tells nodes v c.args.place n c.requires.ready.held ready.judged stands)

@@ -1,0 +1,19 @@
+use Rattle.std.proofs.Common.{◌≡◌, ℕ, true, sym, ap, ◌∙◌, subst, arith}
+use Rattle.page_words.specs.Bodies.{Body}
+use Rattle.page_words.specs.Seat.{SeatView, IsView, holds}
+use Rattle.page_space.specs.Space.{HoldsAddress}
+use Rattle.atomic_pause.proofs.roots.scan_word.Goals as goal
+
+-- one body alone has the word
+one_place : (v : SeatView) (address p q : ℕ) → IsView v → HoldsAddress v.bodies address p → HoldsAddress v.bodies address q → p ≡ q
+one_place v address p q view (b, b_there, b_at, b_low, b_high) (d, d_there, d_at, d_low, d_high) =
+    let same : b ≡ d = view.apart b d address b_there d_there (omega (arith, b_at, b_low)) b_high (omega (arith, d_at, d_low)) d_high in
+    sym b_at ∙ ap (λ (x : Body). x.place) same ∙ d_at
+
+pub returns-in-Some-clause-root : goal.returns-in-Some-clause-root
+returns-in-Some-clause-root c = λ p hit.
+    subst (λ q. holds c.mark.new.seat.marked q ≡ true)
+    (one_place c.args.seat.now c.args.word c.in-Some.place p c.bodies_lie_apart.ensures c.in-Some.ensures.found hit) c.mark.ensures.target
+
+pub returns-in_default-clause-root : goal.returns-in_default-clause-root
+returns-in_default-clause-root c = λ p hit. absurd (c.in_default.ensures.none p hit)

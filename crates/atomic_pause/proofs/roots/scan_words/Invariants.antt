@@ -1,0 +1,13 @@
+use Rattle.std.proofs.Common.{◌≡◌, ℕ, true, take}
+use mathlib.Core.Logic.{◌⊎◌}
+use Rattle.page_words.specs.Seat.{holds}
+use Rattle.ephemerons.specs.Fixpoint.{ListsMarks}
+use Rattle.atomic_pause.specs.Marking.{IsHitPlace}
+use Rattle.atomic_pause.proofs.roots.scan_words.Given as goal
+
+abbrev pub invariant-loop-i : goal.invariant-loop-i
+invariant-loop-i l = record {
+  marks : ListsMarks l.initial.seat l.initial.marking l.seat l.marking;
+  roots : (p : ℕ) → IsHitPlace l.initial.seat.bodies (take l.i l.stack) p → holds l.seat.marked p ≡ true;
+  only : (p : ℕ) → holds l.seat.marked p ≡ true → (holds l.initial.seat.marked p ≡ true) ⊎ IsHitPlace l.initial.seat.bodies (take l.i l.stack) p;
+}

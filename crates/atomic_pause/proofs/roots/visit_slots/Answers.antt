@@ -1,0 +1,40 @@
+use Rattle.std.proofs.Common.{◌<◌, length, None, Some, inl, inr, sym, ap, ◌∙◌, subst, arith}
+use Rattle.std.specs.Option.{ForSome}
+use Rattle.std.proofs.lemmas.List.Elements.{All-get_or}
+use Rattle.page_words.specs.Bodies.{IsPlace}
+use Rattle.page_words.specs.Seat.{SeatView}
+use Rattle.node_bodies.specs.Lists.{Contains-take_more_cases, Contains-take_more_old, Contains-take_more_new}
+use Rattle.atomic_pause.proofs.MarkEnds.{lists_then}
+use Rattle.atomic_pause.proofs.roots.visit_slots.Goals as goal
+
+pub visit_slot-requires-clause-heap : goal.visit_slot-requires-clause-heap
+visit_slot-requires-clause-heap c = ap (λ (v : SeatView). v.count) c.loop-i.invariant.marks.view ∙ c.requires.heap
+
+pub visit_slot-requires-clause-on : goal.visit_slot-requires-clause-on
+visit_slot-requires-clause-on c = ap (λ (v : SeatView). v.on) c.loop-i.invariant.marks.view ∙ c.requires.on
+
+pub visit_slot-requires-clause-slot : goal.visit_slot-requires-clause-slot
+visit_slot-requires-clause-slot c =
+    let low : c.loop-i.i < length c.args.slots.now = omega arith in
+    subst (λ bs. ForSome c.get.result (IsPlace bs)) (sym (ap (λ (v : SeatView). v.bodies) c.loop-i.invariant.marks.view))
+    (subst (λ slot. ForSome slot (IsPlace c.args.seat.now.bodies)) (sym c.get.ensures)
+    (All-get_or (λ slot. ForSome slot (IsPlace c.args.seat.now.bodies)) c.args.slots.now c.loop-i.i None low c.requires.slots))
+
+pub loop-i-preserved : goal.loop-i-preserved
+loop-i-preserved c =
+    let low : c.loop-i.i < length c.args.slots.now = omega arith in
+    record {
+      marks = lists_then c.args.seat.now c.loop-i.seat c.visit_slot.new.seat c.args.marking.now c.loop-i.marking c.visit_slot.new.marking c.loop-i.invariant.marks
+          c.visit_slot.ensures.marks;
+      roots = λ p among. elim (Contains-take_more_cases c.args.slots.now c.loop-i.i None (Some p) low among) [
+        | inl earlier ↦ c.visit_slot.ensures.marks.marked p (c.loop-i.invariant.roots p earlier)
+        | inr here ↦ c.visit_slot.ensures.root p (c.get.ensures ∙ here)
+      ];
+      only = λ p marked. elim (c.visit_slot.ensures.only p marked) [
+        | inl before ↦ elim (c.loop-i.invariant.only p before) [
+          | inl first ↦ inl first
+          | inr earlier ↦ inr (Contains-take_more_old c.args.slots.now c.loop-i.i None (Some p) low earlier)
+        ]
+        | inr here ↦ inr (Contains-take_more_new c.args.slots.now c.loop-i.i None (Some p) low (sym c.get.ensures ∙ here))
+      ];
+    }

@@ -1,0 +1,12 @@
+-- What stays of the parts that are lent while prefinalizers run.
+use Rattle.std.specs.Prelude.{◌≡◌}
+use Rattle.gc_graph.specs.ActionLaw.{HaveStayed}
+use Rattle.atomic_pause.specs.declared.prefinalizing.Objects.{Objects}
+
+-- the same parts are lent, and the objects lie where they lay and live if they lived
+pub record KeepsObjects (old new : Objects) : Type 0 where
+  pub seat : new.seat.ghost_name ≡ old.seat.ghost_name
+  pub nodes : new.nodes.ghost_name ≡ old.nodes.ghost_name
+  pub space : new.space.now ≡ old.space.now
+  pub types : new.types.now ≡ old.types.now
+  pub stayed : HaveStayed old.nodes.now.value new.nodes.now.value

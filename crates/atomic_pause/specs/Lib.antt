@@ -1,0 +1,4 @@
+pub mod Marking
+pub mod Pausing
+pub mod Left
+pub mod Lending

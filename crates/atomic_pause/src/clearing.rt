@@ -1,0 +1,35 @@
+// Weak clearing: what is weak and names an object that was not marked becomes null, before any
+// object goes.
+
+ghost use Rattle.std.specs.Prelude.{◌≡◌, All, map, not};
+ghost use Rattle.gc_graph.specs.Pause.{clear_slot};
+ghost use Rattle.gc_graph.specs.declared.kind.Kind.TheVariants.{Pair};
+ghost use Rattle.page_words.specs.Bodies.{IsPlace};
+ghost use Rattle.page_words.specs.Seat.{holds};
+ghost use Rattle.page_space.specs.Space.{IsSeatOf};
+ghost use Rattle.persistent_slots.specs.Clearing.{taken};
+ghost use Rattle.weak_clearing.specs.Clearing.{MarkedHaveWeakReferences, with_weak_cleared};
+ghost use Rattle.weak_clearing.specs.Clearing.{MarkedHaveReferencesOf, with_pairs_cleared};
+
+use page_space::Space;
+use page_words::MutatorSeat;
+use persistent_slots::Slots;
+use type_table::TypeTable;
+use weak_clearing::{clear_fields, clear_pairs, clear_slots};
+
+/// Sets to null the weak slots whose object is not marked, and of marked objects the weak fields
+/// whose object is not, and the pairs whose key is not.
+pub fn clear_weak(space: &Space, types: &TypeTable, seat: &mut MutatorSeat, weak: &mut Slots)
+    requires heap { IsSeatOf space.now seat.old }
+    requires types { types.now ≡ seat.old.types }
+    requires references { MarkedHaveWeakReferences seat.old }
+    requires pairs { MarkedHaveReferencesOf Pair seat.old }
+    requires places { All (IsPlace seat.old.bodies) (taken weak.old) }
+    ensures slots { weak.new ≡ map (clear_slot (λ a. not (holds seat.old.marked a))) weak.old }
+    ensures fields { seat.new ≡ with_pairs_cleared (with_weak_cleared seat.old) }
+{
+    clear_slots(space, seat, weak);
+    // Weak fields first: a pair's words are then still as they were.
+    clear_fields(space, types, seat);
+    clear_pairs(space, types, seat);
+}

@@ -1,0 +1,67 @@
+// Marking comes to its end: what is listed is traced and what is noted is settled, until nothing
+// asks for more.
+
+ghost use Rattle.std.specs.Prelude.{◌≡◌, ◌<◌, ℕ, true, false, [], ◌∷◌, Contains, length};
+ghost use Rattle.mark_worklist.specs.Refusals.{TellsRefused, refusals_of};
+ghost use Rattle.page_words.specs.Bodies.{IsPlace};
+ghost use Rattle.page_words.specs.Seat.{holds};
+ghost use Rattle.page_space.specs.Space.{IsSeatOf};
+ghost use Rattle.ephemerons.specs.BodyGraph.{AreReferences, PlacesDiffer};
+ghost use Rattle.ephemerons.specs.Fixpoint.{IsUnrefused};
+ghost use Rattle.ephemerons.specs.Notes.{no_notes};
+ghost use Rattle.atomic_pause.specs.Marking.{ListsMarked, MarksReachable, marked_count};
+
+use ephemerons::{Pairs, fixpoint};
+use mark_worklist::Marking;
+use page_space::Space;
+use page_words::MutatorSeat;
+use type_table::TypeTable;
+
+/// Traces all that is marked and marks what that asks for, until nothing is grey and what is marked
+/// is closed, and ends marking: what is not marked is dead. Answers how many objects it traced. It
+/// needs no memory.
+pub fn close(
+    space: &Space,
+    types: &TypeTable,
+    seat: &mut MutatorSeat,
+    marking: &mut Marking,
+    notes: &mut [Pairs],
+) -> u32
+    requires heap { IsSeatOf space.now seat.old }
+    requires on { seat.old.on ≡ true }
+    requires references { AreReferences types.now seat.old.bodies }
+    requires differ { PlacesDiffer seat.old.bodies }
+    requires untraced { seat.old.traced ≡ [] }
+    requires listed { ListsMarked seat.old marking.old }
+    requires unnoted { notes.old ≡ no_notes ∷ [] }
+    ensures over { MarksReachable types.now (λ p. holds seat.old.marked p ≡ true)
+        seat.old seat.new }
+    ensures traced { result ≡ marked_count seat.new }
+    ensures list { marking.new.list.items ≡ [] }
+    ensures off { marking.new.on ≡ false }
+    ensures told { TellsRefused (refusals_of marking.old) (refusals_of marking.new) }
+{
+    // An object that is marked and not listed can be found by a walk alone.
+    let walk = marking.overflow;
+    let traced = fixpoint(space, types, seat, marking, notes, walk);
+    seat.bodies_lie_apart();
+    space.words().set_stop(seat, true);
+    marking.on = false;
+    traced
+}
+
+/// Whether a push or a note was refused, so that the heap was walked.
+pub fn is_refused(marking: &Marking, notes: &[Pairs]) -> bool
+    ensures whole { result ≡ false → IsUnrefused marking.now.overflow notes.now }
+    ensures walked { result ≡ true → IsUnrefused marking.now.overflow notes.now → ⊥ }
+{
+    if marking.overflow {
+        return true;
+    }
+    for group in notes {
+        if group.overflow() {
+            return true;
+        }
+    }
+    false
+}

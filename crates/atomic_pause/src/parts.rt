@@ -1,0 +1,51 @@
+// What a pause works on, and what it answers.
+
+use callback_table::{CallbackTable, Registry};
+use ephemerons::Pairs;
+use ghost_values::GhostValue;
+use mark_worklist::Marking;
+use node_bodies::NodeLists;
+use page_space::Space;
+use page_words::MutatorSeat;
+use persistent_slots::Slots;
+use type_table::TypeTable;
+
+/// The parts of a heap that a pause works on, each lent by its owner.
+///
+/// | lent to be changed | what it is |
+/// |---|---|
+/// | `seat` | the owner's access to the words |
+/// | `nodes` | the nodes that the objects in the words are; contracts alone see them |
+/// | `marking` | the owner's marking state |
+/// | `notes` | the pairs that wait for their keys |
+/// | `weak` | weak slots |
+/// | `registry` | the registered prefinalizers |
+///
+/// | lent to be read | what it is |
+/// |---|---|
+/// | `space` | the pages, and the words |
+/// | `types` | the types of the objects |
+/// | `strong` | strong slots |
+/// | `callbacks` | what prefinalizers do |
+pub struct Parts<'a> {
+    pub seat: &'a mut MutatorSeat,
+    pub nodes: &'a mut GhostValue<NodeLists>,
+    pub marking: &'a mut Marking,
+    pub notes: &'a mut [Pairs],
+    pub weak: &'a mut Slots,
+    pub registry: &'a mut Registry,
+    pub space: &'a Space,
+    pub types: &'a TypeTable,
+    pub strong: &'a Slots,
+    pub callbacks: &'a CallbackTable,
+}
+
+/// How many objects a pause kept, how many it condemned, how many it traced, and whether it walked
+/// the heap, because a push or a note was refused.
+#[derive(Clone, Copy, Debug, PartialEq, Eq, Drop)]
+pub struct PauseResult {
+    pub kept: u32,
+    pub dead: u32,
+    pub traced: u32,
+    pub walked: bool,
+}

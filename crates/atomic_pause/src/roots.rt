@@ -1,0 +1,94 @@
+// The roots of a pause: what the strong slots name, and what the words of a stack hit.
+
+ghost use Rattle.std.specs.Prelude.{◌≡◌, ◌⊎◌, ℕ, true, Contains, All, Some};
+ghost use Rattle.std.specs.Option.{ForSome};
+ghost use Rattle.page_words.specs.Bodies.{IsPlace};
+ghost use Rattle.page_words.specs.Seat.{holds};
+ghost use Rattle.page_space.specs.Space.{IsSpaceOf, HoldsAddress};
+ghost use Rattle.ephemerons.specs.Fixpoint.{ListsMarks};
+ghost use Rattle.atomic_pause.specs.Marking.{IsHitPlace, IsScanned};
+
+use ephemerons::mark;
+use mark_worklist::Marking;
+use page_space::Space;
+use page_words::{MutatorSeat, Words};
+use persistent_slots::Slots;
+
+/// Marks and lists the targets of the slots.
+pub fn visit_slots(words: &Words, seat: &mut MutatorSeat, marking: &mut Marking, slots: &Slots)
+    requires heap { seat.old.count ≡ words.now }
+    requires on { seat.old.on ≡ true }
+    requires slots { All (λ slot. ForSome slot (IsPlace seat.old.bodies)) slots.now }
+    ensures marks { ListsMarks seat.old marking.old seat.new marking.new }
+    ensures roots { (p : ℕ) → Contains slots.now (Some p) → holds seat.new.marked p ≡ true }
+    ensures only { (p : ℕ) → holds seat.new.marked p ≡ true
+        → (holds seat.old.marked p ≡ true) ⊎ Contains slots.now (Some p) }
+{
+    for i in 0..slots.len() {
+        visit_slot(words, seat, marking, slots.get(i));
+    }
+}
+
+fn visit_slot(words: &Words, seat: &mut MutatorSeat, marking: &mut Marking, slot: Option<u32>)
+    requires heap { seat.old.count ≡ words.now }
+    requires on { seat.old.on ≡ true }
+    requires slot { ForSome slot (IsPlace seat.old.bodies) }
+    ensures marks { ListsMarks seat.old marking.old seat.new marking.new }
+    ensures root { (p : ℕ) → slot ≡ Some p → holds seat.new.marked p ≡ true }
+    ensures only { (p : ℕ) → holds seat.new.marked p ≡ true
+        → (holds seat.old.marked p ≡ true) ⊎ (slot ≡ Some p) }
+{
+    if let Some(place) = slot {
+        mark(words, seat, marking, place);
+    }
+}
+
+/// Marks and lists the objects that have a word at an address of the stack, unless the pause is
+/// precise.
+pub fn scan_stack(
+    space: &Space,
+    seat: &mut MutatorSeat,
+    marking: &mut Marking,
+    stack: &[u64],
+    precise: bool,
+)
+    requires space { IsSpaceOf space.now seat.old }
+    requires on { seat.old.on ≡ true }
+    ensures marks { ListsMarks seat.old marking.old seat.new marking.new }
+    ensures roots { (p : ℕ) → IsScanned precise seat.old.bodies stack.now p
+        → holds seat.new.marked p ≡ true }
+    ensures only { (p : ℕ) → holds seat.new.marked p ≡ true
+        → (holds seat.old.marked p ≡ true) ⊎ IsScanned precise seat.old.bodies stack.now p }
+{
+    if !precise {
+        scan_words(space, seat, marking, stack);
+    }
+}
+
+fn scan_words(space: &Space, seat: &mut MutatorSeat, marking: &mut Marking, stack: &[u64])
+    requires space { IsSpaceOf space.now seat.old }
+    requires on { seat.old.on ≡ true }
+    ensures marks { ListsMarks seat.old marking.old seat.new marking.new }
+    ensures roots { (p : ℕ) → IsHitPlace seat.old.bodies stack.now p
+        → holds seat.new.marked p ≡ true }
+    ensures only { (p : ℕ) → holds seat.new.marked p ≡ true
+        → (holds seat.old.marked p ≡ true) ⊎ IsHitPlace seat.old.bodies stack.now p }
+{
+    for i in 0..stack.len() {
+        scan_word(space, seat, marking, stack[i]);
+    }
+}
+
+fn scan_word(space: &Space, seat: &mut MutatorSeat, marking: &mut Marking, word: u64)
+    requires space { IsSpaceOf space.now seat.old }
+    requires on { seat.old.on ≡ true }
+    ensures marks { ListsMarks seat.old marking.old seat.new marking.new }
+    ensures root { (p : ℕ) → HoldsAddress seat.old.bodies word p → holds seat.new.marked p ≡ true }
+    ensures only { (p : ℕ) → holds seat.new.marked p ≡ true
+        → (holds seat.old.marked p ≡ true) ⊎ HoldsAddress seat.old.bodies word p }
+{
+    seat.bodies_lie_apart();
+    if let Some(place) = space.start_of(seat, word) {
+        mark(space.words(), seat, marking, place);
+    }
+}

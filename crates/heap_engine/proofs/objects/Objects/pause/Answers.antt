@@ -1,0 +1,52 @@
+use Rattle.std.proofs.Common.{◌≡◌, ℕ, List, Option, sym, ap, ◌∙◌, subst}
+use Rattle.std.specs.List.{All}
+use Rattle.std.specs.Option.{ForSome}
+use Rattle.gc_graph.specs.State.{Node}
+use Rattle.page_words.specs.Bodies.{IsPlace}
+use Rattle.page_words.specs.Seat.{SeatView}
+use Rattle.persistent_slots.specs.Clearing.{taken}
+use Rattle.node_bodies.specs.Nodes.{bodies_of}
+use Rattle.node_bodies.specs.Places.{places_of}
+use Rattle.node_bodies.specs.KeptNodes.{slots_live, named_places, weak_are_places}
+use Rattle.node_bodies.specs.WeakNodes.{length-after}
+use Rattle.atomic_pause.specs.Pausing.{NamePlaces}
+use Rattle.heap_engine.specs.Parts.{HandlesView}
+use Rattle.heap_engine.proofs.objects.Objects.pause.Goals as goal
+
+pub pause-result-requires-clause-strong : goal.pause-result-requires-clause-strong
+pause-result-requires-clause-strong g c =
+    let nodes : List Node = c.self.inside.nodes.value in
+    let v : SeatView = c.set_stop.new.seat in
+    let slots : List (Option ℕ) = c.args.handles.now.slots in
+    let held : v.bodies ≡ bodies_of nodes = ap (λ (u : SeatView). u.bodies) c.set_stop.ensures ∙ c.self.invariant.held.bodies in
+    let are : c.handles.inside.strong ≡ places_of nodes slots = ap (λ (h : HandlesView). h.places) c.handles.view_is ∙ (rw (← c.self.view_is) at c.requires.slots) in
+    subst (λ l. All (λ slot. ForSome slot (IsPlace v.bodies)) l) (sym are)
+    (named_places nodes v slots held (slots_live nodes slots (rw (← c.self.view_is) at c.requires.live)))
+
+pub pause-result-requires-clause-weak : goal.pause-result-requires-clause-weak
+pause-result-requires-clause-weak g c =
+    let nodes : List Node = c.self.inside.nodes.value in
+    let v : SeatView = c.set_stop.new.seat in
+    let weak : List (Option ℕ) = c.args.handles.now.weak in
+    let held : v.bodies ≡ bodies_of nodes = ap (λ (u : SeatView). u.bodies) c.set_stop.ensures ∙ c.self.invariant.held.bodies in
+    let are : c.handles.inside.weak ≡ places_of nodes weak = ap (λ (h : HandlesView). h.weak_places) c.handles.view_is ∙ (rw (← c.self.view_is) at c.requires.weak) in
+    subst (λ l. All (IsPlace v.bodies) (taken l)) (sym are)
+    (weak_are_places nodes v weak held (slots_live nodes weak (rw (← c.self.view_is) at c.requires.weak_live)))
+
+pub invariant_of-self : goal.invariant_of-self
+invariant_of-self g c =
+    let nodes : List Node = c.self.inside.nodes.value in
+    let names : NamePlaces nodes c.args.handles.now.slots c.handles.inside.strong = record {
+      live = rw (← c.self.view_is) at c.requires.live;
+      places_are = ap (λ (h : HandlesView). h.places) c.handles.view_is ∙ (rw (← c.self.view_is) at c.requires.slots);
+    } in
+    let paused = c.pause-result.ensures.paused c.args.handles.now.slots names in
+    record {
+      called = c.self.invariant.called;
+      few = c.self.invariant.few;
+      known = c.pause-result.ensures.ready.known;
+      laid = c.pause-result.ensures.ready.laid;
+      off = c.pause-result.ensures.ready.off;
+      held = c.pause-result.ensures.ready.held;
+      numbers_are = c.self.invariant.numbers_are ∙ sym (paused.stayed.count ∙ length-after paused.kept nodes);
+    }
