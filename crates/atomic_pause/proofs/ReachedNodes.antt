@@ -1,12 +1,8 @@
 -- What marking kept, over the nodes: exactly what the roots reach.
-use Rattle.std.proofs.Common.{◌≡◌, ℕ, ◌+◌, ◌<◌, ◌≤◌, Bool, true, false, ◌&&◌, List, [], ◌∷◌, ◌++◌, length, map, filter, get_or, Option, Some, refl, sym, ap, ◌∙◌, subst, inl, inr, arith, cond, eqb, leb, ltb}
-use mathlib.Core.Logic.{◌⊎◌}
+use Rattle.std.proofs.Common.{◌≡◌, ℕ, ◌+◌, ◌<◌, ◌≤◌, Bool, true, false, ◌&&◌, List, [], ◌++◌, length, map, Option, Some, refl, sym, ap, ◌∙◌, subst, inl, inr, arith, eqb, leb, ltb}
 use Rattle.std.specs.List.{Contains, list_any, range_with_len}
-use Rattle.std.proofs.lemmas.Bool.{true≢false, cases_Bool, and_parts, and_from, leb-true, ltb-true, le-leb, lt-ltb, or_cases, or_left, or_right, eqb-true, eq-eqb}
+use Rattle.std.proofs.lemmas.Bool.{true≢false, and_parts, and_from, leb-true, ltb-true, le-leb, lt-ltb, eqb-true, eq-eqb}
 use Rattle.std.proofs.lemmas.List.{length-map}
-use Rattle.std.proofs.lemmas.List.Elements.{Contains-get_or}
-use Rattle.std.proofs.lemmas.List.Folds.{list_any-append}
-use Rattle.std.proofs.lemmas.List.FromFn.{get_or-range_with_len, length-range_with_len}
 use Rattle.gc_graph.specs.Graph.{Object, object_at, has, IsIn, IsClosed, ClosesUnder, leads_to}
 use Rattle.gc_graph.specs.Reach.{Reach, AreNodes, IsLeastClosed, ReachIsLeast, any_below}
 use Rattle.gc_graph.specs.State.{Setup, Node, node_at, size_of, graph_of, slot_targets, is_live, is_there, IsLive}
@@ -18,7 +14,7 @@ use Rattle.ephemerons.specs.BodyGraph.{object_in, object_there, graph_in}
 use Rattle.node_bodies.specs.Nodes.{place_of, body_of, bodies_of, IsThere, IsHeld, AreOfValid}
 use Rattle.node_bodies.specs.Places.{kept_of}
 use Rattle.node_bodies.specs.Judgement.{IsReached}
-use Rattle.node_bodies.specs.Lists.{Contains-cons_cases}
+use Rattle.node_bodies.specs.AmongNodes.{IsAmong, among_cases, among_left, among_right, filter_holds, filter_passes, below_ranged}
 use Rattle.node_bodies.specs.NodePlaces.{live_is_there, live_is_live, is_live_life, there_below, node_body, body_node, same_node, object-at}
 use Rattle.node_bodies.specs.NodeLives.{live_if_there}
 use Rattle.node_bodies.specs.BodyGraph.{IsLed, some, any_from, is_led, led_leads, led_named, led_wider, renamed_object, led_renamed, renamed_led, there_is}
@@ -29,37 +25,6 @@ use Rattle.atomic_pause.specs.Pausing.{NamePlaces, hits_at, hits_in}
 use Rattle.atomic_pause.proofs.HeldNodes.{none_dead}
 
 -- ---- the roots
-
--- node n is among the roots
-abbrev pub IsAmong : List ℕ → ℕ → Type 0
-IsAmong roots n = list_any (λ r. eqb r n) roots ≡ true
-
-filter_holds : (p : ℕ → Bool) (xs : List ℕ) (n : ℕ) → Contains xs n → p n ≡ true → IsAmong (filter p xs) n
-filter_holds p [] n c is = absurd (omega (arith, c.1))
-filter_holds p (x ∷ xs) n c is =
-    elim (Contains-cons_cases x xs n c) [
-      | inl here ↦ subst (λ b. IsAmong (cond b (x ∷ filter p xs) (filter p xs)) n) (sym (ap p here ∙ is)) (or_left (eqb x n) _ (eq-eqb x n here))
-      | inr later ↦ elim (cases_Bool (p x)) [
-        | inl passes ↦ subst (λ b. IsAmong (cond b (x ∷ filter p xs) (filter p xs)) n) (sym passes) (or_right (eqb x n) _ (filter_holds p xs n later is))
-        | inr fails ↦ subst (λ b. IsAmong (cond b (x ∷ filter p xs) (filter p xs)) n) (sym fails) (filter_holds p xs n later is)
-      ]
-    ]
-
-filter_passes : (p : ℕ → Bool) (xs : List ℕ) (n : ℕ) → IsAmong (filter p xs) n → p n ≡ true
-filter_passes p [] n h = absurd (true≢false (sym h))
-filter_passes p (x ∷ xs) n h =
-    elim (cases_Bool (p x)) [
-      | inl passes ↦ elim (or_cases (eqb x n) _ (subst (λ b. IsAmong (cond b (x ∷ filter p xs) (filter p xs)) n) passes h)) [
-        | inl here ↦ subst (λ m. p m ≡ true) (eqb-true x n here) passes
-        | inr later ↦ filter_passes p xs n later
-      ]
-      | inr fails ↦ filter_passes p xs n (subst (λ b. IsAmong (cond b (x ∷ filter p xs) (filter p xs)) n) fails h)
-    ]
-
-below_ranged : (count n : ℕ) → n < count → Contains (range_with_len 0 count) n
-below_ranged count n low =
-    subst (Contains (range_with_len 0 count)) (let e : get_or (range_with_len 0 count) n 0 ≡ n = omega (arith, get_or-range_with_len 0 count n 0 low) in e)
-    (Contains-get_or (range_with_len 0 count) n 0 (let l : length (range_with_len 0 count) ≡ count = length-range_with_len 0 count in omega arith))
 
 -- the test of the words of a stack that holds of those that hit the node
 abbrev hits_node : List Node → ℕ → ℕ → Bool
@@ -89,20 +54,6 @@ body_word nodes n a there low high =
 -- the nodes that the slots name and those that the stack hits
 abbrev pub all_roots : List Node → List (Option ℕ) → Bool → List ℕ → List ℕ
 all_roots nodes slots precise stack = slot_targets slots ++ hits_in precise nodes stack
-
-among_cases : (nodes : List Node) (slots : List (Option ℕ)) (precise : Bool) (stack : List ℕ) (n : ℕ) → IsAmong (all_roots nodes slots precise stack) n
-    → IsAmong (slot_targets slots) n ⊎ IsAmong (hits_in precise nodes stack) n
-among_cases nodes slots precise stack n is =
-    or_cases _ _ (sym (list_any-append (λ r. eqb r n) (slot_targets slots) (hits_in precise nodes stack)) ∙ is)
-
-among_slots : (nodes : List Node) (slots : List (Option ℕ)) (precise : Bool) (stack : List ℕ) (n : ℕ) → IsAmong (slot_targets slots) n
-    → IsAmong (all_roots nodes slots precise stack) n
-among_slots nodes slots precise stack n is = list_any-append (λ r. eqb r n) (slot_targets slots) (hits_in precise nodes stack) ∙ or_left _ _ is
-
-among_hits : (nodes : List Node) (slots : List (Option ℕ)) (precise : Bool) (stack : List ℕ) (n : ℕ) → IsAmong (hits_in precise nodes stack) n
-    → IsAmong (all_roots nodes slots precise stack) n
-among_hits nodes slots precise stack n is =
-    list_any-append (λ r. eqb r n) (slot_targets slots) (hits_in precise nodes stack) ∙ or_right (list_any (λ r. eqb r n) (slot_targets slots)) _ is
 
 -- ---- what was marked
 
@@ -140,17 +91,17 @@ has_marked setup nodes slots places precise stack v new view valid held none nam
   view = view;
   valid = valid;
   held = held.bodies;
-  live = λ n is. elim (among_cases nodes slots precise stack n is) [
+  live = λ n is. elim (among_cases (slot_targets slots) (hits_in precise nodes stack) n is) [
     | inl slot ↦ slot_live nodes slots n names.live (slot_of_root slots n slot)
     | inr hit ↦ live precise n hit
   ];
-  placed = λ n is. elim (among_cases nodes slots precise stack n is) [
+  placed = λ n is. elim (among_cases (slot_targets slots) (hits_in precise nodes stack) n is) [
     | inl slot ↦ inl (subst (λ l. Contains l (Some (place_of nodes n))) (sym names.places_are) (slot_place nodes slots n (slot_of_root slots n slot)))
     | inr hit ↦ inr (placed precise n hit)
   ];
   named = λ p is. elim is [
     | inl slot ↦ (let w = place_slot nodes slots p (subst (λ l. Contains l (Some p)) names.places_are slot) in
-        (w.0, among_slots nodes slots precise stack w.0 (root_of_slot slots w.0 w.1), w.2))
+        (w.0, among_left (slot_targets slots) (hits_in precise nodes stack) w.0 (root_of_slot slots w.0 w.1), w.2))
     | inr hit ↦ named p hit
   ];
   marks = marks;
@@ -168,7 +119,7 @@ has_marked setup nodes slots places precise stack v new view valid held none nam
   named : (p : ℕ) → IsScanned precise v.bodies stack p → (n : ℕ) × IsAmong (all_roots nodes slots precise stack) n × (place_of nodes n ≡ p)
   named p (loose, hit) =
       (let w = hit_named nodes v stack p held.bodies hit in
-      (w.0, among_hits nodes slots precise stack w.0 (subst (λ flag. IsAmong (hits_in flag nodes stack) w.0) (sym loose) w.1), w.2))
+      (w.0, among_right (slot_targets slots) (hits_in precise nodes stack) w.0 (subst (λ flag. IsAmong (hits_in flag nodes stack) w.0) (sym loose) w.1), w.2))
 
 -- ---- the law of reach, applied
 

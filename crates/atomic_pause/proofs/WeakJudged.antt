@@ -156,12 +156,16 @@ same_extents change keeps (b ∷ bodies) =
     ∙ ap (λ s. record { place = b.place; size = s } ∷ extents_of_bodies (map change bodies)) is.1
     ∙ ap (λ es. record { place = b.place; size = b.size } ∷ es) (same_extents change keeps bodies)
 
--- weak clearing leaves the space's objects where they are
+-- weak clearing moves no object and changes no size
+pub extents_cleared : (v : SeatView) → extents_of_bodies (both_cleared v).bodies ≡ extents_of_bodies v.bodies
+extents_cleared v =
+    same_extents (clear_pairs_of v.types v.marked) (pairs_keep v.types v.marked) (map (clear_body v.types v.marked) v.bodies)
+    ∙ same_extents (clear_body v.types v.marked) (weak_keeps v.types v.marked) v.bodies
+
+-- and so leaves the space's objects where they are
 pub space_cleared : (space : SpaceView) (v : SeatView) → IsSpaceOf space v → IsSpaceOf space (both_cleared v)
 space_cleared space v is =
-    subst (IsSpaceOver space v.count)
-    (sym (same_extents (clear_pairs_of v.types v.marked) (pairs_keep v.types v.marked) (map (clear_body v.types v.marked) v.bodies)
-    ∙ same_extents (clear_body v.types v.marked) (weak_keeps v.types v.marked) v.bodies)) is
+    subst (IsSpaceOver space v.count) (sym (extents_cleared v)) is
 
 -- marking leaves the space's objects where they are
 pub space_marked : (space : SpaceView) (types : List ObjectType) (root : ℕ → Type 0) (v new : SeatView) → MarksReachable types root v new → IsSpaceOf space v → IsSpaceOf space new

@@ -1,6 +1,7 @@
 -- What stays of the parts that are lent while prefinalizers run.
 use Rattle.std.specs.Prelude.{◌≡◌}
 use Rattle.gc_graph.specs.ActionLaw.{HaveStayed}
+use Rattle.page_space.specs.Space.{extents_of_bodies}
 use Rattle.atomic_pause.specs.declared.prefinalizing.Objects.{Objects}
 
 -- the same parts are lent, and the objects lie where they lay and live if they lived
@@ -10,3 +11,4 @@ pub record KeepsObjects (old new : Objects) : Type 0 where
   pub space : new.space.now ≡ old.space.now
   pub types : new.types.now ≡ old.types.now
   pub stayed : HaveStayed old.nodes.now.value new.nodes.now.value
+  pub extents : extents_of_bodies new.seat.now.bodies ≡ extents_of_bodies old.seat.now.bodies

@@ -9,7 +9,7 @@ ghost use Rattle.callback_table.specs.Registry.{IsRegistered};
 ghost use Rattle.callback_table.specs.Table.{kinds_of};
 ghost use Rattle.mark_worklist.specs.Refusals.{TellsRefused, refusals_of};
 ghost use Rattle.page_words.specs.Bodies.{IsPlace};
-ghost use Rattle.page_space.specs.Space.{IsSpaceOf};
+ghost use Rattle.page_space.specs.Space.{IsSpaceOf, extents_of_bodies};
 ghost use Rattle.persistent_slots.specs.Clearing.{taken};
 ghost use Rattle.ephemerons.specs.Fixpoint.{IsUnrefused};
 ghost use Rattle.node_bodies.specs.Nodes.{AreOfValid, IsHeld};
@@ -56,6 +56,8 @@ pub fn pause(parts: Parts, stack: &[u64], precise: bool) -> PauseResult
         (map (clear_slot (is_dead_at (nodes_left parts.exit).now.value)) slots) }
     ensures ready { IsPrepared parts.entry.space.now parts.entry.types.now
         (seat_left parts.exit).now (nodes_left parts.exit).now.value }
+    ensures extents { extents_of_bodies (seat_left parts.exit).now.bodies
+        ≡ extents_of_bodies parts.entry.seat.now.bodies }
     ensures kept { result.kept ≡ live_count (nodes_left parts.exit).now.value }
     ensures dead { result.dead ≡ dead_count (nodes_left parts.exit).now.value }
     ensures traced { result.traced ≡ result.kept }

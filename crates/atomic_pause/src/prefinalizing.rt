@@ -10,6 +10,7 @@ ghost use Rattle.callback_table.specs.Bodies.{IsNodePlace, StandsAt};
 ghost use Rattle.callback_table.specs.Registry.{IsRegistered, registrations_of};
 ghost use Rattle.callback_table.specs.Registry.{pairs_run, entries_left};
 ghost use Rattle.callback_table.specs.Table.{kinds_of};
+ghost use Rattle.page_space.specs.Space.{extents_of_bodies};
 ghost use Rattle.atomic_pause.specs.Pausing.{IsPrepared};
 
 use crate::judging;
@@ -60,6 +61,7 @@ impl<'a> Bodies for Objects<'a> {
       space = refl;
       types = refl;
       stayed = record { count = refl; place = λ n. refl; life = λ n. refl };
+      extents = refl;
     } };
 
     ghost keeps_on = { λ first second third a b. record {
@@ -72,6 +74,7 @@ impl<'a> Bodies for Objects<'a> {
         place = λ n. b.stayed.place n ∙ a.stayed.place n;
         life = λ n. b.stayed.life n ∙ a.stayed.life n;
       };
+      extents = b.extents ∙ a.extents;
     } };
 }
 
@@ -94,6 +97,7 @@ pub fn prefinalise(
     ensures left { registry.new.entries ≡ entries_left nodes.old.value registry.old.entries }
     ensures ready { IsPrepared space.now types.now seat.new nodes.new.value }
     ensures stayed { HaveStayed nodes.old.value nodes.new.value }
+    ensures extents { extents_of_bodies seat.new.bodies ≡ extents_of_bodies seat.old.bodies }
 {
     let mut objects = Objects {
         seat,
@@ -160,6 +164,7 @@ fn act_on(
         → nodes.new.value ≡ acted nodes.old.value n action }
     ensures ready { IsPrepared space.now types.now seat.new nodes.new.value }
     ensures stayed { HaveStayed nodes.old.value nodes.new.value }
+    ensures extents { extents_of_bodies seat.new.bodies ≡ extents_of_bodies seat.old.bodies }
 {
     gc_graph::actions_leave_nodes();
     seat.bodies_lie_apart();

@@ -2,6 +2,7 @@ pub mod Nodes
 pub mod Places
 pub mod Judgement
 pub mod Lists
+pub mod AmongNodes
 pub mod PlaceBodies
 pub mod NodeBodies
 pub mod NodePlaces

@@ -7,8 +7,9 @@ use Rattle.gc_graph.specs.Pause.{live_count}
 use Rattle.callback_table.specs.declared.registry.Registered.{Registered}
 use Rattle.callback_table.specs.Registry.{IsRegistered}
 use Rattle.callback_table.specs.Table.{kinds_of}
-use Rattle.page_words.specs.Bodies.{IsPlace}
+use Rattle.page_words.specs.Bodies.{Body, IsPlace}
 use Rattle.page_words.specs.Seat.{SeatView, holds}
+use Rattle.page_space.specs.Space.{extents_of_bodies}
 use Rattle.persistent_slots.specs.Clearing.{taken}
 use Rattle.ephemerons.specs.BodyGraph.{AreReferences, PlacesDiffer}
 use Rattle.node_bodies.specs.Places.{kept_of}
@@ -20,7 +21,7 @@ use Rattle.atomic_pause.proofs.BodyReferences.{alive_unjudged, alive_marked, ref
 use Rattle.atomic_pause.proofs.MarkEnds.{lists_then, listed_from}
 use Rattle.atomic_pause.proofs.PausedNodes.{roots_marked, prepared, paused_is, registered_after, kept_count, dead_left}
 use Rattle.atomic_pause.proofs.ReachedNodes.{has_marked, all_roots, keeps_reached}
-use Rattle.atomic_pause.proofs.WeakJudged.{both_cleared, weak_left_is}
+use Rattle.atomic_pause.proofs.WeakJudged.{both_cleared, extents_cleared, weak_left_is}
 use Rattle.atomic_pause.proofs.pausing.pause.Given as given
 use Rattle.atomic_pause.proofs.pausing.pause.Goals as goal
 
@@ -131,6 +132,11 @@ unfolding kept
 returns-clause-weak g c = λ slots names.
     c.clear_weak.ensures.slots
     ∙ weak_left_is c.args.parts.nodes.now.value c.prefinalise.new.nodes.value c.close-traced.new.seat slots c.args.parts.weak.now names.live names.places_are (stayed g c)
+
+pub returns-clause-extents : goal.returns-clause-extents
+returns-clause-extents g c =
+    c.prefinalise.ensures.extents ∙ ap (λ (u : SeatView). extents_of_bodies u.bodies) c.clear_weak.ensures.fields ∙ extents_cleared c.close-traced.new.seat
+    ∙ ap (λ (bs : List Body). extents_of_bodies bs) (marks g c).bodies
 
 live : (g : given.Over) (c : goal.After-is_refused g) → c.close-traced.result ≡ live_count c.prefinalise.new.nodes.value
 unfolding kept

@@ -78,6 +78,9 @@ put c n stands =
     let nodes : List Node = c.args.nodes.now.value in
     subst (StayPut c.args.seat.now) (sym (words_left c n stands)) (acted_put c.args.seat.now (body_of (place_of nodes) n (node_at nodes n)) c.args.action)
 
+pub returns-clause-extents : goal.returns-clause-extents
+returns-clause-extents c = (put c c.requires.place.0 c.requires.place.1).extents
+
 pub returns-clause-nodes : goal.returns-clause-nodes
 returns-clause-nodes c = λ n stands. sym (nodes_left c n stands)
 
