@@ -2,19 +2,12 @@
 use Rattle.std.specs.Prelude.{◌≡◌, ℕ, ◌==◌, ◌&&◌, not, Bool, true, false, List, length, fold, take, Some, slice_get}
 use Rattle.gc_graph.specs.declared.command.Command.{Command}
 use Rattle.gc_graph.specs.declared.command.Command.TheVariants as C
-use Rattle.gc_graph.specs.declared.command.Want.{Want}
-use Rattle.gc_graph.specs.declared.command.Want.TheVariants.{Precise, Conservative}
 use Rattle.gc_graph.specs.declared.phase.Phase.{Phase}
 use Rattle.gc_graph.specs.declared.phase.Phase.TheVariants.{Idle}
 
 -- ---- commands
 
--- the stack isn't looked at
-abbrev pub is_precise : Want → Bool
-is_precise Precise = true
-is_precise Conservative = false
-
--- objects, their fields, slots, the stack, whole collections that don't look at it, and totals
+-- objects, their fields, slots, the stack, whole collections, and totals
 abbrev pub is_built : Command → Bool
 is_built (C.New p t e) = true
 is_built (C.Set p f q) = true
@@ -34,7 +27,7 @@ is_built (C.Push p o) = true
 is_built (C.PushPlain n) = true
 is_built C.Pop = true
 is_built (C.Peek i q) = true
-is_built (C.GcNow want) = is_precise want
+is_built (C.GcNow want) = true
 is_built C.SweepAll = true
 is_built C.Stat = true
 is_built C.GcStart = false

@@ -3,7 +3,7 @@
 ghost use Rattle.std.specs.Prelude.{◌≡◌};
 ghost use Rattle.built_forms.specs.Built as spec;
 
-use gc_graph::{Command, Want};
+use gc_graph::Command;
 
 /// Whether the program does the command, wherever it stands.
 pub fn is_built(command: &Command) -> bool
@@ -28,9 +28,9 @@ pub fn is_built(command: &Command) -> bool
         | Command::PushPlain { .. }
         | Command::Pop
         | Command::Peek { .. }
+        | Command::GcNow { .. }
         | Command::SweepAll
         | Command::Stat => true,
-        Command::GcNow { want } => matches!(want, Want::Precise),
         _ => false,
     }
 }

@@ -1,23 +1,19 @@
 -- A collection is a step of the graph.
-use Rattle.std.proofs.Common.{◌≡◌, ℕ, zero, suc, ◌+◌, Bool, true, false, not, All, List, [], ◌∷◌, ◌++◌, length, filter, replicate, Option, Some, None, map, cond, refl, sym, ap, ◌∙◌, subst, inl, inr, arith, eqb}
+use Rattle.std.proofs.Common.{◌≡◌, ℕ, zero, suc, ◌+◌, Bool, true, false, not, All, List, [], ◌∷◌, ◌++◌, length, filter, replicate, Option, Some, None, map, cond, refl, sym, ap, ◌∙◌, subst, inr, arith}
 use mathlib.Core.Logic.{◌⊎◌}
 use Rattle.std.specs.Prelude.{MatchBool}
-use Rattle.std.specs.List.{list_any}
-use Rattle.std.proofs.lemmas.Bool.{true≢false, or_cases, or_left, or_right, eqb-true, eq-eqb}
-use Rattle.std.proofs.lemmas.List.{append-nil, length-map}
-use Rattle.std.proofs.lemmas.List.Elements.{All-filter}
-use Rattle.gc_graph.specs.declared.command.Want.TheVariants.{Precise}
+use Rattle.std.proofs.lemmas.List.Elements.{All-filter, All-weaker}
+use Rattle.gc_graph.specs.declared.command.Want.{Want}
 use Rattle.gc_graph.specs.declared.line.Line.{Line}
 use Rattle.gc_graph.specs.declared.line.Line.TheVariants as L
 use Rattle.gc_graph.specs.declared.phase.Phase.{Phase}
 use Rattle.gc_graph.specs.declared.phase.Phase.TheVariants.{Sweeping}
 use Rattle.gc_graph.specs.declared.region.Entry.{Entry}
 use Rattle.gc_graph.specs.declared.region.Op.TheVariants as O
-use Rattle.gc_graph.specs.Graph.{Object, IsIn, IsWithin}
-use Rattle.gc_graph.specs.Reach.{Reach, AreNodes, RefersWithin, ReachIsLeast}
-use Rattle.gc_graph.specs.State.{Setup, State, Node, node_at, is_live, is_dead, RegionSlot, Registration, graph_of, roots_of, slot_targets, stack_targets, strong_region_targets}
+use Rattle.gc_graph.specs.Reach.{ReachIsLeast}
+use Rattle.gc_graph.specs.State.{Setup, State, Node, node_at, size_of, is_live, is_dead, IsLive, RegionSlot, Registration, slot_targets, stack_targets}
 use Rattle.gc_graph.specs.State.RegionSlot.{Vacant}
-use Rattle.gc_graph.specs.May.{members, members_from, marking}
+use Rattle.gc_graph.specs.May.{hits_for}
 use Rattle.gc_graph.specs.History.{cleared_by, NamesWeakSlots}
 use Rattle.gc_graph.specs.Pause.{IsKept, condemn, dies, clear_slot, is_dead_at, dying_slots, run_order, prefinalised, prefinalise_lines, live_count, dead_count, paused}
 use Rattle.gc_graph.specs.Outcomes.{answered, finalise_lines, took, owner_entry}
@@ -25,11 +21,11 @@ use Rattle.gc_graph.specs.Sweep.{SweepsToEnd}
 use Rattle.gc_graph.specs.CycleSteps.{IsStart, IsPause, IsCollection, StepGcNow, WantsMemory, is_marking, is_stack_refused}
 use Rattle.gc_graph.specs.ActionLaw.{HaveStayed}
 use Rattle.callback_table.specs.Registry.{RegistryView, registration_of, registrations_of}
-use Rattle.atomic_pause.specs.Pausing.{IsPaused}
+use Rattle.atomic_pause.specs.Pausing.{IsPaused, hits_in}
 use Rattle.heap_engine.specs.View.{start_entry, pause_entry}
 use Rattle.node_bodies.specs.Places.{places_of, IsJudged}
-use Rattle.node_bodies.specs.Judgement.{nodes_after, IsReached}
-use Rattle.heap_engine.specs.Stack.{HoldsWords}
+use Rattle.node_bodies.specs.Judgement.{nodes_after}
+use Rattle.heap_engine.specs.Stack.{HoldsWords, is_precise}
 use Rattle.heap_engine.specs.Changes.{collected_from}
 use Rattle.heap_engine.specs.Printed.{ran_lines}
 use Rattle.heap_engine.specs.Parts.{ObjectsView, HandlesView, CycleView, setup_of_objects, state_of, counted, HasMarks, IsPlaced, IsAtRest, IsReady, IsFrame}
@@ -37,7 +33,8 @@ use Rattle.node_bodies.specs.Nodes.{place_of}
 use Rattle.node_bodies.specs.WeakNodes.{life-after, place-after, length-after, live-after, dead-after, count-stays}
 use Rattle.node_bodies.specs.KeptNodes.{refers_within}
 use Rattle.heap_engine.proofs.Registrations.{registrations_left, lines_ran, counts_run}
-use Rattle.heap_engine.proofs.StackWords.{words_held}
+use Rattle.heap_engine.proofs.PauseKeeps.{started_state, has_roots, pause_keeps}
+use Rattle.heap_engine.proofs.StackWords.{StaysAt, words_held}
 use Rattle.heap_engine.proofs.Ties.{valid_nodes, places-same, placed_still}
 
 -- the line of a pause that kept and condemned these, and walked the heap or not
@@ -77,65 +74,6 @@ clear_agree f g (None ∷ slots) same = ap (λ l. None ∷ l) (clear_agree f g s
 clear_agree f g (Some n ∷ slots) same =
     ap (λ b. cond b None (Some n) ∷ map (clear_slot f) slots) (same n) ∙ ap (λ l. clear_slot g (Some n) ∷ l) (clear_agree f g slots same)
 
--- ---- the members of a set
-
-in_members : (k : ℕ) (set : List Bool) (n : ℕ) → IsIn set n → list_any (λ r. eqb r (k + n)) (members_from k set) ≡ true
-in_members k [] n is = absurd (true≢false (sym is))
-in_members k (true ∷ set) zero is = or_left _ _ (eq-eqb k (k + 0) (omega arith))
-in_members k (true ∷ set) (suc n) is =
-    or_right (eqb k (k + suc n)) _
-    (subst (λ m. list_any (λ r. eqb r m) (members_from (suc k) set) ≡ true) (let e : suc k + n ≡ k + suc n = omega arith in e) (in_members (suc k) set n is))
-in_members k (false ∷ set) zero is = absurd (true≢false (sym is))
-in_members k (false ∷ set) (suc n) is =
-    subst (λ m. list_any (λ r. eqb r m) (members_from (suc k) set) ≡ true) (let e : suc k + n ≡ k + suc n = omega arith in e) (in_members (suc k) set n is)
-
-member_in : (k : ℕ) (set : List Bool) (m : ℕ) → list_any (λ r. eqb r m) (members_from k set) ≡ true → (n : ℕ) × (m ≡ k + n) × IsIn set n
-member_in k [] m h = absurd (true≢false (sym h))
-member_in k (true ∷ set) m h =
-    elim (or_cases (eqb k m) (list_any (λ r. eqb r m) (members_from (suc k) set)) h) [
-      | inl here ↦ (let e : m ≡ k + 0 = omega (arith, eqb-true k m here) in (0, e, refl))
-      | inr later ↦ (let w = member_in (suc k) set m later in (suc w.0, omega (arith, w.1), w.2))
-    ]
-member_in k (false ∷ set) m h = (let w = member_in (suc k) set m h in (suc w.0, omega (arith, w.1), w.2))
-
--- ---- the roots, and what may be kept
-
-no_region_targets : (n : ℕ) → strong_region_targets (replicate n Vacant) ≡ []
-no_region_targets zero = refl
-no_region_targets (suc n) = no_region_targets n
-
-plain_roots : (ph : Phase) (s : State) → IsAtRest ph s → s.stack ≡ [] → roots_of s ≡ slot_targets s.slots
-plain_roots ph s unused empty =
-    ap (λ k. slot_targets s.slots ++ stack_targets k ++ strong_region_targets s.region) empty
-    ∙ ap (λ ts. slot_targets s.slots ++ [] ++ ts) (ap strong_region_targets unused.region_null ∙ no_region_targets 32)
-    ∙ append-nil (slot_targets s.slots ++ []) ∙ append-nil (slot_targets s.slots)
-
--- the state in which a collection that was just started pauses
-abbrev pub started_state : State → State
-started_state s = marking (took s (start_entry ∷ []))
-
-pub pause_keeps : (ph : Phase) (s : State) (kept : List Bool) → ReachIsLeast → RefersWithin (graph_of s.nodes) → IsAtRest ph s → s.stack ≡ []
-    → IsReached s.nodes (slot_targets s.slots ++ []) kept → IsKept (took (started_state s) []) [] kept
-pause_keeps ph s kept law refers unused empty keeps =
-    let g : List Object = graph_of s.nodes in
-    let roots : roots_of s ≡ slot_targets s.slots ++ [] = plain_roots ph s unused empty ∙ sym (append-nil (slot_targets s.slots)) in
-    let may : List Bool = Reach g (roots_of s) in
-    let same : may ≡ Reach g (slot_targets s.slots ++ []) = ap (Reach g) roots in
-    let nodes : AreNodes g (members may) = λ m root.
-    let w = member_in 0 may m root in
-    let is : IsIn kept w.0 = keeps.reached w.0 (subst (λ set. IsIn set w.0) same w.2) in
-    omega (arith, keeps.low w.0 is, w.1, length-map s.nodes (λ (x : Node). x.object)) in
-    let least = law g (members may) refers nodes in
-    record {
-      closed = keeps.closed;
-      reached = subst (λ rs. IsWithin (Reach g rs) kept) (sym (append-nil (roots_of s))) (subst (λ set. IsWithin set kept) (sym same) keeps.reached);
-      bounded = λ n is.
-          subst (λ ms. IsIn (Reach g ms) n) (sym (append-nil (members may)))
-          (least.roots_in n
-          (subst (λ m. list_any (λ r. eqb r m) (members may) ≡ true) (let e : 0 + n ≡ n = omega arith in e)
-          (in_members 0 may n (subst (λ set. IsIn set n) (sym same) (keeps.bounded n is)))));
-    }
-
 -- ---- what isn't used stays so
 
 vacant_stay : (n : ℕ) → replicate n Vacant ≡ cleared_by 0 (replicate n Vacant)
@@ -166,11 +104,11 @@ collected_is ph setup s kept unused =
 starts : (setup : Setup) (s : State) → IsStart setup s (start_entry ∷ []) (started_state s)
 starts setup s = record { before = []; others = λ k d low. absurd (omega arith); piece_is = refl; legal = (refl, tt, tt); after = refl }
 
-pauses : (ph : Phase) (setup : Setup) (s : State) (kept : List Bool) (walked : Bool) → IsAtRest ph s
-    → IsKept (took (started_state s) []) [] kept
-    → IsPause setup 0 Precise (started_state s) (pause_entry ∷ [])
+pauses : (ph : Phase) (setup : Setup) (want : Want) (s : State) (kept : List Bool) (walked : Bool) → IsAtRest ph s
+    → IsKept (took (started_state s) []) (hits_for want (took (started_state s) [])) kept
+    → IsPause setup 0 want (started_state s) (pause_entry ∷ [])
     (pause_line (condemn kept s.nodes) walked ∷ prefinalise_lines (run_order (condemn kept s.nodes) s.registrations)) (collected_state setup s kept)
-pauses ph setup s kept walked unused keeps =
+pauses ph setup want s kept walked unused keeps =
     let c : List Node = condemn kept s.nodes in
     record {
       before = [];
@@ -193,19 +131,20 @@ pauses ph setup s kept walked unused keeps =
 on_false : (b : Bool) (P Q : Type 0) → b ≡ false → Q → MatchBool b P Q
 on_false b P Q is q = subst (λ x. MatchBool x P Q) (sym is) q
 
--- where marking doesn't go on and the stack is empty, gc now wants memory or collects
-pub collects_or_not : (ph : Phase) (setup : Setup) (s : State) (piece : List Entry) (lines : List Line) (new : State) → IsAtRest ph s → s.stack ≡ [] → ph ≡ s.phase
-    → WantsMemory s piece lines new ⊎ IsCollection setup Precise s piece lines new → StepGcNow setup Precise s piece lines new
-collects_or_not ph setup s piece lines new unused empty phase done =
-    on_false (is_marking s.phase) _ _ (sym (ap is_marking phase) ∙ unused.calm) (on_false (is_stack_refused Precise s.stack) _ _ (ap (is_stack_refused Precise) empty) done)
+-- where marking doesn't go on and the stack isn't refused, gc now wants memory or collects
+pub collects_or_not : (ph : Phase) (setup : Setup) (want : Want) (s : State) (piece : List Entry) (lines : List Line) (new : State) → IsAtRest ph s
+    → is_stack_refused want s.stack ≡ false → ph ≡ s.phase → WantsMemory s piece lines new ⊎ IsCollection setup want s piece lines new
+    → StepGcNow setup want s piece lines new
+collects_or_not ph setup want s piece lines new unused allowed phase done =
+    on_false (is_marking s.phase) _ _ (sym (ap is_marking phase) ∙ unused.calm) (on_false (is_stack_refused want s.stack) _ _ allowed done)
 
-pub step_collected : (ph : Phase) (setup : Setup) (s t new : State) (numbers : List ℕ) (kept : List Bool) (walked : Bool) (piece : List Entry) (lines : List Line) → SweepsToEnd setup.shape s numbers t
-    → IsAtRest ph t → IsKept (took (started_state t) []) [] kept
+pub step_collected : (ph : Phase) (setup : Setup) (want : Want) (s t new : State) (numbers : List ℕ) (kept : List Bool) (walked : Bool) (piece : List Entry) (lines : List Line) → SweepsToEnd setup.shape s numbers t
+    → IsAtRest ph t → IsKept (took (started_state t) []) (hits_for want (took (started_state t) [])) kept
     → piece ≡ start_entry ∷ pause_entry ∷ []
     → lines ≡ finalise_lines numbers ++ pause_line (condemn kept t.nodes) walked ∷ prefinalise_lines (run_order (condemn kept t.nodes) t.registrations)
     → new ≡ answered (collected_state setup t kept)
-    → IsCollection setup Precise s piece lines new
-step_collected ph setup s t new numbers kept walked piece lines ended unused keeps taken printed after = record {
+    → IsCollection setup want s piece lines new
+step_collected ph setup want s t new numbers kept walked piece lines ended unused keeps taken printed after = record {
   numbers = numbers;
   swept = t;
   ended = ended;
@@ -215,7 +154,7 @@ step_collected ph setup s t new numbers kept walked piece lines ended unused kee
   second = pause_entry ∷ [];
   pause_lines = pause_line (condemn kept t.nodes) walked ∷ prefinalise_lines (run_order (condemn kept t.nodes) t.registrations);
   paused = collected_state setup t kept;
-  pause = pauses ph setup t kept walked unused keeps;
+  pause = pauses ph setup want t kept walked unused keeps;
   piece_is = taken;
   lines_are = printed;
   after = after;
@@ -233,23 +172,24 @@ abbrev pub registry_of : CycleView → RegistryView
 registry_of c = record { entries = c.registered; ran = c.ran }
 
 -- from the old parts, through those after the end of an open sweep, to those after the pause
-pub record Collects (o mid new : ObjectsView) (h left : HandlesView) (c between after : CycleView) (numbers : List ℕ) : Type 0 where
+pub record Collects (want : Want) (o mid new : ObjectsView) (h left : HandlesView) (c between after : CycleView) (numbers : List ℕ) : Type 0 where
   pub before_rests : IsAtRest c.phase c.rest
   pub rests : IsAtRest between.phase between.rest
   pub ends : SweepsToEnd o.shape (state_of o h c) numbers (state_of mid h between)
   pub ready : IsReady mid h between
-  pub stack_empty : h.stack.words ≡ []
+  pub allowed : is_stack_refused want h.stack.words ≡ false
   pub setup : setup_of_objects mid ≡ setup_of_objects o
   pub same_setup : setup_of_objects new ≡ setup_of_objects mid
-  pub paused : IsPaused mid.callbacks (slot_targets h.slots ++ []) mid.nodes new.nodes (registry_of between) (registry_of after)
+  pub paused : IsPaused mid.callbacks (slot_targets h.slots ++ hits_in (is_precise want) mid.nodes h.stack.addresses) mid.nodes new.nodes (registry_of between) (registry_of after)
+  pub sizes : (n : ℕ) → IsLive mid.nodes n → size_of (node_at new.nodes n) ≡ size_of (node_at mid.nodes n)
   pub handles_left : left ≡ record h { weak_places = places_of new.nodes left.weak; weak = map (clear_slot (is_dead_at new.nodes)) h.weak }
   pub judged_marks : IsJudged new.seat
   pub phase : after.phase ≡ Sweeping
   pub rest : after.rest ≡ collected_from (state_of mid h between)
   pub ordinal : between.rest.ordinal ≡ c.rest.ordinal
 
-module _ (o mid new : ObjectsView) (h left : HandlesView) (c between after : CycleView) (numbers : List ℕ)
-    (is : Collects o mid new h left c between after numbers) where
+module _ (want : Want) (o mid new : ObjectsView) (h left : HandlesView) (c between after : CycleView) (numbers : List ℕ)
+    (is : Collects want o mid new h left c between after numbers) where
   abbrev kept : List Bool
   kept = is.paused.kept
 
@@ -280,22 +220,24 @@ module _ (o mid new : ObjectsView) (h left : HandlesView) (c between after : Cyc
 
   pub collection_steps : (walked : Bool) (piece : List Entry) (lines : List Line) (told : Line) → ReachIsLeast → piece ≡ start_entry ∷ pause_entry ∷ []
       → told ≡ pause_line new.nodes walked → lines ≡ finalise_lines numbers ++ told ∷ ran_lines true after.ran
-      → StepGcNow (setup_of_objects o) Precise (state_of o h c) piece lines (answered (state_of new left after))
+      → StepGcNow (setup_of_objects o) want (state_of o h c) piece lines (answered (state_of new left after))
   collection_steps walked piece lines told law taken told_is printed =
       let t : State = state_of mid h between in
       let rests : IsAtRest between.phase t = at_rest mid h between is.rests in
-      let same : StepGcNow (setup_of_objects mid) Precise (state_of o h c) piece lines (answered (state_of new left after)) =
-      collects_or_not c.phase (setup_of_objects mid) (state_of o h c) piece lines (answered (state_of new left after)) (at_rest o h c is.before_rests) is.stack_empty refl
-      (inr (step_collected between.phase (setup_of_objects mid) (state_of o h c) t (answered (state_of new left after)) numbers kept walked piece lines
+      let hits : List ℕ = hits_in (is_precise want) mid.nodes h.stack.addresses in
+      let same : StepGcNow (setup_of_objects mid) want (state_of o h c) piece lines (answered (state_of new left after)) =
+      collects_or_not c.phase (setup_of_objects mid) want (state_of o h c) piece lines (answered (state_of new left after)) (at_rest o h c is.before_rests) is.allowed refl
+      (inr (step_collected between.phase (setup_of_objects mid) want (state_of o h c) t (answered (state_of new left after)) numbers kept walked piece lines
       (subst (λ (st : Setup). SweepsToEnd st.shape (state_of o h c) numbers t) (sym is.setup) is.ends) rests
-      (pause_keeps between.phase t kept law (refers_within (setup_of_objects mid) mid.nodes (valid_nodes mid h between is.ready)) rests is.stack_empty is.paused.reached)
+      (pause_keeps between.phase want t hits kept law (refers_within (setup_of_objects mid) mid.nodes (valid_nodes mid h between is.ready)) rests is.ready.valid.slots
+      (has_roots want t h.stack refl is.allowed is.ready.valid.stack is.ready.tied.stack) is.paused.reached)
       taken
       (printed
       ∙ ap (λ l. finalise_lines numbers ++ l ∷ ran_lines true after.ran) (told_is ∙ pause_line_after kept mid.nodes new.nodes walked is.paused.stayed)
       ∙ ap (λ ls. finalise_lines numbers ++ pause_line judged_nodes walked ∷ ls)
       (ap (ran_lines true) is.paused.ran ∙ lines_ran judged_nodes between.registered))
       (ap answered collected_parts))) in
-      subst (λ (st : Setup). StepGcNow st Precise (state_of o h c) piece lines (answered (state_of new left after))) is.setup same
+      subst (λ (st : Setup). StepGcNow st want (state_of o h c) piece lines (answered (state_of new left after))) is.setup same
 
   places : (n : ℕ) → place_of new.nodes n ≡ place_of mid.nodes n
   places n = is.paused.stayed.place n ∙ place-after kept mid.nodes n
@@ -318,7 +260,9 @@ module _ (o mid new : ObjectsView) (h left : HandlesView) (c between after : Cyc
               ∙ sym (ap (λ (k : HandlesView). places_of new.nodes k.slots) is.handles_left);
           weak = ap (λ (k : HandlesView). k.weak_places) is.handles_left;
           stack = subst (λ (k : HandlesView). HoldsWords new.nodes k.stack) (sym is.handles_left)
-              (words_held mid.nodes new.nodes h.stack (λ k d low. places _) is.ready.tied.stack);
+              (words_held mid.nodes new.nodes h.stack
+              (All-weaker (IsLive mid.nodes) (StaysAt mid.nodes new.nodes) (λ n live. (places n, is.sizes n live)) (stack_targets h.stack.words) is.ready.valid.stack)
+              is.ready.tied.stack);
           registered = registered_left;
           few = omega (arith, is.ready.tied.few, ordinal, is.ordinal, ap length is.paused.left, ap length is.paused.ran, counts_run judged_nodes between.registered);
           marks = subst (λ ph. HasMarks ph new.seat) (sym is.phase) is.judged_marks;

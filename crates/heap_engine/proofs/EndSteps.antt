@@ -10,6 +10,7 @@ use Rattle.gc_graph.specs.declared.line.Line.TheVariants as L
 use Rattle.gc_graph.specs.declared.line.Refusal.TheVariants as R
 use Rattle.gc_graph.specs.declared.phase.Phase.{Phase}
 use Rattle.gc_graph.specs.declared.phase.Phase.TheVariants.{Idle, Sweeping}
+use Rattle.gc_graph.specs.Graph.{Object}
 use Rattle.gc_graph.specs.State.{Setup, State, Node, Life, is_there, IsDead, objects_of}
 use Rattle.gc_graph.specs.State.Life.{Live, Dead, Gone}
 use Rattle.gc_graph.specs.CycleSteps.{is_sweeping, HasSwept, StepSweepAll}
@@ -24,7 +25,8 @@ use Rattle.node_bodies.specs.Nodes.{place_of, bury}
 use Rattle.heap_engine.specs.Objects.{HaveCallbacks}
 use Rattle.heap_engine.specs.Changes.{ended_in}
 use Rattle.heap_engine.specs.Parts.{ObjectsView, HandlesView, CycleView, setup_of_objects, state_of, HasMarks, IsReady}
-use Rattle.node_bodies.specs.NodeLives.{place-finalise}
+use Rattle.node_bodies.specs.NodeLives.{place-finalise, object-finalise}
+use Rattle.heap_engine.proofs.StackWords.{StaysAt}
 use Rattle.heap_engine.proofs.Ties.{tied_nodes}
 
 buried_same : (l : Life) → (l ≡ Dead → ⊥) → buried l ≡ l
@@ -111,13 +113,16 @@ valid_swept setup s t numbers law pages valid sweeping ends idle =
     subst (λ ph. MatchBool (is_sweeping ph) (HasSwept setup s setup.shape.pages lines (answered t)) (IsRefused R.Phase s lines (answered t))) (sym sweeping) swept in
     uncounted setup t idle (law setup s (answered t) C.SweepAll [] lines pages tt valid (refl, step))
 
+stays-finalise : (nodes : List Node) (n : ℕ) → StaysAt nodes (map bury nodes) n
+stays-finalise nodes n = (place-finalise nodes n, ap (λ (object : Object). 2 + length object.values) (object-finalise nodes n))
+
 pub ready_swept : (o new : ObjectsView) (h : HandlesView) (c after : CycleView) (numbers : List ℕ) → StepKeepsValid → 0 < o.shape.pages → IsReady o h c → c.phase ≡ Sweeping
     → SweepsToEnd o.shape (state_of o h c) numbers (state_of new h after) → setup_of_objects new ≡ setup_of_objects o → new.nodes ≡ map bury o.nodes → IsQuiet new.seat → after.phase ≡ Idle → after.registered ≡ c.registered → after.ran ≡ c.ran
     → after.rest.ordinal ≡ c.rest.ordinal → IsReady new h after
 ready_swept o new h c after numbers law pages ready sweeping ends setup nodes quiet idle registered ran ordinal = record {
   valid = subst (λ (st : Setup). IsValid st (state_of new h after)) (sym setup) (valid_swept (setup_of_objects o) (state_of o h c) (state_of new h after) numbers law pages ready.valid sweeping ends idle);
   called = subst (λ (st : Setup). HaveCallbacks (length st.callbacks) st.types) (sym setup) ready.called;
-  tied = tied_nodes o new h c after ready.tied (λ n. ap (λ (ns : List Node). place_of ns n) nodes ∙ place-finalise o.nodes n)
+  tied = tied_nodes o new h c after ready.tied (λ n. subst (λ (ns : List Node). StaysAt o.nodes ns n) (sym nodes) (stays-finalise o.nodes n))
       setup registered ran (omega (arith, ordinal))
       (subst (λ ph. HasMarks ph new.seat) (sym idle) quiet)
       (omega (arith, ready.tied.made, ordinal, ap length nodes, length-map o.nodes bury));

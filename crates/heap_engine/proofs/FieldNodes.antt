@@ -7,6 +7,7 @@ use Rattle.gc_graph.specs.Fields.{word_of_field, with_value}
 use Rattle.node_bodies.specs.Nodes.{place_of}
 use Rattle.heap_engine.specs.Objects.{written_in}
 use Rattle.node_bodies.specs.NodePlaces.{live_is_there, there_below}
+use Rattle.heap_engine.proofs.StackWords.{StaysAt}
 
 abbrev pub with_field : List Node → ℕ → ℕ → Value → List Node
 with_field nodes n f x = set nodes n (with_value (node_at nodes n) f x)
@@ -25,13 +26,25 @@ life-field (y ∷ nodes) zero f x (suc m) = refl
 life-field (y ∷ nodes) (suc n) f x zero = refl
 life-field (y ∷ nodes) (suc n) f x (suc m) = life-field nodes n f x m
 
+pub size-set : (nodes : List Node) (n : ℕ) (y : Node) (m : ℕ) → size_of y ≡ size_of (node_at nodes n) → size_of (node_at (set nodes n y) m) ≡ size_of (node_at nodes m)
+size-set [] n y m is = refl
+size-set (x ∷ nodes) zero y zero is = is
+size-set (x ∷ nodes) zero y (suc m) is = refl
+size-set (x ∷ nodes) (suc n) y zero is = refl
+size-set (x ∷ nodes) (suc n) y (suc m) is = size-set nodes n y m is
+
 pub length-field : (nodes : List Node) (n f : ℕ) (x : Value) → length (with_field nodes n f x) ≡ length nodes
 length-field nodes n f x = length-set nodes n (with_value (node_at nodes n) f x)
 
 -- what is written where
-pub place-written : (nodes : List Node) (slot : Option ℕ) (f : ℕ) (x : Value) (m : ℕ) → place_of (written_in nodes slot f x) m ≡ place_of nodes m
-place-written nodes None f x m = refl
-place-written nodes (Some n) f x m = place-field nodes n (word_of_field (node_at nodes n).object f) x m
+pub size_field : (node : Node) (f : ℕ) (x : Value) → size_of (with_value node f x) ≡ size_of node
+size_field node f x = ap (λ n. 2 + n) (length-set node.object.values f x)
+
+pub stays-written : (nodes : List Node) (slot : Option ℕ) (f : ℕ) (x : Value) (m : ℕ) → StaysAt nodes (written_in nodes slot f x) m
+stays-written nodes None f x m = (refl, refl)
+stays-written nodes (Some n) f x m =
+    let i : ℕ = word_of_field (node_at nodes n).object f in
+    (place-field nodes n i x m, size-set nodes n (with_value (node_at nodes n) i x) m (size_field (node_at nodes n) i x))
 
 pub length-written : (nodes : List Node) (slot : Option ℕ) (f : ℕ) (x : Value) → length (written_in nodes slot f x) ≡ length nodes
 length-written nodes None f x = refl
@@ -39,6 +52,3 @@ length-written nodes (Some n) f x = length-field nodes n (word_of_field (node_at
 
 pub live_below : (nodes : List Node) (n : ℕ) → IsLive nodes n → n < length nodes
 live_below nodes n live = there_below nodes n (live_is_there nodes n live)
-
-pub size_field : (node : Node) (f : ℕ) (x : Value) → size_of (with_value node f x) ≡ size_of node
-size_field node f x = ap (λ n. 2 + n) (length-set node.object.values f x)

@@ -30,7 +30,7 @@ ready_empty o h c types callbacks shape law called objects handles cycle =
       tied = record {
         slots = null_places 256;
         weak = null_places 64;
-        stack = record { addresses = refl; places = refl };
+        stack = record { addresses = refl; places = refl; inside = λ k d low. absurd (omega (arith, low)) };
         registered = λ k d low. absurd (omega arith);
         few = omega arith;
         marks = record { off = refl; marked = refl; traced = refl; dead = refl };

@@ -23,6 +23,7 @@ use Rattle.node_bodies.specs.NodeChanges.{AgreeOn, AgreeIn, bodies-places, bodie
 use Rattle.node_bodies.specs.NodePlaces.{there_below}
 use Rattle.node_bodies.specs.Lists.{Contains-map_some}
 use Rattle.node_bodies.specs.NodeLives.{life-finalise, place-finalise, not_dead_buried, live_if_there}
+use Rattle.heap_engine.proofs.StackWords.{StaysAt}
 use Rattle.heap_engine.proofs.FieldNodes.{with_field, place-field, life-field}
 use Rattle.heap_engine.proofs.FieldBodies.{place-word, bodies_stored}
 
@@ -43,6 +44,9 @@ node-new nodes x = get_or_push nodes x no_node (length nodes) refl
 
 pub place-old : (nodes : List Node) (x : Node) (n : ℕ) → n < length nodes → place_of (nodes ++ x ∷ []) n ≡ place_of nodes n
 place-old nodes x n low = ap (λ (y : Node). y.place) (node-old nodes x n low)
+
+pub stays-old : (nodes : List Node) (x : Node) (n : ℕ) → n < length nodes → StaysAt nodes (nodes ++ x ∷ []) n
+stays-old nodes x n low = (place-old nodes x n low, ap size_of (node-old nodes x n low))
 
 agree_below : (f g : ℕ → ℕ) (bound : ℕ) (v : Value) → ((n : ℕ) → n < bound → f n ≡ g n) → NamesBelow bound v → AgreeOn f g v
 agree_below f g bound Null same below = tt

@@ -21,4 +21,6 @@ pub mod PairAnswers
 pub mod NewSteps
 pub mod HeapEmpty
 pub mod EndSteps
+pub mod PausedSizes
+pub mod PauseKeeps
 pub mod CollectSteps

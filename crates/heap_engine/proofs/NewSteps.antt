@@ -25,7 +25,7 @@ use Rattle.heap_engine.specs.Changes.{put_in, filled, registered_in}
 use Rattle.heap_engine.specs.Parts.{ObjectsView, HandlesView, CycleView, setup_of_objects, state_of, counted, HasMarks, IsPlaced, AreTied, IsReady}
 use Rattle.node_bodies.specs.KeptNodes.{slots_live}
 use Rattle.heap_engine.proofs.Registrations.{registrations_join, live_entries}
-use Rattle.heap_engine.proofs.HeldNodes.{place-old, node-new}
+use Rattle.heap_engine.proofs.HeldNodes.{place-old, stays-old, node-new}
 use Rattle.node_bodies.specs.NodePlaces.{there_below, live_is_there}
 use Rattle.heap_engine.proofs.StackWords.{StaysAt, words_held}
 
@@ -145,7 +145,7 @@ tied_made o new h after c left p t place number x ready low idle quiet setup cou
       stack = subst (λ (k : HandlesView). HoldsWords new.nodes k.stack) (sym put)
           (subst (λ (ns : List Node). HoldsWords ns h.stack) (sym nodes)
           (words_held o.nodes now h.stack
-          (All-weaker (IsLive o.nodes) (StaysAt o.nodes now) (λ n is. place-old o.nodes x n (there_below o.nodes n (live_is_there o.nodes n is)))
+          (All-weaker (IsLive o.nodes) (StaysAt o.nodes now) (λ n is. stays-old o.nodes x n (there_below o.nodes n (live_is_there o.nodes n is)))
           (stack_targets h.stack.words) ready.valid.stack) tied.stack));
       registered = registered_made o new c t place x ready.called low tied.registered (live_entries o.nodes c.registered ready.valid.registered) at nodes callbacks;
       few = few_made o c t place c.rest.ordinal ready.called low tied.few;

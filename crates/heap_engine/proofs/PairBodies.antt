@@ -10,8 +10,9 @@ use Rattle.node_bodies.specs.Nodes.{place_of, word_of, bodies_from, bodies_of, I
 use Rattle.heap_engine.specs.Objects.{paired_in}
 use Rattle.node_bodies.specs.NodePlaces.{there_below}
 use Rattle.node_bodies.specs.NodeChanges.{bodies-same}
-use Rattle.heap_engine.proofs.FieldNodes.{with_field, place-field, life-field}
+use Rattle.heap_engine.proofs.FieldNodes.{with_field, place-field, life-field, size-set, size_field}
 use Rattle.heap_engine.proofs.FieldBodies.{IsElsewhere, bodies-field, only_there, bodies_stored}
+use Rattle.heap_engine.proofs.StackWords.{StaysAt}
 
 abbrev pair_node : Node → ℕ → Value → Value → Node
 pair_node node i key value = with_value (with_value node i key) (i + 1) value
@@ -38,9 +39,13 @@ life-set (x ∷ nodes) (suc n) y (suc m) is = life-set nodes n y m is
 pub length-pair : (nodes : List Node) (n i : ℕ) (key value : Value) → length (with_pair nodes n i key value) ≡ length nodes
 length-pair nodes n i key value = length-set nodes n (pair_node (node_at nodes n) i key value)
 
-pub place-paired : (nodes : List Node) (slot : Option ℕ) (f : ℕ) (key value : Value) (m : ℕ) → place_of (paired_in nodes slot f key value) m ≡ place_of nodes m
-place-paired nodes None f key value m = refl
-place-paired nodes (Some n) f key value m = place-set nodes n (pair_node (node_at nodes n) (word_of_field (node_at nodes n).object f) key value) m refl
+pub stays-paired : (nodes : List Node) (slot : Option ℕ) (f : ℕ) (key value : Value) (m : ℕ) → StaysAt nodes (paired_in nodes slot f key value) m
+stays-paired nodes None f key value m = (refl, refl)
+stays-paired nodes (Some n) f key value m =
+    let x : Node = node_at nodes n in
+    let i : ℕ = word_of_field x.object f in
+    let y : Node = pair_node x i key value in
+    (place-set nodes n y m refl, size-set nodes n y m (size_field (with_value x i key) (i + 1) value ∙ size_field x i key))
 
 pub length-paired : (nodes : List Node) (slot : Option ℕ) (f : ℕ) (key value : Value) → length (paired_in nodes slot f key value) ≡ length nodes
 length-paired nodes None f key value = refl

@@ -1,11 +1,11 @@
 -- The commands on the stack are steps of the graph.
-use Rattle.std.proofs.Common.{◌≡◌, ℕ, ◌<◌, ◌≤◌, ltb, true, false, List, [], ◌∷◌, length, map, reverse, Option, Some, None, refl, sym, ap, ◌∙◌, subst, arith}
+use Rattle.std.proofs.Common.{◌≡◌, ℕ, ◌<◌, ◌≤◌, ltb, true, false, List, [], ◌∷◌, map, reverse, Option, Some, None, sym, ap, ◌∙◌, subst}
 use mathlib.Core.Logic.{◌⊎◌}
 use Rattle.std.specs.Prelude.{MatchOption, MatchBool}
 use Rattle.std.specs.List.{slice_get}
-use Rattle.std.proofs.lemmas.Bool.{lt-ltb, le-ltb, ltb-false}
+use Rattle.std.proofs.lemmas.Bool.{lt-ltb, le-ltb}
 use Rattle.std.proofs.lemmas.List.{reverse-reverse}
-use Rattle.gc_graph.specs.declared.command.Want.TheVariants.{Precise}
+use Rattle.gc_graph.specs.declared.command.Want.{Want}
 use Rattle.gc_graph.specs.declared.line.Line.{Line}
 use Rattle.gc_graph.specs.declared.line.Line.TheVariants as L
 use Rattle.gc_graph.specs.declared.line.Refusal.TheVariants as R
@@ -14,7 +14,7 @@ use Rattle.gc_graph.specs.State.{Setup, State, StackWord, node_at, size_of}
 use Rattle.gc_graph.specs.State.StackWord.{Pointer, Number}
 use Rattle.gc_graph.specs.Outcomes.{answered, IsRefused, slot_at, with_slot}
 use Rattle.gc_graph.specs.HandleSteps.{IsPushed, IsPeeked, StepPush, StepPeek}
-use Rattle.gc_graph.specs.CycleSteps.{IsCollection, StepGcNow, WantsMemory, is_marking}
+use Rattle.gc_graph.specs.CycleSteps.{IsCollection, StepGcNow, WantsMemory, is_marking, is_stack_refused}
 use Rattle.heap_engine.specs.Objects.{IsLiveAt}
 use Rattle.heap_engine.specs.Stack.{StackView, pointed_place}
 use Rattle.heap_engine.specs.Parts.{ObjectsView, HandlesView, CycleView, state_of, AreTied, IsReady}
@@ -72,15 +72,11 @@ peek_none o h c lent i q told lines new tied is none step =
     subst (λ w. MatchOption w (IsRefused R.Empty (state_of o h c) lines new) (λ x. IsPeeked (state_of o h c) x q lines new))
     (sym (no_word o.nodes h.stack.words i (sym (word_told o h c lent i told tied is) ∙ none))) step
 
--- ---- a precise collection with a word on the stack
+-- ---- a collection that refuses the stack
 
-pub stack_refused : (setup : Setup) (s : State) (piece : List Entry) (lines : List Line) (new : State) → is_marking s.phase ≡ false → ltb 0 (length s.stack) ≡ true → piece ≡ []
-    → IsRefused R.Stack s lines new → StepGcNow setup Precise s piece lines new
-stack_refused setup s piece lines new calm filled none refused =
-    let Done : Type 0 = WantsMemory s piece lines new ⊎ IsCollection setup Precise s piece lines new in
-    subst (λ b. MatchBool b ((piece ≡ []) × IsRefused R.Phase s lines new) (MatchBool (ltb 0 (length s.stack)) ((piece ≡ []) × IsRefused R.Stack s lines new) Done)) (sym calm)
+pub stack_refused : (setup : Setup) (want : Want) (s : State) (piece : List Entry) (lines : List Line) (new : State) → is_marking s.phase ≡ false
+    → is_stack_refused want s.stack ≡ true → piece ≡ [] → IsRefused R.Stack s lines new → StepGcNow setup want s piece lines new
+stack_refused setup want s piece lines new calm filled none refused =
+    let Done : Type 0 = WantsMemory s piece lines new ⊎ IsCollection setup want s piece lines new in
+    subst (λ b. MatchBool b ((piece ≡ []) × IsRefused R.Phase s lines new) (MatchBool (is_stack_refused want s.stack) ((piece ≡ []) × IsRefused R.Stack s lines new) Done)) (sym calm)
     (subst (λ b. MatchBool b ((piece ≡ []) × IsRefused R.Stack s lines new) Done) (sym filled) (none, refused))
-
-pub no_words : (words : List StackWord) → ltb 0 (length words) ≡ false → words ≡ []
-no_words [] none = refl
-no_words (word ∷ words) none = absurd (omega (arith, ltb-false 0 (length (word ∷ words)) none))

@@ -11,9 +11,9 @@ use Rattle.node_bodies.specs.Nodes.{place_of, AreOfValid}
 use Rattle.node_bodies.specs.Places.{places_of}
 use Rattle.heap_engine.specs.Objects.{IsLiveAt}
 use Rattle.heap_engine.specs.Parts.{ObjectsView, HandlesView, CycleView, setup_of_objects, state_of, counted, HasMarks, IsPlaced, AreTied, IsReady}
-use Rattle.heap_engine.specs.Changes.{put_in, copied_in, weakened_in}
+use Rattle.heap_engine.specs.Changes.{put_in, copied_in, weakened_in, popped_in}
 use Rattle.node_bodies.specs.KeptNodes.{slots_live}
-use Rattle.heap_engine.proofs.StackWords.{words_held}
+use Rattle.heap_engine.proofs.StackWords.{StaysAt, words_held, words_popped}
 
 pub valid_nodes : (o : ObjectsView) (h : HandlesView) (c : CycleView) → IsReady o h c → AreOfValid (setup_of_objects o) o.nodes
 valid_nodes o h c ready = (state_of o h c, ready.valid, refl)
@@ -105,6 +105,18 @@ tied_weak o h c w p tied = record {
   made = omega (arith, tied.made);
 }
 
+-- the last word of the stack was taken away
+pub tied_pop : (o : ObjectsView) (h : HandlesView) (c : CycleView) → AreTied o h c → AreTied o (popped_in h) (counted c)
+tied_pop o h c tied = record {
+  slots = tied.slots;
+  weak = tied.weak;
+  stack = words_popped o.nodes h.stack tied.stack;
+  registered = tied.registered;
+  few = omega (arith, tied.few);
+  marks = tied.marks;
+  made = omega (arith, tied.made);
+}
+
 pub places-same : (f g : ℕ → ℕ) (slots : List (Option ℕ)) → ((n : ℕ) → f n ≡ g n) → map (λ (slot : Option ℕ). option_map f slot) slots ≡ map (λ (slot : Option ℕ). option_map g slot) slots
 places-same f g [] same = refl
 places-same f g (None ∷ slots) same = ap (λ l. None ∷ l) (places-same f g slots same)
@@ -117,16 +129,16 @@ placed_still o new entries same callbacks placed =
     All-weaker (IsPlaced o.nodes (length o.callbacks)) (IsPlaced new.nodes (length new.callbacks))
     (λ e is. record { place = same e.node ∙ is.place; known = omega (arith, is.known, ap length callbacks) }) entries placed
 
--- the nodes change, but their places stay, and no prefinalizer is registered or run
-pub tied_nodes : (o new : ObjectsView) (h : HandlesView) (c after : CycleView) → AreTied o h c → ((n : ℕ) → place_of new.nodes n ≡ place_of o.nodes n)
+-- the nodes change, but their places and sizes stay, and no prefinalizer is registered or run
+pub tied_nodes : (o new : ObjectsView) (h : HandlesView) (c after : CycleView) → AreTied o h c → ((n : ℕ) → StaysAt o.nodes new.nodes n)
     → setup_of_objects new ≡ setup_of_objects o → after.registered ≡ c.registered → after.ran ≡ c.ran → c.rest.ordinal ≤ after.rest.ordinal
     → HasMarks after.phase new.seat → length new.nodes ≤ after.rest.ordinal → AreTied new h after
 tied_nodes o new h c after tied same setup registered ran later marks made = record {
-  slots = tied.slots ∙ sym (places-same (place_of new.nodes) (place_of o.nodes) h.slots same);
-  weak = tied.weak ∙ sym (places-same (place_of new.nodes) (place_of o.nodes) h.weak same);
+  slots = tied.slots ∙ sym (places-same (place_of new.nodes) (place_of o.nodes) h.slots (λ n. (same n).0));
+  weak = tied.weak ∙ sym (places-same (place_of new.nodes) (place_of o.nodes) h.weak (λ n. (same n).0));
   stack = words_held o.nodes new.nodes h.stack (λ k d low. same _) tied.stack;
   registered = subst (All (IsPlaced new.nodes (length new.callbacks))) (sym registered)
-      (placed_still o new c.registered same (ap (λ (st : Setup). st.callbacks) setup) tied.registered);
+      (placed_still o new c.registered (λ n. (same n).0) (ap (λ (st : Setup). st.callbacks) setup) tied.registered);
   few = omega (arith, tied.few, ap length registered, ap length ran, later);
   marks = marks;
   made = made;

@@ -1,6 +1,8 @@
 -- The stack of a heap, and what calls on it change.
-use Rattle.std.specs.Prelude.{◌≡◌, ℕ, ◌-◌, ◌≤◌, List, [], ◌∷◌, ◌++◌, length, map, reverse, take, drop, Option, Some, None}
-use Rattle.gc_graph.specs.State.{Node, StackWord}
+use Rattle.std.specs.Prelude.{◌≡◌, ℕ, ◌-◌, ◌<◌, ◌≤◌, Bool, true, false, List, [], ◌∷◌, ◌++◌, length, map, reverse, take, drop, Option, Some, None, All, ⊤}
+use Rattle.gc_graph.specs.declared.command.Want.{Want}
+use Rattle.gc_graph.specs.declared.command.Want.TheVariants.{Precise, Conservative}
+use Rattle.gc_graph.specs.State.{Node, StackWord, node_at, size_of}
 use Rattle.gc_graph.specs.State.StackWord.{Pointer, Number}
 use Rattle.gc_graph.specs.May.{address_of}
 use Rattle.node_bodies.specs.Nodes.{place_of}
@@ -28,10 +30,17 @@ abbrev pub pointed_place : List Node → StackWord → Option ℕ
 pointed_place nodes (Pointer n offset) = Some (place_of nodes n)
 pointed_place nodes (Number w) = None
 
--- the stack holds the addresses that its words are, and the places of the objects to which they point
+-- a pointer points to a word that its node has
+abbrev pub PointsInside : List Node → StackWord → Type 0
+PointsInside nodes (Pointer n offset) = offset < size_of (node_at nodes n)
+PointsInside nodes (Number w) = ⊤
+
+-- the stack holds the addresses that its words are, and the places of the objects to which they point, each of which has the
+-- word that is pointed to
 pub record HoldsWords (nodes : List Node) (s : StackView) : Type 0 where
   pub addresses : s.addresses ≡ reverse (map (address_of nodes) s.words)
   pub places : s.places ≡ reverse (map (pointed_place nodes) s.words)
+  pub inside : All (PointsInside nodes) s.words
 
 -- a pointer to the word at an offset of the node that a slot names, or the number 0 where it names none
 abbrev pub pointer_into : Option ℕ → ℕ → StackWord
@@ -49,3 +58,8 @@ without_last s = record {
   addresses = take (length s.addresses - 1) s.addresses;
   places = take (length s.places - 1) s.places;
 }
+
+-- the stack isn't looked at
+abbrev pub is_precise : Want → Bool
+is_precise Precise = true
+is_precise Conservative = false

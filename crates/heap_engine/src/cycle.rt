@@ -2,7 +2,6 @@
 
 ghost use Rattle.std.specs.Prelude.{◌≡◌, ◌+◌, ◌-◌, ◌*◌, ◌^◌, ◌≤◌, false};
 ghost use Rattle.std.specs.Prelude.{[], ◌++◌, OnOk, OnErr, length, map, take, vec_capacity};
-ghost use Rattle.gc_graph.specs.declared.command.Want.TheVariants.{Precise};
 ghost use Rattle.gc_graph.specs.declared.phase.Phase.TheVariants.{Idle};
 ghost use Rattle.gc_graph.specs.State.{empty_state, objects_of};
 ghost use Rattle.gc_graph.specs.Outcomes.{answered};
@@ -23,7 +22,7 @@ use crate::outcome::Outcome;
 use crate::states::{self, States};
 use atomic_pause::PauseResult;
 use callback_table::{CallbackTable, Registry};
-use gc_graph::{Line, NoMemory, Phase, Refusal};
+use gc_graph::{Line, NoMemory, Phase, Refusal, Want};
 use ghost_values::GhostValue;
 use std::alloc::Global;
 use std::marker::Model;
@@ -128,14 +127,15 @@ impl Cycle {
         self.registry.ran()
     }
 
-    /// A whole collection, which is refused unless the stack is empty: an open sweep is ended, marking
-    /// begins, and the pause ends it.
+    /// A whole collection, which is refused where its pause would be precise and the stack isn't
+    /// empty: an open sweep is ended, marking begins, and the pause ends it.
     pub fn collect(
         &mut self,
         objects: &mut Objects,
         handles: &mut Handles,
         outcome: &mut Outcome,
         callbacks: &CallbackTable,
+        want: Want,
     ) -> Line
         requires ready { IsReady objects.old handles.old self.old }
         requires kinds { kinds_of callbacks.now ≡ objects.old.callbacks }
@@ -143,7 +143,7 @@ impl Cycle {
         requires calm { outcome.old.prefinalises ≡ false }
         requires piece { outcome.old.piece ≡ [] }
         requires room { word_count objects.old.shape ≤ 2 * outcome.old.room }
-        ensures step { StepGcNow (setup_of_objects objects.old) Precise
+        ensures step { StepGcNow (setup_of_objects objects.old) want
             (state_of objects.old handles.old self.old) outcome.new.piece
             (lines_with outcome.new self.new.ran result)
             (answered (state_of objects.new handles.new self.new)) }
@@ -152,7 +152,7 @@ impl Cycle {
         ensures history { outcome.new.history ≡ outcome.old.history }
     {
         self.rests();
-        if handles.stack().has_words() {
+        if handles.stack().refuses(want) {
             return Line::Refused(Refusal::Stack);
         }
         // Room for a list of an ordinary length, so that a walk of the heap is rare. From here on
@@ -163,7 +163,7 @@ impl Cycle {
         self.end_sweep(objects, handles, &mut outcome.finalised);
         self.rest = states::collected(objects, handles, self);
         gc_graph::reach_is_least();
-        let result = objects.pause(handles, &mut self.grey, &mut self.registry, callbacks);
+        let result = objects.pause(handles, &mut self.grey, &mut self.registry, callbacks, want);
         outcome.prefinalise();
         self.phase = Phase::Sweeping;
         outcome.piece = entries::of_collection();

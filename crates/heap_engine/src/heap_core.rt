@@ -177,7 +177,7 @@ fn run(
         Command::Drop { p } => drop_slot(objects, handles, cycle, p),
         Command::Weak { w, p } => weaken(objects, handles, cycle, w, p),
         Command::Read { w, p } => read(objects, handles, cycle, w, p),
-        Command::GcNow { want: _ } => cycle.collect(objects, handles, outcome, callbacks),
+        Command::GcNow { want } => cycle.collect(objects, handles, outcome, callbacks, want),
         Command::SweepAll => cycle.sweep_all(objects, handles, outcome),
         Command::Stat => stat(objects, handles, cycle),
         Command::Pair { p, f, k, v } => pair(objects, handles, cycle, p, f, k, v),

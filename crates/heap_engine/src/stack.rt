@@ -2,11 +2,12 @@
 // `include/cppgc/README.md`).
 
 ghost use Rattle.std.specs.Prelude.{◌≡◌, ◌<◌, length, reverse, nat_lt, None, IfOk, slice_get};
+ghost use Rattle.gc_graph.specs.CycleSteps.{is_stack_refused};
 ghost use Rattle.gc_graph.specs.State.StackWord.{Number};
 ghost use Rattle.heap_engine.specs.Stack.{empty_stack, with_word, without_last};
 
 use crate::stack_words::{self, StackWords, WordLists};
-use gc_graph::NoMemory;
+use gc_graph::{NoMemory, Want};
 use ghost_values::GhostValue;
 use std::alloc::Global;
 use std::marker::Model;
@@ -79,6 +80,23 @@ impl Stack {
             places,
             words: stack_words::none(),
         })
+    }
+
+    /// The addresses that the words are, in the order in which they were pushed.
+    pub fn addresses(&self) -> &[u64]
+        ensures { result.now ≡ self.now.addresses }
+    {
+        &self.addresses
+    }
+
+    /// Whether a collection is refused for the stack: a precise one wants it empty.
+    pub fn refuses(&self, want: Want) -> bool
+        ensures { result ≡ is_stack_refused want self.now.words }
+    {
+        match want {
+            Want::Precise => self.has_words(),
+            Want::Conservative => false,
+        }
     }
 
     /// Whether there is a word.

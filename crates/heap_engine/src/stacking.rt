@@ -5,7 +5,7 @@ ghost use Rattle.std.specs.Prelude.{◌≡◌, ◌<◌, [], ◌∷◌};
 ghost use Rattle.gc_graph.specs.May.{address_of};
 ghost use Rattle.gc_graph.specs.Outcomes.{answered};
 ghost use Rattle.gc_graph.specs.HandleSteps.{IsPushed, StepPush, StepPushPlain, StepPop, StepPeek};
-ghost use Rattle.heap_engine.specs.Stack.{pointed_place};
+ghost use Rattle.heap_engine.specs.Stack.{pointed_place, PointsInside};
 ghost use Rattle.heap_engine.specs.Parts.{state_of, counted, IsReady, IsFrame};
 
 use crate::cycle::Cycle;
@@ -56,6 +56,7 @@ fn push_word(objects: &Objects, handles: &mut Handles, cycle: &Cycle, pushed: Pu
     requires ready { IsReady objects.now handles.old cycle.now }
     requires address { pushed.address ≡ address_of objects.now.nodes pushed.word.value }
     requires place { pushed.place ≡ pointed_place objects.now.nodes pushed.word.value }
+    requires inside { PointsInside objects.now.nodes pushed.word.value }
     ensures step { IsPushed (state_of objects.now handles.old cycle.now) pushed.word.value
         (result ∷ []) (answered (state_of objects.now handles.new cycle.now)) }
     ensures frame { IsFrame objects.now cycle.now objects.now handles.new (counted cycle.now) }

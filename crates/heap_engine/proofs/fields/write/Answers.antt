@@ -1,12 +1,12 @@
-use Rattle.std.proofs.Common.{◌≡◌, List, None, get_or, length, refl, ap, ◌∙◌, arith}
+use Rattle.std.proofs.Common.{◌≡◌, List, None, get_or, length, refl, sym, ap, subst, arith}
 use Rattle.gc_graph.specs.State.{Node}
-use Rattle.node_bodies.specs.Nodes.{place_of}
 use Rattle.heap_engine.specs.Fields.{allows}
 use Rattle.heap_engine.specs.Objects.{written_in}
 use Rattle.heap_engine.specs.Parts.{ObjectsView, counted}
 use Rattle.heap_engine.proofs.FieldAnswers.{Found, found, field_kind, step_write}
-use Rattle.heap_engine.proofs.FieldNodes.{place-written, length-written}
+use Rattle.heap_engine.proofs.FieldNodes.{stays-written, length-written}
 use Rattle.heap_engine.proofs.FieldReads.{takes_suited}
+use Rattle.heap_engine.proofs.StackWords.{StaysAt}
 use Rattle.heap_engine.proofs.Ties.{valid_nodes, tied_nodes}
 use Rattle.heap_engine.proofs.fields.write.Goals as goal
 
@@ -46,7 +46,8 @@ returns-in-Ok-clause-frame c =
       setup = rw c.in-Ok.ensures.same at c.store.ensures.setup;
       ordinal = refl;
       tied = tied_nodes old new c.args.handles.now c.args.cycle.now (counted c.args.cycle.now) c.requires.ready.tied
-          (λ n. ap (λ (ns : List Node). place_of ns n) nodes ∙ place-written old.nodes (get_or c.args.handles.now.slots c.args.p None) c.args.f c.args.content.now.value.value n)
+          (λ n. subst (λ (ns : List Node). StaysAt old.nodes ns n) (sym nodes)
+          (stays-written old.nodes (get_or c.args.handles.now.slots c.args.p None) c.args.f c.args.content.now.value.value n))
           (rw c.in-Ok.ensures.same at c.store.ensures.setup) refl refl (omega arith)
           (c.store.ensures.marks c.args.cycle.now.phase (rw c.in-Ok.ensures.same c.requires.ready.tied.marks))
           (omega (arith, c.requires.ready.tied.made, ap length nodes, length-written old.nodes (get_or c.args.handles.now.slots c.args.p None) c.args.f c.args.content.now.value.value));

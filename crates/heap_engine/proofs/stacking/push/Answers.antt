@@ -1,9 +1,9 @@
-use Rattle.std.proofs.Common.{◌≡◌, [], ◌∷◌, refl, sym, ap, ◌∙◌, subst, arith}
+use Rattle.std.proofs.Common.{◌≡◌, ◌<◌, [], ◌∷◌, refl, sym, ap, ◌∙◌, subst, arith}
 use Rattle.gc_graph.specs.State.{StackWord, node_at, size_of}
 use Rattle.gc_graph.specs.State.StackWord.{Pointer}
 use Rattle.gc_graph.specs.Outcomes.{answered}
 use Rattle.gc_graph.specs.HandleSteps.{IsPushed, StepPush}
-use Rattle.heap_engine.specs.Stack.{pointer_into}
+use Rattle.heap_engine.specs.Stack.{pointer_into, PointsInside}
 use Rattle.heap_engine.specs.Parts.{ObjectsView, HandlesView, CycleView, state_of}
 use Rattle.heap_engine.proofs.StackSteps.{push_within, push_past}
 use Rattle.heap_engine.proofs.Ties.{slot_names}
@@ -13,6 +13,15 @@ pub size_at-requires : goal.size_at-requires
 size_at-requires c =
     let is = slot_names c.args.objects.now c.args.handles.now c.args.cycle.now c.args.p c.in-Some.place c.requires.ready (sym c.place.ensures ∙ c.in-Some.is) in
     record { place = (is.0, is.2) }
+
+pub push_word-requires-clause-inside : goal.push_word-requires-clause-inside
+push_word-requires-clause-inside c =
+    let o : ObjectsView = c.args.objects.now in
+    let is = slot_names o c.args.handles.now c.args.cycle.now c.args.p c.in-Some.place c.requires.ready (sym c.place.ensures ∙ c.in-Some.is) in
+    let size : c.size_at.result ≡ size_of (node_at o.nodes is.0) = c.size_at.ensures.size is.0 is.2 in
+    let low : c.args.offset < size_of (node_at o.nodes is.0) = omega (arith, size, c.if-offset-size_at.true) in
+    subst (λ (x : ObjectsView). PointsInside x.nodes c.pointer-pointer.result.word.value) (sym c.size_at.ensures.same)
+    (subst (PointsInside o.nodes) (sym (c.pointer-pointer.ensures.word ∙ ap (λ slot. pointer_into slot c.args.offset) is.1)) low)
 
 pub returns-then-offset-size_at-clause-step : goal.returns-then-offset-size_at-clause-step
 returns-then-offset-size_at-clause-step c =

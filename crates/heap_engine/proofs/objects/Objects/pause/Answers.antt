@@ -9,8 +9,10 @@ use Rattle.node_bodies.specs.Nodes.{bodies_of}
 use Rattle.node_bodies.specs.Places.{places_of}
 use Rattle.node_bodies.specs.KeptNodes.{slots_live, named_places, weak_are_places}
 use Rattle.node_bodies.specs.WeakNodes.{length-after}
+use Rattle.page_space.specs.Space.{extents_of_bodies}
 use Rattle.atomic_pause.specs.Pausing.{NamePlaces}
 use Rattle.heap_engine.specs.Parts.{HandlesView}
+use Rattle.heap_engine.proofs.PausedSizes.{sizes_stay}
 use Rattle.heap_engine.proofs.objects.Objects.pause.Goals as goal
 
 pub pause-result-requires-clause-strong : goal.pause-result-requires-clause-strong
@@ -50,3 +52,14 @@ invariant_of-self g c =
       held = c.pause-result.ensures.ready.held;
       numbers_are = c.self.invariant.numbers_are ∙ sym (paused.stayed.count ∙ length-after paused.kept nodes);
     }
+
+pub returns-clause-sizes : goal.returns-clause-sizes
+returns-clause-sizes g c = λ n live.
+    let nodes : List Node = c.self.inside.nodes.value in
+    let names : NamePlaces nodes c.args.handles.now.slots c.handles.inside.strong = record {
+      live = rw (← c.self.view_is) at c.requires.live;
+      places_are = ap (λ (h : HandlesView). h.places) c.handles.view_is ∙ (rw (← c.self.view_is) at c.requires.slots);
+    } in
+    let paused = c.pause-result.ensures.paused c.args.handles.now.slots names in
+    rw (← c.self.view_is) (sizes_stay paused.kept nodes c.pause-result.new.parts.1.0.value c.self.inside.seat c.pause-result.new.parts.0 c.bodies_lie_apart.ensures c.self.invariant.held.bodies c.pause-result.ensures.ready.held.bodies
+    (c.pause-result.ensures.extents ∙ ap (λ (u : SeatView). extents_of_bodies u.bodies) c.set_stop.ensures) paused.stayed n (rw (← c.self.view_is) at live))
