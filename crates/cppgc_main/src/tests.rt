@@ -6,6 +6,7 @@ ghost use Rattle.std.specs.Prelude.{◌≤◌};
 mod adapters;
 mod buckets;
 mod collections;
+mod conservative;
 mod devices;
 mod faults;
 mod large;

@@ -234,7 +234,7 @@ fn first_line_that_is_not_built_is_named(rt: HostRuntime) {
             b"oilpan 1\ntype S\ngc now precise\nnew 0 0\nfoo\n",
             Some((4, 9)),
         ),
-        (b"oilpan 1\ngc now conservative\n", Some((2, 9))),
+        (b"oilpan 1\ngc finish conservative\n", Some((2, 9))),
         (b"oilpan 1\nsweep 1\n", Some((2, 9))),
         (b"oilpan 1\nat 1 totals\nstat\n", Some((2, 9))),
     ];
