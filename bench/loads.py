@@ -6,6 +6,7 @@ from typing import Dict, List, NamedTuple
 
 PAGE_WORDS = 16_384
 COLLECTION = "gc now precise"
+STACK_COLLECTION = "gc now conservative"
 SWEEP = "sweep all"
 
 # For mixed objects: how many fields a table has, and the slots of a new leaf and of the table in use.
@@ -321,6 +322,23 @@ def prefinalizers_read(count):
     load = prefinalizers(count).then(COLLECTION)
     tells = {**load.tells, "prefinalise ": 2 * count, f"word {count}": 1}
     return load.then("word 0 1")._replace(tells=tells)
+
+
+def small_pages(pages):
+    """A list that fills so many pages of 256 words, each with 85 objects of 3 words."""
+    count = 85 * pages
+    return Load(["S"], linked(count), {"full": 0}, pages, 256)
+
+
+def inner_words(pages):
+    """A stack with a word into each of these pages, each at another place of some object."""
+    return [f"push# {256 * page + 37 * page % 255}" for page in range(pages)]
+
+
+def stack_read(pages):
+    """After a collection that looks at that stack: the list lives, whether or not it is hit."""
+    load = small_pages(pages).then(*inner_words(pages), STACK_COLLECTION)
+    return load._replace(tells={**load.tells, "ok": 86 * pages, f"pause kept {85 * pages} dead 0 ": 1})
 
 
 def dead_objects(count):

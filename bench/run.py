@@ -15,7 +15,7 @@ import tempfile
 sys.dont_write_bytecode = True
 
 import loads
-from loads import COLLECTION, SWEEP
+from loads import COLLECTION, STACK_COLLECTION, SWEEP
 
 ROOT = os.path.dirname(os.path.dirname(os.path.abspath(__file__)))
 CRATE = os.path.join(ROOT, "crates", "cppgc_main")
@@ -31,6 +31,7 @@ SWEPT_WORD_BAR = 60
 FINALISED_BAR = 400
 PREFINALISED_BAR = 500
 PREFINALISED_RATIO_BAR = 2.1
+STACK_WORD_BAR = 250
 # For a line of each kind, read, run and told.
 LINE_BARS = {"drop 0": 400, "set 0 0 0": 560, "new 0 0": 1400}
 
@@ -204,6 +205,17 @@ class Bench:
         tell("prefinalizers_instructions_per_line", costs[0] / (2 * self.count), PREFINALISED_BAR)
         tell("prefinalizers_instructions_ratio", costs[1] / costs[0], PREFINALISED_RATIO_BAR)
 
+    def stack(self):
+        """What a collection costs for each word of a stack, into pages full of small objects."""
+        pages = max(1, min(1024, self.count // 40))
+        Script(self.folder, loads.stack_read(pages)).check()
+        load, words = loads.small_pages(pages), loads.inner_words(pages)
+        costs = [
+            self.instructions(load.then(*stack, STACK_COLLECTION)) - self.instructions(load.then(*stack))
+            for stack in ([], words)
+        ]
+        self.figures.tell("stack_instructions_per_word", (costs[1] - costs[0]) / pages, STACK_WORD_BAR)
+
     def sweeps(self):
         """What a sweep costs, with few objects to finalise and with many."""
         few, many = loads.live_objects(self.count), loads.dead_objects(self.count)
@@ -236,6 +248,7 @@ def main():
             bench.weak_fields()
             bench.pairs()
             bench.prefinalizers()
+            bench.stack()
             bench.sweeps()
     bench.figures.end()
 
