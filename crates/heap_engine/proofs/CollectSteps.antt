@@ -1,5 +1,5 @@
 -- A collection is a step of the graph.
-use Rattle.std.proofs.Common.{◌≡◌, ℕ, zero, suc, ◌+◌, Bool, true, false, not, All, List, [], ◌∷◌, ◌++◌, length, filter, replicate, Option, Some, None, map, cond, refl, sym, ap, ◌∙◌, subst, inr, arith}
+use Rattle.std.proofs.Common.{◌≡◌, ℕ, zero, suc, ◌+◌, ◌*◌, Bool, true, false, not, All, List, [], ◌∷◌, ◌++◌, length, filter, replicate, Option, Some, None, map, cond, refl, sym, ap, ◌∙◌, subst, inr, arith}
 use mathlib.Core.Logic.{◌⊎◌}
 use Rattle.std.specs.Prelude.{MatchBool}
 use Rattle.std.proofs.lemmas.List.Elements.{All-filter, All-weaker}
@@ -17,18 +17,19 @@ use Rattle.gc_graph.specs.May.{hits_for}
 use Rattle.gc_graph.specs.History.{cleared_by, NamesWeakSlots}
 use Rattle.gc_graph.specs.Pause.{IsKept, condemn, dies, clear_slot, is_dead_at, dying_slots, run_order, prefinalised, prefinalise_lines, live_count, dead_count, paused}
 use Rattle.gc_graph.specs.Outcomes.{answered, finalise_lines, took, owner_entry}
-use Rattle.gc_graph.specs.Sweep.{SweepsToEnd}
+use Rattle.gc_graph.specs.Sweep.{pages_swept_in, SweepsToEnd}
 use Rattle.gc_graph.specs.CycleSteps.{IsStart, IsPause, IsCollection, StepGcNow, WantsMemory, is_marking, is_stack_refused}
 use Rattle.gc_graph.specs.ActionLaw.{HaveStayed}
 use Rattle.callback_table.specs.Registry.{RegistryView, registration_of, registrations_of}
 use Rattle.atomic_pause.specs.Pausing.{IsPaused, hits_in}
 use Rattle.heap_engine.specs.View.{start_entry, pause_entry}
+use Rattle.sweeper.specs.Sweeping.{SweepView, cursor_at}
 use Rattle.node_bodies.specs.Places.{places_of, IsJudged}
 use Rattle.node_bodies.specs.Judgement.{nodes_after}
 use Rattle.heap_engine.specs.Stack.{HoldsWords, is_precise}
 use Rattle.heap_engine.specs.Changes.{collected_from}
 use Rattle.heap_engine.specs.Printed.{ran_lines}
-use Rattle.heap_engine.specs.Parts.{ObjectsView, HandlesView, CycleView, setup_of_objects, state_of, counted, HasMarks, IsPlaced, IsAtRest, IsReady, IsFrame}
+use Rattle.heap_engine.specs.Parts.{ObjectsView, HandlesView, CycleView, setup_of_objects, state_of, counted, HasMarks, IsPlaced, IsSweepOf, IsAtRest, IsReady, IsFrame}
 use Rattle.node_bodies.specs.Nodes.{place_of}
 use Rattle.node_bodies.specs.WeakNodes.{life-after, place-after, length-after, live-after, dead-after, count-stays}
 use Rattle.node_bodies.specs.KeptNodes.{refers_within}
@@ -171,6 +172,29 @@ at_rest o h c rest = record {
 abbrev pub registry_of : CycleView → RegistryView
 registry_of c = record { entries = c.registered; ran = c.ran }
 
+-- a sweep of all pages begins
+began_sweep : (mid new : ObjectsView) (h : HandlesView) (between after : CycleView) → IsSweepOf mid.shape between.phase between.rest.cursor between.sweep
+    → setup_of_objects new ≡ setup_of_objects mid → after.phase ≡ Sweeping → after.sweep ≡ record between.sweep { cursor = 0 } → after.rest.cursor ≡ 0
+    → IsSweepOf new.shape after.phase after.rest.cursor after.sweep
+began_sweep mid new h between after is setup phase sweep cursor = record {
+  pages = ap (λ (w : SweepView). w.pages) sweep ∙ is.pages ∙ sym (ap (λ (st : Setup). st.shape.pages) setup);
+  cursor_is = ap (λ (w : SweepView). w.cursor) sweep ∙ sym cursor ∙ sym (ap (λ ph. pages_swept_in ph new.shape.pages after.rest.cursor) phase);
+}
+
+began_marks : (new : ObjectsView) (after : CycleView) (s : SweepView) → after.phase ≡ Sweeping → after.sweep ≡ record s { cursor = 0 } → IsJudged new.seat
+    → HasMarks after.phase (cursor_at new.shape after.sweep) new.seat
+began_marks new after s phase sweep judged =
+    let none : cursor_at new.shape after.sweep ≡ 0 = ap (cursor_at new.shape) sweep ∙ (let e : 0 * new.shape.page_words ≡ 0 = omega arith in e) in
+    subst (λ ph. HasMarks ph (cursor_at new.shape after.sweep) new.seat) (sym phase)
+    (record {
+      clear = record {
+        marked = λ a low. absurd (omega (arith, low, none));
+        traced = λ a low. absurd (omega (arith, low, none));
+        dead = λ a low. absurd (omega (arith, low, none));
+      };
+      judged = λ b there high. judged b there;
+    })
+
 -- from the old parts, through those after the end of an open sweep, to those after the pause
 pub record Collects (want : Want) (o mid new : ObjectsView) (h left : HandlesView) (c between after : CycleView) (numbers : List ℕ) : Type 0 where
   pub before_rests : IsAtRest c.phase c.rest
@@ -185,6 +209,7 @@ pub record Collects (want : Want) (o mid new : ObjectsView) (h left : HandlesVie
   pub handles_left : left ≡ record h { weak_places = places_of new.nodes left.weak; weak = map (clear_slot (is_dead_at new.nodes)) h.weak }
   pub judged_marks : IsJudged new.seat
   pub phase : after.phase ≡ Sweeping
+  pub sweep : after.sweep ≡ record between.sweep { cursor = 0 }
   pub rest : after.rest ≡ collected_from (state_of mid h between)
   pub ordinal : between.rest.ordinal ≡ c.rest.ordinal
 
@@ -265,7 +290,8 @@ module _ (want : Want) (o mid new : ObjectsView) (h left : HandlesView) (c betwe
               is.ready.tied.stack);
           registered = registered_left;
           few = omega (arith, is.ready.tied.few, ordinal, is.ordinal, ap length is.paused.left, ap length is.paused.ran, counts_run judged_nodes between.registered);
-          marks = subst (λ ph. HasMarks ph new.seat) (sym is.phase) is.judged_marks;
+          sweep = began_sweep mid new h between after is.ready.tied.sweep is.same_setup is.phase is.sweep (ap (λ (s : State). s.cursor) is.rest);
+          marks = began_marks new after between.sweep is.phase is.sweep is.judged_marks;
           made = omega (arith, is.ready.tied.made, ordinal, is.ordinal, is.paused.stayed.count, length-after kept mid.nodes);
         };
       }

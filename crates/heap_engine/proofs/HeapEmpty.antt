@@ -19,11 +19,11 @@ pub ready_empty : (o : ObjectsView) (h : HandlesView) (c : CycleView) (types : L
     → HaveCallbacks (length callbacks) types
     → o ≡ record { shape = shape; types = types; callbacks = callbacks; nodes = []; seat = empty_view (shape.pages * shape.page_words) types }
     → h ≡ record { places = replicate 256 None; slots = replicate 256 None; weak_places = replicate 64 None; weak = replicate 64 None; stack = empty_stack }
-    → c ≡ record { phase = Idle; registered = []; ran = []; rest = empty_state } → IsReady o h c
+    → c ≡ record { phase = Idle; sweep = record { pages = shape.pages; cursor = shape.pages }; registered = []; ran = []; rest = empty_state } → IsReady o h c
 ready_empty o h c types callbacks shape law called objects handles cycle =
     let none : ObjectsView = record { shape = shape; types = types; callbacks = callbacks; nodes = []; seat = empty_view (shape.pages * shape.page_words) types } in
     let nulls : HandlesView = record { places = replicate 256 None; slots = replicate 256 None; weak_places = replicate 64 None; weak = replicate 64 None; stack = empty_stack } in
-    let began : CycleView = record { phase = Idle; registered = []; ran = []; rest = empty_state } in
+    let began : CycleView = record { phase = Idle; sweep = record { pages = shape.pages; cursor = shape.pages }; registered = []; ran = []; rest = empty_state } in
     let ready : IsReady none nulls began = record {
       valid = law (setup_of_objects none);
       called = called;
@@ -33,6 +33,7 @@ ready_empty o h c types callbacks shape law called objects handles cycle =
         stack = record { addresses = refl; places = refl; inside = λ k d low. absurd (omega (arith, low)) };
         registered = λ k d low. absurd (omega arith);
         few = omega arith;
+        sweep = record { pages = refl; cursor_is = refl };
         marks = record { off = refl; marked = refl; traced = refl; dead = refl };
         made = omega arith;
       };

@@ -14,7 +14,6 @@ use Rattle.gc_graph.specs.Pause.{judged}
 use Rattle.page_words.specs.Bodies.{Body, with_word}
 use Rattle.page_words.specs.Seat.{SeatView, IsView, IsQuiet, holds, stored}
 use Rattle.page_space.specs.Occupying.{Occupies, new_body}
-use Rattle.heap_engine.specs.Sweeping.{IsSweptView}
 use Rattle.node_bodies.specs.Nodes.{place_of, word_of, body_of, bodies_of, IsThere, IsHeld, bury}
 use Rattle.heap_engine.specs.Parts.{HasMarks}
 use Rattle.node_bodies.specs.TypedNodes.{AreKnown, NamesBelow, new_words}
@@ -92,12 +91,16 @@ held_made setup nodes v new t extra place known quiet held occupies =
 
 -- ---- a field
 
-pub marks_stored : (phase : Phase) (v : SeatView) (a w : ℕ) → HasMarks phase v → HasMarks phase (stored v a w)
-marks_stored Idle v a w quiet = record { off = quiet.off; marked = quiet.marked; traced = quiet.traced; dead = quiet.dead }
-marks_stored Marking v a w quiet = record { off = quiet.off; marked = quiet.marked; traced = quiet.traced; dead = quiet.dead }
-marks_stored Sweeping v a w judged = λ b there.
-    let from = Contains-map_some (with_word a w) v.bodies b there in
-    subst (λ p. holds v.dead p ≡ not (holds v.marked p)) (sym (place-word a w from.0) ∙ ap (λ (c : Body). c.place) from.2) (judged from.0 from.1)
+pub marks_stored : (phase : Phase) (limit : ℕ) (v : SeatView) (a w : ℕ) → HasMarks phase limit v → HasMarks phase limit (stored v a w)
+marks_stored Idle limit v a w quiet = record { off = quiet.off; marked = quiet.marked; traced = quiet.traced; dead = quiet.dead }
+marks_stored Marking limit v a w quiet = record { off = quiet.off; marked = quiet.marked; traced = quiet.traced; dead = quiet.dead }
+marks_stored Sweeping limit v a w swept = record {
+  clear = record { marked = swept.clear.marked; traced = swept.clear.traced; dead = swept.clear.dead };
+  judged = λ b there high.
+      let from = Contains-map_some (with_word a w) v.bodies b there in
+      let place : from.0.place ≡ b.place = sym (place-word a w from.0) ∙ ap (λ (c : Body). c.place) from.2 in
+      subst (λ p. holds v.dead p ≡ not (holds v.marked p)) place (swept.judged from.0 from.1 (omega (arith, high, place)));
+}
 
 pub held_stored : (nodes : List Node) (v : SeatView) (a n f : ℕ) (x : Value) → IsView v → IsHeld nodes v → IsThere nodes n
     → a ≡ place_of nodes n + 2 + f → f < length (node_at nodes n).object.values → IsHeld (with_field nodes n f x) (stored v a (word_of (place_of nodes) x))
@@ -108,16 +111,4 @@ held_stored nodes v a n f x view held there at low =
     record {
       bodies = bodies_stored nodes v a n f x view held.bodies there at low ∙ bodies-same (place_of nodes) (place_of new) new (λ m. sym (place m));
       dead = λ m present. ap (holds v.dead) (place m) ∙ held.dead m (sym (ap is_there (life m)) ∙ present) ∙ sym (ap is_dead (life m));
-    }
-
--- ---- a sweep
-
-pub held_swept : (nodes : List Node) (v new : SeatView) → IsHeld nodes v → IsSweptView v new → IsHeld (map bury nodes) new
-held_swept nodes v new held sweeps =
-    let after : List Node = map bury nodes in
-    record {
-      bodies = sweeps.bodies ∙ ap (filter (λ (b : Body). not (holds v.dead b.place))) held.bodies
-          ∙ sym (bodies-finalise (place_of nodes) 0 nodes (holds v.dead) held.dead)
-          ∙ bodies-same (place_of nodes) (place_of after) after (λ n. sym (place-finalise nodes n));
-      dead = λ n there. ap (λ l. holds l (place_of after n)) sweeps.dead ∙ sym (ap is_dead (life-finalise nodes n) ∙ not_dead_buried (node_at nodes n).life);
     }

@@ -1,11 +1,6 @@
-pub mod SweepPlaces
-pub mod SweepBodies
-pub mod SweepNumbers
-pub mod SweepSteps
 pub mod FieldNodes
 pub mod FieldBodies
 pub mod HeldNodes
-pub mod NodeSweeps
 pub mod FieldPlaces
 pub mod FieldReads
 pub mod PairFields
@@ -20,7 +15,10 @@ pub mod FieldAnswers
 pub mod PairAnswers
 pub mod NewSteps
 pub mod HeapEmpty
-pub mod EndSteps
+pub mod NodesSwept
+pub mod SweptObjects
+pub mod SweepSteps
+pub mod PlacementSteps
 pub mod PausedSizes
 pub mod PauseKeeps
 pub mod CollectSteps

@@ -17,12 +17,13 @@ use Rattle.gc_graph.specs.ObjectSteps.{StepNew, with_new, registrations_for}
 use Rattle.callback_table.specs.declared.registry.Registered.{Registered}
 use Rattle.callback_table.specs.Registry.{registrations_of, registered}
 use Rattle.page_words.specs.Seat.{IsQuiet}
+use Rattle.sweeper.specs.Sweeping.{cursor_at}
 use Rattle.node_bodies.specs.Nodes.{place_of}
 use Rattle.node_bodies.specs.Places.{places_of}
 use Rattle.heap_engine.specs.Stack.{HoldsWords}
 use Rattle.heap_engine.specs.Objects.{HaveCallbacks, with_made}
 use Rattle.heap_engine.specs.Changes.{put_in, filled, registered_in}
-use Rattle.heap_engine.specs.Parts.{ObjectsView, HandlesView, CycleView, setup_of_objects, state_of, counted, HasMarks, IsPlaced, AreTied, IsReady}
+use Rattle.heap_engine.specs.Parts.{ObjectsView, HandlesView, CycleView, setup_of_objects, state_of, counted, HasMarks, IsPlaced, IsSweepOf, AreTied, IsReady}
 use Rattle.node_bodies.specs.KeptNodes.{slots_live}
 use Rattle.heap_engine.proofs.Registrations.{registrations_join, live_entries}
 use Rattle.heap_engine.proofs.HeldNodes.{place-old, stays-old, node-new}
@@ -149,7 +150,8 @@ tied_made o new h after c left p t place number x ready low idle quiet setup cou
           (stack_targets h.stack.words) ready.valid.stack) tied.stack));
       registered = registered_made o new c t place x ready.called low tied.registered (live_entries o.nodes c.registered ready.valid.registered) at nodes callbacks;
       few = few_made o c t place c.rest.ordinal ready.called low tied.few;
-      marks = subst (λ ph. HasMarks ph new.seat) (sym idle) quiet;
+      sweep = subst (λ (st : Setup). IsSweepOf st.shape c.phase c.rest.cursor c.sweep) (sym setup) tied.sweep;
+      marks = subst (λ ph. HasMarks ph (cursor_at new.shape c.sweep) new.seat) (sym idle) quiet;
       made = omega (arith, tied.made, ap length nodes, length_push o.nodes x);
     } in
     subst (λ (k : CycleView). AreTied new after (counted k)) (sym registers) is

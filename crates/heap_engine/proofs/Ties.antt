@@ -7,10 +7,11 @@ use Rattle.std.proofs.lemmas.List.Elements.{All-get_or, All-weaker}
 use Rattle.gc_graph.specs.State.{Setup, Node, IsLive, slot_targets}
 use Rattle.gc_graph.specs.Valid.{AreLive}
 use Rattle.callback_table.specs.declared.registry.Registered.{Registered}
+use Rattle.sweeper.specs.Sweeping.{cursor_at}
 use Rattle.node_bodies.specs.Nodes.{place_of, AreOfValid}
 use Rattle.node_bodies.specs.Places.{places_of}
 use Rattle.heap_engine.specs.Objects.{IsLiveAt}
-use Rattle.heap_engine.specs.Parts.{ObjectsView, HandlesView, CycleView, setup_of_objects, state_of, counted, HasMarks, IsPlaced, AreTied, IsReady}
+use Rattle.heap_engine.specs.Parts.{ObjectsView, HandlesView, CycleView, setup_of_objects, state_of, counted, HasMarks, IsPlaced, IsSweepOf, AreTied, IsReady}
 use Rattle.heap_engine.specs.Changes.{put_in, copied_in, weakened_in, popped_in}
 use Rattle.node_bodies.specs.KeptNodes.{slots_live}
 use Rattle.heap_engine.proofs.StackWords.{StaysAt, words_held, words_popped}
@@ -75,6 +76,7 @@ tied_slot o h c p target is tied = record {
   stack = tied.stack;
   registered = tied.registered;
   few = omega (arith, tied.few);
+  sweep = tied.sweep;
   marks = tied.marks;
   made = omega (arith, tied.made);
 }
@@ -88,6 +90,7 @@ tied_copy o h c p q tied = record {
   stack = tied.stack;
   registered = tied.registered;
   few = omega (arith, tied.few);
+  sweep = tied.sweep;
   marks = tied.marks;
   made = omega (arith, tied.made);
 }
@@ -101,6 +104,7 @@ tied_weak o h c w p tied = record {
   stack = tied.stack;
   registered = tied.registered;
   few = omega (arith, tied.few);
+  sweep = tied.sweep;
   marks = tied.marks;
   made = omega (arith, tied.made);
 }
@@ -113,6 +117,7 @@ tied_pop o h c tied = record {
   stack = words_popped o.nodes h.stack tied.stack;
   registered = tied.registered;
   few = omega (arith, tied.few);
+  sweep = tied.sweep;
   marks = tied.marks;
   made = omega (arith, tied.made);
 }
@@ -132,14 +137,25 @@ placed_still o new entries same callbacks placed =
 -- the nodes change, but their places and sizes stay, and no prefinalizer is registered or run
 pub tied_nodes : (o new : ObjectsView) (h : HandlesView) (c after : CycleView) → AreTied o h c → ((n : ℕ) → StaysAt o.nodes new.nodes n)
     → setup_of_objects new ≡ setup_of_objects o → after.registered ≡ c.registered → after.ran ≡ c.ran → c.rest.ordinal ≤ after.rest.ordinal
-    → HasMarks after.phase new.seat → length new.nodes ≤ after.rest.ordinal → AreTied new h after
-tied_nodes o new h c after tied same setup registered ran later marks made = record {
+    → IsSweepOf new.shape after.phase after.rest.cursor after.sweep → HasMarks after.phase (cursor_at new.shape after.sweep) new.seat
+    → length new.nodes ≤ after.rest.ordinal → AreTied new h after
+tied_nodes o new h c after tied same setup registered ran later sweep marks made = record {
   slots = tied.slots ∙ sym (places-same (place_of new.nodes) (place_of o.nodes) h.slots (λ n. (same n).0));
   weak = tied.weak ∙ sym (places-same (place_of new.nodes) (place_of o.nodes) h.weak (λ n. (same n).0));
   stack = words_held o.nodes new.nodes h.stack (λ k d low. same _) tied.stack;
   registered = subst (All (IsPlaced new.nodes (length new.callbacks))) (sym registered)
       (placed_still o new c.registered (λ n. (same n).0) (ap (λ (st : Setup). st.callbacks) setup) tied.registered);
   few = omega (arith, tied.few, ap length registered, ap length ran, later);
+  sweep = sweep;
   marks = marks;
   made = made;
 }
+
+-- the sweep and the marks stay, where a command changes fields alone
+pub swept_still : (o new : ObjectsView) (c : CycleView) → setup_of_objects new ≡ setup_of_objects o → IsSweepOf o.shape c.phase c.rest.cursor c.sweep
+    → IsSweepOf new.shape c.phase c.rest.cursor c.sweep
+swept_still o new c setup is = subst (λ (st : Setup). IsSweepOf st.shape c.phase c.rest.cursor c.sweep) (sym setup) is
+
+pub marked_still : (o new : ObjectsView) (c : CycleView) → setup_of_objects new ≡ setup_of_objects o → HasMarks c.phase (cursor_at o.shape c.sweep) new.seat
+    → HasMarks c.phase (cursor_at new.shape c.sweep) new.seat
+marked_still o new c setup is = subst (λ (st : Setup). HasMarks c.phase (cursor_at st.shape c.sweep) new.seat) (sym setup) is

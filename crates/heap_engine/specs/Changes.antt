@@ -1,12 +1,14 @@
 -- How the handles and the cycle change.
-use Rattle.std.specs.Prelude.{ℕ, ◌+◌, ◌-◌, [], ◌∷◌, ◌++◌, List, length, map, take, drop, Option, None, option_map, slice_set, slice_index_or}
+use Rattle.std.specs.Prelude.{◌≡◌, ◌*◌, ℕ, ◌+◌, ◌-◌, [], ◌∷◌, ◌++◌, List, length, map, take, drop, Option, None, option_map, slice_set, slice_index_or}
 use Rattle.gc_graph.specs.Reach.{Reach}
-use Rattle.gc_graph.specs.State.{Shape, State, StackWord, type_at, graph_of, roots_of}
+use Rattle.gc_graph.specs.Sweep.{phase_at}
+use Rattle.gc_graph.specs.State.{State, StackWord, type_at, graph_of, roots_of}
 use Rattle.callback_table.specs.declared.registry.Registered.{Registered}
 use Rattle.callback_table.specs.Registry.{registered, placed_at}
 use Rattle.heap_engine.specs.View.{start_entry, pause_entry}
 use Rattle.heap_engine.specs.Stack.{with_word, without_last}
-use Rattle.heap_engine.specs.Parts.{ObjectsView, HandlesView, CycleView, setup_of_objects}
+use Rattle.heap_engine.specs.Finalising.{FinalisesBelow}
+use Rattle.heap_engine.specs.Parts.{ObjectsView, HandlesView, CycleView, setup_of_objects, HasMarks}
 
 -- slot p holds the place and the number of the target, where there is one
 abbrev pub put_in : HandlesView → ℕ → Option (ℕ × ℕ) → HandlesView
@@ -52,9 +54,20 @@ registered_in o c t place = record c {
 abbrev pub filled : State → State
 filled s = record s { full = s.full + 1 }
 
--- an open sweep was ended, in which these nodes were finalised
-abbrev pub ended_in : Shape → State → List ℕ → State
-ended_in shape s numbers = record s { cursor = shape.pages; finalised = s.finalised + length numbers }
+-- an open sweep went on until so many pages were swept, in which so many nodes were finalised
+abbrev pub swept_to : ℕ → ℕ → State → State
+swept_to pages count s = record s { cursor = pages; finalised = s.finalised + count }
+
+-- the objects and the cycle after an open sweep went on until so many pages were swept
+pub record SweepsParts (o new : ObjectsView) (c after : CycleView) (pages : ℕ) (before told : List ℕ) : Type 0 where
+  pub setup : setup_of_objects new ≡ setup_of_objects o
+  pub nodes : FinalisesBelow (pages * o.shape.page_words) o.nodes before told new.nodes
+  pub phase : after.phase ≡ phase_at o.shape pages
+  pub sweep : after.sweep ≡ record c.sweep { cursor = pages }
+  pub registered : after.registered ≡ c.registered
+  pub ran : after.ran ≡ c.ran
+  pub rest : after.rest ≡ swept_to pages (length nodes.numbers) c.rest
+  pub marks : HasMarks after.phase (pages * o.shape.page_words) new.seat
 
 -- a collection was started from this state, and its pause is over
 abbrev pub collected_from : State → State

@@ -1,5 +1,5 @@
 pub mod Marking
-pub mod Sweeping
+pub mod Finalising
 pub mod View
 pub mod Fields
 pub mod Objects

@@ -8,12 +8,15 @@ use Rattle.gc_graph.specs.State.RegionSlot.{Vacant}
 use Rattle.gc_graph.specs.CycleSteps.{is_marking}
 use Rattle.gc_graph.specs.Valid.{IsValid}
 use Rattle.gc_graph.specs.Outcomes.{answered}
+use Rattle.gc_graph.specs.Sweep.{pages_swept_in}
 use Rattle.callback_table.specs.declared.registry.Registered.{Registered}
 use Rattle.callback_table.specs.Registry.{registrations_of}
 use Rattle.page_words.specs.Seat.{SeatView, IsQuiet}
+use Rattle.sweeper.specs.Sweeping.{SweepView, cursor_at}
 use Rattle.heap_engine.specs.Objects.{HaveCallbacks}
-use Rattle.node_bodies.specs.Places.{IsJudged, places_of}
+use Rattle.node_bodies.specs.Places.{places_of}
 use Rattle.node_bodies.specs.Nodes.{place_of}
+use Rattle.heap_engine.specs.Finalising.{IsSweptTo}
 use Rattle.heap_engine.specs.Stack.{StackView, HoldsWords}
 
 -- the objects: the heap's shape and types, the kinds of its callbacks, the nodes, and what is known of the words
@@ -32,10 +35,12 @@ pub record HandlesView : Type 0 where
   pub weak : List (Option ℕ)
   pub stack : StackView
 
--- the collection cycle: its phase, the prefinalizers that are registered, with the places of their objects, those that the last
--- pause ran, each the number of its object and that of its callback, and what no other part holds of the state
+-- the collection cycle: its phase, how far its sweep has come, the prefinalizers that are registered, with the places of their
+-- objects, those that the last pause ran, each the number of its object and that of its callback, and what no other part holds
+-- of the state
 pub record CycleView : Type 0 where
   pub phase : Phase
+  pub sweep : SweepView
   pub registered : List Registered
   pub ran : List (ℕ × ℕ)
   pub rest : State
@@ -62,12 +67,17 @@ counted c = record c { rest = answered c.rest }
 
 -- ---- what the engine needs besides a valid state
 
--- nothing is marked while the heap is idle, and during a sweep each object is marked or dead; marking never goes on
--- between commands
-abbrev pub HasMarks : Phase → SeatView → Type 0
-HasMarks Idle v = IsQuiet v
-HasMarks Marking v = IsQuiet v
-HasMarks Sweeping v = IsJudged v
+-- nothing is marked while the heap is idle; in an open sweep nothing is marked below the address up to which all is swept, and
+-- from there on each object is marked or dead; marking never goes on between commands
+abbrev pub HasMarks : Phase → ℕ → SeatView → Type 0
+HasMarks Idle limit v = IsQuiet v
+HasMarks Marking limit v = IsQuiet v
+HasMarks Sweeping limit v = IsSweptTo limit v
+
+-- the sweep stands at the state's cursor where one is open, and else past all pages
+pub record IsSweepOf (shape : Shape) (phase : Phase) (cursor : ℕ) (sweep : SweepView) : Type 0 where
+  pub pages : sweep.pages ≡ shape.pages
+  pub cursor_is : sweep.cursor ≡ pages_swept_in phase shape.pages cursor
 
 -- no marking goes on, region slots are null, and no thread runs
 pub record IsAtRest (phase : Phase) (s : State) : Type 0 where
@@ -81,7 +91,7 @@ pub record IsPlaced (nodes : List Node) (callbacks : ℕ) (entry : Registered) :
   pub known : entry.callback < callbacks
 
 -- the parts belong together: slots, strong and weak, hold the places of what they name, and so do registrations; the stack holds
--- its words; the marks are those of the phase, and no more nodes were made than commands were answered, and at most 16
+-- its words; the sweep and the marks are those of the phase, and no more nodes were made than commands were answered, and at most 16
 -- registrations for each
 pub record AreTied (o : ObjectsView) (h : HandlesView) (c : CycleView) : Type 0 where
   pub slots : h.places ≡ places_of o.nodes h.slots
@@ -89,7 +99,8 @@ pub record AreTied (o : ObjectsView) (h : HandlesView) (c : CycleView) : Type 0 
   pub stack : HoldsWords o.nodes h.stack
   pub registered : All (IsPlaced o.nodes (length o.callbacks)) c.registered
   pub few : length c.registered + length c.ran ≤ 16 * c.rest.ordinal
-  pub marks : HasMarks c.phase o.seat
+  pub sweep : IsSweepOf o.shape c.phase c.rest.cursor c.sweep
+  pub marks : HasMarks c.phase (cursor_at o.shape c.sweep) o.seat
   pub made : length o.nodes ≤ c.rest.ordinal
 
 -- the parts are ready for a command: their state is valid, and they belong together

@@ -1,17 +1,14 @@
-// What a collection does to the objects: the pause, and the sweep of those that are dead.
+// What a collection does to the objects: the pause.
 
 ghost use Rattle.std.specs.Prelude.{◌≡◌, ℕ, ◌*◌, ◌^◌, ◌<◌, ◌++◌};
 ghost use Rattle.std.specs.Prelude.{◌≤◌, [], length, map, All};
-ghost use Rattle.std.specs.Prelude.{vec_capacity};
 ghost use Rattle.gc_graph.specs.State.{node_at, size_of, IsLive, slot_targets};
 ghost use Rattle.gc_graph.specs.Pause.{live_count, dead_count, is_dead_at, clear_slot};
-ghost use Rattle.gc_graph.specs.Sweep.{AreDeadInOrder};
 ghost use Rattle.gc_graph.specs.Valid.{AreLive};
 ghost use Rattle.callback_table.specs.Registry.{IsRegistered};
 ghost use Rattle.callback_table.specs.Table.{kinds_of};
 ghost use Rattle.page_words.specs.Seat.{IsQuiet};
-ghost use Rattle.page_space.specs.Pages.{word_count};
-ghost use Rattle.node_bodies.specs.Nodes.{AreOfValid, bury};
+ghost use Rattle.node_bodies.specs.Nodes.{AreOfValid};
 ghost use Rattle.node_bodies.specs.Places.{places_of, IsJudged};
 ghost use Rattle.atomic_pause.specs.Pausing.{IsPaused, hits_in};
 ghost use Rattle.heap_engine.specs.Parts.{setup_of_objects};
@@ -20,8 +17,7 @@ ghost use Rattle.heap_engine.specs.Stack as spec;
 use crate::handles::Handles;
 use crate::marking::{Grey, clear};
 use crate::objects::Objects;
-use crate::sweeping::sweep_pages;
-use crate::{nodes, slot_lists};
+use crate::slot_lists;
 use atomic_pause::{Parts, PauseResult, pause};
 use callback_table::{CallbackTable, Registry};
 use gc_graph::Want;
@@ -86,26 +82,6 @@ impl Objects {
         clear(&mut grey.marking, &mut grey.notes);
         handles.weak_nodes = slot_lists::cleared(&handles.weak_nodes, &self.nodes);
         result
-    }
-
-    /// Sweeps all pages. The numbers of the finalised objects are put into `finalised`, which has
-    /// room for one for every second word of the heap.
-    pub fn sweep(&mut self, finalised: &mut Vec<u32>)
-        requires judged { IsJudged self.old.seat }
-        requires few { length self.old.nodes ≤ 1000000 }
-        requires empty { finalised.old.items ≡ [] }
-        requires room { word_count self.old.shape ≤ 2 * vec_capacity finalised.old }
-        ensures order { AreDeadInOrder self.old.nodes (word_count self.old.shape)
-            finalised.new.items }
-        ensures nodes { self.new.nodes ≡ map bury self.old.nodes }
-        ensures quiet { IsQuiet self.new.seat }
-        ensures many { length finalised.new.items ≤ 2 ^ 24 }
-        ensures room { vec_capacity finalised.new ≡ vec_capacity finalised.old }
-        ensures setup { setup_of_objects self.new ≡ setup_of_objects self.old }
-    {
-        self.seat.bodies_lie_apart();
-        sweep_pages(&mut self.space, &mut self.seat, finalised);
-        self.nodes = nodes::buried(&self.nodes);
     }
 }
 

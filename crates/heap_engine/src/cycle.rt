@@ -1,12 +1,11 @@
-// The collection cycle: collections and sweeps (`include/cppgc/heap.h`).
+// The collection cycle: collections (`include/cppgc/heap.h`).
 
 ghost use Rattle.std.specs.Prelude.{◌≡◌, ◌+◌, ◌-◌, ◌*◌, ◌^◌, ◌≤◌, false};
 ghost use Rattle.std.specs.Prelude.{[], ◌++◌, OnOk, OnErr, length, map, take, vec_capacity};
 ghost use Rattle.gc_graph.specs.declared.phase.Phase.TheVariants.{Idle};
-ghost use Rattle.gc_graph.specs.State.{empty_state, objects_of};
+ghost use Rattle.gc_graph.specs.State.{empty_state};
 ghost use Rattle.gc_graph.specs.Outcomes.{answered};
-ghost use Rattle.gc_graph.specs.CycleSteps.{StepGcNow, StepSweepAll, is_marking};
-ghost use Rattle.gc_graph.specs.Sweep.{SweepsToEnd};
+ghost use Rattle.gc_graph.specs.CycleSteps.{StepGcNow, is_marking};
 ghost use Rattle.page_space.specs.Pages.{word_count};
 ghost use Rattle.heap_engine.specs.Parts.{setup_of_objects, state_of, counted, IsReady, IsFrame};
 ghost use Rattle.callback_table.specs.Registry.{registered};
@@ -26,15 +25,18 @@ use gc_graph::{Line, NoMemory, Phase, Refusal, Want};
 use ghost_values::GhostValue;
 use std::alloc::Global;
 use std::marker::Model;
+use sweeper::Sweep;
 
-/// The phase of the cycle, the registered prefinalizers, and what is kept of marking.
+/// The phase of the cycle, how far its sweep has come, the registered prefinalizers, and what is kept
+/// of marking.
 #[derive(Drop)]
 pub struct Cycle {
-    phase: Phase,
+    pub(crate) phase: Phase,
+    pub(crate) sweep: Sweep,
     grey: Grey,
     registry: Registry,
     /// What no other part holds of the state.
-    rest: GhostValue<States>,
+    pub(crate) rest: GhostValue<States>,
 }
 
 impl Model for Cycle {
@@ -44,6 +46,7 @@ impl Model for Cycle {
 
     ghost view = { λ c. record {
       phase = c.phase;
+      sweep = c.sweep;
       registered = c.registry.entries;
       ran = c.registry.ran;
       rest = c.rest.value;
@@ -53,13 +56,19 @@ impl Model for Cycle {
 }
 
 impl Cycle {
-    /// The cycle of a heap that has done nothing.
-    pub fn new(alloc: Global) -> Cycle
-        ensures { result
-            ≡ record { phase = Idle; registered = []; ran = []; rest = empty_state } }
+    /// The cycle of a heap of so many pages that has done nothing.
+    pub fn new(alloc: Global, pages: u32) -> Cycle
+        ensures { result ≡ record {
+          phase = Idle;
+          sweep = record { pages = pages; cursor = pages };
+          registered = [];
+          ran = [];
+          rest = empty_state;
+        } }
     {
         Cycle {
             phase: Phase::Idle,
+            sweep: Sweep::idle(pages),
             grey: Grey::new(alloc),
             registry: Registry::new(alloc),
             rest: states::empty(),
@@ -166,66 +175,9 @@ impl Cycle {
         let result = objects.pause(handles, &mut self.grey, &mut self.registry, callbacks, want);
         outcome.prefinalise();
         self.phase = Phase::Sweeping;
+        self.sweep.begin();
         outcome.piece = entries::of_collection();
         line_of(result)
-    }
-
-    /// Ends the open sweep, or refuses where none is open.
-    pub fn sweep_all(
-        &mut self,
-        objects: &mut Objects,
-        handles: &Handles,
-        outcome: &mut Outcome,
-    ) -> Line
-        requires ready { IsReady objects.old handles.now self.old }
-        requires numbers { outcome.old.numbers ≡ [] }
-        requires calm { outcome.old.prefinalises ≡ false }
-        requires room { word_count objects.old.shape ≤ 2 * outcome.old.room }
-        ensures step { StepSweepAll (setup_of_objects objects.old)
-            (state_of objects.old handles.now self.old)
-            (lines_with outcome.new self.new.ran result)
-            (answered (state_of objects.new handles.now self.new)) }
-        ensures frame { IsFrame objects.old self.old objects.new handles.now (counted self.new) }
-        ensures piece { outcome.new.piece ≡ outcome.old.piece }
-        ensures room { outcome.new.room ≡ outcome.old.room }
-        ensures history { outcome.new.history ≡ outcome.old.history }
-    {
-        match self.phase {
-            Phase::Idle | Phase::Marking => Line::Refused(Refusal::Phase),
-            Phase::Sweeping => {
-                self.end_sweep(objects, handles, &mut outcome.finalised);
-                Line::Swept { c: objects.pages() }
-            }
-        }
-    }
-
-    /// Ends an open sweep. The state stays valid.
-    fn end_sweep(&mut self, objects: &mut Objects, handles: &Handles, finalised: &mut Vec<u32>)
-        requires ready { IsReady objects.old handles.now self.old }
-        requires empty { finalised.old.items ≡ [] }
-        requires room { word_count objects.old.shape ≤ 2 * vec_capacity finalised.old }
-        ensures swept { SweepsToEnd objects.old.shape (state_of objects.old handles.now self.old)
-            finalised.new.items (state_of objects.new handles.now self.new) }
-        ensures ready { IsReady objects.new handles.now self.new }
-        ensures idle { self.new.phase ≡ Idle }
-        ensures setup { setup_of_objects objects.new ≡ setup_of_objects objects.old }
-        ensures ordinal { self.new.rest.ordinal ≡ self.old.rest.ordinal }
-        ensures registered { self.new.registered ≡ self.old.registered }
-        ensures fewer { objects_of objects.new.nodes ≤ objects_of objects.old.nodes }
-        ensures many { length finalised.new.items ≤ 2 ^ 24 }
-        ensures room { vec_capacity finalised.new ≡ vec_capacity finalised.old }
-    {
-        let phase = self.phase;
-        match phase {
-            Phase::Idle | Phase::Marking => {}
-            Phase::Sweeping => {
-                objects.shape_is_valid();
-                gc_graph::step_keeps_valid();
-                objects.sweep(finalised);
-                self.rest = states::ended(&self.rest, objects, finalised);
-                self.phase = Phase::Idle;
-            }
-        }
     }
 }
 

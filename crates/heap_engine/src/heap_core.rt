@@ -85,7 +85,7 @@ impl Core {
         Ok(Core {
             objects,
             handles,
-            cycle: Cycle::new(alloc),
+            cycle: Cycle::new(alloc, config.pages),
             outcome,
             closed: false,
         })

@@ -50,6 +50,7 @@ mod stack_words;
 mod stacking;
 mod states;
 mod sweeping;
+mod sweeps;
 mod totals;
 
 pub use heap::{Config, Heap};

@@ -2,8 +2,9 @@
 // alone.
 
 ghost use Rattle.std.specs.Prelude.{◌≡◌, [], map, Some, slice_index_or, None};
+ghost use Rattle.gc_graph.specs.Sweep.{finalise};
+ghost use Rattle.sweeper.specs.Sweeping.{cursor_at};
 ghost use Rattle.heap_engine.specs.Objects.{with_made, written_in, paired_in};
-ghost use Rattle.node_bodies.specs.Nodes.{bury};
 
 use crate::content::Content;
 use crate::handles::Handles;
@@ -11,6 +12,7 @@ use crate::pair_fields::PairContent;
 use ghost_values::GhostValue;
 use node_bodies::NodeLists;
 use page_space::Space;
+use sweeper::Sweep;
 use type_table::TypeTable;
 
 /// What a new node looks at.
@@ -110,9 +112,26 @@ pub fn paired(
     })
 }
 
-/// The dead nodes are gone.
-pub fn buried(nodes: &GhostValue<NodeLists>) -> GhostValue<NodeLists>
-    ensures { result.value ≡ map bury nodes.now.value }
+/// What a sweep looks at.
+#[derive(Drop)]
+struct AboutSweep<'a> {
+    nodes: &'a GhostValue<NodeLists>,
+    space: &'a Space,
+    sweep: &'a Sweep,
+}
+
+/// The dead nodes in the pages that are swept are gone.
+pub fn finalised(
+    nodes: &GhostValue<NodeLists>,
+    space: &Space,
+    sweep: &Sweep,
+) -> GhostValue<NodeLists>
+    ensures { result.value
+        ≡ map (finalise (cursor_at space.now.shape sweep.now)) nodes.now.value }
 {
-    GhostValue::chosen(nodes)
+    GhostValue::chosen(&AboutSweep {
+        nodes,
+        space,
+        sweep,
+    })
 }

@@ -93,8 +93,8 @@ impl Objects {
             ≡ word_of (place_of self.old.nodes) content.now.value.value }
         ensures nodes { self.new.nodes ≡ written_in self.old.nodes
             (slice_index_or handles.now.slots p None) f content.now.value.value }
-        ensures marks { (phase : Phase) → HasMarks phase self.old.seat
-            → HasMarks phase self.new.seat }
+        ensures marks { (phase : Phase) (limit : ℕ) → HasMarks phase limit self.old.seat
+            → HasMarks phase limit self.new.seat }
         ensures setup { setup_of_objects self.new ≡ setup_of_objects self.old }
     {
         self.seat.bodies_lie_apart();

@@ -66,8 +66,8 @@ impl Objects {
         ensures nodes { self.new.nodes
             ≡ paired_in self.old.nodes (slice_index_or handles.now.slots p None) f
             pair.now.key.value.value pair.now.value.value.value }
-        ensures marks { (phase : Phase) → HasMarks phase self.old.seat
-            → HasMarks phase self.new.seat }
+        ensures marks { (phase : Phase) (limit : ℕ) → HasMarks phase limit self.old.seat
+            → HasMarks phase limit self.new.seat }
         ensures setup { setup_of_objects self.new ≡ setup_of_objects self.old }
     {
         fields_stand_apart();

@@ -5,7 +5,7 @@ ghost use Rattle.std.specs.Prelude.{◌≡◌};
 ghost use Rattle.gc_graph.specs.State.{empty_state};
 ghost use Rattle.gc_graph.specs.Outcomes.{answered};
 ghost use Rattle.heap_engine.specs.Parts.{state_of};
-ghost use Rattle.heap_engine.specs.Changes.{filled, ended_in, collected_from};
+ghost use Rattle.heap_engine.specs.Changes.{filled, swept_to, collected_from};
 
 use crate::cycle::Cycle;
 use crate::handles::Handles;
@@ -47,23 +47,19 @@ pub fn filled(rest: &GhostValue<States>) -> GhostValue<States>
     GhostValue::chosen(rest)
 }
 
-/// What the end of a sweep looks at.
+/// What a sweep looks at.
 #[derive(Drop)]
 struct AboutSweep<'a> {
     rest: &'a GhostValue<States>,
-    objects: &'a Objects,
-    finalised: &'a [u32],
+    pages: u32,
+    count: u32,
 }
 
-/// An open sweep was ended, in which these nodes were finalised.
-pub fn ended(rest: &GhostValue<States>, objects: &Objects, finalised: &[u32]) -> GhostValue<States>
-    ensures { result.value ≡ ended_in objects.now.shape rest.now.value finalised.now }
+/// An open sweep went on until so many pages were swept, in which so many nodes were finalised.
+pub fn swept(rest: &GhostValue<States>, pages: u32, count: u32) -> GhostValue<States>
+    ensures { result.value ≡ swept_to pages count rest.now.value }
 {
-    GhostValue::chosen(&AboutSweep {
-        rest,
-        objects,
-        finalised,
-    })
+    GhostValue::chosen(&AboutSweep { rest, pages, count })
 }
 
 /// What a collection looks at.

@@ -1,78 +1,72 @@
-// Sweeping: dead objects are finalised in address order, and the marks of the others cleared.
+// Sweeping the objects page by page (lazy sweeping, `include/cppgc/heap.h`).
 
-ghost use Rattle.std.specs.Prelude.{◌≡◌, ◌+◌, ◌*◌, ◌^◌, ◌<◌};
-ghost use Rattle.std.specs.Prelude.{◌≤◌, false, not, [], length, All, vec_capacity};
-ghost use Rattle.object_headers.specs.Offsets.{first_field};
-ghost use Rattle.page_words.specs.Bodies.{Body, IsPlace};
-ghost use Rattle.page_words.specs.Seat.{holds};
+ghost use Rattle.std.specs.Prelude.{◌≡◌, ℕ, ◌+◌, ◌*◌, ◌<◌, ◌≤◌, length, vec_capacity};
+ghost use Rattle.page_words.specs.Seat.{IsQuiet};
 ghost use Rattle.page_space.specs.Pages.{word_count};
-ghost use Rattle.page_space.specs.Space.{IsSpaceOf};
-ghost use Rattle.heap_engine.specs.Sweeping.{IsSweptView, AreDeadSerials, Sweeps};
-ghost use Rattle.node_bodies.specs.Places.{IsJudged};
+ghost use Rattle.sweeper.specs.Sweeping.{cursor_at, dead_from};
+ghost use Rattle.heap_engine.specs.Finalising.{IsSweptTo, FinalisesBelow, AreFewTold};
+ghost use Rattle.heap_engine.specs.Parts.{setup_of_objects};
 
-use page_space::Space;
-use page_words::MutatorSeat;
+use crate::nodes;
+use crate::objects::Objects;
+use sweeper::Sweep;
 
-/// Sweeps all pages. The numbers of the finalised objects are put into `finalised`, which has room
-/// for one for every second word of the heap.
-pub fn sweep_pages(space: &mut Space, seat: &mut MutatorSeat, finalised: &mut Vec<u32>)
-    requires space { IsSpaceOf space.old seat.old }
-    requires off { seat.old.on ≡ false }
-    requires judged { IsJudged seat.old }
-    requires serials { All (λ b. b.serial < 2 ^ 32) seat.old.bodies }
-    requires empty { finalised.old.items ≡ [] }
-    requires room { word_count space.old.shape ≤ 2 * vec_capacity finalised.old }
-    ensures swept { IsSweptView seat.old seat.new }
-    ensures numbers { AreDeadSerials seat.old finalised.new.items }
-    ensures space { IsSpaceOf space.new seat.new }
-    ensures shape { space.new.shape ≡ space.old.shape }
-    ensures many { 2 * length finalised.new.items ≤ word_count space.old.shape }
-    ensures room { vec_capacity finalised.new ≡ vec_capacity finalised.old }
-{
-    seat.bodies_lie_apart();
-    let mut from = 0;
-    // From object to object and not from word to word: the time is to grow with the objects.
-    while let Some(a) = space.next_object(seat, from) {
-        from = a + sweep_object(space, seat, a, finalised);
+impl Objects {
+    /// Sweeps the page at the cursor. The numbers of the finalised objects follow those that are in
+    /// `finalised`. Answers how many these are.
+    pub fn sweep_page(&mut self, sweep: &mut Sweep, finalised: &mut Vec<u32>) -> u32
+        requires pages { sweep.old.pages ≡ self.old.shape.pages }
+        requires open { sweep.old.cursor < sweep.old.pages }
+        requires marks { IsSweptTo (cursor_at self.old.shape sweep.old) self.old.seat }
+        requires few { length self.old.nodes ≤ 1000000 }
+        requires told { AreFewTold self.old.shape (cursor_at self.old.shape sweep.old)
+            self.old.seat finalised.old.items }
+        requires room { word_count self.old.shape ≤ 2 * vec_capacity finalised.old }
+        ensures cursor { sweep.new ≡ record sweep.old { cursor = sweep.old.cursor + 1 } }
+        ensures nodes { FinalisesBelow (cursor_at self.old.shape sweep.new) self.old.nodes
+            finalised.old.items finalised.new.items self.new.nodes }
+        ensures count { length finalised.new.items ≡ length finalised.old.items + result }
+        ensures marks { IsSweptTo (cursor_at self.old.shape sweep.new) self.new.seat }
+        ensures quiet { sweep.new.cursor ≡ sweep.new.pages → IsQuiet self.new.seat }
+        ensures told { AreFewTold self.old.shape (cursor_at self.old.shape sweep.new)
+            self.new.seat finalised.new.items }
+        ensures room { vec_capacity finalised.new ≡ vec_capacity finalised.old }
+        ensures setup { setup_of_objects self.new ≡ setup_of_objects self.old }
+    {
+        self.seat.bodies_lie_apart();
+        let swept = sweep.page(&mut self.space, &mut self.seat, finalised);
+        self.nodes = nodes::finalised(&self.nodes, &self.space, sweep);
+        swept.finalised
     }
-    survey_pages(space, seat);
-}
 
-/// Sweeps the object that starts at an address. Answers its size.
-fn sweep_object(space: &mut Space, seat: &mut MutatorSeat, a: u32, finalised: &mut Vec<u32>) -> u32
-    requires space { IsSpaceOf space.old seat.old }
-    requires start { IsPlace seat.old.bodies a }
-    requires off { seat.old.on ≡ false }
-    requires judged { holds seat.old.dead a ≡ not (holds seat.old.marked a) }
-    requires serials { All (λ b. b.serial < 2 ^ 32) seat.old.bodies }
-    requires room { length finalised.old.items < vec_capacity finalised.old }
-    ensures swept { Sweeps a seat.old finalised.old.items seat.new finalised.new.items result }
-    ensures space { IsSpaceOf space.new seat.new }
-    ensures shape { space.new.shape ≡ space.old.shape }
-    ensures least { first_field ≤ result }
-    ensures inside { a + result ≤ word_count space.old.shape }
-    ensures room { vec_capacity finalised.new ≡ vec_capacity finalised.old }
-{
-    let header = space.header_at(seat, a);
-    if header.mark {
-        space.words().unmark(seat, a);
-    } else {
-        finalised.push_reserved(space.serial_at(seat, a));
-        space.free(seat, a);
+    /// Sweeps the pages that are left. The numbers of the finalised objects follow those that are in
+    /// `finalised`. Answers how many these are.
+    pub fn finish_sweep(&mut self, sweep: &mut Sweep, finalised: &mut Vec<u32>) -> u32
+        requires pages { sweep.old.pages ≡ self.old.shape.pages }
+        requires marks { IsSweptTo (cursor_at self.old.shape sweep.old) self.old.seat }
+        requires few { length self.old.nodes ≤ 1000000 }
+        requires told { AreFewTold self.old.shape (cursor_at self.old.shape sweep.old)
+            self.old.seat finalised.old.items }
+        requires room { word_count self.old.shape ≤ 2 * vec_capacity finalised.old }
+        ensures cursor { sweep.new ≡ record sweep.old { cursor = sweep.old.pages } }
+        ensures nodes { FinalisesBelow (cursor_at self.old.shape sweep.new) self.old.nodes
+            finalised.old.items finalised.new.items self.new.nodes }
+        ensures count { length finalised.new.items ≡ length finalised.old.items + result }
+        ensures quiet { IsQuiet self.new.seat }
+        ensures told { 2 * length finalised.new.items ≤ word_count self.old.shape }
+        ensures room { vec_capacity finalised.new ≡ vec_capacity finalised.old }
+        ensures setup { setup_of_objects self.new ≡ setup_of_objects self.old }
+    {
+        self.seat.bodies_lie_apart();
+        let count = sweep.finish(&mut self.space, &mut self.seat, finalised);
+        self.nodes = nodes::finalised(&self.nodes, &self.space, sweep);
+        count
     }
-    header.size
-}
 
-/// Looks at each page again, from which objects may have gone.
-fn survey_pages(space: &mut Space, seat: &mut MutatorSeat)
-    requires space { IsSpaceOf space.old seat.old }
-    ensures space { IsSpaceOf space.new seat.new }
-    ensures shape { space.new.shape ≡ space.old.shape }
-    ensures view { seat.new ≡ seat.old }
-{
-    for page in 0..space.pages() {
-        // Objects may have left gaps in the page. It is looked through once here, so that the
-        // next searches for a place take less time.
-        space.survey(seat, page);
+    /// At most half as many objects are dead as there are words. Whoever calls this has the law.
+    pub fn dead_are_few(&self)
+        ensures { (from : ℕ) → 2 * dead_from from self.now.seat ≤ word_count self.now.shape }
+    {
+        sweeper::dead_are_few(&self.space, &self.seat);
     }
 }

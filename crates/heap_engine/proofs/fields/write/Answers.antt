@@ -2,12 +2,13 @@ use Rattle.std.proofs.Common.{◌≡◌, List, None, get_or, length, refl, sym, 
 use Rattle.gc_graph.specs.State.{Node}
 use Rattle.heap_engine.specs.Fields.{allows}
 use Rattle.heap_engine.specs.Objects.{written_in}
+use Rattle.sweeper.specs.Sweeping.{cursor_at}
 use Rattle.heap_engine.specs.Parts.{ObjectsView, counted}
 use Rattle.heap_engine.proofs.FieldAnswers.{Found, found, field_kind, step_write}
 use Rattle.heap_engine.proofs.FieldNodes.{stays-written, length-written}
 use Rattle.heap_engine.proofs.FieldReads.{takes_suited}
 use Rattle.heap_engine.proofs.StackWords.{StaysAt}
-use Rattle.heap_engine.proofs.Ties.{valid_nodes, tied_nodes}
+use Rattle.heap_engine.proofs.Ties.{valid_nodes, tied_nodes, swept_still, marked_still}
 use Rattle.heap_engine.proofs.fields.write.Goals as goal
 
 pub store-requires-clause-valid : goal.store-requires-clause-valid
@@ -49,6 +50,8 @@ returns-in-Ok-clause-frame c =
           (λ n. subst (λ (ns : List Node). StaysAt old.nodes ns n) (sym nodes)
           (stays-written old.nodes (get_or c.args.handles.now.slots c.args.p None) c.args.f c.args.content.now.value.value n))
           (rw c.in-Ok.ensures.same at c.store.ensures.setup) refl refl (omega arith)
-          (c.store.ensures.marks c.args.cycle.now.phase (rw c.in-Ok.ensures.same c.requires.ready.tied.marks))
+          (swept_still old new c.args.cycle.now (rw c.in-Ok.ensures.same at c.store.ensures.setup) c.requires.ready.tied.sweep)
+          (marked_still old new c.args.cycle.now (rw c.in-Ok.ensures.same at c.store.ensures.setup)
+          (c.store.ensures.marks c.args.cycle.now.phase (cursor_at old.shape c.args.cycle.now.sweep) (rw c.in-Ok.ensures.same c.requires.ready.tied.marks)))
           (omega (arith, c.requires.ready.tied.made, ap length nodes, length-written old.nodes (get_or c.args.handles.now.slots c.args.p None) c.args.f c.args.content.now.value.value));
     }

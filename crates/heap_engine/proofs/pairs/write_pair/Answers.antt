@@ -3,12 +3,13 @@ use Rattle.gc_graph.specs.declared.kind.Value.{Value}
 use Rattle.gc_graph.specs.State.{Node}
 use Rattle.gc_graph.specs.Fields.{is_pair}
 use Rattle.heap_engine.specs.Objects.{paired_in}
+use Rattle.sweeper.specs.Sweeping.{cursor_at}
 use Rattle.heap_engine.specs.Parts.{ObjectsView, counted}
 use Rattle.heap_engine.proofs.FieldAnswers.{Found, found, field_kind}
 use Rattle.heap_engine.proofs.PairAnswers.{step_pair}
 use Rattle.heap_engine.proofs.PairBodies.{stays-paired, length-paired}
 use Rattle.heap_engine.proofs.StackWords.{StaysAt}
-use Rattle.heap_engine.proofs.Ties.{valid_nodes, tied_nodes}
+use Rattle.heap_engine.proofs.Ties.{valid_nodes, tied_nodes, swept_still, marked_still}
 use Rattle.heap_engine.proofs.pairs.write_pair.Goals as goal
 
 -- the pair that was asked for
@@ -57,6 +58,8 @@ returns-in-Ok-clause-frame c =
       tied = tied_nodes old new c.args.handles.now c.args.cycle.now (counted c.args.cycle.now) c.requires.ready.tied
           (λ n. subst (λ (ns : List Node). StaysAt old.nodes ns n) (sym nodes) (stays-paired old.nodes slot c.args.f key value n))
           (rw c.in-Ok.ensures.same at c.store_pair.ensures.setup) refl refl (omega arith)
-          (c.store_pair.ensures.marks c.args.cycle.now.phase (rw c.in-Ok.ensures.same c.requires.ready.tied.marks))
+          (swept_still old new c.args.cycle.now (rw c.in-Ok.ensures.same at c.store_pair.ensures.setup) c.requires.ready.tied.sweep)
+          (marked_still old new c.args.cycle.now (rw c.in-Ok.ensures.same at c.store_pair.ensures.setup)
+          (c.store_pair.ensures.marks c.args.cycle.now.phase (cursor_at old.shape c.args.cycle.now.sweep) (rw c.in-Ok.ensures.same c.requires.ready.tied.marks)))
           (omega (arith, c.requires.ready.tied.made, ap length nodes, length-paired old.nodes slot c.args.f key value));
     }

@@ -38,8 +38,8 @@ returns-then-refuses-clause-step d c =
 
 -- the collection in its parts
 collects : (d : given.Over) (c : goal.After-line_of d) → Collects c.args.want c.args.objects.now c.end_sweep.new.objects c.pause-result.new.self c.args.handles.now c.pause-result.new.handles
-    (record { phase = c.self.inside.phase; registered = c.self.inside.registry.entries; ran = c.self.inside.registry.ran; rest = c.self.inside.rest.value }) c.end_sweep.new.self
-    (record { phase = Sweeping; registered = c.pause-result.new.registry.entries; ran = c.pause-result.new.registry.ran; rest = c.collected.result.value }) c.end_sweep.new.finalised.items
+    (record { phase = c.self.inside.phase; sweep = c.self.inside.sweep; registered = c.self.inside.registry.entries; ran = c.self.inside.registry.ran; rest = c.self.inside.rest.value }) c.end_sweep.new.self
+    (record { phase = Sweeping; sweep = c.begin.new.self; registered = c.pause-result.new.registry.entries; ran = c.pause-result.new.registry.ran; rest = c.collected.result.value }) c.end_sweep.new.finalised.items
 collects d c = record {
   before_rests = c.self.invariant;
   rests = subst (λ (k : CycleView). IsAtRest k.phase k.rest) c.self-2.view_is c.self-2.invariant;
@@ -56,6 +56,7 @@ collects d c = record {
   handles_left = c.pause-result.ensures.handles;
   judged_marks = c.pause-result.ensures.judged;
   phase = refl;
+  sweep = c.begin.ensures ∙ ap (λ (k : CycleView). record k.sweep { cursor = 0 }) c.self-2.view_is;
   rest = c.collected.ensures;
   ordinal = c.end_sweep.ensures.ordinal;
 }

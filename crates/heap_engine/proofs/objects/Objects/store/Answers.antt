@@ -57,5 +57,5 @@ invariant_of-self c =
     }
 
 pub returns-clause-marks : goal.returns-clause-marks
-returns-clause-marks c = rw (← c.self.view_is) (λ phase marks.
-    subst (HasMarks phase) (sym c.write_field.ensures) (marks_stored phase c.self.inside.seat (c.args.field.holder + c.args.field.word) c.args.content.now.word marks))
+returns-clause-marks c = rw (← c.self.view_is) (λ phase limit marks.
+    subst (HasMarks phase limit) (sym c.write_field.ensures) (marks_stored phase limit c.self.inside.seat (c.args.field.holder + c.args.field.word) c.args.content.now.word marks))

@@ -83,7 +83,7 @@ invariant_of-self c =
     }
 
 pub returns-clause-marks : goal.returns-clause-marks
-returns-clause-marks c = rw (← c.self.view_is) (λ phase marks.
-    subst (HasMarks phase) (sym c.set_pair.ensures.addresses)
-    (marks_stored phase (stored c.self.inside.seat (c.args.field.holder + (c.args.field.word + 1)) c.args.pair.now.value.word) (c.args.field.holder + c.args.field.word) c.args.pair.now.key.word
-    (marks_stored phase c.self.inside.seat (c.args.field.holder + (c.args.field.word + 1)) c.args.pair.now.value.word marks)))
+returns-clause-marks c = rw (← c.self.view_is) (λ phase limit marks.
+    subst (HasMarks phase limit) (sym c.set_pair.ensures.addresses)
+    (marks_stored phase limit (stored c.self.inside.seat (c.args.field.holder + (c.args.field.word + 1)) c.args.pair.now.value.word) (c.args.field.holder + c.args.field.word) c.args.pair.now.key.word
+    (marks_stored phase limit c.self.inside.seat (c.args.field.holder + (c.args.field.word + 1)) c.args.pair.now.value.word marks)))

@@ -1,0 +1,25 @@
+use Rattle.std.proofs.Common.{◌≡◌, ℕ, ◌+◌, ◌*◌, refl, sym, ap, ◌∙◌, subst}
+use Rattle.gc_graph.specs.declared.phase.Phase.TheVariants.{Idle}
+use Rattle.gc_graph.specs.State.{State}
+use Rattle.sweeper.specs.Sweeping.{SweepView, cursor_at}
+use Rattle.heap_engine.specs.Changes.{swept_to, SweepsParts}
+use Rattle.heap_engine.specs.Parts.{ObjectsView, CycleView}
+use Rattle.heap_engine.proofs.SweptObjects.{over_at, parts_swept}
+use Rattle.heap_engine.proofs.cycle.Cycle.finish.Goals as goal
+
+pub returns-clause-swept : goal.returns-clause-swept
+returns-clause-swept c =
+    let o : ObjectsView = c.args.objects.now in
+    let new : ObjectsView = c.finish_sweep-count.new.self in
+    let before : CycleView = record { phase = c.self.inside.phase; sweep = c.self.inside.sweep; registered = c.self.inside.registry.entries; ran = c.self.inside.registry.ran; rest = c.self.inside.rest.value } in
+    let after : CycleView = record { phase = Idle; sweep = c.finish_sweep-count.new.sweep; registered = c.self.inside.registry.entries; ran = c.self.inside.registry.ran; rest = c.swept.result.value } in
+    let pages : c.self.inside.sweep.pages ≡ o.shape.pages = rw (← c.self.view_is) at c.requires.pages in
+    let sweep : c.finish_sweep-count.new.sweep ≡ record c.self.inside.sweep { cursor = o.shape.pages } =
+    c.finish_sweep-count.ensures.cursor ∙ ap (λ n. record c.self.inside.sweep { cursor = n }) pages in
+    let cursor : c.cursor.result ≡ o.shape.pages = c.cursor.ensures.cursor ∙ ap (λ (w : SweepView). w.cursor) sweep in
+    let is : SweepsParts o new before after o.shape.pages c.args.finalised.now.items c.finish_sweep-count.new.finalised.items =
+    parts_swept o new before after o.shape.pages c.finish_sweep-count.result (cursor_at o.shape c.finish_sweep-count.new.sweep) c.args.finalised.now.items
+    c.finish_sweep-count.new.finalised.items c.finish_sweep-count.ensures.setup c.finish_sweep-count.ensures.nodes (ap (cursor_at o.shape) sweep) c.finish_sweep-count.ensures.count
+    (over_at o.shape o.shape.pages refl) sweep refl refl (c.swept.ensures ∙ ap (λ n. swept_to n c.finish_sweep-count.result c.self.inside.rest.value) cursor)
+    c.finish_sweep-count.ensures.quiet in
+    rw (← c.self.view_is) is
