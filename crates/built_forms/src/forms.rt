@@ -29,6 +29,7 @@ pub fn is_built(command: &Command) -> bool
         | Command::Pop
         | Command::Peek { .. }
         | Command::GcNow { .. }
+        | Command::Sweep { .. }
         | Command::SweepAll
         | Command::Stat => true,
         _ => false,

@@ -1,27 +1,27 @@
 -- The words hold the nodes after each change: a node made, a field written, a sweep, a pause.
-use Rattle.std.proofs.Common.{◌≡◌, ℕ, ◌+◌, ◌-◌, ◌<◌, true, false, not, List, [], ◌∷◌, ◌++◌, length, map, filter, replicate, refl, sym, ap, ◌∙◌, subst, inl, inr, arith}
-use Rattle.std.specs.List.{All}
+use Rattle.std.proofs.Common.{◌≡◌, ℕ, ◌+◌, ◌-◌, ◌<◌, true, false, not, List, [], ◌∷◌, ◌++◌, length, map, replicate, refl, sym, ap, ◌∙◌, subst, inl, inr, arith}
+use Rattle.std.specs.List.{All, Contains}
 use Rattle.std.proofs.lemmas.Bool.{cases_lt}
 use Rattle.std.proofs.lemmas.List.{length_push, length-map, length-replicate, get_or_append_left, get_or_push}
-use Rattle.std.proofs.lemmas.List.Elements.{All-weaker}
+use Rattle.std.proofs.lemmas.List.Elements.{All-weaker, Contains-push_cases}
 use Rattle.gc_graph.specs.declared.phase.Phase.{Phase}
 use Rattle.gc_graph.specs.declared.phase.Phase.TheVariants.{Idle, Marking, Sweeping}
 use Rattle.gc_graph.specs.declared.kind.Value.{Value}
 use Rattle.gc_graph.specs.declared.kind.Value.TheVariants.{Null, Ref, Word}
 use Rattle.gc_graph.specs.State.{Setup, Node, type_at, node_at, no_node, is_there, is_dead, size_of, IsDead}
 use Rattle.gc_graph.specs.Fields.{field_words, new_node, size_of_type}
-use Rattle.gc_graph.specs.Pause.{judged}
 use Rattle.page_words.specs.Bodies.{Body, with_word}
-use Rattle.page_words.specs.Seat.{SeatView, IsView, IsQuiet, holds, stored}
+use Rattle.page_words.specs.Seat.{SeatView, IsView, holds, stored}
+use Rattle.gc_graph.specs.Placement.{extents_of}
 use Rattle.page_space.specs.Occupying.{Occupies, new_body}
-use Rattle.node_bodies.specs.Nodes.{place_of, word_of, body_of, bodies_of, IsThere, IsHeld, bury}
+use Rattle.page_space.specs.Space.{extents_of_bodies}
+use Rattle.node_bodies.specs.Nodes.{place_of, word_of, body_of, bodies_of, IsThere, IsHeld}
 use Rattle.heap_engine.specs.Parts.{HasMarks}
 use Rattle.node_bodies.specs.TypedNodes.{AreKnown, NamesBelow, new_words}
-use Rattle.node_bodies.specs.NodeBodies.{bodies-push}
-use Rattle.node_bodies.specs.NodeChanges.{AgreeOn, AgreeIn, bodies-places, bodies-same, bodies-finalise}
+use Rattle.node_bodies.specs.NodeBodies.{bodies-push, extents-bodies}
+use Rattle.node_bodies.specs.NodeChanges.{AgreeOn, AgreeIn, bodies-places, bodies-same}
 use Rattle.node_bodies.specs.NodePlaces.{there_below}
 use Rattle.node_bodies.specs.Lists.{Contains-map_some}
-use Rattle.node_bodies.specs.NodeLives.{life-finalise, place-finalise, not_dead_buried, live_if_there}
 use Rattle.heap_engine.proofs.StackWords.{StaysAt}
 use Rattle.heap_engine.proofs.FieldNodes.{with_field, place-field, life-field}
 use Rattle.heap_engine.proofs.FieldBodies.{place-word, bodies_stored}
@@ -62,9 +62,9 @@ body_is_new setup f k t extra place =
     ap (λ n. (let b : Body = record { place = place; ty = t; size = n; serial = k; fields = map (word_of f) x.object.values } in b)) size
     ∙ ap (λ ws. (let b : Body = record { place = place; ty = t; size = 2 + count; serial = k; fields = ws } in b)) (words ∙ ap (λ n. replicate n 0) rest)
 
-pub held_made : (setup : Setup) (nodes : List Node) (v new : SeatView) (t extra place : ℕ) → AreKnown setup nodes → IsQuiet v → IsHeld nodes v
+pub held_made : (setup : Setup) (nodes : List Node) (v new : SeatView) (t extra place : ℕ) → AreKnown setup nodes → holds v.dead place ≡ false → IsHeld nodes v
     → Occupies v new (new_body place t (size_of_type setup t extra) (length nodes)) → IsHeld (nodes ++ new_node setup t extra place ∷ []) new
-held_made setup nodes v new t extra place known quiet held occupies =
+held_made setup nodes v new t extra place known alive held occupies =
     let x : Node = new_node setup t extra place in
     let after : List Node = nodes ++ x ∷ [] in
     let number : 0 + length nodes ≡ length nodes = omega arith in
@@ -78,16 +78,47 @@ held_made setup nodes v new t extra place known quiet held occupies =
     ∙ ap (λ b. bodies_of nodes ++ b ∷ []) (ap (λ k. body_of (place_of after) k x) number ∙ body_is_new setup (place_of after) (length nodes) t extra place) in
     record {
       bodies = occupies.bodies ∙ ap (λ bs. bs ++ new_body place t (size_of_type setup t extra) (length nodes) ∷ []) held.bodies ∙ sym bodies;
-      dead = λ n there.
-          let none : holds new.dead (place_of after n) ≡ false = ap (λ l. holds l (place_of after n)) (occupies.dead ∙ quiet.dead) in
-          let alive : is_dead (node_at after n).life ≡ false = elim (cases_lt n (length nodes)) [
-            | inl low ↦ (let same : (node_at after n).life ≡ (node_at nodes n).life = ap (λ (y : Node). y.life) (node-old nodes x n low) in
-                ap is_dead (same ∙ live_if_there (node_at nodes n).life (sym (ap is_there same) ∙ there) (none_dead nodes v held quiet.dead n)))
-            | inr high ↦ (let last : n ≡ length nodes = omega (arith, there_below after n there, length_push nodes x) in
-                ap (λ k. is_dead (node_at after k).life) last ∙ ap (λ (y : Node). is_dead y.life) (node-new nodes x))
-          ] in
-          none ∙ sym alive;
+      dead = λ n there. elim (cases_lt n (length nodes)) [
+        | inl low ↦
+            (let same : (node_at after n).life ≡ (node_at nodes n).life = ap (λ (y : Node). y.life) (node-old nodes x n low) in
+            ap (λ l. holds l (place_of after n)) occupies.dead ∙ ap (holds v.dead) (place-old nodes x n low) ∙ held.dead n (sym (ap is_there same) ∙ there) ∙ sym (ap is_dead same))
+        | inr high ↦
+            (let last : n ≡ length nodes = omega (arith, there_below after n there, length_push nodes x, high) in
+            let here : place_of after n ≡ place = ap (place_of after) last ∙ ap (λ (y : Node). y.place) (node-new nodes x) in
+            ap (λ l. holds l (place_of after n)) occupies.dead ∙ ap (holds v.dead) here ∙ alive
+            ∙ sym (ap (λ k. is_dead (node_at after k).life) last ∙ ap (λ (y : Node). is_dead y.life) (node-new nodes x)))
+      ];
     }
+
+-- marks are as before, where the place lies below the address up to which all is swept
+pub marks_made : (phase : Phase) (limit : ℕ) (v new : SeatView) (b : Body) → Occupies v new b → b.place < limit → HasMarks phase limit v → HasMarks phase limit new
+marks_made Idle limit v new b is low quiet = record {
+  off = is.on ∙ quiet.off;
+  marked = is.marked ∙ quiet.marked;
+  traced = is.traced ∙ quiet.traced;
+  dead = is.dead ∙ quiet.dead;
+}
+marks_made Marking limit v new b is low quiet = record {
+  off = is.on ∙ quiet.off;
+  marked = is.marked ∙ quiet.marked;
+  traced = is.traced ∙ quiet.traced;
+  dead = is.dead ∙ quiet.dead;
+}
+marks_made Sweeping limit v new b is low swept = record {
+  clear = record {
+    marked = λ a below. ap (λ l. holds l a) is.marked ∙ swept.clear.marked a below;
+    traced = λ a below. ap (λ l. holds l a) is.traced ∙ swept.clear.traced a below;
+    dead = λ a below. ap (λ l. holds l a) is.dead ∙ swept.clear.dead a below;
+  };
+  judged = λ c there high. elim (Contains-push_cases v.bodies b c (subst (λ bs. Contains bs c) is.bodies there)) [
+    | inl old ↦ ap (λ l. holds l c.place) is.dead ∙ swept.judged c old high ∙ sym (ap (λ l. not (holds l c.place)) is.marked)
+    | inr this ↦ absurd (omega (arith, low, high, ap (λ (d : Body). d.place) this))
+  ];
+}
+
+-- the words that objects have are those of the nodes
+pub extents_held : (nodes : List Node) (v : SeatView) → IsHeld nodes v → extents_of_bodies v.bodies ≡ extents_of nodes
+extents_held nodes v held = ap extents_of_bodies held.bodies ∙ extents-bodies (place_of nodes) 0 nodes
 
 -- ---- a field
 

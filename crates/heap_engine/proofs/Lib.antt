@@ -19,6 +19,7 @@ pub mod NodesSwept
 pub mod SweptObjects
 pub mod SweepSteps
 pub mod PlacementSteps
+pub mod WayToPlace
 pub mod PausedSizes
 pub mod PauseKeeps
 pub mod CollectSteps

@@ -1,22 +1,22 @@
 -- The step of a new object.
-use Rattle.std.proofs.Common.{◌≡◌, ℕ, ◌+◌, ◌*◌, ◌<◌, ◌≤◌, List, [], ◌∷◌, ◌++◌, length, map, set, Bool, Option, Some, None, option_map, refl, sym, ap, ◌∙◌, subst, inr, arith}
+use Rattle.std.proofs.Common.{◌≡◌, ℕ, ◌+◌, ◌*◌, ◌<◌, ◌≤◌, false, List, [], ◌∷◌, ◌++◌, length, map, set, Bool, Option, Some, None, option_map, refl, sym, ap, ◌∙◌, subst, inr, arith}
 use Rattle.std.specs.List.{All}
 use Rattle.std.specs.Option.{ForSome}
 use Rattle.std.proofs.lemmas.List.{length_push, map-set, length-append, length-map}
 use Rattle.std.proofs.lemmas.List.Elements.{All-get_or, All-head, All-tail, All-append, All-map, All-weaker}
+use Rattle.gc_graph.specs.declared.line.Line.{Line}
 use Rattle.gc_graph.specs.declared.line.Line.TheVariants as L
 use Rattle.gc_graph.specs.declared.phase.Phase.{Phase}
-use Rattle.gc_graph.specs.declared.phase.Phase.TheVariants.{Idle}
+use Rattle.gc_graph.specs.declared.phase.Phase.TheVariants.{Idle, Marking, Sweeping}
 use Rattle.gc_graph.specs.State.{Setup, State, ObjectType, Node, Registration, type_at, no_type, IsLive, stack_targets}
-use Rattle.gc_graph.specs.Placement.{IsPlaceFor, IsPlacement, extents_of}
-use Rattle.gc_graph.specs.Sweep.{pages_swept_in, SweepsInPhase}
+use Rattle.gc_graph.specs.Placement.{IsPlacement}
 use Rattle.gc_graph.specs.Fields.{new_node, size_of_type}
 use Rattle.gc_graph.specs.May.{may_with_new}
-use Rattle.gc_graph.specs.Outcomes.{answered, with_slot}
+use Rattle.gc_graph.specs.CycleSteps.{is_marking}
+use Rattle.gc_graph.specs.Outcomes.{answered, finalise_lines, with_slot}
 use Rattle.gc_graph.specs.ObjectSteps.{StepNew, with_new, registrations_for}
 use Rattle.callback_table.specs.declared.registry.Registered.{Registered}
 use Rattle.callback_table.specs.Registry.{registrations_of, registered}
-use Rattle.page_words.specs.Seat.{IsQuiet}
 use Rattle.sweeper.specs.Sweeping.{cursor_at}
 use Rattle.node_bodies.specs.Nodes.{place_of}
 use Rattle.node_bodies.specs.Places.{places_of}
@@ -30,66 +30,78 @@ use Rattle.heap_engine.proofs.HeldNodes.{place-old, stays-old, node-new}
 use Rattle.node_bodies.specs.NodePlaces.{there_below, live_is_there}
 use Rattle.heap_engine.proofs.StackWords.{StaysAt, words_held}
 
--- while the heap is idle, all its pages are swept, and placement sweeps none
-placed : (setup : Setup) (s : State) (t extra : ℕ) (place : Option ℕ) → s.phase ≡ Idle
-    → IsPlaceFor setup.shape setup.shape.pages (extents_of s.nodes) (size_of_type setup t extra) place → IsPlacement setup.shape s (size_of_type setup t extra) [] s place
-placed setup s t extra place idle found =
-    let all : pages_swept_in s.phase setup.shape.pages s.cursor ≡ setup.shape.pages = ap (λ ph. pages_swept_in ph setup.shape.pages s.cursor) idle in
-    record {
-      pages = setup.shape.pages;
-      forward = omega (arith, all);
-      within = omega arith;
-      swept = subst (λ (ph : Phase). SweepsInPhase ph setup.shape s setup.shape.pages [] s) (sym idle) (refl, refl);
-      no_sooner = λ fewer before mid least less goes. absurd (omega (arith, all, least, less));
-      placed = found;
-    }
+-- while no marking goes on, nothing is told of what may be kept
+same_may : (phase : Phase) (may : List Bool) → is_marking phase ≡ false → may_with_new phase may ≡ may
+same_may Idle may calm = refl
+same_may Marking may calm = cc
+same_may Sweeping may calm = refl
 
 -- the new node joins the others, and its prefinalizers those that are registered
-joins : (setup : Setup) (s : State) (p t extra place : ℕ) (rs : List Registration) → s.phase ≡ Idle → rs ≡ s.registrations ++ registrations_for setup t (length s.nodes)
+joins : (setup : Setup) (s : State) (p t extra place : ℕ) (rs : List Registration) → is_marking s.phase ≡ false → rs ≡ s.registrations ++ registrations_for setup t (length s.nodes)
     → answered (with_slot (record s { nodes = s.nodes ++ new_node setup t extra place ∷ []; registrations = rs }) p (Some (length s.nodes)))
     ≡ answered (with_slot (with_new setup s t extra place) p (Some (length s.nodes)))
-joins setup s p t extra place rs idle registered =
+joins setup s p t extra place rs calm registered =
     let build : List Registration → List Bool → State = λ registrations may.
     answered (with_slot (record s { nodes = s.nodes ++ new_node setup t extra place ∷ []; registrations = registrations; may = may }) p (Some (length s.nodes))) in
-    ap (λ r. build r s.may) registered ∙ ap (build (s.registrations ++ registrations_for setup t (length s.nodes))) (sym (ap (λ ph. may_with_new ph s.may) idle))
+    ap (λ r. build r s.may) registered ∙ ap (build (s.registrations ++ registrations_for setup t (length s.nodes))) (sym (same_may s.phase s.may calm))
 
-pub step_made : (o new : ObjectsView) (h after : HandlesView) (c left : CycleView) (p t extra place number : ℕ) → c.phase ≡ Idle
-    → IsPlaceFor o.shape o.shape.pages (extents_of o.nodes) (size_of_type (setup_of_objects o) t extra) (Some place) → number ≡ length o.nodes
-    → new.nodes ≡ with_made (setup_of_objects o) o.nodes t extra (Some place) → left ≡ registered_in o c t place → after ≡ put_in h p (Some (place, number))
-    → StepNew (setup_of_objects o) (state_of o h c) p t extra (L.Placed number place ∷ []) (answered (state_of new after left))
-step_made o new h after c left p t extra place number idle found counted nodes registers put =
-    let setup : Setup = setup_of_objects o in
-    let s : State = state_of o h c in
-    let entries : List Registered = (registered_in o c t place).registered in
-    inr (record {
-      numbers = [];
+-- from the old parts, through those after the pages that were swept on the way, to a new object at a place
+pub step_made : (o mid new : ObjectsView) (h after : HandlesView) (c between left : CycleView) (p t extra place number : ℕ) (numbers : List ℕ) (lines : List Line)
+    → setup_of_objects mid ≡ setup_of_objects o → is_marking between.phase ≡ false
+    → IsPlacement o.shape (state_of o h c) (size_of_type (setup_of_objects o) t extra) numbers (state_of mid h between) (Some place) → number ≡ length mid.nodes
+    → new.nodes ≡ with_made (setup_of_objects mid) mid.nodes t extra (Some place) → left ≡ registered_in mid between t place → after ≡ put_in h p (Some (place, number))
+    → lines ≡ finalise_lines numbers ++ L.Placed number place ∷ []
+    → StepNew (setup_of_objects o) (state_of o h c) p t extra lines (answered (state_of new after left))
+step_made o mid new h after c between left p t extra place number numbers lines same calm found counted nodes registers put told =
+    let setup : Setup = setup_of_objects mid in
+    let s : State = state_of mid h between in
+    let entries : List Registered = (registered_in mid between t place).registered in
+    let placed : IsPlacement setup.shape (state_of o h c) (size_of_type setup t extra) numbers s (Some place) =
+    subst (λ (st : Setup). IsPlacement st.shape (state_of o h c) (size_of_type st t extra) numbers s (Some place)) (sym same) found in
+    subst (λ (st : Setup). StepNew st (state_of o h c) p t extra lines (answered (state_of new after left))) same (inr (record {
+      numbers = numbers;
       mid = s;
       place = Some place;
-      placed = placed setup s t extra (Some place) idle found;
+      placed = placed;
       done = record {
-        lines_are = ap (λ k. L.Placed k place ∷ []) counted;
+        lines_are = told ∙ ap (λ k. finalise_lines numbers ++ L.Placed k place ∷ []) counted;
         after = ap (λ (x : HandlesView). answered (state_of new x left)) put
             ∙ ap (λ (x : CycleView). answered (state_of new (put_in h p (Some (place, number))) x)) registers
             ∙ ap (λ (ns : List Node). answered (with_slot (record s { nodes = ns; registrations = registrations_of entries }) p (Some number))) nodes
-            ∙ ap (λ k. answered (with_slot (record s { nodes = o.nodes ++ new_node setup t extra place ∷ []; registrations = registrations_of entries }) p (Some k))) counted
-            ∙ joins setup s p t extra place (registrations_of entries) idle (registrations_join (length o.nodes) place c.registered (type_at setup t).prefinalizers);
+            ∙ ap (λ k. answered (with_slot (record s { nodes = mid.nodes ++ new_node setup t extra place ∷ []; registrations = registrations_of entries }) p (Some k))) counted
+            ∙ joins setup s p t extra place (registrations_of entries) calm (registrations_join (length mid.nodes) place between.registered (type_at setup t).prefinalizers);
       };
-    })
+    }))
 
-pub step_full : (o new : ObjectsView) (h : HandlesView) (c after : CycleView) (p t extra : ℕ) → c.phase ≡ Idle
-    → IsPlaceFor o.shape o.shape.pages (extents_of o.nodes) (size_of_type (setup_of_objects o) t extra) None → new.nodes ≡ o.nodes → after ≡ record c { rest = filled c.rest }
-    → StepNew (setup_of_objects o) (state_of o h c) p t extra (L.Full ∷ []) (answered (state_of new h after))
-step_full o new h c after p t extra idle found nodes counts = inr (record {
-  numbers = [];
-  mid = state_of o h c;
+-- or to a heap that is full
+pub step_full : (o mid : ObjectsView) (h : HandlesView) (c between left : CycleView) (p t extra : ℕ) (numbers : List ℕ) (lines : List Line)
+    → IsPlacement o.shape (state_of o h c) (size_of_type (setup_of_objects o) t extra) numbers (state_of mid h between) None → left ≡ record between { rest = filled between.rest }
+    → lines ≡ finalise_lines numbers ++ L.Full ∷ [] → StepNew (setup_of_objects o) (state_of o h c) p t extra lines (answered (state_of mid h left))
+step_full o mid h c between left p t extra numbers lines found counts told = inr (record {
+  numbers = numbers;
+  mid = state_of mid h between;
   place = None;
-  placed = placed (setup_of_objects o) (state_of o h c) t extra None idle found;
+  placed = found;
   done = record {
-    lines_are = refl;
-    after = ap (λ (x : CycleView). answered (state_of new h x)) counts
-        ∙ ap (λ (ns : List Node). answered (record (state_of o h (record c { rest = filled c.rest })) { nodes = ns })) nodes;
+    lines_are = told;
+    after = ap (λ (x : CycleView). answered (state_of mid h x)) counts;
   };
 })
+
+-- the parts still belong together then
+pub tied_full : (o : ObjectsView) (h : HandlesView) (c left : CycleView) → left ≡ record c { rest = filled c.rest } → AreTied o h c → AreTied o h (counted left)
+tied_full o h c left counts tied =
+    let is : AreTied o h (counted (record c { rest = filled c.rest })) = record {
+      slots = tied.slots;
+      weak = tied.weak;
+      stack = tied.stack;
+      registered = tied.registered;
+      few = omega (arith, tied.few);
+      sweep = tied.sweep;
+      marks = tied.marks;
+      made = omega (arith, tied.made);
+    } in
+    subst (λ (k : CycleView). AreTied o h (counted k)) (sym counts) is
 
 places_on : (nodes : List Node) (x : Node) (slots : List (Option ℕ)) → All (λ slot. ForSome slot (IsLive nodes)) slots → places_of (nodes ++ x ∷ []) slots ≡ places_of nodes slots
 places_on nodes x [] live = refl
@@ -126,10 +138,10 @@ few_made o c t place ordinal called low few =
     omega (arith, few, most, length-append c.registered (map (registered (length o.nodes) place) prefinalizers), length-map prefinalizers (registered (length o.nodes) place))
 
 -- the places of the slots, strong and weak, are as before, and slot p's is that of the new node
-pub tied_made : (o new : ObjectsView) (h after : HandlesView) (c left : CycleView) (p t place number : ℕ) (x : Node) → IsReady o h c → t < length o.types → c.phase ≡ Idle
-    → IsQuiet new.seat → setup_of_objects new ≡ setup_of_objects o → number ≡ length o.nodes → x.place ≡ place → new.nodes ≡ o.nodes ++ x ∷ []
+pub tied_made : (o new : ObjectsView) (h after : HandlesView) (c left : CycleView) (p t place number : ℕ) (x : Node) → IsReady o h c → t < length o.types
+    → HasMarks c.phase (cursor_at o.shape c.sweep) new.seat → setup_of_objects new ≡ setup_of_objects o → number ≡ length o.nodes → x.place ≡ place → new.nodes ≡ o.nodes ++ x ∷ []
     → left ≡ registered_in o c t place → after ≡ put_in h p (Some (place, number)) → AreTied new after (counted left)
-tied_made o new h after c left p t place number x ready low idle quiet setup counts at nodes registers put =
+tied_made o new h after c left p t place number x ready low marks setup counts at nodes registers put =
     let now : List Node = o.nodes ++ x ∷ [] in
     let tied : AreTied o h c = ready.tied in
     let here : place_of now number ≡ place = ap (place_of now) counts ∙ ap (λ (y : Node). y.place) (node-new o.nodes x) ∙ at in
@@ -151,7 +163,7 @@ tied_made o new h after c left p t place number x ready low idle quiet setup cou
       registered = registered_made o new c t place x ready.called low tied.registered (live_entries o.nodes c.registered ready.valid.registered) at nodes callbacks;
       few = few_made o c t place c.rest.ordinal ready.called low tied.few;
       sweep = subst (λ (st : Setup). IsSweepOf st.shape c.phase c.rest.cursor c.sweep) (sym setup) tied.sweep;
-      marks = subst (λ ph. HasMarks ph (cursor_at new.shape c.sweep) new.seat) (sym idle) quiet;
+      marks = subst (λ (st : Setup). HasMarks c.phase (cursor_at st.shape c.sweep) new.seat) (sym setup) marks;
       made = omega (arith, tied.made, ap length nodes, length_push o.nodes x);
     } in
     subst (λ (k : CycleView). AreTied new after (counted k)) (sym registers) is

@@ -139,8 +139,8 @@ held_below nodes v w from limit before after held clear sweeps =
     record {
       bodies = ap (λ (s : SeatView). s.bodies) sweeps.view ∙ ap (filter (λ (b : Body). not (is_dead_in from limit v b))) held.bodies
           ∙ sym (bodies-below (place_of nodes) 0 limit nodes gone (λ n there.
-              dead_between from limit (place_of nodes n) (holds v.dead (place_of nodes n)) (clear.dead (place_of nodes n))
-              ∙ ap (λ d. ltb (place_of nodes n) limit && d) (held.dead n there)))
+          dead_between from limit (place_of nodes n) (holds v.dead (place_of nodes n)) (clear.dead (place_of nodes n))
+          ∙ ap (λ d. ltb (place_of nodes n) limit && d) (held.dead n there)))
           ∙ bodies-same (place_of nodes) (place_of new) new (λ n. sym (place-finalised limit nodes n));
       dead = λ n there.
           let place : ℕ = place_of nodes n in

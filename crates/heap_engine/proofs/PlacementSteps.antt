@@ -12,16 +12,8 @@ use Rattle.gc_graph.specs.Sweep.{buried, finalise, phase_at, pages_swept_in, swe
 use Rattle.gc_graph.specs.SweepLaw.{SweepsJoin, SweepIsOne}
 use Rattle.gc_graph.specs.Valid.{IsSettled}
 use Rattle.page_space.specs.Space.{FitsBetween}
+use Rattle.heap_engine.specs.Finalising.{IsSearched}
 use Rattle.node_bodies.specs.Lists.{Contains-cons, Contains-cons_cases}
-
--- page after page was swept, up to so many, and in none of the states on the way does the object fit in the pages that are swept then
-pub record IsSearched (shape : Shape) (old : State) (size pages : ℕ) (numbers : List ℕ) (mid : State) : Type 0 where
-  pub forward : swept_pages shape old ≤ pages
-  pub within : pages ≤ shape.pages
-  pub swept : SweepsTo shape old pages numbers mid
-  pub nowhere :
-      (fewer : ℕ) (before : List ℕ) (s : State) → swept_pages shape old ≤ fewer → fewer ≤ pages → SweepsTo shape old fewer before s
-      → IsNowhere (Fits shape fewer (extents_of s.nodes) size)
 
 from_all : (shape : Shape) (pages : ℕ) (es : List Extent) (size a : ℕ) → FitsBetween shape 0 pages es size a → Fits shape pages es size a
 from_all shape pages es size a fits = (fits.0, (fits.1.0, fits.1.2, fits.1.3))

@@ -5,11 +5,12 @@ use Rattle.std.proofs.lemmas.List.Filters.{length-filter_both}
 use Rattle.std.proofs.lemmas.List.Elements.{All-head, All-tail, All-nil, All-cons}
 use Rattle.std.proofs.Math.Seq.{take-append_seam, drop-append_seam}
 use Rattle.gc_graph.specs.declared.line.Line.TheVariants as L
-use Rattle.gc_graph.specs.State.{Node, Registration, IsLive}
+use Rattle.gc_graph.specs.State.{Setup, Node, Registration, IsLive, type_at}
 use Rattle.gc_graph.specs.Pause.{dies, run_order, prefinalise_lines}
 use Rattle.callback_table.specs.declared.registry.Registered.{Registered}
 use Rattle.callback_table.specs.Registry.{registration_of, registrations_of, registered, placed_at, pair_of, pairs_run, entries_left}
-use Rattle.heap_engine.specs.Changes.{placed_last}
+use Rattle.heap_engine.specs.Changes.{placed_last, registered_in, unregistered}
+use Rattle.heap_engine.specs.Parts.{ObjectsView, CycleView, setup_of_objects}
 use Rattle.heap_engine.specs.Printed.{ran_lines}
 
 -- ---- a new object's
@@ -92,3 +93,32 @@ counts_run xs entries =
     length-map (run_order xs (registrations_of entries)) pair_of ∙ length-reverse (filter (dies xs) (registrations_of entries))
     ∙ sym (ap length (left_by (dies xs) entries)) ∙ length-map (filter dies_of entries) registration_of in
     omega (arith, ran, length-filter_both (λ e. not (dies_of e)) dies_of (λ e. twice (dies_of e)) entries)
+
+-- ---- while the new object has no place yet
+
+-- without the registrations of the new object, the cycle is as it was
+pub left_out_before : (o : ObjectsView) (old now : CycleView) (t count : ℕ) → now ≡ registered_in o old t 0 → count ≡ length (type_at (setup_of_objects o) t).prefinalizers
+    → unregistered count now ≡ old
+left_out_before o old now t count registers counted =
+    let numbers : List ℕ = (type_at (setup_of_objects o) t).prefinalizers in
+    let joined : List Registered = (registered_in o old t 0).registered in
+    ap (unregistered count) registers ∙ ap (λ n. record old { registered = take (length joined - n) joined }) counted
+    ∙ ap (λ (es : List Registered). record old { registered = es }) (taken_away (length o.nodes) old.registered numbers)
+
+-- once it has its place, they are registered with it
+pub joined_after : (o mid : ObjectsView) (old now between : CycleView) (t place count : ℕ) → now ≡ registered_in o old t 0
+    → count ≡ length (type_at (setup_of_objects o) t).prefinalizers → between.registered ≡ now.registered → setup_of_objects mid ≡ setup_of_objects o → length mid.nodes ≡ length o.nodes
+    → record between { registered = placed_last count place between.registered } ≡ registered_in mid (unregistered count between) t place
+joined_after o mid old now between t place count registers counted same setup made =
+    let numbers : List ℕ = (type_at (setup_of_objects o) t).prefinalizers in
+    let joined : List Registered = (registered_in o old t 0).registered in
+    let all : between.registered ≡ joined = same ∙ ap (λ (k : CycleView). k.registered) registers in
+    let placed : placed_last count place between.registered ≡ old.registered ++ map (registered (length o.nodes) place) numbers =
+    ap (placed_last count place) all ∙ ap (λ n. placed_last n place joined) counted ∙ placed_is (length o.nodes) place old.registered numbers in
+    let kept : take (length between.registered - count) between.registered ≡ old.registered =
+    ap (λ (es : List Registered). take (length es - count) es) all ∙ ap (λ n. take (length joined - n) joined) counted ∙ taken_away (length o.nodes) old.registered numbers in
+    let after : (registered_in mid (unregistered count between) t place).registered ≡ old.registered ++ map (registered (length o.nodes) place) numbers =
+    ap (λ es. es ++ map (registered (length mid.nodes) place) (type_at (setup_of_objects mid) t).prefinalizers) kept
+    ∙ ap (λ n. old.registered ++ map (registered n place) (type_at (setup_of_objects mid) t).prefinalizers) made
+    ∙ ap (λ (st : Setup). old.registered ++ map (registered (length o.nodes) place) (type_at st t).prefinalizers) setup in
+    ap (λ (es : List Registered). record between { registered = es }) (placed ∙ sym after)

@@ -1,5 +1,5 @@
 -- An open sweep that goes on is a step of the graph, and leaves the parts ready.
-use Rattle.std.proofs.Common.{◌≡◌, ℕ, ◌+◌, ◌-◌, ◌*◌, ◌^◌, ◌<◌, ◌≤◌, false, List, [], ◌∷◌, ◌++◌, length, map, refl, sym, ap, ◌∙◌, subst, inl, inr, arith, cond, eqb}
+use Rattle.std.proofs.Common.{◌≡◌, ℕ, ◌+◌, ◌-◌, ◌*◌, ◌<◌, ◌≤◌, false, List, [], ◌∷◌, ◌++◌, length, map, refl, sym, ap, ◌∙◌, subst, inl, inr, arith, cond, eqb}
 use Rattle.std.specs.Prelude.{MatchBool, min}
 use Rattle.std.proofs.lemmas.Bool.{cases_Bool, eqb-true}
 use Rattle.std.proofs.lemmas.List.{length-map}
@@ -24,7 +24,7 @@ use Rattle.sweeper.specs.Sweeping.{SweepView, cursor_at}
 use Rattle.heap_engine.specs.Changes.{SweepsParts}
 use Rattle.heap_engine.specs.Finalising.{IsSweptTo, SweepsOn}
 use Rattle.heap_engine.specs.Objects.{HaveCallbacks}
-use Rattle.heap_engine.specs.Parts.{ObjectsView, HandlesView, CycleView, setup_of_objects, state_of, HasMarks, IsSweepOf, AreTied, IsReady}
+use Rattle.heap_engine.specs.Parts.{ObjectsView, HandlesView, CycleView, setup_of_objects, state_of, HasMarks, IsSweepOf, IsReady}
 use Rattle.heap_engine.proofs.NodesSwept.{place-finalised, size-finalised}
 use Rattle.heap_engine.proofs.PlacementSteps.{sweeps_nothing}
 use Rattle.heap_engine.proofs.StackWords.{StaysAt}

@@ -1,9 +1,8 @@
 -- The objects after a sweep up to an address, and what the cycle then knows of its parts.
-use Rattle.std.proofs.Common.{◌≡◌, ℕ, ◌+◌, ◌*◌, false, List, ◌++◌, length, map, refl, sym, ap, ◌∙◌, subst, inl, inr, arith, cond, eqb}
+use Rattle.std.proofs.Common.{◌≡◌, ℕ, ◌+◌, ◌*◌, false, List, length, map, sym, ap, ◌∙◌, subst, inl, inr, arith, cond, eqb}
 use Rattle.std.proofs.lemmas.Bool.{cases_Bool, eqb-true, eq-eqb}
 use Rattle.std.proofs.lemmas.List.{length-map, length-append}
 use Rattle.gc_graph.specs.declared.action.ActionKind.{ActionKind}
-use Rattle.gc_graph.specs.declared.phase.Phase.{Phase}
 use Rattle.gc_graph.specs.declared.phase.Phase.TheVariants.{Idle, Sweeping}
 use Rattle.gc_graph.specs.State.{Shape, ObjectType, Node}
 use Rattle.gc_graph.specs.Sweep.{finalise, phase_at, AreDeadInOrder}

@@ -50,6 +50,10 @@ registered_in o c t place = record c {
   registered = c.registered ++ map (registered (length o.nodes) place) (type_at (setup_of_objects o) t).prefinalizers;
 }
 
+-- the last registrations, so many of them, are left out
+abbrev pub unregistered : ℕ → CycleView → CycleView
+unregistered count c = record c { registered = take (length c.registered - count) c.registered }
+
 -- one outcome more was full
 abbrev pub filled : State → State
 filled s = record s { full = s.full + 1 }

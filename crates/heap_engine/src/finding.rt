@@ -1,28 +1,86 @@
-// Where a new object goes.
+// Where a new object goes among the objects, and how it is made there.
 
-ghost use Rattle.std.specs.Prelude.{◌≡◌, ◌^◌, ◌<◌};
-ghost use Rattle.std.specs.Prelude.{◌≤◌, IfSome};
-ghost use Rattle.gc_graph.specs.Placement.{IsPlaceFor};
-ghost use Rattle.object_headers.specs.Offsets.{first_field};
-ghost use Rattle.page_space.specs.Space.{IsSpaceOf, IsFreePlace, extents_of_bodies};
+ghost use Rattle.std.specs.Prelude.{◌≡◌, ℕ, ◌^◌, ◌<◌, ◌≤◌, false, length, Some, IfSome, IfNone};
+ghost use Rattle.gc_graph.specs.declared.phase.Phase.{Phase};
+ghost use Rattle.gc_graph.specs.Fields.{size_of_type};
+ghost use Rattle.gc_graph.specs.Placement.{IsLowest, IsNowhere, StartsEmptyRun, extents_of};
+ghost use Rattle.page_words.specs.Seat.{holds};
+ghost use Rattle.page_space.specs.Space.{FitsBetween, IsFreePlace};
+ghost use Rattle.node_bodies.specs.Nodes.{AreOfValid};
+ghost use Rattle.heap_engine.specs.Objects.{with_made};
+ghost use Rattle.heap_engine.specs.Parts.{setup_of_objects, HasMarks};
 
-use page_space::Space;
-use page_words::MutatorSeat;
+use crate::nodes;
+use crate::objects::Objects;
 
-/// Where an object of the size goes: the lowest place in a page of its bucket, and else the first
-/// of the empty pages.
-pub fn find_place(space: &Space, seat: &mut MutatorSeat, size: u32) -> Option<u32>
-    requires space { IsSpaceOf space.now seat.old }
-    requires least { first_field ≤ size }
-    requires most { size < 2 ^ 26 }
-    ensures place { IsPlaceFor space.now.shape space.now.shape.pages
-        (extents_of_bodies seat.old.bodies) size result }
-    ensures free { IfSome result
-        (IsFreePlace space.now.shape (extents_of_bodies seat.old.bodies) size) }
-    ensures view { seat.new ≡ seat.old }
-{
-    match space.find(seat, size, 0, space.pages()) {
-        Some(a) => Some(a),
-        None => space.find_empty(seat, size),
+impl Objects {
+    /// How many words an object of the type with so many extra words has.
+    pub fn size_of(&self, t: u32, extra: u32) -> u32
+        requires ty { t < length self.now.types }
+        requires extra { extra ≤ 33554432 }
+        ensures size { result ≡ size_of_type (setup_of_objects self.now) t extra }
+        ensures least { 2 ≤ result }
+        ensures most { result < 2 ^ 26 }
+    {
+        self.types.size_of(t, extra)
+    }
+
+    /// The lowest place for an object of the size in a page of its bucket, from the one page up to,
+    /// and without, the other.
+    pub fn find(&mut self, size: u32, from: u32, to: u32) -> Option<u32>
+        requires some { 2 ≤ size }
+        requires to { to ≤ self.old.shape.pages }
+        ensures found { IfSome result (IsLowest
+            (FitsBetween self.old.shape from to (extents_of self.old.nodes) size)) }
+        ensures none { IfNone result (IsNowhere
+            (FitsBetween self.old.shape from to (extents_of self.old.nodes) size)) }
+        ensures place { IfSome result
+            (IsFreePlace self.old.shape (extents_of self.old.nodes) size) }
+        ensures same { self.new ≡ self.old }
+    {
+        match self.space.find(&mut self.seat, size, from, to) {
+            Some(place) => Some(place),
+            None => {
+                // The next search for the size needs no look at these pages.
+                self.space.pass_by(&mut self.seat, size, to);
+                None
+            }
+        }
+    }
+
+    /// The first word of the lowest run of pages without objects that is just enough for the size.
+    pub fn find_empty(&mut self, size: u32) -> Option<u32>
+        requires some { 2 ≤ size }
+        requires most { size < 2 ^ 26 }
+        ensures found { IfSome result
+            (IsLowest (StartsEmptyRun self.old.shape (extents_of self.old.nodes) size)) }
+        ensures none { IfNone result
+            (IsNowhere (StartsEmptyRun self.old.shape (extents_of self.old.nodes) size)) }
+        ensures place { IfSome result
+            (IsFreePlace self.old.shape (extents_of self.old.nodes) size) }
+        ensures same { self.new ≡ self.old }
+    {
+        self.space.find_empty(&mut self.seat, size)
+    }
+
+    /// Makes an object of a type with so many extra words at a free place.
+    pub fn make(&mut self, t: u32, extra: u32, place: u32)
+        requires ty { t < length self.old.types }
+        requires extra { extra ≤ 33554432 }
+        requires valid { AreOfValid (setup_of_objects self.old) self.old.nodes }
+        requires few { length self.old.nodes ≤ 1000000 }
+        requires place { IsFreePlace self.old.shape (extents_of self.old.nodes)
+            (size_of_type (setup_of_objects self.old) t extra) place }
+        requires alive { holds self.old.seat.dead place ≡ false }
+        ensures nodes { self.new.nodes
+            ≡ with_made (setup_of_objects self.old) self.old.nodes t extra (Some place) }
+        ensures marks { (phase : Phase) (limit : ℕ) → place < limit
+            → HasMarks phase limit self.old.seat → HasMarks phase limit self.new.seat }
+        ensures setup { setup_of_objects self.new ≡ setup_of_objects self.old }
+    {
+        let size = self.types.size_of(t, extra);
+        self.space.occupy(&mut self.seat, place, t, size, self.made);
+        self.made += 1;
+        self.nodes = nodes::made(&self.nodes, &self.space, &self.types, t, extra, place);
     }
 }

@@ -167,7 +167,7 @@ fn run(
     ensures history { outcome.new.history ≡ outcome.old.history }
 {
     match *command {
-        Command::New { p, t, e } => new_object(objects, handles, cycle, p, t, e),
+        Command::New { p, t, e } => new_object(objects, handles, cycle, outcome, p, t, e),
         Command::Set { p, f, q } => set(objects, handles, cycle, p, f, q),
         Command::SetNull { p, f } => set_null(objects, handles, cycle, p, f),
         Command::Get { p, f, q } => get(objects, handles, cycle, p, f, q),
@@ -178,6 +178,7 @@ fn run(
         Command::Weak { w, p } => weaken(objects, handles, cycle, w, p),
         Command::Read { w, p } => read(objects, handles, cycle, w, p),
         Command::GcNow { want } => cycle.collect(objects, handles, outcome, callbacks, want),
+        Command::Sweep { n } => cycle.sweep_some(objects, handles, outcome, n),
         Command::SweepAll => cycle.sweep_all(objects, handles, outcome),
         Command::Stat => stat(objects, handles, cycle),
         Command::Pair { p, f, k, v } => pair(objects, handles, cycle, p, f, k, v),
@@ -191,7 +192,6 @@ fn run(
         Command::GcStart
         | Command::GcStep { .. }
         | Command::GcFinish { .. }
-        | Command::Sweep { .. }
         | Command::Export { .. }
         | Command::Import { .. }
         | Command::At { .. }

@@ -43,6 +43,7 @@ mod objects;
 mod outcome;
 mod pair_fields;
 mod pairs;
+mod placing;
 mod slot_lists;
 mod slots;
 mod stack;

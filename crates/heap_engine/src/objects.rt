@@ -3,20 +3,15 @@
 ghost use Rattle.std.specs.Prelude.{◌≡◌, ℕ, ◌+◌, ◌*◌, ◌<◌};
 ghost use Rattle.std.specs.Prelude.{◌≤◌, [], length, IfOk};
 ghost use Rattle.gc_graph.specs.State.{type_at, node_at, size_of, objects_of, used_of};
-ghost use Rattle.gc_graph.specs.Fields.{size_of_type};
-ghost use Rattle.gc_graph.specs.Placement.{IsPlaceFor, IsUsedPages, extents_of};
-ghost use Rattle.page_words.specs.Seat.{IsQuiet, empty_view};
+ghost use Rattle.gc_graph.specs.Placement.{IsUsedPages, extents_of};
+ghost use Rattle.page_words.specs.Seat.{empty_view};
 ghost use Rattle.gc_graph.specs.Shapes.{IsShape};
 ghost use Rattle.page_space.specs.Pages.{word_count};
 ghost use Rattle.callback_table.specs.Table.{kinds_of};
 ghost use Rattle.heap_engine.specs.Objects.{HaveCallbacks, IsLiveAt};
-ghost use Rattle.node_bodies.specs.Nodes.{AreOfValid};
-ghost use Rattle.heap_engine.specs.Objects.{with_made};
 ghost use Rattle.heap_engine.specs.Parts.{setup_of_objects};
 
-use crate::finding::find_place;
 use crate::kinds::{self, Kinds};
-use crate::nodes;
 use callback_table::CallbackTable;
 use gc_graph::NoMemory;
 use ghost_values::GhostValue;
@@ -36,7 +31,7 @@ pub struct Objects {
     /// The kinds of the callbacks.
     pub(crate) kinds: GhostValue<Kinds>,
     /// How many numbers were given out.
-    made: u32,
+    pub(crate) made: u32,
     pub(crate) nodes: GhostValue<NodeLists>,
 }
 
@@ -165,36 +160,5 @@ impl Objects {
         ensures same { self.new ≡ self.old }
     {
         self.space.header_at(&mut self.seat, place).size
-    }
-
-    /// Makes an object of a type with so many extra words, where there is a place for it.
-    pub fn make(&mut self, t: u32, extra: u32) -> Option<u32>
-        requires ty { t < length self.old.types }
-        requires extra { extra ≤ 33554432 }
-        requires valid { AreOfValid (setup_of_objects self.old) self.old.nodes }
-        requires quiet { IsQuiet self.old.seat }
-        requires few { length self.old.nodes ≤ 1000000 }
-        ensures place { IsPlaceFor self.old.shape self.old.shape.pages (extents_of self.old.nodes)
-            (size_of_type (setup_of_objects self.old) t extra) result }
-        ensures nodes { self.new.nodes
-            ≡ with_made (setup_of_objects self.old) self.old.nodes t extra result }
-        ensures quiet { IsQuiet self.new.seat }
-        ensures setup { setup_of_objects self.new ≡ setup_of_objects self.old }
-    {
-        let size = self.types.size_of(t, extra);
-        match find_place(&self.space, &mut self.seat, size) {
-            Some(place) => {
-                self.space.occupy(&mut self.seat, place, t, size, self.made);
-                self.made += 1;
-                self.nodes = nodes::made(&self.nodes, &self.space, &self.types, t, extra, place);
-                Some(place)
-            }
-            None => {
-                // The next search for the size needs no look at these pages.
-                let pages = self.space.pages();
-                self.space.pass_by(&mut self.seat, size, pages);
-                None
-            }
-        }
     }
 }

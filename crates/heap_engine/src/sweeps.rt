@@ -117,6 +117,13 @@ impl Cycle {
         }
     }
 
+    /// How many pages are swept: all of them where no sweep is open.
+    pub fn swept_pages(&self) -> u32
+        ensures { result ≡ self.now.sweep.cursor }
+    {
+        self.sweep.cursor()
+    }
+
     /// Sweeps the page at the cursor.
     pub fn sweep_page(&mut self, objects: &mut Objects, finalised: &mut Vec<u32>)
         requires phase { self.old.phase ≡ Sweeping }

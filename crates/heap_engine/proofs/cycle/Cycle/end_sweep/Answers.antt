@@ -1,4 +1,4 @@
-use Rattle.std.proofs.Common.{◌≡◌, ℕ, ◌+◌, ◌*◌, ◌<◌, ◌≤◌, List, ◌++◌, length, refl, sym, ap, ◌∙◌, subst, arith}
+use Rattle.std.proofs.Common.{◌≡◌, ℕ, ◌*◌, List, ◌++◌, length, sym, ap, ◌∙◌, subst, arith}
 use Rattle.gc_graph.specs.declared.phase.Phase.TheVariants.{Sweeping}
 use Rattle.gc_graph.specs.State.{objects_of}
 use Rattle.gc_graph.specs.Sweep.{SweepsTo}

@@ -1,4 +1,4 @@
-use Rattle.std.proofs.Common.{◌≡◌, ℕ, ◌+◌, ◌*◌, refl, sym, ap, ◌∙◌, subst}
+use Rattle.std.proofs.Common.{◌≡◌, ℕ, ◌+◌, refl, sym, ap, ◌∙◌, subst}
 use Rattle.gc_graph.specs.State.{Setup, Shape}
 use Rattle.gc_graph.specs.Sweep.{phase_at}
 use Rattle.sweeper.specs.Sweeping.{SweepView, cursor_at}

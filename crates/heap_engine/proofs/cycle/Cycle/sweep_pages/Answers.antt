@@ -1,4 +1,4 @@
-use Rattle.std.proofs.Common.{◌≡◌, ℕ, ◌+◌, ◌-◌, ◌*◌, ◌<◌, ◌≤◌, List, [], ◌++◌, length, refl, sym, ap, ◌∙◌, subst, arith}
+use Rattle.std.proofs.Common.{◌≡◌, ℕ, ◌+◌, ◌-◌, ◌<◌, ◌≤◌, [], length, refl, sym, ap, ◌∙◌, subst, arith}
 use Rattle.std.proofs.Math.Nat.{min-le_right}
 use Rattle.gc_graph.specs.declared.phase.Phase.TheVariants.{Sweeping}
 use Rattle.gc_graph.specs.Shapes.{IsShape}
@@ -6,7 +6,7 @@ use Rattle.gc_graph.specs.State.{Setup, State, Shape}
 use Rattle.gc_graph.specs.Sweep.{SweepsTo}
 use Rattle.sweeper.specs.Sweeping.{SweepView, cursor_at}
 use Rattle.heap_engine.specs.Finalising.{SweepsOn, AreFewTold}
-use Rattle.heap_engine.specs.Parts.{ObjectsView, HandlesView, CycleView, setup_of_objects, state_of}
+use Rattle.heap_engine.specs.Parts.{ObjectsView, HandlesView, CycleView, state_of}
 use Rattle.heap_engine.proofs.SweepSteps.{parts_sweep, parts_ready, still_open, sweep_joined, nothing_swept}
 use Rattle.heap_engine.proofs.cycle.Cycle.sweep_pages.Goals as goal
 

@@ -1,4 +1,4 @@
-use Rattle.std.proofs.Common.{◌≡◌, ℕ, ◌+◌, ◌*◌, ◌≤◌, List, length, map, sym, ap, ◌∙◌, subst, arith}
+use Rattle.std.proofs.Common.{◌≡◌, ℕ, List, map, sym, ap, ◌∙◌, subst, arith}
 use Rattle.gc_graph.specs.State.{Shape, Node}
 use Rattle.gc_graph.specs.Sweep.{finalise}
 use Rattle.sweeper.specs.Sweeping.{cursor_at}
