@@ -1,11 +1,7 @@
 -- What the program does so far. A script with a line of another form is refused, and nothing of it is run.
-use Rattle.std.specs.Prelude.{◌≡◌, ℕ, ◌==◌, ◌&&◌, not, Bool, true, false, List, length, fold, take, Some, slice_get}
+use Rattle.std.specs.Prelude.{◌≡◌, ℕ, Bool, true, false, List, Some, slice_get}
 use Rattle.gc_graph.specs.declared.command.Command.{Command}
 use Rattle.gc_graph.specs.declared.command.Command.TheVariants as C
-use Rattle.gc_graph.specs.declared.phase.Phase.{Phase}
-use Rattle.gc_graph.specs.declared.phase.Phase.TheVariants.{Idle}
-
--- ---- commands
 
 -- objects, their fields, slots, the stack, whole collections, and totals
 abbrev pub is_built : Command → Bool
@@ -40,33 +36,6 @@ is_built (C.At j order) = false
 is_built C.ThreadsGo = false
 is_built C.ThreadsJoin = false
 
--- a heap can do the command in this phase: a new object wants all pages swept
-abbrev pub IsBuiltIn : Phase → Command → Type 0
-IsBuiltIn phase (C.New p t e) = phase ≡ Idle
-IsBuiltIn phase command = is_built command ≡ true
-
--- ---- new objects and sweeps
-
--- a sweep is open after the command
-abbrev pub opens_sweep : Bool → Command → Bool
-opens_sweep before (C.GcNow want) = true
-opens_sweep before C.SweepAll = false
-opens_sweep before command = before
-
--- a collection stands among the commands, with no end of its sweep after it
-abbrev pub is_sweep_open : List Command → Bool
-is_sweep_open commands = fold opens_sweep false commands
-
--- the command can come after those before it: a new object wants that no sweep is open
-abbrev pub is_timely : List Command → Command → Bool
-is_timely before (C.New p t e) = not (is_sweep_open before)
-is_timely before command = true
-
--- such a command, where it can come
-abbrev pub is_built_after : List Command → Command → Bool
-is_built_after before command = is_built command && is_timely before command
-
--- each command is built, after those before it
+-- each of the commands is built
 abbrev pub AreBuiltCommands : List Command → Type 0
-AreBuiltCommands commands =
-    (i : ℕ) (command : Command) → slice_get commands i ≡ Some command → is_built_after (take i commands) command ≡ true
+AreBuiltCommands commands = (i : ℕ) (command : Command) → slice_get commands i ≡ Some command → is_built command ≡ true

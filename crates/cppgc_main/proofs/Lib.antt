@@ -1,6 +1,5 @@
 pub mod Writing
 pub mod HeldBack
-pub mod Phases
 pub mod Printing
 pub mod Reports
 pub mod Inputs

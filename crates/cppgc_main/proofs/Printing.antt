@@ -1,5 +1,5 @@
 -- Runs that are printed command by command, and why they are lawful.
-use Rattle.std.proofs.Common.{◌≡◌, ℕ, zero, suc, ◌+◌, ◌<◌, List, [], ◌∷◌, ◌++◌, length, take, get_or, Option, Some, refl, sym, ap, ◌∙◌, subst, arith}
+use Rattle.std.proofs.Common.{◌≡◌, ℕ, zero, suc, ◌+◌, ◌<◌, List, [], ◌∷◌, ◌++◌, length, take, get_or, true, Option, Some, refl, sym, ap, ◌∙◌, subst, arith}
 use Rattle.std.specs.List.{Contains, slice_get}
 use Rattle.std.proofs.lemmas.List.{append-nil, map-append, take_more}
 use Rattle.std.proofs.lemmas.Bool.{true≢false}
@@ -9,7 +9,7 @@ use Rattle.gc_graph.specs.declared.command.Command.TheVariants as C
 use Rattle.gc_graph.specs.declared.region.Entry.{Entry}
 use Rattle.gc_graph.specs.State.{Setup, State, empty_state}
 use Rattle.gc_graph.specs.Step.{Step}
-use Rattle.built_forms.specs.Built.{AreBuiltCommands}
+use Rattle.built_forms.specs.Built.{is_built, AreBuiltCommands}
 use Rattle.gc_graph.specs.HistoryLaw.{RunsAreReplayed}
 use Rattle.gc_graph.specs.Lawful.{Outcome, Run, IsLawful, history_of, last_state}
 use Rattle.gc_graph.specs.Report.{lines_bytes, outcomes_bytes}
@@ -102,6 +102,17 @@ printed_none setup commands x heap is fresh = record {
   alone = ap (λ (s : State). s.running) is;
   written = grew_by_none x;
 }
+
+-- ---- the next command
+
+module _ {X : Type 0} where
+  get_at : (xs : List X) (i : ℕ) (d : X) → i < length xs → slice_get xs i ≡ Some (get_or xs i d)
+  get_at [] i d low = absurd (omega arith)
+  get_at (x ∷ xs) zero d low = refl
+  get_at (x ∷ xs) (suc i) d low = get_at xs i d (omega arith)
+
+pub built_next : (commands : List Command) (i : ℕ) (d : Command) → i < length commands → AreBuiltCommands commands → is_built (get_or commands i d) ≡ true
+built_next commands i d low built = built i (get_or commands i d) (get_at commands i d low)
 
 -- ---- lawful runs
 

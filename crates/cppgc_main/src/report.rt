@@ -4,7 +4,7 @@ ghost use Rattle.std.specs.Prelude.{◌≡◌, ◌+◌, ◌++◌, ◌<◌, ◌�
 ghost use Rattle.std.specs.Prelude.{false, [], length, All, OnOk, OnErr};
 ghost use Rattle.gc_graph.specs.State.{empty_state};
 ghost use Rattle.gc_graph.specs.Step.{Step};
-ghost use Rattle.built_forms.specs.Built.{IsBuiltIn, AreBuiltCommands};
+ghost use Rattle.built_forms.specs.Built.{is_built, AreBuiltCommands};
 ghost use Rattle.gc_graph.specs.CycleSteps.{is_marking};
 ghost use Rattle.gc_graph.specs.Lawful.{IsAllowed};
 ghost use Rattle.gc_graph.specs.Report.{line_bytes, lines_bytes};
@@ -133,7 +133,7 @@ fn print_outcome<K: Sink>(
     requires few { heap.old.core.state.ordinal < 1000000 }
     requires opened { heap.old.core.closed ≡ false }
     requires allowed { IsAllowed (length heap.old.core.setup.types) command.now }
-    requires built { IsBuiltIn heap.old.core.state.phase command.now }
+    requires built { is_built command.now ≡ true }
     ensures step { Step heap.old.core.setup heap.old.core.state command.now
         heap.new.core.piece heap.new.core.lines heap.new.core.state }
     ensures calm { is_marking heap.new.core.state.phase ≡ false }

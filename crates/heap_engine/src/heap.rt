@@ -3,7 +3,7 @@
 ghost use Rattle.std.specs.Prelude.{◌≡◌, ◌+◌, ◌++◌, ◌<◌};
 ghost use Rattle.std.specs.Prelude.{false, true, [], length, Some, IfOk, slice_get};
 ghost use Rattle.gc_graph.specs.State.{empty_state};
-ghost use Rattle.built_forms.specs.Built.{IsBuiltIn};
+ghost use Rattle.built_forms.specs.Built.{is_built};
 ghost use Rattle.gc_graph.specs.CycleSteps.{is_marking};
 ghost use Rattle.gc_graph.specs.Step.{Step};
 ghost use Rattle.gc_graph.specs.Lawful.{IsAllowed, IsEndLine};
@@ -63,7 +63,7 @@ impl<'a> Heap<'a> {
         requires few { self.old.core.state.ordinal < 1000000 }
         requires opened { self.old.core.closed ≡ false }
         requires allowed { IsAllowed (length self.old.core.setup.types) command.now }
-        requires built { IsBuiltIn self.old.core.state.phase command.now }
+        requires built { is_built command.now ≡ true }
         ensures step { Step self.old.core.setup self.old.core.state command.now
             self.new.core.piece self.new.core.lines self.new.core.state }
         ensures count { result ≡ length self.new.core.lines }

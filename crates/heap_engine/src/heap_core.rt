@@ -4,7 +4,7 @@
 ghost use Rattle.std.specs.Prelude.{◌≡◌, ◌+◌, ◌*◌, ◌++◌, ◌<◌, ◌≤◌};
 ghost use Rattle.std.specs.Prelude.{true, false, [], length, Some, IfOk, slice_get};
 ghost use Rattle.gc_graph.specs.State.{empty_state};
-ghost use Rattle.built_forms.specs.Built.{IsBuiltIn};
+ghost use Rattle.built_forms.specs.Built.{is_built};
 ghost use Rattle.gc_graph.specs.CycleSteps.{is_marking};
 ghost use Rattle.gc_graph.specs.Outcomes.{answered};
 ghost use Rattle.gc_graph.specs.Step.{Step};
@@ -95,7 +95,7 @@ impl Core {
         requires few { self.old.state.ordinal < 1000000 }
         requires opened { self.old.closed ≡ false }
         requires allowed { IsAllowed (length self.old.setup.types) command.now }
-        requires built { IsBuiltIn self.old.state.phase command.now }
+        requires built { is_built command.now ≡ true }
         requires kinds { kinds_of callbacks.now ≡ self.old.setup.callbacks }
         ensures step { Step self.old.setup self.old.state command.now
             self.new.piece self.new.lines self.new.state }
@@ -158,7 +158,7 @@ fn run(
     requires piece { outcome.old.piece ≡ [] }
     requires room { word_count objects.old.shape ≤ 2 * outcome.old.room }
     requires allowed { IsAllowed (length objects.old.types) command.now }
-    requires built { IsBuiltIn cycle.old.phase command.now }
+    requires built { is_built command.now ≡ true }
     ensures step { Step (setup_of_objects objects.old) (state_of objects.old handles.old cycle.old)
         command.now outcome.new.piece (lines_with outcome.new cycle.new.ran result)
         (answered (state_of objects.new handles.new cycle.new)) }

@@ -14,7 +14,7 @@
 //! `member_fields`, `persistent_slots` and `page_space`.
 //!
 //! What is proved: `act` is a step from the heap's own state to its new state, for every command
-//! that is allowed and that the heap does so far (`IsBuiltIn`), and its lines are those of the step;
+//! that is allowed and that the heap does so far (`is_built`), and its lines are those of the step;
 //! the pieces that the commands took are the heap's history of the region. Each node that is not
 //! finalised is the object with its number, type, size, place, field words and extra words.
 //! Refusals and a full heap are answered exactly where the step says so; collections and

@@ -1,76 +1,46 @@
 -- From what a reader of the lines tells to a script, or to one of which all is built.
-use Rattle.std.proofs.Common.{◌≡◌, ℕ, zero, suc, ◌+◌, ◌<◌, ◌≤◌, ◌==◌, ◌&&◌, ◌||◌, Bool, true, false, not, cond, Option, Some, None, List, [], ◌∷◌, length, get_or, take, refl, sym, ap, ◌∙◌, subst, inl, inr, ◌⊎◌, arith}
+use Rattle.std.proofs.Common.{◌≡◌, ℕ, zero, suc, ◌+◌, ◌<◌, ◌≤◌, ◌==◌, ◌||◌, Bool, true, false, not, cond, Option, Some, None, List, [], ◌∷◌, length, get_or, refl, sym, ap, ◌∙◌, subst, inl, inr, ◌⊎◌, arith}
 use Rattle.std.specs.Prelude.{is_some, slice_get}
 use Rattle.std.specs.List.{filter_map, cons_option}
-use Rattle.std.proofs.lemmas.Bool.{true≢false, cases_Bool, cond-true, cond-false, and_parts, and_left, and_right, and_from, or_left, or_right, or_from, eq-eqb, eqb-true, ne_eqb}
-use Rattle.gc_graph.specs.declared.command.Command.{Command}
-use Rattle.gc_graph.specs.State.{ObjectType}
-use Rattle.built_forms.specs.Built.{is_built_after, AreBuiltCommands}
+use Rattle.std.proofs.lemmas.Bool.{true≢false, cases_Bool, cond-true, cond-false, and_left, and_right, and_from, or_left, or_right, or_from, eq-eqb, eqb-true, ne_eqb}
+use Rattle.built_forms.specs.Built.{AreBuiltCommands}
 use Rattle.gc_graph.specs.Words.{lines_of, words_of}
-use Rattle.gc_graph.specs.Reasons.{Reason, command_of_words, type_of_words}
+use Rattle.gc_graph.specs.Reasons.{Reason, command_of_words}
 use Rattle.gc_graph.specs.Script.{reason_at}
 use Rattle.heap_script.specs.declared.script.ScriptFault.{ScriptFault}
 use Rattle.heap_script.specs.declared.script_lines.Kept.{Kept}
 use Rattle.heap_script.specs.declared.script_reader.Stop.{Stop}
 use Rattle.heap_script.specs.Reading.{says_built_at, AreBuilt, IsUnbuiltLine, IsWhole, IsFaultyLine, IsStopped, fault_with}
-use Rattle.heap_script.specs.Scripts.{IsBuiltScript, commands_of, holds_built_command, is_built_at, IsFirstUnbuilt, IsUnbuilt, IsUnbuiltFault}
+use Rattle.heap_script.specs.Scripts.{IsBuiltScript, holds_built_command, is_built_at, IsFirstUnbuilt, IsUnbuilt, IsUnbuiltFault}
 
 -- ---- the line of a type or of a command
 
 -- the line on which an element of such a list stands
-abbrev IsLineOf : {X : Type 0} → (List ℕ → Option X) → List (List ℕ) → ℕ → X → Type 0
-IsLineOf f lines i x =
-    (j : ℕ) × (j < length lines) × (f (get_or lines j []) ≡ Some x) × (filter_map f (take j lines) ≡ take i (filter_map f lines))
+abbrev IsLineOf : {X : Type 0} → (List ℕ → Option X) → List (List ℕ) → X → Type 0
+IsLineOf f lines x = (j : ℕ) × (j < length lines) × (f (get_or lines j []) ≡ Some x)
 
-line_later : {X : Type 0} (f : List ℕ → Option X) (line : List ℕ) (lines : List (List ℕ)) (i : ℕ) (x : X) → f line ≡ None
-    → IsLineOf f lines i x → IsLineOf f (line ∷ lines) i x
-line_later f line lines i x none found = (
-  suc found.0,
-  omega (arith, found.1),
-  found.2,
-  ap (λ o. cons_option o (filter_map f (take found.0 lines))) none
-      ∙ found.3
-      ∙ sym (ap (λ o. take i (cons_option o (filter_map f lines))) none),
-)
-
-line_after : {X : Type 0} (f : List ℕ → Option X) (line : List ℕ) (lines : List (List ℕ)) (i : ℕ) (x y : X) → f line ≡ Some y
-    → IsLineOf f lines i x → IsLineOf f (line ∷ lines) (suc i) x
-line_after f line lines i x y some found = (
-  suc found.0,
-  omega (arith, found.1),
-  found.2,
-  ap (λ o. cons_option o (filter_map f (take found.0 lines))) some
-      ∙ ap (λ xs. y ∷ xs) found.3
-      ∙ sym (ap (λ o. take (suc i) (cons_option o (filter_map f lines))) some),
-)
-
-line_first : {X : Type 0} (f : List ℕ → Option X) (line : List ℕ) (lines : List (List ℕ)) (x y : X) → f line ≡ Some y → Some y ≡ Some x
-    → IsLineOf f (line ∷ lines) 0 x
-line_first f line lines x y some same = (0, omega arith, some ∙ same, refl)
+line_later : {X : Type 0} (f : List ℕ → Option X) (line : List ℕ) (lines : List (List ℕ)) (x : X) → IsLineOf f lines x → IsLineOf f (line ∷ lines) x
+line_later f line lines x found = (suc found.0, omega (arith, found.1), found.2)
 
 line_of_by : {X : Type 0} (f : List ℕ → Option X) (line : List ℕ) (lines : List (List ℕ)) (i : ℕ) (x : X) (o : Option X) → f line ≡ o
     → slice_get (cons_option o (filter_map f lines)) i ≡ Some x
-    → ((k : ℕ) → slice_get (filter_map f lines) k ≡ Some x → IsLineOf f lines k x) → IsLineOf f (line ∷ lines) i x
-line_of_by f line lines i x None e at more = line_later f line lines i x e (more i at)
-line_of_by f line lines zero x (Some y) e at more = line_first f line lines x y e at
-line_of_by f line lines (suc i) x (Some y) e at more = line_after f line lines i x y e (more i at)
+    → ((k : ℕ) → slice_get (filter_map f lines) k ≡ Some x → IsLineOf f lines x) → IsLineOf f (line ∷ lines) x
+line_of_by f line lines i x None e at more = line_later f line lines x (more i at)
+line_of_by f line lines zero x (Some y) e at more = (0, omega arith, e ∙ at)
+line_of_by f line lines (suc i) x (Some y) e at more = line_later f line lines x (more i at)
 
 line_of : {X : Type 0} (f : List ℕ → Option X) (lines : List (List ℕ)) (i : ℕ) (x : X) → slice_get (filter_map f lines) i ≡ Some x
-    → IsLineOf f lines i x
+    → IsLineOf f lines x
 line_of f [] i x at = absurd (true≢false (sym (ap is_some at)))
 line_of f (line ∷ lines) i x at = line_of_by f line lines i x (f line) refl at (λ k. line_of f lines k x)
 
 -- ---- scripts of which all is built
 
-command_built : (commands : List Command) (words : List (List ℕ)) (command : Command) → command_of_words words ≡ Some command
-    → holds_built_command commands (command_of_words words) ≡ true → is_built_after commands command ≡ true
-command_built commands words command says built = sym (ap (holds_built_command commands) says) ∙ built
-
-commands_built : (lines : List (List ℕ)) → AreBuilt lines (length lines) → AreBuiltCommands (commands_of lines)
+commands_built : (lines : List (List ℕ)) → AreBuilt lines (length lines)
+    → AreBuiltCommands (filter_map (λ line. command_of_words (words_of line)) lines)
 commands_built lines built i command at =
     let found = line_of (λ line. command_of_words (words_of line)) lines i command at in
-    subst (λ (cs : List Command). is_built_after cs command ≡ true) found.3
-    (command_built (commands_of (take found.0 lines)) (words_of (get_or lines found.0 [])) command found.2 (built found.0 found.1))
+    sym (ap holds_built_command found.2) ∙ built found.0 found.1
 
 -- nothing that isn't built was found
 none_unbuilt : (lines : List (List ℕ)) (n unbuilt : ℕ)

@@ -6,21 +6,20 @@ use Rattle.std.proofs.lemmas.Bool.{true≢false, cond-false, and_from, and_right
 use Rattle.std.proofs.lemmas.List.{take_more, append-nil}
 use Rattle.std.proofs.lemmas.List.Elements.{filter_map-append}
 use Rattle.std.proofs.lemmas.List.Folds.{list_any_more}
-use Rattle.std.proofs.lemmas.List.Sums.{fold_more, fold-append, count_by_more_yes, count_by_more_no}
+use Rattle.std.proofs.lemmas.List.Sums.{fold_more, count_by_more_yes, count_by_more_no}
 use Rattle.gc_graph.specs.declared.command.Command.{Command}
-use Rattle.gc_graph.specs.declared.command.Command.TheVariants as C
 use Rattle.gc_graph.specs.State.{ObjectType}
-use Rattle.built_forms.specs.Built.{is_built, is_timely, is_sweep_open, opens_sweep}
+use Rattle.built_forms.specs.Built.{is_built}
 use Rattle.std.specs.Cmp.Lexicographic.{bytes_decides}
 use Rattle.gc_graph.specs.Words.{words_of, is_text, is_blank}
 use Rattle.gc_graph.specs.Reasons.{Reason, first_is, reason_of_words, command_of_words, type_of_words}
 use Rattle.gc_graph.specs.Reasons.Reason.{Order, Section}
 use Rattle.gc_graph.specs.Script.{Threads, is_type, is_command, threads_of, threads_after, breaks_section, reason_by_order, bounds_after}
 use Rattle.gc_graph.specs.Script.Threads.{AtRest}
-use Rattle.heap_script.specs.Scripts.{commands_of, holds_built_command, says_built}
+use Rattle.heap_script.specs.Scripts.{holds_built_command, says_built}
 use Rattle.heap_script.specs.declared.past.Past.{Past}
 use Rattle.heap_script.specs.declared.script_lines.Kept.{Kept}
-use Rattle.heap_script.specs.Past.{threads_in, is_timely_in, past_header, with_blank, bounds_in, reason_with, reason_after, IsTypeKept, IsCommandKept}
+use Rattle.heap_script.specs.Past.{threads_in, past_header, with_blank, bounds_in, reason_with, reason_after, IsTypeKept, IsCommandKept}
 use Rattle.heap_script.proofs.LineReasons.{threads_after_line}
 use Rattle.heap_script.proofs.LinesJudged.{judged, judged_words}
 use Rattle.heap_script.proofs.LinesInTurn.{none_of_blank}
@@ -29,6 +28,10 @@ use Rattle.heap_script.proofs.LinesInTurn.{none_of_blank}
 abbrev pub types_of : List (List ℕ) → List ObjectType
 types_of lines = filter_map (λ line. type_of_words (words_of line)) lines
 
+-- the commands that the lines say
+abbrev pub commands_of : List (List ℕ) → List Command
+commands_of lines = filter_map (λ line. command_of_words (words_of line)) lines
+
 -- what the lines after the header say
 pub record IsPast (before : List (List ℕ)) (past : Past) (types : List ObjectType) (commands : List Command) : Type 0 where
   pub counted : count_by is_type before ≡ past.types
@@ -36,10 +39,9 @@ pub record IsPast (before : List (List ℕ)) (past : Past) (types : List ObjectT
   pub threads : threads_of before ≡ threads_in past.stage
   pub types_are : types ≡ types_of before
   pub commands_are : commands ≡ commands_of before
-  pub sweeping : is_sweep_open commands ≡ past.sweeping
 
 pub nothing_read : IsPast [] past_header [] []
-nothing_read = record { counted = refl; bare = refl; threads = refl; types_are = refl; commands_are = refl; sweeping = refl }
+nothing_read = record { counted = refl; bare = refl; threads = refl; types_are = refl; commands_are = refl }
 
 -- ---- one line more
 
@@ -119,7 +121,6 @@ past_blank lines n past types commands low read blank =
       threads = threads_more lines n [] low are ∙ read.threads;
       types_are = read.types_are ∙ sym (type_more lines n [] low are None refl);
       commands_are = read.commands_are ∙ sym (command_more lines n [] low are None refl);
-      sweeping = read.sweeping;
     }
 
 pub past_type : (lines : List (List ℕ)) (n : ℕ) (old new : Kept) (words : List (List ℕ)) → n < length lines
@@ -135,7 +136,6 @@ past_type lines n old new words low read are kept =
       threads = threads_more lines n words low are ∙ type_threads (threads_of (take n lines)) words kept.plain ∙ read.threads;
       types_are = kept.types ∙ ap (λ (ts : List ObjectType). ts ++ kept.type ∷ []) read.types_are ∙ sym (type_more lines n words low are (Some kept.type) kept.says);
       commands_are = kept.commands ∙ read.commands_are ∙ sym (command_more lines n words low are None (no_command words kept.plain));
-      sweeping = ap is_sweep_open kept.commands ∙ read.sweeping;
     })
 
 pub past_command : (callbacks : ℕ) (lines : List (List ℕ)) (n : ℕ) (old new : Kept) (words : List (List ℕ)) → n < length lines
@@ -156,9 +156,6 @@ past_command callbacks lines n old new words low read are some fine kept =
       types_are = kept.types ∙ read.types_are ∙ sym (type_more lines n words low are None (no_type words kept.plain));
       commands_are = kept.commands ∙ ap (λ (cs : List Command). cs ++ kept.command ∷ []) read.commands_are
           ∙ sym (command_more lines n words low are (Some kept.command) kept.says);
-      sweeping = ap is_sweep_open kept.commands
-          ∙ fold-append opens_sweep false old.commands.items (kept.command ∷ [])
-          ∙ ap (λ b. opens_sweep b kept.command) read.sweeping;
     })
 
 -- ---- the reason of the next line
@@ -181,18 +178,8 @@ judged_is callbacks before words line past types commands read some are =
 
 -- ---- what the next line says
 
-pub type_says : (commands : List Command) (words : List (List ℕ)) (type : ObjectType) → type_of_words words ≡ Some type
-    → first_is (codes "type") words ≡ true → says_built commands words ≡ true
-type_says commands words type says plain = ap (holds_built_command commands) (no_command words plain)
+pub type_says : (words : List (List ℕ)) → first_is (codes "type") words ≡ true → says_built words ≡ true
+type_says words plain = ap holds_built_command (no_command words plain)
 
-timely_is : (commands : List Command) (command : Command) → is_timely commands command ≡ is_timely_in (is_sweep_open commands) command
-timely_is commands (C.New p t e) = refl
-timely_is commands command = refl
-
-pub command_says : (before : List (List ℕ)) (past : Past) (types : List ObjectType) (commands : List Command) (words : List (List ℕ)) (command : Command)
-    → IsPast before past types commands → command_of_words words ≡ Some command → first_is (codes "type") words ≡ false
-    → says_built (commands_of before) words ≡ (is_built command && is_timely_in past.sweeping command)
-command_says before past types commands words command read says plain =
-    ap (λ (cs : List Command). says_built cs words) (sym read.commands_are)
-    ∙ ap (holds_built_command commands) says
-    ∙ ap (λ b. is_built command && b) (timely_is commands command ∙ ap (λ b. is_timely_in b command) read.sweeping)
+pub command_says : (words : List (List ℕ)) (command : Command) → command_of_words words ≡ Some command → says_built words ≡ is_built command
+command_says words command says = ap holds_built_command says

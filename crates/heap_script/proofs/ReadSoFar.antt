@@ -8,16 +8,16 @@ use Rattle.built_forms.specs.Built.{is_built}
 use Rattle.gc_graph.specs.Words.{words_of, is_blank}
 use Rattle.gc_graph.specs.Script.{threads_of, threads_after}
 use Rattle.gc_graph.specs.Script.Threads.{AtRest}
-use Rattle.heap_script.specs.Scripts.{commands_of, says_built}
+use Rattle.heap_script.specs.Scripts.{says_built}
 use Rattle.heap_script.specs.declared.past.Past.{Past}
 use Rattle.heap_script.specs.declared.script_lines.Kept.{Kept}
-use Rattle.heap_script.specs.Past.{threads_in, is_timely_in, past_header, unbuilt_with, with_blank, reason_after, IsLineKept}
+use Rattle.heap_script.specs.Past.{threads_in, past_header, unbuilt_with, with_blank, reason_after, IsLineKept}
 use Rattle.heap_script.proofs.LinesJudged.{judged}
 use Rattle.heap_script.proofs.PastLines.{IsPast, nothing_read, past_blank, past_type, past_command, threads_more, judged_is, type_says, command_says}
 
 -- what line j after the header says is built
 abbrev pub says_at : List (List ℕ) → ℕ → Bool
-says_at lines j = says_built (commands_of (take j lines)) (words_of (get_or lines j []))
+says_at lines j = says_built (words_of (get_or lines j []))
 
 -- the number of the first of n lines after the header that says what isn't built; 0 where none does
 abbrev pub IsUnbuiltIn : List (List ℕ) → ℕ → ℕ → Type 0
@@ -122,7 +122,7 @@ blank_more callbacks lines more n line past types commands read e none =
       within = omega arith;
       say = past_blank lines n past types commands low read.say blank;
       fine = below_more (λ j. judged callbacks (take j lines) (get_or lines j []) ≡ None) n read.fine (cond-true (is_blank (get_or lines n [])) None _ blank);
-      unbuilt = unbuilt_same lines n past.unbuilt read.unbuilt (ap (says_built (commands_of (take n lines))) are);
+      unbuilt = unbuilt_same lines n past.unbuilt read.unbuilt (ap says_built are);
       last = record {
         first = read.last.first;
         within = omega (arith, read.last.within);
@@ -176,17 +176,16 @@ line_more callbacks lines more n line old new words read e are some fine (inl ke
     words_more callbacks lines more n line old.past new.past old.types.items new.types.items old.commands.items new.commands.items words
     true read e are some fine (past_type lines n old new words low read.say ws kept)
     (ap (λ (p : Past). p.lines) kept.past) (ap (λ (p : Past). p.last) kept.past) (ap (λ (p : Past). p.unbuilt) kept.past)
-    (ap (says_built (commands_of (take n lines))) ws ∙ type_says (commands_of (take n lines)) words kept.type kept.says kept.plain)
+    (ap says_built ws ∙ type_says words kept.plain)
 line_more callbacks lines more n line old new words read e are some fine (inr kept) =
     let low : n < length lines = next_there lines more n line e in
     let at : get_or lines n [] ≡ line = next_is lines more n line e in
     let ws : words_of (get_or lines n []) ≡ words = ap words_of at ∙ are in
     words_more callbacks lines more n line old.past new.past old.types.items new.types.items old.commands.items new.commands.items words
-    (is_built kept.command && is_timely_in old.past.sweeping kept.command) read e are some fine
+    (is_built kept.command) read e are some fine
     (past_command callbacks lines n old new words low read.say ws (ap is_blank at ∙ some) fine kept)
     (ap (λ (p : Past). p.lines) kept.past) (ap (λ (p : Past). p.last) kept.past) (ap (λ (p : Past). p.unbuilt) kept.past)
-    (ap (says_built (commands_of (take n lines))) ws
-    ∙ command_says (take n lines) old.past old.types.items old.commands.items words kept.command read.say kept.says kept.plain)
+    (ap says_built ws ∙ command_says words kept.command kept.says)
 
 pub kept_lines : (words : List (List ℕ)) (old new : Kept) → IsLineKept words old new → new.past.lines ≡ old.past.lines + 1
 kept_lines words old new (inl kept) = ap (λ (p : Past). p.lines) kept.past

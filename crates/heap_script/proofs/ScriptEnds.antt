@@ -11,14 +11,14 @@ use Rattle.gc_graph.specs.Words.{lines_of, words_of, is_text, is_blank}
 use Rattle.gc_graph.specs.Reasons.{Reason, number_of, command_of_words, type_of_words}
 use Rattle.gc_graph.specs.Reasons.Reason.{Header, UnknownWord, BadNumber, Count, Range, Order, Section, TooLong}
 use Rattle.gc_graph.specs.Script.{IsInLimits, is_header, are_at_rest, threads_of, threads_after, reason_at}
-use Rattle.heap_script.specs.Scripts.{commands_of, says_built}
+use Rattle.heap_script.specs.Scripts.{says_built}
 use Rattle.heap_script.specs.declared.past.Past.{Past}
 use Rattle.heap_script.specs.Past.{threads_in, IsReasonOf, reason_after}
 use Rattle.heap_script.specs.declared.script_lines.Kept.{Kept}
 use Rattle.heap_script.specs.declared.script_reader.Stop.{Stop}
 use Rattle.heap_script.specs.Reading.{says_built_at, AreBuilt, IsUnbuiltOf, IsUnbuiltUpTo, IsWhole, IsFaultyLine, IsStopped, stop_with}
 use Rattle.heap_script.proofs.LinesJudged.{judged, blank_fine, as_judged, found_fault, at_rest_fine, last_fault, all_blank, words_follow, at_line}
-use Rattle.heap_script.proofs.PastLines.{types_of, judged_is}
+use Rattle.heap_script.proofs.PastLines.{types_of, commands_of, judged_is}
 use Rattle.heap_script.proofs.ReadSoFar.{IsReadTo, IsUnbuiltIn, says_at, next_there, next_is}
 
 -- ---- the header
@@ -53,16 +53,12 @@ no_header_type header head = ap type_of_words (header_words (words_of header) he
 -- ---- what isn't built
 
 header_built : (header : List ℕ) (lines : List (List ℕ)) → is_header header ≡ true → says_built_at (header ∷ lines) 0 ≡ true
-header_built header lines head = ap (says_built []) (header_words (words_of header) head)
-
-line_built : (header : List ℕ) (lines : List (List ℕ)) (j : ℕ) → is_header header ≡ true → says_built_at (header ∷ lines) (suc j) ≡ says_at lines j
-line_built header lines j head =
-    ap (λ (o : Option Command). says_built (cons_option o (commands_of (take j lines))) (words_of (get_or lines j []))) (no_header_command header head)
+header_built header lines head = ap says_built (header_words (words_of header) head)
 
 all_built : (header : List ℕ) (lines : List (List ℕ)) (n : ℕ) → is_header header ≡ true → ((j : ℕ) → j < n → says_at lines j ≡ true)
     → AreBuilt (header ∷ lines) (n + 1)
 all_built header lines n head all =
-    at_all (λ j. says_built_at (header ∷ lines) j ≡ true) n (header_built header lines head) (λ j l. line_built header lines j head ∙ all j l)
+    at_all (λ j. says_built_at (header ∷ lines) j ≡ true) n (header_built header lines head) all
 
 unbuilt_of : (header : List ℕ) (lines : List (List ℕ)) (n unbuilt : ℕ) → is_header header ≡ true → IsUnbuiltIn lines n unbuilt
     → IsUnbuiltOf (header ∷ lines) (n + 1) unbuilt
@@ -71,7 +67,7 @@ unbuilt_of header lines n unbuilt head (inr (i, is, low, at, before)) = inr (
   suc i,
   omega (arith, is),
   omega (arith, low),
-  record { says = line_built header lines i head ∙ at; before = λ j l. all_built header lines i head before j (omega arith) },
+  record { says = at; before = λ j l. all_built header lines i head before j (omega arith) },
 )
 
 unbuilt_up_to : (lines : List (List ℕ)) (n place unbuilt : ℕ) → IsUnbuiltOf lines n unbuilt → place ≤ n → unbuilt ≤ place + 1

@@ -3,7 +3,7 @@ use Rattle.std.specs.Prelude.{◌≡◌, ◌⊎◌, ℕ, ◌+◌, ◌==◌, ◌&
 use Rattle.gc_graph.specs.declared.command.Command.{Command}
 use Rattle.gc_graph.specs.declared.command.Command.TheVariants as C
 use Rattle.gc_graph.specs.State.{ObjectType}
-use Rattle.built_forms.specs.Built.{is_built, opens_sweep}
+use Rattle.built_forms.specs.Built.{is_built}
 use Rattle.gc_graph.specs.Reasons.{Reason, number_of, Bounds, first_is, reason_of_words, command_of_words, type_of_words}
 use Rattle.gc_graph.specs.Reasons.Reason.{Order, Section}
 use Rattle.gc_graph.specs.Script.{Threads, breaks_section}
@@ -49,11 +49,6 @@ breaks stage command = false
 
 -- ---- what is built
 
--- a new object wants that no sweep is open
-abbrev pub is_timely_in : Bool → Command → Bool
-is_timely_in sweeping (C.New p t e) = not sweeping
-is_timely_in sweeping command = true
-
 -- the number of the first line that says what isn't built, with one more line
 abbrev pub unbuilt_with : Past → Bool → ℕ
 unbuilt_with past built = if past.unbuilt == 0 && not built then past.lines + 1 else past.unbuilt
@@ -62,7 +57,7 @@ unbuilt_with past built = if past.unbuilt == 0 && not built then past.lines + 1 
 
 -- only the header stands there
 abbrev pub past_header : Past
-past_header = record { lines = 1; last = 1; types = 0; bare = true; stage = S.AtRest; sweeping = false; unbuilt = 0 }
+past_header = record { lines = 1; last = 1; types = 0; bare = true; stage = S.AtRest; unbuilt = 0 }
 
 -- a line without words more
 abbrev pub with_blank : Past → Past
@@ -78,10 +73,9 @@ with_type past = record (with_words past true) { types = past.types + 1 }
 
 -- a command more
 abbrev pub with_command : Past → Command → Past
-with_command past command = record (with_words past (is_built command && is_timely_in past.sweeping command)) {
+with_command past command = record (with_words past (is_built command)) {
   bare = false;
   stage = stage_after past.stage command;
-  sweeping = opens_sweep past.sweeping command;
 }
 
 -- ---- the reason of a line with words

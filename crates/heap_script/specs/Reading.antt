@@ -1,16 +1,16 @@
 -- What a reader of the lines tells.
-use Rattle.std.specs.Prelude.{◌≡◌, ◌⊎◌, ℕ, ◌+◌, ◌<◌, ◌≤◌, ◌==◌, ◌&&◌, ◌||◌, not, nat_lt, if◌then◌else◌, Bool, true, false, List, [], length, take, slice_index_or}
+use Rattle.std.specs.Prelude.{◌≡◌, ◌⊎◌, ℕ, ◌+◌, ◌<◌, ◌≤◌, ◌==◌, ◌&&◌, ◌||◌, not, nat_lt, if◌then◌else◌, Bool, true, false, List, [], length, slice_index_or}
 use Rattle.gc_graph.specs.Words.{lines_of, words_of}
 use Rattle.gc_graph.specs.Reasons.{Reason, number_of}
 use Rattle.gc_graph.specs.Script.{IsScript, IsTooLong, IsInLimits, IsFirstFault}
-use Rattle.heap_script.specs.Scripts.{commands_of, says_built}
+use Rattle.heap_script.specs.Scripts.{says_built}
 use Rattle.heap_script.specs.declared.script.ScriptFault.{ScriptFault}
 use Rattle.heap_script.specs.declared.script_lines.Kept.{Kept}
 use Rattle.heap_script.specs.declared.script_reader.Stop.{Stop}
 
 -- what line i + 1 says is built
 abbrev pub says_built_at : List (List ℕ) → ℕ → Bool
-says_built_at lines i = says_built (commands_of (take i lines)) (words_of (slice_index_or lines i []))
+says_built_at lines i = says_built (words_of (slice_index_or lines i []))
 
 -- none of the first n lines says what isn't built
 abbrev pub AreBuilt : List (List ℕ) → ℕ → Type 0

@@ -1,11 +1,10 @@
 -- Why a script is not read, and scripts of which all is built.
-use Rattle.std.specs.Prelude.{◌≡◌, ◌⊎◌, ℕ, ◌+◌, ◌<◌, ◌&&◌, not, is_some, Bool, true, false, List, length, take, [], Option, Some, None, slice_index_or}
-use Rattle.std.specs.List.{filter_map}
+use Rattle.std.specs.Prelude.{◌≡◌, ◌⊎◌, ℕ, ◌+◌, ◌<◌, ◌&&◌, not, is_some, Bool, true, false, List, length, [], Option, Some, None, slice_index_or}
 use Rattle.gc_graph.specs.declared.command.Command.{Command}
 use Rattle.gc_graph.specs.Words.{lines_of, words_of}
 use Rattle.gc_graph.specs.Reasons.{command_of_words}
 use Rattle.gc_graph.specs.Script.{Script, IsScript, IsFault, IsTooLong, IsInLimits, reason_at}
-use Rattle.built_forms.specs.Built.{is_built_after, AreBuiltCommands}
+use Rattle.built_forms.specs.Built.{is_built, AreBuiltCommands}
 use Rattle.heap_script.specs.declared.script.ScriptFault.{ScriptFault}
 
 -- memory was wanting, or this is the line and the lowest reason for which the bytes are no script
@@ -19,24 +18,20 @@ pub record IsBuiltScript (callbacks : ℕ) (bytes : List ℕ) (script : Script) 
   pub whole : IsScript callbacks bytes script
   pub commands : AreBuiltCommands script.commands
 
--- the commands that the lines say
-abbrev pub commands_of : List (List ℕ) → List Command
-commands_of lines = filter_map (λ line. command_of_words (words_of line)) lines
+-- no command, or one that is built
+abbrev pub holds_built_command : Option Command → Bool
+holds_built_command None = true
+holds_built_command (Some command) = is_built command
 
--- no command, or one that is built, after those before it
-abbrev pub holds_built_command : List Command → Option Command → Bool
-holds_built_command before None = true
-holds_built_command before (Some command) = is_built_after before command
-
--- what the words say is built, after the commands before them
-abbrev pub says_built : List Command → List (List ℕ) → Bool
-says_built before words = holds_built_command before (command_of_words words)
+-- what the words say is built
+abbrev pub says_built : List (List ℕ) → Bool
+says_built words = holds_built_command (command_of_words words)
 
 -- line i + 1 has no fault, and what it says is built
 abbrev pub is_built_at : ℕ → List (List ℕ) → ℕ → Bool
 is_built_at callbacks lines i =
     not (is_some (reason_at callbacks lines i))
-    && says_built (commands_of (take i lines)) (words_of (slice_index_or lines i []))
+    && says_built (words_of (slice_index_or lines i []))
 
 -- line i + 1 is the first with a fault or with what isn't built; a missing first line counts as one
 pub record IsFirstUnbuilt (callbacks : ℕ) (bytes : List ℕ) (i : ℕ) : Type 0 where

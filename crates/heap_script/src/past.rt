@@ -17,8 +17,8 @@ pub(crate) enum Stage {
 }
 
 /// How many lines there are, the header among them, the number of the last one with words, how many
-/// types they declare, whether no command stands among them, the stage of the threads, whether a
-/// sweep is open, and the number of the first line that says what isn't built, or 0.
+/// types they declare, whether no command stands among them, the stage of the threads, and the
+/// number of the first line that says what isn't built, or 0.
 #[derive(Clone, Copy, Drop)]
 pub(crate) struct Past {
     pub(crate) lines: u32,
@@ -26,7 +26,6 @@ pub(crate) struct Past {
     pub(crate) types: u32,
     pub(crate) bare: bool,
     pub(crate) stage: Stage,
-    pub(crate) sweeping: bool,
     pub(crate) unbuilt: u32,
 }
 
@@ -40,7 +39,6 @@ impl Past {
             types: 0,
             bare: true,
             stage: Stage::AtRest,
-            sweeping: false,
             unbuilt: 0,
         }
     }
@@ -65,11 +63,9 @@ impl Past {
         requires { self.old.lines < 1000000 }
         ensures { self.new ≡ spec.with_command self.old command.now }
     {
-        self.note(is_built(command) && self.is_timely(command));
+        self.note(is_built(command));
         self.bare = false;
         match *command {
-            Command::GcNow { .. } => self.sweeping = true,
-            Command::SweepAll => self.sweeping = false,
             Command::At { .. } => self.stage = Stage::Waiting,
             Command::ThreadsGo => self.stage = Stage::Going,
             Command::ThreadsJoin => self.stage = Stage::AtRest,
@@ -86,15 +82,6 @@ impl Past {
         self.last = self.lines;
         if self.unbuilt == 0 && !built {
             self.unbuilt = self.lines;
-        }
-    }
-
-    fn is_timely(&self, command: &Command) -> bool
-        ensures { result ≡ spec.is_timely_in self.now.sweeping command.now }
-    {
-        match *command {
-            Command::New { .. } => !self.sweeping,
-            _ => true,
         }
     }
 

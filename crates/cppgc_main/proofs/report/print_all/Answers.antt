@@ -1,13 +1,11 @@
 use Rattle.std.proofs.Common.{rules}
-use Rattle.cppgc_main.proofs.Printing.{printed_more, printed_part}
-use Rattle.cppgc_main.proofs.Phases.{idle_more, built_next}
+use Rattle.cppgc_main.proofs.Printing.{built_next, printed_more, printed_part}
 use Rattle.cppgc_main.proofs.HeldBack.{taken_on}
 use Rattle.cppgc_main.proofs.report.print_all.Goals as goal
 
 pub print_outcome-requires-clause-built : goal.print_outcome-requires-clause-built
 print_outcome-requires-clause-built g c =
-    built_next c.args.commands.now c.loop-command.command-index _ c.loop-command.heap.core.state c.loop-command-test.true c.requires.built
-    c.loop-command.invariant.idle
+    built_next c.args.commands.now c.loop-command.command-index _ c.loop-command-test.true c.requires.built
 
 pub returns-in-Err-clause-part : goal.returns-in-Err-clause-part
 returns-in-Err-clause-part g c =
@@ -18,10 +16,6 @@ pub loop-command-preserved : goal.loop-command-preserved
 loop-command-preserved g c = record {
   setup = search rules;
   ordinal = search rules;
-  calm = c.print_outcome.ensures.calm;
-  idle =
-      idle_more c.loop-command.heap.core.setup c.loop-command.heap.core.state c.print_outcome.new.heap.core.state c.args.commands.now c.loop-command.command-index _ _ _ c.loop-command-test.true
-      c.requires.built c.loop-command.invariant.calm c.loop-command.invariant.idle c.print_outcome.ensures.step;
   opened = search rules;
   steady = search rules;
   taken = taken_on _ _ _ c.loop-command.invariant.taken c.print_outcome.ensures.taken;

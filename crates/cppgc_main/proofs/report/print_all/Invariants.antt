@@ -1,8 +1,5 @@
 use Rattle.std.proofs.Common.{◌≡◌, false, take}
-use Rattle.gc_graph.specs.CycleSteps.{is_marking}
-use Rattle.built_forms.specs.Built.{is_sweep_open}
 use Rattle.heap_script.specs.Pieces.{with_held, TookMore}
-use Rattle.cppgc_main.proofs.Phases.{IsIdleUnless}
 use Rattle.cppgc_main.specs.Printed.{IsPrintedRun}
 use Rattle.cppgc_main.proofs.report.print_all.Given as goal
 
@@ -10,8 +7,6 @@ abbrev pub invariant-loop-command : goal.invariant-loop-command
 invariant-loop-command g l = record {
   setup : l.heap.core.setup ≡ l.initial.heap.core.setup;
   ordinal : l.heap.core.state.ordinal ≡ l.command-index;
-  calm : is_marking l.heap.core.state.phase ≡ false;
-  idle : IsIdleUnless (is_sweep_open (take l.command-index l.commands)) l.heap.core.state;
   opened : l.heap.core.closed ≡ false;
   steady : g.K.Sink.faults l.sink ≡ g.K.Sink.faults l.initial.sink;
   taken : TookMore (g.K.Sink.written l.initial.sink) (g.K.Sink.written l.sink);
