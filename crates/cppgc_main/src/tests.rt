@@ -10,6 +10,7 @@ mod conservative;
 mod devices;
 mod faults;
 mod large;
+mod lazy_sweeping;
 mod limits;
 mod options;
 mod pairs;

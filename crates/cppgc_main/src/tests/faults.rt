@@ -203,7 +203,8 @@ fn first_line_that_is_not_built_is_named(rt: HostRuntime) {
     let alloc = rt.alloc();
     let cases: [(&[u8], Option<(u32, u32)>); 17] = [
         (
-            b"oilpan 1\ntype SS\ntype -\nnew 0 0\ngc now precise\nsweep all\nnew 0 1 9\n",
+            b"oilpan 1\ntype SS\ntype -\nnew 0 0\ngc now precise\nnew 1 0\nsweep 1\nsweep all\n\
+new 0 1 9\n",
             None,
         ),
         (
@@ -231,11 +232,11 @@ fn first_line_that_is_not_built_is_named(rt: HostRuntime) {
         (b"oilpan 1\nstat\ngc start\nfoo\n", Some((3, 9))),
         (b"oilpan 1\nstat\nfoo\ngc start\n", Some((3, 9))),
         (
-            b"oilpan 1\ntype S\ngc now precise\nnew 0 0\nfoo\n",
+            b"oilpan 1\ntype S\ngc now precise\ngc step 1\nfoo\n",
             Some((4, 9)),
         ),
         (b"oilpan 1\ngc finish conservative\n", Some((2, 9))),
-        (b"oilpan 1\nsweep 1\n", Some((2, 9))),
+        (b"oilpan 1\nexport 0 0\n", Some((2, 9))),
         (b"oilpan 1\nat 1 totals\nstat\n", Some((2, 9))),
     ];
     for (script, wanted) in cases {

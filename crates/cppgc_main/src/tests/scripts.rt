@@ -51,8 +51,8 @@ const FAULTY: [(&str, &[u8], u32); 27] = [
         2,
     ),
     (
-        "an object while a sweep is open",
-        b"oilpan 1\ntype S\ngc now precise\nnew 0 0\n",
+        "a collection that goes in steps",
+        b"oilpan 1\ntype S\nnew 0 0\ngc start\n",
         4,
     ),
     ("a missing word", b"oilpan 1\ntype S\nset 0 0\n", 3),
