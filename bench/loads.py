@@ -341,6 +341,30 @@ def stack_read(pages):
     return load._replace(tells={**load.tells, "ok": 86 * pages, f"pause kept {85 * pages} dead 0 ": 1})
 
 
+def mostly_dead(pages, page_words):
+    """Pages full of objects of 3 words, of which each tenth is in a list and the others are dropped, after
+    a collection of them. No page is swept."""
+    lines, newest, count = [], 0, pages * (page_words // 3)
+    for number in range(count):
+        if number % 10 == 9:
+            newest = 1 - newest
+            lines += [f"new {newest} 0", f"set {newest} 0 {1 - newest}"]
+        else:
+            lines.append("new 2 0")
+    tells = {f"pause kept {count // 10} dead {count - count // 10} ": 1, "full": 0, "swept": 0}
+    return Load(["S"], lines + ["drop 2", COLLECTION], tells, pages, page_words)
+
+
+def news_in_sweep(load, count):
+    """So many new objects of 3 words after that. Each tenth word that they might take is in use, so that
+    the sweep has come past ten ninths of them, and at most to the end of its page."""
+    per_page = load.page_words // 3
+    dead = [per_page * page * 9 // 10 for page in range(load.pages + 1)]
+    page = next(page for page in range(load.pages + 1) if dead[page] >= count)
+    tells = {**load.tells, "node": load.pages * per_page + count, "finalise": dead[page]}
+    return load.then(*["new 3 0"] * count)._replace(tells=tells), dead[page]
+
+
 def dead_objects(count):
     """Objects of 3 words, all of them dead after the collection."""
     tells = {f"pause kept 0 dead {count} ": 1, "full": 0}

@@ -32,6 +32,8 @@ FINALISED_BAR = 400
 PREFINALISED_BAR = 500
 PREFINALISED_RATIO_BAR = 2.1
 STACK_WORD_BAR = 250
+LAZY_NEW_BAR = 1000
+LAZY_RATIO_BAR = 2.1
 # For a line of each kind, read, run and told.
 LINE_BARS = {"drop 0": 400, "set 0 0 0": 560, "new 0 0": 1400}
 
@@ -217,12 +219,26 @@ class Bench:
         self.figures.tell("stack_instructions_per_word", (costs[1] - costs[0]) / pages, STACK_WORD_BAR)
 
     def sweeps(self):
-        """What a sweep costs, with few objects to finalise and with many."""
+        """What a sweep costs, with few objects to finalise and with many. Answers the cost of a finalised one."""
         few, many = loads.live_objects(self.count), loads.dead_objects(self.count)
         more = self.instructions(few.then(SWEEP)) - self.instructions(few)
         self.figures.tell("sweep_instructions_per_heap_word", more / few.heap_words(), SWEPT_WORD_BAR)
         more = self.instructions(many.then(SWEEP)) - self.instructions(many)
         self.figures.tell("sweep_instructions_per_finalised_object", more / self.count, FINALISED_BAR)
+        return more / self.count
+
+    def lazy_sweeps(self, finalised_cost):
+        """What a new object costs in an open sweep, apart from the objects that are finalised on the way."""
+        pages = max(1, min(1024, self.count // 40))
+        load = loads.mostly_dead(pages, 512)
+        start, costs = self.instructions(load), []
+        for count in (self.count, 2 * self.count):
+            made, finalised = loads.news_in_sweep(load, count)
+            Script(self.folder, made).check()
+            costs.append((self.instructions(made) - start - finalised * finalised_cost, count))
+        (some, _), (twice, count) = costs
+        self.figures.tell("lazy_sweep_instructions_per_new", twice / count, LAZY_NEW_BAR)
+        self.figures.tell("lazy_sweep_instructions_ratio", twice / some, LAZY_RATIO_BAR)
 
 
 def build():
@@ -249,7 +265,7 @@ def main():
             bench.pairs()
             bench.prefinalizers()
             bench.stack()
-            bench.sweeps()
+            bench.lazy_sweeps(bench.sweeps())
     bench.figures.end()
 
 
