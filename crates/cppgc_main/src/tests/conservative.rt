@@ -1,5 +1,7 @@
 // Collections that look at the stack, on four pages of 256 words.
 
+ghost use Rattle.std.specs.Prelude.{◌<◌};
+
 use super::{Scripted, try_small};
 use crate::status::Status;
 use std::alloc::{AllocError, Global};
@@ -105,7 +107,9 @@ fn stack_words_keep_objects(rt: HostRuntime) -> Result<(), Fail> {
 const EXTRAS: [u32; 9] = [0, 1, 2, 5, 6, 13, 14, 126, 638];
 
 // Each word of the object at 256 keeps it.
-fn hit_all(case: &mut Scripted, size: u64) -> Result<(), AllocError> {
+fn hit_all(case: &mut Scripted, size: u64) -> Result<(), AllocError>
+    requires { size < 1002 }
+{
     for address in 256..256 + size {
         write!(case.script, "push# {address}\ngc now conservative\npop\n")?;
         case.report

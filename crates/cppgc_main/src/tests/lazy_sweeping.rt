@@ -1,5 +1,7 @@
 // Sweeps that go on page by page, and new objects in between.
 
+ghost use Rattle.std.specs.Prelude.{◌<◌};
+
 use super::{Scripted, try_small};
 use crate::status::Status;
 use std::alloc::{AllocError, Global};
