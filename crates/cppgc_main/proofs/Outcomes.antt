@@ -1,18 +1,17 @@
 -- What a run answers, where its bytes were read.
-use Rattle.std.proofs.Common.{◌≡◌, ℕ, List, [], length, Option, option_map, Some, None, refl, sym, subst, inl, inr}
-use Rattle.std.specs.Prelude.{MatchOption, ◌==◌, if◌then◌else◌}
-use Rattle.heap_script.specs.Devices.{Grew, IsReadFrom}
+use Rattle.std.proofs.Common.{◌≡◌, ℕ, List, length, Option, option_map, Some, None, subst}
+use Rattle.std.specs.Prelude.{MatchOption}
+use Rattle.heap_script.specs.Devices.{IsReadFrom}
 use Rattle.heap_engine.specs.View.{View}
 use Rattle.cppgc_main.specs.declared.status.Status.{Status}
 use Rattle.cppgc_main.specs.declared.status.Status.TheVariants as S
 use Rattle.cppgc_main.specs.Options.{shape_asked}
-use Rattle.cppgc_main.specs.Headline.{status_of_fault, RunsBytes, RunsScript, IsDone, IsStopped, IsUnbuiltInput}
+use Rattle.cppgc_main.specs.Headline.{RunsBytes, RunsScript, IsDone, IsStopped, IsUnbuiltInput}
 use Rattle.cppgc_main.proofs.Inputs.{read_whole_of}
 use Rattle.gc_graph.specs.declared.action.ActionKind.{ActionKind}
 use Rattle.gc_graph.specs.State.{Shape}
 use Rattle.gc_graph.specs.Script.{Script}
-use Rattle.heap_script.specs.Scripts.{IsBuiltScript, IsUnbuiltFault}
-use Rattle.heap_script.specs.declared.script.ScriptFault.{ScriptFault}
+use Rattle.heap_script.specs.Scripts.{IsBuiltScript}
 
 -- an answer to the script is one to its bytes
 pub bytes_of_script : (kinds : List ActionKind) (shape : Shape) (bytes : List ℕ) (script : Script) (w z : Option (List ℕ)) (kept : Option View) (status : Status)

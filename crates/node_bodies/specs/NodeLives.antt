@@ -1,5 +1,5 @@
--- What a pause and a sweep make of each node.
-use Rattle.std.proofs.Common.{◌≡◌, ℕ, zero, suc, ◌+◌, Bool, true, false, ◌&&◌, not, List, [], ◌∷◌, length, map, refl, sym, ap, ◌∙◌, inl, inr, arith, cond}
+-- What a pause makes of each node.
+use Rattle.std.proofs.Common.{◌≡◌, ℕ, zero, suc, ◌+◌, Bool, true, false, ◌&&◌, not, List, [], ◌∷◌, length, refl, sym, ap, ◌∙◌, inl, inr, arith, cond}
 use Rattle.std.specs.List.{count_by}
 use Rattle.std.proofs.lemmas.Bool.{true≢false, cases_Bool}
 use Rattle.std.proofs.lemmas.List.Sums.{sum_by-cons}
@@ -7,8 +7,7 @@ use Rattle.gc_graph.specs.Graph.{has}
 use Rattle.gc_graph.specs.State.{Node, Life, node_at, is_there, is_live, is_dead, IsDead, objects_of}
 use Rattle.gc_graph.specs.State.Life.{Live, Dead, Gone}
 use Rattle.gc_graph.specs.Pause.{judged, condemn, live_count, dead_count}
-use Rattle.gc_graph.specs.Sweep.{buried}
-use Rattle.node_bodies.specs.Nodes.{bury, place_of, body_of, bodies_from, IsThere}
+use Rattle.node_bodies.specs.Nodes.{place_of, body_of, bodies_from, IsThere}
 use Rattle.page_words.specs.Bodies.{Body}
 use Rattle.node_bodies.specs.Places.{kept_of}
 use Rattle.node_bodies.specs.NodeBodies.{bodies-there, bodies-gone}
@@ -49,28 +48,6 @@ length-condemn (flag ∷ kept) [] = refl
 length-condemn [] (x ∷ nodes) = ap suc (length-condemn [] nodes)
 length-condemn (flag ∷ kept) (x ∷ nodes) = ap suc (length-condemn kept nodes)
 
--- ---- finalised
-
-pub life-finalise : (nodes : List Node) (n : ℕ) → (node_at (map bury nodes) n).life ≡ buried (node_at nodes n).life
-life-finalise [] n = refl
-life-finalise (x ∷ nodes) zero = refl
-life-finalise (x ∷ nodes) (suc n) = life-finalise nodes n
-
-pub object-finalise : (nodes : List Node) (n : ℕ) → (node_at (map bury nodes) n).object ≡ (node_at nodes n).object
-object-finalise [] n = refl
-object-finalise (x ∷ nodes) zero = refl
-object-finalise (x ∷ nodes) (suc n) = object-finalise nodes n
-
-pub place-finalise : (nodes : List Node) (n : ℕ) → place_of (map bury nodes) n ≡ place_of nodes n
-place-finalise [] n = refl
-place-finalise (x ∷ nodes) zero = refl
-place-finalise (x ∷ nodes) (suc n) = place-finalise nodes n
-
-pub not_dead_buried : (l : Life) → is_dead (buried l) ≡ false
-not_dead_buried Live = refl
-not_dead_buried Dead = refl
-not_dead_buried Gone = refl
-
 -- ---- lives
 
 pub is_dead_life : (l : Life) → is_dead l ≡ true → l ≡ Dead
@@ -95,11 +72,6 @@ there_judged false Gone = refl
 
 pub there-condemn : (kept : List Bool) (nodes : List Node) (n : ℕ) → IsThere (condemn kept nodes) n → IsThere nodes n
 there-condemn kept nodes n there = sym (there_judged (has kept n) (node_at nodes n).life) ∙ sym (ap is_there (life-condemn kept nodes n)) ∙ there
-
-there_buried : (l : Life) → is_there (buried l) ≡ true → is_there l ≡ true
-there_buried Live there = refl
-there_buried Dead there = refl
-there_buried Gone there = there
 
 -- ---- counts
 

@@ -5,7 +5,6 @@ use Rattle.gc_graph.specs.declared.kind.Value.TheVariants.{Null, Ref, Word}
 use Rattle.gc_graph.specs.State.{Setup, State, Node, node_at, is_there, is_dead, size_of}
 pub use Rattle.gc_graph.specs.Valid.{IsThere}
 use Rattle.gc_graph.specs.Valid.{IsValid}
-use Rattle.gc_graph.specs.Sweep.{buried}
 use Rattle.object_headers.specs.Offsets.{reference_to}
 use Rattle.page_words.specs.Bodies.{Body}
 use Rattle.page_words.specs.Seat.{SeatView, holds}
@@ -43,7 +42,3 @@ pub record IsHeld (nodes : List Node) (v : SeatView) : Type 0 where
 -- the nodes of some valid state
 abbrev pub AreOfValid : Setup → List Node → Type 0
 AreOfValid setup nodes = (s : State) × IsValid setup s × (s.nodes ≡ nodes)
-
--- a dead node is gone
-abbrev pub bury : Node → Node
-bury node = record node { life = buried node.life }

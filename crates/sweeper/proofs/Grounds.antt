@@ -29,10 +29,6 @@ judged_ended v ended b there low =
     ∙ filter_holds (λ a. not (holds v.marked a)) (map (λ (c : Body). c.place) v.bodies) b.place
     ∙ ap (λ t. not (holds v.marked b.place) && t) (holds_place v.bodies b there) ∙ and_true (not (holds v.marked b.place))
 
--- nothing lies below the first word
-pub clear_none : (v : SeatView) → IsClearBelow 0 v
-clear_none v = record { marked = λ a low. absurd (omega arith); traced = λ a low. absurd (omega arith); dead = λ a low. absurd (omega arith) }
-
 -- an object is made in a page that is swept
 pub sweep_occupied : (sweep : SweepView) (before after : SpaceView) (old new : SeatView) (b : Body) → Occupies old new b → IsSpaceOf after new
     → after.shape ≡ before.shape → b.place < cursor_at before.shape sweep → b.serial < 2 ^ 32 → MaySweep sweep before old → MaySweep sweep after new

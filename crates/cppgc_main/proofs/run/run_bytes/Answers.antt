@@ -1,4 +1,4 @@
-use Rattle.std.proofs.Common.{subst, sym}
+use Rattle.std.proofs.Common.{subst}
 use Rattle.heap_script.specs.Scripts.{IsBuiltScript}
 use Rattle.cppgc_main.proofs.Runnable.{script_is_runnable}
 use Rattle.cppgc_main.proofs.Outcomes.{bytes_of_script}

@@ -1,10 +1,8 @@
-use Rattle.std.proofs.Common.{◌≡◌, ℕ, ◌*◌, List, ◌++◌, length, sym, ap, ◌∙◌, subst, arith}
+use Rattle.std.proofs.Common.{◌≡◌, ℕ, List, ◌++◌, length, sym, ap, ◌∙◌, subst, arith}
 use Rattle.gc_graph.specs.declared.phase.Phase.TheVariants.{Sweeping}
-use Rattle.gc_graph.specs.State.{objects_of}
 use Rattle.gc_graph.specs.Sweep.{SweepsTo}
 use Rattle.sweeper.specs.Sweeping.{cursor_at}
 use Rattle.heap_engine.specs.Parts.{ObjectsView, CycleView, state_of}
-use Rattle.heap_engine.proofs.NodesSwept.{fewer_finalised}
 use Rattle.heap_engine.proofs.SweepSteps.{parts_sweep, parts_ready, cursor_open}
 use Rattle.heap_engine.proofs.cycle.Cycle.end_sweep.Goals as goal
 
@@ -30,7 +28,3 @@ returns-in-Sweeping-clause-ready c =
     parts_ready o c.finish.new.objects c.args.handles.now c.args.self.now c.finish.new.self o.shape.pages c.args.finalised.now.items c.finish.new.finalised.items
     c.step_keeps_valid.ensures c.shape_is_valid.ensures c.requires.ready sweeping (cursor_open o c.args.handles.now c.args.self.now c.requires.ready sweeping) (omega arith)
     c.finish.ensures.swept
-
-pub returns-in-Sweeping-clause-fewer : goal.returns-in-Sweeping-clause-fewer
-returns-in-Sweeping-clause-fewer c =
-    omega (arith, ap objects_of c.finish.ensures.swept.nodes.nodes, fewer_finalised (c.args.objects.now.shape.pages * c.args.objects.now.shape.page_words) c.args.objects.now.nodes)
