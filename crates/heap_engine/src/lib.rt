@@ -8,8 +8,8 @@
 //! (collections, prefinalizers and sweeps) and `outcome` (the lines of the last command). Each part
 //! owns what it holds and has a model, from which the state of the graph is put together. The
 //! commands, in `creating`, `fields`, `pairs`, `slots`, `stacking`, `totals` and `cycle`, take the
-//! parts. Inside, `marking`, `collecting` and `sweeping` (what comes before a pause and after it),
-//! `finding` (places), `field` and `pair_fields` (fields), and for contracts alone `nodes`,
+//! parts. Inside, `marking`, `collecting` and `object_sweeps` (what comes before a pause and after
+//! it), `finding` (places), `field` and `pair_fields` (fields), and for contracts alone `nodes`,
 //! `slot_lists`, `stack_words`, `states`, `entries` and `kinds`. Next down are `atomic_pause`,
 //! `member_fields`, `persistent_slots` and `page_space`.
 //!
@@ -39,6 +39,7 @@ mod kinds;
 mod marking;
 mod nodes;
 mod object_fields;
+mod object_sweeps;
 mod objects;
 mod outcome;
 mod pair_fields;
@@ -50,7 +51,6 @@ mod stack;
 mod stack_words;
 mod stacking;
 mod states;
-mod sweeping;
 mod sweeps;
 mod totals;
 
