@@ -12,6 +12,8 @@ pub mod PairLines
 pub mod PastLines
 pub mod PieceByPiece
 pub mod PlacesRead
+pub mod QuickKept
+pub mod QuickWords
 pub mod RanksOfWords
 pub mod ReadSoFar
 pub mod RowEnds

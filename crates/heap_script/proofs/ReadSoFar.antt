@@ -11,7 +11,7 @@ use Rattle.gc_graph.specs.Script.Threads.{AtRest}
 use Rattle.heap_script.specs.Scripts.{says_built}
 use Rattle.heap_script.specs.declared.past.Past.{Past}
 use Rattle.heap_script.specs.declared.script_lines.Kept.{Kept}
-use Rattle.heap_script.specs.Past.{threads_in, past_header, unbuilt_with, with_blank, reason_after, IsLineKept}
+use Rattle.heap_script.specs.Past.{threads_in, past_header, unbuilt_with, with_blank, reason_after, IsLineKept, IsLineRead}
 use Rattle.heap_script.proofs.LinesJudged.{judged}
 use Rattle.heap_script.proofs.PastLines.{IsPast, nothing_read, past_blank, past_type, past_command, threads_more, judged_is, type_says, command_says}
 
@@ -110,7 +110,7 @@ unbuilt_low past built low = elim (cases_Bool (past.unbuilt == 0 && not built)) 
 
 -- ---- one line more
 
-pub blank_more : (callbacks : ℕ) (lines more : List (List ℕ)) (n : ℕ) (line : List ℕ) (past : Past) (types : List ObjectType) (commands : List Command)
+blank_more : (callbacks : ℕ) (lines more : List (List ℕ)) (n : ℕ) (line : List ℕ) (past : Past) (types : List ObjectType) (commands : List Command)
     → IsReadTo callbacks lines n past types commands → drop n lines ≡ line ∷ more → words_of line ≡ []
     → IsReadTo callbacks lines (n + 1) (with_blank past) types commands
 blank_more callbacks lines more n line past types commands read e none =
@@ -166,7 +166,7 @@ words_more callbacks lines more n line past next types new_types commands new_co
       };
     }
 
-pub line_more : (callbacks : ℕ) (lines more : List (List ℕ)) (n : ℕ) (line : List ℕ) (old new : Kept) (words : List (List ℕ))
+line_more : (callbacks : ℕ) (lines more : List (List ℕ)) (n : ℕ) (line : List ℕ) (old new : Kept) (words : List (List ℕ))
     → IsReadTo callbacks lines n old.past old.types.items old.commands.items → drop n lines ≡ line ∷ more → words_of line ≡ words
     → is_blank line ≡ false → reason_after callbacks old.past words ≡ None → IsLineKept words old new
     → IsReadTo callbacks lines (n + 1) new.past new.types.items new.commands.items
@@ -187,6 +187,25 @@ line_more callbacks lines more n line old new words read e are some fine (inr ke
     (ap (λ (p : Past). p.lines) kept.past) (ap (λ (p : Past). p.last) kept.past) (ap (λ (p : Past). p.unbuilt) kept.past)
     (ap says_built ws ∙ command_says words kept.command kept.says)
 
-pub kept_lines : (words : List (List ℕ)) (old new : Kept) → IsLineKept words old new → new.past.lines ≡ old.past.lines + 1
+kept_lines : (words : List (List ℕ)) (old new : Kept) → IsLineKept words old new → new.past.lines ≡ old.past.lines + 1
 kept_lines words old new (inl kept) = ap (λ (p : Past). p.lines) kept.past
 kept_lines words old new (inr kept) = ap (λ (p : Past). p.lines) kept.past
+
+-- ---- one line more, with words or without
+
+pub read_more : (callbacks : ℕ) (lines more : List (List ℕ)) (n : ℕ) (line : List ℕ) (old new : Kept) (words : List (List ℕ))
+    → IsReadTo callbacks lines n old.past old.types.items old.commands.items → drop n lines ≡ line ∷ more → words_of line ≡ words
+    → IsLineRead callbacks words old new
+    → IsReadTo callbacks lines (n + 1) new.past new.types.items new.commands.items
+read_more callbacks lines more n line old new words read e are (inl blank) =
+    subst (λ past. IsReadTo callbacks lines (n + 1) past new.types.items new.commands.items) (sym blank.past)
+    (subst (λ types. IsReadTo callbacks lines (n + 1) (with_blank old.past) types new.commands.items) (sym blank.types)
+    (subst (IsReadTo callbacks lines (n + 1) (with_blank old.past) old.types.items) (sym blank.commands)
+    (blank_more callbacks lines more n line old.past old.types.items old.commands.items read e (are ∙ blank.none))))
+read_more callbacks lines more n line old new words read e are (inr kept) =
+    line_more callbacks lines more n line old new words read e are (ap (λ (ws : List (List ℕ)). length ws == 0) are ∙ kept.some) kept.fine kept.kept
+
+pub read_lines : (callbacks : ℕ) (words : List (List ℕ)) (old new : Kept) → IsLineRead callbacks words old new
+    → new.past.lines ≡ old.past.lines + 1
+read_lines callbacks words old new (inl blank) = ap (λ (p : Past). p.lines) blank.past
+read_lines callbacks words old new (inr kept) = kept_lines words old new kept.kept

@@ -1,12 +1,12 @@
 -- Numbers that are read with their word.
-use Rattle.std.proofs.Common.{◌≡◌, ℕ, ◌+◌, ◌-◌, ◌*◌, ◌<◌, ◌≤◌, ◌==◌, not, Bool, true, cond, List, [], ◌∷◌, ◌++◌, length, get_or, take, drop, refl, sym, ap, ◌∙◌, arith}
-use Rattle.std.specs.Prelude.{nat_le}
+use Rattle.std.proofs.Common.{◌≡◌, ℕ, ◌+◌, ◌-◌, ◌*◌, ◌<◌, ◌≤◌, ◌==◌, not, Bool, true, false, cond, List, [], ◌∷◌, ◌++◌, length, get_or, take, drop, refl, sym, ap, ◌∙◌, arith}
+use Rattle.std.specs.Prelude.{◌^◌, nat_le, nat_lt}
 use Rattle.std.specs.List.{list_all}
-use Rattle.std.proofs.lemmas.List.{take_more, length-drop, get_or-drop}
+use Rattle.std.proofs.lemmas.List.{take_more, drop_more, length-drop, get_or-drop}
 use Rattle.std.proofs.lemmas.List.Folds.{list_all_more}
-use Rattle.std.proofs.lemmas.Bool.{and_parts, and_from, cond-false, leb-true, le-leb, not-true, not_from_false, ne_eqb}
-use Rattle.gc_graph.specs.Words.{is_digit, value_after}
-use Rattle.heap_script.specs.Cursor.{is_word_byte, IsDigits, IsWordEnd}
+use Rattle.std.proofs.lemmas.Bool.{and_parts, and_from, cond-false, leb-true, le-leb, lt-ltb, not-true, not_from_false, ne_eqb}
+use Rattle.gc_graph.specs.Words.{is_digit, is_number, value_after}
+use Rattle.heap_script.specs.Cursor.{is_word_byte, IsDigits, IsLoneDigit, IsWordEnd}
 
 value_push : (n : ℕ) (word : List ℕ) (b : ℕ) → value_after n (word ++ b ∷ []) ≡ value_after n word * 10 + (b - 48)
 value_push n [] b = refl
@@ -74,3 +74,31 @@ digits_end bytes start place value end so is e = record {
       (sym (cond-false (place == length bytes) true (not (is_word_byte (get_or bytes place 0))) (ne_eqb place (length bytes) (λ t. omega (arith, t, low))))
       ∙ sym is ∙ e);
 }
+
+-- ---- a word of one digit
+
+digit_alone : (b : ℕ) → 48 ≤ b → b ≤ 57 → is_digit b ≡ true
+digit_alone b above below = and_from (nat_le 48 b) (nat_le b 57) (le-leb 48 b above) (le-leb b 57 below)
+
+number_alone : (b : ℕ) → 48 ≤ b → b ≤ 57 → is_number (b ∷ []) ≡ true
+number_alone b above below =
+    and_from (list_all is_digit (b ∷ [])) (nat_lt (value_after 0 (b ∷ [])) (2 ^ 64)) (and_from (is_digit b) true (digit_alone b above below) refl)
+    (lt-ltb (value_after 0 (b ∷ [])) (2 ^ 64) (omega (arith, below)))
+
+pub lone_digit : (bytes : List ℕ) (start : ℕ) → start + 1 < length bytes → 48 ≤ get_or bytes start 0 → get_or bytes start 0 ≤ 57
+    → is_word_byte (get_or bytes (start + 1) 0) ≡ false → IsLoneDigit bytes start (get_or bytes start 0 - 48)
+lone_digit bytes start within above below gap =
+    let b : ℕ = get_or bytes start 0 in
+    let one : start + 1 - start ≡ 1 = omega arith in
+    let word : take (start + 1 - start) (drop start bytes) ≡ b ∷ [] =
+    ap (λ n. take n (drop start bytes)) one ∙ ap (take 1) (drop_more bytes start 0 (omega arith)) in
+    record {
+      ends = record {
+        order = omega arith;
+        within = omega arith;
+        inner = ap (list_all is_word_byte) word ∙ and_from (is_word_byte b) true (digit_byte b (digit_alone b above below)) refl;
+        stop = λ low. gap;
+      };
+      number = ap is_number word ∙ number_alone b above below;
+      value_is = ap (value_after 0) word ∙ omega arith;
+    }

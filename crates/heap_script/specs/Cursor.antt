@@ -1,7 +1,7 @@
 -- The words of a line, one after the other, by their places in the bytes.
-use Rattle.std.specs.Prelude.{◌≡◌, ◌⊎◌, ℕ, ◌-◌, ◌<◌, ◌≤◌, ◌==◌, ◌&&◌, not, Bool, true, false, List, [], ◌∷◌, length, take, drop, Some, slice_get, slice_index, slice_index_or}
+use Rattle.std.specs.Prelude.{◌≡◌, ◌⊎◌, ℕ, ◌+◌, ◌-◌, ◌<◌, ◌≤◌, ◌==◌, ◌&&◌, not, Bool, true, false, List, [], ◌∷◌, length, take, drop, Some, slice_get, slice_index, slice_index_or}
 use Rattle.std.specs.List.{list_all}
-use Rattle.gc_graph.specs.Words.{lines_of, words_of, is_digit, value_after}
+use Rattle.gc_graph.specs.Words.{lines_of, words_of, is_digit, is_number, value_after}
 
 -- the first line, empty where there is none
 abbrev pub first_line : List ℕ → List ℕ
@@ -68,3 +68,9 @@ pub record IsDigits (bytes : List ℕ) (start place value : ℕ) : Type 0 where
   pub digits : list_all is_digit (take (place - start) (drop start bytes)) ≡ true
   pub value_is : value ≡ value_after 0 (take (place - start) (drop start bytes))
   pub low : value < 1000000000
+
+-- a word of one digit stands there, which is this number
+pub record IsLoneDigit (bytes : List ℕ) (start value : ℕ) : Type 0 where
+  pub ends : IsWordEnd bytes start (start + 1)
+  pub number : is_number (take (start + 1 - start) (drop start bytes)) ≡ true
+  pub value_is : value_after 0 (take (start + 1 - start) (drop start bytes)) ≡ value

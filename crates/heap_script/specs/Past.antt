@@ -1,5 +1,5 @@
 -- What the lines before say, and what one more adds.
-use Rattle.std.specs.Prelude.{◌≡◌, ◌⊎◌, ℕ, ◌+◌, ◌==◌, ◌&&◌, not, Bool, true, false, List, [], ◌∷◌, ◌++◌, Option, Some, None, if◌then◌else◌, codes}
+use Rattle.std.specs.Prelude.{◌≡◌, ◌⊎◌, ℕ, ◌+◌, ◌==◌, ◌&&◌, not, Bool, true, false, List, [], ◌∷◌, ◌++◌, Option, Some, None, if◌then◌else◌, codes, length}
 use Rattle.gc_graph.specs.declared.command.Command.{Command}
 use Rattle.gc_graph.specs.declared.command.Command.TheVariants as C
 use Rattle.gc_graph.specs.State.{ObjectType}
@@ -78,6 +78,12 @@ with_command past command = record (with_words past (is_built command)) {
   stage = stage_after past.stage command;
 }
 
+-- a command that is built, and that no thread's order is, so that the stage lets it be and stays
+pub record IsPlain (command : Command) : Type 0 where
+  pub built : is_built command ≡ true
+  pub timely : (stage : Stage) → breaks stage command ≡ false
+  pub stays : (stage : Stage) → stage_after stage command ≡ stage
+
 -- ---- the reason of a line with words
 
 -- how many types and callbacks the next line may name
@@ -121,3 +127,32 @@ pub record IsCommandKept (words : List (List ℕ)) (old new : Kept) : Type 0 whe
 -- a line with these words was kept, as a type or as a command
 abbrev pub IsLineKept : List (List ℕ) → Kept → Kept → Type 0
 IsLineKept words old new = IsTypeKept words old new ⊎ IsCommandKept words old new
+
+-- a command was kept
+pub record IsCommandAdded (command : Command) (old new : Kept) : Type 0 where
+  pub past : new.past ≡ with_command old.past command
+  pub types : new.types.items ≡ old.types.items
+  pub commands : new.commands.items ≡ old.commands.items ++ command ∷ []
+
+-- ---- a line with words or without
+
+-- a line without words was counted
+pub record IsBlankKept (words : List (List ℕ)) (old new : Kept) : Type 0 where
+  pub none : words ≡ []
+  pub past : new.past ≡ with_blank old.past
+  pub types : new.types.items ≡ old.types.items
+  pub commands : new.commands.items ≡ old.commands.items
+
+-- a line with words was kept, which have no fault
+pub record AreWordsKept (callbacks : ℕ) (words : List (List ℕ)) (old new : Kept) : Type 0 where
+  pub some : (length words == 0) ≡ false
+  pub fine : reason_after callbacks old.past words ≡ None
+  pub kept : IsLineKept words old new
+
+-- a line with these words was read
+abbrev pub IsLineRead : ℕ → List (List ℕ) → Kept → Kept → Type 0
+IsLineRead callbacks words old new = IsBlankKept words old new ⊎ AreWordsKept callbacks words old new
+
+-- there are words, and they have this reason
+abbrev pub AreFaultyWords : ℕ → Past → List (List ℕ) → ℕ → Type 0
+AreFaultyWords callbacks past words number = ((length words == 0) ≡ false) × IsReasonOf (reason_after callbacks past words) number

@@ -1,10 +1,26 @@
 -- Small numbers of a line, for lines that are read without the table of forms.
-use Rattle.std.specs.Prelude.{◌≡◌, ℕ, ◌<◌, ◌≤◌, true, List, [], ◌∷◌, length, drop}
+use Rattle.std.specs.Prelude.{◌≡◌, ℕ, ◌+◌, ◌<◌, ◌≤◌, true, false, List, [], ◌∷◌, length, drop, Some, None, codes}
 use Rattle.gc_graph.specs.Words.{is_number}
-use Rattle.gc_graph.specs.Reasons.{value_of}
+use Rattle.gc_graph.specs.Reasons.{value_of, Bounds, first_is, reason_of_words, command_of_words}
 use Rattle.heap_script.specs.Cursor.{line_words, lines_after, IsLineEnd}
+use Rattle.heap_script.specs.Past.{IsPlain}
 use Rattle.heap_script.specs.declared.quick_lines.Small.{Small}
 use Rattle.heap_script.specs.declared.quick_lines.SlotFieldSlot.{SlotFieldSlot}
+use Rattle.heap_script.specs.declared.quick_lines.QuickLine.{QuickLine}
+
+-- the line begins with this word, whose first byte stands at `at`
+pub record IsFirstWord (bytes : List ℕ) (at : ℕ) (word : List ℕ) : Type 0 where
+  pub within : at + length word ≤ length bytes
+  pub words : line_words (drop at bytes) ≡ word ∷ line_words (drop (at + length word) bytes)
+  pub same : lines_after (drop at bytes) ≡ lines_after (drop (at + length word) bytes)
+
+-- the words say this command and have no fault, and the line ends there
+pub record IsQuickLine (bounds : Bounds) (words : List (List ℕ)) (bytes : List ℕ) (from : ℕ) (line : QuickLine) : Type 0 where
+  pub fine : reason_of_words bounds words ≡ None
+  pub says : command_of_words words ≡ Some line.command
+  pub ends : IsLineEnd bytes from line.end
+  pub type_free : first_is (codes "type") words ≡ false
+  pub plain : IsPlain line.command
 
 -- the next word of the line, from `from` on, is this number, which is below the limit
 pub record IsSmall (bytes : List ℕ) (from limit : ℕ) (small : Small) : Type 0 where

@@ -10,7 +10,6 @@ use super::cursor::next_word;
 use super::forms::{Make, Spot};
 use super::pairs::half_rank_of;
 use super::places::{Bounds, Reading, read_place};
-use super::quick_lines::quick_line;
 use super::reasons::{COUNT, FAULTLESS, UNKNOWN_WORD};
 use super::row_lines::{CommandLine, read_row, read_small_row, read_wide_row, refused};
 use super::rows::{at_row_of, gc_row_of, row_of};
@@ -25,9 +24,6 @@ pub(crate) fn read_command(bytes: &[u8], start: usize, end: usize, bounds: Bound
         (take (end - start) (drop start bytes.now) ∷ line_words (drop end bytes.now))
         bytes.now end result }
 {
-    if let Some(line) = quick_line(bytes, start, end, bounds) {
-        return line;
-    }
     let word = &bytes[start..end];
     if word == b"gc".as_slice() {
         return read_gc(bytes, end, bounds);

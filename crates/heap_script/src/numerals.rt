@@ -1,8 +1,8 @@
 // The next word of a line with the number that it is, of which short ones are read with the word.
 
-ghost use Rattle.std.specs.Prelude.{◌≡◌, ◌+◌, ◌-◌, ◌==◌, ◌&&◌, not, nat_lt, ◌≤◌, true, Some, None, length, slice_index, take, drop, if◌then◌else◌};
+ghost use Rattle.std.specs.Prelude.{◌≡◌, ◌+◌, ◌-◌, ◌==◌, ◌&&◌, not, nat_lt, ◌≤◌, true, Some, None, length, slice_index, take, drop, if◌then◌else◌, IfSome};
 ghost use Rattle.gc_graph.specs.Words.{is_number, value_after};
-ghost use Rattle.heap_script.specs.Cursor.{IsDigits, IsNextWord, IsWordEnd, is_word_byte};
+ghost use Rattle.heap_script.specs.Cursor.{IsDigits, IsLoneDigit, IsNextWord, IsWordEnd, is_word_byte};
 
 use super::cursor::{past_spaces, word_end};
 use super::numbers::number;
@@ -25,6 +25,13 @@ pub(crate) fn next_number(bytes: &[u8], from: usize) -> Numeral
         else None) }
 {
     let start = past_spaces(bytes, from);
+    if let Some(value) = lone_digit(bytes, start) {
+        return Numeral {
+            start,
+            end: start + 1,
+            value: Some(value),
+        };
+    }
     let (place, value) = digits(bytes, start);
     if is_end(bytes, place) {
         let value = if is_plain(bytes, start, place) {
@@ -39,6 +46,30 @@ pub(crate) fn next_number(bytes: &[u8], from: usize) -> Numeral
         };
     }
     long_number(bytes, start)
+}
+
+// The number of a word of one digit, which isn't the last byte.
+#[inline(always)]
+fn lone_digit(bytes: &[u8], start: usize) -> Option<u64>
+    requires { start ≤ length bytes.now }
+    ensures { IfSome result (IsLoneDigit bytes.now start) }
+{
+    if bytes.len() - start < 2 {
+        return None;
+    }
+    let digit = bytes[start];
+    if digit < b'0' || digit > b'9' || !is_gap(bytes[start + 1]) {
+        return None;
+    }
+    Some(u64::from(digit - b'0'))
+}
+
+// A byte that stands in no word.
+#[inline(always)]
+fn is_gap(byte: u8) -> bool
+    ensures { result ≡ not (is_word_byte byte) }
+{
+    byte == b' ' || byte == b'\n'
 }
 
 // A word that doesn't end with its first digits.
@@ -86,7 +117,7 @@ fn is_end(bytes: &[u8], place: usize) -> bool
     ensures { result ≡ (if place == length bytes.now then true
         else not (is_word_byte (slice_index bytes.now place))) }
 {
-    place == bytes.len() || bytes[place] == b' ' || bytes[place] == b'\n'
+    place == bytes.len() || is_gap(bytes[place])
 }
 
 // The digits are a number: there is one, and no zero stands before others.

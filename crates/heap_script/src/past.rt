@@ -73,6 +73,18 @@ impl Past {
         }
     }
 
+    /// The same, for a command that no thread's order is, and that is built.
+    #[inline(always)]
+    pub(crate) fn add_plain(&mut self, command: &Command)
+        requires lines { self.old.lines < 1000000 }
+        requires plain { spec.IsPlain command.now }
+        ensures { self.new ≡ spec.with_command self.old command.now }
+    {
+        let _ = command;
+        self.note(true);
+        self.bare = false;
+    }
+
     // One more line with words.
     fn note(&mut self, built: bool)
         requires { self.old.lines < 1000000 }

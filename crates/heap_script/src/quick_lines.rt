@@ -1,16 +1,16 @@
 // The most frequent lines, read without the table of forms. They are a part of what `read_command`
 // reads, and only quicker.
 
-ghost use Rattle.std.specs.Prelude.{◌≡◌, ◌-◌, ◌<◌, ◌≤◌, ◌∷◌, length, take, drop, codes, Ok, IfSome};
-ghost use Rattle.heap_script.specs.Cursor.{line_words};
-ghost use Rattle.heap_script.specs.CommandLines.{IsCommandLine};
+ghost use Rattle.std.specs.Prelude.{◌≡◌, ◌<◌, ◌≤◌, ◌==◌, true, ◌∷◌, length, slice_index, drop, codes, IfSome, if◌then◌else◌};
+ghost use Rattle.std.specs.List.{list_all};
+ghost use Rattle.heap_script.specs.Cursor.{is_word_byte, line_words};
+ghost use Rattle.heap_script.specs.QuickLines.{IsFirstWord, IsQuickLine};
 ghost use Rattle.heap_script.specs.QuickLines.{IsSmall, AreSlotFieldSlot, IsEndOfWords};
 ghost use Rattle.heap_script.specs.Rows.{bounds_of};
 
-use super::cursor::next_word;
+use super::cursor::past_spaces;
 use super::numerals::next_number;
 use super::places::Bounds;
-use super::row_lines::CommandLine;
 use gc_graph::Command;
 
 /// A number of a line, and the place after it.
@@ -36,57 +36,74 @@ const FIELDS: u32 = 67_108_864;
 
 const EXTRA_WORDS: u32 = 33_554_433;
 
-/// The line whose first word stands from `start` to `end`, where it is one of these and has no fault.
-pub(crate) fn quick_line(
-    bytes: &[u8],
-    start: usize,
-    end: usize,
-    bounds: Bounds,
-) -> Option<CommandLine>
-    requires word { start < end }
-    requires within { end ≤ length bytes.now }
-    ensures { IfSome result (IsCommandLine (bounds_of bounds)
-        (take (end - start) (drop start bytes.now) ∷ line_words (drop end bytes.now))
-        bytes.now end) }
+/// The command that a line says, and the end of the line.
+#[derive(Clone, Copy)]
+pub(crate) struct QuickLine {
+    pub(crate) command: Command,
+    pub(crate) end: usize,
+}
+
+/// The line that begins at `at`, where its first word stands there and is one of these, and it has
+/// no fault.
+#[inline(always)]
+pub(crate) fn quick_line(bytes: &[u8], at: usize, bounds: Bounds) -> Option<QuickLine>
+    requires { at ≤ length bytes.now }
+    ensures { IfSome result (IsQuickLine (bounds_of bounds) (line_words (drop at bytes.now))
+        bytes.now at) }
 {
-    let word = &bytes[start..end];
-    if word == b"set".as_slice() {
-        return quick_set(bytes, end, bounds);
+    if begins(bytes, at, b"set") {
+        return quick_set(bytes, at + 3, bounds);
     }
-    if word == b"get".as_slice() {
-        return quick_get(bytes, end, bounds);
+    if begins(bytes, at, b"get") {
+        return quick_get(bytes, at + 3, bounds);
     }
-    if word == b"new".as_slice() {
-        return quick_new(bytes, end, bounds);
+    if begins(bytes, at, b"new") {
+        return quick_new(bytes, at + 3, bounds);
     }
-    if word == b"drop".as_slice() {
-        return quick_drop(bytes, end, bounds);
+    if begins(bytes, at, b"drop") {
+        return quick_drop(bytes, at + 4, bounds);
     }
     None
 }
 
-fn quick_set(bytes: &[u8], from: usize, bounds: Bounds) -> Option<CommandLine>
+// Whether this word and a space stand there.
+#[inline(always)]
+fn begins(bytes: &[u8], at: usize, word: &[u8]) -> bool
+    requires within { at ≤ length bytes.now }
+    requires some { 0 < length word.now }
+    requires word { list_all is_word_byte word.now ≡ true }
+    ensures { result ≡ true → IsFirstWord bytes.now at word.now }
+{
+    if bytes.len() - at <= word.len() || bytes[at + word.len()] != b' ' {
+        return false;
+    }
+    &bytes[at..at + word.len()] == word
+}
+
+#[inline(always)]
+fn quick_set(bytes: &[u8], from: usize, bounds: Bounds) -> Option<QuickLine>
     requires { from ≤ length bytes.now }
-    ensures { IfSome result (IsCommandLine (bounds_of bounds)
+    ensures { IfSome result (IsQuickLine (bounds_of bounds)
         (codes "set" ∷ line_words (drop from bytes.now)) bytes.now from) }
 {
     let _ = bounds;
     let SlotFieldSlot { p, f, q, end } = slot_field_slot(bytes, from)?;
-    Some(CommandLine {
-        said: Ok(Command::Set { p, f, q }),
+    Some(QuickLine {
+        command: Command::Set { p, f, q },
         end,
     })
 }
 
-fn quick_get(bytes: &[u8], from: usize, bounds: Bounds) -> Option<CommandLine>
+#[inline(always)]
+fn quick_get(bytes: &[u8], from: usize, bounds: Bounds) -> Option<QuickLine>
     requires { from ≤ length bytes.now }
-    ensures { IfSome result (IsCommandLine (bounds_of bounds)
+    ensures { IfSome result (IsQuickLine (bounds_of bounds)
         (codes "get" ∷ line_words (drop from bytes.now)) bytes.now from) }
 {
     let _ = bounds;
     let SlotFieldSlot { p, f, q, end } = slot_field_slot(bytes, from)?;
-    Some(CommandLine {
-        said: Ok(Command::Get { p, f, q }),
+    Some(QuickLine {
+        command: Command::Get { p, f, q },
         end,
     })
 }
@@ -109,9 +126,10 @@ fn slot_field_slot(bytes: &[u8], from: usize) -> Option<SlotFieldSlot>
     })
 }
 
-fn quick_new(bytes: &[u8], from: usize, bounds: Bounds) -> Option<CommandLine>
+#[inline(always)]
+fn quick_new(bytes: &[u8], from: usize, bounds: Bounds) -> Option<QuickLine>
     requires { from ≤ length bytes.now }
-    ensures { IfSome result (IsCommandLine (bounds_of bounds)
+    ensures { IfSome result (IsQuickLine (bounds_of bounds)
         (codes "new" ∷ line_words (drop from bytes.now)) bytes.now from) }
 {
     let p = next_small(bytes, from, SLOTS)?;
@@ -125,26 +143,27 @@ fn quick_new(bytes: &[u8], from: usize, bounds: Bounds) -> Option<CommandLine>
 }
 
 #[inline(always)]
-fn new_line(p: u32, t: u32, e: u32, end: usize) -> CommandLine
-    ensures said { result.said ≡ Ok (Command.New p t e) }
+fn new_line(p: u32, t: u32, e: u32, end: usize) -> QuickLine
+    ensures command { result.command ≡ Command.New p t e }
     ensures end { result.end ≡ end }
 {
-    CommandLine {
-        said: Ok(Command::New { p, t, e }),
+    QuickLine {
+        command: Command::New { p, t, e },
         end,
     }
 }
 
-fn quick_drop(bytes: &[u8], from: usize, bounds: Bounds) -> Option<CommandLine>
+#[inline(always)]
+fn quick_drop(bytes: &[u8], from: usize, bounds: Bounds) -> Option<QuickLine>
     requires { from ≤ length bytes.now }
-    ensures { IfSome result (IsCommandLine (bounds_of bounds)
+    ensures { IfSome result (IsQuickLine (bounds_of bounds)
         (codes "drop" ∷ line_words (drop from bytes.now)) bytes.now from) }
 {
     let _ = bounds;
     let p = next_small(bytes, from, SLOTS)?;
     let end = line_end(bytes, p.end)?;
-    Some(CommandLine {
-        said: Ok(Command::Drop { p: p.value }),
+    Some(QuickLine {
+        command: Command::Drop { p: p.value },
         end,
     })
 }
@@ -171,6 +190,20 @@ fn line_end(bytes: &[u8], from: usize) -> Option<usize>
     requires { from ≤ length bytes.now }
     ensures { IfSome result (IsEndOfWords bytes.now from) }
 {
-    let (start, end) = next_word(bytes, from);
-    if start < end { None } else { Some(end) }
+    let end = past_spaces(bytes, from);
+    if is_line_end(bytes, end) {
+        Some(end)
+    } else {
+        None
+    }
+}
+
+// A line's end stands there, or that of the bytes.
+#[inline(always)]
+fn is_line_end(bytes: &[u8], place: usize) -> bool
+    requires { place ≤ length bytes.now }
+    ensures { result ≡ (if place == length bytes.now then true
+        else (slice_index bytes.now place == 10)) }
+{
+    place == bytes.len() || bytes[place] == b'\n'
 }

@@ -3,11 +3,14 @@
 ghost use Rattle.std.specs.Prelude.{◌≡◌, ◌<◌, ◌≤◌, ◌-◌, ◌∷◌, false, take, drop, codes, length, IfOk, IfErr};
 ghost use Rattle.gc_graph.specs.Words.{is_text as is_same};
 ghost use Rattle.heap_script.specs.Cursor.{IsLineEnd, line_words, words_from};
-ghost use Rattle.heap_script.specs.Past.{reason_after, IsReasonOf, IsTypeKept, IsCommandKept, IsLineKept};
+ghost use Rattle.heap_script.specs.Past.{reason_after, IsReasonOf, IsPlain, IsTypeKept, IsCommandKept};
+ghost use Rattle.heap_script.specs.Past.{IsCommandAdded, IsLineKept, IsLineRead, AreFaultyWords};
 
 use super::command_lines::read_command;
+use super::cursor::next_word;
 use super::past::Past;
 use super::places::Bounds;
+use super::quick_lines::{QuickLine, quick_line};
 use super::reasons::{NO_MEMORY, ORDER, SECTION};
 use super::type_lines::read_type;
 use super::words::is_text;
@@ -23,9 +26,58 @@ pub(crate) struct Kept {
     pub(crate) commands: Vec<Command>,
 }
 
-/// Keeps what the line says whose first word stands from `start` to `end`, and tells where the line
-/// ends, or the number of the reason why it says nothing.
+/// Keeps what the line says that begins at `at`, and tells where it ends, or the number of the reason
+/// why it says nothing.
 pub(crate) fn keep_line(
+    alloc: Global,
+    bytes: &[u8],
+    at: usize,
+    callbacks: u32,
+    kept: &mut Kept,
+) -> Result<usize, u32>
+    requires within { at ≤ length bytes.now }
+    requires lines { kept.old.past.lines < 1000000 }
+    ensures kept { IfOk result (λ _.
+        IsLineRead callbacks (line_words (drop at bytes.now)) kept.old kept.new) }
+    ensures end { IfOk result (λ end. IsLineEnd bytes.now at end) }
+    ensures fault { IfErr result
+        (AreFaultyWords callbacks kept.old.past (line_words (drop at bytes.now))) }
+    ensures same { IfErr result (λ _. kept.new.past ≡ kept.old.past) }
+{
+    let bounds = Bounds {
+        types: kept.past.types,
+        callbacks,
+    };
+    if let Some(line) = quick_line(bytes, at, bounds) {
+        return keep_quick(line, kept);
+    }
+    let (start, end) = next_word(bytes, at);
+    if start == end {
+        kept.past.add_blank();
+        return Ok(end);
+    }
+    keep_words(alloc, bytes, start, end, callbacks, kept)
+}
+
+// Keeps a command that no thread's order is, and that is built.
+#[inline(always)]
+fn keep_quick(line: QuickLine, kept: &mut Kept) -> Result<usize, u32>
+    requires plain { IsPlain line.command }
+    requires lines { kept.old.past.lines < 1000000 }
+    ensures kept { IfOk result (λ _. IsCommandAdded line.command kept.old kept.new) }
+    ensures end { IfOk result (λ end. end ≡ line.end) }
+    ensures memory { IfErr result (λ reason. reason ≡ 0) }
+    ensures same { IfErr result (λ _. kept.new.past ≡ kept.old.past) }
+{
+    if kept.commands.push(line.command).is_err() {
+        return Err(NO_MEMORY);
+    }
+    kept.past.add_plain(&line.command);
+    Ok(line.end)
+}
+
+// Keeps what the line says whose first word stands from `start` to `end`.
+fn keep_words(
     alloc: Global,
     bytes: &[u8],
     start: usize,

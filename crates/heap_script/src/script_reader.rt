@@ -7,7 +7,6 @@ ghost use Rattle.gc_graph.specs.Words.{lines_of};
 ghost use Rattle.heap_script.specs.Cursor.{first_line};
 ghost use Rattle.heap_script.specs.Reading.{IsWhole, IsStopped, stop_with};
 
-use super::cursor::next_word;
 use super::lines::{count_from, header_end, next_line};
 use super::past::Past;
 use super::reasons::{HEADER, NO_MEMORY, SECTION, TOO_LONG};
@@ -59,17 +58,11 @@ fn read_after(alloc: Global, bytes: &[u8], from: usize, callbacks: u32) -> Resul
         if kept.past.lines == MOST_LINES {
             return Err(too_long());
         }
-        let (start, end) = next_word(bytes, at);
-        if start == end {
-            kept.past.add_blank();
-            at = next_line(bytes, end);
-        } else {
-            match keep_line(alloc, bytes, start, end, callbacks, &mut kept) {
-                Ok(end) => at = next_line(bytes, end),
-                Err(reason) => {
-                    let past = kept.past;
-                    return Err(stop_at(bytes, at, past.lines, reason, past.unbuilt));
-                }
+        match keep_line(alloc, bytes, at, callbacks, &mut kept) {
+            Ok(end) => at = next_line(bytes, end),
+            Err(reason) => {
+                let past = kept.past;
+                return Err(stop_at(bytes, at, past.lines, reason, past.unbuilt));
             }
         }
     }

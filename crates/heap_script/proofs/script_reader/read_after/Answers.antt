@@ -1,31 +1,13 @@
-use Rattle.std.proofs.Common.{◌≡◌, ℕ, ◌+◌, ◌-◌, ◌<◌, ◌∷◌, List, length, take, drop, ap, sym, ◌∙◌, arith}
+use Rattle.std.proofs.Common.{◌≡◌, ℕ, ◌+◌, ◌<◌, ◌∷◌, List, length, drop, ap, sym, ◌∙◌, refl, arith}
 use Rattle.std.proofs.lemmas.List.{drop_all}
 use Rattle.gc_graph.specs.Words.{lines_of}
 use Rattle.heap_script.specs.declared.past.Past.{Past}
-use Rattle.heap_script.specs.Cursor.{first_line, line_words, lines_after, words_from}
+use Rattle.heap_script.specs.Cursor.{first_line, line_words, lines_after}
 use Rattle.heap_script.specs.Reading.{stop_with}
-use Rattle.heap_script.proofs.LinesInTurn.{lines_left, not_blank}
-use Rattle.heap_script.proofs.ReadSoFar.{next_there, rest_is, kept_lines, blank_more, line_more}
+use Rattle.heap_script.proofs.LinesInTurn.{lines_left}
+use Rattle.heap_script.proofs.ReadSoFar.{next_there, rest_is, read_lines, read_more}
 use Rattle.heap_script.proofs.ScriptEnds.{all_read, section_stop, line_stop, too_many}
 use Rattle.heap_script.proofs.script_reader.read_after.Goals as goal
-
-pub loop-at-preserved-then-start-end : goal.loop-at-preserved-then-start-end
-loop-at-preserved-then-start-end c =
-    let bytes : List ℕ = c.args.bytes.now in
-    let at : ℕ = c.loop-at.at in
-    let n : ℕ = c.loop-at.invariant.read_lines in
-    let tail : List (List ℕ) = lines_of (drop c.args.from bytes) in
-    let found = c.next_word-start.ensures.none (omega arith) in
-    let here : drop n tail ≡ first_line (drop at bytes) ∷ lines_after (drop at bytes) =
-    c.loop-at.invariant.left ∙ lines_left bytes at c.loop-at-test.true in
-    record {
-      within = c.next_line-at.ensures.within;
-      few = omega (arith, ap (λ (p : Past). p.lines) c.add_blank.ensures);
-      read_lines = n + 1;
-      left = rest_is tail (lines_after (drop at bytes)) n (first_line (drop at bytes)) here ∙ found.1.same ∙ sym c.next_line-at.ensures.lines;
-      read = rw c.add_blank.ensures (blank_more c.args.callbacks tail (lines_after (drop at bytes)) n (first_line (drop at bytes)) c.loop-at.kept.past
-          c.loop-at.kept.types.items c.loop-at.kept.commands.items c.loop-at.invariant.read here found.0);
-    }
 
 pub loop-at-preserved : goal.loop-at-preserved
 loop-at-preserved c =
@@ -33,20 +15,16 @@ loop-at-preserved c =
     let at : ℕ = c.loop-at.at in
     let n : ℕ = c.loop-at.invariant.read_lines in
     let tail : List (List ℕ) = lines_of (drop c.args.from bytes) in
-    let start : ℕ = c.next_word-start.result.0 in
-    let end : ℕ = c.next_word-start.result.1 in
     let line : List ℕ = first_line (drop at bytes) in
-    let some = c.next_word-start.ensures.some (omega arith) in
     let here : drop n tail ≡ line ∷ lines_after (drop at bytes) = c.loop-at.invariant.left ∙ lines_left bytes at c.loop-at-test.true in
     record {
-      within = c.next_line-at-in-Ok.ensures.within;
-      few = omega (arith, kept_lines (words_from bytes start end) c.loop-at.kept c.keep_line.new.kept c.in-Ok.ensures.kept);
+      within = c.next_line-at.ensures.within;
+      few = omega (arith, read_lines c.args.callbacks (line_words (drop at bytes)) c.loop-at.kept c.keep_line.new.kept c.in-Ok.ensures.kept);
       read_lines = n + 1;
       left = rest_is tail (lines_after (drop at bytes)) n line here
-          ∙ c.next_word-start.ensures.same ∙ c.in-Ok.ensures.end.same ∙ sym c.next_line-at-in-Ok.ensures.lines;
-      read = line_more c.args.callbacks tail (lines_after (drop at bytes)) n line c.loop-at.kept c.keep_line.new.kept (words_from bytes start end)
-          c.loop-at.invariant.read here some
-          (not_blank line (take (end - start) (drop start bytes)) (line_words (drop end bytes)) some) c.in-Ok.ensures.fine c.in-Ok.ensures.kept;
+          ∙ c.in-Ok.ensures.end.same ∙ sym c.next_line-at.ensures.lines;
+      read = read_more c.args.callbacks tail (lines_after (drop at bytes)) n line c.loop-at.kept c.keep_line.new.kept (line_words (drop at bytes))
+          c.loop-at.invariant.read here refl c.in-Ok.ensures.kept;
     }
 
 pub returns-then-kept-eq-MOST_LINES-clause-stop : goal.returns-then-kept-eq-MOST_LINES-clause-stop
@@ -65,17 +43,14 @@ returns-in-Err-clause-stop c =
     let at : ℕ = c.loop-at.at in
     let n : ℕ = c.loop-at.invariant.read_lines in
     let tail : List (List ℕ) = lines_of (drop c.args.from bytes) in
-    let start : ℕ = c.next_word-start.result.0 in
-    let end : ℕ = c.next_word-start.result.1 in
     let line : List ℕ = first_line (drop at bytes) in
     let more : List (List ℕ) = lines_after (drop at bytes) in
-    let some = c.next_word-start.ensures.some (omega arith) in
     let here : drop n tail ≡ line ∷ more = c.loop-at.invariant.left ∙ lines_left bytes at c.loop-at-test.true in
     let past : Past = c.loop-at.kept.past in
     let total : ℕ = past.lines + length (lines_of (drop at bytes)) in
     line_stop c.args.callbacks bytes (first_line bytes) tail c.requires.lines c.requires.header c.requires.few more n line past
-    c.loop-at.kept.types.items c.loop-at.kept.commands.items (words_from bytes start end) c.in-Err.reason total c.stop_at.result c.loop-at.invariant.read here some
-    (not_blank line (take (end - start) (drop start bytes)) (line_words (drop end bytes)) some) c.in-Err.ensures.fault
+    c.loop-at.kept.types.items c.loop-at.kept.commands.items (line_words (drop at bytes)) c.in-Err.reason total c.stop_at.result c.loop-at.invariant.read here refl
+    c.in-Err.ensures.fault.0 c.in-Err.ensures.fault.1
     (ap (λ (ls : List (List ℕ)). past.lines + length ls) (lines_left bytes at c.loop-at-test.true))
     (c.stop_at.ensures
     ∙ ap (λ (p : Past). stop_with (p.lines + length (lines_of (drop at bytes))) p.lines c.in-Err.reason p.unbuilt) c.in-Err.ensures.same)

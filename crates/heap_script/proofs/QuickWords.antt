@@ -1,0 +1,57 @@
+-- The first word of a line and the end of a line, for lines that are read without the table of forms.
+use Rattle.std.proofs.Common.{◌≡◌, ℕ, ◌+◌, ◌-◌, ◌<◌, ◌==◌, Bool, true, cond, not, List, [], ◌∷◌, length, get_or, take, drop, refl, sym, ap, ◌∙◌, arith}
+use Rattle.std.specs.List.{list_all}
+use Rattle.std.proofs.lemmas.List.{drop_more}
+use Rattle.std.proofs.lemmas.Bool.{and_parts, not-true, cond-false, eqb-true, ne_eqb}
+use Rattle.heap_script.specs.Cursor.{line_words, is_word_byte, IsPastSpaces}
+use Rattle.heap_script.specs.QuickLines.{IsFirstWord, IsEndOfWords}
+use Rattle.heap_script.proofs.WordPlaces.{word_found, stops_at_space, stops_at_line}
+
+-- the byte where a word begins
+first_byte : (bytes : List ℕ) (at b : ℕ) (word : List ℕ) → at < length bytes → take (length (b ∷ word)) (drop at bytes) ≡ b ∷ word
+    → get_or bytes at 0 ≡ b
+first_byte bytes at b word low is =
+    ap (λ (left : List ℕ). get_or left 0 0) (sym (ap (take (length (b ∷ word))) (drop_more bytes at 0 low)) ∙ is)
+
+-- a word at the front of a line, and a space after it
+pub first_word : (bytes : List ℕ) (at : ℕ) (word : List ℕ) → at + length word < length bytes → get_or bytes (at + length word) 0 ≡ 32
+    → 0 < length word → list_all is_word_byte word ≡ true → take (length word) (drop at bytes) ≡ word → IsFirstWord bytes at word
+first_word bytes at [] within space some all is = absurd (omega arith)
+first_word bytes at (b ∷ word) within space some all is =
+    let n : ℕ = length (b ∷ word) in
+    let end : ℕ = at + n in
+    let count : end - at ≡ n = omega arith in
+    let plain = and_parts (not (b == 32)) (not (b == 10)) (and_parts (is_word_byte b) (list_all is_word_byte word) all).0 in
+    let past : IsPastSpaces bytes at at = record {
+      before = omega arith;
+      within = omega arith;
+      words = refl;
+      lines = refl;
+      stop = λ low. ap (λ x. x == 32) (first_byte bytes at b word low is) ∙ not-true (b == 32) plain.0;
+    } in
+    let found = word_found bytes at at end past (record {
+      order = omega arith;
+      within = omega arith;
+      inner = ap (λ m. list_all is_word_byte (take m (drop at bytes))) count ∙ ap (list_all is_word_byte) is ∙ all;
+      stop = λ low. stops_at_space (get_or bytes end 0) space;
+    }) in
+    record {
+      within = omega arith;
+      words = found.some (omega arith) ∙ ap (λ w. w ∷ line_words (drop end bytes)) (ap (λ m. take m (drop at bytes)) count ∙ is);
+      same = found.same;
+    }
+
+-- only spaces before the line's end
+pub no_words : (bytes : List ℕ) (from end : ℕ) (stop : Bool) → IsPastSpaces bytes from end
+    → stop ≡ cond (end == length bytes) true (get_or bytes end 0 == 10) → stop ≡ true → IsEndOfWords bytes from end
+no_words bytes from end stop past is e =
+    let nothing : end - end ≡ 0 = omega arith in
+    let found = word_found bytes from end end past (record {
+      order = omega arith;
+      within = past.within;
+      inner = ap (λ m. list_all is_word_byte (take m (drop end bytes))) nothing;
+      stop = λ low. stops_at_line (get_or bytes end 0) (eqb-true (get_or bytes end 0) 10
+          (sym (cond-false (end == length bytes) true (get_or bytes end 0 == 10) (ne_eqb end (length bytes) (λ t. omega (arith, t, low)))) ∙ sym is ∙ e));
+    }) in
+    let none = found.none (omega arith) in
+    record { none = none.0; ends = none.1 }
