@@ -1,6 +1,7 @@
 pub mod Accepting
 pub mod BuiltScripts
 pub mod CommandForms
+pub mod DecimalLengths
 pub mod FormRanks
 pub mod HeaderLine
 pub mod LineReasons

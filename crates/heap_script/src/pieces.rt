@@ -50,6 +50,7 @@ impl Pieces {
     }
 
     /// Hands down all that is held. After a failure the rest is still held.
+    #[inline(never)]
     #[tactic(auto, using(crate::proofs::PieceByPiece::none_taken))]
     pub fn hand_down<K: Sink>(&mut self, sink: &mut K) -> Result<(), Failed>
         ensures told { with_held (K.written sink.new) self.new
@@ -70,6 +71,7 @@ impl Pieces {
     }
 
     /// Hands down what is held where another line may have no room.
+    #[inline(always)]
     #[tactic(auto, using(crate::proofs::PieceByPiece::none_taken))]
     fn make_room<K: Sink>(&mut self, sink: &mut K) -> Result<(), Failed>
         ensures told { with_held (K.written sink.new) self.new
@@ -84,6 +86,7 @@ impl Pieces {
         self.hand_down(sink)
     }
 
+    #[inline(always)]
     fn keep(&mut self, line: &Line)
         requires { 256 ≤ self.old.room }
         ensures { self.new.held ≡ self.old.held ++ line_bytes line.now }
@@ -92,6 +95,7 @@ impl Pieces {
     }
 
     /// Puts a line with its end after the text that is held back for the sink.
+    #[inline(always)]
     pub fn print<K: Sink>(&mut self, line: &Line, sink: &mut K) -> Result<(), Failed>
         ensures bytes { Writes (with_held (K.written sink.old) self.old)
             (with_held (K.written sink.new) self.new) (line_bytes line.now) result }
