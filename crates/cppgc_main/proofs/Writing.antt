@@ -1,11 +1,12 @@
 -- Text that is written piece by piece.
-use Rattle.std.proofs.Common.{◌≡◌, ℕ, zero, suc, ◌+◌, ◌<◌, ◌≤◌, List, [], ◌∷◌, ◌++◌, length, take, drop, Option, Some, None, refl, sym, ap, ◌∙◌, subst, arith}
+use Rattle.std.proofs.Common.{◌≡◌, ℕ, zero, suc, ◌+◌, ◌<◌, ◌≤◌, List, [], ◌∷◌, ◌++◌, length, get_or, take, drop, Option, Some, None, refl, sym, ap, ◌∙◌, subst, arith}
 use Rattle.std.specs.List.{slice_get}
 use Rattle.std.specs.Prelude.{replicate}
 use Rattle.std.proofs.lemmas.List.{append-nil, append_assoc, take-append-drop, take_all, length-replicate}
 use Rattle.std.proofs.lemmas.Grind.{flat_map-append}
 use Rattle.gc_graph.specs.declared.line.Line.{Line}
 use Rattle.gc_graph.specs.declared.line.Line.TheVariants as L
+use Rattle.gc_graph.specs.Outcomes.{finalise_lines}
 use Rattle.gc_graph.specs.Report.{line_bytes, lines_bytes, type_lines}
 use Rattle.heap_script.specs.Devices.{Grew, GrewByFront}
 use Rattle.cppgc_main.specs.Printed.{counted_lines}
@@ -32,7 +33,7 @@ module _ {X : Type 0} where
   take_at_get (y ∷ ys) zero x e = ap (λ z. z ∷ []) (let q : y ≡ x = cc in q)
   take_at_get (y ∷ ys) (suc i) x e = ap (λ zs. y ∷ zs) (take_at_get ys i x e)
 
-one_line : (line : Line) → lines_bytes (line ∷ []) ≡ line_bytes line
+pub one_line : (line : Line) → lines_bytes (line ∷ []) ≡ line_bytes line
 one_line line = append-nil (line_bytes line)
 
 lines_to : (lines : List Line) (i : ℕ) (line : Line) → slice_get lines i ≡ Some line
@@ -86,3 +87,23 @@ same_lines (x ∷ types) t = ap (λ (more : List Line). L.TypeLine t ∷ more) (
 -- the types matter only by their number
 pub counted_are_types : {T : Type 0} (types : List T) (count : ℕ) → count ≡ length types → counted_lines count ≡ type_lines 0 types
 counted_are_types types count is = ap counted_lines is ∙ same_lines types 0
+
+-- the first lines, of which not all were taken
+pub front_fails : (a c : Option (List ℕ)) (lines front : List Line) (n : ℕ) → take n lines ≡ front → GrewByFront a c (lines_bytes front)
+    → GrewByFront a c (lines_bytes lines)
+front_fails a c lines front n is x =
+    let whole : lines_bytes lines ≡ lines_bytes front ++ lines_bytes (drop n lines) =
+    ap lines_bytes (sym (take-append-drop n lines)) ∙ flat_map-append line_bytes (take n lines) (drop n lines)
+    ∙ ap (λ (ls : List Line). lines_bytes ls ++ lines_bytes (drop n lines)) is in
+    subst (λ u. GrewByFront a c u) (sym whole) (longer a c _ _ x)
+
+-- ---- lines of finalised nodes
+
+pub finalise_at : (numbers : List ℕ) (i d : ℕ) → i < length numbers → slice_get (finalise_lines numbers) i ≡ Some (L.Finalise (get_or numbers i d))
+finalise_at [] i d low = absurd (omega arith)
+finalise_at (n ∷ numbers) zero d low = refl
+finalise_at (n ∷ numbers) (suc i) d low = finalise_at numbers i d (omega arith)
+
+pub finalise_count : (numbers : List ℕ) → length (finalise_lines numbers) ≡ length numbers
+finalise_count [] = refl
+finalise_count (n ∷ numbers) = omega (arith, finalise_count numbers)

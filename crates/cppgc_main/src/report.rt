@@ -5,6 +5,7 @@ ghost use Rattle.std.specs.Prelude.{false, [], length, All, OnOk, OnErr};
 ghost use Rattle.gc_graph.specs.State.{empty_state};
 ghost use Rattle.gc_graph.specs.Step.{Step};
 ghost use Rattle.built_forms.specs.Built.{is_built, AreBuiltCommands};
+ghost use Rattle.gc_graph.specs.Outcomes.{finalise_lines};
 ghost use Rattle.gc_graph.specs.Lawful.{IsAllowed};
 ghost use Rattle.gc_graph.specs.Report.{line_bytes, lines_bytes};
 ghost use Rattle.heap_script.specs.Causes.{HasCause};
@@ -146,9 +147,56 @@ fn print_outcome<K: Sink>(
     ensures cause { HasCause (K.faults sink.old) (K.faults sink.new) result }
 {
     let count = heap.act(command);
-    for index in 0..count {
+    if let Some(line) = heap.only_line() {
+        return pieces.print(line, sink);
+    }
+    print_lines(heap, count, pieces, sink)
+}
+
+/// Prints the lines of the last outcome, so many.
+#[inline(never)]
+fn print_lines<K: Sink>(
+    heap: &mut Heap<'_>,
+    count: u32,
+    pieces: &mut Pieces,
+    sink: &mut K,
+) -> Result<(), Failed>
+    requires { count ≡ length heap.old.core.lines }
+    ensures bytes { Writes (with_held (K.written sink.old) pieces.old)
+        (with_held (K.written sink.new) pieces.new) (lines_bytes heap.old.core.lines) result }
+    ensures taken { TookMore (K.written sink.old) (K.written sink.new) }
+    ensures same { heap.new.core ≡ heap.old.core }
+    ensures cause { HasCause (K.faults sink.old) (K.faults sink.new) result }
+{
+    let numbers = heap.finalised();
+    let first = numbers.len() as u32;
+    match print_finalised(numbers, pieces, sink) {
+        Ok(()) => {}
+        Err(failed) => return Err(failed),
+    }
+    for index in first..count {
         let line = heap.line(index);
         match pieces.print(&line, sink) {
+            Ok(()) => {}
+            Err(failed) => return Err(failed),
+        }
+    }
+    Ok(())
+}
+
+/// Prints a line for each node that was finalised.
+fn print_finalised<K: Sink>(
+    numbers: &[u32],
+    pieces: &mut Pieces,
+    sink: &mut K,
+) -> Result<(), Failed>
+    ensures bytes { Writes (with_held (K.written sink.old) pieces.old)
+        (with_held (K.written sink.new) pieces.new) (lines_bytes (finalise_lines numbers.now)) result }
+    ensures taken { TookMore (K.written sink.old) (K.written sink.new) }
+    ensures cause { HasCause (K.faults sink.old) (K.faults sink.new) result }
+{
+    for number in numbers {
+        match pieces.print(&Line::Finalise { k: *number }, sink) {
             Ok(()) => {}
             Err(failed) => return Err(failed),
         }

@@ -1,8 +1,9 @@
 // A heap that does commands, as its callers have it.
 
-ghost use Rattle.std.specs.Prelude.{◌≡◌, ◌+◌, ◌++◌, ◌<◌};
-ghost use Rattle.std.specs.Prelude.{false, true, [], length, Some, IfOk, slice_get};
+ghost use Rattle.std.specs.Prelude.{◌≡◌, ◌+◌, ◌++◌, ◌<◌, ◌≤◌};
+ghost use Rattle.std.specs.Prelude.{false, true, [], ◌∷◌, length, take, Some, IfOk, IfSome, slice_get};
 ghost use Rattle.gc_graph.specs.State.{empty_state};
+ghost use Rattle.gc_graph.specs.Outcomes.{finalise_lines};
 ghost use Rattle.built_forms.specs.Built.{is_built};
 ghost use Rattle.gc_graph.specs.CycleSteps.{is_marking};
 ghost use Rattle.gc_graph.specs.Step.{Step};
@@ -84,6 +85,21 @@ impl<'a> Heap<'a> {
         ensures same { self.new.core ≡ self.old.core }
     {
         self.core.line(index)
+    }
+
+    /// The line of the last outcome, where it has one alone that tells no finalised node.
+    pub fn only_line(&self) -> Option<&Line>
+        ensures { IfSome result (λ line. self.now.core.lines ≡ line.now ∷ []) }
+    {
+        self.core.only_line()
+    }
+
+    /// The numbers of the nodes that the last command finalised, whose lines come first.
+    pub fn finalised(&self) -> &[u32]
+        ensures few { length result.now ≤ length self.now.core.lines }
+        ensures lines { take (length result.now) self.now.core.lines ≡ finalise_lines result.now }
+    {
+        self.core.finalised()
     }
 
     /// Ends the heap's run, and answers the line that counts what is not finalised.

@@ -2,11 +2,11 @@
 // one do them.
 
 ghost use Rattle.std.specs.Prelude.{◌≡◌, ◌+◌, ◌*◌, ◌++◌, ◌<◌, ◌≤◌};
-ghost use Rattle.std.specs.Prelude.{true, false, [], length, Some, IfOk, slice_get};
+ghost use Rattle.std.specs.Prelude.{true, false, [], ◌∷◌, length, take, Some, IfOk, IfSome, slice_get};
 ghost use Rattle.gc_graph.specs.State.{empty_state};
 ghost use Rattle.built_forms.specs.Built.{is_built};
 ghost use Rattle.gc_graph.specs.CycleSteps.{is_marking};
-ghost use Rattle.gc_graph.specs.Outcomes.{answered};
+ghost use Rattle.gc_graph.specs.Outcomes.{answered, finalise_lines};
 ghost use Rattle.gc_graph.specs.Step.{Step};
 ghost use Rattle.gc_graph.specs.Lawful.{IsAllowed, IsEndLine};
 ghost use Rattle.gc_graph.specs.Shapes.{IsShape};
@@ -130,6 +130,19 @@ impl Core {
         ensures same { self.new ≡ self.old }
     {
         self.outcome.line(index, self.cycle.ran())
+    }
+
+    pub fn only_line(&self) -> Option<&Line>
+        ensures { IfSome result (λ line. self.now.lines ≡ line.now ∷ []) }
+    {
+        self.outcome.only_line()
+    }
+
+    pub fn finalised(&self) -> &[u32]
+        ensures few { length result.now ≤ length self.now.lines }
+        ensures lines { take (length result.now) self.now.lines ≡ finalise_lines result.now }
+    {
+        self.outcome.finalised()
     }
 
     pub fn close(&mut self) -> Line

@@ -2,7 +2,7 @@
 // that it ran. It takes no memory after it was made.
 
 ghost use Rattle.std.specs.Prelude.{◌≡◌, ◌++◌, ◌<◌, ◌≤◌, [], length, Some, true, false};
-ghost use Rattle.std.specs.Prelude.{None, IfOk, slice_get};
+ghost use Rattle.std.specs.Prelude.{ℕ, List, ◌∷◌, None, IfOk, IfSome, slice_get};
 ghost use Rattle.gc_graph.specs.declared.line.Line.TheVariants as L;
 ghost use Rattle.heap_engine.specs.Printed.{later_lines, outcome_lines};
 
@@ -105,6 +105,27 @@ impl Outcome {
             0
         };
         self.finalised.len() as u32 + u32::from(self.last.is_some()) + prefinalised
+    }
+
+    /// The line of the outcome, where it has one alone that tells no finalised node.
+    pub fn only_line(&self) -> Option<&Line>
+        ensures { IfSome result (λ line. (ran : List (ℕ × ℕ))
+            → outcome_lines self.now ran ≡ line.now ∷ []) }
+    {
+        if !self.finalised.is_empty() || self.prefinalises {
+            return None;
+        }
+        match &self.last {
+            Some(line) => Some(line),
+            None => None,
+        }
+    }
+
+    /// The numbers of the finalised nodes, whose lines are the first ones.
+    pub fn finalised(&self) -> &[u32]
+        ensures { result.now ≡ self.now.numbers }
+    {
+        &self.finalised
     }
 
     /// A line of the outcome, where the last pause ran these prefinalizers.
