@@ -1,11 +1,13 @@
--- Small numbers of a line, for lines that are read without the table of forms.
-use Rattle.std.specs.Prelude.{◌≡◌, ℕ, ◌+◌, ◌<◌, ◌≤◌, true, false, List, [], ◌∷◌, length, drop, Some, None, codes}
+-- Numbers of a line, for lines that are read without the table of forms.
+use Rattle.std.specs.Prelude.{◌≡◌, ℕ, ◌+◌, ◌^◌, ◌<◌, ◌≤◌, true, false, List, [], ◌∷◌, length, drop, Some, None, codes}
 use Rattle.gc_graph.specs.Words.{is_number}
 use Rattle.gc_graph.specs.Reasons.{value_of, Bounds, first_is, reason_of_words, command_of_words}
 use Rattle.heap_script.specs.Cursor.{line_words, lines_after, IsLineEnd}
 use Rattle.heap_script.specs.Past.{IsPlain}
-use Rattle.heap_script.specs.declared.quick_lines.Small.{Small}
-use Rattle.heap_script.specs.declared.quick_lines.SlotFieldSlot.{SlotFieldSlot}
+use Rattle.heap_script.specs.declared.quick_words.Small.{Small}
+use Rattle.heap_script.specs.declared.quick_words.Any.{Any}
+use Rattle.heap_script.specs.declared.quick_words.SlotFieldSlot.{SlotFieldSlot}
+use Rattle.heap_script.specs.declared.quick_words.TwoSmall.{TwoSmall}
 use Rattle.heap_script.specs.declared.quick_lines.QuickLine.{QuickLine}
 
 -- the line begins with this word, whose first byte stands at `at`
@@ -33,6 +35,17 @@ pub record IsSmall (bytes : List ℕ) (from limit : ℕ) (small : Small) : Type 
   pub within : small.end ≤ length bytes
   pub same : lines_after (drop from bytes) ≡ lines_after (drop small.end bytes)
 
+-- the next word of the line, from `from` on, is this number, which is any of 64 bits
+pub record IsAny (bytes : List ℕ) (from : ℕ) (any : Any) : Type 0 where
+  pub word : List ℕ
+  pub words : line_words (drop from bytes) ≡ word ∷ line_words (drop any.end bytes)
+  pub number : is_number word ≡ true
+  pub value : value_of word ≡ any.value
+  pub low : any.value < 2 ^ 64
+  pub order : from ≤ any.end
+  pub within : any.end ≤ length bytes
+  pub same : lines_after (drop from bytes) ≡ lines_after (drop any.end bytes)
+
 -- the line has no more words from `from` on, and ends at `end`
 pub record IsEndOfWords (bytes : List ℕ) (from end : ℕ) : Type 0 where
   pub none : line_words (drop from bytes) ≡ []
@@ -54,3 +67,12 @@ pub record AreSlotFieldSlot (bytes : List ℕ) (from : ℕ) (three : SlotFieldSl
   pub f : IsNumberBelow field three.f 67108864
   pub q : IsNumberBelow other three.q 256
   pub ends : IsLineEnd bytes from three.end
+
+-- the line's words from `from` on are two, which are numbers below these limits
+pub record AreTwoSmall (bytes : List ℕ) (from first_limit second_limit : ℕ) (two : TwoSmall) : Type 0 where
+  pub one : List ℕ
+  pub other : List ℕ
+  pub words : line_words (drop from bytes) ≡ one ∷ other ∷ []
+  pub first : IsNumberBelow one two.first first_limit
+  pub second : IsNumberBelow other two.second second_limit
+  pub ends : IsLineEnd bytes from two.end

@@ -35,6 +35,7 @@ mod pieces;
 mod places;
 mod printing;
 mod quick_lines;
+mod quick_words;
 mod reading;
 mod reasons;
 mod region_text;

@@ -1,40 +1,17 @@
 // The most frequent lines, read without the table of forms. They are a part of what `read_command`
 // reads, and only quicker.
 
-ghost use Rattle.std.specs.Prelude.{◌≡◌, ◌<◌, ◌≤◌, ◌==◌, true, ◌∷◌, length, slice_index, drop, codes, IfSome, if◌then◌else◌};
-ghost use Rattle.std.specs.List.{list_all};
-ghost use Rattle.heap_script.specs.Cursor.{is_word_byte, line_words};
-ghost use Rattle.heap_script.specs.QuickLines.{IsFirstWord, IsQuickLine};
-ghost use Rattle.heap_script.specs.QuickLines.{IsSmall, AreSlotFieldSlot, IsEndOfWords};
+ghost use Rattle.std.specs.Prelude.{◌≡◌, ◌≤◌, ◌∷◌, length, drop, codes, IfSome};
+ghost use Rattle.heap_script.specs.Cursor.{line_words};
+ghost use Rattle.heap_script.specs.QuickLines.{IsQuickLine};
 ghost use Rattle.heap_script.specs.Rows.{bounds_of};
 
-use super::cursor::past_spaces;
-use super::numerals::next_number;
 use super::places::Bounds;
+use super::quick_words::{
+    EXTRA_WORDS, FIELDS, SLOTS, SlotFieldSlot, WEAK_SLOTS, begins, line_end, next_any, next_small,
+    slot_field_slot, two_small,
+};
 use gc_graph::Command;
-
-/// A number of a line, and the place after it.
-#[derive(Clone, Copy)]
-pub(crate) struct Small {
-    pub(crate) value: u32,
-    pub(crate) end: usize,
-}
-
-/// The last three numbers of a line, and the end of the line.
-#[derive(Clone, Copy)]
-pub(crate) struct SlotFieldSlot {
-    pub(crate) p: u32,
-    pub(crate) f: u32,
-    pub(crate) q: u32,
-    pub(crate) end: usize,
-}
-
-// How many slots there are, how many numbers a field may have, and how many an object's extra words.
-const SLOTS: u32 = 256;
-
-const FIELDS: u32 = 67_108_864;
-
-const EXTRA_WORDS: u32 = 33_554_433;
 
 /// The command that a line says, and the end of the line.
 #[derive(Clone, Copy)]
@@ -63,21 +40,22 @@ pub(crate) fn quick_line(bytes: &[u8], at: usize, bounds: Bounds) -> Option<Quic
     if begins(bytes, at, b"drop") {
         return quick_drop(bytes, at + 4, bounds);
     }
-    None
-}
-
-// Whether this word and a space stand there.
-#[inline(always)]
-fn begins(bytes: &[u8], at: usize, word: &[u8]) -> bool
-    requires within { at ≤ length bytes.now }
-    requires some { 0 < length word.now }
-    requires word { list_all is_word_byte word.now ≡ true }
-    ensures { result ≡ true → IsFirstWord bytes.now at word.now }
-{
-    if bytes.len() - at <= word.len() || bytes[at + word.len()] != b' ' {
-        return false;
+    if begins(bytes, at, b"put") {
+        return quick_put(bytes, at + 3, bounds);
     }
-    &bytes[at..at + word.len()] == word
+    if begins(bytes, at, b"copy") {
+        return quick_copy(bytes, at + 4, bounds);
+    }
+    if begins(bytes, at, b"word") {
+        return quick_word(bytes, at + 4, bounds);
+    }
+    if begins(bytes, at, b"weak") {
+        return quick_weak(bytes, at + 4, bounds);
+    }
+    if begins(bytes, at, b"read") {
+        return quick_read(bytes, at + 4, bounds);
+    }
+    None
 }
 
 #[inline(always)]
@@ -104,24 +82,6 @@ fn quick_get(bytes: &[u8], from: usize, bounds: Bounds) -> Option<QuickLine>
     let SlotFieldSlot { p, f, q, end } = slot_field_slot(bytes, from)?;
     Some(QuickLine {
         command: Command::Get { p, f, q },
-        end,
-    })
-}
-
-// The last three words of a line, where they are a slot, a field and a slot.
-#[inline(always)]
-fn slot_field_slot(bytes: &[u8], from: usize) -> Option<SlotFieldSlot>
-    requires { from ≤ length bytes.now }
-    ensures { IfSome result (AreSlotFieldSlot bytes.now from) }
-{
-    let p = next_small(bytes, from, SLOTS)?;
-    let f = next_small(bytes, p.end, FIELDS)?;
-    let q = next_small(bytes, f.end, SLOTS)?;
-    let end = line_end(bytes, q.end)?;
-    Some(SlotFieldSlot {
-        p: p.value,
-        f: f.value,
-        q: q.value,
         end,
     })
 }
@@ -168,42 +128,91 @@ fn quick_drop(bytes: &[u8], from: usize, bounds: Bounds) -> Option<QuickLine>
     })
 }
 
-// The next word of the line, where it is a number below the limit.
 #[inline(always)]
-fn next_small(bytes: &[u8], from: usize, limit: u32) -> Option<Small>
+fn quick_put(bytes: &[u8], from: usize, bounds: Bounds) -> Option<QuickLine>
     requires { from ≤ length bytes.now }
-    ensures { IfSome result (IsSmall bytes.now from limit) }
+    ensures { IfSome result (IsQuickLine (bounds_of bounds)
+        (codes "put" ∷ line_words (drop from bytes.now)) bytes.now from) }
 {
-    let word = next_number(bytes, from);
-    match word.value {
-        Some(value) if value < u64::from(limit) => Some(Small {
-            value: value as u32,
-            end: word.end,
-        }),
-        _ => None,
-    }
+    let _ = bounds;
+    let p = next_small(bytes, from, SLOTS)?;
+    let f = next_small(bytes, p.end, FIELDS)?;
+    let n = next_any(bytes, f.end)?;
+    let end = line_end(bytes, n.end)?;
+    Some(QuickLine {
+        command: Command::Put {
+            p: p.value,
+            f: f.value,
+            n: n.value,
+        },
+        end,
+    })
 }
 
-// The end of the line, where no word is left on it.
 #[inline(always)]
-fn line_end(bytes: &[u8], from: usize) -> Option<usize>
+fn quick_copy(bytes: &[u8], from: usize, bounds: Bounds) -> Option<QuickLine>
     requires { from ≤ length bytes.now }
-    ensures { IfSome result (IsEndOfWords bytes.now from) }
+    ensures { IfSome result (IsQuickLine (bounds_of bounds)
+        (codes "copy" ∷ line_words (drop from bytes.now)) bytes.now from) }
 {
-    let end = past_spaces(bytes, from);
-    if is_line_end(bytes, end) {
-        Some(end)
-    } else {
-        None
-    }
+    let _ = bounds;
+    let two = two_small(bytes, from, SLOTS, SLOTS)?;
+    Some(QuickLine {
+        command: Command::Copy {
+            p: two.first,
+            q: two.second,
+        },
+        end: two.end,
+    })
 }
 
-// A line's end stands there, or that of the bytes.
 #[inline(always)]
-fn is_line_end(bytes: &[u8], place: usize) -> bool
-    requires { place ≤ length bytes.now }
-    ensures { result ≡ (if place == length bytes.now then true
-        else (slice_index bytes.now place == 10)) }
+fn quick_word(bytes: &[u8], from: usize, bounds: Bounds) -> Option<QuickLine>
+    requires { from ≤ length bytes.now }
+    ensures { IfSome result (IsQuickLine (bounds_of bounds)
+        (codes "word" ∷ line_words (drop from bytes.now)) bytes.now from) }
 {
-    place == bytes.len() || bytes[place] == b'\n'
+    let _ = bounds;
+    let two = two_small(bytes, from, SLOTS, FIELDS)?;
+    Some(QuickLine {
+        command: Command::Word {
+            p: two.first,
+            f: two.second,
+        },
+        end: two.end,
+    })
+}
+
+#[inline(always)]
+fn quick_weak(bytes: &[u8], from: usize, bounds: Bounds) -> Option<QuickLine>
+    requires { from ≤ length bytes.now }
+    ensures { IfSome result (IsQuickLine (bounds_of bounds)
+        (codes "weak" ∷ line_words (drop from bytes.now)) bytes.now from) }
+{
+    let _ = bounds;
+    let two = two_small(bytes, from, WEAK_SLOTS, SLOTS)?;
+    Some(QuickLine {
+        command: Command::Weak {
+            w: two.first,
+            p: two.second,
+        },
+        end: two.end,
+    })
+}
+
+#[inline(always)]
+fn quick_read(bytes: &[u8], from: usize, bounds: Bounds) -> Option<QuickLine>
+    requires { from ≤ length bytes.now }
+    ensures { IfSome result (IsQuickLine (bounds_of bounds)
+        (codes "read" ∷ line_words (drop from bytes.now)) bytes.now from) }
+{
+    let _ = bounds;
+    let two = two_small(bytes, from, WEAK_SLOTS, SLOTS)?;
+    Some(QuickLine {
+        command: Command::Read {
+            w: two.first,
+            p: two.second,
+        },
+        end: two.end,
+    })
 }

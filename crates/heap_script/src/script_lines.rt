@@ -28,6 +28,7 @@ pub(crate) struct Kept {
 
 /// Keeps what the line says that begins at `at`, and tells where it ends, or the number of the reason
 /// why it says nothing.
+#[inline(always)]
 pub(crate) fn keep_line(
     alloc: Global,
     bytes: &[u8],

@@ -1,7 +1,7 @@
 use Rattle.std.proofs.Common.{◌≡◌, ◌+◌, ◌-◌, length, take, drop, sym, ap, ◌∙◌, arith}
 use Rattle.std.specs.Cmp.Lexicographic.{bytes_decides}
 use Rattle.heap_script.proofs.QuickWords.{first_word}
-use Rattle.heap_script.proofs.quick_lines.begins.Goals as goal
+use Rattle.heap_script.proofs.quick_words.begins.Goals as goal
 
 pub returns : goal.returns
 returns c = λ e.

@@ -1,5 +1,5 @@
 use Rattle.heap_script.proofs.QuickWords.{no_words}
-use Rattle.heap_script.proofs.quick_lines.line_end.Goals as goal
+use Rattle.heap_script.proofs.quick_words.line_end.Goals as goal
 
 pub returns-then-is_line_end : goal.returns-then-is_line_end
 returns-then-is_line_end c =
