@@ -12,3 +12,5 @@ pub mod GreySteps
 pub mod Ends
 pub mod NoPairs
 pub mod Refused
+pub mod Holding
+pub mod StrongWords

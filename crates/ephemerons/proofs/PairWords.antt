@@ -48,17 +48,6 @@ marked_key v w told reference named null so = elim reference [
   | inr body ↦ (body.0.place, body.2, sym (named body.0.place body.2) ∙ so)
 ]
 
--- each of the offsets that the table tells for the body's type
-pub told_strong : (types : List ObjectType) (bodies : List Body) (place ty k : ℕ) (told : List ℕ) → HasType bodies place ty
-    → told ≡ offsets_of_kind Strong (kinds_of types ty) → k < length told
-    → (b : Body) × Contains bodies b × (b.place ≡ place) × Contains (strong_offsets types b) (get_or told k 0)
-told_strong types bodies place ty k told has is low = (
-  has.0,
-  has.1,
-  has.2,
-  subst (λ l. Contains l (get_or told k 0)) (is ∙ ap (λ t. offsets_of_kind Strong (kinds_of types t)) (sym has.3)) (Contains-get_or told k 0 low),
-)
-
 pub told_pair : (types : List ObjectType) (bodies : List Body) (place ty k : ℕ) (told : List ℕ) → HasType bodies place ty
     → told ≡ offsets_of_kind Pair (kinds_of types ty) → k < length told → HasPair types bodies place (get_or told k 0)
 told_pair types bodies place ty k told has is low = (

@@ -47,6 +47,11 @@ pub record AreReferences (types : List ObjectType) (bodies : List Body) : Type 0
 abbrev pub HasType : List Body → ℕ → ℕ → Type 0
 HasType bodies place ty = (b : Body) × Contains bodies b × (b.place ≡ place) × (b.ty ≡ ty)
 
+-- there is a body at the place, and it has a strong field at the offset
+abbrev pub HasStrong : List ObjectType → List Body → ℕ → ℕ → Type 0
+HasStrong types bodies place offset =
+    (b : Body) × Contains bodies b × (b.place ≡ place) × Contains (strong_offsets types b) offset
+
 -- there is a body at the place, and it has a pair at the offset
 abbrev pub HasPair : List ObjectType → List Body → ℕ → ℕ → Type 0
 HasPair types bodies place offset =

@@ -1,5 +1,5 @@
 -- One stage of the way to the fixpoint, what holds at each, and what a step of the way may change.
-use Rattle.std.specs.Prelude.{◌≡◌, ◌⊎◌, ℕ, ◌+◌, ◌-◌, ◌*◌, ◌^◌, ◌<◌, ◌≤◌, Bool, true, false, not, List, length, Option, Some, None, Contains, count_by}
+use Rattle.std.specs.Prelude.{◌≡◌, ◌⊎◌, ℕ, ◌+◌, ◌-◌, ◌*◌, ◌^◌, ◌<◌, ◌≤◌, Bool, true, false, not, List, [], ◌∷◌, ◌++◌, length, Option, Some, None, Contains, count_by}
 use Rattle.std.specs.List.{range_with_len}
 use Rattle.gc_graph.specs.State.{ObjectType}
 use Rattle.object_headers.specs.Offsets.{first_field}
@@ -99,6 +99,17 @@ pub record ListsMarks (old : SeatView) (before : Marking) (new : SeatView) (afte
   pub fresh :
       after.overflow ≡ false → (p : ℕ) → holds new.marked p ≡ true → (holds old.marked p ≡ true) ⊎ Contains after.list.items p
   pub lighter : weight_of new after ≤ weight_of old before
+
+-- the marking state, with the object in hand at the end of its list
+abbrev pub with_held : Option ℕ → Marking → Marking
+with_held None m = m
+with_held (Some p) m = record m { list = record m.list { items = m.list.items ++ p ∷ [] } }
+
+-- list and hand together have what they had
+pub record IsStillHeld (before : Marking) (old : Option ℕ) (after : Marking) (new : Option ℕ) : Type 0 where
+  pub items : (with_held new after).list.items ≡ (with_held old before).list.items
+  pub on : (with_held new after).on ≡ (with_held old before).on
+  pub refusals : refusals_of (with_held new after) ≡ refusals_of (with_held old before)
 
 -- from one stage to a later one: more may be marked, traced and noted, and what was accounted for still is, with the
 -- object in hand, unless a push or note was refused

@@ -23,6 +23,11 @@ GrowsWithin types old new =
     (test : ℕ → Bool) → ClosesUnder (graph_in types old) test → ((p : ℕ) → holds old.marked p ≡ true → test p ≡ true)
     → (p : ℕ) → holds new.marked p ≡ true → test p ≡ true
 
+-- what the word at the offset of the body at the place names is marked
+abbrev pub HasTargetMarked : SeatView → ℕ → ℕ → Type 0
+HasTargetMarked v place offset =
+    (b : Body) (q : ℕ) → Contains v.bodies b → b.place ≡ place → word_at b offset ≡ q + 1 → holds v.marked q ≡ true
+
 -- what the strong fields of the body at the place name is marked
 abbrev pub HasStrongMarked : List ObjectType → SeatView → ℕ → Type 0
 HasStrongMarked types v place =

@@ -5,6 +5,7 @@ ghost use Rattle.page_space.specs.Space.{IsSeatOf};
 ghost use Rattle.ephemerons.specs.BodyGraph.{HaveNoPairs};
 ghost use Rattle.ephemerons.specs.Fixpoint.{IsGround, Works, stage, weight};
 
+use crate::marks::next_listed;
 use crate::notes::Pairs;
 use crate::settling::settle_under;
 use crate::tracing::{trace_grey, trace_pairless};
@@ -165,8 +166,10 @@ fn drain_pairless(
         (stage seat.old marking.old groups.now traced.old)
         (stage seat.new marking.new groups.now traced.new) }
 {
-    while let Some(place) = marking.list.pop() {
-        trace_pairless(space, types, seat, marking, groups, traced, place);
+    let mut next = next_listed(marking, None);
+    while let Some(place) = next {
+        let held = trace_pairless(space, types, seat, marking, groups, traced, place);
+        next = next_listed(marking, held);
     }
 }
 

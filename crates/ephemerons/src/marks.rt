@@ -1,13 +1,15 @@
 // Marks of objects, and the words of their fields.
 
 ghost use Rattle.std.specs.Prelude.{◌≡◌, ◌⊎◌, ℕ, ◌+◌, ◌-◌, ◌<◌, ◌≤◌, true, false, length};
-ghost use Rattle.std.specs.Prelude.{Contains};
+ghost use Rattle.std.specs.Prelude.{Contains, MatchOption, Some, IfSome, IfNone};
+ghost use Rattle.mark_worklist.specs.declared.marking.Marking.{Marking};
 ghost use Rattle.object_headers.specs.Offsets.{first_field, reference_to};
 ghost use Rattle.page_words.specs.Bodies.{Body, IsPlace, IsReference};
 ghost use Rattle.page_words.specs.Seat.{holds, marked_at};
 ghost use Rattle.page_space.specs.Space.{IsSeatOf};
 ghost use Rattle.ephemerons.specs.BodyGraph.{word_at};
 ghost use Rattle.ephemerons.specs.Fixpoint.{ListsMarks, IsListed, HasWord, weight_of};
+ghost use Rattle.ephemerons.specs.Fixpoint.{IsStillHeld, with_held};
 
 use mark_worklist::Marking;
 use object_headers::{place_in, with_mark};
@@ -23,18 +25,18 @@ pub(crate) fn names_marked(space: &Space, seat: &mut MutatorSeat, reference: u64
     ensures view { seat.new ≡ seat.old }
 {
     seat.bodies_lie_apart();
-    reference != 0 && is_marked(space, seat, (reference - 1) as u32)
+    reference != 0 && is_marked(space.words(), seat, (reference - 1) as u32)
 }
 
 /// Whether the object at a place is marked. No more of its header is looked at.
-pub(crate) fn is_marked(space: &Space, seat: &mut MutatorSeat, place: u32) -> bool
-    requires heap { IsSeatOf space.now seat.old }
+pub(crate) fn is_marked(words: &Words, seat: &mut MutatorSeat, place: u32) -> bool
+    requires heap { seat.old.count ≡ words.now }
     requires place { IsPlace seat.old.bodies place }
     ensures mark { result ≡ holds seat.old.marked place }
     ensures view { seat.new ≡ seat.old }
 {
     seat.bodies_lie_apart();
-    let word = space.words().load(seat, place);
+    let word = words.load(seat, place);
     word == with_mark(word, true)
 }
 
@@ -68,11 +70,9 @@ pub(crate) fn mark_reference(
         → weight_of seat.new marking.new < weight_of seat.old marking.old }
     ensures still { result ≡ false → (seat.new ≡ seat.old) × (marking.new ≡ marking.old) }
 {
-    seat.bodies_lie_apart();
-    match place_in(reference) {
-        Some(place) => mark(words, seat, marking, place),
-        None => false,
-    }
+    let fresh = mark_named(words, seat, reference);
+    list_held(marking, fresh);
+    fresh.is_some()
 }
 
 /// Marks an object, and lists it if it was not marked. True where it was not. A refused push leaves
@@ -89,12 +89,9 @@ pub fn mark(words: &Words, seat: &mut MutatorSeat, marking: &mut Marking, place:
         → weight_of seat.new marking.new < weight_of seat.old marking.old }
     ensures still { result ≡ false → (seat.new ≡ seat.old) × (marking.new ≡ marking.old) }
 {
-    seat.bodies_lie_apart();
-    let fresh = words.mark(seat, place);
-    if fresh {
-        list(marking, place);
-    }
-    fresh
+    let fresh = mark_unlisted(words, seat, place);
+    list_held(marking, fresh);
+    fresh.is_some()
 }
 
 /// Lists a place, or raises `overflow` where the push is refused.
@@ -103,5 +100,67 @@ fn list(marking: &mut Marking, place: u32)
 {
     if marking.list.push(place).is_err() {
         marking.overflow = true;
+    }
+}
+
+/// Marks what a field word names. Its place where it was not marked: the caller lists or traces it.
+pub(crate) fn mark_named(words: &Words, seat: &mut MutatorSeat, reference: u64) -> Option<u32>
+    requires heap { seat.old.count ≡ words.now }
+    requires on { seat.old.on ≡ true }
+    requires reference { IsReference seat.old.bodies reference }
+    ensures marks { (m : Marking) → ListsMarks seat.old m seat.new (with_held result m) }
+    ensures found { (m : Marking) → IfSome result (λ p.
+        weight_of seat.new (with_held (Some p) m) < weight_of seat.old m) }
+    ensures still { IfNone result (seat.new ≡ seat.old) }
+    ensures target { (p : ℕ) → reference ≡ reference_to p → holds seat.new.marked p ≡ true }
+    ensures only { (p : ℕ) → holds seat.new.marked p ≡ true
+        → (holds seat.old.marked p ≡ true) ⊎ (reference ≡ reference_to p) }
+{
+    seat.bodies_lie_apart();
+    match place_in(reference) {
+        Some(place) => mark_unlisted(words, seat, place),
+        None => None,
+    }
+}
+
+/// Marks an object. Its place where it was not marked.
+fn mark_unlisted(words: &Words, seat: &mut MutatorSeat, place: u32) -> Option<u32>
+    requires heap { seat.old.count ≡ words.now }
+    requires on { seat.old.on ≡ true }
+    requires place { IsPlace seat.old.bodies place }
+    ensures marks { (m : Marking) → ListsMarks seat.old m seat.new (with_held result m) }
+    ensures found { (m : Marking) → IfSome result (λ p.
+        weight_of seat.new (with_held (Some p) m) < weight_of seat.old m) }
+    ensures still { IfNone result (seat.new ≡ seat.old) }
+    ensures target { holds seat.new.marked place ≡ true }
+    ensures only { (p : ℕ) → holds seat.new.marked p ≡ true
+        → (holds seat.old.marked p ≡ true) ⊎ (place ≡ p) }
+{
+    seat.bodies_lie_apart();
+    // Nothing is written to a marked object.
+    if is_marked(words, seat, place) {
+        return None;
+    }
+    words.mark(seat, place);
+    Some(place)
+}
+
+/// Lists the object in hand, if there is one.
+pub(crate) fn list_held(marking: &mut Marking, held: Option<u32>)
+    ensures listed { MatchOption held (marking.new ≡ marking.old)
+        (IsListed marking.old marking.new) }
+{
+    if let Some(place) = held {
+        list(marking, place);
+    }
+}
+
+/// The object in hand, or else the last one that was listed.
+pub(crate) fn next_listed(marking: &mut Marking, held: Option<u32>) -> Option<u32>
+    ensures next { IsStillHeld marking.old held marking.new result }
+{
+    match held {
+        Some(place) => Some(place),
+        None => marking.list.pop(),
     }
 }

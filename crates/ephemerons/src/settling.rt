@@ -211,7 +211,7 @@ pub(crate) fn settle_pair(
     ensures settled { result ≡ false → IsSettled types.now seat.new (note_of holder word) }
 {
     seat.bodies_lie_apart();
-    if !is_marked(space, seat, holder) {
+    if !is_marked(space.words(), seat, holder) {
         return false;
     }
     let key = word_of(space.words(), seat, holder, word);

@@ -1,12 +1,14 @@
 use Rattle.std.proofs.Common.{None}
-use Rattle.ephemerons.specs.Fixpoint.{IsGround, Works, stage, weight}
+use Rattle.ephemerons.specs.Fixpoint.{IsGround, Works, stage, weight, with_held}
 use Rattle.ephemerons.proofs.draining.drain_pairless.Given as goal
 
-abbrev pub invariant-loop-place : goal.invariant-loop-place
-invariant-loop-place l = record {
-  ground : IsGround l.types (stage l.seat l.marking l.groups l.traced);
-  works : Works l.types None (stage l.initial.seat l.initial.marking l.initial.groups l.initial.traced) (stage l.seat l.marking l.groups l.traced);
+abbrev pub invariant-loop-next : goal.invariant-loop-next
+invariant-loop-next l = record {
+  ground : IsGround l.types (stage l.seat (with_held l.next l.marking) l.groups l.traced);
+  works :
+      Works l.types None (stage l.initial.seat (with_held l.initial.next l.initial.marking) l.groups l.initial.traced)
+      (stage l.seat (with_held l.next l.marking) l.groups l.traced);
 }
 
-abbrev pub decreases-loop-place : goal.decreases-loop-place
-decreases-loop-place l = weight (stage l.seat l.marking l.groups l.traced)
+abbrev pub decreases-loop-next : goal.decreases-loop-next
+decreases-loop-next l = weight (stage l.seat (with_held l.next l.marking) l.groups l.traced)

@@ -1,17 +1,18 @@
-use Rattle.std.proofs.Common.{◌≡◌, false, sym, ◌∙◌}
-use Rattle.std.proofs.lemmas.Bool.{not-true}
-use Rattle.page_words.specs.Seat.{holds}
-use Rattle.ephemerons.proofs.MarkSteps.{mark_lists}
+use Rattle.std.proofs.Common.{sym, ◌∙◌}
+use Rattle.ephemerons.proofs.Holding.{fresh_listed, fresh_lighter, fresh_still}
 use Rattle.ephemerons.proofs.marks.mark.Goals as goal
 
-pub returns-then-fresh-clause-marks : goal.returns-then-fresh-clause-marks
-returns-then-fresh-clause-marks c =
-    let fresh : holds c.args.seat.now.marked c.args.place ≡ false = not-true _ (sym c.mark-fresh.ensures.fresh ∙ c.if-fresh.true) in
-    (mark_lists c.args.seat.now c.mark-fresh.new.seat c.args.marking.now c.list.new.marking c.args.place c.bodies_lie_apart.ensures c.requires.place
-    c.mark-fresh.ensures.view fresh c.list.ensures).0
+pub returns-clause-marks : goal.returns-clause-marks
+returns-clause-marks c =
+    fresh_listed c.args.seat.now c.mark_unlisted-fresh.new.seat c.args.marking.now c.list_held.new.marking c.mark_unlisted-fresh.result
+    c.mark_unlisted-fresh.ensures.marks c.list_held.ensures.listed
 
-pub returns-then-fresh-clause-found : goal.returns-then-fresh-clause-found
-returns-then-fresh-clause-found c told =
-    let fresh : holds c.args.seat.now.marked c.args.place ≡ false = not-true _ (sym c.mark-fresh.ensures.fresh ∙ c.if-fresh.true) in
-    (mark_lists c.args.seat.now c.mark-fresh.new.seat c.args.marking.now c.list.new.marking c.args.place c.bodies_lie_apart.ensures c.requires.place
-    c.mark-fresh.ensures.view fresh c.list.ensures).1
+pub returns-clause-found : goal.returns-clause-found
+returns-clause-found c told =
+    fresh_lighter c.args.seat.now c.mark_unlisted-fresh.new.seat c.args.marking.now c.list_held.new.marking c.mark_unlisted-fresh.result
+    c.mark_unlisted-fresh.ensures.found c.list_held.ensures.listed (sym c.is_some.ensures ∙ told)
+
+pub returns-clause-still : goal.returns-clause-still
+returns-clause-still c told =
+    fresh_still c.args.seat.now c.mark_unlisted-fresh.new.seat c.args.marking.now c.list_held.new.marking c.mark_unlisted-fresh.result
+    c.mark_unlisted-fresh.ensures.still c.list_held.ensures.listed (sym c.is_some.ensures ∙ told)

@@ -2,7 +2,7 @@ use Rattle.std.proofs.Common.{rules, ◌≡◌, ◌+◌, ◌<◌, ◌^◌, true,
 use Rattle.std.specs.List.{Contains}
 use Rattle.page_words.specs.Seat.{SeatView, is_grey}
 use Rattle.ephemerons.specs.Notes.{NotesState, group_at}
-use Rattle.ephemerons.specs.Fixpoint.{IsGround, Looks, stage}
+use Rattle.ephemerons.specs.Fixpoint.{IsGround, Works, stage, with_held}
 use Rattle.ephemerons.proofs.GreySteps.{ReadsFields, with_trace, claim_is, fewer_untraced, grey_ground, grey_looks, black_ground, black_looks}
 use Rattle.ephemerons.proofs.NoPairs.{nothing_noted, none_noted, same_groups}
 use Rattle.ephemerons.proofs.tracing.trace_pairless.Goals as goal
@@ -15,7 +15,8 @@ overflow_add-traced c =
     search rules
 
 read : (c : goal.After-trace_strong)
-    → ReadsFields c.args.types.now c.args.seat.now c.trace_strong.new.seat c.args.marking.now c.trace_strong.new.marking (group_at c.args.groups.now 0)
+    → ReadsFields c.args.types.now c.args.seat.now c.trace_strong.new.seat c.args.marking.now
+    (with_held c.trace_strong.result c.trace_strong.new.marking) (group_at c.args.groups.now 0)
     (group_at c.args.groups.now 0) c.args.place
 read c =
     let grey : is_grey c.args.seat.now c.args.place ≡ true = sym c.in-Some.ensures.grey in
@@ -25,7 +26,7 @@ read c =
       view = c.bodies_lie_apart.ensures;
       place = c.requires.place;
       grey = grey;
-      marks = rw is at c.trace_strong.ensures.marks;
+      marks = (rw is at c.trace_strong.ensures.marks);
       within = rw is at c.trace_strong.ensures.within;
       strong = c.trace_strong.ensures.strong;
       notes = nothing_noted c.args.types.now c.args.seat.now.bodies (group_at c.args.groups.now 0);
@@ -36,25 +37,27 @@ read c =
 
 pub returns-in-Some-clause-ground : goal.returns-in-Some-clause-ground
 returns-in-Some-clause-ground c =
-    subst (λ (gs : List NotesState). IsGround c.args.types.now (stage c.trace_strong.new.seat c.trace_strong.new.marking gs (c.args.traced.now + 1)))
+    subst (λ (gs : List NotesState). IsGround c.args.types.now (stage c.trace_strong.new.seat (with_held c.trace_strong.result c.trace_strong.new.marking) gs (c.args.traced.now + 1)))
     (same_groups c.args.groups.now c.requires.ground.own)
-    (grey_ground c.args.types.now c.args.seat.now c.trace_strong.new.seat c.args.marking.now c.trace_strong.new.marking c.args.groups.now
+    (grey_ground c.args.types.now c.args.seat.now c.trace_strong.new.seat c.args.marking.now
+    (with_held c.trace_strong.result c.trace_strong.new.marking) c.args.groups.now
     (group_at c.args.groups.now 0) c.args.traced.now c.args.place (read c) c.requires.ground)
 
-pub returns-in-Some-clause-looks : goal.returns-in-Some-clause-looks
-returns-in-Some-clause-looks c =
+pub returns-in-Some-clause-works : goal.returns-in-Some-clause-works
+returns-in-Some-clause-works c =
     subst
-    (λ (gs : List NotesState). Looks c.args.types.now (Some c.args.place) (stage c.args.seat.now c.args.marking.now c.args.groups.now c.args.traced.now)
-    (stage c.trace_strong.new.seat c.trace_strong.new.marking gs (c.args.traced.now + 1)) true) (same_groups c.args.groups.now c.requires.ground.own)
-    (grey_looks c.args.types.now c.args.seat.now c.trace_strong.new.seat c.args.marking.now c.trace_strong.new.marking c.args.groups.now
-    (group_at c.args.groups.now 0) c.args.traced.now c.args.place (read c) c.requires.ground)
+    (λ (gs : List NotesState). Works c.args.types.now (Some c.args.place) (stage c.args.seat.now c.args.marking.now c.args.groups.now c.args.traced.now)
+    (stage c.trace_strong.new.seat (with_held c.trace_strong.result c.trace_strong.new.marking) gs (c.args.traced.now + 1))) (same_groups c.args.groups.now c.requires.ground.own)
+    (grey_looks c.args.types.now c.args.seat.now c.trace_strong.new.seat c.args.marking.now
+    (with_held c.trace_strong.result c.trace_strong.new.marking) c.args.groups.now
+    (group_at c.args.groups.now 0) c.args.traced.now c.args.place (read c) c.requires.ground).works
 
 pub returns-in-None-clause-ground : goal.returns-in-None-clause-ground
 returns-in-None-clause-ground c =
     black_ground c.args.types.now c.args.seat.now c.claim.new.seat c.args.marking.now c.args.groups.now c.args.traced.now c.args.place
     c.claim.ensures.view (sym c.in-None.ensures.grey) c.requires.ground
 
-pub returns-in-None-clause-looks : goal.returns-in-None-clause-looks
-returns-in-None-clause-looks c =
-    black_looks c.args.types.now c.args.seat.now c.claim.new.seat c.args.marking.now c.args.groups.now c.args.traced.now c.args.place
-    c.claim.ensures.view (sym c.in-None.ensures.grey)
+pub returns-in-None-clause-works : goal.returns-in-None-clause-works
+returns-in-None-clause-works c =
+    (black_looks c.args.types.now c.args.seat.now c.claim.new.seat c.args.marking.now c.args.groups.now c.args.traced.now c.args.place
+    c.claim.ensures.view (sym c.in-None.ensures.grey)).works
