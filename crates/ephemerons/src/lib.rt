@@ -21,6 +21,7 @@ mod index;
 mod marks;
 mod notes;
 mod settling;
+mod strong_fields;
 #[cfg(test)]
 mod tests;
 mod tracing;

@@ -7,17 +7,16 @@ ghost use Rattle.object_headers.specs.Offsets.{reference_to};
 ghost use Rattle.page_words.specs.Bodies.{Body, IsPlace};
 ghost use Rattle.page_words.specs.Seat.{holds, is_grey, claimed_at};
 ghost use Rattle.page_space.specs.Space.{IsSeatOf};
-ghost use Rattle.ephemerons.specs.BodyGraph.{AreReferences, HasType, HasPair, HasStrong, HaveNoPairs};
+ghost use Rattle.ephemerons.specs.BodyGraph.{AreReferences, HasType, HasPair, HaveNoPairs};
 ghost use Rattle.ephemerons.specs.BodyGraph.{strong_offsets, word_at};
 ghost use Rattle.ephemerons.specs.Marking.{MarksOn, GrowsWithin, HasStrongMarked};
-ghost use Rattle.ephemerons.specs.Marking.{HasTargetMarked};
-ghost use Rattle.mark_worklist.specs.declared.marking.Marking.{Marking};
 ghost use Rattle.ephemerons.specs.Notes.{NotesGrow, HasPairsNoted, HasPairNoted};
 ghost use Rattle.ephemerons.specs.Fixpoint.{ListsMarks, with_held};
 ghost use Rattle.ephemerons.specs.Fixpoint.{IsGround, Looks, Works, stage};
 
-use crate::marks::{list_held, mark_named, mark_reference, names_marked, word_of};
+use crate::marks::{mark_reference, names_marked, word_of};
 use crate::notes::Pairs;
+use crate::strong_fields::{trace_strong, trace_words};
 use mark_worklist::Marking;
 use object_headers::{Header, with_mark, with_traced};
 use page_space::Space;
@@ -78,86 +77,6 @@ pub(crate) fn trace_fields(
     let strong = types.strong_words(ty);
     trace_words(space.words(), types, seat, marking, place, strong);
     trace_pairs(space, types, seat, marking, notes, place, ty);
-}
-
-/// Marks what the strong fields of an object name. All of it is listed but what the last one names:
-/// that is the answer, if it was not marked. So a chain is traced without the list.
-fn trace_strong(
-    words: &Words,
-    types: &TypeTable,
-    seat: &mut MutatorSeat,
-    marking: &mut Marking,
-    place: u32,
-    ty: u32,
-) -> Option<u32>
-    requires heap { seat.old.count ≡ words.now }
-    requires on { seat.old.on ≡ true }
-    requires references { AreReferences types.now seat.old.bodies }
-    requires body { HasType seat.old.bodies place ty }
-    requires hand { holds seat.old.marked place ≡ true }
-    ensures marks { ListsMarks seat.old marking.old seat.new (with_held result marking.new) }
-    ensures within { GrowsWithin types.now seat.old seat.new }
-    ensures strong { HasStrongMarked types.now seat.new place }
-{
-    seat.bodies_lie_apart();
-    let strong = types.strong_words(ty);
-    match strong.split_last() {
-        Some((last, others)) => {
-            trace_words(words, types, seat, marking, place, others);
-            mark_field(words, types, seat, place, *last)
-        }
-        None => None,
-    }
-}
-
-/// Marks and lists what strong fields of an object name.
-fn trace_words(
-    words: &Words,
-    types: &TypeTable,
-    seat: &mut MutatorSeat,
-    marking: &mut Marking,
-    place: u32,
-    offsets: &[u32],
-)
-    requires heap { seat.old.count ≡ words.now }
-    requires on { seat.old.on ≡ true }
-    requires references { AreReferences types.now seat.old.bodies }
-    requires strong { (offset : ℕ) → Contains offsets.now offset
-        → HasStrong types.now seat.old.bodies place offset }
-    requires hand { holds seat.old.marked place ≡ true }
-    ensures marks { ListsMarks seat.old marking.old seat.new marking.new }
-    ensures within { GrowsWithin types.now seat.old seat.new }
-    ensures named { (offset : ℕ) → Contains offsets.now offset
-        → HasTargetMarked seat.new place offset }
-{
-    for offset in offsets {
-        let fresh = mark_field(words, types, seat, place, *offset);
-        list_held(marking, fresh);
-    }
-}
-
-/// Marks what a strong field of a marked object names. Its place where it was not marked: the caller
-/// lists or traces it.
-fn mark_field(
-    words: &Words,
-    types: &TypeTable,
-    seat: &mut MutatorSeat,
-    holder: u32,
-    offset: u32,
-) -> Option<u32>
-    requires heap { seat.old.count ≡ words.now }
-    requires on { seat.old.on ≡ true }
-    requires references { AreReferences types.now seat.old.bodies }
-    requires strong { HasStrong types.now seat.old.bodies holder offset }
-    requires hand { holds seat.old.marked holder ≡ true }
-    ensures marks { (m : Marking) → ListsMarks seat.old m seat.new (with_held result m) }
-    ensures within { GrowsWithin types.now seat.old seat.new }
-    ensures named { HasTargetMarked seat.new holder offset }
-{
-    let _ = types;
-    seat.bodies_lie_apart();
-    let reference = word_of(words, seat, holder, offset);
-    mark_named(words, seat, reference)
 }
 
 /// Marks and lists the values of an object's pairs whose key is marked, and notes the others.

@@ -6,7 +6,7 @@ use Rattle.ephemerons.specs.BodyGraph.{word_at}
 use Rattle.ephemerons.proofs.Graph.{strong_within}
 use Rattle.ephemerons.proofs.Holding.{no_marking}
 use Rattle.ephemerons.proofs.PairWords.{strong_there}
-use Rattle.ephemerons.proofs.tracing.mark_field.Goals as goal
+use Rattle.ephemerons.proofs.strong_fields.mark_field.Goals as goal
 
 pub word_of-reference-requires-clause-field : goal.word_of-reference-requires-clause-field
 word_of-reference-requires-clause-field c =

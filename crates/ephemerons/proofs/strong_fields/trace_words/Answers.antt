@@ -9,7 +9,7 @@ use Rattle.ephemerons.proofs.Lists.{Contains-take_more_cases}
 use Rattle.ephemerons.proofs.MarkSteps.{ListsMarks-then, same_bodies}
 use Rattle.ephemerons.proofs.Holding.{fresh_listed}
 use Rattle.ephemerons.proofs.StrongWords.{target_stays, within_then}
-use Rattle.ephemerons.proofs.tracing.trace_words.Goals as goal
+use Rattle.ephemerons.proofs.strong_fields.trace_words.Goals as goal
 
 pub mark_field-fresh-requires-clause-strong : goal.mark_field-fresh-requires-clause-strong
 mark_field-fresh-requires-clause-strong c =

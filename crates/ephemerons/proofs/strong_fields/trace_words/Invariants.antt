@@ -2,7 +2,7 @@ use Rattle.std.proofs.Common.{ℕ, take}
 use Rattle.std.specs.List.{Contains}
 use Rattle.ephemerons.specs.Marking.{GrowsWithin, HasTargetMarked}
 use Rattle.ephemerons.specs.Fixpoint.{ListsMarks}
-use Rattle.ephemerons.proofs.tracing.trace_words.Given as goal
+use Rattle.ephemerons.proofs.strong_fields.trace_words.Given as goal
 
 abbrev pub invariant-loop-offset : goal.invariant-loop-offset
 invariant-loop-offset l = record {

@@ -6,7 +6,7 @@ use Rattle.ephemerons.specs.Marking.{HasTargetMarked}
 use Rattle.ephemerons.specs.Fixpoint.{ListsMarks, with_held}
 use Rattle.ephemerons.proofs.MarkSteps.{ListsMarks-then, same_bodies}
 use Rattle.ephemerons.proofs.StrongWords.{told_is_strong, all_named, target_stays, within_then}
-use Rattle.ephemerons.proofs.tracing.trace_strong.Goals as goal
+use Rattle.ephemerons.proofs.strong_fields.trace_strong.Goals as goal
 
 pub trace_words-requires-clause-strong : goal.trace_words-requires-clause-strong
 trace_words-requires-clause-strong c o there =
