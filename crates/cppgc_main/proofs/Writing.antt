@@ -103,7 +103,3 @@ pub finalise_at : (numbers : List ℕ) (i d : ℕ) → i < length numbers → sl
 finalise_at [] i d low = absurd (omega arith)
 finalise_at (n ∷ numbers) zero d low = refl
 finalise_at (n ∷ numbers) (suc i) d low = finalise_at numbers i d (omega arith)
-
-pub finalise_count : (numbers : List ℕ) → length (finalise_lines numbers) ≡ length numbers
-finalise_count [] = refl
-finalise_count (n ∷ numbers) = omega (arith, finalise_count numbers)

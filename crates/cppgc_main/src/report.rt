@@ -191,7 +191,8 @@ fn print_finalised<K: Sink>(
     sink: &mut K,
 ) -> Result<(), Failed>
     ensures bytes { Writes (with_held (K.written sink.old) pieces.old)
-        (with_held (K.written sink.new) pieces.new) (lines_bytes (finalise_lines numbers.now)) result }
+        (with_held (K.written sink.new) pieces.new)
+        (lines_bytes (finalise_lines numbers.now)) result }
     ensures taken { TookMore (K.written sink.old) (K.written sink.new) }
     ensures cause { HasCause (K.faults sink.old) (K.faults sink.new) result }
 {
