@@ -38,14 +38,7 @@ impl Objects {
             (IsFreePlace self.old.shape (extents_of self.old.nodes) size) }
         ensures same { self.new ≡ self.old }
     {
-        match self.space.find(&mut self.seat, size, from, to) {
-            Some(place) => Some(place),
-            None => {
-                // The next search for the size needs no look at these pages.
-                self.space.pass_by(&mut self.seat, size, to);
-                None
-            }
-        }
+        self.space.find(&mut self.seat, size, from, to)
     }
 
     /// The first word of the lowest run of pages without objects that is just enough for the size.

@@ -3,7 +3,6 @@ mod GapSearch
 mod KnownGaps
 mod WalkSteps
 mod StartBits
-mod TreeNodes
 mod Shapes
 mod PageSpan
 mod Tables

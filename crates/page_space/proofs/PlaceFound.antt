@@ -1,5 +1,5 @@
 -- From the pages to the place of a new object.
-use Rattle.std.proofs.Common.{◌≡◌, ℕ, Bool, ◌+◌, ◌*◌, ◌/◌, ◌<◌, ◌≤◌, min, true, false, cond, leb, List, Option, Some, None, sym, ap, ◌∙◌, subst, inl, inr, arith, ltb}
+use Rattle.std.proofs.Common.{◌≡◌, ℕ, Bool, ◌+◌, ◌*◌, ◌/◌, ◌<◌, ◌≤◌, true, false, cond, leb, List, Option, Some, None, sym, ap, ◌∙◌, subst, inl, inr, arith, ltb}
 use Rattle.std.specs.List.{Contains}
 use Rattle.std.specs.Option.{IfNone}
 use Rattle.std.proofs.lemmas.Bool.{cases_order, cases_lt, cases_Bool, ltb-true, lt-ltb, le-leb}
@@ -8,31 +8,20 @@ use Rattle.gc_graph.specs.Placement.{Extent, PageHasBucket, IsLowest, IsNowhere,
 use Rattle.page_words.specs.Bodies.{Body, end_of}
 use Rattle.page_space.specs.Pages.{is_in_page}
 use Rattle.page_space.specs.Space.{SpaceView, IsSpaceOver, FitsIn, FitsBetween, HoldsWhole, extent_of, extents_of_bodies}
-use Rattle.page_space.specs.Gaps.{IsGap}
+use Rattle.page_space.specs.Gaps.{IsGap, IsClassOf, least_of}
 use Rattle.page_space.proofs.PageSpan.{page_before, same_page, in_page_from}
 use Rattle.page_space.proofs.PlaceBodies.{contains_map}
 
-run_of_gap : (shape : Shape) (bodies : List Body) (size page a : ℕ)
+pub run_of_gap : (shape : Shape) (bodies : List Body) (size page a : ℕ)
     → PageHasBucket shape.page_words (extents_of_bodies bodies) page (bucket_of shape.page_words size) → IsGap shape (extents_of_bodies bodies) size page a → FitsIn shape bodies size page a
 run_of_gap shape bodies size page a bucket gap = record { bucket = bucket; first = gap.first; last = gap.last; free = gap.free }
 
 pub gap_of_run : (shape : Shape) (bodies : List Body) (size page a : ℕ) → FitsIn shape bodies size page a → IsGap shape (extents_of_bodies bodies) size page a
 gap_of_run shape bodies size page a run = record { first = run.first; last = run.last; free = run.free }
 
-pub fits_in_found : (shape : Shape) (bodies : List Body) (size page a : ℕ)
-    → PageHasBucket shape.page_words (extents_of_bodies bodies) page (bucket_of shape.page_words size)
-    → IsLowest (IsGap shape (extents_of_bodies bodies) size page) a → IsLowest (FitsIn shape bodies size page) a
-fits_in_found shape bodies size page a bucket low = (
-  run_of_gap shape bodies size page a bucket low.0,
-  (λ b before run. low.1 b before (gap_of_run shape bodies size page b run)),
-)
-
 pub if_none_then : (r : Option ℕ) (P Q : Type 0) → IfNone r P → (P → Q) → IfNone r Q
 if_none_then None P Q p f = f p
 if_none_then (Some a) P Q p f = tt
-
-pub fits_in_none : (shape : Shape) (bodies : List Body) (size page : ℕ) → IsNowhere (IsGap shape (extents_of_bodies bodies) size page) → IsNowhere (FitsIn shape bodies size page)
-fits_in_none shape bodies size page none a run = none a (gap_of_run shape bodies size page a run)
 
 pub fits_found : (shape : Shape) (bodies : List Body) (from to size page a : ℕ) → 2 ≤ size → size ≤ shape.page_words / 2 → from ≤ page → page < to
     → ((other : ℕ) → other < page → from ≤ other → IsNowhere (FitsIn shape bodies size other)) → IsLowest (FitsIn shape bodies size page) a
@@ -106,12 +95,21 @@ middle_bucket w size small least =
     ap (λ t. cond t 4 (cond (leb 16 size) 3 (cond (leb 8 size) 2 (cond (leb 4 size) 1 0)))) not_large
     ∙ ap (λ t. cond t 3 (cond (leb 8 size) 2 (cond (leb 4 size) 1 0))) (le-leb 16 size least)
 
--- sizes from 63 on to half a page are of one bucket
-pub bucket_remembered : (w size remembered : ℕ) → 256 ≤ w → size ≤ w / 2 → remembered ≡ min size 63 → bucket_of w remembered ≡ bucket_of w size
-bucket_remembered w size remembered words small is =
-    elim (cases_lt 63 size) [
-      | inl more ↦
-          (let e : remembered ≡ 63 = omega arith in
-          ap (bucket_of w) e ∙ middle_bucket w 63 (omega arith) (omega arith) ∙ sym (middle_bucket w size small (omega arith)))
-      | inr few ↦ ap (bucket_of w) (let e : remembered ≡ size = omega arith in e)
+-- the sizes of a class up to half a page are of one bucket
+pub bucket_of_class : (w size class least : ℕ) → 256 ≤ w → size ≤ w / 2 → IsClassOf size class least → bucket_of w (least_of class) ≡ bucket_of w size
+bucket_of_class w size class least words small of =
+    elim (cases_lt size 64) [
+      | inl few ↦ ap (bucket_of w) (sym of.least_is ∙ of.own few)
+      | inr many ↦
+          (let least : 64 ≤ least_of class = omega (arith, of.large many, of.least_is) in
+          let below : least_of class ≤ size = omega (arith, of.below, of.least_is) in
+          middle_bucket w (least_of class) (omega arith) (omega arith) ∙ sym (middle_bucket w size small (omega arith)))
     ]
+
+-- a gap of a smaller size begins where a larger one does
+pub gap_less : (shape : Shape) (es : List Extent) (n size page a : ℕ) → n ≤ size → IsGap shape es size page a → IsGap shape es n page a
+gap_less shape es n size page a less gap = record {
+  first = gap.first;
+  last = (let last : a + size ≤ (page + 1) * shape.page_words = gap.last in omega arith);
+  free = λ x low high. gap.free x low (omega arith);
+}

@@ -1,11 +1,9 @@
 -- How many words a heap can have.
-use Rattle.std.proofs.Common.{◌≡◌, ℕ, ◌*◌, ◌/◌, ◌≤◌, ◌^◌, true, false, [], ◌∷◌, sym, inl, inr, arith, eqb}
+use Rattle.std.proofs.Common.{◌≡◌, ℕ, ◌*◌, ◌/◌, ◌≤◌, true, false, [], ◌∷◌, sym, inl, inr, arith, eqb}
 use Rattle.std.specs.List.{list_any}
 use Rattle.std.proofs.lemmas.Bool.{true≢false, or_cases, eqb-true}
-use Rattle.std.proofs.Math.Nat.{mul-le-mul_left, mul-le-mul_right}
 use Rattle.gc_graph.specs.State.{Shape}
 use Rattle.gc_graph.specs.Shapes.{IsShape}
-use Rattle.page_space.specs.Pages.{word_count}
 
 page_words_le : (n : ℕ) → list_any (λ m. eqb m n) (256 ∷ 512 ∷ 1024 ∷ 2048 ∷ 4096 ∷ 8192 ∷ 16384 ∷ []) ≡ true → (256 ≤ n) × (n ≤ 16384) × (64 * (n / 64) ≡ n)
 page_words_le n h =
@@ -34,7 +32,3 @@ page_words_le n h =
 
 pub shape_words : (s : Shape) → IsShape s → (256 ≤ s.page_words) × (s.page_words ≤ 16384) × (64 * (s.page_words / 64) ≡ s.page_words)
 shape_words s valid = page_words_le s.page_words valid.power
-
-pub word_count_fits : (s : Shape) → IsShape s → word_count s ≤ 2 ^ 24
-word_count_fits s valid =
-    omega (arith, mul-le-mul_left s.pages (shape_words s valid).1, mul-le-mul_right 16384 valid.most)

@@ -1,12 +1,11 @@
 -- What the table tells of the pages.
-use Rattle.std.proofs.Common.{◌≡◌, ℕ, zero, suc, ◌+◌, ◌*◌, ◌<◌, ◌≤◌, subst, Bool, true, false, List, [], ◌∷◌, length, map, get_or, refl, sym, ap, ◌∙◌, inl, inr, arith, cond, ltb, ◌↔◌}
+use Rattle.std.proofs.Common.{◌≡◌, ℕ, ◌+◌, ◌*◌, ◌<◌, ◌≤◌, Bool, true, false, List, [], ◌∷◌, length, map, get_or, refl, sym, ap, ◌∙◌, inl, inr, arith, cond, ltb, ◌↔◌}
 use Rattle.std.specs.List.{Contains, count_by}
 use Rattle.std.proofs.lemmas.Bool.{cases_lt, cases_Bool, ltb-true, lt-ltb, false≢true, true≢false}
 use Rattle.std.proofs.lemmas.List.{length-map, get_or-map, get_or_past}
-use Rattle.std.proofs.lemmas.List.Sums.{sum_by-cons, count_by-le-length}
-use Rattle.std.proofs.Math.Nat.{mul-le-mul_right}
+use Rattle.std.proofs.lemmas.List.Sums.{sum_by-cons}
 use Rattle.gc_graph.specs.State.{Shape}
-use Rattle.gc_graph.specs.Placement.{Extent, HasWord, PageHasBucket, UsesPage, IsUsedPages, StartsEmptyRun, IsNowhere}
+use Rattle.gc_graph.specs.Placement.{Extent, HasWord, PageHasBucket, UsesPage, IsUsedPages}
 use Rattle.page_space.specs.Pages.{is_in_page, count_in_use}
 use Rattle.page_space.specs.Space.{SpaceView, IsSpaceOver}
 use Rattle.page_space.proofs.PageSpan.{in_page_from, in_page_word}
@@ -96,34 +95,3 @@ used_pages space count es n words over long is =
           ∙ sym (flag page below) ∙ clear);
       count = is ∙ count_flags objects;
     }
-
-in_use_at : (x : ℕ) (xs : List ℕ) (i : ℕ) → 0 < x → ((j : ℕ) → j < length xs → 0 < get_or xs j 0) → i < length (x ∷ xs) → 0 < get_or (x ∷ xs) i 0
-in_use_at x xs zero some rest inside = some
-in_use_at x xs (suc i) some rest inside = rest i (omega arith)
-
--- where as many pages are in use as there are, each is
-pub all_in_use : (xs : List ℕ) (i : ℕ) → count_in_use xs ≡ length xs → i < length xs → 0 < get_or xs i 0
-all_in_use [] i all inside = absurd (omega arith)
-all_in_use (x ∷ xs) i all inside =
-    let first : count_in_use (x ∷ xs) ≡ cond (ltb 0 x) 1 0 + count_in_use xs = sum_by-cons (λ n. cond (ltb 0 n) 1 0) x xs in
-    let few : count_in_use xs ≤ length xs = count_by-le-length (λ n. ltb 0 n) xs in
-    elim (cases_Bool (ltb 0 x)) [
-      | inl some ↦
-          (let one : let k : ℕ = cond (ltb 0 x) 1 0 in k ≡ 1 = ap (λ b. let k : ℕ = cond b 1 0 in k) some in
-          in_use_at x xs i (ltb-true 0 x some) (λ j below. all_in_use xs j (omega arith) below) inside)
-      | inr none ↦ absurd (let zero : let k : ℕ = cond (ltb 0 x) 1 0 in k ≡ 0 = ap (λ b. let k : ℕ = cond b 1 0 in k) none in omega arith)
-    ]
-
-pub no_empty_run : (space : SpaceView) (count : ℕ) (es : List Extent) (size : ℕ) → 0 < space.shape.page_words → 0 < size → IsSpaceOver space count es
-    → length space.table.objects ≡ space.shape.pages → count_in_use space.table.objects ≡ space.shape.pages
-    → IsNowhere (StartsEmptyRun space.shape es size)
-no_empty_run space count es size words some over long all a run =
-    let enough : size ≤ run.count * space.shape.page_words = run.enough.0 in
-    let within : run.page + run.count ≤ space.shape.pages = run.within in
-    elim (cases_lt 0 run.count) [
-      | inl one ↦
-          (let used : UsesPage space.shape es run.page =
-          (held_is_used space count es run.page words over (omega arith)).0 (all_in_use space.table.objects run.page (all ∙ sym long) (omega arith)) in
-          run.empty 0 one (subst (UsesPage space.shape es) (let e : run.page ≡ run.page + 0 = omega arith in e) used))
-      | inr none ↦ (let zero : run.count * space.shape.page_words ≤ 0 * space.shape.page_words = mul-le-mul_right space.shape.page_words none in omega arith)
-    ]

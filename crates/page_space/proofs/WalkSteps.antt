@@ -1,16 +1,15 @@
 -- The steps of a walk from object to object.
-use Rattle.std.proofs.Common.{◌≡◌, ℕ, ◌+◌, ◌*◌, ◌<◌, ◌≤◌, ap, ◌⊎◌, inl, inr, arith}
+use Rattle.std.proofs.Common.{◌≡◌, ℕ, ◌+◌, ◌*◌, ◌/◌, ◌<◌, ◌≤◌, ap, ◌⊎◌, inl, inr, arith}
 use Rattle.std.specs.List.{Contains}
 use Rattle.std.proofs.lemmas.Bool.{cases_lt}
 use Rattle.gc_graph.specs.State.{Shape}
-use Rattle.gc_graph.specs.Placement.{Extent, IsTaken}
+use Rattle.gc_graph.specs.Placement.{IsTaken}
 use Rattle.page_words.specs.Bodies.{Body, end_of, IsPlace, IsInBody}
 use Rattle.page_words.specs.Seat.{SeatView, IsView}
-use Rattle.page_space.specs.Space.{HasNoStart, HoldsWhole, extents_of_bodies, extent_of}
-use Rattle.page_space.specs.Gaps.{IsGap, IsFullBelow}
+use Rattle.page_space.specs.Space.{HasNoStart, HoldsWhole, extents_of_bodies}
+use Rattle.page_space.specs.Gaps.{IsGap}
 use Rattle.page_space.specs.Walks.{IsEdge}
-use Rattle.page_space.proofs.PageSpan.{next_page}
-use Rattle.page_space.proofs.PlaceBodies.{body_size, body_of_taken, body_of_extent, contains_map, taken_by_body}
+use Rattle.page_space.proofs.PlaceBodies.{body_size, body_of_taken, taken_by_body}
 
 -- an object that begins in the words of another one is that one
 pub one_in : (v : SeatView) (b c : Body) → IsView v → Contains v.bodies b → Contains v.bodies c → c.place ≤ b.place → b.place < end_of c → b ≡ c
@@ -66,14 +65,13 @@ gap_ends v shape size page next after x c view there at ends before gap =
       | inr none ↦ inr (omega arith)
     ]
 
--- ---- where a block's first words belong to an object that begins before
+-- ---- where the words from an address on belong to an object that begins by it
 
 -- where the last place before an address is known, the objects before end by the end of that one, or by the address
-pub edge_after_last : (v : SeatView) (shape : Shape) (page place at size edge : ℕ) → IsView v → page * shape.page_words ≤ place → place < at
-    → at < (page + 1) * shape.page_words → IsPlace v.bodies place → ((b : Body) → Contains v.bodies b → b.place ≡ place → size ≡ b.size)
+pub edge_after_last : (v : SeatView) (place at size edge : ℕ) → IsView v → IsPlace v.bodies place → ((b : Body) → Contains v.bodies b → b.place ≡ place → size ≡ b.size)
     → HasNoStart v.bodies (place + 1) at → at ≤ edge → place + size ≤ edge → (edge ≡ at) ⊎ (edge ≡ place + size)
     → IsEdge v.bodies edge
-edge_after_last v shape page place at size edge view low below inside starts sizes none over covers is b there before =
+edge_after_last v place at size edge view starts sizes none over covers is b there before =
     let c : Body = starts.0 in
     let at_c : c.place ≡ place = starts.2 in
     let size_c : size ≡ c.size = sizes c starts.1 starts.2 in
@@ -107,58 +105,16 @@ edge_of_page v shape page at view whole low inside none b there before =
       | inr later ↦ absurd (none b.place later before (b, there, (let e : b.place ≡ b.place = omega arith in e)))
     ]
 
--- what is full up to an object's place is full up to its end
-pub full_on : (v : SeatView) (from full next : ℕ) (c : Body) → IsView v → ((x : ℕ) → from ≤ x → x < full → IsInBody v.bodies x)
-    → ((b : Body) → Contains v.bodies b → from ≤ b.place → b.place < full → end_of b ≤ full) → Contains v.bodies c → c.place ≡ full → next ≡ full + c.size
-    → ((x : ℕ) → from ≤ x → x < next → IsInBody v.bodies x) × ((b : Body) → Contains v.bodies b → from ≤ b.place → b.place < next → end_of b ≤ next)
-full_on v from full next c view taken ends there at is = (
-  (λ x low high. elim (cases_lt x full) [
-    | inl before ↦ taken x low before
-    | inr after ↦ (c, there, omega arith, omega arith)
-  ]),
-  (λ b b_there low high. elim (cases_lt b.place full) [
-    | inl before ↦ omega (arith, ends b b_there low before)
-    | inr after ↦ omega (arith, ap end_of (one_in v b c view b_there there (omega arith) (omega arith)))
-  ]),
-)
-
--- the same, told of extents
-pub full_below : (v : SeatView) (shape : Shape) (page from low : ℕ) → low ≤ (page + 1) * shape.page_words
-    → ((x : ℕ) → page * shape.page_words ≤ x → x < from → IsTaken (extents_of_bodies v.bodies) x)
-    → ((e : Extent) → Contains (extents_of_bodies v.bodies) e → page * shape.page_words ≤ e.place → e.place < from → e.place + e.size ≤ from)
-    → from ≤ low → ((x : ℕ) → from ≤ x → x < low → IsInBody v.bodies x)
-    → ((b : Body) → Contains v.bodies b → from ≤ b.place → b.place < low → end_of b ≤ low)
-    → IsFullBelow shape (extents_of_bodies v.bodies) page low
-full_below v shape page from low within full_before ends_before order full ends = record {
-  within = within;
-  full = λ x first below. elim (cases_lt x from) [
-    | inl before ↦ full_before x first before
-    | inr after ↦ taken_by_body v.bodies x (full x after below)
-  ];
-  ends = λ e there first below. elim (cases_lt e.place from) [
-    | inl before ↦ omega (arith, ends_before e there first before)
-    | inr after ↦
-        (let b : (b : Body) × Contains v.bodies b × (extent_of b ≡ e) = body_of_extent v.bodies e there in
-        let place : b.0.place ≡ e.place = ap (λ (d : Extent). d.place) b.2 in
-        let size : b.0.size ≡ e.size = ap (λ (d : Extent). d.size) b.2 in
-        omega (arith, ends b.0 b.1 (omega arith) (omega arith)))
-  ];
-}
-
--- and read off again
-pub full_words : (v : SeatView) (shape : Shape) (page low start : ℕ) → IsFullBelow shape (extents_of_bodies v.bodies) page low
-    → page * shape.page_words ≤ start → (x : ℕ) → start ≤ x → x < low → IsInBody v.bodies x
-full_words v shape page low start full first x from below = body_of_taken v.bodies x (full.full x (omega arith) below)
-
-pub full_edge : (v : SeatView) (shape : Shape) (page low : ℕ) → IsView v → HoldsWhole shape v.bodies page → 0 < shape.page_words
-    → page * shape.page_words ≤ low → IsFullBelow shape (extents_of_bodies v.bodies) page low → IsEdge v.bodies low
-full_edge v shape page low view whole some first full b there before =
-    elim (cases_lt b.place (page * shape.page_words)) [
-      | inl earlier ↦
-          omega (
-            arith,
-            edge_of_page v shape page (page * shape.page_words) view whole (omega arith) (omega (arith, next_page shape.page_words page))
-                (λ x from below. absurd (omega arith)) b there earlier,
-          )
-      | inr later ↦ full.ends (extent_of b) (contains_map extent_of v.bodies b there) later before
+-- a gap that begins from an address on begins from the end of the words on that are taken there
+pub from_edge : (v : SeatView) (shape : Shape) (n page at edge a : ℕ) → ((x : ℕ) → at ≤ x → x < edge → IsInBody v.bodies x) → 1 ≤ n → at ≤ a
+    → IsGap shape (extents_of_bodies v.bodies) n page a → edge ≤ a
+from_edge v shape n page at edge a taken some from gap =
+    elim (cases_lt a edge) [
+      | inl covered ↦ absurd (gap.free a (omega arith) (omega arith) (taken_by_body v.bodies a (taken a from covered)))
+      | inr after ↦ after
     ]
+
+-- the block of an address ends within the page
+pub block_ends : (shape : Shape) (page at : ℕ) → 64 * (shape.page_words / 64) ≡ shape.page_words → at < (page + 1) * shape.page_words
+    → at / 64 * 64 + 64 ≤ (page + 1) * shape.page_words
+block_ends shape page at blocks within = omega (arith, ap (λ n. (page + 1) * n) blocks)

@@ -1,6 +1,5 @@
 pub mod Gaps
 pub mod GapFields
-pub mod Trees
 pub mod Walks
 pub mod Pages
 pub mod TableFields

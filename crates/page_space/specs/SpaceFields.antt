@@ -1,9 +1,8 @@
 -- What is true of the fields of a space.
-use Rattle.std.specs.Prelude.{◌≡◌, ◌/◌, length}
+use Rattle.std.specs.Prelude.{◌≡◌, ◌*◌, length}
 use Rattle.gc_graph.specs.State.{Shape}
 use Rattle.gc_graph.specs.Shapes.{IsShape}
 use Rattle.page_words.specs.Seat.{block_words}
-use Rattle.page_space.specs.Gaps.{HasBlocks}
 use Rattle.page_space.specs.Pages.{word_count}
 use Rattle.page_space.specs.declared.space.Space.TheInside.{Inside}
 
@@ -11,13 +10,13 @@ use Rattle.page_space.specs.declared.space.Space.TheInside.{Inside}
 abbrev pub shape_of : Inside → Shape
 shape_of s = record { pages = s.pages; page_words = s.page_words }
 
--- the shape is one that a heap can have, the words are those of its pages, and each page has its row in the table, and
--- a bound for each of its blocks
+-- the shape is one that a heap can have, the words are those of its pages, and each page has its row in the table and
+-- its bound, and each block has its bound
 pub record IsSpace (s : Inside) : Type 0 where
   pub shape : IsShape (shape_of s)
   pub words : s.words ≡ word_count (shape_of s)
   pub objects : length s.table.objects ≡ s.pages
   pub buckets : length s.table.buckets ≡ s.pages
   pub starts : length s.table.starts ≡ s.pages
-  pub gaps : length s.gaps.pages ≡ s.pages
-  pub blocks : HasBlocks s.gaps.pages (s.page_words / block_words)
+  pub gaps : length s.gaps.most ≡ s.pages
+  pub blocks : block_words * length s.gaps.bounds ≡ word_count (shape_of s)

@@ -1,9 +1,9 @@
 -- What a walk from object to object through a page knows.
-use Rattle.std.specs.Prelude.{ℕ, ◌+◌, ◌<◌, ◌≤◌, List, Contains}
+use Rattle.std.specs.Prelude.{ℕ, ◌<◌, ◌≤◌, List, Contains}
 use Rattle.gc_graph.specs.State.{Shape}
 use Rattle.gc_graph.specs.Placement.{Extent}
 use Rattle.page_words.specs.Bodies.{Body, end_of}
-use Rattle.page_space.specs.Gaps.{IsGap, IsInBlock}
+use Rattle.page_space.specs.Gaps.{IsGap}
 
 -- each object that begins before the address ends by it
 abbrev pub IsEdge : List Body → ℕ → Type 0
@@ -12,11 +12,3 @@ IsEdge bodies a = (b : Body) → Contains bodies b → b.place < a → end_of b 
 -- a gap of the page that begins from the one address up to, and without, the other
 abbrev pub BeginsBetween : Shape → List Extent → ℕ → ℕ → ℕ → ℕ → ℕ → Type 0
 BeginsBetween shape extents size page from until a = (from ≤ a) × (a < until) × IsGap shape extents size page a
-
--- a gap that begins in block k of the page
-abbrev pub BeginsIn : Shape → List Extent → ℕ → ℕ → ℕ → ℕ → Type 0
-BeginsIn shape extents size page k a = IsInBlock shape page k a × IsGap shape extents size page a
-
--- the gaps that begin there end by the limit
-abbrev pub EndsBy : Shape → List Extent → ℕ → ℕ → ℕ → ℕ → Type 0
-EndsBy shape extents page from until limit = (size a : ℕ) → BeginsBetween shape extents size page from until a → a + size ≤ limit

@@ -5,7 +5,6 @@ ghost use Rattle.std.specs.Prelude.{length, slice_index};
 ghost use Rattle.object_headers.specs.Offsets.{first_field};
 ghost use Rattle.page_words.specs.Bodies.{Body};
 ghost use Rattle.page_words.specs.Seat.{holds, retracted};
-ghost use Rattle.page_space.specs.Pages.{word_count};
 ghost use Rattle.page_space.specs.Space.{IsSeatOf, IsSpaceOf, IsFreePlace, extents_of_bodies};
 ghost use Rattle.page_space.specs.Occupying.{IsRoom, HasNulls, Occupies, new_body};
 
@@ -27,26 +26,6 @@ impl Space {
         ensures space { IsSpaceOf self.new seat.new }
         ensures shape { self.new.shape ≡ self.old.shape }
     {
-        self.place(seat, a, ty, size, serial);
-        let page_words = self.page_words;
-        if size <= page_words / 2 {
-            self.look_around(seat, a, size);
-            self.pass_by(seat, size, a / page_words);
-        }
-    }
-
-    /// The same, without a look at what is left of the gap.
-    fn place(&mut self, seat: &mut MutatorSeat, a: u32, ty: u32, size: u32, serial: u32)
-        requires space { IsSpaceOf self.old seat.old }
-        requires place { IsFreePlace self.old.shape (extents_of_bodies seat.old.bodies) size a }
-        requires ty { ty < 16384 }
-        requires least { 2 ≤ size }
-        requires most { size < 2 ^ 26 }
-        ensures occupied { Occupies seat.old seat.new (new_body a ty size serial) }
-        ensures inside { a + size ≤ word_count self.old.shape }
-        ensures space { IsSpaceOf self.new seat.new }
-        ensures shape { self.new.shape ≡ self.old.shape }
-    {
         seat.bodies_lie_apart();
         self.shape_is_valid();
         self.write_object(seat, a, ty, size, serial);
@@ -55,7 +34,7 @@ impl Space {
         let page = a / self.page_words;
         let after = (a + size - 1) / self.page_words + 1;
         let bucket = bucket_of(self.page_words, size);
-        lower_where_empty(&mut self.gaps, &self.table, page);
+        lower_where_empty(&mut self.gaps, &self.table, page, page * self.page_words);
         self.table.enter(page, after, bucket);
     }
 
@@ -76,7 +55,8 @@ impl Space {
         self.used -= size;
         let after = (a + size - 1) / self.page_words + 1;
         self.table.leave(a / self.page_words, after);
-        self.gaps.forget(a / self.page_words, after);
+        self.gaps
+            .forget(a / self.page_words, after, self.page_words);
     }
 
     /// Writes an object whose fields are null into free words, and publishes it.
@@ -116,17 +96,19 @@ impl Space {
     }
 }
 
-/// A page is worth a look for each size where it holds no object.
-fn lower_where_empty(gaps: &mut Gaps, table: &Table, page: u32)
+/// A page that begins at an address is worth a look for each size where it holds no object. What is
+/// known of gaps holds still where an object comes: no gap becomes longer.
+fn lower_where_empty(gaps: &mut Gaps, table: &Table, page: u32, start: u32)
     requires { page < length table.now.objects }
-    ensures pages { gaps.new.pages ≡ gaps.old.pages }
-    ensures low { gaps.new.low ≡ gaps.old.low }
-    ensures surveyed { gaps.new.surveyed ≡ gaps.old.surveyed }
-    ensures lower { (size : ℕ) → slice_index gaps.new.first size ≤ slice_index gaps.old.first size }
-    ensures empty { slice_index table.now.objects page ≡ 0 → (size : ℕ)
-        → slice_index gaps.new.first size ≤ page }
+    ensures bounds { gaps.new.bounds ≡ gaps.old.bounds }
+    ensures most { gaps.new.most ≡ gaps.old.most }
+    ensures known { gaps.new.known ≡ gaps.old.known }
+    ensures lower { (class : ℕ) → slice_index gaps.new.first class
+        ≤ slice_index gaps.old.first class }
+    ensures empty { slice_index table.now.objects page ≡ 0 → (class : ℕ)
+        → slice_index gaps.new.first class ≤ start }
 {
     if table.objects_in(page) == 0 {
-        gaps.lower(page);
+        gaps.lower(start);
     }
 }

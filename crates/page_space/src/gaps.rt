@@ -1,26 +1,29 @@
-// What is remembered of the gaps of each page, so that a search looks where one may be.
+// What is remembered of the gaps of the heap, so that a search looks where one may be.
 
-ghost use Rattle.std.specs.Prelude.{◌≡◌, ◌≢◌, ℕ, ◌+◌, ◌^◌, ◌<◌, ◌≤◌, true, false};
-ghost use Rattle.std.specs.Prelude.{IfOk, length, slice_index, slice_set, replicate};
+ghost use Rattle.std.specs.Prelude.{◌≡◌, ◌≢◌, ℕ, ◌*◌, ◌^◌, ◌<◌, ◌≤◌, true, false};
+ghost use Rattle.std.specs.Prelude.{IfOk, if◌then◌else◌, length, slice_index, slice_set, replicate};
+ghost use Rattle.page_words.specs.Seat.{block_words};
 ghost use Rattle.page_space.specs.Pages.{is_between};
-ghost use Rattle.page_space.specs.Gaps.{HasBlocks, bounds_at, bound_at, is_surveyed};
-ghost use Rattle.page_space.specs.Gaps.{largest_remembered};
+ghost use Rattle.page_space.specs.Gaps.{class_count, bound_at, is_known};
 
-use crate::tree::Tree;
 use gc_graph::NoMemory;
+use page_words::BLOCK_WORDS;
 use std::alloc::Global;
 use std::marker::Model;
 
-/// The sizes from this one on share what is remembered of the lowest page.
-pub const LARGEST_REMEMBERED: u32 = 63;
+/// How many classes of sizes there are.
+const CLASSES: usize = 72;
 
-/// For each page the bounds of its blocks, its lowest word that may be free, and whether these
-/// hold; for each size up to the largest remembered the lowest page worth a look.
+/// A bound that no gap exceeds: the words of the largest page.
+const LONGEST: u32 = 16_384;
+
+/// For each block of the heap a bound for the gaps that begin there, for each page a bound for its
+/// gaps, and whether these hold; for each class the lowest address worth a look.
 #[derive(Drop)]
 pub struct Gaps {
-    pages: Vec<Tree>,
-    low: Vec<u32>,
-    surveyed: Vec<bool>,
+    bounds: Vec<u32>,
+    most: Vec<u32>,
+    known: Vec<bool>,
     first: Vec<u32>,
 }
 
@@ -32,9 +35,9 @@ impl Model for Gaps {
     ghost use Rattle.page_space.specs.GapFields.{IsGaps};
 
     ghost view = { λ g. record {
-      pages = g.pages.items;
-      low = g.low.items;
-      surveyed = g.surveyed.items;
+      bounds = g.bounds.items;
+      most = g.most.items;
+      known = g.known.items;
       first = g.first.items;
     } };
 
@@ -42,189 +45,204 @@ impl Model for Gaps {
 }
 
 impl Gaps {
-    /// Nothing is known of pages of 2 to the depth blocks. Want of memory is free.
-    pub fn new(alloc: Global, pages: u32, depth: u32) -> Result<Gaps, NoMemory>
-        requires { depth ≤ 8 }
-        ensures pages { IfOk result (λ g. length g.pages ≡ pages) }
-        ensures blocks { IfOk result (λ g. HasBlocks g.pages (2 ^ depth)) }
-        ensures surveyed { IfOk result (λ g. g.surveyed ≡ replicate pages false) }
-        ensures first { IfOk result (λ g. g.first ≡ replicate (largest_remembered + 1) 0) }
+    /// Nothing is known of so many pages with so many blocks. Want of memory is free.
+    pub fn new(alloc: Global, pages: u32, blocks: u32) -> Result<Gaps, NoMemory>
+        requires { blocks ≤ 262144 }
+        ensures pages { IfOk result (λ g. length g.most ≡ pages) }
+        ensures blocks { IfOk result (λ g. length g.bounds ≡ blocks) }
+        ensures known { IfOk result (λ g. g.known ≡ replicate pages false) }
+        ensures first { IfOk result (λ g. g.first ≡ replicate class_count 0) }
     {
-        let low = vec![in alloc; 0u32; pages as usize]?;
-        let surveyed = vec![in alloc; false; pages as usize]?;
-        let first = vec![in alloc; 0u32; LARGEST_REMEMBERED as usize + 1]?;
-        let pages = trees(alloc, pages, depth)?;
+        let bounds = vec![in alloc; 0u32; blocks as usize]?;
+        let most = vec![in alloc; 0u32; pages as usize]?;
+        let known = vec![in alloc; false; pages as usize]?;
+        let first = vec![in alloc; 0u32; CLASSES]?;
         Ok(Gaps {
-            pages,
-            low,
-            surveyed,
+            bounds,
+            most,
+            known,
             first,
         })
     }
 
     /// Whether what is told of a page holds.
-    pub fn is_surveyed(&self, page: u32) -> bool
-        requires { page < length self.now.pages }
-        ensures { result ≡ is_surveyed self.now page }
+    pub fn is_known(&self, page: u32) -> bool
+        requires { page < length self.now.most }
+        ensures { result ≡ is_known self.now page }
     {
-        self.surveyed[page as usize]
+        self.known[page as usize]
     }
 
-    /// A bound which no block's of the page exceeds.
+    /// A bound for the gaps of the page.
     pub fn most(&self, page: u32) -> u32
-        requires { page < length self.now.pages }
-        ensures { (k : ℕ) → bound_at self.now page k ≤ result }
+        requires { page < length self.now.most }
+        ensures { result ≡ slice_index self.now.most page }
     {
-        self.pages[page as usize].most()
+        self.most[page as usize]
     }
 
-    /// The bound of a block.
-    pub fn bound(&self, page: u32, k: u32) -> u32
-        requires page { page < length self.now.pages }
-        requires block { k < length (bounds_at self.now page) }
-        ensures { result ≡ bound_at self.now page k }
+    /// The lowest address from one up to another at which a gap of the size may begin, or the other.
+    pub fn worth_from(&self, from: u32, end: u32, size: u32) -> u32
+        requires order { from ≤ end }
+        requires end { end ≤ block_words * length self.now.bounds }
+        ensures from { from ≤ result }
+        ensures end { result ≤ end }
+        ensures passed { (a : ℕ) → from ≤ a → a < result → bound_at self.now a < size }
     {
-        self.pages[page as usize].bound(k)
+        let mut at = from;
+        while at < end {
+            if self.bounds[(at / BLOCK_WORDS) as usize] >= size {
+                return at;
+            }
+            at = at / BLOCK_WORDS * BLOCK_WORDS + BLOCK_WORDS;
+        }
+        end
     }
 
-    /// A block of the page before which no block has a bound of the size.
-    pub fn first_at_least(&self, page: u32, size: u32) -> u32
-        requires { page < length self.now.pages }
-        ensures within { result < length (bounds_at self.now page) }
-        ensures before { (k : ℕ) → k < result → bound_at self.now page k < size }
-    {
-        self.pages[page as usize].first_at_least(size)
-    }
-
-    /// Changes the bound of a block.
-    pub fn set_bound(&mut self, page: u32, k: u32, bound: u32)
-        requires page { page < length self.old.pages }
-        requires block { k < length (bounds_at self.old page) }
-        ensures bounds { (bounds_at self.new page)
-            ≡ slice_set (bounds_at self.old page) k bound }
-        ensures others { (q : ℕ) → q ≢ page → bounds_at self.new q ≡ bounds_at self.old q }
-        ensures pages { length self.new.pages ≡ length self.old.pages }
-        ensures low { self.new.low ≡ self.old.low }
-        ensures surveyed { self.new.surveyed ≡ self.old.surveyed }
+    /// Changes the bounds of the blocks from the one up to the other.
+    pub fn set_bounds(&mut self, first: u32, end: u32, bound: u32)
+        requires order { first ≤ end }
+        requires end { end ≤ length self.old.bounds }
+        ensures bounds { (block : ℕ) → slice_index self.new.bounds block
+            ≡ (if is_between first end block then bound else slice_index self.old.bounds block) }
+        ensures blocks { length self.new.bounds ≡ length self.old.bounds }
+        ensures most { self.new.most ≡ self.old.most }
+        ensures known { self.new.known ≡ self.old.known }
         ensures first { self.new.first ≡ self.old.first }
     {
-        self.pages[page as usize].set(k, bound);
+        for block in first..end {
+            self.set_bound(block, bound);
+        }
     }
 
-    /// The lowest word of a page that may be free.
-    pub fn low(&self, page: u32) -> u32
-        requires { page < length self.now.pages }
-        ensures { result ≡ slice_index self.now.low page }
+    fn set_bound(&mut self, block: u32, bound: u32)
+        requires { block < length self.old.bounds }
+        ensures { self.new ≡ record self.old { bounds = slice_set self.old.bounds block bound } }
     {
-        self.low[page as usize]
+        self.bounds[block as usize] = bound;
     }
 
-    /// Changes the lowest word of a page that may be free.
-    pub fn set_low(&mut self, page: u32, low: u32)
-        requires { page < length self.old.pages }
-        ensures here { slice_index self.new.low page ≡ low }
+    /// The largest bound of a page's blocks, from the one up to the other, bounds the page.
+    pub fn tighten(&mut self, page: u32, first: u32, end: u32)
+        requires page { page < length self.old.most }
+        requires order { first ≤ end }
+        requires end { end ≤ length self.old.bounds }
+        ensures here { (block : ℕ) → first ≤ block → block < end
+            → slice_index self.old.bounds block ≤ slice_index self.new.most page }
         ensures there { (q : ℕ) → q ≢ page
-            → slice_index self.new.low q ≡ slice_index self.old.low q }
-        ensures pages { self.new.pages ≡ self.old.pages }
-        ensures surveyed { self.new.surveyed ≡ self.old.surveyed }
+            → slice_index self.new.most q ≡ slice_index self.old.most q }
+        ensures pages { length self.new.most ≡ length self.old.most }
+        ensures bounds { self.new.bounds ≡ self.old.bounds }
+        ensures known { self.new.known ≡ self.old.known }
         ensures first { self.new.first ≡ self.old.first }
     {
-        self.low[page as usize] = low;
+        self.most[page as usize] = self.largest_bound(first, end);
     }
 
-    /// What is told of a page holds from now on.
-    pub fn set_surveyed(&mut self, page: u32)
-        requires { page < length self.old.pages }
-        ensures surveyed { is_surveyed self.new page ≡ true }
-        ensures others { (q : ℕ) → q ≢ page → is_surveyed self.new q ≡ is_surveyed self.old q }
-        ensures pages { self.new.pages ≡ self.old.pages }
-        ensures low { self.new.low ≡ self.old.low }
+    fn largest_bound(&self, first: u32, end: u32) -> u32
+        requires order { first ≤ end }
+        requires end { end ≤ length self.now.bounds }
+        ensures { (block : ℕ) → first ≤ block → block < end
+            → slice_index self.now.bounds block ≤ result }
+    {
+        let mut largest = 0u32;
+        for block in first..end {
+            largest = largest.max(self.bounds[block as usize]);
+        }
+        largest
+    }
+
+    /// A page of which nothing is known gets bounds that no gap exceeds, with those of its blocks
+    /// from the one up to the other.
+    pub fn learn(&mut self, page: u32, first: u32, end: u32)
+        requires page { page < length self.old.most }
+        requires order { first ≤ end }
+        requires end { end ≤ length self.old.bounds }
+        ensures bounds { (block : ℕ) → slice_index self.new.bounds block
+            ≡ (if is_between first end block then 16384 else slice_index self.old.bounds block) }
+        ensures blocks { length self.new.bounds ≡ length self.old.bounds }
+        ensures most { self.new.most ≡ slice_set self.old.most page 16384 }
+        ensures known { is_known self.new page ≡ true }
+        ensures others { (q : ℕ) → q ≢ page → is_known self.new q ≡ is_known self.old q }
         ensures first { self.new.first ≡ self.old.first }
     {
-        self.surveyed[page as usize] = true;
+        self.set_bounds(first, end, LONGEST);
+        self.most[page as usize] = LONGEST;
+        self.known[page as usize] = true;
     }
 
-    /// What is told of the pages from `first` up to `end` holds no longer, and these are worth a look.
-    pub fn forget(&mut self, first: u32, end: u32)
-        requires { end ≤ length self.old.pages }
-        ensures pages { self.new.pages ≡ self.old.pages }
-        ensures low { self.new.low ≡ self.old.low }
-        ensures forgotten { (page : ℕ) → is_between first end page ≡ true
-            → is_surveyed self.new page ≡ false }
-        ensures fewer { (page : ℕ) → is_surveyed self.new page ≡ true
-            → is_surveyed self.old page ≡ true }
-        ensures lower { (size : ℕ) → slice_index self.new.first size
-            ≤ slice_index self.old.first size }
-        ensures kept { (page size : ℕ) → page < slice_index self.new.first size
-            → is_surveyed self.old page ≡ true → is_surveyed self.new page ≡ true }
+    /// What is told of the pages from `first` up to `end` holds no longer. Pages have so many words.
+    pub fn forget(&mut self, first: u32, end: u32, page_words: u32)
+        requires order { first ≤ end }
+        requires end { end ≤ length self.old.most }
+        requires words { end * page_words < 2 ^ 32 }
+        ensures here { (page : ℕ) → is_between first end page ≡ true
+            → is_known self.new page ≡ false }
+        ensures there { (page : ℕ) → is_between first end page ≡ false
+            → is_known self.new page ≡ is_known self.old page }
+        ensures lower { (class : ℕ) → slice_index self.new.first class
+            ≤ slice_index self.old.first class }
+        ensures start { (page class : ℕ) → is_between first end page ≡ true
+            → is_known self.old page ≡ true
+            → slice_index self.new.first class ≤ page * page_words }
+        ensures bounds { self.new.bounds ≡ self.old.bounds }
+        ensures most { self.new.most ≡ self.old.most }
     {
         for page in first..end {
-            self.forget_page(page);
+            self.forget_page(page, page * page_words);
         }
     }
 
-    fn forget_page(&mut self, page: u32)
-        requires { page < length self.old.pages }
-        ensures pages { self.new.pages ≡ self.old.pages }
-        ensures low { self.new.low ≡ self.old.low }
-        ensures forgotten { is_surveyed self.new page ≡ false }
-        ensures fewer { (q : ℕ) → is_surveyed self.new q ≡ true → is_surveyed self.old q ≡ true }
-        ensures lower { (size : ℕ) → slice_index self.new.first size
-            ≤ slice_index self.old.first size }
-        ensures kept { (q size : ℕ) → q < slice_index self.new.first size
-            → is_surveyed self.old q ≡ true → is_surveyed self.new q ≡ true }
+    /// What is told of a page that begins at an address holds no longer.
+    fn forget_page(&mut self, page: u32, start: u32)
+        requires { page < length self.old.most }
+        ensures here { is_known self.new page ≡ false }
+        ensures there { (q : ℕ) → q ≢ page → is_known self.new q ≡ is_known self.old q }
+        ensures lower { (class : ℕ) → slice_index self.new.first class
+            ≤ slice_index self.old.first class }
+        ensures start { is_known self.old page ≡ true → (class : ℕ)
+            → slice_index self.new.first class ≤ start }
+        ensures bounds { self.new.bounds ≡ self.old.bounds }
+        ensures most { self.new.most ≡ self.old.most }
     {
-        if self.surveyed[page as usize] {
-            self.surveyed[page as usize] = false;
-            self.lower(page);
+        if self.known[page as usize] {
+            self.known[page as usize] = false;
+            self.lower(start);
         }
     }
 
-    /// A page is worth a look for each size.
-    pub fn lower(&mut self, page: u32)
-        ensures pages { self.new.pages ≡ self.old.pages }
-        ensures low { self.new.low ≡ self.old.low }
-        ensures surveyed { self.new.surveyed ≡ self.old.surveyed }
-        ensures lower { (size : ℕ) → slice_index self.new.first size
-            ≤ slice_index self.old.first size }
-        ensures page { (size : ℕ) → slice_index self.new.first size ≤ page }
+    /// From an address on a search of each class looks again.
+    pub fn lower(&mut self, start: u32)
+        ensures bounds { self.new.bounds ≡ self.old.bounds }
+        ensures most { self.new.most ≡ self.old.most }
+        ensures known { self.new.known ≡ self.old.known }
+        ensures lower { (class : ℕ) → slice_index self.new.first class
+            ≤ slice_index self.old.first class }
+        ensures start { (class : ℕ) → slice_index self.new.first class ≤ start }
     {
-        for size in 0..self.first.len() {
-            self.first[size] = self.first[size].min(page);
+        for class in 0..self.first.len() {
+            self.first[class] = self.first[class].min(start);
         }
     }
 
-    /// The lowest page worth a look for the size.
-    pub fn first_for(&self, size: u32) -> u32
-        requires { size ≤ largest_remembered }
-        ensures { result ≡ slice_index self.now.first size }
+    /// The lowest address worth a look for the class.
+    pub fn first_for(&self, class: u32) -> u32
+        requires { class < class_count }
+        ensures { result ≡ slice_index self.now.first class }
     {
-        self.first[size as usize]
+        self.first[class as usize]
     }
 
-    /// Changes the lowest page worth a look for the size.
-    pub fn set_first(&mut self, size: u32, page: u32)
-        requires { size ≤ largest_remembered }
-        ensures first { slice_index self.new.first size ≡ page }
-        ensures others { (n : ℕ) → n ≢ size → slice_index self.new.first n
-            ≡ slice_index self.old.first n }
-        ensures pages { self.new.pages ≡ self.old.pages }
-        ensures low { self.new.low ≡ self.old.low }
-        ensures surveyed { self.new.surveyed ≡ self.old.surveyed }
+    /// Changes the lowest address worth a look for the class.
+    pub fn set_first(&mut self, class: u32, a: u32)
+        requires { class < class_count }
+        ensures here { slice_index self.new.first class ≡ a }
+        ensures there { (n : ℕ) → n ≢ class
+            → slice_index self.new.first n ≡ slice_index self.old.first n }
+        ensures bounds { self.new.bounds ≡ self.old.bounds }
+        ensures most { self.new.most ≡ self.old.most }
+        ensures known { self.new.known ≡ self.old.known }
     {
-        self.first[size as usize] = page;
+        self.first[class as usize] = a;
     }
-}
-
-/// So many trees of 2 to the depth blocks.
-fn trees(alloc: Global, pages: u32, depth: u32) -> Result<Vec<Tree>, NoMemory>
-    requires { depth ≤ 8 }
-    ensures count { IfOk result (λ v. length v.items ≡ pages) }
-    ensures blocks { IfOk result (λ v. HasBlocks v.items (2 ^ depth)) }
-{
-    let mut trees = Vec::with_capacity(alloc, pages as usize)?;
-    for _page in 0..pages {
-        trees.push_reserved(Tree::new(alloc, depth, 0)?);
-    }
-    Ok(trees)
 }

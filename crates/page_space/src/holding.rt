@@ -53,7 +53,7 @@ impl Space {
     }
 
     /// The highest place from the first word of a page up to, and with, an address of the page.
-    fn last_start_by(&self, seat: &mut MutatorSeat, page: u32, a: u32) -> Option<u32>
+    pub(crate) fn last_start_by(&self, seat: &mut MutatorSeat, page: u32, a: u32) -> Option<u32>
         requires heap { IsSeatOf self.now seat.old }
         requires first { page * self.now.shape.page_words ≤ a }
         requires address { a < word_count self.now.shape }

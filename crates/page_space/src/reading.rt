@@ -14,7 +14,7 @@ use object_headers::{Header, SERIAL};
 use page_words::{BLOCK_WORDS, MutatorSeat};
 
 impl Space {
-    /// The lowest place that is not below an address. It looks at a word of start bits at a time.
+    /// The lowest place that is not below an address.
     pub fn next_object(&self, seat: &mut MutatorSeat, from: u32) -> Option<u32>
         requires heap { IsSeatOf self.now seat.old }
         ensures found { IfSome result (IsLowest (IsPlaceFrom seat.old.bodies from)) }

@@ -1,17 +1,17 @@
 // The pages of a heap over its words.
 
-ghost use Rattle.std.specs.Prelude.{◌≡◌, ℕ, ◌*◌, ◌^◌, ◌<◌, ◌≤◌};
+ghost use Rattle.std.specs.Prelude.{◌≡◌, ℕ, ◌*◌, ◌<◌};
 ghost use Rattle.std.specs.Prelude.{◌↔◌, IfOk, Some, None, length, sum_by};
 ghost use Rattle.gc_graph.specs.Placement.{PageHasBucket, IsEmptyPage, IsUsedPages, bucket_of};
-ghost use Rattle.gc_graph.specs.Shapes.{IsShape, IsPageWords};
-ghost use Rattle.page_words.specs.Seat.{SeatView, block_words, empty_view, stored};
+ghost use Rattle.gc_graph.specs.Shapes.{IsShape};
+ghost use Rattle.page_words.specs.Seat.{SeatView, empty_view, stored};
 ghost use Rattle.page_space.specs.Pages.{word_count};
 ghost use Rattle.page_space.specs.Space.{IsSpaceOf, extents_of_bodies};
 
 use crate::gaps::Gaps;
 use crate::table::Table;
 use gc_graph::NoMemory;
-use page_words::{MutatorSeat, Words};
+use page_words::{BLOCK_WORDS, MutatorSeat, Words};
 use std::alloc::Global;
 use std::marker::Model;
 use type_table::TypeTable;
@@ -67,7 +67,7 @@ impl Space {
     {
         let (words, seat) = Words::new(alloc, pages * page_words, types)?;
         let table = Table::new(alloc, pages)?;
-        let gaps = Gaps::new(alloc, pages, depth_of(page_words))?;
+        let gaps = Gaps::new(alloc, pages, pages * page_words / BLOCK_WORDS)?;
         let space = Space {
             words,
             pages,
@@ -180,22 +180,5 @@ pub fn bucket_of(page_words: u32, size: u32) -> u32
         8.. => 2,
         4.. => 1,
         _ => 0,
-    }
-}
-
-/// Which power of two the number of a page's blocks is.
-fn depth_of(page_words: u32) -> u32
-    requires { IsPageWords page_words }
-    ensures depth { block_words * 2 ^ result ≡ page_words }
-    ensures few { result ≤ 8 }
-{
-    match page_words {
-        256 => 2,
-        512 => 3,
-        1024 => 4,
-        2048 => 5,
-        4096 => 6,
-        8192 => 7,
-        _ => 8,
     }
 }

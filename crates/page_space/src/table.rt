@@ -17,6 +17,8 @@ pub struct Table {
     buckets: Vec<u32>,
     starts: Vec<u32>,
     in_use: u32,
+    // The pages below hold objects.
+    lowest_empty: u32,
 }
 
 impl Model for Table {
@@ -51,6 +53,7 @@ impl Table {
             buckets,
             starts,
             in_use: 0,
+            lowest_empty: 0,
         })
     }
 
@@ -59,6 +62,32 @@ impl Table {
         ensures { result ≡ count_in_use self.now.objects }
     {
         self.in_use
+    }
+
+    /// The lowest page without objects, or the number of the pages. The look begins where the last
+    /// one ended, or at the lowest page that lost its objects since.
+    pub fn first_empty(&mut self) -> u32
+        ensures below { (page : ℕ) → page < result → 0 < slice_index self.old.objects page }
+        ensures within { result ≤ length self.old.objects }
+        ensures same { self.new ≡ self.old }
+    {
+        self.lowest_empty = self.empty_from(self.lowest_empty);
+        self.lowest_empty
+    }
+
+    /// The lowest page from the one on without objects, or the number of the pages.
+    fn empty_from(&self, from: u32) -> u32
+        requires { from ≤ length self.now.objects }
+        ensures used { (page : ℕ) → from ≤ page → page < result
+            → 0 < slice_index self.now.objects page }
+        ensures within { result ≤ length self.now.objects }
+    {
+        let count = self.objects.len() as u32;
+        let mut page = from;
+        while page < count && self.objects[page as usize] > 0 {
+            page += 1;
+        }
+        page
     }
 
     /// How many objects have a word in the page.
@@ -154,6 +183,7 @@ impl Table {
         let after = self.objects[at] - 1;
         if after == 0 {
             self.in_use -= 1;
+            self.lowest_empty = self.lowest_empty.min(page);
         }
         self.objects[at] = after;
     }

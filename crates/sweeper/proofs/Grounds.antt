@@ -29,6 +29,17 @@ judged_ended v ended b there low =
     ∙ filter_holds (λ a. not (holds v.marked a)) (map (λ (c : Body). c.place) v.bodies) b.place
     ∙ ap (λ t. not (holds v.marked b.place) && t) (holds_place v.bodies b there) ∙ and_true (not (holds v.marked b.place))
 
+-- a search changes what the space remembers alone
+pub sweep_searched : (sweep : SweepView) (before after : SpaceView) (v : SeatView) → IsSpaceOf after v → after.shape ≡ before.shape
+    → MaySweep sweep before v → MaySweep sweep after v
+sweep_searched sweep before after v laid shape may = record {
+  laid = laid;
+  pages = may.pages ∙ ap (λ s. s.pages) (sym shape);
+  off = may.off;
+  judged = subst (λ s. IsJudgedFrom (cursor_at s sweep) v) (sym shape) may.judged;
+  serials = may.serials;
+}
+
 -- an object is made in a page that is swept
 pub sweep_occupied : (sweep : SweepView) (before after : SpaceView) (old new : SeatView) (b : Body) → Occupies old new b → IsSpaceOf after new
     → after.shape ≡ before.shape → b.place < cursor_at before.shape sweep → b.serial < 2 ^ 32 → MaySweep sweep before old → MaySweep sweep after new

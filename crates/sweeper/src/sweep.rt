@@ -92,9 +92,6 @@ impl Sweep {
         let page = self.cursor;
         let start = page * space.page_words();
         sweep_objects(space, seat, start, start + space.page_words(), done);
-        // Objects that went left gaps in the page. It is looked through once here, so that the next
-        // searches for a place take less time.
-        space.survey(seat, page);
         seat.bodies_lie_apart();
         self.cursor = page + 1;
         PageSwept {

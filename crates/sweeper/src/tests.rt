@@ -78,22 +78,25 @@ fn mark(space: &Space, seat: &mut MutatorSeat, place: u32)
 }
 
 /// The place for a new object of the size, where it lies in the first so many pages.
-fn find_place(space: &Space, seat: &mut MutatorSeat, size: u32, swept: u32) -> Option<u32>
-    requires space { IsSpaceOf space.now seat.old }
-    requires swept { swept ≤ space.now.shape.pages }
+fn find_place(space: &mut Space, seat: &mut MutatorSeat, size: u32, swept: u32) -> Option<u32>
+    requires space { IsSpaceOf space.old seat.old }
+    requires swept { swept ≤ space.old.shape.pages }
     requires some { 2 ≤ size }
     requires most { size ≤ 1024 }
     ensures place { IfSome result
-        (IsFreePlace space.now.shape (extents_of_bodies seat.old.bodies) size) }
-    ensures swept { IfSome result (λ a. a < swept * space.now.shape.page_words) }
+        (IsFreePlace space.old.shape (extents_of_bodies seat.old.bodies) size) }
+    ensures swept { IfSome result (λ a. a < swept * space.old.shape.page_words) }
+    ensures space { IsSpaceOf space.new seat.new }
+    ensures shape { space.new.shape ≡ space.old.shape }
     ensures view { seat.new ≡ seat.old }
 {
     space.shape_is_valid();
+    let page_words = space.page_words();
     let place = match space.find(seat, size, 0, swept) {
         Some(a) => a,
         None => space.find_empty(seat, size)?,
     };
-    if place < swept * space.page_words() {
+    if place < swept * page_words {
         Some(place)
     } else {
         None
@@ -119,7 +122,7 @@ impl Ground {
             return None;
         }
         let swept = self.sweep.cursor();
-        let place = find_place(&self.space, &mut self.seat, size, swept)?;
+        let place = find_place(&mut self.space, &mut self.seat, size, swept)?;
         self.space.occupy(&mut self.seat, place, 1, size, serial);
         Some(place)
     }

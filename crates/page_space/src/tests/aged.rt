@@ -117,13 +117,6 @@ impl Aged {
         leave_out(&mut self.young, place);
         Some(place)
     }
-
-    /// Looks at a page again.
-    pub fn survey(&mut self, page: u32) {
-        if page < self.space.pages() {
-            self.space.survey(&mut self.seat, page);
-        }
-    }
 }
 
 fn leave_out(places: &mut Vec<u32>, place: u32)

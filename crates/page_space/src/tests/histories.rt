@@ -80,14 +80,10 @@ impl History {
         }
     }
 
-    /// Surveys a page, frees a dead object or makes a new one.
+    /// Frees a dead object or makes a new one.
     fn step(&mut self) -> Result<(), NoMemory> {
         match self.numbers.below(8) {
-            0 => {
-                let page = self.numbers.below(8);
-                self.heap.survey(page);
-            }
-            1..=3 if self.heap.has_dead() => self.free(),
+            0..=3 if self.heap.has_dead() => self.free(),
             _ => self.make()?,
         }
         if self.misses >= 4 {

@@ -1,19 +1,15 @@
-use Rattle.std.proofs.Common.{◌≡◌, ◌+◌, ◌*◌, ◌<◌, length, sym, ap, ◌∙◌, subst, inr, arith}
+use Rattle.std.proofs.Common.{◌≡◌, ◌+◌, ◌*◌, ◌<◌, sym, ap, ◌∙◌, subst, inr, arith}
 use Rattle.gc_graph.specs.Placement.{StartsEmptyRun, IsLowest}
 use Rattle.page_space.specs.Space.{extents_of_bodies}
-use Rattle.gc_graph.specs.Shapes.{IsShape}
-use Rattle.page_space.specs.Pages.{count_in_use}
-use Rattle.page_space.proofs.Shapes.{shape_words}
-use Rattle.page_space.proofs.UsedPages.{no_empty_run}
 use Rattle.page_space.proofs.EmptyRuns.{IsEmptySince, empty_more, run_found, run_nowhere}
 use Rattle.page_space.proofs.space.Space.find_empty.Goals as goal
 use Rattle.page_space.proofs.space.Space.find_empty.Goals.{else-since-page-via-then-since-page+else-page-since, else-since-page-via-else-since-page}
 
 pub returns-then-page-since-clause-found : goal.returns-then-page-since-clause-found
 returns-then-page-since-clause-found c =
-    let pages : c.self.inside.pages ≡ c.args.self.now.shape.pages = ap (λ s. s.shape.pages) c.self.view_is in
-    let words : c.self.inside.page_words ≡ c.args.self.now.shape.page_words = ap (λ s. s.shape.page_words) c.self.view_is in
-    let step = rw c.loop-page.invariant.view at c.empty_since-since.ensures.since in
+    let pages : c.self.inside.pages ≡ c.args.self.now.shape.pages = ap (λ s. s.shape.pages) (c.self.view_is ∙ c.first_empty-since.ensures.same) in
+    let words : c.self.inside.page_words ≡ c.args.self.now.shape.page_words = ap (λ s. s.shape.page_words) (c.self.view_is ∙ c.first_empty-since.ensures.same) in
+    let step = rw (c.loop-page.invariant.view, c.first_empty-since.ensures.same) at c.empty_since-since.ensures.since in
     let more : IsEmptySince c.args.self.now.shape (extents_of_bodies c.args.seat.now.bodies) c.pages_for-count.result (c.loop-page.page + 1) c.empty_since-since.result
     × (c.loop-page.page < c.empty_since-since.result + c.pages_for-count.result) =
     empty_more c.args.self.now.shape _ _ _ _ _ c.pages_for-count.ensures.some c.loop-page.invariant.run c.loop-page.invariant.short step in
@@ -25,7 +21,7 @@ returns-then-page-since-clause-place c = inr ((returns-then-page-since-clause-fo
 
 pub loop-page-preserved : goal.loop-page-preserved
 loop-page-preserved c =
-    let step = rw c.loop-page.invariant.view at c.empty_since-since.ensures.since in
+    let step = rw (c.loop-page.invariant.view, c.first_empty-since.ensures.same) at c.empty_since-since.ensures.since in
     let more : IsEmptySince c.args.self.now.shape (extents_of_bodies c.args.seat.now.bodies) c.pages_for-count.result (c.loop-page.page + 1) c.empty_since-since.result
     × (c.loop-page.page < c.empty_since-since.result + c.pages_for-count.result) =
     empty_more c.args.self.now.shape _ _ _ _ _ c.pages_for-count.ensures.some c.loop-page.invariant.run c.loop-page.invariant.short step in
@@ -40,15 +36,16 @@ loop-page-preserved c =
 
 pub returns-clause-none : goal.returns-clause-none
 returns-clause-none c =
-    let pages : c.self.inside.pages ≡ c.args.self.now.shape.pages = ap (λ s. s.shape.pages) c.self.view_is in
+    let pages : c.self.inside.pages ≡ c.args.self.now.shape.pages = ap (λ s. s.shape.pages) (c.self.view_is ∙ c.first_empty-since.ensures.same) in
     run_nowhere c.args.self.now.shape _ c.args.size _ c.loop-page.page c.loop-page.since c.pages_for-count.ensures.enough (omega arith)
     c.loop-page.invariant.run c.loop-page.invariant.short
 
-pub returns-then-in_use-self-clause-none : goal.returns-then-in_use-self-clause-none
-returns-then-in_use-self-clause-none c =
-    let now = c.args.self.now in
-    let words = shape_words now.shape (subst IsShape (ap (λ s. s.shape) c.self.view_is) c.self.invariant.shape) in
-    let pages : c.self.inside.pages ≡ now.shape.pages = ap (λ s. s.shape.pages) c.self.view_is in
-    no_empty_run now c.args.seat.now.count (extents_of_bodies c.args.seat.now.bodies) c.args.size (omega (arith, words.0)) (omega arith) c.requires.space
-    (sym (ap (λ s. length s.table.objects) c.self.view_is) ∙ c.self.invariant.objects ∙ pages)
-    (sym (ap (λ s. count_in_use s.table.objects) c.self.view_is) ∙ sym c.in_use.ensures ∙ c.if-in_use-self.true ∙ pages)
+pub loop-page-init : goal.loop-page-init
+loop-page-init c = record {
+  view = c.first_empty-since.ensures.view;
+  run = record {
+    empty = λ q low high. absurd (omega arith);
+    blocked = λ q before. (q, omega arith, omega (arith, c.pages_for-count.ensures.some), c.first_empty-since.ensures.used q before);
+  };
+  short = omega (arith, c.pages_for-count.ensures.some);
+}

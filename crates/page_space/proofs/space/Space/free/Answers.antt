@@ -73,12 +73,12 @@ returns-clause-space c =
     (omega (arith, c.header_at-size.ensures.inside, c.requires.space.seat))
     (record { objects = c.leave.ensures.objects; buckets = c.leave.ensures.buckets; starts = c.leave.ensures.starts })
     (record {
-      pages = c.forget.ensures.pages;
-      low = c.forget.ensures.low;
-      forgotten = c.forget.ensures.forgotten;
-      fewer = c.forget.ensures.fewer;
+      bounds = c.forget.ensures.bounds;
+      most = c.forget.ensures.most;
+      here = c.forget.ensures.here;
+      there = c.forget.ensures.there;
       lower = c.forget.ensures.lower;
-      kept = c.forget.ensures.kept;
+      start = c.forget.ensures.start;
     }) in
     let read : c.header_at-size.new.seat ≡ c.args.seat.now = c.header_at-size.ensures.view in
     let count : c.retract.new.seat.count ≡ c.args.seat.now.count = ap (λ v. v.count) c.retract.ensures ∙ ap (λ v. v.count) read in

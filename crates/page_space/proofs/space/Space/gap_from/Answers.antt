@@ -1,62 +1,92 @@
-use Rattle.std.proofs.Common.{◌≡◌, ◌+◌, ◌*◌, ◌<◌, ◌≤◌, ap, ◌∙◌, sym, subst, inl, inr, arith}
+use Rattle.std.proofs.Common.{◌≡◌, ◌+◌, ◌*◌, Bool, false, get_or, List, refl, ap, ◌∙◌, sym, subst, inl, inr, arith}
 use Rattle.std.proofs.lemmas.Bool.{cases_lt}
-use Rattle.page_words.specs.Bodies.{Body, IsPlace}
-use Rattle.page_space.specs.Space.{HasNoStart}
-use Rattle.page_space.proofs.PlaceBodies.{tells_size}
-use Rattle.page_space.proofs.WalkSteps.{edge_moves, gap_here, gap_ends}
+use Rattle.gc_graph.specs.State.{Shape}
+use Rattle.page_words.specs.Seat.{SeatView}
+use Rattle.page_space.specs.Gaps.{IsGap, bound_at}
+use Rattle.page_space.specs.Space.{IsSpaceOf, HoldsWhole, extents_of_bodies}
+use Rattle.page_space.proofs.PageSpan.{page_before}
 use Rattle.page_space.proofs.space.Space.gap_from.Goals as goal
 
-pub returns-then-free-size-clause-none : goal.returns-then-free-size-clause-none
-returns-then-free-size-clause-none c a begins =
-    let words : c.self.inside.page_words ≡ c.args.self.now.shape.page_words = ap (λ s. s.shape.page_words) c.self.view_is in
-    let end : (c.args.page + 1) * c.self.inside.page_words ≡ (c.args.page + 1) * c.args.self.now.shape.page_words = ap (λ w. (c.args.page + 1) * w) words in
-    let last : a + c.args.size ≤ (c.args.page + 1) * c.args.self.now.shape.page_words = begins.2.last in
-    elim (cases_lt a c.loop-free.free) [
-      | inl before ↦ c.loop-free.invariant.none a begins.0 before begins.2
-      | inr after ↦ omega (arith, c.if-free-size.true)
-    ]
-
-pub returns-then-next-free-clause-found : goal.returns-then-next-free-clause-found
-returns-then-next-free-clause-found c =
-    let words : c.self.inside.page_words ≡ c.args.self.now.shape.page_words = ap (λ s. s.shape.page_words) c.self.view_is in
-    let end : (c.args.page + 1) * c.self.inside.page_words ≡ (c.args.page + 1) * c.args.self.now.shape.page_words = ap (λ w. (c.args.page + 1) * w) words in
-    let none : HasNoStart c.args.seat.now.bodies c.loop-free.free (c.loop-free.free + c.args.size) =
-    λ p low high place. c.start_from-next.ensures.none p low (omega (arith, c.if-next-free.true)) (subst (λ v. IsPlace v.bodies p) (sym c.loop-free.invariant.view) place) in (
-      (
-        c.loop-free.invariant.low,
-        c.loop-free-test.true,
-        gap_here c.args.seat.now c.args.self.now.shape c.args.size c.args.page c.loop-free.free
-            c.loop-free.invariant.edge none (omega (arith, c.loop-free.invariant.low, c.requires.from)) (omega (arith, c.if-free-size.false)),
-      ),
-      (λ b before begins. c.loop-free.invariant.none b begins.0 before begins.2),
+pub worth_from-at-requires-clause-end : goal.worth_from-at-requires-clause-end
+worth_from-at-requires-clause-end c =
+    let now = c.args.self.now in
+    omega (
+      arith,
+      ap (λ s. s.shape.pages * s.shape.page_words) c.self.view_is,
+      c.self.invariant.blocks,
+      ap (λ s. (c.args.page + 1) * s.shape.page_words) c.self.view_is,
+      page_before now.shape.page_words c.args.page now.shape.pages c.requires.page,
     )
 
-pub loop-free-preserved : goal.loop-free-preserved
-loop-free-preserved c =
-    let view : c.loop-free.seat ≡ c.args.seat.now = c.loop-free.invariant.view in
-    let read : c.start_from-next.new.seat ≡ c.args.seat.now = c.start_from-next.ensures.view ∙ view in
-    let inside : c.start_from-next.result < c.loop-free.free + c.args.size = omega (arith, c.start_from-next.ensures.within, c.if-next-free.false) in
-    let place : IsPlace c.args.seat.now.bodies c.start_from-next.result =
-    subst (λ v. IsPlace v.bodies c.start_from-next.result) view (c.start_from-next.ensures.start inside) in
-    let none : HasNoStart c.args.seat.now.bodies c.loop-free.free c.start_from-next.result =
-    λ p low high start. c.start_from-next.ensures.none p low high (subst (λ v. IsPlace v.bodies p) (sym view) start) in
-    let b : Body = place.0 in
-    let sizes = rw read at (tells_size c.start_from-next.new.seat c.start_from-next.result c.header_at.result c.header_at.ensures.header) in
-    let size_is : c.header_at.result.size ≡ b.size = sizes b place.1 place.2 in
+pub loop-at-init : goal.loop-at-init
+loop-at-init c =
+    let now = c.args.self.now in
+    let end : (c.args.page + 1) * c.self.inside.page_words ≡ (c.args.page + 1) * now.shape.page_words = ap (λ s. (c.args.page + 1) * s.shape.page_words) c.self.view_is in
     record {
-      view = c.header_at.ensures.view ∙ read;
-      low = omega (arith, c.loop-free.invariant.low, c.start_from-next.ensures.low);
-      edge = edge_moves c.args.seat.now c.loop-free.free c.start_from-next.result (c.start_from-next.result + c.header_at.result.size) b
-          c.bodies_lie_apart.ensures c.loop-free.invariant.edge none place.1 place.2 c.start_from-next.ensures.low (omega (arith, size_is));
-      none = λ x from before gap. elim (cases_lt x c.loop-free.free) [
-        | inl earlier ↦ c.loop-free.invariant.none x from earlier gap
-        | inr later ↦ elim (gap_ends c.args.seat.now c.args.self.now.shape c.args.size c.args.page c.start_from-next.result
-            (c.start_from-next.result + c.header_at.result.size) x b c.bodies_lie_apart.ensures place.1 place.2 (omega (arith, size_is)) before gap) [
-              | inl ends ↦ omega arith
-              | inr nothing ↦ omega (arith, c.requires.some)
-            ]
-      ];
+      view = refl;
+      space = c.requires.space;
+      shape = refl;
+      known = refl;
+      low = c.worth_from-at.ensures.from;
+      high = omega (arith, c.worth_from-at.ensures.end);
+      none = λ a begins.
+          omega (
+            arith,
+            c.worth_from-at.ensures.passed a begins.0 begins.1,
+            ap (λ s. bound_at s.gaps a) c.self.view_is,
+            c.requires.space.gaps.bounded c.args.page c.args.size a c.requires.known begins.2,
+          );
     }
 
+pub look-requires-clause-whole : goal.look-requires-clause-whole
+look-requires-clause-whole c =
+    subst (λ (s : Shape). HoldsWhole s c.loop-at.seat.bodies c.args.page) (sym c.loop-at.invariant.shape)
+    (subst (λ (v : SeatView). HoldsWhole c.args.self.now.shape v.bodies c.args.page) (sym c.loop-at.invariant.view) c.requires.whole)
+
+pub returns-in-Some-clause-found : goal.returns-in-Some-clause-found
+returns-in-Some-clause-found c =
+    let low = rw (c.loop-at.invariant.view, c.loop-at.invariant.shape) at c.in-Some.ensures.found in (
+      (omega (arith, low.0.0, c.loop-at.invariant.low), low.0.1, low.0.2),
+      (λ b before begins. elim (cases_lt b c.loop-at.at) [
+        | inl earlier ↦ c.loop-at.invariant.none b (begins.0, earlier, begins.2)
+        | inr later ↦ low.1 b before (later, begins.1, begins.2)
+      ]),
+    )
+
 pub returns-clause-none : goal.returns-clause-none
-returns-clause-none c a begins = c.loop-free.invariant.none a begins.0 (omega (arith, begins.1, c.loop-free-test.false)) begins.2
+returns-clause-none c a begins =
+    let end : (c.args.page + 1) * c.self.inside.page_words ≡ (c.args.page + 1) * c.args.self.now.shape.page_words =
+    ap (λ s. (c.args.page + 1) * s.shape.page_words) c.self.view_is in
+    c.loop-at.invariant.none a (begins.0, omega (arith, begins.1, c.loop-at-test.false), begins.2)
+
+pub loop-at-preserved : goal.loop-at-preserved
+loop-at-preserved c =
+    let shape = c.args.self.now.shape in
+    let view : c.look.new.seat ≡ c.args.seat.now = c.look.ensures.view ∙ c.loop-at.invariant.view in
+    let same : c.look.new.self.shape ≡ shape = c.look.ensures.shape ∙ c.loop-at.invariant.shape in
+    let known : c.look.new.self.gaps.known ≡ c.args.self.now.gaps.known = c.look.ensures.known ∙ c.loop-at.invariant.known in
+    let end : (c.args.page + 1) * c.self.inside.page_words ≡ (c.args.page + 1) * shape.page_words = ap (λ s. (c.args.page + 1) * s.shape.page_words) c.self.view_is in
+    let space : IsSpaceOf c.look.new.self c.args.seat.now = subst (IsSpaceOf c.look.new.self) view c.look.ensures.space in
+    let vain = rw (c.loop-at.invariant.view, c.loop-at.invariant.shape) at c.in_default.ensures.none in
+    record {
+      view = view;
+      space = space;
+      shape = same;
+      known = known;
+      low = omega (arith, c.loop-at.invariant.low, c.in_default.ensures.on, c.worth_from-at-in-loop-at.ensures.from);
+      high = omega (arith, c.worth_from-at-in-loop-at.ensures.end);
+      none = λ a begins. elim (cases_lt a c.look.new.at) [
+        | inl before ↦ elim (cases_lt a c.loop-at.at) [
+          | inl earlier ↦ c.loop-at.invariant.none a (begins.0, earlier, begins.2)
+          | inr later ↦ vain a (later, before, begins.2)
+        ]
+        | inr after ↦
+            omega (
+              arith,
+              c.worth_from-at-in-loop-at.ensures.passed a after begins.1,
+              ap (λ s. bound_at s.gaps a) c.self-in-loop-at.view_is,
+              space.gaps.bounded c.args.page c.args.size a (ap (λ (k : List Bool). get_or k c.args.page false) known ∙ c.requires.known)
+                  (subst (λ s. IsGap s (extents_of_bodies c.args.seat.now.bodies) c.args.size c.args.page a) (sym same) begins.2),
+            )
+      ];
+    }

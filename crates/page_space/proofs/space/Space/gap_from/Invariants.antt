@@ -1,16 +1,19 @@
-use Rattle.std.proofs.Common.{◌≡◌, ℕ, ◌-◌, ◌<◌, ◌≤◌}
-use Rattle.page_space.specs.Space.{extents_of_bodies}
-use Rattle.page_space.specs.Gaps.{IsGap}
-use Rattle.page_space.specs.Walks.{IsEdge}
+use Rattle.std.proofs.Common.{◌≡◌, ◌+◌, ◌-◌, ◌*◌, ◌≤◌}
+use Rattle.gc_graph.specs.Placement.{IsNowhere}
+use Rattle.page_space.specs.Space.{IsSpaceOf, extents_of_bodies}
+use Rattle.page_space.specs.Walks.{BeginsBetween}
 use Rattle.page_space.proofs.space.Space.gap_from.Given as goal
 
-abbrev pub invariant-loop-free : goal.invariant-loop-free
-invariant-loop-free l = record {
+abbrev pub invariant-loop-at : goal.invariant-loop-at
+invariant-loop-at l = record {
   view : l.seat ≡ l.fn.seat;
-  low : l.from ≤ l.free;
-  edge : IsEdge l.fn.seat.bodies l.free;
-  none : (x : ℕ) → l.from ≤ x → x < l.free → IsGap l.fn.self.shape (extents_of_bodies l.fn.seat.bodies) l.size l.page x → ⊥;
+  space : IsSpaceOf l.self l.fn.seat;
+  shape : l.self.shape ≡ l.fn.self.shape;
+  known : l.self.gaps.known ≡ l.fn.self.gaps.known;
+  low : l.from ≤ l.at;
+  high : l.at ≤ (l.page + 1) * l.fn.self.shape.page_words;
+  none : IsNowhere (BeginsBetween l.fn.self.shape (extents_of_bodies l.fn.seat.bodies) l.size l.page l.from l.at);
 }
 
-abbrev pub decreases-loop-free : goal.decreases-loop-free
-decreases-loop-free l = l.until - l.free
+abbrev pub decreases-loop-at : goal.decreases-loop-at
+decreases-loop-at l = l.end - l.at

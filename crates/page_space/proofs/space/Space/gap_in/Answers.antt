@@ -1,18 +1,29 @@
-use Rattle.std.proofs.Common.{◌≡◌, ℕ, ◌-◌, ◌*◌, ◌/◌, true, ap, sym, ◌∙◌, arith}
-use Rattle.page_space.specs.Gaps.{bound_at, is_surveyed}
-use Rattle.page_space.proofs.GapSearch.{in_block}
+use Rattle.std.proofs.Common.{get_or, ap, sym, subst, arith}
+use Rattle.gc_graph.specs.State.{Shape}
+use Rattle.page_words.specs.Seat.{SeatView}
+use Rattle.page_space.specs.Gaps.{IsGap}
+use Rattle.page_space.specs.Space.{IsSpaceOf, HoldsWhole, extents_of_bodies}
 use Rattle.page_space.proofs.space.Space.gap_in.Goals as goal
 
 pub returns-then-most-size-clause-none : goal.returns-then-most-size-clause-none
-returns-then-most-size-clause-none c a gap =
-    let shape = c.args.self.now.shape in
-    let k : ℕ = (a - c.args.page * shape.page_words) / 64 in
-    let surveyed : is_surveyed c.args.self.now.gaps c.args.page ≡ true =
-    sym (ap (λ s. is_surveyed s.gaps c.args.page) c.self.view_is) ∙ sym c.is_surveyed.ensures ∙ c.if-not-is_surveyed.false in
+returns-then-most-size-clause-none c a begins =
+    let space : IsSpaceOf c.learn.new.self c.args.seat.now = subst (IsSpaceOf c.learn.new.self) c.learn.ensures.view c.learn.ensures.space in
     omega (
       arith,
-      c.requires.space.gaps.bounded c.args.page k surveyed c.args.size a gap (in_block shape c.args.page a gap.first),
-      c.most.ensures k,
-      ap (λ s. bound_at s.gaps c.args.page k) c.self.view_is,
+      space.gaps.most c.args.page c.args.size a c.learn.ensures.known
+          (subst (λ s. IsGap s (extents_of_bodies c.args.seat.now.bodies) c.args.size c.args.page a) (sym c.learn.ensures.shape) begins.2),
+      c.most.ensures,
+      ap (λ s. get_or s.gaps.most c.args.page 0) c.self.view_is,
       c.if-most-size.true,
     )
+
+pub gap_from-requires-clause-whole : goal.gap_from-requires-clause-whole
+gap_from-requires-clause-whole c =
+    subst (λ (s : Shape). HoldsWhole s c.learn.new.seat.bodies c.args.page) (sym c.learn.ensures.shape)
+    (subst (λ (v : SeatView). HoldsWhole c.args.self.now.shape v.bodies c.args.page) (sym c.learn.ensures.view) c.requires.whole)
+
+pub returns-in-Some-clause-found : goal.returns-in-Some-clause-found
+returns-in-Some-clause-found c = rw (c.learn.ensures.view, c.learn.ensures.shape) at c.in-Some.ensures.found
+
+pub returns-clause-none : goal.returns-clause-none
+returns-clause-none c = rw (c.learn.ensures.view, c.learn.ensures.shape) at c.in_default.ensures.none

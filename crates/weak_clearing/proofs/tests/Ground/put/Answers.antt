@@ -8,4 +8,4 @@ invariant_of-self c =
     (rw c.find_empty.ensures.view at c.occupy.ensures.occupied) (search rules) c.size_of-size.ensures.size c.self.invariant
 
 pub invariant_of-self-in_default : goal.invariant_of-self-in_default
-invariant_of-self-in_default c = rw c.find_empty.ensures.view c.self.invariant
+invariant_of-self-in_default c = rw (c.find_empty.ensures.view, c.find_empty.ensures.same) c.self.invariant

@@ -1,0 +1,92 @@
+use Rattle.std.proofs.Common.{◌≡◌, ℕ, ◌+◌, ◌*◌, ◌/◌, ◌<◌, ◌≤◌, get_or, cond, length, ap, ◌∙◌, sym, subst, inl, inr, arith}
+use Rattle.std.proofs.lemmas.Bool.{cases_lt}
+use Rattle.page_words.specs.Seat.{SeatView}
+use Rattle.page_space.specs.Gaps.{IsGap}
+use Rattle.page_space.specs.Pages.{word_count, is_between}
+use Rattle.page_space.specs.Space.{SpaceView, HoldsWhole, extents_of_bodies}
+use Rattle.page_space.specs.Walks.{IsEdge}
+use Rattle.page_space.proofs.PageSpan.{same_page, page_before}
+use Rattle.page_space.proofs.KnownGaps.{others_stay, bounds_set}
+use Rattle.page_space.proofs.WalkSteps.{from_edge, block_ends}
+use Rattle.page_space.proofs.Shapes.{shape_words}
+use Rattle.page_space.proofs.space.Space.look.Goals as goal
+
+pub walk-requires-clause-until : goal.walk-requires-clause-until
+walk-requires-clause-until c =
+    block_ends c.args.self.now.shape c.args.page c.args.at.now (shape_words c.args.self.now.shape c.shape_is_valid.ensures).2 c.requires.address
+
+pub walk-requires-clause-whole : goal.walk-requires-clause-whole
+walk-requires-clause-whole c =
+    subst (λ (v : SeatView). HoldsWhole c.args.self.now.shape v.bodies c.args.page) (sym c.edge_from.ensures.view) c.requires.whole
+
+pub walk-requires-clause-edge : goal.walk-requires-clause-edge
+walk-requires-clause-edge c = subst (λ (v : SeatView). IsEdge v.bodies c.edge_from.result) (sym c.edge_from.ensures.view) c.edge_from.ensures.edge
+
+pub returns-in-Some-clause-found : goal.returns-in-Some-clause-found
+returns-in-Some-clause-found c =
+    let shape = c.args.self.now.shape in
+    let low = rw c.edge_from.ensures.view at c.in-Some.ensures.found in
+    let until = block_ends shape c.args.page c.args.at.now (shape_words shape c.shape_is_valid.ensures).2 c.requires.address in (
+      (omega (arith, low.0.0, c.edge_from.ensures.from), omega (arith, low.0.1, until), low.0.2),
+      (λ b before begins.
+          low.1 b before (
+            from_edge c.args.seat.now shape c.args.size c.args.page c.args.at.now c.edge_from.result b c.edge_from.ensures.taken
+                (omega (arith, c.requires.some)) begins.0 begins.2,
+            omega (arith, low.0.1, before),
+            begins.2,
+          )),
+    )
+
+pub returns-clause-none : goal.returns-clause-none
+returns-clause-none c a begins =
+    rw c.edge_from.ensures.view at c.in_default.ensures.none a (
+      from_edge c.args.seat.now c.args.self.now.shape c.args.size c.args.page c.args.at.now c.edge_from.result a c.edge_from.ensures.taken
+          (omega (arith, c.requires.some)) begins.0 begins.2,
+      omega (arith, begins.1),
+      begins.2,
+    )
+
+pub set_bounds-requires-clause-end : goal.set_bounds-requires-clause-end
+set_bounds-requires-clause-end c =
+    let now = c.args.self.now in
+    let blocks : 64 * length now.gaps.bounds ≡ now.shape.pages * now.shape.page_words =
+    subst (λ (s : SpaceView). 64 * length s.gaps.bounds ≡ word_count s.shape) c.self.view_is c.self.invariant.blocks in
+    omega (
+      arith,
+      ap (λ s. length s.gaps.bounds) c.self.view_is,
+      c.walk.ensures.inside,
+      page_before now.shape.page_words c.args.page now.shape.pages c.requires.page,
+    )
+
+pub returns-clause-space : goal.returns-clause-space
+returns-clause-space c =
+    let now = c.args.self.now in
+    let v = c.args.seat.now in
+    let w : ℕ = now.shape.page_words in
+    let es = extents_of_bodies v.bodies in
+    let same : c.self.inside.gaps ≡ now.gaps = ap (λ s. s.gaps) c.self.view_is in
+    let longest = rw c.edge_from.ensures.view at c.in_default.ensures.longest in
+    let first : ℕ = (c.args.at.now + 63) / 64 in
+    let next : ℕ = c.walk.new.walk.at / 64 in
+    rw (c.walk.ensures.view ∙ c.edge_from.ensures.view)
+    (others_stay _ now v.count es c.set_bounds.new.self c.self.view_is c.requires.space
+    (bounds_set now.shape es now.gaps c.set_bounds.new.self first next c.walk.new.walk.longest
+    (record {
+      bounds = λ block. c.set_bounds.ensures.bounds block ∙ ap (λ g. cond (is_between first next block) c.walk.new.walk.longest (get_or g.bounds block 0)) same;
+      most = c.set_bounds.ensures.most ∙ ap (λ g. g.most) same;
+      known = c.set_bounds.ensures.known ∙ ap (λ g. g.known) same;
+      first = c.set_bounds.ensures.first ∙ ap (λ g. g.first) same;
+    })
+    (λ page size a gap from to. elim (cases_lt 0 size) [
+      | inl some ↦
+          (let low : page * w ≤ a = gap.first in
+          let high : a + size ≤ (page + 1) * w = gap.last in
+          let at : c.args.at.now ≤ a = omega arith in
+          let before : a < c.walk.new.walk.at = omega arith in
+          let here : page ≡ c.args.page =
+          same_page w page c.args.page a low (omega arith) (omega (arith, c.requires.first)) (omega (arith, c.walk.ensures.inside)) in
+          let own : IsGap now.shape es size c.args.page a = subst (λ p. IsGap now.shape es size p a) here gap in
+          longest size a (from_edge v now.shape size c.args.page c.args.at.now c.edge_from.result a c.edge_from.ensures.taken some at own, before, own))
+      | inr none ↦ omega arith
+    ])
+    c.requires.space.gaps))
