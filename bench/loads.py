@@ -59,9 +59,11 @@ def filling(count, room):
     return Load(["S"], ["new 0 0"] * count, {"node": count, "full": 0}, pages_for(room, 3))
 
 
-def repeated(line, count, room):
-    """One object in slot 0, and then the same line, so many times, on a heap with room for `room`."""
-    return Load(["S"], ["new 0 0"] + [line] * count, {"full": 0}, pages_for(room + 1, 3))
+def with_words(line, count):
+    """One object with a strong field and a plain one in slot 0, the same in slot 1, and weak slot 0 on it; then
+    the same line, so many times."""
+    lines = ["new 0 0", "copy 0 1", "weak 0 0"] + [line] * count
+    return Load(["SP"], lines, {"full": 0, "refused": 0}, 1)
 
 
 def linked(count):
@@ -226,6 +228,29 @@ def tree(count):
     build(count, 0, 1)
     lines += [f"drop {slot}" for slot in range(1, 2 * count.bit_length() + 3)]
     return Load(["SS"], lines, {"node": count, "full": 0, "refused": 0}, pages_for(count, 4))
+
+
+def own_holes(count):
+    """A list of objects of 3 words, and after each one that is dead; all of them are swept."""
+    lines = []
+    for number in range(count):
+        newest = number % 2
+        lines += [f"new {newest} 0", f"set {newest} 0 {1 - newest}", "new 2 0"]
+    tells = {f"pause kept {count} dead {count} ": 1, "finalise": count, "full": 0}
+    return Load(["S"], lines + ["drop 2", COLLECTION, SWEEP], tells, pages_for(2 * count, 3))
+
+
+def own_holes_filled(count):
+    """New objects in all these holes."""
+    load = own_holes(count)
+    tells = {**load.tells, "node": 3 * count}
+    return load.then(*["new 2 0"] * count)._replace(tells=tells)
+
+
+def thousands(pages):
+    """Objects of 1,000 words, 16 a page, in so many of 1,024 pages."""
+    count = 16 * pages
+    return Load(["-"], ["new 0 0 998"] * count, {"node": count, "full": 0}, 1024)
 
 
 def weak(count):

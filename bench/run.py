@@ -22,20 +22,33 @@ CRATE = os.path.join(ROOT, "crates", "cppgc_main")
 PROGRAM = os.path.join(CRATE, "out", "cppgc_main")
 TRIES = 15
 
-RATIO_BAR = 2.3
-NEW_BAR = 2500
-COLLECTION_BAR = 400
-WEAK_BAR = 110
-PAIR_BAR = 150
-SWEPT_WORD_BAR = 60
-FINALISED_BAR = 400
+TIME_RATIO_BAR = 2.3
+RATIO_BAR = 2.1
+MIXED_RATIO_BAR = 2.2
+FILLING_BAR = 650
+OWN_HOLES_BAR = 800
+MIXED_BAR = 1100
+HOLES_BAR = 2500
+THOUSAND_BAR = 6500
+THOUSAND_RATIO_BAR = 1.1
+CHAIN_BAR = 50
+TREE_BAR = 55
+WEAK_BAR = 90
+PAIR_BAR = 130
+SWEPT_WORD_BAR = 12
+FINALISED_BAR = 200
 PREFINALISED_BAR = 500
-PREFINALISED_RATIO_BAR = 2.1
 STACK_WORD_BAR = 250
 LAZY_NEW_BAR = 1000
-LAZY_RATIO_BAR = 2.1
 # For a line of each kind, read, run and told.
-LINE_BARS = {"drop 0": 400, "set 0 0 0": 560, "new 0 0": 1400}
+LINE_BARS = {
+    "drop 0": 330, "set 0 0 0": 430, "get 0 0 2": 430, "put 0 1 5": 430, "word 0 1": 430, "copy 0 2": 430,
+    "weak 0 0": 430, "read 0 2": 430,
+}
+
+
+# Those that are run with n objects and with 2n.
+LOADS = ("filling", "mixed", "live_list", "holes", "tree")
 
 
 class Figures:
@@ -115,7 +128,7 @@ class Bench:
         tries = [(small.seconds(), large.seconds()) for _ in range(TRIES)]
         least_small, least_large = (min(times) for times in zip(*tries))
         self.figures.tell(f"{name}_seconds", least_large)
-        self.figures.tell(f"{name}_ratio", least_large / least_small, RATIO_BAR)
+        self.figures.tell(f"{name}_ratio", least_large / least_small, TIME_RATIO_BAR)
 
     def instructions(self, load):
         return Script(self.folder, load).instructions()
@@ -139,27 +152,52 @@ class Bench:
         return loads.tree(times * self.count).then(COLLECTION)
 
     def times(self):
-        for name in ("filling", "mixed", "live_list", "holes", "tree"):
+        for name in LOADS:
             self.ratio(name, getattr(self, name))
+
+    def growth(self):
+        """The instructions of each load with twice as much over those with once as much."""
+        for name in LOADS:
+            load = getattr(self, name)
+            bar = MIXED_RATIO_BAR if name == "mixed" else RATIO_BAR
+            ratio = self.instructions(load(2)) / self.instructions(load(1))
+            self.figures.tell(f"{name}_instructions_ratio", ratio, bar)
 
     def news(self):
         """What a line `new` costs: while the heap fills, in the mixed load, and where there are holes."""
         tell = self.figures.tell
         more = self.instructions(self.filling(2)) - self.instructions(self.filling(1))
-        tell("filling_instructions_per_new", more / self.count, NEW_BAR)
+        tell("filling_instructions_per_new", more / self.count, FILLING_BAR)
+        self.own_holes()
         mixed, count = self.mixed(1), self.every
         more = self.instructions(mixed.then(*loads.mixed_news(count))) - self.instructions(mixed)
-        tell("mixed_instructions_per_new", more / count, NEW_BAR)
+        tell("mixed_instructions_per_new", more / count, MIXED_BAR)
         none, placed, full = (self.instructions(self.holes(1, share)) for share in (0, 1, 2))
         room = loads.holes_room(32, self.page_words)
-        tell("holes_instructions_per_new_placed", (placed - none) / room, NEW_BAR)
-        tell("holes_instructions_per_new_full", (full - placed) / room, NEW_BAR)
+        tell("holes_instructions_per_new_placed", (placed - none) / room, HOLES_BAR)
+        tell("holes_instructions_per_new_full", (full - placed) / room, HOLES_BAR)
+
+    def own_holes(self):
+        """What a line `new` costs where each hole is as large as the object."""
+        load = loads.own_holes_filled(self.count)
+        Script(self.folder, load).check()
+        more = self.instructions(load) - self.instructions(loads.own_holes(self.count))
+        self.figures.tell("own_holes_instructions_per_new", more / self.count, OWN_HOLES_BAR)
+
+    def thousands(self):
+        """What an object of 1,000 words costs on a heap of 1,024 pages that is almost empty, or almost full."""
+        costs = []
+        for pages in (90, 970):
+            Script(self.folder, loads.thousands(pages)).check()
+            more = self.instructions(loads.thousands(pages + 10)) - self.instructions(loads.thousands(pages))
+            costs.append(more / 160)
+            self.figures.tell(f"thousands_instructions_per_new_at_{pages}_pages", costs[-1], THOUSAND_BAR)
+        self.figures.tell("thousands_instructions_ratio", costs[1] / costs[0], THOUSAND_RATIO_BAR)
 
     def lines(self):
         """What a line costs that is repeated: reading it, running it and telling its answer."""
         for line, bar in LINE_BARS.items():
-            count, room = self.count, 2 * self.count
-            some, twice = (self.instructions(loads.repeated(line, n * count, room)) for n in (1, 2))
+            some, twice = (self.instructions(loads.with_words(line, n * self.count)) for n in (1, 2))
             name = f"line_{line.split()[0]}_instructions"
             self.figures.tell(name, (twice - some) / self.count, bar)
 
@@ -167,9 +205,9 @@ class Bench:
         """What a collection costs for each live object."""
         swept = self.live_list(1, 1).then(SWEEP)
         more = self.instructions(swept.then(COLLECTION)) - self.instructions(swept)
-        self.figures.tell("live_list_instructions_per_live_object", more / self.count, COLLECTION_BAR)
+        self.figures.tell("live_list_instructions_per_live_object", more / self.count, CHAIN_BAR)
         more = self.instructions(self.tree(1)) - self.instructions(loads.tree(self.count))
-        self.figures.tell("tree_instructions_per_live_object", more / self.count, COLLECTION_BAR)
+        self.figures.tell("tree_instructions_per_live_object", more / self.count, TREE_BAR)
 
     def weak_fields(self):
         """What a collection costs for each live object, where each has two weak fields to be looked at."""
@@ -205,7 +243,7 @@ class Bench:
             costs.append(self.instructions(load.then(COLLECTION)) - self.instructions(load))
         tell = self.figures.tell
         tell("prefinalizers_instructions_per_line", costs[0] / (2 * self.count), PREFINALISED_BAR)
-        tell("prefinalizers_instructions_ratio", costs[1] / costs[0], PREFINALISED_RATIO_BAR)
+        tell("prefinalizers_instructions_ratio", costs[1] / costs[0], RATIO_BAR)
 
     def stack(self):
         """What a collection costs for each word of a stack, into pages full of small objects."""
@@ -238,7 +276,7 @@ class Bench:
             costs.append((self.instructions(made) - start - finalised * finalised_cost, count))
         (some, _), (twice, count) = costs
         self.figures.tell("lazy_sweep_instructions_per_new", twice / count, LAZY_NEW_BAR)
-        self.figures.tell("lazy_sweep_instructions_ratio", twice / some, LAZY_RATIO_BAR)
+        self.figures.tell("lazy_sweep_instructions_ratio", twice / some, RATIO_BAR)
 
 
 def build():
@@ -258,8 +296,10 @@ def main():
         bench = Bench(folder, scale)
         bench.times()
         if shutil.which("valgrind"):
+            bench.growth()
             bench.lines()
             bench.news()
+            bench.thousands()
             bench.collections()
             bench.weak_fields()
             bench.pairs()
