@@ -36,16 +36,28 @@ impl Header {
             → word ≡ header_word true mark traced ty size
             → result ≡ Some (record { mark = mark; traced = traced; ty = ty; size = size }) }
     {
-        let size = word >> 17;
-        if word & 1 == 0 || size == 0 || word >> 43 != 0 {
+        if word & 1 == 0 || word >> 17 == 0 || word >> 43 != 0 {
             return None;
         }
-        Some(Header {
+        Some(Header::read_unchecked(word))
+    }
+
+    /// The same for a word that is known to be such a header. It tests nothing.
+    pub fn read_unchecked(word: u64) -> Header
+        requires { IsHeaderWord word }
+        ensures packed { word
+            ≡ header_word true result.mark result.traced result.ty result.size }
+        ensures fits { (result.ty < 16384) × (0 < result.size) × (result.size < 2 ^ 26) }
+        ensures exact { (mark traced : Bool) (ty size : ℕ) → ty < 16384 → 0 < size → size < 2 ^ 26
+            → word ≡ header_word true mark traced ty size
+            → result ≡ record { mark = mark; traced = traced; ty = ty; size = size } }
+    {
+        Header {
             mark: word >> 1 & 1 == 1,
             traced: word >> 2 & 1 == 1,
             ty: Header::type_in(word),
-            size: size as u32,
-        })
+            size: (word >> 17) as u32,
+        }
     }
 
     /// The number of the type that the word of an object's header tells. It tests nothing.

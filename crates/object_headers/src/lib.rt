@@ -4,8 +4,8 @@
 //! whether it is marked and traced, its type, and its size in words. No other crate knows where in
 //! the word these stand. The places of the words after it have their names here too.
 //!
-//! The parts: `Header` (what a header word tells) with `Header::pack`, `Header::read` and
-//! `Header::type_in`, which reads the type alone, of a word that is known to be a header;
+//! The parts: `Header` (what a header word tells) with `Header::pack`, `Header::read`, and, of a
+//! word that is known to be a header, `Header::read_unchecked` and `Header::type_in`, the type alone;
 //! `with_mark` and `with_traced`, which change one bit of a word; `SERIAL` and `FIRST_FIELD`,
 //! the offsets of an object's other words; `reference_to` and `place_in`, from place to reference
 //! and back.
@@ -26,8 +26,8 @@
 //! | 43 to 63 | nothing; they are clear |
 //!
 //! What is proved: `pack` gives the word of the table. `read` answers exactly where the word is the
-//! header of a live object that has a size, and answers what was packed; of such a word `type_in`
-//! answers the type. `with_mark` and `with_traced` change their bit and no other, of any word. Place
+//! header of a live object that has a size, and answers what was packed; of such a word
+//! `read_unchecked` answers the same, and `type_in` the type. `with_mark` and `with_traced` change their bit and no other, of any word. Place
 //! and reference tell each other.
 //!
 //! What is only tested or not said: that the tables are what a reader expects is tested on a few
