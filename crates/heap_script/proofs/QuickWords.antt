@@ -1,8 +1,8 @@
 -- The first word of a line and the end of a line, for lines that are read without the table of forms.
-use Rattle.std.proofs.Common.{◌≡◌, ℕ, ◌+◌, ◌-◌, ◌<◌, ◌==◌, Bool, true, cond, not, List, [], ◌∷◌, length, get_or, take, drop, refl, sym, ap, ◌∙◌, arith}
+use Rattle.std.proofs.Common.{◌≡◌, ℕ, ◌+◌, ◌-◌, ◌<◌, ◌≤◌, ◌==◌, true, not, List, [], ◌∷◌, length, get_or, take, drop, refl, sym, ap, ◌∙◌, arith}
 use Rattle.std.specs.List.{list_all}
 use Rattle.std.proofs.lemmas.List.{drop_more}
-use Rattle.std.proofs.lemmas.Bool.{and_parts, not-true, cond-false, eqb-true, ne_eqb}
+use Rattle.std.proofs.lemmas.Bool.{and_parts, not-true}
 use Rattle.heap_script.specs.Cursor.{line_words, is_word_byte, IsPastSpaces}
 use Rattle.heap_script.specs.QuickLines.{IsFirstWord, IsEndOfWords}
 use Rattle.heap_script.proofs.WordPlaces.{word_found, stops_at_space, stops_at_line}
@@ -41,17 +41,30 @@ first_word bytes at (b ∷ word) within space some all is =
       same = found.same;
     }
 
--- only spaces before the line's end
-pub no_words : (bytes : List ℕ) (from end : ℕ) (stop : Bool) → IsPastSpaces bytes from end
-    → stop ≡ cond (end == length bytes) true (get_or bytes end 0 == 10) → stop ≡ true → IsEndOfWords bytes from end
-no_words bytes from end stop past is e =
-    let nothing : end - end ≡ 0 = omega arith in
-    let found = word_found bytes from end end past (record {
+-- a line's end, or that of the bytes
+pub ends_here : (bytes : List ℕ) (place : ℕ) → place ≤ length bytes → (place < length bytes → get_or bytes place 0 ≡ 10)
+    → IsEndOfWords bytes place place
+ends_here bytes place within stop =
+    let nothing : place - place ≡ 0 = omega arith in
+    let past : IsPastSpaces bytes place place = record {
+      before = omega arith;
+      within = within;
+      words = refl;
+      lines = refl;
+      stop = λ low. ap (λ b. b == 32) (stop low);
+    } in
+    let found = word_found bytes place place place past (record {
       order = omega arith;
-      within = past.within;
-      inner = ap (λ m. list_all is_word_byte (take m (drop end bytes))) nothing;
-      stop = λ low. stops_at_line (get_or bytes end 0) (eqb-true (get_or bytes end 0) 10
-          (sym (cond-false (end == length bytes) true (get_or bytes end 0 == 10) (ne_eqb end (length bytes) (λ t. omega (arith, t, low)))) ∙ sym is ∙ e));
+      within = within;
+      inner = ap (λ m. list_all is_word_byte (take m (drop place bytes))) nothing;
+      stop = λ low. stops_at_line (get_or bytes place 0) (stop low);
     }) in
     let none = found.none (omega arith) in
     record { none = none.0; ends = none.1 }
+
+-- only spaces before the line's end
+pub no_words : (bytes : List ℕ) (from end : ℕ) → IsPastSpaces bytes from end → IsEndOfWords bytes end end → IsEndOfWords bytes from end
+no_words bytes from end past here = record {
+  none = past.words ∙ here.none;
+  ends = record { order = past.before; within = past.within; stop = here.ends.stop; same = past.lines ∙ here.ends.same };
+}

@@ -1,5 +1,5 @@
 -- The words of a line, one after the other, by their places in the bytes.
-use Rattle.std.specs.Prelude.{◌≡◌, ◌⊎◌, ℕ, ◌+◌, ◌-◌, ◌<◌, ◌≤◌, ◌==◌, ◌&&◌, not, Bool, true, false, List, [], ◌∷◌, length, take, drop, Some, slice_get, slice_index, slice_index_or}
+use Rattle.std.specs.Prelude.{◌≡◌, ◌⊎◌, ℕ, ◌+◌, ◌-◌, ◌<◌, ◌≤◌, ◌==◌, ◌&&◌, not, Bool, true, false, List, [], ◌∷◌, length, take, drop, Option, Some, None, if◌then◌else◌, slice_get, slice_index, slice_index_or}
 use Rattle.std.specs.List.{list_all}
 use Rattle.gc_graph.specs.Words.{lines_of, words_of, is_digit, is_number, value_after}
 
@@ -61,6 +61,12 @@ pub record IsWordEnd (bytes : List ℕ) (start end : ℕ) : Type 0 where
 abbrev pub words_from : List ℕ → ℕ → ℕ → List (List ℕ)
 words_from bytes start end = take (end - start) (drop start bytes) ∷ line_words (drop end bytes)
 
+-- the number that the word from `start` to `end` is, where it is one
+abbrev pub number_from : List ℕ → ℕ → ℕ → Option ℕ
+number_from bytes start end =
+    let word : List ℕ = take (end - start) (drop start bytes) in
+    if is_number word then Some (value_after 0 word) else None
+
 -- only digits stand from `start` to `place`, and this is their value, of nine digits at most
 pub record IsDigits (bytes : List ℕ) (start place value : ℕ) : Type 0 where
   pub order : start ≤ place
@@ -69,8 +75,7 @@ pub record IsDigits (bytes : List ℕ) (start place value : ℕ) : Type 0 where
   pub value_is : value ≡ value_after 0 (take (place - start) (drop start bytes))
   pub low : value < 1000000000
 
--- a word of one digit stands there, which is this number
-pub record IsLoneDigit (bytes : List ℕ) (start value : ℕ) : Type 0 where
-  pub ends : IsWordEnd bytes start (start + 1)
-  pub number : is_number (take (start + 1 - start) (drop start bytes)) ≡ true
-  pub value_is : value_after 0 (take (start + 1 - start) (drop start bytes)) ≡ value
+-- one space stands at `from`, and then a word up to `end`, which is this number
+pub record IsShortNumber (bytes : List ℕ) (from end value : ℕ) : Type 0 where
+  pub word : IsNextWord bytes from (from + 1) end
+  pub number : number_from bytes (from + 1) end ≡ Some value

@@ -1,8 +1,8 @@
 // The next word of a line with the number that it is, of which short ones are read with the word.
 
-ghost use Rattle.std.specs.Prelude.{◌≡◌, ◌+◌, ◌-◌, ◌==◌, ◌&&◌, not, nat_lt, ◌≤◌, true, Some, None, length, slice_index, take, drop, if◌then◌else◌, IfSome};
-ghost use Rattle.gc_graph.specs.Words.{is_number, value_after};
-ghost use Rattle.heap_script.specs.Cursor.{IsDigits, IsLoneDigit, IsNextWord, IsWordEnd, is_word_byte};
+ghost use Rattle.std.specs.Prelude.{◌≡◌, ◌+◌, ◌==◌, ◌&&◌, not, nat_lt, ◌≤◌, true, length, slice_index, if◌then◌else◌, IfSome};
+ghost use Rattle.gc_graph.specs.Words.{is_digit};
+ghost use Rattle.heap_script.specs.Cursor.{IsDigits, IsNextWord, IsShortNumber, IsWordEnd, is_word_byte, number_from};
 
 use super::cursor::{past_spaces, word_end};
 use super::numbers::number;
@@ -19,19 +19,68 @@ pub(crate) struct Numeral {
 pub(crate) fn next_number(bytes: &[u8], from: usize) -> Numeral
     requires { from ≤ length bytes.now }
     ensures word { IsNextWord bytes.now from result.start result.end }
-    ensures value { result.value ≡
-        (if is_number (take (result.end - result.start) (drop result.start bytes.now))
-        then Some (value_after 0 (take (result.end - result.start) (drop result.start bytes.now)))
-        else None) }
+    ensures value { result.value ≡ number_from bytes.now result.start result.end }
+{
+    match short_number(bytes, from) {
+        Some((end, value)) => Numeral {
+            start: from + 1,
+            end,
+            value: Some(value),
+        },
+        None => number_after_spaces(bytes, from),
+    }
+}
+
+// A number of one to three digits after one space, and its end. Five bytes are as many as it takes with
+// the space and the byte that ends it, so one test of the length is enough.
+#[inline(always)]
+fn short_number(bytes: &[u8], from: usize) -> Option<(usize, u64)>
+    requires { from ≤ length bytes.now }
+    ensures { IfSome result (λ short. IsShortNumber bytes.now from short.0 short.1) }
+{
+    if bytes.len() - from < 5 || bytes[from] != b' ' || !is_decimal(bytes[from + 1]) {
+        return None;
+    }
+    let one = u64::from(bytes[from + 1] - b'0');
+    if is_gap(bytes[from + 2]) {
+        return Some((from + 2, one));
+    }
+    if bytes[from + 1] == b'0' || !is_decimal(bytes[from + 2]) {
+        return None;
+    }
+    let two = one * 10 + u64::from(bytes[from + 2] - b'0');
+    if is_gap(bytes[from + 3]) {
+        return Some((from + 3, two));
+    }
+    if !is_decimal(bytes[from + 3]) || !is_gap(bytes[from + 4]) {
+        return None;
+    }
+    Some((from + 4, two * 10 + u64::from(bytes[from + 3] - b'0')))
+}
+
+#[inline(always)]
+fn is_decimal(byte: u8) -> bool
+    ensures { result ≡ is_digit byte }
+{
+    byte >= b'0' && byte <= b'9'
+}
+
+// A byte that stands in no word.
+#[inline(always)]
+fn is_gap(byte: u8) -> bool
+    ensures { result ≡ not (is_word_byte byte) }
+{
+    byte == b' ' || byte == b'\n'
+}
+
+// The next word, however many spaces stand before it.
+#[inline(never)]
+fn number_after_spaces(bytes: &[u8], from: usize) -> Numeral
+    requires { from ≤ length bytes.now }
+    ensures word { IsNextWord bytes.now from result.start result.end }
+    ensures value { result.value ≡ number_from bytes.now result.start result.end }
 {
     let start = past_spaces(bytes, from);
-    if let Some(value) = lone_digit(bytes, start) {
-        return Numeral {
-            start,
-            end: start + 1,
-            value: Some(value),
-        };
-    }
     let (place, value) = digits(bytes, start);
     if is_end(bytes, place) {
         let value = if is_plain(bytes, start, place) {
@@ -48,40 +97,13 @@ pub(crate) fn next_number(bytes: &[u8], from: usize) -> Numeral
     long_number(bytes, start)
 }
 
-// The number of a word of one digit, which isn't the last byte.
-#[inline(always)]
-fn lone_digit(bytes: &[u8], start: usize) -> Option<u64>
-    requires { start ≤ length bytes.now }
-    ensures { IfSome result (IsLoneDigit bytes.now start) }
-{
-    if bytes.len() - start < 2 {
-        return None;
-    }
-    let digit = bytes[start];
-    if digit < b'0' || digit > b'9' || !is_gap(bytes[start + 1]) {
-        return None;
-    }
-    Some(u64::from(digit - b'0'))
-}
-
-// A byte that stands in no word.
-#[inline(always)]
-fn is_gap(byte: u8) -> bool
-    ensures { result ≡ not (is_word_byte byte) }
-{
-    byte == b' ' || byte == b'\n'
-}
-
 // A word that doesn't end with its first digits.
 #[inline(never)]
 fn long_number(bytes: &[u8], start: usize) -> Numeral
     requires { start ≤ length bytes.now }
     ensures start { result.start ≡ start }
     ensures end { IsWordEnd bytes.now start result.end }
-    ensures value { result.value ≡
-        (if is_number (take (result.end - result.start) (drop result.start bytes.now))
-        then Some (value_after 0 (take (result.end - result.start) (drop result.start bytes.now)))
-        else None) }
+    ensures value { result.value ≡ number_from bytes.now result.start result.end }
 {
     let end = word_end(bytes, start);
     Numeral {

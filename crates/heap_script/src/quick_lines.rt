@@ -8,8 +8,8 @@ ghost use Rattle.heap_script.specs.Rows.{bounds_of};
 
 use super::places::Bounds;
 use super::quick_words::{
-    EXTRA_WORDS, FIELDS, SLOTS, SlotFieldSlot, WEAK_SLOTS, begins, line_end, next_any, next_small,
-    slot_field_slot, two_small,
+    EXTRA_WORDS, FIELDS, SLOTS, SlotFieldSlot, WEAK_SLOTS, begins, is_line_end, line_end, next_any,
+    next_small, slot_field_slot, two_small,
 };
 use gc_graph::Command;
 
@@ -94,12 +94,20 @@ fn quick_new(bytes: &[u8], from: usize, bounds: Bounds) -> Option<QuickLine>
 {
     let p = next_small(bytes, from, SLOTS)?;
     let t = next_small(bytes, p.end, bounds.types)?;
-    if let Some(end) = line_end(bytes, t.end) {
-        return Some(new_line(p.value, t.value, 0, end));
+    if is_line_end(bytes, t.end) {
+        return Some(new_line(p.value, t.value, 0, t.end));
     }
-    let e = next_small(bytes, t.end, EXTRA_WORDS)?;
-    let end = line_end(bytes, e.end)?;
-    Some(new_line(p.value, t.value, e.value, end))
+    match next_small(bytes, t.end, EXTRA_WORDS) {
+        Some(e) => {
+            let end = line_end(bytes, e.end)?;
+            Some(new_line(p.value, t.value, e.value, end))
+        }
+        None => {
+            // Spaces may stand before the line's end.
+            let end = line_end(bytes, t.end)?;
+            Some(new_line(p.value, t.value, 0, end))
+        }
+    }
 }
 
 #[inline(always)]

@@ -139,6 +139,9 @@ pub(crate) fn line_end(bytes: &[u8], from: usize) -> Option<usize>
     requires { from ≤ length bytes.now }
     ensures { IfSome result (IsEndOfWords bytes.now from) }
 {
+    if is_line_end(bytes, from) {
+        return Some(from);
+    }
     let end = past_spaces(bytes, from);
     if is_line_end(bytes, end) {
         Some(end)
@@ -147,12 +150,11 @@ pub(crate) fn line_end(bytes: &[u8], from: usize) -> Option<usize>
     }
 }
 
-// A line's end stands there, or that of the bytes.
+/// Whether a line's end stands there, or that of the bytes.
 #[inline(always)]
-fn is_line_end(bytes: &[u8], place: usize) -> bool
+pub(crate) fn is_line_end(bytes: &[u8], place: usize) -> bool
     requires { place ≤ length bytes.now }
-    ensures { result ≡ (if place == length bytes.now then true
-        else (slice_index bytes.now place == 10)) }
+    ensures { result ≡ true → IsEndOfWords bytes.now place place }
 {
     place == bytes.len() || bytes[place] == b'\n'
 }

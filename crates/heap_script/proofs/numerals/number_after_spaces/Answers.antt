@@ -1,6 +1,6 @@
 use Rattle.heap_script.proofs.WordPlaces.{word_found}
 use Rattle.heap_script.proofs.ShortNumbers.{digits_end}
-use Rattle.heap_script.proofs.numerals.next_number.Goals as goal
+use Rattle.heap_script.proofs.numerals.number_after_spaces.Goals as goal
 
 pub returns-then-is_plain-clause-word : goal.returns-then-is_plain-clause-word
 returns-then-is_plain-clause-word c =
