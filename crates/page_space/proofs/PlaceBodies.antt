@@ -1,9 +1,10 @@
 -- The words of bodies, as extents tell them.
-use Rattle.std.proofs.Common.{◌≡◌, ℕ, zero, suc, ◌+◌, ◌<◌, ◌≤◌, List, [], ◌∷◌, length, map, refl, ap, ◌∙◌, arith}
+use Rattle.std.proofs.Common.{◌≡◌, ℕ, zero, suc, ◌+◌, ◌^◌, ◌<◌, ◌≤◌, Bool, true, false, List, [], ◌∷◌, length, map, refl, ap, ◌∙◌, arith}
 use Rattle.std.specs.List.{Contains, All}
 use Rattle.std.proofs.lemmas.List.Elements.{All-contains}
 use Rattle.std.proofs.lemmas.List.{length-map, get_or-map}
 use Rattle.gc_graph.specs.Placement.{Extent, IsTaken}
+use Rattle.object_headers.specs.Layout.{bit_of, header_word, IsHeaderWord}
 use Rattle.object_headers.specs.declared.header.Header.{Header}
 use Rattle.page_words.specs.Bodies.{Body, IsInBody, IsWhole}
 use Rattle.page_words.specs.Seat.{SeatView}
@@ -49,6 +50,17 @@ pub body_size : (count : ℕ) (bodies : List Body) (b : Body) → All (IsWhole c
 body_size count bodies b whole h =
     let w : IsWhole count b = whole_body count bodies b whole h in
     omega (arith, w.fields)
+
+bit_few : (b : Bool) → bit_of b ≤ 1
+bit_few true = omega arith
+bit_few false = omega arith
+
+-- the word of a live object is a header that can be read without a test
+pub header_is_one : (mark traced : Bool) (ty size : ℕ) → ty < 16384 → 0 < size → size < 2 ^ 26 → IsHeaderWord (header_word true mark traced ty size)
+header_is_one mark traced ty size few some small =
+    let marks : bit_of mark ≤ 1 = bit_few mark in
+    let traces : bit_of traced ≤ 1 = bit_few traced in
+    record { live = omega arith; size = omega arith; bits = omega arith }
 
 -- the size that a header tells is that of the body
 pub tells_size : (v : SeatView) (a : ℕ) (header : Header) → ((b : Body) → Contains v.bodies b → b.place ≡ a → header ≡ header_in v b)

@@ -104,10 +104,8 @@ impl Space {
         ensures view { seat.new ≡ seat.old }
     {
         seat.bodies_lie_apart();
-        match Header::read(self.words.load(seat, a)) {
-            Some(header) => header,
-            None => unreachable!("an object starts here"),
-        }
+        // An object starts here, so the word is a header.
+        Header::read_unchecked(self.words.load(seat, a))
     }
 
     /// The serial number of the object that starts at an address.

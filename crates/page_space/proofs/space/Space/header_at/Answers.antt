@@ -1,30 +1,30 @@
-use Rattle.std.proofs.Common.{◌≡◌, ◌≤◌, arith}
+use Rattle.std.proofs.Common.{◌≡◌, ◌≤◌, subst, sym, arith}
 use Rattle.std.specs.List.{Contains}
+use Rattle.object_headers.specs.Layout.{IsHeaderWord}
 use Rattle.page_words.specs.Bodies.{Body, IsWhole}
 use Rattle.page_words.specs.Seat.{holds}
 use Rattle.page_space.specs.Space.{header_in}
-use Rattle.page_space.proofs.PlaceBodies.{whole_body, body_size, tells_size}
+use Rattle.page_space.proofs.PlaceBodies.{whole_body, body_size, tells_size, header_is_one}
 use Rattle.page_space.proofs.space.Space.header_at.Goals as goal
-use Rattle.page_space.proofs.space.Space.header_at.Goals.{In-Some}
+use Rattle.page_space.proofs.space.Space.header_at.Goals.{After-read_unchecked}
 
-pub unreachable-requires : goal.unreachable-requires
-unreachable-requires c =
+pub read_unchecked-requires : goal.read_unchecked-requires
+read_unchecked-requires c =
     let v = c.args.seat.now in
     let b : Body = c.requires.start.0 in
     let whole : IsWhole v.count b = whole_body v.count v.bodies b c.bodies_lie_apart.ensures.whole c.requires.start.1 in
     let size : 2 ≤ b.size = body_size v.count v.bodies b c.bodies_lie_apart.ensures.whole c.requires.start.1 in
-    let e = c.in-None.ensures.exact (holds v.marked b.place) (holds v.traced b.place) b.ty b.size whole.ty (omega arith) whole.size
-    (c.load.ensures.word.header b c.requires.start.1 c.requires.start.2) in
-    cc
+    subst IsHeaderWord (sym (c.load.ensures.word.header b c.requires.start.1 c.requires.start.2))
+    (header_is_one (holds v.marked b.place) (holds v.traced b.place) b.ty b.size whole.ty (omega arith) whole.size)
 
-header_is : (c : In-Some) (b : Body) → Contains c.args.seat.now.bodies b → b.place ≡ c.args.a → c.in-Some.header ≡ header_in c.args.seat.now b
+header_is : (c : After-read_unchecked) (b : Body) → Contains c.args.seat.now.bodies b → b.place ≡ c.args.a
+    → c.read_unchecked.result ≡ header_in c.args.seat.now b
 header_is c b has at =
     let v = c.args.seat.now in
     let whole : IsWhole v.count b = whole_body v.count v.bodies b c.bodies_lie_apart.ensures.whole has in
     let size : 2 ≤ b.size = body_size v.count v.bodies b c.bodies_lie_apart.ensures.whole has in
-    let e = c.in-Some.ensures.exact (holds v.marked b.place) (holds v.traced b.place) b.ty b.size whole.ty (omega arith) whole.size
-    (c.load.ensures.word.header b has at) in
-    cc
+    c.read_unchecked.ensures.exact (holds v.marked b.place) (holds v.traced b.place) b.ty b.size whole.ty (omega arith) whole.size
+    (c.load.ensures.word.header b has at)
 
 pub returns-clause-header : goal.returns-clause-header
 returns-clause-header c b has at = header_is c b has at
@@ -35,7 +35,7 @@ returns-clause-least c =
     let start = c.requires.start in
     omega (
       arith,
-      tells_size v c.args.a c.in-Some.header (header_is c) start.0 start.1 start.2,
+      tells_size v c.args.a c.read_unchecked.result (header_is c) start.0 start.1 start.2,
       body_size v.count v.bodies start.0 c.bodies_lie_apart.ensures.whole start.1,
     )
 
@@ -45,4 +45,4 @@ returns-clause-inside c =
     let start = c.requires.start in
     let at : start.0.place ≡ c.args.a = start.2 in
     let whole : IsWhole v.count start.0 = whole_body v.count v.bodies start.0 c.bodies_lie_apart.ensures.whole start.1 in
-    omega (arith, at, tells_size v c.args.a c.in-Some.header (header_is c) start.0 start.1 start.2, whole.inside, c.requires.heap)
+    omega (arith, at, tells_size v c.args.a c.read_unchecked.result (header_is c) start.0 start.1 start.2, whole.inside, c.requires.heap)
