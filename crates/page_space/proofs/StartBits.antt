@@ -44,6 +44,7 @@ pub record IsNextPlace (v : SeatView) (at next : ℕ) : Type 0 where
   pub none : HasNoStart v.bodies at next
   pub low : at ≤ next
   pub high : next < v.count
+  pub near : next < at / 64 * 64 + 64
 
 pub lowest_bit : (v : SeatView) (w at bits zeros : ℕ) → IsBitsAt v at w → w < 2 ^ 64 → v.count ≡ 64 * (v.count / 64) → at < v.count
     → bits ≡ w / 2 ^ (at % 64) → (bits ≡ 0 → ⊥) → zeros ≡ trailing_zeros w64 bits → IsNextPlace v at (at + zeros)
@@ -68,6 +69,7 @@ lowest_bit v w at bits zeros word fits whole within is some zeros_is =
           (subst (IsPlace v.bodies) (sym step) place);
       low = omega arith;
       high = inside;
+      near = omega arith;
     }
 
 -- the highest bit that is set

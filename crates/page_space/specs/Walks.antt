@@ -1,9 +1,14 @@
 -- What a walk from object to object through a page knows.
-use Rattle.std.specs.Prelude.{ℕ, ◌<◌, ◌≤◌, List, Contains}
+use Rattle.std.specs.Prelude.{ℕ, ◌+◌, ◌*◌, ◌/◌, ◌<◌, ◌≤◌, List, Contains}
 use Rattle.gc_graph.specs.State.{Shape}
 use Rattle.gc_graph.specs.Placement.{Extent}
 use Rattle.page_words.specs.Bodies.{Body, end_of}
+use Rattle.page_words.specs.Seat.{block_words}
 use Rattle.page_space.specs.Gaps.{IsGap}
+
+-- where the block of an address ends
+abbrev pub block_end : ℕ → ℕ
+block_end a = a / block_words * block_words + block_words
 
 -- each object that begins before the address ends by it
 abbrev pub IsEdge : List Body → ℕ → Type 0

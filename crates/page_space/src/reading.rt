@@ -8,6 +8,7 @@ ghost use Rattle.page_words.specs.Seat.{block_words};
 ghost use Rattle.page_space.specs.Pages.{word_count};
 ghost use Rattle.page_space.specs.Space.{IsSeatOf, IsPlaceFrom, HasNoStart, header_in};
 ghost use Rattle.page_space.specs.Space.{IsLastStart};
+ghost use Rattle.page_space.specs.Walks.{block_end};
 
 use crate::space::Space;
 use object_headers::{Header, SERIAL};
@@ -26,9 +27,8 @@ impl Space {
         let count = self.words.count();
         let mut at = from;
         while at < count {
-            let bits = self.words.load(seat, count + at / BLOCK_WORDS) >> (at % BLOCK_WORDS);
-            if bits != 0 {
-                return Some(at + bits.trailing_zeros());
+            if let Some(place) = self.start_in_block(seat, at) {
+                return Some(place);
             }
             at = at / BLOCK_WORDS * BLOCK_WORDS + BLOCK_WORDS;
         }
@@ -50,14 +50,31 @@ impl Space {
         self.shape_is_valid();
         let mut at = from;
         while at < end {
-            let starts = self.words.count() + at / BLOCK_WORDS;
-            let bits = self.words.load(seat, starts) >> (at % BLOCK_WORDS);
-            if bits != 0 {
-                return (at + bits.trailing_zeros()).min(end);
+            if let Some(place) = self.start_in_block(seat, at) {
+                return place.min(end);
             }
             at = at / BLOCK_WORDS * BLOCK_WORDS + BLOCK_WORDS;
         }
         end
+    }
+
+    /// The lowest place from an address up to the end of its block. One word of start bits tells it.
+    #[inline(always)]
+    pub(crate) fn start_in_block(&self, seat: &mut MutatorSeat, at: u32) -> Option<u32>
+        requires heap { IsSeatOf self.now seat.old }
+        requires address { at < word_count self.now.shape }
+        ensures found { IfSome result (IsLowest (IsPlaceFrom seat.old.bodies at)) }
+        ensures near { IfSome result (λ a. a < block_end at) }
+        ensures none { IfNone result (HasNoStart seat.old.bodies at (block_end at)) }
+        ensures view { seat.new ≡ seat.old }
+    {
+        self.shape_is_valid();
+        let starts = self.words.count() + at / BLOCK_WORDS;
+        let bits = self.words.load(seat, starts) >> (at % BLOCK_WORDS);
+        if bits == 0 {
+            return None;
+        }
+        Some(at + bits.trailing_zeros())
     }
 
     /// The highest place in the blocks from `first` up to, and without, `end`.

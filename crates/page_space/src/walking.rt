@@ -1,10 +1,12 @@
 // From object to object through the words of a page.
 
-ghost use Rattle.std.specs.Prelude.{◌≡◌, ℕ, ◌+◌, ◌*◌, ◌<◌, ◌≤◌, IfSome, IfNone};
+ghost use Rattle.std.specs.Prelude.{◌≡◌, ℕ, ◌+◌, ◌*◌, ◌/◌, ◌<◌, ◌≤◌, IfSome, IfNone, min};
 ghost use Rattle.gc_graph.specs.Placement.{IsLowest, IsNowhere};
 ghost use Rattle.page_words.specs.Bodies.{IsInBody};
 ghost use Rattle.page_words.specs.Seat.{block_words};
+ghost use Rattle.page_space.specs.Pages.{word_count};
 ghost use Rattle.page_space.specs.Space.{IsSeatOf, HoldsWhole, extents_of_bodies};
+ghost use Rattle.page_space.specs.Space.{IsPlaceFrom, HasNoStart};
 ghost use Rattle.page_space.specs.Walks.{IsEdge, BeginsBetween};
 
 use crate::space::Space;
@@ -80,18 +82,43 @@ impl Space {
         seat.bodies_lie_apart();
         let end = (page + 1) * self.page_words;
         while walk.at < until {
-            let reach = end.min(walk.at + size);
-            let next = self.start_from(seat, walk.at, reach);
-            if next == walk.at + size {
-                return Some(walk.at);
-            }
-            walk.longest = walk.longest.max(next - walk.at);
-            if next == end {
-                walk.at = end;
-                return None;
-            }
+            let gap = match self.words_to_next(seat, walk.at, size, end) {
+                Some(gap) if gap < size => gap,
+                None if end - walk.at < size => {
+                    walk.longest = walk.longest.max(end - walk.at);
+                    walk.at = end;
+                    return None;
+                }
+                _ => return Some(walk.at),
+            };
+            walk.longest = walk.longest.max(gap);
+            let next = walk.at + gap;
             walk.at = next + self.header_at(seat, next).size;
         }
         None
+    }
+
+    /// How many words there are from an address to the next place below `end`. None may be told
+    /// if there are as many as `size`. In most steps of a walk one word of start bits tells it.
+    #[inline(always)]
+    fn words_to_next(&self, seat: &mut MutatorSeat, at: u32, size: u32, end: u32) -> Option<u32>
+        requires heap { IsSeatOf self.now seat.old }
+        requires order { at < end }
+        requires size { size ≤ word_count self.now.shape }
+        requires end { end ≤ word_count self.now.shape }
+        requires blocks { block_words * (end / block_words) ≡ end }
+        ensures found { IfSome result (λ n. IsLowest (IsPlaceFrom seat.old.bodies at) (at + n)) }
+        ensures within { IfSome result (λ n. at + n < end) }
+        ensures none { IfNone result (HasNoStart seat.old.bodies at (min end (at + size))) }
+        ensures view { seat.new ≡ seat.old }
+    {
+        self.shape_is_valid();
+        if let Some(place) = self.start_in_block(seat, at) {
+            return Some(place - at);
+        }
+        // The next objects are looked for only as far as the walk needs to know.
+        let reach = end.min(at + size);
+        let next = self.start_from(seat, at, reach);
+        if next < reach { Some(next - at) } else { None }
     }
 }
