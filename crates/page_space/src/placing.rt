@@ -37,7 +37,8 @@ impl Space {
         let class = class_of(size);
         // Pages below have no room for the size, as earlier searches told.
         let first = self.gaps.first_for(class.number) / self.page_words;
-        for page in from.max(first)..to {
+        // No page from the top on holds an object, so none has its bucket.
+        for page in from.max(first)..to.min(self.table.top()) {
             if let Some(a) = self.find_in(seat, page, size, class) {
                 return Some(a);
             }

@@ -19,6 +19,8 @@ pub struct Table {
     in_use: u32,
     // The pages below hold objects.
     lowest_empty: u32,
+    // The pages from here on hold none.
+    top: u32,
 }
 
 impl Model for Table {
@@ -54,6 +56,7 @@ impl Table {
             starts,
             in_use: 0,
             lowest_empty: 0,
+            top: 0,
         })
     }
 
@@ -86,6 +89,27 @@ impl Table {
         let mut page = from;
         while page < count && self.objects[page as usize] > 0 {
             page += 1;
+        }
+        page
+    }
+
+    /// The page after the highest one that holds a word of an object.
+    pub fn top(&self) -> u32
+        ensures { (page : ℕ) → result ≤ page → slice_index self.now.objects page ≡ 0 }
+    {
+        self.top
+    }
+
+    /// The page after the highest one below `end` that holds a word of an object.
+    fn used_end(&self, end: u32) -> u32
+        requires { end ≤ length self.now.objects }
+        ensures empty { (page : ℕ) → result ≤ page → page < end
+            → slice_index self.now.objects page ≡ 0 }
+        ensures within { result ≤ end }
+    {
+        let mut page = end;
+        while page > 0 && self.objects[page as usize - 1] == 0 {
+            page -= 1;
         }
         page
     }
@@ -165,6 +189,7 @@ impl Table {
         let before = self.objects[at];
         if before == 0 {
             self.in_use += 1;
+            self.top = self.top.max(page + 1);
         }
         self.objects[at] = before + 1;
         self.buckets[at] = bucket;
@@ -181,10 +206,12 @@ impl Table {
     {
         let at = page as usize;
         let after = self.objects[at] - 1;
+        self.objects[at] = after;
         if after == 0 {
             self.in_use -= 1;
             self.lowest_empty = self.lowest_empty.min(page);
+            // Each page over which the top falls is one over which it rose.
+            self.top = self.used_end(self.top);
         }
-        self.objects[at] = after;
     }
 }

@@ -1,10 +1,12 @@
-use Rattle.std.proofs.Common.{◌≡◌, ℕ, ◌+◌, ◌*◌, ◌/◌, ◌≤◌, get_or, refl, inl, ap, sym, subst, ◌∙◌, arith, below_more}
+use Rattle.std.proofs.Common.{◌≡◌, ℕ, ◌+◌, ◌*◌, ◌/◌, ◌<◌, ◌≤◌, get_or, refl, inl, inr, ap, sym, subst, ◌∙◌, arith, below_more}
+use Rattle.std.proofs.lemmas.Bool.{cases_lt}
 use Rattle.gc_graph.specs.Placement.{PageHasBucket, IsNowhere, bucket_of}
 use Rattle.page_space.specs.Gaps.{HasClass, least_of}
 use Rattle.page_space.specs.Space.{IsSpaceOf, FitsIn, extents_of_bodies}
 use Rattle.page_space.proofs.PageSpan.{page_of, page_before}
 use Rattle.page_space.proofs.PlaceFound.{fits_found, fits_none, gap_of_run, bucket_of_class}
 use Rattle.page_space.proofs.Shapes.{shape_words}
+use Rattle.page_space.proofs.UsedPages.{held_is_used, uses_of_bucket}
 use Rattle.page_space.proofs.space.Space.find.Goals as goal
 
 pub loop-page-init : goal.loop-page-init
@@ -60,4 +62,13 @@ loop-page-preserved c =
 
 pub returns-clause-none : goal.returns-clause-none
 returns-clause-none c =
-    fits_none c.args.self.now.shape c.args.seat.now.bodies c.args.from c.args.to c.args.size (λ other below. c.loop-page.invariant.none other (omega arith))
+    let now = c.args.self.now in
+    let words = shape_words now.shape c.shape_is_valid.ensures in
+    fits_none now.shape c.args.seat.now.bodies c.args.from c.args.to c.args.size (λ other below. elim (cases_lt other c.top.result) [
+      | inl under ↦ c.loop-page.invariant.none other (omega arith)
+      | inr above ↦
+          (λ from a run. absurd (let some : 0 < get_or now.table.objects other 0 =
+          (held_is_used now c.args.seat.now.count (extents_of_bodies c.args.seat.now.bodies) other (omega (arith, words.0)) c.requires.space (omega (arith, c.requires.to))).1
+          (uses_of_bucket now.shape (extents_of_bodies c.args.seat.now.bodies) other (bucket_of now.shape.page_words c.args.size) run.bucket) in
+          omega (arith, some, c.top.ensures other above, ap (λ s. get_or s.table.objects other 0) c.self.view_is)))
+    ])
