@@ -1,11 +1,11 @@
 -- A space: the pages of a heap over the bodies in its words.
-use Rattle.std.specs.Prelude.{◌≡◌, ◌⊎◌, ℕ, ◌+◌, ◌*◌, ◌/◌, ◌<◌, ◌≤◌, true, List, [], ◌∷◌, length, map, count_by, sum_by, slice_index, Contains, All, ⊤}
+use Rattle.std.specs.Prelude.{◌≡◌, ◌⊎◌, ◌↔◌, ℕ, ◌+◌, ◌*◌, ◌/◌, ◌%◌, ◌^◌, ◌<◌, ◌≤◌, true, List, [], ◌∷◌, length, map, count_by, sum_by, slice_index, Contains, All, ⊤}
 use Rattle.gc_graph.specs.State.{Shape}
 use Rattle.gc_graph.specs.Placement.{Extent, IsRun, UsesPage, IsEmptyPage, Fits, StartsEmptyRun, bucket_of}
 use Rattle.gc_graph.specs.PlacementLaw.{LiesInPage, TakesPages}
 use Rattle.object_headers.specs.declared.header.Header.{Header}
 use Rattle.page_words.specs.Bodies.{Body, end_of, IsPlace}
-use Rattle.page_words.specs.Seat.{SeatView, holds}
+use Rattle.page_words.specs.Seat.{SeatView, holds, block_words}
 use Rattle.page_space.specs.Pages.{PageTable, word_count, first_page, is_in_page, free_words}
 use Rattle.page_space.specs.Gaps.{GapTable, KnowsGaps}
 
@@ -93,6 +93,10 @@ header_in v b = record { mark = holds v.marked b.place; traced = holds v.traced 
 -- a is a place, and not below from
 abbrev pub IsPlaceFrom : List Body → ℕ → ℕ → Type 0
 IsPlaceFrom bodies from a = (from ≤ a) × IsPlace bodies a
+
+-- bit i of the word tells whether an object starts at the word i of the block
+abbrev pub AreStartsOf : List Body → ℕ → ℕ → Type 0
+AreStartsOf bodies block bits = (i : ℕ) → i < block_words → (bits / 2 ^ i % 2 ≡ 1) ↔ IsPlace bodies (block_words * block + i)
 
 -- no object starts from low up to high
 abbrev pub HasNoStart : List Body → ℕ → ℕ → Type 0

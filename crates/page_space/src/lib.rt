@@ -5,13 +5,14 @@
 //!
 //! The parts: `Space` with `new`, `find` and `find_empty` (where a new object goes), `occupy` and
 //! `free` (an object that comes or goes), `next_object` and `start_from` (where the next object
-//! starts), `start_of` (whose word an address is), `page_bucket` and the readers of one object, and
-//! the counts `objects`, `used`, `pages_in_use`. Inside, a table tells of each page how many objects
-//! have a word in it, their bucket and where they start, and `gaps` where a search is worth its
-//! time: bounds for the gaps that begin in each block of 64 words and for those of each page, and for
-//! each class of sizes the first address worth a look. A bound that is too large hides no gap: a new
-//! object changes none, and a search that looked in vain writes down what it saw. `searching` looks,
-//! and `walking` goes from object to object. Below is `page_words`.
+//! starts), `starts_in` (the start bits of a block), `start_of` (whose word an address is),
+//! `page_bucket` and the readers of one object, and the counts `objects`, `used`, `pages_in_use`.
+//! Inside, a table tells of each page how many objects have a word in it, their bucket and where
+//! they start, and `gaps` where a search is worth its time: bounds for the gaps that begin in each
+//! block of 64 words and for those of each page, and for each class of sizes the first address
+//! worth a look. A bound that is too large hides no gap: a new object changes none, and a search
+//! that looked in vain writes down what it saw. `searching` looks, and `walking` goes from object
+//! to object. Below is `page_words`.
 //!
 //! | size in words | bucket |
 //! |---|---|

@@ -1,13 +1,13 @@
 // Where objects start, and what their headers tell.
 
-ghost use Rattle.std.specs.Prelude.{◌≡◌, ◌+◌, ◌*◌, ◌^◌, ◌<◌};
+ghost use Rattle.std.specs.Prelude.{◌≡◌, ◌+◌, ◌*◌, ◌/◌, ◌^◌, ◌<◌};
 ghost use Rattle.std.specs.Prelude.{◌≤◌, ◌↔◌, IsTrue, IfSome, IfNone, Contains, All};
 ghost use Rattle.gc_graph.specs.Placement.{IsLowest, IsNowhere};
 ghost use Rattle.page_words.specs.Bodies.{Body, IsPlace};
 ghost use Rattle.page_words.specs.Seat.{block_words};
 ghost use Rattle.page_space.specs.Pages.{word_count};
 ghost use Rattle.page_space.specs.Space.{IsSeatOf, IsPlaceFrom, HasNoStart, header_in};
-ghost use Rattle.page_space.specs.Space.{IsLastStart};
+ghost use Rattle.page_space.specs.Space.{IsLastStart, AreStartsOf};
 ghost use Rattle.page_space.specs.Walks.{block_end};
 
 use crate::space::Space;
@@ -108,6 +108,16 @@ impl Space {
     {
         let bits = self.words.load(seat, self.words.count() + a / BLOCK_WORDS);
         bits >> (a % BLOCK_WORDS) & 1 == 1
+    }
+
+    /// The start bits of a block: bit `i` is that of its word `i`.
+    pub fn starts_in(&self, seat: &mut MutatorSeat, block: u32) -> u64
+        requires heap { IsSeatOf self.now seat.old }
+        requires block { block < word_count self.now.shape / block_words }
+        ensures starts { AreStartsOf seat.old.bodies block result }
+        ensures view { seat.new ≡ seat.old }
+    {
+        self.words.load(seat, self.words.count() + block)
     }
 
     /// The header of the object that starts at an address.

@@ -83,6 +83,14 @@ impl Ground {
         place
     }
 
+    /// The start bits of the first block.
+    fn first_starts(&mut self) -> u64
+        ensures { self.new ≡ self.old }
+    {
+        self.space.shape_is_valid();
+        self.space.starts_in(&mut self.seat, 0)
+    }
+
     /// The bucket of a page, if it holds an object.
     fn bucket(&mut self, page: u32) -> Option<u32>
         ensures { self.new ≡ self.old }
@@ -160,6 +168,7 @@ fn a_hole_is_used_again(rt: HostRuntime) -> Result<(), Fail> {
     assert_eq!(rt; ground.free_from(1), Some(3));
     assert_eq!(rt; ground.space.used(), 6);
     assert_eq!(rt; ground.put(3), Some(8), "the hole is too small");
+    assert_eq!(rt; ground.first_starts(), 289, "bits 0, 5 and 8");
     assert_eq!(rt; ground.put(2), Some(3));
     assert_eq!(rt; ground.bucket(0), Some(0));
     assert_eq!(rt; ground.put(4), None, "no page is empty");

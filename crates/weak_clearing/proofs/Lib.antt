@@ -4,6 +4,7 @@ pub mod Words
 pub mod Lessened
 pub mod Holder
 pub mod ObjectWalk
+pub mod BlockWalk
 pub mod InTurn
 pub mod Grounds
 pub mod MarkWords

@@ -1,18 +1,15 @@
 -- From object to object: which bodies were cleared.
-use Rattle.std.proofs.Common.{◌≡◌, ℕ, ◌+◌, ◌<◌, ◌≤◌, false, cond, List, map, refl, sym, ap, ◌∙◌, inl, inr, arith, eqb, ltb}
+use Rattle.std.proofs.Common.{◌≡◌, ℕ, Bool, true, false, ◌||◌, cond, List, map, refl, sym, ap, ◌∙◌, inl, inr, eqb}
 use Rattle.std.specs.List.{Contains}
-use Rattle.std.proofs.lemmas.Bool.{cases_eq, cases_lt, cond-true, cond-false, cond_both, eq-eqb, ne_eqb, lt-ltb, le-ltb, eqb-true}
-use Rattle.std.proofs.lemmas.List.Elements.{All-contains}
-use Rattle.gc_graph.specs.Placement.{IsLowest, IsNowhere}
+use Rattle.std.proofs.lemmas.Bool.{cases_Bool, cond-true, cond-false, cond_both, eqb-true}
 use Rattle.gc_graph.specs.declared.kind.Kind.{Kind}
 use Rattle.gc_graph.specs.State.{ObjectType}
-use Rattle.page_words.specs.Bodies.{Body, IsPlace, IsWhole}
-use Rattle.page_words.specs.Seat.{SeatView, IsView, holds}
-use Rattle.page_space.specs.Space.{IsPlaceFrom}
+use Rattle.page_words.specs.Bodies.{Body, IsPlace}
+use Rattle.page_words.specs.Seat.{SeatView, holds}
 use Rattle.weak_clearing.specs.declared.weak_handles.WeakHandles.{WeakHandles}
 use Rattle.weak_clearing.specs.Clearing.{MarkedHaveReferencesOf}
 use Rattle.weak_clearing.specs.Steps.{clear_handles, body_cleared, all_cleared}
-use Rattle.weak_clearing.proofs.Lists.{map_same, map_after, map_stays, contains_map, comes_from}
+use Rattle.weak_clearing.proofs.Lists.{map_same, map_after, map_stays, contains_map}
 use Rattle.weak_clearing.proofs.Lessened.{IsLessened, same_body, body_lessened, references_stay}
 
 -- an unmarked body stays
@@ -23,86 +20,74 @@ unmarked_stays handles v a unmarked =
     (λ b there. cond_both (eqb b.place a) (clear_handles handles v.types v.marked b) b (λ c. c ≡ b)
     (λ here. cond-false (holds v.marked b.place) _ b (ap (holds v.marked) (eqb-true b.place a here) ∙ unmarked)) (λ _. refl))))
 
--- a body below the address was cleared
-abbrev pub clear_below : WeakHandles → List ObjectType → List ℕ → ℕ → Body → Body
-clear_below handles types marked from b = cond (ltb b.place from) (clear_handles handles types marked b) b
+-- a body was cleared where its address passes
+abbrev pub clear_where : WeakHandles → List ObjectType → List ℕ → (ℕ → Bool) → Body → Body
+clear_where handles types marked passes b = cond (passes b.place) (clear_handles handles types marked b) b
 
 -- the same, in a view
-abbrev pub cleared_below : WeakHandles → SeatView → ℕ → SeatView
-cleared_below handles v from = record v { bodies = map (clear_below handles v.types v.marked from) v.bodies }
+abbrev pub cleared_where : WeakHandles → SeatView → (ℕ → Bool) → SeatView
+cleared_where handles v passes = record v { bodies = map (clear_where handles v.types v.marked passes) v.bodies }
 
-below_lessened : (handles : WeakHandles) (types : List ObjectType) (marked : List ℕ) (from : ℕ) (b : Body) → IsLessened b (clear_below handles types marked from b)
-below_lessened handles types marked from b =
-    cond_both (ltb b.place from) (clear_handles handles types marked b) b (IsLessened b) (λ _. body_lessened handles types marked b) (λ _. same_body b)
+where_lessened : (handles : WeakHandles) (types : List ObjectType) (marked : List ℕ) (passes : ℕ → Bool) (b : Body)
+    → IsLessened b (clear_where handles types marked passes b)
+where_lessened handles types marked passes b =
+    cond_both (passes b.place) (clear_handles handles types marked b) b (IsLessened b) (λ _. body_lessened handles types marked b) (λ _. same_body b)
 
-pub below_references : (handles : WeakHandles) (kind : Kind) (v : SeatView) (from : ℕ) → MarkedHaveReferencesOf kind v
-    → MarkedHaveReferencesOf kind (cleared_below handles v from)
-below_references handles kind v from have = references_stay (clear_below handles v.types v.marked from) (below_lessened handles v.types v.marked from) kind v have
+pub where_references : (handles : WeakHandles) (kind : Kind) (v : SeatView) (passes : ℕ → Bool) → MarkedHaveReferencesOf kind v
+    → MarkedHaveReferencesOf kind (cleared_where handles v passes)
+where_references handles kind v passes have =
+    references_stay (clear_where handles v.types v.marked passes) (where_lessened handles v.types v.marked passes) kind v have
 
-pub below_place : (handles : WeakHandles) (v : SeatView) (from a : ℕ) (b : Body) → Contains v.bodies b → b.place ≡ a → IsPlace (cleared_below handles v from).bodies a
-below_place handles v from a b there at =
-    let f : Body → Body = clear_below handles v.types v.marked from in
-    (f b, contains_map f v.bodies b there, (below_lessened handles v.types v.marked from b).place ∙ at)
+pub where_place : (handles : WeakHandles) (v : SeatView) (passes : ℕ → Bool) (a : ℕ) → IsPlace v.bodies a → IsPlace (cleared_where handles v passes).bodies a
+where_place handles v passes a place =
+    let f : Body → Body = clear_where handles v.types v.marked passes in
+    (f place.0, contains_map f v.bodies place.0 place.1, (where_lessened handles v.types v.marked passes place.0).place ∙ place.2)
 
-pub place_inside : (handles : WeakHandles) (v : SeatView) (from a : ℕ) → IsView v → IsPlace (cleared_below handles v from).bodies a → a < v.count
-place_inside handles v from a view (c, there, at) =
-    let f : Body → Body = clear_below handles v.types v.marked from in
-    let b = comes_from f v.bodies c there in
-    let whole : IsWhole v.count b.0 = All-contains (IsWhole v.count) v.bodies b.0 view.whole b.1 in
-    let place : c.place ≡ b.0.place = ap (λ (x : Body). x.place) (sym b.2) ∙ (below_lessened handles v.types v.marked from b.0).place in
-    omega (arith, whole.inside, whole.fields, place, at)
-
-pub walk_begins : (handles : WeakHandles) (v : SeatView) → v ≡ cleared_below handles v 0
-walk_begins handles v =
+-- where no body's address passes, nothing changes
+pub where_none : (handles : WeakHandles) (v : SeatView) (passes : ℕ → Bool) → ((b : Body) → Contains v.bodies b → passes b.place ≡ false)
+    → v ≡ cleared_where handles v passes
+where_none handles v passes none =
     ap (λ (bs : List Body). (let x : SeatView = record v { bodies = bs } in x))
-    (sym (map_stays (clear_below handles v.types v.marked 0) v.bodies
-    (λ b there. cond-false (ltb b.place 0) (clear_handles handles v.types v.marked b) b (le-ltb b.place 0 (omega arith)))))
+    (sym (map_stays (clear_where handles v.types v.marked passes) v.bodies
+    (λ b there. cond-false (passes b.place) (clear_handles handles v.types v.marked b) b (none b there))))
 
-next : (handles : WeakHandles) (v : SeatView) (from a : ℕ) (b : Body) → IsLowest (IsPlaceFrom (cleared_below handles v from).bodies from) a → Contains v.bodies b
-    → cond (eqb (clear_below handles v.types v.marked from b).place a) (clear_handles handles v.types v.marked (clear_below handles v.types v.marked from b)) (clear_below handles v.types v.marked from b)
-    ≡ clear_below handles v.types v.marked (a + 1) b
-next handles v from a b lowest there = elim (cases_lt b.place from) [
-  | inl low ↦
-      (let now : clear_below handles v.types v.marked from b ≡ cleared b = cond-true (ltb b.place from) (cleared b) b (lt-ltb b.place from low) in
-      let place : (cleared b).place ≡ b.place = (body_lessened handles v.types v.marked b).place in
-      ap at_a now
-      ∙ cond-false (eqb (cleared b).place a) (cleared (cleared b)) (cleared b) (ne_eqb (cleared b).place a (λ e. omega (arith, e, place, low, lowest.0.0)))
-      ∙ sym (cond-true (ltb b.place (a + 1)) (cleared b) b (lt-ltb b.place (a + 1) (omega (arith, low, lowest.0.0)))))
-  | inr high ↦
-      (let now : clear_below handles v.types v.marked from b ≡ b = cond-false (ltb b.place from) (cleared b) b (le-ltb b.place from high) in
-      elim (cases_eq b.place a) [
-        | inl here ↦ ap at_a now ∙ cond-true (eqb b.place a) (cleared b) b (eq-eqb b.place a here)
-            ∙ sym (cond-true (ltb b.place (a + 1)) (cleared b) b (lt-ltb b.place (a + 1) (omega (arith, here))))
-        | inr other ↦
-            (let least : a ≤ b.place = is_lowest high in
-            ap at_a now ∙ cond-false (eqb b.place a) (cleared b) b (ne_eqb b.place a other)
-            ∙ sym (cond-false (ltb b.place (a + 1)) (cleared b) b (le-ltb b.place (a + 1) (omega (arith, least, other)))))
-      ])
+-- where each does, each is cleared
+pub where_all : (handles : WeakHandles) (v : SeatView) (passes : ℕ → Bool) → ((b : Body) → Contains v.bodies b → passes b.place ≡ true)
+    → cleared_where handles v passes ≡ all_cleared handles v
+where_all handles v passes all =
+    ap (λ (bs : List Body). (let x : SeatView = record v { bodies = bs } in x))
+    (map_same (clear_where handles v.types v.marked passes) (clear_handles handles v.types v.marked) v.bodies
+    (λ b there. cond-true (passes b.place) (clear_handles handles v.types v.marked b) b (all b there)))
+
+pub where_same : (handles : WeakHandles) (v : SeatView) (passes also : ℕ → Bool) → ((a : ℕ) → passes a ≡ also a)
+    → cleared_where handles v passes ≡ cleared_where handles v also
+where_same handles v passes also same =
+    ap (λ (bs : List Body). (let x : SeatView = record v { bodies = bs } in x))
+    (map_same (clear_where handles v.types v.marked passes) (clear_where handles v.types v.marked also) v.bodies
+    (λ b there. ap (λ t. cond t (clear_handles handles v.types v.marked b) b) (same b.place)))
+
+one_after : (handles : WeakHandles) (types : List ObjectType) (marked : List ℕ) (first next both : ℕ → Bool)
+    → ((a : ℕ) → first a ≡ true → next a ≡ false) → ((a : ℕ) → both a ≡ (first a || next a)) → (b : Body)
+    → clear_where handles types marked next (clear_where handles types marked first b) ≡ clear_where handles types marked both b
+one_after handles types marked first next both apart either b = elim (cases_Bool (first b.place)) [
+  | inl is ↦
+      (let now : clear_where handles types marked first b ≡ cleared = cond-true (first b.place) cleared b is in
+      let place : cleared.place ≡ b.place = (body_lessened handles types marked b).place in
+      ap (clear_where handles types marked next) now
+      ∙ cond-false (next cleared.place) (clear_handles handles types marked cleared) cleared (ap next place ∙ apart b.place is)
+      ∙ sym (cond-true (both b.place) cleared b (either b.place ∙ ap (λ t. t || next b.place) is)))
+  | inr isnt ↦
+      (let now : clear_where handles types marked first b ≡ b = cond-false (first b.place) cleared b isnt in
+      ap (clear_where handles types marked next) now
+      ∙ ap (λ t. cond t cleared b) (sym (either b.place ∙ ap (λ t. t || next b.place) isnt)))
 ] where
-  cleared : Body → Body
-  cleared = clear_handles handles v.types v.marked
+  cleared : Body
+  cleared = clear_handles handles types marked b
 
-  at_a : Body → Body
-  at_a x = cond (eqb x.place a) (cleared x) x
-
-  is_lowest : from ≤ b.place → a ≤ b.place
-  is_lowest high = elim (cases_lt b.place a) [
-    | inl below ↦ absurd (lowest.1 b.place below (high, below_place handles v from b.place b there refl))
-    | inr least ↦ least
-  ]
-
--- the lowest body that is not below the address is cleared next
-pub walk_on : (handles : WeakHandles) (v : SeatView) (from a : ℕ) → IsLowest (IsPlaceFrom (cleared_below handles v from).bodies from) a
-    → body_cleared handles (cleared_below handles v from) a ≡ cleared_below handles v (a + 1)
-walk_on handles v from a lowest =
+-- the bodies at some addresses are cleared, and then those at others
+pub where_after : (handles : WeakHandles) (v : SeatView) (first next both : ℕ → Bool) → ((a : ℕ) → first a ≡ true → next a ≡ false)
+    → ((a : ℕ) → both a ≡ (first a || next a)) → cleared_where handles (cleared_where handles v first) next ≡ cleared_where handles v both
+where_after handles v first next both apart either =
     ap (λ (bs : List Body). (let x : SeatView = record v { bodies = bs } in x))
-    (map_after (λ b. cond (eqb b.place a) (clear_handles handles v.types v.marked b) b) (clear_below handles v.types v.marked from) v.bodies
-    ∙ map_same _ (clear_below handles v.types v.marked (a + 1)) v.bodies (λ b there. next handles v from a b lowest there))
-
-pub walk_ends : (handles : WeakHandles) (v : SeatView) (from : ℕ) → IsNowhere (IsPlaceFrom (cleared_below handles v from).bodies from) → cleared_below handles v from ≡ all_cleared handles v
-walk_ends handles v from none =
-    ap (λ (bs : List Body). (let x : SeatView = record v { bodies = bs } in x))
-    (map_same (clear_below handles v.types v.marked from) (clear_handles handles v.types v.marked) v.bodies (λ b there. elim (cases_lt b.place from) [
-      | inl low ↦ cond-true (ltb b.place from) (clear_handles handles v.types v.marked b) b (lt-ltb b.place from low)
-      | inr high ↦ absurd (none b.place (high, below_place handles v from b.place b there refl))
-    ]))
+    (map_after (clear_where handles v.types v.marked next) (clear_where handles v.types v.marked first) v.bodies
+    ∙ map_same _ (clear_where handles v.types v.marked both) v.bodies (λ b there. one_after handles v.types v.marked first next both apart either b))

@@ -1,5 +1,5 @@
 -- The steps of clearing: one body, and one handle of it.
-use Rattle.std.specs.Prelude.{◌≡◌, ℕ, ◌+◌, ◌-◌, ◌≤◌, ◌==◌, true, List, map, slice_index, slice_set, if◌then◌else◌, Contains}
+use Rattle.std.specs.Prelude.{◌≡◌, ℕ, ◌+◌, ◌-◌, ◌/◌, ◌≤◌, ◌==◌, true, List, map, slice_index, slice_set, if◌then◌else◌, Contains}
 use Rattle.gc_graph.specs.declared.kind.Kind.{Kind}
 use Rattle.gc_graph.specs.declared.kind.Kind.TheVariants.{Weak, Pair}
 use Rattle.gc_graph.specs.State.{ObjectType}
@@ -8,7 +8,7 @@ use Rattle.object_headers.specs.Offsets.{first_field}
 use Rattle.type_table.specs.Types.{kinds_of, offsets_of_kind}
 use Rattle.type_table.specs.Layouts.{kinds_of_words}
 use Rattle.page_words.specs.Bodies.{Body, IsReference, kind_in}
-use Rattle.page_words.specs.Seat.{SeatView, holds}
+use Rattle.page_words.specs.Seat.{SeatView, holds, block_words}
 use Rattle.weak_clearing.specs.declared.weak_handles.WeakHandles.{WeakHandles}
 use Rattle.weak_clearing.specs.declared.weak_handles.WeakHandles.TheVariants.{Fields, Pairs}
 use Rattle.weak_clearing.specs.Clearing.{names_unmarked, clear_words, clear_pair_words}
@@ -66,6 +66,13 @@ clear_handles handles types marked b =
 abbrev pub body_cleared : WeakHandles → SeatView → ℕ → SeatView
 body_cleared handles v a =
     record v { bodies = map (λ b. if b.place == a then clear_handles handles v.types v.marked b else b) v.bodies }
+
+-- the handles of the bodies that start in the block were cleared
+abbrev pub block_cleared : WeakHandles → SeatView → ℕ → SeatView
+block_cleared handles v block =
+    record v {
+      bodies = map (λ b. if b.place / block_words == block then clear_handles handles v.types v.marked b else b) v.bodies;
+    }
 
 -- the handles of each body were cleared
 abbrev pub all_cleared : WeakHandles → SeatView → SeatView

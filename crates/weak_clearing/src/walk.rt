@@ -1,18 +1,21 @@
 // From object to object, and from handle to handle of each.
 
-ghost use Rattle.std.specs.Prelude.{◌≡◌};
+ghost use Rattle.std.specs.Prelude.{◌≡◌, ◌/◌, ◌<◌};
 ghost use Rattle.page_words.specs.Bodies.{IsPlace};
-ghost use Rattle.page_space.specs.Space.{IsSeatOf};
+ghost use Rattle.page_words.specs.Seat.{block_words};
+ghost use Rattle.page_space.specs.Pages.{word_count};
+ghost use Rattle.page_space.specs.Space.{IsSeatOf, AreStartsOf};
 ghost use Rattle.weak_clearing.specs.Clearing.{MarkedHaveReferencesOf};
 ghost use Rattle.weak_clearing.specs.Steps.{HasHandle, IsMarkedOf, kind_of_handles};
-ghost use Rattle.weak_clearing.specs.Steps.{handle_cleared, body_cleared, all_cleared};
+ghost use Rattle.weak_clearing.specs.Steps.{handle_cleared, body_cleared, block_cleared};
+ghost use Rattle.weak_clearing.specs.Steps.{all_cleared};
 
 use crate::fields::clear_field;
 use crate::marks::marked_type;
 use crate::pairs::clear_pair;
 use crate::weak_handles::WeakHandles;
 use page_space::Space;
-use page_words::MutatorSeat;
+use page_words::{BLOCK_WORDS, MutatorSeat};
 use type_table::TypeTable;
 
 /// Sets to null exactly those of these handles of marked objects that name an object that is not
@@ -27,11 +30,36 @@ pub fn clear_handles(space: &Space, types: &TypeTable, seat: &mut MutatorSeat, h
         return;
     }
     seat.bodies_lie_apart();
-    let mut from = 0;
-    // From object to object and not from word to word: the time is to grow with the objects.
-    while let Some(a) = space.next_object(seat, from) {
-        clear_object(space, types, seat, handles, a);
-        from = a + 1;
+    // From block to block and not from word to word: the time is to grow with the objects. Clearing
+    // moves none of them, so the start bits of a block are loaded once.
+    for block in 0..space.words().count() / BLOCK_WORDS {
+        let starts = space.starts_in(seat, block);
+        clear_block(space, types, seat, handles, block, starts);
+    }
+}
+
+/// Clears the handles of the marked objects that start in a block, where these are its start bits.
+fn clear_block(
+    space: &Space,
+    types: &TypeTable,
+    seat: &mut MutatorSeat,
+    handles: WeakHandles,
+    block: u32,
+    starts: u64,
+)
+    requires heap { IsSeatOf space.now seat.old }
+    requires types { types.now ≡ seat.old.types }
+    requires references { MarkedHaveReferencesOf (kind_of_handles handles) seat.old }
+    requires block { block < word_count space.now.shape / block_words }
+    requires starts { AreStartsOf seat.old.bodies block starts }
+    ensures { seat.new ≡ block_cleared handles seat.old block }
+{
+    seat.bodies_lie_apart();
+    let mut left = starts;
+    while left != 0 {
+        let start = left.trailing_zeros();
+        clear_object(space, types, seat, handles, BLOCK_WORDS * block + start);
+        left &= !(1u64 << start);
     }
 }
 

@@ -1,55 +1,39 @@
-use Rattle.std.proofs.Common.{rules, ◌≡◌, ℕ, List, [], length, ◌+◌, ◌<◌, ◌^◌, arith, ap, sym, ◌∙◌, subst}
+use Rattle.std.proofs.Common.{◌≡◌, ℕ, ◌+◌, ◌*◌, ◌/◌, ◌<◌, List, [], length, ltb, eqb, arith, ap, sym, ◌∙◌, subst}
+use Rattle.std.proofs.lemmas.Bool.{lt-ltb, le-ltb}
 use Rattle.gc_graph.specs.State.{ObjectType}
-use Rattle.gc_graph.specs.Placement.{IsLowest, IsNowhere}
+use Rattle.page_words.specs.Bodies.{IsWhole}
 use Rattle.page_words.specs.Seat.{SeatView}
-use Rattle.page_space.specs.Space.{IsPlaceFrom}
-use Rattle.weak_clearing.specs.Clearing.{MarkedHaveReferencesOf}
-use Rattle.weak_clearing.specs.Steps.{kind_of_handles, body_cleared}
-use Rattle.weak_clearing.proofs.ObjectWalk.{cleared_below, walk_begins, walk_on, walk_ends, below_references, place_inside}
 use Rattle.type_table.specs.Types.{kinds_of, offsets_of_kind}
+use Rattle.weak_clearing.specs.Clearing.{MarkedHaveReferencesOf}
+use Rattle.weak_clearing.specs.Steps.{kind_of_handles, block_cleared}
+use Rattle.weak_clearing.proofs.BlockWalk.{below_next, below_apart}
+use Rattle.weak_clearing.proofs.MarkWords.{whole_of}
 use Rattle.weak_clearing.proofs.NoHandles.{none_cleared}
+use Rattle.weak_clearing.proofs.ObjectWalk.{where_references, where_none, where_after, where_all}
 use Rattle.weak_clearing.proofs.walk.clear_handles.Goals as goal
 
-pub loop-a-init : goal.loop-a-init
-loop-a-init c = record { cleared = walk_begins c.args.handles c.args.seat.now; inside = omega arith }
+pub loop-block-init : goal.loop-block-init
+loop-block-init c = where_none c.args.handles c.args.seat.now (λ a. ltb a (64 * 0)) (λ b there. le-ltb b.place (64 * 0) (omega arith))
 
-pub clear_object-requires-clause-references : goal.clear_object-requires-clause-references
-clear_object-requires-clause-references c =
-    subst (MarkedHaveReferencesOf (kind_of_handles c.args.handles)) (sym (c.next_object.ensures.view ∙ c.loop-a.invariant.cleared))
-    (below_references c.args.handles (kind_of_handles c.args.handles) c.args.seat.now c.loop-a.from c.requires.references)
+pub clear_block-requires-clause-references : goal.clear_block-requires-clause-references
+clear_block-requires-clause-references c =
+    subst (MarkedHaveReferencesOf (kind_of_handles c.args.handles)) (sym (c.starts_in-starts.ensures.view ∙ c.loop-block.invariant))
+    (where_references c.args.handles (kind_of_handles c.args.handles) c.args.seat.now (λ a. ltb a (64 * c.loop-block.block)) c.requires.references)
 
-pub overflow_add-from : goal.overflow_add-from
-overflow_add-from c =
-    let inside : c.in-Some.a < c.args.seat.now.count =
-    place_inside c.args.handles c.args.seat.now c.loop-a.from c.in-Some.a c.bodies_lie_apart.ensures
-    (subst (λ (v : SeatView). IsPlaceFrom v.bodies c.loop-a.from c.in-Some.a) c.loop-a.invariant.cleared c.in-Some.ensures.found.0).1 in
-    let low : c.in-Some.a + 1 < 2 ^ 32 = omega (arith, inside, c.bodies_lie_apart.ensures.count) in
-    search rules
-
-pub loop-a-smaller : goal.loop-a-smaller
-loop-a-smaller c =
-    let inside : c.in-Some.a < c.args.seat.now.count =
-    place_inside c.args.handles c.args.seat.now c.loop-a.from c.in-Some.a c.bodies_lie_apart.ensures
-    (subst (λ (v : SeatView). IsPlaceFrom v.bodies c.loop-a.from c.in-Some.a) c.loop-a.invariant.cleared c.in-Some.ensures.found.0).1 in
-    omega (arith, inside, c.requires.heap, c.in-Some.ensures.found.0.0)
-
-pub loop-a-preserved : goal.loop-a-preserved
-loop-a-preserved c =
-    let lowest : IsLowest (IsPlaceFrom (cleared_below c.args.handles c.args.seat.now c.loop-a.from).bodies c.loop-a.from) c.in-Some.a =
-    subst (λ (v : SeatView). IsLowest (IsPlaceFrom v.bodies c.loop-a.from) c.in-Some.a) c.loop-a.invariant.cleared c.in-Some.ensures.found in
-    let inside : c.in-Some.a < c.args.seat.now.count = place_inside c.args.handles c.args.seat.now c.loop-a.from c.in-Some.a c.bodies_lie_apart.ensures lowest.0.1 in
-    record {
-      cleared =
-          c.clear_object.ensures ∙ ap (λ (v : SeatView). body_cleared c.args.handles v c.in-Some.a) (c.next_object.ensures.view ∙ c.loop-a.invariant.cleared)
-          ∙ walk_on c.args.handles c.args.seat.now c.loop-a.from c.in-Some.a lowest;
-      inside = omega (arith, inside, c.requires.heap);
-    }
+pub loop-block-preserved : goal.loop-block-preserved
+loop-block-preserved c =
+    let block : ℕ = c.loop-block.block in
+    c.clear_block.ensures
+    ∙ ap (λ (v : SeatView). block_cleared c.args.handles v block) (c.starts_in-starts.ensures.view ∙ c.loop-block.invariant)
+    ∙ where_after c.args.handles c.args.seat.now (λ a. ltb a (64 * block)) (λ a. eqb (a / 64) block) (λ a. ltb a (64 * (block + 1)))
+    (below_apart block) (below_next block)
 
 pub returns : goal.returns
 returns c =
-    c.next_object.ensures.view ∙ c.loop-a.invariant.cleared
-    ∙ walk_ends c.args.handles c.args.seat.now c.loop-a.from
-    (subst (λ (v : SeatView). IsNowhere (IsPlaceFrom v.bodies c.loop-a.from)) c.loop-a.invariant.cleared c.in_default.ensures.none)
+    c.loop-block.invariant
+    ∙ where_all c.args.handles c.args.seat.now (λ a. ltb a (64 * c.loop-block.block)) (λ b there.
+    let whole : IsWhole c.args.seat.now.count b = whole_of c.args.seat.now b c.bodies_lie_apart.ensures there in
+    lt-ltb b.place (64 * c.loop-block.block) (omega (arith, whole.inside, whole.fields, c.requires.heap, c.count-block-end.ensures.valid.bits, c.count-block-end.ensures.count, c.words.ensures)))
 
 pub returns-then-not-are_in : goal.returns-then-not-are_in
 returns-then-not-are_in c =
