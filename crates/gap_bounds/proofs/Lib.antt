@@ -1,0 +1,4 @@
+mod Spans
+mod Known
+mod Opened
+mod Begun
