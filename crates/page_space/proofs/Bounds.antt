@@ -8,7 +8,7 @@ use Rattle.std.proofs.Math.Nat.{mul-le-mul_right}
 use Rattle.gc_graph.specs.State.{Shape}
 use Rattle.gc_graph.specs.Placement.{Extent, HasWord}
 use Rattle.page_space.specs.Pages.{PageTable, is_in_page, word_count, free_words}
-use Rattle.page_space.specs.Gaps.{GapTable, KnowsGaps}
+use Rattle.gap_bounds.specs.Gaps.{GapTable, KnowsGaps}
 use Rattle.page_space.specs.Space.{SpaceView, IsSpaceOver}
 use Rattle.page_space.proofs.PageSpan.{in_page_word}
 use Rattle.page_space.proofs.PlaceBodies.{contains_first, contains_later}

@@ -8,7 +8,7 @@ use Rattle.std.proofs.lemmas.List.Sums.{sum_by_push}
 use Rattle.gc_graph.specs.State.{Shape}
 use Rattle.gc_graph.specs.Placement.{Extent, HasWord, IsTaken, bucket_of}
 use Rattle.page_space.specs.Pages.{PageTable, first_page, is_in_page, free_words}
-use Rattle.page_space.specs.Gaps.{GapTable, KnowsGaps}
+use Rattle.gap_bounds.specs.Gaps.{GapTable, KnowsGaps}
 use Rattle.page_space.specs.Space.{SpaceView, IsSpaceOver, IsPlacedWell}
 use Rattle.page_space.proofs.FreeWords.{TakesMore, free_differs}
 use Rattle.page_space.proofs.Extents.{any_from_taken, any_none, any_same, differ_push}

@@ -3,9 +3,8 @@ use Rattle.std.proofs.Common.{◌≡◌, ℕ, ◌+◌, ◌-◌, ◌<◌, ◌≤�
 use Rattle.std.specs.List.{Contains, filter, sum_by, count_by}
 use Rattle.gc_graph.specs.Placement.{Extent, HasWord, IsTaken}
 use Rattle.page_space.specs.Pages.{PageTable, is_in_page, free_words}
-use Rattle.page_space.specs.Gaps.{GapTable}
+use Rattle.gap_bounds.specs.Gaps.{GapTable, KnowsGaps}
 use Rattle.page_space.specs.Space.{SpaceView, IsSpaceOver}
-use Rattle.page_space.proofs.KnownGaps.{Forgets, knows_left}
 use Rattle.page_space.proofs.FreeWords.{TakesMore, free_differs}
 use Rattle.page_space.proofs.Extents.{any_from_taken, any_none, any_same, others, contains_filter, from_filter, differ_filter, one_less, length_less}
 
@@ -42,9 +41,9 @@ takes_less es e apart there some one = record {
       (λ taken. stays es e x (λ c. let last : x < e.place + e.size = c.1 in omega arith) one taken) (was es e x);
 }
 
-pub left : (space : SpaceView) (count : ℕ) (es : List Extent) (e : Extent) (table : PageTable) (gaps : GapTable) → 0 < space.shape.page_words → IsSpaceOver space count es → LieApart es → Contains es e → e.place + e.size ≤ count → Leaves space.shape.page_words e space.table table → Forgets space.shape.page_words e space.gaps gaps
+pub left : (space : SpaceView) (count : ℕ) (es : List Extent) (e : Extent) (table : PageTable) (gaps : GapTable) → 0 < space.shape.page_words → IsSpaceOver space count es → LieApart es → Contains es e → e.place + e.size ≤ count → Leaves space.shape.page_words e space.table table → KnowsGaps space.shape (filter (others e.place) es) gaps
     → IsSpaceOver (record { shape = space.shape; objects = space.objects - 1; used = space.used - e.size; table = table; gaps = gaps }) count (filter (others e.place) es)
-left space count es e table gaps some over apart there inside leaves forgets =
+left space count es e table gaps some over apart there inside leaves knows =
     let w : ℕ = space.shape.page_words in
     let fewer : List Extent = filter (others e.place) es in
     let from = λ (d : Extent) (h : Contains (filter (others e.place) es) d). (from_filter es e.place d h).0 in
@@ -74,5 +73,5 @@ left space count es e table gaps some over apart there inside leaves forgets =
           omega (arith, leaves.objects page, over.held page within);
       buckets = λ page d d_there d_in. ap (λ bs. get_or bs page 0) leaves.buckets ∙ over.buckets page d (from d d_there) d_in;
       starts = λ page d d_there d_in. ap (λ ps. get_or ps page 0) leaves.starts ∙ over.starts page d (from d d_there) d_in;
-      gaps = knows_left space.shape es e space.gaps gaps some over.gaps one forgets;
+      gaps = knows;
     }

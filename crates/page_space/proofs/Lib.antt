@@ -18,3 +18,4 @@ mod Left
 mod UsedPages
 mod SeatExtents
 mod Bounds
+mod OpenedGaps

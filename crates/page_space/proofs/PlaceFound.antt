@@ -8,7 +8,7 @@ use Rattle.gc_graph.specs.Placement.{Extent, PageHasBucket, IsLowest, IsNowhere,
 use Rattle.page_words.specs.Bodies.{Body, end_of}
 use Rattle.page_space.specs.Pages.{is_in_page}
 use Rattle.page_space.specs.Space.{SpaceView, IsSpaceOver, FitsIn, FitsBetween, HoldsWhole, extent_of, extents_of_bodies}
-use Rattle.page_space.specs.Gaps.{IsGap, IsClassOf, least_of}
+use Rattle.gap_bounds.specs.Gaps.{IsGap, IsClassOf, least_of}
 use Rattle.page_space.proofs.PageSpan.{page_before, same_page, in_page_from}
 use Rattle.page_space.proofs.PlaceBodies.{contains_map}
 

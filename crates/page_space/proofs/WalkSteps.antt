@@ -7,7 +7,7 @@ use Rattle.gc_graph.specs.Placement.{IsTaken}
 use Rattle.page_words.specs.Bodies.{Body, end_of, IsPlace, IsInBody}
 use Rattle.page_words.specs.Seat.{SeatView, IsView}
 use Rattle.page_space.specs.Space.{HasNoStart, HoldsWhole, extents_of_bodies}
-use Rattle.page_space.specs.Gaps.{IsGap}
+use Rattle.gap_bounds.specs.Gaps.{IsGap}
 use Rattle.page_space.specs.Walks.{IsEdge}
 use Rattle.page_space.proofs.PlaceBodies.{body_size, body_of_taken, taken_by_body}
 

@@ -1,8 +1,7 @@
-pub mod Gaps
-pub mod GapFields
 pub mod Walks
 pub mod Pages
 pub mod TableFields
 pub mod Space
 pub mod SpaceFields
 pub mod Occupying
+pub mod Opening

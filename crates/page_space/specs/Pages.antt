@@ -3,10 +3,7 @@ use Rattle.std.specs.Prelude.{ℕ, zero, suc, ◌+◌, ◌-◌, ◌/◌, ◌&&�
 use Rattle.std.specs.List.{list_any}
 use Rattle.gc_graph.specs.Placement.{Extent}
 pub use Rattle.gc_graph.specs.Valid.{word_count}
-
--- n is one of the numbers from first up to, and without, end
-abbrev pub is_between : ℕ → ℕ → ℕ → Bool
-is_between first end n = nat_le first n && nat_lt n end
+pub use Rattle.gap_bounds.specs.Gaps.{is_between}
 
 -- the page of an object's first word
 abbrev pub first_page : ℕ → Extent → ℕ

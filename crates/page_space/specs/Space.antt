@@ -7,7 +7,7 @@ use Rattle.object_headers.specs.declared.header.Header.{Header}
 use Rattle.page_words.specs.Bodies.{Body, end_of, IsPlace}
 use Rattle.page_words.specs.Seat.{SeatView, holds, block_words}
 use Rattle.page_space.specs.Pages.{PageTable, word_count, first_page, is_in_page, free_words}
-use Rattle.page_space.specs.Gaps.{GapTable, KnowsGaps}
+use Rattle.gap_bounds.specs.Gaps.{GapTable, KnowsGaps}
 
 -- what a space keeps beside the words: its shape, how many objects it has and how many words these, its table, and what
 -- it remembers of its gaps

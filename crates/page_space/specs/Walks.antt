@@ -4,7 +4,7 @@ use Rattle.gc_graph.specs.State.{Shape}
 use Rattle.gc_graph.specs.Placement.{Extent}
 use Rattle.page_words.specs.Bodies.{Body, end_of}
 use Rattle.page_words.specs.Seat.{block_words}
-use Rattle.page_space.specs.Gaps.{IsGap}
+use Rattle.gap_bounds.specs.Gaps.{IsGap}
 
 -- where the block of an address ends
 abbrev pub block_end : ℕ → ℕ

@@ -1,16 +1,13 @@
 // A new object in free words, and a dead one that goes.
 
 ghost use Rattle.std.specs.Prelude.{◌≡◌, ℕ, ◌+◌, ◌-◌, ◌^◌, ◌<◌, ◌≤◌, false, true};
-ghost use Rattle.std.specs.Prelude.{length, slice_index};
 ghost use Rattle.object_headers.specs.Offsets.{first_field};
 ghost use Rattle.page_words.specs.Bodies.{Body};
 ghost use Rattle.page_words.specs.Seat.{holds, retracted};
 ghost use Rattle.page_space.specs.Space.{IsSeatOf, IsSpaceOf, IsFreePlace, extents_of_bodies};
 ghost use Rattle.page_space.specs.Occupying.{IsRoom, HasNulls, Occupies, new_body};
 
-use crate::gaps::Gaps;
 use crate::space::{Space, bucket_of};
-use crate::table::Table;
 use object_headers::{FIRST_FIELD, Header, SERIAL};
 use page_words::MutatorSeat;
 
@@ -34,7 +31,8 @@ impl Space {
         let page = a / self.page_words;
         let after = (a + size - 1) / self.page_words + 1;
         let bucket = bucket_of(self.page_words, size);
-        lower_where_empty(&mut self.gaps, &self.table, page, page * self.page_words);
+        let was_empty = self.table.objects_in(page) == 0;
+        self.gaps.fill(page * self.page_words, was_empty);
         self.table.enter(page, after, bucket);
     }
 
@@ -50,13 +48,12 @@ impl Space {
         seat.bodies_lie_apart();
         self.shape_is_valid();
         let size = self.header_at(seat, a).size;
+        self.open_gap(seat, a, size);
         self.words.retract(seat, a);
         self.objects -= 1;
         self.used -= size;
         let after = (a + size - 1) / self.page_words + 1;
         self.table.leave(a / self.page_words, after);
-        self.gaps
-            .forget(a / self.page_words, after, self.page_words);
     }
 
     /// Writes an object whose fields are null into free words, and publishes it.
@@ -93,22 +90,5 @@ impl Space {
             .fill(seat, a, Header::pack(true, false, false, ty, size));
         self.words.fill(seat, a + SERIAL, u64::from(serial));
         self.words.publish(seat, a);
-    }
-}
-
-/// A page that begins at an address is worth a look for each size where it holds no object. What is
-/// known of gaps holds still where an object comes: no gap becomes longer.
-fn lower_where_empty(gaps: &mut Gaps, table: &Table, page: u32, start: u32)
-    requires { page < length table.now.objects }
-    ensures bounds { gaps.new.bounds ≡ gaps.old.bounds }
-    ensures most { gaps.new.most ≡ gaps.old.most }
-    ensures known { gaps.new.known ≡ gaps.old.known }
-    ensures lower { (class : ℕ) → slice_index gaps.new.first class
-        ≤ slice_index gaps.old.first class }
-    ensures empty { slice_index table.now.objects page ≡ 0 → (class : ℕ)
-        → slice_index gaps.new.first class ≤ start }
-{
-    if table.objects_in(page) == 0 {
-        gaps.lower(start);
     }
 }

@@ -4,6 +4,7 @@
 ghost use Rattle.std.specs.Prelude.{◌≡◌, ℕ, ◌+◌, ◌*◌, ◌<◌, ◌≤◌, Some, IfSome, IfNone};
 ghost use Rattle.gc_graph.specs.Placement.{IsNowhere};
 ghost use Rattle.page_words.specs.Bodies.{IsPlace};
+ghost use Rattle.page_words.specs.Seat.{block_words};
 ghost use Rattle.page_space.specs.Pages.{word_count};
 ghost use Rattle.page_space.specs.Space.{IsSeatOf, IsSpaceOf, HoldsAddress};
 ghost use Rattle.page_space.specs.Space.{HasNoStart, IsLastStart};
@@ -49,27 +50,26 @@ impl Space {
         if self.table.bucket_of_page(page) == LARGE {
             return Some(self.table.start_of_page(page) * self.page_words);
         }
-        self.last_start_by(seat, page, a)
+        self.last_start_by(seat, page * self.blocks(), a)
     }
 
-    /// The highest place from the first word of a page up to, and with, an address of the page.
-    pub(crate) fn last_start_by(&self, seat: &mut MutatorSeat, page: u32, a: u32) -> Option<u32>
+    /// The highest place from the first word of a block up to, and with, an address.
+    pub(crate) fn last_start_by(&self, seat: &mut MutatorSeat, first: u32, a: u32) -> Option<u32>
         requires heap { IsSeatOf self.now seat.old }
-        requires first { page * self.now.shape.page_words ≤ a }
+        requires first { block_words * first ≤ a }
         requires address { a < word_count self.now.shape }
         ensures found { IfSome result
-            (IsLastStart seat.old.bodies (page * self.now.shape.page_words) (a + 1)) }
+            (IsLastStart seat.old.bodies (block_words * first) (a + 1)) }
         ensures none { IfNone result
-            (HasNoStart seat.old.bodies (page * self.now.shape.page_words) (a + 1)) }
+            (HasNoStart seat.old.bodies (block_words * first) (a + 1)) }
         ensures view { seat.new ≡ seat.old }
     {
-        self.shape_is_valid();
         let block = a / BLOCK_WORDS;
         let up_to_a = u64::MAX >> (BLOCK_WORDS - 1 - a % BLOCK_WORDS);
         let bits = self.words.load(seat, self.words.count() + block) & up_to_a;
         if bits != 0 {
             return Some(BLOCK_WORDS * block + bits.ilog2());
         }
-        self.last_start(seat, page * self.blocks(), block)
+        self.last_start(seat, first, block)
     }
 }

@@ -7,12 +7,10 @@
 //! `free` (an object that comes or goes), `next_object` and `start_from` (where the next object
 //! starts), `starts_in` (the start bits of a block), `start_of` (whose word an address is),
 //! `page_bucket` and the readers of one object, and the counts `objects`, `used`, `pages_in_use`.
-//! Inside, a table tells of each page how many objects have a word in it, their bucket and where
-//! they start, and `gaps` where a search is worth its time: bounds for the gaps that begin in each
-//! block of 64 words and for those of each page, and for each class of sizes the first address
-//! worth a look. A bound that is too large hides no gap: a new object changes none, and a search
-//! that looked in vain writes down what it saw. `searching` looks, and `walking` goes from object
-//! to object. Below is `page_words`.
+//! Inside, a table tells of each page how many objects have a word in it, their bucket and where they
+//! start. `searching` looks for a gap where `gap_bounds` says that one may be, and tells it what it
+//! saw; `opening` tells it of the gap that an object leaves, and `walking` goes from object to object.
+//! Below are `gap_bounds` and `page_words`.
 //!
 //! | size in words | bucket |
 //! |---|---|
@@ -33,9 +31,8 @@
 #![tactic(auto)]
 
 mod changing;
-mod classes;
-mod gaps;
 mod holding;
+mod opening;
 mod placing;
 mod reading;
 mod searching;

@@ -6,10 +6,10 @@ ghost use Rattle.gc_graph.specs.Placement.{StartsEmptyRun, IsPageCount, PageHasB
 ghost use Rattle.gc_graph.specs.Placement.{UsesPage, IsLowest, IsNowhere};
 ghost use Rattle.page_space.specs.Space.{IsSpaceOf, FitsBetween, FitsIn, SinceEmpty};
 ghost use Rattle.page_space.specs.Space.{IsFreePlace, extents_of_bodies};
-ghost use Rattle.page_space.specs.Gaps.{IsGap, IsClassOf, HasClass, class_count, least_of, is_known};
+ghost use Rattle.gap_bounds.specs.Gaps.{IsGap, IsClassOf, HasClass, class_count, least_of, is_known};
 
-use crate::classes::{Class, class_of};
 use crate::space::{Space, bucket_of};
+use gap_bounds::{Class, class_of};
 use page_words::MutatorSeat;
 
 impl Space {
@@ -171,7 +171,7 @@ impl Space {
     {
         self.shape_is_valid();
         if self.gaps.first_for(class) >= page * self.page_words {
-            self.gaps.set_first(class, worth);
+            self.gaps.begin_at(class, worth);
         }
     }
 

@@ -4,7 +4,7 @@
 ghost use Rattle.std.specs.Prelude.{◌≡◌, ℕ, ◌+◌, ◌*◌, ◌/◌, ◌<◌, ◌≤◌, true, IfSome, IfNone};
 ghost use Rattle.gc_graph.specs.Placement.{IsLowest, IsNowhere};
 ghost use Rattle.page_space.specs.Space.{IsSpaceOf, HoldsWhole, extents_of_bodies};
-ghost use Rattle.page_space.specs.Gaps.{is_known};
+ghost use Rattle.gap_bounds.specs.Gaps.{is_known};
 ghost use Rattle.page_space.specs.Walks.{BeginsBetween};
 
 use crate::space::Space;
@@ -61,12 +61,12 @@ impl Space {
     {
         self.shape_is_valid();
         if !self.gaps.is_known(page) {
-            let blocks = self.blocks();
-            self.gaps.learn(page, page * blocks, page * blocks + blocks);
+            let groups = self.groups();
+            self.gaps.learn(page, groups);
         }
     }
 
-    /// The bounds of a page's blocks bound the page.
+    /// The bounds of a page's groups bound the page.
     fn tighten(&mut self, seat: &mut MutatorSeat, page: u32)
         requires space { IsSpaceOf self.old seat.old }
         requires page { page < self.old.shape.pages }
@@ -77,9 +77,8 @@ impl Space {
         ensures view { seat.new ≡ seat.old }
     {
         self.shape_is_valid();
-        let blocks = self.blocks();
-        self.gaps
-            .tighten(page, page * blocks, page * blocks + blocks);
+        let groups = self.groups();
+        self.gaps.tighten(page, groups);
     }
 
     /// The same as `gap_in` for a page that is known.
@@ -150,7 +149,7 @@ impl Space {
         // The blocks that the walk came through from their first words on.
         let first = (*at + (BLOCK_WORDS - 1)) / BLOCK_WORDS;
         let next = walk.at / BLOCK_WORDS;
-        self.gaps.set_bounds(first, next, walk.longest);
+        self.gaps.saw(first, next, walk.longest);
         *at = next * BLOCK_WORDS;
         None
     }

@@ -8,10 +8,10 @@ ghost use Rattle.page_words.specs.Seat.{SeatView, empty_view, stored};
 ghost use Rattle.page_space.specs.Pages.{word_count};
 ghost use Rattle.page_space.specs.Space.{IsSpaceOf, extents_of_bodies};
 
-use crate::gaps::Gaps;
 use crate::table::Table;
+use gap_bounds::{GROUP_WORDS, Gaps};
 use gc_graph::NoMemory;
-use page_words::{BLOCK_WORDS, MutatorSeat, Words};
+use page_words::{MutatorSeat, Words};
 use std::alloc::Global;
 use std::marker::Model;
 use type_table::TypeTable;
@@ -67,7 +67,7 @@ impl Space {
     {
         let (words, seat) = Words::new(alloc, pages * page_words, types)?;
         let table = Table::new(alloc, pages)?;
-        let gaps = Gaps::new(alloc, pages, pages * page_words / BLOCK_WORDS)?;
+        let gaps = Gaps::new(alloc, pages, pages * page_words / GROUP_WORDS)?;
         let space = Space {
             words,
             pages,

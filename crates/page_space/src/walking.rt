@@ -4,12 +4,14 @@ ghost use Rattle.std.specs.Prelude.{◌≡◌, ℕ, ◌+◌, ◌*◌, ◌/◌, �
 ghost use Rattle.gc_graph.specs.Placement.{IsLowest, IsNowhere};
 ghost use Rattle.page_words.specs.Bodies.{IsInBody};
 ghost use Rattle.page_words.specs.Seat.{block_words};
+ghost use Rattle.gap_bounds.specs.Changes.{HasGroups};
 ghost use Rattle.page_space.specs.Pages.{word_count};
 ghost use Rattle.page_space.specs.Space.{IsSeatOf, HoldsWhole, extents_of_bodies};
 ghost use Rattle.page_space.specs.Space.{IsPlaceFrom, HasNoStart};
 ghost use Rattle.page_space.specs.Walks.{IsEdge, BeginsBetween};
 
 use crate::space::Space;
+use gap_bounds::GROUP_WORDS;
 use page_words::{BLOCK_WORDS, MutatorSeat};
 
 /// How far a walk has come, and the longest gap that it passed.
@@ -28,6 +30,14 @@ impl Space {
         self.page_words / BLOCK_WORDS
     }
 
+    /// How many groups of blocks a page has.
+    pub(crate) fn groups(&self) -> u32
+        ensures { HasGroups self.now.shape result }
+    {
+        self.shape_is_valid();
+        self.page_words / GROUP_WORDS
+    }
+
     /// The first word from an address of a page on that belongs to no object which begins by it.
     pub(crate) fn edge_from(&self, seat: &mut MutatorSeat, page: u32, at: u32) -> u32
         requires heap { IsSeatOf self.now seat.old }
@@ -43,7 +53,7 @@ impl Space {
     {
         self.shape_is_valid();
         seat.bodies_lie_apart();
-        match self.last_start_by(seat, page, at) {
+        match self.last_start_by(seat, page * self.blocks(), at) {
             Some(place) => at.max(place + self.header_at(seat, place).size),
             None => at,
         }

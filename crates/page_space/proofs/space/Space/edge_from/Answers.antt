@@ -1,4 +1,4 @@
-use Rattle.std.proofs.Common.{◌≡◌, ◌+◌, ◌*◌, ◌<◌, ◌≤◌, ◌⊎◌, inl, inr, arith}
+use Rattle.std.proofs.Common.{◌≡◌, ◌+◌, ◌*◌, ◌<◌, ◌≤◌, ◌⊎◌, ap, inl, inr, arith}
 use Rattle.std.proofs.lemmas.Bool.{cases_lt}
 use Rattle.page_words.specs.Bodies.{Body, IsPlace, end_of}
 use Rattle.page_space.proofs.PlaceBodies.{tells_size, body_size}
@@ -24,7 +24,9 @@ returns-in-Some-clause-inside c =
     let at : b.place ≡ c.in-Some.place = start.2 in
     let sizes = rw c.last_start_by.ensures.view at (tells_size c.last_start_by.new.seat c.in-Some.place c.header_at.result c.header_at.ensures.header) in
     let size_is : c.header_at.result.size ≡ b.size = sizes b start.1 start.2 in
-    let low : c.args.page * c.args.self.now.shape.page_words ≤ c.in-Some.place = found.1 in
+    let words : c.args.page * (64 * c.blocks-2.result) ≡ c.args.page * c.args.self.now.shape.page_words = ap (λ n. c.args.page * n) c.blocks-2.ensures in
+    let from : 64 * (c.args.page * c.blocks-2.result) ≤ c.in-Some.place = found.1 in
+    let low : c.args.page * c.args.self.now.shape.page_words ≤ c.in-Some.place = omega arith in
     let high : c.in-Some.place < c.args.at + 1 = found.2 in
     let some : 2 ≤ b.size = body_size c.args.seat.now.count c.args.seat.now.bodies b c.bodies_lie_apart.ensures.whole start.1 in
     let last : end_of b ≤ (c.args.page + 1) * c.args.self.now.shape.page_words =
@@ -43,5 +45,6 @@ returns-in-Some-clause-edge c =
 
 pub returns-in-None-clause-edge : goal.returns-in-None-clause-edge
 returns-in-None-clause-edge c =
+    let words : c.args.page * (64 * c.blocks-2.result) ≡ c.args.page * c.args.self.now.shape.page_words = ap (λ n. c.args.page * n) c.blocks-2.ensures in
     edge_of_page c.args.seat.now c.args.self.now.shape c.args.page c.args.at c.bodies_lie_apart.ensures c.requires.whole c.requires.first c.requires.address
-    (λ p low high. c.in-None.ensures.none p low (omega arith))
+    (λ p low high. c.in-None.ensures.none p (omega arith) (omega arith))

@@ -2,7 +2,7 @@ use Rattle.std.proofs.Common.{◌≡◌, ◌⊎◌, ℕ, ◌+◌, ◌*◌, ◌/�
 use Rattle.std.proofs.lemmas.Bool.{cases_lt, true≢false}
 use Rattle.gc_graph.specs.Placement.{PageHasBucket, bucket_of}
 use Rattle.page_words.specs.Seat.{SeatView}
-use Rattle.page_space.specs.Gaps.{IsGap, IsClassOf, HasClass, least_of}
+use Rattle.gap_bounds.specs.Gaps.{IsGap, IsClassOf, HasClass, least_of}
 use Rattle.page_space.specs.Space.{SpaceView, IsSpaceOf, HoldsWhole, FitsIn, extents_of_bodies}
 use Rattle.page_space.specs.Walks.{BeginsBetween}
 use Rattle.page_space.proofs.GapSearch.{lowest_of, nowhere_of, lowest_or}

@@ -2,7 +2,7 @@ use Rattle.std.proofs.Common.{◌≡◌, ◌+◌, ◌*◌, Bool, false, get_or, 
 use Rattle.std.proofs.lemmas.Bool.{cases_lt}
 use Rattle.gc_graph.specs.State.{Shape}
 use Rattle.page_words.specs.Seat.{SeatView}
-use Rattle.page_space.specs.Gaps.{IsGap, bound_at}
+use Rattle.gap_bounds.specs.Gaps.{IsGap, bound_at}
 use Rattle.page_space.specs.Space.{IsSpaceOf, HoldsWhole, extents_of_bodies}
 use Rattle.page_space.proofs.PageSpan.{page_before}
 use Rattle.page_space.proofs.space.Space.gap_from.Goals as goal

@@ -1,9 +1,8 @@
-use Rattle.std.proofs.Common.{◌≡◌, ℕ, ◌+◌, ◌*◌, ◌/◌, ◌%◌, ap, ◌∙◌, sym, inl, inr, refl, arith}
+use Rattle.std.proofs.Common.{◌≡◌, ◌+◌, ◌*◌, ◌/◌, ◌%◌, ap, ◌∙◌, sym, inl, inr, refl, arith}
 use Rattle.std.proofs.lemmas.Bool.{cases_lt}
 use Rattle.std.proofs.lemmas.Option.{IfSome_then}
 use Rattle.page_space.specs.Pages.{word_count}
 use Rattle.page_space.specs.Space.{HasNoStart}
-use Rattle.page_space.proofs.Shapes.{shape_words}
 use Rattle.page_space.proofs.PlaceFound.{if_none_then}
 use Rattle.page_space.proofs.StartBits.{bits_to, no_bits_to, highest_bit_to}
 use Rattle.page_space.proofs.space.Space.last_start_by.Goals as goal
@@ -11,10 +10,8 @@ use Rattle.page_space.proofs.space.Space.last_start_by.Goals.{After-last_start}
 
 pub returns-then-bits-ne0-clause-found : goal.returns-then-bits-ne0-clause-found
 returns-then-bits-ne0-clause-found c =
-    let w : ℕ = c.args.self.now.shape.page_words in
     let count : c.count.result ≡ c.args.seat.now.count =
     c.count.ensures.count ∙ c.self.invariant.words ∙ ap (λ s. word_count s.shape) c.self.view_is ∙ sym c.requires.heap in
-    let page : c.args.page * (64 * (w / 64)) ≡ c.args.page * w = ap (λ n. c.args.page * n) (shape_words c.args.self.now.shape c.shape_is_valid.ensures).2 in
     let last = highest_bit_to c.args.seat.now c.load.result c.args.a (bits_to c.load.result (c.args.a % 64)) c.ilog2.result
     (rw count at c.load.ensures.word) (omega (arith, c.requires.heap, c.requires.address)) refl c.ilog2.ensures.power_le c.ilog2.ensures.next_power_gt in
     (last.0, omega (arith, last.1, c.requires.first), last.2, last.3)
@@ -29,10 +26,9 @@ none_here c =
 
 pub returns-clause-found : goal.returns-clause-found
 returns-clause-found c =
-    let page : c.args.page * (64 * c.blocks-2.result) ≡ c.args.page * c.args.self.now.shape.page_words = ap (λ n. c.args.page * n) c.blocks-2.ensures in
     IfSome_then c.last_start.result (rw c.load.ensures.view at c.last_start.ensures.found) (λ p last. (
       last.0,
-      omega (arith, last.1),
+      last.1,
       omega (arith, last.2),
       (λ a above below place. elim (cases_lt a (64 * (c.args.a / 64))) [
         | inl before ↦ last.3 a above before place
@@ -42,8 +38,7 @@ returns-clause-found c =
 
 pub returns-clause-none : goal.returns-clause-none
 returns-clause-none c =
-    let page : c.args.page * (64 * c.blocks-2.result) ≡ c.args.page * c.args.self.now.shape.page_words = ap (λ n. c.args.page * n) c.blocks-2.ensures in
     if_none_then c.last_start.result _ _ (rw c.load.ensures.view at c.last_start.ensures.none) (λ empty a low below place. elim (cases_lt a (64 * (c.args.a / 64))) [
-      | inl before ↦ empty a (omega arith) before place
+      | inl before ↦ empty a low before place
       | inr after ↦ none_here c a after below place
     ])

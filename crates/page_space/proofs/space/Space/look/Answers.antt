@@ -1,12 +1,12 @@
-use Rattle.std.proofs.Common.{◌≡◌, ℕ, ◌+◌, ◌*◌, ◌/◌, ◌<◌, ◌≤◌, get_or, cond, length, ap, ◌∙◌, sym, subst, inl, inr, arith}
+use Rattle.std.proofs.Common.{◌≡◌, ℕ, ◌+◌, ◌*◌, ◌<◌, ◌≤◌, length, ap, ◌∙◌, sym, subst, inl, inr, arith}
 use Rattle.std.proofs.lemmas.Bool.{cases_lt}
 use Rattle.page_words.specs.Seat.{SeatView}
-use Rattle.page_space.specs.Gaps.{IsGap}
-use Rattle.page_space.specs.Pages.{word_count, is_between}
+use Rattle.gap_bounds.specs.Gaps.{IsGap}
+use Rattle.page_space.specs.Pages.{word_count}
 use Rattle.page_space.specs.Space.{SpaceView, HoldsWhole, extents_of_bodies}
 use Rattle.page_space.specs.Walks.{IsEdge}
 use Rattle.page_space.proofs.PageSpan.{same_page, page_before}
-use Rattle.page_space.proofs.KnownGaps.{others_stay, bounds_set}
+use Rattle.page_space.proofs.KnownGaps.{others_stay}
 use Rattle.page_space.proofs.WalkSteps.{from_edge, block_ends}
 use Rattle.page_space.proofs.Shapes.{shape_words}
 use Rattle.page_space.proofs.space.Space.look.Goals as goal
@@ -46,8 +46,8 @@ returns-clause-none c a begins =
       begins.2,
     )
 
-pub set_bounds-requires-clause-end : goal.set_bounds-requires-clause-end
-set_bounds-requires-clause-end c =
+pub saw-requires-clause-end : goal.saw-requires-clause-end
+saw-requires-clause-end c =
     let now = c.args.self.now in
     let blocks : 64 * length now.gaps.bounds ≡ now.shape.pages * now.shape.page_words =
     subst (λ (s : SpaceView). 64 * length s.gaps.bounds ≡ word_count s.shape) c.self.view_is c.self.invariant.blocks in
@@ -66,17 +66,9 @@ returns-clause-space c =
     let es = extents_of_bodies v.bodies in
     let same : c.self.inside.gaps ≡ now.gaps = ap (λ s. s.gaps) c.self.view_is in
     let longest = rw c.edge_from.ensures.view at c.in_default.ensures.longest in
-    let first : ℕ = (c.args.at.now + 63) / 64 in
-    let next : ℕ = c.walk.new.walk.at / 64 in
     rw (c.walk.ensures.view ∙ c.edge_from.ensures.view)
-    (others_stay _ now v.count es c.set_bounds.new.self c.self.view_is c.requires.space
-    (bounds_set now.shape es now.gaps c.set_bounds.new.self first next c.walk.new.walk.longest
-    (record {
-      bounds = λ block. c.set_bounds.ensures.bounds block ∙ ap (λ g. cond (is_between first next block) c.walk.new.walk.longest (get_or g.bounds block 0)) same;
-      most = c.set_bounds.ensures.most ∙ ap (λ g. g.most) same;
-      known = c.set_bounds.ensures.known ∙ ap (λ g. g.known) same;
-      first = c.set_bounds.ensures.first ∙ ap (λ g. g.first) same;
-    })
+    (others_stay _ now v.count es c.saw.new.self c.self.view_is c.requires.space
+    (c.saw.ensures.knows now.shape es
     (λ page size a gap from to. elim (cases_lt 0 size) [
       | inl some ↦
           (let low : page * w ≤ a = gap.first in
@@ -89,4 +81,4 @@ returns-clause-space c =
           longest size a (from_edge v now.shape size c.args.page c.args.at.now c.edge_from.result a c.edge_from.ensures.taken some at own, before, own))
       | inr none ↦ omega arith
     ])
-    c.requires.space.gaps))
+    (rw same c.requires.space.gaps)))

@@ -3,7 +3,6 @@ use Rattle.std.proofs.lemmas.List.{length-replicate}
 use Rattle.gc_graph.specs.State.{Shape}
 use Rattle.page_space.specs.Space.{IsSpaceOf, SpaceView}
 use Rattle.page_space.proofs.Bounds.{empty_space}
-use Rattle.page_space.proofs.KnownGaps.{nothing_known}
 use Rattle.page_space.proofs.Shapes.{shape_words}
 use Rattle.page_space.proofs.space.Space.new.Goals as goal
 
@@ -13,7 +12,7 @@ returns-clause-space c =
     let space : SpaceView = record { shape = shape; objects = 0; used = 0; table = c.in_ok-table.table; gaps = c.in_ok-gaps.gaps } in
     subst (IsSpaceOf space) (sym c.in_ok-words.ensures.view)
     (empty_space shape (c.args.pages * c.args.page_words) c.in_ok-table.table c.in_ok-gaps.gaps refl c.in_ok-table.ensures.objects
-    (nothing_known shape [] c.in_ok-gaps.gaps c.args.pages 72 c.in_ok-gaps.ensures.known c.in_ok-gaps.ensures.first))
+    (c.in_ok-gaps.ensures.knows shape []))
 
 pub invariant_of-space : goal.invariant_of-space
 invariant_of-space c = record {
@@ -23,5 +22,5 @@ invariant_of-space c = record {
   buckets = ap length c.in_ok-table.ensures.buckets ∙ length-replicate {A = ℕ} c.args.pages 0;
   starts = ap length c.in_ok-table.ensures.starts ∙ length-replicate {A = ℕ} c.args.pages 0;
   gaps = c.in_ok-gaps.ensures.pages;
-  blocks = omega (arith, c.in_ok-gaps.ensures.blocks, ap (λ w. c.args.pages * w) (shape_words (record { pages = c.args.pages; page_words = c.args.page_words }) c.requires).2);
+  blocks = omega (arith, c.in_ok-gaps.ensures.blocks, ap (λ w. c.args.pages * w) (shape_words (record { pages = c.args.pages; page_words = c.args.page_words }) c.requires).3);
 }

@@ -1,4 +1,5 @@
 use Rattle.std.proofs.Common.{◌≡◌, ◌+◌, ◌^◌, ◌<◌, ◌≤◌, ◌++◌, [], ◌∷◌, List, length, ap, ◌∙◌, sym, subst, get_or, cond, arith, rules}
+use Rattle.std.proofs.lemmas.Bool.{eq-eqb}
 use Rattle.std.proofs.lemmas.List.{map_push}
 use Rattle.gc_graph.specs.Placement.{Extent}
 use Rattle.page_space.specs.Pages.{is_in_page}
@@ -8,7 +9,7 @@ use Rattle.page_space.proofs.Shapes.{shape_words}
 use Rattle.page_space.proofs.PlaceBodies.{taken_by_body}
 use Rattle.page_space.proofs.GoodPlaces.{IsGoodPlace, good_place}
 use Rattle.page_space.proofs.Joined.{joined}
-use Rattle.page_space.proofs.KnownGaps.{knows_joined}
+use Rattle.page_space.proofs.KnownGaps.{gaps_taken}
 use Rattle.page_space.proofs.Bounds.{few_objects, held_fits}
 use Rattle.page_space.proofs.space.Space.occupy.Goals as goal
 
@@ -64,9 +65,9 @@ returns-clause-space c =
     let words = shape_words space.shape c.self.invariant.shape in
     let good : IsGoodPlace space.shape es e = good_place space c.args.seat.now.count es e (omega (arith, words.0)) (omega arith) over place in
     let now : IsSpaceOver
-    (record { shape = space.shape; objects = space.objects + 1; used = space.used + c.args.size; table = c.enter.new.self; gaps = c.lower_where_empty.new.gaps })
+    (record { shape = space.shape; objects = space.objects + 1; used = space.used + c.args.size; table = c.enter.new.self; gaps = c.fill.new.self })
     c.args.seat.now.count (es ++ e ∷ []) =
-    joined space c.args.seat.now.count es e c.enter.new.self c.lower_where_empty.new.gaps (omega (arith, words.0)) over c.requires.least good
+    joined space c.args.seat.now.count es e c.enter.new.self c.fill.new.self (omega (arith, words.0)) over c.requires.least good
     (record {
       objects = c.enter.ensures.objects;
       buckets = λ page.
@@ -74,13 +75,9 @@ returns-clause-space c =
           ∙ ap (λ k. cond (is_in_page space.shape.page_words page e) k (get_or space.table.buckets page 0)) c.bucket_of-bucket.ensures;
       starts = c.enter.ensures.starts;
     })
-    (knows_joined space c.args.seat.now.count es e c.lower_where_empty.new.gaps (omega (arith, words.0)) c.requires.least over good (record {
-      bounds = c.lower_where_empty.ensures.bounds;
-      most = c.lower_where_empty.ensures.most;
-      known = c.lower_where_empty.ensures.known;
-      lower = c.lower_where_empty.ensures.lower;
-      empty = c.lower_where_empty.ensures.empty;
-    })) in
+    (c.fill.ensures.knows space.shape es (es ++ e ∷ [])
+    (gaps_taken space c.args.seat.now.count es e _ (omega (arith, words.0)) c.requires.least over good (λ none. eq-eqb c.objects_in-was_empty.result 0 (c.objects_in-was_empty.ensures ∙ none)))
+    over.gaps) in
     let count : c.write_object.new.seat.count ≡ c.args.seat.now.count = c.write_object.ensures.count in
     let extents : extents_of_bodies c.write_object.new.seat.bodies ≡ es ++ e ∷ [] =
     ap extents_of_bodies c.write_object.ensures.bodies

@@ -54,10 +54,12 @@ pub returns-clause-only : goal.returns-clause-only
 returns-clause-only c a h =
     let v = c.args.seat.now in
     let w : ℕ = c.args.self.now.shape.page_words in
-    let words = shape_words c.args.self.now.shape c.shape_is_valid.ensures in
+    let sizes = shape_words c.args.self.now.shape c.shape_is_valid.ensures in
     let page : c.args.a / c.self.inside.page_words ≡ c.args.a / w = ap (λ s. c.args.a / s.shape.page_words) c.self.view_is in
     let bucket : c.bucket_of_page.result ≡ get_or c.args.self.now.table.buckets (c.args.a / w) 0 =
     c.bucket_of_page.ensures ∙ ap (λ s. get_or s.table.buckets (c.args.a / s.shape.page_words) 0) c.self.view_is in
     let from : c.args.a / w * w ≤ a =
-    small_start c.args.self.now v.count v.bodies c.args.a a (omega (arith, words.0)) c.requires.space (λ large. c.if-bucket_of_page-eq-LARGE.false (bucket ∙ large)) h in
-    only_last v _ c.args.a a c.last_start_by.result c.bodies_lie_apart.ensures c.last_start_by.ensures.found c.last_start_by.ensures.none (rw page from) h
+    small_start c.args.self.now v.count v.bodies c.args.a a (omega (arith, sizes.0)) c.requires.space (λ large. c.if-bucket_of_page-eq-LARGE.false (bucket ∙ large)) h in
+    let words : c.args.a / w * (64 * c.blocks-2.result) ≡ c.args.a / w * w = ap (λ n. c.args.a / w * n) c.blocks-2.ensures in
+    let start : 64 * (c.args.a / w * c.blocks-2.result) ≤ a = omega arith in
+    only_last v _ c.args.a a c.last_start_by.result c.bodies_lie_apart.ensures c.last_start_by.ensures.found c.last_start_by.ensures.none (rw page start) h

@@ -1,6 +1,7 @@
 use Rattle.std.proofs.Common.{◌≡◌, ◌*◌, get_or, ap, ◌∙◌, arith}
+use Rattle.gap_bounds.specs.Changes.{MayBegin}
 use Rattle.page_space.specs.Space.{extents_of_bodies}
-use Rattle.page_space.proofs.KnownGaps.{others_stay, first_set}
+use Rattle.page_space.proofs.KnownGaps.{others_stay}
 use Rattle.page_space.proofs.Shapes.{shape_words}
 use Rattle.page_space.proofs.space.Space.pass.Goals as goal
 
@@ -12,21 +13,13 @@ returns-then-first_for-page-clause-space c =
     let words : c.self.inside.page_words ≡ now.shape.page_words = ap (λ s. s.shape.page_words) c.self.view_is in
     let start : c.args.page * c.self.inside.page_words ≡ c.args.page * now.shape.page_words = ap (λ w. c.args.page * w) words in
     let first : c.first_for.result ≡ get_or now.gaps.first c.args.class 0 = c.first_for.ensures ∙ ap (λ g. get_or g.first c.args.class 0) same in
-    others_stay _ now c.args.seat.now.count es c.set_first.new.self c.self.view_is c.requires.space
-    (first_set now.shape es now.gaps c.set_first.new.self c.args.class c.args.page c.args.worth
-    (omega (arith, (shape_words now.shape c.shape_is_valid.ensures).0))
-    (record {
-      here = c.set_first.ensures.here;
-      there = λ n other. c.set_first.ensures.there n other ∙ ap (λ g. get_or g.first n 0) same;
-      bounds = c.set_first.ensures.bounds ∙ ap (λ g. g.bounds) same;
-      most = c.set_first.ensures.most ∙ ap (λ g. g.most) same;
-      known = c.set_first.ensures.known ∙ ap (λ g. g.known) same;
-    })
-    (record {
+    let may : MayBegin now.shape es now.gaps c.args.class c.args.page c.args.worth = record {
+      some = omega (arith, (shape_words now.shape c.shape_is_valid.ensures).0);
       least = c.requires.some;
       low = omega (arith, c.if-first_for-page.true);
       high = c.requires.end;
       known = c.requires.known;
       worth = c.requires.worth;
-    })
-    c.requires.space.gaps)
+    } in
+    others_stay _ now c.args.seat.now.count es c.begin_at.new.self c.self.view_is c.requires.space
+    (c.begin_at.ensures.knows now.shape es c.args.page (rw same may) (rw same c.requires.space.gaps))

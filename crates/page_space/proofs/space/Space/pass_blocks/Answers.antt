@@ -1,6 +1,6 @@
 use Rattle.std.proofs.Common.{◌≡◌, get_or, ap, ◌∙◌, inl, inr, arith}
 use Rattle.std.proofs.lemmas.Bool.{cases_lt}
-use Rattle.page_space.specs.Gaps.{bound_at}
+use Rattle.gap_bounds.specs.Gaps.{bound_at}
 use Rattle.page_space.proofs.space.Space.pass_blocks.Goals as goal
 
 pub pass-requires-clause-worth : goal.pass-requires-clause-worth

@@ -1,6 +1,7 @@
-use Rattle.std.proofs.Common.{◌≡◌, get_or, ap, ◌∙◌, sym, arith}
+use Rattle.std.proofs.Common.{◌≡◌, ◌*◌, ◌+◌, ap, arith}
 use Rattle.page_space.specs.Space.{extents_of_bodies}
-use Rattle.page_space.proofs.KnownGaps.{others_stay, most_set}
+use Rattle.page_space.proofs.PageSpan.{page_before}
+use Rattle.page_space.proofs.KnownGaps.{others_stay}
 use Rattle.page_space.proofs.space.Space.tighten.Goals as goal
 
 pub returns-clause-space : goal.returns-clause-space
@@ -9,8 +10,15 @@ returns-clause-space c =
     let es = extents_of_bodies c.args.seat.now.bodies in
     let same : c.self.inside.gaps ≡ now.gaps = ap (λ s. s.gaps) c.self.view_is in
     others_stay _ now c.args.seat.now.count es c.tighten.new.self c.self.view_is c.requires.space
-    (most_set now.shape es now.gaps c.tighten.new.self c.args.page c.blocks-blocks.result (sym c.blocks-blocks.ensures)
-    (c.tighten.ensures.bounds ∙ ap (λ g. g.bounds) same) (c.tighten.ensures.known ∙ ap (λ g. g.known) same) (c.tighten.ensures.first ∙ ap (λ g. g.first) same)
-    (λ q other. c.tighten.ensures.there q other ∙ ap (λ g. get_or g.most q 0) same)
-    (λ block low high. omega (arith, c.tighten.ensures.here block low high, ap (λ g. get_or g.bounds block 0) same))
-    c.requires.space.gaps)
+    (c.tighten.ensures.knows now.shape es c.groups-groups.ensures (rw same c.requires.space.gaps))
+
+pub tighten-requires-clause-groups : goal.tighten-requires-clause-groups
+tighten-requires-clause-groups c =
+    let now = c.args.self.now in
+    omega (
+      arith,
+      c.self.invariant.blocks,
+      ap (λ s. s.shape.pages * s.shape.page_words) c.self.view_is,
+      ap (λ n. (c.args.page + 1) * n) c.groups-groups.ensures,
+      page_before now.shape.page_words c.args.page now.shape.pages c.requires.page,
+    )

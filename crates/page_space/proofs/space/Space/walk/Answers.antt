@@ -2,7 +2,7 @@ use Rattle.std.proofs.Common.{◌≡◌, ℕ, ◌+◌, ◌*◌, ◌<◌, ◌≤�
 use Rattle.std.proofs.lemmas.Bool.{cases_lt}
 use Rattle.page_words.specs.Bodies.{Body, IsPlace, end_of}
 use Rattle.page_space.specs.Space.{HasNoStart, extents_of_bodies}
-use Rattle.page_space.specs.Gaps.{IsGap}
+use Rattle.gap_bounds.specs.Gaps.{IsGap}
 use Rattle.page_space.proofs.PlaceBodies.{tells_size, body_size}
 use Rattle.page_space.proofs.Shapes.{shape_words}
 use Rattle.page_space.proofs.WalkSteps.{edge_moves, gap_here, gap_ends}

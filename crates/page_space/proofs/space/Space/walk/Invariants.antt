@@ -1,6 +1,6 @@
 use Rattle.std.proofs.Common.{◌≡◌, ℕ, ◌+◌, ◌-◌, ◌*◌, ◌<◌, ◌≤◌}
 use Rattle.page_space.specs.Space.{extents_of_bodies}
-use Rattle.page_space.specs.Gaps.{IsGap}
+use Rattle.gap_bounds.specs.Gaps.{IsGap}
 use Rattle.page_space.specs.Walks.{IsEdge}
 use Rattle.page_space.proofs.space.Space.walk.Given as goal
 
