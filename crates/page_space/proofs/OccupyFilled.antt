@@ -1,11 +1,12 @@
 -- What is filled after one more word.
-use Rattle.std.proofs.Common.{◌≡◌, ℕ, zero, suc, ◌+◌, ◌-◌, ◌^◌, ◌<◌, ◌≤◌, Bool, true, false, not, List, [], ◌∷◌, sym, ap, ◌∙◌, subst, inl, inr, arith, eqb, get_or, replicate}
+use Rattle.std.proofs.Common.{◌≡◌, ℕ, zero, suc, ◌+◌, ◌-◌, ◌^◌, ◌<◌, ◌≤◌, Bool, true, false, not, List, [], ◌∷◌, ◌++◌, refl, sym, ap, ◌∙◌, subst, inl, inr, arith, eqb, get_or, replicate}
 use Rattle.std.specs.List.{Contains, filter}
 use Rattle.std.proofs.lemmas.Bool.{ne_eqb, cond-true, cond_both, cases_lt}
 use Rattle.std.proofs.lemmas.List.{length-replicate, get_or-replicate}
 use Rattle.object_headers.specs.Layout.{header_word}
-use Rattle.page_words.specs.Seat.{Filled, SeatView, IsReady, filled_with}
-use Rattle.page_space.specs.Occupying.{HasNulls, IsRoom, new_body}
+use Rattle.page_words.specs.Seat.{Filled, SeatView, IsReady, filled_with, nulled}
+use Rattle.page_words.specs.Bodies.{Body}
+use Rattle.page_space.specs.Occupying.{HasNulls, IsRoom, Occupies, new_body}
 use Rattle.page_space.proofs.PlaceBodies.{contains_later, contains_first}
 
 contains_filter : {X : Type 0} (test : X → Bool) (xs : List X) (x : X) → test x ≡ true → Contains xs x → Contains (filter test xs) x
@@ -42,6 +43,31 @@ only_filled old v now a w rest fills =
     let others = λ (u : SeatView). let with : SeatView = record u { filled = (filled_with v a w).filled } in with in
     let words = λ (fs : List Filled). let with : SeatView = record old { filled = fs } in with in
     fills ∙ ap others rest ∙ ap words (sym (ap (λ u. u.filled) fills))
+
+-- so are several, one after the other
+pub nulls_filled : (v : SeatView) (a n : ℕ) → HasNulls (nulled v a n).filled a n
+unfolding nulled
+nulls_filled v a zero = λ i below. absurd (omega arith)
+nulls_filled v a (suc n) =
+    let next : n + 1 ≡ suc n = omega arith in
+    subst (HasNulls (nulled v a (suc n)).filled a) next (nulls_more (nulled v a n) a n (a + n) refl (nulls_filled v a n))
+
+pub only_nulled : (v : SeatView) (a n : ℕ) → nulled v a n ≡ record v { filled = (nulled v a n).filled }
+unfolding nulled
+only_nulled v a zero = refl
+only_nulled v a (suc n) = only_filled v (nulled v a n) (nulled v a (suc n)) (a + n) 0 (only_nulled v a n) refl
+
+-- what the filled words are is nothing to a body that joins the others
+pub occupies_before : (old mid new : SeatView) (fs : List Filled) (b : Body) → mid ≡ record old { filled = fs } → Occupies mid new b → Occupies old new b
+occupies_before old mid new fs b rest joins = record {
+  count = joins.count ∙ ap (λ (v : SeatView). v.count) rest;
+  types = joins.types ∙ ap (λ (v : SeatView). v.types) rest;
+  on = joins.on ∙ ap (λ (v : SeatView). v.on) rest;
+  bodies = joins.bodies ∙ ap (λ (v : SeatView). v.bodies ++ b ∷ []) rest;
+  marked = joins.marked ∙ ap (λ (v : SeatView). v.marked) rest;
+  traced = joins.traced ∙ ap (λ (v : SeatView). v.traced) rest;
+  dead = joins.dead ∙ ap (λ (v : SeatView). v.dead) rest;
+}
 
 pub ready_to_publish : (old : SeatView) (a ty size serial : ℕ) → IsRoom old size a
     → ty < 16384 → 2 ≤ size → size < 2 ^ 26 → HasNulls old.filled (a + 2) (size - 2)

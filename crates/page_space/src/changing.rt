@@ -66,9 +66,7 @@ impl Space {
         ensures { Occupies seat.old seat.new (new_body a ty size serial) }
     {
         self.shape_is_valid();
-        for i in FIRST_FIELD..size {
-            self.words.fill(seat, a + i, 0);
-        }
+        self.words.fill_nulls(seat, a + FIRST_FIELD, a + size);
         self.head_and_publish(seat, a, ty, size, serial);
     }
 

@@ -13,3 +13,4 @@ mod Published
 pub mod Publishing
 pub mod Retracted
 mod Example
+mod Nulled

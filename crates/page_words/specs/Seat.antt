@@ -1,5 +1,5 @@
 -- What the mutator's seat knows of the words, and how each call changes that.
-use Rattle.std.specs.Prelude.{◌≡◌, ℕ, ◌+◌, ◌/◌, ◌%◌, ◌^◌, ◌<◌, ◌≤◌, ◌↔◌, ◌==◌, ◌&&◌, not, nat_le, nat_lt, Bool, true, false, List, [], ◌∷◌, ◌++◌, length, map, filter, if◌then◌else◌, slice_index, Contains, All}
+use Rattle.std.specs.Prelude.{◌≡◌, ℕ, zero, suc, ◌+◌, ◌/◌, ◌%◌, ◌^◌, ◌<◌, ◌≤◌, ◌↔◌, ◌==◌, ◌&&◌, not, nat_le, nat_lt, Bool, true, false, List, [], ◌∷◌, ◌++◌, length, map, filter, if◌then◌else◌, slice_index, Contains, All}
 use Rattle.std.specs.List.{list_any}
 use Rattle.gc_graph.specs.State.{ObjectType}
 use Rattle.object_headers.specs.Layout.{header_word}
@@ -63,6 +63,11 @@ pub record IsWordAt (v : SeatView) (a w : ℕ) : Type 0 where
 abbrev pub filled_with : SeatView → ℕ → ℕ → SeatView
 filled_with v a w =
     record v { filled = record { address = a; word = w } ∷ filter (λ f. not (f.address == a)) v.filled }
+
+-- so many words from a were filled with null, each in place of an older one
+unfoldable pub nulled : SeatView → ℕ → ℕ → SeatView
+nulled v a zero = v
+nulled v a (suc n) = filled_with (nulled v a n) (a + n) 0
 
 -- the field word at a was stored
 abbrev pub stored : SeatView → ℕ → ℕ → SeatView

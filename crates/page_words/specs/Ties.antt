@@ -1,5 +1,5 @@
 -- How the words and the view of a seat belong together.
-use Rattle.std.specs.Prelude.{◌≡◌, ℕ, ◌+◌, ◌*◌, ◌/◌, ◌%◌, ◌^◌, ◌<◌, ◌≤◌, ◌↔◌, List, length, if◌then◌else◌, slice_index, Contains}
+use Rattle.std.specs.Prelude.{◌≡◌, ℕ, zero, suc, ◌+◌, ◌*◌, ◌/◌, ◌%◌, ◌^◌, ◌<◌, ◌≤◌, ◌↔◌, List, length, if◌then◌else◌, slice_index, slice_set, Contains}
 use Rattle.object_headers.specs.Offsets.{serial_offset}
 use Rattle.page_words.specs.Bodies.{Body, IsPlace, fields_at}
 use Rattle.page_words.specs.Seat.{SeatView, Filled, IsView, header_of, block_words, bitmap_at, stop_at}
@@ -9,6 +9,11 @@ pub record IsCount (count : ℕ) : Type 0 where
   pub least : 256 ≤ count
   pub most : count ≤ 2 ^ 24
   pub bits : count ≡ block_words * (count / block_words)
+
+-- so many words from a place on are 0
+unfoldable pub cleared : List ℕ → ℕ → ℕ → List ℕ
+cleared words first zero = words
+cleared words first (suc n) = slice_set (cleared words first n) (first + n) 0
 
 -- the words are those that the view tells, and the stop word is 0 while marking goes on
 pub record Ties (words : List ℕ) (v : SeatView) : Type 0 where

@@ -2,7 +2,7 @@
 //!
 //! What it is: the words of a heap, with a start bit for each and a stop word, and the mutator's
 //! seat, through which each of them is read and written. Objects are published, marked, claimed and
-//! retracted here, one word at a time.
+//! retracted here, one word at a time; the null fields of a new one are written in one run.
 //!
 //! The parts: `Words` (what threads would share: so far the number of words), `MutatorSeat` (the
 //! words, and the view of them that contracts see: types, bodies, filled words, marked, traced and

@@ -1,8 +1,8 @@
 // The view of a seat, and how each call changes it. All of it is for contracts alone.
 
-ghost use Rattle.std.specs.Prelude.{◌≡◌, Bool};
+ghost use Rattle.std.specs.Prelude.{◌≡◌, ◌-◌, Bool};
 ghost use Rattle.page_words.specs.Bodies.{Body};
-ghost use Rattle.page_words.specs.Seat.{empty_view, filled_with, stored, published, retracted};
+ghost use Rattle.page_words.specs.Seat.{empty_view, filled_with, nulled, stored, published, retracted};
 ghost use Rattle.page_words.specs.Seat.{marked_at, claimed_at, unmarked_at, stop_set};
 
 use ghost_values::GhostValue;
@@ -32,6 +32,14 @@ struct About<'a> {
     w: u64,
 }
 
+/// What a change of several words looks at: the view, and the addresses from one up to another.
+#[derive(Drop)]
+struct AboutRange<'a> {
+    view: &'a GhostValue<SeatViews>,
+    a: u32,
+    end: u32,
+}
+
 /// What the first view looks at.
 #[derive(Drop)]
 struct AboutNew<'a> {
@@ -49,6 +57,12 @@ pub fn filled(view: &GhostValue<SeatViews>, a: u32, w: u64) -> GhostValue<SeatVi
     ensures { result.value ≡ filled_with view.now.value a w }
 {
     GhostValue::chosen(&About { view, a, w })
+}
+
+pub fn nulled(view: &GhostValue<SeatViews>, a: u32, end: u32) -> GhostValue<SeatViews>
+    ensures { result.value ≡ nulled view.now.value a (end - a) }
+{
+    GhostValue::chosen(&AboutRange { view, a, end })
 }
 
 pub fn stored(view: &GhostValue<SeatViews>, a: u32, w: u64) -> GhostValue<SeatViews>

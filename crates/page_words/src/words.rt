@@ -1,14 +1,15 @@
-// The calls on words and seat. Each reads or writes one word, or sets a bit of one.
+// The calls on words and seat. Each reads or writes one word, or sets a bit of one, but for the one
+// that writes null to several.
 
-ghost use Rattle.std.specs.Prelude.{◌≡◌, ◌≤◌, ◌<◌, ◌&&◌};
+ghost use Rattle.std.specs.Prelude.{◌≡◌, ◌≤◌, ◌<◌, ◌-◌, ◌&&◌, ℕ, length};
 ghost use Rattle.std.specs.Prelude.{not, true, false, Contains, IfOk};
 ghost use Rattle.page_words.specs.Bodies.{Body, IsPlace, IsInBody, IsFieldWord, MayHold};
 ghost use Rattle.object_headers.specs.Layout.{header_word};
 ghost use Rattle.page_words.specs.Seat.{empty_view, holds, stop_at, IsWordAt};
-ghost use Rattle.page_words.specs.Seat.{IsReady, MaySetStop, filled_with, stored, published};
+ghost use Rattle.page_words.specs.Seat.{IsReady, MaySetStop, filled_with, nulled, stored, published};
 ghost use Rattle.page_words.specs.Seat.{retracted, marked_at, claimed_at, unmarked_at, is_grey};
 ghost use Rattle.page_words.specs.Seat.{stop_set};
-ghost use Rattle.page_words.specs.Ties.{IsCount};
+ghost use Rattle.page_words.specs.Ties.{IsCount, cleared};
 
 use crate::mutator::MutatorSeat;
 use crate::views;
@@ -20,6 +21,10 @@ use type_table::TypeTable;
 
 /// So many words of the heap have their start bits in one word.
 pub const BLOCK_WORDS: u32 = 64;
+
+/// So many words are cleared at once. For longer runs the C library takes the processor's string
+/// store, which callgrind counts byte by byte.
+const RUN_WORDS: usize = 64;
 
 /// The words that markers and mutator share. So far the mutator's seat holds them, and this tells
 /// how many there are.
@@ -86,6 +91,18 @@ impl Words {
     {
         seat.words[a as usize] = w;
         seat.view = views::filled(&seat.view, a, w);
+    }
+
+    /// Writes null to words from an address up to another that belong to no object.
+    pub fn fill_nulls(&self, seat: &mut MutatorSeat, a: u32, end: u32)
+        requires heap { seat.old.count ≡ self.now }
+        requires order { a ≤ end }
+        requires end { end ≤ seat.old.count }
+        requires outside { (x : ℕ) → a ≤ x → x < end → IsInBody seat.old.bodies x → ⊥ }
+        ensures { seat.new ≡ nulled seat.old a (end - a) }
+    {
+        clear(&mut seat.words, a as usize, end as usize);
+        seat.view = views::nulled(&seat.view, a, end);
     }
 
     /// Writes a field word of an object: a number into a plain one, and a reference into any other.
@@ -188,5 +205,30 @@ impl Words {
         let at = (self.count + self.count / BLOCK_WORDS) as usize;
         seat.words[at] = u64::from(on);
         seat.view = views::stop_set(&seat.view, on);
+    }
+}
+
+/// Clears the words from one place up to another, a run at a time.
+fn clear(words: &mut [u64], first: usize, end: usize)
+    requires order { first ≤ end }
+    requires end { end ≤ length words.old }
+    ensures { words.new ≡ cleared words.old first (end - first) }
+{
+    let mut from = first;
+    while end - from > RUN_WORDS {
+        clear_run(words, from, from + RUN_WORDS);
+        from += RUN_WORDS;
+    }
+    clear_run(words, from, end);
+}
+
+/// The same at once. The words are reached by one reference, so that this is one run over memory.
+fn clear_run(words: &mut [u64], first: usize, end: usize)
+    requires order { first ≤ end }
+    requires end { end ≤ length words.old }
+    ensures { words.new ≡ cleared words.old first (end - first) }
+{
+    for place in first..end {
+        words[place] = 0;
     }
 }
