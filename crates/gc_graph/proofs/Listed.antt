@@ -1,10 +1,9 @@
 -- What holds of each member of a list of numbers.
-use Rattle.std.proofs.Common.{◌≡◌, ℕ, suc, ◌+◌, ◌<◌, Bool, true, false, ◌||◌, ◌&&◌, List, [], ◌∷◌, length, get_or, drop, refl, sym, ap, ◌∙◌, subst, inl, inr, arith, eqb, IsTrue, ◌↔◌}
+use Rattle.std.proofs.Common.{◌≡◌, ℕ, suc, ◌+◌, ◌<◌, Bool, true, false, ◌||◌, List, [], ◌∷◌, length, get_or, refl, sym, ap, ◌∙◌, subst, inl, inr, arith, eqb, IsTrue, ◌↔◌}
 use Rattle.std.specs.Bool.{MatchBool}
 use Rattle.std.specs.List.{list_all}
 use Rattle.std.specs.List.Sorted.{IsNonDecreasing}
 use Rattle.std.proofs.lemmas.Bool.{true≢false, or_cases, or_left, or_right, and_parts, and_from, eqb-true, eq-eqb, ne_eqb}
-use Rattle.std.proofs.lemmas.List.{drop_more}
 use Rattle.gc_graph.specs.Checking.{is_listed}
 
 -- a test that each member passes
@@ -22,11 +21,6 @@ all_pass test [] each = refl
 all_pass test (m ∷ members) each =
     and_from (test m) (list_all test members) (each m (or_left (eqb m m) (is_listed members m) (eq-eqb m m refl)))
     (all_pass test members (λ n listed. each n (or_right (eqb m n) (is_listed members n) listed)))
-
--- one step of a loop that tests each
-pub all_from : {X : Type 0} (test : X → Bool) (xs : List X) (i : ℕ) (d : X) → i < length xs
-    → list_all test (drop i xs) ≡ (test (get_or xs i d) && list_all test (drop (i + 1) xs))
-all_from test xs i d below = ap (list_all test) (drop_more xs i d below)
 
 -- what no index has is no member
 pub not_listed : (members : List ℕ) (n : ℕ) → ((k : ℕ) → k < length members → get_or members k 0 ≡ n → ⊥) → is_listed members n ≡ false

@@ -47,9 +47,6 @@ record AreBuried (nodes : List Node) (numbers : List ℕ) (after : List Node) : 
   gone : (n : ℕ) → Contains numbers n → ((node_at after n).life ≡ Gone) × StaysPut (node_at nodes n) (node_at after n)
   others : (n : ℕ) → (Contains numbers n → ⊥) → IsLikeNode (node_at nodes n) (node_at after n)
 
-like_buried : (x y z : Node) → IsLikeNode x y → x ≡ z → IsLikeNode z y
-like_buried x y z h e = subst (λ w. IsLikeNode w y) e h
-
 bury_rest : (f : ℕ → ℕ) (nodes after : List Node) (n : ℕ) (numbers : List ℕ) → IsUp f (n ∷ numbers) → AreBuried nodes (n ∷ numbers) after
     → AreBuried (buried_node nodes n) numbers after
 bury_rest f nodes after n numbers up h =

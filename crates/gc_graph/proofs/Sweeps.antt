@@ -31,11 +31,6 @@ finalised_at limit (node ∷ nodes) (suc n) = finalised_at limit nodes n
 dead_is_there : (life : Life) → life ≡ Dead → is_there life ≡ true
 dead_is_there stage e = ap is_there e
 
-buried_is_no_longer : (life : Life) → buried life ≡ Dead → ⊥
-buried_is_no_longer Live e = cc
-buried_is_no_longer Dead e = cc
-buried_is_no_longer Gone e = cc
-
 pub swept_phase : (shape : Shape) → phase_at shape shape.pages ≡ Idle
 swept_phase shape = cond-true (eqb shape.pages shape.pages) Idle Sweeping (eq-eqb shape.pages shape.pages refl)
 

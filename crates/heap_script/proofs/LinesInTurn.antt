@@ -1,5 +1,5 @@
 -- Lines one after the other.
-use Rattle.std.proofs.Common.{◌≡◌, ℕ, ◌+◌, ◌<◌, ◌==◌, true, false, Some, List, [], ◌∷◌, length, get_or, drop, refl, sym, ap, ◌∙◌, subst, inl, inr, arith}
+use Rattle.std.proofs.Common.{◌≡◌, ℕ, ◌+◌, ◌<◌, ◌==◌, true, Some, List, [], ◌∷◌, length, get_or, drop, refl, sym, ap, ◌∙◌, subst, inl, inr, arith}
 use Rattle.std.specs.List.{slice_split, onto_first, slice_get}
 use Rattle.std.proofs.lemmas.List.{drop_more, nil_from_length}
 use Rattle.std.proofs.lemmas.List.Splits.{slice_split-cons_yes, slice_split-cons_no, length-slice_split}
@@ -53,8 +53,3 @@ lines_next bytes from end ends at =
 
 pub none_of_blank : (line : List ℕ) → is_blank line ≡ true → words_of line ≡ []
 none_of_blank line blank = nil_from_length (words_of line) (eqb-true (length (words_of line)) 0 blank)
-
--- a line with a word isn't
-pub not_blank : (line word : List ℕ) (words : List (List ℕ)) → words_of line ≡ word ∷ words → is_blank line ≡ false
-not_blank line word words some =
-    ap (λ (ws : List (List ℕ)). length ws == 0) some ∙ ne_eqb (length (word ∷ words)) 0 (λ e. omega (arith, e))

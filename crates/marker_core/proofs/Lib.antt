@@ -35,7 +35,6 @@ mod MarkerClaims
 mod MarkerMarks
 pub mod Kept
 pub mod Cycles
-pub mod Roles
 pub mod NextOffsets
 pub mod Fitting
 pub mod MapLoop
