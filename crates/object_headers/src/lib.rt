@@ -27,8 +27,8 @@
 //!
 //! What is proved: `pack` gives the word of the table. `read` answers exactly where the word is the
 //! header of a live object that has a size, and answers what was packed; of such a word
-//! `read_unchecked` answers the same, and `type_in` the type. `with_mark` and `with_traced` change their bit and no other, of any word. Place
-//! and reference tell each other.
+//! `read_unchecked` answers the same, and `type_in` the type. `with_mark` and `with_traced` change
+//! their bit and no other, of any word. Place and reference tell each other.
 //!
 //! What is only tested or not said: that the tables are what a reader expects is tested on a few
 //! words that were worked out by hand.
