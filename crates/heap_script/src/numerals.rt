@@ -31,10 +31,10 @@ pub(crate) fn next_number(bytes: &[u8], from: usize) -> Numeral
     }
 }
 
-// A number of one to three digits after one space, and its end. Five bytes are as many as it takes with
-// the space and the byte that ends it, so one test of the length is enough.
+/// A number of one to three digits after one space, and its end. Five bytes are as many as it takes with
+/// the space and the byte that ends it, so one test of the length is enough.
 #[inline(always)]
-fn short_number(bytes: &[u8], from: usize) -> Option<(usize, u64)>
+pub(crate) fn short_number(bytes: &[u8], from: usize) -> Option<(usize, u64)>
     requires { from ≤ length bytes.now }
     ensures { IfSome result (λ short. IsShortNumber bytes.now from short.0 short.1) }
 {
@@ -73,9 +73,9 @@ fn is_gap(byte: u8) -> bool
     byte == b' ' || byte == b'\n'
 }
 
-// The next word, however many spaces stand before it.
+/// The next word, however many spaces stand before it.
 #[inline(never)]
-fn number_after_spaces(bytes: &[u8], from: usize) -> Numeral
+pub(crate) fn number_after_spaces(bytes: &[u8], from: usize) -> Numeral
     requires { from ≤ length bytes.now }
     ensures word { IsNextWord bytes.now from result.start result.end }
     ensures value { result.value ≡ number_from bytes.now result.start result.end }

@@ -1,13 +1,13 @@
 // The words of the most frequent lines: a first word that is looked for, numbers, and the line's
 // end.
 
-ghost use Rattle.std.specs.Prelude.{◌≡◌, ◌<◌, ◌≤◌, ◌==◌, true, length, slice_index, IfSome, if◌then◌else◌};
+ghost use Rattle.std.specs.Prelude.{◌≡◌, ◌<◌, ◌≤◌, ◌==◌, true, length, slice_index, IfSome, IsSome, ◌↔◌, if◌then◌else◌};
 ghost use Rattle.std.specs.List.{list_all};
 ghost use Rattle.heap_script.specs.Cursor.{is_word_byte};
 ghost use Rattle.heap_script.specs.QuickLines.{IsFirstWord, IsSmall, IsAny, IsEndOfWords, AreSlotFieldSlot, AreTwoSmall};
 
 use super::cursor::past_spaces;
-use super::numerals::next_number;
+use super::numerals::{next_number, number_after_spaces, short_number};
 
 // How many slots there are and how many weak ones, how many numbers a field may have, and how many
 // an object's extra words.
@@ -70,13 +70,26 @@ pub(crate) fn next_small(bytes: &[u8], from: usize, limit: u32) -> Option<Small>
     requires { from ≤ length bytes.now }
     ensures { IfSome result (IsSmall bytes.now from limit) }
 {
-    let word = next_number(bytes, from);
-    match word.value {
-        Some(value) if value < u64::from(limit) => Some(Small {
+    if let Some((end, value)) = short_number(bytes, from) {
+        return below(value, end, limit);
+    }
+    let word = number_after_spaces(bytes, from);
+    below(word.value?, word.end, limit)
+}
+
+// A number that ends there, where it is below the limit.
+#[inline(always)]
+fn below(value: u64, end: usize, limit: u32) -> Option<Small>
+    ensures number { IfSome result (λ small. (small.value ≡ value) × (small.end ≡ end)) }
+    ensures limit { IsSome result ↔ value < limit }
+{
+    if value < u64::from(limit) {
+        Some(Small {
             value: value as u32,
-            end: word.end,
-        }),
-        _ => None,
+            end,
+        })
+    } else {
+        None
     }
 }
 
