@@ -1,5 +1,0 @@
-use Rattle.cppgc_main.proofs.HeldBack.{taken_on}
-use Rattle.cppgc_main.proofs.report.print_end.Goals as goal
-
-pub returns-in-Ok-clause-taken : goal.returns-in-Ok-clause-taken
-returns-in-Ok-clause-taken g c = taken_on _ _ _ c.print.ensures.taken c.hand_down.ensures.taken

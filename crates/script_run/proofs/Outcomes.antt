@@ -1,0 +1,80 @@
+-- What a run answers, where its bytes were read.
+use Rattle.std.proofs.Common.{◌≡◌, ℕ, List, length, Option, option_map, Some, None, subst}
+use Rattle.std.specs.Prelude.{MatchOption}
+use Rattle.heap_script.specs.Devices.{IsReadFrom}
+use Rattle.heap_engine.specs.View.{View}
+use Rattle.script_run.specs.declared.status.Status.{Status}
+use Rattle.script_run.specs.declared.status.Status.TheVariants as S
+use Rattle.script_run.specs.Options.{shape_asked}
+use Rattle.script_run.specs.Headline.{RunsBytes, RunsScript, IsDone, IsStopped, IsUnbuiltInput}
+use Rattle.script_run.proofs.Inputs.{read_whole_of}
+use Rattle.gc_graph.specs.declared.action.ActionKind.{ActionKind}
+use Rattle.gc_graph.specs.State.{Shape}
+use Rattle.gc_graph.specs.Script.{Script}
+use Rattle.heap_script.specs.Scripts.{IsBuiltScript}
+
+-- an answer to the script is one to its bytes
+pub bytes_of_script : (kinds : List ActionKind) (shape : Shape) (bytes : List ℕ) (script : Script) (w z : Option (List ℕ)) (kept : Option View) (status : Status)
+    → IsBuiltScript (length kinds) bytes script → RunsScript kinds shape script w z kept status → RunsBytes kinds shape bytes w z kept status
+bytes_of_script kinds shape bytes script w z kept S.Done is answer = (script, is, answer)
+bytes_of_script kinds shape bytes script w z kept S.WriteFault is answer = (script, is, answer.0, answer.1)
+bytes_of_script kinds shape bytes script w z kept S.NoMemory is answer = answer
+bytes_of_script kinds shape bytes script w z kept S.TooLong is answer = absurd answer
+bytes_of_script kinds shape bytes script w z kept (S.Script line reason) is answer = absurd answer
+bytes_of_script kinds shape bytes script w z kept S.ReadFault is answer = absurd answer
+bytes_of_script kinds shape bytes script w z kept S.Usage is answer = absurd answer
+
+-- the bytes with which a run was answered were read
+pub record Answers (kinds : List ActionKind) (shape : Shape) (lo ln w z : Option (List ℕ)) (kept : Option View) (status : Status) : Type 0 where
+  pub bytes : List ℕ
+  pub read : IsReadFrom lo ln 16777216 bytes
+  pub answer : RunsBytes kinds shape bytes w z kept status
+
+done_of : (kinds : List ActionKind) (words : List (List ℕ)) (shape : Shape) → shape_asked words ≡ Some shape → (lo ln w z : Option (List ℕ)) (kept : Option View) (bytes : List ℕ) → IsReadFrom lo ln 16777216 bytes
+    → RunsBytes kinds shape bytes w z kept S.Done → MatchOption kept ⊥ (λ heap. IsDone kinds words lo ln w z heap)
+done_of kinds words shape asked lo ln w z None bytes read answer = answer.2
+done_of kinds words shape asked lo ln w z (Some heap) bytes read answer = record {
+  shape = shape;
+  asked = asked;
+  script = answer.0;
+  input = record { bytes = bytes; whole = read_whole_of lo ln bytes read answer.1.whole.limits; grammar = answer.1 };
+  run = answer.2;
+}
+
+pub answers_done : (kinds : List ActionKind) (words : List (List ℕ)) (shape : Shape) → shape_asked words ≡ Some shape → (lo ln w z : Option (List ℕ)) (kept : Option View) (status : Status) → Answers kinds shape lo ln w z kept status → status ≡ S.Done
+    → MatchOption kept ⊥ (λ heap. IsDone kinds words lo ln w z heap)
+answers_done kinds words shape asked lo ln w z kept status a is = done_of kinds words shape asked lo ln w z kept a.bytes a.read (subst (RunsBytes kinds shape a.bytes w z kept) is a.answer)
+
+pub answers_stopped : (kinds : List ActionKind) (words : List (List ℕ)) (shape : Shape) → shape_asked words ≡ Some shape → (lo ln w z : Option (List ℕ)) (kept : Option View) (status : Status) → Answers kinds shape lo ln w z kept status → status ≡ S.WriteFault
+    → IsStopped kinds words lo ln w z
+answers_stopped kinds words shape asked lo ln w z kept status a is =
+    let answer = subst (RunsBytes kinds shape a.bytes w z kept) is a.answer in
+    record {
+      shape = shape;
+      asked = asked;
+      script = answer.0;
+      input = record { bytes = a.bytes; whole = read_whole_of lo ln a.bytes a.read answer.1.whole.limits; grammar = answer.1 };
+      run = answer.3;
+    }
+
+pub answers_script : (kinds : List ActionKind) (shape : Shape) (lo ln w z : Option (List ℕ)) (kept : Option View) (status : Status) → Answers kinds shape lo ln w z kept status
+    → (line reason : ℕ) → status ≡ S.Script line reason → (reason ≡ 9) × IsUnbuiltInput (length kinds) lo ln line
+answers_script kinds shape lo ln w z kept status a line reason is =
+    let answer = subst (RunsBytes kinds shape a.bytes w z kept) is a.answer in (
+      answer.2,
+      record {
+        bytes = a.bytes;
+        whole = read_whole_of lo ln a.bytes a.read answer.3;
+        limits = answer.3;
+        place = answer.4.0;
+        line_is = answer.4.1;
+        unbuilt = answer.4.2;
+      },
+    )
+
+-- ---- a heap is seen by its core
+
+-- what is so of what is seen of a heap, where one is kept
+pub of_kept : {A B : Type 0} (seen : A → B) (P : B → Type 0) (kept : Option A) → MatchOption (option_map seen kept) ⊥ P → MatchOption kept ⊥ (λ heap. P (seen heap))
+of_kept seen P None is = is
+of_kept seen P (Some heap) is = is

@@ -1,0 +1,48 @@
+-- What a script of which all is built has for the heap.
+use Rattle.std.proofs.Common.{◌≡◌, ℕ, ◌<◌, ◌&&◌, Bool, false, List, [], ◌∷◌, All, true, true≢false, refl, sym, ◌∙◌, arith}
+use Rattle.std.specs.Prelude.{nat_lt}
+use Rattle.std.specs.List.{list_all}
+use Rattle.std.proofs.lemmas.Bool.{ltb-true, lt-ltb, not-true}
+use Rattle.std.proofs.lemmas.List.Elements.{All-head, All-tail}
+use Rattle.std.proofs.lemmas.List.Quantifiers.{position-Some}
+use Rattle.gc_graph.specs.State.{ObjectType, no_type}
+use Rattle.gc_graph.specs.Script.{Script}
+use Rattle.gc_graph.specs.ScriptLaw.{ScriptsAreInRanges}
+use Rattle.type_table.specs.declared.faults.TypeFault.TheVariants.{TooManyFields, NoCallback}
+use Rattle.type_table.specs.Faults.{AreGoodTypes, IsTypeFault, is_too_wide, names_none}
+use Rattle.heap_script.specs.Scripts.{IsBuiltScript}
+use Rattle.heap_engine.specs.Objects.{HaveCallbacks}
+use Rattle.script_run.specs.Setting.{IsRunnable}
+
+pub script_is_runnable : (callbacks : ℕ) (bytes : List ℕ) (script : Script) → ScriptsAreInRanges → IsBuiltScript callbacks bytes script → IsRunnable callbacks script
+script_is_runnable callbacks bytes script law is = record { commands = is.commands; ranges = law callbacks bytes script is.whole }
+
+pub have_callbacks : (callbacks : ℕ) (script : Script) → IsRunnable callbacks script → HaveCallbacks callbacks script.types
+have_callbacks callbacks script runnable = record { few = runnable.ranges.modest; known = runnable.ranges.known }
+
+-- ---- types that make a table
+
+pub types_are_good : (callbacks : ℕ) (script : Script) → IsRunnable callbacks script → AreGoodTypes callbacks script.types
+types_are_good callbacks script runnable =
+    record { few = runnable.ranges.sorts; narrow = runnable.ranges.narrow; known = runnable.ranges.known }
+
+pub none_too_wide : (callbacks : ℕ) (types : List ObjectType) (ty : ℕ) → AreGoodTypes callbacks types → IsTypeFault callbacks types (TooManyFields ty) → ⊥
+none_too_wide callbacks types ty good fault =
+    let first = position-Some is_too_wide types ty no_type fault.first in
+    omega (arith, ltb-true 64 _ first.1, good.narrow ty no_type first.0)
+
+both_true : (a b : Bool) → a ≡ true → b ≡ true → (a && b) ≡ true
+both_true true b is also = also
+both_true false b is also = absurd (true≢false (sym is))
+
+all_known : (callbacks : ℕ) (numbers : List ℕ) → All (λ number. number < callbacks) numbers → list_all (λ number. nat_lt number callbacks) numbers ≡ true
+all_known callbacks [] known = refl
+all_known callbacks (n ∷ numbers) known =
+    both_true (nat_lt n callbacks) (list_all (λ number. nat_lt number callbacks) numbers)
+    (lt-ltb n callbacks (All-head (λ number. number < callbacks) n numbers known))
+    (all_known callbacks numbers (All-tail (λ number. number < callbacks) n numbers known))
+
+pub none_unknown : (callbacks : ℕ) (types : List ObjectType) (ty callback : ℕ) → AreGoodTypes callbacks types → IsTypeFault callbacks types (NoCallback ty callback) → ⊥
+none_unknown callbacks types ty callback good fault =
+    let first = position-Some (names_none callbacks) types ty no_type fault.first in
+    true≢false (sym (all_known callbacks _ (good.known ty no_type first.0)) ∙ not-true _ first.1)

@@ -1,0 +1,15 @@
+use Rattle.std.proofs.Common.{◌≡◌, false, take}
+use Rattle.heap_script.specs.Pieces.{with_held, TookMore}
+use Rattle.script_run.specs.Printed.{IsPrintedRun}
+use Rattle.script_run.proofs.report.print_all.Given as goal
+
+abbrev pub invariant-loop-command : goal.invariant-loop-command
+invariant-loop-command g l = record {
+  setup : l.heap.core.setup ≡ l.initial.heap.core.setup;
+  ordinal : l.heap.core.state.ordinal ≡ l.command-index;
+  opened : l.heap.core.closed ≡ false;
+  steady : g.K.Sink.faults l.sink ≡ g.K.Sink.faults l.initial.sink;
+  taken : TookMore (g.K.Sink.written l.initial.sink) (g.K.Sink.written l.sink);
+  printed : IsPrintedRun l.initial.heap.core.setup (take l.command-index l.commands)
+      (with_held (g.K.Sink.written l.initial.sink) l.initial.pieces) (with_held (g.K.Sink.written l.sink) l.pieces) l.heap.core;
+}

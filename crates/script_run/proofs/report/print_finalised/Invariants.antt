@@ -1,0 +1,14 @@
+use Rattle.std.proofs.Common.{◌≡◌, take}
+use Rattle.gc_graph.specs.Outcomes.{finalise_lines}
+use Rattle.gc_graph.specs.Report.{lines_bytes}
+use Rattle.heap_script.specs.Devices.{Grew}
+use Rattle.heap_script.specs.Pieces.{with_held, TookMore}
+use Rattle.script_run.proofs.report.print_finalised.Given as goal
+
+abbrev pub invariant-loop-number : goal.invariant-loop-number
+invariant-loop-number g l = record {
+  steady : g.K.Sink.faults l.sink ≡ g.K.Sink.faults l.initial.sink;
+  taken : TookMore (g.K.Sink.written l.initial.sink) (g.K.Sink.written l.sink);
+  printed : Grew (with_held (g.K.Sink.written l.initial.sink) l.initial.pieces) (with_held (g.K.Sink.written l.sink) l.pieces)
+      (lines_bytes (take l.number-index (finalise_lines l.numbers)));
+}

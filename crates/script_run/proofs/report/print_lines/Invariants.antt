@@ -1,0 +1,13 @@
+use Rattle.std.proofs.Common.{◌≡◌, take}
+use Rattle.gc_graph.specs.Report.{lines_bytes}
+use Rattle.heap_script.specs.Devices.{Grew}
+use Rattle.heap_script.specs.Pieces.{with_held, TookMore}
+use Rattle.script_run.proofs.report.print_lines.Given as goal
+
+abbrev pub invariant-loop-index : goal.invariant-loop-index
+invariant-loop-index g l = record {
+  same : l.heap.core ≡ l.fn.heap.core;
+  steady : g.K.Sink.faults l.sink ≡ g.K.Sink.faults l.fn.sink;
+  taken : TookMore (g.K.Sink.written l.fn.sink) (g.K.Sink.written l.sink);
+  printed : Grew (with_held (g.K.Sink.written l.fn.sink) l.fn.pieces) (with_held (g.K.Sink.written l.sink) l.pieces) (lines_bytes (take l.index l.fn.heap.core.lines));
+}

@@ -1,0 +1,206 @@
+// The report of a script, printed while its commands are done.
+
+ghost use Rattle.std.specs.Prelude.{◌≡◌, ◌+◌, ◌++◌, ◌<◌, ◌≤◌, true};
+ghost use Rattle.std.specs.Prelude.{false, [], length, All, OnOk, OnErr};
+ghost use Rattle.gc_graph.specs.State.{empty_state};
+ghost use Rattle.gc_graph.specs.Step.{Step};
+ghost use Rattle.built_forms.specs.Built.{is_built, AreBuiltCommands};
+ghost use Rattle.gc_graph.specs.Outcomes.{finalise_lines};
+ghost use Rattle.gc_graph.specs.Lawful.{IsAllowed};
+ghost use Rattle.gc_graph.specs.Report.{line_bytes, lines_bytes};
+ghost use Rattle.heap_script.specs.Causes.{HasCause};
+ghost use Rattle.heap_script.specs.Devices.{Writes};
+ghost use Rattle.heap_script.specs.Pieces.{no_pieces, with_held, TookMore};
+ghost use Rattle.script_run.specs.Setting.{IsRunnable, setup_of, script_on};
+ghost use Rattle.script_run.specs.Printed.{IsPrintedRun, IsPartRun, counted_lines};
+ghost use Rattle.script_run.specs.Headline.{IsWholeRun, IsCutShort};
+
+use gc_graph::{Command, Line};
+use heap_engine::Heap;
+use heap_script::{Failed, Pieces, Sink};
+
+/// Does the commands of a script on a new heap, prints the report, and closes the heap. So many
+/// types has the heap.
+pub(crate) fn print_report<K: Sink>(
+    heap: &mut Heap<'_>,
+    types: u32,
+    commands: &[Command],
+    pieces: &mut Pieces,
+    sink: &mut K,
+) -> Result<(), Failed>
+    requires runnable { IsRunnable (length heap.old.core.setup.callbacks)
+        (script_on heap.old.core.setup commands.now) }
+    requires setup { heap.old.core.setup ≡ setup_of heap.old.core.setup.callbacks
+        heap.old.core.setup.shape heap.old.core.setup.types }
+    requires types { types ≡ length heap.old.core.setup.types }
+    requires start { heap.old.core.state ≡ empty_state }
+    requires fresh { heap.old.core.history ≡ [] }
+    requires opened { heap.old.core.closed ≡ false }
+    requires empty { pieces.old ≡ no_pieces }
+    ensures done { OnOk result
+        (IsWholeRun heap.old.core.setup.callbacks heap.old.core.setup.shape
+        (script_on heap.old.core.setup commands.now)
+        (K.written sink.old) (K.written sink.new) heap.new.core) }
+    ensures part { OnErr result
+        (IsCutShort heap.old.core.setup.callbacks heap.old.core.setup.shape
+        (script_on heap.old.core.setup commands.now)
+        (K.written sink.old) (K.written sink.new)) }
+    ensures cause { HasCause (K.faults sink.old) (K.faults sink.new) result }
+{
+    gc_graph::runs_are_replayed();
+    match print_types(types, pieces, sink) {
+        Ok(()) => {}
+        Err(failed) => return Err(failed),
+    }
+    match print_all(heap, commands, pieces, sink) {
+        Ok(()) => {}
+        Err(failed) => return Err(failed),
+    }
+    let end = heap.close();
+    print_end(&end, pieces, sink)
+}
+
+/// Prints the last line, and hands down all that is held.
+fn print_end<K: Sink>(line: &Line, pieces: &mut Pieces, sink: &mut K) -> Result<(), Failed>
+    ensures bytes { Writes (with_held (K.written sink.old) pieces.old)
+        (with_held (K.written sink.new) pieces.new) (line_bytes line.now) result }
+    ensures empty { OnOk result (pieces.new ≡ no_pieces) }
+    ensures taken { TookMore (K.written sink.old) (K.written sink.new) }
+    ensures cause { HasCause (K.faults sink.old) (K.faults sink.new) result }
+{
+    match pieces.print(line, sink) {
+        Ok(()) => pieces.hand_down(sink),
+        Err(failed) => Err(failed),
+    }
+}
+
+/// Prints a line for each of so many types.
+fn print_types<K: Sink>(count: u32, pieces: &mut Pieces, sink: &mut K) -> Result<(), Failed>
+    ensures bytes { Writes (with_held (K.written sink.old) pieces.old)
+        (with_held (K.written sink.new) pieces.new) (lines_bytes (counted_lines count)) result }
+    ensures taken { TookMore (K.written sink.old) (K.written sink.new) }
+    ensures cause { HasCause (K.faults sink.old) (K.faults sink.new) result }
+{
+    for t in 0..count {
+        match pieces.print(&Line::TypeLine { t }, sink) {
+            Ok(()) => {}
+            Err(failed) => return Err(failed),
+        }
+    }
+    Ok(())
+}
+
+/// Does the commands in order, and prints each outcome.
+fn print_all<K: Sink>(
+    heap: &mut Heap<'_>,
+    commands: &[Command],
+    pieces: &mut Pieces,
+    sink: &mut K,
+) -> Result<(), Failed>
+    requires start { heap.old.core.state ≡ empty_state }
+    requires fresh { heap.old.core.history ≡ [] }
+    requires opened { heap.old.core.closed ≡ false }
+    requires allowed { All (IsAllowed (length heap.old.core.setup.types)) commands.now }
+    requires few { length commands.now ≤ 1000000 }
+    requires built { AreBuiltCommands commands.now }
+    ensures done { OnOk result (IsPrintedRun heap.old.core.setup commands.now
+        (with_held (K.written sink.old) pieces.old)
+        (with_held (K.written sink.new) pieces.new) heap.new.core) }
+    ensures part { OnErr result (IsPartRun heap.old.core.setup commands.now
+        (with_held (K.written sink.old) pieces.old)
+        (with_held (K.written sink.new) pieces.new)) }
+    ensures taken { TookMore (K.written sink.old) (K.written sink.new) }
+    ensures setup { heap.new.core.setup ≡ heap.old.core.setup }
+    ensures count { OnOk result (heap.new.core.state.ordinal ≡ length commands.now) }
+    ensures cause { HasCause (K.faults sink.old) (K.faults sink.new) result }
+{
+    for command in commands {
+        match print_outcome(heap, command, pieces, sink) {
+            Ok(()) => {}
+            Err(failed) => return Err(failed),
+        }
+    }
+    Ok(())
+}
+
+/// Does a command, and prints the lines of its outcome.
+fn print_outcome<K: Sink>(
+    heap: &mut Heap<'_>,
+    command: &Command,
+    pieces: &mut Pieces,
+    sink: &mut K,
+) -> Result<(), Failed>
+    requires few { heap.old.core.state.ordinal < 1000000 }
+    requires opened { heap.old.core.closed ≡ false }
+    requires allowed { IsAllowed (length heap.old.core.setup.types) command.now }
+    requires built { is_built command.now ≡ true }
+    ensures step { Step heap.old.core.setup heap.old.core.state command.now
+        heap.new.core.piece heap.new.core.lines heap.new.core.state }
+    ensures alone { heap.new.core.state.running ≡ [] }
+    ensures bytes { Writes (with_held (K.written sink.old) pieces.old)
+        (with_held (K.written sink.new) pieces.new) (lines_bytes heap.new.core.lines) result }
+    ensures taken { TookMore (K.written sink.old) (K.written sink.new) }
+    ensures history { heap.new.core.history ≡ heap.old.core.history ++ heap.new.core.piece }
+    ensures ordinal { heap.new.core.state.ordinal ≡ heap.old.core.state.ordinal + 1 }
+    ensures setup { heap.new.core.setup ≡ heap.old.core.setup }
+    ensures closed { heap.new.core.closed ≡ false }
+    ensures cause { HasCause (K.faults sink.old) (K.faults sink.new) result }
+{
+    let count = heap.act(command);
+    if let Some(line) = heap.only_line() {
+        return pieces.print(line, sink);
+    }
+    print_lines(heap, count, pieces, sink)
+}
+
+/// Prints the lines of the last outcome, so many.
+#[inline(never)]
+fn print_lines<K: Sink>(
+    heap: &mut Heap<'_>,
+    count: u32,
+    pieces: &mut Pieces,
+    sink: &mut K,
+) -> Result<(), Failed>
+    requires { count ≡ length heap.old.core.lines }
+    ensures bytes { Writes (with_held (K.written sink.old) pieces.old)
+        (with_held (K.written sink.new) pieces.new) (lines_bytes heap.old.core.lines) result }
+    ensures taken { TookMore (K.written sink.old) (K.written sink.new) }
+    ensures same { heap.new.core ≡ heap.old.core }
+    ensures cause { HasCause (K.faults sink.old) (K.faults sink.new) result }
+{
+    let numbers = heap.finalised();
+    let first = numbers.len() as u32;
+    match print_finalised(numbers, pieces, sink) {
+        Ok(()) => {}
+        Err(failed) => return Err(failed),
+    }
+    for index in first..count {
+        let line = heap.line(index);
+        match pieces.print(&line, sink) {
+            Ok(()) => {}
+            Err(failed) => return Err(failed),
+        }
+    }
+    Ok(())
+}
+
+/// Prints a line for each node that was finalised.
+fn print_finalised<K: Sink>(
+    numbers: &[u32],
+    pieces: &mut Pieces,
+    sink: &mut K,
+) -> Result<(), Failed>
+    ensures bytes { Writes (with_held (K.written sink.old) pieces.old)
+        (with_held (K.written sink.new) pieces.new)
+        (lines_bytes (finalise_lines numbers.now)) result }
+    ensures taken { TookMore (K.written sink.old) (K.written sink.new) }
+    ensures cause { HasCause (K.faults sink.old) (K.faults sink.new) result }
+{
+    for number in numbers {
+        match pieces.print(&Line::Finalise { k: *number }, sink) {
+            Ok(()) => {}
+            Err(failed) => return Err(failed),
+        }
+    }
+    Ok(())
+}
