@@ -15,7 +15,7 @@
 //! risen, and after it a beginning of the text was written, and the rest is still held.
 //!
 //! What is only tested or not said: that memory suffices, where one piece ends and the next begins,
-//! and how long a call takes. The tests stand in `cppgc_main`.
+//! and how long a call takes. The tests stand in `heap_script_tests`.
 #![tactic(auto)]
 
 mod command_lines;
