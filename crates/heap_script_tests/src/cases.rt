@@ -1,0 +1,84 @@
+// A table of scripts, each with its first fault.
+
+use heap_script::{ScriptFault, number_below, read_built, read_script};
+use std::alloc::{AllocError, Global};
+
+/// Which reader is asked. Each has one callback.
+#[derive(Clone, Copy, Drop)]
+pub(crate) enum Reader {
+    /// Of all that the grammar has.
+    Whole,
+    /// Of what is built.
+    Built,
+}
+
+/// The number of the first case whose script has another fault, counted from 1. A case is a line of
+/// the table: what stands between `before` and `after` in the script, where a slash stands for the
+/// end of a line; a bar; and the line and the reason of the first fault, or `none`.
+pub(crate) fn first_wrong(
+    alloc: Global,
+    reader: Reader,
+    before: &str,
+    table: &str,
+    after: &str,
+) -> Option<u32> {
+    for (case, number) in table.lines().zip(1u32..) {
+        if !is_right(alloc, reader, before, case, after) {
+            return Some(number);
+        }
+    }
+    None
+}
+
+fn is_right(alloc: Global, reader: Reader, before: &str, case: &str, after: &str) -> bool {
+    match case.split_once('|') {
+        Some((inside, wanted)) => match script_of(alloc, before, inside, after) {
+            Ok(script) => has_fault(alloc, reader, &script, wanted),
+            Err(_) => false,
+        },
+        None => false,
+    }
+}
+
+fn script_of(
+    alloc: Global,
+    before: &str,
+    inside: &str,
+    after: &str,
+) -> Result<Vec<u8>, AllocError> {
+    let mut script = Vec::new(alloc);
+    add_lines(&mut script, before)?;
+    add_lines(&mut script, inside)?;
+    add_lines(&mut script, after)?;
+    Ok(script)
+}
+
+/// Adds the text with an end of a line for each slash.
+pub(crate) fn add_lines(script: &mut Vec<u8>, text: &str) -> Result<(), AllocError> {
+    for byte in text.as_bytes() {
+        script.push(if *byte == b'/' { b'\n' } else { *byte })?;
+    }
+    Ok(())
+}
+
+/// Whether the script has the fault that is wanted.
+pub(crate) fn has_fault(alloc: Global, reader: Reader, script: &[u8], wanted: &str) -> bool {
+    let read = match reader {
+        Reader::Whole => read_script(alloc, script, 1),
+        Reader::Built => read_built(alloc, script, 1),
+    };
+    match read {
+        Ok(_script) => wanted == "none",
+        Err(fault) => is_fault(&fault, wanted),
+    }
+}
+
+fn is_fault(fault: &ScriptFault, wanted: &str) -> bool {
+    match wanted.split_once(' ') {
+        Some((line, reason)) => {
+            number_below(u32::MAX, line.as_bytes()) == Some(fault.line)
+                && number_below(10, reason.as_bytes()) == Some(fault.reason)
+        }
+        None => false,
+    }
+}

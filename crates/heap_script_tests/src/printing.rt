@@ -1,0 +1,167 @@
+// The text of each line of a report, by hand from the report's forms.
+
+use gc_graph::{Entry, Line, Op, Refusal, Reply};
+use heap_script::{ListSink, Pieces, print_line};
+use std::test::Fail;
+
+const TEXTS: &str = "\
+type 0
+node 1 at 4294967295
+full
+memory
+refused phase
+refused null
+refused field
+refused kind
+refused stack
+refused empty
+ok
+node 7
+null
+word 18446744073709551615
+started
+step traced 5 done
+step traced 6 more
+prefinalise 3 4
+finalise 12
+swept to 90
+queued
+going 2
+joined 8
+pause kept 1 dead 2 crew 0 traced 3 walked 1
+pause kept 9 dead 0 crew 4 traced 5 walked 0
+objects 4 used 5 pages 6
+end objects 4 used 5 pages 6
+reply 8 totals 1 2 3 18446744073709551615
+summary commands 1 cycles 2 objects 3 used 4 finalised 5 full 18446744073709551615
+reply 1 done
+reply 2 node 10
+reply 3 null
+reply 8 memory
+entry 0 export 31 7 done
+entry 0 import 5 node 7
+entry 0 start done
+entry 0 pause 3 done
+entry 1 copy 2 3 done
+entry 2 clear 4 done
+entry 3 weaken 6 done
+entry 8 upgrade 8 9 null
+";
+
+/// The line whose text has this place among the texts.
+fn line_at(place: u32) -> Line {
+    match place {
+        0 => Line::TypeLine { t: 0 },
+        1 => Line::Placed { k: 1, a: u32::MAX },
+        2 => Line::Full,
+        3 => Line::Memory,
+        4 => Line::Refused(Refusal::Phase),
+        5 => Line::Refused(Refusal::Null),
+        6 => Line::Refused(Refusal::Field),
+        7 => Line::Refused(Refusal::Kind),
+        8 => Line::Refused(Refusal::Stack),
+        9 => Line::Refused(Refusal::Empty),
+        10 => Line::Fine,
+        11 => Line::Node { k: 7 },
+        12 => Line::Null,
+        13 => Line::Word { n: u64::MAX },
+        14 => Line::Started,
+        15 => Line::Step { t: 5, done: true },
+        16 => Line::Step { t: 6, done: false },
+        17 => Line::Prefinalise { k: 3, c: 4 },
+        18 => Line::Finalise { k: 12 },
+        19 => Line::Swept { c: 90 },
+        20 => Line::Queued,
+        21 => Line::Going { m: 2 },
+        22 => Line::Joined { m: 8 },
+        23 => Line::Pause {
+            kept: 1,
+            dead: 2,
+            crew: 0,
+            traced: 3,
+            walked: true,
+        },
+        24 => Line::Pause {
+            kept: 9,
+            dead: 0,
+            crew: 4,
+            traced: 5,
+            walked: false,
+        },
+        25 => Line::Objects { n: 4, u: 5, g: 6 },
+        26 => Line::End { n: 4, u: 5, g: 6 },
+        27 => Line::ReplyTotals {
+            j: 8,
+            o: 1,
+            n: 2,
+            u: 3,
+            f: u64::MAX,
+        },
+        28 => Line::Summary {
+            c: 1,
+            y: 2,
+            n: 3,
+            u: 4,
+            f: 5,
+            full: u64::MAX,
+        },
+        29 => Line::Reply {
+            j: 1,
+            reply: Reply::Done,
+        },
+        30 => Line::Reply {
+            j: 2,
+            reply: Reply::Node(10),
+        },
+        31 => Line::Reply {
+            j: 3,
+            reply: Reply::Null,
+        },
+        32 => Line::Reply {
+            j: 8,
+            reply: Reply::NoMemory,
+        },
+        33 => entry(0, Op::Export { slot: 31, node: 7 }, Reply::Done),
+        34 => entry(0, Op::Import { slot: 5 }, Reply::Node(7)),
+        35 => entry(0, Op::Start, Reply::Done),
+        36 => entry(0, Op::Pause { cleared: 3 }, Reply::Done),
+        37 => entry(1, Op::Copy { from: 2, into: 3 }, Reply::Done),
+        38 => entry(2, Op::Clear { slot: 4 }, Reply::Done),
+        39 => entry(3, Op::Weaken { slot: 6 }, Reply::Done),
+        _ => entry(8, Op::Upgrade { from: 8, into: 9 }, Reply::Null),
+    }
+}
+
+fn entry(thread: u32, op: Op, reply: Reply) -> Line {
+    Line::Entry(Entry { thread, op, reply })
+}
+
+/// Whether the line is held back, and comes out as wanted, with its end, and again when it is
+/// written at once.
+fn is_printed(line: &Line, pieces: &mut Pieces, sink: &mut ListSink, wanted: &str) -> bool {
+    let start = sink.bytes().len();
+    let is_told = pieces.print(line, sink).is_ok();
+    let is_held = sink.bytes().len() == start;
+    let is_out = pieces.hand_down(sink).is_ok();
+    let middle = sink.bytes().len();
+    let is_written = print_line(line, sink).is_ok();
+    let first = sink.bytes().get(start..middle).unwrap_or(b"");
+    let second = sink.bytes().get(middle..).unwrap_or(b"");
+    is_told && is_held && is_out && is_written && is_line(first, wanted) && is_line(second, wanted)
+}
+
+fn is_line(bytes: &[u8], wanted: &str) -> bool {
+    bytes.strip_suffix(b"\n") == Some(wanted.as_bytes())
+}
+
+#[test]
+fn report_lines_are_printed(rt: HostRuntime) -> Result<(), Fail> {
+    let mut sink = ListSink::new(rt.alloc(), 5, Vec::new(rt.alloc()));
+    sink.reserve(4000)?;
+    let mut pieces = Pieces::new(rt.alloc())?;
+    for (wanted, place) in TEXTS.lines().zip(0u32..) {
+        let is_right = is_printed(&line_at(place), &mut pieces, &mut sink, wanted);
+        assert!(rt; is_right, "{wanted}");
+    }
+    Ok(())
+}
