@@ -13,26 +13,21 @@ pub(crate) enum Reader {
 }
 
 /// The number of the first case whose script has another fault, counted from 1. A case is a line of
-/// the table: what stands between `before` and `after` in the script, where a slash stands for the
-/// end of a line; a bar; and the line and the reason of the first fault, or `none`.
-pub(crate) fn first_wrong(
-    alloc: Global,
-    reader: Reader,
-    before: &str,
-    table: &str,
-    after: &str,
-) -> Option<u32> {
+/// the table: what follows `before` in the script, a bar, and the line and the reason of the first
+/// fault, or `none`. Where more bars stand before that one, they part the beginning, what stands
+/// after it over and over, how often, and the rest. A slash is the end of a line.
+pub(crate) fn first_wrong(alloc: Global, reader: Reader, before: &str, table: &str) -> Option<u32> {
     for (case, number) in table.lines().zip(1u32..) {
-        if !is_right(alloc, reader, before, case, after) {
+        if !is_right(alloc, reader, before, case) {
             return Some(number);
         }
     }
     None
 }
 
-fn is_right(alloc: Global, reader: Reader, before: &str, case: &str, after: &str) -> bool {
-    match case.split_once('|') {
-        Some((inside, wanted)) => match script_of(alloc, before, inside, after) {
+fn is_right(alloc: Global, reader: Reader, before: &str, case: &str) -> bool {
+    match case.rsplit_once('|') {
+        Some((parts, wanted)) => match script_of(alloc, before, parts) {
             Ok(script) => has_fault(alloc, reader, &script, wanted),
             Err(_) => false,
         },
@@ -40,29 +35,28 @@ fn is_right(alloc: Global, reader: Reader, before: &str, case: &str, after: &str
     }
 }
 
-fn script_of(
-    alloc: Global,
-    before: &str,
-    inside: &str,
-    after: &str,
-) -> Result<Vec<u8>, AllocError> {
+fn script_of(alloc: Global, before: &str, parts: &str) -> Result<Vec<u8>, AllocError> {
     let mut script = Vec::new(alloc);
+    let mut parts = parts.split('|');
     add_lines(&mut script, before)?;
-    add_lines(&mut script, inside)?;
-    add_lines(&mut script, after)?;
+    add_lines(&mut script, parts.next().unwrap_or(""))?;
+    let piece = parts.next().unwrap_or("");
+    let count = parts.next().unwrap_or("").as_bytes();
+    for _turn in 0..number_below(16_777_216, count).unwrap_or(0) {
+        add_lines(&mut script, piece)?;
+    }
+    add_lines(&mut script, parts.next().unwrap_or(""))?;
     Ok(script)
 }
 
-/// Adds the text with an end of a line for each slash.
-pub(crate) fn add_lines(script: &mut Vec<u8>, text: &str) -> Result<(), AllocError> {
+fn add_lines(script: &mut Vec<u8>, text: &str) -> Result<(), AllocError> {
     for byte in text.as_bytes() {
         script.push(if *byte == b'/' { b'\n' } else { *byte })?;
     }
     Ok(())
 }
 
-/// Whether the script has the fault that is wanted.
-pub(crate) fn has_fault(alloc: Global, reader: Reader, script: &[u8], wanted: &str) -> bool {
+fn has_fault(alloc: Global, reader: Reader, script: &[u8], wanted: &str) -> bool {
     let read = match reader {
         Reader::Whole => read_script(alloc, script, 1),
         Reader::Built => read_built(alloc, script, 1),

@@ -2,7 +2,9 @@
 
 use super::cases::{Reader, first_wrong};
 
-const HEADERS: &str = "\
+// Whole scripts. The first line is the header; the last line may be cut off; types come before
+// commands; letters, callbacks, bytes and lines have limits, and long words are read whole.
+const SCRIPTS: &str = "\
 |1 1
 /|1 1
 /oilpan 1/|1 1
@@ -13,16 +15,41 @@ oilpan 1\r/|1 1
 oilpan\t1/|1 1
   oilpan   1  |none
 oilpan 1//   /|none
+oilpan 1/type S/new 0 0/set 0|4 4
+oilpan 1/type S/new 0 0/threads join|4 7
+oilpan 1/at 1 totals/threads go/set 0|4 4
+oilpan 1/drop 0/drop 256/drop x/|3 5
+oilpan 1//type -//type S/stat/|none
+oilpan 1/stat/type S/|3 6
+oilpan 1/stat/type X/|3 2
+oilpan 1/stat/type S pre 1/|3 5
+oilpan 1/type S/new 0 1/type S/|3 5
+oilpan 1/type S/at 1 totals/type S/|4 6
+oilpan 1/type SWEP pre 0/type |W|64||none
+oilpan 1/type SWEP pre 0/type |W|64|P|3 5
+oilpan 1/type SWEP pre 0/type |W|64|P-|3 2
+oilpan 1/type SWEP pre 0/type S pre| 0|16||none
+oilpan 1/type SWEP pre 0/type S pre| 0|16| 0|3 5
+oilpan 1/type SWEP pre 0/type S pre| 0|16| 0 x|3 3
+oilpan 1/type SWEP pre 0/drop |1|70000||3 3
+oilpan 1/type SWEP pre 0/|s|70000||3 2
+oilpan 1/foo/|/|999998||2 2
+oilpan 1/foo/|/|999998| |0 8
+oilpan 1/|/|999999||none
+oilpan 1/|/|999999|/|0 8
+oilpan 1| |16777208||none
+oilpan 1| |16777208| |0 8
 ";
 
 #[test]
-fn header_is_the_first_line(rt: HostRuntime) {
-    let wrong = first_wrong(rt.alloc(), Reader::Whole, "", HEADERS, "");
+fn scripts_have_their_first_fault(rt: HostRuntime) {
+    let wrong = first_wrong(rt.alloc(), Reader::Whole, "", SCRIPTS);
     assert_eq!(rt; wrong, None);
 }
 
-// A line of its own, after one type and with one callback.
-const WORDS: &str = "\
+// A line of its own, after one type and with one callback, and the lowest reason that it has. At the
+// end both edges of each range.
+const LINES: &str = "\
 foo|3 2
 foo x y z|3 2
 Drop 0|3 2
@@ -89,44 +116,80 @@ threads|3 4
 threads go now|3 4
 type|3 4
 type S pre|3 4
+new 255 0|none
+new 256 0|3 5
+new 0 0|none
+new 0 1|3 5
+new 0 0 33554432|none
+new 0 0 33554433|3 5
+set 255 0 0|none
+set 256 0 0|3 5
+set 0 67108863 0|none
+set 0 67108864 0|3 5
+set 0 0 255|none
+set 0 0 256|3 5
+pair 0 67108863 0 0|none
+pair 0 67108864 0 0|3 5
+pair 0 0 255 0|none
+pair 0 0 256 0|3 5
+pair 0 0 0 255|none
+pair 0 0 0 256|3 5
+put 255 0 18446744073709551615|none
+put 256 0 0|3 5
+word 0 67108863|none
+word 0 67108864|3 5
+get 0 0 255|none
+get 0 0 256|3 5
+key 0 67108863 0|none
+key 0 67108864 0|3 5
+val 255 0 0|none
+val 256 0 0|3 5
+copy 0 255|none
+copy 0 256|3 5
+drop 255|none
+drop 18446744073709551615|3 5
+weak 63 255|none
+weak 64 0|3 5
+read 63 255|none
+read 0 256|3 5
+push 255 67108863|none
+push 0 67108864|3 5
+push# 18446744073709551615|none
+push 256 0|3 5
+peek 1023 255|none
+peek 1024 0|3 5
+gc step 1|none
+gc step 0|3 5
+gc step 4294967295|none
+gc step 4294967296|3 5
+sweep 1|none
+sweep 0|3 5
+sweep 4294967295|none
+sweep 4294967296|3 5
+sweep all|none
+sweep 18446744073709551615|3 5
+export 255 31|none
+export 0 32|3 5
+import 31 255|none
+import 32 0|3 5
+type S pre 0|none
+type S pre 1|3 5
+type - pre 0 0|none
+type - pre 0 4294967296|3 5
 ";
 
 #[test]
-fn lowest_reason_of_a_line_is_told(rt: HostRuntime) {
-    let before = "oilpan 1/type SWEP pre 0/";
-    let wrong = first_wrong(rt.alloc(), Reader::Whole, before, WORDS, "");
+fn lines_have_their_lowest_reason(rt: HostRuntime) {
+    let wrong = first_wrong(
+        rt.alloc(),
+        Reader::Whole,
+        "oilpan 1/type SWEP pre 0/",
+        LINES,
+    );
     assert_eq!(rt; wrong, None);
 }
 
-const TRUNCATED: &str = "\
-oilpan 1/type S/new 0 0/set 0|4 4
-oilpan 1/type S/new 0 0/threads join|4 7
-oilpan 1/at 1 totals/threads go/set 0|4 4
-oilpan 1/drop 0/drop 256/drop x/|3 5
-";
-
-#[test]
-fn truncated_script_has_a_fault_of_its_last_line(rt: HostRuntime) {
-    let wrong = first_wrong(rt.alloc(), Reader::Whole, "", TRUNCATED, "");
-    assert_eq!(rt; wrong, None);
-}
-
-const TYPES: &str = "\
-oilpan 1//type -//type S/stat/|none
-oilpan 1/stat/type S/|3 6
-oilpan 1/stat/type X/|3 2
-oilpan 1/stat/type S pre 1/|3 5
-oilpan 1/type S/new 0 1/type S/|3 5
-oilpan 1/type S/at 1 totals/type S/|4 6
-";
-
-#[test]
-fn types_come_before_commands(rt: HostRuntime) {
-    let wrong = first_wrong(rt.alloc(), Reader::Whole, "", TYPES, "");
-    assert_eq!(rt; wrong, None);
-}
-
-// Lines after the header.
+// Lines after the header: the threads' sections, and the ranges of their orders.
 const SECTIONS: &str = "\
 at 1 totals/threads go/stat/threads join/|none
 at 8 totals/stat//at 1 clear 0/threads go/threads join//|none
@@ -141,11 +204,21 @@ at 1 totals/threads go/threads go/|4 7
 at 1 totals/threads go/threads join/threads go/|5 7
 at 1 totals/threads go/threads join/threads join/|5 7
 at 1 totals/threads go/threads join/at 2 totals/stat|6 7
+at 1 totals/threads go/threads join/|none
+at 8 clear 31/threads go/threads join/|none
+at 8 weaken 31/threads go/threads join/|none
+at 1 upgrade 31 31/threads go/threads join/|none
+at 0 totals/threads go/threads join/|2 5
+at 9 totals/threads go/threads join/|2 5
+at 1 clear 32/threads go/threads join/|2 5
+at 1 weaken 32/threads go/threads join/|2 5
+at 1 copy 0 32/threads go/threads join/|2 5
+at 1 upgrade 32 0/threads go/threads join/|2 5
 ";
 
 #[test]
 fn threads_have_their_sections(rt: HostRuntime) {
-    let wrong = first_wrong(rt.alloc(), Reader::Whole, "oilpan 1/", SECTIONS, "");
+    let wrong = first_wrong(rt.alloc(), Reader::Whole, "oilpan 1/", SECTIONS);
     assert_eq!(rt; wrong, None);
 }
 
@@ -172,6 +245,6 @@ oilpan 1/at 1 totals/stat/|2 9
 
 #[test]
 fn first_line_that_is_not_built_is_named(rt: HostRuntime) {
-    let wrong = first_wrong(rt.alloc(), Reader::Built, "", BUILT, "");
+    let wrong = first_wrong(rt.alloc(), Reader::Built, "", BUILT);
     assert_eq!(rt; wrong, None);
 }

@@ -4,9 +4,8 @@
 //! that the crates above `heap_script` don't wait for them.
 //!
 //! The parts: `cases` (a table of scripts, each with its first fault), `faults` (which fault a
-//! script has), `ranges` (the numbers that may stand in it), `lengths` (how long it may be), `reading` (what
-//! a script says), `printing` (the text of each line of a report), `devices` (the devices in memory,
-//! and text that is held back).
+//! script has), `reading` (what a script says), `printing` (the text of each line of a report),
+//! `devices` (the devices in memory, and text that is held back).
 //!
 //! What is proved: nothing of its own.
 //!
@@ -21,10 +20,6 @@ mod devices;
 #[cfg(test)]
 mod faults;
 #[cfg(test)]
-mod lengths;
-#[cfg(test)]
 mod printing;
-#[cfg(test)]
-mod ranges;
 #[cfg(test)]
 mod reading;

@@ -1,5 +1,6 @@
 // The text of each line of a report, by hand from the report's forms.
 
+use super::devices::sink_with;
 use gc_graph::{Entry, Line, Op, Refusal, Reply};
 use heap_script::{ListSink, Pieces, print_line};
 use std::test::Fail;
@@ -136,32 +137,42 @@ fn entry(thread: u32, op: Op, reply: Reply) -> Line {
     Line::Entry(Entry { thread, op, reply })
 }
 
-/// Whether the line is held back, and comes out as wanted, with its end, and again when it is
-/// written at once.
+/// Whether the line comes out as wanted, with its end, where it is held back and where it is written
+/// at once.
 fn is_printed(line: &Line, pieces: &mut Pieces, sink: &mut ListSink, wanted: &str) -> bool {
     let start = sink.bytes().len();
-    let is_told = pieces.print(line, sink).is_ok();
-    let is_held = sink.bytes().len() == start;
-    let is_out = pieces.hand_down(sink).is_ok();
-    let middle = sink.bytes().len();
-    let is_written = print_line(line, sink).is_ok();
-    let first = sink.bytes().get(start..middle).unwrap_or(b"");
-    let second = sink.bytes().get(middle..).unwrap_or(b"");
-    is_told && is_held && is_out && is_written && is_line(first, wanted) && is_line(second, wanted)
+    pieces.print(line, sink).is_ok()
+        && sink.bytes().len() == start
+        && pieces.hand_down(sink).is_ok()
+        && has_taken(sink, start, wanted)
+        && is_written(line, sink, wanted)
 }
 
-fn is_line(bytes: &[u8], wanted: &str) -> bool {
-    bytes.strip_suffix(b"\n") == Some(wanted.as_bytes())
+fn is_written(line: &Line, sink: &mut ListSink, wanted: &str) -> bool {
+    let start = sink.bytes().len();
+    print_line(line, sink).is_ok() && has_taken(sink, start, wanted)
+}
+
+/// Whether after so many bytes the sink has taken this line and its end.
+fn has_taken(sink: &ListSink, start: usize, wanted: &str) -> bool {
+    let taken = sink.bytes().get(start..).unwrap_or(b"");
+    taken.strip_suffix(b"\n") == Some(wanted.as_bytes())
+}
+
+/// The place of the first line that comes out otherwise.
+fn first_wrong(pieces: &mut Pieces, sink: &mut ListSink) -> Option<u32> {
+    for (wanted, place) in TEXTS.lines().zip(0u32..) {
+        if !is_printed(&line_at(place), pieces, sink, wanted) {
+            return Some(place);
+        }
+    }
+    None
 }
 
 #[test]
 fn report_lines_are_printed(rt: HostRuntime) -> Result<(), Fail> {
-    let mut sink = ListSink::new(rt.alloc(), 5, Vec::new(rt.alloc()));
-    sink.reserve(4000)?;
+    let mut sink = sink_with(rt.alloc(), 5, 0, 4000)?;
     let mut pieces = Pieces::new(rt.alloc())?;
-    for (wanted, place) in TEXTS.lines().zip(0u32..) {
-        let is_right = is_printed(&line_at(place), &mut pieces, &mut sink, wanted);
-        assert!(rt; is_right, "{wanted}");
-    }
+    assert_eq!(rt; first_wrong(&mut pieces, &mut sink), None);
     Ok(())
 }
