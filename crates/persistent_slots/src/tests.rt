@@ -1,40 +1,13 @@
-// Each public call once, and a test of places that changes as it is asked.
+// A test of places that changes as it is asked. The other calls are made by the heap.
 
 ghost use Rattle.std.specs.Prelude.{◌≡◌, ◌<◌, All, false, length, map, not, slice_index_or};
 ghost use Rattle.gc_graph.specs.Pause.{clear_slot};
 ghost use Rattle.persistent_slots.specs.Clearing.{taken};
 
 use super::*;
+use gc_graph::NoMemory;
+use std::alloc::Global;
 use std::test::Fail;
-
-#[test]
-fn slots_hold_what_they_were_given(rt: HostRuntime) -> Result<(), Fail> {
-    let mut slots = Slots::new(rt.alloc(), 3)?;
-    slots.set(0, 7);
-    slots.copy(0, 2);
-    slots.set(0, 9);
-    slots.copy(1, 0);
-    assert_eq!(rt; slots.len(), 3);
-    assert_eq!(rt; slots.get(0), None);
-    assert_eq!(rt; slots.get(1), None);
-    assert_eq!(rt; slots.get(2), Some(7));
-    slots.clear(2);
-    assert_eq!(rt; slots.get(2), None);
-    Ok(())
-}
-
-#[test]
-fn dead_places_are_cleared(rt: HostRuntime) -> Result<(), Fail> {
-    let mut slots = Slots::new(rt.alloc(), 5)?;
-    slots.set(1, 7);
-    slots.set(2, 8);
-    slots.set(4, 7);
-    slots.clear_dead(|place| place == 7);
-    assert_eq!(rt; slots.get(1), None);
-    assert_eq!(rt; slots.get(2), Some(8));
-    assert_eq!(rt; slots.get(4), None);
-    Ok(())
-}
 
 /// Marks of places, and how often they were looked at.
 #[derive(Drop)]
@@ -70,18 +43,22 @@ fn clear_unmarked(marks: &mut Marks, slots: &mut Slots)
     );
 }
 
-#[test]
-fn each_place_is_asked_of_once(rt: HostRuntime) -> Result<(), Fail> {
-    let mut slots = Slots::new(rt.alloc(), 4)?;
+/// What the first and the last of four slots hold after the clearing, and how often was asked: place
+/// 1 has no mark, and place 0 has one.
+fn cleared_slots(alloc: Global) -> Result<(Option<u32>, Option<u32>, u32), NoMemory> {
+    let mut slots = Slots::new(alloc, 4)?;
     slots.set(0, 1);
     slots.set(3, 0);
     let mut marks = Marks {
-        marks: vec![in rt.alloc(); true, false]?,
+        marks: vec![in alloc; true, false]?,
         looks: 0,
     };
     clear_unmarked(&mut marks, &mut slots);
-    assert_eq!(rt; slots.get(0), None);
-    assert_eq!(rt; slots.get(3), Some(0));
-    assert_eq!(rt; marks.looks, 2);
+    Ok((slots.get(0), slots.get(3), marks.looks))
+}
+
+#[test]
+fn each_place_is_asked_of_once(rt: HostRuntime) -> Result<(), Fail> {
+    assert_eq!(rt; cleared_slots(rt.alloc())?, (None, Some(0), 2));
     Ok(())
 }
