@@ -36,8 +36,6 @@ mod reading;
 mod running;
 mod states;
 mod steps;
-#[cfg(test)]
-mod tests;
 
 pub use idle::idle_state;
 pub use laws::{

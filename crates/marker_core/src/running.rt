@@ -177,21 +177,37 @@ fn advance(alloc: Global, s: &mut CoreState, step: &CoreStep) -> Result<bool, No
     Ok(allowed)
 }
 
-/// The state after all steps. Want of memory may be answered at any step.
-pub fn after(alloc: Global, start: CoreState, steps: &[CoreStep]) -> Result<CoreState, CoreFault>
-    requires { IsCoreOk start }
-    ensures state { IfOk result (λ s. core_run start steps.now ≡ Some s) }
-    ensures ok { IfOk result (λ s. IsCoreOk s) }
-    ensures refused { IfErr result (IsFault start steps.now) }
+/// The steps one after the other, up to the first that isn't allowed.
+fn advance_all(alloc: Global, s: &mut CoreState, steps: &[CoreStep]) -> Result<(), CoreFault>
+    requires { IsCoreOk s.old }
+    ensures state { OnOk result (core_run s.old steps.now ≡ Some s.new) }
+    ensures ok { OnOk result (IsCoreOk s.new) }
+    ensures refused { IfErr result (IsFault s.old steps.now) }
 {
     every_step_keeps();
-    let mut s = start;
     for (at, step) in steps.iter().enumerate() {
-        match advance(alloc, &mut s, step) {
+        match advance(alloc, s, step) {
             Ok(true) => {}
             Ok(false) => return Err(CoreFault::NotAllowed { at: at as u64 }),
             Err(_) => return Err(CoreFault::NoMemory),
         }
     }
-    Ok(s)
+    Ok(())
+}
+
+/// The state after all steps. Want of memory may be answered at any step.
+pub fn after(
+    alloc: Global,
+    mut start: CoreState,
+    steps: &[CoreStep],
+) -> Result<CoreState, CoreFault>
+    requires { IsCoreOk start }
+    ensures state { IfOk result (λ s. core_run start steps.now ≡ Some s) }
+    ensures ok { IfOk result (λ s. IsCoreOk s) }
+    ensures refused { IfErr result (IsFault start steps.now) }
+{
+    match advance_all(alloc, &mut start, steps) {
+        Ok(()) => Ok(start),
+        Err(fault) => Err(fault),
+    }
 }

@@ -1,10 +1,10 @@
 use Rattle.std.proofs.Common.{◌≡◌, take, Some}
 use Rattle.marker_core.specs.Step.{core_run}
 use Rattle.marker_core.specs.Core.{IsCoreOk}
-use Rattle.marker_core.proofs.running.after.Given as goal
+use Rattle.marker_core.proofs.running.advance_all.Given as goal
 
 abbrev pub invariant-loop-at : goal.invariant-loop-at
 invariant-loop-at l = record {
-  runs : core_run l.fn.start (take l.at l.steps) ≡ Some l.s;
+  runs : core_run l.initial.s (take l.at l.steps) ≡ Some l.s;
   ok : IsCoreOk l.s;
 }
