@@ -10,6 +10,7 @@ pub mod RegisteredNodes
 pub mod StackWords
 pub mod StackSteps
 pub mod Ties
+pub mod OutcomeLines
 pub mod SlotSteps
 pub mod FieldAnswers
 pub mod PairAnswers
