@@ -156,17 +156,19 @@ def mixed_pages(standing):
     return math.ceil(standing * 21 * 1.15 / PAGE_WORDS) + 3
 
 
-def mixed(rounds, every):
-    """Rounds of `every` new objects of 2 to 40 words, after which a tenth of the objects that stand is
-    dropped, collected and swept. At most ten times `every` stand at once, in however many rounds."""
+def mixed(rounds, every, before=0):
+    """`before` objects of 2 to 40 words, and then rounds of `every` more, after which a tenth of the objects
+    that stand is dropped, collected and swept. At most ten times `every` stand at once."""
     load = Mixed()
+    for _ in range(before):
+        load.make()
     for shift in range(rounds):
         for _ in range(every):
             load.make()
         load.drop_tenth(shift)
         load.collect()
     nodes = sum(line.startswith(("new", "get")) for line in load.lines)
-    finalised = rounds * every - load.standing
+    finalised = before + rounds * every - load.standing
     tells = {**load.tells, "node": nodes, "finalise": finalised, "full": 0, "refused": 0}
     return Load(["S" * TABLE_FIELDS, "-"], load.lines, tells, mixed_pages(10 * every))
 

@@ -4,6 +4,7 @@
 README.md beside this file says how to read the figures. The status is 1 if one is over its bar.
 """
 
+import json
 import os
 import re
 import shutil
@@ -18,13 +19,15 @@ import loads
 from loads import COLLECTION, STACK_COLLECTION, SWEEP
 
 ROOT = os.path.dirname(os.path.dirname(os.path.abspath(__file__)))
-CRATE = os.path.join(ROOT, "crates", "cppgc_main")
-PROGRAM = os.path.join(CRATE, "out", "cppgc_main")
+PROVE = os.path.join(ROOT, "prove")
+PROGRAM = os.path.join(ROOT, "crates", "cppgc_main", "out", "cppgc_main")
+KEPT = os.path.join(ROOT, "bench", "out")
 TRIES = 15
 
-TIME_RATIO_BAR = 2.3
+# How many rounds of `mixed` come before those that are measured.
+STANDING_ROUNDS = 2
+
 RATIO_BAR = 2.1
-MIXED_RATIO_BAR = 2.2
 FILLING_BAR = 650
 OWN_HOLES_BAR = 800
 MIXED_BAR = 1100
@@ -47,23 +50,50 @@ LINE_BARS = {
 }
 
 
-# Those that are run with n objects and with 2n.
+# Those that are run with n objects and with 2n, and of these those that are run with 0 too: what stands
+# before they are measured.
 LOADS = ("filling", "mixed", "live_list", "holes", "tree")
+STANDING = ("mixed",)
+
+
+def sizes(name):
+    return (0, 1, 2) if name in STANDING else (1, 2)
+
+
+def ratio(costs):
+    """What a load costs with 2n over what it costs with n, each without what it costs with 0, if that is given."""
+    *standing, small, large = costs
+    return (large - sum(standing)) / (small - sum(standing))
 
 
 class Figures:
-    """Prints figures, and keeps those that are over their bars."""
+    """Prints figures, compares those by instructions with the run before at the same scale, and keeps those
+    that are over their bars."""
 
-    def __init__(self):
-        self.over = []
+    def __init__(self, scale):
+        self.over, self.told, self.before = [], {}, {}
+        self.file = os.path.join(KEPT, f"figures-{scale}.json")
+        if os.path.exists(self.file):
+            with open(self.file, encoding="utf-8") as file:
+                self.before = json.load(file)
+
+    def tell_time(self, name, value):
+        print(name, f"{value:.3f}", flush=True)
 
     def tell(self, name, value, bar=None):
         shown = f"{value:.3f}" if value < 100 else f"{value:.0f}"
-        print(name, shown, flush=True)
+        before = self.before.get(name)
+        change = [] if before is None else [f"{100 * (value / before - 1):+.2f}%"]
+        print(name, shown, *change, flush=True)
+        self.told[name] = value
         if bar is not None and value > bar:
             self.over.append(f"bench: {name} is {shown}, and its bar is {bar}")
 
     def end(self):
+        if self.told:
+            os.makedirs(KEPT, exist_ok=True)
+            with open(self.file, "w", encoding="utf-8") as file:
+                json.dump(self.told, file, indent=1)
         for line in self.over:
             print(line, file=sys.stderr)
         sys.exit(1 if self.over else 0)
@@ -115,20 +145,21 @@ class Bench:
 
     def __init__(self, folder, scale):
         self.folder = folder
-        self.figures = Figures()
+        self.figures = Figures(scale)
         self.every = max(1, int(5_000 * scale))
         self.count = 10 * self.every
         self.page_words = loads.scaled_page_words(scale)
 
-    def ratio(self, name, load):
-        """The times of a load of one size and of twice that, the least of several tries each."""
-        small, large = (Script(self.folder, load(times)) for times in (1, 2))
-        small.check()
-        large.check()
-        tries = [(small.seconds(), large.seconds()) for _ in range(TRIES)]
-        least_small, least_large = (min(times) for times in zip(*tries))
-        self.figures.tell(f"{name}_seconds", least_large)
-        self.figures.tell(f"{name}_ratio", least_large / least_small, TIME_RATIO_BAR)
+    def times(self):
+        """The times of each load of one size and of twice that, the least of several tries each."""
+        for name in LOADS:
+            scripts = [Script(self.folder, getattr(self, name)(times)) for times in sizes(name)]
+            for script in scripts:
+                script.check()
+            tries = [[script.seconds() for script in scripts] for _ in range(TRIES)]
+            least = [min(seconds) for seconds in zip(*tries)]
+            self.figures.tell_time(f"{name}_seconds", least[-1])
+            self.figures.tell_time(f"{name}_ratio", ratio(least))
 
     def instructions(self, load):
         return Script(self.folder, load).instructions()
@@ -137,7 +168,8 @@ class Bench:
         return loads.filling(times * self.count, 2 * self.count)
 
     def mixed(self, times):
-        return loads.mixed(10 * times, self.every)
+        """On a heap with so many objects as each round leaves."""
+        return loads.mixed(STANDING_ROUNDS + 10 * times, self.every, 9 * self.every)
 
     def live_list(self, times, collections=20):
         return loads.live_list(times * self.count, 2 * self.count, collections)
@@ -151,17 +183,11 @@ class Bench:
     def tree(self, times):
         return loads.tree(times * self.count).then(COLLECTION)
 
-    def times(self):
-        for name in LOADS:
-            self.ratio(name, getattr(self, name))
-
     def growth(self):
         """The instructions of each load with twice as much over those with once as much."""
         for name in LOADS:
-            load = getattr(self, name)
-            bar = MIXED_RATIO_BAR if name == "mixed" else RATIO_BAR
-            ratio = self.instructions(load(2)) / self.instructions(load(1))
-            self.figures.tell(f"{name}_instructions_ratio", ratio, bar)
+            costs = [self.instructions(getattr(self, name)(times)) for times in sizes(name)]
+            self.figures.tell(f"{name}_instructions_ratio", ratio(costs), RATIO_BAR)
 
     def news(self):
         """What a line `new` costs: while the heap fills, in the mixed load, and where there are holes."""
@@ -169,7 +195,7 @@ class Bench:
         more = self.instructions(self.filling(2)) - self.instructions(self.filling(1))
         tell("filling_instructions_per_new", more / self.count, FILLING_BAR)
         self.own_holes()
-        mixed, count = self.mixed(1), self.every
+        mixed, count = loads.mixed(10, self.every), self.every
         more = self.instructions(mixed.then(*loads.mixed_news(count))) - self.instructions(mixed)
         tell("mixed_instructions_per_new", more / count, MIXED_BAR)
         none, placed, full = (self.instructions(self.holes(1, share)) for share in (0, 1, 2))
@@ -280,13 +306,9 @@ class Bench:
 
 
 def build():
-    """Builds the program, if it isn't built from the sources as they are, and runs it once."""
-    if shutil.which("rt"):
-        run = subprocess.run(["rt", "run"], cwd=CRATE, input=b"oilpan 1\n", capture_output=True)
-    else:
-        run = subprocess.run([PROGRAM], input=b"oilpan 1\n", capture_output=True)
-    if run.returncode != 0:
-        sys.exit("bench: the program could not be built; run rt check in crates/cppgc_main")
+    """Proves and builds the program, if it isn't built from the sources as they are."""
+    if subprocess.run([PROVE], check=False).returncode != 0:
+        sys.exit("bench: the program could not be built")
 
 
 def main():
