@@ -1,7 +1,8 @@
 #!/usr/bin/env python3
 """Runs the program on loads of its own, and prints a line a figure: a name and a value.
 
-README.md beside this file says how to read the figures. The status is 1 if one is over its bar.
+README.md beside this file says how to read the figures. The status is 1 if one of a whole run is over its
+bar.
 """
 
 import json
@@ -71,7 +72,7 @@ class Figures:
     that are over their bars."""
 
     def __init__(self, scale):
-        self.over, self.told, self.before = [], {}, {}
+        self.over, self.told, self.before, self.judges = [], {}, {}, scale >= 1
         self.file = os.path.join(KEPT, f"figures-{scale}.json")
         if os.path.exists(self.file):
             with open(self.file, encoding="utf-8") as file:
@@ -86,7 +87,7 @@ class Figures:
         change = [] if before is None else [f"{100 * (value / before - 1):+.2f}%"]
         print(name, shown, *change, flush=True)
         self.told[name] = value
-        if bar is not None and value > bar:
+        if self.judges and bar is not None and value > bar:
             self.over.append(f"bench: {name} is {shown}, and its bar is {bar}")
 
     def end(self):
