@@ -33,74 +33,93 @@ fn many_types(alloc: Global, count: u32, fields: u32) -> Result<Vec<TypeDecl>, N
     Ok(types)
 }
 
-#[test]
-fn fields_have_their_offsets(rt: HostRuntime) -> Result<(), Fail> {
-    let alloc = rt.alloc();
-    let table = TypeTable::new(alloc, two_types(alloc)?, 4)?;
-    assert_eq!(rt; table.count(), 2);
-    assert_eq!(rt; table.field_count(0, 1), 5);
-    assert_eq!(rt; table.size_of(0, 1), 9);
-    assert_eq!(rt; table.size_of(1, 33_554_432), 33_554_434);
-    let fields = [
-        (0, Some((Kind::Strong, 2))),
-        (1, Some((Kind::Pair, 3))),
-        (2, Some((Kind::Weak, 5))),
-        (3, Some((Kind::Pair, 6))),
-        (4, Some((Kind::Plain, 8))),
-        (5, None),
-    ];
-    for (field, wanted) in fields {
-        assert_eq!(rt; table.field_at(0, 1, field), wanted, "{field}");
-    }
-    assert_eq!(rt; table.field_at(1, 0, 0), None);
-    assert_eq!(rt; table.strong_words(0), [2].as_slice());
-    assert_eq!(rt; table.weak_words(0), [5].as_slice());
-    assert_eq!(rt; table.pair_words(0), [3, 6].as_slice());
-    assert_eq!(rt; table.callbacks(1), [3, 0].as_slice());
-    Ok(())
+/// What an object of the first type with one extra word has.
+fn fields_are_told(table: &TypeTable) -> bool
+    requires { length table.now ≡ 2 }
+{
+    (table.field_at(0, 1, 0) == Some((Kind::Strong, 2)))
+        & (table.field_at(0, 1, 1) == Some((Kind::Pair, 3)))
+        & (table.field_at(0, 1, 2) == Some((Kind::Weak, 5)))
+        & (table.field_at(0, 1, 3) == Some((Kind::Pair, 6)))
+        & (table.field_at(0, 1, 4) == Some((Kind::Plain, 8)))
+        & table.field_at(0, 1, 5).is_none()
+        & table.field_at(1, 0, 0).is_none()
 }
 
-#[test]
-fn words_have_the_kinds_of_their_fields(rt: HostRuntime) -> Result<(), Fail> {
-    let alloc = rt.alloc();
-    let table = TypeTable::new(alloc, two_types(alloc)?, 4)?;
-    let kinds = [
-        (2, Kind::Strong),
-        (3, Kind::Pair),
-        (4, Kind::Pair),
-        (5, Kind::Weak),
-        (6, Kind::Pair),
-        (7, Kind::Pair),
-        (8, Kind::Plain),
-        (4_294_967_295, Kind::Plain),
-    ];
-    for (word, wanted) in kinds {
-        assert_eq!(rt; table.kind_at(0, word), wanted, "{word}");
-    }
-    Ok(())
+fn words_are_told(table: &TypeTable) -> bool
+    requires { length table.now ≡ 2 }
+{
+    (table.kind_at(0, 2) == Kind::Strong)
+        & (table.kind_at(0, 3) == Kind::Pair)
+        & (table.kind_at(0, 4) == Kind::Pair)
+        & (table.kind_at(0, 5) == Kind::Weak)
+        & (table.kind_at(0, 6) == Kind::Pair)
+        & (table.kind_at(0, 7) == Kind::Pair)
+        & (table.kind_at(0, 8) == Kind::Plain)
+        & (table.kind_at(0, 4_294_967_295) == Kind::Plain)
 }
 
-fn fault(alloc: Global, types: Vec<TypeDecl>, callbacks: u32) -> Option<TypeFault> {
+fn counts_and_lists_are_told(table: &TypeTable) -> bool
+    requires { length table.now ≡ 2 }
+{
+    (table.count() == 2)
+        & (table.field_count(0, 1) == 5)
+        & (table.size_of(0, 1) == 9)
+        & (table.size_of(1, 33_554_432) == 33_554_434)
+        & (table.strong_words(0) == [2].as_slice())
+        & (table.weak_words(0) == [5].as_slice())
+        & (table.pair_words(0) == [3, 6].as_slice())
+        & (table.callbacks(1) == [3, 0].as_slice())
+}
+
+/// A table of the two types tells its fields, its words, and the rest.
+fn table_tells(alloc: Global) -> Result<(bool, bool, bool), TypeFault> {
+    let table = match two_types(alloc) {
+        Ok(types) => TypeTable::new(alloc, types, 4)?,
+        Err(_) => return Err(TypeFault::NoMemory),
+    };
+    let fields = fields_are_told(&table);
+    let words = words_are_told(&table);
+    Ok((fields, words, counts_and_lists_are_told(&table)))
+}
+
+/// The types make a table, or have this fault.
+fn comes_to(alloc: Global, types: Vec<TypeDecl>, callbacks: u32, told: Option<TypeFault>) -> bool {
     match TypeTable::new(alloc, types, callbacks) {
-        Ok(_) => None,
-        Err(fault) => Some(fault),
+        Ok(_) => told.is_none(),
+        Err(fault) => told == Some(fault),
     }
 }
 
-#[test]
-fn first_fault_is_told(rt: HostRuntime) -> Result<(), Fail> {
-    let alloc = rt.alloc();
-    assert_eq!(rt; fault(alloc, many_types(alloc, 16_383, 0)?, 0), None);
-    let over = TypeFault::TooManyTypes { count: 16_384 };
-    assert_eq!(rt; fault(alloc, many_types(alloc, 16_384, 65)?, 0), Some(over));
-    assert_eq!(rt; fault(alloc, many_types(alloc, 2, 64)?, 0), None);
+/// So many types with too many fields after the two types.
+fn wide_types(alloc: Global) -> Result<Vec<TypeDecl>, NoMemory> {
     let mut types = two_types(alloc)?;
     for wide in many_types(alloc, 2, 65)? {
         types.push(wide)?;
     }
-    let over = TypeFault::TooManyFields { ty: 2 };
-    assert_eq!(rt; fault(alloc, types, 0), Some(over));
+    Ok(types)
+}
+
+/// How the most types, one more with too many fields besides, the most fields, one more with an
+/// unknown callback besides, and an unknown callback are told.
+fn faults_are_told(alloc: Global) -> Result<[bool; 5], NoMemory> {
+    let types = comes_to(alloc, many_types(alloc, 16_383, 0)?, 0, None);
+    let types_more = many_types(alloc, 16_384, 65)?;
+    let over = TypeFault::TooManyTypes { count: 16_384 };
+    let type_more = comes_to(alloc, types_more, 0, Some(over));
+    let fields = comes_to(alloc, many_types(alloc, 2, 64)?, 0, None);
+    let wide_ones = wide_types(alloc)?;
+    let wide = TypeFault::TooManyFields { ty: 2 };
+    let field_more = comes_to(alloc, wide_ones, 0, Some(wide));
+    let two = two_types(alloc)?;
     let unknown = TypeFault::NoCallback { ty: 1, callback: 3 };
-    assert_eq!(rt; fault(alloc, two_types(alloc)?, 3), Some(unknown));
+    let callback = comes_to(alloc, two, 3, Some(unknown));
+    Ok([types, type_more, fields, field_more, callback])
+}
+
+#[test]
+fn layouts_and_faults_are_told(rt: HostRuntime) -> Result<(), Fail> {
+    assert_eq!(rt; table_tells(rt.alloc())?, (true, true, true));
+    assert_eq!(rt; faults_are_told(rt.alloc())?, [true; 5]);
     Ok(())
 }
