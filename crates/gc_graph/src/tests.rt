@@ -1,4 +1,5 @@
-// Graphs, and sets that were worked out by hand: which of them hold the roots and are closed.
+// Graphs, and lines that were worked out by hand: roots, a set, and whether the set holds the roots
+// and is closed.
 
 use crate::checking::reach_check;
 use crate::graphs::Graph;
@@ -10,25 +11,48 @@ use std::test::Fail;
 const NULL: Value = Value::Null;
 
 /// 0 → 1 → 2, by strong fields.
-fn chain(alloc: Global) -> Result<Graph, NoMemory> {
+fn chain(alloc: Global) -> Result<Option<u64>, NoMemory> {
     let mut graph = Graph::new(alloc);
     graph.add(&[Kind::Strong], &[Value::Ref(1)])?;
     graph.add(&[Kind::Strong], &[Value::Ref(2)])?;
     graph.add(&[Kind::Strong], &[NULL])?;
-    Ok(graph)
+    first_wrong(
+        alloc,
+        &graph,
+        "\
+0|0 1 2|holds
+0|2 0 1|holds
+0|0 0 1 2 2|holds
+0|2 1 0 1 2|holds
+0|0 1 2 7|holds
+0|0 1|fails
+0|2 0|fails
+0|1 2|fails
+0||fails",
+    )
 }
 
 /// A pair of node 0 has node 1 as its key, and node 2 as its value, which refers to the key.
-fn value_names_key(alloc: Global) -> Result<Graph, NoMemory> {
+fn value_names_key(alloc: Global) -> Result<Option<u64>, NoMemory> {
     let mut graph = Graph::new(alloc);
     graph.add(&[Kind::Pair], &[Value::Ref(1), Value::Ref(2)])?;
     graph.add(&[Kind::Strong], &[NULL])?;
     graph.add(&[Kind::Strong], &[Value::Ref(1)])?;
-    Ok(graph)
+    first_wrong(
+        alloc,
+        &graph,
+        "\
+0|0|holds
+0|0 1 2|holds
+0|2 1 0|holds
+0|0 1|fails
+0|0 2|fails
+0|1 2|fails",
+    )
 }
 
 /// The value of node 0's second pair is the key of its first.
-fn chained_pairs(alloc: Global) -> Result<Graph, NoMemory> {
+fn chained_pairs(alloc: Global) -> Result<Option<u64>, NoMemory> {
     let mut graph = Graph::new(alloc);
     graph.add(
         &[Kind::Pair, Kind::Pair],
@@ -37,111 +61,101 @@ fn chained_pairs(alloc: Global) -> Result<Graph, NoMemory> {
     graph.add(&[], &[])?;
     graph.add(&[], &[])?;
     graph.add(&[], &[])?;
-    Ok(graph)
+    first_wrong(
+        alloc,
+        &graph,
+        "\
+0 1|0 1 2 3|holds
+1 0|3 1 2 0 3|holds
+0 1|0 1|fails
+0 1|0 1 2|fails
+0 1|0 1 3|fails
+0|0|holds
+0|0 2|fails",
+    )
 }
 
 /// 2 → 0 → 1, by strong fields, with a plain word in each.
-fn with_words(alloc: Global) -> Result<Graph, NoMemory> {
+fn with_words(alloc: Global) -> Result<Option<u64>, NoMemory> {
     let kinds = [Kind::Strong, Kind::Plain];
     let mut graph = Graph::new(alloc);
     graph.add(&kinds, &[Value::Ref(1), Value::Word(0)])?;
     graph.add(&kinds, &[NULL, Value::Word(0)])?;
     graph.add(&kinds, &[Value::Ref(0), Value::Word(0)])?;
-    Ok(graph)
+    first_wrong(
+        alloc,
+        &graph,
+        "\
+0|0 1|holds
+0|0 1 2|holds
+0|0|fails
+0|1|fails",
+    )
 }
 
 /// Node 0 refers to node 1 by a weak field, and has the number 1 in a plain one.
-fn weak_and_plain(alloc: Global) -> Result<Graph, NoMemory> {
+fn weak_and_plain(alloc: Global) -> Result<Option<u64>, NoMemory> {
     let mut graph = Graph::new(alloc);
     graph.add(&[Kind::Weak, Kind::Plain], &[Value::Ref(1), Value::Word(1)])?;
     graph.add(&[], &[])?;
-    Ok(graph)
+    first_wrong(
+        alloc,
+        &graph,
+        "\
+0|0|holds
+1|1|holds
+0|1|fails",
+    )
 }
 
-#[test]
-fn sets_of_a_chain(rt: HostRuntime) -> Result<(), Fail> {
-    let graph = chain(rt.alloc())?;
-    let table: [(&[u32], bool); 9] = [
-        (&[0, 1, 2], true),
-        (&[2, 0, 1], true),
-        (&[0, 0, 1, 2, 2], true),
-        (&[2, 1, 0, 1, 2], true),
-        (&[0, 1, 2, 7], true),
-        (&[0, 1], false),
-        (&[2, 0], false),
-        (&[1, 2], false),
-        (&[], false),
-    ];
-    for (set, right) in table {
-        assert_eq!(rt; reach_check(&graph, &[0], set), right, "{set:?}");
+fn empty(alloc: Global) -> Result<Option<u64>, NoMemory> {
+    let graph = Graph::new(alloc);
+    first_wrong(
+        alloc,
+        &graph,
+        "\
+||holds
+|5|holds
+5|5|holds
+5||fails",
+    )
+}
+
+fn numbers(alloc: Global, text: &str) -> Result<Vec<u32>, NoMemory> {
+    let mut numbers = Vec::new(alloc);
+    for word in text.split_whitespace() {
+        numbers.push(word.parse::<u32>().unwrap_or(u32::MAX))?;
     }
-    Ok(())
+    Ok(numbers)
 }
 
-#[test]
-fn sets_of_a_pair_whose_value_names_its_key(rt: HostRuntime) -> Result<(), Fail> {
-    let graph = value_names_key(rt.alloc())?;
-    let table: [(&[u32], bool); 6] = [
-        (&[0], true),
-        (&[0, 1, 2], true),
-        (&[2, 1, 0], true),
-        (&[0, 1], false),
-        (&[0, 2], false),
-        (&[1, 2], false),
-    ];
-    for (set, right) in table {
-        assert_eq!(rt; reach_check(&graph, &[0], set), right, "{set:?}");
+/// The line tells of roots and a set whether the set holds the roots and is closed.
+fn is_right(alloc: Global, graph: &Graph, line: &str) -> Result<bool, NoMemory> {
+    let (roots, rest) = line.split_once('|').unwrap_or((line, ""));
+    let (set, told) = rest.split_once('|').unwrap_or((rest, ""));
+    let roots = numbers(alloc, roots)?;
+    let set = numbers(alloc, set)?;
+    let holds = reach_check(graph, roots.as_slice(), set.as_slice());
+    Ok(told == if holds { "holds" } else { "fails" })
+}
+
+/// The first line that is wrong, if there is one.
+fn first_wrong(alloc: Global, graph: &Graph, lines: &str) -> Result<Option<u64>, NoMemory> {
+    for (i, line) in lines.lines().enumerate() {
+        if !is_right(alloc, graph, line)? {
+            return Ok(Some(i as u64));
+        }
     }
-    Ok(())
+    Ok(None)
 }
 
 #[test]
-fn sets_of_chained_pairs(rt: HostRuntime) -> Result<(), Fail> {
-    let graph = chained_pairs(rt.alloc())?;
-    let table: [(&[u32], &[u32], bool); 7] = [
-        (&[0, 1], &[0, 1, 2, 3], true),
-        (&[1, 0], &[3, 1, 2, 0, 3], true),
-        (&[0, 1], &[0, 1], false),
-        (&[0, 1], &[0, 1, 2], false),
-        (&[0, 1], &[0, 1, 3], false),
-        (&[0], &[0], true),
-        (&[0], &[0, 2], false),
-    ];
-    for (roots, set, right) in table {
-        assert_eq!(rt; reach_check(&graph, roots, set), right, "{roots:?} {set:?}");
-    }
-    Ok(())
-}
-
-#[test]
-fn sets_around_plain_words_and_weak_fields(rt: HostRuntime) -> Result<(), Fail> {
-    let graph = with_words(rt.alloc())?;
-    let table: [(&[u32], bool); 4] = [
-        (&[0, 1], true),
-        (&[0, 1, 2], true),
-        (&[0], false),
-        (&[1], false),
-    ];
-    for (set, right) in table {
-        assert_eq!(rt; reach_check(&graph, &[0], set), right, "{set:?}");
-    }
-
-    let graph = weak_and_plain(rt.alloc())?;
-    assert!(rt;
-        reach_check(&graph, &[0], &[0]),
-        "a weak field keeps nothing"
-    );
-    assert!(rt; reach_check(&graph, &[1], &[1]), "no fields");
-    assert!(rt; !reach_check(&graph, &[0], &[1]), "the root is missing");
-    Ok(())
-}
-
-#[test]
-fn sets_of_the_empty_graph(rt: HostRuntime) -> Result<(), Fail> {
-    let graph = Graph::new(rt.alloc());
-    assert!(rt; reach_check(&graph, &[], &[]));
-    assert!(rt; reach_check(&graph, &[], &[5]));
-    assert!(rt; reach_check(&graph, &[5], &[5]));
-    assert!(rt; !reach_check(&graph, &[5], &[]));
+fn sets_hold_the_roots_and_are_closed(rt: HostRuntime) -> Result<(), Fail> {
+    assert_eq!(rt; chain(rt.alloc())?, None);
+    assert_eq!(rt; value_names_key(rt.alloc())?, None);
+    assert_eq!(rt; chained_pairs(rt.alloc())?, None);
+    assert_eq!(rt; with_words(rt.alloc())?, None);
+    assert_eq!(rt; weak_and_plain(rt.alloc())?, None);
+    assert_eq!(rt; empty(rt.alloc())?, None);
     Ok(())
 }
