@@ -1,0 +1,48 @@
+// Input at the limits, and one past them: 16,777,216 bytes and 1,000,000 lines.
+
+use super::rows::{number_at, status_at};
+use super::trial::{STEADY, expected, outcome_of};
+use std::alloc::{AllocError, Global};
+
+// A byte; how often it stands after the header; the exit status; how many bytes are written.
+const PADDED: &str = "\
+32 16777207 0 29
+32 16777208 2 0
+10 999999 0 29
+10 1000000 2 0
+";
+
+// The header and so many bytes more.
+fn padded(alloc: Global, byte: u8, more: u32) -> Result<Vec<u8>, AllocError> {
+    let mut script = Vec::from_slice(alloc, b"oilpan 1\n")?;
+    for _turn in 0..more {
+        script.push(byte)?;
+    }
+    Ok(script)
+}
+
+fn is_right(alloc: Global, row: &str) -> bool {
+    let byte = if number_at(row, 0) == 10 { b'\n' } else { b' ' };
+    let wanted = expected(status_at(row, 2), number_at(row, 3) as usize);
+    match padded(alloc, byte, number_at(row, 1)) {
+        Ok(script) => {
+            outcome_of(alloc, &script, b"end objects 0 used 0 pages 0\n", STEADY) == wanted
+        }
+        Err(_) => false,
+    }
+}
+
+/// The number of the first row of which something else comes, counted from 1.
+fn first_wrong(alloc: Global, rows: &str) -> Option<u32> {
+    for (row, number) in rows.lines().zip(1u32..) {
+        if !is_right(alloc, row) {
+            return Some(number);
+        }
+    }
+    None
+}
+
+#[test]
+fn input_up_to_the_limits_is_read(rt: HostRuntime) {
+    assert_eq!(rt; first_wrong(rt.alloc(), PADDED), None);
+}
