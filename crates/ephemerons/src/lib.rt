@@ -11,19 +11,16 @@
 //! nothing but what each closed set holds that holds what was marked before; its answer is how many
 //! objects it traced. Neither needs memory: where a push or a note is refused, the heap is walked.
 //!
-//! What is only tested or not said: how long it takes, and that the tree over keys (`index`) tells
-//! all notes of a key.
+//! What is only tested or not said: how long it takes. That the tree over keys tells all notes of a
+//! key is tested in `key_index`.
 #![tactic(auto)]
 
 mod closing;
 mod draining;
-mod index;
 mod marks;
 mod notes;
 mod settling;
 mod strong_fields;
-#[cfg(test)]
-mod tests;
 mod tracing;
 mod walking;
 

@@ -3,7 +3,7 @@
 ghost use Rattle.std.specs.Prelude.{◌≡◌, true, false, ◌<◌, length};
 ghost use Rattle.ephemerons.specs.Notes.{no_notes, note_at, noted, overflowed};
 
-use crate::index::Index;
+use key_index::Index;
 use page_words::{MutatorSeat, Words};
 use std::alloc::Global;
 use std::marker::Model;

@@ -22,14 +22,14 @@ struct Entry {
 
 /// One entry a note, of which the first so many are in the tree.
 #[derive(Drop)]
-pub(crate) struct Index {
+pub struct Index {
     entries: Vec<Entry>,
     root: u32,
 }
 
 impl Index {
     /// Nothing is in the tree.
-    pub(crate) fn new(alloc: Global) -> Index {
+    pub fn new(alloc: Global) -> Index {
         Index {
             entries: Vec::new(alloc),
             root: NONE,
@@ -37,17 +37,17 @@ impl Index {
     }
 
     /// Takes the memory of the entry with a number. False where it is wanting.
-    pub(crate) fn make_room(&mut self, i: usize) -> bool {
+    pub fn make_room(&mut self, i: usize) -> bool {
         i < self.entries.len() || self.entries.push(unlinked(0)).is_ok()
     }
 
     /// Empties the tree.
-    pub(crate) fn begin(&mut self) {
+    pub fn begin(&mut self) {
         self.root = NONE;
     }
 
     /// Puts the note with a number under a key.
-    pub(crate) fn link(&mut self, i: usize, key: u32) {
+    pub fn link(&mut self, i: usize, key: u32) {
         if i >= self.entries.len() || i >= NONE as usize {
             return;
         }
@@ -89,7 +89,7 @@ impl Index {
     }
 
     /// The first note under a key; a number past all notes where there is none.
-    pub(crate) fn first_under(&self, key: u32) -> usize {
+    pub fn first_under(&self, key: u32) -> usize {
         let mut at = self.root;
         for bit in 0..KEY_BITS {
             let here = at as usize;
@@ -103,7 +103,7 @@ impl Index {
 
     /// The note that comes after another under the same key; a number past all notes where there is
     /// none.
-    pub(crate) fn after(&self, i: usize) -> usize {
+    pub fn after(&self, i: usize) -> usize {
         if i < self.entries.len() {
             self.entries[i].older as usize
         } else {

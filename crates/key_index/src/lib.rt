@@ -1,0 +1,19 @@
+//! # The tree over keys
+//!
+//! What it is: which of a list of notes are under a key, found without going over all of them. It
+//! knows nothing of what a note or a key stands for.
+//!
+//! The parts: `Index`, with `make_room`, `begin` and `link` (a note comes in), `first_under` and
+//! `after` (the notes of a key).
+//!
+//! What is proved: that each call is safe and ends.
+//!
+//! What is only tested or not said: that it tells all notes of a key, and no other, is tested. It is a
+//! hint: whoever asks looks at each note again.
+#![tactic(auto)]
+
+mod index;
+#[cfg(test)]
+mod tests;
+
+pub use index::Index;
