@@ -26,8 +26,9 @@
 //! No gap is longer than what is remembered says, so no answer depends on it. `start_of` answers
 //! the object that has the word, an inner one too, and none exactly where none has it.
 //!
-//! What is only tested or not said: that `Space::new` succeeds where there is memory is tested.
-//! How long a search takes is not said; `bench` measures it.
+//! What is only tested or not said: that `Space::new` succeeds where there is memory, and what is
+//! found in heaps of a few pages, is tested in `page_trials`. How long a search takes is not said;
+//! `bench` measures it.
 #![tactic(auto)]
 
 mod changing;
@@ -41,6 +42,3 @@ mod table;
 mod walking;
 
 pub use space::Space;
-
-#[cfg(test)]
-mod tests;

@@ -2,7 +2,7 @@ use Rattle.std.proofs.Common.{◌≡◌, ℕ, true, false, not, List, [], ◌∷
 use Rattle.std.proofs.lemmas.List.Elements.{filter-append}
 use Rattle.page_words.specs.Bodies.{Body}
 use Rattle.page_words.specs.Seat.{SeatView, retracted, without}
-use Rattle.page_space.proofs.tests.aged.Aged.free.Goals as goal
+use Rattle.page_trials.proofs.aged.Aged.free.Goals as goal
 
 places_without : (bodies : List Body) (a : ℕ) → map (λ (b : Body). b.place) (filter (λ b. not (eqb b.place a)) bodies) ≡ without (map (λ (b : Body). b.place) bodies) a
 places_without [] a = refl

@@ -4,7 +4,7 @@ ghost use Rattle.std.specs.Prelude.{◌≡◌, ◌^◌, ◌<◌, ◌≤◌};
 ghost use Rattle.page_space.specs.Pages.{word_count};
 ghost use Rattle.page_space.specs.Space.{IsSeatOf};
 
-use crate::space::Space;
+use page_space::Space;
 use page_words::MutatorSeat;
 
 /// The lowest address at which the size fits in a page of its bucket, from page `from` up to, and

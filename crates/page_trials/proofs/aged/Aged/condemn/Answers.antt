@@ -3,7 +3,7 @@ use Rattle.std.proofs.lemmas.Grind.{common_steps}
 use Rattle.page_words.specs.Bodies.{Body}
 use Rattle.page_words.specs.Seat.{SeatView, holds, begun, ended}
 use Rattle.page_space.specs.Space.{IsSpaceOf}
-use Rattle.page_space.proofs.tests.aged.Aged.condemn.Goals as goal
+use Rattle.page_trials.proofs.aged.Aged.condemn.Goals as goal
 
 all_unmarked : (places : List ℕ) → filter (λ a. not (holds [] a)) places ≡ places
 all_unmarked [] = refl
@@ -11,7 +11,7 @@ all_unmarked (a ∷ places) = ap (λ l. a ∷ l) (all_unmarked places)
 
 pub invariant_of-self : goal.invariant_of-self
 invariant_of-self c =
-    let over : c.set_stop-then-is_empty.new.seat ≡ ended (begun c.self.inside.seat) = c.set_stop-then-is_empty.ensures ∙ ap ended c.set_stop.ensures in
+    let over : c.set_stop-2.new.seat ≡ ended (begun c.self.inside.seat) = c.set_stop-2.ensures ∙ ap ended (c.load-stop.ensures.view ∙ c.set_stop.ensures) in
     let none : c.self.inside.dead.items ≡ [] = grind (arith, common_steps) in
     let left : c.swap.new.y.items ≡ [] = cc in
     let places : map (λ (b : Body). b.place) c.self.inside.seat.bodies ≡ c.swap.new.x.items = cc in (

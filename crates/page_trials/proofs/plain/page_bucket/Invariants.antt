@@ -1,5 +1,5 @@
 use Rattle.std.proofs.Common.{◌≡◌}
-use Rattle.page_space.proofs.tests.plain.gap_in.Given as goal
+use Rattle.page_trials.proofs.plain.page_bucket.Given as goal
 
 abbrev pub invariant-loop-a : goal.invariant-loop-a
 invariant-loop-a l = l.seat ≡ l.fn.seat

@@ -4,18 +4,19 @@ ghost use Rattle.std.specs.Prelude.{◌≡◌, ◌^◌, ◌<◌, ◌≤◌};
 ghost use Rattle.page_words.specs.Seat.{without};
 ghost use Rattle.gc_graph.specs.Shapes.{IsShape};
 
-use super::{no_types, plain};
-use crate::space::Space;
+use crate::plain;
 use gc_graph::NoMemory;
+use page_space::Space;
 use page_words::MutatorSeat;
 use std::alloc::Global;
 use std::marker::Model;
 use std::mem;
+use type_table::TypeTable;
 
 /// A heap with the places of its objects, those of each kind in the order in which they were made.
 #[derive(Drop)]
 pub struct Aged {
-    pub space: Space,
+    space: Space,
     seat: MutatorSeat,
     dead: Vec<u32>,
     young: Vec<u32>,
@@ -36,16 +37,56 @@ impl Model for Aged {
 }
 
 impl Aged {
+    /// Pages without objects. There are no types, so that each word after the head is an extra one.
     pub fn new(alloc: Global, pages: u32, page_words: u32) -> Result<Aged, NoMemory>
         requires { IsShape (record { pages = pages; page_words = page_words }) }
     {
-        let (space, seat) = Space::new(alloc, pages, page_words, &no_types(alloc)?)?;
+        let Ok(types) = TypeTable::new(alloc, Vec::new(alloc), 0) else {
+            return Err(NoMemory);
+        };
+        let (space, seat) = Space::new(alloc, pages, page_words, &types)?;
         Ok(Aged {
             space,
             seat,
             dead: Vec::new(alloc),
             young: Vec::new(alloc),
         })
+    }
+
+    /// What a call tells of a number, where it tells something.
+    pub fn answer(&mut self, call: &str, n: u64) -> Option<u32> {
+        let small = u32::try_from(n).unwrap_or(u32::MAX);
+        match call {
+            "put" => self.put(small),
+            "condemn" => self.condemn(),
+            "free" => self.free(small),
+            "holder" => self.space.start_of(&mut self.seat, n),
+            "word" => self.word(small),
+            _ => self.total(call, small),
+        }
+    }
+
+    /// A word of the heap, of the start bits, or the stop word.
+    fn word(&mut self, a: u32) -> Option<u32> {
+        self.space.shape_is_valid();
+        let count = self.space.word_count();
+        if a > count + count / 64 {
+            return None;
+        }
+        u32::try_from(self.space.words().load(&mut self.seat, a)).ok()
+    }
+
+    /// The bucket of a page, the first start bits, or one of the totals.
+    fn total(&mut self, call: &str, n: u32) -> Option<u32> {
+        self.space.shape_is_valid();
+        match call {
+            "bucket" if n < self.space.pages() => self.space.page_bucket(&mut self.seat, n),
+            "starts" => u32::try_from(self.space.starts_in(&mut self.seat, 0)).ok(),
+            "objects" => Some(self.space.objects()),
+            "used" => Some(self.space.used()),
+            "pages" => Some(self.space.pages_in_use()),
+            _ => None,
+        }
     }
 
     /// Whether the space and the plain search find the same place from one page to another.
@@ -75,21 +116,21 @@ impl Aged {
         bucket == plain::page_bucket(&self.space, &mut self.seat, page)
     }
 
-    /// Makes an object of the size, and tells its place.
-    pub fn put(&mut self, size: u32) -> Result<Option<u32>, NoMemory>
-        requires least { 2 ≤ size }
-        requires most { size < 2 ^ 26 }
-    {
+    /// Makes an object of the size, if there is room, and tells its place.
+    pub fn put(&mut self, size: u32) -> Option<u32> {
+        if size < 2 || size > 65536 {
+            return None;
+        }
         let pages = self.space.pages();
         let place = match self.space.find(&mut self.seat, size, 0, pages) {
-            Some(a) => Some(a),
-            None => self.space.find_empty(&mut self.seat, size),
+            Some(a) => a,
+            None => self.space.find_empty(&mut self.seat, size)?,
         };
-        if let Some(a) = place {
-            self.young.push(a)?;
-            self.space.occupy(&mut self.seat, a, 1, size, 7);
+        if self.young.push(place).is_err() {
+            return None;
         }
-        Ok(place)
+        self.space.occupy(&mut self.seat, place, 1, size, 7);
+        Some(place)
     }
 
     /// Whether an object is dead.
@@ -97,13 +138,18 @@ impl Aged {
         !self.dead.is_empty()
     }
 
-    /// From now on all objects are dead, if none was.
-    pub fn condemn(&mut self) {
-        if self.dead.is_empty() {
-            self.space.words().set_stop(&mut self.seat, false);
-            self.space.words().set_stop(&mut self.seat, true);
-            mem::swap(&mut self.dead, &mut self.young);
+    /// From now on all objects are dead, if none was. Tells the stop word of the marking that was.
+    pub fn condemn(&mut self) -> Option<u32> {
+        if !self.dead.is_empty() {
+            return None;
         }
+        self.space.shape_is_valid();
+        self.space.words().set_stop(&mut self.seat, false);
+        let count = self.space.word_count();
+        let stop = self.space.words().load(&mut self.seat, count + count / 64);
+        self.space.words().set_stop(&mut self.seat, true);
+        mem::swap(&mut self.dead, &mut self.young);
+        u32::try_from(stop).ok()
     }
 
     /// Takes one of the dead objects away, and tells its place.
