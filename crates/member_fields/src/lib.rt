@@ -34,6 +34,3 @@ pub use pairs::{read_pair, set_pair};
 pub use plain_words::{get_word, put_word};
 pub use weak_members::set_weak;
 pub use words::{words_keep_their_kind, write_is_of_one_word};
-
-#[cfg(test)]
-mod tests;

@@ -12,5 +12,4 @@ pub mod Stopped
 mod Published
 pub mod Publishing
 pub mod Retracted
-mod Example
 mod Nulled

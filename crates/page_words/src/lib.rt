@@ -18,8 +18,9 @@
 //! clause says. The words and the view belong together after each call: headers, serial numbers,
 //! fields, filled words, start bits and the stop word match, and bodies lie apart.
 //!
-//! What is only tested or not said: that `Words::new` succeeds where there is memory is tested. A
-//! word that belongs to no object and was not filled may be anything.
+//! What is only tested or not said: that `Words::new` succeeds where there is memory, and where the
+//! stop word is, is tested in `page_trials`. A word that belongs to no object and was not filled may
+//! be anything.
 #![tactic(auto)]
 
 mod mutator;
@@ -28,6 +29,3 @@ mod words;
 
 pub use mutator::MutatorSeat;
 pub use words::{BLOCK_WORDS, Words};
-
-#[cfg(test)]
-mod tests;

@@ -4,4 +4,3 @@ pub mod Serials
 pub mod Counts
 pub mod Sweeping
 pub mod Ends
-pub mod Grounds

@@ -22,6 +22,3 @@ mod objects;
 mod sweep;
 
 pub use sweep::{PageSwept, Sweep, dead_are_few};
-
-#[cfg(test)]
-mod tests;

@@ -6,6 +6,5 @@ pub mod Holder
 pub mod ObjectWalk
 pub mod BlockWalk
 pub mod InTurn
-pub mod Grounds
 pub mod MarkWords
 pub mod NoHandles

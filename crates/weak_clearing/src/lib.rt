@@ -26,6 +26,3 @@ mod weak_handles;
 pub use fields::clear_fields;
 pub use pairs::clear_pairs;
 pub use slots::clear_slots;
-
-#[cfg(test)]
-mod tests;
