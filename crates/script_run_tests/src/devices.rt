@@ -26,9 +26,10 @@ fn first_wrong_read(alloc: Global, most: usize, calls: u32) -> Option<u32>
 
 #[test]
 fn failed_read_is_answered_and_nothing_is_written(rt: HostRuntime) {
-    assert_eq!(rt; first_wrong_read(rt.alloc(), 1, 57), None);
-    assert_eq!(rt; first_wrong_read(rt.alloc(), 8, 8), None);
-    assert_eq!(rt; first_wrong_read(rt.alloc(), 1_000_000, 2), None);
+    let wrong = first_wrong_read(rt.alloc(), 1, 57)
+        .or(first_wrong_read(rt.alloc(), 8, 8))
+        .or(first_wrong_read(rt.alloc(), 1_000_000, 2));
+    assert_eq!(rt; wrong, None);
 }
 
 /// The first of so many calls of the sink after whose failure something else comes than a write
@@ -51,18 +52,23 @@ fn first_wrong_write(alloc: Global, most: usize, calls: u32) -> Option<u32>
     None
 }
 
-// One write takes the report whole, 17 take it by sevens, and 119 by ones.
-#[test]
-fn failed_write_leaves_what_was_written_before(rt: HostRuntime) {
-    assert_eq!(rt; first_wrong_write(rt.alloc(), 1, 119), None);
-    assert_eq!(rt; first_wrong_write(rt.alloc(), 7, 17), None);
-    assert_eq!(rt; first_wrong_write(rt.alloc(), 1_000_000, 1), None);
-    let second = Devices {
+/// Whether there is no second write of a report that goes out whole.
+fn goes_out_whole(alloc: Global) -> bool {
+    let devices = Devices {
         bad_write: 2,
         ..STEADY
     };
-    let told = outcome_of(rt.alloc(), SCRIPT, REPORT, second);
-    assert_eq!(rt; told, expected(Status::Done, 119));
+    outcome_of(alloc, SCRIPT, REPORT, devices) == expected(Status::Done, 119)
+}
+
+// By ones the report takes 119 writes, by sevens 17.
+#[test]
+fn failed_write_leaves_what_was_written_before(rt: HostRuntime) {
+    let wrong = first_wrong_write(rt.alloc(), 1, 119)
+        .or(first_wrong_write(rt.alloc(), 7, 17))
+        .or(first_wrong_write(rt.alloc(), 1_000_000, 1));
+    assert_eq!(rt; wrong, None);
+    assert!(rt; goes_out_whole(rt.alloc()));
 }
 
 /// The first room, below this one, of which something else comes than a write fault after as many

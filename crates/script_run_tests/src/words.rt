@@ -1,8 +1,8 @@
 // Words that the program doesn't take, after which nothing is read.
 
-use heap_script::{ListSink, ListSource, NoMemory, read_whole};
+use heap_script::{ListSink, ListSource, read_whole};
 use script_run::{Status, run_program};
-use std::alloc::Global;
+use std::alloc::{AllocError, Global};
 
 const SWEEP: &str = "oilpan 1\ngc now precise\nsweep all\n";
 
@@ -42,23 +42,44 @@ script
 --pages|4|--page-words|18446744073709551872
 ";
 
-/// Whether the words are refused, with nothing read, written or kept.
-fn is_refused(alloc: Global, row: &str) -> Result<bool, NoMemory> {
+fn words_of(alloc: Global, row: &str) -> Result<Vec<String>, AllocError> {
     let mut words = Vec::new(alloc);
     for word in row.split('|') {
         words.push(String::from_str(alloc, word)?)?;
     }
+    Ok(words)
+}
+
+fn source_of(alloc: Global) -> Result<ListSource, AllocError> {
     let script = Vec::from_slice(alloc, SWEEP.as_bytes())?;
-    let mut source = ListSource::new(script, 1_000_000, Vec::new(alloc));
+    Ok(ListSource::new(script, 1_000_000, Vec::new(alloc)))
+}
+
+/// Whether the words are refused, with nothing read, written or kept.
+fn is_refused(alloc: Global, words: &[String], source: &mut ListSource) -> bool {
     let mut sink = ListSink::new(alloc, 1_000_000, Vec::new(alloc));
-    sink.reserve(1_000_000)?;
-    let ran = run_program(alloc, &words, &mut source, &mut sink)?;
-    Ok(
-        ran.status == Status::Usage
-            && !ran.is_kept
-            && sink.bytes().is_empty()
-            && is_left_whole(alloc, &mut source),
-    )
+    if sink.reserve(1000).is_err() {
+        return false;
+    }
+    match run_program(alloc, words, source, &mut sink) {
+        Ok(ran) => {
+            ran.status == Status::Usage
+                && !ran.is_kept
+                && sink.bytes().is_empty()
+                && is_left_whole(alloc, source)
+        }
+        Err(_) => false,
+    }
+}
+
+fn is_right(alloc: Global, row: &str) -> bool {
+    match words_of(alloc, row) {
+        Ok(words) => match source_of(alloc) {
+            Ok(mut source) => is_refused(alloc, &words, &mut source),
+            Err(_) => false,
+        },
+        Err(_) => false,
+    }
 }
 
 fn is_left_whole(alloc: Global, source: &mut ListSource) -> bool {
@@ -71,9 +92,8 @@ fn is_left_whole(alloc: Global, source: &mut ListSource) -> bool {
 /// The number of the first row that isn't refused, counted from 1.
 fn first_wrong(alloc: Global) -> Option<u32> {
     for (row, number) in REFUSED.lines().zip(1u32..) {
-        match is_refused(alloc, row) {
-            Ok(true) => {}
-            _ => return Some(number),
+        if !is_right(alloc, row) {
+            return Some(number);
         }
     }
     None
