@@ -1,4 +1,4 @@
-use Rattle.std.proofs.Common.{◌≡◌, map, string_bytes, Some, option_map, rules}
+use Rattle.std.proofs.Common.{◌≡◌, map, string_bytes, None, Some, option_map, ap, sym, ◌∙◌, refl, rules}
 use Rattle.script_run.specs.Options.{shape_asked}
 use Rattle.script_run.specs.Setting.{shape_of}
 use Rattle.script_run.proofs.Outcomes.{answers_done, answers_stopped, answers_script, of_kept}
@@ -19,3 +19,18 @@ pub returns-in-Ok-clause-script : goal.returns-in-Ok-clause-script
 returns-in-Ok-clause-script g c =
     answers_script _ _ _ _ (g.K.Sink.written c.args.sink.now) (g.K.Sink.written c.run_bytes.new.sink) (option_map (λ heap. heap.core) c.run_bytes.new.kept) _
     (record { bytes = c.deref.result.now; read = rw c.deref.ensures.value c.in-Ok.ensures.bytes; answer = c.run_bytes.ensures.answer })
+
+pub returns-in-None-clause-usage : goal.returns-in-None-clause-usage
+returns-in-None-clause-usage g c = ((λ is. sym c.config_asked.ensures.shape ∙ ap (option_map shape_of) c.in-None.is), λ none. refl)
+
+pub returns-in-None-clause-source_untouched : goal.returns-in-None-clause-source_untouched
+returns-in-None-clause-source_untouched g c = λ is. record { told = refl; faults = refl }
+
+pub returns-in-Err-Fault-clause-no_read_failed : goal.returns-in-Err-Fault-clause-no_read_failed
+returns-in-Err-Fault-clause-no_read_failed g c = λ other. absurd (other refl)
+
+pub returns-in-Err-Fault-clause-no_write_failed : goal.returns-in-Err-Fault-clause-no_write_failed
+returns-in-Err-Fault-clause-no_write_failed g c = λ other. refl
+
+pub returns-in-Err-Memory-clause-read_fault : goal.returns-in-Err-Memory-clause-read_fault
+returns-in-Err-Memory-clause-read_fault g c = λ is. cc
