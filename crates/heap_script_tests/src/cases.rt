@@ -1,34 +1,25 @@
 // A table of scripts, each with its first fault.
 
-use heap_script::{ScriptFault, number_below, read_built, read_script};
+use heap_script::{ScriptFault, number_below, read_script};
 use std::alloc::{AllocError, Global};
-
-/// Which reader is asked. Each has one callback.
-#[derive(Clone, Copy, Drop)]
-pub(crate) enum Reader {
-    /// Of all that the grammar has.
-    Whole,
-    /// Of what is built.
-    Built,
-}
 
 /// The number of the first case whose script has another fault, counted from 1. A case is a line of
 /// the table: what follows `before` in the script, a bar, and the line and the reason of the first
 /// fault, or `none`. Where more bars stand before that one, they part the beginning, what stands
 /// after it over and over, how often, and the rest. A slash is the end of a line.
-pub(crate) fn first_wrong(alloc: Global, reader: Reader, before: &str, table: &str) -> Option<u32> {
+pub(crate) fn first_wrong(alloc: Global, before: &str, table: &str) -> Option<u32> {
     for (case, number) in table.lines().zip(1u32..) {
-        if !is_right(alloc, reader, before, case) {
+        if !is_right(alloc, before, case) {
             return Some(number);
         }
     }
     None
 }
 
-fn is_right(alloc: Global, reader: Reader, before: &str, case: &str) -> bool {
+fn is_right(alloc: Global, before: &str, case: &str) -> bool {
     match case.rsplit_once('|') {
         Some((parts, wanted)) => match script_of(alloc, before, parts) {
-            Ok(script) => has_fault(alloc, reader, &script, wanted),
+            Ok(script) => has_fault(alloc, &script, wanted),
             Err(_) => false,
         },
         None => false,
@@ -56,12 +47,8 @@ fn add_lines(script: &mut Vec<u8>, text: &str) -> Result<(), AllocError> {
     Ok(())
 }
 
-fn has_fault(alloc: Global, reader: Reader, script: &[u8], wanted: &str) -> bool {
-    let read = match reader {
-        Reader::Whole => read_script(alloc, script, 1),
-        Reader::Built => read_built(alloc, script, 1),
-    };
-    match read {
+fn has_fault(alloc: Global, script: &[u8], wanted: &str) -> bool {
+    match read_script(alloc, script, 1) {
         Ok(_script) => wanted == "none",
         Err(fault) => is_fault(&fault, wanted),
     }

@@ -1,6 +1,6 @@
 // The first fault of a script, by hand from the grammar.
 
-use super::cases::{Reader, first_wrong};
+use super::cases::first_wrong;
 
 // Whole scripts. The first line is the header; the last line may be cut off; types come before
 // commands; letters, callbacks, bytes and lines have limits, and long words are read whole.
@@ -43,7 +43,7 @@ oilpan 1| |16777208| |0 8
 
 #[test]
 fn scripts_have_their_first_fault(rt: HostRuntime) {
-    let wrong = first_wrong(rt.alloc(), Reader::Whole, "", SCRIPTS);
+    let wrong = first_wrong(rt.alloc(), "", SCRIPTS);
     assert_eq!(rt; wrong, None);
 }
 
@@ -218,33 +218,6 @@ at 1 upgrade 32 0/threads go/threads join/|2 5
 
 #[test]
 fn threads_have_their_sections(rt: HostRuntime) {
-    let wrong = first_wrong(rt.alloc(), Reader::Whole, "oilpan 1/", SECTIONS);
-    assert_eq!(rt; wrong, None);
-}
-
-// Where all has to be built.
-const BUILT: &str = "\
-oilpan 1/type SS/type -/new 0 0/gc now precise/new 1 0/sweep 1/sweep all/new 0 1 9/|none
-oilpan 1/type SWP/put 0 2 7/word 0 2/copy 0 1/weak 63 0/read 63 1/|none
-oilpan 1/set 0 1 2/set 0 1 -/get 0 1 2/drop 0/stat/|none
-|1 9
-oilpan 1/type WE/pair 0 1 0 0/pair 0 1 - -/val 0 1 2/key 0 0 1/|none
-oilpan 1/push 0 0/push# 18446744073709551615/peek 1023 255/pop/|none
-oilpan 1/peek 1024 0/|2 9
-oilpan 1/pair 0 0 0 -/|2 9
-oilpan 1/weak 64 0/|2 9
-oilpan 1/put 0 0/|2 9
-oilpan 1/type S pre 99/|2 9
-oilpan 1/stat/gc start/foo/|3 9
-oilpan 1/stat/foo/gc start/|3 9
-oilpan 1/type S/gc now precise/gc step 1/foo/|4 9
-oilpan 1/gc finish conservative/|2 9
-oilpan 1/export 0 0/|2 9
-oilpan 1/at 1 totals/stat/|2 9
-";
-
-#[test]
-fn first_line_that_is_not_built_is_named(rt: HostRuntime) {
-    let wrong = first_wrong(rt.alloc(), Reader::Built, "", BUILT);
+    let wrong = first_wrong(rt.alloc(), "oilpan 1/", SECTIONS);
     assert_eq!(rt; wrong, None);
 }

@@ -52,6 +52,14 @@ entry 8 upgrade 8 9 null
 /// The line whose text has this place among the texts.
 fn line_at(place: u32) -> Line {
     match place {
+        0..=22 => answer_at(place),
+        23..=28 => totals_at(place),
+        _ => threads_line_at(place),
+    }
+}
+
+fn answer_at(place: u32) -> Line {
+    match place {
         0 => Line::TypeLine { t: 0 },
         1 => Line::Placed { k: 1, a: u32::MAX },
         2 => Line::Full,
@@ -74,21 +82,14 @@ fn line_at(place: u32) -> Line {
         19 => Line::Swept { c: 90 },
         20 => Line::Queued,
         21 => Line::Going { m: 2 },
-        22 => Line::Joined { m: 8 },
-        23 => Line::Pause {
-            kept: 1,
-            dead: 2,
-            crew: 0,
-            traced: 3,
-            walked: true,
-        },
-        24 => Line::Pause {
-            kept: 9,
-            dead: 0,
-            crew: 4,
-            traced: 5,
-            walked: false,
-        },
+        _ => Line::Joined { m: 8 },
+    }
+}
+
+fn totals_at(place: u32) -> Line {
+    match place {
+        23 => pause(1, 2, 0, 3, true),
+        24 => pause(9, 0, 4, 5, false),
         25 => Line::Objects { n: 4, u: 5, g: 6 },
         26 => Line::End { n: 4, u: 5, g: 6 },
         27 => Line::ReplyTotals {
@@ -98,7 +99,7 @@ fn line_at(place: u32) -> Line {
             u: 3,
             f: u64::MAX,
         },
-        28 => Line::Summary {
+        _ => Line::Summary {
             c: 1,
             y: 2,
             n: 3,
@@ -106,22 +107,15 @@ fn line_at(place: u32) -> Line {
             f: 5,
             full: u64::MAX,
         },
-        29 => Line::Reply {
-            j: 1,
-            reply: Reply::Done,
-        },
-        30 => Line::Reply {
-            j: 2,
-            reply: Reply::Node(10),
-        },
-        31 => Line::Reply {
-            j: 3,
-            reply: Reply::Null,
-        },
-        32 => Line::Reply {
-            j: 8,
-            reply: Reply::NoMemory,
-        },
+    }
+}
+
+fn threads_line_at(place: u32) -> Line {
+    match place {
+        29 => reply(1, Reply::Done),
+        30 => reply(2, Reply::Node(10)),
+        31 => reply(3, Reply::Null),
+        32 => reply(8, Reply::NoMemory),
         33 => entry(0, Op::Export { slot: 31, node: 7 }, Reply::Done),
         34 => entry(0, Op::Import { slot: 5 }, Reply::Node(7)),
         35 => entry(0, Op::Start, Reply::Done),
@@ -131,6 +125,20 @@ fn line_at(place: u32) -> Line {
         39 => entry(3, Op::Weaken { slot: 6 }, Reply::Done),
         _ => entry(8, Op::Upgrade { from: 8, into: 9 }, Reply::Null),
     }
+}
+
+fn pause(kept: u32, dead: u32, crew: u32, traced: u32, walked: bool) -> Line {
+    Line::Pause {
+        kept,
+        dead,
+        crew,
+        traced,
+        walked,
+    }
+}
+
+fn reply(j: u32, reply: Reply) -> Line {
+    Line::Reply { j, reply }
 }
 
 fn entry(thread: u32, op: Op, reply: Reply) -> Line {

@@ -7,8 +7,7 @@
 //! table says), `devices` (devices that fail at each call in turn), `pieces` (the same with reports
 //! of more than one piece), `adapters` (the standard streams' devices, over readers and writers
 //! that move few bytes or fail), `limits` (input at the limits), `statuses` (what standard error is
-//! told), `words` (refused words, after which nothing is read), `calls` (how often a callback is
-//! called).
+//! told), `calls` (how often a callback is called).
 //!
 //! What is proved: nothing of its own.
 //!
@@ -32,5 +31,3 @@ mod rows;
 mod statuses;
 #[cfg(test)]
 mod trial;
-#[cfg(test)]
-mod words;
