@@ -180,12 +180,7 @@ type - pre 0 4294967296|3 5
 
 #[test]
 fn lines_have_their_lowest_reason(rt: HostRuntime) {
-    let wrong = first_wrong(
-        rt.alloc(),
-        Reader::Whole,
-        "oilpan 1/type SWEP pre 0/",
-        LINES,
-    );
+    let wrong = first_wrong(rt.alloc(), "oilpan 1/type SWEP pre 0/", LINES);
     assert_eq!(rt; wrong, None);
 }
 
