@@ -71,6 +71,9 @@ to_range first (suc n) x low high = elim (cases_eq first x) [
   | inr other ↦ Contains-cons first (range_with_len (first + 1) n) x (to_range (first + 1) n x (omega arith) (omega arith))
 ]
 
+pub below_ranged : (count n : ℕ) → n < count → Contains (range_with_len 0 count) n
+below_ranged count n low = to_range 0 count n (omega arith) (omega arith)
+
 -- ---- a beginning, and one with the next item
 
 module _ {X : Type 0} where
