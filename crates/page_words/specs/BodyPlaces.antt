@@ -1,18 +1,15 @@
 -- Which words are whose: each body lies in the heap, and no two of them share a word.
-use Rattle.std.proofs.Common.{◌≡◌, ℕ, ◌+◌, ◌<◌, ◌≤◌, List, ap, arith, Contains, All}
+use Rattle.std.proofs.Common.{◌≡◌, ℕ, ◌+◌, ◌<◌, ◌≤◌, List, ap, arith, Contains}
 use Rattle.std.proofs.lemmas.List.Elements.{All-contains}
 use Rattle.page_words.specs.Bodies.{Body, IsWhole, IsPlace}
 use Rattle.page_words.specs.Seat.{SeatView, IsView}
 
--- a header and a serial number
-pub two_words_of : (count : ℕ) (bodies : List Body) (b : Body) → All (IsWhole count) bodies → Contains bodies b → 2 ≤ b.size
-two_words_of count bodies b whole h = let is : IsWhole count b = All-contains (IsWhole count) bodies b whole h in omega (arith, is.fields)
-
 pub whole_body : (v : SeatView) → IsView v → (b : Body) → Contains v.bodies b → IsWhole v.count b
 whole_body v is b h = All-contains (IsWhole v.count) v.bodies b is.whole h
 
+-- a header and a serial number
 pub two_words : (v : SeatView) → IsView v → (b : Body) → Contains v.bodies b → 2 ≤ b.size
-two_words v is b h = two_words_of v.count v.bodies b is.whole h
+two_words v is b h = let whole = whole_body v is b h in omega arith
 
 pub within_heap : (v : SeatView) → IsView v → (b : Body) → Contains v.bodies b → b.place + b.size ≤ v.count
 within_heap v is b h = (whole_body v is b h).inside
