@@ -1,7 +1,7 @@
 -- The words of strong fields and of pairs, and what the type table tells of them.
-use Rattle.std.proofs.Common.{◌≡◌, ℕ, zero, suc, ◌+◌, ◌<◌, ◌≤◌, Bool, true, false, List, [], ◌∷◌, length, get_or, take, refl, sym, ap, ◌∙◌, subst, inl, inr, arith}
+use Rattle.std.proofs.Common.{◌≡◌, ℕ, zero, suc, ◌+◌, ◌<◌, ◌≤◌, true, false, List, [], ◌∷◌, length, get_or, take, refl, sym, ap, ◌∙◌, subst, inl, inr, arith}
 use Rattle.std.specs.List.{Contains, filter, range_with_len}
-use Rattle.std.proofs.lemmas.Bool.{true≢false, cond_both, cases_eq}
+use Rattle.std.proofs.lemmas.Bool.{true≢false}
 use Rattle.std.proofs.lemmas.List.Sums.{sum_by-cons, sum_by_more_le}
 use Rattle.gc_graph.specs.declared.kind.Kind.{Kind}
 use Rattle.gc_graph.specs.declared.kind.Kind.TheVariants.{Strong, Weak, Pair, Plain}
@@ -9,7 +9,8 @@ use Rattle.gc_graph.specs.Graph.{strong_targets}
 use Rattle.gc_graph.specs.Fields.{words_of_kind, field_words}
 use Rattle.type_table.specs.Types.{offset_of, is_kind, is_field, offsets_of_kind}
 use Rattle.ephemerons.specs.BodyGraph.{values_in}
-use Rattle.ephemerons.proofs.Lists.{Contains-cons_cases, Contains-cons, Contains-head, Contains-map, Contains-map_some}
+use Rattle.gc_graph.specs.Members.{Contains-cons_cases, Contains-cons, Contains-head, Contains-map, Contains-map_some, was_in, has_passed, stays_in, in_range, to_range}
+use Rattle.type_table.specs.KindLaws.{same_kind, kind_itself}
 
 -- the number of the first word of a declared field
 abbrev pub first_of : List Kind → ℕ → ℕ
@@ -28,75 +29,14 @@ two_more kinds i = omega (arith, sum_by-cons words_of_kind Pair (take i kinds))
 
 -- ---- the offsets of the fields of a kind
 
-in_filter : (test : ℕ → Bool) (xs : List ℕ) (x : ℕ) → Contains (filter test xs) x → Contains xs x × (test x ≡ true)
-in_filter test [] x there = absurd (omega (arith, there.1))
-in_filter test (y ∷ xs) x there =
-    cond_both (test y) (y ∷ filter test xs) (filter test xs) (λ l. Contains l x → Contains (y ∷ xs) x × (test x ≡ true))
-    (λ is kept. elim (Contains-cons_cases y (filter test xs) x kept) [
-      | inl here ↦ (subst (Contains (y ∷ xs)) here (Contains-head y xs), ap test (sym here) ∙ is)
-      | inr later ↦ (let w = in_filter test xs x later in (Contains-cons y xs x w.0, w.1))
-    ])
-    (λ _ later. (let w = in_filter test xs x later in (Contains-cons y xs x w.0, w.1))) there
-
-to_filter : (test : ℕ → Bool) (xs : List ℕ) (x : ℕ) → Contains xs x → test x ≡ true → Contains (filter test xs) x
-to_filter test [] x there is = absurd (omega (arith, there.1))
-to_filter test (y ∷ xs) x there is =
-    cond_both (test y) (y ∷ filter test xs) (filter test xs) (λ l. Contains l x)
-    (λ _. elim (Contains-cons_cases y xs x there) [
-      | inl here ↦ subst (Contains (y ∷ filter test xs)) here (Contains-head y (filter test xs))
-      | inr later ↦ Contains-cons y (filter test xs) x (to_filter test xs x later is)
-    ])
-    (λ off. elim (Contains-cons_cases y xs x there) [
-      | inl here ↦ absurd (true≢false (sym is ∙ ap test (sym here) ∙ off))
-      | inr later ↦ to_filter test xs x later is
-    ])
-
-in_range : (first n x : ℕ) → Contains (range_with_len first n) x → (first ≤ x) × (x < first + n)
-in_range first zero x there = absurd (omega (arith, there.1))
-in_range first (suc n) x there = elim (Contains-cons_cases first (range_with_len (first + 1) n) x there) [
-  | inl here ↦ (omega (arith, here), omega (arith, here))
-  | inr later ↦ (let w = in_range (first + 1) n x later in (omega (arith, w.0), omega (arith, w.1)))
-]
-
-pub to_range : (first n x : ℕ) → first ≤ x → x < first + n → Contains (range_with_len first n) x
-to_range first zero x low high = absurd (omega arith)
-to_range first (suc n) x low high = elim (cases_eq first x) [
-  | inl here ↦ subst (Contains (range_with_len first (suc n))) here (Contains-head first (range_with_len (first + 1) n))
-  | inr other ↦ Contains-cons first (range_with_len (first + 1) n) x (to_range (first + 1) n x (omega arith) (omega arith))
-]
-
-same_kind : (wanted kind : Kind) → is_kind wanted kind ≡ true → kind ≡ wanted
-same_kind Strong Strong is = refl
-same_kind Strong Weak is = absurd (true≢false (sym is))
-same_kind Strong Pair is = absurd (true≢false (sym is))
-same_kind Strong Plain is = absurd (true≢false (sym is))
-same_kind Weak Strong is = absurd (true≢false (sym is))
-same_kind Weak Weak is = refl
-same_kind Weak Pair is = absurd (true≢false (sym is))
-same_kind Weak Plain is = absurd (true≢false (sym is))
-same_kind Pair Strong is = absurd (true≢false (sym is))
-same_kind Pair Weak is = absurd (true≢false (sym is))
-same_kind Pair Pair is = refl
-same_kind Pair Plain is = absurd (true≢false (sym is))
-same_kind Plain Strong is = absurd (true≢false (sym is))
-same_kind Plain Weak is = absurd (true≢false (sym is))
-same_kind Plain Pair is = absurd (true≢false (sym is))
-same_kind Plain Plain is = refl
-
-is_itself : (kind : Kind) → is_kind kind kind ≡ true
-is_itself Strong = refl
-is_itself Weak = refl
-is_itself Pair = refl
-is_itself Plain = refl
-
 pub field_at_offset : (kind : Kind) (kinds : List Kind) (offset : ℕ) → Contains (offsets_of_kind kind kinds) offset
     → (i : ℕ) × IsFieldOf kind kinds i × (offset ≡ 2 + first_of kinds i)
 field_at_offset kind kinds offset there =
     let all : List ℕ = range_with_len 0 (length kinds) in
     let w = Contains-map_some (offset_of kinds) (filter (is_field (is_kind kind) kinds) all) offset there in
-    let kept = in_filter (is_field (is_kind kind) kinds) all w.0 w.1 in
-    let low : w.0 < length kinds = omega (arith, (in_range 0 (length kinds) w.0 kept.0).1) in
-    (w.0, record { low = low; is = same_kind kind (get_or kinds w.0 Plain) kept.1 }, omega (arith, w.2, low))
+    let low : w.0 < length kinds = omega (arith, (in_range 0 (length kinds) w.0 (was_in (is_field (is_kind kind) kinds) all w.0 w.1)).1) in
+    let is : is_kind kind (get_or kinds w.0 Plain) ≡ true = has_passed (is_field (is_kind kind) kinds) all w.0 w.1 in
+    (w.0, record { low = low; is = same_kind kind (get_or kinds w.0 Plain) is }, omega (arith, w.2, low))
 
 pub offset_of_field : (kind : Kind) (kinds : List Kind) (i : ℕ) → IsFieldOf kind kinds i → Contains (offsets_of_kind kind kinds) (2 + first_of kinds i)
 offset_of_field kind kinds i field =
@@ -104,8 +44,8 @@ offset_of_field kind kinds i field =
     let at : offset_of kinds i ≡ 2 + first_of kinds i = omega (arith, field.low) in
     subst (Contains (offsets_of_kind kind kinds)) at
     (Contains-map (offset_of kinds) (filter (is_field (is_kind kind) kinds) all) i
-    (to_filter (is_field (is_kind kind) kinds) all i (to_range 0 (length kinds) i (omega arith) (omega (arith, field.low)))
-    (ap (is_kind kind) field.is ∙ is_itself kind)))
+    (stays_in (is_field (is_kind kind) kinds) all i (to_range 0 (length kinds) i (omega arith) (omega (arith, field.low)))
+    (ap (is_kind kind) field.is ∙ kind_itself kind)))
 
 -- all words of a field are among those of the fields
 pub field_below : (kind : Kind) (kinds : List Kind) (i : ℕ) → IsFieldOf kind kinds i → first_of kinds i + words_of_kind kind ≤ field_words kinds
@@ -118,7 +58,7 @@ pub later_field : (wanted kind : Kind) (kinds : List Kind) (i : ℕ) → IsField
 later_field wanted kind kinds i field = record { low = omega (arith, field.low); is = field.is }
 
 pub other_field : (wanted kind : Kind) (kinds : List Kind) → is_kind wanted kind ≡ false → IsFieldOf wanted (kind ∷ kinds) 0 → ⊥
-other_field wanted kind kinds other field = true≢false (sym (ap (is_kind wanted) field.is ∙ is_itself wanted) ∙ other)
+other_field wanted kind kinds other field = true≢false (sym (ap (is_kind wanted) field.is ∙ kind_itself wanted) ∙ other)
 
 -- a word after the first field, seen in all words and in those after it
 pub word_after_one : (kind : Kind) (kinds : List Kind) (i n w : ℕ) (words : List ℕ) → words_of_kind kind ≡ 1

@@ -11,12 +11,12 @@ use Rattle.ephemerons.specs.BodyGraph.{AreReferences}
 use Rattle.ephemerons.specs.Marking.{GrowsWithin, HasStrongMarked, traced_count}
 use Rattle.ephemerons.specs.Notes.{NotesState, NotesGrow, HasPairsNoted, group_at, IsNotedIn, IsNote, note_of}
 use Rattle.ephemerons.specs.Fixpoint.{Stage, stage, weight, IsGround, IsAccounted, IsUnrefused, Works, Looks, ListsMarks, untraced_places}
-use Rattle.ephemerons.proofs.Lists.{holds_push_old, holds_push_new, holds_push_cases}
-use Rattle.ephemerons.proofs.Fields.{to_range}
+use Rattle.ephemerons.proofs.Lists.{holds_push_old, holds_push_cases}
+use Rattle.gc_graph.specs.Members.{pushed_is_held, to_range}
 use Rattle.ephemerons.proofs.Weights.{one_fewer, one_more}
-use Rattle.ephemerons.proofs.MarkSteps.{place_below}
+use Rattle.page_words.specs.BodyPlaces.{place_below}
 use Rattle.ephemerons.proofs.GroupSteps.{GroupsGrow, first_grows}
-use Rattle.ephemerons.proofs.Refused.{told_same}
+use Rattle.mark_worklist.specs.Told.{told_same}
 use Rattle.ephemerons.proofs.Stages.{MarksOn-same}
 
 abbrev pub with_trace : SeatView → ℕ → SeatView
@@ -131,7 +131,7 @@ module _ (types : List ObjectType) (v w : SeatView) (m n : Marking) (groups : Li
         in_hand : ReadsFields types v w m n (group_at groups 0) g a → (p : ℕ) → holds w.traced p ≡ false → Some a ≡ Some p → ⊥
         in_hand r p new hand =
             let same : a ≡ p = cc in
-            true≢false (sym (subst (λ l. holds l p ≡ true) (sym (traced_is r)) (subst (λ q. holds (v.traced ++ a ∷ []) q ≡ true) same (holds_push_new v.traced a))) ∙ new)
+            true≢false (sym (subst (λ l. holds l p ≡ true) (sym (traced_is r)) (subst (λ q. holds (v.traced ++ a ∷ []) q ≡ true) same (pushed_is_held v.traced a))) ∙ new)
 
   pub grey_works : ReadsFields types v w m n (group_at groups 0) g a → IsGround types before → Works types (Some a) before after
   grey_works r ground =

@@ -14,7 +14,7 @@ use Rattle.page_words.specs.Bodies.{IsPlace}
 use Rattle.page_words.specs.Seat.{SeatView}
 use Rattle.ephemerons.specs.Notes.{NotesState}
 use Rattle.ephemerons.specs.Fixpoint.{Stage, stage, weight, IsGround, Works, ListsMarks, IsListed, IsStillHeld, weight_of, with_held}
-use Rattle.ephemerons.proofs.Refused.{told_same}
+use Rattle.mark_worklist.specs.Told.{told_same}
 use Rattle.ephemerons.proofs.Stages.{Works-popped}
 
 pub no_marking : Marking

@@ -11,6 +11,5 @@ pub mod GroupSteps
 pub mod GreySteps
 pub mod Ends
 pub mod NoPairs
-pub mod Refused
 pub mod Holding
 pub mod StrongWords

@@ -2,44 +2,20 @@
 use Rattle.std.proofs.Common.{◌≡◌, ℕ, ◌+◌, ◌<◌, ◌≤◌, false, [], ◌∷◌, ◌++◌, refl, sym, ap, ◌∙◌, subst, inl, inr, arith}
 use Rattle.std.specs.List.{Contains, range_with_len}
 use Rattle.std.proofs.lemmas.Bool.{cond-false}
-use Rattle.mark_worklist.specs.Refusals.{refusals_of}
 use Rattle.mark_worklist.specs.declared.marking.Marking.{Marking}
 use Rattle.page_words.specs.Bodies.{IsPlace}
 use Rattle.page_words.specs.Seat.{SeatView, IsView, holds, marked_at}
 use Rattle.ephemerons.specs.Fixpoint.{ListsMarks, IsListed, unmarked_places, weight_of}
 use Rattle.ephemerons.proofs.Lists.{holds_push_old, holds_push_cases}
-use Rattle.ephemerons.proofs.Fields.{to_range}
+use Rattle.gc_graph.specs.Members.{to_range}
 use Rattle.ephemerons.proofs.Weights.{one_fewer}
-use Rattle.ephemerons.proofs.Graph.{body_below}
-use Rattle.ephemerons.proofs.Refused.{told_then}
+use Rattle.page_words.specs.BodyPlaces.{place_below}
 
 abbrev with_mark : SeatView → ℕ → SeatView
 with_mark v a = record v { marked = v.marked ++ a ∷ [] }
 
 fresh_is : (v new : SeatView) (a : ℕ) → new ≡ marked_at v a → holds v.marked a ≡ false → new ≡ with_mark v a
 fresh_is v new a is fresh = is ∙ ap (λ m. record v { marked = m }) (cond-false (holds v.marked a) v.marked (v.marked ++ a ∷ []) fresh)
-
-pub place_below : (v : SeatView) (a : ℕ) → IsView v → IsPlace v.bodies a → a < v.count
-place_below v a view place = omega (arith, body_below v place.0 view place.1, place.2)
-
-pub ListsMarks-then : (u v w : SeatView) (l m n : Marking) → ListsMarks u l v m → ListsMarks v m w n → ListsMarks u l w n
-ListsMarks-then u v w l m n x y = record {
-  view = y.view ∙ ap (λ (z : SeatView). record z { marked = w.marked }) x.view;
-  marked = λ p h. y.marked p (x.marked p h);
-  on = y.on ∙ x.on;
-  overflow = λ h. x.overflow (y.overflow h);
-  told = told_then (refusals_of l) (refusals_of m) (refusals_of n) x.told y.told;
-  kept = λ p h. y.kept p (x.kept p h);
-  listed = λ p h. elim (y.listed p h) [
-    | inl before ↦ x.listed p before
-    | inr place ↦ inr (subst (λ bs. IsPlace bs p) (ap (λ (z : SeatView). z.bodies) x.view) place)
-  ];
-  fresh = λ fine p h. elim (y.fresh fine p h) [
-    | inl before ↦ elim (x.fresh (y.overflow fine) p before) [ inl first ↦ inl first | inr there ↦ inr (y.kept p there) ]
-    | inr there ↦ inr there
-  ];
-  lighter = omega (arith, x.lighter, y.lighter);
-}
 
 -- one object is marked that was not
 fewer : (v : SeatView) (a : ℕ) → IsView v → IsPlace v.bodies a → holds v.marked a ≡ false → unmarked_places (with_mark v a) + 1 ≤ unmarked_places v

@@ -14,7 +14,7 @@ use Rattle.ephemerons.specs.Marking.{MarksOn, GrowsWithin, traced_count}
 use Rattle.ephemerons.specs.Notes.{NotesState, IsNote}
 use Rattle.ephemerons.specs.Fixpoint.{Stage, stage, weight, IsGround, Works, Looks, ListsMarks, untraced_places, weight_of}
 use Rattle.ephemerons.proofs.Graph.{GrowsWithin-then}
-use Rattle.ephemerons.proofs.Refused.{told_same, told_then, told_from}
+use Rattle.mark_worklist.specs.Told.{told_same, told_then, told_from}
 
 pub MarksOn-same : (v : SeatView) → MarksOn v v
 MarksOn-same v = record {

@@ -10,7 +10,8 @@ use Rattle.page_words.specs.Seat.{SeatView, IsView}
 use Rattle.ephemerons.specs.BodyGraph.{HasType, HasStrong, strong_offsets}
 use Rattle.ephemerons.specs.Marking.{GrowsWithin, HasStrongMarked, HasTargetMarked}
 use Rattle.ephemerons.specs.Fixpoint.{ListsMarks}
-use Rattle.ephemerons.proofs.Graph.{same_body, GrowsWithin-then}
+use Rattle.ephemerons.proofs.Graph.{GrowsWithin-then}
+use Rattle.page_words.specs.BodyPlaces.{same_body}
 use Rattle.ephemerons.proofs.MarkSteps.{same_bodies, same_count}
 
 -- each of the offsets that the table tells for the object's type is one of a strong field

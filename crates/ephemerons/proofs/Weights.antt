@@ -7,7 +7,8 @@ use Rattle.std.proofs.lemmas.List.Sums.{sum_by-cons}
 use Rattle.page_words.specs.Bodies.{Body, IsPlace}
 use Rattle.page_words.specs.Seat.{holds}
 use Rattle.ephemerons.specs.BodyGraph.{PlacesDiffer}
-use Rattle.ephemerons.proofs.Lists.{Contains-cons_cases, holds_push_new, holds_push_other}
+use Rattle.ephemerons.proofs.Lists.{holds_push_other}
+use Rattle.gc_graph.specs.Members.{Contains-cons_cases, pushed_is_held}
 
 abbrev one_if : Bool → ℕ
 one_if b = cond b 1 0
@@ -20,7 +21,7 @@ missing places x xs = sum_by-cons (λ p. cond (not (holds places p)) 1 0) x xs
 step : (places : List ℕ) (a x : ℕ) → one_if (not (holds (places ++ a ∷ []) x)) ≤ one_if (not (holds places x))
 step places a x = elim (cases_eq a x) [
   | inl same ↦
-      (let here : holds (places ++ a ∷ []) x ≡ true = subst (λ y. holds (places ++ a ∷ []) y ≡ true) same (holds_push_new places a) in
+      (let here : holds (places ++ a ∷ []) x ≡ true = subst (λ y. holds (places ++ a ∷ []) y ≡ true) same (pushed_is_held places a) in
       let none : one_if (not (holds (places ++ a ∷ []) x)) ≡ 0 = ap (λ t. one_if (not t)) here in
       omega (arith, none))
   | inr other ↦
@@ -38,7 +39,7 @@ pub one_fewer : (xs places : List ℕ) (a : ℕ) → Contains xs a → holds pla
 one_fewer [] places a there fresh = absurd (omega (arith, there.1))
 one_fewer (x ∷ xs) places a there fresh = elim (Contains-cons_cases x xs a there) [
   | inl here ↦
-      (let now : holds (places ++ a ∷ []) x ≡ true = subst (λ y. holds (places ++ a ∷ []) y ≡ true) (sym here) (holds_push_new places a) in
+      (let now : holds (places ++ a ∷ []) x ≡ true = subst (λ y. holds (places ++ a ∷ []) y ≡ true) (sym here) (pushed_is_held places a) in
       let none : one_if (not (holds (places ++ a ∷ []) x)) ≡ 0 = ap (λ t. one_if (not t)) now in
       let was : one_if (not (holds places x)) ≡ 1 = ap (λ t. one_if (not t)) (ap (holds places) here ∙ fresh) in
       omega (arith, missing (places ++ a ∷ []) x xs, missing places x xs, none, was, no_more xs places a))
@@ -71,7 +72,7 @@ one_more (b ∷ bodies) places a differ is fresh =
           (let others : All (λ (c : Body). c.place ≡ a → ⊥) bodies = subst (λ p. All (λ (c : Body). c.place ≡ p → ⊥) bodies) here differ.0 in
           let same : new ≡ old = same_count bodies places a others in
           let yes : one_if (holds (places ++ a ∷ []) b.place) ≡ 1 =
-          cond-true (holds (places ++ a ∷ []) b.place) 1 0 (subst (λ p. holds (places ++ a ∷ []) p ≡ true) (sym here) (holds_push_new places a)) in
+          cond-true (holds (places ++ a ∷ []) b.place) 1 0 (subst (λ p. holds (places ++ a ∷ []) p ≡ true) (sym here) (pushed_is_held places a)) in
           let none : one_if (holds places b.place) ≡ 0 = cond-false (holds places b.place) 1 0 (subst (λ p. holds places p ≡ false) (sym here) fresh) in
           omega (arith, split_new, split_old, same, yes, none))
       | inr elsewhere ↦

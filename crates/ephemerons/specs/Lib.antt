@@ -2,3 +2,6 @@ pub mod BodyGraph
 pub mod Marking
 pub mod Notes
 pub mod Fixpoint
+-- Lemmas that the crates above cite too, since a crate's proofs/ can't be cited from another.
+pub mod ObjectsThere
+pub mod ListedMarks

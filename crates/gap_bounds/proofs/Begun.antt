@@ -5,7 +5,7 @@ use Rattle.gc_graph.specs.State.{Shape}
 use Rattle.gc_graph.specs.Placement.{Extent}
 use Rattle.gap_bounds.specs.Gaps.{GapTable, is_known, least_of, IsGap, HasClass, KnowsGaps}
 use Rattle.gap_bounds.specs.Changes.{MayBegin}
-use Rattle.gap_bounds.proofs.Spans.{next_page, page_before}
+use Rattle.gc_graph.specs.PageNumbers.{next_page, page_before}
 
 -- the address of a class was set
 pub record SetsFirst (old new : GapTable) (class worth : ℕ) : Type 0 where

@@ -7,7 +7,8 @@ use Rattle.std.proofs.Math.Nat.{mul-le-mul_right}
 use Rattle.gc_graph.specs.State.{Shape}
 use Rattle.gc_graph.specs.Placement.{Extent}
 use Rattle.gap_bounds.specs.Gaps.{GapTable, bound_at, is_known, is_between, IsGap, KnowsGaps}
-use Rattle.gap_bounds.proofs.Spans.{next_page, between_from, between_parts, not_between}
+use Rattle.gap_bounds.specs.Spans.{between_from, between_parts, not_between}
+use Rattle.gc_graph.specs.PageNumbers.{next_page}
 
 pub same_in : {X : Type 0} (n i : ℕ) (x : X) → get_or (replicate n x) i x ≡ x
 same_in {X = X} n i x = elim (cases_lt i n) [

@@ -1,4 +1,3 @@
-mod Spans
 mod Known
 mod Opened
 mod Begun

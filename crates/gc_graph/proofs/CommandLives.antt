@@ -35,7 +35,8 @@ use Rattle.gc_graph.proofs.StepCases.{match_option, match_bool}
 use Rattle.gc_graph.proofs.Sound.{WordNames, IsSound}
 use Rattle.gc_graph.proofs.NodeWrites.{IsLikeNode, like_same, LookSame, look_same, look_written}
 use Rattle.gc_graph.proofs.FieldWrites.{with_pair, one_like, pair_like}
-use Rattle.gc_graph.proofs.Condemned.{condemned_at, length-condemn}
+use Rattle.gc_graph.specs.Condemning.{length-condemn}
+use Rattle.gc_graph.proofs.Condemned.{condemned_at}
 use Rattle.gc_graph.proofs.ValidCases.{option_is, bool_is, field_is}
 use Rattle.gc_graph.proofs.ValidHandles.{Root, slot_names, slot_is_root, ValueLive, content_live, IfWord, word_names}
 use Rattle.gc_graph.proofs.ValidReads.{names_at, value_live}
@@ -43,7 +44,8 @@ use Rattle.gc_graph.proofs.ValidRegion.{Shares, shared_at, others_sound, took_no
 use Rattle.gc_graph.proofs.ValidPause.{order, look}
 use Rattle.gc_graph.proofs.ValidSweeps.{sweeps_sound, ended_phase}
 use Rattle.gc_graph.proofs.ValidCycles.{start_sound}
-use Rattle.gc_graph.proofs.Lives.{put_same, IsMadeBy, IsJudged, AreJudged, AreTold, there_below, dead_below, live_not_dead, line_cases}
+use Rattle.gc_graph.specs.NodeNumbers.{there_below, dead_below, live_not_dead}
+use Rattle.gc_graph.proofs.Lives.{put_same, IsMadeBy, IsJudged, AreJudged, AreTold, line_cases}
 use Rattle.gc_graph.proofs.StepLives.{StepTells, IsQuiet, quiet_told, quiet_one, FinalisesNone, quiet_finalises_none, none_made, tells_quiet, tells_more, IsSweepTold, sweep_told}
 
 abbrev Tells : State → List Line → State → Type 0

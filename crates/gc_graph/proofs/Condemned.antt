@@ -11,16 +11,13 @@ use Rattle.gc_graph.specs.Graph.{has, IsIn}
 use Rattle.gc_graph.specs.State.{Setup, Node, no_node, Life, node_at, is_live, is_dead, is_there, IsLive}
 use Rattle.gc_graph.specs.State.Life.{Live, Dead, Gone}
 use Rattle.gc_graph.specs.Pause.{judged, condemn, is_dead_at, names_dead, cleared_values, with_cleared, clear_node, clear_fields}
-use Rattle.gc_graph.specs.Valid.{HaveKinds, IsTyped, NamesLive, IsPlainWord, IsReferenceBelow, ArePaired}
+use Rattle.gc_graph.specs.Valid.{HaveKinds, IsTyped, NamesLive, IsPlainWord, ArePaired}
+use Rattle.gc_graph.specs.Condemning.{judged_gone, length-condemn, length-cleared, clear_typed}
 use Rattle.gc_graph.proofs.Follows.{Held, Carries, Follows, AllFollow}
 use Rattle.gc_graph.proofs.Sound.{IsHeap, kinds_at}
 use Rattle.gc_graph.proofs.NodeWrites.{IsPlaced, IsLikeNode, apart_after, within_after, pure_after, LookSame, names_after}
 
 -- ---- lives
-
-judged_gone : (flag : Bool) → judged flag Gone ≡ Gone
-judged_gone true = refl
-judged_gone false = refl
 
 abbrev pub Judged : Bool → Node → Node
 Judged flag node = record node { life = judged flag node.life }
@@ -31,11 +28,6 @@ condemned_at [] (node ∷ nodes) zero = refl
 condemned_at [] (node ∷ nodes) (suc m) = condemned_at [] nodes m
 condemned_at (flag ∷ kept) (node ∷ nodes) zero = refl
 condemned_at (flag ∷ kept) (node ∷ nodes) (suc m) = condemned_at kept nodes m
-
-pub length-condemn : (kept : List Bool) (nodes : List Node) → length (condemn kept nodes) ≡ length nodes
-length-condemn kept [] = refl
-length-condemn [] (node ∷ nodes) = ap suc (length-condemn [] nodes)
-length-condemn (flag ∷ kept) (node ∷ nodes) = ap suc (length-condemn kept nodes)
 
 pub was_live : (flag : Bool) (life : Life) → judged flag life ≡ Live → life ≡ Live
 was_live true x e = e
@@ -79,43 +71,6 @@ module _ (kept : List Bool) (nodes : List Node) where
   in_kept n live = was_kept (has kept n) (node_at nodes n).life (ap (λ (x : Node). x.life) (sym (condemned_at kept nodes n)) ∙ live)
 
 -- ---- the words of a live node
-
-pub length-cleared : (dead : ℕ → Bool) (kinds : List Kind) (values : List Value) → length (cleared_values dead kinds values) ≡ length values
-length-cleared dead [] values = refl
-length-cleared dead (Strong ∷ kinds) [] = refl
-length-cleared dead (Weak ∷ kinds) [] = refl
-length-cleared dead (Pair ∷ kinds) [] = refl
-length-cleared dead (Plain ∷ kinds) [] = refl
-length-cleared dead (Strong ∷ kinds) (x ∷ xs) = ap suc (length-cleared dead kinds xs)
-length-cleared dead (Weak ∷ kinds) (x ∷ xs) = ap suc (length-cleared dead kinds xs)
-length-cleared dead (Plain ∷ kinds) (x ∷ xs) = ap suc (length-cleared dead kinds xs)
-length-cleared dead (Pair ∷ kinds) (x ∷ []) = refl
-length-cleared dead (Pair ∷ kinds) (x ∷ y ∷ xs) = ap (λ n. suc (suc n)) (length-cleared dead kinds xs)
-
-cleared_below : (bound : ℕ) (flag : Bool) (value : Value) → IsReferenceBelow bound value → IsReferenceBelow bound (if flag then Null else value)
-cleared_below bound true value h = tt
-cleared_below bound false value h = h
-
-cleared_paired : (flag : Bool) (key value : Value) → ArePaired key value → ArePaired (if flag then Null else key) (if flag then Null else value)
-cleared_paired true key value h = refl
-cleared_paired false key value h = h
-
-pub cleared_kinds : (bound : ℕ) (dead : ℕ → Bool) (kinds : List Kind) (values : List Value) → HaveKinds bound kinds values → HaveKinds bound kinds (cleared_values dead kinds values)
-cleared_kinds bound dead [] values h = h
-cleared_kinds bound dead (Strong ∷ kinds) [] h = h
-cleared_kinds bound dead (Weak ∷ kinds) [] h = h
-cleared_kinds bound dead (Pair ∷ kinds) [] h = h
-cleared_kinds bound dead (Plain ∷ kinds) [] h = h
-cleared_kinds bound dead (Strong ∷ kinds) (x ∷ xs) h = (h.0, cleared_kinds bound dead kinds xs h.1)
-cleared_kinds bound dead (Weak ∷ kinds) (x ∷ xs) h = (cleared_below bound (names_dead dead x) x h.0, cleared_kinds bound dead kinds xs h.1)
-cleared_kinds bound dead (Plain ∷ kinds) (x ∷ xs) h = (h.0, cleared_kinds bound dead kinds xs h.1)
-cleared_kinds bound dead (Pair ∷ kinds) (x ∷ []) h = h
-cleared_kinds bound dead (Pair ∷ kinds) (x ∷ y ∷ xs) h = (
-  cleared_below bound (names_dead dead x) x h.0,
-  cleared_below bound (names_dead dead x) y h.1,
-  cleared_paired (names_dead dead x) x y h.2,
-  cleared_kinds bound dead kinds xs h.3,
-)
 
 module _ (kept : List Bool) (nodes : List Node) where
   abbrev After : Value → Type 0
@@ -180,17 +135,6 @@ clear_like dead node =
     cond_both (is_live node.life) (with_cleared dead node) node (IsLikeNode node)
     (λ e. record { place = refl; size = length-cleared dead node.object.kinds node.object.values; life = refl })
     (λ e. record { place = refl; size = refl; life = refl })
-
-clear_typed : (setup : Setup) (bound : ℕ) (dead : ℕ → Bool) (node : Node) → IsTyped setup bound node → IsTyped setup bound (clear_node dead node)
-clear_typed setup bound dead node t =
-    cond_both (is_live node.life) (with_cleared dead node) node (IsTyped setup bound)
-    (λ e. record {
-      ty = t.ty;
-      kinds_are = t.kinds_are;
-      values_are = cleared_kinds bound dead node.object.kinds node.object.values t.values_are;
-      count = length-cleared dead node.object.kinds node.object.values ∙ t.count;
-    })
-    (λ e. t)
 
 module _ (setup : Setup) (kept : List Bool) (nodes : List Node) (heap : IsHeap setup nodes) (follows : AllFollow nodes kept) where
   abbrev Cleared : List Node

@@ -24,7 +24,7 @@ use Rattle.gc_graph.specs.CycleSteps.{is_marking, is_sweeping, is_stack_refused,
 use Rattle.gc_graph.specs.RegionSteps.{TakesOwn, IsExported, IsImported, StepExport, StepImport, line_of_content}
 use Rattle.gc_graph.specs.ReadBack.{numbers_of_op, IsOf64Bits}
 use Rattle.gc_graph.specs.NumbersLaw.{IsWithinLimits}
-use Rattle.gc_graph.proofs.Condemned.{length-condemn}
+use Rattle.gc_graph.specs.Condemning.{length-condemn}
 use Rattle.gc_graph.proofs.Sound.{IsSound}
 use Rattle.gc_graph.proofs.ValidCases.{option_is, bool_is}
 use Rattle.gc_graph.proofs.ValidHandles.{slot_is_root}

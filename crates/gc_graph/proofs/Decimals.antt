@@ -1,14 +1,11 @@
 -- Decimal numbers are read back, and stand between spaces as words do.
-use Rattle.std.proofs.Common.{◌≡◌, ℕ, ◌+◌, ◌-◌, ◌*◌, ◌%◌, ◌^◌, ◌<◌, ◌≤◌, ◌==◌, ◌&&◌, not, Bool, true, false, List, [], ◌∷◌, ◌++◌, length, get_or, Some, None, refl, sym, ap, ◌∙◌, subst, inl, inr, arith, leb, ltb}
+use Rattle.std.proofs.Common.{◌≡◌, ℕ, ◌+◌, ◌%◌, ◌^◌, ◌<◌, ◌==◌, ◌&&◌, not, true, false, List, [], ◌∷◌, ◌++◌, length, get_or, Some, None, refl, sym, ap, ◌∙◌, subst, inl, inr, arith, leb, ltb}
 use Rattle.std.specs.Fmt.{decimal}
 use Rattle.std.specs.List.{list_all}
-use Rattle.std.proofs.lemmas.Bool.{and_parts, and_from, and_right, not_from_false, le-leb, lt-ltb, ne_eqb, cases_eq, cond-true, leb-true}
+use Rattle.std.proofs.lemmas.Bool.{and_parts, and_from, and_right, not_from_false, le-leb, lt-ltb, ne_eqb, cases_eq, cond-true}
 use Rattle.std.proofs.lemmas.Fmt.{decimal_by_steps, decimal_digit, decimal_nonempty, first_decimal}
 use Rattle.gc_graph.specs.Words.{is_digit, value_after, is_number, number_below}
-
-value_after-push : (n : ℕ) (bytes : List ℕ) (b : ℕ) → value_after n (bytes ++ b ∷ []) ≡ value_after n bytes * 10 + (b - 48)
-value_after-push n [] b = refl
-value_after-push n (c ∷ bytes) b = value_after-push (n * 10 + (c - 48)) bytes b
+use Rattle.gc_graph.specs.WordBytes.{is_word_byte, digits_are_word, value_after-push}
 
 digits-push : (bytes : List ℕ) (b : ℕ) → list_all is_digit bytes ≡ true → is_digit b ≡ true → list_all is_digit (bytes ++ b ∷ []) ≡ true
 digits-push [] b h d = and_from (is_digit b) true d refl
@@ -64,22 +61,6 @@ decimal_is_read n small =
     ∙ ap Some reads.value
 
 -- ---- a byte of a word is no space and ends no line
-
-abbrev pub is_word_byte : ℕ → Bool
-is_word_byte b = not (b == 32) && not (b == 10)
-
-digit_byte : (b : ℕ) → is_digit b ≡ true → is_word_byte b ≡ true
-digit_byte b h =
-    let both = and_parts (leb 48 b) (leb b 57) h in
-    let low : 48 ≤ b = leb-true 48 b both.0 in
-    and_from (not (b == 32)) (not (b == 10)) (not_from_false (b == 32) (ne_eqb b 32 (λ e. omega arith)))
-    (not_from_false (b == 10) (ne_eqb b 10 (λ e. omega arith)))
-
-digits_are_word : (bytes : List ℕ) → list_all is_digit bytes ≡ true → list_all is_word_byte bytes ≡ true
-digits_are_word [] h = refl
-digits_are_word (b ∷ bytes) h =
-    let both = and_parts (is_digit b) (list_all is_digit bytes) h in
-    and_from (is_word_byte b) (list_all is_word_byte bytes) (digit_byte b both.0) (digits_are_word bytes both.1)
 
 pub decimal_is_word : (n : ℕ) → n < 2 ^ 64 → list_all is_word_byte (decimal n) ≡ true
 decimal_is_word n small = digits_are_word (decimal n) (decimal_reads n small).digits

@@ -1,5 +1,5 @@
 -- A closed set, told object by object: what each member's words lead to is in the set.
-use Rattle.std.proofs.Common.{◌≡◌, ℕ, zero, suc, ◌==◌, ◌&&◌, Bool, true, true≢false, List, [], ◌∷◌, refl, sym, subst, inl, inr, eqb-true, eq-eqb}
+use Rattle.std.proofs.Common.{◌≡◌, ℕ, ◌==◌, ◌&&◌, Bool, true, true≢false, List, [], ◌∷◌, refl, sym, subst, inl, inr, eqb-true, eq-eqb}
 use Rattle.std.specs.Prelude.{⊤}
 use Rattle.std.specs.List.{list_any}
 use Rattle.std.proofs.lemmas.Bool.{or_cases, or_left, or_right, and_parts, and_from}
@@ -7,9 +7,10 @@ use Rattle.gc_graph.specs.declared.kind.Kind.{Kind}
 use Rattle.gc_graph.specs.declared.kind.Kind.TheVariants.{Strong, Weak, Pair, Plain}
 use Rattle.gc_graph.specs.declared.kind.Value.{Value}
 use Rattle.gc_graph.specs.declared.kind.Value.TheVariants.{Null, Ref, Word}
-use Rattle.gc_graph.specs.Graph.{Object, object_at, has, IsIn, IsClosed, leads_to, strong_targets, pair_targets}
+use Rattle.gc_graph.specs.Graph.{Object, has, IsIn, IsClosed, leads_to, strong_targets, pair_targets}
 use Rattle.gc_graph.specs.State.{Node, node_at, graph_of}
 use Rattle.gc_graph.specs.Valid.{HaveKinds}
+use Rattle.gc_graph.specs.NodeNumbers.{object_of_node}
 use Rattle.gc_graph.proofs.Shapes.{Each}
 
 abbrev pub Anything : Value → Type 0
@@ -109,11 +110,6 @@ follows_from set bound (Pair ∷ kinds) (Ref k ∷ Ref m ∷ xs) h s p = (
 )
 
 -- ---- the graph of the nodes
-
-pub object_of_node : (nodes : List Node) (m : ℕ) → object_at (graph_of nodes) m ≡ (node_at nodes m).object
-object_of_node [] m = refl
-object_of_node (node ∷ nodes) zero = refl
-object_of_node (node ∷ nodes) (suc m) = object_of_node nodes m
 
 -- each member's words lead to members
 abbrev pub AllFollow : List Node → List Bool → Type 0

@@ -2,13 +2,14 @@
 use Rattle.std.proofs.Common.{◌≡◌, ℕ, zero, suc, ◌^◌, ◌<◌, ◌==◌, ◌&&◌, not, Bool, true, false, List, [], ◌∷◌, ◌++◌, length, map, All, Some, None, refl, ap, ◌∙◌, arith, ltb}
 use Rattle.std.specs.Fmt.{decimal}
 use Rattle.std.specs.List.{list_all, filter, cons_option, slice_split}
-use Rattle.std.proofs.lemmas.Bool.{and_parts, not-true, cond-true, cond-false, eqb-false, ne_eqb, not_from_false, not_from_true}
+use Rattle.std.proofs.lemmas.Bool.{and_parts, not-true, cond-true, cond-false, eqb-false, not_from_false, not_from_true}
 use Rattle.std.proofs.lemmas.List.Elements.{All-head, All-tail, All-nil, All-cons}
 use Rattle.std.proofs.lemmas.List.Splits.{slice_split_at, slice_split_none}
 use Rattle.std.proofs.lemmas.Fmt.{decimal_nonempty}
 use Rattle.gc_graph.specs.Words.{words_of, is_number, number_below, value_after}
 use Rattle.gc_graph.specs.ReadBack.{names_in, numbers_in}
-use Rattle.gc_graph.proofs.Decimals.{is_word_byte, decimal_is_number, decimal_is_read, decimal_is_word}
+use Rattle.gc_graph.specs.WordBytes.{is_word_byte, kept}
+use Rattle.gc_graph.proofs.Decimals.{decimal_is_number, decimal_is_read, decimal_is_word}
 
 -- a word of a line
 pub data Part : Type 0 where
@@ -79,11 +80,6 @@ split_joined part (next ∷ parts) h =
     slice_split_at (λ b. b == 32) (word_of part) 32 (joined (next ∷ parts))
     (no_byte 32 (word_of part) is_no_space (word_bytes part (All-head IsPart part (next ∷ parts) h))) refl
     ∙ ap (λ words. word_of part ∷ words) (split_joined next parts (All-tail IsPart part (next ∷ parts) h))
-
-kept : (word : List ℕ) (words : List (List ℕ)) → 0 < length word → filter (λ w. not (length w == 0)) (word ∷ words) ≡ word ∷ filter (λ w. not (length w == 0)) words
-kept word words some =
-    cond-true (not (length word == 0)) (word ∷ filter (λ w. not (length w == 0)) words) (filter (λ w. not (length w == 0)) words)
-    (not_from_false (length word == 0) (ne_eqb (length word) 0 (λ e. omega arith)))
 
 all_kept : (parts : List Part) → All IsPart parts → filter (λ w. not (length w == 0)) (map word_of parts) ≡ map word_of parts
 all_kept [] h = refl

@@ -1,13 +1,13 @@
 -- What the lines of a command tell of nodes' lives: who is made, dies, goes, and is read.
-use Rattle.std.proofs.Common.{◌≡◌, ◌≢◌, ℕ, zero, suc, true, ◌+◌, ◌<◌, ◌≤◌, List, [], ◌∷◌, ◌++◌, length, Contains, refl, sym, ap, ◌∙◌, subst, inl, inr, arith}
+use Rattle.std.proofs.Common.{◌≡◌, ◌≢◌, ℕ, zero, suc, ◌+◌, ◌<◌, ◌≤◌, List, [], ◌∷◌, ◌++◌, length, Contains, refl, sym, ap, ◌∙◌, subst, inl, inr, arith}
 use mathlib.Core.Logic.{◌⊎◌}
 use Rattle.std.proofs.lemmas.Bool.{cases_lt, cases_eq}
-use Rattle.std.proofs.lemmas.List.{get_or_past}
 use Rattle.gc_graph.specs.declared.line.Line.{Line}
 use Rattle.gc_graph.specs.declared.line.Line.TheVariants as L
-use Rattle.gc_graph.specs.State.{Node, no_node, node_at, is_there, Life, IsLive, IsDead}
+use Rattle.gc_graph.specs.State.{Node, node_at, is_there, IsLive, IsDead}
 use Rattle.gc_graph.specs.State.Life.{Live, Dead, Gone}
 use Rattle.gc_graph.specs.Valid.{IsThere, AreApart}
+use Rattle.gc_graph.specs.NodeNumbers.{gone_not_live, gone_not_dead, live_not_dead, dead_below}
 use Rattle.gc_graph.proofs.NodeWrites.{IsLikeNode, like_more, LookSame, look_same, look_more}
 
 -- ---- what a line tells
@@ -76,22 +76,7 @@ abbrev pub AreTold : List Node → List Line → List Node → Type 0
 AreTold old [] new = LookSame old new
 AreTold old (said ∷ lines) new = IsTold old said (λ mid. AreTold mid lines new)
 
--- ---- lives
-
-pub gone_not_live : (x : Life) → x ≡ Gone → x ≡ Live → ⊥
-gone_not_live Live e f = cc
-gone_not_live Dead e f = cc
-gone_not_live Gone e f = cc
-
-pub gone_not_dead : (x : Life) → x ≡ Gone → x ≡ Dead → ⊥
-gone_not_dead Live e f = cc
-gone_not_dead Dead e f = cc
-gone_not_dead Gone e f = cc
-
-pub live_not_dead : (x : Life) → x ≡ Live → x ≡ Dead → ⊥
-live_not_dead Live e f = cc
-live_not_dead Dead e f = cc
-live_not_dead Gone e f = cc
+-- ---- where the words lie
 
 put_like : (x y : Node) → IsLikeNode x y → StaysPut x y
 put_like x y h = record { place = h.place; size = h.size }
@@ -101,27 +86,6 @@ put_same x = record { place = refl; size = refl }
 
 put_more : (x y z : Node) → StaysPut x y → StaysPut y z → StaysPut x z
 put_more x y z h k = record { place = k.place ∙ h.place; size = k.size ∙ h.size }
-
-not_gone_below : (nodes : List Node) (n : ℕ) → (node_at nodes n).life ≢ Gone → n < length nodes
-not_gone_below nodes n there =
-    elim (cases_lt n (length nodes)) [
-      | inl l ↦ l
-      | inr past ↦ absurd (there (ap (λ (x : Node). x.life) (get_or_past nodes n no_node past)))
-    ]
-
-pub live_below : (nodes : List Node) (n : ℕ) → IsLive nodes n → n < length nodes
-live_below nodes n live = not_gone_below nodes n (λ gone. gone_not_live _ gone live)
-
-pub dead_below : (nodes : List Node) (n : ℕ) → IsDead nodes n → n < length nodes
-dead_below nodes n dead = not_gone_below nodes n (λ gone. gone_not_dead _ gone dead)
-
-gone_not_there : (x : Life) → x ≡ Gone → is_there x ≡ true → ⊥
-gone_not_there Live e f = cc
-gone_not_there Dead e f = cc
-gone_not_there Gone e f = cc
-
-pub there_below : (nodes : List Node) (n : ℕ) → IsThere nodes n → n < length nodes
-there_below nodes n there = not_gone_below nodes n (λ gone. gone_not_there _ gone there)
 
 -- ---- one event
 

@@ -10,10 +10,11 @@ use Rattle.gc_graph.specs.State.{Setup, State, Node, no_node, node_at, graph_of,
 use Rattle.gc_graph.specs.May.{members}
 use Rattle.gc_graph.specs.Valid.{IsTyped, IsMay}
 use Rattle.gc_graph.specs.MayLaw.{HasStarted, old_ones}
+use Rattle.gc_graph.specs.NodeNumbers.{object_of_node}
 use Rattle.gc_graph.proofs.Sets.{has-set_of, set_of-below}
 use Rattle.gc_graph.proofs.Reaching.{reach_law}
 use Rattle.gc_graph.proofs.Sound.{found, kinds_at}
-use Rattle.gc_graph.proofs.Follows.{AnyStrong, AnyPair, object_of_node}
+use Rattle.gc_graph.proofs.Follows.{AnyStrong, AnyPair}
 use Rattle.gc_graph.proofs.WeakReads.{refers_within, members_in, member_found, in_below}
 use Rattle.gc_graph.proofs.MayBounds.{either_list, of_first, of_second, may_of}
 use Rattle.gc_graph.proofs.Since.{Since, IsStrongOf, IsPairOf, HasPair, strong_since, pair_since, since_more, pair_key_below}

@@ -16,7 +16,8 @@ use Rattle.gc_graph.specs.OnceLaw.{all_lines, AreOnce, TellsPause, Once}
 use Rattle.gc_graph.proofs.Sound.{sound_from}
 use Rattle.gc_graph.proofs.NodeWrites.{look_same}
 use Rattle.gc_graph.proofs.ValidSteps.{step_keeps_valid, empty_is_valid}
-use Rattle.gc_graph.proofs.Lives.{event_of, StaysPut, IsMadeBy, IsBuried, AreTold, gone_not_dead, live_not_dead, dead_below, line_first, line_later, died_at, told_grows, told_gone, told_put, not_placed, not_finalised, not_read, was_placed, went, told_append, IsToldAt, told_at}
+use Rattle.gc_graph.specs.NodeNumbers.{gone_not_dead, live_not_dead, dead_below}
+use Rattle.gc_graph.proofs.Lives.{event_of, StaysPut, IsMadeBy, IsBuried, AreTold, line_first, line_later, died_at, told_grows, told_gone, told_put, not_placed, not_finalised, not_read, was_placed, went, told_append, IsToldAt, told_at}
 use Rattle.gc_graph.proofs.Lives.Event.{Pausing}
 use Rattle.gc_graph.proofs.StepLives.{StepTells}
 use Rattle.gc_graph.proofs.CommandLives.{step_tells}

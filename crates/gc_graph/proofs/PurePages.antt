@@ -1,42 +1,12 @@
 -- Pages are pure: which objects share a page with a new one, and the bucket of a page.
-use Rattle.std.proofs.Common.{◌≡◌, ℕ, zero, suc, ◌+◌, ◌*◌, ◌/◌, ◌<◌, ◌≤◌, nat_lt, nat_le, true, List, [], ◌∷◌, Contains, ap, ◌∙◌, subst, Some, inl, inr, arith, add-mul, mul-le-mul_right, if◌then◌else◌}
-use Rattle.std.proofs.lemmas.Bool.{cases_order, cond_both, cond-true, lt-ltb, ltb-true}
+use Rattle.std.proofs.Common.{◌≡◌, ℕ, zero, suc, ◌+◌, ◌*◌, ◌<◌, ◌≤◌, true, List, [], ◌∷◌, Contains, ap, ◌∙◌, subst, Some, inl, inr, arith, add-mul}
+use Rattle.std.proofs.lemmas.Bool.{cond_both}
 use Rattle.gc_graph.specs.State.{Shape, Node, node_at, is_there, size_of}
 use Rattle.gc_graph.specs.Placement.{Extent, extent_of, extents_of, IsTaken, bucket_of, PageHasBucket, IsRun, Fits, StartsEmptyRun, IsPlaceFor}
 use Rattle.gc_graph.specs.Pages.{IsInPage, bucket_of_node, ArePure}
 use Rattle.gc_graph.specs.Valid.{IsThere}
+use Rattle.gc_graph.specs.PageNumbers.{same_page, small_bucket}
 use Rattle.gc_graph.proofs.FreePlaces.{page_of, contains_extent}
-
-page_before : (words page other : ℕ) → page < other → (page + 1) * words ≤ other * words
-page_before words page other l = mul-le-mul_right words (omega arith)
-
--- an address lies in one page
-pub same_page : (words page other a : ℕ) → page * words ≤ a → a < (page + 1) * words → other * words ≤ a → a < (other + 1) * words → page ≡ other
-same_page words page other a first last first' last' =
-    elim (cases_order page other) [
-      | inl same ↦ same
-      | inr apart ↦ elim apart [
-        | inl before ↦ absurd (omega (arith, page_before words page other before))
-        | inr after ↦ absurd (omega (arith, page_before words other page after))
-      ]
-    ]
-
--- ---- buckets
-
-pub small_bucket : (words size : ℕ) → size ≤ words / 2 → bucket_of words size ≡ 4 → ⊥
-small_bucket words size small =
-    cond_both (nat_lt (words / 2) size) 4 (if nat_le 16 size then 3 else if nat_le 8 size then 2 else if nat_le 4 size then 1 else 0) (λ b. b ≡ 4 → ⊥)
-    (λ e. (let over : words / 2 < size = ltb-true (words / 2) size e in absurd (omega arith)))
-    (λ e.
-    cond_both (nat_le 16 size) 3 (if nat_le 8 size then 2 else if nat_le 4 size then 1 else 0) (λ b. b ≡ 4 → ⊥) (λ t same. absurd (omega arith))
-    (λ t.
-    cond_both (nat_le 8 size) 2 (if nat_le 4 size then 1 else 0) (λ b. b ≡ 4 → ⊥) (λ t same. absurd (omega arith))
-    (λ t. cond_both (nat_le 4 size) 1 0 (λ b. b ≡ 4 → ⊥) (λ t same. absurd (omega arith)) (λ t same. absurd (omega arith)))))
-
-pub large_bucket : (words size : ℕ) → words / 2 < size → bucket_of words size ≡ 4
-large_bucket words size large =
-    cond-true (nat_lt (words / 2) size) 4 (if nat_le 16 size then 3 else if nat_le 8 size then 2 else if nat_le 4 size then 1 else 0)
-    (lt-ltb (words / 2) size large)
 
 -- ---- the words of a node, and back
 

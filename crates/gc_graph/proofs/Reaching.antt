@@ -7,7 +7,8 @@ use Rattle.std.proofs.lemmas.List.{get_or_past}
 use Rattle.std.proofs.lemmas.List.FromFn.{length-map-range_with_len}
 use Rattle.gc_graph.specs.Graph.{Object, object_at, has, IsIn, IsWithin, IsClosed, leads_to}
 use Rattle.gc_graph.specs.Reach.{set_of, any_below, closing, closed_times, Reach, RefersWithin, ReachIsLeast}
-use Rattle.gc_graph.proofs.Sets.{count_of, count_of-length, same_or_fewer, has-set_of, set_of-below, any_below-from, any_below-some}
+use Rattle.gc_graph.specs.AnyBelow.{any_below-from, any_below-some}
+use Rattle.gc_graph.proofs.Sets.{count_of, count_of-length, same_or_fewer, has-set_of, set_of-below}
 
 -- what a step of closing makes of a number
 abbrev pulled : List Object → List Bool → ℕ → Bool

@@ -10,7 +10,7 @@ use Rattle.gc_graph.specs.declared.line.Line.{Line}
 use Rattle.gc_graph.specs.Words.{lines_of, lines_of_parts, words_of, is_text}
 use Rattle.gc_graph.specs.Report.{line_text, line_bytes, lines_bytes, outcomes_bytes, type_lines, report_of}
 use Rattle.gc_graph.specs.ReadBack.{names_in, numbers_in, line_named, candidate, candidates, read_report, with_line, if_its_text, IsOf64Bits, LinesReadBack, ReportReadsBack}
-use Rattle.gc_graph.proofs.Decimals.{is_word_byte}
+use Rattle.gc_graph.specs.WordBytes.{is_word_byte}
 use Rattle.gc_graph.proofs.LineParts.{Part, word_of, IsPart, joined, names_of, words_of_joined, names_found, counts_found, word_bytes, is_no_end}
 use Rattle.gc_graph.proofs.ReadingBack.{parts_of, first_part, rest_parts, text_of, are_parts, told}
 

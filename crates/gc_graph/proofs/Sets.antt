@@ -1,11 +1,11 @@
 -- Sets as lists of flags: how many are in, and what a step that keeps what is in can do.
-use Rattle.std.proofs.Common.{◌≡◌, ℕ, zero, suc, ◌+◌, ◌<◌, ◌≤◌, Bool, true, false, List, [], ◌∷◌, length, refl, sym, ap, ◌∙◌, subst, inl, inr, arith, cond}
+use Rattle.std.proofs.Common.{◌≡◌, ℕ, suc, ◌+◌, ◌<◌, ◌≤◌, Bool, true, false, List, [], ◌∷◌, length, refl, sym, ap, ◌∙◌, inl, inr, arith, cond}
 use mathlib.Core.Logic.{◌⊎◌}
-use Rattle.std.proofs.lemmas.Bool.{true≢false, or_cases, or_left, or_right, cases_lt}
+use Rattle.std.proofs.lemmas.Bool.{true≢false, cases_lt}
 use Rattle.std.proofs.lemmas.List.{get_or_past}
 use Rattle.std.proofs.lemmas.List.FromFn.{get_or-map-range_with_len, length-map-range_with_len}
 use Rattle.gc_graph.specs.Graph.{has, IsIn, IsWithin}
-use Rattle.gc_graph.specs.Reach.{set_of, any_below}
+use Rattle.gc_graph.specs.Reach.{set_of}
 
 abbrev pub count_of : List Bool → ℕ
 count_of [] = 0
@@ -35,15 +35,3 @@ has-set_of p n k h = get_or-map-range_with_len p 0 n k k false h (omega arith)
 pub set_of-below : (p : ℕ → Bool) (n k : ℕ) → IsIn (set_of p n) k → k < n
 set_of-below p n k h =
     elim (cases_lt k n) [ inl l ↦ l | inr g ↦ absurd (true≢false (sym h ∙ get_or_past (set_of p n) k false (rw (length-map-range_with_len p 0 n) g))) ]
-
-pub any_below-from : (p : ℕ → Bool) (n i : ℕ) → i < n → p i ≡ true → any_below p n ≡ true
-any_below-from p zero i l h = absurd (omega arith)
-any_below-from p (suc n) i l h =
-    elim (cases_lt i n) [
-      | inl below ↦ or_right (p n) (any_below p n) (any_below-from p n i below h)
-      | inr up ↦ (let e : i ≡ n = omega arith in or_left (p n) (any_below p n) (subst (λ x. p x ≡ true) e h))
-    ]
-
-pub any_below-some : (p : ℕ → Bool) (n : ℕ) → any_below p n ≡ true → (i : ℕ) × (p i ≡ true)
-any_below-some p zero h = absurd (true≢false (sym h))
-any_below-some p (suc n) h = elim (or_cases (p n) (any_below p n) h) [ inl here ↦ (n, here) | inr below ↦ any_below-some p n below ]

@@ -11,10 +11,12 @@ use Rattle.gc_graph.specs.State.{Shape, State, Node, no_node, node_at, IsDead}
 use Rattle.gc_graph.specs.State.Life.{Dead, Gone}
 use Rattle.gc_graph.specs.Sweep.{IsDeadBelow, AreDeadInOrder, buried, finalise, SweepsInPhase, SweepsTo}
 use Rattle.gc_graph.specs.Outcomes.{finalise_lines}
-use Rattle.gc_graph.proofs.Sweeps.{alive_stays, finalised_at}
+use Rattle.gc_graph.specs.FinalisedNodes.{finalised_at}
+use Rattle.gc_graph.proofs.Sweeps.{alive_stays}
 use Rattle.gc_graph.proofs.NodeWrites.{IsLikeNode, like_same, LookSame, look_same}
 use Rattle.gc_graph.proofs.SweepOrders.{IsUp, up_tail, up_first, first_or_rest, rest_of, nothing_in, member_dead}
-use Rattle.gc_graph.proofs.Lives.{event_of, StaysPut, IsBuried, Tells, AreTold, dead_below, line_cases, told_append}
+use Rattle.gc_graph.specs.NodeNumbers.{dead_below}
+use Rattle.gc_graph.proofs.Lives.{event_of, StaysPut, IsBuried, Tells, AreTold, line_cases, told_append}
 use Rattle.gc_graph.proofs.Lives.Event.{Nothing}
 
 -- what the lines of a step tell: how the nodes became the others; the finalised were dead before it; a new node isn't dead

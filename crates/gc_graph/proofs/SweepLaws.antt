@@ -1,6 +1,6 @@
 -- Sweeps by pages, and the one placement on the way.
 use Rattle.std.proofs.Common.{◌≡◌, ℕ, ◌+◌, ◌-◌, ◌*◌, ◌/◌, ◌<◌, ◌≤◌, ◌==◌, nat_lt, true, List, [], ◌++◌, length, map, Option, Some, None, Contains, refl, sym, ap, ◌∙◌, subst, inl, inr, arith, length-append, mul-le-mul_right}
-use Rattle.std.proofs.lemmas.Bool.{cases_lt, cases_eq, cases_order, cond-true, cond-false, cond_both, lt-ltb, ltb-true, ltb-false, ne_eqb}
+use Rattle.std.proofs.lemmas.Bool.{cases_lt, cases_eq, cases_order, cond-true, cond-false, cond_both, lt-ltb, ne_eqb}
 use Rattle.std.proofs.lemmas.List.{append-nil}
 use Rattle.gc_graph.specs.declared.phase.Phase.{Phase}
 use Rattle.gc_graph.specs.declared.phase.Phase.TheVariants.{Idle, Marking, Sweeping}
@@ -8,10 +8,10 @@ use Rattle.gc_graph.specs.State.{Shape, State, Node, node_at, is_there}
 use Rattle.gc_graph.specs.Sweep.{swept_pages, pages_swept_in, AreDeadInOrder, buried, finalise, phase_at, swept_state, ContinuesSweep, SweepsInPhase, SweepsTo}
 use Rattle.gc_graph.specs.Placement.{Extent, extent_of, extents_of, IsTaken, IsRun, Fits, StartsEmptyRun, IsLowest, IsNowhere, IsPlaceFor, IsPlacement}
 use Rattle.gc_graph.specs.SweepLaw.{SweepsJoin, IsSplit, SweepsSplit, SweepIsOne, PlacedInLastPage, PlacementIsOne}
-use Rattle.gc_graph.proofs.Sweeps.{finalised_at, swept_phase}
+use Rattle.gc_graph.specs.FinalisedNodes.{finalised_at, there_earlier}
+use Rattle.gc_graph.proofs.Sweeps.{swept_phase}
 use Rattle.gc_graph.proofs.FreePlaces.{contains_extent}
 use Rattle.gc_graph.proofs.PurePages.{IsExtentOf, node_of_extent}
-use Rattle.gc_graph.proofs.ValidSweeps.{there_before}
 use Rattle.gc_graph.proofs.SweepOrders.{same_dead, finalised_more, joined, front_of, back_of, front, back, cut_whole}
 
 later_page : (shape : Shape) (pages more : ℕ) → pages ≤ more → pages * shape.page_words ≤ more * shape.page_words
@@ -199,16 +199,6 @@ below_both : (limit more : ℕ) (x : Node) → x.place < limit → limit ≤ mor
 below_both limit more x low l =
     cond-true (nat_lt x.place limit) (record x { life = buried x.life }) x (lt-ltb x.place limit low)
     ∙ sym (cond-true (nat_lt x.place more) (record x { life = buried x.life }) x (lt-ltb x.place more (omega arith)))
-
-there_earlier : (limit more : ℕ) (x : Node) → limit ≤ more → is_there (finalise more x).life ≡ true → is_there (finalise limit x).life ≡ true
-there_earlier limit more x l =
-    cond_both (nat_lt x.place more) (record x { life = buried x.life }) x (λ y. is_there y.life ≡ true → is_there (finalise limit x).life ≡ true)
-    (λ e there.
-    cond_both (nat_lt x.place limit) (record x { life = buried x.life }) x (λ y. is_there y.life ≡ true) (λ f. there) (λ f. there_before x.life there))
-    (λ e there.
-    cond_both (nat_lt x.place limit) (record x { life = buried x.life }) x (λ y. is_there y.life ≡ true)
-    (λ f. (let high : more ≤ x.place = ltb-false x.place more e in let low : x.place < limit = ltb-true x.place limit f in absurd (omega arith)))
-    (λ f. there))
 
 same_extent : (limit : ℕ) (x : Node) → extent_of (finalise limit x) ≡ extent_of x
 same_extent limit x =

@@ -10,7 +10,7 @@ use Rattle.std.proofs.lemmas.List.Elements.{All-append, Contains-append_left, Co
 use Rattle.gc_graph.specs.State.{Node, Life, node_at}
 use Rattle.gc_graph.specs.State.Life.{Live, Dead, Gone}
 use Rattle.gc_graph.specs.Sweep.{IsDeadBelow, AreDeadInOrder, finalise, buried}
-use Rattle.gc_graph.proofs.Sweeps.{finalised_at}
+use Rattle.gc_graph.specs.FinalisedNodes.{finalised_at}
 use Rattle.gc_graph.proofs.ValidSweeps.{never_dead}
 
 -- ---- ascending lists

@@ -1,17 +1,14 @@
 -- The sweep of all pages.
-use Rattle.std.proofs.Common.{◌≡◌, ℕ, zero, suc, ◌*◌, map, Bool, true, false, List, [], ◌∷◌, refl, sym, ap, ◌∙◌, arith, cond, ltb, eqb}
+use Rattle.std.proofs.Common.{◌≡◌, ℕ, ◌*◌, true, List, refl, sym, ap, ◌∙◌, arith, ltb, eqb}
 use Rattle.std.proofs.lemmas.Bool.{cond-true, lt-ltb, eq-eqb}
 use Rattle.gc_graph.specs.declared.phase.Phase.{Phase}
 use Rattle.gc_graph.specs.declared.phase.Phase.TheVariants.{Idle, Marking, Sweeping}
-use Rattle.gc_graph.specs.State.{Setup, Shape, State, Node, Life, node_at, no_node, IsDead, is_there}
+use Rattle.gc_graph.specs.State.{Setup, Shape, State, Node, Life, node_at, IsDead, is_there}
 use Rattle.gc_graph.specs.State.Life.{Live, Dead, Gone}
 use Rattle.gc_graph.specs.Sweep.{SweepsInPhase, ContinuesSweep, IsDeadBelow, finalise, buried, phase_at}
 use Rattle.gc_graph.specs.Valid.{IsValid}
 use Rattle.gc_graph.specs.PlacementLaw.{FinalisesDead, SweepsFinaliseDead}
-
-same_either : (b : Bool) (node : Node) → node.life ≡ buried node.life → cond b (record node { life = buried node.life }) node ≡ node
-same_either true node e = ap (λ l. record node { life = l }) (sym e)
-same_either false node e = refl
+use Rattle.gc_graph.specs.FinalisedNodes.{same_either, finalised_at}
 
 pub alive_stays : (life : Life) → (life ≡ Dead → ⊥) → life ≡ buried life
 alive_stays Live alive = refl
@@ -21,12 +18,6 @@ alive_stays Gone alive = refl
 -- a node that isn't dead is left alone
 finalise-others : (limit : ℕ) (node : Node) → (node.life ≡ Dead → ⊥) → finalise limit node ≡ node
 finalise-others limit node alive = same_either (ltb node.place limit) node (alive_stays node.life alive)
-
--- the node after the sweep
-pub finalised_at : (limit : ℕ) (nodes : List Node) (n : ℕ) → node_at (map (finalise limit) nodes) n ≡ finalise limit (node_at nodes n)
-finalised_at limit [] n = sym (same_either (ltb 0 limit) no_node refl)
-finalised_at limit (node ∷ nodes) zero = refl
-finalised_at limit (node ∷ nodes) (suc n) = finalised_at limit nodes n
 
 dead_is_there : (life : Life) → life ≡ Dead → is_there life ≡ true
 dead_is_there stage e = ap is_there e

@@ -1,5 +1,5 @@
 -- The numbers of the lines of threads: orders, starts and joins.
-use Rattle.std.proofs.Common.{◌≡◌, ℕ, zero, suc, ◌+◌, ◌-◌, ◌*◌, ◌<◌, ◌≤◌, ◌==◌, Bool, true, false, true≢false, List, [], ◌∷◌, ◌++◌, length, map, get_or, set, All, Option, Some, None, refl, sym, ap, ◌∙◌, subst, inl, inr, arith, nat_lt, ltb-true, lt-ltb, eq-eqb, cond, if◌then◌else◌}
+use Rattle.std.proofs.Common.{◌≡◌, ℕ, ◌+◌, ◌-◌, ◌*◌, ◌<◌, ◌≤◌, ◌==◌, Bool, true, false, true≢false, List, [], ◌∷◌, ◌++◌, length, map, get_or, set, All, Option, Some, None, refl, sym, ap, ◌∙◌, subst, inl, inr, arith, nat_lt, ltb-true, lt-ltb, eq-eqb, cond, if◌then◌else◌}
 use mathlib.Core.Logic.{◌⊎◌}
 use Rattle.std.specs.Prelude.{⊤}
 use Rattle.std.specs.List.{Contains, filter, flat_map, range_with_len}
@@ -28,6 +28,7 @@ use Rattle.gc_graph.specs.RegionSteps.Answer.{Replied, Told}
 use Rattle.gc_graph.specs.Lawful.{IsAllowedOrder}
 use Rattle.gc_graph.specs.ReadBack.{numbers_of_op, numbers_of_reply, IsOf64Bits}
 use Rattle.gc_graph.specs.NumbersLaw.{IsWithinLimits}
+use Rattle.gc_graph.specs.Members.{stays_in}
 use Rattle.gc_graph.proofs.Sound.{IsSound}
 use Rattle.gc_graph.proofs.Few.{Small, small_none, small_one, small_two, IsQueued, IsKnown, took_few}
 use Rattle.gc_graph.proofs.StepNumbers.{IsCounted, nearly, TellsTotalsTo, IsGood, answered_few, one, still, memory}
@@ -43,32 +44,6 @@ written_at P xs n m x d here there =
         | inl l ↦ subst P (sym (ap (λ k. get_or (set xs n x) k d) same ∙ get_or-set_same xs n x d l)) here
         | inr past ↦ subst P (sym (ap (λ ys. get_or ys m d) (set_past xs n x past))) there
       ]
-    ]
-
-contains_at : {X : Type 0} (x y : X) (xs : List X) (k : ℕ) → k < length (x ∷ xs) → get_or (x ∷ xs) k y ≡ y → (x ≡ y) ⊎ Contains xs y
-contains_at x y xs zero l e = inl e
-contains_at x y xs (suc k) l e = inr (k, omega arith, e)
-
-contains_first : {X : Type 0} (x y : X) (xs : List X) → x ≡ y → Contains (x ∷ xs) y
-contains_first x y xs e = (0, omega arith, e)
-
-contains_later : {X : Type 0} (x y : X) (xs : List X) → Contains xs y → Contains (x ∷ xs) y
-contains_later x y xs c = (suc c.0, (let l = c.1 in omega arith), c.2)
-
-filter_first : {X : Type 0} (b : Bool) (x y : X) (rest : List X) → b ≡ true → x ≡ y → Contains (cond b (x ∷ rest) rest) y
-filter_first true x y rest e same = contains_first x y rest same
-filter_first false x y rest e same = absurd (true≢false (sym e))
-
-filter_later : {X : Type 0} (b : Bool) (x y : X) (rest : List X) → Contains rest y → Contains (cond b (x ∷ rest) rest) y
-filter_later true x y rest c = contains_later x y rest c
-filter_later false x y rest c = c
-
-contains_filter : {X : Type 0} (p : X → Bool) (xs : List X) (y : X) → p y ≡ true → Contains xs y → Contains (filter p xs) y
-contains_filter p [] y e c = absurd (let l = c.1 in omega arith)
-contains_filter p (x ∷ xs) y e c =
-    elim (contains_at x y xs c.0 c.1 c.2) [
-      | inl same ↦ filter_first (p x) x y (filter p xs) (ap p same ∙ e) same
-      | inr later ↦ filter_later (p x) x y (filter p xs) (contains_filter p xs y e later)
     ]
 
 filter_head : {X : Type 0} (P : X → Type 0) (b : Bool) (x : X) (rest : List X) → b ≡ true → All P (cond b (x ∷ rest) rest) → P x
@@ -225,7 +200,7 @@ module _ (setup : Setup) (limits : IsWithinLimits setup) (k : ℕ) (low : k < 10
   runs_on : (j : ℕ) → Contains old.running j → Contains (threads_with_orders old) j
   runs_on j c =
       let q : IsQueued old.queues j = h.shared.threads j c in
-      contains_filter Waits (range_with_len 1 8) j (lt-ltb 0 (length (queue_of old j)) q.some) (in_all j q.from q.to)
+      stays_in Waits (range_with_len 1 8) j (in_all j q.from q.to) (lt-ltb 0 (length (queue_of old j)) q.some)
 
   known_on : (entry : Entry) → IsKnown old.running entry → IsKnown (threads_with_orders old) entry
   known_on entry known = elim known [ inl small ↦ inl small | inr r ↦ inr (runs_on entry.thread r.0, r.1) ]

@@ -1,5 +1,5 @@
 -- A sweep keeps a state sound.
-use Rattle.std.proofs.Common.{◌≡◌, ◌≢◌, ℕ, ◌+◌, ◌*◌, ◌<◌, ◌≤◌, ◌==◌, min, nat_lt, true, false, true≢false, List, length, get_or, map, All, refl, sym, ap, ◌∙◌, subst, arith, ltb-false, eq-eqb, if◌then◌else◌}
+use Rattle.std.proofs.Common.{◌≡◌, ◌≢◌, ℕ, ◌+◌, ◌*◌, ◌<◌, ◌≤◌, ◌==◌, min, nat_lt, false, true≢false, List, length, get_or, map, All, refl, sym, ap, ◌∙◌, subst, arith, ltb-false, eq-eqb, if◌then◌else◌}
 use Rattle.std.proofs.lemmas.Bool.{cond_both, eqb-true, eqb-false}
 use Rattle.std.proofs.lemmas.List.{length-map}
 use Rattle.std.proofs.lemmas.List.Elements.{All-map}
@@ -15,6 +15,7 @@ use Rattle.gc_graph.specs.Sweep.{buried, finalise, phase_at, swept_state, Sweeps
 use Rattle.gc_graph.specs.Valid.{IsTyped, NamesLive, word_count, IsSettled}
 use Rattle.gc_graph.specs.Outcomes.{answered}
 use Rattle.gc_graph.specs.CycleSteps.{is_marking, is_sweeping, StepSweepTo, StepSweep, StepSweepAll}
+use Rattle.gc_graph.specs.FinalisedNodes.{there_before}
 use Rattle.gc_graph.proofs.Sound.{slot_weaker, word_weaker, region_weaker, MayHas, IsRoot, IsHeap, MayFollows, IsSound}
 use Rattle.gc_graph.proofs.NodeWrites.{IsPlaced, apart_after, within_after, pure_after}
 use Rattle.gc_graph.proofs.Condemned.{map_at}
@@ -22,11 +23,6 @@ use Rattle.gc_graph.proofs.ValidCases.{bool_is, landed, refused_sound}
 use Rattle.gc_graph.proofs.ValidHandles.{Root}
 
 -- ---- one node
-
-pub there_before : (x : Life) → is_there (buried x) ≡ true → is_there x ≡ true
-there_before Live e = e
-there_before Dead e = refl
-there_before Gone e = e
 
 live_before : (x : Life) → buried x ≡ Live → x ≡ Live
 live_before Live e = e

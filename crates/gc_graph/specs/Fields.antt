@@ -103,7 +103,3 @@ is_plain Strong = false
 is_plain Weak = false
 is_plain Pair = false
 is_plain Plain = true
-
--- a type with so many strong fields, no other ones, and no prefinalizers
-abbrev pub strong_type : ℕ → ObjectType
-strong_type fields = record { kinds = replicate fields Strong; prefinalizers = [] }

@@ -39,3 +39,12 @@ pub mod NumbersLaw
 pub mod ScriptLaw
 -- What the crate's own code cites.
 pub mod Checking
+-- Lemmas that the crates above cite too, since a crate's proofs/ can't be cited from another.
+pub mod Members
+pub mod AnyBelow
+pub mod Leading
+pub mod NodeNumbers
+pub mod PageNumbers
+pub mod Condemning
+pub mod FinalisedNodes
+pub mod WordBytes

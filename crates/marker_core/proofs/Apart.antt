@@ -8,7 +8,7 @@ use Rattle.gc_graph.specs.declared.kind.Kind.{Kind}
 use Rattle.marker_core.specs.declared.states.Body.{Body}
 use Rattle.marker_core.specs.Bodies.{end_of, has_word, is_place, in_body, names_body}
 use Rattle.marker_core.specs.Matching.{AreWhole, LieApart}
-use Rattle.marker_core.proofs.Members.{any_member, any_from}
+use Rattle.gc_graph.specs.Members.{any_member, any_from}
 
 -- two members of a list in which each two are related are one, or are related
 pub pair_cases : {X : Type 0} (R : X → X → Type 0) (xs : List X) (x y : X) → AllPairs R xs → Contains xs x → Contains xs y → (x ≡ y) ⊎ (R x y ⊎ R y x)

@@ -19,7 +19,8 @@ use Rattle.marker_core.specs.Views.{marks_at, traces_at}
 use Rattle.marker_core.specs.Step.{is_allowed, changed, core_step}
 use Rattle.marker_core.specs.Core.{IsCoreOk}
 use Rattle.marker_core.specs.Laws.{is_marked_in, NewAndReadMayBeKept, IsMarkedOut, EndsMarkedOut}
-use Rattle.marker_core.proofs.Members.{all_member, in_range, holds_push, holds_from, goes_to, stays_in}
+use Rattle.marker_core.proofs.Members.{all_member}
+use Rattle.gc_graph.specs.Members.{pushed_is_held, holds_from, Contains-map, stays_in, below_ranged}
 use Rattle.marker_core.proofs.Apart.{body_of_place, place_of_body, named}
 use Rattle.marker_core.proofs.Counts.{some_is_true, true_is_some, none_is_false}
 use Rattle.marker_core.proofs.Edges.{value_after_key}
@@ -33,13 +34,13 @@ may_be_kept law s t a ok on step = elim step [
   | inl publish ↦
       (let both = cond_some (can_publish s a) (published s a) t publish in
       subst (λ u. holds u.mutator.may a ≡ true) both.1
-      (ap (λ l. holds l a) (cond-true s.mutator.on (s.mutator.may ++ a ∷ []) s.mutator.may on) ∙ holds_push s.mutator.may a))
+      (ap (λ l. holds l a) (cond-true s.mutator.on (s.mutator.may ++ a ∷ []) s.mutator.may on) ∙ pushed_is_held s.mutator.may a))
   | inr read ↦
       (let both = cond_some (can_load s a Weak) (loaded s a Weak) t read in
       let least = reach_over_law law s.count s.types s.mutator.bodies (s.mutator.may ++ a ∷ []) ok.bodies_are_whole ok.bodies_lie_apart (all_name_bodies s ok on) in
       subst (λ u. holds u.mutator.may a ≡ true) both.1
       (ap (λ l. holds l a) (cond-true s.mutator.on (reach_over s.count s.types s.mutator.bodies (s.mutator.may ++ a ∷ [])) s.mutator.may on)
-      ∙ least.roots_in a (holds_push s.mutator.may a) both.0))
+      ∙ least.roots_in a (pushed_is_held s.mutator.may a) both.0))
 ]
 
 either : (x y : Bool) → (not x || y) ≡ true → x ≡ true → y ≡ true
@@ -66,7 +67,7 @@ module _ (s : CoreState) (ok : IsCoreOk s) (on : s.mutator.on ≡ true) (can : c
   place_in : (a : ℕ) → is_place s.mutator.bodies a ≡ true → Contains (places s.mutator.bodies) a
   place_in a place =
       let at = body_of_place s.mutator.bodies a place in
-      subst (Contains (places s.mutator.bodies)) at.2 (goes_to (λ (b : Body). b.place) s.mutator.bodies at.0 at.1)
+      subst (Contains (places s.mutator.bodies)) at.2 (Contains-map (λ (b : Body). b.place) s.mutator.bodies at.0 at.1)
 
   word_closed : (b : Body) (i : ℕ) → Contains s.mutator.bodies b → is_marked_in s b.place ≡ true → refers (role_in s.types b i) ≡ true
       → word_closes bit (role_in s.types b i) (word_in b i) (word_in b (i + 1)) ≡ true
@@ -76,7 +77,7 @@ module _ (s : CoreState) (ok : IsCoreOk s) (on : s.mutator.on ≡ true) (can : c
       (all_member (body_closes s.types bit) s.mutator.bodies b tests.1 h) (own ∙ marked)
       in
       all_member (λ j. word_closes bit (role_in s.types b j) (word_in b j) (word_in b (j + 1))) (range_with_len 0 (length b.fields)) i words
-      (in_range (length b.fields) i (within_fields s.count s.types b i (ok.bodies_are_whole b h) r))
+      (below_ranged (length b.fields) i (within_fields s.count s.types b i (ok.bodies_are_whole b h) r))
 
   pair_closed : (b : Body) (i : ℕ) → Contains s.mutator.bodies b → is_marked_in s b.place ≡ true → role_in s.types b i ≡ KeyWord → 0 < word_in b i
       → is_marked_in s (word_in b i - 1) ≡ true → 0 < word_in b (i + 1) → is_marked_in s (word_in b (i + 1) - 1) ≡ true

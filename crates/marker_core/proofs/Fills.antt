@@ -11,7 +11,7 @@ use Rattle.marker_core.specs.Views.{marks_at, traces_at}
 use Rattle.marker_core.specs.MutatorSteps.{can_fill, filled}
 use Rattle.marker_core.specs.Matching.{FilledMatch}
 use Rattle.marker_core.specs.Core.{IsCoreOk}
-use Rattle.marker_core.proofs.Members.{head_or_tail, was_in, has_passed}
+use Rattle.gc_graph.specs.Members.{Contains-cons_cases, was_in, has_passed}
 use Rattle.marker_core.proofs.Apart.{two_words}
 use Rattle.marker_core.proofs.Frames.{room_kept, within_words, stop_kept, starts_kept, headers_kept, serials_kept, fields_kept, heads_beside, tails_beside}
 
@@ -24,7 +24,7 @@ module _ (s : CoreState) (ok : IsCoreOk s) (a w : ℕ) (below : a < s.count) (ou
 
   -- a filled word is the new one, or an older one elsewhere
   new_or_old : (f : ℕ × ℕ) → Contains now f → ((a, w) ≡ f) ⊎ (Contains s.mutator.filled f × (f.0 ≡ a → ⊥))
-  new_or_old f h = elim (head_or_tail (a, w) (filter (elsewhere a) s.mutator.filled) f h) [
+  new_or_old f h = elim (Contains-cons_cases (a, w) (filter (elsewhere a) s.mutator.filled) f h) [
     | inl same ↦ inl same
     | inr rest ↦ inr (
       was_in (elsewhere a) s.mutator.filled f rest,

@@ -12,7 +12,7 @@ use Rattle.marker_core.specs.Core.{IsCoreOk}
 use Rattle.std.specs.List.{list_any}
 use Rattle.std.specs.Option.{is_none}
 use Rattle.marker_core.proofs.Apart.{place_below, named}
-use Rattle.marker_core.proofs.Members.{any_member}
+use Rattle.gc_graph.specs.Members.{any_member}
 use Rattle.marker_core.proofs.Claims.{is_none_tells}
 use Rattle.marker_core.proofs.Stores.{later_is, names_new, keeps_refers}
 use Rattle.marker_core.specs.MarkerSteps.{can_read_field}

@@ -3,7 +3,7 @@ use Rattle.std.proofs.Common.{◌≡◌, ℕ, zero, suc, ◌+◌, ◌-◌, ◌<�
 use mathlib.Core.Logic.{◌⊎◌}
 use mathlib.Core.Path.{fun_ext}
 use Rattle.std.specs.List.{list_any, find, range_with_len}
-use Rattle.std.proofs.lemmas.Bool.{cases_Bool, cases_eq, cases_lt, and_parts, and_from, or_cases, or_left, or_right, eqb-true, eq-eqb, eqb-false, not-true, not_from_false, ne_eqb, both_ways, false_from_ne_true, false≢true}
+use Rattle.std.proofs.lemmas.Bool.{cases_Bool, cases_lt, and_parts, and_from, or_cases, eqb-true, eq-eqb, eqb-false, not-true, not_from_false, ne_eqb, both_ways, false_from_ne_true, false≢true}
 use Rattle.std.proofs.lemmas.List.{get_or_past}
 use Rattle.std.proofs.lemmas.List.FromFn.{length-map-range_with_len}
 use Rattle.gc_graph.specs.declared.kind.Kind.{Kind}
@@ -16,7 +16,8 @@ use Rattle.marker_core.specs.Bodies.{word_in, role_in, holds, places, is_place}
 use Rattle.marker_core.specs.Closed.{object_of, node_of, graph_of, reach_over}
 use Rattle.marker_core.specs.Matching.{AreWhole, LieApart}
 use Rattle.marker_core.specs.Looking.{word_leads, some_word_leads, by_body, is_pulled}
-use Rattle.marker_core.proofs.Members.{any_member, any_from, in_range, was_in, has_passed, stays_in, holds_from, in_from_holds}
+use Rattle.gc_graph.specs.Members.{any_member, any_from, below_ranged, filtered_holds}
+use Rattle.gc_graph.specs.AnyBelow.{any_below-from}
 use Rattle.marker_core.proofs.Reached.{StrongTo, ValueTo, edges, from_strong, from_pair, node_cases, body_node}
 use Rattle.marker_core.proofs.Apart.{place_of_body, place_below}
 
@@ -69,10 +70,10 @@ module _ (types : List (List Kind)) (test : ℕ → Bool) (b : Body) (n : ℕ) w
         false_from_ne_true (leads_by test (object_of types b) n) (λ leads.
         both_ways (some_word_leads types test b n) none (elim (edges types test b n leads) [
           | inl e ↦
-              any_from leads_at (range_with_len 0 (length b.fields)) e.0 (in_range (length b.fields) e.0 (within_from_some b e.0 e.2))
+              any_from leads_at (range_with_len 0 (length b.fields)) e.0 (below_ranged (length b.fields) e.0 (within_from_some b e.0 e.2))
               (strong_at (role_in types b e.0) (word_in b e.0) (word_in b (e.0 + 1)) e.1 e.2 e.3)
           | inr e ↦
-              any_from leads_at (range_with_len 0 (length b.fields)) e.0 (in_range (length b.fields) e.0 (within_from_some b e.0 e.2))
+              any_from leads_at (range_with_len 0 (length b.fields)) e.0 (below_ranged (length b.fields) e.0 (within_from_some b e.0 e.2))
               (pair_at (role_in types b e.0) (word_in b e.0) (word_in b (e.0 + 1)) e.1 e.2 e.3 e.4 e.5)
         ]))
         ∙ sym none
@@ -87,13 +88,6 @@ below_some p (suc n) h = elim (or_cases (p n) (any_below p n) h) [
   | inr rest ↦ (let found = below_some p n rest in (found.0, omega (arith, found.1), found.2))
 ]
 
-below_from : (p : ℕ → Bool) (n k : ℕ) → k < n → p k ≡ true → any_below p n ≡ true
-below_from p zero k l h = absurd (omega arith)
-below_from p (suc n) k l h = elim (cases_eq k n) [
-  | inl same ↦ or_left (p n) (any_below p n) (ap p (sym same) ∙ h)
-  | inr other ↦ or_right (p n) (any_below p n) (below_from p n k (omega arith) h)
-]
-
 module _ (count : ℕ) (types : List (List Kind)) (bodies : List Body) (whole : AreWhole count types bodies) (apart : LieApart bodies) (set : List Bool) (n : ℕ) where
   abbrev by_node : ℕ → Bool
   by_node m = has set m && leads_to set (object_at (graph_of count types bodies) m) n
@@ -104,7 +98,7 @@ module _ (count : ℕ) (types : List (List Kind)) (bodies : List Body) (whole : 
         (let found = any_member (by_body types set n) bodies some in
         let both = and_parts (has set found.0.place) (some_word_leads types (has set) found.0 n) found.2 in
         let below = place_below count types bodies found.0.place whole (place_of_body bodies found.0 found.0.place found.1 refl) in
-        below_from by_node count found.0.place below
+        any_below-from by_node count found.0.place below
         (and_from (has set found.0.place) (leads_to set (object_at (graph_of count types bodies) found.0.place) n) both.0
         (ap (λ o. leads_to set o n) (body_node count types bodies whole apart found.0 found.1) ∙ leads_is types (has set) found.0 n ∙ both.1))
         ∙ sym some)
@@ -134,17 +128,7 @@ closing_is count types bodies set whole apart =
 
 -- a root that is a place
 pub root_is : (p : ℕ → Bool) (roots : List ℕ) (n : ℕ) → holds (filter p roots) n ≡ (p n && holds roots n)
-root_is p roots n = elim (cases_Bool (p n && holds roots n)) [
-  | inl both ↦
-      (let parts = and_parts (p n) (holds roots n) both in
-      holds_from (filter p roots) n (stays_in p roots n (in_from_holds roots n parts.1) parts.0) ∙ sym both)
-  | inr no_root ↦
-      false_from_ne_true (holds (filter p roots) n) (λ held.
-      let there = in_from_holds (filter p roots) n held in
-      both_ways (p n && holds roots n) no_root
-      (and_from (p n) (holds roots n) (has_passed p roots n there) (holds_from roots n (was_in p roots n there))))
-      ∙ sym no_root
-]
+root_is p roots n = filtered_holds p roots n
 
 -- the flags closed as many times as there are words are those of what the roots reach
 pub reached_is : (count : ℕ) (types : List (List Kind)) (bodies : List Body) (roots : List ℕ) (set : List Bool) (n : ℕ) → n ≡ count

@@ -6,7 +6,7 @@ use Rattle.std.proofs.lemmas.Bool.{cases_Bool, cases_eq, cond-true, cond-false, 
 use Rattle.std.proofs.lemmas.List.{length-map, length-set, get_or-map, get_or-set_same, get_or-set_other}
 use Rattle.marker_core.specs.declared.states.Body.{Body}
 use Rattle.marker_core.specs.Bodies.{word_in, has_field, field_number, has_word, end_of, with_word, is_place, in_body, names_body}
-use Rattle.marker_core.proofs.Members.{comes_from}
+use Rattle.gc_graph.specs.Members.{Contains-map_some}
 
 pub all_pairs_map : {X : Type 0} (R : X → X → Type 0) (f : X → X) (xs : List X) → ((x y : X) → R x y → R (f x) (f y)) → AllPairs R xs → AllPairs R (map f xs)
 all_pairs_map R f xs kept all i j d before within =
@@ -29,7 +29,7 @@ module _ (a w : ℕ) where
   -- what is true of each body with its word is true of each
   pub each_written : (P : Body → Type 0) (bodies : List Body) → ((b : Body) → Contains bodies b → P (with_word a w b)) → (c : Body)
       → Contains (map (with_word a w) bodies) c → P c
-  each_written P bodies all c h = let from = comes_from (with_word a w) bodies c h in subst P from.2 (all from.0 from.1)
+  each_written P bodies all c h = let from = Contains-map_some (with_word a w) bodies c h in subst P from.2 (all from.0 from.1)
 
   pub has_field_from : (b : Body) → b.place + 2 ≤ a → a < end_of b → has_field a b ≡ true
   has_field_from b low high = and_from (leb (b.place + 2) a) (ltb a (end_of b)) (le-leb (b.place + 2) a low) (lt-ltb a (end_of b) high)

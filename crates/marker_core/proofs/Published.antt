@@ -11,7 +11,8 @@ use Rattle.marker_core.specs.Bodies.{word_count, kinds_of, refers, word_in, role
 use Rattle.marker_core.specs.MutatorSteps.{body_at, overlaps, is_whole_object, is_in_free_words, is_new_serial, can_publish}
 use Rattle.marker_core.specs.Matching.{IsWhole}
 use Rattle.marker_core.specs.Core.{IsCoreOk}
-use Rattle.marker_core.proofs.Members.{none_passes, all_member, in_range}
+use Rattle.marker_core.proofs.Members.{none_passes, all_member}
+use Rattle.gc_graph.specs.Members.{below_ranged}
 use Rattle.marker_core.proofs.Apart.{body_of_place, two_words}
 
 module _ (s : CoreState) (ok : IsCoreOk s) (a : ℕ) (can : can_publish s a ≡ true) where
@@ -112,7 +113,7 @@ module _ (s : CoreState) (ok : IsCoreOk s) (a : ℕ) (can : can_publish s a ≡ 
     | inr past ↦ get_or_past new.fields i 0 past
     | inl within ↦
         (let test = all_member (λ j. not (refers (role_in s.types new j)) || eqb (word_in new j) 0) (range_with_len 0 (length new.fields)) i tells.nulls
-        (in_range (length new.fields) i within)
+        (below_ranged (length new.fields) i within)
         in
         elim (or_cases (not (refers (role_in s.types new i))) (eqb (word_in new i) 0) test) [
           | inl no_reference ↦ absurd (both_ways (refers (role_in s.types new i)) (not-true (refers (role_in s.types new i)) no_reference) r)

@@ -17,7 +17,8 @@ use Rattle.marker_core.specs.Views.{marks_at, traces_at, IsHand, IsDone}
 use Rattle.marker_core.specs.Matching.{IsWhole}
 use Rattle.marker_core.specs.Tracing.{MayIsClosed}
 use Rattle.marker_core.specs.Core.{IsCoreOk}
-use Rattle.marker_core.proofs.Members.{any_from, none_from, was_in, has_passed, holds_more, holds_push, holds_push_cases}
+use Rattle.marker_core.proofs.Members.{none_from, holds_more, holds_push_cases}
+use Rattle.gc_graph.specs.Members.{any_from, was_in, has_passed, pushed_is_held}
 use Rattle.marker_core.proofs.Apart.{place_of_body, named}
 use Rattle.marker_core.proofs.Counts.{none_is_false}
 use Rattle.marker_core.proofs.Edges.{value_after_key}
@@ -152,7 +153,7 @@ module _ (s : CoreState) (ok : IsCoreOk s) (a : ℕ) (can : can_publish s a ≡ 
               (λ b hb out role.
               was.others b i hb
               (false_from_ne_true (holds s.mutator.may b.place) (λ member. both_ways (holds may b.place) out (may_grows b.place member))) role)
-              (λ out role. absurd (both_ways (holds may a) out (ap (λ l. holds l a) may_is ∙ holds_push s.mutator.may a))) c h;
+              (λ out role. absurd (both_ways (holds may a) out (ap (λ l. holds l a) may_is ∙ pushed_is_held s.mutator.may a))) c h;
           seen_are_marked = was.seen_are_marked;
           done_are_traced = was.done_are_traced;
         }

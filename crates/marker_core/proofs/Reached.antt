@@ -14,7 +14,7 @@ use Rattle.marker_core.specs.Bodies.{kinds_of, word_in, role_in, refers, places,
 use Rattle.marker_core.specs.Closed.{IsClosedOver, object_of, node_of, graph_of, reach_over}
 use Rattle.marker_core.specs.Matching.{AreWhole, LieApart}
 use Rattle.marker_core.specs.Laws.{IsLeastOver, AllNameBodies, ReachOverIsLeast}
-use Rattle.marker_core.proofs.Members.{in_tail, in_head, was_in, has_passed, stays_in, comes_from, goes_to, holds_from, in_from_holds}
+use Rattle.gc_graph.specs.Members.{Contains-cons, Contains-head, was_in, has_passed, stays_in, Contains-map_some, Contains-map, holds_from, in_from_holds}
 use Rattle.marker_core.proofs.Apart.{same_place, body_of_place, place_of_body, place_below, named}
 use Rattle.marker_core.proofs.Edges.{strong_edge, edge_strong, pair_edge, edge_pair, value_after_key}
 
@@ -24,9 +24,9 @@ found_or_none : (p : Body → Bool) (bodies : List Body)
     → ((b : Body) × (find p bodies ≡ Some b) × Contains bodies b × (p b ≡ true)) ⊎ ((find p bodies ≡ None) × (list_any p bodies ≡ false))
 found_or_none p [] = inr (refl, refl)
 found_or_none p (c ∷ bodies) = elim (cases_Bool (p c)) [
-  | inl here ↦ inl (c, cond-true (p c) (Some c) (find p bodies) here, in_head c bodies, here)
+  | inl here ↦ inl (c, cond-true (p c) (Some c) (find p bodies) here, Contains-head c bodies, here)
   | inr not_here ↦ elim (found_or_none p bodies) [
-    | inl found ↦ inl (found.0, cond-false (p c) (Some c) (find p bodies) not_here ∙ found.1, in_tail c bodies found.0 found.2, found.3)
+    | inl found ↦ inl (found.0, cond-false (p c) (Some c) (find p bodies) not_here ∙ found.1, Contains-cons c bodies found.0 found.2, found.3)
     | inr none ↦
         inr (cond-false (p c) (Some c) (find p bodies) not_here ∙ none.0, ap (λ t. t || list_any p bodies) not_here ∙ none.1)
   ]
@@ -117,13 +117,13 @@ module _ (count : ℕ) (types : List (List Kind)) (bodies : List Body) (whole : 
     in_set : (flags : List Bool) (a : ℕ) → holds (filter (has flags) (places bodies)) a ≡ true → (has flags a ≡ true) × (is_place bodies a ≡ true)
     in_set flags a h =
         let there = in_from_holds (filter (has flags) (places bodies)) a h in
-        let at = comes_from (λ (b : Body). b.place) bodies a (was_in (has flags) (places bodies) a there) in
+        let at = Contains-map_some (λ (b : Body). b.place) bodies a (was_in (has flags) (places bodies) a there) in
         (has_passed (has flags) (places bodies) a there, place_of_body bodies at.0 a at.1 at.2)
 
     set_in : (flags : List Bool) (a : ℕ) → has flags a ≡ true → is_place bodies a ≡ true → holds (filter (has flags) (places bodies)) a ≡ true
     set_in flags a flag place =
         let at = body_of_place bodies a place in
-        let there : Contains (places bodies) a = subst (Contains (places bodies)) at.2 (goes_to (λ (b : Body). b.place) bodies at.0 at.1) in
+        let there : Contains (places bodies) a = subst (Contains (places bodies)) at.2 (Contains-map (λ (b : Body). b.place) bodies at.0 at.1) in
         holds_from (filter (has flags) (places bodies)) a (stays_in (has flags) (places bodies) a there flag)
 
     -- ---- closed flags, and closed tests

@@ -11,7 +11,8 @@ use Rattle.marker_core.specs.Layout.{is_start}
 use Rattle.marker_core.specs.MutatorSteps.{can_retract, retracted}
 use Rattle.marker_core.specs.Views.{marks_at}
 use Rattle.marker_core.specs.Core.{IsCoreOk}
-use Rattle.marker_core.proofs.Members.{any_from, none_passes, none_from, was_in, has_passed, stays_in, removed_is_not_held, others_held_after_removal, in_range}
+use Rattle.marker_core.proofs.Members.{none_passes, none_from}
+use Rattle.gc_graph.specs.Members.{any_from, was_in, has_passed, stays_in, removed_is_not_held, others_held_after_removal, below_ranged}
 use Rattle.marker_core.proofs.Apart.{body_of_place, place_of_body, place_below}
 use Rattle.marker_core.proofs.Turns.{within_fields}
 use Rattle.marker_core.proofs.Quiet.{hands_of_none}
@@ -80,7 +81,7 @@ module _ (s : CoreState) (ok : IsCoreOk s) (a : ℕ) (off : s.mutator.on ≡ fal
               (none_passes (λ c. not (holds s.mutator.dead c.place) && refers_to s.types a c) bodies b unnamed there)
               (and_from (not (holds s.mutator.dead b.place)) (refers_to s.types a b) (not_from_false (holds s.mutator.dead b.place) was_alive)
               (any_from (λ j. refers (role_in s.types b j) && eqb (word_in b j) (a + 1)) (range_with_len 0 (length b.fields)) i
-              (in_range (length b.fields) i inside)
+              (below_ranged (length b.fields) i inside)
               (and_from (refers (role_in s.types b i)) (eqb (word_in b i) (a + 1)) r (eq-eqb (word_in b i) (a + 1) word))))))
         ]
       ]

@@ -20,7 +20,8 @@ use Rattle.marker_core.specs.Views.{times, marks_at, traces_at, IsHand}
 use Rattle.marker_core.specs.CycleSteps.{pair_is_whole, pairs_are_whole, can_begin, begun, stopped, ends, can_end, unmarked_places, ended}
 use Rattle.marker_core.specs.Core.{IsCoreOk}
 use Rattle.marker_core.specs.Laws.{AllNameBodies, IsLeastOver}
-use Rattle.marker_core.proofs.Members.{in_from_holds, was_in, has_passed, comes_from, all_member, in_range}
+use Rattle.marker_core.proofs.Members.{all_member}
+use Rattle.gc_graph.specs.Members.{in_from_holds, was_in, has_passed, Contains-map_some, below_ranged}
 use Rattle.marker_core.proofs.Apart.{place_of_body}
 use Rattle.marker_core.proofs.Counts.{false_is_none}
 use Rattle.marker_core.proofs.Headers.{mark_tells}
@@ -123,7 +124,7 @@ module _ (s : CoreState) (ok : IsCoreOk s) (on : s.mutator.on ≡ true) (lent : 
   dead_unmarked : (a : ℕ) → holds (unmarked_places s) a ≡ true → (is_place s.mutator.bodies a ≡ true) × (marks_at s.mutator s.markers a ≡ 0)
   dead_unmarked a dead =
       let there = in_from_holds (unmarked_places s) a dead in
-      let body = comes_from (λ (b : Body). b.place) s.mutator.bodies a (was_in (λ p. not (is_marked s.words p)) (places s.mutator.bodies) a there) in
+      let body = Contains-map_some (λ (b : Body). b.place) s.mutator.bodies a (was_in (λ p. not (is_marked s.words p)) (places s.mutator.bodies) a there) in
       let unmarked = not-true (is_marked s.words a) (has_passed (λ p. not (is_marked s.words p)) (places s.mutator.bodies) a there) in
       let tells = mark_tells s.words (marks_at s.mutator s.markers) (traces_at s.mutator s.markers) s.mutator.bodies ok.headers_match body.0 body.1 in
       let none : ltb 0 (marks_at s.mutator s.markers body.0.place) ≡ false = sym tells ∙ ap (is_marked s.words) body.2 ∙ unmarked in (
@@ -209,7 +210,7 @@ module _ (s : CoreState) (ok : IsCoreOk s) (off : s.mutator.on ≡ false) (unmar
       let inside = within_fields s.count s.types b i (ok.bodies_are_whole b h) (ap refers role) in
       whole_pair (role_in s.types b i) (word_in b i) (word_in b (i + 1)) role
       (all_member (λ j. pair_is_whole (role_in s.types b j) (word_in b j) (word_in b (j + 1))) (range_with_len 0 (length b.fields)) i
-      (all_member (pairs_are_whole s.types) s.mutator.bodies b whole h) (in_range (length b.fields) i inside))
+      (all_member (pairs_are_whole s.types) s.mutator.bodies b whole h) (below_ranged (length b.fields) i inside))
 
   abbrev may : List ℕ
   may = reach_over s.count s.types s.mutator.bodies roots

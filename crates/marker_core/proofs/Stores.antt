@@ -19,7 +19,7 @@ use Rattle.marker_core.specs.MutatorSteps.{key_fits, may_store, store_fits, can_
 use Rattle.marker_core.specs.Views.{marks_at, traces_at, IsHand, IsNoted, IsDone}
 use Rattle.marker_core.specs.Tracing.{IsCovered, IsInHand, StrongAccounted, PairsAccounted, marking_word, PartFits, HandsAreBodies, MayIsClosed}
 use Rattle.marker_core.specs.Core.{IsCoreOk}
-use Rattle.marker_core.proofs.Members.{any_member, any_from, goes_to}
+use Rattle.gc_graph.specs.Members.{any_member, any_from, Contains-map}
 use Rattle.marker_core.proofs.Edges.{value_after_key}
 use Rattle.marker_core.proofs.Tricolour.{Covers, cover_more}
 use Rattle.marker_core.proofs.Claims.{is_none_tells}
@@ -321,7 +321,7 @@ module _ (s : CoreState) (ok : IsCoreOk s) (a w : ℕ) (no_pending : s.mutator.p
         let was = ok.hands_are_bodies.hands h held in
         record {
           body = with_word a w was.body;
-          there = goes_to (with_word a w) bodies was.body was.there;
+          there = Contains-map (with_word a w) bodies was.body was.there;
           place = was.place;
           ty = was.ty;
           past_serial = was.past_serial;

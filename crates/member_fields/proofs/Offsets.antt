@@ -1,24 +1,14 @@
 -- Where a word of an object is, and what a read of it tells.
-use Rattle.std.proofs.Common.{◌≡◌, ℕ, ◌+◌, ◌-◌, Bool, true, sym, ap, ◌∙◌, arith, Contains}
-use Rattle.std.proofs.lemmas.List.Elements.{All-contains}
+use Rattle.std.proofs.Common.{◌≡◌, ℕ, ◌+◌, ◌-◌, Bool, true, sym, ap, ◌∙◌, arith}
 use Rattle.gc_graph.specs.declared.kind.Kind.{Kind}
-use Rattle.page_words.specs.Bodies.{Body, IsWhole, kind_in}
+use Rattle.page_words.specs.Bodies.{Body, kind_in}
 use Rattle.page_words.specs.Seat.{SeatView, IsWordAt, IsView}
 use Rattle.member_fields.specs.Words.{HasWord, HasWordOfSomeKind, IsWordIn}
-
-pub whole_body : (v : SeatView) → IsView v → (b : Body) → Contains v.bodies b → IsWhole v.count b
-whole_body v is b there = All-contains (IsWhole v.count) v.bodies b is.whole there
-
--- one object lies at a place
-pub one_holder : (v : SeatView) (b c : Body) → IsView v → Contains v.bodies b → Contains v.bodies c → b.place ≡ c.place → b ≡ c
-one_holder v b c is there also same =
-    let whole = whole_body v is b there in
-    let whole_too = whole_body v is c also in
-    is.apart b c b.place there also (omega arith) (omega (arith, whole.fields)) (omega (arith, same)) (omega (arith, same, whole_too.fields))
+use Rattle.page_words.specs.BodyPlaces.{whole_body, same_body}
 
 pub word_read : (v : SeatView) (holder word w : ℕ) → IsView v → HasWordOfSomeKind v holder word → IsWordAt v (holder + word) w → IsWordIn v holder word w
 word_read v holder word w is has at b there place =
-    let same : has.1.body ≡ b = one_holder v has.1.body b is has.1.there there (has.1.place ∙ sym place) in
+    let same : has.1.body ≡ b = same_body v has.1.body b is has.1.there there (has.1.place ∙ sym place) in
     let size : has.1.body.size ≡ b.size = ap (λ (c : Body). c.size) same in
     let whole = whole_body v is b there in
     at.field b (word - 2) there (omega (arith, size, has.1.last, has.1.first, whole.fields)) (omega (arith, place, has.1.first))
@@ -26,5 +16,5 @@ word_read v holder word w is has at b there place =
 pub one_kind : (v : SeatView) → IsView v → (is_so is_other : Kind → Bool) (holder word : ℕ)
     → ((kind : Kind) → is_so kind ≡ true → is_other kind ≡ true → ⊥) → HasWord is_so v holder word → HasWord is_other v holder word → ⊥
 one_kind v is is_so is_other holder word apart so other =
-    let same : other.body ≡ so.body = one_holder v other.body so.body is other.there so.there (other.place ∙ sym so.place) in
+    let same : other.body ≡ so.body = same_body v other.body so.body is other.there so.there (other.place ∙ sym so.place) in
     apart (kind_in v.types so.body (word - 2)) so.kind (ap (λ (b : Body). is_other (kind_in v.types b (word - 2))) (sym same) ∙ other.kind)

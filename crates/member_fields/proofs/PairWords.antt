@@ -9,7 +9,7 @@ use Rattle.type_table.specs.Types.{is_kind}
 use Rattle.page_words.specs.Bodies.{Body, IsReference, IsPlainWord, IsKeyWord, SuitsItsPair, MayHold, kind_in, fields_at}
 use Rattle.page_words.specs.Seat.{SeatView, IsView}
 use Rattle.member_fields.specs.Words.{HasWord, HasLoneWord, HasPair, IsWordIn, with_word_in, written}
-use Rattle.member_fields.proofs.Offsets.{whole_body, one_holder}
+use Rattle.page_words.specs.BodyPlaces.{whole_body, same_body}
 use Rattle.member_fields.proofs.Writes.{by_place}
 
 -- both words of each pair are of the kind of pairs
@@ -73,7 +73,7 @@ holds_lone v holder word w is (is_so, apart, has) suits kind =
 pub told_value : (v : SeatView) (holder word : ℕ) → IsView v → (has : HasPair v holder word)
     → IsWordIn v holder (word + 1) (get_or has.body.fields (word - 2 + 1) 0)
 told_value v holder word is has b there place =
-    let same : has.body ≡ b = one_holder v has.body b is has.there there (has.place ∙ sym place) in
+    let same : has.body ≡ b = same_body v has.body b is has.there there (has.place ∙ sym place) in
     let next : word - 2 + 1 ≡ word + 1 - 2 = omega (arith, has.first) in
     ap (λ (c : Body). get_or c.fields (word - 2 + 1) 0) same ∙ ap (λ i. get_or b.fields i 0) next
 

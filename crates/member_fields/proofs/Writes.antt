@@ -7,7 +7,7 @@ use Rattle.gc_graph.specs.declared.kind.Kind.{Kind}
 use Rattle.page_words.specs.Bodies.{Body, end_of, with_word, kind_in}
 use Rattle.page_words.specs.Seat.{SeatView, IsView, stored}
 use Rattle.member_fields.specs.Words.{HasWord, HasWordOfSomeKind, IsWordIn, with_word_in, written}
-use Rattle.member_fields.proofs.Offsets.{whole_body, one_holder}
+use Rattle.page_words.specs.BodyPlaces.{whole_body, same_body}
 
 each_same : {X Y : Type 0} (f g : X → Y) (xs : List X) → ((x : X) → Contains xs x → f x ≡ g x) → map f xs ≡ map g xs
 each_same f g [] same = refl
@@ -37,7 +37,7 @@ body_with_word v holder word w is has b there =
     cond_both (eqb b.place holder) (record b { fields = set b.fields (word - 2) w }) b (λ c. b ≡ c)
     (λ on.
     let place : b.place ≡ holder = eqb-true b.place holder on in
-    let same : b ≡ has.1.body = one_holder v b has.1.body is there has.1.there (place ∙ sym has.1.place) in
+    let same : b ≡ has.1.body = same_body v b has.1.body is there has.1.there (place ∙ sym has.1.place) in
     let size : b.size ≡ has.1.body.size = ap (λ (c : Body). c.size) same in
     absurd (both_ways (has_address a b) off
     (and_from (leb (b.place + 2) a) (ltb a (end_of b)) (le-leb (b.place + 2) a (omega (arith, has.1.first))) (lt-ltb a (end_of b) (omega (arith, has.1.last))))))
@@ -87,7 +87,7 @@ word_written v is holder word w has =
     (λ b there.
     by_place (λ c. c.place ≡ holder → w ≡ get_or c.fields (word - 2) 0) holder word w b
     (λ at _.
-    let same : b ≡ has.1.body = one_holder v b has.1.body is there has.1.there (at ∙ sym has.1.place) in
+    let same : b ≡ has.1.body = same_body v b has.1.body is there has.1.there (at ∙ sym has.1.place) in
     let size : b.size ≡ has.1.body.size = ap (λ (c : Body). c.size) same in
     let whole = whole_body v is b there in
     sym (get_or-set_same b.fields (word - 2) w 0 (omega (arith, size, whole.fields, has.1.first, has.1.last))))

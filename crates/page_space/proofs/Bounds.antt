@@ -11,14 +11,14 @@ use Rattle.page_space.specs.Pages.{PageTable, is_in_page, word_count, free_words
 use Rattle.gap_bounds.specs.Gaps.{GapTable, KnowsGaps}
 use Rattle.page_space.specs.Space.{SpaceView, IsSpaceOver}
 use Rattle.page_space.proofs.PageSpan.{in_page_word}
-use Rattle.page_space.proofs.PlaceBodies.{contains_first, contains_later}
+use Rattle.gc_graph.specs.Members.{Contains-head, Contains-cons}
 use Rattle.page_space.proofs.UsedPages.{counted_some}
 
 twice_length : (es : List Extent) → ((e : Extent) → Contains es e → 2 ≤ e.size) → 2 * length es ≤ sum_by (λ (e : Extent). e.size) es
 twice_length [] sizes = omega arith
 twice_length (e ∷ es) sizes =
-    let size : 2 ≤ e.size = sizes e (contains_first e es) in
-    let rest : 2 * length es ≤ sum_by (λ (d : Extent). d.size) es = twice_length es (λ d there. sizes d (contains_later e es d there)) in
+    let size : 2 ≤ e.size = sizes e (Contains-head e es) in
+    let rest : 2 * length es ≤ sum_by (λ (d : Extent). d.size) es = twice_length es (λ d there. sizes d (Contains-cons e es d there)) in
     omega (arith, sum_by-cons (λ (d : Extent). d.size) e es)
 
 pub few_objects : (space : SpaceView) (count : ℕ) (es : List Extent) → IsSpaceOver space count es → 2 * length es ≤ count

@@ -5,7 +5,7 @@ use Rattle.std.proofs.Math.Nat.{mul-le-mul_right}
 use Rattle.gc_graph.specs.State.{Shape}
 use Rattle.gc_graph.specs.Placement.{Extent, UsesPage, IsEmptyPage, IsPageCount, StartsEmptyRun, IsLowest, IsNowhere}
 use Rattle.page_space.specs.Space.{SinceEmpty}
-use Rattle.page_space.proofs.PageSpan.{next_page, page_before}
+use Rattle.gc_graph.specs.PageNumbers.{next_page, page_before}
 
 -- the pages from `since` up to this one are empty, and a run that begins before `since` meets an object
 pub record IsEmptySince (shape : Shape) (extents : List Extent) (count page since : ℕ) : Type 0 where

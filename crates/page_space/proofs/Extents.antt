@@ -1,17 +1,13 @@
 -- Lists of extents: which words they have, and one that comes or goes.
-use Rattle.std.proofs.Common.{◌≡◌, ℕ, zero, suc, ◌+◌, Bool, true, false, not, List, [], ◌∷◌, ◌++◌, length, refl, sym, ap, ◌∙◌, subst, ◌⊎◌, inl, inr, arith, cond, eqb}
+use Rattle.std.proofs.Common.{◌≡◌, ℕ, ◌+◌, Bool, true, false, not, List, [], ◌∷◌, ◌++◌, length, refl, sym, ap, ◌∙◌, subst, inl, inr, arith, cond, eqb}
 use Rattle.std.specs.List.{Contains, All, filter, list_any, sum_by}
-use Rattle.std.proofs.lemmas.Bool.{and_parts, and_from, leb-true, ltb-true, le-leb, lt-ltb, or_cases, or_left, or_right, cases_eq, cases_Bool, eq-eqb, ne_eqb, cond-true, cond_both, true≢false}
-use Rattle.std.proofs.lemmas.List.Elements.{All-head, All-tail, All-contains, All-contains_itself, All-filter, All-weaker, All-push, All-nil, filter_passes}
+use Rattle.std.proofs.lemmas.Bool.{and_parts, and_from, leb-true, ltb-true, le-leb, lt-ltb, or_cases, or_left, or_right, cases_eq, cases_Bool, eq-eqb, ne_eqb, true≢false}
+use Rattle.std.proofs.lemmas.List.Elements.{All-head, All-tail, All-contains, All-filter, All-weaker, All-push, All-nil}
 use Rattle.std.proofs.lemmas.List.Sums.{sum_by-cons}
 use Rattle.gc_graph.specs.Placement.{Extent, HasWord, IsTaken}
 use Rattle.page_space.specs.Pages.{covers}
 use Rattle.page_space.specs.Space.{PlacesDiffer}
-use Rattle.page_space.proofs.PlaceBodies.{contains_later, contains_first}
-
-pub contains_cases : {X : Type 0} (y : X) (ys : List X) (x : X) → Contains (y ∷ ys) x → (y ≡ x) ⊎ Contains ys x
-contains_cases y ys x (zero, l, e) = inl e
-contains_cases y ys x (suc k, l, e) = inr (k, omega arith, e)
+use Rattle.gc_graph.specs.Members.{Contains-cons, Contains-head, Contains-cons_cases, was_in, has_passed, stays_in}
 
 pub covers_from : (e : Extent) (x : ℕ) → HasWord e x → covers x e ≡ true
 covers_from e x c = and_from _ _ (le-leb e.place x c.0) (lt-ltb x (e.place + e.size) c.1)
@@ -24,7 +20,7 @@ covers_parts e x h =
 pub any_from_taken : (es : List Extent) (e : Extent) (x : ℕ) → Contains es e → HasWord e x → list_any (covers x) es ≡ true
 any_from_taken [] e x there c = absurd (omega (arith, there.1))
 any_from_taken (d ∷ es) e x there c =
-    elim (contains_cases d es e there) [
+    elim (Contains-cons_cases d es e there) [
       | inl same ↦ or_left (covers x d) (list_any (covers x) es) (ap (covers x) same ∙ covers_from e x c)
       | inr later ↦ or_right (covers x d) (list_any (covers x) es) (any_from_taken es e x later c)
     ]
@@ -33,8 +29,8 @@ pub taken_from_any : (es : List Extent) (x : ℕ) → list_any (covers x) es ≡
 taken_from_any [] x h = absurd (true≢false (sym h))
 taken_from_any (d ∷ es) x h =
     elim (or_cases (covers x d) (list_any (covers x) es) h) [
-      | inl here ↦ (d, contains_first d es, covers_parts d x here)
-      | inr later ↦ (let rest : IsTaken es x = taken_from_any es x later in (rest.0, contains_later d es rest.0 rest.1, rest.2))
+      | inl here ↦ (d, Contains-head d es, covers_parts d x here)
+      | inr later ↦ (let rest : IsTaken es x = taken_from_any es x later in (rest.0, Contains-cons d es rest.0 rest.1, rest.2))
     ]
 
 pub any_none : (es : List Extent) (x : ℕ) → (IsTaken es x → ⊥) → list_any (covers x) es ≡ false
@@ -56,24 +52,10 @@ others a d = not (eqb d.place a)
 -- ---- what a filter leaves
 
 pub contains_filter : (es : List Extent) (a : ℕ) (d : Extent) → (d.place ≡ a → ⊥) → Contains es d → Contains (filter (others a) es) d
-contains_filter [] a d other h = absurd (omega (arith, h.1))
-contains_filter (e ∷ es) a d other h =
-    elim (contains_cases e es d h) [
-      | inl same ↦
-          (let kept : others a e ≡ true = ap (others a) same ∙ ap not (ne_eqb d.place a other) in
-          subst (λ ys. Contains ys d) (sym (cond-true (others a e) (e ∷ filter (others a) es) (filter (others a) es) kept))
-          (zero, omega arith, same))
-      | inr later ↦
-          (let rest : Contains (filter (others a) es) d = contains_filter es a d other later in
-          cond_both (others a e) (e ∷ filter (others a) es) (filter (others a) es) (λ ys. Contains ys d)
-          (λ _. contains_later e (filter (others a) es) d rest) (λ _. rest))
-    ]
+contains_filter es a d other h = stays_in (others a) es d h (ap not (ne_eqb d.place a other))
 
 pub from_filter : (es : List Extent) (a : ℕ) (d : Extent) → Contains (filter (others a) es) d → Contains es d × (d.place ≡ a → ⊥)
-from_filter es a d h = (
-  All-contains (Contains es) (filter (others a) es) d (All-filter (others a) (Contains es) es (All-contains_itself es)) h,
-  (λ same. true≢false (sym (All-contains (λ e. others a e ≡ true) (filter (others a) es) d (filter_passes (others a) es) h) ∙ ap not (eq-eqb d.place a same))),
-)
+from_filter es a d h = (was_in (others a) es d h, (λ same. true≢false (sym (has_passed (others a) es d h) ∙ ap not (eq-eqb d.place a same))))
 
 pub differ_filter : (t : Extent → Bool) (es : List Extent) → PlacesDiffer es → PlacesDiffer (filter t es)
 differ_filter t [] differ = tt
@@ -87,8 +69,8 @@ differ_filter t (e ∷ es) differ =
 pub differ_push : (es : List Extent) (e : Extent) → PlacesDiffer es → ((d : Extent) → Contains es d → d.place ≡ e.place → ⊥) → PlacesDiffer (es ++ e ∷ [])
 differ_push [] e differ other = (All-nil (λ (d : Extent). d.place ≡ e.place → ⊥), tt)
 differ_push (d ∷ es) e differ other = (
-  All-push (λ (f : Extent). f.place ≡ d.place → ⊥) es e differ.0 (λ same. other d (contains_first d es) (sym same)),
-  differ_push es e differ.1 (λ f there. other f (contains_later d es f there)),
+  All-push (λ (f : Extent). f.place ≡ d.place → ⊥) es e differ.0 (λ same. other d (Contains-head d es) (sym same)),
+  differ_push es e differ.1 (λ f there. other f (Contains-cons d es f there)),
 )
 
 none_less : (es : List Extent) (a : ℕ) → All (λ (d : Extent). d.place ≡ a → ⊥) es → filter (others a) es ≡ es
@@ -108,7 +90,7 @@ one_less f (d ∷ es) e a differ there at =
           (let gone : filter (others a) (d ∷ es) ≡ es =
           ap (λ t. cond (not t) (d ∷ filter (others a) es) (filter (others a) es)) (eq-eqb d.place a here)
           ∙ none_less es a (All-weaker (λ (c : Extent). c.place ≡ d.place → ⊥) (λ (c : Extent). c.place ≡ a → ⊥) (λ c far same. far (same ∙ sym here)) es differ.0) in
-          let is : d ≡ e = elim (contains_cases d es e there) [
+          let is : d ≡ e = elim (Contains-cons_cases d es e there) [
             | inl same ↦ same
             | inr later ↦ absurd (All-contains (λ (c : Extent). c.place ≡ d.place → ⊥) es e differ.0 later (at ∙ sym here))
           ] in
@@ -116,7 +98,7 @@ one_less f (d ∷ es) e a differ there at =
       | inr elsewhere ↦
           (let kept : filter (others a) (d ∷ es) ≡ d ∷ filter (others a) es =
           ap (λ t. cond (not t) (d ∷ filter (others a) es) (filter (others a) es)) (ne_eqb d.place a elsewhere) in
-          let later : Contains es e = elim (contains_cases d es e there) [
+          let later : Contains es e = elim (Contains-cons_cases d es e there) [
             | inl same ↦ absurd (elsewhere (ap (λ (c : Extent). c.place) same ∙ at))
             | inr rest ↦ rest
           ] in

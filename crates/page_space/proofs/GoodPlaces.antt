@@ -7,8 +7,8 @@ use Rattle.gc_graph.specs.State.{Shape}
 use Rattle.gc_graph.specs.Placement.{Extent, HasWord, IsTaken, IsEmptyPage, Fits, StartsEmptyRun, bucket_of}
 use Rattle.page_space.specs.Pages.{first_page, is_in_page, word_count}
 use Rattle.page_space.specs.Space.{SpaceView, IsSpaceOver, IsPlacedWell, IsFreePlace}
-use Rattle.page_space.proofs.PageSpan.{next_page, page_before, same_page, page_of, page_is, in_page_from, in_page_word}
-use Rattle.page_space.proofs.PlaceFound.{small_bucket, large_bucket}
+use Rattle.page_space.proofs.PageSpan.{page_of, page_is, in_page_from, in_page_word}
+use Rattle.gc_graph.specs.PageNumbers.{next_page, page_before, same_page, small_bucket, large_bucket}
 
 pub record IsGoodPlace (shape : Shape) (extents : List Extent) (e : Extent) : Type 0 where
   pub inside : e.place + e.size ≤ word_count shape

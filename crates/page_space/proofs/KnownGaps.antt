@@ -11,7 +11,8 @@ use Rattle.gap_bounds.specs.Gaps.{GapTable, least_of, IsGap, HasClass, KnowsGaps
 use Rattle.gap_bounds.specs.Changes.{GapsOpenedIn, GapsTaken, HadClasses}
 use Rattle.page_space.specs.Space.{SpaceView, IsSpaceOver}
 use Rattle.page_space.specs.Opening.{without_place}
-use Rattle.page_space.proofs.PageSpan.{page_of, page_inside, between_parts, in_page_from, in_page_word}
+use Rattle.page_space.proofs.PageSpan.{page_of, page_inside, in_page_from, in_page_word}
+use Rattle.gap_bounds.specs.Spans.{between_parts}
 use Rattle.page_space.proofs.GoodPlaces.{IsGoodPlace, sizes_of, starts_in_page}
 use Rattle.page_space.proofs.UsedPages.{some_counted}
 use Rattle.page_space.proofs.Extents.{others, contains_filter, from_filter}

@@ -1,30 +1,22 @@
--- What is filled after one more word.
-use Rattle.std.proofs.Common.{◌≡◌, ℕ, zero, suc, ◌+◌, ◌-◌, ◌^◌, ◌<◌, ◌≤◌, Bool, true, false, not, List, [], ◌∷◌, ◌++◌, refl, sym, ap, ◌∙◌, subst, inl, inr, arith, eqb, get_or, replicate}
+-- What is filled after one more word, and once a body joined the others.
+use Rattle.std.proofs.Common.{◌≡◌, ℕ, zero, suc, ◌+◌, ◌-◌, ◌^◌, ◌<◌, ◌≤◌, Bool, true, false, not, List, [], ◌∷◌, ◌++◌, refl, sym, ap, ◌∙◌, subst, inl, inr, arith, eqb, get_or, replicate, ◌&&◌, leb, ltb, cond}
 use Rattle.std.specs.List.{Contains, filter}
-use Rattle.std.proofs.lemmas.Bool.{ne_eqb, cond-true, cond_both, cases_lt}
+use Rattle.std.proofs.lemmas.Bool.{ne_eqb, cond-true, cond-false, cases_lt, cases_Bool, false_from_ne_true, both_ways, and_from, le-leb, lt-ltb, not_from_false, not-true}
 use Rattle.std.proofs.lemmas.List.{length-replicate, get_or-replicate}
 use Rattle.object_headers.specs.Layout.{header_word}
-use Rattle.page_words.specs.Seat.{Filled, SeatView, IsReady, filled_with, nulled}
-use Rattle.page_words.specs.Bodies.{Body}
+use Rattle.page_words.specs.Seat.{Filled, SeatView, IsReady, filled_with, nulled, published}
+use Rattle.page_words.specs.Bodies.{Body, end_of}
 use Rattle.page_space.specs.Occupying.{HasNulls, IsRoom, Occupies, new_body}
-use Rattle.page_space.proofs.PlaceBodies.{contains_later, contains_first}
-
-contains_filter : {X : Type 0} (test : X → Bool) (xs : List X) (x : X) → test x ≡ true → Contains xs x → Contains (filter test xs) x
-contains_filter test [] x kept h = absurd (let l : h.0 < 0 = h.1 in omega arith)
-contains_filter test (y ∷ xs) x kept (zero, l, e) =
-    subst (λ ys. Contains ys x) (sym (cond-true (test y) (y ∷ filter test xs) (filter test xs) (ap test e ∙ kept))) (zero, omega arith, e)
-contains_filter test (y ∷ xs) x kept (suc k, l, e) =
-    let rest : Contains (filter test xs) x = contains_filter test xs x kept (k, omega arith, e) in
-    cond_both (test y) (y ∷ filter test xs) (filter test xs) (λ ys. Contains ys x) (λ _. contains_later y (filter test xs) x rest) (λ _. rest)
+use Rattle.gc_graph.specs.Members.{Contains-cons, Contains-head, stays_in}
 
 -- the word just filled, and a word filled before elsewhere
 pub filled_here : (v : SeatView) (a w : ℕ) → Contains (filled_with v a w).filled (record { address = a; word = w })
-filled_here v a w = contains_first (record { address = a; word = w }) (filter (λ f. not (eqb f.address a)) v.filled)
+filled_here v a w = Contains-head (record { address = a; word = w }) (filter (λ f. not (eqb f.address a)) v.filled)
 
 pub filled_before : (v : SeatView) (a w : ℕ) (f : Filled) → (f.address ≡ a → ⊥) → Contains v.filled f → Contains (filled_with v a w).filled f
 filled_before v a w f other h =
-    contains_later (record { address = a; word = w }) (filter (λ g. not (eqb g.address a)) v.filled) f
-    (contains_filter (λ g. not (eqb g.address a)) v.filled f (ap not (ne_eqb f.address a other)) h)
+    Contains-cons (record { address = a; word = w }) (filter (λ g. not (eqb g.address a)) v.filled) f
+    (stays_in (λ g. not (eqb g.address a)) v.filled f h (ap not (ne_eqb f.address a other)))
 
 pub nulls_more : (v : SeatView) (first count next : ℕ) → next ≡ first + count → HasNulls v.filled first count
     → HasNulls (filled_with v next 0).filled first (count + 1)
@@ -57,17 +49,71 @@ unfolding nulled
 only_nulled v a zero = refl
 only_nulled v a (suc n) = only_filled v (nulled v a n) (nulled v a (suc n)) (a + n) 0 (only_nulled v a n) refl
 
--- what the filled words are is nothing to a body that joins the others
-pub occupies_before : (old mid new : SeatView) (fs : List Filled) (b : Body) → mid ≡ record old { filled = fs } → Occupies mid new b → Occupies old new b
-occupies_before old mid new fs b rest joins = record {
+-- ---- what stays filled
+
+-- a word that is filled elsewhere than in the body
+abbrev is_outside : Body → Filled → Bool
+is_outside b f = not (leb b.place f.address && ltb f.address (end_of b))
+
+filter_within : (p q : Filled → Bool) → ((f : Filled) → p f ≡ true → q f ≡ true) → (fs : List Filled) → filter p (filter q fs) ≡ filter p fs
+filter_within p q within [] = refl
+filter_within p q within (f ∷ fs) = elim (cases_Bool (q f)) [
+  | inl kept ↦
+      ap (filter p) (cond-true (q f) (f ∷ filter q fs) (filter q fs) kept)
+      ∙ ap (λ l. cond (p f) (f ∷ l) l) (filter_within p q within fs)
+  | inr dropped ↦
+      ap (filter p) (cond-false (q f) (f ∷ filter q fs) (filter q fs) dropped)
+      ∙ filter_within p q within fs
+      ∙ sym (cond-false (p f) (f ∷ filter p fs) (filter p fs) (false_from_ne_true (p f) (λ passes. both_ways (q f) dropped (within f passes))))
+]
+
+-- a word filled in the body is none of those that stay filled
+fill_inside : (v : SeatView) (b : Body) (a w : ℕ) → b.place ≤ a → a < end_of b → (published (filled_with v a w) b).filled ≡ (published v b).filled
+fill_inside v b a w low high =
+    let others : List Filled = filter (λ f. not (eqb f.address a)) v.filled in
+    let word : Filled = record { address = a; word = w } in
+    cond-false (is_outside b word) (word ∷ filter (is_outside b) others) (filter (is_outside b) others)
+    (ap not (and_from (leb b.place a) (ltb a (end_of b)) (le-leb b.place a low) (lt-ltb a (end_of b) high)))
+    ∙ filter_within (is_outside b) (λ f. not (eqb f.address a))
+    (λ f out. not_from_false (eqb f.address a) (ne_eqb f.address a
+    (λ same. both_ways (leb b.place f.address && ltb f.address (end_of b)) (not-true _ out)
+    (and_from _ _ (le-leb b.place f.address (omega arith)) (lt-ltb f.address (end_of b) (omega arith)))))) v.filled
+
+pub nulls_inside : (v : SeatView) (b : Body) (a n : ℕ) → b.place ≤ a → a + n ≤ end_of b → (published (nulled v a n) b).filled ≡ (published v b).filled
+unfolding nulled
+nulls_inside v b a zero low high = refl
+nulls_inside v b a (suc n) low high = fill_inside (nulled v a n) b (a + n) 0 (omega arith) (omega arith) ∙ nulls_inside v b a n low (omega arith)
+
+-- a body joins the others once its header and its serial number were filled
+pub head_occupies : (old new : SeatView) (b : Body) (a header serial : ℕ) → b.place ≡ a → 2 ≤ b.size
+    → new ≡ published (filled_with (filled_with old a header) (a + 1) serial) b → Occupies old new b
+head_occupies old new b a header serial at least is = record {
+  count = ap (λ (v : SeatView). v.count) is;
+  types = ap (λ (v : SeatView). v.types) is;
+  on = ap (λ (v : SeatView). v.on) is;
+  bodies = ap (λ (v : SeatView). v.bodies) is;
+  filled = ap (λ (v : SeatView). v.filled) is
+      ∙ fill_inside (filled_with old a header) b (a + 1) serial (omega arith) (omega arith) ∙ fill_inside old b a header (omega arith) (omega arith);
+  marked = ap (λ (v : SeatView). v.marked) is;
+  traced = ap (λ (v : SeatView). v.traced) is;
+  dead = ap (λ (v : SeatView). v.dead) is;
+}
+
+-- what is filled in a body before it joins the others is nothing to it
+pub occupies_before : (old mid new : SeatView) (fs : List Filled) (b : Body) → mid ≡ record old { filled = fs }
+    → filter (is_outside b) fs ≡ filter (is_outside b) old.filled → Occupies mid new b → Occupies old new b
+occupies_before old mid new fs b rest inside joins = record {
   count = joins.count ∙ ap (λ (v : SeatView). v.count) rest;
   types = joins.types ∙ ap (λ (v : SeatView). v.types) rest;
   on = joins.on ∙ ap (λ (v : SeatView). v.on) rest;
   bodies = joins.bodies ∙ ap (λ (v : SeatView). v.bodies ++ b ∷ []) rest;
+  filled = joins.filled ∙ ap (λ (v : SeatView). (published v b).filled) rest ∙ inside;
   marked = joins.marked ∙ ap (λ (v : SeatView). v.marked) rest;
   traced = joins.traced ∙ ap (λ (v : SeatView). v.traced) rest;
   dead = joins.dead ∙ ap (λ (v : SeatView). v.dead) rest;
 }
+
+-- ---- ready
 
 pub ready_to_publish : (old : SeatView) (a ty size serial : ℕ) → IsRoom old size a
     → ty < 16384 → 2 ≤ size → size < 2 ^ 26 → HasNulls old.filled (a + 2) (size - 2)

@@ -10,9 +10,12 @@ use Rattle.page_words.specs.Bodies.{Body, IsPlace, end_of}
 use Rattle.page_words.specs.Seat.{SeatView, IsView}
 use Rattle.page_space.specs.Pages.{is_in_page}
 use Rattle.page_space.specs.Space.{SpaceView, IsSpaceOver, HoldsAddress, HasNoStart, IsLastStart, extent_of, extents_of_bodies}
-use Rattle.page_space.proofs.PageSpan.{next_page, same_page, page_of, page_is, in_page_from, between_parts}
-use Rattle.page_space.proofs.PlaceBodies.{contains_map, body_of_extent, body_size}
-use Rattle.page_space.proofs.PlaceFound.{small_bucket, large_bucket}
+use Rattle.page_space.proofs.PageSpan.{page_of, page_is, in_page_from}
+use Rattle.gap_bounds.specs.Spans.{between_parts}
+use Rattle.gc_graph.specs.PageNumbers.{next_page, same_page, small_bucket, large_bucket}
+use Rattle.page_space.proofs.PlaceBodies.{body_of_extent}
+use Rattle.page_words.specs.BodyPlaces.{two_words}
+use Rattle.gc_graph.specs.Members.{Contains-map}
 use Rattle.page_space.proofs.UsedPages.{some_counted, counted_some}
 
 -- ---- by the page table
@@ -32,7 +35,7 @@ none_in_empty_page space count bodies x a words over within none h =
     omega (
       arith,
       over.held (x / w) within,
-      counted_some (is_in_page w (x / w)) (extents_of_bodies bodies) (extent_of h.0) (contains_map extent_of bodies h.0 h.1) (holder_in_page w bodies x a words h),
+      counted_some (is_in_page w (x / w)) (extents_of_bodies bodies) (extent_of h.0) (Contains-map extent_of bodies h.0 h.1) (holder_in_page w bodies x a words h),
     )
 
 -- an object starts there, by the first word of the page, and no other one has a word in the page
@@ -64,7 +67,7 @@ large_start space count bodies page words over within some is_large =
       place = (b.0, b.1, ap (λ (d : Extent). d.place) b.2 ∙ sym start);
       low = omega arith;
       only = λ x a at h.
-          let there : Contains es (extent_of h.0) = contains_map extent_of bodies h.0 h.1 in
+          let there : Contains es (extent_of h.0) = Contains-map extent_of bodies h.0 h.1 in
           let inside : is_in_page w page (extent_of h.0) ≡ true = subst (λ p. is_in_page w p (extent_of h.0) ≡ true) at (holder_in_page w bodies x a words h) in
           let same : extent_of h.0 ≡ e = over.alone page (extent_of h.0) e there one.1 inside one.2 large in
           start ∙ sym (ap (λ (d : Extent). d.place) same) ∙ h.2;
@@ -76,7 +79,7 @@ pub small_start : (space : SpaceView) (count : ℕ) (bodies : List Body) (x a : 
     → x / space.shape.page_words * space.shape.page_words ≤ a
 small_start space count bodies x a words over not_large h =
     let w : ℕ = space.shape.page_words in
-    let there : Contains (extents_of_bodies bodies) (extent_of h.0) = contains_map extent_of bodies h.0 h.1 in
+    let there : Contains (extents_of_bodies bodies) (extent_of h.0) = Contains-map extent_of bodies h.0 h.1 in
     let own : (x / w * w ≤ x) × (x < (x / w + 1) * w) = page_of w x words in
     let at : h.0.place ≡ a = h.2 in
     let to : x < end_of h.0 = h.4 in
@@ -99,7 +102,7 @@ last_holds v low x p a view last from h =
       | inr after ↦
           (let b : Body = last.0.0 in
           let at : b.place ≡ p = last.0.2 in
-          let size : 2 ≤ b.size = body_size v.count v.bodies b view.whole last.0.1 in
+          let size : 2 ≤ b.size = two_words v view b last.0.1 in
           let same : b ≡ h.0 = view.apart b h.0 p last.0.1 h.1 (omega arith) (omega arith) (omega (arith, h.2)) (omega (arith, last.2, h.4)) in
           sym at ∙ ap (λ (c : Body). c.place) same ∙ h.2)
     ]

@@ -12,8 +12,11 @@ use Rattle.gap_bounds.specs.Changes.{GapsOpened}
 use Rattle.page_space.specs.Pages.{word_count}
 use Rattle.page_space.specs.Space.{SpaceView, IsSpaceOf, extent_of, extents_of_bodies}
 use Rattle.page_space.specs.Opening.{IsEdgeBefore, IsEndAfter, without_place}
-use Rattle.page_space.proofs.PageSpan.{same_page, page_of, page_is, page_inside}
-use Rattle.page_space.proofs.PlaceBodies.{contains_map, body_size, whole_body, body_of_extent}
+use Rattle.page_space.proofs.PageSpan.{page_of, page_is, page_inside}
+use Rattle.gc_graph.specs.PageNumbers.{same_page}
+use Rattle.page_space.proofs.PlaceBodies.{body_of_extent}
+use Rattle.page_words.specs.BodyPlaces.{two_words, whole_body}
+use Rattle.gc_graph.specs.Members.{Contains-map}
 use Rattle.page_space.proofs.Extents.{contains_filter}
 use Rattle.page_space.proofs.SeatExtents.{seat_apart}
 use Rattle.page_space.proofs.Shapes.{shape_words}
@@ -22,7 +25,7 @@ use Rattle.page_space.proofs.Shapes.{shape_words}
 stays_taken : (bodies : List Body) (a x : ℕ) (b : Body) → Contains bodies b → (b.place ≡ a → ⊥) → b.place ≤ x → x < end_of b
     → IsTaken (without_place (extents_of_bodies bodies) a) x
 stays_taken bodies a x b there other low high =
-    (extent_of b, contains_filter (extents_of_bodies bodies) a (extent_of b) other (contains_map extent_of bodies b there), (low, high))
+    (extent_of b, contains_filter (extents_of_bodies bodies) a (extent_of b) other (Contains-map extent_of bodies b there), (low, high))
 
 -- a gap that meets the object's words begins no lower than the edge before
 begins_after : (v : SeatView) (shape : Shape) (page a edge size x : ℕ) → IsView v → IsEdgeBefore shape v.bodies page a edge
@@ -37,7 +40,7 @@ begins_after v shape page a edge size x view before gap meets =
             (let b : Body = object.0 in
             let ends : end_of b ≡ edge = object.3 in
             let earlier : b.place < a = object.2 in
-            let least : 2 ≤ b.size = body_size v.count v.bodies b view.whole object.1 in
+            let least : 2 ≤ b.size = two_words v view b object.1 in
             absurd (gap.free (edge - 1) (omega arith) (omega arith)
             (stays_taken v.bodies a (edge - 1) b object.1 (λ same. let at : b.place ≡ a = same in omega arith) (omega arith) (omega arith))))
       ]
@@ -55,7 +58,7 @@ ends_before v shape page a after end size x view next some gap meets =
         | inr place ↦
             (let b : Body = place.0 in
             let at : b.place ≡ end = place.2 in
-            let least : 2 ≤ b.size = body_size v.count v.bodies b view.whole place.1 in
+            let least : 2 ≤ b.size = two_words v view b place.1 in
             absurd (gap.free end (omega arith) (omega arith)
             (stays_taken v.bodies a end b place.1 (λ same. let here : b.place ≡ a = same in omega arith) (omega arith) (omega arith))))
       ]
@@ -82,7 +85,7 @@ seated space v a size valid view over there =
     let at : found.0.place ≡ a = ap (λ (d : Extent). d.place) found.2 in
     let size_is : found.0.size ≡ size = ap (λ (d : Extent). d.size) found.2 in
     let least : 2 ≤ size = over.sizes e there in
-    let inside : a + size ≤ word_count space.shape = omega (arith, (whole_body v.count v.bodies found.0 view.whole found.1).inside, over.seat) in
+    let inside : a + size ≤ word_count space.shape = omega (arith, (whole_body v view found.0 found.1).inside, over.seat) in
     let only = λ (d : Extent) (d_there : Contains (extents_of_bodies v.bodies) d) (same : d.place ≡ a).
     let r : d ≡ e = (let some : 2 ≤ d.size = over.sizes d d_there in seat_apart v view d e a d_there there (omega arith, omega arith) (omega arith, omega arith)) in r in
     record {

@@ -1,26 +1,12 @@
 -- The addresses of a page, and the pages of an object.
-use Rattle.std.proofs.Common.{◌≡◌, ℕ, ◌+◌, ◌-◌, ◌*◌, ◌/◌, ◌%◌, ◌<◌, ◌≤◌, true, false, inl, inr, arith, leb, ltb}
-use Rattle.std.proofs.lemmas.Bool.{cases_order, cases_lt, cases_Bool, and_parts, and_from, leb-true, ltb-true, le-leb, lt-ltb}
+use Rattle.std.proofs.Common.{◌≡◌, ℕ, ◌+◌, ◌-◌, ◌*◌, ◌/◌, ◌%◌, ◌<◌, ◌≤◌, true, inl, inr, arith}
+use Rattle.std.proofs.lemmas.Bool.{cases_lt}
 use Rattle.std.proofs.lemmas.Nat.{mod_below}
-use Rattle.std.proofs.Math.Nat.{mul-le-mul_right, add-mul, one-mul, div-mul-le_self, div-add-mod}
+use Rattle.std.proofs.Math.Nat.{mul-le-mul_right, div-mul-le_self, div-add-mod}
 use Rattle.gc_graph.specs.Placement.{Extent, HasWord}
-use Rattle.page_space.specs.Pages.{is_between, is_in_page}
-
-pub next_page : (w page : ℕ) → (page + 1) * w ≡ page * w + w
-next_page w page = omega (arith, add-mul page 1 w, one-mul w)
-
-pub page_before : (w page other : ℕ) → page < other → (page + 1) * w ≤ other * w
-page_before w page other l = mul-le-mul_right w (omega arith)
-
-pub same_page : (w page other a : ℕ) → page * w ≤ a → a < (page + 1) * w → other * w ≤ a → a < (other + 1) * w → page ≡ other
-same_page w page other a first last first' last' =
-    elim (cases_order page other) [
-      | inl same ↦ same
-      | inr apart ↦ elim apart [
-        | inl before ↦ absurd (omega (arith, page_before w page other before))
-        | inr after ↦ absurd (omega (arith, page_before w other page after))
-      ]
-    ]
+use Rattle.gc_graph.specs.PageNumbers.{next_page, page_before, same_page}
+use Rattle.page_space.specs.Pages.{is_in_page}
+use Rattle.gap_bounds.specs.Spans.{between_parts, between_from}
 
 -- an address lies in its page
 pub page_of : (w a : ℕ) → 0 < w → (a / w * w ≤ a) × (a < (a / w + 1) * w)
@@ -28,21 +14,6 @@ page_of w a some =
     let whole : w * (a / w) + a % w ≡ a = div-add-mod a w in
     let rest : a % w < w = mod_below a w some in
     (omega arith, omega (arith, next_page w (a / w)))
-
-pub between_parts : (first end n : ℕ) → is_between first end n ≡ true → (first ≤ n) × (n < end)
-between_parts first end n h =
-    let both = and_parts (leb first n) (ltb n end) h in
-    (leb-true first n both.0, ltb-true n end both.1)
-
-pub between_from : (first end n : ℕ) → first ≤ n → n < end → is_between first end n ≡ true
-between_from first end n low high = and_from (leb first n) (ltb n end) (le-leb first n low) (lt-ltb n end high)
-
-pub not_between : (first end n : ℕ) → (first ≤ n → n < end → ⊥) → is_between first end n ≡ false
-not_between first end n never =
-    elim (cases_Bool (is_between first end n)) [
-      | inl holds ↦ absurd (let parts : (first ≤ n) × (n < end) = between_parts first end n holds in never parts.0 parts.1)
-      | inr clear ↦ clear
-    ]
 
 -- the pages of two addresses
 pub page_order : (w a b : ℕ) → 0 < w → a ≤ b → a / w ≤ b / w

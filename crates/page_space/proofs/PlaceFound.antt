@@ -2,15 +2,16 @@
 use Rattle.std.proofs.Common.{◌≡◌, ℕ, Bool, ◌+◌, ◌*◌, ◌/◌, ◌<◌, ◌≤◌, true, false, cond, leb, List, Option, Some, None, sym, ap, ◌∙◌, subst, inl, inr, arith, ltb}
 use Rattle.std.specs.List.{Contains}
 use Rattle.std.specs.Option.{IfNone}
-use Rattle.std.proofs.lemmas.Bool.{cases_order, cases_lt, cases_Bool, ltb-true, lt-ltb, le-leb}
+use Rattle.std.proofs.lemmas.Bool.{cases_order, cases_lt, cases_Bool, ltb-true, le-leb}
 use Rattle.gc_graph.specs.State.{Shape}
 use Rattle.gc_graph.specs.Placement.{Extent, PageHasBucket, IsLowest, IsNowhere, bucket_of}
 use Rattle.page_words.specs.Bodies.{Body, end_of}
 use Rattle.page_space.specs.Pages.{is_in_page}
 use Rattle.page_space.specs.Space.{SpaceView, IsSpaceOver, FitsIn, FitsBetween, HoldsWhole, extent_of, extents_of_bodies}
 use Rattle.gap_bounds.specs.Gaps.{IsGap, IsClassOf, least_of}
-use Rattle.page_space.proofs.PageSpan.{page_before, same_page, in_page_from}
-use Rattle.page_space.proofs.PlaceBodies.{contains_map}
+use Rattle.page_space.proofs.PageSpan.{in_page_from}
+use Rattle.gc_graph.specs.PageNumbers.{page_before, same_page, small_bucket, large_bucket}
+use Rattle.gc_graph.specs.Members.{Contains-map}
 
 pub run_of_gap : (shape : Shape) (bodies : List Body) (size page a : ℕ)
     → PageHasBucket shape.page_words (extents_of_bodies bodies) page (bucket_of shape.page_words size) → IsGap shape (extents_of_bodies bodies) size page a → FitsIn shape bodies size page a
@@ -52,20 +53,6 @@ small_number false true c e = omega arith
 small_number false false true e = omega arith
 small_number false false false e = omega arith
 
--- a small size is of no large bucket
-pub small_bucket : (w size : ℕ) → size ≤ w / 2 → bucket_of w size ≡ 4 → ⊥
-small_bucket w size small large =
-    let not_large : ltb (w / 2) size ≡ false = elim (cases_Bool (ltb (w / 2) size)) [
-      | inl holds ↦ absurd (let over : w / 2 < size = ltb-true (w / 2) size holds in omega arith)
-      | inr clear ↦ clear
-    ] in
-    let is : bucket_of w size ≡ cond (leb 16 size) 3 (cond (leb 8 size) 2 (cond (leb 4 size) 1 0)) =
-    ap (λ t. cond t 4 (cond (leb 16 size) 3 (cond (leb 8 size) 2 (cond (leb 4 size) 1 0)))) not_large in
-    small_number (leb 16 size) (leb 8 size) (leb 4 size) (sym is ∙ large)
-
-pub large_bucket : (w size : ℕ) → w / 2 < size → bucket_of w size ≡ 4
-large_bucket w size large = ap (λ t. cond t 4 (cond (leb 16 size) 3 (cond (leb 8 size) 2 (cond (leb 4 size) 1 0)))) (lt-ltb (w / 2) size large)
-
 -- in a page with the bucket of a small size each body lies whole
 pub page_holds_whole : (space : SpaceView) (count : ℕ) (bodies : List Body) (size page : ℕ) → 0 < space.shape.page_words
     → IsSpaceOver space count (extents_of_bodies bodies) → size ≤ space.shape.page_words / 2
@@ -73,7 +60,7 @@ pub page_holds_whole : (space : SpaceView) (count : ℕ) (bodies : List Body) (s
 page_holds_whole space count bodies size page some over small has b a there from to first last =
     let w : ℕ = space.shape.page_words in
     let e : Extent = extent_of b in
-    let e_there : Contains (extents_of_bodies bodies) e = contains_map extent_of bodies b there in
+    let e_there : Contains (extents_of_bodies bodies) e = Contains-map extent_of bodies b there in
     let e_in : is_in_page w page e ≡ true = in_page_from w page e a some (from, to) first last in
     let d_in : is_in_page w page has.0 ≡ true = in_page_from w page has.0 has.1 some has.3 has.4 has.5 in
     let same : bucket_of w e.size ≡ bucket_of w size = over.shared page e has.0 e_there has.2 e_in d_in ∙ has.6 in

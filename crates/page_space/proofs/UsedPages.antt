@@ -9,8 +9,7 @@ use Rattle.gc_graph.specs.Placement.{Extent, HasWord, PageHasBucket, UsesPage, I
 use Rattle.page_space.specs.Pages.{is_in_page, count_in_use}
 use Rattle.page_space.specs.Space.{SpaceView, IsSpaceOver}
 use Rattle.page_space.proofs.PageSpan.{in_page_from, in_page_word}
-use Rattle.page_space.proofs.PlaceBodies.{contains_first, contains_later}
-use Rattle.page_space.proofs.Extents.{contains_cases}
+use Rattle.gc_graph.specs.Members.{Contains-head, Contains-cons, Contains-cons_cases}
 use Rattle.page_space.proofs.GoodPlaces.{sizes_of}
 
 -- a count is above 0 exactly where the test holds of one
@@ -18,19 +17,19 @@ pub some_counted : (f : Extent → Bool) (es : List Extent) → 0 < count_by f e
 some_counted f [] some = absurd (omega arith)
 some_counted f (e ∷ es) some =
     elim (cases_Bool (f e)) [
-      | inl is ↦ (e, contains_first e es, is)
+      | inl is ↦ (e, Contains-head e es, is)
       | inr isnt ↦
           (let first : count_by f (e ∷ es) ≡ cond (f e) 1 0 + count_by f es = sum_by-cons (λ d. cond (f d) 1 0) e es in
           let none : let k : ℕ = cond (f e) 1 0 in k ≡ 0 = ap (λ b. let k : ℕ = cond b 1 0 in k) isnt in
           let rest : (d : Extent) × Contains es d × (f d ≡ true) = some_counted f es (omega arith) in
-          (rest.0, contains_later e es rest.0 rest.1, rest.2))
+          (rest.0, Contains-cons e es rest.0 rest.1, rest.2))
     ]
 
 pub counted_some : (f : Extent → Bool) (es : List Extent) (e : Extent) → Contains es e → f e ≡ true → 0 < count_by f es
 counted_some f [] e there is = absurd (omega (arith, there.1))
 counted_some f (d ∷ es) e there is =
     let first : count_by f (d ∷ es) ≡ cond (f d) 1 0 + count_by f es = sum_by-cons (λ c. cond (f c) 1 0) d es in
-    elim (contains_cases d es e there) [
+    elim (Contains-cons_cases d es e there) [
       | inl same ↦
           (let one : let k : ℕ = cond (f d) 1 0 in k ≡ 1 = ap (λ b. let k : ℕ = cond b 1 0 in k) (ap f same ∙ is) in omega arith)
       | inr later ↦ (let rest : 0 < count_by f es = counted_some f es e later is in omega arith)

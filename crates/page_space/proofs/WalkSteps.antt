@@ -9,12 +9,13 @@ use Rattle.page_words.specs.Seat.{SeatView, IsView}
 use Rattle.page_space.specs.Space.{HasNoStart, HoldsWhole, extents_of_bodies}
 use Rattle.gap_bounds.specs.Gaps.{IsGap}
 use Rattle.page_space.specs.Walks.{IsEdge}
-use Rattle.page_space.proofs.PlaceBodies.{body_size, body_of_taken, taken_by_body}
+use Rattle.page_space.proofs.PlaceBodies.{body_of_taken, taken_by_body}
+use Rattle.page_words.specs.BodyPlaces.{two_words}
 
 -- an object that begins in the words of another one is that one
 pub one_in : (v : SeatView) (b c : Body) → IsView v → Contains v.bodies b → Contains v.bodies c → c.place ≤ b.place → b.place < end_of c → b ≡ c
 one_in v b c view b_there c_there low high =
-    let size : 2 ≤ b.size = body_size v.count v.bodies b view.whole b_there in
+    let size : 2 ≤ b.size = two_words v view b b_there in
     view.apart b c b.place b_there c_there (omega arith) (omega arith) low high
 
 -- past an object that starts at the next place, where no object starts before it
@@ -53,7 +54,7 @@ place_taken v next x c there at low high = taken_by_body v.bodies x (c, there, o
 pub gap_ends : (v : SeatView) (shape : Shape) (size page next after x : ℕ) (c : Body) → IsView v → Contains v.bodies c → c.place ≡ next
     → after ≡ next + c.size → x < after → IsGap shape (extents_of_bodies v.bodies) size page x → (x + size ≤ next) ⊎ (size ≡ 0)
 gap_ends v shape size page next after x c view there at ends before gap =
-    let least : 2 ≤ c.size = body_size v.count v.bodies c view.whole there in
+    let least : 2 ≤ c.size = two_words v view c there in
     elim (cases_lt 0 size) [
       | inl some ↦ elim (cases_lt x next) [
         | inl low ↦ elim (cases_lt next (x + size)) [
@@ -75,8 +76,8 @@ edge_after_last v place at size edge view starts sizes none over covers is b the
     let c : Body = starts.0 in
     let at_c : c.place ≡ place = starts.2 in
     let size_c : size ≡ c.size = sizes c starts.1 starts.2 in
-    let least : 2 ≤ b.size = body_size v.count v.bodies b view.whole there in
-    let some : 2 ≤ c.size = body_size v.count v.bodies c view.whole starts.1 in
+    let least : 2 ≤ b.size = two_words v view b there in
+    let some : 2 ≤ c.size = two_words v view c starts.1 in
     elim (cases_lt b.place place) [
       | inl earlier ↦ elim (cases_lt place (end_of b)) [
         | inl meets ↦ (let same : c ≡ b = one_in v c b view starts.1 there (omega arith) (omega arith) in omega (arith, ap (λ (d : Body). d.place) same))
@@ -95,7 +96,7 @@ edge_after_last v place at size edge view starts sizes none over covers is b the
 pub edge_of_page : (v : SeatView) (shape : Shape) (page at : ℕ) → IsView v → HoldsWhole shape v.bodies page → page * shape.page_words ≤ at
     → at < (page + 1) * shape.page_words → HasNoStart v.bodies (page * shape.page_words) at → IsEdge v.bodies at
 edge_of_page v shape page at view whole low inside none b there before =
-    let least : 2 ≤ b.size = body_size v.count v.bodies b view.whole there in
+    let least : 2 ≤ b.size = two_words v view b there in
     let start : ℕ = page * shape.page_words in
     elim (cases_lt b.place start) [
       | inl earlier ↦ elim (cases_lt start (end_of b)) [

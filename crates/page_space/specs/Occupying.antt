@@ -2,7 +2,7 @@
 use Rattle.std.specs.Prelude.{◌≡◌, ℕ, ◌+◌, ◌-◌, ◌<◌, ◌≤◌, List, [], ◌∷◌, ◌++◌, replicate, Contains}
 use Rattle.object_headers.specs.Offsets.{first_field}
 use Rattle.page_words.specs.Bodies.{Body, IsInBody}
-use Rattle.page_words.specs.Seat.{SeatView, Filled}
+use Rattle.page_words.specs.Seat.{SeatView, Filled, published}
 
 -- words of the heap from a that belong to no object
 pub record IsRoom (v : SeatView) (size a : ℕ) : Type 0 where
@@ -17,12 +17,13 @@ new_body a ty size serial = record { place = a; ty = ty; size = size; serial = s
 abbrev pub HasNulls : List Filled → ℕ → ℕ → Type 0
 HasNulls filled first count = (i : ℕ) → i < count → Contains filled (record { address = first + i; word = 0 })
 
--- the body joined the others, and marking is as before
+-- the body joined the others, words that were filled in it are no longer filled ones, and marking is as before
 pub record Occupies (old new : SeatView) (b : Body) : Type 0 where
   pub count : new.count ≡ old.count
   pub types : new.types ≡ old.types
   pub on : new.on ≡ old.on
   pub bodies : new.bodies ≡ old.bodies ++ b ∷ []
+  pub filled : new.filled ≡ (published old b).filled
   pub marked : new.marked ≡ old.marked
   pub traced : new.traced ≡ old.traced
   pub dead : new.dead ≡ old.dead

@@ -6,8 +6,9 @@ use Rattle.std.proofs.lemmas.List.{length-set, get_or-set_same, get_or-set_other
 use Rattle.page_words.specs.Bodies.{Body, IsPlace, IsInBody}
 use Rattle.page_words.specs.Seat.{SeatView, Filled, IsView, bitmap_at, stop_at, filled_with}
 use Rattle.page_words.specs.Ties.{Ties}
-use Rattle.page_words.proofs.Members.{head_or_tail, was_in, has_passed}
-use Rattle.page_words.proofs.Places.{whole_body, two_words, later_word_kept}
+use Rattle.gc_graph.specs.Members.{Contains-cons_cases, was_in, has_passed}
+use Rattle.page_words.proofs.Places.{later_word_kept}
+use Rattle.page_words.specs.BodyPlaces.{whole_body, two_words}
 
 outside_kept : (words : List ℕ) (v : SeatView) (a w : ℕ) → (IsInBody v.bodies a → ⊥) → (b : Body) (i : ℕ) → Contains v.bodies b → i < b.size
     → get_or (set words a w) (b.place + i) 0 ≡ get_or words (b.place + i) 0
@@ -15,7 +16,7 @@ outside_kept words v a w outside b i h below = get_or-set_other words a (b.place
 
 filled_cases : (v : SeatView) (a w : ℕ) (f : Filled) → Contains (filled_with v a w).filled f
     → ((a ≡ f.address) × (w ≡ f.word)) ⊎ (Contains v.filled f × (f.address ≡ a → ⊥))
-filled_cases v a w f h = elim (head_or_tail (record { address = a; word = w }) (filter (λ (g : Filled). not (eqb g.address a)) v.filled) f h) [
+filled_cases v a w f h = elim (Contains-cons_cases (record { address = a; word = w }) (filter (λ (g : Filled). not (eqb g.address a)) v.filled) f h) [
   | inl same ↦ inl (ap (λ (g : Filled). g.address) same, ap (λ (g : Filled). g.word) same)
   | inr rest ↦ inr (
     was_in (λ (g : Filled). not (eqb g.address a)) v.filled f rest,

@@ -6,8 +6,9 @@ use Rattle.page_words.specs.Bodies.{Body, IsPlace}
 use Rattle.object_headers.specs.Layout.{header_word}
 use Rattle.page_words.specs.Seat.{SeatView, IsView, holds, without, header_of, marked_at, claimed_at, unmarked_at, is_grey}
 use Rattle.page_words.specs.Ties.{Ties}
-use Rattle.page_words.proofs.Members.{added, added_is_held, others_held_after_addition, pushed_is_held, others_held_after_push, removed_is_not_held, others_held_after_removal, holds_none}
-use Rattle.page_words.proofs.Places.{place_within}
+use Rattle.page_words.proofs.Members.{added, added_is_held, others_held_after_addition, others_held_after_push, holds_none}
+use Rattle.gc_graph.specs.Members.{pushed_is_held, removed_is_not_held, others_held_after_removal}
+use Rattle.page_words.specs.BodyPlaces.{place_below}
 use Rattle.page_words.proofs.Headers.{is_marked_header, is_grey_header}
 use Rattle.page_words.proofs.Remarked.{remarked, ties_remarked}
 
@@ -15,7 +16,7 @@ use Rattle.page_words.proofs.Remarked.{remarked, ties_remarked}
 header_read : (words : List ℕ) (v : SeatView) (a h : ℕ) → Ties words v → IsPlace v.bodies a → h ≡ get_or words a h → (b : Body) → Contains v.bodies b
     → b.place ≡ a → h ≡ header_of v b
 header_read words v a h t at read b hb same =
-    let heap = place_within v t.bodies_lie_apart a at in
+    let heap = place_below v a t.bodies_lie_apart at in
     get_or_read words a h (omega (arith, t.length_is)) read 0 ∙ ap (λ x. get_or words x 0) (sym same) ∙ t.headers_match b hb
 
 -- ---- mark

@@ -10,7 +10,7 @@ use Rattle.type_table.specs.Layouts.{kinds_of_words}
 use Rattle.type_table.specs.FieldLaw.{BeginsAt, FieldsStandApart}
 use Rattle.page_words.specs.Bodies.{Body, IsKeyWord, SuitsItsPair, kind_in, fields_at}
 use Rattle.page_words.specs.Seat.{SeatView, IsView}
-use Rattle.page_words.proofs.Places.{whole_body}
+use Rattle.page_words.specs.BodyPlaces.{whole_body}
 
 is_pair_kind : (kind : Kind) → is_kind Pair kind ≡ true → kind ≡ Pair
 is_pair_kind Pair is = refl

@@ -1,38 +1,10 @@
 -- Which words are whose: bodies lie apart, below the start bits and the stop word.
-use Rattle.std.proofs.Common.{◌≡◌, ℕ, ◌+◌, ◌<◌, ◌≤◌, List, length, get_or, set, ap, ◌∙◌, arith, Contains}
+use Rattle.std.proofs.Common.{◌≡◌, ℕ, ◌+◌, ◌<◌, ◌≤◌, List, length, get_or, set, ◌∙◌, arith, Contains}
 use Rattle.std.proofs.lemmas.List.{get_or-set_other}
-use Rattle.std.proofs.lemmas.List.Elements.{All-contains}
-use Rattle.page_words.specs.Bodies.{Body, IsWhole, IsPlace}
-use Rattle.page_words.specs.Seat.{SeatView, Filled, IsView, header_of, bitmap_at, stop_at}
+use Rattle.page_words.specs.Bodies.{Body}
+use Rattle.page_words.specs.Seat.{SeatView, Filled, header_of, bitmap_at, stop_at}
 use Rattle.page_words.specs.Ties.{Ties, IsCount}
-
-pub whole_body : (v : SeatView) → IsView v → (b : Body) → Contains v.bodies b → IsWhole v.count b
-whole_body v is b h = All-contains (IsWhole v.count) v.bodies b is.whole h
-
--- a header and a serial number
-pub two_words : (v : SeatView) → IsView v → (b : Body) → Contains v.bodies b → 2 ≤ b.size
-two_words v is b h = let whole = whole_body v is b h in omega arith
-
-pub within_heap : (v : SeatView) → IsView v → (b : Body) → Contains v.bodies b → b.place + b.size ≤ v.count
-within_heap v is b h = (whole_body v is b h).inside
-
--- bodies that share a word are one
-pub same_body : (v : SeatView) → IsView v → (b c : Body) → Contains v.bodies b → Contains v.bodies c → (m n : ℕ) → m < b.size → n < c.size
-    → b.place + m ≡ c.place + n → b ≡ c
-same_body v is b c hb hc m n lm ln e = is.apart b c (b.place + m) hb hc (omega arith) (omega arith) (omega arith) (omega arith)
-
--- and it is the same word of each
-pub same_offset : (v : SeatView) → IsView v → (b c : Body) → Contains v.bodies b → Contains v.bodies c → (m n : ℕ) → m < b.size → n < c.size
-    → b.place + m ≡ c.place + n → m ≡ n
-same_offset v is b c hb hc m n lm ln e =
-    let place : b.place ≡ c.place = ap (λ (x : Body). x.place) (same_body v is b c hb hc m n lm ln e) in
-    omega arith
-
-pub place_within : (v : SeatView) → IsView v → (a : ℕ) → IsPlace v.bodies a → a < v.count
-place_within v is a at =
-    let two = two_words v is at.0 at.1 in
-    let inside = within_heap v is at.0 at.1 in
-    omega (arith, at.2)
+use Rattle.page_words.specs.BodyPlaces.{whole_body, two_words, within_heap}
 
 -- the start bits lie between the heap's words and the stop word
 pub bitmap_below_stop : (count a : ℕ) → IsCount count → a < count → bitmap_at count a < stop_at count

@@ -4,8 +4,8 @@ use Rattle.std.proofs.lemmas.Bool.{and_from, both_ways, false_from_ne_true, not-
 use Rattle.std.proofs.lemmas.List.Elements.{All-push, Contains-append_left, Contains-push_cases}
 use Rattle.page_words.specs.Bodies.{Body, end_of, IsPlace, IsInBody, IsWhole}
 use Rattle.page_words.specs.Seat.{SeatView, Filled, IsView, IsReady, holds, published}
-use Rattle.page_words.proofs.Members.{was_in, has_passed}
-use Rattle.page_words.proofs.Places.{two_words}
+use Rattle.gc_graph.specs.Members.{was_in, has_passed}
+use Rattle.page_words.specs.BodyPlaces.{two_words}
 
 abbrev is_in : Body → ℕ → Bool
 is_in b a = leb b.place a && ltb a (end_of b)

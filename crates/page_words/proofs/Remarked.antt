@@ -7,7 +7,8 @@ use Rattle.page_words.specs.Bodies.{Body, IsPlace}
 use Rattle.object_headers.specs.Layout.{header_word}
 use Rattle.page_words.specs.Seat.{SeatView, IsView, holds, header_of, bitmap_at, stop_at}
 use Rattle.page_words.specs.Ties.{Ties}
-use Rattle.page_words.proofs.Places.{whole_body, two_words, same_offset, place_within, later_word_kept}
+use Rattle.page_words.proofs.Places.{later_word_kept}
+use Rattle.page_words.specs.BodyPlaces.{whole_body, two_words, same_offset, place_below}
 
 -- the view with other marks
 abbrev pub remarked : SeatView → List ℕ → List ℕ → SeatView
@@ -25,7 +26,7 @@ headers_after : (words : List ℕ) (v : SeatView) (marked traced : List ℕ) (a 
     → Contains v.bodies b → get_or (set words a w) b.place 0 ≡ header_of (remarked v marked traced) b
 headers_after words v marked traced a w t r b h = elim (cases_eq b.place a) [
   | inl same ↦
-      (let heap = place_within v t.bodies_lie_apart a r.place in
+      (let heap = place_below v a t.bodies_lie_apart r.place in
       let within : a < length words = omega (arith, t.length_is) in
       ap (λ x. get_or (set words a w) x 0) same ∙ get_or-set_same words a w 0 within ∙ r.header b h same)
   | inr other ↦
@@ -55,7 +56,7 @@ pub ties_remarked : (words : List ℕ) (v : SeatView) (marked traced : List ℕ)
     → Ties (set words a w) (remarked v marked traced)
 ties_remarked words v marked traced a w t r =
     let is = t.bodies_lie_apart in
-    let heap : a < v.count = place_within v is a r.place in
+    let heap : a < v.count = place_below v a is r.place in
     record {
       count = t.count;
       length_is = length-set words a w ∙ t.length_is;

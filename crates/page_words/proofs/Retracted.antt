@@ -8,8 +8,9 @@ use Rattle.std.proofs.lemmas.List.Elements.{All-filter}
 use Rattle.page_words.specs.Bodies.{Body, IsPlace, IsWhole}
 use Rattle.page_words.specs.Seat.{SeatView, IsView, holds, without, bitmap_at, stop_at, retracted}
 use Rattle.page_words.specs.Ties.{Ties}
-use Rattle.page_words.proofs.Members.{was_in, has_passed, stays_in, removed_is_not_held, others_held_after_removal}
-use Rattle.page_words.proofs.Places.{place_within, bitmap_below_stop, later_word_kept, heap_matches}
+use Rattle.gc_graph.specs.Members.{was_in, has_passed, stays_in, removed_is_not_held, others_held_after_removal}
+use Rattle.page_words.proofs.Places.{bitmap_below_stop, later_word_kept, heap_matches}
+use Rattle.page_words.specs.BodyPlaces.{place_below}
 use Rattle.page_words.proofs.Bits.{without_bit, bit_is_cleared, others_kept_by_clear, other_start_kept}
 
 abbrev is_elsewhere : ℕ → Body → Bool
@@ -78,7 +79,7 @@ retracted_at : (words : List ℕ) (v : SeatView) (a h : ℕ) → Ties words v �
 retracted_at words v a h t dead read =
     let is = t.bodies_lie_apart in
     let was = is.dead_are_unmarked a dead in
-    let heap : a < v.count = place_within v is a was.0 in
+    let heap : a < v.count = place_below v a is was.0 in
     let at = bitmap_at v.count a in
     let w = without_bit h (a % 64) in
     let stop = bitmap_below_stop v.count a t.count heap in

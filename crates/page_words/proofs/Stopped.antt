@@ -7,14 +7,14 @@ use Rattle.page_words.specs.Bodies.{Body, IsPlace}
 use Rattle.object_headers.specs.Layout.{bit_of}
 use Rattle.page_words.specs.Seat.{SeatView, IsView, MaySetStop, holds, bitmap_at, stop_at, begun, ended, stop_set, unmarked_places}
 use Rattle.page_words.specs.Ties.{Ties}
-use Rattle.page_words.proofs.Members.{in_from_holds, was_in, has_passed, comes_from}
+use Rattle.gc_graph.specs.Members.{in_from_holds, was_in, has_passed, Contains-map_some}
 use Rattle.page_words.proofs.Places.{bitmap_below_stop, earlier_word_kept, heap_matches}
 
 unmarked_place : (v : SeatView) (x : ℕ) → holds (unmarked_places v) x ≡ true → IsPlace v.bodies x × (holds v.marked x ≡ false)
 unmarked_place v x held =
     let places : List ℕ = map (λ (b : Body). b.place) v.bodies in
     let there = in_from_holds (unmarked_places v) x held in (
-      comes_from (λ (b : Body). b.place) v.bodies x (was_in (λ a. not (holds v.marked a)) places x there),
+      Contains-map_some (λ (b : Body). b.place) v.bodies x (was_in (λ a. not (holds v.marked a)) places x there),
       not-true (holds v.marked x) (has_passed (λ a. not (holds v.marked a)) places x there),
     )
 

@@ -1,49 +1,35 @@
 -- Storing a field word keeps words and view together.
-use Rattle.std.proofs.Common.{◌≡◌, ℕ, ◌+◌, ◌-◌, ◌/◌, ◌%◌, ◌<◌, ◌≤◌, ◌^◌, List, length, get_or, set, Bool, true, false, ◌&&◌, leb, ltb, refl, sym, ap, ◌∙◌, subst, inl, inr, arith, Contains}
+use Rattle.std.proofs.Common.{◌≡◌, ℕ, ◌+◌, ◌-◌, ◌/◌, ◌%◌, ◌<◌, ◌≤◌, ◌^◌, List, length, get_or, set, true, false, leb, ltb, sym, ap, ◌∙◌, subst, inl, inr, arith, Contains}
 use mathlib.Core.Logic.{◌↔◌}
-use Rattle.std.proofs.lemmas.Bool.{cases_eq, cond_both, and_parts, and_from, both_ways, leb-true, ltb-true, le-leb, lt-ltb}
+use Rattle.std.proofs.lemmas.Bool.{cases_eq, and_parts, and_from, both_ways, leb-true, ltb-true, le-leb, lt-ltb}
 use Rattle.std.proofs.lemmas.List.{length-set, get_or-set_same, get_or-set_other}
 use Rattle.std.proofs.lemmas.List.Elements.{All-map, All-weaker}
 use Rattle.page_words.specs.Bodies.{Body, end_of, IsPlace, IsInBody, IsFieldWord, IsWhole, with_word}
 use Rattle.page_words.specs.Seat.{SeatView, IsView, header_of, bitmap_at, stop_at, stored}
 use Rattle.page_words.specs.Ties.{Ties}
-use Rattle.page_words.proofs.Members.{comes_from, goes_to}
-use Rattle.page_words.proofs.Places.{whole_body, two_words, within_heap, same_offset, later_word_kept}
-
--- a is the address of a field word of the body
-abbrev has_word : ℕ → Body → Bool
-has_word a b = leb (b.place + 2) a && ltb a (end_of b)
-
-abbrev rewritten : ℕ → ℕ → Body → Body
-rewritten a w b = record b { fields = set b.fields (a - (b.place + 2)) w }
-
-by_word : (P : Body → Type 0) (a w : ℕ) (b : Body) → (has_word a b ≡ true → P (rewritten a w b)) → (has_word a b ≡ false → P b) → P (with_word a w b)
-by_word P a w b on off = cond_both (has_word a b) (rewritten a w b) b P on off
-
-same_place : (a w : ℕ) (b : Body) → (with_word a w b).place ≡ b.place
-same_place a w b = by_word (λ c. c.place ≡ b.place) a w b (λ _. refl) (λ _. refl)
-
-same_size : (a w : ℕ) (b : Body) → (with_word a w b).size ≡ b.size
-same_size a w b = by_word (λ c. c.size ≡ b.size) a w b (λ _. refl) (λ _. refl)
+use Rattle.gc_graph.specs.Members.{Contains-map_some, Contains-map}
+use Rattle.page_words.proofs.Places.{later_word_kept}
+use Rattle.page_words.specs.BodyPlaces.{whole_body, two_words, within_heap, same_offset}
+use Rattle.page_words.specs.WrittenBodies.{has_word, rewritten, by_word, same_place, same_size}
 
 -- what is true of each body after the write
 each_after : (P : Body → Type 0) (v : SeatView) (a w : ℕ) → ((b : Body) → Contains v.bodies b → P (with_word a w b)) → (c : Body)
     → Contains (stored v a w).bodies c → P c
 each_after P v a w each c h =
-    let from = comes_from (with_word a w) v.bodies c h in
+    let from = Contains-map_some (with_word a w) v.bodies c h in
     subst P from.2 (each from.0 from.1)
 
 place_stays : (v : SeatView) (a w x : ℕ) → IsPlace v.bodies x → IsPlace (stored v a w).bodies x
-place_stays v a w x at = (with_word a w at.0, goes_to (with_word a w) v.bodies at.0 at.1, same_place a w at.0 ∙ at.2)
+place_stays v a w x at = (with_word a w at.0, Contains-map (with_word a w) v.bodies at.0 at.1, same_place a w at.0 ∙ at.2)
 
 place_was : (v : SeatView) (a w x : ℕ) → IsPlace (stored v a w).bodies x → IsPlace v.bodies x
 place_was v a w x at =
-    let from = comes_from (with_word a w) v.bodies at.0 at.1 in
+    let from = Contains-map_some (with_word a w) v.bodies at.0 at.1 in
     (from.0, from.1, sym (same_place a w from.0) ∙ ap (λ (c : Body). c.place) from.2 ∙ at.2)
 
 in_body_was : (v : SeatView) (a w x : ℕ) → IsInBody (stored v a w).bodies x → IsInBody v.bodies x
 in_body_was v a w x inside =
-    let from = comes_from (with_word a w) v.bodies inside.0 inside.1 in
+    let from = Contains-map_some (with_word a w) v.bodies inside.0 inside.1 in
     let place : from.0.place ≡ inside.0.place = sym (same_place a w from.0) ∙ ap (λ (c : Body). c.place) from.2 in
     let size : from.0.size ≡ inside.0.size = sym (same_size a w from.0) ∙ ap (λ (c : Body). c.size) from.2 in
     (from.0, from.1, omega (arith, inside.2), omega (arith, inside.3))
@@ -62,8 +48,8 @@ whole_after count a w b whole =
 apart_after : (v : SeatView) (a w : ℕ) → IsView v → (b c : Body) (x : ℕ) → Contains (stored v a w).bodies b → Contains (stored v a w).bodies c
     → b.place ≤ x → x < end_of b → c.place ≤ x → x < end_of c → b ≡ c
 apart_after v a w is b c x hb hc b_low b_high c_low c_high =
-    let of_b = comes_from (with_word a w) v.bodies b hb in
-    let of_c = comes_from (with_word a w) v.bodies c hc in
+    let of_b = Contains-map_some (with_word a w) v.bodies b hb in
+    let of_c = Contains-map_some (with_word a w) v.bodies c hc in
     let b_place : of_b.0.place ≡ b.place = sym (same_place a w of_b.0) ∙ ap (λ (d : Body). d.place) of_b.2 in
     let b_size : of_b.0.size ≡ b.size = sym (same_size a w of_b.0) ∙ ap (λ (d : Body). d.size) of_b.2 in
     let c_place : of_c.0.place ≡ c.place = sym (same_place a w of_c.0) ∙ ap (λ (d : Body). d.place) of_c.2 in

@@ -4,7 +4,7 @@ use Rattle.std.proofs.lemmas.Bool.{true≢false}
 use Rattle.gc_graph.specs.Fields.{is_plain}
 use Rattle.page_words.specs.Bodies.{Body, IsReference, MayHold, fields_at, is_reference_word}
 use Rattle.page_words.specs.Seat.{SeatView, IsView}
-use Rattle.page_words.proofs.Places.{whole_body}
+use Rattle.page_words.specs.BodyPlaces.{whole_body}
 use Rattle.type_table.specs.FieldLaw.{FieldsStandApart}
 use Rattle.page_words.proofs.Pairs.{suits_other}
 

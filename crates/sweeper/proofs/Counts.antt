@@ -3,7 +3,8 @@ use Rattle.std.proofs.Common.{◌≡◌, ℕ, ◌+◌, ◌*◌, ◌≤◌, Bool,
 use Rattle.std.specs.List.{filter, Contains, count_by, sum_by}
 use Rattle.std.proofs.lemmas.Bool.{cond-true, cond-false, cases_Bool}
 use Rattle.std.proofs.lemmas.List.Sums.{sum_by-cons}
-use Rattle.sweeper.proofs.Filters.{contains_first, contains_later, contains_cases, filter_all}
+use Rattle.sweeper.proofs.Filters.{filter_all}
+use Rattle.gc_graph.specs.Members.{Contains-head, Contains-cons, Contains-cons_cases}
 
 abbrev one : Bool → ℕ
 one t = cond t 1 0
@@ -42,7 +43,7 @@ module _ {X : Type 0} where
   pub count_less : (p q : X → Bool) (keep : X → Bool) (xs : List X) (b : X) → ((x : X) → keep x ≡ true → q x ≡ true → p x ≡ true)
       → Contains xs b → p b ≡ true → keep b ≡ false → 1 + count_by q (filter keep xs) ≤ count_by p xs
   count_less p q keep [] b less there passed dropped = absurd (omega (arith, there.1))
-  count_less p q keep (x ∷ xs) b less there passed dropped = elim (contains_cases x xs b there) [
+  count_less p q keep (x ∷ xs) b less there passed dropped = elim (Contains-cons_cases x xs b there) [
     | inl here ↦
         omega (
           arith,
@@ -56,7 +57,7 @@ module _ {X : Type 0} where
 
   pub count_some : (p : X → Bool) (xs : List X) (b : X) → Contains xs b → p b ≡ true → 1 ≤ count_by p xs
   count_some p [] b there passed = absurd (omega (arith, there.1))
-  count_some p (x ∷ xs) b there passed = elim (contains_cases x xs b there) [
+  count_some p (x ∷ xs) b there passed = elim (Contains-cons_cases x xs b there) [
     | inl here ↦ omega (arith, count_cons p x xs, one_is (p x) (ap p here ∙ passed))
     | inr later ↦ omega (arith, count_cons p x xs, count_some p xs b later passed)
   ]
@@ -72,6 +73,6 @@ module _ {X Y : Type 0} where
       → 2 * count_by p xs ≤ sum_by worth (map f xs)
   count_half p f worth [] least = omega arith
   count_half p f worth (x ∷ xs) least =
-      let rest : 2 * count_by p xs ≤ sum_by worth (map f xs) = count_half p f worth xs (λ y there. least y (contains_later (f x) (map f xs) y there)) in
+      let rest : 2 * count_by p xs ≤ sum_by worth (map f xs) = count_half p f worth xs (λ y there. least y (Contains-cons (f x) (map f xs) y there)) in
       let head : one (p x) ≤ 1 = elim (cases_Bool (p x)) [ inl is ↦ omega (arith, one_is (p x) is) | inr isnt ↦ omega (arith, one_isnt (p x) isnt) ] in
-      omega (arith, rest, head, least (f x) (contains_first (f x) (map f xs)), count_cons p x xs, sum_by-cons worth (f x) (map f xs))
+      omega (arith, rest, head, least (f x) (Contains-head (f x) (map f xs)), count_cons p x xs, sum_by-cons worth (f x) (map f xs))

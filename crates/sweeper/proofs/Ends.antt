@@ -1,10 +1,9 @@
 -- What is true where all is swept, and how many dead there can be.
 use Rattle.std.proofs.Common.{◌≡◌, ℕ, ◌*◌, ◌<◌, ◌≤◌, true, false, not, ◌&&◌, List, [], ◌∷◌, refl, sym, ap, ◌∙◌, inl, inr, arith, eqb, leb}
-use Rattle.std.specs.List.{Contains, filter}
+use Rattle.std.specs.List.{filter}
 use Rattle.std.proofs.lemmas.Bool.{true≢false, cases_lt, and_right, or_left, eq-eqb}
-use Rattle.std.proofs.lemmas.List.Elements.{All-contains}
 use Rattle.gc_graph.specs.Placement.{Extent}
-use Rattle.page_words.specs.Bodies.{Body, IsPlace, IsWhole}
+use Rattle.page_words.specs.Bodies.{Body, IsPlace}
 use Rattle.page_words.specs.Seat.{SeatView, IsView, IsQuiet, holds}
 use Rattle.page_space.specs.Pages.{word_count, is_between}
 use Rattle.page_space.specs.Space.{SpaceView, IsSpaceOf, extent_of}
@@ -13,14 +12,7 @@ use Rattle.sweeper.proofs.Filters.{filter_same}
 use Rattle.sweeper.proofs.Places.{between, outside_none}
 use Rattle.sweeper.proofs.Sweeping.{changed_same, unmarked_without_body, undead_without_body, untraced_if_unmarked}
 use Rattle.sweeper.proofs.Counts.{count_half}
-
-body_below : (v : SeatView) (b : Body) → IsView v → Contains v.bodies b → b.place < v.count
-body_below v b view there =
-    let whole : IsWhole v.count b = All-contains (IsWhole v.count) v.bodies b view.whole there in
-    omega (arith, whole.inside, whole.fields)
-
-place_below : (v : SeatView) (a : ℕ) → IsView v → IsPlace v.bodies a → a < v.count
-place_below v a view at = omega (arith, body_below v at.0 view at.1, at.2)
+use Rattle.page_words.specs.BodyPlaces.{body_below, place_below}
 
 no_place_behind : (v : SeatView) (a : ℕ) → IsView v → v.count ≤ a → IsPlace v.bodies a → ⊥
 no_place_behind v a view high at = omega (arith, place_below v a view at)

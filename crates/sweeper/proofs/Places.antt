@@ -1,12 +1,12 @@
 -- Lists of places without those between two addresses.
-use Rattle.std.proofs.Common.{◌≡◌, ℕ, ◌+◌, ◌<◌, ◌≤◌, Bool, true, false, not, ◌&&◌, ◌||◌, List, [], ◌∷◌, refl, sym, ap, ◌∙◌, inl, inr, arith, eqb}
-use Rattle.std.specs.List.{filter}
+use Rattle.std.proofs.Common.{◌≡◌, ℕ, ◌+◌, ◌<◌, ◌≤◌, true, false, not, ◌&&◌, List, [], ◌∷◌, refl, sym, ap, ◌∙◌, inl, inr, arith, eqb}
 use Rattle.std.proofs.lemmas.Bool.{true≢false, cond-true, cond-false, cases_Bool, cases_eq, cases_lt, and_left, and_right, and_from, and_parts, le-leb, lt-leb, lt-ltb, le-ltb, leb-true, ltb-true, eq-eqb, ne_eqb, or_left, or_right, or_parts, not_from_true, not_from_false}
 use Rattle.std.proofs.lemmas.List.Elements.{filter_agree}
 use Rattle.page_words.specs.Seat.{holds, without}
 use Rattle.page_space.specs.Pages.{is_between}
 use Rattle.sweeper.specs.Sweeping.{outside}
 use Rattle.sweeper.proofs.Filters.{filter_filter}
+use Rattle.sweeper.specs.OutsidePlaces.{outside_holds}
 
 pub between : (from until a : ℕ) → from ≤ a → a < until → is_between from until a ≡ true
 between from until a first last = and_from _ _ (le-leb from a first) (lt-ltb a until last)
@@ -48,30 +48,6 @@ pub outside_on : (from mid until : ℕ) (places : List ℕ) → from ≤ mid →
 outside_on from mid until places early late =
     filter_filter (λ a. not (is_between mid until a)) (λ a. not (is_between from mid a)) places
     ∙ filter_agree _ (λ a. not (is_between from until a)) (λ a. outside_both from mid until a early late) places
-
--- which places are held
-pub filter_holds : (p : ℕ → Bool) (places : List ℕ) (a : ℕ) → holds (filter p places) a ≡ (p a && holds places a)
-filter_holds p [] a = sym (and_right (p a) false refl)
-filter_holds p (q ∷ places) a = elim (cases_Bool (p q)) [
-  | inl kept ↦
-      ap (λ l. holds l a) (cond-true (p q) (q ∷ filter p places) (filter p places) kept)
-      ∙ ap (λ t. eqb q a || t) (filter_holds p places a)
-      ∙ elim (cases_eq q a) [
-        | inl here ↦ or_left _ _ (eq-eqb q a here) ∙ sym (and_from _ _ (ap p (sym here) ∙ kept) (or_left _ _ (eq-eqb q a here)))
-        | inr other ↦
-            ap (λ t. t || (p a && holds places a)) (ne_eqb q a other) ∙ ap (λ t. p a && (t || holds places a)) (sym (ne_eqb q a other))
-      ]
-  | inr dropped ↦
-      ap (λ l. holds l a) (cond-false (p q) (q ∷ filter p places) (filter p places) dropped)
-      ∙ filter_holds p places a
-      ∙ elim (cases_eq q a) [
-        | inl here ↦ and_left _ _ (ap p (sym here) ∙ dropped) ∙ sym (and_left _ _ (ap p (sym here) ∙ dropped))
-        | inr other ↦ ap (λ t. p a && (t || holds places a)) (sym (ne_eqb q a other))
-      ]
-]
-
-outside_holds : (from until : ℕ) (places : List ℕ) (a : ℕ) → holds (outside from until places) a ≡ (not (is_between from until a) && holds places a)
-outside_holds from until places a = filter_holds (λ x. not (is_between from until x)) places a
 
 pub outside_behind : (from until : ℕ) (places : List ℕ) (a : ℕ) → until ≤ a → holds (outside from until places) a ≡ holds places a
 outside_behind from until places a high = outside_holds from until places a ∙ ap (λ t. not t && holds places a) (behind from until a high)

@@ -8,7 +8,7 @@ use Rattle.page_words.specs.Bodies.{Body}
 use Rattle.page_words.specs.Seat.{SeatView, holds}
 use Rattle.page_space.specs.Space.{HasNoStart}
 use Rattle.sweeper.specs.Sweeping.{swept_in, is_dead_in, IsDeadIn, AreDeadSerials, no_body}
-use Rattle.sweeper.proofs.Filters.{contains_first, filtered_was_there, filtered_is_there}
+use Rattle.gc_graph.specs.Members.{Contains-head, was_in, stays_in}
 use Rattle.sweeper.proofs.Places.{behind, outside_behind}
 
 abbrev serial_of : Body → ℕ
@@ -48,14 +48,14 @@ serials_one a v b there at gone alone = record {
     first = omega arith;
     last = omega arith;
   }) (All-nil (IsDeadIn a (a + 1) v));
-  whole = λ c is. subst (λ x. Contains (b ∷ []) x) (alone c is.there (omega (arith, is.first, is.last))) (contains_first b []);
+  whole = λ c is. subst (λ x. Contains (b ∷ []) x) (alone c is.there (omega (arith, is.first, is.last))) (Contains-head b []);
   ascending = λ i j before low. absurd (omega arith);
 }
 
 -- a dead body that the second part tells was there at first
 was_dead : (from mid until : ℕ) (v : SeatView) (b : Body) → from ≤ mid → IsDeadIn mid until (swept_in from mid v) b → IsDeadIn from until v b
 was_dead from mid until v b early is = record {
-  there = filtered_was_there (λ c. not (is_dead_in from mid v c)) v.bodies b is.there;
+  there = was_in (λ c. not (is_dead_in from mid v c)) v.bodies b is.there;
   dead = sym (outside_behind from mid v.dead b.place is.first) ∙ is.dead;
   first = omega (arith, is.first);
   last = is.last;
@@ -65,8 +65,8 @@ was_dead from mid until v b early is = record {
 is_still_dead : (from mid until : ℕ) (v : SeatView) (b : Body) → mid ≤ b.place → IsDeadIn from until v b → IsDeadIn mid until (swept_in from mid v) b
 is_still_dead from mid until v b late is = record {
   there =
-      filtered_is_there (λ c. not (is_dead_in from mid v c)) v.bodies b
-      (ap not (and_left _ (holds v.dead b.place) (behind from mid b.place late))) is.there;
+      stays_in (λ c. not (is_dead_in from mid v c)) v.bodies b is.there
+      (ap not (and_left _ (holds v.dead b.place) (behind from mid b.place late)));
   dead = outside_behind from mid v.dead b.place late ∙ is.dead;
   first = late;
   last = is.last;

@@ -3,16 +3,18 @@ use Rattle.std.proofs.Common.{◌≡◌, ℕ, ◌+◌, ◌<◌, ◌≤◌, Bool,
 use Rattle.std.specs.List.{All, Contains, filter}
 use Rattle.std.proofs.lemmas.Bool.{true≢false, cases_eq, cases_lt, and_left, and_right, and_from, and_parts, false_from_ne_true, eq-eqb, ne_eqb, leb-true, le-leb}
 use Rattle.std.proofs.lemmas.List.{length_push}
-use Rattle.std.proofs.lemmas.List.Elements.{All-contains, All-filter, filter_agree}
-use Rattle.page_words.specs.Bodies.{Body, IsPlace, IsWhole}
+use Rattle.std.proofs.lemmas.List.Elements.{All-filter, filter_agree}
+use Rattle.page_words.specs.Bodies.{Body, IsPlace}
 use Rattle.page_words.specs.Seat.{SeatView, IsView, holds, without, unmarked_at, retracted}
 use Rattle.page_space.specs.Pages.{is_between}
 use Rattle.page_space.specs.Space.{HasNoStart}
 use Rattle.sweeper.specs.Sweeping.{IsJudgedFrom, IsClearBelow, outside, is_dead_in, swept_in, AreDeadSerials, Sweeps, dead_from}
-use Rattle.sweeper.proofs.Filters.{filter_filter, filter_all, filtered_was_there}
+use Rattle.sweeper.proofs.Filters.{filter_filter, filter_all}
+use Rattle.gc_graph.specs.Members.{was_in}
 use Rattle.sweeper.proofs.Places.{between, before, behind, is_first, is_last, outside_on, outside_all, outside_one, outside_behind, outside_before, outside_between, only}
 use Rattle.sweeper.proofs.Serials.{serials_none, serials_kept, serials_one, serials_on}
 use Rattle.sweeper.proofs.Counts.{count_less, count_fewer, count_some}
+use Rattle.page_words.specs.BodyPlaces.{two_words, same_body}
 
 -- ---- what holds at no body's place holds nowhere
 
@@ -28,17 +30,6 @@ untraced_if_unmarked v x view unmarked =
 
 pub undead_if_marked : (v : SeatView) (x : ℕ) → IsView v → holds v.marked x ≡ true → holds v.dead x ≡ false
 undead_if_marked v x view marked = false_from_ne_true (holds v.dead x) (λ dead. true≢false (sym marked ∙ (view.dead_are_unmarked x dead).1))
-
-body_size : (v : SeatView) (b : Body) → IsView v → Contains v.bodies b → 2 ≤ b.size
-body_size v b view there =
-    let whole : IsWhole v.count b = All-contains (IsWhole v.count) v.bodies b view.whole there in
-    omega (arith, whole.fields)
-
--- one body alone has the place
-same_body : (v : SeatView) (b c : Body) → IsView v → Contains v.bodies b → Contains v.bodies c → b.place ≡ c.place → b ≡ c
-same_body v b c view b_there c_there same =
-    view.apart b c b.place b_there c_there (omega arith) (omega (arith, body_size v b view b_there)) (omega (arith, same))
-    (omega (arith, same, body_size v c view c_there))
 
 -- ---- views that differ in nothing
 
@@ -205,7 +196,7 @@ judged_on from mid v now early swept judged =
     subst (IsJudgedFrom mid) (sym swept)
     (λ b there high.
     outside_behind from mid v.dead b.place high
-    ∙ judged b (filtered_was_there (λ c. not (is_dead_in from mid v c)) v.bodies b there) (omega arith)
+    ∙ judged b (was_in (λ c. not (is_dead_in from mid v c)) v.bodies b there) (omega arith)
     ∙ ap not (sym (outside_behind from mid v.marked b.place high)))
 
 cleared : (from mid : ℕ) (places : List ℕ) → ((a : ℕ) → a < from → holds places a ≡ false) → (a : ℕ) → a < mid → holds (outside from mid places) a ≡ false
@@ -229,11 +220,11 @@ pub start_stays : (from mid low high : ℕ) (v now : SeatView) → now ≡ swept
 start_stays from mid low high v now swept none =
     subst (λ (w : SeatView). HasNoStart w.bodies low high) (sym swept)
     (λ a first last start.
-    none a first last (start.0, filtered_was_there (λ c. not (is_dead_in from mid v c)) v.bodies start.0 start.1, start.2))
+    none a first last (start.0, was_in (λ c. not (is_dead_in from mid v c)) v.bodies start.0 start.1, start.2))
 
 -- no other object starts within the words of a body
 pub alone : (v : SeatView) (b : Body) (a size : ℕ) → IsView v → Contains v.bodies b → b.place ≡ a → size ≡ b.size → HasNoStart v.bodies (a + 1) (a + size)
 alone v b a size view there at is x first last start =
     let same : b ≡ start.0 = view.apart b start.0 x there start.1 (omega arith) (omega arith) (omega (arith, start.2))
-    (omega (arith, start.2, body_size v start.0 view start.1)) in
+    (omega (arith, start.2, two_words v view start.0 start.1)) in
     omega (arith, ap (λ (c : Body). c.place) same, start.2)

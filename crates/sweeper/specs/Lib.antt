@@ -1,1 +1,3 @@
 pub mod Sweeping
+-- Lemmas that the crates above cite too, since a crate's proofs/ can't be cited from another.
+pub mod OutsidePlaces

@@ -3,21 +3,19 @@ use Rattle.std.proofs.Common.{◌≡◌, ℕ, ◌+◌, ◌-◌, ◌<◌, ◌≤�
 use Rattle.std.specs.List.{flat_map}
 use Rattle.std.proofs.lemmas.Bool.{cases_lt}
 use Rattle.std.proofs.lemmas.List.{get_or_past, take_all, get_or-replicate, length-replicate}
-use Rattle.std.proofs.lemmas.List.Concat.{length-flat_map, get_or-flat_map}
+use Rattle.std.proofs.lemmas.List.Concat.{get_or-flat_map}
 use Rattle.gc_graph.specs.declared.kind.Kind.{Kind}
 use Rattle.gc_graph.specs.declared.kind.Kind.TheVariants.{Plain}
 use Rattle.gc_graph.specs.Fields.{words_of_kind, field_words}
 use Rattle.type_table.specs.Types.{kind_of, offset_of, IsWordOf}
 use Rattle.type_table.specs.Layouts.{kinds_of_words}
-
-many_words : (kinds : List Kind) → length (kinds_of_words kinds) ≡ field_words kinds
-many_words kinds = length-flat_map (λ kind. replicate (words_of_kind kind) kind) kinds ∙ simp length-replicate
+use Rattle.type_table.specs.KindLaws.{length-kinds_of_words}
 
 declared : (kinds : List Kind) (field word : ℕ) → field < length kinds → IsWordOf kinds field word
     → get_or (kinds_of_words kinds) (word - 2) Plain ≡ kind_of kinds field
 declared kinds field word low is =
     let f : Kind → List Kind = λ kind. replicate (words_of_kind kind) kind in
-    let before = many_words (take field kinds) in
+    let before = length-kinds_of_words (take field kinds) in
     let j : ℕ = word - offset_of kinds field in
     let inside : j < words_of_kind (kind_of kinds field) = omega (arith, is.first, is.last) in
     let at : word - 2 ≡ length (flat_map f (take field kinds)) + j = omega (arith, is.first, before) in
@@ -30,7 +28,7 @@ extra : (kinds : List Kind) (field word : ℕ) → length kinds ≤ field → Is
 extra kinds field word past is =
     let all : take field kinds ≡ kinds = take_all field kinds past in
     let words : field_words (take field kinds) ≡ field_words kinds = ap field_words all in
-    get_or_past (kinds_of_words kinds) (word - 2) Plain (omega (arith, many_words kinds, words, is.first))
+    get_or_past (kinds_of_words kinds) (word - 2) Plain (omega (arith, length-kinds_of_words kinds, words, is.first))
     ∙ sym (get_or_past kinds field Plain past)
 
 pub kind_at : (kinds : List Kind) (field word : ℕ) → IsWordOf kinds field word → get_or (kinds_of_words kinds) (word - 2) Plain ≡ kind_of kinds field

@@ -1,7 +1,6 @@
 -- The words of the handles at the told offsets are those that clearing changes.
 use Rattle.std.proofs.Common.{◌≡◌, ℕ, zero, suc, ◌+◌, ◌-◌, ◌<◌, ◌≤◌, Bool, true, false, cond, List, [], ◌∷◌, ◌++◌, length, get_or, set, take, map, refl, sym, ap, ◌∙◌, subst, arith}
 use Rattle.std.specs.List.{filter, range_with_len}
-use Rattle.std.proofs.lemmas.Bool.{true≢false}
 use Rattle.std.proofs.lemmas.List.{length-append}
 use Rattle.std.proofs.Math.Seq.{take-append_seam}
 use Rattle.std.proofs.lemmas.List.Sums.{sum_by-cons, sum_by-append}
@@ -15,6 +14,7 @@ use Rattle.weak_clearing.specs.declared.weak_handles.WeakHandles.TheVariants.{Fi
 use Rattle.weak_clearing.specs.Clearing.{names_unmarked, clear_words, clear_pair_words}
 use Rattle.weak_clearing.specs.Steps.{kind_of_handles, cleared_at, clear_words_of}
 use Rattle.weak_clearing.proofs.Lists.{at_seam, set_seam, append_one, length_push}
+use Rattle.type_table.specs.KindLaws.{same_kind}
 
 -- ---- handles cleared one after the other
 
@@ -201,13 +201,6 @@ pub record BeginsField (wanted : Kind) (first : ℕ) (kinds : List Kind) (offset
   pub at : offset ≡ first + index
   pub low : index + words_of_kind wanted ≤ field_words kinds
   pub kind : get_or (kinds_of_words kinds) index Plain ≡ wanted
-
-same_kind : (wanted kind : Kind) → is_kind wanted kind ≡ true → kind ≡ wanted
-same_kind Strong Strong is = refl
-same_kind Weak Weak is = refl
-same_kind Pair Pair is = refl
-same_kind Plain Plain is = refl
-same_kind wanted kind is = absurd (true≢false (sym is))
 
 kind_first : (kind : Kind) (kinds : List Kind) → get_or (kinds_of_words (kind ∷ kinds)) 0 Plain ≡ kind
 kind_first Strong kinds = refl

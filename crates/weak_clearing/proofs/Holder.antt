@@ -12,10 +12,12 @@ use Rattle.page_words.specs.Seat.{SeatView, IsView, holds}
 use Rattle.weak_clearing.specs.declared.weak_handles.WeakHandles.{WeakHandles}
 use Rattle.weak_clearing.specs.Clearing.{HasReferencesOf, MarkedHaveReferencesOf}
 use Rattle.weak_clearing.specs.Steps.{IsMarkedOf, HasHandle, kind_of_handles, cleared_at, clear_handle_in, clear_handles, clear_words_of, handle_cleared, body_cleared}
-use Rattle.weak_clearing.proofs.Lists.{map_same, map_after, map_stays, contains_map}
+use Rattle.weak_clearing.proofs.Lists.{map_same, map_after, map_stays}
+use Rattle.gc_graph.specs.Members.{Contains-map}
 use Rattle.weak_clearing.proofs.HandleWords.{BeginsField, field_told, clear_listed, clear_listed-push, listed_are_cleared}
 use Rattle.weak_clearing.proofs.Words.{at_twice}
-use Rattle.weak_clearing.proofs.Lessened.{IsLessened, same_body, with_fields, listed_lessened, word_stays_reference}
+use Rattle.weak_clearing.proofs.Lessened.{IsLessened, itself_lessened, with_fields, listed_lessened, word_stays_reference}
+use Rattle.page_words.specs.BodyPlaces.{same_body}
 
 abbrev listed_body : WeakHandles → List ℕ → List ℕ → Body → Body
 listed_body handles marked offsets b = record b { fields = clear_listed handles marked offsets b.fields }
@@ -31,7 +33,7 @@ listed_cleared handles v place offsets = record v { bodies = map (clear_listed_a
 at_lessened : (handles : WeakHandles) (marked : List ℕ) (place : ℕ) (offsets : List ℕ) (b : Body) → IsLessened b (clear_listed_at handles marked place offsets b)
 at_lessened handles marked place offsets b =
     cond_both (eqb b.place place) (listed_body handles marked offsets b) b (IsLessened b)
-    (λ _. with_fields b (clear_listed handles marked offsets b.fields) (listed_lessened handles marked offsets b.fields)) (λ _. same_body b)
+    (λ _. with_fields b (clear_listed handles marked offsets b.fields) (listed_lessened handles marked offsets b.fields)) (λ _. itself_lessened b)
 
 pub listed_none : (handles : WeakHandles) (v : SeatView) (place : ℕ) → v ≡ listed_cleared handles v place []
 listed_none handles v place =
@@ -68,7 +70,7 @@ handle_stays handles v place offset offsets has =
     let less : IsLessened has.body (f has.body) = at_lessened handles v.marked place offsets has.body in
     record {
       body = f has.body;
-      there = contains_map f v.bodies has.body has.there;
+      there = Contains-map f v.bodies has.body has.there;
       place = less.place ∙ has.place;
       first = has.first;
       last = omega (arith, less.size, has.last);
@@ -103,13 +105,6 @@ one_more_cleared handles v place offset offsets =
 
 -- ---- all of them
 
--- one body alone has the place
-one_body : (v : SeatView) (b c : Body) → IsView v → Contains v.bodies b → Contains v.bodies c → b.place ≡ c.place → b ≡ c
-one_body v b c view b_there c_there same =
-    let b_whole : IsWhole v.count b = All-contains (IsWhole v.count) v.bodies b view.whole b_there in
-    let c_whole : IsWhole v.count c = All-contains (IsWhole v.count) v.bodies c view.whole c_there in
-    view.apart b c b.place b_there c_there (omega arith) (omega (arith, b_whole.fields)) (omega (arith, same)) (omega (arith, same, c_whole.fields))
-
 module _ (handles : WeakHandles) (v : SeatView) where
   listed_whole : (b : Body) (ty : ℕ) → holds v.marked b.place ≡ true → b.ty ≡ ty → HasReferencesOf (kind_of_handles handles) v.types v.bodies b
       → listed_body handles v.marked (offsets_of_kind (kind_of_handles handles) (kinds_of v.types ty)) b ≡ clear_handles handles v.types v.marked b
@@ -133,7 +128,7 @@ module _ (handles : WeakHandles) (v : SeatView) where
         each : (b : Body) → Contains v.bodies b → clear_listed_at handles v.marked place offsets b ≡ cond (eqb b.place place) (clear_handles handles v.types v.marked b) b
         each b there = elim (cases_eq b.place place) [
           | inl here ↦
-              (let one : b ≡ h = one_body v b h view there h_there (here ∙ sym h_at) in
+              (let one : b ≡ h = same_body v b h view there h_there (here ∙ sym h_at) in
               let holder : holds v.marked b.place ≡ true = ap (holds v.marked) here ∙ marked in
               ap (λ (x : Body). cond (eqb b.place place) x b) (listed_whole b ty holder (ap (λ (x : Body). x.ty) one ∙ h_ty) (have b there holder)))
           | inr other ↦

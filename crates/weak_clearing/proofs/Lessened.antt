@@ -16,7 +16,7 @@ use Rattle.weak_clearing.specs.declared.weak_handles.WeakHandles.{WeakHandles}
 use Rattle.weak_clearing.specs.declared.weak_handles.WeakHandles.TheVariants.{Fields, Pairs}
 use Rattle.weak_clearing.specs.Clearing.{names_unmarked, clear_word, clear_words, clear_pair_words, HasReferencesOf, MarkedHaveReferencesOf}
 use Rattle.weak_clearing.specs.Steps.{nulled, cleared_at, clear_words_of, clear_handles}
-use Rattle.weak_clearing.proofs.Lists.{contains_map, comes_from}
+use Rattle.gc_graph.specs.Members.{Contains-map, Contains-map_some}
 use Rattle.weak_clearing.proofs.HandleWords.{clear_listed}
 
 -- as many words, each of which stayed or is null
@@ -115,8 +115,8 @@ pub record IsLessened (old new : Body) : Type 0 where
   pub size : new.size ≡ old.size
   pub words : AreLessened old.fields new.fields
 
-pub same_body : (b : Body) → IsLessened b b
-same_body b = record { place = refl; ty = refl; size = refl; words = same_words b.fields }
+pub itself_lessened : (b : Body) → IsLessened b b
+itself_lessened b = record { place = refl; ty = refl; size = refl; words = same_words b.fields }
 
 pub with_fields : (b : Body) (fields : List ℕ) → AreLessened b.fields fields → IsLessened b (record b { fields = fields })
 with_fields b fields is = record { place = refl; ty = refl; size = refl; words = is }
@@ -125,13 +125,13 @@ pub body_lessened : (handles : WeakHandles) (types : List ObjectType) (marked : 
 body_lessened handles types marked b =
     let cleared : List ℕ = clear_words_of handles marked (kinds_of types b.ty) b.fields in
     cond_both (holds marked b.place) (record b { fields = cleared }) b (IsLessened b)
-    (λ _. with_fields b cleared (words_lessened handles marked (kinds_of types b.ty) b.fields)) (λ _. same_body b)
+    (λ _. with_fields b cleared (words_lessened handles marked (kinds_of types b.ty) b.fields)) (λ _. itself_lessened b)
 
 module _ (f : Body → Body) (less : (b : Body) → IsLessened b (f b)) where
   pub reference_stays : (bodies : List Body) (w : ℕ) → IsReference bodies w → IsReference (map f bodies) w
   reference_stays bodies w is = elim is [
     | inl null ↦ inl null
-    | inr named ↦ inr (f named.0, contains_map f bodies named.0 named.1, named.2 ∙ ap reference_to (sym (less named.0).place))
+    | inr named ↦ inr (f named.0, Contains-map f bodies named.0 named.1, named.2 ∙ ap reference_to (sym (less named.0).place))
   ]
 
   pub word_stays_reference : (bodies : List Body) (b : Body) (i : ℕ) → IsReference bodies (get_or b.fields i 0) → IsReference (map f bodies) (get_or (f b).fields i 0)
@@ -151,6 +151,6 @@ module _ (f : Body → Body) (less : (b : Body) → IsLessened b (f b)) where
 
   pub references_stay : (kind : Kind) (v : SeatView) → MarkedHaveReferencesOf kind v → MarkedHaveReferencesOf kind (record v { bodies = map f v.bodies })
   references_stay kind v have b there marked =
-      let from = comes_from f v.bodies b there in
+      let from = Contains-map_some f v.bodies b there in
       let was : holds v.marked from.0.place ≡ true = ap (holds v.marked) (sym (less from.0).place ∙ ap (λ (x : Body). x.place) from.2) ∙ marked in
       subst (HasReferencesOf kind v.types (map f v.bodies)) from.2 (has_still kind v.types v.bodies from.0 (have from.0 from.1 was))

@@ -9,8 +9,9 @@ use Rattle.page_words.specs.Seat.{SeatView, holds}
 use Rattle.weak_clearing.specs.declared.weak_handles.WeakHandles.{WeakHandles}
 use Rattle.weak_clearing.specs.Clearing.{MarkedHaveReferencesOf}
 use Rattle.weak_clearing.specs.Steps.{clear_handles, body_cleared, all_cleared}
-use Rattle.weak_clearing.proofs.Lists.{map_same, map_after, map_stays, contains_map}
-use Rattle.weak_clearing.proofs.Lessened.{IsLessened, same_body, body_lessened, references_stay}
+use Rattle.weak_clearing.proofs.Lists.{map_same, map_after, map_stays}
+use Rattle.gc_graph.specs.Members.{Contains-map}
+use Rattle.weak_clearing.proofs.Lessened.{IsLessened, itself_lessened, body_lessened, references_stay}
 
 -- an unmarked body stays
 pub unmarked_stays : (handles : WeakHandles) (v : SeatView) (a : ℕ) → holds v.marked a ≡ false → v ≡ body_cleared handles v a
@@ -31,7 +32,7 @@ cleared_where handles v passes = record v { bodies = map (clear_where handles v.
 where_lessened : (handles : WeakHandles) (types : List ObjectType) (marked : List ℕ) (passes : ℕ → Bool) (b : Body)
     → IsLessened b (clear_where handles types marked passes b)
 where_lessened handles types marked passes b =
-    cond_both (passes b.place) (clear_handles handles types marked b) b (IsLessened b) (λ _. body_lessened handles types marked b) (λ _. same_body b)
+    cond_both (passes b.place) (clear_handles handles types marked b) b (IsLessened b) (λ _. body_lessened handles types marked b) (λ _. itself_lessened b)
 
 pub where_references : (handles : WeakHandles) (kind : Kind) (v : SeatView) (passes : ℕ → Bool) → MarkedHaveReferencesOf kind v
     → MarkedHaveReferencesOf kind (cleared_where handles v passes)
@@ -41,7 +42,7 @@ where_references handles kind v passes have =
 pub where_place : (handles : WeakHandles) (v : SeatView) (passes : ℕ → Bool) (a : ℕ) → IsPlace v.bodies a → IsPlace (cleared_where handles v passes).bodies a
 where_place handles v passes a place =
     let f : Body → Body = clear_where handles v.types v.marked passes in
-    (f place.0, contains_map f v.bodies place.0 place.1, (where_lessened handles v.types v.marked passes place.0).place ∙ place.2)
+    (f place.0, Contains-map f v.bodies place.0 place.1, (where_lessened handles v.types v.marked passes place.0).place ∙ place.2)
 
 -- where no body's address passes, nothing changes
 pub where_none : (handles : WeakHandles) (v : SeatView) (passes : ℕ → Bool) → ((b : Body) → Contains v.bodies b → passes b.place ≡ false)

@@ -4,7 +4,7 @@ use Rattle.ephemerons.specs.Notes.{NotesState}
 use Rattle.ephemerons.specs.Fixpoint.{IsGround, stage}
 use Rattle.ephemerons.proofs.Ends.{few_untraced}
 use Rattle.ephemerons.proofs.Graph.{GrowsWithin-then}
-use Rattle.ephemerons.proofs.Refused.{told_then}
+use Rattle.mark_worklist.specs.Told.{told_then}
 use Rattle.ephemerons.proofs.closing.fixpoint.Goals as goal
 
 pub settle_all-requires-clause-ground : goal.settle_all-requires-clause-ground

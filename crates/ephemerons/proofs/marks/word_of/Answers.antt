@@ -1,7 +1,7 @@
 use Rattle.std.proofs.Common.{◌≡◌, ◌-◌, ◌∙◌, ap, sym, arith}
 use Rattle.page_words.specs.Bodies.{Body}
 use Rattle.ephemerons.specs.BodyGraph.{word_at}
-use Rattle.ephemerons.proofs.Graph.{same_body}
+use Rattle.page_words.specs.BodyPlaces.{same_body}
 use Rattle.ephemerons.proofs.marks.word_of.Goals as goal
 
 pub returns-clause-word : goal.returns-clause-word

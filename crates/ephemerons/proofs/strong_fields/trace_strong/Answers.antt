@@ -4,7 +4,8 @@ use Rattle.std.proofs.lemmas.List.Elements.{Contains-append_left, Contains-push,
 use Rattle.ephemerons.specs.BodyGraph.{HasStrong}
 use Rattle.ephemerons.specs.Marking.{HasTargetMarked}
 use Rattle.ephemerons.specs.Fixpoint.{ListsMarks, with_held}
-use Rattle.ephemerons.proofs.MarkSteps.{ListsMarks-then, same_bodies}
+use Rattle.ephemerons.proofs.MarkSteps.{same_bodies}
+use Rattle.ephemerons.specs.ListedMarks.{ListsMarks-then}
 use Rattle.ephemerons.proofs.StrongWords.{told_is_strong, all_named, target_stays, within_then}
 use Rattle.ephemerons.proofs.strong_fields.trace_strong.Goals as goal
 

@@ -5,8 +5,9 @@ use Rattle.std.proofs.lemmas.List.Elements.{Contains-get_or}
 use Rattle.ephemerons.specs.BodyGraph.{HasStrong}
 use Rattle.ephemerons.specs.Marking.{HasTargetMarked}
 use Rattle.ephemerons.specs.Fixpoint.{ListsMarks}
-use Rattle.ephemerons.proofs.Lists.{Contains-take_more_cases}
-use Rattle.ephemerons.proofs.MarkSteps.{ListsMarks-then, same_bodies}
+use Rattle.gc_graph.specs.Members.{Contains-take_more_cases}
+use Rattle.ephemerons.proofs.MarkSteps.{same_bodies}
+use Rattle.ephemerons.specs.ListedMarks.{ListsMarks-then}
 use Rattle.ephemerons.proofs.Holding.{fresh_listed}
 use Rattle.ephemerons.proofs.StrongWords.{target_stays, within_then}
 use Rattle.ephemerons.proofs.strong_fields.trace_words.Goals as goal

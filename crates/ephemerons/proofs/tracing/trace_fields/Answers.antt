@@ -1,5 +1,6 @@
 use Rattle.ephemerons.proofs.Graph.{GrowsWithin-then}
-use Rattle.ephemerons.proofs.MarkSteps.{ListsMarks-then, same_bodies, same_count}
+use Rattle.ephemerons.proofs.MarkSteps.{same_bodies, same_count}
+use Rattle.ephemerons.specs.ListedMarks.{ListsMarks-then}
 use Rattle.ephemerons.proofs.StrongWords.{all_named, target_stays}
 use Rattle.ephemerons.proofs.tracing.trace_fields.Goals as goal
 

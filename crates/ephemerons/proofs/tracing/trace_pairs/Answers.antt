@@ -6,9 +6,11 @@ use Rattle.type_table.specs.Types.{kinds_of, offsets_of_kind}
 use Rattle.page_words.specs.Bodies.{Body}
 use Rattle.ephemerons.specs.BodyGraph.{AreReferences, HasPair, pair_offsets}
 use Rattle.ephemerons.specs.Notes.{NotesGrow, HasPairNoted}
-use Rattle.ephemerons.proofs.Graph.{same_body, GrowsWithin-then}
-use Rattle.ephemerons.proofs.Lists.{Contains-take_more_cases}
-use Rattle.ephemerons.proofs.MarkSteps.{ListsMarks-then, same_bodies, same_count, same_on}
+use Rattle.ephemerons.proofs.Graph.{GrowsWithin-then}
+use Rattle.page_words.specs.BodyPlaces.{same_body}
+use Rattle.gc_graph.specs.Members.{Contains-take_more_cases}
+use Rattle.ephemerons.proofs.MarkSteps.{same_bodies, same_count, same_on}
+use Rattle.ephemerons.specs.ListedMarks.{ListsMarks-then}
 use Rattle.ephemerons.proofs.NoteSteps.{NotesGrow-then}
 use Rattle.ephemerons.proofs.PairWords.{told_pair}
 use Rattle.ephemerons.proofs.tracing.trace_pairs.Goals as goal

@@ -2,7 +2,7 @@ use Rattle.std.proofs.Common.{◌≡◌, ℕ, ◌+◌, ◌*◌, true, false, ap,
 use Rattle.std.proofs.lemmas.Bool.{cases_eq, true≢false}
 use Rattle.gap_bounds.specs.Gaps.{is_between}
 use Rattle.gap_bounds.specs.Gaps.{is_known}
-use Rattle.gap_bounds.proofs.Spans.{between_from, between_more, not_between}
+use Rattle.gap_bounds.specs.Spans.{between_from, between_more, not_between}
 use Rattle.gap_bounds.specs.Changes.{GapsOpenedIn}
 use Rattle.gap_bounds.proofs.Opened.{forgotten}
 use Rattle.gap_bounds.proofs.gaps.Gaps.forget.Goals as goal

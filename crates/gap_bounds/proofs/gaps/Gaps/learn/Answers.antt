@@ -1,7 +1,7 @@
 use Rattle.std.proofs.Common.{◌≡◌, ◌+◌, ◌*◌, ◌<◌, true, false, get_or, set, cond, length, ap, ◌∙◌, arith}
 use Rattle.std.proofs.lemmas.List.{get_or-set_same, get_or-set_other}
 use Rattle.gap_bounds.specs.Gaps.{is_between}
-use Rattle.gap_bounds.proofs.Spans.{next_page}
+use Rattle.gc_graph.specs.PageNumbers.{next_page}
 use Rattle.gap_bounds.proofs.Known.{learned}
 use Rattle.gap_bounds.proofs.gaps.Gaps.learn.Goals as goal
 

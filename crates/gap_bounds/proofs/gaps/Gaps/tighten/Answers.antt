@@ -1,6 +1,6 @@
 use Rattle.std.proofs.Common.{◌≡◌, ◌*◌, ◌<◌, get_or, length, ap, ◌∙◌, arith}
 use Rattle.std.proofs.lemmas.List.{get_or-set_same, get_or-set_other}
-use Rattle.gap_bounds.proofs.Spans.{next_page}
+use Rattle.gc_graph.specs.PageNumbers.{next_page}
 use Rattle.gap_bounds.proofs.Known.{most_set}
 use Rattle.gap_bounds.proofs.gaps.Gaps.tighten.Goals as goal
 

@@ -1,7 +1,8 @@
 use Rattle.std.proofs.Common.{◌≡◌, ◌+◌, ◌*◌, ◌<◌, ◌≤◌, ◌⊎◌, ap, inl, inr, arith}
 use Rattle.std.proofs.lemmas.Bool.{cases_lt}
 use Rattle.page_words.specs.Bodies.{Body, IsPlace, end_of}
-use Rattle.page_space.proofs.PlaceBodies.{tells_size, body_size}
+use Rattle.page_space.proofs.PlaceBodies.{tells_size}
+use Rattle.page_words.specs.BodyPlaces.{two_words}
 use Rattle.page_space.proofs.WalkSteps.{edge_after_last, edge_of_page}
 use Rattle.page_space.proofs.space.Space.edge_from.Goals as goal
 
@@ -28,7 +29,7 @@ returns-in-Some-clause-inside c =
     let from : 64 * (c.args.page * c.blocks-2.result) ≤ c.in-Some.place = found.1 in
     let low : c.args.page * c.args.self.now.shape.page_words ≤ c.in-Some.place = omega arith in
     let high : c.in-Some.place < c.args.at + 1 = found.2 in
-    let some : 2 ≤ b.size = body_size c.args.seat.now.count c.args.seat.now.bodies b c.bodies_lie_apart.ensures.whole start.1 in
+    let some : 2 ≤ b.size = two_words c.args.seat.now c.bodies_lie_apart.ensures b start.1 in
     let last : end_of b ≤ (c.args.page + 1) * c.args.self.now.shape.page_words =
     (c.requires.whole b c.in-Some.place start.1 (omega arith) (omega arith) low (omega arith)).1 in
     omega (arith, c.max.ensures)

@@ -3,7 +3,8 @@ use Rattle.std.proofs.lemmas.Bool.{cases_lt}
 use Rattle.gc_graph.specs.Placement.{PageHasBucket, IsNowhere, bucket_of}
 use Rattle.gap_bounds.specs.Gaps.{HasClass, least_of}
 use Rattle.page_space.specs.Space.{IsSpaceOf, FitsIn, extents_of_bodies}
-use Rattle.page_space.proofs.PageSpan.{page_of, page_before}
+use Rattle.page_space.proofs.PageSpan.{page_of}
+use Rattle.gc_graph.specs.PageNumbers.{page_before}
 use Rattle.page_space.proofs.PlaceFound.{fits_found, fits_none, gap_of_run, bucket_of_class}
 use Rattle.page_space.proofs.Shapes.{shape_words}
 use Rattle.page_space.proofs.UsedPages.{held_is_used, uses_of_bucket}

@@ -6,7 +6,8 @@ use Rattle.gap_bounds.specs.Gaps.{KnowsGaps}
 use Rattle.page_space.specs.Pages.{word_count}
 use Rattle.page_space.specs.Space.{SpaceView, IsSpaceOver, extent_of, extents_of_bodies}
 use Rattle.page_space.proofs.Shapes.{shape_words}
-use Rattle.page_space.proofs.PlaceBodies.{contains_map, tells_size}
+use Rattle.page_space.proofs.PlaceBodies.{tells_size}
+use Rattle.gc_graph.specs.Members.{Contains-map}
 use Rattle.page_space.proofs.Extents.{others, one_less}
 use Rattle.page_space.proofs.SeatExtents.{seat_apart, extents_filter}
 use Rattle.page_space.proofs.Left.{left}
@@ -20,7 +21,7 @@ read_extent bodies a size start read =
     let same : extent_of start.0 ≡ record { place = a; size = size } =
     ap (λ p. let e : Extent = record { place = p; size = start.0.size } in e) start.2
     ∙ ap (λ s. let e : Extent = record { place = a; size = s } in e) (sym (read start.0 start.1 start.2)) in
-    subst (Contains (extents_of_bodies bodies)) same (contains_map extent_of bodies start.0 start.1)
+    subst (Contains (extents_of_bodies bodies)) same (Contains-map extent_of bodies start.0 start.1)
 
 pub open_gap-requires-clause-object : goal.open_gap-requires-clause-object
 open_gap-requires-clause-object c =

@@ -1,5 +1,5 @@
 use Rattle.std.proofs.Common.{ℕ, ◌+◌, ◌*◌, ◌/◌, ◌^◌, ◌<◌, ◌≤◌, ap, rules, arith}
-use Rattle.page_space.proofs.PageSpan.{page_before}
+use Rattle.gc_graph.specs.PageNumbers.{page_before}
 use Rattle.page_space.proofs.OpenedGaps.{seated, gaps_opened}
 use Rattle.page_space.proofs.space.Space.gap_around.Goals as goal
 

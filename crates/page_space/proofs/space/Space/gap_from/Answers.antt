@@ -4,7 +4,7 @@ use Rattle.gc_graph.specs.State.{Shape}
 use Rattle.page_words.specs.Seat.{SeatView}
 use Rattle.gap_bounds.specs.Gaps.{IsGap, bound_at}
 use Rattle.page_space.specs.Space.{IsSpaceOf, HoldsWhole, extents_of_bodies}
-use Rattle.page_space.proofs.PageSpan.{page_before}
+use Rattle.gc_graph.specs.PageNumbers.{page_before}
 use Rattle.page_space.proofs.space.Space.gap_from.Goals as goal
 
 pub worth_from-at-requires-clause-end : goal.worth_from-at-requires-clause-end

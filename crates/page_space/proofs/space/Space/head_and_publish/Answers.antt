@@ -1,11 +1,11 @@
 use Rattle.std.proofs.Common.{◌≡◌, ℕ, ◌+◌, ◌-◌, ◌^◌, ◌<◌, ◌≤◌, true, false, ap, ◌∙◌, sym, subst, arith, rules}
 use Rattle.page_words.specs.Bodies.{IsInBody}
 use Rattle.object_headers.specs.Layout.{header_word}
-use Rattle.page_words.specs.Seat.{IsReady, filled_with}
+use Rattle.page_words.specs.Seat.{IsReady, filled_with, published}
 use Rattle.page_space.specs.Pages.{word_count}
 use Rattle.page_space.specs.Space.{IsSeatOf}
 use Rattle.page_space.specs.Occupying.{HasNulls, IsRoom, new_body}
-use Rattle.page_space.proofs.OccupyFilled.{head_filled, ready_to_publish}
+use Rattle.page_space.proofs.OccupyFilled.{head_filled, head_occupies, ready_to_publish}
 use Rattle.page_space.proofs.space.Space.head_and_publish.Goals as goal
 
 pub fill-requires-clause-outside : goal.fill-requires-clause-outside
@@ -40,3 +40,14 @@ publish-requires g c =
       ap (λ v. v.count) head ∙ seat ∙ ap (λ s. word_count s.shape) (sym c.self.view_is) ∙ sym c.self.invariant.words,
       (ap (λ b. b.place) body, subst (IsReady c.fill-2.new.seat) (sym body) ready),
     )
+
+pub returns : goal.returns
+returns g c =
+    let least : 2 ≤ c.args.size = search rules in
+    let body : g.body ≡ new_body c.args.a c.args.ty c.args.size c.args.serial = search rules in
+    let header : ℕ = header_word true false false c.args.ty c.args.size in
+    let head : c.fill-2.new.seat ≡ filled_with (filled_with c.args.seat.now c.args.a header) (c.args.a + 1) c.args.serial =
+    head_filled c.args.seat.now c.fill.new.seat c.fill-2.new.seat c.args.a header c.args.serial c.pack.result c.from.result
+    c.pack.ensures c.from.ensures c.fill.ensures c.fill-2.ensures in
+    head_occupies c.args.seat.now c.publish.new.seat g.body c.args.a header c.args.serial (ap (λ b. b.place) body)
+    (omega (arith, ap (λ b. b.size) body)) (c.publish.ensures ∙ ap (λ v. published v g.body) head)

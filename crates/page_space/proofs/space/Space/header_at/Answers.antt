@@ -4,7 +4,8 @@ use Rattle.object_headers.specs.Layout.{IsHeaderWord}
 use Rattle.page_words.specs.Bodies.{Body, IsWhole}
 use Rattle.page_words.specs.Seat.{holds}
 use Rattle.page_space.specs.Space.{header_in}
-use Rattle.page_space.proofs.PlaceBodies.{whole_body, body_size, tells_size, header_is_one}
+use Rattle.page_space.proofs.PlaceBodies.{tells_size, header_is_one}
+use Rattle.page_words.specs.BodyPlaces.{two_words, whole_body}
 use Rattle.page_space.proofs.space.Space.header_at.Goals as goal
 use Rattle.page_space.proofs.space.Space.header_at.Goals.{After-read_unchecked}
 
@@ -12,8 +13,8 @@ pub read_unchecked-requires : goal.read_unchecked-requires
 read_unchecked-requires c =
     let v = c.args.seat.now in
     let b : Body = c.requires.start.0 in
-    let whole : IsWhole v.count b = whole_body v.count v.bodies b c.bodies_lie_apart.ensures.whole c.requires.start.1 in
-    let size : 2 ≤ b.size = body_size v.count v.bodies b c.bodies_lie_apart.ensures.whole c.requires.start.1 in
+    let whole : IsWhole v.count b = whole_body v c.bodies_lie_apart.ensures b c.requires.start.1 in
+    let size : 2 ≤ b.size = two_words v c.bodies_lie_apart.ensures b c.requires.start.1 in
     subst IsHeaderWord (sym (c.load.ensures.word.header b c.requires.start.1 c.requires.start.2))
     (header_is_one (holds v.marked b.place) (holds v.traced b.place) b.ty b.size whole.ty (omega arith) whole.size)
 
@@ -21,8 +22,8 @@ header_is : (c : After-read_unchecked) (b : Body) → Contains c.args.seat.now.b
     → c.read_unchecked.result ≡ header_in c.args.seat.now b
 header_is c b has at =
     let v = c.args.seat.now in
-    let whole : IsWhole v.count b = whole_body v.count v.bodies b c.bodies_lie_apart.ensures.whole has in
-    let size : 2 ≤ b.size = body_size v.count v.bodies b c.bodies_lie_apart.ensures.whole has in
+    let whole : IsWhole v.count b = whole_body v c.bodies_lie_apart.ensures b has in
+    let size : 2 ≤ b.size = two_words v c.bodies_lie_apart.ensures b has in
     c.read_unchecked.ensures.exact (holds v.marked b.place) (holds v.traced b.place) b.ty b.size whole.ty (omega arith) whole.size
     (c.load.ensures.word.header b has at)
 
@@ -36,7 +37,7 @@ returns-clause-least c =
     omega (
       arith,
       tells_size v c.args.a c.read_unchecked.result (header_is c) start.0 start.1 start.2,
-      body_size v.count v.bodies start.0 c.bodies_lie_apart.ensures.whole start.1,
+      two_words v c.bodies_lie_apart.ensures start.0 start.1,
     )
 
 pub returns-clause-inside : goal.returns-clause-inside
@@ -44,5 +45,5 @@ returns-clause-inside c =
     let v = c.args.seat.now in
     let start = c.requires.start in
     let at : start.0.place ≡ c.args.a = start.2 in
-    let whole : IsWhole v.count start.0 = whole_body v.count v.bodies start.0 c.bodies_lie_apart.ensures.whole start.1 in
+    let whole : IsWhole v.count start.0 = whole_body v c.bodies_lie_apart.ensures start.0 start.1 in
     omega (arith, at, tells_size v c.args.a c.read_unchecked.result (header_is c) start.0 start.1 start.2, whole.inside, c.requires.heap)

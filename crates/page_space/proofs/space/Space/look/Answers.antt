@@ -5,7 +5,7 @@ use Rattle.gap_bounds.specs.Gaps.{IsGap}
 use Rattle.page_space.specs.Pages.{word_count}
 use Rattle.page_space.specs.Space.{SpaceView, HoldsWhole, extents_of_bodies}
 use Rattle.page_space.specs.Walks.{IsEdge}
-use Rattle.page_space.proofs.PageSpan.{same_page, page_before}
+use Rattle.gc_graph.specs.PageNumbers.{same_page, page_before}
 use Rattle.page_space.proofs.KnownGaps.{others_stay}
 use Rattle.page_space.proofs.WalkSteps.{from_edge, block_ends}
 use Rattle.page_space.proofs.Shapes.{shape_words}

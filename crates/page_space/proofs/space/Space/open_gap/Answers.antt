@@ -1,7 +1,8 @@
 use Rattle.std.proofs.Common.{◌≡◌, ℕ, ◌+◌, ◌-◌, ◌*◌, ◌/◌, ◌^◌, ◌<◌, ◌≤◌, ap, sym, rules, arith}
 use Rattle.page_space.specs.Space.{extents_of_bodies}
 use Rattle.page_space.proofs.KnownGaps.{had_classes, gaps_opened_in}
-use Rattle.page_space.proofs.PageSpan.{page_before, page_inside}
+use Rattle.page_space.proofs.PageSpan.{page_inside}
+use Rattle.gc_graph.specs.PageNumbers.{page_before}
 use Rattle.page_space.proofs.Shapes.{shape_words}
 use Rattle.page_space.proofs.OpenedGaps.{seated}
 use Rattle.page_space.proofs.space.Space.open_gap.Goals as goal

@@ -1,6 +1,6 @@
 use Rattle.std.proofs.Common.{◌≡◌, ◌*◌, ◌+◌, ap, arith}
 use Rattle.page_space.specs.Space.{extents_of_bodies}
-use Rattle.page_space.proofs.PageSpan.{page_before}
+use Rattle.gc_graph.specs.PageNumbers.{page_before}
 use Rattle.page_space.proofs.KnownGaps.{others_stay}
 use Rattle.page_space.proofs.space.Space.tighten.Goals as goal
 

@@ -3,7 +3,8 @@ use Rattle.std.proofs.lemmas.Bool.{cases_lt}
 use Rattle.page_words.specs.Bodies.{Body, IsPlace, end_of}
 use Rattle.page_space.specs.Space.{HasNoStart, extents_of_bodies}
 use Rattle.gap_bounds.specs.Gaps.{IsGap}
-use Rattle.page_space.proofs.PlaceBodies.{tells_size, body_size}
+use Rattle.page_space.proofs.PlaceBodies.{tells_size}
+use Rattle.page_words.specs.BodyPlaces.{two_words}
 use Rattle.page_space.proofs.Shapes.{shape_words}
 use Rattle.page_space.proofs.WalkSteps.{edge_moves, gap_here, gap_ends}
 use Rattle.page_space.proofs.space.Space.walk.Goals as goal
@@ -80,7 +81,7 @@ loop-walk-preserved c =
     let size_is : c.header_at.result.size ≡ b.size =
     rw (c.words_to_next.ensures.view ∙ view) at (tells_size c.words_to_next.new.seat next c.header_at.result c.header_at.ensures.header) b place.1 place.2 in
     let b_at : b.place ≡ next = place.2 in
-    let some : 2 ≤ b.size = body_size c.args.seat.now.count c.args.seat.now.bodies b c.bodies_lie_apart.ensures.whole place.1 in
+    let some : 2 ≤ b.size = two_words c.args.seat.now c.bodies_lie_apart.ensures b place.1 in
     let last : end_of b ≤ (c.args.page + 1) * c.args.self.now.shape.page_words =
     (c.requires.whole b next place.1 (omega arith) (omega arith) (omega (arith, c.requires.from, c.loop-walk.invariant.low)) inside).1 in
     let after : ℕ = next + c.header_at.result.size in

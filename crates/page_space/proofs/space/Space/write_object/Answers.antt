@@ -1,8 +1,8 @@
-use Rattle.std.proofs.Common.{◌≡◌, ◌+◌, ◌-◌, ◌∙◌, refl, ap, sym, subst, arith}
-use Rattle.page_words.specs.Bodies.{IsInBody}
+use Rattle.std.proofs.Common.{◌≡◌, ◌+◌, ◌-◌, ◌≤◌, ◌∙◌, refl, ap, sym, subst, arith}
+use Rattle.page_words.specs.Bodies.{Body, IsInBody}
 use Rattle.page_words.specs.Seat.{SeatView, nulled}
 use Rattle.page_space.specs.Occupying.{HasNulls, new_body}
-use Rattle.page_space.proofs.OccupyFilled.{nulls_filled, only_nulled, occupies_before}
+use Rattle.page_space.proofs.OccupyFilled.{nulls_filled, only_nulled, nulls_inside, occupies_before}
 use Rattle.page_space.proofs.space.Space.write_object.Goals as goal
 
 pub fill_nulls-requires-clause-outside : goal.fill_nulls-requires-clause-outside
@@ -36,5 +36,7 @@ returns c =
     let v : SeatView = c.args.seat.now in
     let fields : c.args.a + c.args.size - (c.args.a + 2) ≡ c.args.size - 2 = omega arith in
     let rest = c.fill_nulls.ensures ∙ ap (nulled v (c.args.a + 2)) fields ∙ only_nulled v (c.args.a + 2) (c.args.size - 2) in
-    occupies_before v c.fill_nulls.new.seat c.head_and_publish.new.seat (nulled v (c.args.a + 2) (c.args.size - 2)).filled
-    (new_body c.args.a c.args.ty c.args.size c.args.serial) rest c.head_and_publish.ensures
+    let b : Body = new_body c.args.a c.args.ty c.args.size c.args.serial in
+    let least : 2 ≤ c.args.size = c.requires.least in
+    occupies_before v c.fill_nulls.new.seat c.head_and_publish.new.seat (nulled v (c.args.a + 2) (c.args.size - 2)).filled b rest
+    (nulls_inside v b (c.args.a + 2) (c.args.size - 2) (omega arith) (omega arith)) c.head_and_publish.ensures

@@ -1,6 +1,7 @@
 use Rattle.std.proofs.Common.{◌+◌, length, ap, get_or, arith}
 use Rattle.std.proofs.lemmas.List.{length-set}
-use Rattle.page_space.proofs.Tables.{counts_more, values_more}
+use Rattle.page_space.proofs.Tables.{counts_more}
+use Rattle.gap_bounds.specs.Spans.{values_more}
 use Rattle.page_space.proofs.table.Table.enter.Goals as goal
 
 pub loop-page-preserved : goal.loop-page-preserved

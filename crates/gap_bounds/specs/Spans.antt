@@ -1,15 +1,8 @@
--- Numbers from one up to another, and the addresses of pages.
-use Rattle.std.proofs.Common.{◌≡◌, ℕ, ◌+◌, ◌*◌, ◌<◌, ◌≤◌, true, false, List, length, get_or, set, cond, sym, ap, ◌∙◌, inl, inr, arith, leb, ltb}
+-- Numbers from one up to another.
+use Rattle.std.proofs.Common.{◌≡◌, ℕ, ◌+◌, ◌<◌, ◌≤◌, true, false, List, length, get_or, set, cond, sym, ap, ◌∙◌, inl, inr, arith, leb, ltb}
 use Rattle.std.proofs.lemmas.Bool.{cases_eq, cases_Bool, and_parts, and_from, leb-true, ltb-true, le-leb, lt-ltb, true≢false}
 use Rattle.std.proofs.lemmas.List.{get_or-set_same, get_or-set_other}
-use Rattle.std.proofs.Math.Nat.{mul-le-mul_right, add-mul, one-mul}
 use Rattle.gap_bounds.specs.Gaps.{is_between}
-
-pub next_page : (w page : ℕ) → (page + 1) * w ≡ page * w + w
-next_page w page = omega (arith, add-mul page 1 w, one-mul w)
-
-pub page_before : (w page other : ℕ) → page < other → (page + 1) * w ≤ other * w
-page_before w page other l = mul-le-mul_right w (omega arith)
 
 pub between_parts : (first end n : ℕ) → is_between first end n ≡ true → (first ≤ n) × (n < end)
 between_parts first end n h =
@@ -26,7 +19,7 @@ not_between first end n never =
       | inr clear ↦ clear
     ]
 
-below_false : (first end n : ℕ) → first ≤ n → n < end → is_between first end n ≡ false → ⊥
+pub below_false : (first end n : ℕ) → first ≤ n → n < end → is_between first end n ≡ false → ⊥
 below_false first end n low high clear = true≢false (sym (between_from first end n low high) ∙ clear)
 
 pub between_more : (first end n : ℕ) → (n ≡ end → ⊥) → is_between first (end + 1) n ≡ is_between first end n

@@ -1,0 +1,27 @@
+-- What was marked and listed in two goes was in one.
+use Rattle.std.proofs.Common.{ap, ◌∙◌, subst, inl, inr, arith}
+use Rattle.mark_worklist.specs.Refusals.{refusals_of}
+use Rattle.mark_worklist.specs.Told.{told_then}
+use Rattle.mark_worklist.specs.declared.marking.Marking.{Marking}
+use Rattle.page_words.specs.Bodies.{IsPlace}
+use Rattle.page_words.specs.Seat.{SeatView}
+use Rattle.ephemerons.specs.Fixpoint.{ListsMarks}
+
+pub ListsMarks-then : (u v w : SeatView) (l m n : Marking) → ListsMarks u l v m → ListsMarks v m w n → ListsMarks u l w n
+ListsMarks-then u v w l m n x y = record {
+  view = y.view ∙ ap (λ (z : SeatView). record z { marked = w.marked }) x.view;
+  marked = λ p h. y.marked p (x.marked p h);
+  on = y.on ∙ x.on;
+  overflow = λ h. x.overflow (y.overflow h);
+  told = told_then (refusals_of l) (refusals_of m) (refusals_of n) x.told y.told;
+  kept = λ p h. y.kept p (x.kept p h);
+  listed = λ p h. elim (y.listed p h) [
+    | inl before ↦ x.listed p before
+    | inr place ↦ inr (subst (λ bs. IsPlace bs p) (ap (λ (z : SeatView). z.bodies) x.view) place)
+  ];
+  fresh = λ fine p h. elim (y.fresh fine p h) [
+    | inl before ↦ elim (x.fresh (y.overflow fine) p before) [ inl first ↦ inl first | inr there ↦ inr (y.kept p there) ]
+    | inr there ↦ inr there
+  ];
+  lighter = omega (arith, x.lighter, y.lighter);
+}

@@ -1,0 +1,40 @@
+-- Which words are whose: each body lies in the heap, and no two of them share a word.
+use Rattle.std.proofs.Common.{◌≡◌, ℕ, ◌+◌, ◌<◌, ◌≤◌, List, ap, arith, Contains}
+use Rattle.std.proofs.lemmas.List.Elements.{All-contains}
+use Rattle.page_words.specs.Bodies.{Body, IsWhole, IsPlace}
+use Rattle.page_words.specs.Seat.{SeatView, IsView}
+
+pub whole_body : (v : SeatView) → IsView v → (b : Body) → Contains v.bodies b → IsWhole v.count b
+whole_body v is b h = All-contains (IsWhole v.count) v.bodies b is.whole h
+
+-- a header and a serial number
+pub two_words : (v : SeatView) → IsView v → (b : Body) → Contains v.bodies b → 2 ≤ b.size
+two_words v is b h = let whole = whole_body v is b h in omega arith
+
+pub within_heap : (v : SeatView) → IsView v → (b : Body) → Contains v.bodies b → b.place + b.size ≤ v.count
+within_heap v is b h = (whole_body v is b h).inside
+
+-- bodies that share a word are one
+pub shared_body : (v : SeatView) → IsView v → (b c : Body) → Contains v.bodies b → Contains v.bodies c → (m n : ℕ) → m < b.size → n < c.size
+    → b.place + m ≡ c.place + n → b ≡ c
+shared_body v is b c hb hc m n lm ln e = is.apart b c (b.place + m) hb hc (omega arith) (omega arith) (omega arith) (omega arith)
+
+-- and it is the same word of each
+pub same_offset : (v : SeatView) → IsView v → (b c : Body) → Contains v.bodies b → Contains v.bodies c → (m n : ℕ) → m < b.size → n < c.size
+    → b.place + m ≡ c.place + n → m ≡ n
+same_offset v is b c hb hc m n lm ln e =
+    let place : b.place ≡ c.place = ap (λ (x : Body). x.place) (shared_body v is b c hb hc m n lm ln e) in
+    omega arith
+
+-- one body alone has the place
+pub same_body : (v : SeatView) (b c : Body) → IsView v → Contains v.bodies b → Contains v.bodies c → b.place ≡ c.place → b ≡ c
+same_body v b c is hb hc same =
+    let two = two_words v is b hb in
+    let two_too = two_words v is c hc in
+    is.apart b c b.place hb hc (omega arith) (omega arith) (omega (arith, same)) (omega (arith, same))
+
+pub body_below : (v : SeatView) (b : Body) → IsView v → Contains v.bodies b → b.place < v.count
+body_below v b is h = omega (arith, two_words v is b h, within_heap v is b h)
+
+pub place_below : (v : SeatView) (a : ℕ) → IsView v → IsPlace v.bodies a → a < v.count
+place_below v a is at = omega (arith, body_below v at.0 is at.1, at.2)
