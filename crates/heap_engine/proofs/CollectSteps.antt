@@ -29,7 +29,9 @@ use Rattle.node_bodies.specs.Judgement.{nodes_after}
 use Rattle.heap_engine.specs.Stack.{HoldsWords, is_precise}
 use Rattle.heap_engine.specs.Changes.{collected_from}
 use Rattle.heap_engine.specs.Printed.{ran_lines}
-use Rattle.heap_engine.specs.Parts.{ObjectsView, HandlesView, CycleView, setup_of_objects, state_of, counted, HasMarks, IsPlaced, IsSweepOf, IsAtRest, IsReady, IsFrame}
+use Rattle.heap_engine.specs.declared.parts.Parts.{Parts}
+use Rattle.heap_engine.specs.Views.{ObjectsView, HandlesView, CycleView, setup_of_objects, HasMarks, IsPlaced, IsSweepOf, IsAtRest}
+use Rattle.heap_engine.specs.Parts.{setup_of, state_of, counted, IsReady, IsFrame}
 use Rattle.node_bodies.specs.Nodes.{place_of}
 use Rattle.node_bodies.specs.WeakNodes.{life-after, place-after, length-after, live-after, dead-after, count-stays}
 use Rattle.node_bodies.specs.KeptNodes.{refers_within}
@@ -133,11 +135,10 @@ on_false : (b : Bool) (P Q : Type 0) → b ≡ false → Q → MatchBool b P Q
 on_false b P Q is q = subst (λ x. MatchBool x P Q) (sym is) q
 
 -- where marking doesn't go on and the stack isn't refused, gc now wants memory or collects
-pub collects_or_not : (ph : Phase) (setup : Setup) (want : Want) (s : State) (piece : List Entry) (lines : List Line) (new : State) → IsAtRest ph s
-    → is_stack_refused want s.stack ≡ false → ph ≡ s.phase → WantsMemory s piece lines new ⊎ IsCollection setup want s piece lines new
-    → StepGcNow setup want s piece lines new
-collects_or_not ph setup want s piece lines new unused allowed phase done =
-    on_false (is_marking s.phase) _ _ (sym (ap is_marking phase) ∙ unused.calm) (on_false (is_stack_refused want s.stack) _ _ allowed done)
+pub collects_or_not : (setup : Setup) (want : Want) (s : State) (piece : List Entry) (lines : List Line) (new : State) → is_marking s.phase ≡ false
+    → is_stack_refused want s.stack ≡ false → WantsMemory s piece lines new ⊎ IsCollection setup want s piece lines new → StepGcNow setup want s piece lines new
+collects_or_not setup want s piece lines new calm allowed done =
+    on_false (is_marking s.phase) _ _ calm (on_false (is_stack_refused want s.stack) _ _ allowed done)
 
 pub step_collected : (ph : Phase) (setup : Setup) (want : Want) (s t new : State) (numbers : List ℕ) (kept : List Bool) (walked : Bool) (piece : List Entry) (lines : List Line) → SweepsToEnd setup.shape s numbers t
     → IsAtRest ph t → IsKept (took (started_state t) []) (hits_for want (took (started_state t) [])) kept
@@ -161,8 +162,8 @@ step_collected ph setup want s t new numbers kept walked piece lines ended unuse
   after = after;
 }
 
-at_rest : (o : ObjectsView) (h : HandlesView) (c : CycleView) → IsAtRest c.phase c.rest → IsAtRest c.phase (state_of o h c)
-at_rest o h c rest = record {
+at_rest : (s : Parts) → IsAtRest s.cycle.phase s.cycle.rest → IsAtRest s.cycle.phase (state_of s)
+at_rest s rest = record {
   calm = rest.calm;
   region_null = rest.region_null;
   none_running = rest.none_running;
@@ -173,10 +174,10 @@ abbrev pub registry_of : CycleView → RegistryView
 registry_of c = record { entries = c.registered; ran = c.ran }
 
 -- a sweep of all pages begins
-began_sweep : (mid new : ObjectsView) (h : HandlesView) (between after : CycleView) → IsSweepOf mid.shape between.phase between.rest.cursor between.sweep
+began_sweep : (mid new : ObjectsView) (between after : CycleView) → IsSweepOf mid.shape between.phase between.rest.cursor between.sweep
     → setup_of_objects new ≡ setup_of_objects mid → after.phase ≡ Sweeping → after.sweep ≡ record between.sweep { cursor = 0 } → after.rest.cursor ≡ 0
     → IsSweepOf new.shape after.phase after.rest.cursor after.sweep
-began_sweep mid new h between after is setup phase sweep cursor = record {
+began_sweep mid new between after is setup phase sweep cursor = record {
   pages = ap (λ (w : SweepView). w.pages) sweep ∙ is.pages ∙ sym (ap (λ (st : Setup). st.shape.pages) setup);
   cursor_is = ap (λ (w : SweepView). w.cursor) sweep ∙ sym cursor ∙ sym (ap (λ ph. pages_swept_in ph new.shape.pages after.rest.cursor) phase);
 }
@@ -196,102 +197,116 @@ began_marks new after s phase sweep judged =
     })
 
 -- from the old parts, through those after the end of an open sweep, to those after the pause
-pub record Collects (want : Want) (o mid new : ObjectsView) (h left : HandlesView) (c between after : CycleView) (numbers : List ℕ) : Type 0 where
-  pub before_rests : IsAtRest c.phase c.rest
-  pub rests : IsAtRest between.phase between.rest
-  pub ends : SweepsToEnd o.shape (state_of o h c) numbers (state_of mid h between)
-  pub ready : IsReady mid h between
-  pub allowed : is_stack_refused want h.stack.words ≡ false
-  pub setup : setup_of_objects mid ≡ setup_of_objects o
-  pub same_setup : setup_of_objects new ≡ setup_of_objects mid
-  pub paused : IsPaused mid.callbacks (slot_targets h.slots ++ hits_in (is_precise want) mid.nodes h.stack.addresses) mid.nodes new.nodes (registry_of between) (registry_of after)
-  pub sizes : (n : ℕ) → IsLive mid.nodes n → size_of (node_at new.nodes n) ≡ size_of (node_at mid.nodes n)
-  pub handles_left : left ≡ record h { weak_places = places_of new.nodes left.weak; weak = map (clear_slot (is_dead_at new.nodes)) h.weak }
+pub record Collects (want : Want) (s mid : Parts) (new : ObjectsView) (left : HandlesView) (after : CycleView) (numbers : List ℕ) : Type 0 where
+  pub calm : is_marking s.cycle.phase ≡ false
+  pub rests : IsAtRest mid.cycle.phase mid.cycle.rest
+  pub ends : SweepsToEnd s.objects.shape (state_of s) numbers (state_of mid)
+  pub others : mid ≡ record s { objects = mid.objects; cycle = mid.cycle }
+  pub ready : IsReady mid
+  pub allowed : is_stack_refused want s.handles.stack.words ≡ false
+  pub setup : setup_of mid ≡ setup_of s
+  pub same_setup : setup_of_objects new ≡ setup_of mid
+  pub paused : IsPaused mid.objects.callbacks (slot_targets mid.handles.slots ++ hits_in (is_precise want) mid.objects.nodes mid.handles.stack.addresses) mid.objects.nodes new.nodes
+      (registry_of mid.cycle) (registry_of after)
+  pub sizes : (n : ℕ) → IsLive mid.objects.nodes n → size_of (node_at new.nodes n) ≡ size_of (node_at mid.objects.nodes n)
+  pub handles_left : left ≡ record mid.handles { weak_places = places_of new.nodes left.weak; weak = map (clear_slot (is_dead_at new.nodes)) mid.handles.weak }
   pub judged_marks : IsJudged new.seat
   pub phase : after.phase ≡ Sweeping
-  pub sweep : after.sweep ≡ record between.sweep { cursor = 0 }
-  pub rest : after.rest ≡ collected_from (state_of mid h between)
-  pub ordinal : between.rest.ordinal ≡ c.rest.ordinal
+  pub sweep : after.sweep ≡ record mid.cycle.sweep { cursor = 0 }
+  pub rest : after.rest ≡ collected_from (state_of mid)
+  pub ordinal : mid.cycle.rest.ordinal ≡ s.cycle.rest.ordinal
 
-module _ (want : Want) (o mid new : ObjectsView) (h left : HandlesView) (c between after : CycleView) (numbers : List ℕ)
-    (is : Collects want o mid new h left c between after numbers) where
+module _ (want : Want) (s mid : Parts) (new : ObjectsView) (left : HandlesView) (after : CycleView) (numbers : List ℕ)
+    (is : Collects want s mid new left after numbers) where
   abbrev kept : List Bool
   kept = is.paused.kept
 
+  abbrev old_nodes : List Node
+  old_nodes = mid.objects.nodes
+
   abbrev judged_nodes : List Node
-  judged_nodes = condemn kept mid.nodes
+  judged_nodes = condemn kept old_nodes
 
   abbrev registrations : List Registration
-  registrations = registrations_of between.registered
+  registrations = registrations_of mid.cycle.registered
+
+  abbrev collected : Parts
+  collected = record mid { objects = new; handles = left; cycle = after }
 
   lives : (n : ℕ) → (node_at new.nodes n).life ≡ (node_at judged_nodes n).life
-  lives n = is.paused.stayed.life n ∙ life-after kept mid.nodes n
+  lives n = is.paused.stayed.life n ∙ life-after kept old_nodes n
 
   -- the state of the parts after the pause
-  collected_parts : state_of new left after ≡ collected_state (setup_of_objects mid) (state_of mid h between) kept
+  collected_parts : state_of collected ≡ collected_state (setup_of mid) (state_of mid) kept
   collected_parts =
+      let h : HandlesView = mid.handles in
       let build : List Node → HandlesView → List (Option ℕ) → List Registration → Phase → State → State = λ ns k weak rs ph r.
       record r { nodes = ns; slots = k.slots; weak = weak; stack = k.stack.words; registrations = rs; phase = ph } in
-      let weak : List (Option ℕ) = weak_after kept mid.nodes h.weak in
-      let nodes : List Node = prefinalised mid.callbacks (run_order judged_nodes registrations) (nodes_after kept mid.nodes) in
+      let weak : List (Option ℕ) = weak_after kept old_nodes h.weak in
+      let nodes : List Node = prefinalised mid.objects.callbacks (run_order judged_nodes registrations) (nodes_after kept old_nodes) in
       let rest : List Registration = filter (λ r. not (dies judged_nodes r)) registrations in
       ap (λ ns. build ns left left.weak (registrations_of after.registered) after.phase after.rest) is.paused.nodes_are
       ∙ ap (λ (k : HandlesView). build nodes k k.weak (registrations_of after.registered) after.phase after.rest) is.handles_left
       ∙ ap (λ w. build nodes h w (registrations_of after.registered) after.phase after.rest)
       (clear_agree (is_dead_at new.nodes) (is_dead_at judged_nodes) h.weak (λ n. ap is_dead (lives n)))
-      ∙ ap (λ rs. build nodes h weak rs after.phase after.rest) (ap registrations_of is.paused.left ∙ registrations_left judged_nodes between.registered)
+      ∙ ap (λ rs. build nodes h weak rs after.phase after.rest) (ap registrations_of is.paused.left ∙ registrations_left judged_nodes mid.cycle.registered)
       ∙ ap (λ ph. build nodes h weak rest ph after.rest) is.phase
       ∙ ap (build nodes h weak rest Sweeping) is.rest
 
+  -- the stack is not refused after the sweep, either
+  still_allowed : is_stack_refused want mid.handles.stack.words ≡ false
+  still_allowed = ap (λ (x : Parts). is_stack_refused want x.handles.stack.words) is.others ∙ is.allowed
+
   pub collection_steps : (walked : Bool) (piece : List Entry) (lines : List Line) (told : Line) → ReachIsLeast → piece ≡ start_entry ∷ pause_entry ∷ []
       → told ≡ pause_line new.nodes walked → lines ≡ finalise_lines numbers ++ told ∷ ran_lines true after.ran
-      → StepGcNow (setup_of_objects o) want (state_of o h c) piece lines (answered (state_of new left after))
+      → StepGcNow (setup_of s) want (state_of s) piece lines (answered (state_of collected))
   collection_steps walked piece lines told law taken told_is printed =
-      let t : State = state_of mid h between in
-      let rests : IsAtRest between.phase t = at_rest mid h between is.rests in
-      let hits : List ℕ = hits_in (is_precise want) mid.nodes h.stack.addresses in
-      let same : StepGcNow (setup_of_objects mid) want (state_of o h c) piece lines (answered (state_of new left after)) =
-      collects_or_not c.phase (setup_of_objects mid) want (state_of o h c) piece lines (answered (state_of new left after)) (at_rest o h c is.before_rests) is.allowed refl
-      (inr (step_collected between.phase (setup_of_objects mid) want (state_of o h c) t (answered (state_of new left after)) numbers kept walked piece lines
-      (subst (λ (st : Setup). SweepsToEnd st.shape (state_of o h c) numbers t) (sym is.setup) is.ends) rests
-      (pause_keeps between.phase want t hits kept law (refers_within (setup_of_objects mid) mid.nodes (valid_nodes mid h between is.ready)) rests is.ready.valid.slots
-      (has_roots want t h.stack refl is.allowed is.ready.valid.stack is.ready.tied.stack) is.paused.reached)
+      let t : State = state_of mid in
+      let rests : IsAtRest mid.cycle.phase t = at_rest mid is.rests in
+      let hits : List ℕ = hits_in (is_precise want) old_nodes mid.handles.stack.addresses in
+      let same : StepGcNow (setup_of mid) want (state_of s) piece lines (answered (state_of collected)) =
+      collects_or_not (setup_of mid) want (state_of s) piece lines (answered (state_of collected)) is.calm is.allowed
+      (inr (step_collected mid.cycle.phase (setup_of mid) want (state_of s) t (answered (state_of collected)) numbers kept walked piece lines
+      (subst (λ (st : Setup). SweepsToEnd st.shape (state_of s) numbers t) (sym is.setup) is.ends) rests
+      (pause_keeps mid.cycle.phase want t hits kept law (refers_within (setup_of mid) old_nodes (valid_nodes mid is.ready)) rests is.ready.valid.slots
+      (has_roots want t mid.handles.stack refl still_allowed is.ready.valid.stack is.ready.tied.stack) is.paused.reached)
       taken
       (printed
-      ∙ ap (λ l. finalise_lines numbers ++ l ∷ ran_lines true after.ran) (told_is ∙ pause_line_after kept mid.nodes new.nodes walked is.paused.stayed)
+      ∙ ap (λ l. finalise_lines numbers ++ l ∷ ran_lines true after.ran) (told_is ∙ pause_line_after kept old_nodes new.nodes walked is.paused.stayed)
       ∙ ap (λ ls. finalise_lines numbers ++ pause_line judged_nodes walked ∷ ls)
-      (ap (ran_lines true) is.paused.ran ∙ lines_ran judged_nodes between.registered))
+      (ap (ran_lines true) is.paused.ran ∙ lines_ran judged_nodes mid.cycle.registered))
       (ap answered collected_parts))) in
-      subst (λ (st : Setup). StepGcNow st want (state_of o h c) piece lines (answered (state_of new left after))) is.setup same
+      subst (λ (st : Setup). StepGcNow st want (state_of s) piece lines (answered (state_of collected))) is.setup same
 
-  places : (n : ℕ) → place_of new.nodes n ≡ place_of mid.nodes n
-  places n = is.paused.stayed.place n ∙ place-after kept mid.nodes n
+  places : (n : ℕ) → place_of new.nodes n ≡ place_of old_nodes n
+  places n = is.paused.stayed.place n ∙ place-after kept old_nodes n
 
   -- the registrations that are left hold the places of their nodes
   registered_left : All (IsPlaced new.nodes (length new.callbacks)) after.registered
   registered_left =
       subst (All (IsPlaced new.nodes (length new.callbacks))) (sym is.paused.left)
-      (All-filter (λ e. not (dies judged_nodes (registration_of e))) (IsPlaced new.nodes (length new.callbacks)) between.registered
-      (placed_still mid new between.registered places (ap (λ (st : Setup). st.callbacks) is.same_setup) is.ready.tied.registered))
+      (All-filter (λ e. not (dies judged_nodes (registration_of e))) (IsPlaced new.nodes (length new.callbacks)) mid.cycle.registered
+      (placed_still mid.objects new mid.cycle.registered places (ap (λ (st : Setup). st.callbacks) is.same_setup) is.ready.tied.registered))
 
-  pub collection_frame : IsFrame o c new left (counted after)
+  pub collection_frame : IsFrame s (counted collected)
   collection_frame =
-      let ordinal : after.rest.ordinal ≡ c.rest.ordinal = ap (λ (s : State). s.ordinal) is.rest ∙ is.ordinal in
+      let h : HandlesView = mid.handles in
+      let ordinal : after.rest.ordinal ≡ s.cycle.rest.ordinal = ap (λ (st : State). st.ordinal) is.rest ∙ is.ordinal in
       record {
         setup = is.same_setup ∙ is.setup;
         ordinal = ap (λ n. n + 1) ordinal;
         tied = record {
-          slots = ap (λ (k : HandlesView). k.places) is.handles_left ∙ is.ready.tied.slots ∙ sym (places-same (place_of new.nodes) (place_of mid.nodes) h.slots places)
+          slots = ap (λ (k : HandlesView). k.places) is.handles_left ∙ is.ready.tied.slots ∙ sym (places-same (place_of new.nodes) (place_of old_nodes) h.slots places)
               ∙ sym (ap (λ (k : HandlesView). places_of new.nodes k.slots) is.handles_left);
           weak = ap (λ (k : HandlesView). k.weak_places) is.handles_left;
           stack = subst (λ (k : HandlesView). HoldsWords new.nodes k.stack) (sym is.handles_left)
-              (words_held mid.nodes new.nodes h.stack
-              (All-weaker (IsLive mid.nodes) (StaysAt mid.nodes new.nodes) (λ n live. (places n, is.sizes n live)) (stack_targets h.stack.words) is.ready.valid.stack)
+              (words_held old_nodes new.nodes h.stack
+              (All-weaker (IsLive old_nodes) (StaysAt old_nodes new.nodes) (λ n live. (places n, is.sizes n live)) (stack_targets h.stack.words) is.ready.valid.stack)
               is.ready.tied.stack);
           registered = registered_left;
-          few = omega (arith, is.ready.tied.few, ordinal, is.ordinal, ap length is.paused.left, ap length is.paused.ran, counts_run judged_nodes between.registered);
-          sweep = began_sweep mid new h between after is.ready.tied.sweep is.same_setup is.phase is.sweep (ap (λ (s : State). s.cursor) is.rest);
-          marks = began_marks new after between.sweep is.phase is.sweep is.judged_marks;
-          made = omega (arith, is.ready.tied.made, ordinal, is.ordinal, is.paused.stayed.count, length-after kept mid.nodes);
+          few = omega (arith, is.ready.tied.few, ordinal, is.ordinal, ap length is.paused.left, ap length is.paused.ran, counts_run judged_nodes mid.cycle.registered);
+          sweep = began_sweep mid.objects new mid.cycle after is.ready.tied.sweep is.same_setup is.phase is.sweep (ap (λ (st : State). st.cursor) is.rest);
+          marks = began_marks new after mid.cycle.sweep is.phase is.sweep is.judged_marks;
+          made = omega (arith, is.ready.tied.made, ordinal, is.ordinal, is.paused.stayed.count, length-after kept old_nodes);
         };
       }

@@ -23,7 +23,7 @@ use Rattle.node_bodies.specs.AmongNodes.{IsAmong, among_cases, among_left, among
 use Rattle.node_bodies.specs.BodyGraph.{some}
 use Rattle.node_bodies.specs.Judgement.{IsReached}
 use Rattle.node_bodies.specs.NodePlaces.{live_is_there, there_below}
-use Rattle.heap_engine.specs.Parts.{IsAtRest}
+use Rattle.heap_engine.specs.Views.{IsAtRest}
 use Rattle.heap_engine.specs.Stack.{StackView, PointsInside, HoldsWords, is_precise}
 use Rattle.heap_engine.specs.View.{start_entry}
 

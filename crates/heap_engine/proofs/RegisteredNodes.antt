@@ -4,7 +4,9 @@ use Rattle.gc_graph.specs.State.{Node, IsLive}
 use Rattle.gc_graph.specs.State.Life.{Live, Gone}
 use Rattle.callback_table.specs.declared.registry.Registered.{Registered}
 use Rattle.callback_table.specs.Registry.{IsRegistered}
-use Rattle.heap_engine.specs.Parts.{ObjectsView, HandlesView, CycleView, IsPlaced, IsReady}
+use Rattle.heap_engine.specs.declared.parts.Parts.{Parts}
+use Rattle.heap_engine.specs.Views.{IsPlaced}
+use Rattle.heap_engine.specs.Parts.{IsReady}
 use Rattle.node_bodies.specs.NodePlaces.{live_is_there, there_below}
 use Rattle.heap_engine.proofs.Registrations.{live_entries}
 
@@ -19,6 +21,6 @@ one_registered nodes callbacks e placed live = record {
 }
 
 -- each stands at the place of its node
-pub registered_placed : (o : ObjectsView) (h : HandlesView) (c : CycleView) → IsReady o h c → All (IsRegistered o.nodes (length o.callbacks)) c.registered
-registered_placed o h c ready = λ k d low.
-    one_registered o.nodes (length o.callbacks) _ (ready.tied.registered k d low) (live_entries o.nodes c.registered ready.valid.registered k d low)
+pub registered_placed : (s : Parts) → IsReady s → All (IsRegistered s.objects.nodes (length s.objects.callbacks)) s.cycle.registered
+registered_placed s ready = λ k d low.
+    one_registered s.objects.nodes (length s.objects.callbacks) _ (ready.tied.registered k d low) (live_entries s.objects.nodes s.cycle.registered ready.valid.registered k d low)

@@ -9,8 +9,9 @@ use Rattle.gc_graph.specs.State.{Setup, Node, Registration, IsLive, type_at}
 use Rattle.gc_graph.specs.Pause.{dies, run_order, prefinalise_lines}
 use Rattle.callback_table.specs.declared.registry.Registered.{Registered}
 use Rattle.callback_table.specs.Registry.{registration_of, registrations_of, registered, placed_at, pair_of, pairs_run, entries_left}
-use Rattle.heap_engine.specs.Changes.{placed_last, registered_in, unregistered}
-use Rattle.heap_engine.specs.Parts.{ObjectsView, CycleView, setup_of_objects}
+use Rattle.heap_engine.specs.Changes.{placed_last}
+use Rattle.heap_engine.specs.declared.parts.Parts.{Parts}
+use Rattle.heap_engine.specs.Parts.{setup_of, registered_in, unregistered}
 use Rattle.heap_engine.specs.Printed.{ran_lines}
 
 -- ---- a new object's
@@ -96,29 +97,28 @@ counts_run xs entries =
 
 -- ---- while the new object has no place yet
 
--- without the registrations of the new object, the cycle is as it was
-pub left_out_before : (o : ObjectsView) (old now : CycleView) (t count : ℕ) → now ≡ registered_in o old t 0 → count ≡ length (type_at (setup_of_objects o) t).prefinalizers
-    → unregistered count now ≡ old
-left_out_before o old now t count registers counted =
-    let numbers : List ℕ = (type_at (setup_of_objects o) t).prefinalizers in
-    let joined : List Registered = (registered_in o old t 0).registered in
-    ap (unregistered count) registers ∙ ap (λ n. record old { registered = take (length joined - n) joined }) counted
-    ∙ ap (λ (es : List Registered). record old { registered = es }) (taken_away (length o.nodes) old.registered numbers)
+-- without the registrations of the new object, the parts are as they were
+pub left_out_before : (s now : Parts) (t count : ℕ) → now ≡ registered_in s t 0 → count ≡ length (type_at (setup_of s) t).prefinalizers → unregistered count now ≡ s
+left_out_before s now t count registers counted =
+    let numbers : List ℕ = (type_at (setup_of s) t).prefinalizers in
+    let joined : List Registered = (registered_in s t 0).cycle.registered in
+    ap (unregistered count) registers ∙ ap (λ n. record s { cycle = record s.cycle { registered = take (length joined - n) joined } }) counted
+    ∙ ap (λ (es : List Registered). record s { cycle = record s.cycle { registered = es } }) (taken_away (length s.objects.nodes) s.cycle.registered numbers)
 
 -- once it has its place, they are registered with it
-pub joined_after : (o mid : ObjectsView) (old now between : CycleView) (t place count : ℕ) → now ≡ registered_in o old t 0
-    → count ≡ length (type_at (setup_of_objects o) t).prefinalizers → between.registered ≡ now.registered → setup_of_objects mid ≡ setup_of_objects o → length mid.nodes ≡ length o.nodes
-    → record between { registered = placed_last count place between.registered } ≡ registered_in mid (unregistered count between) t place
-joined_after o mid old now between t place count registers counted same setup made =
-    let numbers : List ℕ = (type_at (setup_of_objects o) t).prefinalizers in
-    let joined : List Registered = (registered_in o old t 0).registered in
-    let all : between.registered ≡ joined = same ∙ ap (λ (k : CycleView). k.registered) registers in
-    let placed : placed_last count place between.registered ≡ old.registered ++ map (registered (length o.nodes) place) numbers =
-    ap (placed_last count place) all ∙ ap (λ n. placed_last n place joined) counted ∙ placed_is (length o.nodes) place old.registered numbers in
-    let kept : take (length between.registered - count) between.registered ≡ old.registered =
-    ap (λ (es : List Registered). take (length es - count) es) all ∙ ap (λ n. take (length joined - n) joined) counted ∙ taken_away (length o.nodes) old.registered numbers in
-    let after : (registered_in mid (unregistered count between) t place).registered ≡ old.registered ++ map (registered (length o.nodes) place) numbers =
-    ap (λ es. es ++ map (registered (length mid.nodes) place) (type_at (setup_of_objects mid) t).prefinalizers) kept
-    ∙ ap (λ n. old.registered ++ map (registered n place) (type_at (setup_of_objects mid) t).prefinalizers) made
-    ∙ ap (λ (st : Setup). old.registered ++ map (registered (length o.nodes) place) (type_at st t).prefinalizers) setup in
-    ap (λ (es : List Registered). record between { registered = es }) (placed ∙ sym after)
+pub joined_after : (s now mid : Parts) (t place count : ℕ) → now ≡ registered_in s t 0 → count ≡ length (type_at (setup_of s) t).prefinalizers
+    → mid.cycle.registered ≡ now.cycle.registered → setup_of mid ≡ setup_of s → length mid.objects.nodes ≡ length s.objects.nodes
+    → record mid.cycle { registered = placed_last count place mid.cycle.registered } ≡ (registered_in (unregistered count mid) t place).cycle
+joined_after s now mid t place count registers counted same setup made =
+    let numbers : List ℕ = (type_at (setup_of s) t).prefinalizers in
+    let joined : List Registered = (registered_in s t 0).cycle.registered in
+    let all : mid.cycle.registered ≡ joined = same ∙ ap (λ (k : Parts). k.cycle.registered) registers in
+    let placed : placed_last count place mid.cycle.registered ≡ s.cycle.registered ++ map (registered (length s.objects.nodes) place) numbers =
+    ap (placed_last count place) all ∙ ap (λ n. placed_last n place joined) counted ∙ placed_is (length s.objects.nodes) place s.cycle.registered numbers in
+    let kept : take (length mid.cycle.registered - count) mid.cycle.registered ≡ s.cycle.registered =
+    ap (λ (es : List Registered). take (length es - count) es) all ∙ ap (λ n. take (length joined - n) joined) counted ∙ taken_away (length s.objects.nodes) s.cycle.registered numbers in
+    let after : (registered_in (unregistered count mid) t place).cycle.registered ≡ s.cycle.registered ++ map (registered (length s.objects.nodes) place) numbers =
+    ap (λ es. es ++ map (registered (length mid.objects.nodes) place) (type_at (setup_of mid) t).prefinalizers) kept
+    ∙ ap (λ n. s.cycle.registered ++ map (registered n place) (type_at (setup_of mid) t).prefinalizers) made
+    ∙ ap (λ (st : Setup). s.cycle.registered ++ map (registered (length s.objects.nodes) place) (type_at st t).prefinalizers) setup in
+    ap (λ (es : List Registered). record mid.cycle { registered = es }) (placed ∙ sym after)

@@ -24,23 +24,28 @@ use Rattle.sweeper.specs.Sweeping.{SweepView, cursor_at}
 use Rattle.heap_engine.specs.Changes.{SweepsParts}
 use Rattle.heap_engine.specs.Finalising.{IsSweptTo, SweepsOn}
 use Rattle.heap_engine.specs.Objects.{HaveCallbacks}
-use Rattle.heap_engine.specs.Parts.{ObjectsView, HandlesView, CycleView, setup_of_objects, state_of, HasMarks, IsSweepOf, IsReady}
+use Rattle.heap_engine.specs.declared.parts.Parts.{Parts}
+use Rattle.heap_engine.specs.Views.{ObjectsView, CycleView, HasMarks, IsSweepOf}
+use Rattle.heap_engine.specs.Parts.{setup_of, state_of, IsReady}
 use Rattle.heap_engine.proofs.NodesSwept.{place-finalised, size-finalised}
 use Rattle.heap_engine.proofs.PlacementSteps.{sweeps_nothing}
 use Rattle.heap_engine.proofs.StackWords.{StaysAt}
 use Rattle.heap_engine.proofs.Ties.{tied_nodes}
 
 -- the parts put together are the state that the sweep comes to
-pub parts_sweep : (o new : ObjectsView) (h : HandlesView) (c after : CycleView) (pages : ℕ) (before told : List ℕ) → c.phase ≡ Sweeping
-    → (is : SweepsParts o new c after pages before told) → SweepsTo o.shape (state_of o h c) pages is.nodes.numbers (state_of new h after)
-parts_sweep o new h c after pages before told sweeping is =
-    let nodes : List Node = map (finalise (pages * o.shape.page_words)) o.nodes in
+pub parts_sweep : (s : Parts) (new : ObjectsView) (after : CycleView) (pages : ℕ) (before told : List ℕ) → s.cycle.phase ≡ Sweeping
+    → (is : SweepsParts s.objects new s.cycle after pages before told)
+    → SweepsTo s.objects.shape (state_of s) pages is.nodes.numbers (state_of (record s { objects = new; cycle = after }))
+parts_sweep s new after pages before told sweeping is =
+    let shape : Shape = s.objects.shape in
+    let nodes : List Node = map (finalise (pages * shape.page_words)) s.objects.nodes in
+    let entries : List Registered = s.cycle.registered in
     let build : List Node → List Registered → Phase → State → State = λ ns es ph r.
-    record r { nodes = ns; slots = h.slots; weak = h.weak; stack = h.stack.words; registrations = registrations_of es; phase = ph } in
-    subst (λ ph. SweepsInPhase ph o.shape (state_of o h c) pages is.nodes.numbers (state_of new h after)) (sym sweeping) (record {
+    record r { nodes = ns; slots = s.handles.slots; weak = s.handles.weak; stack = s.handles.stack.words; registrations = registrations_of es; phase = ph } in
+    subst (λ ph. SweepsInPhase ph shape (state_of s) pages is.nodes.numbers (state_of (record s { objects = new; cycle = after }))) (sym sweeping) (record {
       finalised = is.nodes.order;
       after = ap (λ ns. build ns after.registered after.phase after.rest) is.nodes.nodes ∙ ap (λ es. build nodes es after.phase after.rest) is.registered
-          ∙ ap (λ ph. build nodes c.registered ph after.rest) is.phase ∙ ap (build nodes c.registered (phase_at o.shape pages)) is.rest;
+          ∙ ap (λ ph. build nodes entries ph after.rest) is.phase ∙ ap (build nodes entries (phase_at shape pages)) is.rest;
     })
 
 -- ---- the state stays valid
@@ -114,28 +119,28 @@ marks_after o new c after pages before told is =
     (subst (λ (w : SweepView). HasMarks after.phase (cursor_at o.shape w) new.seat) (sym is.sweep) is.marks)
 
 -- an open sweep has pages left, and where pages are left a sweep is open
-pub cursor_open : (o : ObjectsView) (h : HandlesView) (c : CycleView) → IsReady o h c → c.phase ≡ Sweeping → c.sweep.cursor < o.shape.pages
-cursor_open o h c ready sweeping =
-    let settled = subst (λ ph. IsSettled o.shape ph c.rest.cursor o.nodes) sweeping ready.valid.settled in
-    omega (arith, settled.0, ready.tied.sweep.cursor_is, ap (λ ph. pages_swept_in ph o.shape.pages c.rest.cursor) sweeping)
+pub cursor_open : (s : Parts) → IsReady s → s.cycle.phase ≡ Sweeping → s.cycle.sweep.cursor < s.objects.shape.pages
+cursor_open s ready sweeping =
+    let settled = subst (λ ph. IsSettled s.objects.shape ph s.cycle.rest.cursor s.objects.nodes) sweeping ready.valid.settled in
+    omega (arith, settled.0, ready.tied.sweep.cursor_is, ap (λ ph. pages_swept_in ph s.objects.shape.pages s.cycle.rest.cursor) sweeping)
 
 open_phase : (phase : Phase) (pages cursor at : ℕ) → at ≡ pages_swept_in phase pages cursor → at < pages → phase ≡ Sweeping
 open_phase Idle pages cursor at is low = absurd (omega (arith, is, low))
 open_phase Marking pages cursor at is low = absurd (omega (arith, is, low))
 open_phase Sweeping pages cursor at is low = refl
 
-pub still_open : (o : ObjectsView) (h : HandlesView) (c : CycleView) → IsReady o h c → c.sweep.cursor < o.shape.pages → c.phase ≡ Sweeping
-still_open o h c ready low = open_phase c.phase o.shape.pages c.rest.cursor c.sweep.cursor ready.tied.sweep.cursor_is low
+pub still_open : (s : Parts) → IsReady s → s.cycle.sweep.cursor < s.objects.shape.pages → s.cycle.phase ≡ Sweeping
+still_open s ready low = open_phase s.cycle.phase s.objects.shape.pages s.cycle.rest.cursor s.cycle.sweep.cursor ready.tied.sweep.cursor_is low
 
-pub marks_open : (o : ObjectsView) (h : HandlesView) (c : CycleView) → IsReady o h c → c.phase ≡ Sweeping → IsSweptTo (cursor_at o.shape c.sweep) o.seat
-marks_open o h c ready sweeping = subst (λ ph. HasMarks ph (cursor_at o.shape c.sweep) o.seat) sweeping ready.tied.marks
+pub marks_open : (s : Parts) → IsReady s → s.cycle.phase ≡ Sweeping → IsSweptTo (cursor_at s.objects.shape s.cycle.sweep) s.objects.seat
+marks_open s ready sweeping = subst (λ ph. HasMarks ph (cursor_at s.objects.shape s.cycle.sweep) s.objects.seat) sweeping ready.tied.marks
 
 -- a sweep that hasn't gone on yet
-pub nothing_swept : (o : ObjectsView) (h : HandlesView) (c : CycleView) (told : List ℕ) → IsReady o h c → told ≡ [] → SweepsOn o.shape (state_of o h c) c.sweep.cursor [] told (state_of o h c)
-nothing_swept o h c told ready empty = record {
+pub nothing_swept : (s : Parts) (told : List ℕ) → IsReady s → told ≡ [] → SweepsOn s.objects.shape (state_of s) s.cycle.sweep.cursor [] told (state_of s)
+nothing_swept s told ready empty = record {
   numbers = [];
   follow = empty;
-  goes = subst (λ k. SweepsTo o.shape (state_of o h c) k [] (state_of o h c)) (sym ready.tied.sweep.cursor_is) (sweeps_nothing o.shape (state_of o h c) ready.valid.settled);
+  goes = subst (λ k. SweepsTo s.objects.shape (state_of s) k [] (state_of s)) (sym ready.tied.sweep.cursor_is) (sweeps_nothing s.objects.shape (state_of s) ready.valid.settled);
 }
 
 -- and one that went on by a page more
@@ -150,20 +155,24 @@ sweep_joined shape old mid new pages more told after numbers join before up with
 stays_swept : (limit : ℕ) (old new : List Node) (n : ℕ) → new ≡ map (finalise limit) old → StaysAt old new n
 stays_swept limit old new n is = subst (λ (ns : List Node). StaysAt old ns n) (sym is) (place-finalised limit old n, size-finalised limit old n)
 
-pub parts_ready : (o new : ObjectsView) (h : HandlesView) (c after : CycleView) (pages : ℕ) (before told : List ℕ) → StepKeepsValid → IsShape o.shape → IsReady o h c
-    → c.phase ≡ Sweeping → c.sweep.cursor < pages → pages ≤ o.shape.pages → SweepsParts o new c after pages before told → IsReady new h after
-parts_ready o new h c after pages before told law shape ready sweeping further within is =
+pub parts_ready : (s : Parts) (new : ObjectsView) (after : CycleView) (pages : ℕ) (before told : List ℕ) → StepKeepsValid → IsShape s.objects.shape → IsReady s
+    → s.cycle.phase ≡ Sweeping → s.cycle.sweep.cursor < pages → pages ≤ s.objects.shape.pages → SweepsParts s.objects new s.cycle after pages before told
+    → IsReady (record s { objects = new; cycle = after })
+parts_ready s new after pages before told law shape ready sweeping further within is =
+    let o : ObjectsView = s.objects in
+    let y : CycleView = s.cycle in
+    let t : State = state_of (record s { objects = new; cycle = after }) in
     let limit : ℕ = pages * o.shape.page_words in
-    let cursor : c.sweep.cursor ≡ c.rest.cursor = ready.tied.sweep.cursor_is ∙ ap (λ ph. pages_swept_in ph o.shape.pages c.rest.cursor) sweeping in
-    let goes : SweepsTo o.shape (state_of o h c) pages is.nodes.numbers (state_of new h after) = parts_sweep o new h c after pages before told sweeping is in
-    let ordinal : after.rest.ordinal ≡ c.rest.ordinal = ap (λ (s : State). s.ordinal) is.rest in
+    let cursor : y.sweep.cursor ≡ y.rest.cursor = ready.tied.sweep.cursor_is ∙ ap (λ ph. pages_swept_in ph o.shape.pages y.rest.cursor) sweeping in
+    let goes : SweepsTo o.shape (state_of s) pages is.nodes.numbers t = parts_sweep s new after pages before told sweeping is in
+    let ordinal : after.rest.ordinal ≡ y.rest.ordinal = ap (λ (st : State). st.ordinal) is.rest in
     record {
-      valid = subst (λ (st : Setup). IsValid st (state_of new h after)) (sym is.setup)
-          (valid_swept (setup_of_objects o) (state_of o h c) (state_of new h after) pages is.nodes.numbers law shape ready.valid sweeping (omega (arith, further, cursor)) within goes
+      valid = subst (λ (st : Setup). IsValid st t) (sym is.setup)
+          (valid_swept (setup_of s) (state_of s) t pages is.nodes.numbers law shape ready.valid sweeping (omega (arith, further, cursor)) within goes
           (ap is_marking is.phase ∙ not_marking o.shape pages));
       called = subst (λ (st : Setup). HaveCallbacks (length st.callbacks) st.types) (sym is.setup) ready.called;
-      tied = tied_nodes o new h c after ready.tied (λ n. stays_swept limit o.nodes new.nodes n is.nodes.nodes) is.setup is.registered is.ran (omega (arith, ordinal))
-          (sweep_after o new c after pages before told is ready.tied.sweep.pages) (marks_after o new c after pages before told is)
+      tied = tied_nodes s new after ready.tied (λ n. stays_swept limit o.nodes new.nodes n is.nodes.nodes) is.setup is.registered is.ran (omega (arith, ordinal))
+          (sweep_after o new y after pages before told is ready.tied.sweep.pages) (marks_after o new y after pages before told is)
           (omega (arith, ready.tied.made, ordinal, ap length is.nodes.nodes, length-map o.nodes (finalise limit)));
       most = omega (arith, ready.most, ordinal);
     }

@@ -14,7 +14,7 @@ use Rattle.node_bodies.specs.NodePlaces.{serials_fit}
 use Rattle.heap_engine.specs.Changes.{swept_to, SweepsParts}
 use Rattle.heap_engine.specs.Finalising.{IsSweptTo, FinalisesBelow}
 use Rattle.heap_engine.specs.Objects.{AreObjects}
-use Rattle.heap_engine.specs.Parts.{ObjectsView, CycleView, setup_of_objects, HasMarks}
+use Rattle.heap_engine.specs.Views.{ObjectsView, CycleView, setup_of_objects, HasMarks}
 use Rattle.heap_engine.proofs.NodesSwept.{held_below, finalises_below}
 
 -- the objects may be swept from the cursor on where all is swept below it

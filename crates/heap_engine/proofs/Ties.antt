@@ -11,13 +11,15 @@ use Rattle.sweeper.specs.Sweeping.{cursor_at}
 use Rattle.node_bodies.specs.Nodes.{place_of, AreOfValid}
 use Rattle.node_bodies.specs.Places.{places_of}
 use Rattle.heap_engine.specs.Objects.{IsLiveAt}
-use Rattle.heap_engine.specs.Parts.{ObjectsView, HandlesView, CycleView, setup_of_objects, state_of, counted, HasMarks, IsPlaced, IsSweepOf, AreTied, IsReady}
+use Rattle.heap_engine.specs.declared.parts.Parts.{Parts}
+use Rattle.heap_engine.specs.Views.{ObjectsView, CycleView, setup_of_objects, HasMarks, IsPlaced, IsSweepOf}
+use Rattle.heap_engine.specs.Parts.{setup_of, state_of, counted, AreTied, IsReady}
 use Rattle.heap_engine.specs.Changes.{put_in, copied_in, weakened_in, popped_in}
 use Rattle.node_bodies.specs.KeptNodes.{slots_live}
 use Rattle.heap_engine.proofs.StackWords.{StaysAt, words_held, words_popped}
 
-pub valid_nodes : (o : ObjectsView) (h : HandlesView) (c : CycleView) → IsReady o h c → AreOfValid (setup_of_objects o) o.nodes
-valid_nodes o h c ready = (state_of o h c, ready.valid, refl)
+pub valid_nodes : (s : Parts) → IsReady s → AreOfValid (setup_of s) s.objects.nodes
+valid_nodes s ready = (state_of s, ready.valid, refl)
 
 -- ---- slots
 
@@ -48,30 +50,31 @@ named_held nodes places slots p a held live is =
     (named.0, named.1, (live_held nodes slots p live named.0 named.1, named.2))
 
 -- a slot holds the place of what it names
-pub slot_place : (o : ObjectsView) (h : HandlesView) (c : CycleView) (p : ℕ) → AreTied o h c → get_or h.places p None ≡ option_map (place_of o.nodes) (get_or h.slots p None)
-slot_place o h c p tied = place_held o.nodes h.places h.slots p tied.slots
+pub slot_place : (s : Parts) (p : ℕ) → AreTied s → get_or s.handles.places p None ≡ option_map (place_of s.objects.nodes) (get_or s.handles.slots p None)
+slot_place s p tied = place_held s.objects.nodes s.handles.places s.handles.slots p tied.slots
 
-pub slot_live : (o : ObjectsView) (h : HandlesView) (c : CycleView) (p : ℕ) → IsReady o h c → ForSome (get_or h.slots p None) (IsLive o.nodes)
-slot_live o h c p ready = live_held o.nodes h.slots p ready.valid.slots
+pub slot_live : (s : Parts) (p : ℕ) → IsReady s → ForSome (get_or s.handles.slots p None) (IsLive s.objects.nodes)
+slot_live s p ready = live_held s.objects.nodes s.handles.slots p ready.valid.slots
 
 -- a slot that holds a place names the live node there
-pub slot_names : (o : ObjectsView) (h : HandlesView) (c : CycleView) (p a : ℕ) → IsReady o h c → get_or h.places p None ≡ Some a
-    → (n : ℕ) × (get_or h.slots p None ≡ Some n) × IsLiveAt o.nodes n a
-slot_names o h c p a ready is = named_held o.nodes h.places h.slots p a ready.tied.slots ready.valid.slots is
+pub slot_names : (s : Parts) (p a : ℕ) → IsReady s → get_or s.handles.places p None ≡ Some a
+    → (n : ℕ) × (get_or s.handles.slots p None ≡ Some n) × IsLiveAt s.objects.nodes n a
+slot_names s p a ready is = named_held s.objects.nodes s.handles.places s.handles.slots p a ready.tied.slots ready.valid.slots is
 
 -- and so does a weak slot
-pub weak_slot_names : (o : ObjectsView) (h : HandlesView) (c : CycleView) (w a : ℕ) → IsReady o h c → get_or h.weak_places w None ≡ Some a
-    → (n : ℕ) × (get_or h.weak w None ≡ Some n) × IsLiveAt o.nodes n a
-weak_slot_names o h c w a ready is = named_held o.nodes h.weak_places h.weak w a ready.tied.weak ready.valid.weak is
+pub weak_slot_names : (s : Parts) (w a : ℕ) → IsReady s → get_or s.handles.weak_places w None ≡ Some a
+    → (n : ℕ) × (get_or s.handles.weak w None ≡ Some n) × IsLiveAt s.objects.nodes n a
+weak_slot_names s w a ready is = named_held s.objects.nodes s.handles.weak_places s.handles.weak w a ready.tied.weak ready.valid.weak is
 
 -- ---- ties
 
 -- a handle gets the place of what it names
-pub tied_slot : (o : ObjectsView) (h : HandlesView) (c : CycleView) (p : ℕ) (target : Option (ℕ × ℕ))
-    → option_map (λ (t : ℕ × ℕ). t.0) target ≡ option_map (place_of o.nodes) (option_map (λ (t : ℕ × ℕ). t.1) target) → AreTied o h c → AreTied o (put_in h p target) (counted c)
-tied_slot o h c p target is tied = record {
-  slots = ap (λ l. set l p (option_map (λ (t : ℕ × ℕ). t.0) target)) tied.slots ∙ ap (λ x. set (places_of o.nodes h.slots) p x) is
-      ∙ sym (map-set (λ (slot : Option ℕ). option_map (place_of o.nodes) slot) h.slots p (option_map (λ (t : ℕ × ℕ). t.1) target));
+pub tied_slot : (s : Parts) (p : ℕ) (target : Option (ℕ × ℕ))
+    → option_map (λ (t : ℕ × ℕ). t.0) target ≡ option_map (place_of s.objects.nodes) (option_map (λ (t : ℕ × ℕ). t.1) target)
+    → AreTied s → AreTied (counted (record s { handles = put_in s.handles p target }))
+tied_slot s p target is tied = record {
+  slots = ap (λ l. set l p (option_map (λ (t : ℕ × ℕ). t.0) target)) tied.slots ∙ ap (λ x. set (places_of s.objects.nodes s.handles.slots) p x) is
+      ∙ sym (map-set (λ (slot : Option ℕ). option_map (place_of s.objects.nodes) slot) s.handles.slots p (option_map (λ (t : ℕ × ℕ). t.1) target));
   weak = tied.weak;
   stack = tied.stack;
   registered = tied.registered;
@@ -82,10 +85,10 @@ tied_slot o h c p target is tied = record {
 }
 
 -- slot q gets what slot p holds
-pub tied_copy : (o : ObjectsView) (h : HandlesView) (c : CycleView) (p q : ℕ) → AreTied o h c → AreTied o (copied_in h p q) (counted c)
-tied_copy o h c p q tied = record {
-  slots = ap (λ l. set l q (get_or h.places p None)) tied.slots ∙ ap (λ x. set (places_of o.nodes h.slots) q x) (slot_place o h c p tied)
-      ∙ sym (map-set (λ (slot : Option ℕ). option_map (place_of o.nodes) slot) h.slots q (get_or h.slots p None));
+pub tied_copy : (s : Parts) (p q : ℕ) → AreTied s → AreTied (counted (record s { handles = copied_in s.handles p q }))
+tied_copy s p q tied = record {
+  slots = ap (λ l. set l q (get_or s.handles.places p None)) tied.slots ∙ ap (λ x. set (places_of s.objects.nodes s.handles.slots) q x) (slot_place s p tied)
+      ∙ sym (map-set (λ (slot : Option ℕ). option_map (place_of s.objects.nodes) slot) s.handles.slots q (get_or s.handles.slots p None));
   weak = tied.weak;
   stack = tied.stack;
   registered = tied.registered;
@@ -96,11 +99,11 @@ tied_copy o h c p q tied = record {
 }
 
 -- weak slot w gets what slot p holds
-pub tied_weak : (o : ObjectsView) (h : HandlesView) (c : CycleView) (w p : ℕ) → AreTied o h c → AreTied o (weakened_in h w p) (counted c)
-tied_weak o h c w p tied = record {
+pub tied_weak : (s : Parts) (w p : ℕ) → AreTied s → AreTied (counted (record s { handles = weakened_in s.handles w p }))
+tied_weak s w p tied = record {
   slots = tied.slots;
-  weak = ap (λ l. set l w (get_or h.places p None)) tied.weak ∙ ap (λ x. set (places_of o.nodes h.weak) w x) (slot_place o h c p tied)
-      ∙ sym (map-set (λ (slot : Option ℕ). option_map (place_of o.nodes) slot) h.weak w (get_or h.slots p None));
+  weak = ap (λ l. set l w (get_or s.handles.places p None)) tied.weak ∙ ap (λ x. set (places_of s.objects.nodes s.handles.weak) w x) (slot_place s p tied)
+      ∙ sym (map-set (λ (slot : Option ℕ). option_map (place_of s.objects.nodes) slot) s.handles.weak w (get_or s.handles.slots p None));
   stack = tied.stack;
   registered = tied.registered;
   few = omega (arith, tied.few);
@@ -110,11 +113,11 @@ tied_weak o h c w p tied = record {
 }
 
 -- the last word of the stack was taken away
-pub tied_pop : (o : ObjectsView) (h : HandlesView) (c : CycleView) → AreTied o h c → AreTied o (popped_in h) (counted c)
-tied_pop o h c tied = record {
+pub tied_pop : (s : Parts) → AreTied s → AreTied (counted (record s { handles = popped_in s.handles }))
+tied_pop s tied = record {
   slots = tied.slots;
   weak = tied.weak;
-  stack = words_popped o.nodes h.stack tied.stack;
+  stack = words_popped s.objects.nodes s.handles.stack tied.stack;
   registered = tied.registered;
   few = omega (arith, tied.few);
   sweep = tied.sweep;
@@ -135,27 +138,25 @@ placed_still o new entries same callbacks placed =
     (λ e is. record { place = same e.node ∙ is.place; known = omega (arith, is.known, ap length callbacks) }) entries placed
 
 -- the nodes change, but their places and sizes stay, and no prefinalizer is registered or run
-pub tied_nodes : (o new : ObjectsView) (h : HandlesView) (c after : CycleView) → AreTied o h c → ((n : ℕ) → StaysAt o.nodes new.nodes n)
-    → setup_of_objects new ≡ setup_of_objects o → after.registered ≡ c.registered → after.ran ≡ c.ran → c.rest.ordinal ≤ after.rest.ordinal
+pub tied_nodes : (s : Parts) (new : ObjectsView) (after : CycleView) → AreTied s → ((n : ℕ) → StaysAt s.objects.nodes new.nodes n)
+    → setup_of_objects new ≡ setup_of s → after.registered ≡ s.cycle.registered → after.ran ≡ s.cycle.ran → s.cycle.rest.ordinal ≤ after.rest.ordinal
     → IsSweepOf new.shape after.phase after.rest.cursor after.sweep → HasMarks after.phase (cursor_at new.shape after.sweep) new.seat
-    → length new.nodes ≤ after.rest.ordinal → AreTied new h after
-tied_nodes o new h c after tied same setup registered ran later sweep marks made = record {
-  slots = tied.slots ∙ sym (places-same (place_of new.nodes) (place_of o.nodes) h.slots (λ n. (same n).0));
-  weak = tied.weak ∙ sym (places-same (place_of new.nodes) (place_of o.nodes) h.weak (λ n. (same n).0));
-  stack = words_held o.nodes new.nodes h.stack (λ k d low. same _) tied.stack;
+    → length new.nodes ≤ after.rest.ordinal → AreTied (record s { objects = new; cycle = after })
+tied_nodes s new after tied same setup registered ran later sweep marks made = record {
+  slots = tied.slots ∙ sym (places-same (place_of new.nodes) (place_of s.objects.nodes) s.handles.slots (λ n. (same n).0));
+  weak = tied.weak ∙ sym (places-same (place_of new.nodes) (place_of s.objects.nodes) s.handles.weak (λ n. (same n).0));
+  stack = words_held s.objects.nodes new.nodes s.handles.stack (λ k d low. same _) tied.stack;
   registered = subst (All (IsPlaced new.nodes (length new.callbacks))) (sym registered)
-      (placed_still o new c.registered (λ n. (same n).0) (ap (λ (st : Setup). st.callbacks) setup) tied.registered);
+      (placed_still s.objects new s.cycle.registered (λ n. (same n).0) (ap (λ (st : Setup). st.callbacks) setup) tied.registered);
   few = omega (arith, tied.few, ap length registered, ap length ran, later);
   sweep = sweep;
   marks = marks;
   made = made;
 }
 
--- the sweep and the marks stay, where a command changes fields alone
-pub swept_still : (o new : ObjectsView) (c : CycleView) → setup_of_objects new ≡ setup_of_objects o → IsSweepOf o.shape c.phase c.rest.cursor c.sweep
-    → IsSweepOf new.shape c.phase c.rest.cursor c.sweep
-swept_still o new c setup is = subst (λ (st : Setup). IsSweepOf st.shape c.phase c.rest.cursor c.sweep) (sym setup) is
-
-pub marked_still : (o new : ObjectsView) (c : CycleView) → setup_of_objects new ≡ setup_of_objects o → HasMarks c.phase (cursor_at o.shape c.sweep) new.seat
-    → HasMarks c.phase (cursor_at new.shape c.sweep) new.seat
-marked_still o new c setup is = subst (λ (st : Setup). HasMarks c.phase (cursor_at st.shape c.sweep) new.seat) (sym setup) is
+-- and no more than fields change: the sweep and the marks stay
+pub tied_fields : (s : Parts) (new : ObjectsView) → AreTied s → ((n : ℕ) → StaysAt s.objects.nodes new.nodes n) → setup_of_objects new ≡ setup_of s
+    → HasMarks s.cycle.phase (cursor_at s.objects.shape s.cycle.sweep) new.seat → length new.nodes ≡ length s.objects.nodes → AreTied (counted (record s { objects = new }))
+tied_fields s new tied same setup marks made =
+    tied_nodes s new (counted s).cycle tied same setup refl refl (omega arith) (subst (λ (st : Setup). IsSweepOf st.shape s.cycle.phase s.cycle.rest.cursor s.cycle.sweep) (sym setup) tied.sweep)
+    (subst (λ (st : Setup). HasMarks s.cycle.phase (cursor_at st.shape s.cycle.sweep) new.seat) (sym setup) marks) (omega (arith, tied.made, made))

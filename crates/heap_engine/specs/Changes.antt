@@ -2,13 +2,13 @@
 use Rattle.std.specs.Prelude.{◌≡◌, ◌*◌, ℕ, ◌+◌, ◌-◌, [], ◌∷◌, ◌++◌, List, length, map, take, drop, Option, None, option_map, slice_set, slice_index_or}
 use Rattle.gc_graph.specs.Reach.{Reach}
 use Rattle.gc_graph.specs.Sweep.{phase_at}
-use Rattle.gc_graph.specs.State.{State, StackWord, type_at, graph_of, roots_of}
+use Rattle.gc_graph.specs.State.{State, StackWord, graph_of, roots_of}
 use Rattle.callback_table.specs.declared.registry.Registered.{Registered}
-use Rattle.callback_table.specs.Registry.{registered, placed_at}
+use Rattle.callback_table.specs.Registry.{placed_at}
 use Rattle.heap_engine.specs.View.{start_entry, pause_entry}
 use Rattle.heap_engine.specs.Stack.{with_word, without_last}
 use Rattle.heap_engine.specs.Finalising.{FinalisesBelow}
-use Rattle.heap_engine.specs.Parts.{ObjectsView, HandlesView, CycleView, setup_of_objects, HasMarks}
+use Rattle.heap_engine.specs.Views.{ObjectsView, HandlesView, CycleView, setup_of_objects, HasMarks}
 
 -- slot p holds the place and the number of the target, where there is one
 abbrev pub put_in : HandlesView → ℕ → Option (ℕ × ℕ) → HandlesView
@@ -43,16 +43,6 @@ popped_in h = record h { stack = without_last h.stack }
 abbrev pub placed_last : ℕ → ℕ → List Registered → List Registered
 placed_last count place entries =
     take (length entries - count) entries ++ map (placed_at place) (drop (length entries - count) entries)
-
--- the prefinalizers of the type are registered for the next node, with this place
-abbrev pub registered_in : ObjectsView → CycleView → ℕ → ℕ → CycleView
-registered_in o c t place = record c {
-  registered = c.registered ++ map (registered (length o.nodes) place) (type_at (setup_of_objects o) t).prefinalizers;
-}
-
--- the last registrations, so many of them, are left out
-abbrev pub unregistered : ℕ → CycleView → CycleView
-unregistered count c = record c { registered = take (length c.registered - count) c.registered }
 
 -- one outcome more was full
 abbrev pub filled : State → State

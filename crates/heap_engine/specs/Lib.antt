@@ -5,6 +5,8 @@ pub mod Fields
 pub mod Objects
 pub mod Stack
 pub mod Printed
+pub mod Views
 pub mod Parts
 pub mod Changes
 pub mod Sound
+pub mod Acted

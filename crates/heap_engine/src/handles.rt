@@ -36,7 +36,7 @@ pub struct Handles {
 
 impl Model for Handles {
     ghost use Rattle.std.specs.Prelude.{◌≡◌, length};
-    ghost use Rattle.heap_engine.specs.Parts.{HandlesView};
+    ghost use Rattle.heap_engine.specs.Views.{HandlesView};
 
     ghost Value = { HandlesView };
 

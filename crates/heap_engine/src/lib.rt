@@ -4,14 +4,15 @@
 //! each command is one step of the graph that `gc_graph` defines.
 //!
 //! The parts: `Heap` with `new`, `act`, `line`, `only_line`, `finalised` and `close`, and `Config`.
-//! A heap is put together of `objects` (words, pages, types), `handles` (strong and weak slots, and
-//! the `stack`), `cycle` (collections, prefinalizers and sweeps) and `outcome` (the lines of the last
-//! command). Each part owns what it holds and has a model, from which the state of the graph is put
-//! together. The commands, in `creating`, `fields`, `pairs`, `slots`, `stacking`, `totals` and
-//! `cycle`, take the parts. Inside, `marking`, `collecting` and `object_sweeps` (what comes before a
-//! pause and after it), `finding` (places), `field` and `pair_fields` (fields), and for contracts
-//! alone `nodes`, `slot_lists`, `stack_words`, `states`, `entries` and `kinds`. Next down are
-//! `atomic_pause`, `member_fields`, `persistent_slots` and `page_space`.
+//! A heap is put together of `Parts`, which are `objects` (words, pages, types), `handles` (strong
+//! and weak slots, and the `stack`) and `cycle` (collections, prefinalizers and sweeps), and of the
+//! `outcome` (the lines of the last command). Each part owns what it holds and has a model, from
+//! which the state of the graph is put together. The commands, in `creating`, `fields`, `pairs`,
+//! `slots`, `stacking`, `totals`, `collections` and `sweeps`, take the parts. Inside, `marking`,
+//! `collecting`, `object_sweeps` and `cycle_sweeps` (what comes before a pause and after it),
+//! `finding` (places), `field` and `pair_fields` (fields), and for contracts alone `nodes`,
+//! `slot_lists`, `stack_words`, `states`, `entries` and `kinds`. Next down are `atomic_pause`,
+//! `member_fields`, `persistent_slots` and `page_space`.
 //!
 //! What is proved: `act` is a step from the heap's own state to its new state, for every command
 //! that is allowed and that the heap does so far (`is_built`), and its lines are those of the step;
@@ -24,9 +25,11 @@
 #![tactic(auto)]
 
 mod collecting;
+mod collections;
 mod content;
 mod creating;
 mod cycle;
+mod cycle_sweeps;
 mod entries;
 mod field;
 mod fields;
@@ -44,6 +47,7 @@ mod objects;
 mod outcome;
 mod pair_fields;
 mod pairs;
+mod parts;
 mod placing;
 mod slot_lists;
 mod slots;

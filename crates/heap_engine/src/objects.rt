@@ -9,7 +9,7 @@ ghost use Rattle.gc_graph.specs.Shapes.{IsShape};
 ghost use Rattle.page_space.specs.Pages.{word_count};
 ghost use Rattle.callback_table.specs.Table.{kinds_of};
 ghost use Rattle.heap_engine.specs.Objects.{HaveCallbacks, IsLiveAt};
-ghost use Rattle.heap_engine.specs.Parts.{setup_of_objects};
+ghost use Rattle.heap_engine.specs.Views.{setup_of_objects};
 
 use crate::kinds::{self, Kinds};
 use callback_table::CallbackTable;
@@ -37,7 +37,7 @@ pub struct Objects {
 
 impl Model for Objects {
     ghost use Rattle.heap_engine.specs.Objects.{AreObjects};
-    ghost use Rattle.heap_engine.specs.Parts.{ObjectsView};
+    ghost use Rattle.heap_engine.specs.Views.{ObjectsView};
 
     ghost Value = { ObjectsView };
 

@@ -6,104 +6,94 @@ ghost use Rattle.gc_graph.specs.Placement.{IsPlacement, IsNowhere, extents_of};
 ghost use Rattle.page_space.specs.Pages.{word_count};
 ghost use Rattle.page_space.specs.Space.{FitsBetween, IsFreePlace};
 ghost use Rattle.sweeper.specs.Sweeping.{cursor_at};
-ghost use Rattle.heap_engine.specs.Changes.{unregistered};
 ghost use Rattle.heap_engine.specs.Finalising.{AreFewTold, IsSearched};
-ghost use Rattle.heap_engine.specs.Parts.{setup_of_objects, state_of, IsReady};
+ghost use Rattle.heap_engine.specs.Parts.{setup_of, state_of, IsReady, unregistered};
 
-use crate::cycle::Cycle;
-use crate::handles::Handles;
-use crate::objects::Objects;
+use crate::parts::Parts;
 
 /// Where a new object of the size goes: the lowest place in the pages that are swept; else pages
 /// are swept one by one until it fits in one of these; else the lowest run of pages without objects.
 /// Its registrations are the last ones, so many, and no part of the state yet.
-pub fn place_for(
-    objects: &mut Objects,
-    handles: &Handles,
-    cycle: &mut Cycle,
-    count: u32,
-    size: u32,
-    finalised: &mut Vec<u32>,
-) -> Option<u32>
-    requires ready { IsReady objects.old handles.now (unregistered count cycle.old) }
+pub fn place_for(parts: &mut Parts, count: u32, size: u32, finalised: &mut Vec<u32>) -> Option<u32>
+    requires ready { IsReady (unregistered count parts.old) }
     requires some { 2 ≤ size }
     requires most { size < 2 ^ 26 }
     requires empty { finalised.old.items ≡ [] }
-    requires room { word_count objects.old.shape ≤ 2 * vec_capacity finalised.old }
-    ensures placed { IsPlacement objects.old.shape
-        (state_of objects.old handles.now (unregistered count cycle.old)) size
+    requires room { word_count parts.old.objects.shape ≤ 2 * vec_capacity finalised.old }
+    ensures placed { IsPlacement parts.old.objects.shape
+        (state_of (unregistered count parts.old)) size
         finalised.new.items
-        (state_of objects.new handles.now (unregistered count cycle.new)) result }
-    ensures ready { IsReady objects.new handles.now (unregistered count cycle.new) }
+        (state_of (unregistered count parts.new)) result }
+    ensures ready { IsReady (unregistered count parts.new) }
     ensures free { IfSome result
-        (IsFreePlace objects.new.shape (extents_of objects.new.nodes) size) }
-    ensures swept { IfSome result (λ a. a < cursor_at objects.new.shape cycle.new.sweep) }
-    ensures registered { cycle.new.registered ≡ cycle.old.registered }
-    ensures setup { setup_of_objects objects.new ≡ setup_of_objects objects.old }
-    ensures made { length objects.new.nodes ≡ length objects.old.nodes }
-    ensures ordinal { cycle.new.rest.ordinal ≡ cycle.old.rest.ordinal }
+        (IsFreePlace parts.new.objects.shape (extents_of parts.new.objects.nodes) size) }
+    ensures swept { IfSome result
+        (λ a. a < cursor_at parts.new.objects.shape parts.new.cycle.sweep) }
+    ensures registered { parts.new.cycle.registered ≡ parts.old.cycle.registered }
+    ensures setup { setup_of parts.new ≡ setup_of parts.old }
+    ensures made { length parts.new.objects.nodes ≡ length parts.old.objects.nodes }
+    ensures ordinal { parts.new.cycle.rest.ordinal ≡ parts.old.cycle.rest.ordinal }
     ensures many { length finalised.new.items ≤ 2 ^ 24 }
     ensures room { vec_capacity finalised.new ≡ vec_capacity finalised.old }
 {
-    objects.shape_is_valid();
-    objects.dead_are_few();
+    parts.objects.shape_is_valid();
+    parts.objects.dead_are_few();
     gc_graph::sweeps_go_by_pages();
-    let swept = cycle.swept_pages();
-    if let Some(place) = objects.find(size, 0, swept) {
+    let swept = parts.cycle.swept_pages();
+    if let Some(place) = parts.objects.find(size, 0, swept) {
         return Some(place);
     }
-    match sweep_until_found(objects, handles, cycle, count, size, finalised) {
+    match sweep_until_found(parts, count, size, finalised) {
         Some(place) => Some(place),
-        None => objects.find_empty(size),
+        None => parts.objects.find_empty(size),
     }
 }
 
 /// Sweeps page after page until the object fits in the last of them.
 fn sweep_until_found(
-    objects: &mut Objects,
-    handles: &Handles,
-    cycle: &mut Cycle,
+    parts: &mut Parts,
     count: u32,
     size: u32,
     finalised: &mut Vec<u32>,
 ) -> Option<u32>
-    requires ready { IsReady objects.old handles.now (unregistered count cycle.old) }
+    requires ready { IsReady (unregistered count parts.old) }
     requires some { 2 ≤ size }
     requires empty { finalised.old.items ≡ [] }
-    requires told { AreFewTold objects.old.shape (cursor_at objects.old.shape cycle.old.sweep)
-        objects.old.seat finalised.old.items }
-    requires nowhere { IsNowhere (FitsBetween objects.old.shape 0 cycle.old.sweep.cursor
-        (extents_of objects.old.nodes) size) }
-    requires room { word_count objects.old.shape ≤ 2 * vec_capacity finalised.old }
-    ensures placed { IfSome result (λ a. IsPlacement objects.old.shape
-        (state_of objects.old handles.now (unregistered count cycle.old)) size
+    requires told { AreFewTold parts.old.objects.shape
+        (cursor_at parts.old.objects.shape parts.old.cycle.sweep)
+        parts.old.objects.seat finalised.old.items }
+    requires nowhere { IsNowhere (FitsBetween parts.old.objects.shape 0
+        parts.old.cycle.sweep.cursor (extents_of parts.old.objects.nodes) size) }
+    requires room { word_count parts.old.objects.shape ≤ 2 * vec_capacity finalised.old }
+    ensures placed { IfSome result (λ a. IsPlacement parts.old.objects.shape
+        (state_of (unregistered count parts.old)) size
         finalised.new.items
-        (state_of objects.new handles.now (unregistered count cycle.new)) (Some a)) }
-    ensures searched { IfNone result (IsSearched objects.old.shape
-        (state_of objects.old handles.now (unregistered count cycle.old)) size
-        objects.old.shape.pages finalised.new.items
-        (state_of objects.new handles.now (unregistered count cycle.new))) }
-    ensures all { IfNone result (cycle.new.sweep.cursor ≡ objects.old.shape.pages) }
-    ensures ready { IsReady objects.new handles.now (unregistered count cycle.new) }
+        (state_of (unregistered count parts.new)) (Some a)) }
+    ensures searched { IfNone result (IsSearched parts.old.objects.shape
+        (state_of (unregistered count parts.old)) size
+        parts.old.objects.shape.pages finalised.new.items
+        (state_of (unregistered count parts.new))) }
+    ensures all { IfNone result (parts.new.cycle.sweep.cursor ≡ parts.old.objects.shape.pages) }
+    ensures ready { IsReady (unregistered count parts.new) }
     ensures free { IfSome result
-        (IsFreePlace objects.new.shape (extents_of objects.new.nodes) size) }
-    ensures swept { IfSome result (λ a. a < cursor_at objects.new.shape cycle.new.sweep) }
-    ensures registered { cycle.new.registered ≡ cycle.old.registered }
-    ensures setup { setup_of_objects objects.new ≡ setup_of_objects objects.old }
-    ensures made { length objects.new.nodes ≡ length objects.old.nodes }
-    ensures ordinal { cycle.new.rest.ordinal ≡ cycle.old.rest.ordinal }
-    ensures told { AreFewTold objects.new.shape (cursor_at objects.new.shape cycle.new.sweep)
-        objects.new.seat finalised.new.items }
+        (IsFreePlace parts.new.objects.shape (extents_of parts.new.objects.nodes) size) }
+    ensures swept { IfSome result
+        (λ a. a < cursor_at parts.new.objects.shape parts.new.cycle.sweep) }
+    ensures registered { parts.new.cycle.registered ≡ parts.old.cycle.registered }
+    ensures setup { setup_of parts.new ≡ setup_of parts.old }
+    ensures made { length parts.new.objects.nodes ≡ length parts.old.objects.nodes }
+    ensures ordinal { parts.new.cycle.rest.ordinal ≡ parts.old.cycle.rest.ordinal }
+    ensures told { AreFewTold parts.new.objects.shape
+        (cursor_at parts.new.objects.shape parts.new.cycle.sweep)
+        parts.new.objects.seat finalised.new.items }
     ensures room { vec_capacity finalised.new ≡ vec_capacity finalised.old }
 {
-    let _ = handles;
-    let _ = count;
-    objects.shape_is_valid();
+    parts.objects.shape_is_valid();
     gc_graph::step_keeps_valid();
     gc_graph::sweeps_go_by_pages();
-    for page in cycle.swept_pages()..objects.pages() {
-        cycle.sweep_page(objects, finalised);
-        if let Some(place) = objects.find(size, page, page + 1) {
+    for page in parts.cycle.swept_pages()..parts.objects.pages() {
+        parts.cycle.sweep_page(&mut parts.objects, finalised);
+        if let Some(place) = parts.objects.find(size, page, page + 1) {
             return Some(place);
         }
     }

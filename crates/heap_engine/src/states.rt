@@ -7,9 +7,7 @@ ghost use Rattle.gc_graph.specs.Outcomes.{answered};
 ghost use Rattle.heap_engine.specs.Parts.{state_of};
 ghost use Rattle.heap_engine.specs.Changes.{filled, swept_to, collected_from};
 
-use crate::cycle::Cycle;
-use crate::handles::Handles;
-use crate::objects::Objects;
+use crate::parts::Parts;
 use ghost_values::GhostValue;
 use std::marker::Model;
 
@@ -62,21 +60,9 @@ pub fn swept(rest: &GhostValue<States>, pages: u32, count: u32) -> GhostValue<St
     GhostValue::chosen(&AboutSweep { rest, pages, count })
 }
 
-/// What a collection looks at.
-#[derive(Drop)]
-struct AboutParts<'a> {
-    objects: &'a Objects,
-    handles: &'a Handles,
-    cycle: &'a Cycle,
-}
-
 /// A collection was started from this state, and its pause is over.
-pub fn collected(objects: &Objects, handles: &Handles, cycle: &Cycle) -> GhostValue<States>
-    ensures { result.value ≡ collected_from (state_of objects.now handles.now cycle.now) }
+pub fn collected(parts: &Parts) -> GhostValue<States>
+    ensures { result.value ≡ collected_from (state_of parts.now) }
 {
-    GhostValue::chosen(&AboutParts {
-        objects,
-        handles,
-        cycle,
-    })
+    GhostValue::chosen(parts)
 }

@@ -2,7 +2,7 @@ use Rattle.std.proofs.Common.{◌≡◌, refl, ap, ◌∙◌}
 use Rattle.gc_graph.specs.declared.phase.Phase.TheVariants.{Idle}
 use Rattle.sweeper.specs.Sweeping.{SweepView, cursor_at}
 use Rattle.heap_engine.specs.Changes.{swept_to, SweepsParts}
-use Rattle.heap_engine.specs.Parts.{ObjectsView, CycleView}
+use Rattle.heap_engine.specs.Views.{ObjectsView, CycleView}
 use Rattle.heap_engine.proofs.SweptObjects.{over_at, parts_swept}
 use Rattle.heap_engine.proofs.cycle.Cycle.finish.Goals as goal
 

@@ -3,7 +3,7 @@ use Rattle.gc_graph.specs.State.{Setup, Shape}
 use Rattle.gc_graph.specs.Sweep.{phase_at}
 use Rattle.sweeper.specs.Sweeping.{SweepView, cursor_at}
 use Rattle.heap_engine.specs.Changes.{swept_to, SweepsParts}
-use Rattle.heap_engine.specs.Parts.{ObjectsView, CycleView, HasMarks, IsAtRest}
+use Rattle.heap_engine.specs.Views.{ObjectsView, CycleView, HasMarks, IsAtRest}
 use Rattle.heap_engine.proofs.SweepSteps.{not_marking}
 use Rattle.heap_engine.proofs.SweptObjects.{marks_at, parts_swept}
 use Rattle.heap_engine.proofs.cycle.Cycle.sweep_page.Goals as goal
