@@ -19,17 +19,17 @@ use Rattle.gc_graph.specs.May.{may_with_read, read_node}
 use Rattle.gc_graph.specs.CycleSteps.{is_marking}
 use Rattle.gc_graph.specs.Outcomes.{answered, with_slot, slot_at}
 use Rattle.gc_graph.specs.ObjectSteps.{StepGet, StepWord, IsChanged, IsNumber, IsRead, first_word}
-use Rattle.heap_engine.specs.declared.field.Field.{Field}
-use Rattle.heap_engine.specs.declared.field.Wanted.{Wanted}
+use Rattle.heap_objects.specs.declared.field.Field.{Field}
+use Rattle.heap_objects.specs.declared.field.Wanted.{Wanted}
 use Rattle.node_bodies.specs.Nodes.{place_of, word_of}
-use Rattle.heap_engine.specs.Fields.{allows, field_of, IsFieldOf, IsFieldAt, value_in, IsLiveReference, StepWrite}
-use Rattle.heap_engine.specs.Objects.{target_in, written_in, slot_word}
-use Rattle.heap_engine.specs.Changes.{put_in}
-use Rattle.heap_engine.specs.declared.parts.Parts.{Parts}
-use Rattle.heap_engine.specs.Views.{ObjectsView, HandlesView}
-use Rattle.heap_engine.specs.Parts.{setup_of, state_of, counted, AreTied, IsReady, IsFrame}
-use Rattle.heap_engine.proofs.FieldReads.{holds_reference}
-use Rattle.heap_engine.proofs.Ties.{valid_nodes, slot_live, tied_slot}
+use Rattle.heap_objects.specs.Fields.{allows, field_of, IsFieldOf, IsFieldAt, value_in, IsLiveReference}
+use Rattle.heap_engine.specs.FieldSteps.{StepWrite}
+use Rattle.heap_objects.specs.Objects.{target_in, written_in, ObjectsView}
+use Rattle.heap_handles.specs.Handles.{slot_word, put_in, HandlesView}
+use Rattle.heap_cycle.specs.declared.parts.Parts.{Parts}
+use Rattle.heap_cycle.specs.Parts.{setup_of, state_of, counted, AreTied, IsReady, IsFrame}
+use Rattle.heap_objects.specs.FieldReads.{holds_reference}
+use Rattle.heap_cycle.specs.Ties.{valid_nodes, slot_live, tied_slot}
 
 -- the field that was asked for: the slot's node has it, and its kind passes the test
 pub record Found (allowed : Kind → Bool) (s : Parts) (p f : ℕ) (field : Field) : Type 0 where

@@ -6,11 +6,12 @@ use Rattle.gc_graph.specs.State.{ObjectType, Shape, empty_state}
 use Rattle.gc_graph.specs.ValidLaw.{EmptyIsValid}
 use Rattle.page_words.specs.Seat.{empty_view}
 use Rattle.node_bodies.specs.Places.{places_of}
-use Rattle.heap_engine.specs.Objects.{HaveCallbacks}
-use Rattle.heap_engine.specs.Stack.{empty_stack}
-use Rattle.heap_engine.specs.declared.parts.Parts.{Parts}
-use Rattle.heap_engine.specs.Views.{ObjectsView, HandlesView, CycleView}
-use Rattle.heap_engine.specs.Parts.{setup_of, IsReady}
+use Rattle.heap_objects.specs.Objects.{HaveCallbacks, ObjectsView}
+use Rattle.heap_handles.specs.Stack.{empty_stack}
+use Rattle.heap_cycle.specs.declared.parts.Parts.{Parts}
+use Rattle.heap_handles.specs.Handles.{HandlesView}
+use Rattle.heap_cycle.specs.Views.{CycleView}
+use Rattle.heap_cycle.specs.Parts.{setup_of, IsReady}
 
 null_places : (n : ℕ) → replicate n None ≡ places_of [] (replicate n None)
 null_places zero = refl

@@ -20,17 +20,18 @@ use Rattle.callback_table.specs.Registry.{registrations_of, registered}
 use Rattle.sweeper.specs.Sweeping.{cursor_at}
 use Rattle.node_bodies.specs.Nodes.{place_of}
 use Rattle.node_bodies.specs.Places.{places_of}
-use Rattle.heap_engine.specs.Stack.{HoldsWords}
-use Rattle.heap_engine.specs.Objects.{with_made}
-use Rattle.heap_engine.specs.Changes.{put_in}
-use Rattle.heap_engine.specs.declared.parts.Parts.{Parts}
-use Rattle.heap_engine.specs.Views.{ObjectsView, HandlesView, CycleView, setup_of_objects, HasMarks, IsPlaced, IsSweepOf}
-use Rattle.heap_engine.specs.Parts.{setup_of, state_of, counted, AreTied, IsReady, registered_in}
+use Rattle.heap_handles.specs.Stack.{HoldsWords}
+use Rattle.heap_objects.specs.Objects.{with_made, ObjectsView, setup_of_objects, StaysAt}
+use Rattle.heap_handles.specs.Handles.{put_in, HandlesView}
+use Rattle.heap_cycle.specs.declared.parts.Parts.{Parts}
+use Rattle.heap_cycle.specs.Views.{CycleView, IsPlaced, IsSweepOf}
+use Rattle.heap_objects.specs.Finalising.{HasMarks}
+use Rattle.heap_cycle.specs.Parts.{setup_of, state_of, counted, AreTied, IsReady, registered_in}
 use Rattle.node_bodies.specs.KeptNodes.{slots_live}
-use Rattle.heap_engine.proofs.Registrations.{registrations_join, live_entries}
-use Rattle.heap_engine.proofs.HeldNodes.{place-old, stays-old, node-new}
+use Rattle.heap_cycle.specs.Registrations.{registrations_join, live_entries}
+use Rattle.heap_objects.specs.NewNodes.{place-old, stays-old, node-new}
 use Rattle.node_bodies.specs.NodePlaces.{there_below, live_is_there}
-use Rattle.heap_engine.proofs.StackWords.{StaysAt, words_held}
+use Rattle.heap_handles.specs.StackWords.{words_held}
 
 -- while no marking goes on, nothing is told of what may be kept
 same_may : (phase : Phase) (may : List Bool) → is_marking phase ≡ false → may_with_new phase may ≡ may

@@ -9,17 +9,17 @@ use Rattle.gc_graph.specs.Fields.{with_value, target_of, is_pair}
 use Rattle.gc_graph.specs.CycleSteps.{is_marking}
 use Rattle.gc_graph.specs.Outcomes.{answered, with_slot, slot_at}
 use Rattle.gc_graph.specs.ObjectSteps.{IsChanged, IsRead, first_word}
-use Rattle.heap_engine.specs.declared.field.Field.{Field}
-use Rattle.heap_engine.specs.declared.field.Part.{Part}
-use Rattle.heap_engine.specs.Fields.{part_in, IsLiveReference, StepPart, StepWholePair}
-use Rattle.heap_engine.specs.Objects.{target_in, paired_in}
-use Rattle.heap_engine.specs.Changes.{put_in}
-use Rattle.heap_engine.specs.declared.parts.Parts.{Parts}
-use Rattle.heap_engine.specs.Views.{ObjectsView, HandlesView}
-use Rattle.heap_engine.specs.Parts.{setup_of, state_of, IsReady}
+use Rattle.heap_objects.specs.declared.field.Field.{Field}
+use Rattle.heap_objects.specs.declared.field.Part.{Part}
+use Rattle.heap_objects.specs.Fields.{part_in, IsLiveReference}
+use Rattle.heap_engine.specs.FieldSteps.{StepPart, StepWholePair}
+use Rattle.heap_objects.specs.Objects.{target_in, paired_in, ObjectsView}
+use Rattle.heap_handles.specs.Handles.{put_in, HandlesView, slot_part}
+use Rattle.heap_cycle.specs.declared.parts.Parts.{Parts}
+use Rattle.heap_cycle.specs.Parts.{setup_of, state_of, IsReady}
 use Rattle.heap_engine.proofs.FieldAnswers.{Found, field_kind, asked, read_value, target_numbers}
-use Rattle.heap_engine.proofs.PairFields.{pair_is, holds_part}
-use Rattle.heap_engine.proofs.Ties.{valid_nodes}
+use Rattle.heap_objects.specs.PairFields.{pair_is, holds_part}
+use Rattle.heap_cycle.specs.Ties.{valid_nodes}
 
 -- the node with both words of the pair written
 abbrev paired : State → ℕ → ℕ → Value → Value → Node
@@ -53,3 +53,18 @@ step_part s new p f q part field target line ready calm is read told after =
     ∙ ap (λ (k : HandlesView). answered (state_of (record s { handles = k }))) (sym after) in
     asked is_pair st.nodes (slot_at st p) f is.node _ (λ m. IsRead true st (part_in part st.nodes m f) q (line ∷ []) (answered (state_of (record s { handles = new })))) _ _ is.slot is.is.there
     is.kind (subst (λ (t : State). IsRead true st x q (line ∷ []) t) to done)
+
+-- ---- what two slots hold
+
+-- what two slots hold goes into a pair, where it is null if either is
+pub slots_are_parts : (nodes : List Node) (k v : Option ℕ) → ForSome k (IsLive nodes) → ForSome v (IsLive nodes) → ArePartsOf nodes (part_of k v) (part_of v k)
+slots_are_parts nodes None None key value = record { key_names = tt; value_names = tt; both = refl }
+slots_are_parts nodes None (Some m) key value = record { key_names = tt; value_names = tt; both = refl }
+slots_are_parts nodes (Some n) None key value = record { key_names = tt; value_names = tt; both = refl }
+slots_are_parts nodes (Some n) (Some m) key value = record { key_names = key n refl; value_names = value m refl; both = λ null. cc }
+
+pub slot_part_word : (nodes : List Node) (slot other : Option ℕ)
+    → slot_part (option_map (place_of nodes) slot) (option_map (place_of nodes) other) ≡ word_of (place_of nodes) (part_of slot other)
+slot_part_word nodes None other = refl
+slot_part_word nodes (Some n) None = refl
+slot_part_word nodes (Some n) (Some m) = refl

@@ -15,10 +15,10 @@ use Rattle.gc_graph.specs.Outcomes.{answered}
 use Rattle.gc_graph.specs.ObjectSteps.{IsRead}
 use Rattle.gc_graph.specs.HandleSteps.{StepRead}
 use Rattle.node_bodies.specs.Nodes.{place_of}
-use Rattle.heap_engine.specs.Changes.{put_in}
-use Rattle.heap_engine.specs.declared.parts.Parts.{Parts}
-use Rattle.heap_engine.specs.Views.{ObjectsView, HandlesView}
-use Rattle.heap_engine.specs.Parts.{state_of}
+use Rattle.heap_handles.specs.Handles.{put_in, HandlesView}
+use Rattle.heap_cycle.specs.declared.parts.Parts.{Parts}
+use Rattle.heap_objects.specs.Objects.{ObjectsView}
+use Rattle.heap_cycle.specs.Parts.{state_of}
 
 -- where no marking goes on, a weak read keeps nothing
 keeps_nothing : (ph : Phase) (graph : List Object) (may : List Bool) (n : ℕ) → is_marking ph ≡ false → may_with_read ph graph may n ≡ may

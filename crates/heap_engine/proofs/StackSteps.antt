@@ -15,12 +15,12 @@ use Rattle.gc_graph.specs.State.StackWord.{Pointer, Number}
 use Rattle.gc_graph.specs.Outcomes.{answered, IsRefused, slot_at, with_slot}
 use Rattle.gc_graph.specs.HandleSteps.{IsPushed, IsPeeked, StepPush, StepPeek}
 use Rattle.gc_graph.specs.CycleSteps.{IsCollection, StepGcNow, WantsMemory, is_marking, is_stack_refused}
-use Rattle.heap_engine.specs.Objects.{IsLiveAt}
-use Rattle.heap_engine.specs.Stack.{StackView, pointed_place}
-use Rattle.heap_engine.specs.declared.parts.Parts.{Parts}
-use Rattle.heap_engine.specs.Views.{HandlesView}
-use Rattle.heap_engine.specs.Parts.{state_of, AreTied, IsReady}
-use Rattle.heap_engine.proofs.StackWords.{pointer_at, number_in, no_word}
+use Rattle.heap_objects.specs.Objects.{IsLiveAt}
+use Rattle.heap_handles.specs.Stack.{StackView, pointed_place}
+use Rattle.heap_cycle.specs.declared.parts.Parts.{Parts}
+use Rattle.heap_handles.specs.Handles.{HandlesView}
+use Rattle.heap_cycle.specs.Parts.{state_of, AreTied, IsReady}
+use Rattle.heap_handles.specs.StackWords.{pointer_at, number_in, no_word}
 
 -- ---- a pointer is pushed, or refused for its offset
 
@@ -73,12 +73,3 @@ pub peek_none : (s : Parts) (lent : StackView) (i q : ℕ) (told : Option (Optio
 peek_none s lent i q told lines new tied is none step =
     subst (λ w. MatchOption w (IsRefused R.Empty (state_of s) lines new) (λ x. IsPeeked (state_of s) x q lines new))
     (sym (no_word s.objects.nodes s.handles.stack.words i (sym (word_told s lent i told tied is) ∙ none))) step
-
--- ---- a collection that refuses the stack
-
-pub stack_refused : (setup : Setup) (want : Want) (s : State) (piece : List Entry) (lines : List Line) (new : State) → is_marking s.phase ≡ false
-    → is_stack_refused want s.stack ≡ true → piece ≡ [] → IsRefused R.Stack s lines new → StepGcNow setup want s piece lines new
-stack_refused setup want s piece lines new calm filled none refused =
-    let Done : Type 0 = WantsMemory s piece lines new ⊎ IsCollection setup want s piece lines new in
-    subst (λ b. MatchBool b ((piece ≡ []) × IsRefused R.Phase s lines new) (MatchBool (is_stack_refused want s.stack) ((piece ≡ []) × IsRefused R.Stack s lines new) Done)) (sym calm)
-    (subst (λ b. MatchBool b ((piece ≡ []) × IsRefused R.Stack s lines new) Done) (sym filled) (none, refused))

@@ -3,8 +3,8 @@ use Rattle.std.specs.Prelude.{◌*◌, ◌≤◌}
 use Rattle.page_space.specs.Pages.{word_count}
 use Rattle.heap_engine.specs.declared.heap_core.Core.TheInside.{Inside}
 use Rattle.heap_engine.specs.View.{View}
-use Rattle.heap_engine.specs.Printed.{outcome_lines}
-use Rattle.heap_engine.specs.Parts.{setup_of, state_of, IsReady}
+use Rattle.heap_cycle.specs.Printed.{outcome_lines}
+use Rattle.heap_cycle.specs.Parts.{setup_of, state_of, IsReady}
 
 -- a heap as its callers see it
 abbrev pub view_of : Inside → View

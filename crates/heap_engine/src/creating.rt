@@ -6,14 +6,12 @@ ghost use Rattle.gc_graph.specs.State.{type_at};
 ghost use Rattle.gc_graph.specs.Outcomes.{answered};
 ghost use Rattle.gc_graph.specs.ObjectSteps.{StepNew};
 ghost use Rattle.page_space.specs.Pages.{word_count};
-ghost use Rattle.heap_engine.specs.Objects.{HaveCallbacks};
-ghost use Rattle.heap_engine.specs.Parts.{setup_of, state_of, counted, IsReady, IsFrame, registered_in};
-ghost use Rattle.heap_engine.specs.Printed.{lines_with};
+ghost use Rattle.heap_objects.specs.Objects.{HaveCallbacks};
+ghost use Rattle.heap_cycle.specs.Parts.{setup_of, state_of, counted, IsReady, IsFrame, registered_in};
+ghost use Rattle.heap_cycle.specs.Printed.{lines_with};
 
-use crate::outcome::Outcome;
-use crate::parts::Parts;
-use crate::placing::place_for;
 use gc_graph::{Line, NoMemory};
+use heap_cycle::{Outcome, Parts, place_for};
 
 /// Makes an object of a type with so many extra words, and puts it into slot p. Its prefinalizers
 /// are registered first, and taken away again where the heap is full. Memory can be wanting for
@@ -40,13 +38,13 @@ pub fn new_object(parts: &mut Parts, outcome: &mut Outcome, p: u32, t: u32, extr
         return Line::Memory;
     };
     let size = parts.objects.size_of(t, extra);
-    let Some(place) = place_for(parts, count, size, &mut outcome.finalised) else {
+    let Some(place) = place_for(parts, count, size, outcome) else {
         parts.cycle.unregister_last(count);
         parts.cycle.count_full();
         return Line::Full;
     };
     parts.cycle.rests();
-    parts.objects.make(t, extra, place);
+    parts.objects.make(t, extra, size, place);
     parts.cycle.place_last(count, place);
     parts.handles.put(p, Some((place, number)));
     Line::Placed {

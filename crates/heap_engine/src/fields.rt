@@ -9,13 +9,13 @@ ghost use Rattle.gc_graph.specs.Fields.{content_of};
 ghost use Rattle.gc_graph.specs.Outcomes.{answered, slot_at};
 ghost use Rattle.gc_graph.specs.ObjectSteps.{StepSet, StepGet, StepPut, StepWord};
 ghost use Rattle.node_bodies.specs.Nodes.{place_of, word_of};
-ghost use Rattle.heap_engine.specs.Fields.{allows, IsFieldAt, Suits, StepWrite};
-ghost use Rattle.heap_engine.specs.Parts.{state_of, counted, IsReady, IsFrame};
+ghost use Rattle.heap_objects.specs.Fields.{allows, IsFieldAt, Suits};
+ghost use Rattle.heap_engine.specs.FieldSteps.{StepWrite};
+ghost use Rattle.heap_cycle.specs.Parts.{state_of, counted, IsReady, IsFrame};
 
-use crate::content::Content;
-use crate::field::{Field, Wanted};
-use crate::parts::Parts;
 use gc_graph::{Line, Refusal};
+use heap_cycle::Parts;
+use heap_objects::{Content, Field, Wanted};
 
 /// Field f of slot p's object gets what slot q holds. The field is a strong or a weak one.
 pub fn set(parts: &mut Parts, p: u32, f: u32, q: u32) -> Line
@@ -69,7 +69,9 @@ fn write(parts: &mut Parts, p: u32, f: u32, wanted: Wanted, content: &Content) -
 {
     match field_of(parts, p, f, wanted) {
         Ok(field) => {
-            parts.objects.store(&parts.handles, p, f, field, content);
+            parts
+                .objects
+                .store(&parts.handles.named(p), f, field, content);
             Line::Fine
         }
         Err(why) => Line::Refused(why),

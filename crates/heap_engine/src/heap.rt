@@ -9,7 +9,7 @@ ghost use Rattle.gc_graph.specs.Lawful.{IsAllowed, IsEndLine};
 ghost use Rattle.gc_graph.specs.Shapes.{IsShape};
 ghost use Rattle.callback_table.specs.Table.{kinds_of};
 ghost use Rattle.heap_engine.specs.Acted.{IsActed};
-ghost use Rattle.heap_engine.specs.Objects.{HaveCallbacks};
+ghost use Rattle.heap_objects.specs.Objects.{HaveCallbacks};
 
 use crate::heap_core::Core;
 use callback_table::CallbackTable;

@@ -4,15 +4,14 @@ ghost use Rattle.std.specs.Prelude.{◌≡◌, ◌<◌, [], ◌∷◌, None};
 ghost use Rattle.gc_graph.specs.Outcomes.{answered, slot_at};
 ghost use Rattle.gc_graph.specs.ObjectSteps.{StepPair, StepKey, StepVal};
 ghost use Rattle.node_bodies.specs.Nodes.{place_of, word_of};
-ghost use Rattle.heap_engine.specs.Fields.{ArePartsOf, StepPart, StepWholePair};
-ghost use Rattle.heap_engine.specs.Parts.{state_of, counted, IsReady, IsFrame};
+ghost use Rattle.heap_objects.specs.Fields.{ArePartsOf};
+ghost use Rattle.heap_engine.specs.FieldSteps.{StepPart, StepWholePair};
+ghost use Rattle.heap_cycle.specs.Parts.{state_of, counted, IsReady, IsFrame};
 
-use crate::content::Content;
-use crate::field::{Part, Wanted};
 use crate::fields::{field_of, line_of};
-use crate::pair_fields::PairContent;
-use crate::parts::Parts;
 use gc_graph::Line;
+use heap_cycle::Parts;
+use heap_objects::{Content, PairContent, Part, Wanted};
 
 /// The pair that is field f of slot p's object gets what slot k holds as its key and what slot v
 /// holds as its value, and becomes null where either slot is.
@@ -90,7 +89,9 @@ fn write_pair(parts: &mut Parts, p: u32, f: u32, pair: &PairContent) -> Line
 {
     match field_of(parts, p, f, Wanted::Pairs) {
         Ok(field) => {
-            parts.objects.store_pair(&parts.handles, p, f, field, pair);
+            parts
+                .objects
+                .store_pair(&parts.handles.named(p), f, field, pair);
             Line::Fine
         }
         Err(why) => Line::Refused(why),

@@ -5,11 +5,11 @@ ghost use Rattle.std.specs.Prelude.{option_map, slice_index_or};
 ghost use Rattle.gc_graph.specs.Outcomes.{answered};
 ghost use Rattle.gc_graph.specs.HandleSteps.{StepCopy, StepDrop, StepWeak, StepRead};
 ghost use Rattle.node_bodies.specs.Nodes.{place_of};
-ghost use Rattle.heap_engine.specs.Parts.{state_of, counted, IsReady, IsFrame};
+ghost use Rattle.heap_cycle.specs.Parts.{state_of, counted, IsReady, IsFrame};
 
 use crate::fields::line_of;
-use crate::parts::Parts;
 use gc_graph::Line;
+use heap_cycle::Parts;
 
 /// Slot q gets what slot p holds.
 pub fn copy(parts: &mut Parts, p: u32, q: u32) -> Line

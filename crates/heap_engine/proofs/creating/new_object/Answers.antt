@@ -5,12 +5,12 @@ use Rattle.gc_graph.specs.State.{Setup, Shape}
 use Rattle.gc_graph.specs.Fields.{new_node, size_of_type}
 use Rattle.gc_graph.specs.Outcomes.{finalise_lines}
 use Rattle.sweeper.specs.Sweeping.{cursor_at}
-use Rattle.heap_engine.specs.declared.parts.Parts.{Parts}
-use Rattle.heap_engine.specs.Parts.{setup_of, state_of, registered_in, unregistered}
-use Rattle.heap_engine.specs.Printed.{Printed, ran_lines}
-use Rattle.heap_engine.specs.Views.{CycleView}
+use Rattle.heap_cycle.specs.declared.parts.Parts.{Parts}
+use Rattle.heap_cycle.specs.Parts.{setup_of, state_of, registered_in, unregistered}
+use Rattle.heap_cycle.specs.Printed.{Printed, ran_lines}
+use Rattle.heap_cycle.specs.Views.{CycleView}
 use Rattle.heap_engine.proofs.NewSteps.{step_made, tied_made}
-use Rattle.heap_engine.proofs.Registrations.{left_out_before, joined_after}
+use Rattle.heap_cycle.specs.Registrations.{left_out_before, joined_after}
 use Rattle.heap_engine.proofs.creating.new_object.Goals as goal
 
 -- the parts once the place is found, but for the registrations of the new object
@@ -32,24 +32,28 @@ registers c =
 
 -- the place was found from the state before, in which nothing was registered for it
 placed : (c : goal.After-put) → IsPlacement c.args.parts.now.objects.shape (state_of c.args.parts.now) (size_of_type (setup_of c.args.parts.now) c.args.t c.args.extra)
-    c.place_for.new.finalised.items (state_of (found_parts c)) (Some c.in-Some.place)
+    c.place_for.new.outcome.numbers (state_of (found_parts c)) (Some c.in-Some.place)
 placed c =
     let s : Parts = c.args.parts.now in
     let size : c.size_of-size.result ≡ size_of_type (setup_of s) c.args.t c.args.extra =
     c.size_of-size.ensures.size ∙ ap (λ (x : Parts). size_of_type (setup_of x) c.args.t c.args.extra) c.in-Ok.ensures.registered in
     let shape : c.register.new.parts.objects.shape ≡ s.objects.shape = ap (λ (x : Parts). x.objects.shape) c.in-Ok.ensures.registered in
-    subst (λ n. IsPlacement s.objects.shape (state_of s) n c.place_for.new.finalised.items (state_of (found_parts c)) (Some c.in-Some.place)) size
-    (subst (λ (sh : Shape). IsPlacement sh (state_of s) c.size_of-size.result c.place_for.new.finalised.items (state_of (found_parts c)) (Some c.in-Some.place)) shape
-    (subst (λ (x : Parts). IsPlacement c.register.new.parts.objects.shape (state_of x) c.size_of-size.result c.place_for.new.finalised.items (state_of (found_parts c)) (Some c.in-Some.place))
+    subst (λ n. IsPlacement s.objects.shape (state_of s) n c.place_for.new.outcome.numbers (state_of (found_parts c)) (Some c.in-Some.place)) size
+    (subst (λ (sh : Shape). IsPlacement sh (state_of s) c.size_of-size.result c.place_for.new.outcome.numbers (state_of (found_parts c)) (Some c.in-Some.place)) shape
+    (subst (λ (x : Parts). IsPlacement c.register.new.parts.objects.shape (state_of x) c.size_of-size.result c.place_for.new.outcome.numbers (state_of (found_parts c)) (Some c.in-Some.place))
     (left_out_before s c.register.new.parts c.args.t c.in-Ok.count c.in-Ok.ensures.registered c.in-Ok.ensures.count) c.in-Some.ensures.placed))
+
+pub make-requires-clause-size : goal.make-requires-clause-size
+make-requires-clause-size c =
+    c.size_of-size.ensures.size ∙ sym (ap (λ (st : Setup). size_of_type st c.args.t c.args.extra) c.place_for.ensures.setup)
 
 pub returns-clause-step : goal.returns-clause-step
 returns-clause-step c =
-    let calm : c.outcome.inside.prefinalises ≡ false = ap (λ (o : Printed). o.prefinalises) c.outcome.view_is ∙ c.requires.calm in
+    let calm : c.place_for.new.outcome.prefinalises ≡ false = ap (λ (o : Printed). o.prefinalises) c.place_for.ensures.outcome ∙ c.requires.calm in
     step_made c.args.parts.now (found_parts c) c.make.new.self c.put.new.self c.place_last.new.self c.args.p c.args.t c.args.extra c.in-Some.place
-    c.made-number.result c.place_for.new.finalised.items _ (setup_found c) c.rests.ensures.calm (placed c) (c.made-number.ensures ∙ sym (made_found c))
+    c.made-number.result c.place_for.new.outcome.numbers _ (setup_found c) c.rests.ensures.calm (placed c) (c.made-number.ensures ∙ sym (made_found c))
     c.make.ensures.nodes (registers c) c.put.ensures
-    (ap (λ b. finalise_lines c.place_for.new.finalised.items ++ L.Placed c.made-number.result c.in-Some.place ∷ ran_lines b c.place_last.new.self.ran) calm)
+    (ap (λ b. finalise_lines c.place_for.new.outcome.numbers ++ L.Placed c.made-number.result c.in-Some.place ∷ ran_lines b c.place_last.new.self.ran) calm)
 
 pub returns-clause-frame : goal.returns-clause-frame
 returns-clause-frame c =

@@ -1,10 +1,10 @@
 use Rattle.std.proofs.Common.{◌≡◌, ap, ◌∙◌}
 use Rattle.gc_graph.specs.Fields.{target_of, is_reference}
-use Rattle.heap_engine.specs.declared.parts.Parts.{Parts}
-use Rattle.heap_engine.specs.Fields.{value_in}
-use Rattle.heap_engine.specs.Objects.{target_in}
+use Rattle.heap_cycle.specs.declared.parts.Parts.{Parts}
+use Rattle.heap_objects.specs.Fields.{value_in}
+use Rattle.heap_objects.specs.Objects.{target_in}
 use Rattle.heap_engine.proofs.FieldAnswers.{Found, found, field_kind, step_get, read_frame}
-use Rattle.heap_engine.proofs.Ties.{valid_nodes}
+use Rattle.heap_cycle.specs.Ties.{valid_nodes}
 use Rattle.heap_engine.proofs.fields.get.Goals as goal
 
 -- the field that was asked for

@@ -1,15 +1,13 @@
 use Rattle.std.proofs.Common.{◌≡◌, List, None, get_or, length, refl, sym, ap, ◌∙◌, subst}
 use Rattle.gc_graph.specs.State.{Node}
 use Rattle.sweeper.specs.Sweeping.{cursor_at}
-use Rattle.heap_engine.specs.declared.parts.Parts.{Parts}
-use Rattle.heap_engine.specs.Fields.{allows}
-use Rattle.heap_engine.specs.Objects.{written_in}
-use Rattle.heap_engine.specs.Views.{ObjectsView}
+use Rattle.heap_cycle.specs.declared.parts.Parts.{Parts}
+use Rattle.heap_objects.specs.Fields.{allows}
+use Rattle.heap_objects.specs.Objects.{written_in, ObjectsView, StaysAt}
 use Rattle.heap_engine.proofs.FieldAnswers.{Found, found, field_kind, step_write}
-use Rattle.heap_engine.proofs.FieldNodes.{stays-written, length-written}
-use Rattle.heap_engine.proofs.FieldReads.{takes_suited}
-use Rattle.heap_engine.proofs.StackWords.{StaysAt}
-use Rattle.heap_engine.proofs.Ties.{valid_nodes, tied_fields}
+use Rattle.heap_objects.specs.FieldNodes.{stays-written, length-written}
+use Rattle.heap_objects.specs.FieldReads.{takes_suited}
+use Rattle.heap_cycle.specs.Ties.{valid_nodes, tied_fields}
 use Rattle.heap_engine.proofs.fields.write.Goals as goal
 
 -- the field that was asked for
@@ -22,7 +20,7 @@ store-requires-clause-valid c = rw c.in-Ok.ensures.same (valid_nodes c.args.part
 pub store-requires-clause-field : goal.store-requires-clause-field
 store-requires-clause-field c =
     let is : Found (allows c.args.wanted) c.args.parts.now c.args.p c.args.f c.in-Ok.field = is_found c in
-    rw c.in-Ok.ensures.same (is.node, is.slot, is.is)
+    rw c.in-Ok.ensures.same (is.node, (rw c.in-Ok.ensures.same at c.named.ensures) ∙ is.slot, is.is)
 
 pub store-requires-clause-value : goal.store-requires-clause-value
 store-requires-clause-value c =
@@ -34,14 +32,17 @@ returns-in-Ok-clause-step c =
     let s : Parts = c.args.parts.now in
     rw c.in-Ok.ensures.same
     (step_write c.args.wanted s c.store.new.self c.args.p c.args.f c.in-Ok.field c.args.content.now.value.value
-    (found (allows c.args.wanted) s c.args.p c.args.f c.in-Ok.field c.requires.ready c.in-Ok.ensures.field) (rw c.in-Ok.ensures.same at c.store.ensures.nodes))
+    (found (allows c.args.wanted) s c.args.p c.args.f c.in-Ok.field c.requires.ready c.in-Ok.ensures.field)
+    ((rw c.in-Ok.ensures.same at c.store.ensures.nodes)
+    ∙ ap (λ slot. written_in s.objects.nodes slot c.args.f c.args.content.now.value.value) (rw c.in-Ok.ensures.same at c.named.ensures)))
 
 pub returns-in-Ok-clause-frame : goal.returns-in-Ok-clause-frame
 returns-in-Ok-clause-frame c =
     let s : Parts = c.args.parts.now in
     let old : List Node = s.objects.nodes in
     let new : ObjectsView = c.store.new.self in
-    let nodes : new.nodes ≡ written_in old (get_or s.handles.slots c.args.p None) c.args.f c.args.content.now.value.value = rw c.in-Ok.ensures.same at c.store.ensures.nodes in
+    let nodes : new.nodes ≡ written_in old (get_or s.handles.slots c.args.p None) c.args.f c.args.content.now.value.value =
+    (rw c.in-Ok.ensures.same at c.store.ensures.nodes) ∙ ap (λ slot. written_in old slot c.args.f c.args.content.now.value.value) (rw c.in-Ok.ensures.same at c.named.ensures) in
     rw c.in-Ok.ensures.same (record {
       setup = rw c.in-Ok.ensures.same at c.store.ensures.setup;
       ordinal = refl;

@@ -3,11 +3,11 @@ use Rattle.gc_graph.specs.declared.kind.Value.{Value}
 use Rattle.gc_graph.specs.State.{Node}
 use Rattle.gc_graph.specs.ObjectSteps.{part_of}
 use Rattle.node_bodies.specs.Nodes.{place_of, word_of}
-use Rattle.heap_engine.specs.Objects.{slot_part}
-use Rattle.heap_engine.specs.declared.parts.Parts.{Parts}
-use Rattle.heap_engine.specs.Parts.{IsReady}
-use Rattle.heap_engine.proofs.Ties.{slot_place, slot_live}
-use Rattle.heap_engine.proofs.PairFields.{slots_are_parts, slot_part_word}
+use Rattle.heap_handles.specs.Handles.{slot_part}
+use Rattle.heap_cycle.specs.declared.parts.Parts.{Parts}
+use Rattle.heap_cycle.specs.Parts.{IsReady}
+use Rattle.heap_cycle.specs.Ties.{slot_place, slot_live}
+use Rattle.heap_engine.proofs.PairAnswers.{slots_are_parts, slot_part_word}
 use Rattle.heap_engine.proofs.pairs.pair.Goals as goal
 
 pub write_pair-requires-clause-both : goal.write_pair-requires-clause-both

@@ -1,11 +1,11 @@
 use Rattle.std.proofs.Common.{◌≡◌, ap, ◌∙◌}
 use Rattle.gc_graph.specs.Fields.{target_of, is_pair}
-use Rattle.heap_engine.specs.declared.parts.Parts.{Parts}
-use Rattle.heap_engine.specs.Fields.{part_in}
-use Rattle.heap_engine.specs.Objects.{target_in}
+use Rattle.heap_cycle.specs.declared.parts.Parts.{Parts}
+use Rattle.heap_objects.specs.Fields.{part_in}
+use Rattle.heap_objects.specs.Objects.{target_in}
 use Rattle.heap_engine.proofs.FieldAnswers.{Found, found, field_kind, read_frame}
 use Rattle.heap_engine.proofs.PairAnswers.{step_part}
-use Rattle.heap_engine.proofs.Ties.{valid_nodes}
+use Rattle.heap_cycle.specs.Ties.{valid_nodes}
 use Rattle.heap_engine.proofs.pairs.read_part.Goals as goal
 
 -- the pair that was asked for

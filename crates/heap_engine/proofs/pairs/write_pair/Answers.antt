@@ -3,14 +3,12 @@ use Rattle.gc_graph.specs.declared.kind.Value.{Value}
 use Rattle.gc_graph.specs.State.{Node}
 use Rattle.gc_graph.specs.Fields.{is_pair}
 use Rattle.sweeper.specs.Sweeping.{cursor_at}
-use Rattle.heap_engine.specs.declared.parts.Parts.{Parts}
-use Rattle.heap_engine.specs.Objects.{paired_in}
-use Rattle.heap_engine.specs.Views.{ObjectsView}
+use Rattle.heap_cycle.specs.declared.parts.Parts.{Parts}
+use Rattle.heap_objects.specs.Objects.{paired_in, ObjectsView, StaysAt}
 use Rattle.heap_engine.proofs.FieldAnswers.{Found, found, field_kind}
 use Rattle.heap_engine.proofs.PairAnswers.{step_pair}
-use Rattle.heap_engine.proofs.PairBodies.{stays-paired, length-paired}
-use Rattle.heap_engine.proofs.StackWords.{StaysAt}
-use Rattle.heap_engine.proofs.Ties.{valid_nodes, tied_fields}
+use Rattle.heap_objects.specs.FieldNodes.{stays-paired, length-paired}
+use Rattle.heap_cycle.specs.Ties.{valid_nodes, tied_fields}
 use Rattle.heap_engine.proofs.pairs.write_pair.Goals as goal
 
 -- the pair that was asked for
@@ -23,7 +21,7 @@ store_pair-requires-clause-valid c = rw c.in-Ok.ensures.same (valid_nodes c.args
 pub store_pair-requires-clause-field : goal.store_pair-requires-clause-field
 store_pair-requires-clause-field c =
     let is : Found is_pair c.args.parts.now c.args.p c.args.f c.in-Ok.field = is_found c in
-    rw c.in-Ok.ensures.same (is.node, is.slot, is.is)
+    rw c.in-Ok.ensures.same (is.node, (rw c.in-Ok.ensures.same at c.named.ensures) ∙ is.slot, is.is)
 
 pub store_pair-requires-clause-kind : goal.store_pair-requires-clause-kind
 store_pair-requires-clause-kind c = field_kind is_pair c.args.parts.now c.args.p c.args.f c.in-Ok.field (is_found c)
@@ -42,7 +40,9 @@ returns-in-Ok-clause-step c =
     let s : Parts = c.args.parts.now in
     rw c.in-Ok.ensures.same
     (step_pair s c.store_pair.new.self c.args.p c.args.f c.in-Ok.field c.args.pair.now.key.value.value c.args.pair.now.value.value.value
-    (found is_pair s c.args.p c.args.f c.in-Ok.field c.requires.ready c.in-Ok.ensures.field) (rw c.in-Ok.ensures.same at c.store_pair.ensures.nodes))
+    (found is_pair s c.args.p c.args.f c.in-Ok.field c.requires.ready c.in-Ok.ensures.field)
+    ((rw c.in-Ok.ensures.same at c.store_pair.ensures.nodes)
+    ∙ ap (λ named. paired_in s.objects.nodes named c.args.f c.args.pair.now.key.value.value c.args.pair.now.value.value.value) (rw c.in-Ok.ensures.same at c.named.ensures)))
 
 pub returns-in-Ok-clause-frame : goal.returns-in-Ok-clause-frame
 returns-in-Ok-clause-frame c =
@@ -52,7 +52,8 @@ returns-in-Ok-clause-frame c =
     let slot : Option ℕ = get_or s.handles.slots c.args.p None in
     let key : Value = c.args.pair.now.key.value.value in
     let value : Value = c.args.pair.now.value.value.value in
-    let nodes : new.nodes ≡ paired_in old slot c.args.f key value = rw c.in-Ok.ensures.same at c.store_pair.ensures.nodes in
+    let nodes : new.nodes ≡ paired_in old slot c.args.f key value =
+    (rw c.in-Ok.ensures.same at c.store_pair.ensures.nodes) ∙ ap (λ named. paired_in old named c.args.f key value) (rw c.in-Ok.ensures.same at c.named.ensures) in
     rw c.in-Ok.ensures.same (record {
       setup = rw c.in-Ok.ensures.same at c.store_pair.ensures.setup;
       ordinal = refl;

@@ -1,7 +1,7 @@
 use Rattle.std.proofs.Common.{None, refl, sym, subst}
-use Rattle.heap_engine.specs.Views.{HandlesView}
-use Rattle.heap_engine.specs.Parts.{AreTied, counted}
-use Rattle.heap_engine.proofs.Ties.{tied_slot}
+use Rattle.heap_handles.specs.Handles.{HandlesView}
+use Rattle.heap_cycle.specs.Parts.{AreTied, counted}
+use Rattle.heap_cycle.specs.Ties.{tied_slot}
 use Rattle.heap_engine.proofs.slots.drop_slot.Goals as goal
 
 pub returns-clause-frame : goal.returns-clause-frame

@@ -2,11 +2,11 @@ use Rattle.std.proofs.Common.{◌≡◌, [], ◌∷◌, Some, refl, sym, ap, ◌
 use Rattle.gc_graph.specs.declared.line.Line.TheVariants as L
 use Rattle.gc_graph.specs.Outcomes.{answered, with_slot}
 use Rattle.node_bodies.specs.Nodes.{place_of}
-use Rattle.heap_engine.specs.declared.parts.Parts.{Parts}
-use Rattle.heap_engine.specs.Views.{HandlesView}
-use Rattle.heap_engine.specs.Parts.{state_of, counted, AreTied}
+use Rattle.heap_cycle.specs.declared.parts.Parts.{Parts}
+use Rattle.heap_handles.specs.Handles.{HandlesView}
+use Rattle.heap_cycle.specs.Parts.{state_of, counted, AreTied}
 use Rattle.heap_engine.proofs.StackSteps.{word_points, peek_pointer, peek_number, peek_none}
-use Rattle.heap_engine.proofs.Ties.{tied_slot}
+use Rattle.heap_cycle.specs.Ties.{tied_slot}
 use Rattle.heap_engine.proofs.stacking.peek.Goals as goal
 
 pub number_at-number-requires-clause-place : goal.number_at-number-requires-clause-place

@@ -1,7 +1,7 @@
 use Rattle.std.proofs.Common.{refl, sym, subst}
-use Rattle.heap_engine.specs.Views.{HandlesView}
-use Rattle.heap_engine.specs.Parts.{counted, AreTied}
-use Rattle.heap_engine.proofs.Ties.{tied_pop}
+use Rattle.heap_handles.specs.Handles.{HandlesView}
+use Rattle.heap_cycle.specs.Parts.{counted, AreTied}
+use Rattle.heap_cycle.specs.Ties.{tied_pop}
 use Rattle.heap_engine.proofs.stacking.pop.Goals as goal
 
 pub returns-then-has_words-clause-frame : goal.returns-then-has_words-clause-frame

@@ -3,11 +3,11 @@ use Rattle.gc_graph.specs.State.{State, StackWord, node_at, size_of}
 use Rattle.gc_graph.specs.State.StackWord.{Pointer}
 use Rattle.gc_graph.specs.Outcomes.{answered}
 use Rattle.gc_graph.specs.HandleSteps.{IsPushed}
-use Rattle.heap_engine.specs.declared.parts.Parts.{Parts}
-use Rattle.heap_engine.specs.Stack.{pointer_into, PointsInside}
-use Rattle.heap_engine.specs.Parts.{state_of}
+use Rattle.heap_cycle.specs.declared.parts.Parts.{Parts}
+use Rattle.heap_handles.specs.Stack.{pointer_into, PointsInside}
+use Rattle.heap_cycle.specs.Parts.{state_of}
 use Rattle.heap_engine.proofs.StackSteps.{push_within, push_past}
-use Rattle.heap_engine.proofs.Ties.{slot_names}
+use Rattle.heap_cycle.specs.Ties.{slot_names}
 use Rattle.heap_engine.proofs.stacking.push.Goals as goal
 
 pub size_at-requires : goal.size_at-requires

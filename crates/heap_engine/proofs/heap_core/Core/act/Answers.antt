@@ -1,5 +1,5 @@
 use Rattle.std.proofs.Common.{◌<◌, length, ap, arith}
-use Rattle.heap_engine.specs.Views.{CycleView}
+use Rattle.heap_cycle.specs.Views.{CycleView}
 use Rattle.heap_engine.proofs.heap_core.Core.act.Goals as goal
 
 -- no more prefinalizers ran than commands can have registered

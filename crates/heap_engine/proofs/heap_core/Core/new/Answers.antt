@@ -1,9 +1,9 @@
 use Rattle.std.proofs.Common.{ap, arith}
 use Rattle.gc_graph.specs.State.{Shape}
 use Rattle.callback_table.specs.Table.{kinds_of}
-use Rattle.heap_engine.specs.declared.parts.Parts.{Parts}
-use Rattle.heap_engine.specs.Parts.{state_of}
-use Rattle.heap_engine.specs.Printed.{Printed}
+use Rattle.heap_cycle.specs.declared.parts.Parts.{Parts}
+use Rattle.heap_cycle.specs.Parts.{state_of}
+use Rattle.heap_cycle.specs.Printed.{Printed}
 use Rattle.heap_engine.proofs.HeapEmpty.{empty_parts, parts_empty, ready_empty}
 use Rattle.heap_engine.proofs.heap_core.Core.new.Goals as goal
 
