@@ -19,22 +19,24 @@ use Rattle.gc_graph.specs.May.{may_with_read, read_node}
 use Rattle.gc_graph.specs.CycleSteps.{is_marking}
 use Rattle.gc_graph.specs.Outcomes.{answered, with_slot, slot_at}
 use Rattle.gc_graph.specs.ObjectSteps.{StepGet, StepWord, IsChanged, IsNumber, IsRead, first_word}
-use Rattle.heap_engine.specs.declared.field.Field.{Field}
-use Rattle.heap_engine.specs.declared.field.Wanted.{Wanted}
+use Rattle.heap_objects.specs.declared.field.Field.{Field}
+use Rattle.heap_objects.specs.declared.field.Wanted.{Wanted}
 use Rattle.node_bodies.specs.Nodes.{place_of, word_of}
-use Rattle.heap_engine.specs.Fields.{allows, field_of, IsFieldOf, IsFieldAt, value_in, IsLiveReference, StepWrite}
-use Rattle.heap_engine.specs.Objects.{target_in, written_in, slot_word}
-use Rattle.heap_engine.specs.Changes.{put_in}
-use Rattle.heap_engine.specs.Parts.{ObjectsView, HandlesView, CycleView, setup_of_objects, state_of, IsReady}
-use Rattle.heap_engine.proofs.FieldReads.{holds_reference}
-use Rattle.heap_engine.proofs.Ties.{valid_nodes, slot_live}
+use Rattle.heap_objects.specs.Fields.{allows, field_of, IsFieldOf, IsFieldAt, value_in, IsLiveReference}
+use Rattle.heap_engine.specs.FieldSteps.{StepWrite}
+use Rattle.heap_objects.specs.Objects.{target_in, written_in, ObjectsView}
+use Rattle.heap_handles.specs.Handles.{slot_word, put_in, HandlesView}
+use Rattle.heap_cycle.specs.declared.parts.Parts.{Parts}
+use Rattle.heap_cycle.specs.Parts.{setup_of, state_of, counted, AreTied, IsReady, IsFrame}
+use Rattle.heap_objects.specs.FieldReads.{holds_reference}
+use Rattle.heap_cycle.specs.Ties.{valid_nodes, slot_live, tied_slot}
 
 -- the field that was asked for: the slot's node has it, and its kind passes the test
-pub record Found (allowed : Kind → Bool) (o : ObjectsView) (h : HandlesView) (p f : ℕ) (field : Field) : Type 0 where
+pub record Found (allowed : Kind → Bool) (s : Parts) (p f : ℕ) (field : Field) : Type 0 where
   pub node : ℕ
-  pub slot : get_or h.slots p None ≡ Some node
-  pub kind : allowed (kind_of_field (node_at o.nodes node).object f) ≡ true
-  pub is : IsFieldOf o.nodes node f field
+  pub slot : get_or s.handles.slots p None ≡ Some node
+  pub kind : allowed (kind_of_field (node_at s.objects.nodes node).object f) ≡ true
+  pub is : IsFieldOf s.objects.nodes node f field
 
 never : (field : Field) (why : Refusal) → (let answer : Result Field Refusal = Ok field in answer ≡ Err why) → ⊥
 never field why e = cc
@@ -43,38 +45,43 @@ same : (field other : Field) → (let answer : Result Field Refusal = Ok field i
 same field other e = cc
 
 -- a field of a live node
-found_at : (allowed : Kind → Bool) (o : ObjectsView) (h : HandlesView) (c : CycleView) (p f n : ℕ) (field : Field) → IsReady o h c → get_or h.slots p None ≡ Some n
-    → IsFieldAt allowed o.nodes n f (Ok field) → Found allowed o h p f field
-found_at allowed o h c p f n field ready slot told =
-    let node : Node = node_at o.nodes n in
+found_at : (allowed : Kind → Bool) (s : Parts) (p f n : ℕ) (field : Field) → IsReady s → get_or s.handles.slots p None ≡ Some n
+    → IsFieldAt allowed s.objects.nodes n f (Ok field) → Found allowed s p f field
+found_at allowed s p f n field ready slot told =
+    let node : Node = node_at s.objects.nodes n in
     let kind : Kind = kind_of_field node.object f in
     let answer : Result Field Refusal = Ok field in
-    let there : Type 0 = MatchBool (allowed kind) (answer ≡ Ok (field_of o.nodes n f)) (answer ≡ Err R.Kind) in
+    let there : Type 0 = MatchBool (allowed kind) (answer ≡ Ok (field_of s.objects.nodes n f)) (answer ≡ Err R.Kind) in
     elim (cases_Bool (ltb f (field_count node))) [
       | inl low ↦
           (let inside : there = subst (λ b. MatchBool b there (answer ≡ Err R.Field)) low told in
           elim (cases_Bool (allowed kind)) [
             | inl is ↦
-                (let at : answer ≡ Ok (field_of o.nodes n f) = subst (λ b. MatchBool b (answer ≡ Ok (field_of o.nodes n f)) (answer ≡ Err R.Kind)) is inside in
+                (let at : answer ≡ Ok (field_of s.objects.nodes n f) = subst (λ b. MatchBool b (answer ≡ Ok (field_of s.objects.nodes n f)) (answer ≡ Err R.Kind)) is inside in
                 record {
                   node = n;
                   slot = slot;
                   kind = is;
-                  is = record { live = slot_live o h c p ready n slot; there = ltb-true f (field_count node) low; is = same field (field_of o.nodes n f) at };
+                  is = record { live = slot_live s p ready n slot; there = ltb-true f (field_count node) low; is = same field (field_of s.objects.nodes n f) at };
                 })
-            | inr other ↦ absurd (never field R.Kind (subst (λ b. MatchBool b (answer ≡ Ok (field_of o.nodes n f)) (answer ≡ Err R.Kind)) other inside))
+            | inr other ↦ absurd (never field R.Kind (subst (λ b. MatchBool b (answer ≡ Ok (field_of s.objects.nodes n f)) (answer ≡ Err R.Kind)) other inside))
           ])
       | inr past ↦ absurd (never field R.Field (subst (λ b. MatchBool b there (answer ≡ Err R.Field)) past told))
     ]
 
-pub found : (allowed : Kind → Bool) (o : ObjectsView) (h : HandlesView) (c : CycleView) (p f : ℕ) (field : Field) (slot : Option ℕ) → IsReady o h c → get_or h.slots p None ≡ slot
-    → (let answer : Result Field Refusal = Ok field in MatchOption slot (answer ≡ Err R.Null) (λ n. IsFieldAt allowed o.nodes n f answer)) → Found allowed o h p f field
-found allowed o h c p f field None ready slot told = cc
-found allowed o h c p f field (Some n) ready slot told = found_at allowed o h c p f n field ready slot told
+found_in : (allowed : Kind → Bool) (s : Parts) (p f : ℕ) (field : Field) (slot : Option ℕ) → IsReady s → get_or s.handles.slots p None ≡ slot
+    → (let answer : Result Field Refusal = Ok field in MatchOption slot (answer ≡ Err R.Null) (λ n. IsFieldAt allowed s.objects.nodes n f answer)) → Found allowed s p f field
+found_in allowed s p f field None ready slot told = cc
+found_in allowed s p f field (Some n) ready slot told = found_at allowed s p f n field ready slot told
+
+pub found : (allowed : Kind → Bool) (s : Parts) (p f : ℕ) (field : Field) → IsReady s
+    → (let answer : Result Field Refusal = Ok field in MatchOption (get_or s.handles.slots p None) (answer ≡ Err R.Null) (λ n. IsFieldAt allowed s.objects.nodes n f answer))
+    → Found allowed s p f field
+found allowed s p f field ready told = found_in allowed s p f field (get_or s.handles.slots p None) ready refl told
 
 -- the kind that the field tells passes the test
-pub field_kind : (allowed : Kind → Bool) (o : ObjectsView) (h : HandlesView) (p f : ℕ) (field : Field) → Found allowed o h p f field → allowed field.kind ≡ true
-field_kind allowed o h p f field is = ap (λ (x : Field). allowed x.kind) is.is.is ∙ is.kind
+pub field_kind : (allowed : Kind → Bool) (s : Parts) (p f : ℕ) (field : Field) → Found allowed s p f field → allowed field.kind ≡ true
+field_kind allowed s p f field is = ap (λ (x : Field). allowed x.kind) is.is.is ∙ is.kind
 
 -- what is to be done at the field is done
 pub asked : (allowed : Kind → Bool) (nodes : List Node) (slot : Option ℕ) (f n : ℕ) (none : Type 0) (Done : ℕ → Type 0) (other past : Type 0) → slot ≡ Some n → f < field_count (node_at nodes n)
@@ -85,27 +92,28 @@ asked allowed nodes slot f n none Done other past is low kind done =
     (subst (λ b. MatchBool b (MatchBool (allowed (kind_of_field (node_at nodes n).object f)) (Done n) other) past) (sym (lt-ltb f (field_count (node_at nodes n)) low))
     (subst (λ b. MatchBool b (Done n) other) (sym kind) done))
 
-pub step_write : (wanted : Wanted) (o new : ObjectsView) (h : HandlesView) (c : CycleView) (p f : ℕ) (field : Field) (x : Value) → (is : Found (allows wanted) o h p f field)
-    → setup_of_objects new ≡ setup_of_objects o → new.nodes ≡ written_in o.nodes (get_or h.slots p None) f x
-    → StepWrite wanted (state_of o h c) p f x (L.Fine ∷ []) (answered (state_of new h c))
-step_write wanted o new h c p f field x is setup nodes =
-    let s : State = state_of o h c in
+pub step_write : (wanted : Wanted) (s : Parts) (new : ObjectsView) (p f : ℕ) (field : Field) (x : Value) → (is : Found (allows wanted) s p f field)
+    → new.nodes ≡ written_in s.objects.nodes (get_or s.handles.slots p None) f x
+    → StepWrite wanted (state_of s) p f x (L.Fine ∷ []) (answered (state_of (record s { objects = new })))
+step_write wanted s new p f field x is nodes =
+    let st : State = state_of s in
     let n : ℕ = is.node in
-    let changed : IsChanged s n (with_value (node_at o.nodes n) (first_word s n f) x) (L.Fine ∷ []) (answered (state_of new h c)) = (
+    let after : State = answered (state_of (record s { objects = new })) in
+    let changed : IsChanged st n (with_value (node_at st.nodes n) (first_word st n f) x) (L.Fine ∷ []) after = (
       refl,
-      ap (λ (ns : List Node). answered (record s { nodes = ns })) (nodes ∙ ap (λ slot. written_in o.nodes slot f x) is.slot),
+      ap (λ (ns : List Node). answered (record st { nodes = ns })) (nodes ∙ ap (λ slot. written_in s.objects.nodes slot f x) is.slot),
     ) in
-    asked (allows wanted) o.nodes (slot_at s p) f n _ (λ m. IsChanged s m (with_value (node_at o.nodes m) (first_word s m f) x) (L.Fine ∷ []) (answered (state_of new h c))) _ _ is.slot
+    asked (allows wanted) st.nodes (slot_at st p) f n _ (λ m. IsChanged st m (with_value (node_at st.nodes m) (first_word st m f) x) (L.Fine ∷ []) after) _ _ is.slot
     is.is.there is.kind changed
 
-pub step_word : (o new : ObjectsView) (h : HandlesView) (c : CycleView) (p f w : ℕ) (field : Field) → (is : Found is_plain o h p f field)
-    → value_in o.nodes is.node f ≡ Word w → new ≡ o → StepWord (state_of o h c) p f (L.Word w ∷ []) (answered (state_of new h c))
-step_word o new h c p f w field is told unchanged =
-    let s : State = state_of o h c in
+pub step_word : (s t : Parts) (p f w : ℕ) (field : Field) → (is : Found is_plain s p f field) → value_in s.objects.nodes is.node f ≡ Word w → t ≡ s
+    → StepWord (state_of s) p f (L.Word w ∷ []) (answered (state_of t))
+step_word s t p f w field is told unchanged =
+    let st : State = state_of s in
     let lines : List Line = L.Word w ∷ [] in
-    let number : IsNumber s (Word w) lines (answered (state_of new h c)) = (refl, ap (λ (x : ObjectsView). answered (state_of x h c)) unchanged) in
-    asked is_plain o.nodes (slot_at s p) f is.node _ (λ m. IsNumber s (value_in o.nodes m f) lines (answered (state_of new h c))) _ _ is.slot is.is.there is.kind
-    (subst (λ x. IsNumber s x lines (answered (state_of new h c))) (sym told) number)
+    let number : IsNumber st (Word w) lines (answered (state_of t)) = (refl, ap (λ (x : Parts). answered (state_of x)) unchanged) in
+    asked is_plain st.nodes (slot_at st p) f is.node _ (λ m. IsNumber st (value_in st.nodes m f) lines (answered (state_of t))) _ _ is.slot is.is.there is.kind
+    (subst (λ x. IsNumber st x lines (answered (state_of t))) (sym told) number)
 
 -- ---- reads of references
 
@@ -136,24 +144,35 @@ pub target_places : (nodes : List Node) (content : Option ℕ)
 target_places nodes None = refl
 target_places nodes (Some m) = refl
 
-pub step_get : (o : ObjectsView) (h new : HandlesView) (c : CycleView) (p f q : ℕ) (field : Field) (target : Option (ℕ × ℕ)) (line : Line) → IsReady o h c → is_marking c.phase ≡ false
-    → (is : Found is_reference o h p f field) → target ≡ target_in o.nodes (value_in o.nodes is.node f) → MatchOption target (line ≡ L.Null) (λ t. line ≡ L.Node t.1) → new ≡ put_in h q target
-    → StepGet (state_of o h c) p f q (line ∷ []) (answered (state_of o new c))
-step_get o h new c p f q field target line ready calm is read told after =
-    let s : State = state_of o h c in
+pub step_get : (s : Parts) (new : HandlesView) (p f q : ℕ) (field : Field) (target : Option (ℕ × ℕ)) (line : Line) → IsReady s → is_marking s.cycle.phase ≡ false
+    → (is : Found is_reference s p f field) → target ≡ target_in s.objects.nodes (value_in s.objects.nodes is.node f) → MatchOption target (line ≡ L.Null) (λ t. line ≡ L.Node t.1)
+    → new ≡ put_in s.handles q target → StepGet (state_of s) p f q (line ∷ []) (answered (state_of (record s { handles = new })))
+step_get s new p f q field target line ready calm is read told after =
+    let st : State = state_of s in
     let n : ℕ = is.node in
-    let x : Value = value_in o.nodes n f in
-    let weak : Bool = is_weak (kind_of_field (node_at o.nodes n).object f) in
-    let names : IsLiveReference o.nodes x =
-    holds_reference (setup_of_objects o) o.nodes n f field (valid_nodes o h c ready) is.is (field_kind is_reference o h p f field is) in
-    let done : IsRead weak s x q (line ∷ []) (answered (with_slot s q (target_of x))) =
-    read_value weak s x q line calm names (subst (λ t. MatchOption t (line ≡ L.Null) (λ (w : ℕ × ℕ). line ≡ L.Node w.1)) read told) in
-    let to : answered (with_slot s q (target_of x)) ≡ answered (state_of o new c) =
-    ap (λ content. answered (with_slot s q content)) (sym (ap (option_map (λ (t : ℕ × ℕ). t.1)) read ∙ target_numbers o.nodes (target_of x)))
-    ∙ ap (λ (k : HandlesView). answered (state_of o k c)) (sym after) in
-    asked is_reference o.nodes (slot_at s p) f n _
-    (λ m. IsRead (is_weak (kind_of_field (node_at o.nodes m).object f)) s (value_in o.nodes m f) q (line ∷ []) (answered (state_of o new c))) _ _ is.slot is.is.there is.kind
-    (subst (λ (t : State). IsRead weak s x q (line ∷ []) t) to done)
+    let x : Value = value_in st.nodes n f in
+    let weak : Bool = is_weak (kind_of_field (node_at st.nodes n).object f) in
+    let names : IsLiveReference st.nodes x =
+    holds_reference (setup_of s) st.nodes n f field (valid_nodes s ready) is.is (field_kind is_reference s p f field is) in
+    let done : IsRead weak st x q (line ∷ []) (answered (with_slot st q (target_of x))) =
+    read_value weak st x q line calm names (subst (λ t. MatchOption t (line ≡ L.Null) (λ (w : ℕ × ℕ). line ≡ L.Node w.1)) read told) in
+    let to : answered (with_slot st q (target_of x)) ≡ answered (state_of (record s { handles = new })) =
+    ap (λ content. answered (with_slot st q content)) (sym (ap (option_map (λ (t : ℕ × ℕ). t.1)) read ∙ target_numbers st.nodes (target_of x)))
+    ∙ ap (λ (k : HandlesView). answered (state_of (record s { handles = k }))) (sym after) in
+    asked is_reference st.nodes (slot_at st p) f n _
+    (λ m. IsRead (is_weak (kind_of_field (node_at st.nodes m).object f)) st (value_in st.nodes m f) q (line ∷ []) (answered (state_of (record s { handles = new })))) _ _ is.slot is.is.there
+    is.kind (subst (λ (t : State). IsRead weak st x q (line ∷ []) t) to done)
+
+-- a slot got what was read, and no more
+pub read_frame : (s : Parts) (new : HandlesView) (q : ℕ) (target : Option (ℕ × ℕ)) (content : Option ℕ) → AreTied s
+    → target ≡ option_map (λ (m : ℕ). (place_of s.objects.nodes m, m)) content → new ≡ put_in s.handles q target → IsFrame s (counted (record s { handles = new }))
+read_frame s new q target content tied read after = record {
+  setup = refl;
+  ordinal = refl;
+  tied = subst (λ (k : HandlesView). AreTied (counted (record s { handles = k }))) (sym after)
+      (tied_slot s q target
+      (subst (λ t. option_map (λ (x : ℕ × ℕ). x.0) t ≡ option_map (place_of s.objects.nodes) (option_map (λ (x : ℕ × ℕ). x.1) t)) (sym read) (target_places s.objects.nodes content)) tied);
+}
 
 pub content_live : (nodes : List Node) (slot : Option ℕ) → ForSome slot (IsLive nodes) → IsLiveReference nodes (content_of slot)
 content_live nodes None live = tt

@@ -1,31 +1,44 @@
 -- An empty heap.
-use Rattle.std.proofs.Common.{◌≡◌, ℕ, zero, suc, ◌*◌, List, [], ◌∷◌, length, replicate, None, refl, sym, ap, subst, arith}
+use Rattle.std.proofs.Common.{◌≡◌, ℕ, zero, suc, ◌*◌, List, [], ◌∷◌, length, replicate, None, refl, sym, ap, ◌∙◌, subst, arith}
 use Rattle.gc_graph.specs.declared.action.ActionKind.{ActionKind}
 use Rattle.gc_graph.specs.declared.phase.Phase.TheVariants.{Idle}
 use Rattle.gc_graph.specs.State.{ObjectType, Shape, empty_state}
 use Rattle.gc_graph.specs.ValidLaw.{EmptyIsValid}
 use Rattle.page_words.specs.Seat.{empty_view}
 use Rattle.node_bodies.specs.Places.{places_of}
-use Rattle.heap_engine.specs.Objects.{HaveCallbacks}
-use Rattle.heap_engine.specs.Stack.{empty_stack}
-use Rattle.heap_engine.specs.Parts.{ObjectsView, HandlesView, CycleView, setup_of_objects, IsReady}
+use Rattle.heap_objects.specs.Objects.{HaveCallbacks, ObjectsView}
+use Rattle.heap_handles.specs.Stack.{empty_stack}
+use Rattle.heap_cycle.specs.declared.parts.Parts.{Parts}
+use Rattle.heap_handles.specs.Handles.{HandlesView}
+use Rattle.heap_cycle.specs.Views.{CycleView}
+use Rattle.heap_cycle.specs.Parts.{setup_of, IsReady}
 
 null_places : (n : ℕ) → replicate n None ≡ places_of [] (replicate n None)
 null_places zero = refl
 null_places (suc n) = ap (λ l. None ∷ l) (null_places n)
 
+-- the parts of an empty heap
+abbrev pub empty_parts : Shape → List ObjectType → List ActionKind → Parts
+empty_parts shape types callbacks = record {
+  objects = record { shape = shape; types = types; callbacks = callbacks; nodes = []; seat = empty_view (shape.pages * shape.page_words) types };
+  handles = record { places = replicate 256 None; slots = replicate 256 None; weak_places = replicate 64 None; weak = replicate 64 None; stack = empty_stack };
+  cycle = record { phase = Idle; sweep = record { pages = shape.pages; cursor = shape.pages }; registered = []; ran = []; rest = empty_state };
+}
+
+-- each of them is what it is in an empty heap
+pub parts_empty : (s : Parts) (shape : Shape) (types : List ObjectType) (callbacks : List ActionKind) → s.objects ≡ (empty_parts shape types callbacks).objects
+    → s.handles ≡ (empty_parts shape types callbacks).handles → s.cycle ≡ (empty_parts shape types callbacks).cycle → s ≡ empty_parts shape types callbacks
+parts_empty s shape types callbacks objects handles cycle =
+    let none : Parts = empty_parts shape types callbacks in
+    ap (λ (x : ObjectsView). record s { objects = x }) objects ∙ ap (λ (x : HandlesView). record s { objects = none.objects; handles = x }) handles
+    ∙ ap (λ (x : CycleView). record none { cycle = x }) cycle
+
 -- an idle cycle, over slots that are all null and no objects, is ready
-pub ready_empty : (o : ObjectsView) (h : HandlesView) (c : CycleView) (types : List ObjectType) (callbacks : List ActionKind) (shape : Shape) → EmptyIsValid
-    → HaveCallbacks (length callbacks) types
-    → o ≡ record { shape = shape; types = types; callbacks = callbacks; nodes = []; seat = empty_view (shape.pages * shape.page_words) types }
-    → h ≡ record { places = replicate 256 None; slots = replicate 256 None; weak_places = replicate 64 None; weak = replicate 64 None; stack = empty_stack }
-    → c ≡ record { phase = Idle; sweep = record { pages = shape.pages; cursor = shape.pages }; registered = []; ran = []; rest = empty_state } → IsReady o h c
-ready_empty o h c types callbacks shape law called objects handles cycle =
-    let none : ObjectsView = record { shape = shape; types = types; callbacks = callbacks; nodes = []; seat = empty_view (shape.pages * shape.page_words) types } in
-    let nulls : HandlesView = record { places = replicate 256 None; slots = replicate 256 None; weak_places = replicate 64 None; weak = replicate 64 None; stack = empty_stack } in
-    let began : CycleView = record { phase = Idle; sweep = record { pages = shape.pages; cursor = shape.pages }; registered = []; ran = []; rest = empty_state } in
-    let ready : IsReady none nulls began = record {
-      valid = law (setup_of_objects none);
+pub ready_empty : (s : Parts) (shape : Shape) (types : List ObjectType) (callbacks : List ActionKind) → EmptyIsValid → HaveCallbacks (length callbacks) types
+    → s ≡ empty_parts shape types callbacks → IsReady s
+ready_empty s shape types callbacks law called is =
+    let ready : IsReady (empty_parts shape types callbacks) = record {
+      valid = law (setup_of (empty_parts shape types callbacks));
       called = called;
       tied = record {
         slots = null_places 256;
@@ -39,5 +52,4 @@ ready_empty o h c types callbacks shape law called objects handles cycle =
       };
       most = omega arith;
     } in
-    subst (λ (x : ObjectsView). IsReady x h c) (sym objects)
-    (subst (λ (x : HandlesView). IsReady none x c) (sym handles) (subst (λ (x : CycleView). IsReady none nulls x) (sym cycle) ready))
+    subst IsReady (sym is) ready

@@ -20,15 +20,18 @@ use Rattle.callback_table.specs.Registry.{registrations_of, registered}
 use Rattle.sweeper.specs.Sweeping.{cursor_at}
 use Rattle.node_bodies.specs.Nodes.{place_of}
 use Rattle.node_bodies.specs.Places.{places_of}
-use Rattle.heap_engine.specs.Stack.{HoldsWords}
-use Rattle.heap_engine.specs.Objects.{HaveCallbacks, with_made}
-use Rattle.heap_engine.specs.Changes.{put_in, registered_in}
-use Rattle.heap_engine.specs.Parts.{ObjectsView, HandlesView, CycleView, setup_of_objects, state_of, counted, HasMarks, IsPlaced, IsSweepOf, AreTied, IsReady}
+use Rattle.heap_handles.specs.Stack.{HoldsWords}
+use Rattle.heap_objects.specs.Objects.{with_made, ObjectsView, setup_of_objects, StaysAt}
+use Rattle.heap_handles.specs.Handles.{put_in, HandlesView}
+use Rattle.heap_cycle.specs.declared.parts.Parts.{Parts}
+use Rattle.heap_cycle.specs.Views.{CycleView, IsPlaced, IsSweepOf}
+use Rattle.heap_objects.specs.Finalising.{HasMarks}
+use Rattle.heap_cycle.specs.Parts.{setup_of, state_of, counted, AreTied, IsReady, registered_in}
 use Rattle.node_bodies.specs.KeptNodes.{slots_live}
-use Rattle.heap_engine.proofs.Registrations.{registrations_join, live_entries}
-use Rattle.heap_engine.proofs.HeldNodes.{place-old, stays-old, node-new}
+use Rattle.heap_cycle.specs.Registrations.{registrations_join, live_entries}
+use Rattle.heap_objects.specs.NewNodes.{place-old, stays-old, node-new}
 use Rattle.node_bodies.specs.NodePlaces.{there_below, live_is_there}
-use Rattle.heap_engine.proofs.StackWords.{StaysAt, words_held}
+use Rattle.heap_handles.specs.StackWords.{words_held}
 
 -- while no marking goes on, nothing is told of what may be kept
 same_may : (phase : Phase) (may : List Bool) → is_marking phase ≡ false → may_with_new phase may ≡ may
@@ -46,30 +49,31 @@ joins setup s p t extra place rs calm registered =
     ap (λ r. build r s.may) registered ∙ ap (build (s.registrations ++ registrations_for setup t (length s.nodes))) (sym (same_may s.phase s.may calm))
 
 -- from the old parts, through those after the pages that were swept on the way, to a new object at a place
-pub step_made : (o mid new : ObjectsView) (h after : HandlesView) (c between left : CycleView) (p t extra place number : ℕ) (numbers : List ℕ) (lines : List Line)
-    → setup_of_objects mid ≡ setup_of_objects o → is_marking between.phase ≡ false
-    → IsPlacement o.shape (state_of o h c) (size_of_type (setup_of_objects o) t extra) numbers (state_of mid h between) (Some place) → number ≡ length mid.nodes
-    → new.nodes ≡ with_made (setup_of_objects mid) mid.nodes t extra (Some place) → left ≡ registered_in mid between t place → after ≡ put_in h p (Some (place, number))
+pub step_made : (s mid : Parts) (new : ObjectsView) (after : HandlesView) (left : CycleView) (p t extra place number : ℕ) (numbers : List ℕ) (lines : List Line)
+    → setup_of mid ≡ setup_of s → is_marking mid.cycle.phase ≡ false
+    → IsPlacement s.objects.shape (state_of s) (size_of_type (setup_of s) t extra) numbers (state_of mid) (Some place) → number ≡ length mid.objects.nodes
+    → new.nodes ≡ with_made (setup_of mid) mid.objects.nodes t extra (Some place) → left ≡ (registered_in mid t place).cycle → after ≡ put_in mid.handles p (Some (place, number))
     → lines ≡ finalise_lines numbers ++ L.Placed number place ∷ []
-    → StepNew (setup_of_objects o) (state_of o h c) p t extra lines (answered (state_of new after left))
-step_made o mid new h after c between left p t extra place number numbers lines same calm found counted nodes registers put told =
-    let setup : Setup = setup_of_objects mid in
-    let s : State = state_of mid h between in
-    let entries : List Registered = (registered_in mid between t place).registered in
-    let placed : IsPlacement setup.shape (state_of o h c) (size_of_type setup t extra) numbers s (Some place) =
-    subst (λ (st : Setup). IsPlacement st.shape (state_of o h c) (size_of_type st t extra) numbers s (Some place)) (sym same) found in
-    subst (λ (st : Setup). StepNew st (state_of o h c) p t extra lines (answered (state_of new after left))) same (inr (record {
+    → StepNew (setup_of s) (state_of s) p t extra lines (answered (state_of (record mid { objects = new; handles = after; cycle = left })))
+step_made s mid new after left p t extra place number numbers lines same calm found counts nodes registers put told =
+    let setup : Setup = setup_of mid in
+    let st : State = state_of mid in
+    let entries : List Registered = (registered_in mid t place).cycle.registered in
+    let slots : HandlesView = put_in mid.handles p (Some (place, number)) in
+    let placed : IsPlacement setup.shape (state_of s) (size_of_type setup t extra) numbers st (Some place) =
+    subst (λ (su : Setup). IsPlacement su.shape (state_of s) (size_of_type su t extra) numbers st (Some place)) (sym same) found in
+    subst (λ (su : Setup). StepNew su (state_of s) p t extra lines (answered (state_of (record mid { objects = new; handles = after; cycle = left })))) same (inr (record {
       numbers = numbers;
-      mid = s;
+      mid = st;
       place = Some place;
       placed = placed;
       done = record {
-        lines_are = told ∙ ap (λ k. finalise_lines numbers ++ L.Placed k place ∷ []) counted;
-        after = ap (λ (x : HandlesView). answered (state_of new x left)) put
-            ∙ ap (λ (x : CycleView). answered (state_of new (put_in h p (Some (place, number))) x)) registers
-            ∙ ap (λ (ns : List Node). answered (with_slot (record s { nodes = ns; registrations = registrations_of entries }) p (Some number))) nodes
-            ∙ ap (λ k. answered (with_slot (record s { nodes = mid.nodes ++ new_node setup t extra place ∷ []; registrations = registrations_of entries }) p (Some k))) counted
-            ∙ joins setup s p t extra place (registrations_of entries) calm (registrations_join (length mid.nodes) place between.registered (type_at setup t).prefinalizers);
+        lines_are = told ∙ ap (λ k. finalise_lines numbers ++ L.Placed k place ∷ []) counts;
+        after = ap (λ (x : HandlesView). answered (state_of (record mid { objects = new; handles = x; cycle = left }))) put
+            ∙ ap (λ (x : CycleView). answered (state_of (record mid { objects = new; handles = slots; cycle = x }))) registers
+            ∙ ap (λ (ns : List Node). answered (with_slot (record st { nodes = ns; registrations = registrations_of entries }) p (Some number))) nodes
+            ∙ ap (λ k. answered (with_slot (record st { nodes = st.nodes ++ new_node setup t extra place ∷ []; registrations = registrations_of entries }) p (Some k))) counts
+            ∙ joins setup st p t extra place (registrations_of entries) calm (registrations_join (length st.nodes) place mid.cycle.registered (type_at setup t).prefinalizers);
       };
     }))
 
@@ -82,58 +86,71 @@ places_on nodes x (Some n ∷ slots) live =
     ∙ ap (λ l. Some (place_of nodes n) ∷ l) (places_on nodes x slots (All-tail (λ slot. ForSome slot (IsLive nodes)) (Some n) slots live))
 
 -- the registrations hold the places of their nodes, the new ones that of the new node
-registered_made : (o new : ObjectsView) (c : CycleView) (t place : ℕ) (x : Node) → HaveCallbacks (length o.callbacks) o.types → t < length o.types
-    → All (IsPlaced o.nodes (length o.callbacks)) c.registered → All (λ e. IsLive o.nodes e.node) c.registered → x.place ≡ place → new.nodes ≡ o.nodes ++ x ∷ []
-    → new.callbacks ≡ o.callbacks → All (IsPlaced new.nodes (length new.callbacks)) (registered_in o c t place).registered
-registered_made o new c t place x called low old live at nodes callbacks =
-    let now : List Node = o.nodes ++ x ∷ [] in
-    let prefinalizers : List ℕ = (type_at (setup_of_objects o) t).prefinalizers in
-    let known : All (λ number. number < length o.callbacks) prefinalizers =
-    All-get_or (λ (type : ObjectType). All (λ number. number < length o.callbacks) type.prefinalizers) o.types t no_type low called.known in
-    let same : length new.callbacks ≡ length o.callbacks = ap length callbacks in
-    subst (λ (ns : List Node). All (IsPlaced ns (length new.callbacks)) (registered_in o c t place).registered) (sym nodes)
-    (subst (λ k. All (IsPlaced now k) (registered_in o c t place).registered) (sym same)
-    (All-append (IsPlaced now (length o.callbacks)) c.registered (map (registered (length o.nodes) place) prefinalizers)
-    (λ k d l. (let is = old k d l in let lives = live k d l in
-    record { place = place-old o.nodes x _ (there_below o.nodes _ (live_is_there o.nodes _ lives)) ∙ is.place; known = is.known }))
-    (All-map (IsPlaced now (length o.callbacks)) (registered (length o.nodes) place) prefinalizers
-    (All-weaker (λ number. number < length o.callbacks) (λ number. IsPlaced now (length o.callbacks) (registered (length o.nodes) place number))
-    (λ number is. record { place = ap (λ (y : Node). y.place) (node-new o.nodes x) ∙ at; known = is }) prefinalizers known))))
+registered_made : (s : Parts) (new : ObjectsView) (t place : ℕ) (x : Node) → IsReady s → t < length s.objects.types → x.place ≡ place → new.nodes ≡ s.objects.nodes ++ x ∷ []
+    → new.callbacks ≡ s.objects.callbacks → All (IsPlaced new.nodes (length new.callbacks)) (registered_in s t place).cycle.registered
+registered_made s new t place x ready low at nodes callbacks =
+    let old : List Node = s.objects.nodes in
+    let now : List Node = old ++ x ∷ [] in
+    let most : ℕ = length s.objects.callbacks in
+    let entries : List Registered = (registered_in s t place).cycle.registered in
+    let prefinalizers : List ℕ = (type_at (setup_of s) t).prefinalizers in
+    let known : All (λ number. number < most) prefinalizers =
+    All-get_or (λ (type : ObjectType). All (λ number. number < most) type.prefinalizers) s.objects.types t no_type low ready.called.known in
+    let same : length new.callbacks ≡ most = ap length callbacks in
+    let live : All (λ e. IsLive old e.node) s.cycle.registered = live_entries old s.cycle.registered ready.valid.registered in
+    subst (λ (ns : List Node). All (IsPlaced ns (length new.callbacks)) entries) (sym nodes)
+    (subst (λ k. All (IsPlaced now k) entries) (sym same)
+    (All-append (IsPlaced now most) s.cycle.registered (map (registered (length old) place) prefinalizers)
+    (λ k d l. (let is = ready.tied.registered k d l in let lives = live k d l in
+    record { place = place-old old x _ (there_below old _ (live_is_there old _ lives)) ∙ is.place; known = is.known }))
+    (All-map (IsPlaced now most) (registered (length old) place) prefinalizers
+    (All-weaker (λ number. number < most) (λ number. IsPlaced now most (registered (length old) place number))
+    (λ number is. record { place = ap (λ (y : Node). y.place) (node-new old x) ∙ at; known = is }) prefinalizers known))))
 
-few_made : (o : ObjectsView) (c : CycleView) (t place ordinal : ℕ) → HaveCallbacks (length o.callbacks) o.types → t < length o.types
-    → length c.registered + length c.ran ≤ 16 * ordinal → length (registered_in o c t place).registered + length c.ran ≤ 16 * (ordinal + 1)
-few_made o c t place ordinal called low few =
-    let prefinalizers : List ℕ = (type_at (setup_of_objects o) t).prefinalizers in
-    let most : length prefinalizers ≤ 16 = All-get_or (λ (type : ObjectType). length type.prefinalizers ≤ 16) o.types t no_type low called.few in
-    omega (arith, few, most, length-append c.registered (map (registered (length o.nodes) place) prefinalizers), length-map prefinalizers (registered (length o.nodes) place))
+few_made : (s : Parts) (t place : ℕ) → IsReady s → t < length s.objects.types
+    → length (registered_in s t place).cycle.registered + length s.cycle.ran ≤ 16 * (s.cycle.rest.ordinal + 1)
+few_made s t place ready low =
+    let prefinalizers : List ℕ = (type_at (setup_of s) t).prefinalizers in
+    let most : length prefinalizers ≤ 16 = All-get_or (λ (type : ObjectType). length type.prefinalizers ≤ 16) s.objects.types t no_type low ready.called.few in
+    omega (
+      arith,
+      ready.tied.few,
+      most,
+      length-append s.cycle.registered (map (registered (length s.objects.nodes) place) prefinalizers),
+      length-map prefinalizers (registered (length s.objects.nodes) place),
+    )
 
 -- the places of the slots, strong and weak, are as before, and slot p's is that of the new node
-pub tied_made : (o new : ObjectsView) (h after : HandlesView) (c left : CycleView) (p t place number : ℕ) (x : Node) → IsReady o h c → t < length o.types
-    → HasMarks c.phase (cursor_at o.shape c.sweep) new.seat → setup_of_objects new ≡ setup_of_objects o → number ≡ length o.nodes → x.place ≡ place → new.nodes ≡ o.nodes ++ x ∷ []
-    → left ≡ registered_in o c t place → after ≡ put_in h p (Some (place, number)) → AreTied new after (counted left)
-tied_made o new h after c left p t place number x ready low marks setup counts at nodes registers put =
-    let now : List Node = o.nodes ++ x ∷ [] in
-    let tied : AreTied o h c = ready.tied in
-    let here : place_of now number ≡ place = ap (place_of now) counts ∙ ap (λ (y : Node). y.place) (node-new o.nodes x) ∙ at in
+pub tied_made : (s : Parts) (new : ObjectsView) (after : HandlesView) (left : CycleView) (p t place number : ℕ) (x : Node) → IsReady s → t < length s.objects.types
+    → HasMarks s.cycle.phase (cursor_at s.objects.shape s.cycle.sweep) new.seat → setup_of_objects new ≡ setup_of s → number ≡ length s.objects.nodes → x.place ≡ place
+    → new.nodes ≡ s.objects.nodes ++ x ∷ [] → left ≡ (registered_in s t place).cycle → after ≡ put_in s.handles p (Some (place, number))
+    → AreTied (counted (record s { objects = new; handles = after; cycle = left }))
+tied_made s new after left p t place number x ready low marks setup counts at nodes registers put =
+    let old : List Node = s.objects.nodes in
+    let now : List Node = old ++ x ∷ [] in
+    let h : HandlesView = s.handles in
+    let y : CycleView = s.cycle in
+    let tied : AreTied s = ready.tied in
+    let here : place_of now number ≡ place = ap (place_of now) counts ∙ ap (λ (z : Node). z.place) (node-new old x) ∙ at in
     let slots : List (Option ℕ) = set h.slots p (Some number) in
-    let callbacks : new.callbacks ≡ o.callbacks = ap (λ (st : Setup). st.callbacks) setup in
-    let is : AreTied new after (counted (registered_in o c t place)) = record {
+    let callbacks : new.callbacks ≡ s.objects.callbacks = ap (λ (st : Setup). st.callbacks) setup in
+    let is : AreTied (counted (record s { objects = new; handles = after; cycle = (registered_in s t place).cycle })) = record {
       slots = ap (λ (k : HandlesView). k.places) put
-          ∙ ap (λ l. set l p (Some place)) (tied.slots ∙ sym (places_on o.nodes x h.slots (slots_live o.nodes h.slots ready.valid.slots)))
+          ∙ ap (λ l. set l p (Some place)) (tied.slots ∙ sym (places_on old x h.slots (slots_live old h.slots ready.valid.slots)))
           ∙ ap (λ a. set (places_of now h.slots) p (Some a)) (sym here)
           ∙ sym (map-set (λ (slot : Option ℕ). option_map (place_of now) slot) h.slots p (Some number))
           ∙ sym (ap (λ (k : HandlesView). places_of new.nodes k.slots) put ∙ ap (λ (ns : List Node). places_of ns slots) nodes);
-      weak = ap (λ (k : HandlesView). k.weak_places) put ∙ tied.weak ∙ sym (places_on o.nodes x h.weak (slots_live o.nodes h.weak ready.valid.weak))
+      weak = ap (λ (k : HandlesView). k.weak_places) put ∙ tied.weak ∙ sym (places_on old x h.weak (slots_live old h.weak ready.valid.weak))
           ∙ sym (ap (λ (k : HandlesView). places_of new.nodes k.weak) put ∙ ap (λ (ns : List Node). places_of ns h.weak) nodes);
       stack = subst (λ (k : HandlesView). HoldsWords new.nodes k.stack) (sym put)
           (subst (λ (ns : List Node). HoldsWords ns h.stack) (sym nodes)
-          (words_held o.nodes now h.stack
-          (All-weaker (IsLive o.nodes) (StaysAt o.nodes now) (λ n is. stays-old o.nodes x n (there_below o.nodes n (live_is_there o.nodes n is)))
+          (words_held old now h.stack
+          (All-weaker (IsLive old) (StaysAt old now) (λ n is. stays-old old x n (there_below old n (live_is_there old n is)))
           (stack_targets h.stack.words) ready.valid.stack) tied.stack));
-      registered = registered_made o new c t place x ready.called low tied.registered (live_entries o.nodes c.registered ready.valid.registered) at nodes callbacks;
-      few = few_made o c t place c.rest.ordinal ready.called low tied.few;
-      sweep = subst (λ (st : Setup). IsSweepOf st.shape c.phase c.rest.cursor c.sweep) (sym setup) tied.sweep;
-      marks = subst (λ (st : Setup). HasMarks c.phase (cursor_at st.shape c.sweep) new.seat) (sym setup) marks;
-      made = omega (arith, tied.made, ap length nodes, length_push o.nodes x);
+      registered = registered_made s new t place x ready low at nodes callbacks;
+      few = few_made s t place ready low;
+      sweep = subst (λ (st : Setup). IsSweepOf st.shape y.phase y.rest.cursor y.sweep) (sym setup) tied.sweep;
+      marks = subst (λ (st : Setup). HasMarks y.phase (cursor_at st.shape y.sweep) new.seat) (sym setup) marks;
+      made = omega (arith, tied.made, ap length nodes, length_push old x);
     } in
-    subst (λ (k : CycleView). AreTied new after (counted k)) (sym registers) is
+    subst (λ (k : CycleView). AreTied (counted (record s { objects = new; handles = after; cycle = k }))) (sym registers) is

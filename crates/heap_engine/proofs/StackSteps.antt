@@ -15,10 +15,12 @@ use Rattle.gc_graph.specs.State.StackWord.{Pointer, Number}
 use Rattle.gc_graph.specs.Outcomes.{answered, IsRefused, slot_at, with_slot}
 use Rattle.gc_graph.specs.HandleSteps.{IsPushed, IsPeeked, StepPush, StepPeek}
 use Rattle.gc_graph.specs.CycleSteps.{IsCollection, StepGcNow, WantsMemory, is_marking, is_stack_refused}
-use Rattle.heap_engine.specs.Objects.{IsLiveAt}
-use Rattle.heap_engine.specs.Stack.{StackView, pointed_place}
-use Rattle.heap_engine.specs.Parts.{ObjectsView, HandlesView, CycleView, state_of, AreTied, IsReady}
-use Rattle.heap_engine.proofs.StackWords.{pointer_at, number_in, no_word}
+use Rattle.heap_objects.specs.Objects.{IsLiveAt}
+use Rattle.heap_handles.specs.Stack.{StackView, pointed_place}
+use Rattle.heap_cycle.specs.declared.parts.Parts.{Parts}
+use Rattle.heap_handles.specs.Handles.{HandlesView}
+use Rattle.heap_cycle.specs.Parts.{state_of, AreTied, IsReady}
+use Rattle.heap_handles.specs.StackWords.{pointer_at, number_in, no_word}
 
 -- ---- a pointer is pushed, or refused for its offset
 
@@ -43,15 +45,15 @@ pub record TellsWord (h : HandlesView) (lent : StackView) (i : ℕ) (told : Opti
   pub lends : lent ≡ h.stack
   pub tells : told ≡ slice_get (reverse lent.places) i
 
-word_told : (o : ObjectsView) (h : HandlesView) (c : CycleView) (lent : StackView) (i : ℕ) (told : Option (Option ℕ)) → AreTied o h c → TellsWord h lent i told
-    → told ≡ slice_get (map (pointed_place o.nodes) h.stack.words) i
-word_told o h c lent i told tied is =
-    is.tells ∙ ap (λ (s : StackView). slice_get (reverse s.places) i) is.lends ∙ ap (λ l. slice_get (reverse l) i) tied.stack.places
-    ∙ ap (λ l. slice_get l i) (reverse-reverse (map (pointed_place o.nodes) h.stack.words))
+word_told : (s : Parts) (lent : StackView) (i : ℕ) (told : Option (Option ℕ)) → AreTied s → TellsWord s.handles lent i told
+    → told ≡ slice_get (map (pointed_place s.objects.nodes) s.handles.stack.words) i
+word_told s lent i told tied is =
+    is.tells ∙ ap (λ (x : StackView). slice_get (reverse x.places) i) is.lends ∙ ap (λ l. slice_get (reverse l) i) tied.stack.places
+    ∙ ap (λ l. slice_get l i) (reverse-reverse (map (pointed_place s.objects.nodes) s.handles.stack.words))
 
-pub word_points : (o : ObjectsView) (h : HandlesView) (c : CycleView) (lent : StackView) (i a : ℕ) (told : Option (Option ℕ)) → IsReady o h c → TellsWord h lent i told → told ≡ Some (Some a)
-    → (n offset : ℕ) × (slice_get h.stack.words i ≡ Some (Pointer n offset)) × IsLiveAt o.nodes n a
-word_points o h c lent i a told ready is points = pointer_at o.nodes h.stack.words i a ready.valid.stack (sym (word_told o h c lent i told ready.tied is) ∙ points)
+pub word_points : (s : Parts) (lent : StackView) (i a : ℕ) (told : Option (Option ℕ)) → IsReady s → TellsWord s.handles lent i told → told ≡ Some (Some a)
+    → (n offset : ℕ) × (slice_get s.handles.stack.words i ≡ Some (Pointer n offset)) × IsLiveAt s.objects.nodes n a
+word_points s lent i a told ready is points = pointer_at s.objects.nodes s.handles.stack.words i a ready.valid.stack (sym (word_told s lent i told ready.tied is) ∙ points)
 
 on_word : (s : State) (i q : ℕ) (lines : List Line) (new : State) (word : StackWord) → slice_get s.stack i ≡ Some word → IsPeeked s word q lines new → StepPeek s i q lines new
 on_word s i q lines new word is step = subst (λ w. MatchOption w (IsRefused R.Empty s lines new) (λ x. IsPeeked s x q lines new)) (sym is) step
@@ -60,23 +62,14 @@ pub peek_pointer : (s : State) (i q n offset : ℕ) (lines : List Line) (new : S
     → new ≡ answered (with_slot s q (Some n)) → StepPeek s i q lines new
 peek_pointer s i q n offset lines new is told after = on_word s i q lines new (Pointer n offset) is (told, after)
 
-pub peek_number : (o : ObjectsView) (h : HandlesView) (c : CycleView) (lent : StackView) (i q : ℕ) (told : Option (Option ℕ)) (lines : List Line) (new : State) → AreTied o h c
-    → TellsWord h lent i told → told ≡ Some None → IsRefused R.Kind (state_of o h c) lines new → StepPeek (state_of o h c) i q lines new
-peek_number o h c lent i q told lines new tied is none step =
-    let number = number_in o.nodes h.stack.words i (sym (word_told o h c lent i told tied is) ∙ none) in
-    on_word (state_of o h c) i q lines new (Number number.0) number.1 step
+pub peek_number : (s : Parts) (lent : StackView) (i q : ℕ) (told : Option (Option ℕ)) (lines : List Line) (new : State) → AreTied s
+    → TellsWord s.handles lent i told → told ≡ Some None → IsRefused R.Kind (state_of s) lines new → StepPeek (state_of s) i q lines new
+peek_number s lent i q told lines new tied is none step =
+    let number = number_in s.objects.nodes s.handles.stack.words i (sym (word_told s lent i told tied is) ∙ none) in
+    on_word (state_of s) i q lines new (Number number.0) number.1 step
 
-pub peek_none : (o : ObjectsView) (h : HandlesView) (c : CycleView) (lent : StackView) (i q : ℕ) (told : Option (Option ℕ)) (lines : List Line) (new : State) → AreTied o h c
-    → TellsWord h lent i told → told ≡ None → IsRefused R.Empty (state_of o h c) lines new → StepPeek (state_of o h c) i q lines new
-peek_none o h c lent i q told lines new tied is none step =
-    subst (λ w. MatchOption w (IsRefused R.Empty (state_of o h c) lines new) (λ x. IsPeeked (state_of o h c) x q lines new))
-    (sym (no_word o.nodes h.stack.words i (sym (word_told o h c lent i told tied is) ∙ none))) step
-
--- ---- a collection that refuses the stack
-
-pub stack_refused : (setup : Setup) (want : Want) (s : State) (piece : List Entry) (lines : List Line) (new : State) → is_marking s.phase ≡ false
-    → is_stack_refused want s.stack ≡ true → piece ≡ [] → IsRefused R.Stack s lines new → StepGcNow setup want s piece lines new
-stack_refused setup want s piece lines new calm filled none refused =
-    let Done : Type 0 = WantsMemory s piece lines new ⊎ IsCollection setup want s piece lines new in
-    subst (λ b. MatchBool b ((piece ≡ []) × IsRefused R.Phase s lines new) (MatchBool (is_stack_refused want s.stack) ((piece ≡ []) × IsRefused R.Stack s lines new) Done)) (sym calm)
-    (subst (λ b. MatchBool b ((piece ≡ []) × IsRefused R.Stack s lines new) Done) (sym filled) (none, refused))
+pub peek_none : (s : Parts) (lent : StackView) (i q : ℕ) (told : Option (Option ℕ)) (lines : List Line) (new : State) → AreTied s
+    → TellsWord s.handles lent i told → told ≡ None → IsRefused R.Empty (state_of s) lines new → StepPeek (state_of s) i q lines new
+peek_none s lent i q told lines new tied is none step =
+    subst (λ w. MatchOption w (IsRefused R.Empty (state_of s) lines new) (λ x. IsPeeked (state_of s) x q lines new))
+    (sym (no_word s.objects.nodes s.handles.stack.words i (sym (word_told s lent i told tied is) ∙ none))) step

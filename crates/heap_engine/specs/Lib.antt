@@ -1,10 +1,4 @@
-pub mod Marking
-pub mod Finalising
 pub mod View
-pub mod Fields
-pub mod Objects
-pub mod Stack
-pub mod Printed
-pub mod Parts
-pub mod Changes
+pub mod FieldSteps
 pub mod Sound
+pub mod Acted

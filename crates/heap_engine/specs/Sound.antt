@@ -3,21 +3,21 @@ use Rattle.std.specs.Prelude.{◌*◌, ◌≤◌}
 use Rattle.page_space.specs.Pages.{word_count}
 use Rattle.heap_engine.specs.declared.heap_core.Core.TheInside.{Inside}
 use Rattle.heap_engine.specs.View.{View}
-use Rattle.heap_engine.specs.Printed.{outcome_lines}
-use Rattle.heap_engine.specs.Parts.{setup_of_objects, state_of, IsReady}
+use Rattle.heap_cycle.specs.Printed.{outcome_lines}
+use Rattle.heap_cycle.specs.Parts.{setup_of, state_of, IsReady}
 
 -- a heap as its callers see it
 abbrev pub view_of : Inside → View
 view_of h = record {
-  setup = setup_of_objects h.objects;
-  state = state_of h.objects h.handles h.cycle;
+  setup = setup_of h.parts;
+  state = state_of h.parts;
   history = h.outcome.history;
-  lines = outcome_lines h.outcome h.cycle.ran;
+  lines = outcome_lines h.outcome h.parts.cycle.ran;
   piece = h.outcome.piece;
   closed = h.closed;
 }
 
 -- the parts are ready, and the outcome has room for all nodes that a sweep can finalise
 pub record IsSound (h : Inside) : Type 0 where
-  pub ready : IsReady h.objects h.handles h.cycle
-  pub room : word_count h.objects.shape ≤ 2 * h.outcome.room
+  pub ready : IsReady h.parts
+  pub room : word_count h.parts.objects.shape ≤ 2 * h.outcome.room

@@ -1,16 +1,15 @@
 // A heap that does commands, as its callers have it.
 
-ghost use Rattle.std.specs.Prelude.{◌≡◌, ◌+◌, ◌++◌, ◌<◌, ◌≤◌};
+ghost use Rattle.std.specs.Prelude.{◌≡◌, ◌<◌, ◌≤◌};
 ghost use Rattle.std.specs.Prelude.{false, true, [], ◌∷◌, length, take, Some, IfOk, IfSome, slice_get};
 ghost use Rattle.gc_graph.specs.State.{empty_state};
 ghost use Rattle.gc_graph.specs.Outcomes.{finalise_lines};
 ghost use Rattle.built_forms.specs.Built.{is_built};
-ghost use Rattle.gc_graph.specs.CycleSteps.{is_marking};
-ghost use Rattle.gc_graph.specs.Step.{Step};
 ghost use Rattle.gc_graph.specs.Lawful.{IsAllowed, IsEndLine};
 ghost use Rattle.gc_graph.specs.Shapes.{IsShape};
 ghost use Rattle.callback_table.specs.Table.{kinds_of};
-ghost use Rattle.heap_engine.specs.Objects.{HaveCallbacks};
+ghost use Rattle.heap_engine.specs.Acted.{IsActed};
+ghost use Rattle.heap_objects.specs.Objects.{HaveCallbacks};
 
 use crate::heap_core::Core;
 use callback_table::CallbackTable;
@@ -65,15 +64,7 @@ impl<'a> Heap<'a> {
         requires opened { self.old.core.closed ≡ false }
         requires allowed { IsAllowed (length self.old.core.setup.types) command.now }
         requires built { is_built command.now ≡ true }
-        ensures step { Step self.old.core.setup self.old.core.state command.now
-            self.new.core.piece self.new.core.lines self.new.core.state }
-        ensures count { result ≡ length self.new.core.lines }
-        ensures calm { is_marking self.new.core.state.phase ≡ false }
-        ensures alone { self.new.core.state.running ≡ [] }
-        ensures ordinal { self.new.core.state.ordinal ≡ self.old.core.state.ordinal + 1 }
-        ensures history { self.new.core.history ≡ self.old.core.history ++ self.new.core.piece }
-        ensures setup { self.new.core.setup ≡ self.old.core.setup }
-        ensures closed { self.new.core.closed ≡ false }
+        ensures acted { IsActed self.old.core self.new.core command.now result }
     {
         self.core.act(command, self.callbacks)
     }

@@ -1,34 +1,33 @@
 // The parts of a heap, and its commands. Each command is one step of the graph; the files beside this
 // one do them.
 
-ghost use Rattle.std.specs.Prelude.{◌≡◌, ◌+◌, ◌*◌, ◌++◌, ◌<◌, ◌≤◌};
+ghost use Rattle.std.specs.Prelude.{◌≡◌, ◌*◌, ◌<◌, ◌≤◌};
 ghost use Rattle.std.specs.Prelude.{true, false, [], ◌∷◌, length, take, Some, IfOk, IfSome, slice_get};
 ghost use Rattle.gc_graph.specs.State.{empty_state};
 ghost use Rattle.built_forms.specs.Built.{is_built};
-ghost use Rattle.gc_graph.specs.CycleSteps.{is_marking};
 ghost use Rattle.gc_graph.specs.Outcomes.{answered, finalise_lines};
 ghost use Rattle.gc_graph.specs.Step.{Step};
 ghost use Rattle.gc_graph.specs.Lawful.{IsAllowed, IsEndLine};
 ghost use Rattle.gc_graph.specs.Shapes.{IsShape};
 ghost use Rattle.page_space.specs.Pages.{word_count};
 ghost use Rattle.callback_table.specs.Table.{kinds_of};
-ghost use Rattle.heap_engine.specs.Objects.{HaveCallbacks};
-ghost use Rattle.heap_engine.specs.Parts.{setup_of_objects, state_of, counted, IsReady, IsFrame};
-ghost use Rattle.heap_engine.specs.Printed.{lines_with};
+ghost use Rattle.heap_engine.specs.Acted.{IsActed};
+ghost use Rattle.heap_objects.specs.Objects.{HaveCallbacks};
+ghost use Rattle.heap_cycle.specs.Parts.{setup_of, state_of, counted, IsReady, IsFrame};
+ghost use Rattle.heap_cycle.specs.Printed.{lines_with};
 
 use crate::creating::new_object;
-use crate::cycle::Cycle;
 use crate::fields::{get, put, set, set_null, word};
-use crate::handles::Handles;
 use crate::heap::Config;
-use crate::objects::Objects;
-use crate::outcome::Outcome;
 use crate::pairs::{key, pair, pair_null, value};
 use crate::slots::{copy, drop_slot, read, weaken};
 use crate::stacking::{peek, pop, push, push_plain};
 use crate::totals::stat;
 use callback_table::CallbackTable;
 use gc_graph::{Command, Line, NoMemory};
+use heap_cycle::{Cycle, Outcome, Parts, collect, sweep_all, sweep_some};
+use heap_handles::Handles;
+use heap_objects::Objects;
 use std::alloc::Global;
 use std::marker::Model;
 use type_table::TypeTable;
@@ -36,9 +35,7 @@ use type_table::TypeTable;
 /// A heap but for its callbacks: what contracts speak of.
 #[derive(Drop)]
 pub struct Core {
-    objects: Objects,
-    handles: Handles,
-    cycle: Cycle,
+    parts: Parts,
     outcome: Outcome,
     closed: bool,
 }
@@ -82,10 +79,13 @@ impl Core {
         let objects = Objects::new(alloc, config.pages, config.page_words, types, callbacks)?;
         let outcome = Outcome::new(alloc, objects.word_count() as usize / 2 + 1)?;
         let handles = Handles::new(alloc)?;
+        let cycle = Cycle::new(alloc, config.pages);
         Ok(Core {
-            objects,
-            handles,
-            cycle: Cycle::new(alloc, config.pages),
+            parts: Parts {
+                objects,
+                handles,
+                cycle,
+            },
             outcome,
             closed: false,
         })
@@ -97,31 +97,16 @@ impl Core {
         requires allowed { IsAllowed (length self.old.setup.types) command.now }
         requires built { is_built command.now ≡ true }
         requires kinds { kinds_of callbacks.now ≡ self.old.setup.callbacks }
-        ensures step { Step self.old.setup self.old.state command.now
-            self.new.piece self.new.lines self.new.state }
-        ensures count { result ≡ length self.new.lines }
-        ensures calm { is_marking self.new.state.phase ≡ false }
-        ensures alone { self.new.state.running ≡ [] }
-        ensures ordinal { self.new.state.ordinal ≡ self.old.state.ordinal + 1 }
-        ensures history { self.new.history ≡ self.old.history ++ self.new.piece }
-        ensures setup { self.new.setup ≡ self.old.setup }
-        ensures closed { self.new.closed ≡ false }
+        ensures acted { IsActed self.old self.new command.now result }
     {
-        self.objects.shape_is_valid();
+        self.parts.objects.shape_is_valid();
         gc_graph::step_keeps_valid();
         self.outcome.begin();
-        let line = run(
-            &mut self.objects,
-            &mut self.handles,
-            &mut self.cycle,
-            &mut self.outcome,
-            callbacks,
-            command,
-        );
+        let line = run(&mut self.parts, &mut self.outcome, callbacks, command);
         self.outcome.end(line);
-        self.cycle.count_command();
-        self.cycle.rests();
-        self.outcome.count(self.cycle.ran())
+        self.parts.cycle.count_command();
+        self.parts.cycle.rests();
+        self.outcome.count(self.parts.cycle.ran())
     }
 
     pub fn line(&mut self, index: u32) -> Line
@@ -129,7 +114,7 @@ impl Core {
         ensures line { slice_get self.old.lines index ≡ Some result }
         ensures same { self.new ≡ self.old }
     {
-        self.outcome.line(index, self.cycle.ran())
+        self.outcome.line(index, self.parts.cycle.ran())
     }
 
     pub fn only_line(&self) -> Option<&Line>
@@ -149,7 +134,7 @@ impl Core {
         ensures line { IsEndLine self.old.setup self.old.state result }
         ensures same { self.new ≡ record self.old { closed = true } }
     {
-        let (n, u, g) = self.objects.totals();
+        let (n, u, g) = self.parts.objects.totals();
         self.closed = true;
         Line::End { n, u, g }
     }
@@ -157,51 +142,48 @@ impl Core {
 
 /// Does the command, and answers the last line of its outcome.
 fn run(
-    objects: &mut Objects,
-    handles: &mut Handles,
-    cycle: &mut Cycle,
+    parts: &mut Parts,
     outcome: &mut Outcome,
     callbacks: &CallbackTable,
     command: &Command,
 ) -> Line
-    requires ready { IsReady objects.old handles.old cycle.old }
-    requires kinds { kinds_of callbacks.now ≡ objects.old.callbacks }
+    requires ready { IsReady parts.old }
+    requires kinds { kinds_of callbacks.now ≡ parts.old.objects.callbacks }
     requires numbers { outcome.old.numbers ≡ [] }
     requires calm { outcome.old.prefinalises ≡ false }
     requires piece { outcome.old.piece ≡ [] }
-    requires room { word_count objects.old.shape ≤ 2 * outcome.old.room }
-    requires allowed { IsAllowed (length objects.old.types) command.now }
+    requires room { word_count parts.old.objects.shape ≤ 2 * outcome.old.room }
+    requires allowed { IsAllowed (length parts.old.objects.types) command.now }
     requires built { is_built command.now ≡ true }
-    ensures step { Step (setup_of_objects objects.old) (state_of objects.old handles.old cycle.old)
-        command.now outcome.new.piece (lines_with outcome.new cycle.new.ran result)
-        (answered (state_of objects.new handles.new cycle.new)) }
-    ensures frame { IsFrame objects.old cycle.old objects.new handles.new (counted cycle.new) }
+    ensures step { Step (setup_of parts.old) (state_of parts.old) command.now outcome.new.piece
+        (lines_with outcome.new parts.new.cycle.ran result) (answered (state_of parts.new)) }
+    ensures frame { IsFrame parts.old (counted parts.new) }
     ensures room { outcome.new.room ≡ outcome.old.room }
     ensures history { outcome.new.history ≡ outcome.old.history }
 {
     match *command {
-        Command::New { p, t, e } => new_object(objects, handles, cycle, outcome, p, t, e),
-        Command::Set { p, f, q } => set(objects, handles, cycle, p, f, q),
-        Command::SetNull { p, f } => set_null(objects, handles, cycle, p, f),
-        Command::Get { p, f, q } => get(objects, handles, cycle, p, f, q),
-        Command::Put { p, f, n } => put(objects, handles, cycle, p, f, n),
-        Command::Word { p, f } => word(objects, handles, cycle, p, f),
-        Command::Copy { p, q } => copy(objects, handles, cycle, p, q),
-        Command::Drop { p } => drop_slot(objects, handles, cycle, p),
-        Command::Weak { w, p } => weaken(objects, handles, cycle, w, p),
-        Command::Read { w, p } => read(objects, handles, cycle, w, p),
-        Command::GcNow { want } => cycle.collect(objects, handles, outcome, callbacks, want),
-        Command::Sweep { n } => cycle.sweep_some(objects, handles, outcome, n),
-        Command::SweepAll => cycle.sweep_all(objects, handles, outcome),
-        Command::Stat => stat(objects, handles, cycle),
-        Command::Pair { p, f, k, v } => pair(objects, handles, cycle, p, f, k, v),
-        Command::PairNull { p, f } => pair_null(objects, handles, cycle, p, f),
-        Command::Key { p, f, q } => key(objects, handles, cycle, p, f, q),
-        Command::Val { p, f, q } => value(objects, handles, cycle, p, f, q),
-        Command::Push { p, o } => push(objects, handles, cycle, p, o),
-        Command::PushPlain { n } => push_plain(objects, handles, cycle, n),
-        Command::Pop => pop(objects, handles, cycle),
-        Command::Peek { i, q } => peek(objects, handles, cycle, i, q),
+        Command::New { p, t, e } => new_object(parts, outcome, p, t, e),
+        Command::Set { p, f, q } => set(parts, p, f, q),
+        Command::SetNull { p, f } => set_null(parts, p, f),
+        Command::Get { p, f, q } => get(parts, p, f, q),
+        Command::Put { p, f, n } => put(parts, p, f, n),
+        Command::Word { p, f } => word(parts, p, f),
+        Command::Copy { p, q } => copy(parts, p, q),
+        Command::Drop { p } => drop_slot(parts, p),
+        Command::Weak { w, p } => weaken(parts, w, p),
+        Command::Read { w, p } => read(parts, w, p),
+        Command::GcNow { want } => collect(parts, outcome, callbacks, want),
+        Command::Sweep { n } => sweep_some(parts, outcome, n),
+        Command::SweepAll => sweep_all(parts, outcome),
+        Command::Stat => stat(parts),
+        Command::Pair { p, f, k, v } => pair(parts, p, f, k, v),
+        Command::PairNull { p, f } => pair_null(parts, p, f),
+        Command::Key { p, f, q } => key(parts, p, f, q),
+        Command::Val { p, f, q } => value(parts, p, f, q),
+        Command::Push { p, o } => push(parts, p, o),
+        Command::PushPlain { n } => push_plain(parts, n),
+        Command::Pop => pop(parts),
+        Command::Peek { i, q } => peek(parts, i, q),
         Command::GcStart
         | Command::GcStep { .. }
         | Command::GcFinish { .. }

@@ -3,15 +3,11 @@
 //! What it is: a heap that does commands. It keeps its objects in the pages of `page_space`, and
 //! each command is one step of the graph that `gc_graph` defines.
 //!
-//! The parts: `Heap` with `new`, `act`, `line`, `only_line`, `finalised` and `close`, and `Config`.
-//! A heap is put together of `objects` (words, pages, types), `handles` (strong and weak slots, and
-//! the `stack`), `cycle` (collections, prefinalizers and sweeps) and `outcome` (the lines of the last
-//! command). Each part owns what it holds and has a model, from which the state of the graph is put
-//! together. The commands, in `creating`, `fields`, `pairs`, `slots`, `stacking`, `totals` and
-//! `cycle`, take the parts. Inside, `marking`, `collecting` and `object_sweeps` (what comes before a
-//! pause and after it), `finding` (places), `field` and `pair_fields` (fields), and for contracts
-//! alone `nodes`, `slot_lists`, `stack_words`, `states`, `entries` and `kinds`. Next down are
-//! `atomic_pause`, `member_fields`, `persistent_slots` and `page_space`.
+//! The parts: `Heap` with `new`, `act`, `line`, `only_line`, `finalised` and `close`, and `Config`. A
+//! heap has `Parts` (of `heap_cycle`: objects, handles and cycle) and an outcome, together its `Core`,
+//! which has the model, and lends it its callbacks. The commands, in `creating`, `fields`, `pairs`,
+//! `slots`, `stacking` and `totals`, and in `heap_cycle` those on collections and sweeps, take the
+//! parts. Next down are `heap_cycle`, `heap_handles` and `heap_objects`.
 //!
 //! What is proved: `act` is a step from the heap's own state to its new state, for every command
 //! that is allowed and that the heap does so far (`is_built`), and its lines are those of the step;
@@ -23,35 +19,13 @@
 //! What is only tested or not said: that memory suffices, and how long a command takes.
 #![tactic(auto)]
 
-mod collecting;
-mod content;
 mod creating;
-mod cycle;
-mod entries;
-mod field;
 mod fields;
-mod finding;
-mod handle_stack;
-mod handles;
 mod heap;
 mod heap_core;
-mod kinds;
-mod marking;
-mod nodes;
-mod object_fields;
-mod object_sweeps;
-mod objects;
-mod outcome;
-mod pair_fields;
 mod pairs;
-mod placing;
-mod slot_lists;
 mod slots;
-mod stack;
-mod stack_words;
 mod stacking;
-mod states;
-mod sweeps;
 mod totals;
 
 pub use heap::{Config, Heap};

@@ -4,124 +4,94 @@ ghost use Rattle.std.specs.Prelude.{◌≡◌, ◌<◌, [], ◌∷◌, None};
 ghost use Rattle.gc_graph.specs.Outcomes.{answered, slot_at};
 ghost use Rattle.gc_graph.specs.ObjectSteps.{StepPair, StepKey, StepVal};
 ghost use Rattle.node_bodies.specs.Nodes.{place_of, word_of};
-ghost use Rattle.heap_engine.specs.Fields.{ArePartsOf, StepPart, StepWholePair};
-ghost use Rattle.heap_engine.specs.Parts.{state_of, counted, IsReady, IsFrame};
+ghost use Rattle.heap_objects.specs.Fields.{ArePartsOf};
+ghost use Rattle.heap_engine.specs.FieldSteps.{StepPart, StepWholePair};
+ghost use Rattle.heap_cycle.specs.Parts.{state_of, counted, IsReady, IsFrame};
 
-use crate::content::Content;
-use crate::cycle::Cycle;
-use crate::field::{Part, Wanted};
 use crate::fields::{field_of, line_of};
-use crate::handles::Handles;
-use crate::objects::Objects;
-use crate::pair_fields::PairContent;
 use gc_graph::Line;
+use heap_cycle::Parts;
+use heap_objects::{Content, PairContent, Part, Wanted};
 
 /// The pair that is field f of slot p's object gets what slot k holds as its key and what slot v
 /// holds as its value, and becomes null where either slot is.
-pub fn pair(
-    objects: &mut Objects,
-    handles: &Handles,
-    cycle: &Cycle,
-    p: u32,
-    f: u32,
-    k: u32,
-    v: u32,
-) -> Line
-    requires ready { IsReady objects.old handles.now cycle.now }
+pub fn pair(parts: &mut Parts, p: u32, f: u32, k: u32, v: u32) -> Line
+    requires ready { IsReady parts.old }
     requires slot { p < 256 }
     requires key { k < 256 }
     requires value { v < 256 }
-    ensures step { StepPair (state_of objects.old handles.now cycle.now) p f
-        (slot_at (state_of objects.old handles.now cycle.now) k)
-        (slot_at (state_of objects.old handles.now cycle.now) v) (result ∷ [])
-        (answered (state_of objects.new handles.now cycle.now)) }
-    ensures frame { IsFrame objects.old cycle.now objects.new handles.now (counted cycle.now) }
+    ensures step { StepPair (state_of parts.old) p f
+        (slot_at (state_of parts.old) k)
+        (slot_at (state_of parts.old) v) (result ∷ [])
+        (answered (state_of parts.new)) }
+    ensures frame { IsFrame parts.old (counted parts.new) }
 {
     let pair = PairContent {
-        key: handles.part(k, v),
-        value: handles.part(v, k),
+        key: parts.handles.part(k, v),
+        value: parts.handles.part(v, k),
     };
-    write_pair(objects, handles, cycle, p, f, &pair)
+    write_pair(parts, p, f, &pair)
 }
 
 /// The pair that is field f of slot p's object becomes null.
-pub fn pair_null(objects: &mut Objects, handles: &Handles, cycle: &Cycle, p: u32, f: u32) -> Line
-    requires ready { IsReady objects.old handles.now cycle.now }
+pub fn pair_null(parts: &mut Parts, p: u32, f: u32) -> Line
+    requires ready { IsReady parts.old }
     requires slot { p < 256 }
-    ensures step { StepPair (state_of objects.old handles.now cycle.now) p f None None (result ∷ [])
-        (answered (state_of objects.new handles.now cycle.now)) }
-    ensures frame { IsFrame objects.old cycle.now objects.new handles.now (counted cycle.now) }
+    ensures step { StepPair (state_of parts.old) p f None None (result ∷ [])
+        (answered (state_of parts.new)) }
+    ensures frame { IsFrame parts.old (counted parts.new) }
 {
     let pair = PairContent {
         key: Content::null(),
         value: Content::null(),
     };
-    write_pair(objects, handles, cycle, p, f, &pair)
+    write_pair(parts, p, f, &pair)
 }
 
 /// Slot q gets the key of the pair that is field f of slot p's object.
-pub fn key(
-    objects: &mut Objects,
-    handles: &mut Handles,
-    cycle: &Cycle,
-    p: u32,
-    f: u32,
-    q: u32,
-) -> Line
-    requires ready { IsReady objects.old handles.old cycle.now }
+pub fn key(parts: &mut Parts, p: u32, f: u32, q: u32) -> Line
+    requires ready { IsReady parts.old }
     requires slot { p < 256 }
     requires into { q < 256 }
-    ensures step { StepKey (state_of objects.old handles.old cycle.now) p f q (result ∷ [])
-        (answered (state_of objects.new handles.new cycle.now)) }
-    ensures frame { IsFrame objects.old cycle.now objects.new handles.new (counted cycle.now) }
+    ensures step { StepKey (state_of parts.old) p f q (result ∷ [])
+        (answered (state_of parts.new)) }
+    ensures frame { IsFrame parts.old (counted parts.new) }
 {
-    read_part(objects, handles, cycle, p, f, q, Part::Key)
+    read_part(parts, p, f, q, Part::Key)
 }
 
 /// Slot q gets the value of the pair that is field f of slot p's object.
-pub fn value(
-    objects: &mut Objects,
-    handles: &mut Handles,
-    cycle: &Cycle,
-    p: u32,
-    f: u32,
-    q: u32,
-) -> Line
-    requires ready { IsReady objects.old handles.old cycle.now }
+pub fn value(parts: &mut Parts, p: u32, f: u32, q: u32) -> Line
+    requires ready { IsReady parts.old }
     requires slot { p < 256 }
     requires into { q < 256 }
-    ensures step { StepVal (state_of objects.old handles.old cycle.now) p f q (result ∷ [])
-        (answered (state_of objects.new handles.new cycle.now)) }
-    ensures frame { IsFrame objects.old cycle.now objects.new handles.new (counted cycle.now) }
+    ensures step { StepVal (state_of parts.old) p f q (result ∷ [])
+        (answered (state_of parts.new)) }
+    ensures frame { IsFrame parts.old (counted parts.new) }
 {
-    read_part(objects, handles, cycle, p, f, q, Part::Value)
+    read_part(parts, p, f, q, Part::Value)
 }
 
 /// The pair that is field f of slot p's object gets the key and the value.
-fn write_pair(
-    objects: &mut Objects,
-    handles: &Handles,
-    cycle: &Cycle,
-    p: u32,
-    f: u32,
-    pair: &PairContent,
-) -> Line
-    requires ready { IsReady objects.old handles.now cycle.now }
+fn write_pair(parts: &mut Parts, p: u32, f: u32, pair: &PairContent) -> Line
+    requires ready { IsReady parts.old }
     requires slot { p < 256 }
-    requires parts { ArePartsOf objects.old.nodes pair.now.key.value.value
+    requires both { ArePartsOf parts.old.objects.nodes pair.now.key.value.value
         pair.now.value.value.value }
     requires key { pair.now.key.word
-        ≡ word_of (place_of objects.old.nodes) pair.now.key.value.value }
+        ≡ word_of (place_of parts.old.objects.nodes) pair.now.key.value.value }
     requires value { pair.now.value.word
-        ≡ word_of (place_of objects.old.nodes) pair.now.value.value.value }
-    ensures step { StepWholePair (state_of objects.old handles.now cycle.now) p f
+        ≡ word_of (place_of parts.old.objects.nodes) pair.now.value.value.value }
+    ensures step { StepWholePair (state_of parts.old) p f
         pair.now.key.value.value pair.now.value.value.value (result ∷ [])
-        (answered (state_of objects.new handles.now cycle.now)) }
-    ensures frame { IsFrame objects.old cycle.now objects.new handles.now (counted cycle.now) }
+        (answered (state_of parts.new)) }
+    ensures frame { IsFrame parts.old (counted parts.new) }
 {
-    match field_of(objects, handles, cycle, p, f, Wanted::Pairs) {
+    match field_of(parts, p, f, Wanted::Pairs) {
         Ok(field) => {
-            objects.store_pair(handles, p, f, field, pair);
+            parts
+                .objects
+                .store_pair(&parts.handles.named(p), f, field, pair);
             Line::Fine
         }
         Err(why) => Line::Refused(why),
@@ -129,28 +99,20 @@ fn write_pair(
 }
 
 /// Slot q gets a part of the pair that is field f of slot p's object.
-fn read_part(
-    objects: &mut Objects,
-    handles: &mut Handles,
-    cycle: &Cycle,
-    p: u32,
-    f: u32,
-    q: u32,
-    part: Part,
-) -> Line
-    requires ready { IsReady objects.old handles.old cycle.now }
+fn read_part(parts: &mut Parts, p: u32, f: u32, q: u32, part: Part) -> Line
+    requires ready { IsReady parts.old }
     requires slot { p < 256 }
     requires into { q < 256 }
-    ensures step { StepPart part (state_of objects.old handles.old cycle.now) p f q (result ∷ [])
-        (answered (state_of objects.new handles.new cycle.now)) }
-    ensures frame { IsFrame objects.old cycle.now objects.new handles.new (counted cycle.now) }
+    ensures step { StepPart part (state_of parts.old) p f q (result ∷ [])
+        (answered (state_of parts.new)) }
+    ensures frame { IsFrame parts.old (counted parts.new) }
 {
-    match field_of(objects, handles, cycle, p, f, Wanted::Pairs) {
+    match field_of(parts, p, f, Wanted::Pairs) {
         Ok(field) => {
             // No marking goes on, so that a weak read keeps nothing.
-            cycle.rests();
-            let target = objects.part_at(field, part);
-            handles.put(q, target);
+            parts.cycle.rests();
+            let target = parts.objects.part_at(field, part);
+            parts.handles.put(q, target);
             line_of(target)
         }
         Err(why) => Line::Refused(why),

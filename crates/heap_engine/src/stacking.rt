@@ -5,34 +5,26 @@ ghost use Rattle.std.specs.Prelude.{◌≡◌, ◌<◌, [], ◌∷◌};
 ghost use Rattle.gc_graph.specs.May.{address_of};
 ghost use Rattle.gc_graph.specs.Outcomes.{answered};
 ghost use Rattle.gc_graph.specs.HandleSteps.{IsPushed, StepPush, StepPushPlain, StepPop, StepPeek};
-ghost use Rattle.heap_engine.specs.Stack.{pointed_place, PointsInside};
-ghost use Rattle.heap_engine.specs.Parts.{state_of, counted, IsReady, IsFrame};
+ghost use Rattle.heap_handles.specs.Stack.{pointed_place, PointsInside};
+ghost use Rattle.heap_cycle.specs.Parts.{state_of, counted, IsReady, IsFrame};
 
-use crate::cycle::Cycle;
-use crate::handles::Handles;
-use crate::objects::Objects;
-use crate::stack::Pushed;
 use gc_graph::{Line, Refusal};
+use heap_cycle::Parts;
+use heap_handles::Pushed;
 
 /// Pushes a pointer to the word at an offset of slot p's object.
-pub fn push(
-    objects: &mut Objects,
-    handles: &mut Handles,
-    cycle: &Cycle,
-    p: u32,
-    offset: u32,
-) -> Line
-    requires ready { IsReady objects.old handles.old cycle.now }
+pub fn push(parts: &mut Parts, p: u32, offset: u32) -> Line
+    requires ready { IsReady parts.old }
     requires slot { p < 256 }
-    ensures step { StepPush (state_of objects.old handles.old cycle.now) p offset (result ∷ [])
-        (answered (state_of objects.new handles.new cycle.now)) }
-    ensures frame { IsFrame objects.old cycle.now objects.new handles.new (counted cycle.now) }
+    ensures step { StepPush (state_of parts.old) p offset (result ∷ [])
+        (answered (state_of parts.new)) }
+    ensures frame { IsFrame parts.old (counted parts.new) }
 {
-    match handles.place(p) {
+    match parts.handles.place(p) {
         Some(place) => {
-            if offset < objects.size_at(place) {
-                let pointer = handles.pointer(p, place, offset);
-                push_word(objects, handles, cycle, pointer)
+            if offset < parts.objects.size_at(place) {
+                let pointer = parts.handles.pointer(p, place, offset);
+                push_word(parts, pointer)
             } else {
                 Line::Refused(Refusal::Field)
             }
@@ -42,29 +34,27 @@ pub fn push(
 }
 
 /// Pushes a number.
-pub fn push_plain(objects: &Objects, handles: &mut Handles, cycle: &Cycle, n: u64) -> Line
-    requires ready { IsReady objects.now handles.old cycle.now }
-    ensures step { StepPushPlain (state_of objects.now handles.old cycle.now) n (result ∷ [])
-        (answered (state_of objects.now handles.new cycle.now)) }
-    ensures frame { IsFrame objects.now cycle.now objects.now handles.new (counted cycle.now) }
+pub fn push_plain(parts: &mut Parts, n: u64) -> Line
+    requires ready { IsReady parts.old }
+    ensures step { StepPushPlain (state_of parts.old) n (result ∷ [])
+        (answered (state_of parts.new)) }
+    ensures frame { IsFrame parts.old (counted parts.new) }
 {
-    push_word(objects, handles, cycle, Pushed::number(n))
+    push_word(parts, Pushed::number(n))
 }
 
 /// Pushes the word, where the stack has room.
-fn push_word(objects: &Objects, handles: &mut Handles, cycle: &Cycle, pushed: Pushed) -> Line
-    requires ready { IsReady objects.now handles.old cycle.now }
-    requires address { pushed.address ≡ address_of objects.now.nodes pushed.word.value }
-    requires place { pushed.place ≡ pointed_place objects.now.nodes pushed.word.value }
-    requires inside { PointsInside objects.now.nodes pushed.word.value }
-    ensures step { IsPushed (state_of objects.now handles.old cycle.now) pushed.word.value
-        (result ∷ []) (answered (state_of objects.now handles.new cycle.now)) }
-    ensures frame { IsFrame objects.now cycle.now objects.now handles.new (counted cycle.now) }
+fn push_word(parts: &mut Parts, pushed: Pushed) -> Line
+    requires ready { IsReady parts.old }
+    requires address { pushed.address ≡ address_of parts.old.objects.nodes pushed.word.value }
+    requires place { pushed.place ≡ pointed_place parts.old.objects.nodes pushed.word.value }
+    requires inside { PointsInside parts.old.objects.nodes pushed.word.value }
+    ensures step { IsPushed (state_of parts.old) pushed.word.value
+        (result ∷ []) (answered (state_of parts.new)) }
+    ensures frame { IsFrame parts.old (counted parts.new) }
 {
-    let _ = objects;
-    let _ = cycle;
-    if handles.stack().has_room() {
-        handles.push(pushed);
+    if parts.handles.stack().has_room() {
+        parts.handles.push(pushed);
         Line::Fine
     } else {
         Line::Refused(Refusal::Stack)
@@ -72,16 +62,14 @@ fn push_word(objects: &Objects, handles: &mut Handles, cycle: &Cycle, pushed: Pu
 }
 
 /// Takes the last word away.
-pub fn pop(objects: &Objects, handles: &mut Handles, cycle: &Cycle) -> Line
-    requires ready { IsReady objects.now handles.old cycle.now }
-    ensures step { StepPop (state_of objects.now handles.old cycle.now) (result ∷ [])
-        (answered (state_of objects.now handles.new cycle.now)) }
-    ensures frame { IsFrame objects.now cycle.now objects.now handles.new (counted cycle.now) }
+pub fn pop(parts: &mut Parts) -> Line
+    requires ready { IsReady parts.old }
+    ensures step { StepPop (state_of parts.old) (result ∷ [])
+        (answered (state_of parts.new)) }
+    ensures frame { IsFrame parts.old (counted parts.new) }
 {
-    let _ = objects;
-    let _ = cycle;
-    if handles.stack().has_words() {
-        handles.pop();
+    if parts.handles.stack().has_words() {
+        parts.handles.pop();
         Line::Fine
     } else {
         Line::Refused(Refusal::Empty)
@@ -89,18 +77,17 @@ pub fn pop(objects: &Objects, handles: &mut Handles, cycle: &Cycle) -> Line
 }
 
 /// Slot q gets the object to which a word points. The last word has the number 0.
-pub fn peek(objects: &mut Objects, handles: &mut Handles, cycle: &Cycle, i: u32, q: u32) -> Line
-    requires ready { IsReady objects.old handles.old cycle.now }
+pub fn peek(parts: &mut Parts, i: u32, q: u32) -> Line
+    requires ready { IsReady parts.old }
     requires into { q < 256 }
-    ensures step { StepPeek (state_of objects.old handles.old cycle.now) i q (result ∷ [])
-        (answered (state_of objects.new handles.new cycle.now)) }
-    ensures frame { IsFrame objects.old cycle.now objects.new handles.new (counted cycle.now) }
+    ensures step { StepPeek (state_of parts.old) i q (result ∷ [])
+        (answered (state_of parts.new)) }
+    ensures frame { IsFrame parts.old (counted parts.new) }
 {
-    let _ = cycle;
-    match handles.stack().place(i) {
+    match parts.handles.stack().place(i) {
         Some(Some(place)) => {
-            let number = objects.number_at(place);
-            handles.put(q, Some((place, number)));
+            let number = parts.objects.number_at(place);
+            parts.handles.put(q, Some((place, number)));
             Line::Node { k: number }
         }
         Some(None) => Line::Refused(Refusal::Kind),

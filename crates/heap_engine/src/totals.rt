@@ -3,23 +3,19 @@
 ghost use Rattle.std.specs.Prelude.{◌≡◌, [], ◌∷◌};
 ghost use Rattle.gc_graph.specs.Outcomes.{answered};
 ghost use Rattle.gc_graph.specs.CycleSteps.{StepStat};
-ghost use Rattle.heap_engine.specs.Parts.{setup_of_objects, state_of, counted, IsReady, IsFrame};
+ghost use Rattle.heap_cycle.specs.Parts.{setup_of, state_of, counted, IsReady, IsFrame};
 
-use crate::cycle::Cycle;
-use crate::handles::Handles;
-use crate::objects::Objects;
 use gc_graph::Line;
+use heap_cycle::Parts;
 
 /// Tells how much the heap holds.
-pub fn stat(objects: &Objects, handles: &Handles, cycle: &Cycle) -> Line
-    requires ready { IsReady objects.now handles.now cycle.now }
-    ensures step { StepStat (setup_of_objects objects.now)
-        (state_of objects.now handles.now cycle.now) (result ∷ [])
-        (answered (state_of objects.now handles.now cycle.now)) }
-    ensures frame { IsFrame objects.now cycle.now objects.now handles.now (counted cycle.now) }
+pub fn stat(parts: &Parts) -> Line
+    requires ready { IsReady parts.now }
+    ensures step { StepStat (setup_of parts.now)
+        (state_of parts.now) (result ∷ [])
+        (answered (state_of parts.now)) }
+    ensures frame { IsFrame parts.now (counted parts.now) }
 {
-    let _ = handles;
-    let _ = cycle;
-    let (n, u, g) = objects.totals();
+    let (n, u, g) = parts.objects.totals();
     Line::Objects { n, u, g }
 }

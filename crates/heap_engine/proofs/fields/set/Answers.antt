@@ -1,19 +1,19 @@
 use Rattle.std.proofs.Common.{None, get_or, sym, subst, ◌∙◌, ap}
-use Rattle.heap_engine.specs.Fields.{IsLiveReference}
-use Rattle.heap_engine.specs.Objects.{slot_word}
-use Rattle.heap_engine.proofs.Ties.{slot_place, slot_live}
+use Rattle.heap_objects.specs.Fields.{IsLiveReference}
+use Rattle.heap_handles.specs.Handles.{slot_word}
+use Rattle.heap_cycle.specs.Ties.{slot_place, slot_live}
 use Rattle.heap_engine.proofs.FieldAnswers.{content_live, content_word}
 use Rattle.heap_engine.proofs.fields.set.Goals as goal
 
 pub write-requires-clause-value : goal.write-requires-clause-value
 write-requires-clause-value c =
-    subst (IsLiveReference c.args.objects.now.nodes) (sym c.content-content.ensures.value)
-    (content_live c.args.objects.now.nodes (get_or c.args.handles.now.slots c.args.q None)
-    (slot_live c.args.objects.now c.args.handles.now c.args.cycle.now c.args.q c.requires.ready))
+    subst (IsLiveReference c.args.parts.now.objects.nodes) (sym c.content-content.ensures.value)
+    (content_live c.args.parts.now.objects.nodes (get_or c.args.parts.now.handles.slots c.args.q None)
+    (slot_live c.args.parts.now c.args.q c.requires.ready))
 
 pub write-requires-clause-word : goal.write-requires-clause-word
 write-requires-clause-word c =
     rw c.content-content.ensures.value
     (c.content-content.ensures.word
-    ∙ ap slot_word (slot_place c.args.objects.now c.args.handles.now c.args.cycle.now c.args.q c.requires.ready.tied)
-    ∙ content_word c.args.objects.now.nodes (get_or c.args.handles.now.slots c.args.q None))
+    ∙ ap slot_word (slot_place c.args.parts.now c.args.q c.requires.ready.tied)
+    ∙ content_word c.args.parts.now.objects.nodes (get_or c.args.parts.now.handles.slots c.args.q None))

@@ -20,72 +20,72 @@ returns-in-GcNow-clause-step d c = rw c.in-GcNow.is c.collect.ensures.step
 
 pub returns-in-Set-clause-step : goal.returns-in-Set-clause-step
 returns-in-Set-clause-step d c =
-    rw (c.in-Set.is, line_alone c.args.outcome.now c.args.cycle.now.ran c.set.result c.requires.numbers c.requires.calm) (c.requires.piece, c.set.ensures.step)
+    rw (c.in-Set.is, line_alone c.args.outcome.now c.set.new.parts.cycle.ran c.set.result c.requires.numbers c.requires.calm) (c.requires.piece, c.set.ensures.step)
 
 pub returns-in-SetNull-clause-step : goal.returns-in-SetNull-clause-step
 returns-in-SetNull-clause-step d c =
-    rw (c.in-SetNull.is, line_alone c.args.outcome.now c.args.cycle.now.ran c.set_null.result c.requires.numbers c.requires.calm) (c.requires.piece, c.set_null.ensures.step)
+    rw (c.in-SetNull.is, line_alone c.args.outcome.now c.set_null.new.parts.cycle.ran c.set_null.result c.requires.numbers c.requires.calm) (c.requires.piece, c.set_null.ensures.step)
 
 pub returns-in-Get-clause-step : goal.returns-in-Get-clause-step
 returns-in-Get-clause-step d c =
-    rw (c.in-Get.is, line_alone c.args.outcome.now c.args.cycle.now.ran c.get.result c.requires.numbers c.requires.calm) (c.requires.piece, c.get.ensures.step)
+    rw (c.in-Get.is, line_alone c.args.outcome.now c.get.new.parts.cycle.ran c.get.result c.requires.numbers c.requires.calm) (c.requires.piece, c.get.ensures.step)
 
 pub returns-in-Put-clause-step : goal.returns-in-Put-clause-step
 returns-in-Put-clause-step d c =
-    rw (c.in-Put.is, line_alone c.args.outcome.now c.args.cycle.now.ran c.put.result c.requires.numbers c.requires.calm) (c.requires.piece, c.put.ensures.step)
+    rw (c.in-Put.is, line_alone c.args.outcome.now c.put.new.parts.cycle.ran c.put.result c.requires.numbers c.requires.calm) (c.requires.piece, c.put.ensures.step)
 
 pub returns-in-Word-clause-step : goal.returns-in-Word-clause-step
 returns-in-Word-clause-step d c =
-    rw (c.in-Word.is, line_alone c.args.outcome.now c.args.cycle.now.ran c.word.result c.requires.numbers c.requires.calm) (c.requires.piece, c.word.ensures.step)
+    rw (c.in-Word.is, line_alone c.args.outcome.now c.word.new.parts.cycle.ran c.word.result c.requires.numbers c.requires.calm) (c.requires.piece, c.word.ensures.step)
 
 pub returns-in-Copy-clause-step : goal.returns-in-Copy-clause-step
 returns-in-Copy-clause-step d c =
-    rw (c.in-Copy.is, line_alone c.args.outcome.now c.args.cycle.now.ran c.copy.result c.requires.numbers c.requires.calm) (c.requires.piece, c.copy.ensures.step)
+    rw (c.in-Copy.is, line_alone c.args.outcome.now c.copy.new.parts.cycle.ran c.copy.result c.requires.numbers c.requires.calm) (c.requires.piece, c.copy.ensures.step)
 
 pub returns-in-Drop-clause-step : goal.returns-in-Drop-clause-step
 returns-in-Drop-clause-step d c =
-    rw (c.in-Drop.is, line_alone c.args.outcome.now c.args.cycle.now.ran c.drop_slot.result c.requires.numbers c.requires.calm) (c.requires.piece, c.drop_slot.ensures.step)
+    rw (c.in-Drop.is, line_alone c.args.outcome.now c.drop_slot.new.parts.cycle.ran c.drop_slot.result c.requires.numbers c.requires.calm) (c.requires.piece, c.drop_slot.ensures.step)
 
 pub returns-in-Weak-clause-step : goal.returns-in-Weak-clause-step
 returns-in-Weak-clause-step d c =
-    rw (c.in-Weak.is, line_alone c.args.outcome.now c.args.cycle.now.ran c.weaken.result c.requires.numbers c.requires.calm) (c.requires.piece, c.weaken.ensures.step)
+    rw (c.in-Weak.is, line_alone c.args.outcome.now c.weaken.new.parts.cycle.ran c.weaken.result c.requires.numbers c.requires.calm) (c.requires.piece, c.weaken.ensures.step)
 
 pub returns-in-Read-clause-step : goal.returns-in-Read-clause-step
 returns-in-Read-clause-step d c =
-    rw (c.in-Read.is, line_alone c.args.outcome.now c.args.cycle.now.ran c.read.result c.requires.numbers c.requires.calm) (c.requires.piece, c.read.ensures.step)
+    rw (c.in-Read.is, line_alone c.args.outcome.now c.read.new.parts.cycle.ran c.read.result c.requires.numbers c.requires.calm) (c.requires.piece, c.read.ensures.step)
 
 pub returns-in-Stat-clause-step : goal.returns-in-Stat-clause-step
 returns-in-Stat-clause-step d c =
-    rw (c.in-Stat.is, line_alone c.args.outcome.now c.args.cycle.now.ran c.stat.result c.requires.numbers c.requires.calm) (c.requires.piece, c.stat.ensures.step)
+    rw (c.in-Stat.is, line_alone c.args.outcome.now c.args.parts.now.cycle.ran c.stat.result c.requires.numbers c.requires.calm) (c.requires.piece, c.stat.ensures.step)
 
 pub returns-in-Pair-clause-step : goal.returns-in-Pair-clause-step
 returns-in-Pair-clause-step d c =
-    rw (c.in-Pair.is, line_alone c.args.outcome.now c.args.cycle.now.ran c.pair.result c.requires.numbers c.requires.calm) (c.requires.piece, c.pair.ensures.step)
+    rw (c.in-Pair.is, line_alone c.args.outcome.now c.pair.new.parts.cycle.ran c.pair.result c.requires.numbers c.requires.calm) (c.requires.piece, c.pair.ensures.step)
 
 pub returns-in-PairNull-clause-step : goal.returns-in-PairNull-clause-step
 returns-in-PairNull-clause-step d c =
-    rw (c.in-PairNull.is, line_alone c.args.outcome.now c.args.cycle.now.ran c.pair_null.result c.requires.numbers c.requires.calm) (c.requires.piece, c.pair_null.ensures.step)
+    rw (c.in-PairNull.is, line_alone c.args.outcome.now c.pair_null.new.parts.cycle.ran c.pair_null.result c.requires.numbers c.requires.calm) (c.requires.piece, c.pair_null.ensures.step)
 
 pub returns-in-Key-clause-step : goal.returns-in-Key-clause-step
 returns-in-Key-clause-step d c =
-    rw (c.in-Key.is, line_alone c.args.outcome.now c.args.cycle.now.ran c.key.result c.requires.numbers c.requires.calm) (c.requires.piece, c.key.ensures.step)
+    rw (c.in-Key.is, line_alone c.args.outcome.now c.key.new.parts.cycle.ran c.key.result c.requires.numbers c.requires.calm) (c.requires.piece, c.key.ensures.step)
 
 pub returns-in-Val-clause-step : goal.returns-in-Val-clause-step
 returns-in-Val-clause-step d c =
-    rw (c.in-Val.is, line_alone c.args.outcome.now c.args.cycle.now.ran c.value.result c.requires.numbers c.requires.calm) (c.requires.piece, c.value.ensures.step)
+    rw (c.in-Val.is, line_alone c.args.outcome.now c.value.new.parts.cycle.ran c.value.result c.requires.numbers c.requires.calm) (c.requires.piece, c.value.ensures.step)
 
 pub returns-in-Push-clause-step : goal.returns-in-Push-clause-step
 returns-in-Push-clause-step d c =
-    rw (c.in-Push.is, line_alone c.args.outcome.now c.args.cycle.now.ran c.push.result c.requires.numbers c.requires.calm) (c.requires.piece, c.push.ensures.step)
+    rw (c.in-Push.is, line_alone c.args.outcome.now c.push.new.parts.cycle.ran c.push.result c.requires.numbers c.requires.calm) (c.requires.piece, c.push.ensures.step)
 
 pub returns-in-PushPlain-clause-step : goal.returns-in-PushPlain-clause-step
 returns-in-PushPlain-clause-step d c =
-    rw (c.in-PushPlain.is, line_alone c.args.outcome.now c.args.cycle.now.ran c.push_plain.result c.requires.numbers c.requires.calm) (c.requires.piece, c.push_plain.ensures.step)
+    rw (c.in-PushPlain.is, line_alone c.args.outcome.now c.push_plain.new.parts.cycle.ran c.push_plain.result c.requires.numbers c.requires.calm) (c.requires.piece, c.push_plain.ensures.step)
 
 pub returns-in-Pop-clause-step : goal.returns-in-Pop-clause-step
 returns-in-Pop-clause-step d c =
-    rw (c.in-Pop.is, line_alone c.args.outcome.now c.args.cycle.now.ran c.pop.result c.requires.numbers c.requires.calm) (c.requires.piece, c.pop.ensures.step)
+    rw (c.in-Pop.is, line_alone c.args.outcome.now c.pop.new.parts.cycle.ran c.pop.result c.requires.numbers c.requires.calm) (c.requires.piece, c.pop.ensures.step)
 
 pub returns-in-Peek-clause-step : goal.returns-in-Peek-clause-step
 returns-in-Peek-clause-step d c =
-    rw (c.in-Peek.is, line_alone c.args.outcome.now c.args.cycle.now.ran c.peek.result c.requires.numbers c.requires.calm) (c.requires.piece, c.peek.ensures.step)
+    rw (c.in-Peek.is, line_alone c.args.outcome.now c.peek.new.parts.cycle.ran c.peek.result c.requires.numbers c.requires.calm) (c.requires.piece, c.peek.ensures.step)

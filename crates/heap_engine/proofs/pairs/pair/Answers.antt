@@ -3,34 +3,35 @@ use Rattle.gc_graph.specs.declared.kind.Value.{Value}
 use Rattle.gc_graph.specs.State.{Node}
 use Rattle.gc_graph.specs.ObjectSteps.{part_of}
 use Rattle.node_bodies.specs.Nodes.{place_of, word_of}
-use Rattle.heap_engine.specs.Objects.{slot_part}
-use Rattle.heap_engine.specs.Parts.{ObjectsView, HandlesView, CycleView, IsReady}
-use Rattle.heap_engine.proofs.Ties.{slot_place, slot_live}
-use Rattle.heap_engine.proofs.PairFields.{slots_are_parts, slot_part_word}
+use Rattle.heap_handles.specs.Handles.{slot_part}
+use Rattle.heap_cycle.specs.declared.parts.Parts.{Parts}
+use Rattle.heap_cycle.specs.Parts.{IsReady}
+use Rattle.heap_cycle.specs.Ties.{slot_place, slot_live}
+use Rattle.heap_engine.proofs.PairAnswers.{slots_are_parts, slot_part_word}
 use Rattle.heap_engine.proofs.pairs.pair.Goals as goal
 
-pub write_pair-requires-clause-parts : goal.write_pair-requires-clause-parts
-write_pair-requires-clause-parts c =
-    let nodes : List Node = c.args.objects.now.nodes in
-    let k : Option ℕ = get_or c.args.handles.now.slots c.args.k None in
-    let v : Option ℕ = get_or c.args.handles.now.slots c.args.v None in
+pub write_pair-requires-clause-both : goal.write_pair-requires-clause-both
+write_pair-requires-clause-both c =
+    let nodes : List Node = c.args.parts.now.objects.nodes in
+    let k : Option ℕ = get_or c.args.parts.now.handles.slots c.args.k None in
+    let v : Option ℕ = get_or c.args.parts.now.handles.slots c.args.v None in
     rw (c.part.ensures.value, c.part-2.ensures.value)
-    (slots_are_parts nodes k v (slot_live c.args.objects.now c.args.handles.now c.args.cycle.now c.args.k c.requires.ready)
-    (slot_live c.args.objects.now c.args.handles.now c.args.cycle.now c.args.v c.requires.ready))
+    (slots_are_parts nodes k v (slot_live c.args.parts.now c.args.k c.requires.ready)
+    (slot_live c.args.parts.now c.args.v c.requires.ready))
 
 -- the word of a part, where the slots hold the places of what they name
-part_word_is : (o : ObjectsView) (h : HandlesView) (y : CycleView) (q other w : ℕ) (x : Value) → IsReady o h y → w ≡ slot_part (get_or h.places q None) (get_or h.places other None)
-    → x ≡ part_of (get_or h.slots q None) (get_or h.slots other None) → w ≡ word_of (place_of o.nodes) x
-part_word_is o h y q other w x ready word value =
-    word ∙ ap (λ place. slot_part place (get_or h.places other None)) (slot_place o h y q ready.tied)
-    ∙ ap (slot_part _) (slot_place o h y other ready.tied)
-    ∙ slot_part_word o.nodes (get_or h.slots q None) (get_or h.slots other None) ∙ sym (ap (word_of (place_of o.nodes)) value)
+part_word_is : (s : Parts) (q other w : ℕ) (x : Value) → IsReady s → w ≡ slot_part (get_or s.handles.places q None) (get_or s.handles.places other None)
+    → x ≡ part_of (get_or s.handles.slots q None) (get_or s.handles.slots other None) → w ≡ word_of (place_of s.objects.nodes) x
+part_word_is s q other w x ready word value =
+    word ∙ ap (λ place. slot_part place (get_or s.handles.places other None)) (slot_place s q ready.tied)
+    ∙ ap (slot_part _) (slot_place s other ready.tied)
+    ∙ slot_part_word s.objects.nodes (get_or s.handles.slots q None) (get_or s.handles.slots other None) ∙ sym (ap (word_of (place_of s.objects.nodes)) value)
 
 pub write_pair-requires-clause-key : goal.write_pair-requires-clause-key
 write_pair-requires-clause-key c =
-    part_word_is c.args.objects.now c.args.handles.now c.args.cycle.now c.args.k c.args.v c.part.result.word c.part.result.value.value c.requires.ready c.part.ensures.word c.part.ensures.value
+    part_word_is c.args.parts.now c.args.k c.args.v c.part.result.word c.part.result.value.value c.requires.ready c.part.ensures.word c.part.ensures.value
 
 pub write_pair-requires-clause-value : goal.write_pair-requires-clause-value
 write_pair-requires-clause-value c =
-    part_word_is c.args.objects.now c.args.handles.now c.args.cycle.now c.args.v c.args.k c.part-2.result.word c.part-2.result.value.value c.requires.ready c.part-2.ensures.word
+    part_word_is c.args.parts.now c.args.v c.args.k c.part-2.result.word c.part-2.result.value.value c.requires.ready c.part-2.ensures.word
     c.part-2.ensures.value

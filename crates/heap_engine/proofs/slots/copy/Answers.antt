@@ -1,12 +1,13 @@
 use Rattle.std.proofs.Common.{refl, sym, subst}
-use Rattle.heap_engine.specs.Parts.{HandlesView, AreTied, counted}
-use Rattle.heap_engine.proofs.Ties.{tied_copy}
+use Rattle.heap_handles.specs.Handles.{HandlesView}
+use Rattle.heap_cycle.specs.Parts.{AreTied, counted}
+use Rattle.heap_cycle.specs.Ties.{tied_copy}
 use Rattle.heap_engine.proofs.slots.copy.Goals as goal
 
 pub returns-clause-frame : goal.returns-clause-frame
 returns-clause-frame c = record {
   setup = refl;
   ordinal = refl;
-  tied = subst (λ (h : HandlesView). AreTied c.args.objects.now h (counted c.args.cycle.now)) (sym c.copy.ensures)
-      (tied_copy c.args.objects.now c.args.handles.now c.args.cycle.now c.args.p c.args.q c.requires.ready.tied);
+  tied = subst (λ (h : HandlesView). AreTied (counted (record c.args.parts.now { handles = h }))) (sym c.copy.ensures)
+      (tied_copy c.args.parts.now c.args.p c.args.q c.requires.ready.tied);
 }

@@ -1,19 +1,19 @@
 use Rattle.std.proofs.Common.{ℕ, ◌≡◌, None, get_or, Some, option_map, sym, ap, ◌∙◌}
 use Rattle.node_bodies.specs.Nodes.{place_of}
-use Rattle.heap_engine.specs.Objects.{IsLiveAt}
-use Rattle.heap_engine.proofs.Ties.{weak_slot_names}
+use Rattle.heap_objects.specs.Objects.{IsLiveAt}
+use Rattle.heap_cycle.specs.Ties.{weak_slot_names}
 use Rattle.heap_engine.proofs.slots.weak_target.Goals as goal
 
 -- the node at the place that the weak slot holds
-named : (c : goal.After-number_at-arg-1) → (n : ℕ) × (get_or c.args.handles.now.weak c.args.w None ≡ Some n) × IsLiveAt c.args.objects.now.nodes n c.in-Some.place
-named c = weak_slot_names c.args.objects.now c.args.handles.now c.args.cycle.now c.args.w c.in-Some.place c.requires.ready (sym c.weak_place.ensures ∙ c.in-Some.is)
+named : (c : goal.After-number_at-arg-1) → (n : ℕ) × (get_or c.args.parts.now.handles.weak c.args.w None ≡ Some n) × IsLiveAt c.args.parts.now.objects.nodes n c.in-Some.place
+named c = weak_slot_names c.args.parts.now c.args.w c.in-Some.place c.requires.ready (sym c.weak_place.ensures ∙ c.in-Some.is)
 
 pub number_at-requires-clause-place : goal.number_at-requires-clause-place
 number_at-requires-clause-place c = ((named c).0, (named c).2)
 
 pub returns-in-Some-clause-target : goal.returns-in-Some-clause-target
 returns-in-Some-clause-target c =
-    let is = weak_slot_names c.args.objects.now c.args.handles.now c.args.cycle.now c.args.w c.in-Some.place c.requires.ready (sym c.weak_place.ensures ∙ c.in-Some.is) in
+    let is = weak_slot_names c.args.parts.now c.args.w c.in-Some.place c.requires.ready (sym c.weak_place.ensures ∙ c.in-Some.is) in
     let number : c.number_at.result ≡ is.0 = c.number_at.ensures.number is.0 is.2 in
     ap (λ n. Some (c.in-Some.place, n)) number ∙ ap (λ a. Some (a, is.0)) (sym is.2.1)
-    ∙ sym (ap (option_map (λ n. (place_of c.args.objects.now.nodes n, n))) is.1)
+    ∙ sym (ap (option_map (λ n. (place_of c.args.parts.now.objects.nodes n, n))) is.1)

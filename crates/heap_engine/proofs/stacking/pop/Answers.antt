@@ -1,14 +1,12 @@
 use Rattle.std.proofs.Common.{refl, sym, subst}
-use Rattle.heap_engine.specs.Parts.{ObjectsView, HandlesView, CycleView, counted, AreTied}
-use Rattle.heap_engine.proofs.Ties.{tied_pop}
+use Rattle.heap_handles.specs.Handles.{HandlesView}
+use Rattle.heap_cycle.specs.Parts.{counted, AreTied}
+use Rattle.heap_cycle.specs.Ties.{tied_pop}
 use Rattle.heap_engine.proofs.stacking.pop.Goals as goal
 
 pub returns-then-has_words-clause-frame : goal.returns-then-has_words-clause-frame
-returns-then-has_words-clause-frame c =
-    let o : ObjectsView = c.args.objects.now in
-    let y : CycleView = c.args.cycle.now in
-    record {
-      setup = refl;
-      ordinal = refl;
-      tied = subst (λ (k : HandlesView). AreTied o k (counted y)) (sym c.pop.ensures) (tied_pop o c.args.handles.now y c.requires.ready.tied);
-    }
+returns-then-has_words-clause-frame c = record {
+  setup = refl;
+  ordinal = refl;
+  tied = subst (λ (k : HandlesView). AreTied (counted (record c.args.parts.now { handles = k }))) (sym c.pop.ensures) (tied_pop c.args.parts.now c.requires.ready.tied);
+}

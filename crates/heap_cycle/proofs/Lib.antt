@@ -1,0 +1,7 @@
+pub mod RegisteredNodes
+pub mod SweptObjects
+pub mod PlacementSteps
+pub mod SweepSteps
+pub mod WayToPlace
+pub mod PauseKeeps
+pub mod CollectSteps

@@ -1,0 +1,28 @@
+use Rattle.std.proofs.Common.{◌≡◌, ℕ, List, ◌++◌, length, sym, ap, ◌∙◌, subst, arith}
+use Rattle.gc_graph.specs.declared.phase.Phase.TheVariants.{Sweeping}
+use Rattle.gc_graph.specs.Sweep.{SweepsTo}
+use Rattle.sweeper.specs.Sweeping.{cursor_at}
+use Rattle.heap_cycle.specs.declared.parts.Parts.{Parts}
+use Rattle.heap_cycle.specs.Parts.{state_of}
+use Rattle.heap_cycle.proofs.SweepSteps.{parts_sweep, parts_ready, cursor_open}
+use Rattle.heap_cycle.proofs.sweeps.end_sweep.Goals as goal
+
+pub finish-requires-clause-told : goal.finish-requires-clause-told
+finish-requires-clause-told c =
+    omega (arith, ap length c.requires.empty, c.dead_are_few.ensures (cursor_at c.args.parts.now.objects.shape c.args.parts.now.cycle.sweep))
+
+pub returns-in-Sweeping-clause-swept : goal.returns-in-Sweeping-clause-swept
+returns-in-Sweeping-clause-swept c =
+    let s : Parts = c.args.parts.now in
+    let sweeping : s.cycle.phase ≡ Sweeping = sym c.phase.ensures ∙ c.in-Sweeping.is in
+    let told : c.finish.new.finalised.items ≡ c.finish.ensures.swept.nodes.numbers =
+    c.finish.ensures.swept.nodes.follow ∙ ap (λ (before : List ℕ). before ++ c.finish.ensures.swept.nodes.numbers) c.requires.empty in
+    subst (λ numbers. SweepsTo s.objects.shape (state_of s) s.objects.shape.pages numbers (state_of (record s { objects = c.finish.new.objects; cycle = c.finish.new.self }))) (sym told)
+    (parts_sweep s c.finish.new.objects c.finish.new.self s.objects.shape.pages c.args.finalised.now.items c.finish.new.finalised.items sweeping c.finish.ensures.swept)
+
+pub returns-in-Sweeping-clause-ready : goal.returns-in-Sweeping-clause-ready
+returns-in-Sweeping-clause-ready c =
+    let s : Parts = c.args.parts.now in
+    let sweeping : s.cycle.phase ≡ Sweeping = sym c.phase.ensures ∙ c.in-Sweeping.is in
+    parts_ready s c.finish.new.objects c.finish.new.self s.objects.shape.pages c.args.finalised.now.items c.finish.new.finalised.items c.step_keeps_valid.ensures c.shape_is_valid.ensures
+    c.requires.ready sweeping (cursor_open s c.requires.ready sweeping) (omega arith) c.finish.ensures.swept

@@ -1,0 +1,47 @@
+-- How the handles and the cycle change.
+use Rattle.std.specs.Prelude.{◌≡◌, ◌*◌, ℕ, ◌+◌, ◌-◌, [], ◌∷◌, ◌++◌, List, length, map, take, drop, Option, None, option_map, slice_set, slice_index_or}
+use Rattle.gc_graph.specs.Reach.{Reach}
+use Rattle.gc_graph.specs.Sweep.{phase_at}
+use Rattle.gc_graph.specs.State.{State, StackWord, graph_of, roots_of}
+use Rattle.callback_table.specs.declared.registry.Registered.{Registered}
+use Rattle.callback_table.specs.Registry.{placed_at}
+use Rattle.heap_cycle.specs.Entries.{start_entry, pause_entry}
+use Rattle.heap_handles.specs.Stack.{with_word, without_last}
+use Rattle.heap_objects.specs.Finalising.{FinalisesBelow, HasMarks}
+use Rattle.heap_objects.specs.Objects.{ObjectsView, setup_of_objects}
+use Rattle.heap_handles.specs.Handles.{HandlesView}
+use Rattle.heap_cycle.specs.Views.{CycleView}
+
+-- the last registrations, so many of them, got this place
+abbrev pub placed_last : ℕ → ℕ → List Registered → List Registered
+placed_last count place entries =
+    take (length entries - count) entries ++ map (placed_at place) (drop (length entries - count) entries)
+
+-- one outcome more was full
+abbrev pub filled : State → State
+filled s = record s { full = s.full + 1 }
+
+-- an open sweep went on until so many pages were swept, in which so many nodes were finalised
+abbrev pub swept_to : ℕ → ℕ → State → State
+swept_to pages count s = record s { cursor = pages; finalised = s.finalised + count }
+
+-- the objects and the cycle after an open sweep went on until so many pages were swept
+pub record SweepsParts (o new : ObjectsView) (c after : CycleView) (pages : ℕ) (before told : List ℕ) : Type 0 where
+  pub setup : setup_of_objects new ≡ setup_of_objects o
+  pub nodes : FinalisesBelow (pages * o.shape.page_words) o.nodes before told new.nodes
+  pub phase : after.phase ≡ phase_at o.shape pages
+  pub sweep : after.sweep ≡ record c.sweep { cursor = pages }
+  pub registered : after.registered ≡ c.registered
+  pub ran : after.ran ≡ c.ran
+  pub rest : after.rest ≡ swept_to pages (length nodes.numbers) c.rest
+  pub marks : HasMarks after.phase (pages * o.shape.page_words) new.seat
+
+-- a collection was started from this state, and its pause is over
+abbrev pub collected_from : State → State
+collected_from s = record s {
+  cursor = 0;
+  may = Reach (graph_of s.nodes) (roots_of s);
+  traced = 0;
+  unprinted = (s.unprinted ++ start_entry ∷ []) ++ pause_entry ∷ [];
+  pauses = s.pauses + 1;
+}

@@ -1,0 +1,73 @@
+-- The parts of a heap together: the state that they are, and what is true of them between commands.
+use Rattle.std.specs.Prelude.{◌≡◌, ℕ, ◌+◌, ◌-◌, ◌*◌, ◌≤◌, ◌++◌, length, map, take, All}
+use Rattle.gc_graph.specs.State.{Setup, State, type_at}
+use Rattle.gc_graph.specs.Valid.{IsValid}
+use Rattle.gc_graph.specs.Outcomes.{answered}
+use Rattle.callback_table.specs.Registry.{registered, registrations_of}
+use Rattle.sweeper.specs.Sweeping.{cursor_at}
+use Rattle.node_bodies.specs.Places.{places_of}
+use Rattle.heap_cycle.specs.declared.parts.Parts.{Parts}
+use Rattle.heap_objects.specs.Objects.{HaveCallbacks, setup_of_objects}
+use Rattle.heap_handles.specs.Stack.{HoldsWords}
+use Rattle.heap_cycle.specs.Views.{IsSweepOf, IsPlaced}
+use Rattle.heap_objects.specs.Finalising.{HasMarks}
+
+-- what was set up
+abbrev pub setup_of : Parts → Setup
+setup_of s = setup_of_objects s.objects
+
+-- the state is put together from what each part holds of it
+abbrev pub state_of : Parts → State
+state_of s =
+    record s.cycle.rest {
+      nodes = s.objects.nodes;
+      slots = s.handles.slots;
+      weak = s.handles.weak;
+      stack = s.handles.stack.words;
+      registrations = registrations_of s.cycle.registered;
+      phase = s.cycle.phase;
+    }
+
+-- one command more was answered
+abbrev pub counted : Parts → Parts
+counted s = record s { cycle = record s.cycle { rest = answered s.cycle.rest } }
+
+-- the prefinalizers of the type are registered for the next node, with this place
+abbrev pub registered_in : Parts → ℕ → ℕ → Parts
+registered_in s t place = record s {
+  cycle = record s.cycle {
+    registered = s.cycle.registered ++ map (registered (length s.objects.nodes) place) (type_at (setup_of s) t).prefinalizers;
+  };
+}
+
+-- the last registrations, so many of them, are left out
+abbrev pub unregistered : ℕ → Parts → Parts
+unregistered count s = record s { cycle = record s.cycle { registered = take (length s.cycle.registered - count) s.cycle.registered } }
+
+-- ---- what the engine needs besides a valid state
+
+-- the parts belong together: slots, strong and weak, hold the places of what they name, and so do registrations; the stack holds
+-- its words; the sweep and the marks are those of the phase, and no more nodes were made than commands were answered, and at most 16
+-- registrations for each
+pub record AreTied (s : Parts) : Type 0 where
+  pub slots : s.handles.places ≡ places_of s.objects.nodes s.handles.slots
+  pub weak : s.handles.weak_places ≡ places_of s.objects.nodes s.handles.weak
+  pub stack : HoldsWords s.objects.nodes s.handles.stack
+  pub registered : All (IsPlaced s.objects.nodes (length s.objects.callbacks)) s.cycle.registered
+  pub few : length s.cycle.registered + length s.cycle.ran ≤ 16 * s.cycle.rest.ordinal
+  pub sweep : IsSweepOf s.objects.shape s.cycle.phase s.cycle.rest.cursor s.cycle.sweep
+  pub marks : HasMarks s.cycle.phase (cursor_at s.objects.shape s.cycle.sweep) s.objects.seat
+  pub made : length s.objects.nodes ≤ s.cycle.rest.ordinal
+
+-- the parts are ready for a command: their state is valid, and they belong together
+pub record IsReady (s : Parts) : Type 0 where
+  pub valid : IsValid (setup_of s) (state_of s)
+  pub called : HaveCallbacks (length s.objects.callbacks) s.objects.types
+  pub tied : AreTied s
+  pub most : s.cycle.rest.ordinal ≤ 1000000
+
+-- what a command leaves as it was, from the old parts to the new ones, which belong together
+pub record IsFrame (old new : Parts) : Type 0 where
+  pub setup : setup_of new ≡ setup_of old
+  pub ordinal : new.cycle.rest.ordinal ≡ old.cycle.rest.ordinal + 1
+  pub tied : AreTied new

@@ -1,0 +1,163 @@
+-- What a command leaves tied, and what a ready heap tells of its parts.
+use Rattle.std.proofs.Common.{◌≡◌, ℕ, ◌≤◌, All, List, [], ◌∷◌, length, get_or, set, map, Option, Some, None, option_map, refl, sym, ap, ◌∙◌, subst, inl, inr, arith}
+use Rattle.std.specs.Option.{ForSome}
+use Rattle.std.proofs.lemmas.Bool.{cases_lt}
+use Rattle.std.proofs.lemmas.List.{map-set, length-map, get_or-map, get_or_past}
+use Rattle.std.proofs.lemmas.List.Elements.{All-get_or, All-weaker}
+use Rattle.gc_graph.specs.State.{Setup, Node, IsLive, slot_targets}
+use Rattle.gc_graph.specs.Valid.{AreLive}
+use Rattle.callback_table.specs.declared.registry.Registered.{Registered}
+use Rattle.sweeper.specs.Sweeping.{cursor_at}
+use Rattle.node_bodies.specs.Nodes.{place_of, AreOfValid}
+use Rattle.node_bodies.specs.Places.{places_of}
+use Rattle.heap_objects.specs.Objects.{IsLiveAt, ObjectsView, setup_of_objects, StaysAt}
+use Rattle.heap_cycle.specs.declared.parts.Parts.{Parts}
+use Rattle.heap_cycle.specs.Views.{CycleView, IsPlaced, IsSweepOf}
+use Rattle.heap_objects.specs.Finalising.{HasMarks}
+use Rattle.heap_cycle.specs.Parts.{setup_of, state_of, counted, AreTied, IsReady}
+use Rattle.heap_handles.specs.Handles.{put_in, copied_in, weakened_in, popped_in}
+use Rattle.node_bodies.specs.KeptNodes.{slots_live}
+use Rattle.heap_handles.specs.StackWords.{words_held, words_popped}
+
+pub valid_nodes : (s : Parts) → IsReady s → AreOfValid (setup_of s) s.objects.nodes
+valid_nodes s ready = (state_of s, ready.valid, refl)
+
+-- ---- slots
+
+-- slots that hold the places of what they name do so one by one
+place_held : (nodes : List Node) (places slots : List (Option ℕ)) (p : ℕ) → places ≡ places_of nodes slots → get_or places p None ≡ option_map (place_of nodes) (get_or slots p None)
+place_held nodes places slots p held =
+    ap (λ l. get_or l p None) held ∙ elim (cases_lt p (length slots)) [
+      | inl low ↦ get_or-map (λ (slot : Option ℕ). option_map (place_of nodes) slot) slots p None None low
+      | inr past ↦ get_or_past (places_of nodes slots) p None (omega (arith, past, length-map slots (λ (slot : Option ℕ). option_map (place_of nodes) slot)))
+          ∙ sym (ap (option_map (place_of nodes)) (get_or_past slots p None past))
+    ]
+
+live_held : (nodes : List Node) (slots : List (Option ℕ)) (p : ℕ) → AreLive nodes (slot_targets slots) → ForSome (get_or slots p None) (IsLive nodes)
+live_held nodes slots p live =
+    elim (cases_lt p (length slots)) [
+      | inl low ↦ All-get_or (λ slot. ForSome slot (IsLive nodes)) slots p None low (slots_live nodes slots live)
+      | inr past ↦ λ n is. (let never : None ≡ Some n = sym (get_or_past slots p None past) ∙ is in cc)
+    ]
+
+placed : (place : ℕ → ℕ) (slot : Option ℕ) (a : ℕ) → option_map place slot ≡ Some a → (n : ℕ) × (slot ≡ Some n) × (place n ≡ a)
+placed place None a e = cc
+placed place (Some n) a e = (n, refl, (let same : place n ≡ a = cc in same))
+
+named_held : (nodes : List Node) (places slots : List (Option ℕ)) (p a : ℕ) → places ≡ places_of nodes slots → AreLive nodes (slot_targets slots) → get_or places p None ≡ Some a
+    → (n : ℕ) × (get_or slots p None ≡ Some n) × IsLiveAt nodes n a
+named_held nodes places slots p a held live is =
+    let named = placed (place_of nodes) (get_or slots p None) a (sym (place_held nodes places slots p held) ∙ is) in
+    (named.0, named.1, (live_held nodes slots p live named.0 named.1, named.2))
+
+-- a slot holds the place of what it names
+pub slot_place : (s : Parts) (p : ℕ) → AreTied s → get_or s.handles.places p None ≡ option_map (place_of s.objects.nodes) (get_or s.handles.slots p None)
+slot_place s p tied = place_held s.objects.nodes s.handles.places s.handles.slots p tied.slots
+
+pub slot_live : (s : Parts) (p : ℕ) → IsReady s → ForSome (get_or s.handles.slots p None) (IsLive s.objects.nodes)
+slot_live s p ready = live_held s.objects.nodes s.handles.slots p ready.valid.slots
+
+-- a slot that holds a place names the live node there
+pub slot_names : (s : Parts) (p a : ℕ) → IsReady s → get_or s.handles.places p None ≡ Some a
+    → (n : ℕ) × (get_or s.handles.slots p None ≡ Some n) × IsLiveAt s.objects.nodes n a
+slot_names s p a ready is = named_held s.objects.nodes s.handles.places s.handles.slots p a ready.tied.slots ready.valid.slots is
+
+-- and so does a weak slot
+pub weak_slot_names : (s : Parts) (w a : ℕ) → IsReady s → get_or s.handles.weak_places w None ≡ Some a
+    → (n : ℕ) × (get_or s.handles.weak w None ≡ Some n) × IsLiveAt s.objects.nodes n a
+weak_slot_names s w a ready is = named_held s.objects.nodes s.handles.weak_places s.handles.weak w a ready.tied.weak ready.valid.weak is
+
+-- ---- ties
+
+-- a handle gets the place of what it names
+pub tied_slot : (s : Parts) (p : ℕ) (target : Option (ℕ × ℕ))
+    → option_map (λ (t : ℕ × ℕ). t.0) target ≡ option_map (place_of s.objects.nodes) (option_map (λ (t : ℕ × ℕ). t.1) target)
+    → AreTied s → AreTied (counted (record s { handles = put_in s.handles p target }))
+tied_slot s p target is tied = record {
+  slots = ap (λ l. set l p (option_map (λ (t : ℕ × ℕ). t.0) target)) tied.slots ∙ ap (λ x. set (places_of s.objects.nodes s.handles.slots) p x) is
+      ∙ sym (map-set (λ (slot : Option ℕ). option_map (place_of s.objects.nodes) slot) s.handles.slots p (option_map (λ (t : ℕ × ℕ). t.1) target));
+  weak = tied.weak;
+  stack = tied.stack;
+  registered = tied.registered;
+  few = omega (arith, tied.few);
+  sweep = tied.sweep;
+  marks = tied.marks;
+  made = omega (arith, tied.made);
+}
+
+-- slot q gets what slot p holds
+pub tied_copy : (s : Parts) (p q : ℕ) → AreTied s → AreTied (counted (record s { handles = copied_in s.handles p q }))
+tied_copy s p q tied = record {
+  slots = ap (λ l. set l q (get_or s.handles.places p None)) tied.slots ∙ ap (λ x. set (places_of s.objects.nodes s.handles.slots) q x) (slot_place s p tied)
+      ∙ sym (map-set (λ (slot : Option ℕ). option_map (place_of s.objects.nodes) slot) s.handles.slots q (get_or s.handles.slots p None));
+  weak = tied.weak;
+  stack = tied.stack;
+  registered = tied.registered;
+  few = omega (arith, tied.few);
+  sweep = tied.sweep;
+  marks = tied.marks;
+  made = omega (arith, tied.made);
+}
+
+-- weak slot w gets what slot p holds
+pub tied_weak : (s : Parts) (w p : ℕ) → AreTied s → AreTied (counted (record s { handles = weakened_in s.handles w p }))
+tied_weak s w p tied = record {
+  slots = tied.slots;
+  weak = ap (λ l. set l w (get_or s.handles.places p None)) tied.weak ∙ ap (λ x. set (places_of s.objects.nodes s.handles.weak) w x) (slot_place s p tied)
+      ∙ sym (map-set (λ (slot : Option ℕ). option_map (place_of s.objects.nodes) slot) s.handles.weak w (get_or s.handles.slots p None));
+  stack = tied.stack;
+  registered = tied.registered;
+  few = omega (arith, tied.few);
+  sweep = tied.sweep;
+  marks = tied.marks;
+  made = omega (arith, tied.made);
+}
+
+-- the last word of the stack was taken away
+pub tied_pop : (s : Parts) → AreTied s → AreTied (counted (record s { handles = popped_in s.handles }))
+tied_pop s tied = record {
+  slots = tied.slots;
+  weak = tied.weak;
+  stack = words_popped s.objects.nodes s.handles.stack tied.stack;
+  registered = tied.registered;
+  few = omega (arith, tied.few);
+  sweep = tied.sweep;
+  marks = tied.marks;
+  made = omega (arith, tied.made);
+}
+
+pub places-same : (f g : ℕ → ℕ) (slots : List (Option ℕ)) → ((n : ℕ) → f n ≡ g n) → map (λ (slot : Option ℕ). option_map f slot) slots ≡ map (λ (slot : Option ℕ). option_map g slot) slots
+places-same f g [] same = refl
+places-same f g (None ∷ slots) same = ap (λ l. None ∷ l) (places-same f g slots same)
+places-same f g (Some n ∷ slots) same = ap (λ p. Some p ∷ map (λ (slot : Option ℕ). option_map f slot) slots) (same n) ∙ ap (λ l. Some (g n) ∷ l) (places-same f g slots same)
+
+-- the registrations hold the places of their nodes, where these stay
+pub placed_still : (o new : ObjectsView) (entries : List Registered) → ((n : ℕ) → place_of new.nodes n ≡ place_of o.nodes n) → new.callbacks ≡ o.callbacks
+    → All (IsPlaced o.nodes (length o.callbacks)) entries → All (IsPlaced new.nodes (length new.callbacks)) entries
+placed_still o new entries same callbacks placed =
+    All-weaker (IsPlaced o.nodes (length o.callbacks)) (IsPlaced new.nodes (length new.callbacks))
+    (λ e is. record { place = same e.node ∙ is.place; known = omega (arith, is.known, ap length callbacks) }) entries placed
+
+-- the nodes change, but their places and sizes stay, and no prefinalizer is registered or run
+pub tied_nodes : (s : Parts) (new : ObjectsView) (after : CycleView) → AreTied s → ((n : ℕ) → StaysAt s.objects.nodes new.nodes n)
+    → setup_of_objects new ≡ setup_of s → after.registered ≡ s.cycle.registered → after.ran ≡ s.cycle.ran → s.cycle.rest.ordinal ≤ after.rest.ordinal
+    → IsSweepOf new.shape after.phase after.rest.cursor after.sweep → HasMarks after.phase (cursor_at new.shape after.sweep) new.seat
+    → length new.nodes ≤ after.rest.ordinal → AreTied (record s { objects = new; cycle = after })
+tied_nodes s new after tied same setup registered ran later sweep marks made = record {
+  slots = tied.slots ∙ sym (places-same (place_of new.nodes) (place_of s.objects.nodes) s.handles.slots (λ n. (same n).0));
+  weak = tied.weak ∙ sym (places-same (place_of new.nodes) (place_of s.objects.nodes) s.handles.weak (λ n. (same n).0));
+  stack = words_held s.objects.nodes new.nodes s.handles.stack (λ k d low. same _) tied.stack;
+  registered = subst (All (IsPlaced new.nodes (length new.callbacks))) (sym registered)
+      (placed_still s.objects new s.cycle.registered (λ n. (same n).0) (ap (λ (st : Setup). st.callbacks) setup) tied.registered);
+  few = omega (arith, tied.few, ap length registered, ap length ran, later);
+  sweep = sweep;
+  marks = marks;
+  made = made;
+}
+
+-- and no more than fields change: the sweep and the marks stay
+pub tied_fields : (s : Parts) (new : ObjectsView) → AreTied s → ((n : ℕ) → StaysAt s.objects.nodes new.nodes n) → setup_of_objects new ≡ setup_of s
+    → HasMarks s.cycle.phase (cursor_at s.objects.shape s.cycle.sweep) new.seat → length new.nodes ≡ length s.objects.nodes → AreTied (counted (record s { objects = new }))
+tied_fields s new tied same setup marks made =
+    tied_nodes s new (counted s).cycle tied same setup refl refl (omega arith) (subst (λ (st : Setup). IsSweepOf st.shape s.cycle.phase s.cycle.rest.cursor s.cycle.sweep) (sym setup) tied.sweep)
+    (subst (λ (st : Setup). HasMarks s.cycle.phase (cursor_at st.shape s.cycle.sweep) new.seat) (sym setup) marks) (omega (arith, tied.made, made))

@@ -1,0 +1,43 @@
+-- The parts of a heap as commands see them, one by one.
+use Rattle.std.specs.Prelude.{◌≡◌, ℕ, ◌<◌, false, List, [], replicate, Option}
+use Rattle.gc_graph.specs.declared.action.ActionKind.{ActionKind}
+use Rattle.gc_graph.specs.declared.phase.Phase.{Phase}
+use Rattle.gc_graph.specs.declared.phase.Phase.TheVariants.{Idle, Marking, Sweeping}
+use Rattle.gc_graph.specs.State.{Shape, Setup, State, Node, ObjectType}
+use Rattle.gc_graph.specs.State.RegionSlot.{Vacant}
+use Rattle.gc_graph.specs.CycleSteps.{is_marking}
+use Rattle.gc_graph.specs.Sweep.{pages_swept_in}
+use Rattle.callback_table.specs.declared.registry.Registered.{Registered}
+use Rattle.page_words.specs.Seat.{SeatView, IsQuiet}
+use Rattle.sweeper.specs.Sweeping.{SweepView}
+use Rattle.node_bodies.specs.Nodes.{place_of}
+use Rattle.heap_objects.specs.Finalising.{IsSweptTo}
+use Rattle.heap_handles.specs.Stack.{StackView}
+
+-- the collection cycle: its phase, how far its sweep has come, the prefinalizers that are registered, with the places of their
+-- objects, those that the last pause ran, each the number of its object and that of its callback, and what no other part holds
+-- of the state
+pub record CycleView : Type 0 where
+  pub phase : Phase
+  pub sweep : SweepView
+  pub registered : List Registered
+  pub ran : List (ℕ × ℕ)
+  pub rest : State
+
+-- ---- what is true of a part
+
+-- the sweep stands at the state's cursor where one is open, and else past all pages
+pub record IsSweepOf (shape : Shape) (phase : Phase) (cursor : ℕ) (sweep : SweepView) : Type 0 where
+  pub pages : sweep.pages ≡ shape.pages
+  pub cursor_is : sweep.cursor ≡ pages_swept_in phase shape.pages cursor
+
+-- no marking goes on, region slots are null, and no thread runs
+pub record IsAtRest (phase : Phase) (s : State) : Type 0 where
+  pub calm : is_marking phase ≡ false
+  pub region_null : s.region ≡ replicate 32 Vacant
+  pub none_running : s.running ≡ []
+
+-- the callback is registered with the place of its node, and there are so many callbacks that it is one
+pub record IsPlaced (nodes : List Node) (callbacks : ℕ) (entry : Registered) : Type 0 where
+  pub place : place_of nodes entry.node ≡ entry.place
+  pub known : entry.callback < callbacks

@@ -1,0 +1,143 @@
+// The collection cycle: its phase, its registered prefinalizers, and what it keeps of marking.
+
+ghost use Rattle.std.specs.Prelude.{◌≡◌, ◌-◌, ◌≤◌, false};
+ghost use Rattle.std.specs.Prelude.{[], ◌++◌, OnOk, OnErr, length, map, take};
+ghost use Rattle.gc_graph.specs.declared.phase.Phase.TheVariants.{Idle};
+ghost use Rattle.gc_graph.specs.State.{empty_state};
+ghost use Rattle.gc_graph.specs.Outcomes.{answered};
+ghost use Rattle.gc_graph.specs.CycleSteps.{is_marking};
+ghost use Rattle.callback_table.specs.Registry.{registered};
+ghost use Rattle.heap_cycle.specs.Changes.{filled, placed_last};
+
+use crate::states::{self, States};
+use callback_table::Registry;
+use gc_graph::{NoMemory, Phase};
+use ghost_values::GhostValue;
+use heap_objects::Grey;
+use std::alloc::Global;
+use std::marker::Model;
+use sweeper::Sweep;
+
+/// The phase of the cycle, how far its sweep has come, the registered prefinalizers, and what is kept
+/// of marking.
+#[derive(Drop)]
+pub struct Cycle {
+    pub(crate) phase: Phase,
+    pub(crate) sweep: Sweep,
+    pub(crate) grey: Grey,
+    pub(crate) registry: Registry,
+    /// What no other part holds of the state.
+    pub(crate) rest: GhostValue<States>,
+}
+
+impl Model for Cycle {
+    ghost use Rattle.heap_cycle.specs.Views.{CycleView, IsAtRest};
+
+    ghost Value = { CycleView };
+
+    ghost view = { λ c. record {
+      phase = c.phase;
+      sweep = c.sweep;
+      registered = c.registry.entries;
+      ran = c.registry.ran;
+      rest = c.rest.value;
+    } };
+
+    ghost invariant = { λ c. IsAtRest c.phase c.rest.value };
+}
+
+impl Cycle {
+    /// The cycle of a heap of so many pages that has done nothing.
+    pub fn new(alloc: Global, pages: u32) -> Cycle
+        ensures { result ≡ record {
+          phase = Idle;
+          sweep = record { pages = pages; cursor = pages };
+          registered = [];
+          ran = [];
+          rest = empty_state;
+        } }
+    {
+        Cycle {
+            phase: Phase::Idle,
+            sweep: Sweep::idle(pages),
+            grey: Grey::new(alloc),
+            registry: Registry::new(alloc),
+            rest: states::empty(),
+        }
+    }
+
+    /// The phase.
+    pub fn phase(&self) -> Phase
+        ensures { result ≡ self.now.phase }
+    {
+        self.phase
+    }
+
+    /// Between commands no marking goes on, and no thread runs.
+    pub fn rests(&self)
+        ensures calm { is_marking self.now.phase ≡ false }
+        ensures alone { self.now.rest.running ≡ [] }
+    {
+        let _ = &self.rest;
+    }
+
+    /// Counts a command that was answered.
+    pub fn count_command(&mut self)
+        ensures { self.new ≡ record self.old { rest = answered self.old.rest } }
+    {
+        self.rest = states::answered(&self.rest);
+    }
+
+    /// Counts an outcome that was full.
+    pub fn count_full(&mut self)
+        ensures { self.new ≡ record self.old { rest = filled self.old.rest } }
+    {
+        self.rest = states::filled(&self.rest);
+    }
+
+    /// Registers the callbacks, in their order, for the object with this number, which has no place
+    /// yet. Want of memory is free.
+    pub fn register(&mut self, number: u32, callbacks: &[u32]) -> Result<(), NoMemory>
+        ensures entries { OnOk result (self.new ≡ record self.old {
+          registered = self.old.registered ++ map (registered number 0) callbacks.now;
+        }) }
+        ensures full { OnErr result (self.new ≡ self.old) }
+    {
+        self.registry.register(number, 0, callbacks)
+    }
+
+    /// The object of the last registrations got its place.
+    pub fn place_last(&mut self, count: u32, place: u32)
+        requires { count ≤ length self.old.registered }
+        ensures { self.new ≡ record self.old {
+          registered = placed_last count place self.old.registered;
+        } }
+    {
+        self.registry.place_last(count, place);
+    }
+
+    /// Takes the last registrations away.
+    pub fn unregister_last(&mut self, count: u32)
+        requires { count ≤ length self.old.registered }
+        ensures { self.new ≡ record self.old {
+          registered = take (length self.old.registered - count) self.old.registered;
+        } }
+    {
+        self.registry.unregister_last(count);
+    }
+
+    /// Takes room for marking. Want of memory is free.
+    pub fn reserve(&mut self) -> Result<(), NoMemory>
+        ensures { self.new ≡ self.old }
+    {
+        self.grey.reserve()
+    }
+
+    /// The number of the object and that of the callback of each prefinalizer that the last pause
+    /// ran, in the order in which they ran.
+    pub fn ran(&self) -> &[(u32, u32)]
+        ensures { result.now ≡ self.now.ran }
+    {
+        self.registry.ran()
+    }
+}

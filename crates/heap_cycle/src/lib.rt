@@ -1,0 +1,35 @@
+//! # The parts of a heap, and its cycle
+//!
+//! What it is: all parts of a heap as one value, and what concerns several of them at once:
+//! collections, sweeps, and where a new object goes while a sweep is open.
+//!
+//! The parts: `Parts` (`objects`, `handles` and `cycle`; a further part is one more field, and one line
+//! in `state_of`), `Cycle` (phase, registered prefinalizers, how far the sweep has come, what is kept of
+//! marking), `collections`, `sweeps` and `cycle_sweeps`, `placement`, and `Outcome` (the lines of the last
+//! command, and the region's history). For contracts alone: `states` and `entries`. Next down are
+//! `heap_handles` and `heap_objects`.
+//!
+//! What is proved: the state of the graph is put together from what each part holds of it. A collection
+//! and a sweep are lawful steps of that state, and leave the parts tied to each other: slots, stack and
+//! registrations hold the places of their nodes, and the marks are those of the phase. A place for a new
+//! object is the one that the graph's placement says.
+//!
+//! What is only tested or not said: that memory suffices, and how long a command takes.
+#![tactic(auto)]
+
+mod collections;
+mod cycle;
+mod cycle_sweeps;
+mod entries;
+mod outcome;
+mod parts;
+mod placement;
+mod states;
+mod sweeps;
+
+pub use collections::collect;
+pub use cycle::Cycle;
+pub use outcome::Outcome;
+pub use parts::Parts;
+pub use placement::place_for;
+pub use sweeps::{sweep_all, sweep_some};

@@ -1,0 +1,160 @@
+// The outcome of a command: finalised nodes, then at most one more line, and then the prefinalizers
+// that it ran. It takes no memory after it was made.
+
+ghost use Rattle.std.specs.Prelude.{◌≡◌, ◌++◌, ◌<◌, ◌≤◌, [], length, Some, true, false};
+ghost use Rattle.std.specs.Prelude.{ℕ, List, ◌∷◌, None, IfOk, IfSome, slice_get};
+ghost use Rattle.gc_graph.specs.declared.line.Line.TheVariants as L;
+ghost use Rattle.heap_cycle.specs.Printed.{later_lines, outcome_lines};
+
+use crate::entries::{self, Entries};
+use gc_graph::{Line, NoMemory};
+use ghost_values::GhostValue;
+use std::alloc::Global;
+use std::marker::Model;
+
+/// The lines of the last command, and the region's history as far as the commands took it.
+#[derive(Drop)]
+pub struct Outcome {
+    /// The numbers of finalised nodes, which a sweep fills.
+    pub(crate) finalised: Vec<u32>,
+    last: Option<Line>,
+    /// Whether the last command ran prefinalizers, which the cycle holds.
+    prefinalises: bool,
+    /// What the last command took of the history.
+    pub(crate) piece: GhostValue<Entries>,
+    history: GhostValue<Entries>,
+}
+
+impl Model for Outcome {
+    ghost use Rattle.std.specs.Prelude.{◌^◌, ◌≤◌, length, vec_capacity};
+    ghost use Rattle.heap_cycle.specs.Printed.{Printed};
+
+    ghost Value = { Printed };
+
+    ghost view = { λ o. record {
+      numbers = o.finalised.items;
+      last = o.last;
+      prefinalises = o.prefinalises;
+      piece = o.piece.value;
+      history = o.history.value;
+      room = vec_capacity o.finalised;
+    } };
+
+    ghost invariant = { λ o. length o.finalised.items ≤ 2 ^ 24 };
+}
+
+impl Outcome {
+    /// An outcome without lines, with room for so many finalised nodes. Want of memory is free.
+    pub fn new(alloc: Global, room: usize) -> Result<Outcome, NoMemory>
+        ensures { IfOk result (λ o. o
+            ≡ record {
+              numbers = [];
+              last = None;
+              prefinalises = false;
+              piece = [];
+              history = [];
+              room = room;
+            }) }
+    {
+        let finalised = Vec::with_capacity(alloc, room)?;
+        Ok(Outcome {
+            finalised,
+            last: None,
+            prefinalises: false,
+            piece: entries::none(),
+            history: entries::none(),
+        })
+    }
+
+    /// Forgets the finalised nodes; the last line stays until another takes its place.
+    pub fn begin(&mut self)
+        ensures { self.new
+            ≡ record self.old { numbers = []; prefinalises = false; piece = [] } }
+    {
+        self.finalised.clear();
+        self.prefinalises = false;
+        self.piece = entries::none();
+    }
+
+    /// The lines of the prefinalizers that the pause ran follow the last line.
+    pub fn prefinalise(&mut self)
+        ensures { self.new ≡ record self.old { prefinalises = true } }
+    {
+        self.prefinalises = true;
+    }
+
+    /// Adds the last line, and to the history what the command took of it.
+    pub fn end(&mut self, line: Line)
+        ensures { self.new ≡ record self.old {
+          last = Some line;
+          history = self.old.history ++ self.old.piece;
+        } }
+    {
+        self.last = Some(line);
+        self.history = entries::grown(&self.history, &self.piece);
+    }
+
+    /// How many lines there are, where the last pause ran these prefinalizers.
+    pub fn count(&self, ran: &[(u32, u32)]) -> u32
+        requires { length ran.now ≤ 16000000 }
+        ensures { result ≡ length (outcome_lines self.now ran.now) }
+    {
+        let prefinalised = if self.prefinalises {
+            ran.len() as u32
+        } else {
+            0
+        };
+        self.finalised.len() as u32 + u32::from(self.last.is_some()) + prefinalised
+    }
+
+    /// The line of the outcome, where it has one alone that tells no finalised node.
+    pub fn only_line(&self) -> Option<&Line>
+        ensures { IfSome result (λ line. (ran : List (ℕ × ℕ))
+            → outcome_lines self.now ran ≡ line.now ∷ []) }
+    {
+        if !self.finalised.is_empty() || self.prefinalises {
+            return None;
+        }
+        match &self.last {
+            Some(line) => Some(line),
+            None => None,
+        }
+    }
+
+    /// The numbers of the finalised nodes, whose lines are the first ones.
+    pub fn finalised(&self) -> &[u32]
+        ensures { result.now ≡ self.now.numbers }
+    {
+        &self.finalised
+    }
+
+    /// A line of the outcome, where the last pause ran these prefinalizers.
+    pub fn line(&self, index: u32, ran: &[(u32, u32)]) -> Line
+        requires { index < length (outcome_lines self.now ran.now) }
+        ensures { slice_get (outcome_lines self.now ran.now) index ≡ Some result }
+    {
+        match self.finalised.get(index as usize) {
+            Some(number) => Line::Finalise { k: *number },
+            None => self.later_line(index - self.finalised.len() as u32, ran),
+        }
+    }
+
+    /// A line after those of the finalised nodes.
+    fn later_line(&self, index: u32, ran: &[(u32, u32)]) -> Line
+        requires { index < length (later_lines self.now ran.now) }
+        ensures { slice_get (later_lines self.now ran.now) index ≡ Some result }
+    {
+        match self.last {
+            Some(line) if index == 0 => line,
+            Some(_) => prefinalise_line(ran[index as usize - 1]),
+            None => prefinalise_line(ran[index as usize]),
+        }
+    }
+}
+
+/// The line of a prefinalizer: the number of its object and that of its callback.
+fn prefinalise_line(ran: (u32, u32)) -> Line
+    ensures { result ≡ L.Prefinalise ran.0 ran.1 }
+{
+    Line::Prefinalise { k: ran.0, c: ran.1 }
+}

@@ -1,0 +1,13 @@
+// The parts of a heap, which commands take together.
+
+use crate::cycle::Cycle;
+use heap_handles::Handles;
+use heap_objects::Objects;
+
+/// The parts of a heap. Each has a model, and contracts see what each of them is.
+#[derive(Drop)]
+pub struct Parts {
+    pub objects: Objects,
+    pub handles: Handles,
+    pub cycle: Cycle,
+}

@@ -1,5 +1,0 @@
-use Rattle.gc_graph.specs.declared.kind.Value.TheVariants.{Null}
-use Rattle.heap_engine.proofs.content.null_value.Given as goal
-
-abbrev pub ghost-chosen : goal.ghost-chosen
-ghost-chosen a = Null

@@ -1,5 +1,0 @@
-use Rattle.gc_graph.specs.Outcomes.{answered}
-use Rattle.heap_engine.proofs.states.answered.Given as goal
-
-abbrev pub ghost-chosen : goal.ghost-chosen
-ghost-chosen a = answered a.about.now.value

@@ -1,0 +1,134 @@
+-- The words hold the nodes after each change: a node made, a field written, a sweep, a pause.
+use Rattle.std.proofs.Common.{◌≡◌, ℕ, ◌+◌, ◌-◌, ◌<◌, true, false, not, List, [], ◌∷◌, ◌++◌, length, map, replicate, refl, sym, ap, ◌∙◌, subst, inl, inr, arith}
+use Rattle.std.specs.List.{All, Contains}
+use Rattle.std.proofs.lemmas.Bool.{cases_lt}
+use Rattle.std.proofs.lemmas.List.{length_push, length-map, length-replicate, get_or_append_left, get_or_push}
+use Rattle.std.proofs.lemmas.List.Elements.{All-weaker, Contains-push_cases}
+use Rattle.gc_graph.specs.declared.phase.Phase.{Phase}
+use Rattle.gc_graph.specs.declared.phase.Phase.TheVariants.{Idle, Marking, Sweeping}
+use Rattle.gc_graph.specs.declared.kind.Value.{Value}
+use Rattle.gc_graph.specs.declared.kind.Value.TheVariants.{Null, Ref, Word}
+use Rattle.gc_graph.specs.State.{Setup, Node, type_at, node_at, no_node, is_there, is_dead, size_of, IsDead}
+use Rattle.gc_graph.specs.Fields.{field_words, new_node, size_of_type}
+use Rattle.page_words.specs.Bodies.{Body, with_word}
+use Rattle.page_words.specs.Seat.{SeatView, IsView, holds, stored}
+use Rattle.gc_graph.specs.Placement.{extents_of}
+use Rattle.page_space.specs.Occupying.{Occupies, new_body}
+use Rattle.page_space.specs.Space.{extents_of_bodies}
+use Rattle.node_bodies.specs.Nodes.{place_of, word_of, body_of, bodies_of, IsThere, IsHeld}
+use Rattle.heap_objects.specs.Finalising.{HasMarks}
+use Rattle.node_bodies.specs.TypedNodes.{AreKnown, NamesBelow, new_words}
+use Rattle.node_bodies.specs.NodeBodies.{bodies-push, extents-bodies}
+use Rattle.node_bodies.specs.NodeChanges.{AgreeOn, AgreeIn, bodies-places, bodies-same}
+use Rattle.node_bodies.specs.NodePlaces.{there_below}
+use Rattle.node_bodies.specs.Lists.{Contains-map_some}
+use Rattle.heap_objects.specs.Objects.{StaysAt}
+use Rattle.heap_objects.specs.FieldNodes.{with_field, place-field, life-field}
+use Rattle.heap_objects.proofs.FieldBodies.{place-word, bodies_stored}
+use Rattle.heap_objects.specs.NewNodes.{node-old, node-new, place-old}
+
+-- where nothing is dead in the words, no node is dead
+pub none_dead : (nodes : List Node) (v : SeatView) → IsHeld nodes v → v.dead ≡ [] → (n : ℕ) → IsDead nodes n → ⊥
+none_dead nodes v held empty n dead =
+    never (sym (ap is_dead dead) ∙ sym (held.dead n (ap is_there dead)) ∙ ap (λ l. holds l (place_of nodes n)) empty) where
+      never : true ≡ false → ⊥
+      never e = cc
+
+-- ---- a new node
+
+agree_below : (f g : ℕ → ℕ) (bound : ℕ) (v : Value) → ((n : ℕ) → n < bound → f n ≡ g n) → NamesBelow bound v → AgreeOn f g v
+agree_below f g bound Null same below = tt
+agree_below f g bound (Ref n) same below = same n below
+agree_below f g bound (Word w) same below = tt
+
+body_is_new : (setup : Setup) (f : ℕ → ℕ) (k t extra place : ℕ) → body_of f k (new_node setup t extra place) ≡ new_body place t (size_of_type setup t extra) k
+body_is_new setup f k t extra place =
+    let x : Node = new_node setup t extra place in
+    let count : ℕ = field_words (type_at setup t).kinds + extra in
+    let words : map (word_of f) x.object.values ≡ replicate count 0 = new_words setup f t extra place in
+    let size : size_of x ≡ 2 + count = omega (arith, ap length words, length-map x.object.values (word_of f), length-replicate {A = ℕ} count 0) in
+    let rest : count ≡ 2 + count - 2 = omega arith in
+    ap (λ n. (let b : Body = record { place = place; ty = t; size = n; serial = k; fields = map (word_of f) x.object.values } in b)) size
+    ∙ ap (λ ws. (let b : Body = record { place = place; ty = t; size = 2 + count; serial = k; fields = ws } in b)) (words ∙ ap (λ n. replicate n 0) rest)
+
+pub held_made : (setup : Setup) (nodes : List Node) (v new : SeatView) (t extra place : ℕ) → AreKnown setup nodes → holds v.dead place ≡ false → IsHeld nodes v
+    → Occupies v new (new_body place t (size_of_type setup t extra) (length nodes)) → IsHeld (nodes ++ new_node setup t extra place ∷ []) new
+held_made setup nodes v new t extra place known alive held occupies =
+    let x : Node = new_node setup t extra place in
+    let after : List Node = nodes ++ x ∷ [] in
+    let number : 0 + length nodes ≡ length nodes = omega arith in
+    let agree : All (AgreeIn (place_of after) (place_of nodes)) nodes =
+    All-weaker (λ (y : Node). All (NamesBelow (length nodes)) y.object.values) (AgreeIn (place_of after) (place_of nodes))
+    (λ (y : Node) below. All-weaker (NamesBelow (length nodes)) (AgreeOn (place_of after) (place_of nodes))
+    (λ u b. agree_below (place_of after) (place_of nodes) (length nodes) u (place-old nodes x) b) y.object.values below) nodes known.below in
+    let bodies : bodies_of after ≡ bodies_of nodes ++ new_body place t (size_of_type setup t extra) (length nodes) ∷ [] =
+    bodies-push (place_of after) 0 nodes x refl
+    ∙ ap (λ bs. bs ++ body_of (place_of after) (0 + length nodes) x ∷ []) (bodies-places (place_of after) (place_of nodes) 0 nodes agree)
+    ∙ ap (λ b. bodies_of nodes ++ b ∷ []) (ap (λ k. body_of (place_of after) k x) number ∙ body_is_new setup (place_of after) (length nodes) t extra place) in
+    record {
+      bodies = occupies.bodies ∙ ap (λ bs. bs ++ new_body place t (size_of_type setup t extra) (length nodes) ∷ []) held.bodies ∙ sym bodies;
+      dead = λ n there. elim (cases_lt n (length nodes)) [
+        | inl low ↦
+            (let same : (node_at after n).life ≡ (node_at nodes n).life = ap (λ (y : Node). y.life) (node-old nodes x n low) in
+            ap (λ l. holds l (place_of after n)) occupies.dead ∙ ap (holds v.dead) (place-old nodes x n low) ∙ held.dead n (sym (ap is_there same) ∙ there) ∙ sym (ap is_dead same))
+        | inr high ↦
+            (let last : n ≡ length nodes = omega (arith, there_below after n there, length_push nodes x, high) in
+            let here : place_of after n ≡ place = ap (place_of after) last ∙ ap (λ (y : Node). y.place) (node-new nodes x) in
+            ap (λ l. holds l (place_of after n)) occupies.dead ∙ ap (holds v.dead) here ∙ alive
+            ∙ sym (ap (λ k. is_dead (node_at after k).life) last ∙ ap (λ (y : Node). is_dead y.life) (node-new nodes x)))
+      ];
+    }
+
+-- marks are as before, where the place lies below the address up to which all is swept
+pub marks_made : (phase : Phase) (limit : ℕ) (v new : SeatView) (b : Body) → Occupies v new b → b.place < limit → HasMarks phase limit v → HasMarks phase limit new
+marks_made Idle limit v new b is low quiet = record {
+  off = is.on ∙ quiet.off;
+  marked = is.marked ∙ quiet.marked;
+  traced = is.traced ∙ quiet.traced;
+  dead = is.dead ∙ quiet.dead;
+}
+marks_made Marking limit v new b is low quiet = record {
+  off = is.on ∙ quiet.off;
+  marked = is.marked ∙ quiet.marked;
+  traced = is.traced ∙ quiet.traced;
+  dead = is.dead ∙ quiet.dead;
+}
+marks_made Sweeping limit v new b is low swept = record {
+  clear = record {
+    marked = λ a below. ap (λ l. holds l a) is.marked ∙ swept.clear.marked a below;
+    traced = λ a below. ap (λ l. holds l a) is.traced ∙ swept.clear.traced a below;
+    dead = λ a below. ap (λ l. holds l a) is.dead ∙ swept.clear.dead a below;
+  };
+  judged = λ c there high. elim (Contains-push_cases v.bodies b c (subst (λ bs. Contains bs c) is.bodies there)) [
+    | inl old ↦ ap (λ l. holds l c.place) is.dead ∙ swept.judged c old high ∙ sym (ap (λ l. not (holds l c.place)) is.marked)
+    | inr this ↦ absurd (omega (arith, low, high, ap (λ (d : Body). d.place) this))
+  ];
+}
+
+-- the words that objects have are those of the nodes
+pub extents_held : (nodes : List Node) (v : SeatView) → IsHeld nodes v → extents_of_bodies v.bodies ≡ extents_of nodes
+extents_held nodes v held = ap extents_of_bodies held.bodies ∙ extents-bodies (place_of nodes) 0 nodes
+
+-- ---- a field
+
+pub marks_stored : (phase : Phase) (limit : ℕ) (v : SeatView) (a w : ℕ) → HasMarks phase limit v → HasMarks phase limit (stored v a w)
+marks_stored Idle limit v a w quiet = record { off = quiet.off; marked = quiet.marked; traced = quiet.traced; dead = quiet.dead }
+marks_stored Marking limit v a w quiet = record { off = quiet.off; marked = quiet.marked; traced = quiet.traced; dead = quiet.dead }
+marks_stored Sweeping limit v a w swept = record {
+  clear = record { marked = swept.clear.marked; traced = swept.clear.traced; dead = swept.clear.dead };
+  judged = λ b there high.
+      let from = Contains-map_some (with_word a w) v.bodies b there in
+      let place : from.0.place ≡ b.place = sym (place-word a w from.0) ∙ ap (λ (c : Body). c.place) from.2 in
+      subst (λ p. holds v.dead p ≡ not (holds v.marked p)) place (swept.judged from.0 from.1 (omega (arith, high, place)));
+}
+
+pub held_stored : (nodes : List Node) (v : SeatView) (a n f : ℕ) (x : Value) → IsView v → IsHeld nodes v → IsThere nodes n
+    → a ≡ place_of nodes n + 2 + f → f < length (node_at nodes n).object.values → IsHeld (with_field nodes n f x) (stored v a (word_of (place_of nodes) x))
+held_stored nodes v a n f x view held there at low =
+    let new : List Node = with_field nodes n f x in
+    let place : (m : ℕ) → place_of new m ≡ place_of nodes m = place-field nodes n f x in
+    let life : (m : ℕ) → (node_at new m).life ≡ (node_at nodes m).life = life-field nodes n f x in
+    record {
+      bodies = bodies_stored nodes v a n f x view held.bodies there at low ∙ bodies-same (place_of nodes) (place_of new) new (λ m. sym (place m));
+      dead = λ m present. ap (holds v.dead) (place m) ∙ held.dead m (sym (ap is_there (life m)) ∙ present) ∙ sym (ap is_dead (life m));
+    }

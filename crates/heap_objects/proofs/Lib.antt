@@ -1,0 +1,6 @@
+pub mod FieldBodies
+pub mod HeldNodes
+pub mod PairBodies
+pub mod NodesSwept
+pub mod SweptObjects
+pub mod PausedSizes

@@ -1,0 +1,53 @@
+-- The objects after a sweep up to an address.
+use Rattle.std.proofs.Common.{◌≡◌, ℕ, ◌+◌, ◌*◌, ◌≤◌, List, length, map, sym, ap, ◌∙◌, subst, inl, inr, arith, cond, eqb}
+use Rattle.std.proofs.lemmas.Bool.{cases_Bool, eqb-true, eq-eqb}
+use Rattle.std.proofs.lemmas.List.{length-map, length-append}
+use Rattle.gc_graph.specs.declared.action.ActionKind.{ActionKind}
+use Rattle.gc_graph.specs.declared.phase.Phase.TheVariants.{Idle, Sweeping}
+use Rattle.gc_graph.specs.State.{Shape, ObjectType, Node}
+use Rattle.gc_graph.specs.Sweep.{finalise, phase_at, AreDeadInOrder}
+use Rattle.page_words.specs.Seat.{SeatView, IsQuiet}
+use Rattle.page_space.specs.Space.{SpaceView}
+use Rattle.sweeper.specs.Sweeping.{SweepView, cursor_at, MaySweep, Sweeps}
+use Rattle.node_bodies.specs.Nodes.{IsHeld}
+use Rattle.node_bodies.specs.NodePlaces.{serials_fit}
+use Rattle.heap_objects.specs.Finalising.{IsSweptTo, FinalisesBelow, HasMarks}
+use Rattle.heap_objects.specs.Objects.{AreObjects, ObjectsView, setup_of_objects}
+use Rattle.heap_objects.proofs.NodesSwept.{held_below, finalises_below}
+
+-- the objects may be swept from the cursor on where all is swept below it
+pub may_sweep : (space : SpaceView) (v : SeatView) (types : List ObjectType) (callbacks : List ActionKind) (made : ℕ) (nodes : List Node) (sweep : SweepView)
+    → AreObjects space v types callbacks made nodes → sweep.pages ≡ space.shape.pages → IsSweptTo (cursor_at space.shape sweep) v → length nodes ≤ 1000000
+    → MaySweep sweep space v
+may_sweep space v types callbacks made nodes sweep is pages marks few = record {
+  laid = is.laid;
+  pages = pages;
+  off = is.off;
+  judged = marks.judged;
+  serials = serials_fit nodes v is.held.bodies few;
+}
+
+-- once they are swept from one cursor up to another
+module _ (space left : SpaceView) (v w : SeatView) (types : List ObjectType) (callbacks : List ActionKind) (made : ℕ) (nodes new : List Node) (sweep after : SweepView) (before told : List ℕ)
+    (is : AreObjects space v types callbacks made nodes) (marks : IsSweptTo (cursor_at space.shape sweep) v)
+    (swept : Sweeps (cursor_at space.shape sweep) (cursor_at space.shape after) v before w told) (shape : left.shape ≡ space.shape)
+    (nodes_are : new ≡ map (finalise (cursor_at left.shape after)) nodes) where
+  nodes_left : new ≡ map (finalise (cursor_at space.shape after)) nodes
+  nodes_left = nodes_are ∙ ap (λ (s : Shape). map (finalise (cursor_at s after)) nodes) shape
+
+  pub swept_objects : MaySweep after left w → AreObjects left w types callbacks made new
+  swept_objects may = record {
+    called = is.called;
+    few = is.few;
+    known = ap (λ (u : SeatView). u.types) swept.view ∙ is.known;
+    laid = may.laid;
+    off = may.off;
+    held = subst (λ (ns : List Node). IsHeld ns w) (sym nodes_left)
+        (held_below nodes v w (cursor_at space.shape sweep) (cursor_at space.shape after) before told is.held marks.clear swept);
+    numbers_are = is.numbers_are ∙ sym (length-map nodes (finalise (cursor_at space.shape after))) ∙ sym (ap length nodes_left);
+  }
+
+  pub finalised_nodes : FinalisesBelow (cursor_at space.shape after) nodes before told new
+  finalised_nodes =
+      subst (FinalisesBelow (cursor_at space.shape after) nodes before told) (sym nodes_left)
+      (finalises_below nodes v w (cursor_at space.shape sweep) (cursor_at space.shape after) before told is.held marks.clear swept)

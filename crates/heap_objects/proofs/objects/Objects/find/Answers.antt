@@ -1,0 +1,21 @@
+use Rattle.std.proofs.Common.{List, subst}
+use Rattle.std.specs.Option.{IfSome, IfNone}
+use Rattle.gc_graph.specs.Placement.{Extent, IsLowest, IsNowhere}
+use Rattle.page_space.specs.Space.{FitsBetween, IsFreePlace}
+use Rattle.heap_objects.proofs.HeldNodes.{extents_held}
+use Rattle.heap_objects.proofs.objects.Objects.find.Goals as goal
+
+pub returns-clause-found : goal.returns-clause-found
+returns-clause-found c =
+    rw (← c.self.view_is) (subst (λ (es : List Extent). IfSome c.find.result (IsLowest (FitsBetween c.self.inside.space.shape c.args.from c.args.to es c.args.size)))
+    (extents_held c.self.inside.nodes.value c.self.inside.seat c.self.invariant.held) c.find.ensures.found)
+
+pub returns-clause-place : goal.returns-clause-place
+returns-clause-place c =
+    rw (← c.self.view_is) (subst (λ (es : List Extent). IfSome c.find.result (IsFreePlace c.self.inside.space.shape es c.args.size))
+    (extents_held c.self.inside.nodes.value c.self.inside.seat c.self.invariant.held) c.find.ensures.place)
+
+pub returns-clause-none : goal.returns-clause-none
+returns-clause-none c =
+    rw (← c.self.view_is) (subst (λ (es : List Extent). IfNone c.find.result (IsNowhere (FitsBetween c.self.inside.space.shape c.args.from c.args.to es c.args.size)))
+    (extents_held c.self.inside.nodes.value c.self.inside.seat c.self.invariant.held) c.find.ensures.none)

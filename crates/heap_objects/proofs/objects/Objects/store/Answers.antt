@@ -1,0 +1,61 @@
+use Rattle.std.proofs.Common.{◌≡◌, ℕ, ◌+◌, ◌∙◌, List, length, sym, ap, subst, arith}
+use Rattle.gc_graph.specs.declared.kind.Value.{Value}
+use Rattle.gc_graph.specs.State.{Setup, Node, node_at}
+use Rattle.gc_graph.specs.Fields.{word_of_field}
+use Rattle.type_table.specs.Types.{is_kind}
+use Rattle.page_words.specs.Seat.{SeatView, stored}
+use Rattle.page_space.specs.Space.{IsSpaceOf}
+use Rattle.heap_objects.specs.declared.field.Field.{Field}
+use Rattle.node_bodies.specs.Nodes.{place_of, word_of, IsHeld}
+use Rattle.heap_objects.specs.Fields.{TakesWord}
+use Rattle.heap_objects.specs.Objects.{written_in}
+use Rattle.heap_objects.specs.Finalising.{HasMarks}
+use Rattle.node_bodies.specs.NodePlaces.{live_is_there}
+use Rattle.heap_objects.specs.FieldNodes.{with_field, length-field}
+use Rattle.heap_objects.specs.FieldPlaces.{has_word, word_low}
+use Rattle.heap_objects.specs.FieldReads.{kind_itself, takes_word}
+use Rattle.heap_objects.proofs.HeldNodes.{marks_stored, held_stored}
+use Rattle.heap_objects.proofs.objects.Objects.store.Goals as goal
+
+pub write_field-requires-clause-field : goal.write_field-requires-clause-field
+write_field-requires-clause-field c =
+    let setup : Setup = record { shape = c.self.inside.space.shape; markers = 0; types = c.self.inside.types; callbacks = c.self.inside.kinds.value } in
+    let is = rw (← c.self.view_is) at c.requires.field in
+    has_word setup c.self.inside.nodes.value c.self.inside.seat is.0 c.args.f c.args.field (is_kind c.args.field.kind) c.fields_stand_apart.ensures
+    (rw (← c.self.view_is) at c.requires.valid) c.self.invariant.held.bodies c.self.invariant.known is.2 (kind_itself c.args.field.kind)
+
+pub write_field-requires-clause-word : goal.write_field-requires-clause-word
+write_field-requires-clause-word c =
+    let nodes : List Node = c.self.inside.nodes.value in
+    let word : c.args.content.now.word ≡ word_of (place_of nodes) c.args.content.now.value.value = rw (← c.self.view_is) at c.requires.content in
+    subst (TakesWord c.args.field.kind c.self.inside.seat.bodies) (sym word)
+    (takes_word nodes c.self.inside.seat c.args.field.kind c.args.content.now.value.value c.self.invariant.held.bodies (rw (← c.self.view_is) at c.requires.value))
+
+pub invariant_of-self : goal.invariant_of-self
+invariant_of-self c =
+    let setup : Setup = record { shape = c.self.inside.space.shape; markers = 0; types = c.self.inside.types; callbacks = c.self.inside.kinds.value } in
+    let nodes : List Node = c.self.inside.nodes.value in
+    let x : Value = c.args.content.now.value.value in
+    let is = rw (← c.self.view_is) at c.requires.field in
+    let word : c.args.content.now.word ≡ word_of (place_of nodes) x = rw (← c.self.view_is) at c.requires.content in
+    let a : ℕ = c.args.field.holder + c.args.field.word in
+    let index : ℕ = word_of_field (node_at nodes is.0).object c.args.f in
+    let at : a ≡ place_of nodes is.0 + 2 + index =
+    omega (arith, ap (λ (y : Field). y.holder) is.2.is, ap (λ (y : Field). y.word) is.2.is) in
+    let seat : stored c.self.inside.seat a (word_of (place_of nodes) x) ≡ c.write_field.new.seat = sym (c.write_field.ensures ∙ ap (stored c.self.inside.seat a) word) in
+    let new : with_field nodes is.0 index x ≡ c.written.result.value = sym (c.written.ensures ∙ ap (λ slot. written_in nodes slot c.args.f x) is.1) in
+    record {
+      called = c.self.invariant.called;
+      few = c.self.invariant.few;
+      known = ap (λ (v : SeatView). v.types) c.write_field.ensures ∙ c.self.invariant.known;
+      laid = subst (IsSpaceOf c.self.inside.space) (sym c.write_field.ensures) (c.lasts_while_objects_stay.ensures.store c.self.inside.seat a c.args.content.now.word c.self.invariant.laid);
+      off = ap (λ (v : SeatView). v.on) c.write_field.ensures ∙ c.self.invariant.off;
+      held = subst (λ (ns : List Node). IsHeld ns c.write_field.new.seat) new (subst (IsHeld (with_field nodes is.0 index x)) seat
+          (held_stored nodes c.self.inside.seat a is.0 index x c.bodies_lie_apart.ensures c.self.invariant.held (live_is_there nodes is.0 is.2.live) at
+          (word_low setup nodes is.0 c.args.f c.args.field (rw (← c.self.view_is) at c.requires.valid) is.2)));
+      numbers_are = c.self.invariant.numbers_are ∙ sym (length-field nodes is.0 index x) ∙ ap length new;
+    }
+
+pub returns-clause-marks : goal.returns-clause-marks
+returns-clause-marks c = rw (← c.self.view_is) (λ phase limit marks.
+    subst (HasMarks phase limit) (sym c.write_field.ensures) (marks_stored phase limit c.self.inside.seat (c.args.field.holder + c.args.field.word) c.args.content.now.word marks))

@@ -1,0 +1,10 @@
+pub mod Marking
+pub mod Fields
+pub mod Objects
+pub mod Finalising
+pub mod FieldNodes
+pub mod NewNodes
+pub mod SweptNodes
+pub mod FieldPlaces
+pub mod FieldReads
+pub mod PairFields

@@ -1,0 +1,77 @@
+-- The objects in the words are the nodes, and what calls on them change.
+use Rattle.std.specs.Prelude.{◌≡◌, ℕ, ◌+◌, ◌<◌, ◌≤◌, false, List, [], ◌∷◌, ◌++◌, length, Option, Some, None, option_map, All, slice_set}
+use Rattle.gc_graph.specs.declared.kind.Value.{Value}
+use Rattle.gc_graph.specs.declared.action.ActionKind.{ActionKind}
+use Rattle.gc_graph.specs.State.{Shape, Setup, ObjectType, Node, node_at, size_of, IsLive}
+use Rattle.gc_graph.specs.Fields.{word_of_field, with_value, target_of, new_node}
+use Rattle.object_headers.specs.Offsets.{reference_to}
+use Rattle.page_words.specs.Seat.{SeatView}
+use Rattle.page_space.specs.Space.{SpaceView, IsSpaceOf}
+use Rattle.node_bodies.specs.Nodes.{place_of, word_of, IsHeld}
+use Rattle.heap_objects.specs.Fields.{IsLiveReference}
+
+-- the objects: the heap's shape and types, the kinds of its callbacks, the nodes, and what is known of the words
+pub record ObjectsView : Type 0 where
+  pub shape : Shape
+  pub types : List ObjectType
+  pub callbacks : List ActionKind
+  pub nodes : List Node
+  pub seat : SeatView
+
+-- what was set up
+abbrev pub setup_of_objects : ObjectsView → Setup
+setup_of_objects o = record { shape = o.shape; markers = 0; types = o.types; callbacks = o.callbacks }
+
+-- each type has at most 16 prefinalizers, and there are so many callbacks that each of these is one
+pub record HaveCallbacks (callbacks : ℕ) (types : List ObjectType) : Type 0 where
+  pub few : All (λ type. length type.prefinalizers ≤ 16) types
+  pub known : All (λ type. All (λ number. number < callbacks) type.prefinalizers) types
+
+-- the words hold the nodes, and the next number is the one that no node has; a header can name each type
+pub record AreObjects
+    (space : SpaceView) (v : SeatView) (types : List ObjectType) (callbacks : List ActionKind) (made : ℕ) (nodes : List Node) : Type 0 where
+  pub called : HaveCallbacks (length callbacks) types
+  pub few : length types < 16384
+  pub known : v.types ≡ types
+  pub laid : IsSpaceOf space v
+  pub off : v.on ≡ false
+  pub held : IsHeld nodes v
+  pub numbers_are : made ≡ length nodes
+
+-- ---- reading
+
+-- the node lies where it lay, with the size that it had
+abbrev pub StaysAt : List Node → List Node → ℕ → Type 0
+StaysAt old new n = (place_of new n ≡ place_of old n) × (size_of (node_at new n) ≡ size_of (node_at old n))
+
+-- a live node is there, and this is its place
+abbrev pub IsLiveAt : List Node → ℕ → ℕ → Type 0
+IsLiveAt nodes n place = IsLive nodes n × (place_of nodes n ≡ place)
+
+-- the word stands for the value, which is null or names a live node
+pub record IsReferenceTo (nodes : List Node) (x : Value) (w : ℕ) : Type 0 where
+  pub word : w ≡ word_of (place_of nodes) x
+  pub names : IsLiveReference nodes x
+
+-- the place and the number of what a value names
+abbrev pub target_in : List Node → Value → Option (ℕ × ℕ)
+target_in nodes value = option_map (λ m. (place_of nodes m, m)) (target_of value)
+
+-- ---- changing
+
+-- a new object joins the nodes where there was a place for it
+abbrev pub with_made : Setup → List Node → ℕ → ℕ → Option ℕ → List Node
+with_made setup nodes t extra None = nodes
+with_made setup nodes t extra (Some place) = nodes ++ new_node setup t extra place ∷ []
+
+-- field f of the named node got the value
+abbrev pub written_in : List Node → Option ℕ → ℕ → Value → List Node
+written_in nodes None f value = nodes
+written_in nodes (Some n) f value = slice_set nodes n (with_value (node_at nodes n) (word_of_field (node_at nodes n).object f) value)
+
+-- the pair that is field f of the named node got the key and the value
+abbrev pub paired_in : List Node → Option ℕ → ℕ → Value → Value → List Node
+paired_in nodes None f key value = nodes
+paired_in nodes (Some n) f key value =
+    slice_set nodes n
+    (with_value (with_value (node_at nodes n) (word_of_field (node_at nodes n).object f) key) (word_of_field (node_at nodes n).object f + 1) value)

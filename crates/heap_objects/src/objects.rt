@@ -1,0 +1,164 @@
+// The objects of a heap: their words, their pages and their types.
+
+ghost use Rattle.std.specs.Prelude.{◌≡◌, ℕ, ◌+◌, ◌*◌, ◌<◌};
+ghost use Rattle.std.specs.Prelude.{◌≤◌, [], length, IfOk};
+ghost use Rattle.gc_graph.specs.State.{type_at, node_at, size_of, objects_of, used_of};
+ghost use Rattle.gc_graph.specs.Placement.{IsUsedPages, extents_of};
+ghost use Rattle.page_words.specs.Seat.{empty_view};
+ghost use Rattle.gc_graph.specs.Shapes.{IsShape};
+ghost use Rattle.page_space.specs.Pages.{word_count};
+ghost use Rattle.callback_table.specs.Table.{kinds_of};
+ghost use Rattle.heap_objects.specs.Objects.{HaveCallbacks, IsLiveAt};
+ghost use Rattle.heap_objects.specs.Objects.{setup_of_objects};
+
+use crate::kinds::{self, Kinds};
+use callback_table::CallbackTable;
+use gc_graph::NoMemory;
+use ghost_values::GhostValue;
+use node_bodies::NodeLists;
+use page_space::Space;
+use page_words::MutatorSeat;
+use std::alloc::Global;
+use std::marker::Model;
+use type_table::TypeTable;
+
+/// The objects of a heap, by place. Places, sizes and offsets are in words.
+#[derive(Drop)]
+pub struct Objects {
+    pub(crate) space: Space,
+    pub(crate) seat: MutatorSeat,
+    pub(crate) types: TypeTable,
+    /// The kinds of the callbacks.
+    pub(crate) kinds: GhostValue<Kinds>,
+    /// How many numbers were given out.
+    pub(crate) made: u32,
+    pub(crate) nodes: GhostValue<NodeLists>,
+}
+
+impl Model for Objects {
+    ghost use Rattle.heap_objects.specs.Objects.{AreObjects};
+    ghost use Rattle.heap_objects.specs.Objects.{ObjectsView};
+
+    ghost Value = { ObjectsView };
+
+    ghost view = { λ o. record {
+      shape = o.space.shape;
+      types = o.types;
+      callbacks = o.kinds.value;
+      nodes = o.nodes.value;
+      seat = o.seat;
+    } };
+
+    ghost invariant = { λ o. AreObjects o.space o.seat o.types o.kinds.value o.made
+        o.nodes.value };
+}
+
+impl Objects {
+    /// No objects of these types, in words of this shape. Want of memory is free.
+    pub fn new(
+        alloc: Global,
+        pages: u32,
+        page_words: u32,
+        types: TypeTable,
+        callbacks: &CallbackTable,
+    ) -> Result<Objects, NoMemory>
+        requires shape { IsShape (record { pages = pages; page_words = page_words }) }
+        requires called { HaveCallbacks (length (kinds_of callbacks.now)) types }
+        requires few { length types < 16384 }
+        ensures view { IfOk result (λ o. o ≡ record {
+          shape = record { pages = pages; page_words = page_words };
+          types = types;
+          callbacks = kinds_of callbacks.now;
+          nodes = [];
+          seat = empty_view (pages * page_words) types;
+        }) }
+    {
+        let (space, seat) = Space::new(alloc, pages, page_words, &types)?;
+        Ok(Objects {
+            space,
+            seat,
+            types,
+            kinds: kinds::of(callbacks),
+            made: 0,
+            nodes: node_bodies::none(),
+        })
+    }
+
+    /// The shape is one that a heap can have. Whoever calls this has the law.
+    pub fn shape_is_valid(&self)
+        ensures { IsShape self.now.shape }
+    {
+        self.space.shape_is_valid();
+    }
+
+    /// How many words the heap has.
+    pub fn word_count(&self) -> u32
+        ensures { result ≡ word_count self.now.shape }
+    {
+        self.space.word_count()
+    }
+
+    /// How many pages the heap has.
+    pub fn pages(&self) -> u32
+        ensures { result ≡ self.now.shape.pages }
+    {
+        self.space.pages()
+    }
+
+    /// How many numbers were given out, which is the number of the next object.
+    pub fn made(&self) -> u32
+        ensures { result ≡ length self.now.nodes }
+    {
+        self.made
+    }
+
+    /// The numbers of the callbacks that are a type's prefinalizers, in their order.
+    pub fn callbacks(&self, t: u32) -> &[u32]
+        requires { t < length self.now.types }
+        ensures { result.now ≡ (type_at (setup_of_objects self.now) t).prefinalizers }
+    {
+        self.types.callbacks(t)
+    }
+
+    /// How many objects are not finalised, how many words they have, and how many pages hold one
+    /// of these.
+    pub fn totals(&self) -> (u32, u32, u32)
+        ensures objects { result.0 ≡ objects_of self.now.nodes }
+        ensures used { result.1 ≡ used_of self.now.nodes }
+        ensures pages { IsUsedPages self.now.shape (extents_of self.now.nodes) result.2 }
+    {
+        (
+            self.space.objects(),
+            self.space.used(),
+            self.space.pages_in_use(),
+        )
+    }
+
+    /// How many objects are not finalised.
+    pub fn count(&self) -> u32
+        ensures { result ≡ objects_of self.now.nodes }
+    {
+        self.space.objects()
+    }
+
+    /// The number of the object at a place.
+    pub fn number_at(&mut self, place: u32) -> u32
+        requires few { length self.old.nodes ≤ 1000000 }
+        requires place { (n : ℕ) × IsLiveAt self.old.nodes n place }
+        ensures number { (n : ℕ) → IsLiveAt self.old.nodes n place → result ≡ n }
+        ensures same { self.new ≡ self.old }
+    {
+        self.seat.bodies_lie_apart();
+        self.space.serial_at(&mut self.seat, place)
+    }
+
+    /// How many words the object at a place has.
+    pub fn size_at(&mut self, place: u32) -> u32
+        requires place { (n : ℕ) × IsLiveAt self.old.nodes n place }
+        ensures size { (n : ℕ) → IsLiveAt self.old.nodes n place
+            → result ≡ size_of (node_at self.old.nodes n) }
+        ensures same { self.new ≡ self.old }
+    {
+        self.space.header_at(&mut self.seat, place).size
+    }
+}

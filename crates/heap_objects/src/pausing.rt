@@ -1,0 +1,80 @@
+// What a collection does to the objects: the pause.
+
+ghost use Rattle.std.specs.Prelude.{◌≡◌, ℕ, List, Option, ◌*◌, ◌^◌, ◌<◌, ◌++◌};
+ghost use Rattle.std.specs.Prelude.{◌≤◌, [], length, map, All};
+ghost use Rattle.gc_graph.specs.State.{node_at, size_of, IsLive, slot_targets};
+ghost use Rattle.gc_graph.specs.Pause.{live_count, dead_count, is_dead_at, clear_slot};
+ghost use Rattle.callback_table.specs.Registry.{IsRegistered};
+ghost use Rattle.callback_table.specs.Table.{kinds_of};
+ghost use Rattle.page_words.specs.Seat.{IsQuiet};
+ghost use Rattle.node_bodies.specs.Nodes.{AreOfValid};
+ghost use Rattle.node_bodies.specs.Places.{places_of, IsJudged};
+ghost use Rattle.atomic_pause.specs.Pausing.{IsPaused, NamePlaces, hits_in};
+ghost use Rattle.heap_objects.specs.Objects.{setup_of_objects};
+
+use crate::marking::{Grey, clear};
+use crate::objects::Objects;
+use atomic_pause::{Parts, PauseResult, pause};
+use callback_table::{CallbackTable, Registry};
+use persistent_slots::Slots;
+
+impl Objects {
+    /// The pause: what the strong slots and, unless it is precise, the words of the stack reach is
+    /// kept, the other objects are condemned, what is weak and names one of these becomes null, and
+    /// their prefinalizers run.
+    pub fn pause(
+        &mut self,
+        strong: &Slots,
+        weak: &mut Slots,
+        stack: &[u64],
+        precise: bool,
+        grey: &mut Grey,
+        registry: &mut Registry,
+        callbacks: &CallbackTable,
+    ) -> PauseResult
+        requires valid { AreOfValid (setup_of_objects self.old) self.old.nodes }
+        requires quiet { IsQuiet self.old.seat }
+        requires few { length self.old.nodes ≤ 1000000 }
+        requires kinds { kinds_of callbacks.now ≡ self.old.callbacks }
+        requires slots { (slots : List (Option ℕ)) × NamePlaces self.old.nodes slots strong.now }
+        requires weak { (slots : List (Option ℕ)) × NamePlaces self.old.nodes slots weak.old }
+        requires registered { All (IsRegistered self.old.nodes (length self.old.callbacks))
+            registry.old.entries }
+        ensures paused { (slots : List (Option ℕ)) → NamePlaces self.old.nodes slots strong.now →
+            IsPaused self.old.callbacks
+            (slot_targets slots ++ hits_in precise self.old.nodes stack.now)
+            self.old.nodes self.new.nodes registry.old registry.new }
+        ensures sizes { (n : ℕ) → IsLive self.old.nodes n
+            → size_of (node_at self.new.nodes n) ≡ size_of (node_at self.old.nodes n) }
+        ensures weak { (slots : List (Option ℕ)) → NamePlaces self.old.nodes slots weak.old →
+            weak.new ≡ places_of self.new.nodes
+            (map (clear_slot (is_dead_at self.new.nodes)) slots) }
+        ensures judged { IsJudged self.new.seat }
+        ensures kept { result.kept ≡ live_count self.new.nodes }
+        ensures dead { result.dead ≡ dead_count self.new.nodes }
+        ensures traced { result.traced ≡ result.kept }
+        ensures setup { setup_of_objects self.new ≡ setup_of_objects self.old }
+    {
+        self.seat.bodies_lie_apart();
+        self.space.words().set_stop(&mut self.seat, false);
+        grey.marking.on = true;
+        let result = pause(
+            Parts {
+                seat: &mut self.seat,
+                nodes: &mut self.nodes,
+                marking: &mut grey.marking,
+                notes: &mut grey.notes,
+                weak,
+                registry,
+                space: &self.space,
+                types: &self.types,
+                strong,
+                callbacks,
+            },
+            stack,
+            precise,
+        );
+        clear(&mut grey.marking, &mut grey.notes);
+        result
+    }
+}
