@@ -1,16 +1,16 @@
 -- The reference words of the bodies of live nodes are null or refer to bodies.
-use Rattle.std.proofs.Common.{◌≡◌, ℕ, zero, suc, ◌+◌, ◌-◌, ◌<◌, ◌≤◌, true, false, List, [], ◌∷◌, length, get_or, map, refl, sym, ap, ◌∙◌, subst, inl, inr, arith}
-use Rattle.std.specs.List.{All, Contains}
+use Rattle.std.proofs.Common.{◌≡◌, ℕ, ◌+◌, ◌-◌, ◌<◌, ◌≤◌, true, false, List, [], length, get_or, refl, sym, ap, ◌∙◌, subst, inl, inr, arith}
+use Rattle.std.specs.List.{Contains}
 use Rattle.std.proofs.lemmas.Bool.{true≢false}
 use Rattle.std.proofs.lemmas.List.{length-map}
-use Rattle.std.proofs.lemmas.List.Elements.{All-head, All-tail, All-get_or}
+use Rattle.std.proofs.lemmas.List.Elements.{All-get_or}
 use Rattle.gc_graph.specs.declared.kind.Kind.{Kind}
 use Rattle.gc_graph.specs.declared.kind.Kind.TheVariants.{Strong, Weak, Pair, Plain}
 use Rattle.gc_graph.specs.declared.kind.Value.{Value}
 use Rattle.gc_graph.specs.declared.kind.Value.TheVariants.{Null, Ref, Word}
 use Rattle.gc_graph.specs.State.{Setup, ObjectType, Node, node_at, type_at, no_node, IsLive, IsDead}
 use Rattle.gc_graph.specs.Fields.{field_words, is_plain, words_of_kind}
-use Rattle.gc_graph.specs.Valid.{IsTyped, HaveKinds, IsReferenceBelow, NamesLive}
+use Rattle.gc_graph.specs.Valid.{IsTyped, IsReferenceBelow, NamesLive}
 use Rattle.type_table.specs.FieldLaw.{FieldsStandApart}
 use Rattle.type_table.specs.Types.{kinds_of, kind_of, is_kind, offsets_of_kind}
 use Rattle.type_table.specs.Layouts.{kinds_of_words}
@@ -18,13 +18,13 @@ use Rattle.page_words.specs.Bodies.{Body, IsReference, kind_in}
 use Rattle.page_words.specs.Seat.{SeatView}
 use Rattle.ephemerons.specs.BodyGraph.{AreReferences}
 use Rattle.weak_clearing.specs.Clearing.{MarkedHaveReferencesOf}
-use Rattle.atomic_pause.specs.Marking.{MarksReachable}
 use Rattle.node_bodies.specs.Nodes.{place_of, word_of, body_of, bodies_of, IsHeld, AreOfValid}
 use Rattle.node_bodies.specs.FieldKinds.{some_words}
 use Rattle.node_bodies.specs.NodePlaces.{node_body, body_node, live_is_there}
-use Rattle.node_bodies.specs.NodeLives.{live_if_there}
-use Rattle.atomic_pause.proofs.HeldNodes.{none_dead}
+use Rattle.node_bodies.specs.NodeLives.{live_if_there, none_dead}
 use Rattle.node_bodies.specs.TypedNodes.{AreKnown, known_nodes}
+use Rattle.node_bodies.specs.ReferenceWords.{reference_word}
+use Rattle.atomic_pause.specs.Marking.{MarksReachable}
 
 -- a reference to a live node is one to its body
 live_reference : (nodes : List Node) (v : SeatView) (bound : ℕ) (x : Value) → v.bodies ≡ bodies_of nodes → NamesLive nodes x → IsReferenceBelow bound x
@@ -32,29 +32,6 @@ live_reference : (nodes : List Node) (v : SeatView) (bound : ℕ) (x : Value) �
 live_reference nodes v bound Null held live is = inl refl
 live_reference nodes v bound (Ref n) held live is = inr (body_of (place_of nodes) n (node_at nodes n), node_body nodes v n held (live_is_there nodes n live), refl)
 live_reference nodes v bound (Word w) held live is = absurd is
-
--- the words of an object's values that hold references, where values that are so refer to bodies
-module _ (place : ℕ → ℕ) (v : SeatView) (bound : ℕ) (Named : Value → Type 0)
-    (refers : (x : Value) → Named x → IsReferenceBelow bound x → IsReference v.bodies (word_of place x)) where
-  pub reference_word : (kinds : List Kind) (values : List Value) (i : ℕ) → HaveKinds bound kinds values
-      → All Named values → is_plain (get_or (kinds_of_words kinds) i Plain) ≡ false → IsReference v.bodies (get_or (map (word_of place) values) i 0)
-  reference_word [] values i have named told = absurd (true≢false told)
-  reference_word (Strong ∷ kinds) [] i have named told = absurd have
-  reference_word (Weak ∷ kinds) [] i have named told = absurd have
-  reference_word (Pair ∷ kinds) [] i have named told = absurd have
-  reference_word (Plain ∷ kinds) [] i have named told = absurd have
-  reference_word (Strong ∷ kinds) (x ∷ values) zero have named told = refers x (All-head Named x values named) have.0
-  reference_word (Strong ∷ kinds) (x ∷ values) (suc i) have named told = reference_word kinds values i have.1 (All-tail Named x values named) told
-  reference_word (Weak ∷ kinds) (x ∷ values) zero have named told = refers x (All-head Named x values named) have.0
-  reference_word (Weak ∷ kinds) (x ∷ values) (suc i) have named told = reference_word kinds values i have.1 (All-tail Named x values named) told
-  reference_word (Plain ∷ kinds) (x ∷ values) zero have named told = absurd (true≢false told)
-  reference_word (Plain ∷ kinds) (x ∷ values) (suc i) have named told = reference_word kinds values i have.1 (All-tail Named x values named) told
-  reference_word (Pair ∷ kinds) (key ∷ []) i have named told = absurd have
-  reference_word (Pair ∷ kinds) (key ∷ x ∷ values) zero have named told = refers key (All-head Named key (x ∷ values) named) have.0
-  reference_word (Pair ∷ kinds) (key ∷ x ∷ values) (suc zero) have named told =
-      refers x (All-head Named x values (All-tail Named key (x ∷ values) named)) have.1
-  reference_word (Pair ∷ kinds) (key ∷ x ∷ values) (suc (suc i)) have named told =
-      reference_word kinds values i have.3 (All-tail Named x values (All-tail Named key (x ∷ values) named)) told
 
 -- no node is dead, and these words hold the nodes
 pub record AreAlive (setup : Setup) (nodes : List Node) (v : SeatView) : Type 0 where

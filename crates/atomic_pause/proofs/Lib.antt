@@ -5,10 +5,5 @@ pub mod BodyReferences
 pub mod PairReferences
 pub mod WeakBodies
 pub mod WeakJudged
-pub mod StandingNodes
 pub mod PreparedNodes
-pub mod ActedNodes
-pub mod PrefinalizerFields
-pub mod PrefinalizerShown
-pub mod PrefinalizerBodies
 pub mod PausedNodes

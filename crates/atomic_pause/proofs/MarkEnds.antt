@@ -2,11 +2,10 @@
 use Rattle.std.proofs.Common.{◌≡◌, ℕ, ◌+◌, Bool, true, List, [], ◌∷◌, None, refl, sym, ap, ◌∙◌, subst, inl, inr, arith, cond, map}
 use mathlib.Core.Logic.{◌⊎◌}
 use Rattle.std.specs.List.{Contains, count_by, range_with_len}
-use Rattle.std.proofs.lemmas.Bool.{true≢false, cases_Bool, cases_lt}
+use Rattle.std.proofs.lemmas.Bool.{true≢false, cases_Bool}
 use Rattle.std.proofs.lemmas.List.Sums.{sum_by-cons}
 use Rattle.gc_graph.specs.Graph.{ClosesUnder}
 use Rattle.gc_graph.specs.State.{ObjectType}
-use Rattle.mark_worklist.specs.Refusals.{Refusals, TellsRefused, refusals_of}
 use Rattle.mark_worklist.specs.declared.marking.Marking.{Marking}
 use Rattle.page_words.specs.Bodies.{Body, IsPlace}
 use Rattle.page_words.specs.Seat.{SeatView, IsView, holds, ended}
@@ -116,38 +115,3 @@ walked_or_listed types w m groups untraced listed = elim (cases_Bool m.overflow)
     pairs = λ p traced. absurd (true≢false (sym traced ∙ ap (λ ps. holds ps p) untraced));
   })
 ]
-
--- ---- from slot to slot
-
-pub told_then : (a b c : Refusals) → TellsRefused a b → TellsRefused b c → TellsRefused a c
-told_then a b c x y = record {
-  kept = λ h. y.kept (x.kept h);
-  no_fewer = omega (arith, x.no_fewer, y.no_fewer);
-  counted = λ more. elim (cases_lt a.count b.count) [ inl first ↦ y.kept (x.counted first) | inr not_yet ↦ y.counted (omega (arith, more, not_yet)) ];
-  only = λ h. elim (y.only h) [
-    | inl before ↦ elim (x.only before) [
-      | inl first ↦ inl first
-      | inr rose ↦ inr (elim rose [ inl more ↦ inl (omega (arith, more, y.no_fewer)) | inr last ↦ inr (omega (arith, last, y.no_fewer)) ])
-    ]
-    | inr rose ↦ inr (elim rose [ inl more ↦ inl (omega (arith, more, x.no_fewer)) | inr last ↦ inr last ])
-  ];
-}
-
-pub lists_then : (u v w : SeatView) (l m n : Marking) → ListsMarks u l v m → ListsMarks v m w n → ListsMarks u l w n
-lists_then u v w l m n x y = record {
-  view = y.view ∙ ap (λ (z : SeatView). record z { marked = w.marked }) x.view;
-  marked = λ p h. y.marked p (x.marked p h);
-  on = y.on ∙ x.on;
-  overflow = λ h. x.overflow (y.overflow h);
-  told = told_then (refusals_of l) (refusals_of m) (refusals_of n) x.told y.told;
-  kept = λ p h. y.kept p (x.kept p h);
-  listed = λ p h. elim (y.listed p h) [
-    | inl before ↦ x.listed p before
-    | inr place ↦ inr (subst (λ bs. IsPlace bs p) (ap (λ (z : SeatView). z.bodies) x.view) place)
-  ];
-  fresh = λ fine p h. elim (y.fresh fine p h) [
-    | inl before ↦ elim (x.fresh (y.overflow fine) p before) [ inl first ↦ inl first | inr there ↦ inr (y.kept p there) ]
-    | inr there ↦ inr there
-  ];
-  lighter = omega (arith, x.lighter, y.lighter);
-}

@@ -4,12 +4,12 @@ use Rattle.gc_graph.specs.declared.kind.Kind.{Kind}
 use Rattle.gc_graph.specs.declared.kind.Kind.TheVariants.{Strong, Weak, Pair, Plain}
 use Rattle.gc_graph.specs.State.{ObjectType}
 use Rattle.gc_graph.specs.Fields.{field_words}
+use Rattle.gc_graph.specs.Members.{Contains-map, Contains-map_some}
 use Rattle.type_table.specs.Types.{kinds_of}
 use Rattle.type_table.specs.Layouts.{kinds_of_words}
 use Rattle.page_words.specs.Bodies.{Body, IsReference, kind_in}
 use Rattle.page_words.specs.Seat.{SeatView, holds}
 use Rattle.weak_clearing.specs.Clearing.{HasReferencesOf, MarkedHaveReferencesOf, clear_words, clear_body, with_weak_cleared}
-use Rattle.node_bodies.specs.Lists.{Contains-map, Contains-map_some}
 
 -- there are as many words as before, and those of pairs are the same
 length-clear_words : (marked : List ℕ) (kinds : List Kind) (words : List ℕ) → length (clear_words marked kinds words) ≡ length words

@@ -18,16 +18,18 @@ use Rattle.page_words.specs.Bodies.{Body}
 use Rattle.page_words.specs.Seat.{SeatView, holds}
 use Rattle.page_space.specs.Space.{SpaceView, IsSpaceOf}
 use Rattle.ephemerons.specs.Fixpoint.{ListsMarks}
+use Rattle.ephemerons.specs.ListedMarks.{ListsMarks-then}
+use Rattle.prefinalizer_effects.specs.Prepared.{setup_of, IsPrepared}
 use Rattle.node_bodies.specs.Nodes.{place_of, bodies_of, IsHeld, AreOfValid}
 use Rattle.node_bodies.specs.Places.{kept_of}
 use Rattle.node_bodies.specs.Judgement.{nodes_after, IsReached}
 use Rattle.node_bodies.specs.NodeBodies.{length-bodies}
-use Rattle.node_bodies.specs.NodeLives.{life-condemn, live-condemn, live_and_dead}
+use Rattle.node_bodies.specs.NodeLives.{life-condemn, live-condemn, live_and_dead, none_dead}
 use Rattle.node_bodies.specs.WeakNodes.{life-after, place-after, length-after, live-after, count-stays}
 use Rattle.atomic_pause.specs.Marking.{IsScanned, IsRootPlace, MarksReachable, marked_count}
-use Rattle.atomic_pause.specs.Pausing.{setup_of, IsPaused, IsPrepared}
-use Rattle.atomic_pause.proofs.MarkEnds.{IsMarkedIn, lists_then, roots_reach}
-use Rattle.atomic_pause.proofs.HeldNodes.{none_dead, judged_after}
+use Rattle.atomic_pause.specs.Pausing.{IsPaused}
+use Rattle.atomic_pause.proofs.MarkEnds.{IsMarkedIn, roots_reach}
+use Rattle.atomic_pause.proofs.HeldNodes.{judged_after}
 use Rattle.atomic_pause.proofs.PreparedNodes.{typed_after, all_named}
 use Rattle.atomic_pause.proofs.WeakJudged.{IsMarked, both_cleared, marked_is, held_after, space_marked, space_cleared, judged_cleared}
 
@@ -43,7 +45,7 @@ pub roots_marked : (types : List ObjectType) (slots : List (Option ℕ)) (precis
     → MarksReachable types (IsRootPlace slots precise v.bodies stack) v y
 roots_marked types slots precise stack v u w y l m n none visit slots_in only_slots scan hits_in only_hits ends =
     let same : u.bodies ≡ v.bodies = ap (λ (z : SeatView). z.bodies) visit.view in
-    roots_reach types (IsRootPlace slots precise v.bodies stack) v w y l n none (lists_then v u w l m n visit scan)
+    roots_reach types (IsRootPlace slots precise v.bodies stack) v w y l n none (ListsMarks-then v u w l m n visit scan)
     (λ p root. elim root [
       | inl slot ↦ scan.marked p (slots_in p slot)
       | inr hit ↦ hits_in p (subst (λ bs. IsScanned precise bs stack p) (sym same) hit)

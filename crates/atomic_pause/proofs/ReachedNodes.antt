@@ -7,22 +7,25 @@ use Rattle.gc_graph.specs.Graph.{Object, object_at, has, IsIn, IsClosed, ClosesU
 use Rattle.gc_graph.specs.Reach.{Reach, AreNodes, IsLeastClosed, ReachIsLeast, any_below}
 use Rattle.gc_graph.specs.State.{Setup, Node, node_at, size_of, graph_of, slot_targets, is_live, is_there, IsLive}
 use Rattle.gc_graph.specs.May.{has_word}
-use Rattle.gc_graph.specs.Valid.{IsTyped}
+use Rattle.gc_graph.specs.NodeNumbers.{there_below, object_of_node}
+use Rattle.gc_graph.specs.Members.{any_member, any_from, below_ranged}
+use Rattle.gc_graph.specs.Leading.{IsLed, is_led, led_leads, led_named, led_wider}
+use Rattle.gc_graph.specs.AnyBelow.{any_below-from, any_below-some}
 use Rattle.page_words.specs.Bodies.{Body}
 use Rattle.page_words.specs.Seat.{SeatView, IsView, holds}
 use Rattle.ephemerons.specs.BodyGraph.{object_in, object_there, graph_in}
+use Rattle.ephemerons.specs.ObjectsThere.{there_is}
 use Rattle.node_bodies.specs.Nodes.{place_of, body_of, bodies_of, IsThere, IsHeld, AreOfValid}
 use Rattle.node_bodies.specs.Places.{kept_of}
 use Rattle.node_bodies.specs.Judgement.{IsReached}
-use Rattle.node_bodies.specs.AmongNodes.{IsAmong, among_cases, among_left, among_right, filter_holds, filter_passes, below_ranged}
-use Rattle.node_bodies.specs.NodePlaces.{live_is_there, live_is_live, is_live_life, there_below, node_body, body_node, same_node, object-at}
-use Rattle.node_bodies.specs.NodeLives.{live_if_there}
-use Rattle.node_bodies.specs.BodyGraph.{IsLed, some, any_from, is_led, led_leads, led_named, led_wider, renamed_object, led_renamed, renamed_led, there_is}
+use Rattle.node_bodies.specs.AmongNodes.{IsAmong, among_cases, among_left, among_right, filter_holds, filter_passes}
+use Rattle.node_bodies.specs.NodePlaces.{live_is_there, live_is_live, is_live_life, node_body, body_node, same_node}
+use Rattle.node_bodies.specs.NodeLives.{live_if_there, none_dead}
+use Rattle.node_bodies.specs.BodyGraph.{renamed_object, led_renamed, renamed_led}
 use Rattle.node_bodies.specs.NodeGraph.{node_led, led_node}
-use Rattle.node_bodies.specs.KeptNodes.{kept_parts, kept_from, kept_low, slot_of_root, root_of_slot, slot_place, place_slot, slot_live, typed_at, named_live, refers_within, any_below_from, any_below_some}
+use Rattle.node_bodies.specs.KeptNodes.{kept_parts, kept_from, kept_low, slot_of_root, root_of_slot, slot_place, place_slot, slot_live, named_live, refers_within, live_typed}
 use Rattle.atomic_pause.specs.Marking.{HoldsRoots, IsHitPlace, IsScanned, IsRootPlace, MarksReachable}
 use Rattle.atomic_pause.specs.Pausing.{NamePlaces, hits_at, hits_in}
-use Rattle.atomic_pause.proofs.HeldNodes.{none_dead}
 
 -- ---- the roots
 
@@ -37,7 +40,7 @@ hit_among nodes stack n a low there is =
 
 among_hit : (nodes : List Node) (stack : List ℕ) (n : ℕ) → IsAmong (hits_at nodes stack) n → (a : ℕ) × Contains stack a × (has_word (node_at nodes n) a ≡ true)
 among_hit nodes stack n is =
-    some (hits_node nodes n) stack (filter_passes (λ m. list_any (hits_node nodes m) stack) (range_with_len 0 (length nodes)) n is)
+    any_member (hits_node nodes n) stack (filter_passes (λ m. list_any (hits_node nodes m) stack) (range_with_len 0 (length nodes)) n is)
 
 -- a node that is there has a word where its body has one
 word_body : (nodes : List Node) (n a : ℕ) → has_word (node_at nodes n) a ≡ true → IsThere nodes n × (place_of nodes n ≤ a) × (a < place_of nodes n + size_of (node_at nodes n))
@@ -130,13 +133,13 @@ reached_place nodes roots p = any_below (λ n. is_live (node_at nodes n).life &&
 reached_from : (nodes : List Node) (roots : List ℕ) (n : ℕ) → IsLive nodes n → IsIn (Reach (graph_of nodes) roots) n → reached_place nodes roots (place_of nodes n) ≡ true
 unfolding reached_place
 reached_from nodes roots n live is =
-    any_below_from _ (length nodes) n (there_below nodes n (live_is_there nodes n live))
+    any_below-from _ (length nodes) n (there_below nodes n (live_is_there nodes n live))
     (and_from _ _ (live_is_live nodes n live) (and_from _ _ (eq-eqb (place_of nodes n) (place_of nodes n) refl) is))
 
 reached_some : (nodes : List Node) (roots : List ℕ) (p : ℕ) → reached_place nodes roots p ≡ true → (n : ℕ) × IsLive nodes n × (place_of nodes n ≡ p) × IsIn (Reach (graph_of nodes) roots) n
 unfolding reached_place
 reached_some nodes roots p h =
-    let w = any_below_some (λ n. is_live (node_at nodes n).life && (eqb (place_of nodes n) p && has (Reach (graph_of nodes) roots) n)) (length nodes) h in
+    let w = any_below-some (λ n. is_live (node_at nodes n).life && (eqb (place_of nodes n) p && has (Reach (graph_of nodes) roots) n)) (length nodes) h in
     let live = and_parts (is_live (node_at nodes w.0).life) _ w.1 in
     let rest = and_parts (eqb (place_of nodes w.0) p) (has (Reach (graph_of nodes) roots) w.0) live.1 in
     (w.0, is_live_life (node_at nodes w.0).life live.0, eqb-true (place_of nodes w.0) p rest.0, rest.1)
@@ -150,9 +153,6 @@ in_words setup nodes roots root v new done m live =
     ap (λ g. object_at g (place_of nodes m)) graph
     ∙ there_is setup.types v (body_of (place_of nodes) m (node_at nodes m)) done.view (node_body nodes v m done.held (live_is_there nodes m live))
 
-live_typed : (setup : Setup) (nodes : List Node) (m : ℕ) → AreOfValid setup nodes → IsLive nodes m → IsTyped setup (length nodes) (node_at nodes m)
-live_typed setup nodes m valid live = typed_at setup nodes m valid (there_below nodes m (live_is_there nodes m live))
-
 kept_closed : (setup : Setup) (nodes : List Node) (roots : List ℕ) (root : ℕ → Type 0) (v new : SeatView) → HasMarked setup nodes roots root v new
     → IsClosed (graph_of nodes) (kept_of (holds new.marked) nodes)
 kept_closed setup nodes roots root v new done m n is leads =
@@ -160,7 +160,7 @@ kept_closed setup nodes roots root v new done m n is leads =
     let place : ℕ → ℕ = place_of nodes in
     let parts = kept_parts (holds new.marked) nodes m is in
     let o : Object = (node_at nodes m).object in
-    let led : IsLed (has kept) o n = is_led (has kept) o n (subst (λ x. leads_to kept x n ≡ true) (object-at nodes m) leads) in
+    let led : IsLed (has kept) o n = is_led (has kept) o n (subst (λ x. leads_to kept x n ≡ true) (object_of_node nodes m) leads) in
     let words : IsLed (holds new.marked) (renamed_object place o) (place n) =
     led_renamed place (holds new.marked) o n (led_wider (has kept) (λ k. holds new.marked (place k)) o n (λ k there in_kept. (kept_parts (holds new.marked) nodes k in_kept).1) led) in
     kept_from (holds new.marked) nodes n (named_live setup nodes m n done.valid parts.0 (led_named (has kept) o n led))
@@ -188,7 +188,7 @@ reached_closed setup nodes roots root v new done least p q is leads =
     subst (IsIn reach) (same_node nodes v x.0 k done.view done.held (live_is_there nodes x.0 x.1) k_there x.2) x.3) edge.2 in
     subst (λ a. reached_place nodes roots a ≡ true) edge.1
     (reached_from nodes roots edge.0 (named_live setup nodes w.0 edge.0 done.valid w.1 (led_named (has reach) o edge.0 within))
-    (least.closed w.0 edge.0 w.3 (subst (λ x. leads_to reach x edge.0 ≡ true) (sym (object-at nodes w.0)) (led_leads (has reach) o edge.0 within))))
+    (least.closed w.0 edge.0 w.3 (subst (λ x. leads_to reach x edge.0 ≡ true) (sym (object_of_node nodes w.0)) (led_leads (has reach) o edge.0 within))))
 
 are_nodes : (setup : Setup) (nodes : List Node) (roots : List ℕ) (root : ℕ → Type 0) (v new : SeatView) → HasMarked setup nodes roots root v new → AreNodes (graph_of nodes) roots
 are_nodes setup nodes roots root v new done n is =

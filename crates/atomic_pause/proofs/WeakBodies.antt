@@ -1,5 +1,5 @@
 -- Weak clearing over the bodies of judged nodes leaves the bodies of the nodes with their weak fields and pairs cleared.
-use Rattle.std.proofs.Common.{◌≡◌, ℕ, suc, ◌+◌, Bool, true, false, not, List, [], ◌∷◌, length, map, refl, sym, ap, ◌∙◌, inl, inr, arith, cond}
+use Rattle.std.proofs.Common.{◌≡◌, ℕ, suc, ◌+◌, Bool, true, false, not, List, [], ◌∷◌, map, refl, sym, ap, ◌∙◌, inl, inr, arith, cond}
 use Rattle.std.specs.List.{All}
 use Rattle.std.proofs.lemmas.Bool.{cases_Bool}
 use Rattle.std.proofs.lemmas.List.Elements.{All-head, All-tail}
@@ -10,6 +10,7 @@ use Rattle.gc_graph.specs.declared.kind.Value.TheVariants.{Null, Ref, Word}
 use Rattle.gc_graph.specs.State.{ObjectType, Node, is_live, is_there, IsLive, size_of}
 use Rattle.gc_graph.specs.Valid.{HaveKinds, IsReferenceBelow, NamesLive}
 use Rattle.gc_graph.specs.Pause.{names_dead, cleared_values, with_cleared, clear_node}
+use Rattle.gc_graph.specs.Condemning.{length-cleared}
 use Rattle.type_table.specs.Types.{kinds_of}
 use Rattle.type_table.specs.Layouts.{kinds_of_words}
 use Rattle.page_words.specs.Bodies.{Body}
@@ -88,19 +89,6 @@ cleared_words nodes marked f dead bound (Pair ∷ kinds) (key ∷ v ∷ values) 
     (cleared_words nodes marked f dead bound kinds values tells have.3
     (All-tail (NamesLive nodes) v values (All-tail (NamesLive nodes) key (v ∷ values) live)))
 
--- there are as many values as before
-pub length-cleared_values : (dead : ℕ → Bool) (kinds : List Kind) (values : List Value) → length (cleared_values dead kinds values) ≡ length values
-length-cleared_values dead [] values = refl
-length-cleared_values dead (Strong ∷ kinds) [] = refl
-length-cleared_values dead (Weak ∷ kinds) [] = refl
-length-cleared_values dead (Pair ∷ kinds) [] = refl
-length-cleared_values dead (Plain ∷ kinds) [] = refl
-length-cleared_values dead (Strong ∷ kinds) (v ∷ values) = ap suc (length-cleared_values dead kinds values)
-length-cleared_values dead (Weak ∷ kinds) (v ∷ values) = ap suc (length-cleared_values dead kinds values)
-length-cleared_values dead (Plain ∷ kinds) (v ∷ values) = ap suc (length-cleared_values dead kinds values)
-length-cleared_values dead (Pair ∷ kinds) (key ∷ []) = refl
-length-cleared_values dead (Pair ∷ kinds) (key ∷ v ∷ values) = ap (λ n. suc (suc n)) (length-cleared_values dead kinds values)
-
 -- ---- the bodies of nodes
 
 -- a live node is marked, and its words are cleared as its values are; a dead one isn't marked
@@ -132,7 +120,7 @@ body_cleared types marked f dead k x there is =
     elim (cases_Bool (is_live x.life)) [
       | inl live ↦ ap (λ b. clear_pairs_of types marked (cond b (build (size_of x) weak) old)) (is.kept live)
           ∙ ap (λ b. cond b (build (size_of x) both) (build (size_of x) weak)) (is.kept live) ∙ ap (build (size_of x)) (is.words live)
-          ∙ ap (λ n. build (2 + n) (map (word_of f) (cleared_values dead x.object.kinds x.object.values))) (sym (length-cleared_values dead x.object.kinds x.object.values))
+          ∙ ap (λ n. build (2 + n) (map (word_of f) (cleared_values dead x.object.kinds x.object.values))) (sym (length-cleared dead x.object.kinds x.object.values))
           ∙ sym (ap (λ b. body_of f k (cond b (with_cleared dead x) x)) live)
       | inr other ↦ ap (λ b. clear_pairs_of types marked (cond b (build (size_of x) weak) old)) (is.left there other)
           ∙ ap (λ b. cond b (build (size_of x) old_both) old) (is.left there other)

@@ -11,23 +11,24 @@ use Rattle.gc_graph.specs.State.Life.{Live, Dead, Gone}
 use Rattle.gc_graph.specs.Valid.{IsTyped, AreLive}
 use Rattle.gc_graph.specs.ActionLaw.{HaveStayed}
 use Rattle.gc_graph.specs.Pause.{judged, condemn, is_dead_at, clear_slot, cleared_values}
+use Rattle.gc_graph.specs.Condemning.{length-condemn}
 use Rattle.type_table.specs.Types.{kinds_of}
 use Rattle.type_table.specs.Layouts.{kinds_of_words}
 use Rattle.page_words.specs.Bodies.{Body}
 use Rattle.page_words.specs.Seat.{SeatView, holds}
 use Rattle.page_space.specs.Space.{SpaceView, IsSpaceOf, IsSpaceOver, extents_of_bodies}
 use Rattle.weak_clearing.specs.Clearing.{clear_words, clear_body, with_weak_cleared, clear_pair_words, clear_pairs_of, with_pairs_cleared}
-use Rattle.atomic_pause.specs.Marking.{MarksReachable}
 use Rattle.node_bodies.specs.Nodes.{AreOfValid, place_of, word_of, IsHeld}
 use Rattle.node_bodies.specs.Places.{IsJudged, kept_of, places_of}
 use Rattle.node_bodies.specs.Judgement.{nodes_after}
-use Rattle.node_bodies.specs.Lists.{Contains-map_some}
 use Rattle.node_bodies.specs.NodeChanges.{bodies-same}
-use Rattle.node_bodies.specs.NodeLives.{life-condemn, object-condemn, place-condemn, length-condemn, there-condemn, live_if_there, dead_judged}
+use Rattle.node_bodies.specs.NodeLives.{life-condemn, object-condemn, place-condemn, there-condemn, live_if_there, dead_judged, none_dead}
 use Rattle.node_bodies.specs.TypedNodes.{AreKnown, known_nodes}
-use Rattle.atomic_pause.proofs.HeldNodes.{none_dead, held_judged}
 use Rattle.node_bodies.specs.KeptNodes.{has-kept, slots_live}
 use Rattle.node_bodies.specs.WeakNodes.{life-after, place-after}
+use Rattle.node_bodies.specs.ChangedBodies.{KeepsExtents, same_extents, judged_changed}
+use Rattle.atomic_pause.specs.Marking.{MarksReachable}
+use Rattle.atomic_pause.proofs.HeldNodes.{held_judged}
 use Rattle.atomic_pause.proofs.WeakBodies.{TellsUnmarked, Clears, cleared_both, cleared_words, clear_all, bodies_cleared}
 
 -- marking is over in these words, which hold the nodes: none was dead before, and what isn't marked is now condemned
@@ -126,10 +127,6 @@ held_after setup nodes v is =
 
 -- ---- the words
 
--- a change of bodies that leaves each at its place, with its size
-abbrev pub KeepsExtents : (Body → Body) → Type 0
-KeepsExtents change = (b : Body) → ((change b).place ≡ b.place) × ((change b).size ≡ b.size)
-
 weak_keeps : (types : List ObjectType) (marked : List ℕ) → KeepsExtents (clear_body types marked)
 weak_keeps types marked b = go (holds marked b.place) where
   cleared : Body
@@ -148,14 +145,6 @@ pairs_keep types marked b = go (holds marked b.place) where
   go true = (refl, refl)
   go false = (refl, refl)
 
-pub same_extents : (change : Body → Body) → KeepsExtents change → (bodies : List Body) → extents_of_bodies (map change bodies) ≡ extents_of_bodies bodies
-same_extents change keeps [] = refl
-same_extents change keeps (b ∷ bodies) =
-    let is = keeps b in
-    ap (λ p. record { place = p; size = (change b).size } ∷ extents_of_bodies (map change bodies)) is.0
-    ∙ ap (λ s. record { place = b.place; size = s } ∷ extents_of_bodies (map change bodies)) is.1
-    ∙ ap (λ es. record { place = b.place; size = b.size } ∷ es) (same_extents change keeps bodies)
-
 -- weak clearing moves no object and changes no size
 pub extents_cleared : (v : SeatView) → extents_of_bodies (both_cleared v).bodies ≡ extents_of_bodies v.bodies
 extents_cleared v =
@@ -172,11 +161,6 @@ pub space_marked : (space : SpaceView) (types : List ObjectType) (root : ℕ →
 space_marked space types root v new marks is =
     subst (λ count. IsSpaceOver space count (extents_of_bodies new.bodies)) (sym marks.count)
     (subst (λ bodies. IsSpaceOver space v.count (extents_of_bodies bodies)) (sym marks.bodies) is)
-
-pub judged_changed : (change : Body → Body) → KeepsExtents change → (v : SeatView) → IsJudged v → IsJudged (record v { bodies = map change v.bodies })
-judged_changed change keeps v is b there =
-    let from = Contains-map_some change v.bodies b there in
-    subst (λ p. holds v.dead p ≡ not (holds v.marked p)) (sym (keeps from.0).0 ∙ ap (λ (c : Body). c.place) from.2) (is from.0 from.1)
 
 pub judged_cleared : (v : SeatView) → IsJudged v → IsJudged (both_cleared v)
 judged_cleared v is =

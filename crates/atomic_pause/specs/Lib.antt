@@ -1,4 +1,3 @@
 pub mod Marking
 pub mod Pausing
 pub mod Left
-pub mod Lending

@@ -1,12 +1,10 @@
 // What a pause makes of the nodes. All of it is for contracts alone.
 
 ghost use Rattle.std.specs.Prelude.{◌≡◌};
-ghost use Rattle.gc_graph.specs.Actions.{acted};
 ghost use Rattle.page_words.specs.Seat.{holds};
 ghost use Rattle.node_bodies.specs.Places.{kept_of};
 ghost use Rattle.node_bodies.specs.Judgement.{nodes_after};
 
-use gc_graph::Action;
 use ghost_values::GhostValue;
 use node_bodies::NodeLists;
 use page_words::MutatorSeat;
@@ -24,23 +22,4 @@ pub fn judged(nodes: &GhostValue<NodeLists>, seat: &MutatorSeat) -> GhostValue<N
         ≡ nodes_after (kept_of (holds seat.now.marked) nodes.now.value) nodes.now.value }
 {
     GhostValue::chosen(&AboutMarks { nodes, seat })
-}
-
-/// What an action looks at.
-#[derive(Drop)]
-struct AboutAction<'a> {
-    nodes: &'a GhostValue<NodeLists>,
-    dying: u32,
-    action: Action,
-}
-
-/// The action was done for a dying node.
-pub fn acted(nodes: &GhostValue<NodeLists>, dying: u32, action: Action) -> GhostValue<NodeLists>
-    ensures { result.value ≡ acted nodes.now.value dying action }
-{
-    GhostValue::chosen(&AboutAction {
-        nodes,
-        dying,
-        action,
-    })
 }

@@ -14,8 +14,9 @@ ghost use Rattle.persistent_slots.specs.Clearing.{taken};
 ghost use Rattle.ephemerons.specs.Fixpoint.{IsUnrefused};
 ghost use Rattle.node_bodies.specs.Nodes.{AreOfValid, IsHeld};
 ghost use Rattle.node_bodies.specs.Places.{places_of};
+ghost use Rattle.prefinalizer_effects.specs.Prepared.{setup_of, IsPrepared};
 ghost use Rattle.atomic_pause.specs.Marking.{HasBegun};
-ghost use Rattle.atomic_pause.specs.Pausing.{setup_of, NamePlaces, hits_in, IsPaused, IsPrepared};
+ghost use Rattle.atomic_pause.specs.Pausing.{NamePlaces, hits_in, IsPaused};
 ghost use Rattle.atomic_pause.specs.Left.{seat_left, nodes_left, marking_left, notes_left};
 ghost use Rattle.atomic_pause.specs.Left.{weak_left, registry_left};
 

@@ -1,6 +1,9 @@
 // Which notes are under a key: a tree over the key's bits, lowest first, with a chain of the notes
-// that share a key. It is a hint: what it tells is looked at again, and what it leaves out is found
-// by going over all notes. So no clause speaks of it; a test counts its steps.
+// that share a key. It is a hint: what it leaves out is found by going over all notes. So clauses say
+// of it only which keys were put in, and that what is told first has the key; a test counts its steps.
+
+ghost use Rattle.std.specs.Prelude.{◌≡◌, []};
+ghost use Rattle.key_index.specs.Keys.{keys_of, with_key, IsUnder};
 
 use std::alloc::Global;
 
@@ -29,7 +32,9 @@ pub struct Index {
 
 impl Index {
     /// Nothing is in the tree.
-    pub fn new(alloc: Global) -> Index {
+    pub fn new(alloc: Global) -> Index
+        ensures { keys_of result ≡ [] }
+    {
         Index {
             entries: Vec::new(alloc),
             root: NONE,
@@ -42,12 +47,16 @@ impl Index {
     }
 
     /// Empties the tree.
-    pub fn begin(&mut self) {
+    pub fn begin(&mut self)
+        ensures { keys_of self.new ≡ keys_of self.old }
+    {
         self.root = NONE;
     }
 
     /// Puts the note with a number under a key.
-    pub fn link(&mut self, i: usize, key: u32) {
+    pub fn link(&mut self, i: usize, key: u32)
+        ensures { keys_of self.new ≡ with_key (keys_of self.old) i key }
+    {
         if i >= self.entries.len() || i >= NONE as usize {
             return;
         }
@@ -60,7 +69,9 @@ impl Index {
     }
 
     /// Puts an entry into a tree that isn't empty.
-    fn link_below(&mut self, new: u32, key: u32) {
+    fn link_below(&mut self, new: u32, key: u32)
+        ensures { keys_of self.new ≡ keys_of self.old }
+    {
         let mut at = self.root;
         for bit in 0..KEY_BITS {
             let here = at as usize;
@@ -81,7 +92,9 @@ impl Index {
     }
 
     /// Hangs an entry on the chain of another.
-    fn hang(&mut self, first: usize, new: u32) {
+    fn hang(&mut self, first: usize, new: u32)
+        ensures { keys_of self.new ≡ keys_of self.old }
+    {
         if first < self.entries.len() && (new as usize) < self.entries.len() {
             self.entries[new as usize].older = self.entries[first].older;
             self.entries[first].older = new;
@@ -89,7 +102,9 @@ impl Index {
     }
 
     /// The first note under a key; a number past all notes where there is none.
-    pub fn first_under(&self, key: u32) -> usize {
+    pub fn first_under(&self, key: u32) -> usize
+        ensures { IsUnder self.now key result }
+    {
         let mut at = self.root;
         for bit in 0..KEY_BITS {
             let here = at as usize;
@@ -98,7 +113,7 @@ impl Index {
             }
             at = self.entries[here].child(key, bit);
         }
-        NONE as usize
+        usize::MAX
     }
 
     /// The note that comes after another under the same key; a number past all notes where there is
@@ -122,7 +137,9 @@ impl Entry {
         }
     }
 
-    fn set_child(&mut self, key: u32, bit: u32, below: u32) {
+    fn set_child(&mut self, key: u32, bit: u32, below: u32)
+        ensures { self.new.key ≡ self.old.key }
+    {
         if key.wrapping_shr(bit) & 1 == 0 {
             self.zero = below;
         } else {
@@ -132,7 +149,9 @@ impl Entry {
 }
 
 /// An entry that no other one is below of.
-fn unlinked(key: u32) -> Entry {
+fn unlinked(key: u32) -> Entry
+    ensures { result.key ≡ key }
+{
     Entry {
         key,
         zero: NONE,

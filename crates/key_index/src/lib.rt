@@ -6,10 +6,11 @@
 //! The parts: `Index`, with `make_room`, `begin` and `link` (a note comes in), `first_under` and
 //! `after` (the notes of a key).
 //!
-//! What is proved: that each call is safe and ends.
+//! What is proved: that each call is safe and ends, and that the note which `first_under` tells was
+//! put under the key.
 //!
-//! What is only tested or not said: that it tells all notes of a key, and no other, is tested. It is a
-//! hint: whoever asks looks at each note again.
+//! What is only tested or not said: that it tells all notes of a key, and no other by `after`, is
+//! tested. It is a hint: whoever asks looks at each note again.
 #![tactic(auto)]
 
 mod index;

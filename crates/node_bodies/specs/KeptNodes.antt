@@ -7,18 +7,19 @@ use Rattle.std.proofs.lemmas.List.{get_or_past, length-map}
 use Rattle.std.proofs.lemmas.List.Elements.{All-contains, All-get_or, All-cons, All-head, All-tail}
 use Rattle.gc_graph.specs.declared.kind.Value.TheVariants.{Ref}
 use Rattle.gc_graph.specs.Graph.{Object, no_object, has, IsIn, leads_to}
-use Rattle.gc_graph.specs.Reach.{RefersWithin, any_below}
+use Rattle.gc_graph.specs.Reach.{RefersWithin}
 use Rattle.gc_graph.specs.State.{Setup, Node, node_at, no_node, graph_of, slot_targets, is_live, IsLive}
 use Rattle.gc_graph.specs.Valid.{IsTyped, NamesLive, AreLive}
+use Rattle.gc_graph.specs.Members.{Contains-cons_cases, Contains-cons, Contains-head}
+use Rattle.gc_graph.specs.NodeNumbers.{there_below, object_of_node}
+use Rattle.gc_graph.specs.Leading.{IsLed, is_led, led_named, nowhere}
 use Rattle.persistent_slots.specs.Clearing.{taken}
 use Rattle.page_words.specs.Bodies.{IsPlace}
 use Rattle.page_words.specs.Seat.{SeatView}
 use Rattle.node_bodies.specs.Nodes.{place_of, body_of, bodies_of, AreOfValid}
 use Rattle.node_bodies.specs.Places.{kept_of, places_of}
-use Rattle.node_bodies.specs.Lists.{Contains-cons_cases, Contains-cons, Contains-head}
-use Rattle.node_bodies.specs.NodePlaces.{live_is_there, live_is_live, is_live_life, there_below, node_body, object-at}
+use Rattle.node_bodies.specs.NodePlaces.{live_is_there, live_is_live, is_live_life, node_body}
 use Rattle.node_bodies.specs.TypedNodes.{NamesBelow, below_from}
-use Rattle.node_bodies.specs.BodyGraph.{IsLed, is_led, led_named, nowhere}
 
 pub has-kept : (marked : ℕ → Bool) (nodes : List Node) (n : ℕ) → has (kept_of marked nodes) n ≡ (is_live (node_at nodes n).life && marked (place_of nodes n))
 has-kept marked [] n = refl
@@ -35,20 +36,6 @@ kept_from marked nodes n live is = has-kept marked nodes n ∙ and_from _ _ (liv
 
 pub kept_low : (marked : ℕ → Bool) (nodes : List Node) (n : ℕ) → IsIn (kept_of marked nodes) n → n < length nodes
 kept_low marked nodes n is = there_below nodes n (live_is_there nodes n (kept_parts marked nodes n is).0)
-
--- ---- some number below a bound
-
-pub any_below_from : (p : ℕ → Bool) (n i : ℕ) → i < n → p i ≡ true → any_below p n ≡ true
-any_below_from p zero i l h = absurd (omega arith)
-any_below_from p (suc n) i l h =
-    elim (cases_lt i n) [
-      | inl below ↦ or_right (p n) (any_below p n) (any_below_from p n i below h)
-      | inr up ↦ or_left (p n) (any_below p n) (subst (λ x. p x ≡ true) (let e : i ≡ n = omega arith in e) h)
-    ]
-
-pub any_below_some : (p : ℕ → Bool) (n : ℕ) → any_below p n ≡ true → (i : ℕ) × (p i ≡ true)
-any_below_some p zero h = absurd (true≢false (sym h))
-any_below_some p (suc n) h = elim (or_cases (p n) (any_below p n) h) [ inl here ↦ (n, here) | inr below ↦ any_below_some p n below ]
 
 -- ---- slots
 
@@ -131,6 +118,9 @@ pub typed_at : (setup : Setup) (nodes : List Node) (n : ℕ) → AreOfValid setu
 typed_at setup nodes n (s, valid, is) low =
     All-get_or (IsTyped setup (length nodes)) nodes n no_node low (subst (λ (ns : List Node). All (IsTyped setup (length ns)) ns) is valid.typed)
 
+pub live_typed : (setup : Setup) (nodes : List Node) (m : ℕ) → AreOfValid setup nodes → IsLive nodes m → IsTyped setup (length nodes) (node_at nodes m)
+live_typed setup nodes m valid live = typed_at setup nodes m valid (there_below nodes m (live_is_there nodes m live))
+
 -- a live node leads to live nodes
 pub named_live : (setup : Setup) (nodes : List Node) (m k : ℕ) → AreOfValid setup nodes → IsLive nodes m → Contains (node_at nodes m).object.values (Ref k) → IsLive nodes k
 named_live setup nodes m k (s, valid, is) live there =
@@ -144,12 +134,12 @@ refers_within setup nodes valid flags m n leads =
     elim (cases_lt m (length nodes)) [
       | inl low ↦
           (let o : Object = (node_at nodes m).object in
-          let led : IsLed (has flags) o n = is_led (has flags) o n (subst (λ x. leads_to flags x n ≡ true) (object-at nodes m) leads) in
+          let led : IsLed (has flags) o n = is_led (has flags) o n (subst (λ x. leads_to flags x n ≡ true) (object_of_node nodes m) leads) in
           let below : n < length nodes =
           All-contains (NamesBelow (length nodes)) o.values (Ref n) (below_from (length nodes) o.kinds o.values (typed_at setup nodes m valid low).values_are) (led_named (has flags) o n led) in
           omega (arith, below, length-map nodes (λ (x : Node). x.object)))
       | inr past ↦ absurd (nowhere (has flags) n (is_led (has flags) no_object n
-          (sym (ap (λ o. leads_to flags o n) (object-at nodes m ∙ ap (λ (x : Node). x.object) (get_or_past nodes m no_node past))) ∙ leads)))
+          (sym (ap (λ o. leads_to flags o n) (object_of_node nodes m ∙ ap (λ (x : Node). x.object) (get_or_past nodes m no_node past))) ∙ leads)))
     ]
 
 pub slot_live : (nodes : List Node) (slots : List (Option ℕ)) (n : ℕ) → AreLive nodes (slot_targets slots) → Contains slots (Some n) → IsLive nodes n

@@ -3,7 +3,6 @@ pub mod Places
 pub mod Judgement
 pub mod Lists
 pub mod AmongNodes
-pub mod PlaceBodies
 pub mod NodeBodies
 pub mod NodePlaces
 pub mod NodeChanges
@@ -14,3 +13,5 @@ pub mod BodyGraph
 pub mod NodeGraph
 pub mod WeakNodes
 pub mod KeptNodes
+pub mod ReferenceWords
+pub mod ChangedBodies

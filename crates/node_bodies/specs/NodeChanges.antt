@@ -1,14 +1,14 @@
 -- How the bodies change with the nodes.
-use Rattle.std.proofs.Common.{◌≡◌, ℕ, suc, ◌+◌, Bool, true, false, List, [], ◌∷◌, map, refl, ap, ◌∙◌, cond}
+use Rattle.std.proofs.Common.{◌≡◌, ℕ, suc, ◌+◌, Bool, true, false, List, [], ◌∷◌, map, refl, ap, ◌∙◌, cond, zero, set}
 use Rattle.std.specs.List.{All}
 use Rattle.std.proofs.lemmas.List.Elements.{All-head, All-tail}
 use Rattle.gc_graph.specs.declared.kind.Value.{Value}
 use Rattle.gc_graph.specs.declared.kind.Value.TheVariants.{Null, Ref, Word}
-use Rattle.gc_graph.specs.State.{Node, Life, is_there, size_of}
+use Rattle.gc_graph.specs.State.{Node, node_at, Life, is_there, size_of}
 use Rattle.gc_graph.specs.State.Life.{Live, Dead, Gone}
 use Rattle.gc_graph.specs.Pause.{judged, condemn}
-use Rattle.node_bodies.specs.Nodes.{word_of, body_of, bodies_from}
 use Rattle.page_words.specs.Bodies.{Body}
+use Rattle.node_bodies.specs.Nodes.{place_of, word_of, body_of, bodies_from}
 
 -- two functions agree on the node that the value names
 abbrev pub AgreeOn : (ℕ → ℕ) → (ℕ → ℕ) → Value → Type 0
@@ -68,3 +68,19 @@ bodies-condemn f k [] (x ∷ nodes) =
 bodies-condemn f k (flag ∷ kept) (x ∷ nodes) =
     ap (λ b. cond b (body_of f k x ∷ bodies_from f (suc k) (condemn kept nodes)) (bodies_from f (suc k) (condemn kept nodes))) (there-judged flag x.life)
     ∙ ap (λ bs. cond (is_there x.life) (body_of f k x ∷ bs) bs) (bodies-condemn f (suc k) kept nodes)
+
+-- ---- one node in place of another
+
+pub place_set : (nodes : List Node) (n : ℕ) (y : Node) (m : ℕ) → y.place ≡ place_of nodes n → place_of (set nodes n y) m ≡ place_of nodes m
+place_set [] n y m is = refl
+place_set (x ∷ nodes) zero y zero is = is
+place_set (x ∷ nodes) zero y (suc m) is = refl
+place_set (x ∷ nodes) (suc n) y zero is = refl
+place_set (x ∷ nodes) (suc n) y (suc m) is = place_set nodes n y m is
+
+pub life_set : (nodes : List Node) (n : ℕ) (y : Node) (m : ℕ) → y.life ≡ (node_at nodes n).life → (node_at (set nodes n y) m).life ≡ (node_at nodes m).life
+life_set [] n y m is = refl
+life_set (x ∷ nodes) zero y zero is = is
+life_set (x ∷ nodes) zero y (suc m) is = refl
+life_set (x ∷ nodes) (suc n) y zero is = refl
+life_set (x ∷ nodes) (suc n) y (suc m) is = life_set nodes n y m is

@@ -9,9 +9,10 @@ use Rattle.gc_graph.specs.declared.kind.Value.TheVariants.{Null, Ref, Word}
 use Rattle.gc_graph.specs.Graph.{Object}
 use Rattle.gc_graph.specs.State.{Setup, Node}
 use Rattle.gc_graph.specs.Valid.{IsTyped, HaveKinds, IsReferenceBelow, IsPlainWord}
-use Rattle.node_bodies.specs.Nodes.{word_of, body_of}
+use Rattle.gc_graph.specs.Leading.{IsLed}
 use Rattle.ephemerons.specs.BodyGraph.{reference_in, values_in, object_in}
-use Rattle.node_bodies.specs.BodyGraph.{IsLed, renamed, renamed_object}
+use Rattle.node_bodies.specs.Nodes.{word_of, body_of}
+use Rattle.node_bodies.specs.BodyGraph.{renamed, renamed_object}
 
 reference_told : (f : ℕ → ℕ) (bound : ℕ) (v : Value) → IsReferenceBelow bound v → reference_in (word_of f v) ≡ renamed f v
 reference_told f bound Null is = refl

@@ -1,5 +1,5 @@
 -- What a pause makes of each node.
-use Rattle.std.proofs.Common.{◌≡◌, ℕ, zero, suc, ◌+◌, Bool, true, false, ◌&&◌, not, List, [], ◌∷◌, length, refl, sym, ap, ◌∙◌, inl, inr, arith, cond}
+use Rattle.std.proofs.Common.{◌≡◌, ℕ, zero, suc, ◌+◌, Bool, true, false, ◌&&◌, not, List, [], ◌∷◌, refl, sym, ap, ◌∙◌, inl, inr, arith, cond}
 use Rattle.std.specs.List.{count_by}
 use Rattle.std.proofs.lemmas.Bool.{true≢false, cases_Bool}
 use Rattle.std.proofs.lemmas.List.Sums.{sum_by-cons}
@@ -7,20 +7,18 @@ use Rattle.gc_graph.specs.Graph.{has}
 use Rattle.gc_graph.specs.State.{Node, Life, node_at, is_there, is_live, is_dead, IsDead, objects_of}
 use Rattle.gc_graph.specs.State.Life.{Live, Dead, Gone}
 use Rattle.gc_graph.specs.Pause.{judged, condemn, live_count, dead_count}
-use Rattle.node_bodies.specs.Nodes.{place_of, body_of, bodies_from, IsThere}
+use Rattle.gc_graph.specs.Condemning.{judged_gone}
 use Rattle.page_words.specs.Bodies.{Body}
+use Rattle.page_words.specs.Seat.{SeatView, holds}
+use Rattle.node_bodies.specs.Nodes.{place_of, body_of, bodies_from, IsThere, IsHeld}
 use Rattle.node_bodies.specs.Places.{kept_of}
 use Rattle.node_bodies.specs.NodeBodies.{bodies-there, bodies-gone}
 
 -- ---- condemned
 
-judged-gone : (flag : Bool) → judged flag Gone ≡ Gone
-judged-gone true = refl
-judged-gone false = refl
-
 pub life-condemn : (kept : List Bool) (nodes : List Node) (n : ℕ) → (node_at (condemn kept nodes) n).life ≡ judged (has kept n) (node_at nodes n).life
 life-condemn [] [] n = refl
-life-condemn (flag ∷ kept) [] n = sym (judged-gone (has (flag ∷ kept) n))
+life-condemn (flag ∷ kept) [] n = sym (judged_gone (has (flag ∷ kept) n))
 life-condemn [] (x ∷ nodes) zero = refl
 life-condemn [] (x ∷ nodes) (suc n) = life-condemn [] nodes n
 life-condemn (flag ∷ kept) (x ∷ nodes) zero = refl
@@ -41,12 +39,6 @@ place-condemn [] (x ∷ nodes) zero = refl
 place-condemn [] (x ∷ nodes) (suc n) = place-condemn [] nodes n
 place-condemn (flag ∷ kept) (x ∷ nodes) zero = refl
 place-condemn (flag ∷ kept) (x ∷ nodes) (suc n) = place-condemn kept nodes n
-
-pub length-condemn : (kept : List Bool) (nodes : List Node) → length (condemn kept nodes) ≡ length nodes
-length-condemn [] [] = refl
-length-condemn (flag ∷ kept) [] = refl
-length-condemn [] (x ∷ nodes) = ap suc (length-condemn [] nodes)
-length-condemn (flag ∷ kept) (x ∷ nodes) = ap suc (length-condemn kept nodes)
 
 -- ---- lives
 
@@ -72,6 +64,18 @@ there_judged false Gone = refl
 
 pub there-condemn : (kept : List Bool) (nodes : List Node) (n : ℕ) → IsThere (condemn kept nodes) n → IsThere nodes n
 there-condemn kept nodes n there = sym (there_judged (has kept n) (node_at nodes n).life) ∙ sym (ap is_there (life-condemn kept nodes n)) ∙ there
+
+-- where nothing is dead in the words, no node is dead
+pub none_dead : (nodes : List Node) (v : SeatView) → IsHeld nodes v → v.dead ≡ [] → (n : ℕ) → IsDead nodes n → ⊥
+none_dead nodes v held empty n dead =
+    never (sym (ap is_dead dead) ∙ sym (held.dead n (ap is_there dead)) ∙ ap (λ l. holds l (place_of nodes n)) empty) where
+      never : true ≡ false → ⊥
+      never e = cc
+
+-- who was live is still there once it was judged
+pub still_there : (flag : Bool) → is_there (judged flag Live) ≡ true
+still_there true = refl
+still_there false = refl
 
 -- ---- counts
 

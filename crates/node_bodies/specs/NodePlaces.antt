@@ -1,19 +1,18 @@
 -- One node alone has a place, and names of nodes are names of bodies.
-use Rattle.std.proofs.Common.{◌≡◌, ℕ, zero, suc, ◌+◌, ◌<◌, ◌≤◌, ◌^◌, true, List, [], ◌∷◌, length, get_or, refl, sym, ap, ◌∙◌, subst, inl, inr, arith}
+use Rattle.std.proofs.Common.{◌≡◌, ℕ, suc, ◌+◌, ◌<◌, ◌≤◌, ◌^◌, true, List, [], ◌∷◌, length, get_or, refl, sym, ap, ◌∙◌, subst, inl, inr, arith}
 use Rattle.std.specs.List.{All, Contains}
-use Rattle.std.proofs.lemmas.Bool.{true≢false, cases_Bool, cases_lt}
-use Rattle.std.proofs.lemmas.List.{get_or_past}
+use Rattle.std.proofs.lemmas.Bool.{true≢false, cases_Bool}
 use Rattle.std.proofs.lemmas.List.Elements.{Contains-get_or, All-from_get_or}
-use Rattle.gc_graph.specs.Graph.{object_at}
-use Rattle.gc_graph.specs.State.{Node, Life, node_at, no_node, graph_of, is_there, is_live, IsLive}
+use Rattle.gc_graph.specs.State.{Node, Life, node_at, is_there, is_live, IsLive}
 use Rattle.gc_graph.specs.State.Life.{Live, Dead, Gone}
+use Rattle.gc_graph.specs.Members.{Contains-cons, Contains-head}
+pub use Rattle.gc_graph.specs.NodeNumbers.{there_below}
 use Rattle.page_words.specs.Bodies.{Body}
 use Rattle.page_words.specs.Seat.{SeatView, IsView}
+use Rattle.page_words.specs.BodyPlaces.{same_body}
 use Rattle.ephemerons.specs.BodyGraph.{PlacesDiffer}
 use Rattle.node_bodies.specs.Nodes.{place_of, body_of, bodies_from, bodies_of, IsThere}
 use Rattle.node_bodies.specs.NodeBodies.{bodies-there, bodies-gone, node_of_body, body_of_node}
-use Rattle.node_bodies.specs.Lists.{Contains-cons, Contains-head}
-use Rattle.node_bodies.specs.PlaceBodies.{same_body}
 
 pub live_is_there : (nodes : List Node) (n : ℕ) → IsLive nodes n → IsThere nodes n
 live_is_there nodes n live = ap is_there live
@@ -25,13 +24,6 @@ pub is_live_life : (l : Life) → is_live l ≡ true → l ≡ Live
 is_live_life Live is = refl
 is_live_life Dead is = absurd (true≢false (sym is))
 is_live_life Gone is = absurd (true≢false (sym is))
-
-pub there_below : (nodes : List Node) (n : ℕ) → IsThere nodes n → n < length nodes
-there_below nodes n there =
-    elim (cases_lt n (length nodes)) [
-      | inl low ↦ low
-      | inr past ↦ absurd (true≢false (sym there ∙ ap (λ (x : Node). is_there x.life) (get_or_past nodes n no_node past)))
-    ]
 
 -- the body of a node that is there, among all bodies
 pub node_body : (nodes : List Node) (v : SeatView) (n : ℕ) → v.bodies ≡ bodies_of nodes → IsThere nodes n → Contains v.bodies (body_of (place_of nodes) n (node_at nodes n))
@@ -82,11 +74,6 @@ pub places_differ : (nodes : List Node) (v : SeatView) → IsView v → v.bodies
 places_differ nodes v view held =
     subst PlacesDiffer (sym held)
     (differ_from (place_of nodes) 0 nodes (subst (λ bs. (b c : Body) → Contains bs b → Contains bs c → b.place ≡ c.place → b ≡ c) held (λ b c. same_body v b c view)))
-
-pub object-at : (nodes : List Node) (n : ℕ) → object_at (graph_of nodes) n ≡ (node_at nodes n).object
-object-at [] n = refl
-object-at (x ∷ nodes) zero = refl
-object-at (x ∷ nodes) (suc n) = object-at nodes n
 
 -- what stands past the last body
 abbrev no_body : Body

@@ -20,9 +20,9 @@ use Rattle.page_words.specs.Seat.{SeatView}
 use Rattle.page_space.specs.Space.{extents_of_bodies}
 use Rattle.prefinalizer_effects.specs.Acting as words
 use Rattle.node_bodies.specs.Nodes.{IsThere}
-use Rattle.atomic_pause.specs.Pausing.{NamesThere, AllNameThere}
+use Rattle.prefinalizer_effects.specs.Prepared.{NamesThere, AllNameThere}
 use Rattle.node_bodies.specs.Places.{IsJudged}
-use Rattle.atomic_pause.proofs.WeakJudged.{KeepsExtents, same_extents, judged_changed}
+use Rattle.node_bodies.specs.ChangedBodies.{KeepsExtents, same_extents, judged_changed}
 
 -- ---- what holds of null, of all numbers, and of a node's values holds of them after an action
 

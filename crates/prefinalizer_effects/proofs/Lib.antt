@@ -2,3 +2,9 @@ pub mod FieldWords
 pub mod BodiesChanged
 pub mod BodiesKept
 pub mod WordsShown
+pub mod StandingNodes
+pub mod PreparedBodies
+pub mod ActedNodes
+pub mod PrefinalizerFields
+pub mod PrefinalizerShown
+pub mod PrefinalizerBodies

@@ -6,7 +6,6 @@ use Rattle.gc_graph.specs.declared.action.Action.TheVariants as A
 use Rattle.gc_graph.specs.declared.kind.Kind.{Kind}
 use Rattle.gc_graph.specs.declared.kind.Kind.TheVariants.{Strong, Weak, Pair, Plain}
 use Rattle.gc_graph.specs.State.{Setup, Node, node_at, is_there, is_dead}
-use Rattle.gc_graph.specs.Fields.{words_of_kind, field_words, with_value, value_at}
 use Rattle.gc_graph.specs.Valid.{IsTyped}
 use Rattle.gc_graph.specs.Actions as graph
 use Rattle.gc_graph.specs.Fields as fields
@@ -16,8 +15,8 @@ use Rattle.prefinalizer_effects.specs.Acting as bodies
 use Rattle.node_bodies.specs.Nodes.{place_of, body_of, bodies_from, IsThere, IsHeld}
 use Rattle.node_bodies.specs.NodeBodies.{bodies-there, bodies-gone}
 use Rattle.node_bodies.specs.NodePlaces.{same_node}
-use Rattle.node_bodies.specs.NodeChanges.{bodies-same}
-use Rattle.atomic_pause.proofs.PrefinalizerFields.{cleared_body, added_body, links_body}
+use Rattle.node_bodies.specs.NodeChanges.{bodies-same, place_set, life_set}
+use Rattle.prefinalizer_effects.proofs.PrefinalizerFields.{cleared_body, added_body, links_body}
 
 -- ---- all bodies
 
@@ -64,20 +63,6 @@ bodies_set g k (suc n) p f y (x ∷ nodes) there at stays same one =
     ]
 
 -- ---- the nodes and the words after an action
-
-place_set : (nodes : List Node) (n : ℕ) (y : Node) (m : ℕ) → y.place ≡ place_of nodes n → place_of (set nodes n y) m ≡ place_of nodes m
-place_set [] n y m is = refl
-place_set (x ∷ nodes) zero y zero is = is
-place_set (x ∷ nodes) zero y (suc m) is = refl
-place_set (x ∷ nodes) (suc n) y zero is = refl
-place_set (x ∷ nodes) (suc n) y (suc m) is = place_set nodes n y m is
-
-life_set : (nodes : List Node) (n : ℕ) (y : Node) (m : ℕ) → y.life ≡ (node_at nodes n).life → (node_at (set nodes n y) m).life ≡ (node_at nodes m).life
-life_set [] n y m is = refl
-life_set (x ∷ nodes) zero y zero is = is
-life_set (x ∷ nodes) zero y (suc m) is = refl
-life_set (x ∷ nodes) (suc n) y zero is = refl
-life_set (x ∷ nodes) (suc n) y (suc m) is = life_set nodes n y m is
 
 module _ (nodes : List Node) (v : SeatView) (view : IsView v) (held : IsHeld nodes v) where
   -- the words hold the nodes once one of them and its body were changed alike

@@ -7,7 +7,7 @@ use Rattle.gc_graph.specs.declared.kind.Kind.TheVariants.{Strong, Weak, Pair, Pl
 use Rattle.gc_graph.specs.declared.kind.Value.{Value}
 use Rattle.gc_graph.specs.declared.kind.Value.TheVariants.{Null, Ref, Word}
 use Rattle.gc_graph.specs.State.{Setup, Node, size_of}
-use Rattle.gc_graph.specs.Fields.{words_of_kind, field_words, with_value, value_at}
+use Rattle.gc_graph.specs.Fields.{field_words, with_value, value_at}
 use Rattle.gc_graph.specs.Valid.{IsReferenceBelow, IsPlainWord, IsTyped}
 use Rattle.gc_graph.specs.Actions as graph
 use Rattle.gc_graph.specs.Fields as fields

@@ -5,21 +5,15 @@ use Rattle.std.proofs.lemmas.Bool.{cases_lt}
 use Rattle.std.proofs.lemmas.List.{take_more, take_more_set, take_all}
 use Rattle.std.proofs.lemmas.List.Sums.{sum_by-cons}
 use Rattle.gc_graph.specs.declared.kind.Kind.{Kind}
-use Rattle.gc_graph.specs.declared.kind.Kind.TheVariants.{Strong, Weak, Pair, Plain}
+use Rattle.gc_graph.specs.declared.kind.Kind.TheVariants.{Plain}
 use Rattle.gc_graph.specs.Fields.{words_of_kind, field_words}
 use Rattle.type_table.specs.Types.{kind_of, IsWordOf}
 use Rattle.type_table.specs.FieldLaw.{FieldsStandApart}
 use Rattle.type_table.specs.Layouts.{kinds_of_words}
 use Rattle.prefinalizer_effects.specs.Shown.{shown, shown_of_kinds}
+use Rattle.type_table.specs.KindLaws.{length-kinds_of_words}
 
 -- ---- the kinds of words
-
-pub words_length : (kinds : List Kind) → length (kinds_of_words kinds) ≡ field_words kinds
-words_length [] = refl
-words_length (Strong ∷ kinds) = omega (arith, words_length kinds, sum_by-cons words_of_kind Strong kinds)
-words_length (Weak ∷ kinds) = omega (arith, words_length kinds, sum_by-cons words_of_kind Weak kinds)
-words_length (Pair ∷ kinds) = omega (arith, words_length kinds, sum_by-cons words_of_kind Pair kinds)
-words_length (Plain ∷ kinds) = omega (arith, words_length kinds, sum_by-cons words_of_kind Plain kinds)
 
 -- each word of the declared fields belongs to one of them
 pub word_has_field : (kinds : List Kind) (i : ℕ) → i < field_words kinds → (field : ℕ) × IsWordOf kinds field (2 + i)
@@ -62,7 +56,7 @@ word_shown kinds fields i kind w x law low long tells is told =
     let known : get_or (kinds_of_words kinds) i Plain ≡ kind =
     ap (λ j. get_or (kinds_of_words kinds) j Plain) (sym index) ∙ law.kind kinds found.0 (2 + i) found.1 ∙ sym (tells found.0 found.1) in
     told ∙ ap (shown kind) is ∙ ap (λ k. shown k (get_or fields i 0)) (sym known)
-    ∙ sym (shown_at (kinds_of_words kinds) fields i (omega (arith, words_length kinds)) (omega (arith, words_length kinds)))
+    ∙ sym (shown_at (kinds_of_words kinds) fields i (omega (arith, length-kinds_of_words kinds)) (omega (arith, length-kinds_of_words kinds)))
 
 -- all words that are there, or the first 64
 pub first_words : (xs : List ℕ) (count : ℕ) → (count ≡ 64) ⊎ ((count ≡ length xs) × (length xs ≤ 64)) → take count xs ≡ take 64 xs

@@ -2,10 +2,10 @@
 use Rattle.std.specs.Prelude.{◌≡◌}
 use Rattle.gc_graph.specs.ActionLaw.{HaveStayed}
 use Rattle.page_space.specs.Space.{extents_of_bodies}
-use Rattle.atomic_pause.specs.declared.prefinalizing.Objects.{Objects}
+use Rattle.prefinalizer_effects.specs.declared.paused.PausedBodies.{PausedBodies}
 
 -- the same parts are lent, and the objects lie where they lay and live if they lived
-pub record KeepsObjects (old new : Objects) : Type 0 where
+pub record KeepsObjects (old new : PausedBodies) : Type 0 where
   pub seat : new.seat.ghost_name ≡ old.seat.ghost_name
   pub nodes : new.nodes.ghost_name ≡ old.nodes.ghost_name
   pub space : new.space.now ≡ old.space.now

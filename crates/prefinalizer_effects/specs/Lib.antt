@@ -1,3 +1,5 @@
 pub mod Shown
 pub mod Acting
 pub mod Places
+pub mod Prepared
+pub mod Lending

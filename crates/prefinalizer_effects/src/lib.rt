@@ -1,11 +1,13 @@
 //! # The effects of prefinalizers
 //!
 //! What it is: what a prefinalizer is shown of a dying object, and what the action that it answers
-//! does to words. It knows nothing of callbacks, of registrations or of the pause.
+//! does to words, and so to the nodes that these hold. It knows nothing of registrations or of how a
+//! pause gets there.
 //!
-//! The parts: `shown_words` (the words of the declared fields as they are shown) and `apply` (the
-//! effect of an action). Inside, `fields` finds a field by its number, and what a strong one names.
-//! The next level down is `member_fields`.
+//! The parts: `shown_words` (the words of the declared fields as they are shown), `apply` (the
+//! effect of an action), and `PausedBodies`, which runs both for the registry of `callback_table`.
+//! Inside, `fields` finds a field by its number, and what a strong one names. The next level down is
+//! `member_fields`.
 //!
 //! | action | the object that strong field `link` of the dying one names |
 //! |---|---|
@@ -15,14 +17,18 @@
 //!
 //! What is proved: exactly the shown words are told, and nothing changes; an action changes exactly
 //! the field that it names, of the object that is named, and no mark. Where there is no such field,
-//! one of another kind, or null in field `link`, nothing changes.
+//! one of another kind, or null in field `link`, nothing changes. What `PausedBodies` answers and
+//! does is what the definitions say of the nodes.
 //!
 //! What is only tested or not said: how long it takes. It looks at the words of the fields alone.
 #![tactic(auto)]
 
+mod acted_nodes;
 mod acting;
 mod fields;
+mod paused;
 mod shown;
 
 pub use acting::apply;
+pub use paused::PausedBodies;
 pub use shown::shown_words;

@@ -4,21 +4,22 @@ use Rattle.gc_graph.specs.State.{Setup, Node}
 use Rattle.gc_graph.specs.declared.kind.Kind.TheVariants.{Weak, Pair}
 use Rattle.gc_graph.specs.ActionLaw.{HaveStayed}
 use Rattle.gc_graph.specs.Pause.{live_count}
+use Rattle.persistent_slots.specs.Clearing.{taken}
 use Rattle.callback_table.specs.declared.registry.Registered.{Registered}
 use Rattle.callback_table.specs.Registry.{IsRegistered}
 use Rattle.callback_table.specs.Table.{kinds_of}
 use Rattle.page_words.specs.Bodies.{Body, IsPlace}
 use Rattle.page_words.specs.Seat.{SeatView, holds}
 use Rattle.page_space.specs.Space.{extents_of_bodies}
-use Rattle.persistent_slots.specs.Clearing.{taken}
 use Rattle.ephemerons.specs.BodyGraph.{AreReferences, PlacesDiffer}
+use Rattle.ephemerons.specs.ListedMarks.{ListsMarks-then}
+use Rattle.prefinalizer_effects.specs.Prepared.{setup_of, IsPrepared}
 use Rattle.node_bodies.specs.Places.{kept_of}
 use Rattle.node_bodies.specs.Judgement.{nodes_after}
 use Rattle.node_bodies.specs.NodePlaces.{places_differ}
 use Rattle.atomic_pause.specs.Marking.{IsRootPlace, MarksReachable}
-use Rattle.atomic_pause.specs.Pausing.{setup_of, IsPrepared}
 use Rattle.atomic_pause.proofs.BodyReferences.{alive_unjudged, alive_marked, references_hold, marked_references}
-use Rattle.atomic_pause.proofs.MarkEnds.{lists_then, listed_from}
+use Rattle.atomic_pause.proofs.MarkEnds.{listed_from}
 use Rattle.atomic_pause.proofs.PausedNodes.{roots_marked, prepared, paused_is, registered_after, kept_count, dead_left}
 use Rattle.atomic_pause.proofs.ReachedNodes.{has_marked, all_roots, keeps_reached}
 use Rattle.atomic_pause.proofs.WeakJudged.{both_cleared, extents_cleared, weak_left_is}
@@ -43,7 +44,7 @@ close-traced-requires-clause-differ g c =
 pub close-traced-requires-clause-listed : goal.close-traced-requires-clause-listed
 close-traced-requires-clause-listed g c =
     listed_from c.args.parts.seat.now c.scan_stack.new.seat c.args.parts.marking.now c.scan_stack.new.marking c.requires.begun.unmarked c.requires.begun.none_listed
-    (lists_then c.args.parts.seat.now c.visit_slots.new.seat c.scan_stack.new.seat c.args.parts.marking.now c.visit_slots.new.marking c.scan_stack.new.marking
+    (ListsMarks-then c.args.parts.seat.now c.visit_slots.new.seat c.scan_stack.new.seat c.args.parts.marking.now c.visit_slots.new.marking c.scan_stack.new.marking
     c.visit_slots.ensures.marks c.scan_stack.ensures.marks)
 
 pub clear_weak-requires-clause-references : goal.clear_weak-requires-clause-references

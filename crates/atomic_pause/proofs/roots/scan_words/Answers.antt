@@ -1,9 +1,9 @@
 use Rattle.std.proofs.Common.{◌≡◌, ◌<◌, ℕ, List, length, get_or, inl, inr, refl, sym, ap, ◌∙◌, subst, arith}
+use Rattle.gc_graph.specs.Members.{Contains-take_more_cases, Contains-take_more_old, Contains-take_more_new}
 use Rattle.page_words.specs.Bodies.{Body}
 use Rattle.page_words.specs.Seat.{SeatView}
 use Rattle.page_space.specs.Space.{HoldsAddress, IsSpaceOver, extents_of_bodies}
-use Rattle.node_bodies.specs.Lists.{Contains-take_more_cases, Contains-take_more_old, Contains-take_more_new}
-use Rattle.atomic_pause.proofs.MarkEnds.{lists_then}
+use Rattle.ephemerons.specs.ListedMarks.{ListsMarks-then}
 use Rattle.atomic_pause.proofs.roots.scan_words.Goals as goal
 
 bodies : (c : goal.After-scan_word) → c.loop-i.seat.bodies ≡ c.args.seat.now.bodies
@@ -21,7 +21,7 @@ pub loop-i-preserved : goal.loop-i-preserved
 loop-i-preserved c =
     let low : c.loop-i.i < length c.args.stack.now = omega arith in
     record {
-      marks = lists_then c.args.seat.now c.loop-i.seat c.scan_word.new.seat c.args.marking.now c.loop-i.marking c.scan_word.new.marking c.loop-i.invariant.marks
+      marks = ListsMarks-then c.args.seat.now c.loop-i.seat c.scan_word.new.seat c.args.marking.now c.loop-i.marking c.scan_word.new.marking c.loop-i.invariant.marks
           c.scan_word.ensures.marks;
       roots = λ p hit. elim (Contains-take_more_cases c.args.stack.now c.loop-i.i 0 hit.0 low hit.1) [
         | inl earlier ↦ c.scan_word.ensures.marks.marked p (c.loop-i.invariant.roots p (hit.0, earlier, hit.2))

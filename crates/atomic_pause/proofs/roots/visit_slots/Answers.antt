@@ -1,10 +1,10 @@
 use Rattle.std.proofs.Common.{◌<◌, length, None, Some, inl, inr, sym, ap, ◌∙◌, subst, arith}
 use Rattle.std.specs.Option.{ForSome}
 use Rattle.std.proofs.lemmas.List.Elements.{All-get_or}
+use Rattle.gc_graph.specs.Members.{Contains-take_more_cases, Contains-take_more_old, Contains-take_more_new}
 use Rattle.page_words.specs.Bodies.{IsPlace}
 use Rattle.page_words.specs.Seat.{SeatView}
-use Rattle.node_bodies.specs.Lists.{Contains-take_more_cases, Contains-take_more_old, Contains-take_more_new}
-use Rattle.atomic_pause.proofs.MarkEnds.{lists_then}
+use Rattle.ephemerons.specs.ListedMarks.{ListsMarks-then}
 use Rattle.atomic_pause.proofs.roots.visit_slots.Goals as goal
 
 pub visit_slot-requires-clause-heap : goal.visit_slot-requires-clause-heap
@@ -24,7 +24,7 @@ pub loop-i-preserved : goal.loop-i-preserved
 loop-i-preserved c =
     let low : c.loop-i.i < length c.args.slots.now = omega arith in
     record {
-      marks = lists_then c.args.seat.now c.loop-i.seat c.visit_slot.new.seat c.args.marking.now c.loop-i.marking c.visit_slot.new.marking c.loop-i.invariant.marks
+      marks = ListsMarks-then c.args.seat.now c.loop-i.seat c.visit_slot.new.seat c.args.marking.now c.loop-i.marking c.visit_slot.new.marking c.loop-i.invariant.marks
           c.visit_slot.ensures.marks;
       roots = λ p among. elim (Contains-take_more_cases c.args.slots.now c.loop-i.i None (Some p) low among) [
         | inl earlier ↦ c.visit_slot.ensures.marks.marked p (c.loop-i.invariant.roots p earlier)

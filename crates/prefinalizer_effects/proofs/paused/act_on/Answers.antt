@@ -10,13 +10,14 @@ use Rattle.page_words.specs.Bodies.{Body}
 use Rattle.page_words.specs.Seat.{SeatView}
 use Rattle.prefinalizer_effects.specs.Acting as words
 use Rattle.node_bodies.specs.Nodes.{IsThere, place_of, body_of, IsHeld}
-use Rattle.atomic_pause.specs.Pausing.{setup_of, AllNameThere}
-use Rattle.atomic_pause.proofs.ActedNodes.{StayPut, acted_put, named_acted, linked_there}
-use Rattle.node_bodies.specs.NodePlaces.{node_body, there_below, serials_fit}
-use Rattle.atomic_pause.proofs.PrefinalizerBodies.{held_acted}
-use Rattle.atomic_pause.proofs.PreparedNodes.{bodies_typed, bodies_linked}
-use Rattle.atomic_pause.proofs.StandingNodes.{stands_there, stands_body}
-use Rattle.atomic_pause.proofs.prefinalizing.act_on.Goals as goal
+use Rattle.prefinalizer_effects.specs.Prepared.{setup_of, AllNameThere}
+use Rattle.prefinalizer_effects.proofs.ActedNodes.{StayPut, acted_put, named_acted, linked_there}
+use Rattle.node_bodies.specs.NodePlaces.{node_body, serials_fit}
+use Rattle.gc_graph.specs.NodeNumbers.{there_below}
+use Rattle.prefinalizer_effects.proofs.PrefinalizerBodies.{held_acted}
+use Rattle.prefinalizer_effects.proofs.PreparedBodies.{bodies_typed, bodies_linked}
+use Rattle.prefinalizer_effects.proofs.StandingNodes.{stands_there, stands_body}
+use Rattle.prefinalizer_effects.proofs.paused.act_on.Goals as goal
 
 pub serial_at-number-requires-clause-start : goal.serial_at-number-requires-clause-start
 serial_at-number-requires-clause-start c =

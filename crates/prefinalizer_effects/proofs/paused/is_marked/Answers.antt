@@ -5,8 +5,8 @@ use Rattle.page_words.specs.Bodies.{Body}
 use Rattle.page_words.specs.Seat.{SeatView, holds}
 use Rattle.node_bodies.specs.Nodes.{place_of, body_of}
 use Rattle.node_bodies.specs.NodePlaces.{node_body}
-use Rattle.atomic_pause.proofs.StandingNodes.{stands_there, stands_body, mark_tells}
-use Rattle.atomic_pause.proofs.prefinalizing.is_marked.Goals as goal
+use Rattle.prefinalizer_effects.proofs.StandingNodes.{stands_there, stands_body, mark_tells}
+use Rattle.prefinalizer_effects.proofs.paused.is_marked.Goals as goal
 
 pub header_at-requires-clause-start : goal.header_at-requires-clause-start
 header_at-requires-clause-start c =

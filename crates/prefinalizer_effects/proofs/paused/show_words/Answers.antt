@@ -5,13 +5,13 @@ use Rattle.gc_graph.specs.Valid.{IsTyped}
 use Rattle.page_words.specs.Bodies.{Body}
 use Rattle.page_words.specs.Seat.{SeatView}
 use Rattle.prefinalizer_effects.specs.Shown as shown
-use Rattle.atomic_pause.specs.Pausing.{setup_of}
+use Rattle.prefinalizer_effects.specs.Prepared.{setup_of}
 use Rattle.node_bodies.specs.Nodes.{place_of, body_of}
 use Rattle.node_bodies.specs.NodePlaces.{node_body}
-use Rattle.atomic_pause.proofs.PreparedNodes.{bodies_typed}
-use Rattle.atomic_pause.proofs.PrefinalizerShown.{shown_body}
-use Rattle.atomic_pause.proofs.StandingNodes.{stands_there, stands_body}
-use Rattle.atomic_pause.proofs.prefinalizing.show_words.Goals as goal
+use Rattle.prefinalizer_effects.proofs.PreparedBodies.{bodies_typed}
+use Rattle.prefinalizer_effects.proofs.PrefinalizerShown.{shown_body}
+use Rattle.prefinalizer_effects.proofs.StandingNodes.{stands_there, stands_body}
+use Rattle.prefinalizer_effects.proofs.paused.show_words.Goals as goal
 
 pub shown_words-requires-clause-typed : goal.shown_words-requires-clause-typed
 shown_words-requires-clause-typed c =

@@ -8,7 +8,8 @@ use Rattle.type_table.specs.Layouts.{kinds_of_words}
 use Rattle.page_words.specs.Seat.{SeatView, IsWordAt}
 use Rattle.prefinalizer_effects.specs.Shown.{shown_of_kinds}
 use Rattle.prefinalizer_effects.proofs.FieldWords.{type_known, kinds_told, size_told, long_fields, fields_inside}
-use Rattle.prefinalizer_effects.proofs.WordsShown.{words_length, shown_length, word_shown, one_more_shown, first_words}
+use Rattle.prefinalizer_effects.proofs.WordsShown.{shown_length, word_shown, one_more_shown, first_words}
+use Rattle.type_table.specs.KindLaws.{length-kinds_of_words}
 use Rattle.prefinalizer_effects.proofs.shown.shown_words.Goals as goal
 
 pub size_of-requires-clause-ty : goal.size_of-requires-clause-ty
@@ -46,7 +47,7 @@ loop-i-preserved c = record {
       let tells : (field : ℕ) → IsWordOf kinds field (2 + i) → c.kind_at.result ≡ kind_of kinds field =
       subst (λ (ks : List Kind). (field : ℕ) → IsWordOf ks field (2 + i) → c.kind_at.result ≡ kind_of ks field) same c.kind_at.ensures in
       one_more_shown c.loop-i.into (shown_of_kinds (kinds_of_words kinds) b.fields) i c.shown.result (omega (arith, c.loop-i.invariant.long, c.loop-i-test.true, c.min-count.ensures))
-      (omega (arith, low, shown_length (kinds_of_words kinds) b.fields (omega (arith, words_length kinds, long)), words_length kinds))
+      (omega (arith, low, shown_length (kinds_of_words kinds) b.fields (omega (arith, length-kinds_of_words kinds, long)), length-kinds_of_words kinds))
       (word_shown kinds b.fields i c.kind_at.result c.load-w.result c.shown.result c.fields_stand_apart.ensures low long tells is c.shown.ensures)
       (c.loop-i.invariant.front b there at);
 }
@@ -58,7 +59,7 @@ returns-clause-words c b there at =
     let xs : List ℕ = shown_of_kinds (kinds_of_words kinds) b.fields in
     let size = size_told v c.args.types.now b c.header_at-ty.result c.size_of.result c.requires.types (c.header_at-ty.ensures.header b there at) c.size_of.ensures.size in
     let long = long_fields v b c.bodies_lie_apart.ensures there (c.requires.typed b there) in
-    let count : length xs ≡ field_words kinds = omega (arith, shown_length (kinds_of_words kinds) b.fields (omega (arith, words_length kinds, long)), words_length kinds) in
+    let count : length xs ≡ field_words kinds = omega (arith, shown_length (kinds_of_words kinds) b.fields (omega (arith, length-kinds_of_words kinds, long)), length-kinds_of_words kinds) in
     let done : c.loop-i.i ≡ c.min-count.result = omega (arith, c.loop-i-test.false, c.loop-i.auto.i-end) in
     ap (λ n. take n c.loop-i.into) (sym done) ∙ c.loop-i.invariant.front b there at ∙ ap (λ n. take n xs) done
     ∙ first_words xs c.min-count.result (elim (cases_lt 64 (field_words kinds)) [
