@@ -1,17 +1,20 @@
 -- The steps of the commands on pairs.
-use Rattle.std.proofs.Common.{◌≡◌, ℕ, ◌+◌, true, false, List, [], ◌∷◌, get_or, Option, option_map, None, refl, sym, ap, ◌∙◌, subst}
+use Rattle.std.proofs.Common.{◌≡◌, ℕ, ◌+◌, true, false, List, [], ◌∷◌, get_or, Option, option_map, Some, None, refl, sym, ap, ◌∙◌, subst}
 use Rattle.std.specs.Prelude.{MatchOption}
+use Rattle.std.specs.Option.{ForSome}
 use Rattle.gc_graph.specs.declared.kind.Value.{Value}
+use Rattle.gc_graph.specs.declared.kind.Value.TheVariants.{Null, Ref, Word}
 use Rattle.gc_graph.specs.declared.line.Line.{Line}
 use Rattle.gc_graph.specs.declared.line.Line.TheVariants as L
-use Rattle.gc_graph.specs.State.{State, Node, node_at}
+use Rattle.gc_graph.specs.State.{State, Node, node_at, IsLive}
 use Rattle.gc_graph.specs.Fields.{with_value, target_of, is_pair}
 use Rattle.gc_graph.specs.CycleSteps.{is_marking}
 use Rattle.gc_graph.specs.Outcomes.{answered, with_slot, slot_at}
-use Rattle.gc_graph.specs.ObjectSteps.{IsChanged, IsRead, first_word}
+use Rattle.gc_graph.specs.ObjectSteps.{IsChanged, IsRead, first_word, part_of}
+use Rattle.node_bodies.specs.Nodes.{place_of, word_of}
 use Rattle.heap_objects.specs.declared.field.Field.{Field}
 use Rattle.heap_objects.specs.declared.field.Part.{Part}
-use Rattle.heap_objects.specs.Fields.{part_in, IsLiveReference}
+use Rattle.heap_objects.specs.Fields.{part_in, IsLiveReference, ArePartsOf}
 use Rattle.heap_engine.specs.FieldSteps.{StepPart, StepWholePair}
 use Rattle.heap_objects.specs.Objects.{target_in, paired_in, ObjectsView}
 use Rattle.heap_handles.specs.Handles.{put_in, HandlesView, slot_part}

@@ -10,22 +10,18 @@ use Rattle.heap_objects.specs.FieldReads.{takes_suited}
 use Rattle.heap_cycle.specs.Ties.{valid_nodes, tied_fields}
 use Rattle.heap_engine.proofs.fields.write.Goals as goal
 
--- the field that was asked for
-is_found : (c : goal.After-store-arg-in-Ok-1) → Found (allows c.args.wanted) c.args.parts.now c.args.p c.args.f c.in-Ok.field
-is_found c = found (allows c.args.wanted) c.args.parts.now c.args.p c.args.f c.in-Ok.field c.requires.ready c.in-Ok.ensures.field
-
 pub store-requires-clause-valid : goal.store-requires-clause-valid
 store-requires-clause-valid c = rw c.in-Ok.ensures.same (valid_nodes c.args.parts.now c.requires.ready)
 
 pub store-requires-clause-field : goal.store-requires-clause-field
 store-requires-clause-field c =
-    let is : Found (allows c.args.wanted) c.args.parts.now c.args.p c.args.f c.in-Ok.field = is_found c in
+    let is : Found (allows c.args.wanted) c.args.parts.now c.args.p c.args.f c.in-Ok.field = found (allows c.args.wanted) c.args.parts.now c.args.p c.args.f c.in-Ok.field c.requires.ready c.in-Ok.ensures.field in
     rw c.in-Ok.ensures.same (is.node, (rw c.in-Ok.ensures.same at c.named.ensures) ∙ is.slot, is.is)
 
 pub store-requires-clause-value : goal.store-requires-clause-value
 store-requires-clause-value c =
     rw c.in-Ok.ensures.same (takes_suited c.args.wanted c.in-Ok.field.kind c.args.parts.now.objects.nodes c.args.content.now.value.value
-    (field_kind (allows c.args.wanted) c.args.parts.now c.args.p c.args.f c.in-Ok.field (is_found c)) c.requires.value)
+    (field_kind (allows c.args.wanted) c.args.parts.now c.args.p c.args.f c.in-Ok.field (found (allows c.args.wanted) c.args.parts.now c.args.p c.args.f c.in-Ok.field c.requires.ready c.in-Ok.ensures.field)) c.requires.value)
 
 pub returns-in-Ok-clause-step : goal.returns-in-Ok-clause-step
 returns-in-Ok-clause-step c =

@@ -11,20 +11,16 @@ use Rattle.heap_objects.specs.FieldNodes.{stays-paired, length-paired}
 use Rattle.heap_cycle.specs.Ties.{valid_nodes, tied_fields}
 use Rattle.heap_engine.proofs.pairs.write_pair.Goals as goal
 
--- the pair that was asked for
-is_found : (c : goal.After-store_pair-arg-in-Ok-1) → Found is_pair c.args.parts.now c.args.p c.args.f c.in-Ok.field
-is_found c = found is_pair c.args.parts.now c.args.p c.args.f c.in-Ok.field c.requires.ready c.in-Ok.ensures.field
-
 pub store_pair-requires-clause-valid : goal.store_pair-requires-clause-valid
 store_pair-requires-clause-valid c = rw c.in-Ok.ensures.same (valid_nodes c.args.parts.now c.requires.ready)
 
 pub store_pair-requires-clause-field : goal.store_pair-requires-clause-field
 store_pair-requires-clause-field c =
-    let is : Found is_pair c.args.parts.now c.args.p c.args.f c.in-Ok.field = is_found c in
+    let is : Found is_pair c.args.parts.now c.args.p c.args.f c.in-Ok.field = found is_pair c.args.parts.now c.args.p c.args.f c.in-Ok.field c.requires.ready c.in-Ok.ensures.field in
     rw c.in-Ok.ensures.same (is.node, (rw c.in-Ok.ensures.same at c.named.ensures) ∙ is.slot, is.is)
 
 pub store_pair-requires-clause-kind : goal.store_pair-requires-clause-kind
-store_pair-requires-clause-kind c = field_kind is_pair c.args.parts.now c.args.p c.args.f c.in-Ok.field (is_found c)
+store_pair-requires-clause-kind c = field_kind is_pair c.args.parts.now c.args.p c.args.f c.in-Ok.field (found is_pair c.args.parts.now c.args.p c.args.f c.in-Ok.field c.requires.ready c.in-Ok.ensures.field)
 
 pub store_pair-requires-clause-parts : goal.store_pair-requires-clause-parts
 store_pair-requires-clause-parts c = rw c.in-Ok.ensures.same c.requires.both
