@@ -14,6 +14,7 @@ use Rattle.gc_graph.specs.Valid.{IsSettled}
 use Rattle.page_space.specs.Space.{FitsBetween}
 use Rattle.heap_cycle.specs.Finalising.{IsSearched}
 use Rattle.node_bodies.specs.Lists.{Contains-cons, Contains-cons_cases}
+use Rattle.gc_graph.specs.FinalisedNodes.{there_earlier}
 
 from_all : (shape : Shape) (pages : ℕ) (es : List Extent) (size a : ℕ) → FitsBetween shape 0 pages es size a → Fits shape pages es size a
 from_all shape pages es size a fits = (fits.0, (fits.1.0, fits.1.2, fits.1.3))
@@ -145,18 +146,6 @@ there_buried Live there = refl
 there_buried Dead there = refl
 there_buried Gone there = there
 
--- a node that is there after the longer sweep is there after the shorter one
-there_sooner : (limit more : ℕ) (x : Node) → limit ≤ more → is_there (finalise more x).life ≡ true → is_there (finalise limit x).life ≡ true
-there_sooner limit more x l there =
-    elim (cases_lt x.place limit) [
-      | inl low ↦
-          subst (λ b. is_there (cond b (record x { life = buried x.life }) x).life ≡ true) (lt-ltb x.place more (omega (arith, l)) ∙ sym (lt-ltb x.place limit low)) there
-      | inr high ↦
-          subst (λ b. is_there (cond b (record x { life = buried x.life }) x).life ≡ true) (sym (le-ltb x.place limit high))
-          (cond_both (ltb x.place more) (record x { life = buried x.life }) x (λ y. is_there y.life ≡ true → is_there x.life ≡ true)
-          (λ is. there_buried x.life) (λ is t. t) there)
-    ]
-
 -- below the end of the shorter sweep a node is the same after both
 there_later : (limit more : ℕ) (x : Node) → limit ≤ more → x.place < limit → is_there (finalise limit x).life ≡ true → is_there (finalise more x).life ≡ true
 there_later limit more x l low there =
@@ -171,7 +160,7 @@ extent_sooner : (limit more : ℕ) (nodes : List Node) (e : Extent) → limit �
 extent_sooner limit more [] e l c = c
 extent_sooner limit more (x ∷ nodes) e l c =
     extent_kept (finalise more x) (finalise limit x) (extents_of (map (finalise more) nodes)) (extents_of (map (finalise limit) nodes)) e
-    (same_extent more limit x) (λ is. there_sooner limit more x l) (extent_sooner limit more nodes e l) c
+    (same_extent more limit x) (λ is. there_earlier limit more x l) (extent_sooner limit more nodes e l) c
 
 extent_later : (limit more : ℕ) (nodes : List Node) (e : Extent) → limit ≤ more → e.place < limit
     → Contains (extents_of (map (finalise limit) nodes)) e → Contains (extents_of (map (finalise more) nodes)) e

@@ -38,6 +38,7 @@ pub taken_away : (n : ℕ) (xs : List Registered) (cs : List ℕ)
 taken_away n xs cs =
     let ys : List Registered = map (registered n 0) cs in ap (λ k. take k (xs ++ ys)) (before_last n xs cs) ∙ take-append_seam xs ys
 
+-- the registration of the callback for the node
 abbrev registration_for : ℕ → ℕ → Registration
 registration_for n c = record { node = n; callback = c }
 

@@ -21,9 +21,6 @@ rewritten a w b = record b { fields = set b.fields (a - (b.place + 2)) w }
 
 -- ---- the place stays
 
-pub place-word : (a w : ℕ) (b : Body) → (with_word a w b).place ≡ b.place
-place-word a w b = cond_both (has_word a b) (rewritten a w b) b (λ c. c.place ≡ b.place) (λ _. refl) (λ _. refl)
-
 -- ---- one body alone changes
 
 -- the node has no field word at the address

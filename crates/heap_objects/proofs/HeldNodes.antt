@@ -24,15 +24,9 @@ use Rattle.node_bodies.specs.NodePlaces.{there_below}
 use Rattle.node_bodies.specs.Lists.{Contains-map_some}
 use Rattle.heap_objects.specs.Objects.{StaysAt}
 use Rattle.heap_objects.specs.FieldNodes.{with_field, place-field, life-field}
-use Rattle.heap_objects.proofs.FieldBodies.{place-word, bodies_stored}
+use Rattle.heap_objects.proofs.FieldBodies.{bodies_stored}
 use Rattle.heap_objects.specs.NewNodes.{node-old, node-new, place-old}
-
--- where nothing is dead in the words, no node is dead
-pub none_dead : (nodes : List Node) (v : SeatView) → IsHeld nodes v → v.dead ≡ [] → (n : ℕ) → IsDead nodes n → ⊥
-none_dead nodes v held empty n dead =
-    never (sym (ap is_dead dead) ∙ sym (held.dead n (ap is_there dead)) ∙ ap (λ l. holds l (place_of nodes n)) empty) where
-      never : true ≡ false → ⊥
-      never e = cc
+use Rattle.page_words.specs.WrittenBodies.{same_place}
 
 -- ---- a new node
 
@@ -118,7 +112,7 @@ marks_stored Sweeping limit v a w swept = record {
   clear = record { marked = swept.clear.marked; traced = swept.clear.traced; dead = swept.clear.dead };
   judged = λ b there high.
       let from = Contains-map_some (with_word a w) v.bodies b there in
-      let place : from.0.place ≡ b.place = sym (place-word a w from.0) ∙ ap (λ (c : Body). c.place) from.2 in
+      let place : from.0.place ≡ b.place = sym (same_place a w from.0) ∙ ap (λ (c : Body). c.place) from.2 in
       subst (λ p. holds v.dead p ≡ not (holds v.marked p)) place (swept.judged from.0 from.1 (omega (arith, high, place)));
 }
 

@@ -20,6 +20,7 @@ use Rattle.node_bodies.specs.NodeLives.{is_dead_life}
 use Rattle.node_bodies.specs.Lists.{Contains-map}
 use Rattle.heap_objects.specs.Finalising.{FinalisesBelow}
 use Rattle.heap_objects.specs.SweptNodes.{life_below, finalise_is, place-finalised, life-finalised}
+use Rattle.sweeper.specs.OutsidePlaces.{outside_holds}
 
 -- ---- the nodes afterwards
 
@@ -80,11 +81,6 @@ alive_between from limit place dead clear =
       | inl low ↦ and_right (not (is_between from limit place)) dead (clear low) ∙ sym (and_right (not (ltb place limit)) dead (clear low))
       | inr high ↦ ap (λ b. not (b && ltb place limit) && dead) (le-leb from place high)
     ]
-
-outside_holds : (from until : ℕ) (places : List ℕ) (a : ℕ) → holds (outside from until places) a ≡ (not (is_between from until a) && holds places a)
-outside_holds from until places a =
-    any-filter_same (λ p. eqb p a) (λ p. not (is_between from until p)) (not (is_between from until a))
-    (λ p same. ap (λ x. not (is_between from until x)) (eqb-true p a same)) places
 
 pub held_below : (nodes : List Node) (v w : SeatView) (from limit : ℕ) (before after : List ℕ) → IsHeld nodes v → IsClearBelow from v
     → Sweeps from limit v before w after → IsHeld (map (finalise limit) nodes) w

@@ -9,8 +9,8 @@ use Rattle.page_words.specs.Seat.{SeatView, IsView, stored, holds}
 use Rattle.node_bodies.specs.Nodes.{place_of, word_of, bodies_from, bodies_of, IsThere, IsHeld}
 use Rattle.heap_objects.specs.Objects.{paired_in, StaysAt}
 use Rattle.node_bodies.specs.NodePlaces.{there_below}
-use Rattle.node_bodies.specs.NodeChanges.{bodies-same}
-use Rattle.heap_objects.specs.FieldNodes.{with_field, place-field, life-field, size-set, size_field, pair_node, with_pair, place-set, life-set}
+use Rattle.node_bodies.specs.NodeChanges.{bodies-same, place_set, life_set}
+use Rattle.heap_objects.specs.FieldNodes.{with_field, place-field, life-field, size-set, size_field, pair_node, with_pair}
 use Rattle.heap_objects.proofs.FieldBodies.{IsElsewhere, bodies-field, only_there, bodies_stored}
 
 -- ---- the nodes
@@ -57,8 +57,8 @@ pub held_paired : (nodes : List Node) (v : SeatView) (a b n i : ℕ) (key value 
 held_paired nodes v a b n i key value view held there at next low =
     let new : List Node = with_pair nodes n i key value in
     let y : Node = pair_node (node_at nodes n) i key value in
-    let place : (m : ℕ) → place_of new m ≡ place_of nodes m = λ m. place-set nodes n y m refl in
-    let life : (m : ℕ) → (node_at new m).life ≡ (node_at nodes m).life = λ m. life-set nodes n y m refl in
+    let place : (m : ℕ) → place_of new m ≡ place_of nodes m = λ m. place_set nodes n y m refl in
+    let life : (m : ℕ) → (node_at new m).life ≡ (node_at nodes m).life = λ m. life_set nodes n y m refl in
     record {
       bodies = bodies_paired nodes v a b n i key value view held.bodies there at next low ∙ bodies-same (place_of nodes) (place_of new) new (λ m. sym (place m));
       dead = λ m present. ap (holds v.dead) (place m) ∙ held.dead m (sym (ap is_there (life m)) ∙ present) ∙ sym (ap is_dead (life m));

@@ -13,7 +13,7 @@ use Rattle.page_space.specs.Space.{extent_of, extents_of_bodies}
 use Rattle.node_bodies.specs.Nodes.{place_of, body_of, bodies_of, IsThere}
 use Rattle.node_bodies.specs.Judgement.{nodes_after}
 use Rattle.node_bodies.specs.Lists.{Contains-map, Contains-map_some}
-use Rattle.node_bodies.specs.NodeLives.{life-condemn}
+use Rattle.node_bodies.specs.NodeLives.{life-condemn, still_there}
 use Rattle.node_bodies.specs.NodePlaces.{live_is_there, node_body, body_node, same_node}
 use Rattle.node_bodies.specs.WeakNodes.{life-after, place-after}
 
@@ -31,10 +31,6 @@ size_kept old new v w n view held held_after same there there_after place =
     let one : node.0 ≡ n = same_node old v node.0 n view held node.2 there at in
     sym (ap (λ (e : Extent). e.size) from.2) ∙ ap (λ (c : Body). c.size) node.3 ∙ ap (λ m. size_of (node_at old m)) one
 
-there_still : (flag : Bool) → is_there (judged flag Live) ≡ true
-there_still true = refl
-there_still false = refl
-
 -- a pause that leaves the bodies where they lie, with their sizes, does so with the live nodes
 pub sizes_stay : (kept : List Bool) (old new : List Node) (v w : SeatView) → IsView v → v.bodies ≡ bodies_of old → w.bodies ≡ bodies_of new
     → extents_of_bodies w.bodies ≡ extents_of_bodies v.bodies → HaveStayed (nodes_after kept old) new → (n : ℕ) → IsLive old n
@@ -42,4 +38,4 @@ pub sizes_stay : (kept : List Bool) (old new : List Node) (v w : SeatView) → I
 sizes_stay kept old new v w view held held_after same stayed n live =
     let life : (node_at new n).life ≡ judged (has kept n) Live =
     stayed.life n ∙ life-after kept old n ∙ life-condemn kept old n ∙ ap (judged (has kept n)) live in
-    size_kept old new v w n view held held_after same (live_is_there old n live) (ap is_there life ∙ there_still (has kept n)) (stayed.place n ∙ place-after kept old n)
+    size_kept old new v w n view held held_after same (live_is_there old n live) (ap is_there life ∙ still_there (has kept n)) (stayed.place n ∙ place-after kept old n)

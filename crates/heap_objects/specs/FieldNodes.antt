@@ -7,7 +7,9 @@ use Rattle.gc_graph.specs.Fields.{word_of_field, with_value}
 use Rattle.node_bodies.specs.Nodes.{place_of}
 use Rattle.heap_objects.specs.Objects.{written_in, paired_in, StaysAt}
 use Rattle.node_bodies.specs.NodePlaces.{live_is_there, there_below}
+use Rattle.node_bodies.specs.NodeChanges.{place_set}
 
+-- word f of node n got the value
 abbrev pub with_field : List Node → ℕ → ℕ → Value → List Node
 with_field nodes n f x = set nodes n (with_value (node_at nodes n) f x)
 
@@ -49,30 +51,15 @@ pub length-written : (nodes : List Node) (slot : Option ℕ) (f : ℕ) (x : Valu
 length-written nodes None f x = refl
 length-written nodes (Some n) f x = length-field nodes n (word_of_field (node_at nodes n).object f) x
 
-pub live_below : (nodes : List Node) (n : ℕ) → IsLive nodes n → n < length nodes
-live_below nodes n live = there_below nodes n (live_is_there nodes n live)
-
 -- ---- a pair
 
+-- the node after the pair whose first word is i got key and value
 abbrev pub pair_node : Node → ℕ → Value → Value → Node
 pair_node node i key value = with_value (with_value node i key) (i + 1) value
 
+-- the pair of node n whose first word is i got key and value
 abbrev pub with_pair : List Node → ℕ → ℕ → Value → Value → List Node
 with_pair nodes n i key value = set nodes n (pair_node (node_at nodes n) i key value)
-
-pub place-set : (nodes : List Node) (n : ℕ) (y : Node) (m : ℕ) → y.place ≡ place_of nodes n → place_of (set nodes n y) m ≡ place_of nodes m
-place-set [] n y m is = refl
-place-set (x ∷ nodes) zero y zero is = is
-place-set (x ∷ nodes) zero y (suc m) is = refl
-place-set (x ∷ nodes) (suc n) y zero is = refl
-place-set (x ∷ nodes) (suc n) y (suc m) is = place-set nodes n y m is
-
-pub life-set : (nodes : List Node) (n : ℕ) (y : Node) (m : ℕ) → y.life ≡ (node_at nodes n).life → (node_at (set nodes n y) m).life ≡ (node_at nodes m).life
-life-set [] n y m is = refl
-life-set (x ∷ nodes) zero y zero is = is
-life-set (x ∷ nodes) zero y (suc m) is = refl
-life-set (x ∷ nodes) (suc n) y zero is = refl
-life-set (x ∷ nodes) (suc n) y (suc m) is = life-set nodes n y m is
 
 pub length-pair : (nodes : List Node) (n i : ℕ) (key value : Value) → length (with_pair nodes n i key value) ≡ length nodes
 length-pair nodes n i key value = length-set nodes n (pair_node (node_at nodes n) i key value)
@@ -83,7 +70,7 @@ stays-paired nodes (Some n) f key value m =
     let x : Node = node_at nodes n in
     let i : ℕ = word_of_field x.object f in
     let y : Node = pair_node x i key value in
-    (place-set nodes n y m refl, size-set nodes n y m (size_field (with_value x i key) (i + 1) value ∙ size_field x i key))
+    (place_set nodes n y m refl, size-set nodes n y m (size_field (with_value x i key) (i + 1) value ∙ size_field x i key))
 
 pub length-paired : (nodes : List Node) (slot : Option ℕ) (f : ℕ) (key value : Value) → length (paired_in nodes slot f key value) ≡ length nodes
 length-paired nodes None f key value = refl

@@ -25,8 +25,8 @@ use Rattle.heap_objects.specs.Objects.{IsLiveAt}
 use Rattle.node_bodies.specs.NodePlaces.{live_is_there, node_body}
 use Rattle.type_table.specs.FieldLaw.{FieldsStandApart}
 use Rattle.node_bodies.specs.TypedNodes.{AreKnown, known_nodes}
-use Rattle.heap_objects.specs.FieldNodes.{live_below}
 use Rattle.node_bodies.specs.FieldKinds.{some_words, word_below}
+use Rattle.gc_graph.specs.NodeNumbers.{live_below}
 
 pub live_place : (nodes : List Node) (v : SeatView) (n place : ℕ) → v.bodies ≡ bodies_of nodes → IsLiveAt nodes n place → IsPlace v.bodies place
 live_place nodes v n place held at = (body_of (place_of nodes) n (node_at nodes n), node_body nodes v n held (live_is_there nodes n at.0), at.1)

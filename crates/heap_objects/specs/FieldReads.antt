@@ -24,16 +24,10 @@ use Rattle.heap_objects.specs.Objects.{IsReferenceTo, target_in}
 use Rattle.node_bodies.specs.NodePlaces.{live_is_there, node_body}
 use Rattle.node_bodies.specs.TypedNodes.{known_nodes}
 use Rattle.node_bodies.specs.FieldKinds.{IsOfKind, value_of_kind}
-use Rattle.heap_objects.specs.FieldNodes.{live_below}
 use Rattle.heap_objects.specs.FieldPlaces.{live_typed, word_low}
+use Rattle.gc_graph.specs.NodeNumbers.{live_below}
 
 -- ---- what may go into a field
-
-pub kind_itself : (kind : Kind) → is_kind kind kind ≡ true
-kind_itself Strong = refl
-kind_itself Weak = refl
-kind_itself Pair = refl
-kind_itself Plain = refl
 
 -- what suits the fields that are wanted goes into each of them
 pub takes_suited : (wanted : Wanted) (kind : Kind) (nodes : List Node) (x : Value) → allows wanted kind ≡ true → Suits wanted nodes x → TakesValue kind nodes x

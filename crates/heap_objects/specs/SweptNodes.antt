@@ -3,6 +3,7 @@ use Rattle.std.proofs.Common.{◌≡◌, ℕ, zero, suc, Bool, true, false, List
 use Rattle.gc_graph.specs.State.{Node, Life, node_at, size_of}
 use Rattle.gc_graph.specs.Sweep.{buried, finalise}
 use Rattle.node_bodies.specs.Nodes.{place_of}
+use Rattle.gc_graph.specs.FinalisedNodes.{finalised_at}
 
 -- the life of a node there, afterwards
 abbrev pub life_below : ℕ → Node → Life
@@ -14,16 +15,8 @@ finalise_is limit x = go (ltb x.place limit) where
   go true = refl
   go false = refl
 
-pub node-finalised : (limit : ℕ) (nodes : List Node) (n : ℕ) → node_at (map (finalise limit) nodes) n ≡ finalise limit (node_at nodes n)
-node-finalised limit [] n = go (ltb 0 limit) where
-  go : (b : Bool) → node_at [] n ≡ cond b (record (node_at [] n) { life = buried (node_at [] n).life }) (node_at [] n)
-  go true = refl
-  go false = refl
-node-finalised limit (x ∷ nodes) zero = refl
-node-finalised limit (x ∷ nodes) (suc n) = node-finalised limit nodes n
-
 pub node_is : (limit : ℕ) (nodes : List Node) (n : ℕ) → node_at (map (finalise limit) nodes) n ≡ record (node_at nodes n) { life = life_below limit (node_at nodes n) }
-node_is limit nodes n = node-finalised limit nodes n ∙ finalise_is limit (node_at nodes n)
+node_is limit nodes n = finalised_at limit nodes n ∙ finalise_is limit (node_at nodes n)
 
 pub place-finalised : (limit : ℕ) (nodes : List Node) (n : ℕ) → place_of (map (finalise limit) nodes) n ≡ place_of nodes n
 place-finalised limit nodes n = ap (λ (x : Node). x.place) (node_is limit nodes n)

@@ -13,9 +13,10 @@ use Rattle.heap_objects.specs.Finalising.{HasMarks}
 use Rattle.node_bodies.specs.NodePlaces.{live_is_there}
 use Rattle.heap_objects.specs.FieldNodes.{with_field, length-field}
 use Rattle.heap_objects.specs.FieldPlaces.{has_word, word_low}
-use Rattle.heap_objects.specs.FieldReads.{kind_itself, takes_word}
+use Rattle.heap_objects.specs.FieldReads.{takes_word}
 use Rattle.heap_objects.proofs.HeldNodes.{marks_stored, held_stored}
 use Rattle.heap_objects.proofs.objects.Objects.store.Goals as goal
+use Rattle.type_table.specs.KindLaws.{kind_itself}
 
 pub write_field-requires-clause-field : goal.write_field-requires-clause-field
 write_field-requires-clause-field c =
