@@ -12,7 +12,7 @@ use Rattle.node_bodies.specs.Places.{IsJudged, kept_of}
 use Rattle.node_bodies.specs.Nodes.{place_of, body_of, bodies_of, IsThere, IsHeld}
 use Rattle.node_bodies.specs.NodeChanges.{bodies-same, bodies-condemn}
 use Rattle.node_bodies.specs.NodePlaces.{node_body}
-use Rattle.node_bodies.specs.NodeLives.{life-condemn, place-condemn, there-condemn, live_if_there, dead_judged}
+use Rattle.node_bodies.specs.NodeLives.{life-condemn, place-condemn, there-condemn, live_if_there, dead_judged, none_dead}
 use Rattle.node_bodies.specs.KeptNodes.{has-kept}
 use Rattle.atomic_pause.specs.Marking.{MarksReachable}
 
