@@ -8,12 +8,10 @@
 //!
 //! What is proved: that each call is safe and ends.
 //!
-//! What is only tested or not said: that it tells all notes of a key, and no other, is tested. It is a
-//! hint: whoever asks looks at each note again.
+//! What is only tested or not said: that it tells all notes of a key, and no other, is tested in
+//! `part_tests`. It is a hint: whoever asks looks at each note again.
 #![tactic(auto)]
 
 mod index;
-#[cfg(test)]
-mod tests;
 
 pub use index::Index;
