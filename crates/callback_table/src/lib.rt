@@ -23,8 +23,6 @@ mod calls;
 mod registry;
 mod running;
 mod table;
-#[cfg(test)]
-mod tests;
 
 pub use bodies::Bodies;
 pub use callback::Callback;

@@ -12,7 +12,7 @@
 //! objects it traced. Neither needs memory: where a push or a note is refused, the heap is walked.
 //!
 //! What is only tested or not said: how long it takes. That the tree over keys tells all notes of a
-//! key is tested in `key_index`.
+//! key is tested in `part_tests`.
 #![tactic(auto)]
 
 mod closing;

@@ -36,8 +36,6 @@ mod memory;
 mod phase;
 mod reach;
 mod region;
-#[cfg(test)]
-mod tests;
 
 pub use action::{Action, ActionKind};
 pub use checking::reach_check;

@@ -10,11 +10,9 @@
 //! put under the key.
 //!
 //! What is only tested or not said: that it tells all notes of a key, and no other by `after`, is
-//! tested. It is a hint: whoever asks looks at each note again.
+//! tested in `part_tests`. It is a hint: whoever asks looks at each note again.
 #![tactic(auto)]
 
 mod index;
-#[cfg(test)]
-mod tests;
 
 pub use index::Index;

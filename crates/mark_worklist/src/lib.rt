@@ -16,8 +16,6 @@
 #![tactic(auto)]
 
 mod marking;
-#[cfg(test)]
-mod tests;
 mod worklist;
 
 pub use marking::Marking;

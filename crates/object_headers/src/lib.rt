@@ -30,8 +30,8 @@
 //! `read_unchecked` answers the same, and `type_in` the type. `with_mark` and `with_traced` change
 //! their bit and no other, of any word. Place and reference tell each other.
 //!
-//! What is only tested or not said: that the tables are what a reader expects is tested on a few
-//! words that were worked out by hand.
+//! What is only tested or not said: that the tables are what a reader expects is tested in
+//! `part_tests`, on a few words that were worked out by hand.
 #![tactic(auto)]
 
 mod bits;
@@ -41,6 +41,3 @@ mod offsets;
 pub use bits::{with_mark, with_traced};
 pub use header::Header;
 pub use offsets::{FIRST_FIELD, SERIAL, place_in, reference_to};
-
-#[cfg(test)]
-mod tests;

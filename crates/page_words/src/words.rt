@@ -145,7 +145,6 @@ impl Words {
     }
 
     /// Marks an object while marking goes on. True where this call set the mark.
-    #[tactic(auto, using(crate::proofs::Marks::mark_is_fresh))]
     pub fn mark(&self, seat: &mut MutatorSeat, a: u32) -> bool
         requires heap { seat.old.count ≡ self.now }
         requires on { seat.old.on ≡ true }

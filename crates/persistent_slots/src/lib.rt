@@ -12,7 +12,5 @@
 #![tactic(auto)]
 
 mod slots;
-#[cfg(test)]
-mod tests;
 
 pub use slots::Slots;

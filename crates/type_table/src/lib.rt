@@ -25,8 +25,6 @@ mod faults;
 mod laws;
 mod layout;
 mod table;
-#[cfg(test)]
-mod tests;
 
 pub use decl::TypeDecl;
 pub use faults::TypeFault;

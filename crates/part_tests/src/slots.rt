@@ -1,13 +1,12 @@
-// A test of places that changes as it is asked. The other calls are made by the heap.
+// Slots, and a test of places that changes as it is asked. The other calls are made by the heap.
 
 ghost use Rattle.std.specs.Prelude.{◌≡◌, ◌<◌, All, false, length, map, not, slice_index_or};
 ghost use Rattle.gc_graph.specs.Pause.{clear_slot};
 ghost use Rattle.persistent_slots.specs.Clearing.{taken};
 
-use super::*;
 use gc_graph::NoMemory;
+use persistent_slots::Slots;
 use std::alloc::Global;
-use std::test::Fail;
 
 /// Marks of places, and how often they were looked at.
 #[derive(Drop)]
@@ -58,7 +57,6 @@ fn cleared_slots(alloc: Global) -> Result<(Option<u32>, Option<u32>, u32), NoMem
 }
 
 #[test]
-fn each_place_is_asked_of_once(rt: HostRuntime) -> Result<(), Fail> {
-    assert_eq!(rt; cleared_slots(rt.alloc())?, (None, Some(0), 2));
-    Ok(())
+fn each_place_is_asked_of_once(rt: HostRuntime) {
+    assert!(rt; matches!(cleared_slots(rt.alloc()), Ok((None, Some(0), 2))));
 }

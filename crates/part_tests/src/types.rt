@@ -1,11 +1,10 @@
-// Each public call once, on layouts that were worked out by hand.
+// Each public call of `type_table` once, on layouts that were worked out by hand.
 
 ghost use Rattle.std.specs.Prelude.{◌≡◌, length, IfOk};
 
-use super::*;
 use gc_graph::{Kind, NoMemory};
 use std::alloc::Global;
-use std::test::Fail;
+use type_table::{TypeDecl, TypeFault, TypeTable};
 
 /// A strong field, a pair, a weak field and a pair; and a type without fields, with two callbacks.
 fn two_types(alloc: Global) -> Result<Vec<TypeDecl>, NoMemory>
@@ -20,9 +19,13 @@ fn two_types(alloc: Global) -> Result<Vec<TypeDecl>, NoMemory>
     Ok(types)
 }
 
-/// So many types of so many strong fields.
-fn many_types(alloc: Global, count: u32, fields: u32) -> Result<Vec<TypeDecl>, NoMemory> {
-    let mut types = Vec::new(alloc);
+/// So many more types of so many strong fields.
+fn with_more(
+    alloc: Global,
+    mut types: Vec<TypeDecl>,
+    count: u32,
+    fields: u32,
+) -> Result<Vec<TypeDecl>, NoMemory> {
     for _ in 0..count {
         let mut kinds = Vec::new(alloc);
         for _ in 0..fields {
@@ -72,54 +75,62 @@ fn counts_and_lists_are_told(table: &TypeTable) -> bool
         & (table.callbacks(1) == [3, 0].as_slice())
 }
 
-/// A table of the two types tells its fields, its words, and the rest.
-fn table_tells(alloc: Global) -> Result<(bool, bool, bool), TypeFault> {
-    let table = match two_types(alloc) {
-        Ok(types) => TypeTable::new(alloc, types, 4)?,
-        Err(_) => return Err(TypeFault::NoMemory),
+fn table_tells(alloc: Global) -> bool {
+    let Ok(types) = two_types(alloc) else {
+        return false;
     };
-    let fields = fields_are_told(&table);
-    let words = words_are_told(&table);
-    Ok((fields, words, counts_and_lists_are_told(&table)))
+    match TypeTable::new(alloc, types, 4) {
+        Ok(table) => {
+            fields_are_told(&table) & words_are_told(&table) & counts_and_lists_are_told(&table)
+        }
+        Err(_) => false,
+    }
 }
 
 /// The types make a table, or have this fault.
-fn comes_to(alloc: Global, types: Vec<TypeDecl>, callbacks: u32, told: Option<TypeFault>) -> bool {
+fn comes_to(
+    alloc: Global,
+    types: Result<Vec<TypeDecl>, NoMemory>,
+    callbacks: u32,
+    told: Option<TypeFault>,
+) -> bool {
+    let Ok(types) = types else {
+        return false;
+    };
     match TypeTable::new(alloc, types, callbacks) {
         Ok(_) => told.is_none(),
         Err(fault) => told == Some(fault),
     }
 }
 
-/// So many types with too many fields after the two types.
+/// Types with too many fields after the two types.
 fn wide_types(alloc: Global) -> Result<Vec<TypeDecl>, NoMemory> {
-    let mut types = two_types(alloc)?;
-    for wide in many_types(alloc, 2, 65)? {
-        types.push(wide)?;
-    }
-    Ok(types)
+    with_more(alloc, two_types(alloc)?, 2, 65)
 }
 
-/// How the most types, one more with too many fields besides, the most fields, one more with an
-/// unknown callback besides, and an unknown callback are told.
-fn faults_are_told(alloc: Global) -> Result<[bool; 5], NoMemory> {
-    let types = comes_to(alloc, many_types(alloc, 16_383, 0)?, 0, None);
-    let types_more = many_types(alloc, 16_384, 65)?;
+/// The most types, one more with too many fields besides, and the most fields.
+fn most_is_taken(alloc: Global) -> bool {
     let over = TypeFault::TooManyTypes { count: 16_384 };
-    let type_more = comes_to(alloc, types_more, 0, Some(over));
-    let fields = comes_to(alloc, many_types(alloc, 2, 64)?, 0, None);
-    let wide_ones = wide_types(alloc)?;
+    comes_to(alloc, with_more(alloc, Vec::new(alloc), 16_383, 0), 0, None)
+        & comes_to(
+            alloc,
+            with_more(alloc, Vec::new(alloc), 16_384, 65),
+            0,
+            Some(over),
+        )
+        & comes_to(alloc, with_more(alloc, Vec::new(alloc), 2, 64), 0, None)
+}
+
+/// One field more with an unknown callback besides, and an unknown callback.
+fn faults_are_told(alloc: Global) -> bool {
     let wide = TypeFault::TooManyFields { ty: 2 };
-    let field_more = comes_to(alloc, wide_ones, 0, Some(wide));
-    let two = two_types(alloc)?;
     let unknown = TypeFault::NoCallback { ty: 1, callback: 3 };
-    let callback = comes_to(alloc, two, 3, Some(unknown));
-    Ok([types, type_more, fields, field_more, callback])
+    comes_to(alloc, wide_types(alloc), 0, Some(wide))
+        & comes_to(alloc, two_types(alloc), 3, Some(unknown))
 }
 
 #[test]
-fn layouts_and_faults_are_told(rt: HostRuntime) -> Result<(), Fail> {
-    assert_eq!(rt; table_tells(rt.alloc())?, (true, true, true));
-    assert_eq!(rt; faults_are_told(rt.alloc())?, [true; 5]);
-    Ok(())
+fn layouts_and_faults_are_told(rt: HostRuntime) {
+    assert!(rt; table_tells(rt.alloc()));
+    assert!(rt; most_is_taken(rt.alloc()) & faults_are_told(rt.alloc()));
 }

@@ -1,7 +1,7 @@
 use Rattle.std.proofs.Common.{rules, ◌≡◌, ◌<◌, Bool, List, length, not, get_or, false, refl, MutBor}
-use Rattle.persistent_slots.specs.declared.tests.Marks.{Marks}
+use Rattle.part_tests.specs.declared.slots.Marks.{Marks}
 use Rattle.persistent_slots.specs.Steady.{may_be_asked, answers_by}
-use Rattle.persistent_slots.proofs.tests.clear_unmarked.Goals as goal
+use Rattle.part_tests.proofs.slots.clear_unmarked.Goals as goal
 
 abbrev State : Type 0
 State = record { 0 : MutBor Marks }
