@@ -23,7 +23,7 @@ use Rattle.gc_graph.specs.Lawful.{IsAllowedOrder}
 use Rattle.gc_graph.specs.ReadBack.{numbers_of_op, numbers_of_reply, IsOf64Bits}
 use Rattle.gc_graph.specs.NumbersLaw.{IsWithinLimits}
 use Rattle.gc_graph.proofs.Sound.{IsSound}
-use Rattle.gc_graph.proofs.WeakReads.{below_if_live}
+use Rattle.gc_graph.specs.NodeNumbers.{live_below}
 use Rattle.gc_graph.proofs.ValidRegion.{Shares, shared_at, entry_sound, thread_may, took_own}
 use Rattle.gc_graph.proofs.SmallWords.{HasSmall, finalised_small}
 
@@ -124,7 +124,7 @@ length-region_after region (O.Upgrade x y) = length-set region y _
 
 module _ (setup : Setup) (a b c : ℕ) (small : a ≤ 1000001) where
   pub live_small : (s : State) (n : ℕ) → IsFew a b c s → IsLive s.nodes n → Small n
-  live_small s n h live = (let l = below_if_live s.nodes n live in let m = h.nodes_few in omega arith)
+  live_small s n h live = (let l = live_below s.nodes n live in let m = h.nodes_few in omega arith)
 
   slot_small : (s : State) (slot : RegionSlot) → IsFew a b c s → Shares s slot → All Small (numbers_of_reply (reply_with (node_of slot)))
   slot_small s Vacant h names = small_none

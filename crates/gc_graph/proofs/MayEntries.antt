@@ -22,7 +22,8 @@ use Rattle.gc_graph.specs.History.{region_slot, region_after, replayed, weak_tar
 use Rattle.gc_graph.specs.Outcomes.{with_entry, took, may_with_entry, IsThreadOp}
 use Rattle.gc_graph.specs.MayLaw.{HasStarted, entry_reads}
 use Rattle.gc_graph.proofs.Sound.{MayHas, IsFollowed, MayFollows, IsSound}
-use Rattle.gc_graph.proofs.WeakReads.{below_if_live, in_below}
+use Rattle.gc_graph.proofs.WeakReads.{in_below}
+use Rattle.gc_graph.specs.NodeNumbers.{live_below}
 use Rattle.gc_graph.proofs.NodeWrites.{node_after}
 use Rattle.gc_graph.proofs.HistoryLaws.{took-region}
 use Rattle.gc_graph.proofs.ValidRegion.{Shares, entry_sound, thread_may, took_phase, shared_at}
@@ -80,7 +81,7 @@ module _ (setup : Setup) (start : State) (begun : HasStarted setup start) where
   reading Idle reads after s n e g f live more one kept = cc
   reading Sweeping reads after s n e g f live more one kept = cc
   reading Marking reads after s n e g f live more one kept =
-      read_kept setup start begun after s.nodes s.may n g.heap.typed f.whole (below_if_live s.nodes n live) (more_itself n after one)
+      read_kept setup start begun after s.nodes s.may n g.heap.typed f.whole (live_below s.nodes n live) (more_itself n after one)
       (kept_more setup start begun reads after s.nodes s.may more kept)
 
   pub weak_read_kept : (reads after : List ℕ) (s : State) (n : ℕ) → s.phase ≡ Marking → IsSound setup s → IsLive s.nodes n → More reads after

@@ -20,7 +20,8 @@ use Rattle.gc_graph.specs.CycleSteps.{IsStart, IsBegun, is_marking, is_stack_ref
 use Rattle.gc_graph.proofs.Reaching.{reach_law, reach_length}
 use Rattle.gc_graph.proofs.Follows.{follow_from}
 use Rattle.gc_graph.proofs.Sound.{RegionNames, slots_from, words_from, found, held_to, all_left, all_right, kinds_at, IsRoot, IsSound}
-use Rattle.gc_graph.proofs.WeakReads.{refers_within, below_if_live, reached_live}
+use Rattle.gc_graph.proofs.WeakReads.{refers_within, reached_live}
+use Rattle.gc_graph.specs.NodeNumbers.{live_below}
 use Rattle.gc_graph.proofs.ValidCases.{bool_is, landed, refused_sound}
 use Rattle.gc_graph.proofs.ValidHandles.{Root}
 use Rattle.gc_graph.proofs.ValidRegion.{entry_sound, others_sound, took_own, took_phase}
@@ -43,7 +44,7 @@ module _ (setup : Setup) (s : State) (g : IsSound setup s) where
       let long : length (graph_of s.nodes) ≡ length s.nodes = length-map s.nodes (λ (x : Node). x.object) in
       let are : AreNodes (graph_of s.nodes) (roots_of s) =
       found (λ k. k < length (graph_of s.nodes)) (roots_of s)
-      (λ k d l. let b = below_if_live s.nodes _ (roots_live setup s g k d l) in omega arith) in
+      (λ k d l. let b = live_below s.nodes _ (roots_live setup s g k d l) in omega arith) in
       reach_law (graph_of s.nodes) (roots_of s) (refers_within setup s.nodes g.heap.typed) are
 
   abbrev After : ℕ → Type 0

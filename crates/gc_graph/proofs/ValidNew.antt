@@ -20,7 +20,8 @@ use Rattle.gc_graph.specs.Outcomes.{answered}
 use Rattle.gc_graph.specs.ObjectSteps.{registrations_for, with_new, IsAllocation, StepNew}
 use Rattle.gc_graph.proofs.Follows.{Anything, Held, Carries, Follows}
 use Rattle.gc_graph.proofs.Sound.{slot_weaker, word_weaker, region_weaker, MayHas, IsRoot, IsHeap, MayFollows, IsSound, kinds_at}
-use Rattle.gc_graph.proofs.WeakReads.{below_if_live, in_below}
+use Rattle.gc_graph.proofs.WeakReads.{in_below}
+use Rattle.gc_graph.specs.NodeNumbers.{live_below}
 use Rattle.gc_graph.proofs.FreePlaces.{IsFreeAt, place_free, free_apart}
 use Rattle.gc_graph.proofs.PurePages.{SharesWell, place_shares}
 use Rattle.gc_graph.proofs.NewObjects.{nulls_each, nulls_all, new_size, new_typed, typed_more, follows_more}
@@ -62,7 +63,7 @@ module _ (setup : Setup) (s : State) (t extra place : ℕ) (g : IsSound setup s)
 
   live_old : (n : ℕ) → IsLive s.nodes n → IsLive After n
   live_old n live =
-      ap (λ (x : Node). x.life) (get_or_append_left s.nodes (New ∷ []) no_node n (below_if_live s.nodes n live)) ∙ live
+      ap (λ (x : Node). x.life) (get_or_append_left s.nodes (New ∷ []) no_node n (live_below s.nodes n live)) ∙ live
 
   live_new : IsLive After Count
   live_new = ap (λ (x : Node). x.life) (get_or_push s.nodes New no_node Count refl)

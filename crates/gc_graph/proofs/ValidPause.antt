@@ -21,7 +21,8 @@ use Rattle.gc_graph.specs.Pause.{IsKept, condemn, is_dead_at, clear_slot, names_
 use Rattle.gc_graph.proofs.Reaching.{reach_law}
 use Rattle.gc_graph.proofs.Follows.{AllFollow, follow_from}
 use Rattle.gc_graph.proofs.Sound.{SlotNames, WordNames, RegionNames, slots_from, slots_to, words_from, words_to, strong_to, found, held_to, all_left, all_right, kinds_at, IsRoot, IsSound}
-use Rattle.gc_graph.proofs.WeakReads.{refers_within, below_if_live}
+use Rattle.gc_graph.proofs.WeakReads.{refers_within}
+use Rattle.gc_graph.specs.NodeNumbers.{live_below}
 use Rattle.gc_graph.proofs.NodeWrites.{LookSame, look_more, live_after}
 use Rattle.gc_graph.proofs.Condemned.{stays, lives_on, cleared_look, cleared_heap}
 use Rattle.gc_graph.proofs.Prefinalising.{StaysInOrder, prefinalised_kept}
@@ -53,7 +54,7 @@ roots_kept setup s want kept g keeps =
     let are : AreNodes graph (roots_of s ++ hits) =
     found (λ k. k < length graph) (roots_of s ++ hits)
     (All-append (λ k. k < length graph) (roots_of s) hits
-    (λ k d l. let b = below_if_live s.nodes _ (roots_live setup s g k d l) in omega arith)
+    (λ k d l. let b = live_below s.nodes _ (roots_live setup s g k d l) in omega arith)
     (λ k d l. let b = hits_below want s k d l in omega arith)) in
     let law : IsLeastClosed graph (roots_of s ++ hits) (Reach graph (roots_of s ++ hits)) =
     reach_law graph (roots_of s ++ hits) (refers_within setup s.nodes g.heap.typed) are in

@@ -16,7 +16,7 @@ use Rattle.gc_graph.specs.ObjectSteps.{first_word, with_node, IsChanged, StepSet
 use Rattle.gc_graph.proofs.Shapes.{IsPairBelow}
 use Rattle.gc_graph.proofs.Follows.{Anything, Held, Carries, Follows}
 use Rattle.gc_graph.proofs.Sound.{SlotNames, MayHas, MayFollows, IsSound}
-use Rattle.gc_graph.proofs.WeakReads.{below_if_live}
+use Rattle.gc_graph.specs.NodeNumbers.{live_below}
 use Rattle.gc_graph.proofs.NodeWrites.{IsLikeNode, LookSame, live_after, look_written, heap_written, node_after, nodes_sound}
 use Rattle.gc_graph.proofs.FieldWrites.{with_pair, one_written, pair_written, suits_reference, suits_plain, one_typed, pair_typed, one_like, pair_like}
 use Rattle.gc_graph.proofs.ValidCases.{field_is, landed, refused_sound}
@@ -62,7 +62,7 @@ changed_sound : (setup : Setup) (old new : State) (n : ℕ) (node : Node) (lines
 changed_sound setup old new n node lines g fit h = landed setup new (answered (with_node old n node)) h.1 (fit_sound setup old n node g fit)
 
 typed_root : (setup : Setup) (s : State) (n : ℕ) → IsSound setup s → Root s n → IsTyped setup (length s.nodes) (node_at s.nodes n)
-typed_root setup s n g root = g.heap.typed n no_node (below_if_live s.nodes n root.live)
+typed_root setup s n g root = g.heap.typed n no_node (live_below s.nodes n root.live)
 
 -- ---- values from slots
 
@@ -74,7 +74,7 @@ FromSlot s (Word w) = ⊥
 
 below_from : (s : State) (value : Value) → FromSlot s value → IsReferenceBelow (length s.nodes) value
 below_from s Null h = tt
-below_from s (Ref n) h = below_if_live s.nodes n h.live
+below_from s (Ref n) h = live_below s.nodes n h.live
 below_from s (Word w) h = absurd h
 
 live_from : (s : State) (value : Value) → FromSlot s value → NamesLive s.nodes value

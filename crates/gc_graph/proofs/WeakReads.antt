@@ -13,11 +13,11 @@ use Rattle.gc_graph.specs.declared.phase.Phase.{Phase}
 use Rattle.gc_graph.specs.declared.phase.Phase.TheVariants.{Idle, Marking, Sweeping}
 use Rattle.gc_graph.specs.Graph.{Object, has, IsIn, leads_to}
 use Rattle.gc_graph.specs.Reach.{set_of, Reach, RefersWithin, AreNodes, IsLeastClosed}
-use Rattle.gc_graph.specs.State.{Setup, State, Node, Life, no_node, node_at, is_live, IsLive, graph_of}
+use Rattle.gc_graph.specs.State.{Setup, State, Node, Life, node_at, is_live, IsLive, graph_of}
 use Rattle.gc_graph.specs.State.Life.{Live, Dead, Gone}
 use Rattle.gc_graph.specs.May.{members, members_from, may_with_read, weakly_read}
 use Rattle.gc_graph.specs.Valid.{HaveKinds, IsTyped, NamesLive}
-use Rattle.gc_graph.specs.NodeNumbers.{object_of_node}
+use Rattle.gc_graph.specs.NodeNumbers.{object_of_node, live_below}
 use Rattle.gc_graph.proofs.Sets.{has-set_of, set_of-below}
 use Rattle.gc_graph.proofs.Reaching.{reach_law, reach_length}
 use Rattle.gc_graph.proofs.Follows.{AnyStrong, AnyPair, Held, Carries, Follows, closed_from, follow_from}
@@ -76,13 +76,6 @@ refers_within setup nodes typed set m n e =
     ] in
     omega arith
 
-pub below_if_live : (nodes : List Node) (n : ℕ) → IsLive nodes n → n < length nodes
-below_if_live nodes n live =
-    elim (cases_lt n (length nodes)) [
-      | inl l ↦ l
-      | inr p ↦ (let gone : Gone ≡ Live = ap (λ (x : Node). x.life) (sym (get_or_past nodes n no_node p)) ∙ live in cc)
-    ]
-
 -- ---- live nodes lead to live ones
 
 live_held : (nodes : List Node) (set : List Bool) → ((n : ℕ) → IsLive nodes n → IsIn set n) → (value : Value) → NamesLive nodes value → Held set value
@@ -131,7 +124,7 @@ true_is_live Gone e = absurd (true≢false (sym e))
 
 into_live : (nodes : List Node) (n : ℕ) → IsLive nodes n → IsIn (live_set nodes) n
 into_live nodes n live =
-    has-set_of (λ k. is_live (node_at nodes k).life) (length nodes) n (below_if_live nodes n live) ∙ is_live_true (node_at nodes n).life live
+    has-set_of (λ k. is_live (node_at nodes k).life) (length nodes) n (live_below nodes n live) ∙ is_live_true (node_at nodes n).life live
 
 from_live : (nodes : List Node) (n : ℕ) → IsIn (live_set nodes) n → IsLive nodes n
 from_live nodes n i =
@@ -200,7 +193,7 @@ read_set setup nodes Marking may n heap live h =
     found (λ k. k < length g) roots
     (All-append (λ k. k < length g) (members may) (n ∷ [])
     (All-weaker (IsIn may) (λ k. k < length g) (λ k i. let l = in_below may k i in omega arith) (members may) (members_in may))
-    (All-cons (λ k. k < length g) n [] (let l = below_if_live nodes n live in omega arith) (All-nil (λ k. k < length g)))) in
+    (All-cons (λ k. k < length g) n [] (let l = live_below nodes n live in omega arith) (All-nil (λ k. k < length g)))) in
     let law : IsLeastClosed g roots (Reach g roots) = reach_law g roots (refers_within setup nodes heap.typed) are in
     record {
       follows = record {

@@ -1,5 +1,5 @@
 -- From the pages to the place of a new object.
-use Rattle.std.proofs.Common.{◌≡◌, ℕ, Bool, ◌+◌, ◌*◌, ◌/◌, ◌<◌, ◌≤◌, true, false, cond, leb, List, Option, Some, None, sym, ap, ◌∙◌, subst, inl, inr, arith, ltb}
+use Rattle.std.proofs.Common.{◌≡◌, ℕ, ◌+◌, ◌*◌, ◌/◌, ◌<◌, ◌≤◌, true, false, cond, leb, List, Option, Some, None, sym, ap, ◌∙◌, subst, inl, inr, arith, ltb}
 use Rattle.std.specs.List.{Contains}
 use Rattle.std.specs.Option.{IfNone}
 use Rattle.std.proofs.lemmas.Bool.{cases_order, cases_lt, cases_Bool, ltb-true, le-leb}
@@ -46,12 +46,6 @@ pub fits_none : (shape : Shape) (bodies : List Body) (from to size : ℕ)
     → ((other : ℕ) → other < to → from ≤ other → IsNowhere (FitsIn shape bodies size other))
     → IsNowhere (FitsBetween shape from to (extents_of_bodies bodies) size)
 fits_none shape bodies from to size none a fits = none fits.1.0 fits.1.2 fits.1.1 a fits.1.3
-
-small_number : (a b c : Bool) → let n : ℕ = cond a 3 (cond b 2 (cond c 1 0)) in n ≡ 4 → ⊥
-small_number true b c e = omega arith
-small_number false true c e = omega arith
-small_number false false true e = omega arith
-small_number false false false e = omega arith
 
 -- in a page with the bucket of a small size each body lies whole
 pub page_holds_whole : (space : SpaceView) (count : ℕ) (bodies : List Body) (size page : ℕ) → 0 < space.shape.page_words
