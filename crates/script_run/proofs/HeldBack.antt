@@ -5,8 +5,8 @@ use Rattle.std.proofs.lemmas.List.{append-nil, append_assoc, append_cancel_left}
 use Rattle.gc_graph.specs.declared.action.ActionKind.{ActionKind}
 use Rattle.gc_graph.specs.State.{Shape}
 use Rattle.gc_graph.specs.Script.{Script}
-use Rattle.heap_script.specs.Devices.{GrewByFront}
-use Rattle.heap_script.specs.Pieces.{PiecesState, no_pieces, with_held, TookMore}
+use Rattle.text_devices.specs.Devices.{GrewByFront}
+use Rattle.report_text.specs.Pieces.{PiecesState, no_pieces, with_held, TookMore}
 use Rattle.heap_engine.specs.View.{View}
 use Rattle.script_run.specs.Headline.{IsWholeRun, IsCutShort}
 use Rattle.script_run.proofs.Writing.{grew}

@@ -10,7 +10,7 @@ use Rattle.gc_graph.specs.HistoryLaw.{RunsAreReplayed}
 use Rattle.gc_graph.specs.Lawful.{IsLawful, IsEndLine, history_of}
 use Rattle.gc_graph.specs.Report.{line_bytes, lines_bytes, type_lines, outcomes_bytes}
 use Rattle.gc_graph.specs.Script.{Script}
-use Rattle.heap_script.specs.Devices.{Grew, GrewByFront, Writes}
+use Rattle.text_devices.specs.Devices.{Grew, GrewByFront, Writes}
 use Rattle.heap_engine.specs.View.{View}
 use Rattle.script_run.specs.Setting.{setup_of}
 use Rattle.script_run.specs.Printed.{IsPrintedRun, IsPartRun, printed_lines}

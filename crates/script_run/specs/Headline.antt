@@ -7,7 +7,7 @@ use Rattle.gc_graph.specs.State.{Shape, empty_state}
 use Rattle.gc_graph.specs.Lawful.{Outcome, IsLawful, IsEndLine, last_state}
 use Rattle.gc_graph.specs.Report.{type_lines, lines_bytes, outcomes_bytes, report_of}
 use Rattle.gc_graph.specs.Script.{Script, IsTooLong, IsInLimits}
-use Rattle.heap_script.specs.Devices.{Grew, GrewByFront, IsReadFrom}
+use Rattle.text_devices.specs.Devices.{Grew, GrewByFront, IsReadFrom}
 use Rattle.heap_script.specs.Scripts.{IsBuiltScript, IsFirstUnbuilt}
 use Rattle.heap_script.specs.declared.script.ScriptFault.{ScriptFault}
 use Rattle.heap_engine.specs.View.{View}

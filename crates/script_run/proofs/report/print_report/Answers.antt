@@ -1,5 +1,5 @@
 use Rattle.std.proofs.Common.{◌≡◌, length, rules}
-use Rattle.heap_script.specs.Pieces.{with_held, TookMore}
+use Rattle.report_text.specs.Pieces.{with_held, TookMore}
 use Rattle.script_run.specs.Setting.{script_on}
 use Rattle.script_run.proofs.Writing.{counted_are_types}
 use Rattle.script_run.proofs.Printing.{built_let_none_go}
