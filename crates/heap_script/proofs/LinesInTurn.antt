@@ -6,8 +6,8 @@ use Rattle.std.proofs.lemmas.List.Splits.{slice_split-cons_yes, slice_split-cons
 use Rattle.std.proofs.lemmas.Bool.{cond-false, ne_eqb, eqb-true, eq-eqb, cases_Bool}
 use Rattle.std.proofs.lemmas.Option.{get_or_from_slice_get, slice_get_within}
 use Rattle.gc_graph.specs.Words.{lines_of, lines_of_parts, words_of, is_blank}
-use Rattle.heap_script.specs.Cursor.{first_line, lines_after, IsLineEnd}
-use Rattle.heap_script.proofs.WordPlaces.{line_end_after}
+use Rattle.line_words.specs.Cursor.{first_line, lines_after, IsLineEnd}
+use Rattle.line_words.specs.LineParts.{line_end_after}
 
 first_and_rest : (lines : List (List ℕ)) → 0 < length lines → lines ≡ get_or lines 0 [] ∷ drop 1 lines
 first_and_rest [] some = absurd (omega arith)

@@ -4,10 +4,10 @@ ghost use Rattle.std.specs.Prelude.{◌≡◌, ◌⊎◌, ◌<◌, ◌≤◌, tr
 ghost use Rattle.std.specs.Prelude.{MatchOption};
 ghost use Rattle.gc_graph.specs.Script.{is_header};
 ghost use Rattle.gc_graph.specs.Words.{lines_of};
-ghost use Rattle.heap_script.specs.Cursor.{first_line, lines_after, IsLineEnd};
+ghost use Rattle.line_words.specs.Cursor.{first_line, lines_after, IsLineEnd};
 
-use super::cursor::next_word;
 use super::words::is_text;
+use line_words::next_word;
 
 /// Where the line after the one that ends there begins.
 pub(crate) fn next_line(bytes: &[u8], end: usize) -> usize

@@ -2,16 +2,16 @@
 // reads, and only quicker.
 
 ghost use Rattle.std.specs.Prelude.{◌≡◌, ◌≤◌, ◌∷◌, length, drop, codes, IfSome};
-ghost use Rattle.heap_script.specs.Cursor.{line_words};
+ghost use Rattle.line_words.specs.Cursor.{line_words};
 ghost use Rattle.heap_script.specs.QuickLines.{IsQuickLine};
-ghost use Rattle.heap_script.specs.Rows.{bounds_of};
+ghost use Rattle.command_text.specs.Rows.{bounds_of};
 
-use super::places::Bounds;
-use super::quick_words::{
-    EXTRA_WORDS, FIELDS, SLOTS, SlotFieldSlot, WEAK_SLOTS, begins, is_line_end, line_end, next_any,
-    next_small, slot_field_slot, two_small,
+use super::quick_numbers::{
+    EXTRA_WORDS, FIELDS, SLOTS, SlotFieldSlot, WEAK_SLOTS, slot_field_slot, two_small,
 };
+use command_text::Bounds;
 use gc_graph::Command;
+use line_words::{begins, is_line_end, line_end, next_any, next_small};
 
 /// The command that a line says, and the end of the line.
 #[derive(Clone, Copy)]

@@ -5,8 +5,8 @@ ghost use Rattle.gc_graph.specs.Script.{IsScript};
 ghost use Rattle.heap_script.specs.Reading.{fault_with};
 ghost use Rattle.heap_script.specs.Scripts.{IsFaultOf, IsBuiltScript, IsUnbuiltFault};
 
-use super::reasons::{NO_MEMORY, NOT_BUILT};
 use super::script_reader::{Stop, read_lines};
+use command_text::reasons::{NO_MEMORY, NOT_BUILT};
 use gc_graph::Command;
 use std::alloc::Global;
 use std::marker::Model;

@@ -2,19 +2,18 @@
 
 ghost use Rattle.std.specs.Prelude.{◌≡◌, ◌<◌, ◌≤◌, ◌-◌, ◌∷◌, false, take, drop, codes, length, IfOk, IfErr};
 ghost use Rattle.gc_graph.specs.Words.{is_text as is_same};
-ghost use Rattle.heap_script.specs.Cursor.{IsLineEnd, line_words, words_from};
+ghost use Rattle.line_words.specs.Cursor.{IsLineEnd, line_words, words_from};
 ghost use Rattle.heap_script.specs.Past.{reason_after, IsReasonOf, IsPlain, IsTypeKept, IsCommandKept};
 ghost use Rattle.heap_script.specs.Past.{IsCommandAdded, IsLineKept, IsLineRead, AreFaultyWords};
 
-use super::command_lines::read_command;
-use super::cursor::next_word;
 use super::past::Past;
-use super::places::Bounds;
 use super::quick_lines::{QuickLine, quick_line};
-use super::reasons::{NO_MEMORY, ORDER, SECTION};
 use super::type_lines::read_type;
 use super::words::is_text;
+use command_text::reasons::{NO_MEMORY, ORDER, SECTION};
+use command_text::{Bounds, read_command};
 use gc_graph::Command;
+use line_words::next_word;
 use std::alloc::Global;
 use type_table::TypeDecl;
 

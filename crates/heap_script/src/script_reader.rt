@@ -4,13 +4,13 @@ ghost use Rattle.std.specs.Prelude.{◌≡◌, ◌+◌, ◌<◌, ◌≤◌, ◌�
 ghost use Rattle.std.specs.Prelude.{IfOk, IfErr};
 ghost use Rattle.gc_graph.specs.Script.{is_header};
 ghost use Rattle.gc_graph.specs.Words.{lines_of};
-ghost use Rattle.heap_script.specs.Cursor.{first_line};
+ghost use Rattle.line_words.specs.Cursor.{first_line};
 ghost use Rattle.heap_script.specs.Reading.{IsWhole, IsStopped, stop_with};
 
 use super::lines::{count_from, header_end, next_line};
 use super::past::Past;
-use super::reasons::{HEADER, NO_MEMORY, SECTION, TOO_LONG};
 use super::script_lines::{Kept, keep_line};
+use command_text::reasons::{HEADER, NO_MEMORY, SECTION, TOO_LONG};
 use std::alloc::Global;
 
 const MOST_BYTES: usize = 16_777_216;

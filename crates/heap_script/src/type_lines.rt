@@ -5,15 +5,14 @@ ghost use Rattle.std.specs.Prelude.{Some, None};
 ghost use Rattle.std.specs.List.{list_all};
 ghost use Rattle.gc_graph.specs.Words.{is_number};
 ghost use Rattle.gc_graph.specs.Reasons.{type_of_words};
-ghost use Rattle.heap_script.specs.Cursor.{line_words, IsLineEnd};
+ghost use Rattle.line_words.specs.Cursor.{line_words, IsLineEnd};
 ghost use Rattle.heap_script.specs.Past.{IsReasonOf};
 ghost use Rattle.heap_script.specs.TypeLines.{AreCallbacks, reason_of_callbacks, reason_of_type};
 
-use super::cursor::next_word;
 use super::letters::{are_letters, kinds_of};
-use super::numbers::number;
-use super::reasons::{BAD_NUMBER, COUNT, NO_MEMORY, RANGE, UNKNOWN_WORD};
 use super::words::is_text;
+use command_text::reasons::{BAD_NUMBER, COUNT, NO_MEMORY, RANGE, UNKNOWN_WORD};
+use line_words::{next_word, number};
 use std::alloc::Global;
 use type_table::TypeDecl;
 

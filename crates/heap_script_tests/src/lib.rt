@@ -1,7 +1,7 @@
 //! # The tests of scripts, reports and devices
 //!
-//! What it is: the tests of `heap_script`, and nothing else. They stand in a crate of their own, so
-//! that the crates above `heap_script` don't wait for them.
+//! What it is: the tests of `heap_script` and of the crates of text below it, and nothing else. They
+//! stand in a crate of their own, so that the crates above `heap_script` don't wait for them.
 //!
 //! The parts: `cases` (a table of scripts, each with its first fault), `faults` (which fault a
 //! script has), `reading` (what a script says), `printing` (the text of each line of a report),

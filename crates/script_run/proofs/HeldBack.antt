@@ -1,14 +1,14 @@
 -- Text that was held back on its way to the sink.
 use Rattle.std.proofs.Common.{◌≡◌, ℕ, List, ◌++◌, Option, Some, None, refl, sym, ap, ◌∙◌, subst}
-use Rattle.std.specs.Prelude.{Result, Ok, Err, OnOk, OnErr}
+use Rattle.std.specs.Prelude.{Result, Ok, Err, OnOk}
 use Rattle.std.proofs.lemmas.List.{append-nil, append_assoc, append_cancel_left}
 use Rattle.gc_graph.specs.declared.action.ActionKind.{ActionKind}
 use Rattle.gc_graph.specs.State.{Shape}
 use Rattle.gc_graph.specs.Script.{Script}
-use Rattle.heap_script.specs.Devices.{GrewByFront}
-use Rattle.heap_script.specs.Pieces.{PiecesState, no_pieces, with_held, TookMore}
+use Rattle.text_devices.specs.Devices.{GrewByFront}
+use Rattle.report_text.specs.Pieces.{PiecesState, no_pieces, with_held, TookMore}
 use Rattle.heap_engine.specs.View.{View}
-use Rattle.script_run.specs.Headline.{IsWholeRun, IsCutShort}
+use Rattle.script_run.specs.Headline.{IsWholeRun, IsCutShort, IsReported}
 use Rattle.script_run.proofs.Writing.{grew}
 
 pub taken_on : (a b c : Option (List ℕ)) → TookMore a b → TookMore b c → TookMore a c
@@ -46,16 +46,10 @@ cut_out kinds shape script w z first last none t cut =
 
 -- ---- at the end
 
-pub whole_at_last : {T E : Type 0} (kinds : List ActionKind) (shape : Shape) (script : Script) (w z : Option (List ℕ)) (first last : PiecesState) (heap : View) (result : Result T E)
-    → first ≡ no_pieces → OnOk result (last ≡ no_pieces) → OnOk result (IsWholeRun kinds shape script (with_held w first) (with_held z last) heap)
-    → OnOk result (IsWholeRun kinds shape script w z heap)
-whole_at_last kinds shape script w z first last heap (Ok u) none out whole =
+pub told_at_last : {T E : Type 0} (kinds : List ActionKind) (shape : Shape) (script : Script) (w z : Option (List ℕ)) (first last : PiecesState) (heap : View) (result : Result T E)
+    → first ≡ no_pieces → OnOk result (last ≡ no_pieces) → TookMore w z
+    → IsReported kinds shape script (with_held w first) (with_held z last) heap result → IsReported kinds shape script w z heap result
+told_at_last kinds shape script w z first last heap (Ok u) none out t whole =
     subst (λ (o : Option (List ℕ)). IsWholeRun kinds shape script w o heap) (nothing_held z last out)
     (subst (λ (o : Option (List ℕ)). IsWholeRun kinds shape script o (with_held z last) heap) (nothing_held w first none) whole)
-whole_at_last kinds shape script w z first last heap (Err e) none out whole = tt
-
-pub cut_at_last : {T E : Type 0} (kinds : List ActionKind) (shape : Shape) (script : Script) (w z : Option (List ℕ)) (first last : PiecesState) (result : Result T E)
-    → first ≡ no_pieces → TookMore w z → OnErr result (IsCutShort kinds shape script (with_held w first) (with_held z last))
-    → OnErr result (IsCutShort kinds shape script w z)
-cut_at_last kinds shape script w z first last (Ok u) none t cut = tt
-cut_at_last kinds shape script w z first last (Err e) none t cut = cut_out kinds shape script w z first last none t cut
+told_at_last kinds shape script w z first last heap (Err e) none out t cut = cut_out kinds shape script w z first last none t cut

@@ -4,7 +4,7 @@ use Rattle.std.specs.Prelude.{min}
 use Rattle.std.proofs.lemmas.List.{take_all, drop_all, length-take}
 use Rattle.std.proofs.lemmas.Bool.{cases_lt}
 use Rattle.gc_graph.specs.Script.{IsInLimits}
-use Rattle.heap_script.specs.Devices.{IsReadFrom}
+use Rattle.text_devices.specs.Devices.{IsReadFrom}
 use Rattle.script_run.specs.Headline.{IsReadWhole}
 
 -- fewer bytes than were asked for are all that there were

@@ -1,7 +1,7 @@
 -- What a run answers, where its bytes were read.
 use Rattle.std.proofs.Common.{◌≡◌, ℕ, List, length, Option, option_map, Some, None, subst}
 use Rattle.std.specs.Prelude.{MatchOption}
-use Rattle.heap_script.specs.Devices.{IsReadFrom}
+use Rattle.text_devices.specs.Devices.{IsReadFrom}
 use Rattle.heap_engine.specs.View.{View}
 use Rattle.script_run.specs.declared.status.Status.{Status}
 use Rattle.script_run.specs.declared.status.Status.TheVariants as S

@@ -13,7 +13,7 @@ use Rattle.built_forms.specs.Built.{is_built, AreBuiltCommands}
 use Rattle.gc_graph.specs.HistoryLaw.{RunsAreReplayed}
 use Rattle.gc_graph.specs.Lawful.{Outcome, Run, IsLawful, history_of, last_state}
 use Rattle.gc_graph.specs.Report.{lines_bytes, outcomes_bytes}
-use Rattle.heap_script.specs.Devices.{Grew, GrewByFront}
+use Rattle.text_devices.specs.Devices.{Grew, GrewByFront}
 use Rattle.heap_engine.specs.View.{View}
 use Rattle.script_run.specs.Printed.{IsPrintedRun, IsPartRun, printed_lines}
 use Rattle.script_run.proofs.Writing.{grew_by_none, grew, grew_front}

@@ -1,6 +1,6 @@
 -- Reports that are written part by part: the type lines, the outcomes, and the end line.
 use Rattle.std.proofs.Common.{◌≡◌, ℕ, true, List, [], length, take, Option, ap, refl, sym, ◌∙◌, subst, inl, inr, arith}
-use Rattle.std.specs.Prelude.{Result, Ok, Err, OnOk, OnErr}
+use Rattle.std.specs.Prelude.{Result, Ok, Err}
 use Rattle.std.proofs.lemmas.List.{take_all}
 use Rattle.gc_graph.specs.declared.command.Command.{Command}
 use Rattle.gc_graph.specs.declared.line.Line.{Line}
@@ -10,11 +10,11 @@ use Rattle.gc_graph.specs.HistoryLaw.{RunsAreReplayed}
 use Rattle.gc_graph.specs.Lawful.{IsLawful, IsEndLine, history_of}
 use Rattle.gc_graph.specs.Report.{line_bytes, lines_bytes, type_lines, outcomes_bytes}
 use Rattle.gc_graph.specs.Script.{Script}
-use Rattle.heap_script.specs.Devices.{Grew, GrewByFront, Writes}
+use Rattle.text_devices.specs.Devices.{Grew, GrewByFront, Writes}
 use Rattle.heap_engine.specs.View.{View}
 use Rattle.script_run.specs.Setting.{setup_of}
 use Rattle.script_run.specs.Printed.{IsPrintedRun, IsPartRun, printed_lines}
-use Rattle.script_run.specs.Headline.{IsWholeRun, IsCutShort}
+use Rattle.script_run.specs.Headline.{IsWholeRun, IsCutShort, IsReported}
 use Rattle.script_run.proofs.Writing.{grew, grew_front, longer}
 use Rattle.script_run.proofs.Printing.{printed_none, LetNoneGo, front_lets_none_go, lawful_run}
 
@@ -33,7 +33,7 @@ end_of : (kinds : List ActionKind) (shape : Shape) (script : Script) (x y : Opti
     → IsEndLine mid.setup mid.state end → IsEndLine (setup_of kinds shape script.types) mid.state end
 end_of kinds shape script x y old mid end has ended = subst (λ s. IsEndLine s mid.state end) (has.same ∙ has.setup) ended
 
-pub whole_run : (kinds : List ActionKind) (shape : Shape) (script : Script) (law : RunsAreReplayed) (none : LetNoneGo script.commands) (w x y z : Option (List ℕ)) (old mid heap : View) (end : Line)
+whole_run : (kinds : List ActionKind) (shape : Shape) (script : Script) (law : RunsAreReplayed) (none : LetNoneGo script.commands) (w x y z : Option (List ℕ)) (old mid heap : View) (end : Line)
     → Grew w x (lines_bytes (type_lines 0 script.types)) → HasRun kinds shape script x y old mid → mid.state.ordinal ≡ length script.commands
     → IsEndLine mid.setup mid.state end → heap ≡ record mid { closed = true } → Grew y z (line_bytes end)
     → IsWholeRun kinds shape script w z heap
@@ -86,7 +86,7 @@ cut_in_outcomes kinds shape script law none w x y old types setup part =
       written = longer w y _ [] (grew_front w x y _ _ types run.written);
     }
 
-pub cut_in_end : (kinds : List ActionKind) (shape : Shape) (script : Script) (law : RunsAreReplayed) (none : LetNoneGo script.commands) (w x y z : Option (List ℕ)) (old mid : View) (end : Line)
+cut_in_end : (kinds : List ActionKind) (shape : Shape) (script : Script) (law : RunsAreReplayed) (none : LetNoneGo script.commands) (w x y z : Option (List ℕ)) (old mid : View) (end : Line)
     → Grew w x (lines_bytes (type_lines 0 script.types)) → HasRun kinds shape script x y old mid
     → IsEndLine mid.setup mid.state end → GrewByFront y z (line_bytes end) → IsCutShort kinds shape script w z
 cut_in_end kinds shape script law none w x y z old mid end types has ended last =
@@ -109,16 +109,11 @@ cut_in_end kinds shape script law none w x y z old mid end types has ended last 
 
 -- ---- the end line is written or not
 
-pub whole_at_end : {T E : Type 0} (kinds : List ActionKind) (shape : Shape) (script : Script) (law : RunsAreReplayed) (none : LetNoneGo script.commands) (w x y z : Option (List ℕ)) (old mid heap : View) (end : Line) (result : Result T E)
+pub told_at_end : {T E : Type 0} (kinds : List ActionKind) (shape : Shape) (script : Script) (law : RunsAreReplayed) (none : LetNoneGo script.commands) (w x y z : Option (List ℕ)) (old mid heap : View) (end : Line) (result : Result T E)
     → Grew w x (lines_bytes (type_lines 0 script.types)) → HasRun kinds shape script x y old mid → mid.state.ordinal ≡ length script.commands
     → IsEndLine mid.setup mid.state end → heap ≡ record mid { closed = true } → Writes y z (line_bytes end) result
-    → OnOk result (IsWholeRun kinds shape script w z heap)
-whole_at_end kinds shape script law none w x y z old mid heap end (Ok u) types has count ended is last =
+    → IsReported kinds shape script w z heap result
+told_at_end kinds shape script law none w x y z old mid heap end (Ok u) types has count ended is last =
     whole_run kinds shape script law none w x y z old mid heap end types has count ended is last
-whole_at_end kinds shape script law none w x y z old mid heap end (Err e) types has count ended is last = tt
-
-pub cut_at_end : {T E : Type 0} (kinds : List ActionKind) (shape : Shape) (script : Script) (law : RunsAreReplayed) (none : LetNoneGo script.commands) (w x y z : Option (List ℕ)) (old mid : View) (end : Line) (result : Result T E)
-    → Grew w x (lines_bytes (type_lines 0 script.types)) → HasRun kinds shape script x y old mid → IsEndLine mid.setup mid.state end
-    → Writes y z (line_bytes end) result → OnErr result (IsCutShort kinds shape script w z)
-cut_at_end kinds shape script law none w x y z old mid end (Ok u) types has ended last = tt
-cut_at_end kinds shape script law none w x y z old mid end (Err e) types has ended last = cut_in_end kinds shape script law none w x y z old mid end types has ended last
+told_at_end kinds shape script law none w x y z old mid heap end (Err e) types has count ended is last =
+    cut_in_end kinds shape script law none w x y z old mid end types has ended last

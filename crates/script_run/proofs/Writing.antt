@@ -8,7 +8,7 @@ use Rattle.gc_graph.specs.declared.line.Line.{Line}
 use Rattle.gc_graph.specs.declared.line.Line.TheVariants as L
 use Rattle.gc_graph.specs.Outcomes.{finalise_lines}
 use Rattle.gc_graph.specs.Report.{line_bytes, lines_bytes, type_lines}
-use Rattle.heap_script.specs.Devices.{Grew, GrewByFront}
+use Rattle.text_devices.specs.Devices.{Grew, GrewByFront}
 use Rattle.script_run.specs.Printed.{counted_lines}
 
 pub grew_by_none : (a : Option (List ℕ)) → Grew a a []

@@ -1,5 +1,5 @@
 -- What the program answers, and what it has read and written by then.
-use Rattle.std.specs.Prelude.{◌≡◌, ℕ, ◌+◌, ◌≤◌, ◌==◌, if◌then◌else◌, true, List, [], ◌++◌, length, take, Option, Some, None, MatchOption}
+use Rattle.std.specs.Prelude.{◌≡◌, ℕ, ◌+◌, ◌≤◌, ◌==◌, if◌then◌else◌, true, List, [], ◌++◌, length, take, Option, Some, None, MatchOption, Result, Ok, Err}
 use Rattle.gc_graph.specs.declared.action.ActionKind.{ActionKind}
 use Rattle.gc_graph.specs.declared.line.Line.{Line}
 use Rattle.gc_graph.specs.declared.region.Entry.{Entry}
@@ -7,7 +7,7 @@ use Rattle.gc_graph.specs.State.{Shape, empty_state}
 use Rattle.gc_graph.specs.Lawful.{Outcome, IsLawful, IsEndLine, last_state}
 use Rattle.gc_graph.specs.Report.{type_lines, lines_bytes, outcomes_bytes, report_of}
 use Rattle.gc_graph.specs.Script.{Script, IsTooLong, IsInLimits}
-use Rattle.heap_script.specs.Devices.{Grew, GrewByFront, IsReadFrom}
+use Rattle.text_devices.specs.Devices.{Grew, GrewByFront, IsReadFrom}
 use Rattle.heap_script.specs.Scripts.{IsBuiltScript, IsFirstUnbuilt}
 use Rattle.heap_script.specs.declared.script.ScriptFault.{ScriptFault}
 use Rattle.heap_engine.specs.View.{View}
@@ -99,6 +99,11 @@ pub record IsUntouched (told_before told_after : Option (List ℕ)) (faults_befo
   pub faults : faults_after ≡ faults_before
 
 -- ---- what the parts of the program answer
+
+-- the whole report was written of a run that led to this heap, or after a failure a beginning of one
+abbrev pub IsReported : {T E : Type 0} → List ActionKind → Shape → Script → Option (List ℕ) → Option (List ℕ) → View → Result T E → Type 0
+IsReported kinds shape script before after heap (Ok u) = IsWholeRun kinds shape script before after heap
+IsReported kinds shape script before after heap (Err e) = IsCutShort kinds shape script before after
 
 -- what comes of a script that was read, where the callbacks are of these kinds
 abbrev pub RunsScript : List ActionKind → Shape → Script → Option (List ℕ) → Option (List ℕ) → Option View → Status → Type 0

@@ -5,7 +5,7 @@ use Rattle.gc_graph.specs.declared.line.Line.{Line}
 use Rattle.gc_graph.specs.State.{Setup, State, empty_state}
 use Rattle.gc_graph.specs.Lawful.{Outcome, Run, IsEndLine, last_state, history_of}
 use Rattle.gc_graph.specs.Report.{outcomes_bytes, line_bytes, type_lines}
-use Rattle.heap_script.specs.Devices.{Grew, GrewByFront}
+use Rattle.text_devices.specs.Devices.{Grew, GrewByFront}
 use Rattle.heap_engine.specs.View.{View}
 
 -- the lines of each outcome

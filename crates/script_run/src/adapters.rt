@@ -1,8 +1,8 @@
 // Devices over the standard streams. They tell no bytes.
 
 ghost use Rattle.std.specs.Prelude.{◌≡◌, ◌<◌, ◌≤◌, None, length, IfOk};
-ghost use Rattle.heap_script.specs.Causes.{HasCause};
-ghost use Rattle.heap_script.specs.Devices.{Takes, Appends};
+ghost use Rattle.text_devices.specs.Causes.{HasCause};
+ghost use Rattle.text_devices.specs.Devices.{Takes, Appends};
 ghost use Rattle.script_run.specs.Counting.{CountsFaults};
 
 use heap_script::{Failed, Sink, Source};

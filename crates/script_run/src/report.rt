@@ -8,12 +8,12 @@ ghost use Rattle.built_forms.specs.Built.{is_built, AreBuiltCommands};
 ghost use Rattle.gc_graph.specs.Outcomes.{finalise_lines};
 ghost use Rattle.gc_graph.specs.Lawful.{IsAllowed};
 ghost use Rattle.gc_graph.specs.Report.{line_bytes, lines_bytes};
-ghost use Rattle.heap_script.specs.Causes.{HasCause};
-ghost use Rattle.heap_script.specs.Devices.{Writes};
-ghost use Rattle.heap_script.specs.Pieces.{no_pieces, with_held, TookMore};
+ghost use Rattle.text_devices.specs.Causes.{HasCause};
+ghost use Rattle.text_devices.specs.Devices.{Writes};
+ghost use Rattle.report_text.specs.Pieces.{no_pieces, with_held, TookMore};
 ghost use Rattle.script_run.specs.Setting.{IsRunnable, setup_of, script_on};
 ghost use Rattle.script_run.specs.Printed.{IsPrintedRun, IsPartRun, counted_lines};
-ghost use Rattle.script_run.specs.Headline.{IsWholeRun, IsCutShort};
+ghost use Rattle.script_run.specs.Headline.{IsReported};
 
 use gc_graph::{Command, Line};
 use heap_engine::Heap;
@@ -37,14 +37,9 @@ pub(crate) fn print_report<K: Sink>(
     requires fresh { heap.old.core.history ≡ [] }
     requires opened { heap.old.core.closed ≡ false }
     requires empty { pieces.old ≡ no_pieces }
-    ensures done { OnOk result
-        (IsWholeRun heap.old.core.setup.callbacks heap.old.core.setup.shape
+    ensures told { IsReported heap.old.core.setup.callbacks heap.old.core.setup.shape
         (script_on heap.old.core.setup commands.now)
-        (K.written sink.old) (K.written sink.new) heap.new.core) }
-    ensures part { OnErr result
-        (IsCutShort heap.old.core.setup.callbacks heap.old.core.setup.shape
-        (script_on heap.old.core.setup commands.now)
-        (K.written sink.old) (K.written sink.new)) }
+        (K.written sink.old) (K.written sink.new) heap.new.core result }
     ensures cause { HasCause (K.faults sink.old) (K.faults sink.new) result }
 {
     gc_graph::runs_are_replayed();

@@ -1,6 +1,6 @@
 use Rattle.std.proofs.Common.{◌≡◌, ◌∷◌, length, drop, ap, ◌∙◌, sym, arith}
 use Rattle.gc_graph.specs.Words.{lines_of}
-use Rattle.heap_script.specs.Cursor.{first_line}
+use Rattle.line_words.specs.Cursor.{first_line}
 use Rattle.heap_script.proofs.LinesInTurn.{lines_left}
 use Rattle.heap_script.proofs.lines.count_from.Goals as goal
 

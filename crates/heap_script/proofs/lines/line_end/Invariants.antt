@@ -1,5 +1,5 @@
 use Rattle.std.proofs.Common.{◌≡◌, ◌-◌, ◌≤◌, length, drop}
-use Rattle.heap_script.specs.Cursor.{lines_after}
+use Rattle.line_words.specs.Cursor.{lines_after}
 use Rattle.heap_script.proofs.lines.line_end.Given as goal
 
 abbrev pub invariant-loop-from : goal.invariant-loop-from

@@ -1,5 +1,5 @@
 use Rattle.std.proofs.Common.{sym, ◌∙◌}
-use Rattle.heap_script.specs.Cursor.{words_from}
+use Rattle.line_words.specs.Cursor.{words_from}
 use Rattle.heap_script.proofs.LineReasons.{words_faulty, command_late, command_fine}
 use Rattle.heap_script.proofs.script_lines.keep_command.Goals as goal
 

@@ -1,5 +1,5 @@
 use Rattle.std.proofs.Common.{drop}
-use Rattle.heap_script.specs.Cursor.{line_words}
+use Rattle.line_words.specs.Cursor.{line_words}
 use Rattle.heap_script.proofs.LineReasons.{type_faulty, type_late, type_fine}
 use Rattle.heap_script.proofs.script_lines.keep_type.Goals as goal
 

@@ -2,7 +2,7 @@ use Rattle.std.proofs.Common.{◌≡◌, ℕ, ◌+◌, ◌<◌, ◌∷◌, List,
 use Rattle.std.proofs.lemmas.List.{drop_all}
 use Rattle.gc_graph.specs.Words.{lines_of}
 use Rattle.heap_script.specs.declared.past.Past.{Past}
-use Rattle.heap_script.specs.Cursor.{first_line, line_words, lines_after}
+use Rattle.line_words.specs.Cursor.{first_line, line_words, lines_after}
 use Rattle.heap_script.specs.Reading.{stop_with}
 use Rattle.heap_script.proofs.LinesInTurn.{lines_left}
 use Rattle.heap_script.proofs.ReadSoFar.{next_there, rest_is, read_lines, read_more}

@@ -1,5 +1,5 @@
 use Rattle.std.proofs.Common.{◌≡◌, ℕ, ◌-◌, ◌<◌, List, [], ◌∷◌, ◌++◌, ◌∙◌, ap, sym, take, drop, append_assoc, arith, rules}
-use Rattle.heap_script.specs.Cursor.{line_words}
+use Rattle.line_words.specs.Cursor.{line_words}
 use Rattle.heap_script.proofs.TypeCallbacks.{one_kept, one_over}
 use Rattle.heap_script.proofs.type_lines.read_numbers.Goals as goal
 

@@ -1,5 +1,5 @@
 use Rattle.std.proofs.Common.{◌≡◌, ℕ, ◌-◌, ◌≤◌, List, ◌++◌, length, drop}
-use Rattle.heap_script.specs.Cursor.{line_words, lines_after}
+use Rattle.line_words.specs.Cursor.{line_words, lines_after}
 use Rattle.heap_script.specs.TypeLines.{AreCallbacks}
 use Rattle.heap_script.proofs.type_lines.read_numbers.Given as goal
 

@@ -1,5 +1,5 @@
 use Rattle.std.proofs.Common.{◌≡◌, false, take}
-use Rattle.heap_script.specs.Pieces.{with_held, TookMore}
+use Rattle.report_text.specs.Pieces.{with_held, TookMore}
 use Rattle.script_run.specs.Printed.{IsPrintedRun}
 use Rattle.script_run.proofs.report.print_all.Given as goal
 

@@ -2,8 +2,8 @@ use Rattle.std.proofs.Common.{◌≡◌, length, refl, rules, sym, subst, Some}
 use Rattle.std.specs.List.{slice_get}
 use Rattle.gc_graph.specs.Outcomes.{finalise_lines}
 use Rattle.gc_graph.specs.Report.{lines_bytes}
-use Rattle.heap_script.specs.Devices.{Grew}
-use Rattle.heap_script.specs.Pieces.{with_held}
+use Rattle.text_devices.specs.Devices.{Grew}
+use Rattle.report_text.specs.Pieces.{with_held}
 use Rattle.script_run.proofs.Writing.{line_more, line_fails, front_fails}
 use Rattle.script_run.proofs.HeldBack.{taken_on}
 use Rattle.script_run.proofs.report.print_lines.Goals as goal

@@ -1,7 +1,7 @@
 use Rattle.std.proofs.Common.{sym, ap, ◌∙◌, subst}
 use Rattle.gc_graph.specs.Report.{lines_bytes}
-use Rattle.heap_script.specs.Devices.{Writes}
-use Rattle.heap_script.specs.Pieces.{with_held}
+use Rattle.text_devices.specs.Devices.{Writes}
+use Rattle.report_text.specs.Pieces.{with_held}
 use Rattle.script_run.proofs.Writing.{one_line}
 use Rattle.script_run.proofs.report.print_outcome.Goals as goal
 

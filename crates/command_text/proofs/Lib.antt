@@ -1,0 +1,13 @@
+pub mod Accepting
+pub mod CommandForms
+pub mod FormRanks
+pub mod LinesByRows
+pub mod LinesOfGroups
+pub mod PairLines
+pub mod PlacesRead
+pub mod RanksOfWords
+pub mod RowEnds
+pub mod RowRanks
+pub mod RowsFound
+pub mod Shapes
+pub mod WideRows

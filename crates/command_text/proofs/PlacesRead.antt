@@ -1,0 +1,134 @@
+-- The words of a line read one after the other, each at its place.
+use Rattle.std.proofs.Common.{◌≡◌, ℕ, ◌+◌, ◌<◌, ◌≤◌, ◌&&◌, min, not, Bool, true, false, Option, Some, None, cond, List, [], ◌∷◌, ◌++◌, length, map, get_or, take, drop, refl, sym, ap, ◌∙◌, subst, append_assoc, nat_le, nat_lt, arith}
+use Rattle.std.proofs.lemmas.List.{take_more, take_all, drop-drop, append-nil, length-append, length-drop, length-map, map-append}
+use Rattle.gc_graph.specs.Words.{is_number}
+use Rattle.gc_graph.specs.Forms.{Place}
+use Rattle.gc_graph.specs.Reasons.{Bounds as GrammarBounds, says, all_say, value_of, is_beyond}
+use Rattle.command_text.specs.declared.forms.Spot.{Spot}
+use Rattle.command_text.specs.declared.places.Bounds.{Bounds}
+use Rattle.command_text.specs.declared.said.Said.{Said}
+use Rattle.command_text.specs.Ranks.{rank_by, number_rank, lowest}
+use Rattle.command_text.specs.Rows.{bounds_of, place_of}
+use Rattle.command_text.specs.Said.{list_of, words_left, IsReadAt, IsReadOn}
+
+pub rank_le9 : (u b c o : Bool) → rank_by u b c o ≤ 9
+rank_le9 true b c o = omega arith
+rank_le9 false true c o = omega arith
+rank_le9 false false true o = omega arith
+rank_le9 false false false true = omega arith
+rank_le9 false false false false = omega arith
+
+-- ---- numbers
+
+range_rank : (number inside : Bool) → cond inside 9 5 ≡ rank_by false false false (true && not inside)
+range_rank number true = refl
+range_rank number false = refl
+
+number_rank_by : (word : List ℕ) (from limit : ℕ) (is : Bool) → is_number word ≡ is
+    → number_rank from limit (cond is (Some (value_of word)) None) ≡ rank_by false (not (is_number word)) false (is_beyond from limit word)
+number_rank_by word from limit true e =
+    range_rank true (nat_le from (value_of word) && nat_lt (value_of word) limit)
+    ∙ ap (λ b. rank_by false (not b) false (b && not (nat_le from (value_of word) && nat_lt (value_of word) limit))) (sym e)
+number_rank_by word from limit false e =
+    ap (λ b. rank_by false (not b) false (b && not (nat_le from (value_of word) && nat_lt (value_of word) limit))) (sym e)
+
+pub number_rank_is : (word : List ℕ) (from limit : ℕ) (value : Option ℕ) → value ≡ cond (is_number word) (Some (value_of word)) None
+    → number_rank from limit value ≡ rank_by false (not (is_number word)) false (is_beyond from limit word)
+number_rank_is word from limit value e = ap (number_rank from limit) e ∙ number_rank_by word from limit (is_number word) refl
+
+some_value : (is : Bool) (n m : ℕ) → Some m ≡ cond is (Some n) None → n ≡ m
+some_value true n m e = cc
+some_value false n m e = cc
+
+pub number_said : (word : List ℕ) (value : Option ℕ) (n : ℕ) → value ≡ cond (is_number word) (Some (value_of word)) None → value ≡ Some n → value_of word ≡ n
+number_said word value n is e = some_value (is_number word) (value_of word) n (sym e ∙ is)
+
+pub ruleset number_ranks = (number_rank_is, number_said)
+
+-- ---- one word
+
+-- ---- one place after the other
+
+pub lowest_nothing : (bounds : GrammarBounds) (places : List Place) → lowest bounds places [] ≡ 9
+lowest_nothing bounds [] = refl
+lowest_nothing bounds (place ∷ places) = refl
+
+pub says_nothing : (places : List Place) → all_say places [] ≡ []
+says_nothing [] = refl
+says_nothing (place ∷ places) = refl
+
+lowest_low : (bounds : GrammarBounds) (places : List Place) (words : List (List ℕ)) → lowest bounds places words ≤ 9
+lowest_low bounds [] words = omega arith
+lowest_low bounds (place ∷ places) [] = omega arith
+lowest_low bounds (place ∷ places) (word ∷ words) = omega (arith, lowest_low bounds places words)
+
+pub lowest_append : (bounds : GrammarBounds) (places more : List Place) (words : List (List ℕ))
+    → lowest bounds (places ++ more) words ≡ min (lowest bounds places words) (lowest bounds more (drop (length places) words))
+lowest_append bounds [] more words = omega (arith, lowest_low bounds more words)
+lowest_append bounds (place ∷ places) more [] = omega (arith, lowest_nothing bounds more)
+lowest_append bounds (place ∷ places) more (word ∷ words) = omega (arith, lowest_append bounds places more words)
+
+pub says_append : (places more : List Place) (words : List (List ℕ))
+    → all_say (places ++ more) words ≡ all_say places words ++ all_say more (drop (length places) words)
+says_append [] more words = refl
+says_append (place ∷ places) more [] = sym (says_nothing more)
+says_append (place ∷ places) more (word ∷ words) =
+    ap (λ ns. says place word ++ ns) (says_append places more words)
+    ∙ sym (append_assoc (says place word) (all_say places words) (all_say more (drop (length places) words)))
+
+-- nothing was read at no places
+pub on_nothing : (bounds : Bounds) (bytes : List ℕ) (old : Said) → old.end ≤ length bytes → old.rank ≤ 9 → IsReadOn bounds [] bytes old old
+on_nothing bounds bytes old within low = record {
+  before = omega arith;
+  within = within;
+  rank = omega (arith, low);
+  numbers = λ good. sym (append-nil (list_of old));
+  count = omega arith;
+  left = refl;
+  lines = refl;
+}
+
+-- one more place after others
+pub on_more : (bounds : Bounds) (spots : List Spot) (spot : Spot) (bytes : List ℕ) (old mid new : Said) → old.rank ≤ 9
+    → IsReadOn bounds spots bytes old mid → IsReadAt (bounds_of bounds) (place_of spot ∷ []) bytes mid new
+    → IsReadOn bounds (spots ++ spot ∷ []) bytes old new
+on_more bounds spots spot bytes old mid new low first next =
+    let words : List (List ℕ) = words_left bytes old in
+    let places : List Place = map place_of spots in
+    let all = map-append place_of spots (spot ∷ []) in
+    let left : words_left bytes mid ≡ drop (length places) words =
+    first.left ∙ ap (λ n. drop n words) (sym (length-map spots place_of)) in
+    let ranks : lowest (bounds_of bounds) (map place_of (spots ++ spot ∷ [])) words
+    ≡ min (lowest (bounds_of bounds) places words) (lowest (bounds_of bounds) (place_of spot ∷ []) (words_left bytes mid)) =
+    ap (λ (ps : List Place). lowest (bounds_of bounds) ps words) all
+    ∙ lowest_append (bounds_of bounds) places (place_of spot ∷ []) words
+    ∙ ap (λ (ws : List (List ℕ)). min (lowest (bounds_of bounds) places words) (lowest (bounds_of bounds) (place_of spot ∷ []) ws)) (sym left) in
+    record {
+      before = omega (arith, first.before, next.before);
+      within = next.within;
+      rank = omega (arith, first.rank, next.rank, ranks);
+      numbers = λ good.
+          next.numbers good
+          ∙ ap (λ ns. ns ++ all_say (place_of spot ∷ []) (words_left bytes mid)) (first.numbers (omega (arith, good, first.rank, next.rank, low)))
+          ∙ append_assoc (list_of old) (all_say places words) (all_say (place_of spot ∷ []) (words_left bytes mid))
+          ∙ ap (λ (ws : List (List ℕ)). list_of old ++ (all_say places words ++ all_say (place_of spot ∷ []) ws)) left
+          ∙ ap (λ ns. list_of old ++ ns) (sym (says_append places (place_of spot ∷ []) words))
+          ∙ ap (λ (ps : List Place). list_of old ++ all_say ps words) (sym all);
+      count = omega (arith, first.count, next.count, ap length first.left, length-drop (length spots) words, length-append spots (spot ∷ []));
+      left = next.left ∙ ap (λ (ws : List (List ℕ)). drop 1 ws) first.left ∙ drop-drop 1 (length spots) words
+          ∙ ap (λ n. drop n words) (sym (length-append spots (spot ∷ [])));
+      lines = first.lines ∙ next.lines;
+    }
+
+-- one more place of a row
+pub on_next : (bounds : Bounds) (all : List Spot) (i : ℕ) (d : Spot) (bytes : List ℕ) (old mid new : Said) → i < length all → old.rank ≤ 9
+    → IsReadOn bounds (take i all) bytes old mid → IsReadAt (bounds_of bounds) (place_of (get_or all i d) ∷ []) bytes mid new
+    → IsReadOn bounds (take (i + 1) all) bytes old new
+on_next bounds all i d bytes old mid new inside low first next =
+    subst (λ (spots : List Spot). IsReadOn bounds spots bytes old new) (sym (take_more all i d inside))
+    (on_more bounds (take i all) (get_or all i d) bytes old mid new low first next)
+
+pub on_all : (bounds : Bounds) (all : List Spot) (n : ℕ) (bytes : List ℕ) (old new : Said) → length all ≤ n
+    → IsReadOn bounds (take n all) bytes old new → IsReadOn bounds all bytes old new
+on_all bounds all n bytes old new few read =
+    subst (λ (spots : List Spot). IsReadOn bounds spots bytes old new) (take_all n all few) read

@@ -1,0 +1,6 @@
+-- What the crate's own code cites.
+pub mod Ranks
+pub mod Rows
+pub mod Said
+pub mod RowLines
+pub mod CommandLines

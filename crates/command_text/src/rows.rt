@@ -1,0 +1,237 @@
+// The table of the forms, and the row that a word chooses.
+
+ghost use Rattle.std.specs.Prelude.{◌≡◌, true, IfSome};
+ghost use Rattle.gc_graph.specs.Forms.{row_named, rows, gc_rows, at_rows};
+ghost use Rattle.command_text.specs.Rows.{SameRow, is_plain_row, is_gc_row, is_at_row};
+
+use super::forms::{Make, OrderForm, Row, SmallForm, Spot, WideForm};
+use super::row_search::{likely_place, row_in, row_near};
+
+const SLOT: Spot = Spot::Number(0, 255);
+
+const SLOT_OR_NULL: Spot = Spot::NumberOrNull(0, 255);
+
+const WEAK_SLOT: Spot = Spot::Number(0, 63);
+
+const REGION_SLOT: Spot = Spot::Number(0, 31);
+
+const FIELD: Spot = Spot::Number(0, 67_108_863);
+
+const EXTRA_WORDS: Spot = Spot::Number(0, 33_554_432);
+
+const STACK_PLACE: Spot = Spot::Number(0, 1023);
+
+const OBJECTS: Spot = Spot::Number(1, 4_294_967_295);
+
+static ROWS: [Row; 21] = [
+    Row {
+        name: b"new",
+        spots: &[SLOT, Spot::TypeNumber, EXTRA_WORDS],
+        least: 2,
+        make: Make::Small(SmallForm::New),
+    },
+    Row {
+        name: b"set",
+        spots: &[SLOT, FIELD, SLOT_OR_NULL],
+        least: 3,
+        make: Make::Small(SmallForm::Set),
+    },
+    Row {
+        name: b"pair",
+        spots: &[SLOT, FIELD, SLOT_OR_NULL, SLOT_OR_NULL],
+        least: 4,
+        make: Make::Small(SmallForm::Pair),
+    },
+    Row {
+        name: b"put",
+        spots: &[SLOT, FIELD],
+        least: 3,
+        make: Make::Wide(WideForm::Put),
+    },
+    Row {
+        name: b"word",
+        spots: &[SLOT, FIELD],
+        least: 2,
+        make: Make::Small(SmallForm::Word),
+    },
+    Row {
+        name: b"get",
+        spots: &[SLOT, FIELD, SLOT],
+        least: 3,
+        make: Make::Small(SmallForm::Get),
+    },
+    Row {
+        name: b"key",
+        spots: &[SLOT, FIELD, SLOT],
+        least: 3,
+        make: Make::Small(SmallForm::Key),
+    },
+    Row {
+        name: b"val",
+        spots: &[SLOT, FIELD, SLOT],
+        least: 3,
+        make: Make::Small(SmallForm::Val),
+    },
+    Row {
+        name: b"copy",
+        spots: &[SLOT, SLOT],
+        least: 2,
+        make: Make::Small(SmallForm::Copy),
+    },
+    Row {
+        name: b"drop",
+        spots: &[SLOT],
+        least: 1,
+        make: Make::Small(SmallForm::Drop),
+    },
+    Row {
+        name: b"weak",
+        spots: &[WEAK_SLOT, SLOT],
+        least: 2,
+        make: Make::Small(SmallForm::Weak),
+    },
+    Row {
+        name: b"read",
+        spots: &[WEAK_SLOT, SLOT],
+        least: 2,
+        make: Make::Small(SmallForm::Read),
+    },
+    Row {
+        name: b"push",
+        spots: &[SLOT, FIELD],
+        least: 2,
+        make: Make::Small(SmallForm::Push),
+    },
+    Row {
+        name: b"push#",
+        spots: &[],
+        least: 1,
+        make: Make::Wide(WideForm::PushPlain),
+    },
+    Row {
+        name: b"pop",
+        spots: &[],
+        least: 0,
+        make: Make::Small(SmallForm::Pop),
+    },
+    Row {
+        name: b"peek",
+        spots: &[STACK_PLACE, SLOT],
+        least: 2,
+        make: Make::Small(SmallForm::Peek),
+    },
+    Row {
+        name: b"sweep",
+        spots: &[],
+        least: 1,
+        make: Make::Wide(WideForm::Sweep),
+    },
+    Row {
+        name: b"stat",
+        spots: &[],
+        least: 0,
+        make: Make::Small(SmallForm::Stat),
+    },
+    Row {
+        name: b"export",
+        spots: &[SLOT, REGION_SLOT],
+        least: 2,
+        make: Make::Small(SmallForm::Export),
+    },
+    Row {
+        name: b"import",
+        spots: &[REGION_SLOT, SLOT],
+        least: 2,
+        make: Make::Small(SmallForm::Import),
+    },
+    Row {
+        name: b"threads",
+        spots: &[Spot::GoOrJoin],
+        least: 1,
+        make: Make::Small(SmallForm::Threads),
+    },
+];
+
+static GC_ROWS: [Row; 4] = [
+    Row {
+        name: b"start",
+        spots: &[],
+        least: 0,
+        make: Make::Small(SmallForm::GcStart),
+    },
+    Row {
+        name: b"step",
+        spots: &[OBJECTS],
+        least: 1,
+        make: Make::Small(SmallForm::GcStep),
+    },
+    Row {
+        name: b"finish",
+        spots: &[Spot::Want],
+        least: 1,
+        make: Make::Small(SmallForm::GcFinish),
+    },
+    Row {
+        name: b"now",
+        spots: &[Spot::Want],
+        least: 1,
+        make: Make::Small(SmallForm::GcNow),
+    },
+];
+
+static AT_ROWS: [Row; 5] = [
+    Row {
+        name: b"copy",
+        spots: &[REGION_SLOT, REGION_SLOT],
+        least: 2,
+        make: Make::Small(SmallForm::At(OrderForm::Copy)),
+    },
+    Row {
+        name: b"clear",
+        spots: &[REGION_SLOT],
+        least: 1,
+        make: Make::Small(SmallForm::At(OrderForm::Clear)),
+    },
+    Row {
+        name: b"weaken",
+        spots: &[REGION_SLOT],
+        least: 1,
+        make: Make::Small(SmallForm::At(OrderForm::Weaken)),
+    },
+    Row {
+        name: b"upgrade",
+        spots: &[REGION_SLOT, REGION_SLOT],
+        least: 2,
+        make: Make::Small(SmallForm::At(OrderForm::Upgrade)),
+    },
+    Row {
+        name: b"totals",
+        spots: &[],
+        least: 0,
+        make: Make::Small(SmallForm::At(OrderForm::Totals)),
+    },
+];
+
+/// The row that the first word of a line chooses.
+pub(crate) fn row_of(word: &[u8]) -> Option<&'static Row>
+    ensures same { SameRow result (row_named word.now rows) }
+    ensures sound { IfSome result (λ row. is_plain_row row.now ≡ true) }
+{
+    row_near(&ROWS, word, likely_place(word))
+}
+
+/// The row that the word after `gc` chooses.
+pub(crate) fn gc_row_of(word: &[u8]) -> Option<&'static Row>
+    ensures same { SameRow result (row_named word.now gc_rows) }
+    ensures sound { IfSome result (λ row. is_gc_row row.now ≡ true) }
+{
+    row_in(&GC_ROWS, word)
+}
+
+/// The row that the word after `at` and its thread chooses.
+pub(crate) fn at_row_of(word: &[u8]) -> Option<&'static Row>
+    ensures same { SameRow result (row_named word.now at_rows) }
+    ensures sound { IfSome result (λ row. is_at_row row.now ≡ true) }
+{
+    row_in(&AT_ROWS, word)
+}

@@ -1,5 +1,0 @@
-use Rattle.heap_script.proofs.WordPlaces.{word_found}
-use Rattle.heap_script.proofs.cursor.next_word.Goals as goal
-
-pub returns : goal.returns
-returns c = word_found _ _ _ _ c.past_spaces-start.ensures c.word_end-end.ensures

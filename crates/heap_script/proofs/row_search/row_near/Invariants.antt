@@ -1,4 +1,0 @@
-use Rattle.heap_script.proofs.row_search.row_near.Given as goal
-
-abbrev pub ghost-row_in : goal.ghost-row_in
-ghost-row_in g a = g.test

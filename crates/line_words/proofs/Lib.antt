@@ -1,0 +1,4 @@
+pub mod QuickWords
+pub mod ShortNumbers
+pub mod Values
+pub mod WordPlaces

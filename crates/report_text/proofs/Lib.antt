@@ -1,0 +1,2 @@
+pub mod DecimalLengths
+pub mod PieceByPiece
