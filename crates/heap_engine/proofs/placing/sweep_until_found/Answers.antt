@@ -2,8 +2,8 @@ use Rattle.std.proofs.Common.{◌≡◌, ◌+◌, ◌*◌, ◌<◌, length, refl
 use Rattle.gc_graph.specs.State.{Setup}
 use Rattle.sweeper.specs.Sweeping.{SweepView, cursor_at}
 use Rattle.heap_engine.specs.declared.parts.Parts.{Parts}
-use Rattle.heap_engine.specs.Finalising.{AreFewTold}
-use Rattle.heap_engine.specs.Parts.{unregistered}
+use Rattle.heap_engine.specs.Finalising.{AreFewTold, IsSearched}
+use Rattle.heap_engine.specs.Parts.{state_of, unregistered}
 use Rattle.heap_engine.specs.Views.{ObjectsView}
 use Rattle.heap_engine.proofs.SweepSteps.{still_open, marks_open}
 use Rattle.heap_engine.proofs.WayToPlace.{between_low, begins, page_made, page_ready, page_placed, page_goes_on}
@@ -72,3 +72,12 @@ loop-page-preserved c =
       registered = c.sweep_page.ensures.swept.registered ∙ c.loop-page.invariant.registered;
       room = c.sweep_page.ensures.room ∙ c.loop-page.invariant.room;
     }
+
+pub returns-clause-searched : goal.returns-clause-searched
+returns-clause-searched c =
+    let s : Parts = c.args.parts.now in
+    let mid : Parts = c.loop-page.parts in
+    let all : mid.cycle.sweep.cursor ≡ s.objects.shape.pages =
+    omega (arith, c.loop-page.invariant.cursor, c.loop-page-test.false, c.pages-page-end.ensures, c.loop-page.invariant.way.searched.within) in
+    subst (λ k. IsSearched s.objects.shape (state_of (unregistered c.args.count s)) c.args.size k c.loop-page.finalised.items (state_of (unregistered c.args.count mid))) all
+    c.loop-page.invariant.way.searched
