@@ -5,3 +5,4 @@ pub mod SweepSteps
 pub mod WayToPlace
 pub mod PauseKeeps
 pub mod CollectSteps
+pub mod OutcomeLines

@@ -1,5 +1,5 @@
 -- The outcome of a command.
-use Rattle.std.specs.Prelude.{ℕ, Bool, true, false, List, [], ◌∷◌, ◌++◌, map, Option}
+use Rattle.std.specs.Prelude.{ℕ, Bool, true, false, List, [], ◌∷◌, ◌++◌, map, Option, ⊤}
 use Rattle.std.specs.Option.{option_to_list}
 use Rattle.gc_graph.specs.declared.line.Line.{Line}
 use Rattle.gc_graph.specs.declared.line.Line.TheVariants as L
@@ -20,6 +20,12 @@ pub record Printed : Type 0 where
 abbrev pub ran_lines : Bool → List (ℕ × ℕ) → List Line
 ran_lines true ran = map (λ r. L.Prefinalise r.0 r.1) ran
 ran_lines false ran = []
+
+-- the line tells a finalised node or a prefinalizer
+abbrev pub TellsNode : Line → Type 0
+TellsNode (L.Finalise k) = ⊤
+TellsNode (L.Prefinalise k c) = ⊤
+TellsNode _ = ⊥
 
 -- the lines of an outcome after those of the finalised nodes, where the last pause ran these prefinalizers
 abbrev pub later_lines : Printed → List (ℕ × ℕ) → List Line

@@ -2,9 +2,10 @@
 // that it ran. It takes no memory after it was made.
 
 ghost use Rattle.std.specs.Prelude.{◌≡◌, ◌++◌, ◌<◌, ◌≤◌, [], length, Some, true, false};
-ghost use Rattle.std.specs.Prelude.{ℕ, List, ◌∷◌, None, IfOk, IfSome, slice_get};
+ghost use Rattle.std.specs.Prelude.{◌∷◌, None, IfOk, IfSome, IfNone, slice_get};
+ghost use Rattle.gc_graph.specs.declared.line.Line.{Line};
 ghost use Rattle.gc_graph.specs.declared.line.Line.TheVariants as L;
-ghost use Rattle.heap_cycle.specs.Printed.{later_lines, outcome_lines};
+ghost use Rattle.heap_cycle.specs.Printed.{later_lines, outcome_lines, TellsNode};
 
 use crate::entries::{self, Entries};
 use gc_graph::{Line, NoMemory};
@@ -107,12 +108,17 @@ impl Outcome {
         self.finalised.len() as u32 + u32::from(self.last.is_some()) + prefinalised
     }
 
-    /// The line of the outcome, where it has one alone that tells no finalised node.
-    pub fn only_line(&self) -> Option<&Line>
-        ensures { IfSome result (λ line. (ran : List (ℕ × ℕ))
-            → outcome_lines self.now ran ≡ line.now ∷ []) }
+    /// The line of the outcome, where it has one alone, unless that tells a finalised node or one of
+    /// these prefinalizers, which the last pause ran.
+    pub fn only_line(&self, ran: &[(u32, u32)]) -> Option<&Line>
+        ensures line { IfSome result (λ line. outcome_lines self.now ran.now ≡ line.now ∷ []) }
+        ensures none { IfNone result ((line : Line)
+            → outcome_lines self.now ran.now ≡ line ∷ [] → TellsNode line) }
     {
-        if !self.finalised.is_empty() || self.prefinalises {
+        if !self.finalised().is_empty() {
+            return None;
+        }
+        if self.prefinalises && !ran.is_empty() {
             return None;
         }
         match &self.last {

@@ -1,7 +1,9 @@
 // A heap that does commands, as its callers have it.
 
 ghost use Rattle.std.specs.Prelude.{◌≡◌, ◌<◌, ◌≤◌};
-ghost use Rattle.std.specs.Prelude.{false, true, [], ◌∷◌, length, take, Some, IfOk, IfSome, slice_get};
+ghost use Rattle.std.specs.Prelude.{false, true, [], ◌∷◌, length, take, Some};
+ghost use Rattle.std.specs.Prelude.{IfOk, IfSome, IfNone, slice_get};
+ghost use Rattle.gc_graph.specs.declared.line.Line.{Line};
 ghost use Rattle.gc_graph.specs.State.{empty_state};
 ghost use Rattle.gc_graph.specs.Outcomes.{finalise_lines};
 ghost use Rattle.built_forms.specs.Built.{is_built};
@@ -10,6 +12,7 @@ ghost use Rattle.gc_graph.specs.Shapes.{IsShape};
 ghost use Rattle.callback_table.specs.Table.{kinds_of};
 ghost use Rattle.heap_engine.specs.Acted.{IsActed};
 ghost use Rattle.heap_objects.specs.Objects.{HaveCallbacks};
+ghost use Rattle.heap_cycle.specs.Printed.{TellsNode};
 
 use crate::heap_core::Core;
 use callback_table::CallbackTable;
@@ -78,9 +81,12 @@ impl<'a> Heap<'a> {
         self.core.line(index)
     }
 
-    /// The line of the last outcome, where it has one alone that tells no finalised node.
+    /// The line of the last outcome, where it has one alone, unless that tells a finalised node or a
+    /// prefinalizer.
     pub fn only_line(&self) -> Option<&Line>
-        ensures { IfSome result (λ line. self.now.core.lines ≡ line.now ∷ []) }
+        ensures line { IfSome result (λ line. self.now.core.lines ≡ line.now ∷ []) }
+        ensures none { IfNone result ((line : Line) → self.now.core.lines ≡ line ∷ []
+            → TellsNode line) }
     {
         self.core.only_line()
     }

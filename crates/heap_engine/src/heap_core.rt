@@ -2,7 +2,9 @@
 // one do them.
 
 ghost use Rattle.std.specs.Prelude.{◌≡◌, ◌*◌, ◌<◌, ◌≤◌};
-ghost use Rattle.std.specs.Prelude.{true, false, [], ◌∷◌, length, take, Some, IfOk, IfSome, slice_get};
+ghost use Rattle.std.specs.Prelude.{true, false, [], ◌∷◌, length, take, Some};
+ghost use Rattle.std.specs.Prelude.{IfOk, IfSome, IfNone, slice_get};
+ghost use Rattle.gc_graph.specs.declared.line.Line.{Line};
 ghost use Rattle.gc_graph.specs.State.{empty_state};
 ghost use Rattle.built_forms.specs.Built.{is_built};
 ghost use Rattle.gc_graph.specs.Outcomes.{answered, finalise_lines};
@@ -14,7 +16,7 @@ ghost use Rattle.callback_table.specs.Table.{kinds_of};
 ghost use Rattle.heap_engine.specs.Acted.{IsActed};
 ghost use Rattle.heap_objects.specs.Objects.{HaveCallbacks};
 ghost use Rattle.heap_cycle.specs.Parts.{setup_of, state_of, counted, IsReady, IsFrame};
-ghost use Rattle.heap_cycle.specs.Printed.{lines_with};
+ghost use Rattle.heap_cycle.specs.Printed.{lines_with, TellsNode};
 
 use crate::creating::new_object;
 use crate::fields::{get, put, set, set_null, word};
@@ -118,9 +120,11 @@ impl Core {
     }
 
     pub fn only_line(&self) -> Option<&Line>
-        ensures { IfSome result (λ line. self.now.lines ≡ line.now ∷ []) }
+        ensures line { IfSome result (λ line. self.now.lines ≡ line.now ∷ []) }
+        ensures none { IfNone result ((line : Line) → self.now.lines ≡ line ∷ []
+            → TellsNode line) }
     {
-        self.outcome.only_line()
+        self.outcome.only_line(self.parts.cycle.ran())
     }
 
     pub fn finalised(&self) -> &[u32]

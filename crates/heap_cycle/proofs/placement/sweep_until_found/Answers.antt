@@ -3,7 +3,8 @@ use Rattle.gc_graph.specs.State.{Setup}
 use Rattle.sweeper.specs.Sweeping.{SweepView, cursor_at}
 use Rattle.heap_cycle.specs.declared.parts.Parts.{Parts}
 use Rattle.heap_objects.specs.Finalising.{AreFewTold}
-use Rattle.heap_cycle.specs.Parts.{unregistered}
+use Rattle.heap_cycle.specs.Finalising.{IsSearched}
+use Rattle.heap_cycle.specs.Parts.{state_of, unregistered}
 use Rattle.heap_objects.specs.Objects.{ObjectsView}
 use Rattle.heap_cycle.proofs.SweepSteps.{still_open, marks_open}
 use Rattle.heap_cycle.proofs.WayToPlace.{between_low, begins, page_made, page_ready, page_placed, page_goes_on}
@@ -72,3 +73,12 @@ loop-page-preserved c =
       registered = c.sweep_page.ensures.swept.registered ∙ c.loop-page.invariant.registered;
       room = c.sweep_page.ensures.room ∙ c.loop-page.invariant.room;
     }
+
+pub returns-clause-searched : goal.returns-clause-searched
+returns-clause-searched c =
+    let s : Parts = c.args.parts.now in
+    let mid : Parts = c.loop-page.parts in
+    let all : mid.cycle.sweep.cursor ≡ s.objects.shape.pages =
+    omega (arith, c.loop-page.invariant.cursor, c.loop-page-test.false, c.pages-page-end.ensures, c.loop-page.invariant.way.searched.within) in
+    subst (λ k. IsSearched s.objects.shape (state_of (unregistered c.args.count s)) c.args.size k c.loop-page.finalised.items (state_of (unregistered c.args.count mid))) all
+    c.loop-page.invariant.way.searched

@@ -8,4 +8,4 @@ use Rattle.script_run.proofs.report.print_outcome.Goals as goal
 pub returns-in-Some-clause-bytes : goal.returns-in-Some-clause-bytes
 returns-in-Some-clause-bytes g c =
     subst (λ text. Writes (with_held (g.K.Sink.written c.args.sink.now) c.args.pieces.now) (with_held (g.K.Sink.written c.print.new.sink) c.print.new.self) text c.print.result)
-    (sym (ap lines_bytes c.in-Some.ensures ∙ one_line c.in-Some.line.now)) c.print.ensures.bytes
+    (sym (ap lines_bytes c.in-Some.ensures.line ∙ one_line c.in-Some.line.now)) c.print.ensures.bytes
