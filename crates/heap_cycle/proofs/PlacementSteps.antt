@@ -141,11 +141,6 @@ same_extent limit more x =
     (λ below. cond_both (ltb x.place more) (record x { life = buried x.life }) x (λ y. extent_of x ≡ extent_of y) (λ is. refl) (λ is. refl))
     (λ past. cond_both (ltb x.place more) (record x { life = buried x.life }) x (λ y. extent_of x ≡ extent_of y) (λ is. refl) (λ is. refl))
 
-there_buried : (l : Life) → is_there (buried l) ≡ true → is_there l ≡ true
-there_buried Live there = refl
-there_buried Dead there = refl
-there_buried Gone there = there
-
 -- below the end of the shorter sweep a node is the same after both
 there_later : (limit more : ℕ) (x : Node) → limit ≤ more → x.place < limit → is_there (finalise limit x).life ≡ true → is_there (finalise more x).life ≡ true
 there_later limit more x l low there =

@@ -8,6 +8,7 @@ use Rattle.std.proofs.lemmas.Bool.{and_parts, and_from, cases_Bool, cond-false, 
 use Rattle.gc_graph.specs.Words.{is_digit, is_number, value_after}
 use Rattle.line_words.specs.Cursor.{is_word_byte, IsDigits, IsPastSpaces, IsShortNumber, IsWordEnd}
 use Rattle.line_words.proofs.WordPlaces.{space_words, space_lines, word_found}
+use Rattle.gc_graph.specs.WordBytes.{digit_byte, digits_are_word}
 
 value_push : (n : ℕ) (word : List ℕ) (b : ℕ) → value_after n (word ++ b ∷ []) ≡ value_after n word * 10 + (b - 48)
 value_push n [] b = refl
@@ -49,27 +50,13 @@ digits_none bytes start within =
       low = omega arith;
     }
 
--- a digit is a byte of a word
-digit_byte : (b : ℕ) → is_digit b ≡ true → is_word_byte b ≡ true
-digit_byte b e =
-    let parts = and_parts (nat_le 48 b) (nat_le b 57) e in
-    let low : 48 ≤ b = leb-true 48 b parts.0 in
-    and_from (not (b == 32)) (not (b == 10)) (not_from_false (b == 32) (ne_eqb b 32 (λ t. omega (arith, t))))
-    (not_from_false (b == 10) (ne_eqb b 10 (λ t. omega (arith, t))))
-
-digits_bytes : (word : List ℕ) → list_all is_digit word ≡ true → list_all is_word_byte word ≡ true
-digits_bytes [] e = refl
-digits_bytes (b ∷ word) e =
-    let parts = and_parts (is_digit b) (list_all is_digit word) e in
-    and_from (is_word_byte b) (list_all is_word_byte word) (digit_byte b parts.0) (digits_bytes word parts.1)
-
 -- the digits are a word where none of its bytes follows
 pub digits_end : (bytes : List ℕ) (start place value : ℕ) (end : Bool) → IsDigits bytes start place value
     → end ≡ cond (place == length bytes) true (not (is_word_byte (get_or bytes place 0))) → end ≡ true → IsWordEnd bytes start place
 digits_end bytes start place value end so is e = record {
   order = so.order;
   within = so.within;
-  inner = digits_bytes (take (place - start) (drop start bytes)) so.digits;
+  inner = digits_are_word (take (place - start) (drop start bytes)) so.digits;
   stop = λ low.
       not-true (is_word_byte (get_or bytes place 0))
       (sym (cond-false (place == length bytes) true (not (is_word_byte (get_or bytes place 0))) (ne_eqb place (length bytes) (λ t. omega (arith, t, low))))
@@ -152,7 +139,7 @@ short_number bytes from end value space digit so some within plain gap =
       word = word_found bytes from start end (one_space bytes from (omega arith) space digit) (record {
         order = so.order;
         within = so.within;
-        inner = digits_bytes word so.digits;
+        inner = digits_are_word word so.digits;
         stop = λ low. gap;
       });
       number = cond-true (is_number word) (Some (value_after 0 word)) None

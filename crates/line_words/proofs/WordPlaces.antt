@@ -9,6 +9,7 @@ use Rattle.std.proofs.lemmas.Option.{slice_get-get_or}
 use Rattle.gc_graph.specs.Words.{lines_of_parts, words_of}
 use Rattle.line_words.specs.LineParts.{after_parts}
 use Rattle.line_words.specs.Cursor.{first_line, line_words, lines_after, is_word_byte, IsNextWord, IsPastSpaces, IsWordEnd}
+use Rattle.gc_graph.specs.WordBytes.{kept}
 
 -- the first line is the first part
 first_of_parts : (parts : List (List ℕ)) → get_or (lines_of_parts parts) 0 [] ≡ get_or parts 0 []
@@ -51,14 +52,6 @@ line_end_first b bytes e =
     ∙ ap (λ parts. get_or parts 0 []) (slice_split-cons_yes (λ x. x == 10) b bytes e)
 
 -- ---- words of a line
-
-kept : (word : List ℕ) (words : List (List ℕ)) → 0 < length word
-    → filter (λ w. not (length w == 0)) (word ∷ words) ≡ word ∷ filter (λ w. not (length w == 0)) words
-kept [] words some = absurd (omega arith)
-kept (b ∷ word) words some =
-    let rest : List (List ℕ) = filter (λ w. not (length w == 0)) words in
-    cond-true (not (length (b ∷ word) == 0)) ((b ∷ word) ∷ rest) rest
-    (not_from_false (length (b ∷ word) == 0) (ne_eqb (length (b ∷ word)) 0 (λ e. omega (arith, e))))
 
 -- what a line holds after a word: nothing, or a space first
 abbrev BeginsBetween : List ℕ → Type 0

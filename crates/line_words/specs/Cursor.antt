@@ -2,6 +2,7 @@
 use Rattle.std.specs.Prelude.{◌≡◌, ◌⊎◌, ℕ, ◌+◌, ◌-◌, ◌<◌, ◌≤◌, ◌==◌, ◌&&◌, not, Bool, true, false, List, [], ◌∷◌, length, take, drop, Option, Some, None, if◌then◌else◌, slice_get, slice_index, slice_index_or}
 use Rattle.std.specs.List.{list_all}
 use Rattle.gc_graph.specs.Words.{lines_of, words_of, is_digit, is_number, value_after}
+pub use Rattle.gc_graph.specs.WordBytes.{is_word_byte}
 
 -- the first line, empty where there is none
 abbrev pub first_line : List ℕ → List ℕ
@@ -35,10 +36,6 @@ pub record IsNextWord (bytes : List ℕ) (from start end : ℕ) : Type 0 where
   pub none : end ≤ start → (line_words (drop from bytes) ≡ []) × IsLineEnd bytes from end
 
 -- ---- the two halves of a look for a word
-
--- a byte of a word
-abbrev pub is_word_byte : ℕ → Bool
-is_word_byte b = not (b == 32) && not (b == 10)
 
 -- only spaces stand from `from` to `start`, and none at `start`
 pub record IsPastSpaces (bytes : List ℕ) (from start : ℕ) : Type 0 where
