@@ -21,8 +21,7 @@ pub fn place_for(parts: &mut Parts, count: u32, size: u32, finalised: &mut Vec<u
     requires empty { finalised.old.items ≡ [] }
     requires room { word_count parts.old.objects.shape ≤ 2 * vec_capacity finalised.old }
     ensures placed { IsPlacement parts.old.objects.shape
-        (state_of (unregistered count parts.old)) size
-        finalised.new.items
+        (state_of (unregistered count parts.old)) size finalised.new.items
         (state_of (unregistered count parts.new)) result }
     ensures ready { IsReady (unregistered count parts.new) }
     ensures free { IfSome result
@@ -66,8 +65,7 @@ fn sweep_until_found(
         parts.old.cycle.sweep.cursor (extents_of parts.old.objects.nodes) size) }
     requires room { word_count parts.old.objects.shape ≤ 2 * vec_capacity finalised.old }
     ensures placed { IfSome result (λ a. IsPlacement parts.old.objects.shape
-        (state_of (unregistered count parts.old)) size
-        finalised.new.items
+        (state_of (unregistered count parts.old)) size finalised.new.items
         (state_of (unregistered count parts.new)) (Some a)) }
     ensures searched { IfNone result (IsSearched parts.old.objects.shape
         (state_of (unregistered count parts.old)) size
