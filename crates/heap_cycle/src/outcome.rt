@@ -108,8 +108,8 @@ impl Outcome {
         self.finalised.len() as u32 + u32::from(self.last.is_some()) + prefinalised
     }
 
-    /// The line of the outcome, where it has one alone, unless that tells a finalised node or one of
-    /// these prefinalizers, which the last pause ran.
+    /// The line of the outcome, where it has one alone, unless that tells a finalised node or one
+    /// of these prefinalizers, which the last pause ran.
     pub fn only_line(&self, ran: &[(u32, u32)]) -> Option<&Line>
         ensures line { IfSome result (λ line. outcome_lines self.now ran.now ≡ line.now ∷ []) }
         ensures none { IfNone result ((line : Line)

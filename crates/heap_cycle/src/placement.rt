@@ -23,8 +23,7 @@ pub fn place_for(parts: &mut Parts, count: u32, size: u32, outcome: &mut Outcome
     requires empty { outcome.old.numbers ≡ [] }
     requires room { word_count parts.old.objects.shape ≤ 2 * outcome.old.room }
     ensures placed { IsPlacement parts.old.objects.shape
-        (state_of (unregistered count parts.old)) size
-        outcome.new.numbers
+        (state_of (unregistered count parts.old)) size outcome.new.numbers
         (state_of (unregistered count parts.new)) result }
     ensures ready { IsReady (unregistered count parts.new) }
     ensures free { IfSome result
@@ -67,8 +66,7 @@ fn sweep_until_found(
         parts.old.cycle.sweep.cursor (extents_of parts.old.objects.nodes) size) }
     requires room { word_count parts.old.objects.shape ≤ 2 * vec_capacity finalised.old }
     ensures placed { IfSome result (λ a. IsPlacement parts.old.objects.shape
-        (state_of (unregistered count parts.old)) size
-        finalised.new.items
+        (state_of (unregistered count parts.old)) size finalised.new.items
         (state_of (unregistered count parts.new)) (Some a)) }
     ensures searched { IfNone result (IsSearched parts.old.objects.shape
         (state_of (unregistered count parts.old)) size

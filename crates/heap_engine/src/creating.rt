@@ -7,7 +7,8 @@ ghost use Rattle.gc_graph.specs.Outcomes.{answered};
 ghost use Rattle.gc_graph.specs.ObjectSteps.{StepNew};
 ghost use Rattle.page_space.specs.Pages.{word_count};
 ghost use Rattle.heap_objects.specs.Objects.{HaveCallbacks};
-ghost use Rattle.heap_cycle.specs.Parts.{setup_of, state_of, counted, IsReady, IsFrame, registered_in};
+ghost use Rattle.heap_cycle.specs.Parts.{setup_of, state_of, counted, registered_in};
+ghost use Rattle.heap_cycle.specs.Parts.{IsReady, IsFrame};
 ghost use Rattle.heap_cycle.specs.Printed.{lines_with};
 
 use gc_graph::{Line, NoMemory};
@@ -24,10 +25,8 @@ pub fn new_object(parts: &mut Parts, outcome: &mut Outcome, p: u32, t: u32, extr
     requires numbers { outcome.old.numbers ≡ [] }
     requires calm { outcome.old.prefinalises ≡ false }
     requires room { word_count parts.old.objects.shape ≤ 2 * outcome.old.room }
-    ensures step { StepNew (setup_of parts.old)
-        (state_of parts.old) p t extra
-        (lines_with outcome.new parts.new.cycle.ran result)
-        (answered (state_of parts.new)) }
+    ensures step { StepNew (setup_of parts.old) (state_of parts.old) p t extra
+        (lines_with outcome.new parts.new.cycle.ran result) (answered (state_of parts.new)) }
     ensures frame { IsFrame parts.old (counted parts.new) }
     ensures piece { outcome.new.piece ≡ outcome.old.piece }
     ensures room { outcome.new.room ≡ outcome.old.room }
@@ -57,13 +56,11 @@ pub fn new_object(parts: &mut Parts, outcome: &mut Outcome, p: u32, t: u32, extr
 /// how many these are. Memory is not wanting where there are none.
 fn register(parts: &mut Parts, t: u32) -> Result<u32, NoMemory>
     requires ty { t < length parts.old.objects.types }
-    requires called { HaveCallbacks (length parts.old.objects.callbacks)
-        parts.old.objects.types }
+    requires called { HaveCallbacks (length parts.old.objects.callbacks) parts.old.objects.types }
     ensures count { IfOk result (λ count. count
         ≡ length (type_at (setup_of parts.old) t).prefinalizers) }
     ensures registered { OnOk result (parts.new ≡ registered_in parts.old t 0) }
-    ensures some { OnErr result
-        ((type_at (setup_of parts.old) t).prefinalizers ≢ []) }
+    ensures some { OnErr result ((type_at (setup_of parts.old) t).prefinalizers ≢ []) }
     ensures same { OnErr result (parts.new ≡ parts.old) }
 {
     let callbacks = parts.objects.callbacks(t);

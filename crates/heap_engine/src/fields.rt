@@ -62,8 +62,7 @@ fn write(parts: &mut Parts, p: u32, f: u32, wanted: Wanted, content: &Content) -
     requires value { Suits wanted parts.old.objects.nodes content.now.value.value }
     requires word { content.now.word
         ≡ word_of (place_of parts.old.objects.nodes) content.now.value.value }
-    ensures step { StepWrite wanted (state_of parts.old) p f
-        content.now.value.value (result ∷ [])
+    ensures step { StepWrite wanted (state_of parts.old) p f content.now.value.value (result ∷ [])
         (answered (state_of parts.new)) }
     ensures frame { IsFrame parts.old (counted parts.new) }
 {
@@ -103,8 +102,7 @@ pub fn get(parts: &mut Parts, p: u32, f: u32, q: u32) -> Line
 pub fn word(parts: &mut Parts, p: u32, f: u32) -> Line
     requires ready { IsReady parts.old }
     requires slot { p < 256 }
-    ensures step { StepWord (state_of parts.old) p f (result ∷ [])
-        (answered (state_of parts.new)) }
+    ensures step { StepWord (state_of parts.old) p f (result ∷ []) (answered (state_of parts.new)) }
     ensures frame { IsFrame parts.old (counted parts.new) }
 {
     match field_of(parts, p, f, Wanted::Numbers) {

@@ -81,8 +81,8 @@ impl<'a> Heap<'a> {
         self.core.line(index)
     }
 
-    /// The line of the last outcome, where it has one alone, unless that tells a finalised node or a
-    /// prefinalizer.
+    /// The line of the last outcome, where it has one alone, unless that tells a finalised node or
+    /// a prefinalizer.
     pub fn only_line(&self) -> Option<&Line>
         ensures line { IfSome result (λ line. self.now.core.lines ≡ line.now ∷ []) }
         ensures none { IfNone result ((line : Line) → self.now.core.lines ≡ line ∷ []

@@ -121,8 +121,7 @@ impl Core {
 
     pub fn only_line(&self) -> Option<&Line>
         ensures line { IfSome result (λ line. self.now.lines ≡ line.now ∷ []) }
-        ensures none { IfNone result ((line : Line) → self.now.lines ≡ line ∷ []
-            → TellsNode line) }
+        ensures none { IfNone result ((line : Line) → self.now.lines ≡ line ∷ [] → TellsNode line) }
     {
         self.outcome.only_line(self.parts.cycle.ran())
     }

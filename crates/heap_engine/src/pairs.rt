@@ -20,10 +20,8 @@ pub fn pair(parts: &mut Parts, p: u32, f: u32, k: u32, v: u32) -> Line
     requires slot { p < 256 }
     requires key { k < 256 }
     requires value { v < 256 }
-    ensures step { StepPair (state_of parts.old) p f
-        (slot_at (state_of parts.old) k)
-        (slot_at (state_of parts.old) v) (result ∷ [])
-        (answered (state_of parts.new)) }
+    ensures step { StepPair (state_of parts.old) p f (slot_at (state_of parts.old) k)
+        (slot_at (state_of parts.old) v) (result ∷ []) (answered (state_of parts.new)) }
     ensures frame { IsFrame parts.old (counted parts.new) }
 {
     let pair = PairContent {

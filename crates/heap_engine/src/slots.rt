@@ -16,8 +16,7 @@ pub fn copy(parts: &mut Parts, p: u32, q: u32) -> Line
     requires ready { IsReady parts.old }
     requires from { p < 256 }
     requires into { q < 256 }
-    ensures step { StepCopy (state_of parts.old) p q (result ∷ [])
-        (answered (state_of parts.new)) }
+    ensures step { StepCopy (state_of parts.old) p q (result ∷ []) (answered (state_of parts.new)) }
     ensures frame { IsFrame parts.old (counted parts.new) }
 {
     parts.handles.copy(p, q);
@@ -29,8 +28,7 @@ pub fn weaken(parts: &mut Parts, w: u32, p: u32) -> Line
     requires ready { IsReady parts.old }
     requires into { w < 64 }
     requires from { p < 256 }
-    ensures step { StepWeak (state_of parts.old) w p (result ∷ [])
-        (answered (state_of parts.new)) }
+    ensures step { StepWeak (state_of parts.old) w p (result ∷ []) (answered (state_of parts.new)) }
     ensures frame { IsFrame parts.old (counted parts.new) }
 {
     parts.handles.weaken(w, p);
@@ -42,8 +40,7 @@ pub fn read(parts: &mut Parts, w: u32, p: u32) -> Line
     requires ready { IsReady parts.old }
     requires from { w < 64 }
     requires into { p < 256 }
-    ensures step { StepRead (state_of parts.old) w p (result ∷ [])
-        (answered (state_of parts.new)) }
+    ensures step { StepRead (state_of parts.old) w p (result ∷ []) (answered (state_of parts.new)) }
     ensures frame { IsFrame parts.old (counted parts.new) }
 {
     // No marking goes on between commands, so that the read keeps nothing.
@@ -71,8 +68,7 @@ fn weak_target(parts: &mut Parts, w: u32) -> Option<(u32, u32)>
 pub fn drop_slot(parts: &mut Parts, p: u32) -> Line
     requires ready { IsReady parts.old }
     requires slot { p < 256 }
-    ensures step { StepDrop (state_of parts.old) p (result ∷ [])
-        (answered (state_of parts.new)) }
+    ensures step { StepDrop (state_of parts.old) p (result ∷ []) (answered (state_of parts.new)) }
     ensures frame { IsFrame parts.old (counted parts.new) }
 {
     parts.handles.put(p, None);

@@ -64,8 +64,7 @@ fn push_word(parts: &mut Parts, pushed: Pushed) -> Line
 /// Takes the last word away.
 pub fn pop(parts: &mut Parts) -> Line
     requires ready { IsReady parts.old }
-    ensures step { StepPop (state_of parts.old) (result ∷ [])
-        (answered (state_of parts.new)) }
+    ensures step { StepPop (state_of parts.old) (result ∷ []) (answered (state_of parts.new)) }
     ensures frame { IsFrame parts.old (counted parts.new) }
 {
     if parts.handles.stack().has_words() {
@@ -80,8 +79,7 @@ pub fn pop(parts: &mut Parts) -> Line
 pub fn peek(parts: &mut Parts, i: u32, q: u32) -> Line
     requires ready { IsReady parts.old }
     requires into { q < 256 }
-    ensures step { StepPeek (state_of parts.old) i q (result ∷ [])
-        (answered (state_of parts.new)) }
+    ensures step { StepPeek (state_of parts.old) i q (result ∷ []) (answered (state_of parts.new)) }
     ensures frame { IsFrame parts.old (counted parts.new) }
 {
     match parts.handles.stack().place(i) {

@@ -1,6 +1,6 @@
 // How much the heap holds.
 
-ghost use Rattle.std.specs.Prelude.{◌≡◌, [], ◌∷◌};
+ghost use Rattle.std.specs.Prelude.{[], ◌∷◌};
 ghost use Rattle.gc_graph.specs.Outcomes.{answered};
 ghost use Rattle.gc_graph.specs.CycleSteps.{StepStat};
 ghost use Rattle.heap_cycle.specs.Parts.{setup_of, state_of, counted, IsReady, IsFrame};
@@ -11,8 +11,7 @@ use heap_cycle::Parts;
 /// Tells how much the heap holds.
 pub fn stat(parts: &Parts) -> Line
     requires ready { IsReady parts.now }
-    ensures step { StepStat (setup_of parts.now)
-        (state_of parts.now) (result ∷ [])
+    ensures step { StepStat (setup_of parts.now) (state_of parts.now) (result ∷ [])
         (answered (state_of parts.now)) }
     ensures frame { IsFrame parts.now (counted parts.now) }
 {
