@@ -1,21 +1,15 @@
 -- What the cycle knows of its parts after a sweep up to an address.
-use Rattle.std.proofs.Common.{◌≡◌, ℕ, ◌+◌, ◌*◌, ◌≤◌, List, length, map, sym, ap, ◌∙◌, subst, inl, inr, arith, cond, eqb}
+use Rattle.std.proofs.Common.{◌≡◌, ℕ, ◌+◌, ◌*◌, List, length, map, sym, ap, ◌∙◌, subst, inl, inr, arith, cond, eqb}
 use Rattle.std.proofs.lemmas.Bool.{cases_Bool, eqb-true, eq-eqb}
-use Rattle.std.proofs.lemmas.List.{length-map, length-append}
-use Rattle.gc_graph.specs.declared.action.ActionKind.{ActionKind}
+use Rattle.std.proofs.lemmas.List.{length-append}
 use Rattle.gc_graph.specs.declared.phase.Phase.TheVariants.{Idle, Sweeping}
-use Rattle.gc_graph.specs.State.{Shape, ObjectType, Node}
+use Rattle.gc_graph.specs.State.{Shape}
 use Rattle.gc_graph.specs.Sweep.{finalise, phase_at, AreDeadInOrder}
 use Rattle.page_words.specs.Seat.{SeatView, IsQuiet}
-use Rattle.page_space.specs.Space.{SpaceView}
-use Rattle.sweeper.specs.Sweeping.{SweepView, cursor_at, MaySweep, Sweeps}
-use Rattle.node_bodies.specs.Nodes.{IsHeld}
-use Rattle.node_bodies.specs.NodePlaces.{serials_fit}
 use Rattle.heap_cycle.specs.Changes.{swept_to, SweepsParts}
 use Rattle.heap_objects.specs.Finalising.{IsSweptTo, FinalisesBelow, HasMarks}
-use Rattle.heap_objects.specs.Objects.{AreObjects, ObjectsView, setup_of_objects}
+use Rattle.heap_objects.specs.Objects.{ObjectsView, setup_of_objects}
 use Rattle.heap_cycle.specs.Views.{CycleView}
-use Rattle.heap_objects.proofs.NodesSwept.{held_below, finalises_below}
 
 -- ---- the phase
 

@@ -1,15 +1,13 @@
 -- How the handles and the cycle change.
-use Rattle.std.specs.Prelude.{◌≡◌, ◌*◌, ℕ, ◌+◌, ◌-◌, [], ◌∷◌, ◌++◌, List, length, map, take, drop, Option, None, option_map, slice_set, slice_index_or}
+use Rattle.std.specs.Prelude.{◌≡◌, ◌*◌, ℕ, ◌+◌, ◌-◌, [], ◌∷◌, ◌++◌, List, length, map, take, drop}
 use Rattle.gc_graph.specs.Reach.{Reach}
 use Rattle.gc_graph.specs.Sweep.{phase_at}
-use Rattle.gc_graph.specs.State.{State, StackWord, graph_of, roots_of}
+use Rattle.gc_graph.specs.State.{State, graph_of, roots_of}
 use Rattle.callback_table.specs.declared.registry.Registered.{Registered}
 use Rattle.callback_table.specs.Registry.{placed_at}
 use Rattle.heap_cycle.specs.Entries.{start_entry, pause_entry}
-use Rattle.heap_handles.specs.Stack.{with_word, without_last}
 use Rattle.heap_objects.specs.Finalising.{FinalisesBelow, HasMarks}
 use Rattle.heap_objects.specs.Objects.{ObjectsView, setup_of_objects}
-use Rattle.heap_handles.specs.Handles.{HandlesView}
 use Rattle.heap_cycle.specs.Views.{CycleView}
 
 -- the last registrations, so many of them, got this place

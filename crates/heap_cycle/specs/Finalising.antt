@@ -1,11 +1,8 @@
 -- Sweeping up to an address, over words and nodes.
-use Rattle.std.specs.Prelude.{◌≡◌, ℕ, ◌+◌, ◌*◌, ◌≤◌, List, ◌++◌, length, map}
-use Rattle.gc_graph.specs.State.{Shape, State, Node}
+use Rattle.std.specs.Prelude.{◌≡◌, ℕ, ◌≤◌, List, ◌++◌}
+use Rattle.gc_graph.specs.State.{Shape, State}
 use Rattle.gc_graph.specs.Placement.{Fits, IsNowhere, extents_of}
-use Rattle.gc_graph.specs.Sweep.{finalise, swept_pages, AreDeadInOrder, SweepsTo}
-use Rattle.page_words.specs.Seat.{SeatView}
-use Rattle.page_space.specs.Pages.{word_count}
-use Rattle.sweeper.specs.Sweeping.{IsClearBelow, IsJudgedFrom, dead_from}
+use Rattle.gc_graph.specs.Sweep.{swept_pages, SweepsTo}
 
 -- an open sweep went on until so many pages were swept, and its numbers follow those that were told before
 pub record SweepsOn (shape : Shape) (old : State) (pages : ℕ) (before after : List ℕ) (new : State) : Type 0 where

@@ -1,18 +1,13 @@
 -- The parts of a heap as commands see them, one by one.
-use Rattle.std.specs.Prelude.{◌≡◌, ℕ, ◌<◌, false, List, [], replicate, Option}
-use Rattle.gc_graph.specs.declared.action.ActionKind.{ActionKind}
+use Rattle.std.specs.Prelude.{◌≡◌, ℕ, ◌<◌, false, List, [], replicate}
 use Rattle.gc_graph.specs.declared.phase.Phase.{Phase}
-use Rattle.gc_graph.specs.declared.phase.Phase.TheVariants.{Idle, Marking, Sweeping}
-use Rattle.gc_graph.specs.State.{Shape, Setup, State, Node, ObjectType}
+use Rattle.gc_graph.specs.State.{Shape, State, Node}
 use Rattle.gc_graph.specs.State.RegionSlot.{Vacant}
 use Rattle.gc_graph.specs.CycleSteps.{is_marking}
 use Rattle.gc_graph.specs.Sweep.{pages_swept_in}
 use Rattle.callback_table.specs.declared.registry.Registered.{Registered}
-use Rattle.page_words.specs.Seat.{SeatView, IsQuiet}
 use Rattle.sweeper.specs.Sweeping.{SweepView}
 use Rattle.node_bodies.specs.Nodes.{place_of}
-use Rattle.heap_objects.specs.Finalising.{IsSweptTo}
-use Rattle.heap_handles.specs.Stack.{StackView}
 
 -- the collection cycle: its phase, how far its sweep has come, the prefinalizers that are registered, with the places of their
 -- objects, those that the last pause ran, each the number of its object and that of its callback, and what no other part holds

@@ -1,20 +1,16 @@
 -- The commands on the stack are steps of the graph.
-use Rattle.std.proofs.Common.{◌≡◌, ℕ, ◌<◌, ◌≤◌, ltb, true, false, List, [], ◌∷◌, map, reverse, Option, Some, None, sym, ap, ◌∙◌, subst}
-use mathlib.Core.Logic.{◌⊎◌}
+use Rattle.std.proofs.Common.{◌≡◌, ℕ, ◌<◌, ◌≤◌, ltb, List, [], ◌∷◌, map, reverse, Option, Some, None, sym, ap, ◌∙◌, subst}
 use Rattle.std.specs.Prelude.{MatchOption, MatchBool}
 use Rattle.std.specs.List.{slice_get}
 use Rattle.std.proofs.lemmas.Bool.{lt-ltb, le-ltb}
 use Rattle.std.proofs.lemmas.List.{reverse-reverse}
-use Rattle.gc_graph.specs.declared.command.Want.{Want}
 use Rattle.gc_graph.specs.declared.line.Line.{Line}
 use Rattle.gc_graph.specs.declared.line.Line.TheVariants as L
 use Rattle.gc_graph.specs.declared.line.Refusal.TheVariants as R
-use Rattle.gc_graph.specs.declared.region.Entry.{Entry}
-use Rattle.gc_graph.specs.State.{Setup, State, StackWord, node_at, size_of}
+use Rattle.gc_graph.specs.State.{State, StackWord, node_at, size_of}
 use Rattle.gc_graph.specs.State.StackWord.{Pointer, Number}
 use Rattle.gc_graph.specs.Outcomes.{answered, IsRefused, slot_at, with_slot}
 use Rattle.gc_graph.specs.HandleSteps.{IsPushed, IsPeeked, StepPush, StepPeek}
-use Rattle.gc_graph.specs.CycleSteps.{IsCollection, StepGcNow, WantsMemory, is_marking, is_stack_refused}
 use Rattle.heap_objects.specs.Objects.{IsLiveAt}
 use Rattle.heap_handles.specs.Stack.{StackView, pointed_place}
 use Rattle.heap_cycle.specs.declared.parts.Parts.{Parts}

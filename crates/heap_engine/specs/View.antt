@@ -1,9 +1,7 @@
 -- A heap as its callers see it, and how slots and marks tell nodes.
-use Rattle.std.specs.Prelude.{Bool, List, [], ◌∷◌}
+use Rattle.std.specs.Prelude.{Bool, List}
 use Rattle.gc_graph.specs.declared.line.Line.{Line}
 use Rattle.gc_graph.specs.declared.region.Entry.{Entry}
-use Rattle.gc_graph.specs.declared.region.Op.TheVariants as O
-use Rattle.gc_graph.specs.declared.region.Reply.TheVariants as R
 use Rattle.gc_graph.specs.State.{Setup, State}
 
 -- what was set up, the state of the graph, the region's history as far as it was taken, the lines of the last outcome and

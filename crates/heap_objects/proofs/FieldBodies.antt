@@ -1,7 +1,7 @@
 -- The bodies after a store into a field word.
 use Rattle.std.proofs.Common.{◌≡◌, ℕ, zero, suc, ◌+◌, ◌-◌, ◌<◌, ◌≤◌, Bool, true, false, ◌&&◌, List, [], ◌∷◌, length, set, map, refl, sym, ap, ◌∙◌, inl, inr, arith, leb, ltb}
 use mathlib.Core.Logic.{◌⊎◌}
-use Rattle.std.proofs.lemmas.Bool.{true≢false, cases_Bool, and_from, le-leb, lt-ltb, lt-leb, le-ltb, cond-true, cond-false, cond_both, cases_lt}
+use Rattle.std.proofs.lemmas.Bool.{true≢false, cases_Bool, and_from, le-leb, lt-ltb, lt-leb, le-ltb, cond-true, cond-false, cases_lt}
 use Rattle.std.proofs.lemmas.List.{map-set}
 use Rattle.gc_graph.specs.declared.kind.Value.{Value}
 use Rattle.gc_graph.specs.State.{Node, node_at, is_there, size_of}

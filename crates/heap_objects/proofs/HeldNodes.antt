@@ -1,14 +1,14 @@
 -- The words hold the nodes after each change: a node made, a field written, a sweep, a pause.
-use Rattle.std.proofs.Common.{◌≡◌, ℕ, ◌+◌, ◌-◌, ◌<◌, true, false, not, List, [], ◌∷◌, ◌++◌, length, map, replicate, refl, sym, ap, ◌∙◌, subst, inl, inr, arith}
+use Rattle.std.proofs.Common.{◌≡◌, ℕ, ◌+◌, ◌-◌, ◌<◌, false, not, List, [], ◌∷◌, ◌++◌, length, map, replicate, refl, sym, ap, ◌∙◌, subst, inl, inr, arith}
 use Rattle.std.specs.List.{All, Contains}
 use Rattle.std.proofs.lemmas.Bool.{cases_lt}
-use Rattle.std.proofs.lemmas.List.{length_push, length-map, length-replicate, get_or_append_left, get_or_push}
+use Rattle.std.proofs.lemmas.List.{length_push, length-map, length-replicate}
 use Rattle.std.proofs.lemmas.List.Elements.{All-weaker, Contains-push_cases}
 use Rattle.gc_graph.specs.declared.phase.Phase.{Phase}
 use Rattle.gc_graph.specs.declared.phase.Phase.TheVariants.{Idle, Marking, Sweeping}
 use Rattle.gc_graph.specs.declared.kind.Value.{Value}
 use Rattle.gc_graph.specs.declared.kind.Value.TheVariants.{Null, Ref, Word}
-use Rattle.gc_graph.specs.State.{Setup, Node, type_at, node_at, no_node, is_there, is_dead, size_of, IsDead}
+use Rattle.gc_graph.specs.State.{Setup, Node, type_at, node_at, is_there, is_dead, size_of}
 use Rattle.gc_graph.specs.Fields.{field_words, new_node, size_of_type}
 use Rattle.page_words.specs.Bodies.{Body, with_word}
 use Rattle.page_words.specs.Seat.{SeatView, IsView, holds, stored}
@@ -22,7 +22,6 @@ use Rattle.node_bodies.specs.NodeBodies.{bodies-push, extents-bodies}
 use Rattle.node_bodies.specs.NodeChanges.{AgreeOn, AgreeIn, bodies-places, bodies-same}
 use Rattle.node_bodies.specs.NodePlaces.{there_below}
 use Rattle.node_bodies.specs.Lists.{Contains-map_some}
-use Rattle.heap_objects.specs.Objects.{StaysAt}
 use Rattle.heap_objects.specs.FieldNodes.{with_field, place-field, life-field}
 use Rattle.heap_objects.proofs.FieldBodies.{bodies_stored}
 use Rattle.heap_objects.specs.NewNodes.{node-old, node-new, place-old}

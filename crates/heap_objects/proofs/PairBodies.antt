@@ -1,16 +1,15 @@
 -- The nodes and the bodies once both words of a pair were written.
-use Rattle.std.proofs.Common.{◌≡◌, ℕ, zero, suc, ◌+◌, ◌<◌, List, [], ◌∷◌, length, set, map, Option, Some, None, refl, sym, ap, ◌∙◌, subst, arith}
+use Rattle.std.proofs.Common.{◌≡◌, ℕ, ◌+◌, ◌<◌, List, length, set, map, refl, sym, ap, ◌∙◌, subst, arith}
 use Rattle.std.proofs.lemmas.List.{length-set, get_or-set_same, get_or-set_other, set-set, set_comm}
 use Rattle.gc_graph.specs.declared.kind.Value.{Value}
 use Rattle.gc_graph.specs.State.{Node, node_at, no_node, is_there, is_dead}
-use Rattle.gc_graph.specs.Fields.{word_of_field, with_value}
+use Rattle.gc_graph.specs.Fields.{with_value}
 use Rattle.page_words.specs.Bodies.{with_word}
 use Rattle.page_words.specs.Seat.{SeatView, IsView, stored, holds}
 use Rattle.node_bodies.specs.Nodes.{place_of, word_of, bodies_from, bodies_of, IsThere, IsHeld}
-use Rattle.heap_objects.specs.Objects.{paired_in, StaysAt}
 use Rattle.node_bodies.specs.NodePlaces.{there_below}
 use Rattle.node_bodies.specs.NodeChanges.{bodies-same, place_set, life_set}
-use Rattle.heap_objects.specs.FieldNodes.{with_field, place-field, life-field, size-set, size_field, pair_node, with_pair}
+use Rattle.heap_objects.specs.FieldNodes.{with_field, place-field, life-field, pair_node, with_pair}
 use Rattle.heap_objects.proofs.FieldBodies.{IsElsewhere, bodies-field, only_there, bodies_stored}
 
 -- ---- the nodes

@@ -1,5 +1,5 @@
 -- A pause leaves each live node its size, as it leaves its body.
-use Rattle.std.proofs.Common.{◌≡◌, ℕ, Bool, true, false, List, refl, sym, ap, ◌∙◌, subst}
+use Rattle.std.proofs.Common.{◌≡◌, ℕ, Bool, List, sym, ap, ◌∙◌, subst}
 use Rattle.std.specs.List.{Contains}
 use Rattle.gc_graph.specs.State.{Node, node_at, size_of, is_there, IsLive}
 use Rattle.gc_graph.specs.State.Life.{Live}

@@ -1,18 +1,16 @@
 -- The objects after a sweep up to an address.
-use Rattle.std.proofs.Common.{◌≡◌, ℕ, ◌+◌, ◌*◌, ◌≤◌, List, length, map, sym, ap, ◌∙◌, subst, inl, inr, arith, cond, eqb}
-use Rattle.std.proofs.lemmas.Bool.{cases_Bool, eqb-true, eq-eqb}
-use Rattle.std.proofs.lemmas.List.{length-map, length-append}
+use Rattle.std.proofs.Common.{◌≡◌, ℕ, ◌≤◌, List, length, map, sym, ap, ◌∙◌, subst}
+use Rattle.std.proofs.lemmas.List.{length-map}
 use Rattle.gc_graph.specs.declared.action.ActionKind.{ActionKind}
-use Rattle.gc_graph.specs.declared.phase.Phase.TheVariants.{Idle, Sweeping}
 use Rattle.gc_graph.specs.State.{Shape, ObjectType, Node}
-use Rattle.gc_graph.specs.Sweep.{finalise, phase_at, AreDeadInOrder}
-use Rattle.page_words.specs.Seat.{SeatView, IsQuiet}
+use Rattle.gc_graph.specs.Sweep.{finalise}
+use Rattle.page_words.specs.Seat.{SeatView}
 use Rattle.page_space.specs.Space.{SpaceView}
 use Rattle.sweeper.specs.Sweeping.{SweepView, cursor_at, MaySweep, Sweeps}
 use Rattle.node_bodies.specs.Nodes.{IsHeld}
 use Rattle.node_bodies.specs.NodePlaces.{serials_fit}
-use Rattle.heap_objects.specs.Finalising.{IsSweptTo, FinalisesBelow, HasMarks}
-use Rattle.heap_objects.specs.Objects.{AreObjects, ObjectsView, setup_of_objects}
+use Rattle.heap_objects.specs.Finalising.{IsSweptTo, FinalisesBelow}
+use Rattle.heap_objects.specs.Objects.{AreObjects}
 use Rattle.heap_objects.proofs.NodesSwept.{held_below, finalises_below}
 
 -- the objects may be swept from the cursor on where all is swept below it

@@ -1,12 +1,11 @@
 -- The nodes after a field got a value.
-use Rattle.std.proofs.Common.{◌≡◌, ℕ, zero, suc, ◌+◌, ◌<◌, List, [], ◌∷◌, length, set, Option, Some, None, refl, ap, ◌∙◌}
+use Rattle.std.proofs.Common.{◌≡◌, ℕ, zero, suc, ◌+◌, List, [], ◌∷◌, length, set, Option, Some, None, refl, ap, ◌∙◌}
 use Rattle.std.proofs.lemmas.List.{length-set}
 use Rattle.gc_graph.specs.declared.kind.Value.{Value}
-use Rattle.gc_graph.specs.State.{Node, node_at, size_of, IsLive}
+use Rattle.gc_graph.specs.State.{Node, node_at, size_of}
 use Rattle.gc_graph.specs.Fields.{word_of_field, with_value}
 use Rattle.node_bodies.specs.Nodes.{place_of}
 use Rattle.heap_objects.specs.Objects.{written_in, paired_in, StaysAt}
-use Rattle.node_bodies.specs.NodePlaces.{live_is_there, there_below}
 use Rattle.node_bodies.specs.NodeChanges.{place_set}
 
 -- word f of node n got the value

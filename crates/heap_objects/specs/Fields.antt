@@ -1,16 +1,14 @@
 -- The fields of objects: which ones a command wants, where they are, and what they take.
-use Rattle.std.specs.Prelude.{◌≡◌, ℕ, ◌+◌, ◌<◌, Bool, List, MatchBool, nat_lt, true, Result, Ok, Err, ⊤}
+use Rattle.std.specs.Prelude.{◌≡◌, ℕ, ◌+◌, ◌<◌, Bool, List, MatchBool, nat_lt, Result, Ok, Err, ⊤}
 use Rattle.gc_graph.specs.declared.kind.Kind.{Kind}
 use Rattle.gc_graph.specs.declared.kind.Kind.TheVariants.{Strong, Weak, Pair, Plain}
 use Rattle.gc_graph.specs.declared.kind.Value.{Value}
 use Rattle.gc_graph.specs.declared.kind.Value.TheVariants.{Null, Ref, Word}
-use Rattle.gc_graph.specs.declared.line.Line.{Line}
 use Rattle.gc_graph.specs.declared.line.Refusal.{Refusal}
 use Rattle.gc_graph.specs.declared.line.Refusal.TheVariants as R
-use Rattle.gc_graph.specs.State.{State, Node, node_at, IsLive}
-use Rattle.gc_graph.specs.Fields.{field_count, kind_of_field, word_of_field, value_at, with_value, is_reference, is_pair, is_plain}
+use Rattle.gc_graph.specs.State.{Node, node_at, IsLive}
+use Rattle.gc_graph.specs.Fields.{field_count, kind_of_field, word_of_field, value_at, is_reference, is_pair, is_plain}
 use Rattle.gc_graph.specs.Valid.{IsPlainWord, ArePaired}
-use Rattle.gc_graph.specs.ObjectSteps.{AtField, IsChanged, IsRead, first_word}
 use Rattle.object_headers.specs.Offsets.{first_field}
 use Rattle.page_words.specs.Bodies.{Body, IsReference}
 use Rattle.heap_objects.specs.declared.field.Field.{Field}

@@ -4,7 +4,6 @@ use Rattle.gc_graph.specs.declared.kind.Value.{Value}
 use Rattle.gc_graph.specs.declared.action.ActionKind.{ActionKind}
 use Rattle.gc_graph.specs.State.{Shape, Setup, ObjectType, Node, node_at, size_of, IsLive}
 use Rattle.gc_graph.specs.Fields.{word_of_field, with_value, target_of, new_node}
-use Rattle.object_headers.specs.Offsets.{reference_to}
 use Rattle.page_words.specs.Seat.{SeatView}
 use Rattle.page_space.specs.Space.{SpaceView, IsSpaceOf}
 use Rattle.node_bodies.specs.Nodes.{place_of, word_of, IsHeld}

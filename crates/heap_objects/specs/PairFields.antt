@@ -1,7 +1,6 @@
 -- The words of a pair in its holder, and what they hold.
-use Rattle.std.proofs.Common.{◌≡◌, ℕ, zero, suc, ◌+◌, ◌-◌, ◌<◌, true, false, List, [], ◌∷◌, length, get_or, map, take, Option, Some, None, option_map, refl, sym, ap, ◌∙◌, subst, inl, inr, arith}
+use Rattle.std.proofs.Common.{◌≡◌, ℕ, zero, suc, ◌+◌, ◌-◌, ◌<◌, true, false, List, [], ◌∷◌, length, get_or, map, take, refl, sym, ap, ◌∙◌, subst, inl, inr, arith}
 use Rattle.std.specs.List.{Contains}
-use Rattle.std.specs.Option.{ForSome}
 use Rattle.std.specs.Prelude.{◌↔◌}
 use Rattle.std.proofs.lemmas.Bool.{true≢false, cases_lt}
 use Rattle.std.proofs.lemmas.List.{get_or-map, get_or_past}
@@ -15,7 +14,6 @@ use Rattle.gc_graph.specs.Graph.{Object}
 use Rattle.gc_graph.specs.State.{Setup, Node, node_at, IsLive}
 use Rattle.gc_graph.specs.Fields.{words_of_kind, word_of_field, value_at, is_pair}
 use Rattle.gc_graph.specs.Valid.{HaveKinds, IsReferenceBelow, IsTyped, NamesLive}
-use Rattle.gc_graph.specs.ObjectSteps.{part_of}
 use Rattle.type_table.specs.Types as table
 use Rattle.type_table.specs.FieldLaw.{FieldsStandApart}
 use Rattle.page_words.specs.Bodies.{Body}

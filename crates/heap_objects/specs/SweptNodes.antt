@@ -1,5 +1,5 @@
 -- The nodes after a sweep up to an address.
-use Rattle.std.proofs.Common.{◌≡◌, ℕ, zero, suc, Bool, true, false, List, [], ◌∷◌, map, refl, ap, ◌∙◌, cond, ltb}
+use Rattle.std.proofs.Common.{◌≡◌, ℕ, Bool, true, false, List, map, refl, ap, ◌∙◌, cond, ltb}
 use Rattle.gc_graph.specs.State.{Node, Life, node_at, size_of}
 use Rattle.gc_graph.specs.Sweep.{buried, finalise}
 use Rattle.node_bodies.specs.Nodes.{place_of}

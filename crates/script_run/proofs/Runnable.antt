@@ -11,7 +11,7 @@ use Rattle.gc_graph.specs.ScriptLaw.{ScriptsAreInRanges}
 use Rattle.type_table.specs.declared.faults.TypeFault.TheVariants.{TooManyFields, NoCallback}
 use Rattle.type_table.specs.Faults.{AreGoodTypes, IsTypeFault, is_too_wide, names_none}
 use Rattle.heap_script.specs.Scripts.{IsBuiltScript}
-use Rattle.heap_engine.specs.Objects.{HaveCallbacks}
+use Rattle.heap_objects.specs.Objects.{HaveCallbacks}
 use Rattle.script_run.specs.Setting.{IsRunnable}
 
 pub script_is_runnable : (callbacks : ℕ) (bytes : List ℕ) (script : Script) → ScriptsAreInRanges → IsBuiltScript callbacks bytes script → IsRunnable callbacks script

@@ -1,5 +1,4 @@
-use Rattle.std.proofs.Common.{◌≡◌, ap, ◌∙◌}
-use Rattle.atomic_pause.specs.Pausing.{NamePlaces}
+use Rattle.std.proofs.Common.{ap, ◌∙◌}
 use Rattle.heap_handles.specs.Handles.{HandlesView}
 use Rattle.heap_handles.proofs.handles.Handles.pause.Goals as goal
 

@@ -2,7 +2,7 @@ use Rattle.std.proofs.Common.{◌≡◌, ℕ, List, Some, length, sym, ap, ◌�
 use Rattle.std.proofs.lemmas.List.{length_push}
 use Rattle.gc_graph.specs.State.{Setup, Node}
 use Rattle.gc_graph.specs.Fields.{new_node, size_of_type}
-use Rattle.gc_graph.specs.Placement.{Extent, extents_of}
+use Rattle.gc_graph.specs.Placement.{Extent}
 use Rattle.page_space.specs.Occupying.{Occupies, new_body}
 use Rattle.page_space.specs.Space.{IsFreePlace}
 use Rattle.node_bodies.specs.Nodes.{IsHeld}

@@ -1,4 +1,4 @@
-use Rattle.std.proofs.Common.{◌≡◌, ℕ, List, Option, sym, ap, ◌∙◌, subst}
+use Rattle.std.proofs.Common.{◌≡◌, List, sym, ap, ◌∙◌, subst}
 use Rattle.std.specs.List.{All}
 use Rattle.std.specs.Option.{ForSome}
 use Rattle.gc_graph.specs.State.{Node}
@@ -9,7 +9,6 @@ use Rattle.node_bodies.specs.Nodes.{bodies_of}
 use Rattle.node_bodies.specs.KeptNodes.{slots_live, named_places, weak_are_places}
 use Rattle.node_bodies.specs.WeakNodes.{length-after}
 use Rattle.page_space.specs.Space.{extents_of_bodies}
-use Rattle.atomic_pause.specs.Pausing.{NamePlaces}
 use Rattle.heap_objects.proofs.PausedSizes.{sizes_stay}
 use Rattle.heap_objects.proofs.objects.Objects.pause.Goals as goal
 
