@@ -16,6 +16,7 @@ use Rattle.command_text.specs.declared.said.Said.{Said}
 use Rattle.command_text.specs.declared.row_lines.CommandLine.{CommandLine}
 use Rattle.line_words.specs.Cursor.{lines_after}
 use Rattle.command_text.specs.CommandLines.{IsCommandLine}
+use Rattle.command_text.specs.PlainForms.{form_of_plain}
 use Rattle.command_text.specs.Ranks.{rank_by, lowest, rank_at, count_rank, half_rank, form_rank}
 use Rattle.command_text.specs.Rows.{bounds_of, places_in, row_by, SameRow, command_of}
 use Rattle.command_text.specs.Said.{list_of, words_left}
@@ -31,16 +32,6 @@ pub record IsRowOf (bounds : Bounds) (row : Row) (bytes : List ℕ) (before : Sa
   pub command : row_rank bounds row bytes before ≡ 9 → command_of row.make (row_numbers row bytes before) ≡ command_of_words words
 
 -- ---- the first word
-
-pub form_of_plain : (first : List ℕ) (rest : List (List ℕ)) → is_text first (codes "type") ≡ false → is_text first (codes "gc") ≡ false
-    → is_text first (codes "at") ≡ false → form_of (first ∷ rest) ≡ plain_form (length rest) (row_named first rows)
-form_of_plain first rest type gc at =
-    let plain : Form = plain_form (length rest) (row_named first rows) in
-    let after_at : Form = cond (is_text first (codes "at")) (form_after_at rest) plain in
-    let after_gc : Form = cond (is_text first (codes "gc")) (form_after_gc rest) after_at in
-    cond-false (is_text first (codes "type")) (Known (type_places rest) (λ numbers. None)) after_gc type
-    ∙ cond-false (is_text first (codes "gc")) (form_after_gc rest) after_at gc
-    ∙ cond-false (is_text first (codes "at")) (form_after_at rest) plain at
 
 pub form_of_gc : (first : List ℕ) (rest : List (List ℕ)) → is_text first (codes "type") ≡ false → is_text first (codes "gc") ≡ true
     → form_of (first ∷ rest) ≡ form_after_gc rest

@@ -14,9 +14,10 @@ use Rattle.command_text.specs.Ranks.{half_rank}
 use Rattle.command_text.specs.Rows.{bounds_of, places_in, row_by, agree, makes_pair, command_of, is_sound, is_plain_row}
 use Rattle.command_text.specs.Said.{words_left}
 use Rattle.command_text.specs.RowLines.{row_rank, row_numbers, IsRowLine}
+use Rattle.command_text.specs.PlainForms.{form_of_plain}
 use Rattle.command_text.specs.CommandLines.{is_half_after, IsCommandLine}
 use Rattle.command_text.proofs.RowRanks.{sound_least}
-use Rattle.command_text.proofs.CommandForms.{form_of_plain, name_of, plain_is_row, command_line, refused_line, unknown_form}
+use Rattle.command_text.proofs.CommandForms.{name_of, plain_is_row, command_line, refused_line, unknown_form}
 use Rattle.command_text.proofs.PairLines.{pair_word, half_is_by, pair_makes}
 
 -- ---- before a row's words

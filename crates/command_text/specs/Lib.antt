@@ -4,3 +4,5 @@ pub mod Rows
 pub mod Said
 pub mod RowLines
 pub mod CommandLines
+-- Lemmas that the crates above need too.
+pub mod PlainForms

@@ -7,7 +7,8 @@
 //! (what the numbers of a line may name), `CommandLine`, and the numbers of the `reasons`.
 //!
 //! What is proved: a line says the command of its form as the grammar of `gc_graph` does, or has the
-//! lowest reason that its words give.
+//! lowest reason that its words give. `specs/PlainForms.antt` has a lemma for the crates above, which
+//! can't cite a crate's proofs.
 //!
 //! What is only tested or not said: how long a call takes. The tests stand in `heap_script_tests`.
 #![tactic(auto)]

@@ -15,6 +15,7 @@ use Rattle.gc_graph.specs.Forms.Form.{Known}
 use Rattle.gc_graph.specs.Reasons.{Reason, Bounds, first_is, has_unknown_word, command_by, command_of_words, reason_of_words}
 use Rattle.gc_graph.specs.Reasons.Reason.{UnknownWord}
 use Rattle.gc_graph.specs.Script.{is_order, is_go, is_join}
+use Rattle.command_text.specs.PlainForms.{form_of_plain}
 
 -- ---- commands
 
@@ -306,11 +307,6 @@ other_place first rest order c at threads p = record {
   join = and_left (is_text first (codes "threads")) (first_is (codes "join") rest) threads ∙ sym p.join;
 }
 
-other_form : (first : List ℕ) (rest : List (List ℕ)) → is_text first (codes "type") ≡ false → is_text first (codes "gc") ≡ false
-    → is_text first (codes "at") ≡ false → form_of (first ∷ rest) ≡ plain_form (length rest) (row_named first rows)
-other_form first rest type gc at =
-    cond-false (is_text first (codes "type")) _ _ type ∙ cond-false (is_text first (codes "gc")) _ _ gc ∙ cond-false (is_text first (codes "at")) _ _ at
-
 as_text : (first text : List ℕ) (rest : List (List ℕ)) → is_text first text ≡ true → first ∷ rest ≡ text ∷ rest
 as_text first text rest is = ap (λ w. w ∷ rest) ((bytes_decides first text).0 is)
 
@@ -330,7 +326,7 @@ by_first bounds first rest c type fine e =
               (after_threads bounds rest c (sym (ap (reason_of_words bounds) is) ∙ fine) (sym (ap command_of_words is) ∙ e)))
           | inr no_threads ↦ other_place first rest false c no_at no_threads
               (plain_row first (length rest) (first ∷ rest) c (row_named first rows) refl no_threads
-              (sym (ap (λ form. command_by form (first ∷ rest)) (other_form first rest type no_gc no_at)) ∙ e))
+              (sym (ap (λ form. command_by form (first ∷ rest)) (form_of_plain first rest type no_gc no_at)) ∙ e))
         ]
       ]
     ]

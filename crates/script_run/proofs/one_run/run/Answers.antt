@@ -1,4 +1,4 @@
-use Rattle.std.proofs.Common.{◌≡◌, map, string_bytes, None, Some, option_map, ap, sym, ◌∙◌, refl, rules}
+use Rattle.std.proofs.Common.{◌≡◌, map, string_bytes, Some, option_map, ap, sym, ◌∙◌, refl, rules}
 use Rattle.script_run.specs.Options.{shape_asked}
 use Rattle.script_run.specs.Setting.{shape_of}
 use Rattle.script_run.proofs.Outcomes.{answers_done, answers_stopped, answers_script, of_kept}
