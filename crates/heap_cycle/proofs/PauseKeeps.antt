@@ -19,13 +19,14 @@ use Rattle.gc_graph.specs.Outcomes.{took}
 use Rattle.gc_graph.specs.Pause.{IsKept}
 use Rattle.gc_graph.specs.Valid.{AreLive, IsThere}
 use Rattle.atomic_pause.specs.Pausing.{hits_at, hits_in}
-use Rattle.node_bodies.specs.AmongNodes.{IsAmong, among_cases, among_left, among_right, filter_holds, filter_passes, below_ranged}
-use Rattle.node_bodies.specs.BodyGraph.{some}
+use Rattle.node_bodies.specs.AmongNodes.{IsAmong, among_cases, among_left, among_right, filter_holds, filter_passes}
 use Rattle.node_bodies.specs.Judgement.{IsReached}
-use Rattle.node_bodies.specs.NodePlaces.{live_is_there, there_below}
+use Rattle.node_bodies.specs.NodePlaces.{live_is_there}
 use Rattle.heap_cycle.specs.Views.{IsAtRest}
 use Rattle.heap_handles.specs.Stack.{StackView, PointsInside, HoldsWords, is_precise}
 use Rattle.heap_cycle.specs.Entries.{start_entry}
+use Rattle.gc_graph.specs.Members.{below_ranged, any_member}
+use Rattle.gc_graph.specs.NodeNumbers.{there_below}
 
 -- the state in which a collection that was just started pauses
 abbrev pub started_state : State → State
@@ -100,7 +101,7 @@ same_hits nodes words addresses is =
 -- what is hit is there
 hit_there : (nodes : List Node) (words : List StackWord) (n : ℕ) → IsAmong (hits_of nodes words) n → IsThere nodes n
 hit_there nodes words n is =
-    let word = some (λ w. has_word (node_at nodes n) (address_of nodes w)) words (filter_passes (is_hit nodes words) (range_with_len 0 (length nodes)) n is) in
+    let word = any_member (λ w. has_word (node_at nodes n) (address_of nodes w)) words (filter_passes (is_hit nodes words) (range_with_len 0 (length nodes)) n is) in
     (and_parts (is_there (node_at nodes n).life) _ word.2).0
 
 -- ---- the roots, and what may be kept

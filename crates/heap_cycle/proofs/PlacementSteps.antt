@@ -13,8 +13,8 @@ use Rattle.gc_graph.specs.SweepLaw.{SweepsJoin, SweepIsOne}
 use Rattle.gc_graph.specs.Valid.{IsSettled}
 use Rattle.page_space.specs.Space.{FitsBetween}
 use Rattle.heap_cycle.specs.Finalising.{IsSearched}
-use Rattle.node_bodies.specs.Lists.{Contains-cons, Contains-cons_cases}
 use Rattle.gc_graph.specs.FinalisedNodes.{there_earlier}
+use Rattle.gc_graph.specs.Members.{Contains-cons, Contains-cons_cases}
 
 from_all : (shape : Shape) (pages : ℕ) (es : List Extent) (size a : ℕ) → FitsBetween shape 0 pages es size a → Fits shape pages es size a
 from_all shape pages es size a fits = (fits.0, (fits.1.0, fits.1.2, fits.1.3))

@@ -7,8 +7,9 @@ use Rattle.callback_table.specs.Registry.{IsRegistered}
 use Rattle.heap_cycle.specs.declared.parts.Parts.{Parts}
 use Rattle.heap_cycle.specs.Views.{IsPlaced}
 use Rattle.heap_cycle.specs.Parts.{IsReady}
-use Rattle.node_bodies.specs.NodePlaces.{live_is_there, there_below}
+use Rattle.node_bodies.specs.NodePlaces.{live_is_there}
 use Rattle.heap_cycle.specs.Registrations.{live_entries}
+use Rattle.gc_graph.specs.NodeNumbers.{there_below}
 
 one_registered : (nodes : List Node) (callbacks : ℕ) (e : Registered) → IsPlaced nodes callbacks e → IsLive nodes e.node → IsRegistered nodes callbacks e
 one_registered nodes callbacks e placed live = record {

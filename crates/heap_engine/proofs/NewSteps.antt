@@ -30,8 +30,9 @@ use Rattle.heap_cycle.specs.Parts.{setup_of, state_of, counted, AreTied, IsReady
 use Rattle.node_bodies.specs.KeptNodes.{slots_live}
 use Rattle.heap_cycle.specs.Registrations.{registrations_join, live_entries}
 use Rattle.heap_objects.specs.NewNodes.{place-old, stays-old, node-new}
-use Rattle.node_bodies.specs.NodePlaces.{there_below, live_is_there}
+use Rattle.node_bodies.specs.NodePlaces.{live_is_there}
 use Rattle.heap_handles.specs.StackWords.{words_held}
+use Rattle.gc_graph.specs.NodeNumbers.{there_below}
 
 -- while no marking goes on, nothing is told of what may be kept
 same_may : (phase : Phase) (may : List Bool) → is_marking phase ≡ false → may_with_new phase may ≡ may

@@ -12,12 +12,7 @@ use Rattle.node_bodies.specs.Nodes.{place_of, word_of, body_of, bodies_from, bod
 use Rattle.node_bodies.specs.NodeBodies.{bodies-there, bodies-gone}
 use Rattle.node_bodies.specs.NodePlaces.{node_body}
 use Rattle.heap_objects.specs.FieldNodes.{with_field, size_field}
-
-abbrev has_word : ℕ → Body → Bool
-has_word a b = leb (b.place + 2) a && ltb a (end_of b)
-
-abbrev rewritten : ℕ → ℕ → Body → Body
-rewritten a w b = record b { fields = set b.fields (a - (b.place + 2)) w }
+use Rattle.page_words.specs.WrittenBodies.{has_word, rewritten}
 
 -- ---- the place stays
 

@@ -20,12 +20,12 @@ use Rattle.heap_objects.specs.Finalising.{HasMarks}
 use Rattle.node_bodies.specs.TypedNodes.{AreKnown, NamesBelow, new_words}
 use Rattle.node_bodies.specs.NodeBodies.{bodies-push, extents-bodies}
 use Rattle.node_bodies.specs.NodeChanges.{AgreeOn, AgreeIn, bodies-places, bodies-same}
-use Rattle.node_bodies.specs.NodePlaces.{there_below}
-use Rattle.node_bodies.specs.Lists.{Contains-map_some}
 use Rattle.heap_objects.specs.FieldNodes.{with_field, place-field, life-field}
 use Rattle.heap_objects.proofs.FieldBodies.{bodies_stored}
 use Rattle.heap_objects.specs.NewNodes.{node-old, node-new, place-old}
 use Rattle.page_words.specs.WrittenBodies.{same_place}
+use Rattle.gc_graph.specs.Members.{Contains-map_some}
+use Rattle.gc_graph.specs.NodeNumbers.{there_below}
 
 -- ---- a new node
 

@@ -16,10 +16,10 @@ use Rattle.node_bodies.specs.NodeBodies.{bodies-there, bodies-gone}
 use Rattle.node_bodies.specs.NodeChanges.{bodies-same}
 use Rattle.node_bodies.specs.NodePlaces.{node_body, body_node}
 use Rattle.node_bodies.specs.NodeLives.{is_dead_life}
-use Rattle.node_bodies.specs.Lists.{Contains-map}
 use Rattle.heap_objects.specs.Finalising.{FinalisesBelow}
 use Rattle.heap_objects.specs.SweptNodes.{life_below, finalise_is, place-finalised, life-finalised}
 use Rattle.sweeper.specs.OutsidePlaces.{outside_holds}
+use Rattle.gc_graph.specs.Members.{Contains-map}
 
 -- ---- the nodes afterwards
 

@@ -27,6 +27,7 @@ use Rattle.type_table.specs.FieldLaw.{FieldsStandApart}
 use Rattle.node_bodies.specs.TypedNodes.{AreKnown, known_nodes}
 use Rattle.node_bodies.specs.FieldKinds.{some_words, word_below}
 use Rattle.gc_graph.specs.NodeNumbers.{live_below}
+use Rattle.node_bodies.specs.KeptNodes.{live_typed}
 
 pub live_place : (nodes : List Node) (v : SeatView) (n place : ℕ) → v.bodies ≡ bodies_of nodes → IsLiveAt nodes n place → IsPlace v.bodies place
 live_place nodes v n place held at = (body_of (place_of nodes) n (node_at nodes n), node_body nodes v n held (live_is_there nodes n at.0), at.1)
@@ -94,10 +95,6 @@ field_answered setup nodes n place f size ty extra allowed (Some t) answer is ex
     (subst (λ x. MatchBool (allowed t.0) (answer ≡ Ok x) (answer ≡ Err R.Kind)) same told))
 
 -- ---- the word of a field
-
-pub live_typed : (setup : Setup) (nodes : List Node) (n : ℕ) → AreOfValid setup nodes → IsLive nodes n → IsTyped setup (length nodes) (node_at nodes n)
-live_typed setup nodes n valid live =
-    All-get_or (IsTyped setup (length nodes)) nodes n no_node (live_below nodes n live) (known_nodes setup nodes valid).typed
 
 -- the field's first word is one of the values
 pub word_low : (setup : Setup) (nodes : List Node) (n f : ℕ) (field : Field) → AreOfValid setup nodes → IsFieldOf nodes n f field

@@ -23,8 +23,9 @@ use Rattle.heap_objects.specs.Objects.{IsReferenceTo, target_in}
 use Rattle.node_bodies.specs.NodePlaces.{live_is_there, node_body}
 use Rattle.node_bodies.specs.TypedNodes.{known_nodes}
 use Rattle.node_bodies.specs.FieldKinds.{IsOfKind, value_of_kind}
-use Rattle.heap_objects.specs.FieldPlaces.{live_typed, word_low}
+use Rattle.heap_objects.specs.FieldPlaces.{word_low}
 use Rattle.gc_graph.specs.NodeNumbers.{live_below}
+use Rattle.node_bodies.specs.KeptNodes.{live_typed}
 
 -- ---- what may go into a field
 

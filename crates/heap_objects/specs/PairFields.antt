@@ -28,8 +28,8 @@ use Rattle.heap_objects.specs.Objects.{IsReferenceTo}
 use Rattle.node_bodies.specs.NodePlaces.{live_is_there, node_body}
 use Rattle.node_bodies.specs.TypedNodes.{known_nodes}
 use Rattle.node_bodies.specs.FieldKinds.{first_word, IsOfKind, value_of_kind}
-use Rattle.heap_objects.specs.FieldPlaces.{live_typed}
 use Rattle.heap_objects.specs.FieldReads.{named}
+use Rattle.node_bodies.specs.KeptNodes.{live_typed}
 
 -- ---- where a pair is
 

@@ -8,11 +8,7 @@ use Rattle.std.proofs.lemmas.Bool.{and_parts, and_from, cases_Bool, cond-false, 
 use Rattle.gc_graph.specs.Words.{is_digit, is_number, value_after}
 use Rattle.line_words.specs.Cursor.{is_word_byte, IsDigits, IsPastSpaces, IsShortNumber, IsWordEnd}
 use Rattle.line_words.proofs.WordPlaces.{space_words, space_lines, word_found}
-use Rattle.gc_graph.specs.WordBytes.{digit_byte, digits_are_word}
-
-value_push : (n : ℕ) (word : List ℕ) (b : ℕ) → value_after n (word ++ b ∷ []) ≡ value_after n word * 10 + (b - 48)
-value_push n [] b = refl
-value_push n (c ∷ word) b = value_push (n * 10 + (c - 48)) word b
+use Rattle.gc_graph.specs.WordBytes.{digit_byte, digits_are_word, value_after-push}
 
 -- one more digit
 pub digit_more : (bytes : List ℕ) (start place value : ℕ) → IsDigits bytes start place value → value < 100000000 → place < length bytes
@@ -32,7 +28,7 @@ digit_more bytes start place value so low within above below =
           ∙ and_from (list_all is_digit (take count left)) (is_digit (get_or left count 0)) so.digits
           (ap is_digit here ∙ and_from (nat_le 48 b) (nat_le b 57) (le-leb 48 b above) (le-leb b 57 below));
       value_is = ap (λ v. v * 10 + (b - 48)) so.value_is
-          ∙ sym (value_push 0 (take count left) b)
+          ∙ sym (value_after-push 0 (take count left) b)
           ∙ ap (λ c. value_after 0 (take count left ++ c ∷ [])) (sym here)
           ∙ ap (value_after 0) (sym (take_more left count 0 inside))
           ∙ ap (λ n. value_after 0 (take n left)) (sym next);

@@ -5,7 +5,6 @@ use Rattle.std.specs.List.{Contains, list_any}
 use Rattle.std.proofs.lemmas.Bool.{or_cases, or_left, or_right}
 use Rattle.std.proofs.lemmas.List.Folds.{list_any-append}
 use Rattle.gc_graph.specs.Members.{has_passed, stays_in, holds_from, in_from_holds}
-pub use Rattle.gc_graph.specs.Members.{below_ranged}
 
 -- the node is among these
 abbrev pub IsAmong : List ℕ → ℕ → Type 0

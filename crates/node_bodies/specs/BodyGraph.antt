@@ -8,7 +8,6 @@ use Rattle.gc_graph.specs.declared.kind.Value.TheVariants.{Null, Ref, Word}
 use Rattle.gc_graph.specs.Graph.{Object, strong_targets, pair_targets}
 use Rattle.gc_graph.specs.Members.{Contains-map, Contains-map_some}
 use Rattle.gc_graph.specs.Leading.{IsLed}
-pub use Rattle.gc_graph.specs.Members.{any_member as some}
 
 -- ---- names of places in place of names of nodes
 

@@ -1,7 +1,6 @@
 pub mod Nodes
 pub mod Places
 pub mod Judgement
-pub mod Lists
 pub mod AmongNodes
 pub mod NodeBodies
 pub mod NodePlaces

@@ -6,7 +6,6 @@ use Rattle.std.proofs.lemmas.List.Elements.{Contains-get_or, All-from_get_or}
 use Rattle.gc_graph.specs.State.{Node, Life, node_at, is_there, is_live, IsLive}
 use Rattle.gc_graph.specs.State.Life.{Live, Dead, Gone}
 use Rattle.gc_graph.specs.Members.{Contains-cons, Contains-head}
-pub use Rattle.gc_graph.specs.NodeNumbers.{there_below}
 use Rattle.page_words.specs.Bodies.{Body}
 use Rattle.page_words.specs.Seat.{SeatView, IsView}
 use Rattle.page_words.specs.BodyPlaces.{same_body}
