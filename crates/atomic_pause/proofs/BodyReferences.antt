@@ -18,12 +18,12 @@ use Rattle.page_words.specs.Bodies.{Body, IsReference, kind_in}
 use Rattle.page_words.specs.Seat.{SeatView}
 use Rattle.ephemerons.specs.BodyGraph.{AreReferences}
 use Rattle.weak_clearing.specs.Clearing.{MarkedHaveReferencesOf}
-use Rattle.node_bodies.specs.Nodes.{place_of, word_of, body_of, bodies_of, IsHeld, AreOfValid}
-use Rattle.node_bodies.specs.FieldKinds.{some_words}
-use Rattle.node_bodies.specs.NodePlaces.{node_body, body_node, live_is_there}
-use Rattle.node_bodies.specs.NodeLives.{live_if_there, none_dead}
-use Rattle.node_bodies.specs.TypedNodes.{AreKnown, known_nodes}
-use Rattle.node_bodies.specs.ReferenceWords.{reference_word}
+use Rattle.nodes_in_words.specs.Nodes.{place_of, word_of, body_of, bodies_of, IsHeld, AreOfValid}
+use Rattle.nodes_in_words.specs.FieldKinds.{some_words}
+use Rattle.nodes_in_words.specs.NodePlaces.{node_body, body_node, live_is_there}
+use Rattle.nodes_in_words.specs.NodeLives.{live_if_there, none_dead}
+use Rattle.nodes_in_words.specs.TypedNodes.{AreKnown, known_nodes}
+use Rattle.nodes_in_words.specs.ReferenceWords.{reference_word}
 use Rattle.atomic_pause.specs.Marking.{MarksReachable}
 
 -- a reference to a live node is one to its body

@@ -8,12 +8,12 @@ use Rattle.gc_graph.specs.Pause.{judged, condemn}
 use Rattle.gc_graph.specs.Members.{Contains-map, filtered_holds, holds_from}
 use Rattle.page_words.specs.Bodies.{Body}
 use Rattle.page_words.specs.Seat.{SeatView, holds, unmarked_places}
-use Rattle.node_bodies.specs.Places.{IsJudged, kept_of}
-use Rattle.node_bodies.specs.Nodes.{place_of, body_of, bodies_of, IsThere, IsHeld}
-use Rattle.node_bodies.specs.NodeChanges.{bodies-same, bodies-condemn}
-use Rattle.node_bodies.specs.NodePlaces.{node_body}
-use Rattle.node_bodies.specs.NodeLives.{life-condemn, place-condemn, there-condemn, live_if_there, dead_judged, none_dead}
-use Rattle.node_bodies.specs.KeptNodes.{has-kept}
+use Rattle.nodes_in_words.specs.Places.{IsJudged, kept_of}
+use Rattle.nodes_in_words.specs.Nodes.{place_of, body_of, bodies_of, IsThere, IsHeld}
+use Rattle.nodes_in_words.specs.NodeChanges.{bodies-same, bodies-condemn}
+use Rattle.nodes_in_words.specs.NodePlaces.{node_body}
+use Rattle.nodes_in_words.specs.NodeLives.{life-condemn, place-condemn, there-condemn, live_if_there, dead_judged, none_dead}
+use Rattle.nodes_in_words.specs.KeptNodes.{has-kept}
 use Rattle.atomic_pause.specs.Marking.{MarksReachable}
 
 -- ---- a pause

@@ -20,12 +20,12 @@ use Rattle.page_space.specs.Space.{SpaceView, IsSpaceOf}
 use Rattle.ephemerons.specs.Fixpoint.{ListsMarks}
 use Rattle.ephemerons.specs.ListedMarks.{ListsMarks-then}
 use Rattle.prefinalizer_effects.specs.Prepared.{setup_of, IsPrepared}
-use Rattle.node_bodies.specs.Nodes.{place_of, bodies_of, IsHeld, AreOfValid}
-use Rattle.node_bodies.specs.Places.{kept_of}
-use Rattle.node_bodies.specs.Judgement.{nodes_after, IsReached}
-use Rattle.node_bodies.specs.NodeBodies.{length-bodies}
-use Rattle.node_bodies.specs.NodeLives.{life-condemn, live-condemn, live_and_dead, none_dead}
-use Rattle.node_bodies.specs.WeakNodes.{life-after, place-after, length-after, live-after, count-stays}
+use Rattle.nodes_in_words.specs.Nodes.{place_of, bodies_of, IsHeld, AreOfValid}
+use Rattle.nodes_in_words.specs.Places.{kept_of}
+use Rattle.nodes_in_words.specs.Judgement.{nodes_after, IsReached}
+use Rattle.nodes_in_words.specs.NodeBodies.{length-bodies}
+use Rattle.nodes_in_words.specs.NodeLives.{life-condemn, live-condemn, live_and_dead, none_dead}
+use Rattle.nodes_in_words.specs.WeakNodes.{life-after, place-after, length-after, live-after, count-stays}
 use Rattle.atomic_pause.specs.Marking.{IsScanned, IsRootPlace, MarksReachable, marked_count}
 use Rattle.atomic_pause.specs.Pausing.{IsPaused}
 use Rattle.atomic_pause.proofs.MarkEnds.{IsMarkedIn, roots_reach}

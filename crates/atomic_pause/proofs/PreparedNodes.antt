@@ -16,11 +16,11 @@ use Rattle.gc_graph.specs.Condemning.{length-condemn, clear_typed}
 use Rattle.gc_graph.specs.NodeNumbers.{there_below}
 use Rattle.prefinalizer_effects.specs.Acting as words
 use Rattle.prefinalizer_effects.specs.Prepared.{NamesThere, AllNameThere}
-use Rattle.node_bodies.specs.Judgement.{nodes_after}
-use Rattle.node_bodies.specs.Nodes.{IsThere}
-use Rattle.node_bodies.specs.NodeLives.{life-condemn, object-condemn, live_if_there, there-condemn, still_there}
-use Rattle.node_bodies.specs.TypedNodes.{AreKnown}
-use Rattle.node_bodies.specs.WeakNodes.{life-after, length-after}
+use Rattle.nodes_in_words.specs.Judgement.{nodes_after}
+use Rattle.nodes_in_words.specs.Nodes.{IsThere}
+use Rattle.nodes_in_words.specs.NodeLives.{life-condemn, object-condemn, live_if_there, there-condemn, still_there}
+use Rattle.nodes_in_words.specs.TypedNodes.{AreKnown}
+use Rattle.nodes_in_words.specs.WeakNodes.{life-after, length-after}
 
 -- ---- clearing keeps the kinds of values, and what holds of them and of null
 

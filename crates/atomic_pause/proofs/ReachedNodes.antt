@@ -15,15 +15,15 @@ use Rattle.page_words.specs.Bodies.{Body}
 use Rattle.page_words.specs.Seat.{SeatView, IsView, holds}
 use Rattle.ephemerons.specs.BodyGraph.{object_in, object_there, graph_in}
 use Rattle.ephemerons.specs.ObjectsThere.{there_is}
-use Rattle.node_bodies.specs.Nodes.{place_of, body_of, bodies_of, IsThere, IsHeld, AreOfValid}
-use Rattle.node_bodies.specs.Places.{kept_of}
-use Rattle.node_bodies.specs.Judgement.{IsReached}
-use Rattle.node_bodies.specs.AmongNodes.{IsAmong, among_cases, among_left, among_right, filter_holds, filter_passes}
-use Rattle.node_bodies.specs.NodePlaces.{live_is_there, live_is_live, is_live_life, node_body, body_node, same_node}
-use Rattle.node_bodies.specs.NodeLives.{live_if_there, none_dead}
-use Rattle.node_bodies.specs.BodyGraph.{renamed_object, led_renamed, renamed_led}
-use Rattle.node_bodies.specs.NodeGraph.{node_led, led_node}
-use Rattle.node_bodies.specs.KeptNodes.{kept_parts, kept_from, kept_low, slot_of_root, root_of_slot, slot_place, place_slot, slot_live, named_live, refers_within, live_typed}
+use Rattle.nodes_in_words.specs.Nodes.{place_of, body_of, bodies_of, IsThere, IsHeld, AreOfValid}
+use Rattle.nodes_in_words.specs.Places.{kept_of}
+use Rattle.nodes_in_words.specs.Judgement.{IsReached}
+use Rattle.nodes_in_words.specs.AmongNodes.{IsAmong, among_cases, among_left, among_right, filter_holds, filter_passes}
+use Rattle.nodes_in_words.specs.NodePlaces.{live_is_there, live_is_live, is_live_life, node_body, body_node, same_node}
+use Rattle.nodes_in_words.specs.NodeLives.{live_if_there, none_dead}
+use Rattle.nodes_in_words.specs.BodyGraph.{renamed_object, led_renamed, renamed_led}
+use Rattle.nodes_in_words.specs.NodeGraph.{node_led, led_node}
+use Rattle.nodes_in_words.specs.KeptNodes.{kept_parts, kept_from, kept_low, slot_of_root, root_of_slot, slot_place, place_slot, slot_live, named_live, refers_within, live_typed}
 use Rattle.atomic_pause.specs.Marking.{HoldsRoots, IsHitPlace, IsScanned, IsRootPlace, MarksReachable}
 use Rattle.atomic_pause.specs.Pausing.{NamePlaces, hits_at, hits_in}
 

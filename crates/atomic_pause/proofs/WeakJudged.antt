@@ -18,15 +18,15 @@ use Rattle.page_words.specs.Bodies.{Body}
 use Rattle.page_words.specs.Seat.{SeatView, holds}
 use Rattle.page_space.specs.Space.{SpaceView, IsSpaceOf, IsSpaceOver, extents_of_bodies}
 use Rattle.weak_clearing.specs.Clearing.{clear_words, clear_body, with_weak_cleared, clear_pair_words, clear_pairs_of, with_pairs_cleared}
-use Rattle.node_bodies.specs.Nodes.{AreOfValid, place_of, word_of, IsHeld}
-use Rattle.node_bodies.specs.Places.{IsJudged, kept_of, places_of}
-use Rattle.node_bodies.specs.Judgement.{nodes_after}
-use Rattle.node_bodies.specs.NodeChanges.{bodies-same}
-use Rattle.node_bodies.specs.NodeLives.{life-condemn, object-condemn, place-condemn, there-condemn, live_if_there, dead_judged, none_dead}
-use Rattle.node_bodies.specs.TypedNodes.{AreKnown, known_nodes}
-use Rattle.node_bodies.specs.KeptNodes.{has-kept, slots_live}
-use Rattle.node_bodies.specs.WeakNodes.{life-after, place-after}
-use Rattle.node_bodies.specs.ChangedBodies.{KeepsExtents, same_extents, judged_changed}
+use Rattle.nodes_in_words.specs.Nodes.{AreOfValid, place_of, word_of, IsHeld}
+use Rattle.nodes_in_words.specs.Places.{IsJudged, kept_of, places_of}
+use Rattle.nodes_in_words.specs.Judgement.{nodes_after}
+use Rattle.nodes_in_words.specs.NodeChanges.{bodies-same}
+use Rattle.nodes_in_words.specs.NodeLives.{life-condemn, object-condemn, place-condemn, there-condemn, live_if_there, dead_judged, none_dead}
+use Rattle.nodes_in_words.specs.TypedNodes.{AreKnown, known_nodes}
+use Rattle.nodes_in_words.specs.KeptNodes.{has-kept, slots_live}
+use Rattle.nodes_in_words.specs.WeakNodes.{life-after, place-after}
+use Rattle.nodes_in_words.specs.ChangedBodies.{KeepsExtents, same_extents, judged_changed}
 use Rattle.atomic_pause.specs.Marking.{MarksReachable}
 use Rattle.atomic_pause.proofs.HeldNodes.{held_judged}
 use Rattle.atomic_pause.proofs.WeakBodies.{TellsUnmarked, Clears, cleared_both, cleared_words, clear_all, bodies_cleared}

@@ -8,8 +8,8 @@ use Rattle.gc_graph.specs.Valid.{AreLive}
 use Rattle.gc_graph.specs.Pause.{condemn, run_order, prefinalised}
 use Rattle.gc_graph.specs.ActionLaw.{HaveStayed}
 use Rattle.callback_table.specs.Registry.{registrations_of, pairs_run, entries_left, RegistryView}
-use Rattle.node_bodies.specs.Places.{places_of}
-use Rattle.node_bodies.specs.Judgement.{nodes_after, IsReached}
+use Rattle.nodes_in_words.specs.Places.{places_of}
+use Rattle.nodes_in_words.specs.Judgement.{nodes_after, IsReached}
 
 -- the slots name live nodes, and these are the places of what they name
 pub record NamePlaces (nodes : List Node) (slots places : List (Option ℕ)) : Type 0 where

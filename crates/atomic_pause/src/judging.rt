@@ -2,11 +2,11 @@
 
 ghost use Rattle.std.specs.Prelude.{◌≡◌};
 ghost use Rattle.page_words.specs.Seat.{holds};
-ghost use Rattle.node_bodies.specs.Places.{kept_of};
-ghost use Rattle.node_bodies.specs.Judgement.{nodes_after};
+ghost use Rattle.nodes_in_words.specs.Places.{kept_of};
+ghost use Rattle.nodes_in_words.specs.Judgement.{nodes_after};
 
 use ghost_values::GhostValue;
-use node_bodies::NodeLists;
+use nodes_in_words::NodeLists;
 use page_words::MutatorSeat;
 
 /// What a judgement looks at.

@@ -4,7 +4,7 @@ use callback_table::{CallbackTable, Registry};
 use ephemerons::Pairs;
 use ghost_values::GhostValue;
 use mark_worklist::Marking;
-use node_bodies::NodeLists;
+use nodes_in_words::NodeLists;
 use page_space::Space;
 use page_words::MutatorSeat;
 use persistent_slots::Slots;

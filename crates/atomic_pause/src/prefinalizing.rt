@@ -12,7 +12,7 @@ ghost use Rattle.prefinalizer_effects.specs.Prepared.{IsPrepared};
 
 use callback_table::{CallbackTable, Registry};
 use ghost_values::GhostValue;
-use node_bodies::NodeLists;
+use nodes_in_words::NodeLists;
 use page_space::Space;
 use page_words::MutatorSeat;
 use prefinalizer_effects::PausedBodies;

@@ -25,8 +25,8 @@ use Rattle.callback_table.specs.Registry.{RegistryView, registration_of, registr
 use Rattle.atomic_pause.specs.Pausing.{IsPaused, hits_in}
 use Rattle.heap_cycle.specs.Entries.{start_entry, pause_entry}
 use Rattle.sweeper.specs.Sweeping.{SweepView, cursor_at}
-use Rattle.node_bodies.specs.Places.{places_of, IsJudged}
-use Rattle.node_bodies.specs.Judgement.{nodes_after}
+use Rattle.nodes_in_words.specs.Places.{places_of, IsJudged}
+use Rattle.nodes_in_words.specs.Judgement.{nodes_after}
 use Rattle.heap_handles.specs.Stack.{HoldsWords, is_precise}
 use Rattle.heap_cycle.specs.Changes.{collected_from}
 use Rattle.heap_cycle.specs.Printed.{ran_lines}
@@ -36,9 +36,9 @@ use Rattle.heap_handles.specs.Handles.{HandlesView}
 use Rattle.heap_cycle.specs.Views.{CycleView, IsPlaced, IsSweepOf, IsAtRest}
 use Rattle.heap_objects.specs.Finalising.{HasMarks}
 use Rattle.heap_cycle.specs.Parts.{setup_of, state_of, counted, IsReady, IsFrame}
-use Rattle.node_bodies.specs.Nodes.{place_of}
-use Rattle.node_bodies.specs.WeakNodes.{life-after, place-after, length-after, live-after, dead-after, count-stays}
-use Rattle.node_bodies.specs.KeptNodes.{refers_within}
+use Rattle.nodes_in_words.specs.Nodes.{place_of}
+use Rattle.nodes_in_words.specs.WeakNodes.{life-after, place-after, length-after, live-after, dead-after, count-stays}
+use Rattle.nodes_in_words.specs.KeptNodes.{refers_within}
 use Rattle.heap_cycle.specs.Registrations.{registrations_left, lines_ran, counts_run}
 use Rattle.heap_cycle.proofs.PauseKeeps.{started_state, has_roots, pause_keeps}
 use Rattle.heap_handles.specs.StackWords.{words_held}

@@ -19,9 +19,9 @@ use Rattle.gc_graph.specs.Outcomes.{took}
 use Rattle.gc_graph.specs.Pause.{IsKept}
 use Rattle.gc_graph.specs.Valid.{AreLive, IsThere}
 use Rattle.atomic_pause.specs.Pausing.{hits_at, hits_in}
-use Rattle.node_bodies.specs.AmongNodes.{IsAmong, among_cases, among_left, among_right, filter_holds, filter_passes}
-use Rattle.node_bodies.specs.Judgement.{IsReached}
-use Rattle.node_bodies.specs.NodePlaces.{live_is_there}
+use Rattle.nodes_in_words.specs.AmongNodes.{IsAmong, among_cases, among_left, among_right, filter_holds, filter_passes}
+use Rattle.nodes_in_words.specs.Judgement.{IsReached}
+use Rattle.nodes_in_words.specs.NodePlaces.{live_is_there}
 use Rattle.heap_cycle.specs.Views.{IsAtRest}
 use Rattle.heap_handles.specs.Stack.{StackView, PointsInside, HoldsWords, is_precise}
 use Rattle.heap_cycle.specs.Entries.{start_entry}

@@ -5,7 +5,7 @@ use Rattle.gc_graph.specs.Valid.{IsValid}
 use Rattle.gc_graph.specs.Outcomes.{answered}
 use Rattle.callback_table.specs.Registry.{registered, registrations_of}
 use Rattle.sweeper.specs.Sweeping.{cursor_at}
-use Rattle.node_bodies.specs.Places.{places_of}
+use Rattle.nodes_in_words.specs.Places.{places_of}
 use Rattle.heap_cycle.specs.declared.parts.Parts.{Parts}
 use Rattle.heap_objects.specs.Objects.{HaveCallbacks, setup_of_objects}
 use Rattle.heap_handles.specs.Stack.{HoldsWords}

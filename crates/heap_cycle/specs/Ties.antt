@@ -8,15 +8,15 @@ use Rattle.gc_graph.specs.State.{Setup, Node, IsLive, slot_targets}
 use Rattle.gc_graph.specs.Valid.{AreLive}
 use Rattle.callback_table.specs.declared.registry.Registered.{Registered}
 use Rattle.sweeper.specs.Sweeping.{cursor_at}
-use Rattle.node_bodies.specs.Nodes.{place_of, AreOfValid}
-use Rattle.node_bodies.specs.Places.{places_of}
+use Rattle.nodes_in_words.specs.Nodes.{place_of, AreOfValid}
+use Rattle.nodes_in_words.specs.Places.{places_of}
 use Rattle.heap_objects.specs.Objects.{IsLiveAt, ObjectsView, setup_of_objects, StaysAt}
 use Rattle.heap_cycle.specs.declared.parts.Parts.{Parts}
 use Rattle.heap_cycle.specs.Views.{CycleView, IsPlaced, IsSweepOf}
 use Rattle.heap_objects.specs.Finalising.{HasMarks}
 use Rattle.heap_cycle.specs.Parts.{setup_of, state_of, counted, AreTied, IsReady}
 use Rattle.heap_handles.specs.Handles.{put_in, copied_in, weakened_in, popped_in}
-use Rattle.node_bodies.specs.KeptNodes.{slots_live}
+use Rattle.nodes_in_words.specs.KeptNodes.{slots_live}
 use Rattle.heap_handles.specs.StackWords.{words_held, words_popped}
 
 pub valid_nodes : (s : Parts) → IsReady s → AreOfValid (setup_of s) s.objects.nodes

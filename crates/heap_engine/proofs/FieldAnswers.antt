@@ -21,7 +21,7 @@ use Rattle.gc_graph.specs.Outcomes.{answered, with_slot, slot_at}
 use Rattle.gc_graph.specs.ObjectSteps.{StepGet, StepWord, IsChanged, IsNumber, IsRead, first_word}
 use Rattle.heap_objects.specs.declared.field.Field.{Field}
 use Rattle.heap_objects.specs.declared.field.Wanted.{Wanted}
-use Rattle.node_bodies.specs.Nodes.{place_of, word_of}
+use Rattle.nodes_in_words.specs.Nodes.{place_of, word_of}
 use Rattle.heap_objects.specs.Fields.{allows, field_of, IsFieldOf, IsFieldAt, value_in, IsLiveReference}
 use Rattle.heap_engine.specs.FieldSteps.{StepWrite}
 use Rattle.heap_objects.specs.Objects.{target_in, written_in, ObjectsView}

@@ -5,7 +5,7 @@ use Rattle.gc_graph.specs.declared.phase.Phase.TheVariants.{Idle}
 use Rattle.gc_graph.specs.State.{ObjectType, Shape, empty_state}
 use Rattle.gc_graph.specs.ValidLaw.{EmptyIsValid}
 use Rattle.page_words.specs.Seat.{empty_view}
-use Rattle.node_bodies.specs.Places.{places_of}
+use Rattle.nodes_in_words.specs.Places.{places_of}
 use Rattle.heap_objects.specs.Objects.{HaveCallbacks, ObjectsView}
 use Rattle.heap_handles.specs.Stack.{empty_stack}
 use Rattle.heap_cycle.specs.declared.parts.Parts.{Parts}

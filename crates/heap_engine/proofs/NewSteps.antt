@@ -18,8 +18,8 @@ use Rattle.gc_graph.specs.ObjectSteps.{StepNew, with_new, registrations_for}
 use Rattle.callback_table.specs.declared.registry.Registered.{Registered}
 use Rattle.callback_table.specs.Registry.{registrations_of, registered}
 use Rattle.sweeper.specs.Sweeping.{cursor_at}
-use Rattle.node_bodies.specs.Nodes.{place_of}
-use Rattle.node_bodies.specs.Places.{places_of}
+use Rattle.nodes_in_words.specs.Nodes.{place_of}
+use Rattle.nodes_in_words.specs.Places.{places_of}
 use Rattle.heap_handles.specs.Stack.{HoldsWords}
 use Rattle.heap_objects.specs.Objects.{with_made, ObjectsView, setup_of_objects, StaysAt}
 use Rattle.heap_handles.specs.Handles.{put_in, HandlesView}
@@ -27,10 +27,10 @@ use Rattle.heap_cycle.specs.declared.parts.Parts.{Parts}
 use Rattle.heap_cycle.specs.Views.{CycleView, IsPlaced, IsSweepOf}
 use Rattle.heap_objects.specs.Finalising.{HasMarks}
 use Rattle.heap_cycle.specs.Parts.{setup_of, state_of, counted, AreTied, IsReady, registered_in}
-use Rattle.node_bodies.specs.KeptNodes.{slots_live}
+use Rattle.nodes_in_words.specs.KeptNodes.{slots_live}
 use Rattle.heap_cycle.specs.Registrations.{registrations_join, live_entries}
 use Rattle.heap_objects.specs.NewNodes.{place-old, stays-old, node-new}
-use Rattle.node_bodies.specs.NodePlaces.{live_is_there}
+use Rattle.nodes_in_words.specs.NodePlaces.{live_is_there}
 use Rattle.heap_handles.specs.StackWords.{words_held}
 use Rattle.gc_graph.specs.NodeNumbers.{there_below}
 

@@ -10,7 +10,7 @@ use Rattle.gc_graph.specs.Fields.{with_value, target_of, is_pair}
 use Rattle.gc_graph.specs.CycleSteps.{is_marking}
 use Rattle.gc_graph.specs.Outcomes.{answered, with_slot, slot_at}
 use Rattle.gc_graph.specs.ObjectSteps.{IsChanged, IsRead, first_word, part_of}
-use Rattle.node_bodies.specs.Nodes.{place_of, word_of}
+use Rattle.nodes_in_words.specs.Nodes.{place_of, word_of}
 use Rattle.heap_objects.specs.declared.field.Field.{Field}
 use Rattle.heap_objects.specs.declared.field.Part.{Part}
 use Rattle.heap_objects.specs.Fields.{part_in, IsLiveReference, ArePartsOf}

@@ -14,7 +14,7 @@ use Rattle.gc_graph.specs.CycleSteps.{is_marking}
 use Rattle.gc_graph.specs.Outcomes.{answered}
 use Rattle.gc_graph.specs.ObjectSteps.{IsRead}
 use Rattle.gc_graph.specs.HandleSteps.{StepRead}
-use Rattle.node_bodies.specs.Nodes.{place_of}
+use Rattle.nodes_in_words.specs.Nodes.{place_of}
 use Rattle.heap_handles.specs.Handles.{put_in, HandlesView}
 use Rattle.heap_cycle.specs.declared.parts.Parts.{Parts}
 use Rattle.heap_objects.specs.Objects.{ObjectsView}

@@ -8,7 +8,7 @@ ghost use Rattle.gc_graph.specs.declared.line.Refusal.TheVariants as R;
 ghost use Rattle.gc_graph.specs.Fields.{content_of};
 ghost use Rattle.gc_graph.specs.Outcomes.{answered, slot_at};
 ghost use Rattle.gc_graph.specs.ObjectSteps.{StepSet, StepGet, StepPut, StepWord};
-ghost use Rattle.node_bodies.specs.Nodes.{place_of, word_of};
+ghost use Rattle.nodes_in_words.specs.Nodes.{place_of, word_of};
 ghost use Rattle.heap_objects.specs.Fields.{allows, IsFieldAt, Suits};
 ghost use Rattle.heap_engine.specs.FieldSteps.{StepWrite};
 ghost use Rattle.heap_cycle.specs.Parts.{state_of, counted, IsReady, IsFrame};

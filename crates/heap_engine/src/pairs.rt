@@ -3,7 +3,7 @@
 ghost use Rattle.std.specs.Prelude.{◌≡◌, ◌<◌, [], ◌∷◌, None};
 ghost use Rattle.gc_graph.specs.Outcomes.{answered, slot_at};
 ghost use Rattle.gc_graph.specs.ObjectSteps.{StepPair, StepKey, StepVal};
-ghost use Rattle.node_bodies.specs.Nodes.{place_of, word_of};
+ghost use Rattle.nodes_in_words.specs.Nodes.{place_of, word_of};
 ghost use Rattle.heap_objects.specs.Fields.{ArePartsOf};
 ghost use Rattle.heap_engine.specs.FieldSteps.{StepPart, StepWholePair};
 ghost use Rattle.heap_cycle.specs.Parts.{state_of, counted, IsReady, IsFrame};

@@ -8,9 +8,9 @@ use Rattle.gc_graph.specs.State.{Node, node_at, is_there, size_of}
 use Rattle.gc_graph.specs.Fields.{with_value}
 use Rattle.page_words.specs.Bodies.{Body, end_of, with_word}
 use Rattle.page_words.specs.Seat.{SeatView, IsView}
-use Rattle.node_bodies.specs.Nodes.{place_of, word_of, body_of, bodies_from, bodies_of, IsThere}
-use Rattle.node_bodies.specs.NodeBodies.{bodies-there, bodies-gone}
-use Rattle.node_bodies.specs.NodePlaces.{node_body}
+use Rattle.nodes_in_words.specs.Nodes.{place_of, word_of, body_of, bodies_from, bodies_of, IsThere}
+use Rattle.nodes_in_words.specs.NodeBodies.{bodies-there, bodies-gone}
+use Rattle.nodes_in_words.specs.NodePlaces.{node_body}
 use Rattle.heap_objects.specs.FieldNodes.{with_field, size_field}
 use Rattle.page_words.specs.WrittenBodies.{has_word, rewritten}
 

@@ -15,11 +15,11 @@ use Rattle.page_words.specs.Seat.{SeatView, IsView, holds, stored}
 use Rattle.gc_graph.specs.Placement.{extents_of}
 use Rattle.page_space.specs.Occupying.{Occupies, new_body}
 use Rattle.page_space.specs.Space.{extents_of_bodies}
-use Rattle.node_bodies.specs.Nodes.{place_of, word_of, body_of, bodies_of, IsThere, IsHeld}
+use Rattle.nodes_in_words.specs.Nodes.{place_of, word_of, body_of, bodies_of, IsThere, IsHeld}
 use Rattle.heap_objects.specs.Finalising.{HasMarks}
-use Rattle.node_bodies.specs.TypedNodes.{AreKnown, NamesBelow, new_words}
-use Rattle.node_bodies.specs.NodeBodies.{bodies-push, extents-bodies}
-use Rattle.node_bodies.specs.NodeChanges.{AgreeOn, AgreeIn, bodies-places, bodies-same}
+use Rattle.nodes_in_words.specs.TypedNodes.{AreKnown, NamesBelow, new_words}
+use Rattle.nodes_in_words.specs.NodeBodies.{bodies-push, extents-bodies}
+use Rattle.nodes_in_words.specs.NodeChanges.{AgreeOn, AgreeIn, bodies-places, bodies-same}
 use Rattle.heap_objects.specs.FieldNodes.{with_field, place-field, life-field}
 use Rattle.heap_objects.proofs.FieldBodies.{bodies_stored}
 use Rattle.heap_objects.specs.NewNodes.{node-old, node-new, place-old}

@@ -11,11 +11,11 @@ use Rattle.page_words.specs.Bodies.{Body}
 use Rattle.page_words.specs.Seat.{SeatView, holds}
 use Rattle.page_space.specs.Pages.{is_between}
 use Rattle.sweeper.specs.Sweeping.{IsClearBelow, Sweeps, AreDeadSerials, IsDeadIn, no_body, outside, is_dead_in}
-use Rattle.node_bodies.specs.Nodes.{place_of, body_of, bodies_from, IsThere, IsHeld}
-use Rattle.node_bodies.specs.NodeBodies.{bodies-there, bodies-gone}
-use Rattle.node_bodies.specs.NodeChanges.{bodies-same}
-use Rattle.node_bodies.specs.NodePlaces.{node_body, body_node}
-use Rattle.node_bodies.specs.NodeLives.{is_dead_life}
+use Rattle.nodes_in_words.specs.Nodes.{place_of, body_of, bodies_from, IsThere, IsHeld}
+use Rattle.nodes_in_words.specs.NodeBodies.{bodies-there, bodies-gone}
+use Rattle.nodes_in_words.specs.NodeChanges.{bodies-same}
+use Rattle.nodes_in_words.specs.NodePlaces.{node_body, body_node}
+use Rattle.nodes_in_words.specs.NodeLives.{is_dead_life}
 use Rattle.heap_objects.specs.Finalising.{FinalisesBelow}
 use Rattle.heap_objects.specs.SweptNodes.{life_below, finalise_is, place-finalised, life-finalised}
 use Rattle.sweeper.specs.OutsidePlaces.{outside_holds}

@@ -7,8 +7,8 @@ use Rattle.gc_graph.specs.Sweep.{finalise}
 use Rattle.page_words.specs.Seat.{SeatView}
 use Rattle.page_space.specs.Space.{SpaceView}
 use Rattle.sweeper.specs.Sweeping.{SweepView, cursor_at, MaySweep, Sweeps}
-use Rattle.node_bodies.specs.Nodes.{IsHeld}
-use Rattle.node_bodies.specs.NodePlaces.{serials_fit}
+use Rattle.nodes_in_words.specs.Nodes.{IsHeld}
+use Rattle.nodes_in_words.specs.NodePlaces.{serials_fit}
 use Rattle.heap_objects.specs.Finalising.{IsSweptTo, FinalisesBelow}
 use Rattle.heap_objects.specs.Objects.{AreObjects}
 use Rattle.heap_objects.proofs.NodesSwept.{held_below, finalises_below}

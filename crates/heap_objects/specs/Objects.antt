@@ -6,7 +6,7 @@ use Rattle.gc_graph.specs.State.{Shape, Setup, ObjectType, Node, node_at, size_o
 use Rattle.gc_graph.specs.Fields.{word_of_field, with_value, target_of, new_node}
 use Rattle.page_words.specs.Seat.{SeatView}
 use Rattle.page_space.specs.Space.{SpaceView, IsSpaceOf}
-use Rattle.node_bodies.specs.Nodes.{place_of, word_of, IsHeld}
+use Rattle.nodes_in_words.specs.Nodes.{place_of, word_of, IsHeld}
 use Rattle.heap_objects.specs.Fields.{IsLiveReference}
 
 -- the objects: the heap's shape and types, the kinds of its callbacks, the nodes, and what is known of the words

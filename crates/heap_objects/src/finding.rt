@@ -6,7 +6,7 @@ ghost use Rattle.gc_graph.specs.Fields.{size_of_type};
 ghost use Rattle.gc_graph.specs.Placement.{IsLowest, IsNowhere, StartsEmptyRun, extents_of};
 ghost use Rattle.page_words.specs.Seat.{holds};
 ghost use Rattle.page_space.specs.Space.{FitsBetween, IsFreePlace};
-ghost use Rattle.node_bodies.specs.Nodes.{AreOfValid};
+ghost use Rattle.nodes_in_words.specs.Nodes.{AreOfValid};
 ghost use Rattle.heap_objects.specs.Objects.{with_made};
 ghost use Rattle.heap_objects.specs.Objects.{setup_of_objects};
 ghost use Rattle.heap_objects.specs.Finalising.{HasMarks};

@@ -10,7 +10,7 @@ use crate::content::Content;
 use crate::names::Names;
 use crate::pair_fields::PairContent;
 use ghost_values::GhostValue;
-use node_bodies::NodeLists;
+use nodes_in_words::NodeLists;
 use page_space::Space;
 use sweeper::Sweep;
 use type_table::TypeTable;

@@ -8,7 +8,7 @@ ghost use Rattle.gc_graph.specs.declared.phase.Phase.{Phase};
 ghost use Rattle.gc_graph.specs.Fields.{is_reference, is_plain};
 ghost use Rattle.heap_objects.specs.Fields.{allows, IsFieldAt, IsFieldOf, value_in, TakesValue};
 ghost use Rattle.heap_objects.specs.Objects.{IsLiveAt};
-ghost use Rattle.node_bodies.specs.Nodes.{AreOfValid, word_of, place_of};
+ghost use Rattle.nodes_in_words.specs.Nodes.{AreOfValid, word_of, place_of};
 ghost use Rattle.heap_objects.specs.Objects.{IsReferenceTo, target_in, written_in};
 ghost use Rattle.heap_objects.specs.Objects.{setup_of_objects};
 ghost use Rattle.heap_objects.specs.Finalising.{HasMarks};

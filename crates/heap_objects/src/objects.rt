@@ -15,7 +15,7 @@ use crate::kinds::{self, Kinds};
 use callback_table::CallbackTable;
 use gc_graph::NoMemory;
 use ghost_values::GhostValue;
-use node_bodies::NodeLists;
+use nodes_in_words::NodeLists;
 use page_space::Space;
 use page_words::MutatorSeat;
 use std::alloc::Global;
@@ -80,7 +80,7 @@ impl Objects {
             types,
             kinds: kinds::of(callbacks),
             made: 0,
-            nodes: node_bodies::none(),
+            nodes: nodes_in_words::none(),
         })
     }
 

@@ -7,8 +7,8 @@ ghost use Rattle.gc_graph.specs.Pause.{live_count, dead_count, is_dead_at, clear
 ghost use Rattle.callback_table.specs.Registry.{IsRegistered};
 ghost use Rattle.callback_table.specs.Table.{kinds_of};
 ghost use Rattle.page_words.specs.Seat.{IsQuiet};
-ghost use Rattle.node_bodies.specs.Nodes.{AreOfValid};
-ghost use Rattle.node_bodies.specs.Places.{places_of, IsJudged};
+ghost use Rattle.nodes_in_words.specs.Nodes.{AreOfValid};
+ghost use Rattle.nodes_in_words.specs.Places.{places_of, IsJudged};
 ghost use Rattle.atomic_pause.specs.Pausing.{IsPaused, NamePlaces, hits_in};
 ghost use Rattle.heap_objects.specs.Objects.{setup_of_objects};
 

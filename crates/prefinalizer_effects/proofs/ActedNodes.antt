@@ -19,10 +19,10 @@ use Rattle.page_words.specs.Bodies.{Body}
 use Rattle.page_words.specs.Seat.{SeatView}
 use Rattle.page_space.specs.Space.{extents_of_bodies}
 use Rattle.prefinalizer_effects.specs.Acting as words
-use Rattle.node_bodies.specs.Nodes.{IsThere}
+use Rattle.nodes_in_words.specs.Nodes.{IsThere}
 use Rattle.prefinalizer_effects.specs.Prepared.{NamesThere, AllNameThere}
-use Rattle.node_bodies.specs.Places.{IsJudged}
-use Rattle.node_bodies.specs.ChangedBodies.{KeepsExtents, same_extents, judged_changed}
+use Rattle.nodes_in_words.specs.Places.{IsJudged}
+use Rattle.nodes_in_words.specs.ChangedBodies.{KeepsExtents, same_extents, judged_changed}
 
 -- ---- what holds of null, of all numbers, and of a node's values holds of them after an action
 

@@ -12,10 +12,10 @@ use Rattle.gc_graph.specs.Fields as fields
 use Rattle.page_words.specs.Bodies.{Body}
 use Rattle.page_words.specs.Seat.{SeatView, IsView, holds}
 use Rattle.prefinalizer_effects.specs.Acting as bodies
-use Rattle.node_bodies.specs.Nodes.{place_of, body_of, bodies_from, IsThere, IsHeld}
-use Rattle.node_bodies.specs.NodeBodies.{bodies-there, bodies-gone}
-use Rattle.node_bodies.specs.NodePlaces.{same_node}
-use Rattle.node_bodies.specs.NodeChanges.{bodies-same, place_set, life_set}
+use Rattle.nodes_in_words.specs.Nodes.{place_of, body_of, bodies_from, IsThere, IsHeld}
+use Rattle.nodes_in_words.specs.NodeBodies.{bodies-there, bodies-gone}
+use Rattle.nodes_in_words.specs.NodePlaces.{same_node}
+use Rattle.nodes_in_words.specs.NodeChanges.{bodies-same, place_set, life_set}
 use Rattle.prefinalizer_effects.proofs.PrefinalizerFields.{cleared_body, added_body, links_body}
 
 -- ---- all bodies

@@ -14,8 +14,8 @@ use Rattle.gc_graph.specs.Fields as fields
 use Rattle.type_table.specs.Types.{kinds_of}
 use Rattle.page_words.specs.Bodies.{Body}
 use Rattle.prefinalizer_effects.specs.Acting as bodies
-use Rattle.node_bodies.specs.Nodes.{word_of, body_of}
-use Rattle.node_bodies.specs.FieldKinds.{IsOfKind, value_of_kind, word_below}
+use Rattle.nodes_in_words.specs.Nodes.{word_of, body_of}
+use Rattle.nodes_in_words.specs.FieldKinds.{IsOfKind, value_of_kind, word_below}
 
 -- ---- what one change leaves of a body
 

@@ -13,7 +13,7 @@ use Rattle.gc_graph.specs.Valid.{IsReferenceBelow, IsPlainWord, HaveKinds, IsTyp
 use Rattle.gc_graph.specs.Actions as graph
 use Rattle.type_table.specs.Layouts.{kinds_of_words}
 use Rattle.prefinalizer_effects.specs.Shown as words
-use Rattle.node_bodies.specs.Nodes.{word_of, body_of}
+use Rattle.nodes_in_words.specs.Nodes.{word_of, body_of}
 
 module _ (place : ℕ → ℕ) where
   shown_reference : (bound : ℕ) (x : Value) → IsReferenceBelow bound x → graph.shown x ≡ words.shown_reference (word_of place x)

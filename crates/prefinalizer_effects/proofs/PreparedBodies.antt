@@ -13,10 +13,10 @@ use Rattle.type_table.specs.Layouts.{kinds_of_words}
 use Rattle.page_words.specs.Bodies.{Body, IsReference}
 use Rattle.page_words.specs.Seat.{SeatView}
 use Rattle.prefinalizer_effects.specs.Acting as words
-use Rattle.node_bodies.specs.Nodes.{place_of, word_of, body_of, bodies_of}
+use Rattle.nodes_in_words.specs.Nodes.{place_of, word_of, body_of, bodies_of}
 use Rattle.prefinalizer_effects.specs.Prepared.{NamesThere, AllNameThere}
-use Rattle.node_bodies.specs.ReferenceWords.{reference_word}
-use Rattle.node_bodies.specs.NodePlaces.{node_body, body_node}
+use Rattle.nodes_in_words.specs.ReferenceWords.{reference_word}
+use Rattle.nodes_in_words.specs.NodePlaces.{node_body, body_node}
 
 there_reference : (nodes : List Node) (v : SeatView) (bound : ℕ) (x : Value) → v.bodies ≡ bodies_of nodes → NamesThere nodes x → IsReferenceBelow bound x
     → IsReference v.bodies (word_of (place_of nodes) x)

@@ -6,9 +6,9 @@ use Rattle.gc_graph.specs.Pause.{is_dead_at}
 use Rattle.page_words.specs.Bodies.{Body, IsPlace}
 use Rattle.page_words.specs.Seat.{SeatView, holds}
 use Rattle.callback_table.specs.Bodies.{StandsAt, IsNodePlace}
-use Rattle.node_bodies.specs.Nodes.{IsThere, place_of, body_of, bodies_of, IsHeld}
-use Rattle.node_bodies.specs.Places.{IsJudged}
-use Rattle.node_bodies.specs.NodePlaces.{node_body}
+use Rattle.nodes_in_words.specs.Nodes.{IsThere, place_of, body_of, bodies_of, IsHeld}
+use Rattle.nodes_in_words.specs.Places.{IsJudged}
+use Rattle.nodes_in_words.specs.NodePlaces.{node_body}
 
 there_unless_gone : (l : Life) → (l ≡ Gone → ⊥) → is_there l ≡ true
 there_unless_gone Live not = refl

@@ -7,8 +7,8 @@ use Rattle.gc_graph.specs.State.{Setup, ObjectType, Node, node_at}
 use Rattle.gc_graph.specs.ActionLaw.{AreTyped}
 use Rattle.page_words.specs.Seat.{SeatView}
 use Rattle.page_space.specs.Space.{SpaceView, IsSpaceOf}
-use Rattle.node_bodies.specs.Nodes.{IsThere, IsHeld}
-use Rattle.node_bodies.specs.Places.{IsJudged}
+use Rattle.nodes_in_words.specs.Nodes.{IsThere, IsHeld}
+use Rattle.nodes_in_words.specs.Places.{IsJudged}
 
 -- what was set up
 abbrev pub setup_of : SpaceView → List ObjectType → List ActionKind → Setup

@@ -5,7 +5,7 @@ ghost use Rattle.gc_graph.specs.Actions.{acted};
 
 use gc_graph::Action;
 use ghost_values::GhostValue;
-use node_bodies::NodeLists;
+use nodes_in_words::NodeLists;
 
 /// What an action looks at.
 #[derive(Drop)]

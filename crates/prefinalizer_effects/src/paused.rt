@@ -13,7 +13,7 @@ ghost use Rattle.prefinalizer_effects.specs.Prepared.{IsPrepared};
 use crate::{acted_nodes, acting, shown};
 use callback_table::{Action, Bodies};
 use ghost_values::GhostValue;
-use node_bodies::NodeLists;
+use nodes_in_words::NodeLists;
 use page_space::Space;
 use page_words::MutatorSeat;
 use type_table::TypeTable;

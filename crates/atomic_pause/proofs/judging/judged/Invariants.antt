@@ -1,6 +1,6 @@
 use Rattle.page_words.specs.Seat.{holds}
-use Rattle.node_bodies.specs.Judgement.{nodes_after}
-use Rattle.node_bodies.specs.Places.{kept_of}
+use Rattle.nodes_in_words.specs.Judgement.{nodes_after}
+use Rattle.nodes_in_words.specs.Places.{kept_of}
 use Rattle.atomic_pause.proofs.judging.judged.Given as goal
 
 abbrev pub ghost-chosen : goal.ghost-chosen

@@ -14,9 +14,9 @@ use Rattle.page_space.specs.Space.{extents_of_bodies}
 use Rattle.ephemerons.specs.BodyGraph.{AreReferences, PlacesDiffer}
 use Rattle.ephemerons.specs.ListedMarks.{ListsMarks-then}
 use Rattle.prefinalizer_effects.specs.Prepared.{setup_of, IsPrepared}
-use Rattle.node_bodies.specs.Places.{kept_of}
-use Rattle.node_bodies.specs.Judgement.{nodes_after}
-use Rattle.node_bodies.specs.NodePlaces.{places_differ}
+use Rattle.nodes_in_words.specs.Places.{kept_of}
+use Rattle.nodes_in_words.specs.Judgement.{nodes_after}
+use Rattle.nodes_in_words.specs.NodePlaces.{places_differ}
 use Rattle.atomic_pause.specs.Marking.{IsRootPlace, MarksReachable}
 use Rattle.atomic_pause.proofs.BodyReferences.{alive_unjudged, alive_marked, references_hold, marked_references}
 use Rattle.atomic_pause.proofs.MarkEnds.{listed_from}

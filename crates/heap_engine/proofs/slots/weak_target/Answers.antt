@@ -1,5 +1,5 @@
 use Rattle.std.proofs.Common.{ℕ, ◌≡◌, None, get_or, Some, option_map, sym, ap, ◌∙◌}
-use Rattle.node_bodies.specs.Nodes.{place_of}
+use Rattle.nodes_in_words.specs.Nodes.{place_of}
 use Rattle.heap_objects.specs.Objects.{IsLiveAt}
 use Rattle.heap_cycle.specs.Ties.{weak_slot_names}
 use Rattle.heap_engine.proofs.slots.weak_target.Goals as goal

@@ -9,10 +9,10 @@ use Rattle.callback_table.specs.Bodies.{StandsAt}
 use Rattle.page_words.specs.Bodies.{Body}
 use Rattle.page_words.specs.Seat.{SeatView}
 use Rattle.prefinalizer_effects.specs.Acting as words
-use Rattle.node_bodies.specs.Nodes.{IsThere, place_of, body_of, IsHeld}
+use Rattle.nodes_in_words.specs.Nodes.{IsThere, place_of, body_of, IsHeld}
 use Rattle.prefinalizer_effects.specs.Prepared.{setup_of, AllNameThere}
 use Rattle.prefinalizer_effects.proofs.ActedNodes.{StayPut, acted_put, named_acted, linked_there}
-use Rattle.node_bodies.specs.NodePlaces.{node_body, serials_fit}
+use Rattle.nodes_in_words.specs.NodePlaces.{node_body, serials_fit}
 use Rattle.gc_graph.specs.NodeNumbers.{there_below}
 use Rattle.prefinalizer_effects.proofs.PrefinalizerBodies.{held_acted}
 use Rattle.prefinalizer_effects.proofs.PreparedBodies.{bodies_typed, bodies_linked}

@@ -3,8 +3,8 @@ use Rattle.gc_graph.specs.State.{Node, node_at}
 use Rattle.object_headers.specs.declared.header.Header.{Header}
 use Rattle.page_words.specs.Bodies.{Body}
 use Rattle.page_words.specs.Seat.{SeatView, holds}
-use Rattle.node_bodies.specs.Nodes.{place_of, body_of}
-use Rattle.node_bodies.specs.NodePlaces.{node_body}
+use Rattle.nodes_in_words.specs.Nodes.{place_of, body_of}
+use Rattle.nodes_in_words.specs.NodePlaces.{node_body}
 use Rattle.prefinalizer_effects.proofs.StandingNodes.{stands_there, stands_body, mark_tells}
 use Rattle.prefinalizer_effects.proofs.paused.is_marked.Goals as goal
 

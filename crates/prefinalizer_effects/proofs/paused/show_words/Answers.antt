@@ -6,8 +6,8 @@ use Rattle.page_words.specs.Bodies.{Body}
 use Rattle.page_words.specs.Seat.{SeatView}
 use Rattle.prefinalizer_effects.specs.Shown as shown
 use Rattle.prefinalizer_effects.specs.Prepared.{setup_of}
-use Rattle.node_bodies.specs.Nodes.{place_of, body_of}
-use Rattle.node_bodies.specs.NodePlaces.{node_body}
+use Rattle.nodes_in_words.specs.Nodes.{place_of, body_of}
+use Rattle.nodes_in_words.specs.NodePlaces.{node_body}
 use Rattle.prefinalizer_effects.proofs.PreparedBodies.{bodies_typed}
 use Rattle.prefinalizer_effects.proofs.PrefinalizerShown.{shown_body}
 use Rattle.prefinalizer_effects.proofs.StandingNodes.{stands_there, stands_body}

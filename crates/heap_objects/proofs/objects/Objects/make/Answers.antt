@@ -5,9 +5,9 @@ use Rattle.gc_graph.specs.Fields.{new_node, size_of_type}
 use Rattle.gc_graph.specs.Placement.{Extent}
 use Rattle.page_space.specs.Occupying.{Occupies, new_body}
 use Rattle.page_space.specs.Space.{IsFreePlace}
-use Rattle.node_bodies.specs.Nodes.{IsHeld}
+use Rattle.nodes_in_words.specs.Nodes.{IsHeld}
 use Rattle.heap_objects.specs.Objects.{with_made}
-use Rattle.node_bodies.specs.TypedNodes.{known_nodes}
+use Rattle.nodes_in_words.specs.TypedNodes.{known_nodes}
 use Rattle.heap_objects.proofs.HeldNodes.{held_made, marks_made, extents_held}
 use Rattle.heap_objects.proofs.objects.Objects.make.Goals as goal
 

@@ -5,9 +5,9 @@ use Rattle.gc_graph.specs.State.{Node}
 use Rattle.page_words.specs.Bodies.{IsPlace}
 use Rattle.page_words.specs.Seat.{SeatView}
 use Rattle.persistent_slots.specs.Clearing.{taken}
-use Rattle.node_bodies.specs.Nodes.{bodies_of}
-use Rattle.node_bodies.specs.KeptNodes.{slots_live, named_places, weak_are_places}
-use Rattle.node_bodies.specs.WeakNodes.{length-after}
+use Rattle.nodes_in_words.specs.Nodes.{bodies_of}
+use Rattle.nodes_in_words.specs.KeptNodes.{slots_live, named_places, weak_are_places}
+use Rattle.nodes_in_words.specs.WeakNodes.{length-after}
 use Rattle.page_space.specs.Space.{extents_of_bodies}
 use Rattle.heap_objects.proofs.PausedSizes.{sizes_stay}
 use Rattle.heap_objects.proofs.objects.Objects.pause.Goals as goal

@@ -1,9 +1,9 @@
 use Rattle.std.proofs.Common.{List, ap}
 use Rattle.gc_graph.specs.State.{Node, node_at}
 use Rattle.object_headers.specs.declared.header.Header.{Header}
-use Rattle.node_bodies.specs.Nodes.{place_of, body_of}
+use Rattle.nodes_in_words.specs.Nodes.{place_of, body_of}
 use Rattle.heap_objects.specs.FieldPlaces.{live_place}
-use Rattle.node_bodies.specs.NodePlaces.{live_is_there, node_body}
+use Rattle.nodes_in_words.specs.NodePlaces.{live_is_there, node_body}
 use Rattle.heap_objects.proofs.objects.Objects.size_at.Goals as goal
 
 pub header_at-requires-clause-start : goal.header_at-requires-clause-start

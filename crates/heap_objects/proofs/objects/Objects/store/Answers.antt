@@ -6,11 +6,11 @@ use Rattle.type_table.specs.Types.{is_kind}
 use Rattle.page_words.specs.Seat.{SeatView, stored}
 use Rattle.page_space.specs.Space.{IsSpaceOf}
 use Rattle.heap_objects.specs.declared.field.Field.{Field}
-use Rattle.node_bodies.specs.Nodes.{place_of, word_of, IsHeld}
+use Rattle.nodes_in_words.specs.Nodes.{place_of, word_of, IsHeld}
 use Rattle.heap_objects.specs.Fields.{TakesWord}
 use Rattle.heap_objects.specs.Objects.{written_in}
 use Rattle.heap_objects.specs.Finalising.{HasMarks}
-use Rattle.node_bodies.specs.NodePlaces.{live_is_there}
+use Rattle.nodes_in_words.specs.NodePlaces.{live_is_there}
 use Rattle.heap_objects.specs.FieldNodes.{with_field, length-field}
 use Rattle.heap_objects.specs.FieldPlaces.{has_word, word_low}
 use Rattle.heap_objects.specs.FieldReads.{takes_word}

@@ -6,10 +6,10 @@ use Rattle.page_words.specs.Bodies.{IsReference}
 use Rattle.page_words.specs.Seat.{SeatView, stored}
 use Rattle.page_space.specs.Space.{IsSpaceOf}
 use Rattle.heap_objects.specs.declared.field.Field.{Field}
-use Rattle.node_bodies.specs.Nodes.{place_of, word_of, IsHeld}
+use Rattle.nodes_in_words.specs.Nodes.{place_of, word_of, IsHeld}
 use Rattle.heap_objects.specs.Objects.{paired_in}
 use Rattle.heap_objects.specs.Finalising.{HasMarks}
-use Rattle.node_bodies.specs.NodePlaces.{live_is_there}
+use Rattle.nodes_in_words.specs.NodePlaces.{live_is_there}
 use Rattle.heap_objects.specs.FieldReads.{value_is_reference}
 use Rattle.heap_objects.proofs.HeldNodes.{marks_stored}
 use Rattle.heap_objects.specs.FieldNodes.{with_pair, length-pair}

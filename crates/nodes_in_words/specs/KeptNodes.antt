@@ -16,10 +16,10 @@ use Rattle.gc_graph.specs.Leading.{IsLed, is_led, led_named, nowhere}
 use Rattle.persistent_slots.specs.Clearing.{taken}
 use Rattle.page_words.specs.Bodies.{IsPlace}
 use Rattle.page_words.specs.Seat.{SeatView}
-use Rattle.node_bodies.specs.Nodes.{place_of, body_of, bodies_of, AreOfValid}
-use Rattle.node_bodies.specs.Places.{kept_of, places_of}
-use Rattle.node_bodies.specs.NodePlaces.{live_is_there, live_is_live, is_live_life, node_body}
-use Rattle.node_bodies.specs.TypedNodes.{NamesBelow, below_from}
+use Rattle.nodes_in_words.specs.Nodes.{place_of, body_of, bodies_of, AreOfValid}
+use Rattle.nodes_in_words.specs.Places.{kept_of, places_of}
+use Rattle.nodes_in_words.specs.NodePlaces.{live_is_there, live_is_live, is_live_life, node_body}
+use Rattle.nodes_in_words.specs.TypedNodes.{NamesBelow, below_from}
 
 pub has-kept : (marked : ℕ → Bool) (nodes : List Node) (n : ℕ) → has (kept_of marked nodes) n ≡ (is_live (node_at nodes n).life && marked (place_of nodes n))
 has-kept marked [] n = refl

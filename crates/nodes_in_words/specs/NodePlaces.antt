@@ -10,8 +10,8 @@ use Rattle.page_words.specs.Bodies.{Body}
 use Rattle.page_words.specs.Seat.{SeatView, IsView}
 use Rattle.page_words.specs.BodyPlaces.{same_body}
 use Rattle.ephemerons.specs.BodyGraph.{PlacesDiffer}
-use Rattle.node_bodies.specs.Nodes.{place_of, body_of, bodies_from, bodies_of, IsThere}
-use Rattle.node_bodies.specs.NodeBodies.{bodies-there, bodies-gone, node_of_body, body_of_node}
+use Rattle.nodes_in_words.specs.Nodes.{place_of, body_of, bodies_from, bodies_of, IsThere}
+use Rattle.nodes_in_words.specs.NodeBodies.{bodies-there, bodies-gone, node_of_body, body_of_node}
 
 pub live_is_there : (nodes : List Node) (n : ℕ) → IsLive nodes n → IsThere nodes n
 live_is_there nodes n live = ap is_there live

@@ -3,7 +3,7 @@ use Rattle.std.specs.Prelude.{◌≡◌, ℕ, Bool, ◌&&◌, not, List, map, Op
 use Rattle.gc_graph.specs.State.{Node, is_live}
 use Rattle.page_words.specs.Bodies.{Body}
 use Rattle.page_words.specs.Seat.{SeatView, holds}
-use Rattle.node_bodies.specs.Nodes.{place_of}
+use Rattle.nodes_in_words.specs.Nodes.{place_of}
 
 -- the places of what the slots name
 abbrev pub places_of : List Node → List (Option ℕ) → List (Option ℕ)

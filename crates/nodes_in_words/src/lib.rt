@@ -1,4 +1,4 @@
-//! # Nodes and bodies
+//! # Nodes in words
 //!
 //! What it is: which body each node of the graph has in a heap's words, for contracts alone. A node
 //! that is not finalised has a body whose serial number is the node's number.

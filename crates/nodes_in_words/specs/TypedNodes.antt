@@ -11,7 +11,7 @@ use Rattle.gc_graph.specs.declared.kind.Value.TheVariants.{Null, Ref, Word}
 use Rattle.gc_graph.specs.State.{Setup, Node, node_at, type_at, IsLive}
 use Rattle.gc_graph.specs.Valid.{IsTyped, HaveKinds, IsReferenceBelow, IsPlainWord, NamesLive}
 use Rattle.gc_graph.specs.Fields.{words_of_kind, field_words, nulls_of_kind, nulls_of, new_node}
-use Rattle.node_bodies.specs.Nodes.{word_of, AreOfValid}
+use Rattle.nodes_in_words.specs.Nodes.{word_of, AreOfValid}
 
 -- ---- what a valid state says of its nodes
 

@@ -8,7 +8,7 @@ use Rattle.gc_graph.specs.State.{Node, node_at, Life, is_there, size_of}
 use Rattle.gc_graph.specs.State.Life.{Live, Dead, Gone}
 use Rattle.gc_graph.specs.Pause.{judged, condemn}
 use Rattle.page_words.specs.Bodies.{Body}
-use Rattle.node_bodies.specs.Nodes.{place_of, word_of, body_of, bodies_from}
+use Rattle.nodes_in_words.specs.Nodes.{place_of, word_of, body_of, bodies_from}
 
 -- two functions agree on the node that the value names
 abbrev pub AgreeOn : (ℕ → ℕ) → (ℕ → ℕ) → Value → Type 0

@@ -8,7 +8,7 @@ use Rattle.gc_graph.specs.Placement.{extents_of}
 use Rattle.gc_graph.specs.Members.{Contains-cons, Contains-head, Contains-cons_cases}
 use Rattle.page_words.specs.Bodies.{Body}
 use Rattle.page_space.specs.Space.{extents_of_bodies}
-use Rattle.node_bodies.specs.Nodes.{body_of, bodies_from, IsThere}
+use Rattle.nodes_in_words.specs.Nodes.{body_of, bodies_from, IsThere}
 
 pub bodies-there : (f : ℕ → ℕ) (k : ℕ) (x : Node) (nodes : List Node) → is_there x.life ≡ true
     → bodies_from f k (x ∷ nodes) ≡ body_of f k x ∷ bodies_from f (suc k) nodes

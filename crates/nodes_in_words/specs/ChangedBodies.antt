@@ -4,7 +4,7 @@ use Rattle.gc_graph.specs.Members.{Contains-map_some}
 use Rattle.page_words.specs.Bodies.{Body}
 use Rattle.page_words.specs.Seat.{SeatView, holds}
 use Rattle.page_space.specs.Space.{extents_of_bodies}
-use Rattle.node_bodies.specs.Places.{IsJudged}
+use Rattle.nodes_in_words.specs.Places.{IsJudged}
 
 -- a change of bodies that leaves each at its place, with its size
 abbrev pub KeepsExtents : (Body → Body) → Type 0

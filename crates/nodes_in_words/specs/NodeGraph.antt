@@ -11,8 +11,8 @@ use Rattle.gc_graph.specs.State.{Setup, Node}
 use Rattle.gc_graph.specs.Valid.{IsTyped, HaveKinds, IsReferenceBelow, IsPlainWord}
 use Rattle.gc_graph.specs.Leading.{IsLed}
 use Rattle.ephemerons.specs.BodyGraph.{reference_in, values_in, object_in}
-use Rattle.node_bodies.specs.Nodes.{word_of, body_of}
-use Rattle.node_bodies.specs.BodyGraph.{renamed, renamed_object}
+use Rattle.nodes_in_words.specs.Nodes.{word_of, body_of}
+use Rattle.nodes_in_words.specs.BodyGraph.{renamed, renamed_object}
 
 reference_told : (f : ℕ → ℕ) (bound : ℕ) (v : Value) → IsReferenceBelow bound v → reference_in (word_of f v) ≡ renamed f v
 reference_told f bound Null is = refl

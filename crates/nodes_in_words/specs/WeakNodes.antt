@@ -6,9 +6,9 @@ use Rattle.std.proofs.lemmas.List.{length-map}
 use Rattle.gc_graph.specs.State.{Node, Life, node_at, is_live, is_dead}
 use Rattle.gc_graph.specs.Pause.{with_cleared, clear_node, is_dead_at, condemn, live_count, dead_count}
 use Rattle.gc_graph.specs.Condemning.{length-condemn}
-use Rattle.node_bodies.specs.Judgement.{nodes_after}
-use Rattle.node_bodies.specs.Nodes.{place_of}
-use Rattle.node_bodies.specs.NodeLives.{place-condemn}
+use Rattle.nodes_in_words.specs.Judgement.{nodes_after}
+use Rattle.nodes_in_words.specs.Nodes.{place_of}
+use Rattle.nodes_in_words.specs.NodeLives.{place-condemn}
 
 pub life-clear : (dead : ℕ → Bool) (x : Node) → (clear_node dead x).life ≡ x.life
 life-clear dead x = go (is_live x.life) where

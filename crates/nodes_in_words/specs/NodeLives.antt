@@ -10,9 +10,9 @@ use Rattle.gc_graph.specs.Pause.{judged, condemn, live_count, dead_count}
 use Rattle.gc_graph.specs.Condemning.{judged_gone}
 use Rattle.page_words.specs.Bodies.{Body}
 use Rattle.page_words.specs.Seat.{SeatView, holds}
-use Rattle.node_bodies.specs.Nodes.{place_of, body_of, bodies_from, IsThere, IsHeld}
-use Rattle.node_bodies.specs.Places.{kept_of}
-use Rattle.node_bodies.specs.NodeBodies.{bodies-there, bodies-gone}
+use Rattle.nodes_in_words.specs.Nodes.{place_of, body_of, bodies_from, IsThere, IsHeld}
+use Rattle.nodes_in_words.specs.Places.{kept_of}
+use Rattle.nodes_in_words.specs.NodeBodies.{bodies-there, bodies-gone}
 
 -- ---- condemned
 

@@ -11,7 +11,7 @@ use Rattle.gc_graph.specs.Valid.{HaveKinds, IsReferenceBelow}
 use Rattle.type_table.specs.Layouts.{kinds_of_words}
 use Rattle.page_words.specs.Bodies.{IsReference}
 use Rattle.page_words.specs.Seat.{SeatView}
-use Rattle.node_bodies.specs.Nodes.{word_of}
+use Rattle.nodes_in_words.specs.Nodes.{word_of}
 
 -- the words of an object's values that hold references, where values that are so refer to bodies
 module _ (place : ℕ → ℕ) (v : SeatView) (bound : ℕ) (Named : Value → Type 0)
