@@ -9,7 +9,8 @@ use Rattle.marker_core.specs.declared.states.MutatorView.{MutatorView}
 use Rattle.marker_core.specs.Layout.{has_mark, has_traced, is_traced}
 use Rattle.marker_core.specs.Bodies.{is_place}
 use Rattle.marker_core.specs.Hands.{hand_claimed}
-use Rattle.marker_core.specs.MutatorSteps.{is_grey, can_claim, claimed}
+use Rattle.marker_core.specs.MutatorSteps.{can_claim, claimed}
+use Rattle.marker_core.specs.SeatSteps.{is_grey}
 use Rattle.marker_core.specs.Views.{times, traces_at, marks_at, IsHand, IsDone}
 use Rattle.marker_core.specs.Core.{IsCoreOk}
 use Rattle.marker_core.proofs.Members.{held_after}

@@ -10,7 +10,7 @@ use Rattle.marker_core.specs.declared.states.Part.TheVariants.{Read, Mark}
 use Rattle.marker_core.specs.Layout.{has_mark, has_traced, is_marked, type_in}
 use Rattle.marker_core.specs.Bodies.{role_at, kinds_of, is_traced_role, role_in, is_place, holds}
 use Rattle.marker_core.specs.Hands.{hand_claimed, role_at_hand}
-use Rattle.marker_core.specs.MutatorSteps.{is_grey}
+use Rattle.marker_core.specs.SeatSteps.{is_grey}
 use Rattle.marker_core.specs.Views.{marks_at, traces_at, IsHand, IsNoted}
 use Rattle.marker_core.specs.Tracing.{IsInHand, StrongAccounted, PairsAccounted, PartFits, HandFits, IsLoaded, TracedAreMarked}
 use Rattle.marker_core.specs.Core.{IsCoreOk}

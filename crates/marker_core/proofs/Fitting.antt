@@ -6,7 +6,9 @@ use Rattle.marker_core.specs.declared.states.Hand.{Hand}
 use Rattle.marker_core.specs.declared.states.Why.TheVariants.{Trace}
 use Rattle.marker_core.specs.Bodies.{is_place, role_in, field_number}
 use Rattle.marker_core.specs.Hands.{wants_word, wants_key, wants}
-use Rattle.marker_core.specs.MutatorSteps.{can_load, can_store, store_fits, keeps_in}
+use Rattle.marker_core.specs.Seats.{seat_of}
+use Rattle.marker_core.specs.MutatorSteps.{can_load, can_store}
+use Rattle.marker_core.specs.SeatSteps.{store_fits, keeps_in}
 use Rattle.marker_core.specs.Views.{IsHand, IsNoted, view_at}
 use Rattle.marker_core.specs.Core.{IsCoreOk}
 use Rattle.std.specs.List.{list_any}
@@ -50,9 +52,9 @@ read_fits s a h ok can own no_key = elim (cases_Bool s.mutator.on) [
 pub stored_fits : (s : CoreState) (a w : ℕ) → IsCoreOk s → can_store s a w ≡ true
     → (s.mutator.on && not (eqb w 0) && list_any (keeps_in s.types a) s.mutator.bodies) ≡ true → (0 < w) × (w ≤ 2 ^ 32)
 stored_fits s a w ok can joins =
-    let tests = and_parts (is_none s.mutator.pending && is_none s.mutator.hand) (list_any (store_fits s a w) s.mutator.bodies) can in
+    let tests = and_parts (is_none s.mutator.pending && is_none s.mutator.hand) (list_any (store_fits (seat_of s) a w) s.mutator.bodies) can in
     let none = and_parts (is_none s.mutator.pending) (is_none s.mutator.hand) tests.0 in
-    let found = any_member (store_fits s a w) s.mutator.bodies tests.1 in
+    let found = any_member (store_fits (seat_of s) a w) s.mutator.bodies tests.1 in
     let no_pending = is_none_tells s.mutator.pending none.0 in
     let no_hand = is_none_tells s.mutator.hand none.1 in
     let is = later_is s ok a w no_pending no_hand found.0 found.1 found.2 (w - 1)

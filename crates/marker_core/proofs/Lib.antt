@@ -43,3 +43,7 @@ pub mod Readable
 pub mod FirstState
 pub mod Runs
 pub mod ViewSets
+pub mod SeatSteps
+pub mod SeatEnds
+pub mod SeatPublishes
+pub mod SeatFacts

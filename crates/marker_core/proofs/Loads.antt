@@ -1,14 +1,17 @@
 -- A load keeps what is true of every state.
-use Rattle.std.proofs.Common.{◌≡◌, ℕ, ◌+◌, ◌-◌, ◌<◌, List, [], ◌∷◌, ◌++◌, true, ◌&&◌, ltb, sym, ap, ◌∙◌, subst, inl, inr, arith}
+use Rattle.std.proofs.Common.{◌≡◌, ℕ, ◌+◌, ◌-◌, ◌<◌, List, [], ◌∷◌, ◌++◌, get_or, true, ◌&&◌, ltb, sym, ap, ◌∙◌, subst, inl, inr, arith}
 use Rattle.std.proofs.lemmas.Bool.{cases_Bool, cond-true, cond-false, both_ways, and_parts, false_from_ne_true}
 use Rattle.gc_graph.specs.Reach.{ReachIsLeast}
 use Rattle.marker_core.specs.declared.states.CoreState.{CoreState}
+use Rattle.marker_core.specs.declared.states.MutatorView.{MutatorView}
 use Rattle.marker_core.specs.declared.states.Why.TheVariants.{Read, Weak}
 use Rattle.marker_core.specs.Layout.{is_traced}
 use Rattle.marker_core.specs.Bodies.{word_in, is_place, holds}
 use Rattle.marker_core.specs.Closed.{reach_over}
 use Rattle.marker_core.specs.Views.{marks_at, traces_at, IsHand, IsDone}
-use Rattle.marker_core.specs.MutatorSteps.{looked_at, may_after_read, loaded}
+use Rattle.marker_core.specs.MutatorSteps.{loaded}
+use Rattle.marker_core.specs.Seats.{seat_of}
+use Rattle.marker_core.specs.SeatSteps.{seat_looked, may_after_read}
 use Rattle.marker_core.specs.Tracing.{MayIsClosed}
 use Rattle.marker_core.specs.Core.{IsCoreOk}
 use Rattle.marker_core.specs.Laws.{IsLeastOver}
@@ -19,6 +22,10 @@ use Rattle.marker_core.proofs.Headers.{traced_tells}
 use Rattle.marker_core.proofs.Reached.{reach_over_law}
 use Rattle.marker_core.proofs.Tricolour.{fits_covered}
 use Rattle.marker_core.proofs.Turns.{all_name_bodies}
+
+-- the mutator's view after the word at a was loaded
+abbrev pub looked_at : CoreState → ℕ → MutatorView
+looked_at s a = seat_looked (seat_of s) a (get_or s.words a 0)
 
 module _ (s : CoreState) (ok : IsCoreOk s) where
   -- a header that is found traced is a traced body's
@@ -115,13 +122,13 @@ module _ (s : CoreState) (ok : IsCoreOk s) where
     may_is_closed = λ on. looked_may on a;
   }
 
-  weak_may : ReachIsLeast → (a : ℕ) → (on : s.mutator.on ≡ true) → MayOf on a (may_after_read s a)
+  weak_may : ReachIsLeast → (a : ℕ) → (on : s.mutator.on ≡ true) → MayOf on a (may_after_read (seat_of s) a)
   weak_may law a on =
       subst (MayOf on a) (sym (cond-true s.mutator.on (reached on a) s.mutator.may on))
       (read_may on a (reach_over_law law s.count s.types s.mutator.bodies (roots on a) ok.bodies_are_whole ok.bodies_lie_apart (all_name_bodies s ok on)))
 
   weak_grows : ReachIsLeast → (a : ℕ) → (x : ℕ) → holds s.mutator.may x ≡ true → (s.mutator.on ≡ true → is_place s.mutator.bodies x ≡ true)
-      → holds (may_after_read s a) x ≡ true
+      → holds (may_after_read (seat_of s) a) x ≡ true
   weak_grows law a x member place = elim (cases_Bool s.mutator.on) [
     | inl on ↦
         (let least = reach_over_law law s.count s.types s.mutator.bodies (roots on a) ok.bodies_are_whole ok.bodies_lie_apart (all_name_bodies s ok on) in
@@ -154,7 +161,7 @@ module _ (s : CoreState) (ok : IsCoreOk s) where
       known = ok.hands_are_bodies.known;
       hands = λ h held.
           fits_covered s.types s.mutator.bodies (marks_at s.mutator s.markers) (marks_at s.mutator s.markers) (traces_at s.mutator s.markers)
-          s.mutator.pending s.mutator.pending (IsHand s.mutator s.markers) (λ w c. c) s.mutator.may (may_after_read s a)
+          s.mutator.pending s.mutator.pending (IsHand s.mutator s.markers) (λ w c. c) s.mutator.may (may_after_read (seat_of s) a)
           (λ x member. weak_grows law a x member (λ on. (ok.may_is_closed on).are_places x member)) h (ok.hands_are_bodies.hands h held);
     };
     may_is_closed = λ on. weak_may law a on;

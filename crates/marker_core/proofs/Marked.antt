@@ -10,7 +10,8 @@ use Rattle.marker_core.specs.Layout.{is_marked}
 use Rattle.marker_core.specs.Bodies.{is_place, holds}
 use Rattle.marker_core.specs.Views.{times, marks_at, traces_at, IsHand, IsNoted}
 use Rattle.marker_core.specs.Hands.{hand_moved, hand_after_mark, role_at_hand, wants_mark, each_hand}
-use Rattle.marker_core.specs.MutatorSteps.{can_mark, settled, marked}
+use Rattle.marker_core.specs.MutatorSteps.{can_mark, marked}
+use Rattle.marker_core.specs.SeatSteps.{settled}
 use Rattle.marker_core.specs.Tracing.{PartFits, HandFits, StrongAccounted, PairsAccounted, IsLoaded}
 use Rattle.marker_core.specs.Core.{IsCoreOk}
 use Rattle.marker_core.proofs.Members.{holds_push_cases}

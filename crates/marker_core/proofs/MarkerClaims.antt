@@ -9,7 +9,7 @@ use Rattle.marker_core.specs.declared.states.MarkerView.{MarkerView}
 use Rattle.marker_core.specs.Layout.{has_mark, has_traced, is_traced}
 use Rattle.marker_core.specs.Bodies.{is_place, holds}
 use Rattle.marker_core.specs.Hands.{hand_claimed}
-use Rattle.marker_core.specs.MutatorSteps.{is_grey}
+use Rattle.marker_core.specs.SeatSteps.{is_grey}
 use Rattle.marker_core.specs.MarkerSteps.{can_claim_as, claimed_as, is_last, with_view}
 use Rattle.marker_core.specs.Views.{times, marks_at, traces_at, IsHand, IsNoted, view_at}
 use Rattle.marker_core.specs.Core.{IsCoreOk}

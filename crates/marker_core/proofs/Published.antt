@@ -8,7 +8,8 @@ use Rattle.object_headers.specs.Layout.{header_word}
 use Rattle.marker_core.specs.declared.states.Body.{Body}
 use Rattle.marker_core.specs.declared.states.CoreState.{CoreState}
 use Rattle.marker_core.specs.Bodies.{word_count, kinds_of, refers, word_in, role_in, end_of, is_place}
-use Rattle.marker_core.specs.MutatorSteps.{body_at, overlaps, is_whole_object, is_in_free_words, is_new_serial, can_publish}
+use Rattle.marker_core.specs.MutatorSteps.{body_at, is_in_free_words, can_publish}
+use Rattle.marker_core.specs.SeatSteps.{overlaps, is_whole_object, is_new_serial}
 use Rattle.marker_core.specs.Matching.{IsWhole}
 use Rattle.marker_core.specs.Core.{IsCoreOk}
 use Rattle.marker_core.proofs.Members.{none_passes, all_member}

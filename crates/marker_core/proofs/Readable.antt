@@ -6,7 +6,8 @@ use Rattle.std.proofs.lemmas.Bool.{lt-ltb, false_from_ne_true}
 use Rattle.marker_core.specs.declared.states.Body.{Body}
 use Rattle.marker_core.specs.declared.states.CoreState.{CoreState}
 use Rattle.marker_core.specs.Layout.{size_in}
-use Rattle.marker_core.specs.MutatorSteps.{body_at, is_whole_object, is_in_free_words, is_new_serial, can_publish}
+use Rattle.marker_core.specs.MutatorSteps.{body_at, is_in_free_words, can_publish}
+use Rattle.marker_core.specs.SeatSteps.{is_whole_object, is_new_serial}
 use Rattle.marker_core.specs.Core.{IsCoreOk}
 use Rattle.marker_core.proofs.Published.{two, object_is_inside, object_is_small, serial_is_small}
 

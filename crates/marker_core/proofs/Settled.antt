@@ -42,7 +42,7 @@ module _ (s : CoreState) (ok : IsCoreOk s) (ends : IsSettled s) where
           | inr some ↦ elim some [
             | inl covered ↦ marked_target (word_in b (i + 1)) value covered
             | inr other ↦ elim other [
-              | inl note ↦ elim (ends.noted b i h note) [
+              | inl note ↦ elim (ends.noted b i h role key note) [
                 | inl unmarked ↦ (let one = true_is_some (marks (word_in b i - 1)) key_marked in absurd (omega (arith, unmarked)))
                 | inr rest ↦ elim rest [
                   | inl null ↦ absurd (omega (arith, null))

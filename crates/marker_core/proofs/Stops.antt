@@ -17,7 +17,8 @@ use Rattle.marker_core.specs.Layout.{stop_at, bitmap_at, bit_is_set, is_marked}
 use Rattle.marker_core.specs.Bodies.{word_in, role_in, refers, places, is_place, holds}
 use Rattle.marker_core.specs.Closed.{reach_over}
 use Rattle.marker_core.specs.Views.{times, marks_at, traces_at, IsHand}
-use Rattle.marker_core.specs.CycleSteps.{pair_is_whole, pairs_are_whole, can_begin, begun, stopped, ends, can_end, unmarked_places, ended}
+use Rattle.marker_core.specs.CycleSteps.{can_begin, begun, stopped, ends, can_end, unmarked_places, ended}
+use Rattle.marker_core.specs.SeatSteps.{pair_is_whole, pairs_are_whole}
 use Rattle.marker_core.specs.Core.{IsCoreOk}
 use Rattle.marker_core.specs.Laws.{AllNameBodies, IsLeastOver}
 use Rattle.marker_core.proofs.Members.{all_member}

@@ -15,7 +15,9 @@ use Rattle.marker_core.specs.declared.states.Role.TheVariants.{StrongWord, WeakW
 use Rattle.marker_core.specs.Bodies.{kinds_of, role_at, refers, keeps, is_traced_role, word_in, role_in, has_field, field_number, with_word, names_body, holds}
 use Rattle.marker_core.specs.Closed.{IsClosedOver}
 use Rattle.marker_core.specs.Hands.{role_at_hand}
-use Rattle.marker_core.specs.MutatorSteps.{key_fits, may_store, store_fits, can_store, keeps_in, stored}
+use Rattle.marker_core.specs.Seats.{seat_of}
+use Rattle.marker_core.specs.MutatorSteps.{can_store, stored}
+use Rattle.marker_core.specs.SeatSteps.{key_fits, may_store, store_fits, keeps_in}
 use Rattle.marker_core.specs.Views.{marks_at, traces_at, IsHand, IsNoted, IsDone}
 use Rattle.marker_core.specs.Tracing.{IsCovered, IsInHand, StrongAccounted, PairsAccounted, marking_word, PartFits, HandsAreBodies, MayIsClosed}
 use Rattle.marker_core.specs.Core.{IsCoreOk}
@@ -38,7 +40,7 @@ keeps_refers WeakWord h = absurd (false≢true h)
 keeps_refers KeyWord h = absurd (false≢true h)
 keeps_refers PlainWord h = absurd (false≢true h)
 
-module _ (s : CoreState) (ok : IsCoreOk s) (a w : ℕ) (no_pending : s.mutator.pending ≡ None) (no_hand : s.mutator.hand ≡ None) (o : Body) (there : Contains s.mutator.bodies o) (fits : store_fits s a w o ≡ true) where
+module _ (s : CoreState) (ok : IsCoreOk s) (a w : ℕ) (no_pending : s.mutator.pending ≡ None) (no_hand : s.mutator.hand ≡ None) (o : Body) (there : Contains s.mutator.bodies o) (fits : store_fits (seat_of s) a w o ≡ true) where
   abbrev bodies : List Body
   bodies = s.mutator.bodies
 
@@ -485,7 +487,7 @@ module _ (s : CoreState) (ok : IsCoreOk s) (a w : ℕ) (no_pending : s.mutator.p
 
 pub store_ok : (s : CoreState) → IsCoreOk s → (a w : ℕ) → can_store s a w ≡ true → IsCoreOk (stored s a w)
 store_ok s ok a w can =
-    let tests = and_parts (is_none s.mutator.pending && is_none s.mutator.hand) (list_any (store_fits s a w) s.mutator.bodies) can in
+    let tests = and_parts (is_none s.mutator.pending && is_none s.mutator.hand) (list_any (store_fits (seat_of s) a w) s.mutator.bodies) can in
     let none = and_parts (is_none s.mutator.pending) (is_none s.mutator.hand) tests.0 in
-    let found = any_member (store_fits s a w) s.mutator.bodies tests.1 in
+    let found = any_member (store_fits (seat_of s) a w) s.mutator.bodies tests.1 in
     stored_state s ok a w (is_none_tells s.mutator.pending none.0) (is_none_tells s.mutator.hand none.1) found.0 found.1 found.2

@@ -10,11 +10,11 @@ use Rattle.marker_core.specs.declared.states.Why.TheVariants.{Trace}
 use Rattle.marker_core.specs.Layout.{has_mark}
 use Rattle.marker_core.specs.Views.{marks_at, traces_at, IsHand, IsNoted}
 use Rattle.marker_core.specs.Hands.{hand_read, hand_looked, wants_word, wants_key, wants, noted_pair, each_hand}
-use Rattle.marker_core.specs.MutatorSteps.{can_load, looked_at, loaded}
+use Rattle.marker_core.specs.MutatorSteps.{can_load, loaded}
 use Rattle.marker_core.specs.Core.{IsCoreOk}
 use Rattle.marker_core.proofs.Tricolour.{HandTurn, HandChanges, mutator_changes, strong_turned, pairs_turned, pairs_covered, hands_turned, hands_in_turned, loaded_in_turned}
 use Rattle.marker_core.proofs.Turns.{turn_by_word, turn_by_key}
-use Rattle.marker_core.proofs.Loads.{looked_done}
+use Rattle.marker_core.proofs.Loads.{looked_at, looked_done}
 
 pub hand_or_none : (o : Option Hand) → (o ≡ None) ⊎ ((h : Hand) × (o ≡ Some h))
 hand_or_none None = inl refl

@@ -1,5 +1,5 @@
 -- Objects, and what each of their words is.
-use Rattle.std.specs.Prelude.{ℕ, zero, suc, ◌+◌, ◌-◌, ◌==◌, ◌&&◌, ◌||◌, not, nat_le, nat_lt, Bool, true, false, List, [], ◌∷◌, length, map, filter, if◌then◌else◌, slice_index, slice_index_or, slice_set}
+use Rattle.std.specs.Prelude.{◌≡◌, ◌⊎◌, ℕ, zero, suc, ◌+◌, ◌-◌, ◌<◌, ◌≤◌, ◌==◌, ◌&&◌, ◌||◌, not, nat_le, nat_lt, Bool, true, false, List, [], ◌∷◌, length, map, filter, if◌then◌else◌, slice_index, slice_index_or, slice_set, Contains}
 use Rattle.std.specs.List.{list_any, range_with_len}
 use Rattle.gc_graph.specs.declared.kind.Kind.{Kind}
 use Rattle.gc_graph.specs.declared.kind.Kind.TheVariants.{Strong, Weak, Pair, Plain}
@@ -99,6 +99,28 @@ names_body bodies w = (w == 0) || is_place bodies (place_named w)
 -- one of the body's references names the object at a
 abbrev pub refers_to : List (List Kind) → ℕ → Body → Bool
 refers_to types a b = list_any (λ i. refers (role_in types b i) && (word_in b i == reference_to a)) (range_with_len 0 (length b.fields))
+
+-- ---- the same said of bodies as a set
+
+-- a is the place of one of the bodies
+abbrev pub IsPlace : List Body → ℕ → Type 0
+IsPlace bodies a = (b : Body) × Contains bodies b × (b.place ≡ a)
+
+-- one of the bodies has the word at a
+abbrev pub IsInBody : List Body → ℕ → Type 0
+IsInBody bodies a = (b : Body) × Contains bodies b × (b.place ≤ a) × (a < end_of b)
+
+-- the address of its first field word
+abbrev pub fields_at : Body → ℕ
+fields_at b = b.place + first_field
+
+-- the word at a is a field word of one of the bodies
+abbrev pub IsFieldWord : List Body → ℕ → Type 0
+IsFieldWord bodies a = (b : Body) × Contains bodies b × (fields_at b ≤ a) × (a < end_of b)
+
+-- the word is null, or refers to one of the bodies
+abbrev pub IsReference : List Body → ℕ → Type 0
+IsReference bodies w = (w ≡ 0) ⊎ ((b : Body) × Contains bodies b × (w ≡ reference_to b.place))
 
 -- ---- lists of places as sets
 

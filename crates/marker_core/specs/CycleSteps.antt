@@ -1,53 +1,24 @@
 -- The steps of the mutator that begin and end marking, and lend and take back a marker's view.
-use Rattle.std.specs.Prelude.{ℕ, ◌+◌, ◌-◌, ◌==◌, ◌&&◌, ◌||◌, not, Bool, true, false, List, [], ◌∷◌, ◌++◌, length, filter, if◌then◌else◌, slice_set}
+use Rattle.std.specs.Prelude.{ℕ, ◌+◌, ◌-◌, ◌==◌, ◌&&◌, ◌||◌, not, Bool, List, [], ◌∷◌, ◌++◌, filter, slice_set}
 use Rattle.std.specs.Option.{is_none}
-use Rattle.std.specs.List.{list_all, range_with_len}
-use Rattle.gc_graph.specs.declared.kind.Kind.{Kind}
-use Rattle.marker_core.specs.declared.states.Body.{Body}
+use Rattle.std.specs.List.{list_all}
 use Rattle.marker_core.specs.declared.states.CoreState.{CoreState}
-use Rattle.marker_core.specs.declared.states.Role.{Role}
-use Rattle.marker_core.specs.declared.states.Role.TheVariants.{KeyWord}
 use Rattle.marker_core.specs.Layout.{stop_at, is_marked, is_traced}
-use Rattle.marker_core.specs.Bodies.{word_in, role_in, places}
-use Rattle.marker_core.specs.Closed.{closes_over, reach_over}
+use Rattle.marker_core.specs.Bodies.{places}
+use Rattle.marker_core.specs.Closed.{closes_over}
 use Rattle.marker_core.specs.Views.{fresh_view, spent_view, view_at}
+use Rattle.marker_core.specs.Seats.{seat_of}
+use Rattle.marker_core.specs.SeatSteps.{seat_can_begin, seat_begun, ended_with}
 
 -- ---- marking begins
 
--- both words of a pair are null, or neither is
-abbrev pub pair_is_whole : Role → ℕ → ℕ → Bool
-pair_is_whole KeyWord key value = if key == 0 then value == 0 else not (value == 0)
-pair_is_whole role key value = true
-
--- each pair of a body has two null words or none
-abbrev pub pairs_are_whole : List (List Kind) → Body → Bool
-pairs_are_whole types b =
-    list_all (λ i. pair_is_whole (role_in types b i) (word_in b i) (word_in b (i + 1))) (range_with_len 0 (length b.fields))
-
--- nothing is left of an earlier cycle
+-- the seat may begin marking
 abbrev pub can_begin : CoreState → Bool
-can_begin s =
-    not s.mutator.on
-    && (length s.mutator.marked == 0)
-    && (length s.mutator.traced == 0)
-    && (length s.mutator.noted == 0)
-    && (length s.mutator.dead == 0)
-    && (s.mutator.lent == 0)
-    && list_all (pairs_are_whole s.types) s.mutator.bodies
+can_begin s = seat_can_begin (seat_of s)
 
 -- the state in which marking has begun from these roots
 abbrev pub begun : CoreState → List ℕ → CoreState
-begun s roots = record s {
-  words = slice_set s.words (stop_at s.count) 0;
-  mutator = record s.mutator {
-    on = true;
-    may = reach_over s.count s.types s.mutator.bodies roots;
-    seen = [];
-    done = [];
-    missed = [];
-    looked = [];
-  };
-}
+begun s roots = record s { words = slice_set s.words (stop_at s.count) 0; mutator = seat_begun (seat_of s) roots }
 
 -- ---- the markers are told to stop, and marking ends where none is out
 
@@ -75,15 +46,7 @@ unmarked_places s = filter (λ a. not (is_marked s.words a)) (places s.mutator.b
 abbrev pub ended : CoreState → CoreState
 ended s = record s {
   words = slice_set s.words (stop_at s.count) 1;
-  mutator = record s.mutator {
-    on = false;
-    dead = unmarked_places s;
-    early = length s.mutator.looked;
-    noted = [];
-    seen = [];
-    done = [];
-    may = [];
-  };
+  mutator = ended_with (seat_of s) (unmarked_places s);
 }
 
 -- ---- a view is lent, and given back

@@ -1,19 +1,21 @@
 -- The laws of the machine.
-use Rattle.std.specs.Prelude.{◌≡◌, ◌⊎◌, ℕ, ◌<◌, ◌+◌, ◌-◌, nat_lt, Bool, true, false, List, Some, None, Contains}
+use Rattle.std.specs.Prelude.{◌≡◌, ◌⊎◌, ℕ, ◌<◌, ◌^◌, ◌/◌, ◌*◌, ◌+◌, nat_lt, Bool, true, false, List, Some, None, Contains}
 use Rattle.gc_graph.specs.declared.kind.Kind.{Kind}
 use Rattle.object_headers.specs.Offsets.{first_field}
 use Rattle.marker_core.specs.declared.states.Body.{Body}
 use Rattle.marker_core.specs.declared.states.CoreState.{CoreState}
 use Rattle.marker_core.specs.declared.steps.CoreStep.{CoreStep}
+use Rattle.marker_core.specs.declared.states.Role.TheVariants.{KeyWord}
 use Rattle.marker_core.specs.declared.states.Why.TheVariants.{Weak}
 use Rattle.marker_core.specs.declared.steps.CoreStep.TheVariants.{Load, Publish, Stop}
 use Rattle.marker_core.specs.declared.states.Hand.{Hand}
 use Rattle.marker_core.specs.Bodies.{refers, word_in, role_in, is_place, names_body, holds, place_named}
 use Rattle.marker_core.specs.Closed.{IsClosedOver, reach_over}
-use Rattle.marker_core.specs.Matching.{AreWhole, LieApart}
+use Rattle.marker_core.specs.Matching.{AreTypes, AreWhole, LieApart}
 use Rattle.marker_core.specs.Views.{marks_at, traces_at, IsHand, IsNoted}
 use Rattle.marker_core.specs.Step.{core_step, core_run}
 use Rattle.marker_core.specs.Core.{IsCoreOk}
+use Rattle.marker_core.specs.Idle.{idle_state}
 
 -- ---- what roots reach is the least closed set of places that holds them
 
@@ -37,6 +39,13 @@ ReachOverIsLeast =
     (count : ℕ) (types : List (List Kind)) (bodies : List Body) (roots : List ℕ) → AreWhole count types bodies → LieApart bodies
     → AllNameBodies types bodies → IsLeastOver types bodies roots (reach_over count types bodies roots)
 
+-- ---- the state with which all begins
+
+-- the state in which nothing was published is one of those of which all this is true
+abbrev pub IdleIsOk : Type 0
+IdleIsOk =
+    (count : ℕ) (types : List (List Kind)) → count < 2 ^ 32 → count ≡ 64 * (count / 64) → AreTypes types → IsCoreOk (idle_state count types)
+
 -- ---- each step, and each list of steps, keeps what is true of every state
 
 -- each step keeps what is true of every state
@@ -49,15 +58,16 @@ RunsKeep = (s t : CoreState) (steps : List CoreStep) → IsCoreOk s → core_run
 
 -- ---- marking that has come to its end
 
--- marking goes on, with no hand, nothing that waits for its mark, no grey body, and each noted pair has an unmarked key, or a
--- value that is null or marked
+-- marking goes on, with no hand, nothing that waits for its mark, no grey body, and each noted pair has a key that is null or
+-- unmarked, or a value that is null or marked
 pub record IsSettled (s : CoreState) : Type 0 where
   pub on : s.mutator.on ≡ true
   pub hands : (h : Hand) → IsHand s.mutator s.markers h → ⊥
   pub pending : s.mutator.pending ≡ None
   pub traced : (a : ℕ) → 0 < marks_at s.mutator s.markers a → 0 < traces_at s.mutator s.markers a
   pub noted :
-      (b : Body) (i : ℕ) → Contains s.mutator.bodies b → IsNoted s.mutator s.markers b.place (i + first_field)
+      (b : Body) (i : ℕ) → Contains s.mutator.bodies b → role_in s.types b i ≡ KeyWord → 0 < word_in b i
+      → IsNoted s.mutator s.markers b.place (i + first_field)
       → (marks_at s.mutator s.markers (place_named (word_in b i)) ≡ 0)
       ⊎ ((word_in b (i + 1) ≡ 0) ⊎ (0 < marks_at s.mutator s.markers (place_named (word_in b (i + 1)))))
 

@@ -3,6 +3,8 @@ pub mod Bodies
 pub mod Closed
 pub mod Views
 pub mod Hands
+pub mod Seats
+pub mod SeatSteps
 pub mod MutatorSteps
 pub mod CycleSteps
 pub mod MarkerSteps
@@ -12,5 +14,7 @@ pub mod Tracing
 pub mod Core
 pub mod Idle
 pub mod Laws
+pub mod SeatLaws
+pub mod SeatFacts
 pub mod Faults
 pub mod Looking

@@ -1,5 +1,5 @@
 -- The steps of a marker.
-use Rattle.std.specs.Prelude.{ℕ, ◌-◌, ◌==◌, ◌&&◌, ◌||◌, not, nat_lt, Bool, true, false, List, [], ◌∷◌, ◌++◌, if◌then◌else◌, Option, Some, None, slice_index, slice_set}
+use Rattle.std.specs.Prelude.{ℕ, ◌==◌, ◌&&◌, ◌||◌, not, nat_lt, Bool, true, false, List, [], ◌∷◌, ◌++◌, if◌then◌else◌, Option, Some, None, slice_index, slice_set}
 use Rattle.std.specs.Option.{is_none}
 use Rattle.object_headers.specs.Layout.{word_with_mark, word_with_traced}
 use Rattle.marker_core.specs.declared.states.CoreState.{CoreState}
@@ -8,7 +8,7 @@ use Rattle.marker_core.specs.Layout.{stop_at, is_start, has_mark, has_traced}
 use Rattle.marker_core.specs.Bodies.{holds, place_named}
 use Rattle.marker_core.specs.Views.{view_at}
 use Rattle.marker_core.specs.Hands.{hand_claimed, hand_read, hand_looked, hand_moved, wants_word, wants_key, wants_mark, wants, noted_pair, each_hand}
-use Rattle.marker_core.specs.MutatorSteps.{is_grey}
+use Rattle.marker_core.specs.SeatSteps.{is_grey}
 
 -- the marker's view is another
 abbrev pub with_view : CoreState → ℕ → MarkerView → CoreState

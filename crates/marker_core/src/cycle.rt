@@ -7,7 +7,8 @@ ghost use Rattle.std.specs.List.{list_all, range_with_len};
 ghost use Rattle.marker_core.specs.Layout.{stop_at, is_marked, is_traced};
 ghost use Rattle.marker_core.specs.Bodies.{places, role_in, word_in};
 ghost use Rattle.marker_core.specs.Closed.{word_closes, body_closes, closes_over};
-ghost use Rattle.marker_core.specs.CycleSteps.{pair_is_whole, pairs_are_whole, can_begin, begun};
+ghost use Rattle.marker_core.specs.CycleSteps.{can_begin, begun};
+ghost use Rattle.marker_core.specs.SeatSteps.{pair_is_whole, pairs_are_whole};
 ghost use Rattle.marker_core.specs.CycleSteps.{stopped, ends, can_end, unmarked_places, ended};
 ghost use Rattle.marker_core.specs.Core.{IsCoreOk};
 

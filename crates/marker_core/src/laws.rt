@@ -1,7 +1,7 @@
 // The laws of the machine. Whoever calls one of these has its law; none of them does anything.
 
 ghost use Rattle.marker_core.specs.Laws.{ReachOverIsLeast, SettledHasEnded, StepsKeep, RunsKeep};
-ghost use Rattle.marker_core.specs.Laws.{NewAndReadMayBeKept, EndsMarkedOut};
+ghost use Rattle.marker_core.specs.Laws.{NewAndReadMayBeKept, EndsMarkedOut, IdleIsOk};
 
 use gc_graph::reach_is_least;
 
@@ -12,8 +12,13 @@ pub fn reach_over_is_least()
     reach_is_least();
 }
 
+/// The state with which all begins is one of those of which all this is true.
+pub fn idle_is_ok()
+    ensures { IdleIsOk }
+{}
+
 /// Where marking goes on with no hand, nothing that waits for its mark and no grey body, and each
-/// noted pair has an unmarked key or a value that is null or marked: the marked set is closed and
+/// noted pair has a key that is null or unmarked, or a value that is null or marked: the marked set is closed and
 /// lies within what may be kept, and where it holds some roots it holds what they reach.
 pub fn settled_has_ended()
     ensures { SettledHasEnded }

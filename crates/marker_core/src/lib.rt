@@ -34,15 +34,21 @@ mod objects;
 mod reaching;
 mod reading;
 mod running;
+mod seats;
 mod states;
 mod steps;
 
 pub use idle::idle_state;
 pub use laws::{
-    ends_marked_out, every_run_keeps, every_step_keeps, new_and_read_may_be_kept,
+    ends_marked_out, every_run_keeps, every_step_keeps, idle_is_ok, new_and_read_may_be_kept,
     reach_over_is_least, settled_has_ended,
 };
 pub use lists::List;
 pub use running::{CoreFault, after};
+pub use seats::{
+    begins_are_steps, claims_are_steps, fills_are_steps, loads_are_steps, marks_are_steps,
+    publishes_are_steps, retracts_are_steps, stops_are_steps, stores_are_steps, unmarks_are_steps,
+    views_are_ok, words_may_be_found,
+};
 pub use states::{Body, CoreState, Hand, MarkerView, MutatorView, Part, Role, Why};
 pub use steps::CoreStep;

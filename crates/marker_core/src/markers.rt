@@ -7,7 +7,7 @@ ghost use Rattle.marker_core.specs.MarkerSteps.{can_poll, polled};
 ghost use Rattle.marker_core.specs.Hands.{hand_read, hand_moved, each_hand};
 ghost use Rattle.marker_core.specs.Hands.{wants, wants_word, wants_mark};
 ghost use Rattle.marker_core.specs.Bodies.{holds};
-ghost use Rattle.marker_core.specs.MutatorSteps.{is_grey};
+ghost use Rattle.marker_core.specs.SeatSteps.{is_grey};
 ghost use Rattle.std.specs.Option.{is_none};
 ghost use Rattle.marker_core.specs.Matching.{AreTypes};
 ghost use Rattle.marker_core.specs.Core.{IsCoreOk};

@@ -1,7 +1,8 @@
 // The steps of the mutator that mark, claim and unmark.
 
 ghost use Rattle.std.specs.Prelude.{◌≡◌, ◌++◌, [], ◌∷◌, OnOk, if◌then◌else◌, slice_set};
-ghost use Rattle.marker_core.specs.MutatorSteps.{can_mark, settled, marked, can_claim, is_grey};
+ghost use Rattle.marker_core.specs.MutatorSteps.{can_mark, marked, can_claim};
+ghost use Rattle.marker_core.specs.SeatSteps.{settled, is_grey};
 ghost use Rattle.marker_core.specs.MutatorSteps.{claimed, can_unmark, unmarked};
 ghost use Rattle.marker_core.specs.Hands.{hand_after_mark, each_hand};
 ghost use Rattle.marker_core.specs.Matching.{AreTypes};

@@ -1,10 +1,12 @@
 // The steps of the mutator that read and write words.
 
-ghost use Rattle.std.specs.Prelude.{◌≡◌, ◌+◌, ◌<◌, ◌≤◌, ◌^◌, ◌-◌, ◌==◌, ◌∷◌, not, true, false, filter, Some, OnOk, IfOk, MatchOption, if◌then◌else◌};
-ghost use Rattle.marker_core.specs.MutatorSteps.{can_load, looked_at, may_after_read, loaded};
+ghost use Rattle.std.specs.Prelude.{◌≡◌, ◌+◌, ◌<◌, ◌≤◌, ◌^◌, ◌-◌, ◌==◌, ◌∷◌, slice_index, not, true, false, filter, Some, OnOk, IfOk, MatchOption, if◌then◌else◌};
+ghost use Rattle.marker_core.specs.MutatorSteps.{can_load, loaded};
+ghost use Rattle.marker_core.specs.Seats.{seat_of};
+ghost use Rattle.marker_core.specs.SeatSteps.{seat_looked, may_after_read};
 ghost use Rattle.marker_core.specs.MutatorSteps.{can_fill, filled, can_store, stored};
 ghost use Rattle.std.specs.List.{list_any};
-ghost use Rattle.marker_core.specs.MutatorSteps.{key_fits, may_store, store_fits, keeps_in};
+ghost use Rattle.marker_core.specs.SeatSteps.{key_fits, may_store, store_fits, keeps_in};
 ghost use Rattle.marker_core.specs.Core.{IsCoreOk};
 
 use crate::bodies::{
@@ -25,7 +27,7 @@ pub fn can_load(s: &CoreState, a: u32, why: Why) -> bool
     ensures { result ≡ can_load s.now a why }
 {
     match why {
-        Why::Read => (a as usize) < s.words.as_slice().len(),
+        Why::Read => a as usize <= s.count as usize + s.count as usize / 64,
         Why::Weak => is_place(s.mutator.bodies.as_slice(), u64::from(a)),
         Why::Trace => wants_load(s, a),
     }
@@ -42,7 +44,8 @@ fn wants_load(s: &CoreState, a: u32) -> bool
 
 /// A header that is loaded is looked at.
 pub fn look_at(s: &mut CoreState, a: u32) -> Result<(), NoMemory>
-    ensures { OnOk result (s.new ≡ record s.old { mutator = looked_at s.old a }) }
+    ensures { OnOk result (s.new ≡ record s.old {
+        mutator = seat_looked (seat_of s.old) a (slice_index s.old.words a) }) }
 {
     let place = is_place(s.mutator.bodies.as_slice(), u64::from(a));
     let done = s.mutator.on && place && is_traced(s.words.as_slice(), a);
@@ -146,7 +149,7 @@ fn may_store(on: bool, may: &[u32], holder: u32, role: Role, w: u64) -> bool
 }
 
 fn store_fits(s: &CoreState, a: u32, w: u64, b: &Body) -> bool
-    ensures { result ≡ store_fits s.now a w b.now }
+    ensures { result ≡ store_fits (seat_of s.now) a w b.now }
 {
     let m = &s.mutator;
     let i = u64::from(a).saturating_sub(u64::from(b.place) + u64::from(FIRST_FIELD));
@@ -164,7 +167,7 @@ pub fn can_store(s: &CoreState, a: u32, w: u64) -> bool
 }
 
 fn some_body_fits(s: &CoreState, a: u32, w: u64) -> bool
-    ensures { result ≡ list_any (store_fits s.now a w) s.now.mutator.bodies }
+    ensures { result ≡ list_any (store_fits (seat_of s.now) a w) s.now.mutator.bodies }
 {
     let bodies = s.mutator.bodies.as_slice();
     bodies.iter().any(|b| store_fits(s, a, w, b))

@@ -5,8 +5,10 @@ ghost use Rattle.std.specs.Prelude.{not, true, false, filter, IfOk, OnOk, MatchO
 ghost use Rattle.std.specs.List.{list_any, list_all, range_with_len};
 ghost use Rattle.marker_core.specs.Bodies.{word_count, role_in, refers, word_in, has_word, holds};
 ghost use Rattle.marker_core.specs.Bodies.{refers_to};
-ghost use Rattle.marker_core.specs.MutatorSteps.{body_at, overlaps, is_whole_object};
-ghost use Rattle.marker_core.specs.MutatorSteps.{is_in_free_words, is_new_serial, can_publish};
+ghost use Rattle.marker_core.specs.MutatorSteps.{body_at};
+ghost use Rattle.marker_core.specs.SeatSteps.{overlaps, is_whole_object};
+ghost use Rattle.marker_core.specs.MutatorSteps.{is_in_free_words, can_publish};
+ghost use Rattle.marker_core.specs.SeatSteps.{is_new_serial};
 ghost use Rattle.marker_core.specs.MutatorSteps.{published, can_retract, retracted};
 ghost use Rattle.marker_core.specs.Matching.{AreTypes};
 ghost use Rattle.marker_core.specs.Core.{IsCoreOk};
