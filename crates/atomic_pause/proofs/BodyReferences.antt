@@ -14,7 +14,9 @@ use Rattle.gc_graph.specs.Valid.{IsTyped, IsReferenceBelow, NamesLive}
 use Rattle.type_table.specs.FieldLaw.{FieldsStandApart}
 use Rattle.type_table.specs.Types.{kinds_of, kind_of, is_kind, offsets_of_kind}
 use Rattle.type_table.specs.Layouts.{kinds_of_words}
-use Rattle.page_words.specs.Bodies.{Body, IsReference, kind_in}
+use Rattle.marker_core.specs.Bodies.{IsReference}
+use Rattle.marker_core.specs.declared.states.Body.{Body}
+use Rattle.page_words.specs.Bodies.{kind_in}
 use Rattle.page_words.specs.Seat.{SeatView}
 use Rattle.ephemerons.specs.BodyGraph.{AreReferences}
 use Rattle.weak_clearing.specs.Clearing.{MarkedHaveReferencesOf}

@@ -6,8 +6,9 @@ use Rattle.gc_graph.specs.State.{ObjectType, Node, node_at, is_live, is_dead}
 use Rattle.gc_graph.specs.State.Life.{Live}
 use Rattle.gc_graph.specs.Pause.{judged, condemn}
 use Rattle.gc_graph.specs.Members.{Contains-map, filtered_holds, holds_from}
-use Rattle.page_words.specs.Bodies.{Body}
-use Rattle.page_words.specs.Seat.{SeatView, holds, unmarked_places}
+use Rattle.marker_core.specs.declared.states.Body.{Body}
+use Rattle.marker_core.specs.Bodies.{holds}
+use Rattle.page_words.specs.Seat.{SeatView, unmarked_places}
 use Rattle.nodes_in_words.specs.Places.{IsJudged, kept_of}
 use Rattle.nodes_in_words.specs.Nodes.{place_of, body_of, bodies_of, IsThere, IsHeld}
 use Rattle.nodes_in_words.specs.NodeChanges.{bodies-same, bodies-condemn}

@@ -7,8 +7,9 @@ use Rattle.std.proofs.lemmas.List.Sums.{sum_by-cons}
 use Rattle.gc_graph.specs.Graph.{ClosesUnder}
 use Rattle.gc_graph.specs.State.{ObjectType}
 use Rattle.mark_worklist.specs.declared.marking.Marking.{Marking}
-use Rattle.page_words.specs.Bodies.{Body, IsPlace}
-use Rattle.page_words.specs.Seat.{SeatView, IsView, holds, ended}
+use Rattle.marker_core.specs.Bodies.{IsPlace, holds}
+use Rattle.marker_core.specs.declared.states.Body.{Body}
+use Rattle.page_words.specs.Seat.{SeatView, IsView, ended}
 use Rattle.ephemerons.specs.BodyGraph.{object_there, graph_in}
 use Rattle.ephemerons.specs.Marking.{MarksOn, GrowsWithin, IsOver, traced_count}
 use Rattle.ephemerons.specs.Notes.{NotesState}

@@ -7,8 +7,10 @@ use Rattle.gc_graph.specs.Fields.{field_words}
 use Rattle.gc_graph.specs.Members.{Contains-map, Contains-map_some}
 use Rattle.type_table.specs.Types.{kinds_of}
 use Rattle.type_table.specs.Layouts.{kinds_of_words}
-use Rattle.page_words.specs.Bodies.{Body, IsReference, kind_in}
-use Rattle.page_words.specs.Seat.{SeatView, holds}
+use Rattle.marker_core.specs.Bodies.{IsReference, holds}
+use Rattle.marker_core.specs.declared.states.Body.{Body}
+use Rattle.page_words.specs.Bodies.{kind_in}
+use Rattle.page_words.specs.Seat.{SeatView}
 use Rattle.weak_clearing.specs.Clearing.{HasReferencesOf, MarkedHaveReferencesOf, clear_words, clear_body, with_weak_cleared}
 
 -- there are as many words as before, and those of pairs are the same

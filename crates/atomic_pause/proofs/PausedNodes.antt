@@ -14,8 +14,9 @@ use Rattle.gc_graph.specs.ActionLaw.{AreTyped, HaveStayed}
 use Rattle.callback_table.specs.declared.registry.Registered.{Registered}
 use Rattle.callback_table.specs.Registry.{IsRegistered, RegistryView, registration_of, registrations_of, pair_of, pairs_run, entries_left}
 use Rattle.mark_worklist.specs.declared.marking.Marking.{Marking}
-use Rattle.page_words.specs.Bodies.{Body}
-use Rattle.page_words.specs.Seat.{SeatView, holds}
+use Rattle.marker_core.specs.declared.states.Body.{Body}
+use Rattle.marker_core.specs.Bodies.{holds}
+use Rattle.page_words.specs.Seat.{SeatView}
 use Rattle.page_space.specs.Space.{SpaceView, IsSpaceOf}
 use Rattle.ephemerons.specs.Fixpoint.{ListsMarks}
 use Rattle.ephemerons.specs.ListedMarks.{ListsMarks-then}

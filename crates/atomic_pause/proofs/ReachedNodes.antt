@@ -11,8 +11,9 @@ use Rattle.gc_graph.specs.NodeNumbers.{there_below, object_of_node}
 use Rattle.gc_graph.specs.Members.{any_member, any_from, below_ranged}
 use Rattle.gc_graph.specs.Leading.{IsLed, is_led, led_leads, led_named, led_wider}
 use Rattle.gc_graph.specs.AnyBelow.{any_below-from, any_below-some}
-use Rattle.page_words.specs.Bodies.{Body}
-use Rattle.page_words.specs.Seat.{SeatView, IsView, holds}
+use Rattle.marker_core.specs.declared.states.Body.{Body}
+use Rattle.marker_core.specs.Bodies.{holds}
+use Rattle.page_words.specs.Seat.{SeatView, IsView}
 use Rattle.ephemerons.specs.BodyGraph.{object_in, object_there, graph_in}
 use Rattle.ephemerons.specs.ObjectsThere.{there_is}
 use Rattle.nodes_in_words.specs.Nodes.{place_of, body_of, bodies_of, IsThere, IsHeld, AreOfValid}

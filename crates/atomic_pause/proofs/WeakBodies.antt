@@ -13,8 +13,8 @@ use Rattle.gc_graph.specs.Pause.{names_dead, cleared_values, with_cleared, clear
 use Rattle.gc_graph.specs.Condemning.{length-cleared}
 use Rattle.type_table.specs.Types.{kinds_of}
 use Rattle.type_table.specs.Layouts.{kinds_of_words}
-use Rattle.page_words.specs.Bodies.{Body}
-use Rattle.page_words.specs.Seat.{holds}
+use Rattle.marker_core.specs.declared.states.Body.{Body}
+use Rattle.marker_core.specs.Bodies.{holds}
 use Rattle.weak_clearing.specs.Clearing.{names_unmarked, clear_weak, clear_words, clear_body, clear_pair_words, clear_pairs_of}
 use Rattle.nodes_in_words.specs.Nodes.{word_of, body_of, bodies_from}
 use Rattle.nodes_in_words.specs.NodeBodies.{bodies-there, bodies-gone}

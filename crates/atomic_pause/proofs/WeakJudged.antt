@@ -14,8 +14,9 @@ use Rattle.gc_graph.specs.Pause.{judged, condemn, is_dead_at, clear_slot, cleare
 use Rattle.gc_graph.specs.Condemning.{length-condemn}
 use Rattle.type_table.specs.Types.{kinds_of}
 use Rattle.type_table.specs.Layouts.{kinds_of_words}
-use Rattle.page_words.specs.Bodies.{Body}
-use Rattle.page_words.specs.Seat.{SeatView, holds}
+use Rattle.marker_core.specs.declared.states.Body.{Body}
+use Rattle.marker_core.specs.Bodies.{holds}
+use Rattle.page_words.specs.Seat.{SeatView}
 use Rattle.page_space.specs.Space.{SpaceView, IsSpaceOf, IsSpaceOver, extents_of_bodies}
 use Rattle.weak_clearing.specs.Clearing.{clear_words, clear_body, with_weak_cleared, clear_pair_words, clear_pairs_of, with_pairs_cleared}
 use Rattle.nodes_in_words.specs.Nodes.{AreOfValid, place_of, word_of, IsHeld}

@@ -3,8 +3,9 @@ use Rattle.std.specs.Prelude.{◌≡◌, ◌⊎◌, ℕ, Bool, true, false, List
 use Rattle.gc_graph.specs.Graph.{ClosesUnder}
 use Rattle.gc_graph.specs.State.{ObjectType}
 use Rattle.mark_worklist.specs.declared.marking.Marking.{Marking}
-use Rattle.page_words.specs.Bodies.{Body, IsPlace}
-use Rattle.page_words.specs.Seat.{SeatView, holds, unmarked_places}
+use Rattle.marker_core.specs.Bodies.{IsPlace, holds}
+use Rattle.marker_core.specs.declared.states.Body.{Body}
+use Rattle.page_words.specs.Seat.{SeatView, unmarked_places}
 use Rattle.page_space.specs.Space.{HoldsAddress}
 use Rattle.ephemerons.specs.BodyGraph.{graph_in}
 use Rattle.ephemerons.specs.Notes.{NotesState, no_notes}

@@ -3,8 +3,8 @@
 
 ghost use Rattle.std.specs.Prelude.{◌≡◌, ◌<◌, ℕ, true, false, [], ◌∷◌, Contains, length};
 ghost use Rattle.mark_worklist.specs.Refusals.{TellsRefused, refusals_of};
-ghost use Rattle.page_words.specs.Bodies.{IsPlace};
-ghost use Rattle.page_words.specs.Seat.{holds};
+ghost use Rattle.marker_core.specs.Bodies.{IsPlace};
+ghost use Rattle.marker_core.specs.Bodies.{holds};
 ghost use Rattle.page_space.specs.Space.{IsSeatOf};
 ghost use Rattle.ephemerons.specs.BodyGraph.{AreReferences, PlacesDiffer};
 ghost use Rattle.ephemerons.specs.Fixpoint.{IsUnrefused};

@@ -1,7 +1,7 @@
 // What a pause makes of the nodes. All of it is for contracts alone.
 
 ghost use Rattle.std.specs.Prelude.{◌≡◌};
-ghost use Rattle.page_words.specs.Seat.{holds};
+ghost use Rattle.marker_core.specs.Bodies.{holds};
 ghost use Rattle.nodes_in_words.specs.Places.{kept_of};
 ghost use Rattle.nodes_in_words.specs.Judgement.{nodes_after};
 

@@ -8,7 +8,7 @@ ghost use Rattle.gc_graph.specs.Pause.{live_count, dead_count, is_dead_at, clear
 ghost use Rattle.callback_table.specs.Registry.{IsRegistered};
 ghost use Rattle.callback_table.specs.Table.{kinds_of};
 ghost use Rattle.mark_worklist.specs.Refusals.{TellsRefused, refusals_of};
-ghost use Rattle.page_words.specs.Bodies.{IsPlace};
+ghost use Rattle.marker_core.specs.Bodies.{IsPlace};
 ghost use Rattle.page_space.specs.Space.{IsSpaceOf, extents_of_bodies};
 ghost use Rattle.persistent_slots.specs.Clearing.{taken};
 ghost use Rattle.ephemerons.specs.Fixpoint.{IsUnrefused};

@@ -2,8 +2,8 @@
 
 ghost use Rattle.std.specs.Prelude.{◌≡◌, ◌⊎◌, ℕ, true, Contains, All, Some};
 ghost use Rattle.std.specs.Option.{ForSome};
-ghost use Rattle.page_words.specs.Bodies.{IsPlace};
-ghost use Rattle.page_words.specs.Seat.{holds};
+ghost use Rattle.marker_core.specs.Bodies.{IsPlace};
+ghost use Rattle.marker_core.specs.Bodies.{holds};
 ghost use Rattle.page_space.specs.Space.{IsSpaceOf, HoldsAddress};
 ghost use Rattle.ephemerons.specs.Fixpoint.{ListsMarks};
 ghost use Rattle.atomic_pause.specs.Marking.{IsHitPlace, IsScanned};

@@ -6,8 +6,9 @@ use Rattle.std.proofs.lemmas.List.FromFn.{length-range_with_len}
 use Rattle.std.proofs.lemmas.List.Sums.{count_by-le-length}
 use Rattle.gc_graph.specs.State.{ObjectType}
 use Rattle.gc_graph.specs.Graph.{object_at, leads_by}
-use Rattle.page_words.specs.Bodies.{Body, IsPlace}
-use Rattle.page_words.specs.Seat.{SeatView, IsView, holds}
+use Rattle.marker_core.specs.Bodies.{IsPlace, holds}
+use Rattle.marker_core.specs.declared.states.Body.{Body}
+use Rattle.page_words.specs.Seat.{SeatView, IsView}
 use Rattle.ephemerons.specs.declared.notes.Note.{Note}
 use Rattle.ephemerons.specs.BodyGraph.{graph_in, pair_offsets, word_at}
 use Rattle.ephemerons.specs.Marking.{IsOver, TracedNameMarked}

@@ -6,8 +6,9 @@ use Rattle.gc_graph.specs.declared.kind.Kind.{Kind}
 use Rattle.gc_graph.specs.declared.kind.Kind.TheVariants.{Strong, Pair}
 use Rattle.gc_graph.specs.Graph.{object_at, leads_by, ClosesUnder}
 use Rattle.gc_graph.specs.State.{ObjectType, no_type}
-use Rattle.page_words.specs.Bodies.{Body}
-use Rattle.page_words.specs.Seat.{SeatView, IsView, holds}
+use Rattle.marker_core.specs.declared.states.Body.{Body}
+use Rattle.marker_core.specs.Bodies.{holds}
+use Rattle.page_words.specs.Seat.{SeatView, IsView}
 use Rattle.ephemerons.specs.BodyGraph.{strong_offsets, pair_offsets, word_at, object_in, object_there, graph_in}
 use Rattle.ephemerons.specs.Marking.{GrowsWithin}
 use Rattle.gc_graph.specs.Leading.{IsLed, is_led, led_leads}

@@ -5,8 +5,8 @@ use Rattle.std.specs.List.{Contains, range_with_len}
 use Rattle.std.proofs.lemmas.Bool.{true≢false, cases_Bool, cond-true, cond-false, not-true, not-false, and_parts, and_cases}
 use Rattle.gc_graph.specs.State.{ObjectType}
 use Rattle.mark_worklist.specs.declared.marking.Marking.{Marking}
-use Rattle.page_words.specs.Bodies.{IsPlace}
-use Rattle.page_words.specs.Seat.{SeatView, IsView, holds, is_grey, claimed_at}
+use Rattle.marker_core.specs.Bodies.{IsPlace, holds}
+use Rattle.page_words.specs.Seat.{SeatView, IsView, is_grey, claimed_at}
 use Rattle.ephemerons.specs.BodyGraph.{AreReferences}
 use Rattle.ephemerons.specs.Marking.{GrowsWithin, HasStrongMarked, traced_count}
 use Rattle.ephemerons.specs.Notes.{NotesState, NotesGrow, HasPairsNoted, group_at, IsNotedIn, IsNote, note_of}
@@ -20,13 +20,13 @@ use Rattle.mark_worklist.specs.Told.{told_same}
 use Rattle.ephemerons.proofs.Stages.{MarksOn-same}
 
 abbrev pub with_trace : SeatView → ℕ → SeatView
-with_trace v a = record v { traced = v.traced ++ a ∷ [] }
+with_trace v a = record v { mutator = record v.mutator { traced = v.traced ++ a ∷ [] } }
 
 pub claim_is : (v new : SeatView) (a : ℕ) → new ≡ claimed_at v a → is_grey v a ≡ true → new ≡ with_trace v a
-claim_is v new a is grey = is ∙ ap (λ l. record v { traced = l }) (cond-true (is_grey v a) (v.traced ++ a ∷ []) v.traced grey)
+claim_is v new a is grey = is ∙ ap (λ l. record v { mutator = record v.mutator { traced = l } }) (cond-true (is_grey v a) (v.traced ++ a ∷ []) v.traced grey)
 
 pub claim_fails : (v new : SeatView) (a : ℕ) → new ≡ claimed_at v a → is_grey v a ≡ false → new ≡ v
-claim_fails v new a is black = is ∙ ap (λ l. record v { traced = l }) (cond-false (is_grey v a) (v.traced ++ a ∷ []) v.traced black)
+claim_fails v new a is black = is ∙ ap (λ l. record v { mutator = record v.mutator { traced = l } }) (cond-false (is_grey v a) (v.traced ++ a ∷ []) v.traced black)
 
 pub untraced : (v : SeatView) (a : ℕ) → is_grey v a ≡ true → holds v.traced a ≡ false
 untraced v a grey = not-true (holds v.traced a) ((and_parts (holds v.marked a) (not (holds v.traced a)) grey).1)

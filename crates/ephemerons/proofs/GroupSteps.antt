@@ -3,7 +3,7 @@ use Rattle.std.proofs.Common.{◌≡◌, ℕ, zero, suc, ◌<◌, false, List, [
 use Rattle.std.specs.Prelude.{slice_set}
 use mathlib.Core.Logic.{◌⊎◌}
 use Rattle.gc_graph.specs.State.{ObjectType}
-use Rattle.page_words.specs.Bodies.{Body}
+use Rattle.marker_core.specs.declared.states.Body.{Body}
 use Rattle.ephemerons.specs.declared.notes.Note.{Note}
 use Rattle.ephemerons.specs.BodyGraph.{HasPair}
 use Rattle.ephemerons.specs.Notes.{NotesState, NotesGrow, group_at, IsNotedIn}

@@ -3,7 +3,7 @@ use Rattle.std.proofs.Common.{◌≡◌, ℕ, Bool, true, false, ◌||◌, List,
 use mathlib.Core.Logic.{◌⊎◌}
 use Rattle.std.proofs.lemmas.Bool.{true≢false, or_cases, or_left, eqb-true, ne_eqb}
 use Rattle.std.proofs.lemmas.List.Folds.{list_any-append}
-use Rattle.page_words.specs.Seat.{holds}
+use Rattle.marker_core.specs.Bodies.{holds}
 
 pub holds-push : (places : List ℕ) (a p : ℕ) → holds (places ++ a ∷ []) p ≡ (holds places p || (eqb a p || false))
 holds-push places a p = list_any-append (λ q. eqb q p) places (a ∷ [])

@@ -3,8 +3,8 @@ use Rattle.std.proofs.Common.{◌≡◌, ℕ, ◌+◌, ◌<◌, ◌≤◌, false
 use Rattle.std.specs.List.{Contains, range_with_len}
 use Rattle.std.proofs.lemmas.Bool.{cond-false}
 use Rattle.mark_worklist.specs.declared.marking.Marking.{Marking}
-use Rattle.page_words.specs.Bodies.{IsPlace}
-use Rattle.page_words.specs.Seat.{SeatView, IsView, holds, marked_at}
+use Rattle.marker_core.specs.Bodies.{IsPlace, holds}
+use Rattle.page_words.specs.Seat.{SeatView, IsView, marked_at}
 use Rattle.ephemerons.specs.Fixpoint.{ListsMarks, IsListed, unmarked_places, weight_of}
 use Rattle.ephemerons.proofs.Lists.{holds_push_old, holds_push_cases}
 use Rattle.gc_graph.specs.Members.{to_range}
@@ -12,10 +12,10 @@ use Rattle.ephemerons.proofs.Weights.{one_fewer}
 use Rattle.page_words.specs.BodyPlaces.{place_below}
 
 abbrev with_mark : SeatView → ℕ → SeatView
-with_mark v a = record v { marked = v.marked ++ a ∷ [] }
+with_mark v a = record v { mutator = record v.mutator { marked = v.marked ++ a ∷ [] } }
 
 fresh_is : (v new : SeatView) (a : ℕ) → new ≡ marked_at v a → holds v.marked a ≡ false → new ≡ with_mark v a
-fresh_is v new a is fresh = is ∙ ap (λ m. record v { marked = m }) (cond-false (holds v.marked a) v.marked (v.marked ++ a ∷ []) fresh)
+fresh_is v new a is fresh = is ∙ ap (λ m. record v { mutator = record v.mutator { marked = m } }) (cond-false (holds v.marked a) v.marked (v.marked ++ a ∷ []) fresh)
 
 -- one object is marked that was not
 fewer : (v : SeatView) (a : ℕ) → IsView v → IsPlace v.bodies a → holds v.marked a ≡ false → unmarked_places (with_mark v a) + 1 ≤ unmarked_places v

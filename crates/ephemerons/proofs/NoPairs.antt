@@ -3,7 +3,7 @@ use Rattle.std.proofs.Common.{◌≡◌, ℕ, ◌<◌, List, length, set, subst,
 use Rattle.std.specs.List.{Contains}
 use Rattle.std.proofs.lemmas.List.{set-get_or}
 use Rattle.gc_graph.specs.State.{ObjectType}
-use Rattle.page_words.specs.Bodies.{Body}
+use Rattle.marker_core.specs.declared.states.Body.{Body}
 use Rattle.page_words.specs.Seat.{SeatView}
 use Rattle.ephemerons.specs.BodyGraph.{AreReferences, HaveNoPairs}
 use Rattle.ephemerons.specs.declared.notes.Note.{Note}

@@ -6,8 +6,10 @@ use Rattle.std.proofs.lemmas.List.Elements.{All-contains, Contains-get_or}
 use Rattle.gc_graph.specs.declared.kind.Kind.TheVariants.{Strong, Pair}
 use Rattle.gc_graph.specs.State.{ObjectType}
 use Rattle.type_table.specs.Types.{kinds_of, offsets_of_kind}
-use Rattle.page_words.specs.Bodies.{Body, IsReference, IsWhole}
-use Rattle.page_words.specs.Seat.{SeatView, IsView, holds}
+use Rattle.marker_core.specs.Bodies.{IsReference, holds}
+use Rattle.marker_core.specs.declared.states.Body.{Body}
+use Rattle.page_words.specs.Bodies.{IsWhole}
+use Rattle.page_words.specs.Seat.{SeatView, IsView}
 use Rattle.ephemerons.specs.BodyGraph.{AreReferences, HasType, HasPair, strong_offsets, word_at}
 use Rattle.ephemerons.specs.Notes.{note_of}
 use Rattle.ephemerons.specs.Fixpoint.{HasWord, IsSettled}

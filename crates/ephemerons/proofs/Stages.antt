@@ -4,11 +4,12 @@ use mathlib.Core.Logic.{◌⊎◌}
 use Rattle.std.specs.List.{Contains}
 use Rattle.std.proofs.lemmas.Bool.{true≢false, cases_eq, or_cases}
 use Rattle.std.proofs.lemmas.List.{length_push}
-use Rattle.std.proofs.lemmas.List.Elements.{Contains-push_cases}
+use Rattle.std.proofs.lemmas.List.Elements.{Contains-push_cases, Contains-append_left, Contains-push}
 use Rattle.gc_graph.specs.State.{ObjectType}
+use Rattle.mark_worklist.specs.Refusals.{Refusals}
 use Rattle.mark_worklist.specs.declared.marking.Marking.{Marking}
-use Rattle.page_words.specs.Bodies.{IsPlace}
-use Rattle.page_words.specs.Seat.{SeatView, holds}
+use Rattle.marker_core.specs.Bodies.{IsPlace, holds}
+use Rattle.page_words.specs.Seat.{SeatView}
 use Rattle.ephemerons.specs.BodyGraph.{PlacesDiffer, AreReferences}
 use Rattle.ephemerons.specs.Marking.{MarksOn, GrowsWithin, traced_count}
 use Rattle.ephemerons.specs.Notes.{NotesState, IsNote}
@@ -95,6 +96,22 @@ Works-free types p a b x = record {
 pub popped_lighter : (s t : Stage) (list : List ℕ) (a : ℕ) → s.list ≡ list ++ a ∷ [] → weight t ≤ weight (record s { list = list }) → weight t ≤ weight s
 popped_lighter s t list a last less = omega (arith, less, ap length last, length_push list a)
 
+-- the ground stays where the last that was listed is taken from the list, and it is an object's place
+pub ground_popped : (types : List ObjectType) (s : Stage) (list : List ℕ) (a : ℕ) (refusals : Refusals) → s.list ≡ list ++ a ∷ [] → IsGround types s
+    → IsGround types (record s { list = list; refusals = refusals }) × IsPlace s.view.bodies a
+ground_popped types s list a refusals last ground = (
+  record {
+    on = ground.on;
+    references = ground.references;
+    traced_name_marked = ground.traced_name_marked;
+    listed = λ p h. ground.listed p (subst (λ l. Contains l p) (sym last) (Contains-append_left list (a ∷ []) p h));
+    noted = ground.noted;
+    own = ground.own;
+    few = ground.few;
+  },
+  ground.listed a (subst (λ l. Contains l a) (sym last) (Contains-push list a)),
+)
+
 -- the object in hand is the last one that was listed
 pub Works-popped : (types : List ObjectType) (s t : Stage) (list : List ℕ) (a count : ℕ) → s.list ≡ list ++ a ∷ [] → count ≡ s.refusals.count
     → Works types (Some a) (record s { list = list; refusals = record { told = s.refusals.told; count = count } }) t → Works types None s t
@@ -165,7 +182,7 @@ looks_more P a b f g j before still here none k low =
       | inr other ↦ subst (λ s. P s k) (sym (still parts.1)) (before parts.0 k (omega (arith, low)))
     ]
 
-untraced_same : (v w : SeatView) → w ≡ record v { marked = w.marked } → untraced_places w ≡ untraced_places v
+untraced_same : (v w : SeatView) → w ≡ record v { mutator = record v.mutator { marked = w.marked } } → untraced_places w ≡ untraced_places v
 untraced_same v w is = ap untraced_places is
 
 -- objects were marked and listed

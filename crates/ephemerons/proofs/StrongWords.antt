@@ -5,7 +5,7 @@ use Rattle.gc_graph.specs.declared.kind.Kind.TheVariants.{Strong}
 use Rattle.gc_graph.specs.State.{ObjectType}
 use Rattle.type_table.specs.Types.{kinds_of, offsets_of_kind}
 use Rattle.mark_worklist.specs.declared.marking.Marking.{Marking}
-use Rattle.page_words.specs.Bodies.{Body}
+use Rattle.marker_core.specs.declared.states.Body.{Body}
 use Rattle.page_words.specs.Seat.{SeatView, IsView}
 use Rattle.ephemerons.specs.BodyGraph.{HasType, HasStrong, strong_offsets}
 use Rattle.ephemerons.specs.Marking.{GrowsWithin, HasStrongMarked, HasTargetMarked}

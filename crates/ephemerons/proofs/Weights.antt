@@ -4,8 +4,8 @@ use Rattle.std.specs.List.{All, Contains, count_by}
 use Rattle.std.proofs.lemmas.Bool.{cases_eq, cond-true, cond-false}
 use Rattle.std.proofs.lemmas.List.Elements.{All-head, All-tail}
 use Rattle.std.proofs.lemmas.List.Sums.{sum_by-cons}
-use Rattle.page_words.specs.Bodies.{Body, IsPlace}
-use Rattle.page_words.specs.Seat.{holds}
+use Rattle.marker_core.specs.Bodies.{IsPlace, holds}
+use Rattle.marker_core.specs.declared.states.Body.{Body}
 use Rattle.ephemerons.specs.BodyGraph.{PlacesDiffer}
 use Rattle.ephemerons.proofs.Lists.{holds_push_other}
 use Rattle.gc_graph.specs.Members.{Contains-cons_cases, pushed_is_held}

@@ -10,7 +10,8 @@ use Rattle.gc_graph.specs.State.{ObjectType, no_type}
 use Rattle.gc_graph.specs.Fields.{field_words}
 use Rattle.object_headers.specs.Offsets.{first_field}
 use Rattle.type_table.specs.Types.{kinds_of, offsets_of_kind}
-use Rattle.page_words.specs.Bodies.{Body, IsReference}
+use Rattle.marker_core.specs.Bodies.{IsReference}
+use Rattle.marker_core.specs.declared.states.Body.{Body}
 use Rattle.page_words.specs.Seat.{SeatView}
 
 -- no two bodies have one place

@@ -5,8 +5,9 @@ use Rattle.gc_graph.specs.State.{ObjectType}
 use Rattle.object_headers.specs.Offsets.{first_field}
 use Rattle.mark_worklist.specs.Refusals.{Refusals, TellsRefused, refusals_of}
 use Rattle.mark_worklist.specs.declared.marking.Marking.{Marking}
-use Rattle.page_words.specs.Bodies.{Body, IsPlace}
-use Rattle.page_words.specs.Seat.{SeatView, holds}
+use Rattle.marker_core.specs.Bodies.{IsPlace, holds}
+use Rattle.marker_core.specs.declared.states.Body.{Body}
+use Rattle.page_words.specs.Seat.{SeatView}
 use Rattle.ephemerons.specs.declared.notes.Note.{Note}
 use Rattle.ephemerons.specs.BodyGraph.{PlacesDiffer, AreReferences, pair_offsets, word_at}
 use Rattle.ephemerons.specs.Marking.{MarksOn, GrowsWithin, TracedNameMarked, traced_count}
@@ -89,7 +90,7 @@ pub record IsListed (before after : Marking) (place : ℕ) : Type 0 where
 
 -- objects were marked, and each of them is listed unless a push was refused
 pub record ListsMarks (old : SeatView) (before : Marking) (new : SeatView) (after : Marking) : Type 0 where
-  pub view : new ≡ record old { marked = new.marked }
+  pub view : new ≡ record old { mutator = record old.mutator { marked = new.marked } }
   pub marked : (p : ℕ) → holds old.marked p ≡ true → holds new.marked p ≡ true
   pub on : after.on ≡ before.on
   pub overflow : after.overflow ≡ false → before.overflow ≡ false

@@ -3,13 +3,13 @@ use Rattle.std.proofs.Common.{ap, ◌∙◌, subst, inl, inr, arith}
 use Rattle.mark_worklist.specs.Refusals.{refusals_of}
 use Rattle.mark_worklist.specs.Told.{told_then}
 use Rattle.mark_worklist.specs.declared.marking.Marking.{Marking}
-use Rattle.page_words.specs.Bodies.{IsPlace}
+use Rattle.marker_core.specs.Bodies.{IsPlace}
 use Rattle.page_words.specs.Seat.{SeatView}
 use Rattle.ephemerons.specs.Fixpoint.{ListsMarks}
 
 pub ListsMarks-then : (u v w : SeatView) (l m n : Marking) → ListsMarks u l v m → ListsMarks v m w n → ListsMarks u l w n
 ListsMarks-then u v w l m n x y = record {
-  view = y.view ∙ ap (λ (z : SeatView). record z { marked = w.marked }) x.view;
+  view = y.view ∙ ap (λ (z : SeatView). record z { mutator = record z.mutator { marked = w.marked } }) x.view;
   marked = λ p h. y.marked p (x.marked p h);
   on = y.on ∙ x.on;
   overflow = λ h. x.overflow (y.overflow h);

@@ -2,8 +2,9 @@
 use Rattle.std.specs.Prelude.{◌≡◌, ℕ, ◌+◌, Bool, true, List, Contains, count_by}
 use Rattle.gc_graph.specs.Graph.{ClosesUnder}
 use Rattle.gc_graph.specs.State.{ObjectType}
-use Rattle.page_words.specs.Bodies.{Body}
-use Rattle.page_words.specs.Seat.{SeatView, holds}
+use Rattle.marker_core.specs.declared.states.Body.{Body}
+use Rattle.marker_core.specs.Bodies.{holds}
+use Rattle.page_words.specs.Seat.{SeatView}
 use Rattle.ephemerons.specs.BodyGraph.{graph_in, strong_offsets, word_at}
 
 -- the bodies and all else but marks are as before, and what was marked or traced still is

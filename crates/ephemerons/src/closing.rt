@@ -3,7 +3,7 @@
 ghost use Rattle.std.specs.Prelude.{◌≡◌, ◌⊎◌, ℕ, ◌+◌, ◌<◌, true, false, [], Contains, None};
 ghost use Rattle.std.specs.Prelude.{length};
 ghost use Rattle.mark_worklist.specs.Refusals.{TellsRefused, refusals_of};
-ghost use Rattle.page_words.specs.Bodies.{IsPlace};
+ghost use Rattle.marker_core.specs.Bodies.{IsPlace};
 ghost use Rattle.page_space.specs.Space.{IsSeatOf};
 ghost use Rattle.ephemerons.specs.declared.notes.Note.{Note};
 ghost use Rattle.ephemerons.specs.BodyGraph.{PlacesDiffer, AreReferences};

@@ -4,8 +4,10 @@ ghost use Rattle.std.specs.Prelude.{◌≡◌, ◌⊎◌, ℕ, ◌+◌, ◌-◌,
 ghost use Rattle.std.specs.Prelude.{Contains, MatchOption, Some, IfSome, IfNone};
 ghost use Rattle.mark_worklist.specs.declared.marking.Marking.{Marking};
 ghost use Rattle.object_headers.specs.Offsets.{first_field, reference_to};
-ghost use Rattle.page_words.specs.Bodies.{Body, IsPlace, IsReference};
-ghost use Rattle.page_words.specs.Seat.{holds, marked_at};
+ghost use Rattle.marker_core.specs.Bodies.{IsPlace, IsReference};
+ghost use Rattle.marker_core.specs.declared.states.Body.{Body};
+ghost use Rattle.marker_core.specs.Bodies.{holds};
+ghost use Rattle.page_words.specs.Seat.{marked_at};
 ghost use Rattle.page_space.specs.Space.{IsSeatOf};
 ghost use Rattle.ephemerons.specs.BodyGraph.{word_at};
 ghost use Rattle.ephemerons.specs.Fixpoint.{ListsMarks, IsListed, HasWord, weight_of};

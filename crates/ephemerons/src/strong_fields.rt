@@ -2,7 +2,7 @@
 
 ghost use Rattle.std.specs.Prelude.{◌≡◌, ℕ, true, Contains};
 ghost use Rattle.mark_worklist.specs.declared.marking.Marking.{Marking};
-ghost use Rattle.page_words.specs.Seat.{holds};
+ghost use Rattle.marker_core.specs.Bodies.{holds};
 ghost use Rattle.ephemerons.specs.BodyGraph.{AreReferences, HasType, HasStrong};
 ghost use Rattle.ephemerons.specs.Marking.{GrowsWithin, HasStrongMarked, HasTargetMarked};
 ghost use Rattle.ephemerons.specs.Fixpoint.{ListsMarks, with_held};

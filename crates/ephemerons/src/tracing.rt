@@ -4,8 +4,10 @@
 ghost use Rattle.std.specs.Prelude.{◌≡◌, ◌⊎◌, ℕ, ◌+◌, ◌<◌, true, false, Contains, Some, IfSome, length};
 ghost use Rattle.std.specs.Option.{is_some};
 ghost use Rattle.object_headers.specs.Offsets.{reference_to};
-ghost use Rattle.page_words.specs.Bodies.{Body, IsPlace};
-ghost use Rattle.page_words.specs.Seat.{holds, is_grey, claimed_at};
+ghost use Rattle.marker_core.specs.Bodies.{IsPlace};
+ghost use Rattle.marker_core.specs.declared.states.Body.{Body};
+ghost use Rattle.marker_core.specs.Bodies.{holds};
+ghost use Rattle.page_words.specs.Seat.{is_grey, claimed_at};
 ghost use Rattle.page_space.specs.Space.{IsSeatOf};
 ghost use Rattle.ephemerons.specs.BodyGraph.{AreReferences, HasType, HasPair, HaveNoPairs};
 ghost use Rattle.ephemerons.specs.BodyGraph.{strong_offsets, word_at};

@@ -1,7 +1,7 @@
 // The walk: where list or notes may not be whole, each object of the heap is looked at.
 
 ghost use Rattle.std.specs.Prelude.{◌≡◌, ℕ, ◌<◌, true, false, [], Contains, None, Some};
-ghost use Rattle.page_words.specs.Bodies.{IsPlace};
+ghost use Rattle.marker_core.specs.Bodies.{IsPlace};
 ghost use Rattle.page_space.specs.Space.{IsSeatOf};
 ghost use Rattle.ephemerons.specs.BodyGraph.{HasPair};
 ghost use Rattle.ephemerons.specs.Marking.{IsOver};

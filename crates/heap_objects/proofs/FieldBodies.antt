@@ -6,13 +6,14 @@ use Rattle.std.proofs.lemmas.List.{map-set}
 use Rattle.gc_graph.specs.declared.kind.Value.{Value}
 use Rattle.gc_graph.specs.State.{Node, node_at, is_there, size_of}
 use Rattle.gc_graph.specs.Fields.{with_value}
-use Rattle.page_words.specs.Bodies.{Body, end_of, with_word}
+use Rattle.marker_core.specs.Bodies.{end_of, with_word, has_field}
+use Rattle.marker_core.specs.declared.states.Body.{Body}
 use Rattle.page_words.specs.Seat.{SeatView, IsView}
 use Rattle.nodes_in_words.specs.Nodes.{place_of, word_of, body_of, bodies_from, bodies_of, IsThere}
 use Rattle.nodes_in_words.specs.NodeBodies.{bodies-there, bodies-gone}
 use Rattle.nodes_in_words.specs.NodePlaces.{node_body}
 use Rattle.heap_objects.specs.FieldNodes.{with_field, size_field}
-use Rattle.page_words.specs.WrittenBodies.{has_word, rewritten}
+use Rattle.page_words.specs.WrittenBodies.{rewritten}
 
 -- ---- the place stays
 
@@ -29,12 +30,12 @@ and_never false = refl
 word-elsewhere : (g : ℕ → ℕ) (k a w : ℕ) (node : Node) → IsElsewhere a node → with_word a w (body_of g k node) ≡ body_of g k node
 word-elsewhere g k a w node off =
     let b : Body = body_of g k node in
-    let none : has_word a b ≡ false =
+    let none : has_field a b ≡ false =
     elim off [
       | inl below ↦ ap (λ t. t && ltb a (end_of b)) (lt-leb (b.place + 2) a below)
       | inr past ↦ ap (λ t. leb (b.place + 2) a && t) (le-ltb a (end_of b) past) ∙ and_never (leb (b.place + 2) a)
     ] in
-    cond-false (has_word a b) (rewritten a w b) b none
+    ap (λ fields. record b { fields = fields }) (cond-false (has_field a b) (set b.fields (a - (b.place + 2)) w) b.fields none)
 
 word-field : (g : ℕ → ℕ) (k a f : ℕ) (x : Value) (node : Node) → a ≡ node.place + 2 + f → f < length node.object.values
     → with_word a (word_of g x) (body_of g k node) ≡ body_of g k (with_value node f x)
@@ -47,8 +48,8 @@ word-field g k a f x node at low =
     let offset : a - (node.place + 2) ≡ f = omega arith in
     let fields : set b.fields (a - (node.place + 2)) w ≡ map (word_of g) (set node.object.values f x) =
     ap (λ i. set b.fields i w) offset ∙ sym (map-set (word_of g) node.object.values f x) in
-    cond-true (has_word a b) (rewritten a w b) b
-    (and_from (leb (b.place + 2) a) (ltb a (end_of b)) (le-leb (b.place + 2) a above) (lt-ltb a (end_of b) within))
+    ap (λ fields. record b { fields = fields }) (cond-true (has_field a b) (set b.fields (a - (b.place + 2)) w) b.fields
+    (and_from (leb (b.place + 2) a) (ltb a (end_of b)) (le-leb (b.place + 2) a above) (lt-ltb a (end_of b) within)))
     ∙ ap (made (size_of node)) fields
     ∙ ap (λ size. made size (map (word_of g) (set node.object.values f x))) (sym (size_field node f x))
 

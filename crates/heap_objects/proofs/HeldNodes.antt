@@ -10,8 +10,9 @@ use Rattle.gc_graph.specs.declared.kind.Value.{Value}
 use Rattle.gc_graph.specs.declared.kind.Value.TheVariants.{Null, Ref, Word}
 use Rattle.gc_graph.specs.State.{Setup, Node, type_at, node_at, is_there, is_dead, size_of}
 use Rattle.gc_graph.specs.Fields.{field_words, new_node, size_of_type}
-use Rattle.page_words.specs.Bodies.{Body, with_word}
-use Rattle.page_words.specs.Seat.{SeatView, IsView, holds, stored}
+use Rattle.marker_core.specs.Bodies.{with_word, holds}
+use Rattle.marker_core.specs.declared.states.Body.{Body}
+use Rattle.page_words.specs.Seat.{SeatView, IsView, stored}
 use Rattle.gc_graph.specs.Placement.{extents_of}
 use Rattle.page_space.specs.Occupying.{Occupies, new_body}
 use Rattle.page_space.specs.Space.{extents_of_bodies}

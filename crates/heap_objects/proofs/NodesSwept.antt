@@ -7,8 +7,9 @@ use Rattle.std.proofs.lemmas.List.Elements.{All-get_or, All-from_get_or}
 use Rattle.gc_graph.specs.State.{Node, Life, node_at, is_there, is_dead, IsDead}
 use Rattle.gc_graph.specs.State.Life.{Live, Dead, Gone}
 use Rattle.gc_graph.specs.Sweep.{buried, finalise, IsDeadBelow, AreDeadInOrder}
-use Rattle.page_words.specs.Bodies.{Body}
-use Rattle.page_words.specs.Seat.{SeatView, holds}
+use Rattle.marker_core.specs.declared.states.Body.{Body}
+use Rattle.marker_core.specs.Bodies.{holds}
+use Rattle.page_words.specs.Seat.{SeatView}
 use Rattle.page_space.specs.Pages.{is_between}
 use Rattle.sweeper.specs.Sweeping.{IsClearBelow, Sweeps, AreDeadSerials, IsDeadIn, no_body, outside, is_dead_in}
 use Rattle.nodes_in_words.specs.Nodes.{place_of, body_of, bodies_from, IsThere, IsHeld}

@@ -4,8 +4,8 @@ use Rattle.std.proofs.lemmas.List.{length-set, get_or-set_same, get_or-set_other
 use Rattle.gc_graph.specs.declared.kind.Value.{Value}
 use Rattle.gc_graph.specs.State.{Node, node_at, no_node, is_there, is_dead}
 use Rattle.gc_graph.specs.Fields.{with_value}
-use Rattle.page_words.specs.Bodies.{with_word}
-use Rattle.page_words.specs.Seat.{SeatView, IsView, stored, holds}
+use Rattle.marker_core.specs.Bodies.{with_word, holds}
+use Rattle.page_words.specs.Seat.{SeatView, IsView, stored}
 use Rattle.nodes_in_words.specs.Nodes.{place_of, word_of, bodies_from, bodies_of, IsThere, IsHeld}
 use Rattle.nodes_in_words.specs.NodeChanges.{bodies-same, place_set, life_set}
 use Rattle.heap_objects.specs.FieldNodes.{with_field, place-field, life-field, pair_node, with_pair}

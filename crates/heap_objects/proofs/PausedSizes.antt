@@ -7,7 +7,7 @@ use Rattle.gc_graph.specs.Graph.{has}
 use Rattle.gc_graph.specs.ActionLaw.{HaveStayed}
 use Rattle.gc_graph.specs.Pause.{judged}
 use Rattle.gc_graph.specs.Placement.{Extent}
-use Rattle.page_words.specs.Bodies.{Body}
+use Rattle.marker_core.specs.declared.states.Body.{Body}
 use Rattle.page_words.specs.Seat.{SeatView, IsView}
 use Rattle.page_space.specs.Space.{extent_of, extents_of_bodies}
 use Rattle.nodes_in_words.specs.Nodes.{place_of, body_of, bodies_of, IsThere}

@@ -14,7 +14,9 @@ use Rattle.gc_graph.specs.Fields.{field_words, field_count, kind_of_field, word_
 use Rattle.gc_graph.specs.Valid.{IsTyped}
 use Rattle.object_headers.specs.declared.header.Header.{Header}
 use Rattle.type_table.specs.Types as table
-use Rattle.page_words.specs.Bodies.{Body, IsPlace, kind_in}
+use Rattle.marker_core.specs.Bodies.{IsPlace}
+use Rattle.marker_core.specs.declared.states.Body.{Body}
+use Rattle.page_words.specs.Bodies.{kind_in}
 use Rattle.page_words.specs.Seat.{SeatView}
 use Rattle.page_space.specs.Space.{header_in}
 use Rattle.member_fields.specs.Words.{HasWord}

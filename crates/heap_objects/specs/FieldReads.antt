@@ -11,7 +11,9 @@ use Rattle.gc_graph.specs.declared.kind.Value.TheVariants.{Null, Ref, Word}
 use Rattle.gc_graph.specs.State.{Setup, Node, node_at, IsLive}
 use Rattle.gc_graph.specs.Fields.{word_of_field, target_of, is_reference, is_plain}
 use Rattle.gc_graph.specs.Valid.{IsReferenceBelow, NamesLive}
-use Rattle.page_words.specs.Bodies.{Body, IsWhole, IsReference}
+use Rattle.marker_core.specs.Bodies.{IsReference}
+use Rattle.marker_core.specs.declared.states.Body.{Body}
+use Rattle.page_words.specs.Bodies.{IsWhole}
 use Rattle.page_words.specs.Seat.{SeatView, IsWordAt, IsView}
 use Rattle.member_fields.specs.Words.{IsWordIn}
 use Rattle.heap_objects.specs.declared.field.Field.{Field}

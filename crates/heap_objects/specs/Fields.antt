@@ -10,7 +10,8 @@ use Rattle.gc_graph.specs.State.{Node, node_at, IsLive}
 use Rattle.gc_graph.specs.Fields.{field_count, kind_of_field, word_of_field, value_at, is_reference, is_pair, is_plain}
 use Rattle.gc_graph.specs.Valid.{IsPlainWord, ArePaired}
 use Rattle.object_headers.specs.Offsets.{first_field}
-use Rattle.page_words.specs.Bodies.{Body, IsReference}
+use Rattle.marker_core.specs.Bodies.{IsReference}
+use Rattle.marker_core.specs.declared.states.Body.{Body}
 use Rattle.heap_objects.specs.declared.field.Field.{Field}
 use Rattle.heap_objects.specs.declared.field.Part.{Part}
 use Rattle.heap_objects.specs.declared.field.Part.TheVariants as P

@@ -16,7 +16,7 @@ use Rattle.gc_graph.specs.Fields.{words_of_kind, word_of_field, value_at, is_pai
 use Rattle.gc_graph.specs.Valid.{HaveKinds, IsReferenceBelow, IsTyped, NamesLive}
 use Rattle.type_table.specs.Types as table
 use Rattle.type_table.specs.FieldLaw.{FieldsStandApart}
-use Rattle.page_words.specs.Bodies.{Body}
+use Rattle.marker_core.specs.declared.states.Body.{Body}
 use Rattle.page_words.specs.Seat.{SeatView}
 use Rattle.member_fields.specs.Words.{HasPair, IsWordIn}
 use Rattle.heap_objects.specs.declared.field.Field.{Field}

@@ -1,7 +1,8 @@
 -- Where a word of an object is, and what a read of it tells.
 use Rattle.std.proofs.Common.{◌≡◌, ℕ, ◌+◌, ◌-◌, Bool, true, sym, ap, ◌∙◌, arith}
 use Rattle.gc_graph.specs.declared.kind.Kind.{Kind}
-use Rattle.page_words.specs.Bodies.{Body, kind_in}
+use Rattle.marker_core.specs.declared.states.Body.{Body}
+use Rattle.page_words.specs.Bodies.{kind_in}
 use Rattle.page_words.specs.Seat.{SeatView, IsWordAt, IsView}
 use Rattle.member_fields.specs.Words.{HasWord, HasWordOfSomeKind, IsWordIn}
 use Rattle.page_words.specs.BodyPlaces.{whole_body, same_body}

@@ -6,7 +6,9 @@ use Rattle.std.proofs.lemmas.List.{get_or-map, length-map}
 use Rattle.gc_graph.specs.declared.kind.Kind.TheVariants.{Pair}
 use Rattle.object_headers.specs.Offsets.{reference_to}
 use Rattle.type_table.specs.Types.{is_kind}
-use Rattle.page_words.specs.Bodies.{Body, IsReference, IsPlainWord, IsKeyWord, SuitsItsPair, MayHold, kind_in, fields_at}
+use Rattle.marker_core.specs.Bodies.{IsReference, fields_at}
+use Rattle.marker_core.specs.declared.states.Body.{Body}
+use Rattle.page_words.specs.Bodies.{IsPlainWord, IsKeyWord, SuitsItsPair, MayHold, kind_in}
 use Rattle.page_words.specs.Seat.{SeatView, IsView}
 use Rattle.member_fields.specs.Words.{HasWord, HasLoneWord, HasPair, IsWordIn, with_word_in, written}
 use Rattle.page_words.specs.BodyPlaces.{whole_body, same_body}

@@ -4,8 +4,10 @@ use Rattle.std.proofs.lemmas.Bool.{and_parts, and_from, both_ways, leb-true, ltb
 use Rattle.std.proofs.lemmas.List.{get_or-set_same, get_or-set_other, get_or-map, length-map}
 use Rattle.std.proofs.lemmas.List.Elements.{All-contains, All-map, Contains-get_or}
 use Rattle.gc_graph.specs.declared.kind.Kind.{Kind}
-use Rattle.page_words.specs.Bodies.{Body, end_of, with_word, kind_in}
-use Rattle.page_words.specs.Seat.{SeatView, IsView, stored}
+use Rattle.marker_core.specs.Bodies.{end_of, with_word}
+use Rattle.marker_core.specs.declared.states.Body.{Body}
+use Rattle.page_words.specs.Bodies.{kind_in}
+use Rattle.page_words.specs.Seat.{SeatView, IsView, stored, with_bodies}
 use Rattle.member_fields.specs.Words.{HasWord, HasWordOfSomeKind, IsWordIn, with_word_in, written}
 use Rattle.page_words.specs.BodyPlaces.{whole_body, same_body}
 
@@ -23,7 +25,7 @@ body_with_word : (v : SeatView) (holder word w : ℕ) → IsView v → HasWordOf
 body_with_word v holder word w is has b there =
     let a : ℕ = holder + word in
     let by_place : Body = with_word_in holder word w b in
-    cond_both (has_address a b) (record b { fields = set b.fields (a - (b.place + 2)) w }) b (λ c. c ≡ by_place)
+    cond_both (has_address a b) (set b.fields (a - (b.place + 2)) w) b.fields (λ fields. record b { fields = fields } ≡ by_place)
     (λ on.
     let parts = and_parts (leb (b.place + 2) a) (ltb a (end_of b)) on in
     let low : b.place + 2 ≤ a = leb-true (b.place + 2) a parts.0 in
@@ -45,7 +47,7 @@ body_with_word v holder word w is has b there =
 
 pub stored_word : (v : SeatView) (holder word w : ℕ) → IsView v → HasWordOfSomeKind v holder word → stored v (holder + word) w ≡ written v holder word w
 stored_word v holder word w is has =
-    ap (λ (bodies : List Body). record v { bodies = bodies })
+    ap (λ (bodies : List Body). with_bodies v bodies)
     (each_same (with_word (holder + word) w) (with_word_in holder word w) v.bodies (body_with_word v holder word w is has))
 
 -- ---- what the words are after a write

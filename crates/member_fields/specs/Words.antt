@@ -3,8 +3,9 @@ use Rattle.std.specs.Prelude.{◌≡◌, ℕ, ◌+◌, ◌-◌, ◌<◌, ◌≤�
 use Rattle.gc_graph.specs.declared.kind.Kind.{Kind}
 use Rattle.gc_graph.specs.declared.kind.Kind.TheVariants.{Pair}
 use Rattle.object_headers.specs.Offsets.{first_field}
-use Rattle.page_words.specs.Bodies.{Body, IsKeyWord, kind_in}
-use Rattle.page_words.specs.Seat.{SeatView}
+use Rattle.marker_core.specs.declared.states.Body.{Body}
+use Rattle.page_words.specs.Bodies.{IsKeyWord, kind_in}
+use Rattle.page_words.specs.Seat.{SeatView, with_bodies}
 
 -- the object at `holder` has a field word at this offset, and the kind of the word passes the test
 pub record HasWord (is_so : Kind → Bool) (v : SeatView) (holder word : ℕ) : Type 0 where
@@ -42,7 +43,7 @@ with_word_in holder word w b = if b.place == holder then record b { fields = sli
 
 -- the word at this offset of the object at `holder` was written, and no other
 abbrev pub written : SeatView → ℕ → ℕ → ℕ → SeatView
-written v holder word w = record v { bodies = map (with_word_in holder word w) v.bodies }
+written v holder word w = with_bodies v (map (with_word_in holder word w) v.bodies)
 
 -- both words of the pair whose key is at this offset were written, and no other
 abbrev pub pair_written : SeatView → ℕ → ℕ → ℕ → ℕ → SeatView

@@ -4,7 +4,7 @@ ghost use Rattle.std.specs.Prelude.{◌≡◌, ◌+◌};
 ghost use Rattle.gc_graph.specs.declared.kind.Kind.TheVariants.{Strong};
 ghost use Rattle.gc_graph.specs.Fields.{is_reference};
 ghost use Rattle.type_table.specs.Types.{is_kind};
-ghost use Rattle.page_words.specs.Bodies.{IsReference};
+ghost use Rattle.marker_core.specs.Bodies.{IsReference};
 ghost use Rattle.page_words.specs.Seat.{stored};
 ghost use Rattle.page_space.specs.Space.{IsSeatOf};
 ghost use Rattle.member_fields.specs.Words.{HasWord, IsWordIn, written};

@@ -1,7 +1,7 @@
 // Ephemeron pairs (`include/cppgc/ephemeron-pair.h`).
 
 ghost use Rattle.std.specs.Prelude.{◌≡◌, ◌↔◌, ◌+◌};
-ghost use Rattle.page_words.specs.Bodies.{IsReference};
+ghost use Rattle.marker_core.specs.Bodies.{IsReference};
 ghost use Rattle.page_words.specs.Seat.{stored};
 ghost use Rattle.page_space.specs.Space.{IsSeatOf};
 ghost use Rattle.member_fields.specs.Words.{HasPair, IsWordIn, pair_written};

@@ -3,7 +3,8 @@
 ghost use Rattle.std.specs.Prelude.{◌≡◌, ◌↔◌, ◌⊎◌, ℕ, ◌+◌, ◌≤◌, Bool, true};
 ghost use Rattle.gc_graph.specs.declared.kind.Kind.{Kind};
 ghost use Rattle.object_headers.specs.Offsets.{first_field};
-ghost use Rattle.page_words.specs.Bodies.{IsPlainWord, IsReference};
+ghost use Rattle.marker_core.specs.Bodies.{IsReference};
+ghost use Rattle.page_words.specs.Bodies.{IsPlainWord};
 ghost use Rattle.page_words.specs.Seat.{stored};
 ghost use Rattle.page_space.specs.Space.{IsSeatOf};
 ghost use Rattle.member_fields.specs.Words.{HasWord, HasWordOfSomeKind, HasLoneWord, HasPair};

@@ -1,8 +1,9 @@
 -- Bodies that change and stay where they are, with their sizes.
 use Rattle.std.proofs.Common.{◌≡◌, not, List, [], ◌∷◌, map, refl, sym, ap, ◌∙◌, subst}
 use Rattle.gc_graph.specs.Members.{Contains-map_some}
-use Rattle.page_words.specs.Bodies.{Body}
-use Rattle.page_words.specs.Seat.{SeatView, holds}
+use Rattle.marker_core.specs.declared.states.Body.{Body}
+use Rattle.marker_core.specs.Bodies.{holds}
+use Rattle.page_words.specs.Seat.{SeatView, with_bodies}
 use Rattle.page_space.specs.Space.{extents_of_bodies}
 use Rattle.nodes_in_words.specs.Places.{IsJudged}
 
@@ -18,7 +19,7 @@ same_extents change keeps (b ∷ bodies) =
     ∙ ap (λ s. record { place = b.place; size = s } ∷ extents_of_bodies (map change bodies)) is.1
     ∙ ap (λ es. record { place = b.place; size = b.size } ∷ es) (same_extents change keeps bodies)
 
-pub judged_changed : (change : Body → Body) → KeepsExtents change → (v : SeatView) → IsJudged v → IsJudged (record v { bodies = map change v.bodies })
+pub judged_changed : (change : Body → Body) → KeepsExtents change → (v : SeatView) → IsJudged v → IsJudged (with_bodies v (map change v.bodies))
 judged_changed change keeps v is b there =
     let from = Contains-map_some change v.bodies b there in
     subst (λ p. holds v.dead p ≡ not (holds v.marked p)) (sym (keeps from.0).0 ∙ ap (λ (c : Body). c.place) from.2) (is from.0 from.1)

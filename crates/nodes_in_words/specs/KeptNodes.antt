@@ -14,7 +14,7 @@ use Rattle.gc_graph.specs.Members.{Contains-cons_cases, Contains-cons, Contains-
 use Rattle.gc_graph.specs.NodeNumbers.{there_below, object_of_node}
 use Rattle.gc_graph.specs.Leading.{IsLed, is_led, led_named, nowhere}
 use Rattle.persistent_slots.specs.Clearing.{taken}
-use Rattle.page_words.specs.Bodies.{IsPlace}
+use Rattle.marker_core.specs.Bodies.{IsPlace}
 use Rattle.page_words.specs.Seat.{SeatView}
 use Rattle.nodes_in_words.specs.Nodes.{place_of, body_of, bodies_of, AreOfValid}
 use Rattle.nodes_in_words.specs.Places.{kept_of, places_of}

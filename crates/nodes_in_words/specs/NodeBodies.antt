@@ -6,7 +6,7 @@ use Rattle.std.proofs.lemmas.List.Sums.{sum_by-cons}
 use Rattle.gc_graph.specs.State.{Node, node_at, is_there, size_of, objects_of, used_of}
 use Rattle.gc_graph.specs.Placement.{extents_of}
 use Rattle.gc_graph.specs.Members.{Contains-cons, Contains-head, Contains-cons_cases}
-use Rattle.page_words.specs.Bodies.{Body}
+use Rattle.marker_core.specs.declared.states.Body.{Body}
 use Rattle.page_space.specs.Space.{extents_of_bodies}
 use Rattle.nodes_in_words.specs.Nodes.{body_of, bodies_from, IsThere}
 

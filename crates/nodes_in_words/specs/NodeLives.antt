@@ -8,8 +8,9 @@ use Rattle.gc_graph.specs.State.{Node, Life, node_at, is_there, is_live, is_dead
 use Rattle.gc_graph.specs.State.Life.{Live, Dead, Gone}
 use Rattle.gc_graph.specs.Pause.{judged, condemn, live_count, dead_count}
 use Rattle.gc_graph.specs.Condemning.{judged_gone}
-use Rattle.page_words.specs.Bodies.{Body}
-use Rattle.page_words.specs.Seat.{SeatView, holds}
+use Rattle.marker_core.specs.declared.states.Body.{Body}
+use Rattle.marker_core.specs.Bodies.{holds}
+use Rattle.page_words.specs.Seat.{SeatView}
 use Rattle.nodes_in_words.specs.Nodes.{place_of, body_of, bodies_from, IsThere, IsHeld}
 use Rattle.nodes_in_words.specs.Places.{kept_of}
 use Rattle.nodes_in_words.specs.NodeBodies.{bodies-there, bodies-gone}

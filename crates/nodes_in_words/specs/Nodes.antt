@@ -6,8 +6,9 @@ use Rattle.gc_graph.specs.State.{Setup, State, Node, node_at, is_there, is_dead,
 pub use Rattle.gc_graph.specs.Valid.{IsThere}
 use Rattle.gc_graph.specs.Valid.{IsValid}
 use Rattle.object_headers.specs.Offsets.{reference_to}
-use Rattle.page_words.specs.Bodies.{Body}
-use Rattle.page_words.specs.Seat.{SeatView, holds}
+use Rattle.marker_core.specs.declared.states.Body.{Body}
+use Rattle.marker_core.specs.Bodies.{holds}
+use Rattle.page_words.specs.Seat.{SeatView}
 
 -- where the node with this number lies
 abbrev pub place_of : List Node → ℕ → ℕ

@@ -9,7 +9,7 @@ use Rattle.gc_graph.specs.declared.kind.Value.{Value}
 use Rattle.gc_graph.specs.Fields.{is_plain}
 use Rattle.gc_graph.specs.Valid.{HaveKinds, IsReferenceBelow}
 use Rattle.type_table.specs.Layouts.{kinds_of_words}
-use Rattle.page_words.specs.Bodies.{IsReference}
+use Rattle.marker_core.specs.Bodies.{IsReference}
 use Rattle.page_words.specs.Seat.{SeatView}
 use Rattle.nodes_in_words.specs.Nodes.{word_of}
 

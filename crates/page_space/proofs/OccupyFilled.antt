@@ -4,36 +4,37 @@ use Rattle.std.specs.List.{Contains, filter}
 use Rattle.std.proofs.lemmas.Bool.{ne_eqb, cond-true, cond-false, cases_lt, cases_Bool, false_from_ne_true, both_ways, and_from, le-leb, lt-ltb, not_from_false, not-true}
 use Rattle.std.proofs.lemmas.List.{length-replicate, get_or-replicate}
 use Rattle.object_headers.specs.Layout.{header_word}
-use Rattle.page_words.specs.Seat.{Filled, SeatView, IsReady, filled_with, nulled, published}
-use Rattle.page_words.specs.Bodies.{Body, end_of}
+use Rattle.page_words.specs.Seat.{SeatView, IsReady, filled_with, nulled, published}
+use Rattle.marker_core.specs.Bodies.{end_of}
+use Rattle.marker_core.specs.declared.states.Body.{Body}
 use Rattle.page_space.specs.Occupying.{HasNulls, IsRoom, Occupies, new_body}
 use Rattle.gc_graph.specs.Members.{Contains-cons, Contains-head, stays_in}
 
 -- the word just filled, and a word filled before elsewhere
-pub filled_here : (v : SeatView) (a w : ℕ) → Contains (filled_with v a w).filled (record { address = a; word = w })
-filled_here v a w = Contains-head (record { address = a; word = w }) (filter (λ f. not (eqb f.address a)) v.filled)
+pub filled_here : (v : SeatView) (a w : ℕ) → Contains (filled_with v a w).filled (a, w)
+filled_here v a w = Contains-head (a, w) (filter (λ f. not (eqb f.0 a)) v.filled)
 
-pub filled_before : (v : SeatView) (a w : ℕ) (f : Filled) → (f.address ≡ a → ⊥) → Contains v.filled f → Contains (filled_with v a w).filled f
+pub filled_before : (v : SeatView) (a w : ℕ) (f : ℕ × ℕ) → (f.0 ≡ a → ⊥) → Contains v.filled f → Contains (filled_with v a w).filled f
 filled_before v a w f other h =
-    Contains-cons (record { address = a; word = w }) (filter (λ g. not (eqb g.address a)) v.filled) f
-    (stays_in (λ g. not (eqb g.address a)) v.filled f h (ap not (ne_eqb f.address a other)))
+    Contains-cons (a, w) (filter (λ g. not (eqb g.0 a)) v.filled) f
+    (stays_in (λ g. not (eqb g.0 a)) v.filled f h (ap not (ne_eqb f.0 a other)))
 
 pub nulls_more : (v : SeatView) (first count next : ℕ) → next ≡ first + count → HasNulls v.filled first count
     → HasNulls (filled_with v next 0).filled first (count + 1)
 nulls_more v first count next at nulls i below =
     elim (cases_lt i count) [
-      | inl earlier ↦ filled_before v next 0 (record { address = first + i; word = 0 }) (λ e. let same : first + i ≡ next = e in omega arith) (nulls i earlier)
+      | inl earlier ↦ filled_before v next 0 (first + i, 0) (λ e. let same : first + i ≡ next = e in omega arith) (nulls i earlier)
       | inr now ↦
           (let same : next ≡ first + i = omega arith in
-          subst (λ x. Contains (filled_with v next 0).filled (record { address = x; word = 0 })) same (filled_here v next 0))
+          subst (λ x. Contains (filled_with v next 0).filled (x, 0)) same (filled_here v next 0))
     ]
 
 -- a fill changes the filled words alone
-pub only_filled : (old v now : SeatView) (a w : ℕ) → v ≡ record old { filled = v.filled } → now ≡ filled_with v a w
-    → now ≡ record old { filled = now.filled }
+pub only_filled : (old v now : SeatView) (a w : ℕ) → v ≡ record old { mutator = record old.mutator { filled = v.filled } } → now ≡ filled_with v a w
+    → now ≡ record old { mutator = record old.mutator { filled = now.filled } }
 only_filled old v now a w rest fills =
-    let others = λ (u : SeatView). let with : SeatView = record u { filled = (filled_with v a w).filled } in with in
-    let words = λ (fs : List Filled). let with : SeatView = record old { filled = fs } in with in
+    let others = λ (u : SeatView). let with : SeatView = record u { mutator = record u.mutator { filled = (filled_with v a w).filled } } in with in
+    let words = λ (fs : List (ℕ × ℕ)). let with : SeatView = record old { mutator = record old.mutator { filled = fs } } in with in
     fills ∙ ap others rest ∙ ap words (sym (ap (λ u. u.filled) fills))
 
 -- so are several, one after the other
@@ -44,7 +45,7 @@ nulls_filled v a (suc n) =
     let next : n + 1 ≡ suc n = omega arith in
     subst (HasNulls (nulled v a (suc n)).filled a) next (nulls_more (nulled v a n) a n (a + n) refl (nulls_filled v a n))
 
-pub only_nulled : (v : SeatView) (a n : ℕ) → nulled v a n ≡ record v { filled = (nulled v a n).filled }
+pub only_nulled : (v : SeatView) (a n : ℕ) → nulled v a n ≡ record v { mutator = record v.mutator { filled = (nulled v a n).filled } }
 unfolding nulled
 only_nulled v a zero = refl
 only_nulled v a (suc n) = only_filled v (nulled v a n) (nulled v a (suc n)) (a + n) 0 (only_nulled v a n) refl
@@ -52,10 +53,10 @@ only_nulled v a (suc n) = only_filled v (nulled v a n) (nulled v a (suc n)) (a +
 -- ---- what stays filled
 
 -- a word that is filled elsewhere than in the body
-abbrev is_outside : Body → Filled → Bool
-is_outside b f = not (leb b.place f.address && ltb f.address (end_of b))
+abbrev is_outside : Body → ℕ × ℕ → Bool
+is_outside b f = not (leb b.place f.0 && ltb f.0 (end_of b))
 
-filter_within : (p q : Filled → Bool) → ((f : Filled) → p f ≡ true → q f ≡ true) → (fs : List Filled) → filter p (filter q fs) ≡ filter p fs
+filter_within : (p q : ℕ × ℕ → Bool) → ((f : ℕ × ℕ) → p f ≡ true → q f ≡ true) → (fs : List (ℕ × ℕ)) → filter p (filter q fs) ≡ filter p fs
 filter_within p q within [] = refl
 filter_within p q within (f ∷ fs) = elim (cases_Bool (q f)) [
   | inl kept ↦
@@ -70,14 +71,14 @@ filter_within p q within (f ∷ fs) = elim (cases_Bool (q f)) [
 -- a word filled in the body is none of those that stay filled
 fill_inside : (v : SeatView) (b : Body) (a w : ℕ) → b.place ≤ a → a < end_of b → (published (filled_with v a w) b).filled ≡ (published v b).filled
 fill_inside v b a w low high =
-    let others : List Filled = filter (λ f. not (eqb f.address a)) v.filled in
-    let word : Filled = record { address = a; word = w } in
+    let others : List (ℕ × ℕ) = filter (λ f. not (eqb f.0 a)) v.filled in
+    let word : ℕ × ℕ = (a, w) in
     cond-false (is_outside b word) (word ∷ filter (is_outside b) others) (filter (is_outside b) others)
     (ap not (and_from (leb b.place a) (ltb a (end_of b)) (le-leb b.place a low) (lt-ltb a (end_of b) high)))
-    ∙ filter_within (is_outside b) (λ f. not (eqb f.address a))
-    (λ f out. not_from_false (eqb f.address a) (ne_eqb f.address a
-    (λ same. both_ways (leb b.place f.address && ltb f.address (end_of b)) (not-true _ out)
-    (and_from _ _ (le-leb b.place f.address (omega arith)) (lt-ltb f.address (end_of b) (omega arith)))))) v.filled
+    ∙ filter_within (is_outside b) (λ f. not (eqb f.0 a))
+    (λ f out. not_from_false (eqb f.0 a) (ne_eqb f.0 a
+    (λ same. both_ways (leb b.place f.0 && ltb f.0 (end_of b)) (not-true _ out)
+    (and_from _ _ (le-leb b.place f.0 (omega arith)) (lt-ltb f.0 (end_of b) (omega arith)))))) v.filled
 
 pub nulls_inside : (v : SeatView) (b : Body) (a n : ℕ) → b.place ≤ a → a + n ≤ end_of b → (published (nulled v a n) b).filled ≡ (published v b).filled
 unfolding nulled
@@ -100,7 +101,7 @@ head_occupies old new b a header serial at least is = record {
 }
 
 -- what is filled in a body before it joins the others is nothing to it
-pub occupies_before : (old mid new : SeatView) (fs : List Filled) (b : Body) → mid ≡ record old { filled = fs }
+pub occupies_before : (old mid new : SeatView) (fs : List (ℕ × ℕ)) (b : Body) → mid ≡ record old { mutator = record old.mutator { filled = fs } }
     → filter (is_outside b) fs ≡ filter (is_outside b) old.filled → Occupies mid new b → Occupies old new b
 occupies_before old mid new fs b rest inside joins = record {
   count = joins.count ∙ ap (λ (v : SeatView). v.count) rest;
@@ -122,13 +123,13 @@ ready_to_publish old a ty size serial room small least most nulls =
     let inside : a + size ≤ old.count = room.inside in
     record {
       header = filled_before (filled_with old a (header_word true false false ty size)) (a + 1) serial
-          (record { address = a; word = header_word true false false ty size }) (λ e. let same : a ≡ a + 1 = e in omega arith)
+          (a, header_word true false false ty size) (λ e. let same : a ≡ a + 1 = e in omega arith)
           (filled_here old a (header_word true false false ty size));
       serial = filled_here (filled_with old a (header_word true false false ty size)) (a + 1) serial;
       fields = λ i below.
           let low : i < size - 2 = omega (arith, length-replicate {A = ℕ} (size - 2) 0) in
-          let word : Filled = record { address = a + 2 + i; word = get_or (replicate (size - 2) 0) i 0 } in
-          let null : Contains old.filled word = subst (λ w. Contains old.filled (record { address = a + 2 + i; word = w })) (sym (get_or-replicate (size - 2) i 0 0 low)) (nulls i low) in
+          let word : ℕ × ℕ = (a + 2 + i, get_or (replicate (size - 2) 0) i 0) in
+          let null : Contains old.filled word = subst (λ w. Contains old.filled (a + 2 + i, w)) (sym (get_or-replicate (size - 2) i 0 0 low)) (nulls i low) in
           filled_before (filled_with old a (header_word true false false ty size)) (a + 1) serial word (λ e. let same : a + 2 + i ≡ a + 1 = e in omega arith)
           (filled_before old a (header_word true false false ty size) word (λ e. let same : a + 2 + i ≡ a = e in omega arith) null);
       null = λ i below _. get_or-replicate (size - 2) i 0 0 (omega (arith, length-replicate {A = ℕ} (size - 2) 0));

@@ -6,7 +6,8 @@ use Rattle.std.proofs.lemmas.Bool.{cases_lt}
 use Rattle.std.proofs.Math.Nat.{mul-le-mul_right}
 use Rattle.gc_graph.specs.Placement.{Extent, bucket_of}
 use Rattle.gc_graph.specs.PlacementLaw.{TakesPages}
-use Rattle.page_words.specs.Bodies.{Body, IsPlace, end_of}
+use Rattle.marker_core.specs.Bodies.{IsPlace, end_of}
+use Rattle.marker_core.specs.declared.states.Body.{Body}
 use Rattle.page_words.specs.Seat.{SeatView, IsView}
 use Rattle.page_space.specs.Pages.{is_in_page}
 use Rattle.page_space.specs.Space.{SpaceView, IsSpaceOver, HoldsAddress, HasNoStart, IsLastStart, extent_of, extents_of_bodies}

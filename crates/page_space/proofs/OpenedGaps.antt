@@ -5,7 +5,8 @@ use Rattle.std.proofs.lemmas.Bool.{cases_eq, cases_lt}
 use Rattle.gc_graph.specs.State.{Shape}
 use Rattle.gc_graph.specs.Shapes.{IsShape}
 use Rattle.gc_graph.specs.Placement.{Extent, IsTaken}
-use Rattle.page_words.specs.Bodies.{Body, end_of, IsPlace}
+use Rattle.marker_core.specs.Bodies.{end_of, IsPlace}
+use Rattle.marker_core.specs.declared.states.Body.{Body}
 use Rattle.page_words.specs.Seat.{SeatView, IsView}
 use Rattle.gap_bounds.specs.Gaps.{IsGap}
 use Rattle.gap_bounds.specs.Changes.{GapsOpened}

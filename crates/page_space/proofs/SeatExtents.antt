@@ -1,9 +1,10 @@
 -- The bodies of a seat as extents.
-use Rattle.std.proofs.Common.{◌≡◌, ℕ, ◌+◌, not, List, [], ◌∷◌, map, refl, sym, ap, ◌∙◌, subst, inl, inr, cond, eqb, leb, ltb, ◌&&◌, ◌-◌, set}
+use Rattle.std.proofs.Common.{◌≡◌, ℕ, not, List, [], ◌∷◌, map, refl, sym, ap, ◌∙◌, subst, inl, inr, cond, eqb}
 use Rattle.std.specs.List.{Contains, filter}
 use Rattle.std.proofs.lemmas.Bool.{cases_Bool}
 use Rattle.gc_graph.specs.Placement.{Extent, HasWord}
-use Rattle.page_words.specs.Bodies.{Body, end_of, with_word}
+use Rattle.marker_core.specs.Bodies.{with_word}
+use Rattle.marker_core.specs.declared.states.Body.{Body}
 use Rattle.page_words.specs.Seat.{SeatView, IsView}
 use Rattle.page_space.specs.Space.{SpaceView, IsSpaceOver, IsSpaceOf, extent_of, extents_of_bodies}
 use Rattle.page_space.proofs.PlaceBodies.{body_of_extent}
@@ -33,11 +34,7 @@ extents_filter (b ∷ bodies) a =
     ]
 
 word_keeps : (a w : ℕ) (b : Body) → extent_of (with_word a w b) ≡ extent_of b
-word_keeps a w b =
-    elim (cases_Bool (leb (b.place + 2) a && ltb a (end_of b))) [
-      | inl inside ↦ ap (λ t. extent_of (cond t (record b { fields = set b.fields (a - (b.place + 2)) w }) b)) inside
-      | inr outside ↦ ap (λ t. extent_of (cond t (record b { fields = set b.fields (a - (b.place + 2)) w }) b)) outside
-    ]
+word_keeps a w b = refl
 
 pub stored_keeps : (bodies : List Body) (a w : ℕ) → extents_of_bodies (map (with_word a w) bodies) ≡ extents_of_bodies bodies
 stored_keeps [] a w = refl

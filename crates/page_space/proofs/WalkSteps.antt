@@ -4,7 +4,8 @@ use Rattle.std.specs.List.{Contains}
 use Rattle.std.proofs.lemmas.Bool.{cases_lt}
 use Rattle.gc_graph.specs.State.{Shape}
 use Rattle.gc_graph.specs.Placement.{IsTaken}
-use Rattle.page_words.specs.Bodies.{Body, end_of, IsPlace, IsInBody}
+use Rattle.marker_core.specs.Bodies.{end_of, IsPlace, IsInBody}
+use Rattle.marker_core.specs.declared.states.Body.{Body}
 use Rattle.page_words.specs.Seat.{SeatView, IsView}
 use Rattle.page_space.specs.Space.{HasNoStart, HoldsWhole, extents_of_bodies}
 use Rattle.gap_bounds.specs.Gaps.{IsGap}

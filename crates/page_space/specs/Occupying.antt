@@ -1,8 +1,9 @@
 -- A new object in free words.
 use Rattle.std.specs.Prelude.{◌≡◌, ℕ, ◌+◌, ◌-◌, ◌<◌, ◌≤◌, List, [], ◌∷◌, ◌++◌, replicate, Contains}
 use Rattle.object_headers.specs.Offsets.{first_field}
-use Rattle.page_words.specs.Bodies.{Body, IsInBody}
-use Rattle.page_words.specs.Seat.{SeatView, Filled, published}
+use Rattle.marker_core.specs.Bodies.{IsInBody}
+use Rattle.marker_core.specs.declared.states.Body.{Body}
+use Rattle.page_words.specs.Seat.{SeatView, published}
 
 -- words of the heap from a that belong to no object
 pub record IsRoom (v : SeatView) (size a : ℕ) : Type 0 where
@@ -14,8 +15,8 @@ abbrev pub new_body : ℕ → ℕ → ℕ → ℕ → Body
 new_body a ty size serial = record { place = a; ty = ty; size = size; serial = serial; fields = replicate (size - first_field) 0 }
 
 -- so many words from `first` were filled with null
-abbrev pub HasNulls : List Filled → ℕ → ℕ → Type 0
-HasNulls filled first count = (i : ℕ) → i < count → Contains filled (record { address = first + i; word = 0 })
+abbrev pub HasNulls : List (ℕ × ℕ) → ℕ → ℕ → Type 0
+HasNulls filled first count = (i : ℕ) → i < count → Contains filled (first + i, 0)
 
 -- the body joined the others, words that were filled in it are no longer filled ones, and marking is as before
 pub record Occupies (old new : SeatView) (b : Body) : Type 0 where

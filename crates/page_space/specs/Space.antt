@@ -4,8 +4,9 @@ use Rattle.gc_graph.specs.State.{Shape}
 use Rattle.gc_graph.specs.Placement.{Extent, IsRun, UsesPage, IsEmptyPage, Fits, StartsEmptyRun, bucket_of}
 use Rattle.gc_graph.specs.PlacementLaw.{LiesInPage, TakesPages}
 use Rattle.object_headers.specs.declared.header.Header.{Header}
-use Rattle.page_words.specs.Bodies.{Body, end_of, IsPlace}
-use Rattle.page_words.specs.Seat.{SeatView, holds, block_words}
+use Rattle.marker_core.specs.Bodies.{end_of, IsPlace, holds}
+use Rattle.marker_core.specs.declared.states.Body.{Body}
+use Rattle.page_words.specs.Seat.{SeatView, block_words}
 use Rattle.page_space.specs.Pages.{PageTable, word_count, first_page, is_in_page, free_words}
 use Rattle.gap_bounds.specs.Gaps.{GapTable, KnowsGaps}
 

@@ -2,7 +2,8 @@
 use Rattle.std.specs.Prelude.{ℕ, ◌+◌, ◌*◌, ◌/◌, ◌<◌, ◌≤◌, List, Contains}
 use Rattle.gc_graph.specs.State.{Shape}
 use Rattle.gc_graph.specs.Placement.{Extent}
-use Rattle.page_words.specs.Bodies.{Body, end_of}
+use Rattle.marker_core.specs.Bodies.{end_of}
+use Rattle.marker_core.specs.declared.states.Body.{Body}
 use Rattle.page_words.specs.Seat.{block_words}
 use Rattle.gap_bounds.specs.Gaps.{IsGap}
 

@@ -2,8 +2,9 @@
 
 ghost use Rattle.std.specs.Prelude.{◌≡◌, ℕ, ◌+◌, ◌-◌, ◌^◌, ◌<◌, ◌≤◌, false, true};
 ghost use Rattle.object_headers.specs.Offsets.{first_field};
-ghost use Rattle.page_words.specs.Bodies.{Body};
-ghost use Rattle.page_words.specs.Seat.{holds, retracted};
+ghost use Rattle.marker_core.specs.declared.states.Body.{Body};
+ghost use Rattle.marker_core.specs.Bodies.{holds};
+ghost use Rattle.page_words.specs.Seat.{retracted};
 ghost use Rattle.page_space.specs.Space.{IsSeatOf, IsSpaceOf, IsFreePlace, extents_of_bodies};
 ghost use Rattle.page_space.specs.Occupying.{IsRoom, HasNulls, Occupies, new_body};
 

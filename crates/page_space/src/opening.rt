@@ -2,7 +2,7 @@
 // was known of the page holds no longer: to look further would cost more than it saves.
 
 ghost use Rattle.std.specs.Prelude.{◌≡◌, ◌+◌, ◌*◌, ◌/◌, ◌<◌, ◌≤◌, IfSome, Contains};
-ghost use Rattle.page_words.specs.Bodies.{IsPlace};
+ghost use Rattle.marker_core.specs.Bodies.{IsPlace};
 ghost use Rattle.gap_bounds.specs.Gaps.{KnowsGaps};
 ghost use Rattle.gap_bounds.specs.Changes.{GapsOpened};
 ghost use Rattle.page_space.specs.Pages.{word_count};

@@ -2,7 +2,7 @@
 
 ghost use Rattle.std.specs.Prelude.{◌≡◌, ℕ, ◌+◌, ◌*◌, ◌/◌, ◌<◌, ◌≤◌, IfSome, IfNone, min};
 ghost use Rattle.gc_graph.specs.Placement.{IsLowest, IsNowhere};
-ghost use Rattle.page_words.specs.Bodies.{IsInBody};
+ghost use Rattle.marker_core.specs.Bodies.{IsInBody};
 ghost use Rattle.page_words.specs.Seat.{block_words};
 ghost use Rattle.gap_bounds.specs.Changes.{HasGroups};
 ghost use Rattle.page_space.specs.Pages.{word_count};

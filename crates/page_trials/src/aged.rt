@@ -1,7 +1,7 @@
 // A heap in which the older objects are dead, and may be freed one at a time in any order.
 
 ghost use Rattle.std.specs.Prelude.{◌≡◌, ◌^◌, ◌<◌, ◌≤◌};
-ghost use Rattle.page_words.specs.Seat.{without};
+ghost use Rattle.marker_core.specs.Bodies.{without};
 ghost use Rattle.gc_graph.specs.Shapes.{IsShape};
 
 use crate::plain;

@@ -5,7 +5,7 @@ use mir.Syntax.{w64}
 use Rattle.std.proofs.lemmas.Nat.Bits.{bit_at_set_same, bit_at_set_other, bit_at_clear_same, bit_at_clear_other}
 use Rattle.std.proofs.lemmas.Bool.{cases_eq}
 use Rattle.std.proofs.lemmas.List.{get_or-set_same, get_or-set_other}
-use Rattle.page_words.specs.Seat.{bitmap_at}
+use Rattle.marker_core.specs.Layout.{bitmap_at}
 
 -- where the word at a's start bit changes in no other bit, the start bits of other places stay
 pub other_start_kept : (words : List ℕ) (count a p w : ℕ) → bitmap_at count a < length words

@@ -3,8 +3,10 @@ use Rattle.std.proofs.Common.{◌≡◌, ℕ, ◌+◌, ◌/◌, ◌%◌, ◌<◌
 use mathlib.Core.Logic.{◌↔◌, ◌⊎◌}
 use Rattle.std.proofs.lemmas.Bool.{eqb-false, not-true}
 use Rattle.std.proofs.lemmas.List.{length-set, get_or-set_same, get_or-set_other}
-use Rattle.page_words.specs.Bodies.{Body, IsPlace, IsInBody}
-use Rattle.page_words.specs.Seat.{SeatView, Filled, IsView, bitmap_at, stop_at, filled_with}
+use Rattle.marker_core.specs.Bodies.{IsPlace, IsInBody}
+use Rattle.marker_core.specs.declared.states.Body.{Body}
+use Rattle.marker_core.specs.Layout.{bitmap_at, stop_at}
+use Rattle.page_words.specs.Seat.{SeatView, IsView, filled_with}
 use Rattle.page_words.specs.Ties.{Ties}
 use Rattle.gc_graph.specs.Members.{Contains-cons_cases, was_in, has_passed}
 use Rattle.page_words.proofs.Places.{later_word_kept}
@@ -14,13 +16,13 @@ outside_kept : (words : List ℕ) (v : SeatView) (a w : ℕ) → (IsInBody v.bod
     → get_or (set words a w) (b.place + i) 0 ≡ get_or words (b.place + i) 0
 outside_kept words v a w outside b i h below = get_or-set_other words a (b.place + i) w 0 (λ e. outside (b, h, omega arith, omega arith))
 
-filled_cases : (v : SeatView) (a w : ℕ) (f : Filled) → Contains (filled_with v a w).filled f
-    → ((a ≡ f.address) × (w ≡ f.word)) ⊎ (Contains v.filled f × (f.address ≡ a → ⊥))
-filled_cases v a w f h = elim (Contains-cons_cases (record { address = a; word = w }) (filter (λ (g : Filled). not (eqb g.address a)) v.filled) f h) [
-  | inl same ↦ inl (ap (λ (g : Filled). g.address) same, ap (λ (g : Filled). g.word) same)
+filled_cases : (v : SeatView) (a w : ℕ) (f : ℕ × ℕ) → Contains (filled_with v a w).filled f
+    → ((a ≡ f.0) × (w ≡ f.1)) ⊎ (Contains v.filled f × (f.0 ≡ a → ⊥))
+filled_cases v a w f h = elim (Contains-cons_cases (a, w) (filter (λ (g : ℕ × ℕ). not (eqb g.0 a)) v.filled) f h) [
+  | inl same ↦ inl (ap (λ (g : ℕ × ℕ). g.0) same, ap (λ (g : ℕ × ℕ). g.1) same)
   | inr rest ↦ inr (
-    was_in (λ (g : Filled). not (eqb g.address a)) v.filled f rest,
-    eqb-false f.address a (not-true (eqb f.address a) (has_passed (λ (g : Filled). not (eqb g.address a)) v.filled f rest)),
+    was_in (λ (g : ℕ × ℕ). not (eqb g.0 a)) v.filled f rest,
+    eqb-false f.0 a (not-true (eqb f.0 a) (has_passed (λ (g : ℕ × ℕ). not (eqb g.0 a)) v.filled f rest)),
   )
 ]
 
@@ -58,7 +60,7 @@ fills words v a w t below outside =
         | inl same ↦
             (let within : a < length words = omega (arith, t.length_is) in
             ap (λ x. get_or (set words a w) x 0) (sym same.0) ∙ get_or-set_same words a w 0 within ∙ same.1)
-        | inr rest ↦ get_or-set_other words a f.address w 0 rest.1 ∙ t.filled_match f rest.0
+        | inr rest ↦ get_or-set_other words a f.0 w 0 rest.1 ∙ t.filled_match f rest.0
       ];
       starts_match = λ p l.
           subst (λ n. (n / 2 ^ (p % 64) % 2 ≡ 1) ↔ IsPlace v.bodies p)

@@ -2,9 +2,10 @@
 use Rattle.std.proofs.Common.{◌≡◌, ℕ, Bool, List, [], ◌∷◌, ◌++◌, get_or, set, true, false, not, eqb, refl, sym, ap, ◌∙◌, subst, inl, inr, arith, Contains}
 use Rattle.std.proofs.lemmas.Bool.{cases_eq, and_parts, cond-true, cond-false, both_ways}
 use Rattle.std.proofs.lemmas.List.{get_or_read}
-use Rattle.page_words.specs.Bodies.{Body, IsPlace}
+use Rattle.marker_core.specs.Bodies.{IsPlace, holds, without}
+use Rattle.marker_core.specs.declared.states.Body.{Body}
 use Rattle.object_headers.specs.Layout.{header_word}
-use Rattle.page_words.specs.Seat.{SeatView, IsView, holds, without, header_of, marked_at, claimed_at, unmarked_at, is_grey}
+use Rattle.page_words.specs.Seat.{SeatView, IsView, header_of, marked_at, claimed_at, unmarked_at, is_grey}
 use Rattle.page_words.specs.Ties.{Ties}
 use Rattle.page_words.proofs.Members.{added, added_is_held, others_held_after_addition, others_held_after_push, holds_none}
 use Rattle.gc_graph.specs.Members.{pushed_is_held, removed_is_not_held, others_held_after_removal}

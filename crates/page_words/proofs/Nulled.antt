@@ -2,7 +2,8 @@
 use Rattle.std.proofs.Common.{◌≡◌, ℕ, zero, suc, ◌+◌, ◌-◌, ◌<◌, ◌≤◌, List, refl, sym, ap, ◌∙◌, subst, set, length, take, drop, ◌++◌, arith}
 use Rattle.std.proofs.lemmas.List.{length-set, take_all, append-nil}
 use Rattle.std.proofs.Math.ListN.{drop_of_length-le}
-use Rattle.page_words.specs.Bodies.{Body, IsInBody}
+use Rattle.marker_core.specs.Bodies.{IsInBody}
+use Rattle.marker_core.specs.declared.states.Body.{Body}
 use Rattle.page_words.specs.Seat.{SeatView, nulled}
 use Rattle.page_words.specs.Ties.{Ties, cleared}
 use Rattle.page_words.proofs.Filled.{fills}

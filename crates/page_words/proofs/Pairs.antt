@@ -8,7 +8,9 @@ use Rattle.gc_graph.specs.Fields.{words_of_kind}
 use Rattle.type_table.specs.Types.{kinds_of, kind_of, offset_of, is_kind, offsets_where, IsWordOf}
 use Rattle.type_table.specs.Layouts.{kinds_of_words}
 use Rattle.type_table.specs.FieldLaw.{BeginsAt, FieldsStandApart}
-use Rattle.page_words.specs.Bodies.{Body, IsKeyWord, SuitsItsPair, kind_in, fields_at}
+use Rattle.marker_core.specs.Bodies.{fields_at}
+use Rattle.marker_core.specs.declared.states.Body.{Body}
+use Rattle.page_words.specs.Bodies.{IsKeyWord, SuitsItsPair, kind_in}
 use Rattle.page_words.specs.Seat.{SeatView, IsView}
 use Rattle.page_words.specs.BodyPlaces.{whole_body}
 

@@ -2,8 +2,10 @@
 use Rattle.std.proofs.Common.{◌≡◌, ℕ, ◌<◌, ◌≤◌, [], ◌∷◌, Bool, false, not, ◌&&◌, leb, ltb, sym, ap, ◌∙◌, subst, inl, inr, arith, Contains}
 use Rattle.std.proofs.lemmas.Bool.{and_from, both_ways, false_from_ne_true, not-true, le-leb, lt-ltb}
 use Rattle.std.proofs.lemmas.List.Elements.{All-push, Contains-append_left, Contains-push_cases}
-use Rattle.page_words.specs.Bodies.{Body, end_of, IsPlace, IsInBody, IsWhole}
-use Rattle.page_words.specs.Seat.{SeatView, Filled, IsView, IsReady, holds, published}
+use Rattle.marker_core.specs.Bodies.{end_of, IsPlace, IsInBody, holds}
+use Rattle.marker_core.specs.declared.states.Body.{Body}
+use Rattle.page_words.specs.Bodies.{IsWhole}
+use Rattle.page_words.specs.Seat.{SeatView, IsView, IsReady, published}
 use Rattle.gc_graph.specs.Members.{was_in, has_passed}
 use Rattle.page_words.specs.BodyPlaces.{two_words}
 
@@ -54,18 +56,18 @@ apart_after v n is ready b c x hb hc b_low b_high c_low c_high =
       ]
     ]
 
-pub still_filled : (v : SeatView) (b : Body) (f : Filled) → Contains (published v b).filled f → Contains v.filled f
-still_filled v b f h = was_in (λ (g : Filled). not (is_in b g.address)) v.filled f h
+pub still_filled : (v : SeatView) (b : Body) (f : ℕ × ℕ) → Contains (published v b).filled f → Contains v.filled f
+still_filled v b f h = was_in (λ (g : ℕ × ℕ). not (is_in b g.0)) v.filled f h
 
-outside_after : (v : SeatView) (n : Body) → IsView v → (f : Filled) → Contains (published v n).filled f → IsInBody (published v n).bodies f.address → ⊥
+outside_after : (v : SeatView) (n : Body) → IsView v → (f : ℕ × ℕ) → Contains (published v n).filled f → IsInBody (published v n).bodies f.0 → ⊥
 outside_after v n is f h inside = elim (Contains-push_cases v.bodies n inside.0 inside.1) [
   | inl old ↦ (is.filled_outside f (still_filled v n f h)).1 (inside.0, old, inside.2, inside.3)
   | inr same ↦
-      (let out : is_in n f.address ≡ false = not-true (is_in n f.address) (has_passed (λ (g : Filled). not (is_in n g.address)) v.filled f h) in
-      let low : n.place ≤ f.address = subst (λ (d : Body). d.place ≤ f.address) (sym same) inside.2 in
-      let high : f.address < end_of n = subst (λ (d : Body). f.address < end_of d) (sym same) inside.3 in
-      both_ways (is_in n f.address) out
-      (and_from (leb n.place f.address) (ltb f.address (end_of n)) (le-leb n.place f.address low) (lt-ltb f.address (end_of n) high)))
+      (let out : is_in n f.0 ≡ false = not-true (is_in n f.0) (has_passed (λ (g : ℕ × ℕ). not (is_in n g.0)) v.filled f h) in
+      let low : n.place ≤ f.0 = subst (λ (d : Body). d.place ≤ f.0) (sym same) inside.2 in
+      let high : f.0 < end_of n = subst (λ (d : Body). f.0 < end_of d) (sym same) inside.3 in
+      both_ways (is_in n f.0) out
+      (and_from (leb n.place f.0) (ltb f.0 (end_of n)) (le-leb n.place f.0 low) (lt-ltb f.0 (end_of n) high)))
 ]
 
 pub published_view : (v : SeatView) (b : Body) → IsView v → IsReady v b → IsView (published v b)

@@ -5,9 +5,11 @@ use Rattle.std.specs.Int.{bit_at}
 use Rattle.std.proofs.lemmas.Bool.{cases_eq}
 use Rattle.std.proofs.lemmas.List.{length-set, get_or-set_same, get_or_read}
 use Rattle.std.proofs.lemmas.List.Elements.{Contains-push}
-use Rattle.page_words.specs.Bodies.{Body, IsPlace}
+use Rattle.marker_core.specs.Bodies.{IsPlace, holds}
+use Rattle.marker_core.specs.declared.states.Body.{Body}
 use Rattle.object_headers.specs.Layout.{header_word}
-use Rattle.page_words.specs.Seat.{SeatView, IsView, IsReady, holds, header_of, bitmap_at, stop_at, published}
+use Rattle.marker_core.specs.Layout.{bitmap_at, stop_at}
+use Rattle.page_words.specs.Seat.{SeatView, IsView, IsReady, header_of, published}
 use Rattle.page_words.specs.Ties.{Ties}
 use Rattle.page_words.proofs.Places.{bitmap_below_stop, later_word_kept, heap_matches}
 use Rattle.page_words.proofs.Bits.{with_bit, bit_is_set, others_kept_by_set, other_start_kept}
@@ -59,13 +61,13 @@ published_at words v b h t ready read =
       length_is = length-set words at w ∙ t.length_is;
       bodies_lie_apart = published_view v b is ready;
       headers_match = each_after (λ c. get_or (set words at w) c.place 0 ≡ header_of v c) v b matches.headers
-          (matches.filled (record { address = b.place; word = header_word true false false b.ty b.size }) ready.header ∙ new_header v b is ready);
+          (matches.filled (b.place, header_word true false false b.ty b.size) ready.header ∙ new_header v b is ready);
       serials_match = each_after (λ c. get_or (set words at w) (c.place + 1) 0 ≡ c.serial) v b matches.serials
-          (matches.filled (record { address = b.place + 1; word = b.serial }) ready.serial);
+          (matches.filled (b.place + 1, b.serial) ready.serial);
       fields_match = λ c i hc l. each_after
           (λ d. (j : ℕ) → j < length d.fields → get_or (set words at w) (d.place + 2 + j) 0 ≡ get_or d.fields j 0) v b
           (λ d hd j k. matches.fields d j hd k)
-          (λ j k. matches.filled (record { address = b.place + 2 + j; word = get_or b.fields j 0 }) (ready.fields j k))
+          (λ j k. matches.filled (b.place + 2 + j, get_or b.fields j 0) (ready.fields j k))
           c hc i l;
       filled_match = λ f hf. matches.filled f (still_filled v b f hf);
       starts_match = starts_after words v b h t heap (get_or_read words at h within read 0);

@@ -3,16 +3,18 @@ use Rattle.std.proofs.Common.{◌≡◌, ℕ, ◌+◌, ◌/◌, ◌%◌, ◌<◌
 use mathlib.Core.Logic.{◌↔◌}
 use Rattle.std.proofs.lemmas.Bool.{cases_eq}
 use Rattle.std.proofs.lemmas.List.{length-set, get_or-set_same, get_or-set_other}
-use Rattle.page_words.specs.Bodies.{Body, IsPlace}
+use Rattle.marker_core.specs.Bodies.{IsPlace, holds}
+use Rattle.marker_core.specs.declared.states.Body.{Body}
 use Rattle.object_headers.specs.Layout.{header_word}
-use Rattle.page_words.specs.Seat.{SeatView, IsView, holds, header_of, bitmap_at, stop_at}
+use Rattle.marker_core.specs.Layout.{bitmap_at, stop_at}
+use Rattle.page_words.specs.Seat.{SeatView, IsView, header_of}
 use Rattle.page_words.specs.Ties.{Ties}
 use Rattle.page_words.proofs.Places.{later_word_kept}
 use Rattle.page_words.specs.BodyPlaces.{whole_body, two_words, same_offset, place_below}
 
 -- the view with other marks
 abbrev pub remarked : SeatView → List ℕ → List ℕ → SeatView
-remarked v marked traced = record v { marked = marked; traced = traced }
+remarked v marked traced = record v { mutator = record v.mutator { marked = marked; traced = traced } }
 
 -- the word is the header that the marks tell, and they are others at its place alone
 pub record Remarks (v : SeatView) (marked traced : List ℕ) (a w : ℕ) : Type 0 where
@@ -69,7 +71,7 @@ ties_remarked words v marked traced a w t r =
           ap (λ x. get_or (set words a w) x 0) (omega arith) ∙ past_header_kept words v a w is r.place b (1 + i) h (omega arith)
           ∙ ap (λ x. get_or words x 0) (omega arith) ∙ t.fields_match b i h l;
       filled_match = λ f h.
-          get_or-set_other words a f.address w 0
+          get_or-set_other words a f.0 w 0
           (λ e. let two = two_words v is r.place.0 r.place.1 in
           (is.filled_outside f h).1 (r.place.0, r.place.1, omega (arith, r.place.2), omega (arith, r.place.2)))
           ∙ t.filled_match f h;

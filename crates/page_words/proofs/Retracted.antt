@@ -5,8 +5,11 @@ use Rattle.std.specs.Int.{bit_at}
 use Rattle.std.proofs.lemmas.Bool.{cases_eq, both_ways, eqb-false, ne_eqb, not-true, not_from_false}
 use Rattle.std.proofs.lemmas.List.{length-set, get_or-set_same, get_or_read}
 use Rattle.std.proofs.lemmas.List.Elements.{All-filter}
-use Rattle.page_words.specs.Bodies.{Body, IsPlace, IsWhole}
-use Rattle.page_words.specs.Seat.{SeatView, IsView, holds, without, bitmap_at, stop_at, retracted}
+use Rattle.marker_core.specs.Bodies.{IsPlace, holds, without}
+use Rattle.marker_core.specs.declared.states.Body.{Body}
+use Rattle.page_words.specs.Bodies.{IsWhole}
+use Rattle.marker_core.specs.Layout.{bitmap_at, stop_at}
+use Rattle.page_words.specs.Seat.{SeatView, IsView, retracted}
 use Rattle.page_words.specs.Ties.{Ties}
 use Rattle.gc_graph.specs.Members.{was_in, has_passed, stays_in, removed_is_not_held, others_held_after_removal}
 use Rattle.page_words.proofs.Places.{bitmap_below_stop, later_word_kept, heap_matches}

@@ -3,9 +3,11 @@ use Rattle.std.proofs.Common.{◌≡◌, ℕ, ◌+◌, ◌/◌, ◌%◌, ◌^◌
 use mathlib.Core.Logic.{◌↔◌}
 use Rattle.std.proofs.lemmas.Bool.{false≢true, not-true}
 use Rattle.std.proofs.lemmas.List.{length-set, get_or-set_same}
-use Rattle.page_words.specs.Bodies.{Body, IsPlace}
+use Rattle.marker_core.specs.Bodies.{IsPlace, holds}
+use Rattle.marker_core.specs.declared.states.Body.{Body}
 use Rattle.object_headers.specs.Layout.{bit_of}
-use Rattle.page_words.specs.Seat.{SeatView, IsView, MaySetStop, holds, bitmap_at, stop_at, begun, ended, stop_set, unmarked_places}
+use Rattle.marker_core.specs.Layout.{bitmap_at, stop_at}
+use Rattle.page_words.specs.Seat.{SeatView, IsView, MaySetStop, begun, ended, stop_set, unmarked_places}
 use Rattle.page_words.specs.Ties.{Ties}
 use Rattle.gc_graph.specs.Members.{in_from_holds, was_in, has_passed, Contains-map_some}
 use Rattle.page_words.proofs.Places.{bitmap_below_stop, earlier_word_kept, heap_matches}
@@ -41,8 +43,8 @@ stopped_view v false is may = record {
 }
 
 -- the words below the stop word match any view with the same bodies, filled words and marks
-stopped : (words : List ℕ) (v : SeatView) (w : ℕ) (on : Bool) (dead : List ℕ) → Ties words v → IsView (record v { on = on; dead = dead })
-    → w ≡ (cond on 0 1) → Ties (set words (stop_at v.count) w) (record v { on = on; dead = dead })
+stopped : (words : List ℕ) (v : SeatView) (w : ℕ) (on : Bool) (dead : List ℕ) → Ties words v → IsView (record v { mutator = record v.mutator { on = on; dead = dead } })
+    → w ≡ (cond on 0 1) → Ties (set words (stop_at v.count) w) (record v { mutator = record v.mutator { on = on; dead = dead } })
 stopped words v w on dead t view value =
     let stop = stop_at v.count in
     let heap = heap_matches words v stop w t (omega arith) in

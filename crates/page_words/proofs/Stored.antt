@@ -4,13 +4,16 @@ use mathlib.Core.Logic.{◌↔◌}
 use Rattle.std.proofs.lemmas.Bool.{cases_eq, and_parts, and_from, both_ways, leb-true, ltb-true, le-leb, lt-ltb}
 use Rattle.std.proofs.lemmas.List.{length-set, get_or-set_same, get_or-set_other}
 use Rattle.std.proofs.lemmas.List.Elements.{All-map, All-weaker}
-use Rattle.page_words.specs.Bodies.{Body, end_of, IsPlace, IsInBody, IsFieldWord, IsWhole, with_word}
-use Rattle.page_words.specs.Seat.{SeatView, IsView, header_of, bitmap_at, stop_at, stored}
+use Rattle.marker_core.specs.Bodies.{end_of, IsPlace, IsInBody, IsFieldWord, with_word, has_field}
+use Rattle.marker_core.specs.declared.states.Body.{Body}
+use Rattle.page_words.specs.Bodies.{IsWhole}
+use Rattle.marker_core.specs.Layout.{bitmap_at, stop_at}
+use Rattle.page_words.specs.Seat.{SeatView, IsView, header_of, stored}
 use Rattle.page_words.specs.Ties.{Ties}
 use Rattle.gc_graph.specs.Members.{Contains-map_some, Contains-map}
 use Rattle.page_words.proofs.Places.{later_word_kept}
 use Rattle.page_words.specs.BodyPlaces.{whole_body, two_words, within_heap, same_offset}
-use Rattle.page_words.specs.WrittenBodies.{has_word, rewritten, by_word, same_place, same_size}
+use Rattle.page_words.specs.WrittenBodies.{rewritten, by_word, same_place, same_size}
 
 -- what is true of each body after the write
 each_after : (P : Body → Type 0) (v : SeatView) (a w : ℕ) → ((b : Body) → Contains v.bodies b → P (with_word a w b)) → (c : Body)
@@ -62,7 +65,7 @@ stored_view v a w is = record {
   whole = All-map (IsWhole v.count) (with_word a w) v.bodies
       (All-weaker (IsWhole v.count) (λ b. IsWhole v.count (with_word a w b)) (whole_after v.count a w) v.bodies is.whole);
   apart = apart_after v a w is;
-  filled_outside = λ f h. ((is.filled_outside f h).0, λ inside. (is.filled_outside f h).1 (in_body_was v a w f.address inside));
+  filled_outside = λ f h. ((is.filled_outside f h).0, λ inside. (is.filled_outside f h).1 (in_body_was v a w f.0 inside));
   marked_are_bodies = λ x held. place_stays v a w x (is.marked_are_bodies x held);
   traced_are_marked = is.traced_are_marked;
   dead_are_unmarked = λ x held. (place_stays v a w x (is.dead_are_unmarked x held).0, (is.dead_are_unmarked x held).1);
@@ -85,7 +88,7 @@ abbrev FieldsMatch : List ℕ → Body → Type 0
 FieldsMatch words b = (i : ℕ) → i < length b.fields → get_or words (b.place + 2 + i) 0 ≡ get_or b.fields i 0
 
 fields_with_word : (words : List ℕ) (a w : ℕ) (b : Body) → a < length words → length b.fields + 2 ≡ b.size → FieldsMatch words b
-    → has_word a b ≡ true → FieldsMatch (set words a w) (rewritten a w b)
+    → has_field a b ≡ true → FieldsMatch (set words a w) (rewritten a w b)
 fields_with_word words a w b within size matches has i l =
     let parts = and_parts (leb (b.place + 2) a) (ltb a (end_of b)) has in
     let low : b.place + 2 ≤ a = leb-true (b.place + 2) a parts.0 in
@@ -101,11 +104,11 @@ fields_with_word words a w b within size matches has i l =
           ∙ sym (get_or-set_other b.fields k i w 0 other)
     ]
 
-fields_without_word : (words : List ℕ) (a w : ℕ) (b : Body) → length b.fields + 2 ≡ b.size → FieldsMatch words b → has_word a b ≡ false
+fields_without_word : (words : List ℕ) (a w : ℕ) (b : Body) → length b.fields + 2 ≡ b.size → FieldsMatch words b → has_field a b ≡ false
     → FieldsMatch (set words a w) b
 fields_without_word words a w b size matches lacks i l =
     get_or-set_other words a (b.place + 2 + i) w 0
-    (λ e. both_ways (has_word a b) lacks
+    (λ e. both_ways (has_field a b) lacks
     (and_from (leb (b.place + 2) a) (ltb a (end_of b)) (le-leb (b.place + 2) a (omega arith)) (lt-ltb a (end_of b) (omega arith))))
     ∙ matches i l
 
@@ -138,7 +141,7 @@ stores words v a w t at =
           (fields_without_word words a w b whole.fields matches))
           c h i l;
       filled_match = λ f h.
-          get_or-set_other words a f.address w 0
+          get_or-set_other words a f.0 w 0
           (λ e. (is.filled_outside f h).1 (at.0, at.1, omega (arith, at.2), omega (arith, at.3)))
           ∙ t.filled_match f h;
       starts_match = λ p l.

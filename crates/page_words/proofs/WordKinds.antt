@@ -2,7 +2,9 @@
 use Rattle.std.proofs.Common.{◌≡◌, ℕ, ◌+◌, ◌-◌, ◌<◌, true, false, not, length, sym, ap, ◌∙◌, subst, inl, inr, arith, Contains}
 use Rattle.std.proofs.lemmas.Bool.{true≢false}
 use Rattle.gc_graph.specs.Fields.{is_plain}
-use Rattle.page_words.specs.Bodies.{Body, IsReference, MayHold, fields_at, is_reference_word}
+use Rattle.marker_core.specs.Bodies.{IsReference, fields_at}
+use Rattle.marker_core.specs.declared.states.Body.{Body}
+use Rattle.page_words.specs.Bodies.{MayHold, is_reference_word}
 use Rattle.page_words.specs.Seat.{SeatView, IsView}
 use Rattle.page_words.specs.BodyPlaces.{whole_body}
 use Rattle.type_table.specs.FieldLaw.{FieldsStandApart}

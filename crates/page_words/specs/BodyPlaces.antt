@@ -1,7 +1,9 @@
 -- Which words are whose: each body lies in the heap, and no two of them share a word.
-use Rattle.std.proofs.Common.{◌≡◌, ℕ, ◌+◌, ◌<◌, ◌≤◌, List, ap, arith, Contains}
+use Rattle.std.proofs.Common.{◌≡◌, ℕ, ◌+◌, ◌<◌, ◌≤◌, ap, arith, Contains}
 use Rattle.std.proofs.lemmas.List.Elements.{All-contains}
-use Rattle.page_words.specs.Bodies.{Body, IsWhole, IsPlace}
+use Rattle.marker_core.specs.Bodies.{IsPlace}
+use Rattle.marker_core.specs.declared.states.Body.{Body}
+use Rattle.page_words.specs.Bodies.{IsWhole}
 use Rattle.page_words.specs.Seat.{SeatView, IsView}
 
 pub whole_body : (v : SeatView) → IsView v → (b : Body) → Contains v.bodies b → IsWhole v.count b

@@ -1,8 +1,10 @@
 -- How the words and the view of a seat belong together.
 use Rattle.std.specs.Prelude.{◌≡◌, ℕ, zero, suc, ◌+◌, ◌*◌, ◌/◌, ◌%◌, ◌^◌, ◌<◌, ◌≤◌, ◌↔◌, List, length, if◌then◌else◌, slice_index, slice_set, Contains}
 use Rattle.object_headers.specs.Offsets.{serial_offset}
-use Rattle.page_words.specs.Bodies.{Body, IsPlace, fields_at}
-use Rattle.page_words.specs.Seat.{SeatView, Filled, IsView, header_of, block_words, bitmap_at, stop_at}
+use Rattle.marker_core.specs.Bodies.{IsPlace, fields_at}
+use Rattle.marker_core.specs.declared.states.Body.{Body}
+use Rattle.marker_core.specs.Layout.{bitmap_at, stop_at}
+use Rattle.page_words.specs.Seat.{SeatView, IsView, header_of, block_words}
 
 -- a heap has from 256 to 2^24 words, and a whole number of words of start bits
 pub record IsCount (count : ℕ) : Type 0 where
@@ -24,7 +26,7 @@ pub record Ties (words : List ℕ) (v : SeatView) : Type 0 where
   pub serials_match : (b : Body) → Contains v.bodies b → slice_index words (b.place + serial_offset) ≡ b.serial
   pub fields_match :
       (b : Body) (i : ℕ) → Contains v.bodies b → i < length b.fields → slice_index words (fields_at b + i) ≡ slice_index b.fields i
-  pub filled_match : (f : Filled) → Contains v.filled f → slice_index words f.address ≡ f.word
+  pub filled_match : (f : ℕ × ℕ) → Contains v.filled f → slice_index words f.0 ≡ f.1
   pub starts_match :
       (p : ℕ) → p < v.count → (slice_index words (bitmap_at v.count p) / 2 ^ (p % block_words) % 2 ≡ 1) ↔ IsPlace v.bodies p
   pub stop_matches : slice_index words (stop_at v.count) ≡ (if v.on then 0 else 1)

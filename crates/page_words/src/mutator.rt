@@ -2,7 +2,9 @@
 
 ghost use Rattle.std.specs.Prelude.{◌≡◌, ℕ, ◌+◌, ◌<◌, ◌↔◌, true, false, length, slice_index, Contains};
 ghost use Rattle.gc_graph.specs.declared.kind.Kind.TheVariants.{Pair};
-ghost use Rattle.page_words.specs.Bodies.{Body, IsReference, MayHold, fields_at, is_reference_word};
+ghost use Rattle.marker_core.specs.Bodies.{IsReference, fields_at};
+ghost use Rattle.marker_core.specs.declared.states.Body.{Body};
+ghost use Rattle.page_words.specs.Bodies.{MayHold, is_reference_word};
 ghost use Rattle.page_words.specs.Bodies.{IsKeyWord, SuitsItsPair, kind_in};
 ghost use Rattle.page_words.specs.Seat.{IsView};
 

@@ -1,8 +1,9 @@
 // The view of a seat, and how each call changes it. All of it is for contracts alone.
 
 ghost use Rattle.std.specs.Prelude.{◌≡◌, ◌-◌, Bool};
-ghost use Rattle.page_words.specs.Bodies.{Body};
-ghost use Rattle.page_words.specs.Seat.{empty_view, filled_with, nulled, stored, published, retracted};
+ghost use Rattle.marker_core.specs.declared.states.Body.{Body};
+ghost use Rattle.page_words.specs.Seat.{empty_view, filled_with, nulled, stored, published};
+ghost use Rattle.page_words.specs.Seat.{retracted};
 ghost use Rattle.page_words.specs.Seat.{marked_at, claimed_at, unmarked_at, stop_set};
 
 use ghost_values::GhostValue;

@@ -3,10 +3,15 @@
 
 ghost use Rattle.std.specs.Prelude.{◌≡◌, ◌≤◌, ◌<◌, ◌-◌, ◌&&◌, ℕ, length};
 ghost use Rattle.std.specs.Prelude.{not, true, false, Contains, IfOk};
-ghost use Rattle.page_words.specs.Bodies.{Body, IsPlace, IsInBody, IsFieldWord, MayHold};
+ghost use Rattle.marker_core.specs.Bodies.{IsPlace, IsInBody, IsFieldWord};
+ghost use Rattle.marker_core.specs.declared.states.Body.{Body};
+ghost use Rattle.page_words.specs.Bodies.{MayHold};
 ghost use Rattle.object_headers.specs.Layout.{header_word};
-ghost use Rattle.page_words.specs.Seat.{empty_view, holds, stop_at, IsWordAt};
-ghost use Rattle.page_words.specs.Seat.{IsReady, MaySetStop, filled_with, nulled, stored, published};
+ghost use Rattle.marker_core.specs.Bodies.{holds};
+ghost use Rattle.marker_core.specs.Layout.{stop_at};
+ghost use Rattle.page_words.specs.Seat.{empty_view, IsWordAt};
+ghost use Rattle.page_words.specs.Seat.{IsReady, MaySetStop, filled_with, nulled, stored};
+ghost use Rattle.page_words.specs.Seat.{published};
 ghost use Rattle.page_words.specs.Seat.{retracted, marked_at, claimed_at, unmarked_at, is_grey};
 ghost use Rattle.page_words.specs.Seat.{stop_set};
 ghost use Rattle.page_words.specs.Ties.{IsCount, cleared};

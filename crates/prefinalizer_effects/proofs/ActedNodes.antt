@@ -15,7 +15,7 @@ use Rattle.gc_graph.specs.Fields.{kind_of_field, word_of_field, field_count, val
 use Rattle.gc_graph.specs.Actions.{cleared_field, cleared_at, added, added_field, added_at, linked, linked_by, change_linked, acted}
 use Rattle.gc_graph.specs.ActionLaw.{HaveStayed}
 use Rattle.gc_graph.specs.State.{ObjectType}
-use Rattle.page_words.specs.Bodies.{Body}
+use Rattle.marker_core.specs.declared.states.Body.{Body}
 use Rattle.page_words.specs.Seat.{SeatView}
 use Rattle.page_space.specs.Space.{extents_of_bodies}
 use Rattle.prefinalizer_effects.specs.Acting as words

@@ -7,8 +7,8 @@ use Rattle.gc_graph.specs.declared.kind.Kind.{Kind}
 use Rattle.gc_graph.specs.declared.kind.Kind.TheVariants.{Strong, Weak, Pair, Plain}
 use Rattle.gc_graph.specs.State.{ObjectType}
 use Rattle.type_table.specs.Types.{kinds_of, IsFieldAt}
-use Rattle.page_words.specs.Bodies.{Body}
-use Rattle.page_words.specs.Seat.{SeatView}
+use Rattle.marker_core.specs.declared.states.Body.{Body}
+use Rattle.page_words.specs.Seat.{SeatView, with_bodies}
 use Rattle.member_fields.specs.Words.{IsWordIn, with_word_in, written, pair_written}
 use Rattle.prefinalizer_effects.specs.Acting.{extra_in, field_count, kind_of_field, word_of_field, cleared_field, cleared_at, added_field, added_at, changed_at}
 
@@ -29,7 +29,7 @@ map_after f g [] = refl
 map_after f g (x ∷ xs) = ap (λ ys. f (g x) ∷ ys) (map_after f g xs)
 
 abbrev view_with : SeatView → List Body → SeatView
-view_with v bodies = record v { bodies = bodies }
+view_with v bodies = with_bodies v bodies
 
 -- the body at the place alone is changed
 abbrev pub here : ℕ → (Body → Body) → Body → Body

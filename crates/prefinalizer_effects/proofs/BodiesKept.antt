@@ -12,7 +12,9 @@ use Rattle.gc_graph.specs.State.{ObjectType}
 use Rattle.object_headers.specs.Offsets.{reference_to}
 use Rattle.type_table.specs.Types.{kinds_of, kind_of, size_with, offset_of}
 use Rattle.type_table.specs.FieldLaw.{FieldsStandApart}
-use Rattle.page_words.specs.Bodies.{Body, IsReference, kind_in}
+use Rattle.marker_core.specs.Bodies.{IsReference}
+use Rattle.marker_core.specs.declared.states.Body.{Body}
+use Rattle.page_words.specs.Bodies.{kind_in}
 use Rattle.page_words.specs.Seat.{SeatView}
 use Rattle.prefinalizer_effects.specs.Acting.{IsTyped, AreTyped, AreLinked, field_count, kind_of_field, word_of_field, cleared_field, cleared_at, added_field, added_at, with_field_word, changed_at}
 use Rattle.prefinalizer_effects.proofs.BodiesChanged.{here}

@@ -13,7 +13,9 @@ use Rattle.gc_graph.specs.State.{ObjectType}
 use Rattle.object_headers.specs.declared.header.Header.{Header}
 use Rattle.type_table.specs.Types.{kinds_of, kind_of, count_with, size_with, is_kind, offsets_of_kind, IsFieldAt}
 use Rattle.type_table.specs.FieldLaw.{FieldsStandApart}
-use Rattle.page_words.specs.Bodies.{Body, IsPlace, IsReference, IsWhole, kind_in}
+use Rattle.marker_core.specs.Bodies.{IsPlace, IsReference}
+use Rattle.marker_core.specs.declared.states.Body.{Body}
+use Rattle.page_words.specs.Bodies.{IsWhole, kind_in}
 use Rattle.page_words.specs.Seat.{SeatView, IsView}
 use Rattle.page_space.specs.Space.{header_in}
 use Rattle.member_fields.specs.Words.{HasWord, HasPair, IsWordIn}

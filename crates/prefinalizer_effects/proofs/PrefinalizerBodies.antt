@@ -9,8 +9,9 @@ use Rattle.gc_graph.specs.State.{Setup, Node, node_at, is_there, is_dead}
 use Rattle.gc_graph.specs.Valid.{IsTyped}
 use Rattle.gc_graph.specs.Actions as graph
 use Rattle.gc_graph.specs.Fields as fields
-use Rattle.page_words.specs.Bodies.{Body}
-use Rattle.page_words.specs.Seat.{SeatView, IsView, holds}
+use Rattle.marker_core.specs.declared.states.Body.{Body}
+use Rattle.marker_core.specs.Bodies.{holds}
+use Rattle.page_words.specs.Seat.{SeatView, IsView}
 use Rattle.prefinalizer_effects.specs.Acting as bodies
 use Rattle.nodes_in_words.specs.Nodes.{place_of, body_of, bodies_from, IsThere, IsHeld}
 use Rattle.nodes_in_words.specs.NodeBodies.{bodies-there, bodies-gone}

@@ -12,7 +12,7 @@ use Rattle.gc_graph.specs.Valid.{IsReferenceBelow, IsPlainWord, IsTyped}
 use Rattle.gc_graph.specs.Actions as graph
 use Rattle.gc_graph.specs.Fields as fields
 use Rattle.type_table.specs.Types.{kinds_of}
-use Rattle.page_words.specs.Bodies.{Body}
+use Rattle.marker_core.specs.declared.states.Body.{Body}
 use Rattle.prefinalizer_effects.specs.Acting as bodies
 use Rattle.nodes_in_words.specs.Nodes.{word_of, body_of}
 use Rattle.nodes_in_words.specs.FieldKinds.{IsOfKind, value_of_kind, word_below}

@@ -10,7 +10,8 @@ use Rattle.gc_graph.specs.Valid.{IsTyped, IsReferenceBelow}
 use Rattle.gc_graph.specs.ActionLaw.{AreTyped}
 use Rattle.type_table.specs.Types.{kinds_of}
 use Rattle.type_table.specs.Layouts.{kinds_of_words}
-use Rattle.page_words.specs.Bodies.{Body, IsReference}
+use Rattle.marker_core.specs.Bodies.{IsReference}
+use Rattle.marker_core.specs.declared.states.Body.{Body}
 use Rattle.page_words.specs.Seat.{SeatView}
 use Rattle.prefinalizer_effects.specs.Acting as words
 use Rattle.nodes_in_words.specs.Nodes.{place_of, word_of, body_of, bodies_of}

@@ -3,8 +3,9 @@ use Rattle.std.proofs.Common.{◌≡◌, ℕ, Bool, true, false, not, List, refl
 use Rattle.gc_graph.specs.State.{Node, Life, node_at, is_there}
 use Rattle.gc_graph.specs.State.Life.{Live, Dead, Gone}
 use Rattle.gc_graph.specs.Pause.{is_dead_at}
-use Rattle.page_words.specs.Bodies.{Body, IsPlace}
-use Rattle.page_words.specs.Seat.{SeatView, holds}
+use Rattle.marker_core.specs.Bodies.{IsPlace, holds}
+use Rattle.marker_core.specs.declared.states.Body.{Body}
+use Rattle.page_words.specs.Seat.{SeatView}
 use Rattle.callback_table.specs.Bodies.{StandsAt, IsNodePlace}
 use Rattle.nodes_in_words.specs.Nodes.{IsThere, place_of, body_of, bodies_of, IsHeld}
 use Rattle.nodes_in_words.specs.Places.{IsJudged}

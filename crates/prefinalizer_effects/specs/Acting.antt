@@ -7,8 +7,10 @@ use Rattle.gc_graph.specs.declared.kind.Kind.TheVariants.{Strong, Weak, Pair, Pl
 use Rattle.gc_graph.specs.State.{ObjectType}
 use Rattle.object_headers.specs.Offsets.{first_field}
 use Rattle.type_table.specs.Types.{kinds_of, kind_of, count_with, size_with, offset_of}
-use Rattle.page_words.specs.Bodies.{Body, IsReference, kind_in}
-use Rattle.page_words.specs.Seat.{SeatView}
+use Rattle.marker_core.specs.Bodies.{IsReference}
+use Rattle.marker_core.specs.declared.states.Body.{Body}
+use Rattle.page_words.specs.Bodies.{kind_in}
+use Rattle.page_words.specs.Seat.{SeatView, with_bodies}
 
 -- ---- what is asked of the bodies
 
@@ -96,7 +98,7 @@ linked types b link = linked_by (kind_of_field types b link) (slice_index b.fiel
 
 -- the body at the place was changed, and nothing else of the view
 abbrev pub changed_at : SeatView → ℕ → (Body → Body) → SeatView
-changed_at v place change = record v { bodies = map (λ b. if b.place == place then change b else b) v.bodies }
+changed_at v place change = with_bodies v (map (λ b. if b.place == place then change b else b) v.bodies)
 
 -- the body that is named was changed, where one is
 abbrev pub change_linked : SeatView → Option ℕ → (Body → Body) → SeatView

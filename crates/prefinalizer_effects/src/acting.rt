@@ -2,7 +2,8 @@
 // that no barrier is needed, and to clear adds no reference.
 
 ghost use Rattle.std.specs.Prelude.{◌≡◌, Contains};
-ghost use Rattle.page_words.specs.Bodies.{Body, IsPlace};
+ghost use Rattle.marker_core.specs.Bodies.{IsPlace};
+ghost use Rattle.marker_core.specs.declared.states.Body.{Body};
 ghost use Rattle.page_space.specs.Space.{IsSeatOf};
 ghost use Rattle.prefinalizer_effects.specs.Acting.{AreTyped, AreLinked, acted};
 ghost use Rattle.prefinalizer_effects.specs.Acting.{changed_at, cleared_at, added_at};

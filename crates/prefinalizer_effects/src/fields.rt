@@ -1,7 +1,8 @@
 // The fields of the object at a place, by their numbers.
 
 ghost use Rattle.std.specs.Prelude.{◌≡◌, Contains, IfSome};
-ghost use Rattle.page_words.specs.Bodies.{Body, IsPlace};
+ghost use Rattle.marker_core.specs.Bodies.{IsPlace};
+ghost use Rattle.marker_core.specs.declared.states.Body.{Body};
 ghost use Rattle.page_space.specs.Space.{IsSeatOf};
 ghost use Rattle.prefinalizer_effects.specs.Acting.{AreTyped, AreLinked, linked};
 ghost use Rattle.prefinalizer_effects.specs.Places.{IsFound, HasFoundWord, HasFoundPair};

@@ -1,7 +1,8 @@
 // The words of a dying object as its prefinalizers are shown them (`include/cppgc/prefinalizer.h`).
 
 ghost use Rattle.std.specs.Prelude.{◌≡◌, ◌≤◌, Contains, take};
-ghost use Rattle.page_words.specs.Bodies.{Body, IsPlace};
+ghost use Rattle.marker_core.specs.Bodies.{IsPlace};
+ghost use Rattle.marker_core.specs.declared.states.Body.{Body};
 ghost use Rattle.page_space.specs.Space.{IsSeatOf};
 ghost use Rattle.prefinalizer_effects.specs.Shown as spec;
 ghost use Rattle.prefinalizer_effects.specs.Acting.{AreTyped};

@@ -3,8 +3,9 @@ use Rattle.std.proofs.Common.{◌≡◌, ℕ, ◌*◌, ◌<◌, ◌≤◌, true,
 use Rattle.std.specs.List.{filter}
 use Rattle.std.proofs.lemmas.Bool.{true≢false, cases_lt, and_right, or_left, eq-eqb}
 use Rattle.gc_graph.specs.Placement.{Extent}
-use Rattle.page_words.specs.Bodies.{Body, IsPlace}
-use Rattle.page_words.specs.Seat.{SeatView, IsView, IsQuiet, holds}
+use Rattle.marker_core.specs.Bodies.{IsPlace, holds}
+use Rattle.marker_core.specs.declared.states.Body.{Body}
+use Rattle.page_words.specs.Seat.{SeatView, IsView, IsQuiet}
 use Rattle.page_space.specs.Pages.{word_count, is_between}
 use Rattle.page_space.specs.Space.{SpaceView, IsSpaceOf, extent_of}
 use Rattle.sweeper.specs.Sweeping.{IsClearBelow, is_dead_in, swept_in, all_swept, dead_from, outside}

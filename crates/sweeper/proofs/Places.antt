@@ -2,7 +2,7 @@
 use Rattle.std.proofs.Common.{◌≡◌, ℕ, ◌+◌, ◌<◌, ◌≤◌, true, false, not, ◌&&◌, List, [], ◌∷◌, refl, sym, ap, ◌∙◌, inl, inr, arith, eqb}
 use Rattle.std.proofs.lemmas.Bool.{true≢false, cond-true, cond-false, cases_Bool, cases_eq, cases_lt, and_left, and_right, and_from, and_parts, le-leb, lt-leb, lt-ltb, le-ltb, leb-true, ltb-true, eq-eqb, ne_eqb, or_left, or_right, or_parts, not_from_true, not_from_false}
 use Rattle.std.proofs.lemmas.List.Elements.{filter_agree}
-use Rattle.page_words.specs.Seat.{holds, without}
+use Rattle.marker_core.specs.Bodies.{holds, without}
 use Rattle.page_space.specs.Pages.{is_between}
 use Rattle.sweeper.specs.Sweeping.{outside}
 use Rattle.sweeper.proofs.Filters.{filter_filter}

@@ -4,8 +4,9 @@ use Rattle.std.specs.List.{All, Contains, filter}
 use Rattle.std.proofs.lemmas.Bool.{true≢false, cases_eq, cases_lt, and_left, and_right, and_from, and_parts, false_from_ne_true, eq-eqb, ne_eqb, leb-true, le-leb}
 use Rattle.std.proofs.lemmas.List.{length_push}
 use Rattle.std.proofs.lemmas.List.Elements.{All-filter, filter_agree}
-use Rattle.page_words.specs.Bodies.{Body, IsPlace}
-use Rattle.page_words.specs.Seat.{SeatView, IsView, holds, without, unmarked_at, retracted}
+use Rattle.marker_core.specs.Bodies.{IsPlace, holds, without}
+use Rattle.marker_core.specs.declared.states.Body.{Body}
+use Rattle.page_words.specs.Seat.{SeatView, IsView, unmarked_at, retracted}
 use Rattle.page_space.specs.Pages.{is_between}
 use Rattle.page_space.specs.Space.{HasNoStart}
 use Rattle.sweeper.specs.Sweeping.{IsJudgedFrom, IsClearBelow, outside, is_dead_in, swept_in, AreDeadSerials, Sweeps, dead_from}
@@ -34,7 +35,7 @@ undead_if_marked v x view marked = false_from_ne_true (holds v.dead x) (λ dead.
 -- ---- views that differ in nothing
 
 abbrev pub changed : SeatView → List Body → List ℕ → List ℕ → List ℕ → SeatView
-changed v bodies marked traced dead = record v { bodies = bodies; marked = marked; traced = traced; dead = dead }
+changed v bodies marked traced dead = record v { mutator = record v.mutator { bodies = bodies; marked = marked; traced = traced; dead = dead } }
 
 pub changed_same : (v : SeatView) (b c : List Body) (m n t u d e : List ℕ) → b ≡ c → m ≡ n → t ≡ u → d ≡ e → changed v b m t d ≡ changed v c n u e
 changed_same v b c m n t u d e bodies marked traced dead =

@@ -1,7 +1,7 @@
 -- Which places are left without those between two addresses.
 use Rattle.std.proofs.Common.{◌≡◌, ℕ, not, ◌&&◌, List}
 use Rattle.gc_graph.specs.Members.{filtered_holds}
-use Rattle.page_words.specs.Seat.{holds}
+use Rattle.marker_core.specs.Bodies.{holds}
 use Rattle.page_space.specs.Pages.{is_between}
 use Rattle.sweeper.specs.Sweeping.{outside}
 

@@ -1,8 +1,9 @@
 -- Sweeping page by page, over the bodies of a heap (lazy sweeping, `include/cppgc/heap.h`).
 use Rattle.std.specs.Prelude.{◌≡◌, ℕ, ◌+◌, ◌*◌, ◌^◌, ◌<◌, ◌≤◌, ◌&&◌, nat_le, not, Bool, true, false, List, [], ◌++◌, length, map, filter, count_by, slice_index_or, Contains, All}
 use Rattle.gc_graph.specs.State.{Shape}
-use Rattle.page_words.specs.Bodies.{Body}
-use Rattle.page_words.specs.Seat.{SeatView, holds}
+use Rattle.marker_core.specs.declared.states.Body.{Body}
+use Rattle.marker_core.specs.Bodies.{holds}
+use Rattle.page_words.specs.Seat.{SeatView}
 use Rattle.page_space.specs.Pages.{is_between}
 use Rattle.page_space.specs.Space.{SpaceView, IsSpaceOf}
 
@@ -47,15 +48,25 @@ is_dead_in from until v b = is_between from until b.place && holds v.dead b.plac
 abbrev pub swept_in : ℕ → ℕ → SeatView → SeatView
 swept_in from until v =
     record v {
-      bodies = filter (λ b. not (is_dead_in from until v b)) v.bodies;
-      marked = outside from until v.marked;
-      traced = outside from until v.traced;
-      dead = outside from until v.dead;
+      mutator = record v.mutator {
+        bodies = filter (λ b. not (is_dead_in from until v b)) v.bodies;
+        marked = outside from until v.marked;
+        traced = outside from until v.traced;
+        dead = outside from until v.dead;
+      };
     }
 
 -- what was dead is gone, and nothing is marked, traced or dead
 abbrev pub all_swept : SeatView → SeatView
-all_swept v = record v { bodies = filter (λ b. not (holds v.dead b.place)) v.bodies; marked = []; traced = []; dead = [] }
+all_swept v =
+    record v {
+      mutator = record v.mutator {
+        bodies = filter (λ b. not (holds v.dead b.place)) v.bodies;
+        marked = [];
+        traced = [];
+        dead = [];
+      };
+    }
 
 -- ---- what a sweep tells
 

@@ -3,8 +3,8 @@
 
 ghost use Rattle.std.specs.Prelude.{◌≡◌, ◌+◌, ◌^◌, ◌<◌, ◌≤◌};
 ghost use Rattle.std.specs.Prelude.{false, not, length, All, vec_capacity};
-ghost use Rattle.page_words.specs.Bodies.{IsPlace};
-ghost use Rattle.page_words.specs.Seat.{holds};
+ghost use Rattle.marker_core.specs.Bodies.{IsPlace};
+ghost use Rattle.marker_core.specs.Bodies.{holds};
 ghost use Rattle.page_space.specs.Pages.{word_count};
 ghost use Rattle.page_space.specs.Space.{IsSpaceOf, HasNoStart};
 ghost use Rattle.sweeper.specs.Sweeping.{IsJudgedFrom, Sweeps, dead_from};

@@ -7,8 +7,10 @@ use Rattle.gc_graph.specs.declared.kind.Kind.{Kind}
 use Rattle.gc_graph.specs.declared.kind.Kind.TheVariants.{Plain}
 use Rattle.type_table.specs.Types.{kinds_of, offsets_of_kind}
 use Rattle.type_table.specs.Layouts.{kinds_of_words}
-use Rattle.page_words.specs.Bodies.{Body, IsWhole, IsReference, kind_in}
-use Rattle.page_words.specs.Seat.{SeatView, IsView, holds}
+use Rattle.marker_core.specs.Bodies.{IsReference, holds}
+use Rattle.marker_core.specs.declared.states.Body.{Body}
+use Rattle.page_words.specs.Bodies.{IsWhole, kind_in}
+use Rattle.page_words.specs.Seat.{SeatView, IsView, with_bodies}
 use Rattle.weak_clearing.specs.declared.weak_handles.WeakHandles.{WeakHandles}
 use Rattle.weak_clearing.specs.Clearing.{HasReferencesOf, MarkedHaveReferencesOf}
 use Rattle.weak_clearing.specs.Steps.{IsMarkedOf, HasHandle, kind_of_handles, cleared_at, clear_handle_in, clear_handles, clear_words_of, handle_cleared, body_cleared}
@@ -28,7 +30,7 @@ clear_listed_at handles marked place offsets b = cond (eqb b.place place) (liste
 
 -- the same, in a view
 abbrev pub listed_cleared : WeakHandles → SeatView → ℕ → List ℕ → SeatView
-listed_cleared handles v place offsets = record v { bodies = map (clear_listed_at handles v.marked place offsets) v.bodies }
+listed_cleared handles v place offsets = with_bodies v (map (clear_listed_at handles v.marked place offsets) v.bodies)
 
 at_lessened : (handles : WeakHandles) (marked : List ℕ) (place : ℕ) (offsets : List ℕ) (b : Body) → IsLessened b (clear_listed_at handles marked place offsets b)
 at_lessened handles marked place offsets b =
@@ -37,7 +39,7 @@ at_lessened handles marked place offsets b =
 
 pub listed_none : (handles : WeakHandles) (v : SeatView) (place : ℕ) → v ≡ listed_cleared handles v place []
 listed_none handles v place =
-    ap (λ (bs : List Body). (let x : SeatView = record v { bodies = bs } in x))
+    ap (λ (bs : List Body). with_bodies v bs)
     (sym (map_stays (clear_listed_at handles v.marked place []) v.bodies (λ b there. cond_both (eqb b.place place) b b (λ c. c ≡ b) (λ _. refl) (λ _. refl))))
 
 -- ---- the holder and the handle in hand
@@ -98,7 +100,7 @@ pub one_more_cleared : (handles : WeakHandles) (v : SeatView) (place offset : �
     → handle_cleared handles (listed_cleared handles v place offsets) place offset ≡ listed_cleared handles v place (offsets ++ offset ∷ [])
 one_more_cleared handles v place offset offsets =
     let one : Body → Body = clear_handle_in handles v.marked place offset in
-    ap (λ (bs : List Body). (let x : SeatView = record v { bodies = bs } in x))
+    ap (λ (bs : List Body). with_bodies v bs)
     (map_after one (clear_listed_at handles v.marked place offsets) v.bodies
     ∙ map_same (λ b. one (clear_listed_at handles v.marked place offsets b)) (clear_listed_at handles v.marked place (offsets ++ offset ∷ [])) v.bodies
     (λ b there. one_more handles v.marked place offset offsets b))
@@ -120,7 +122,7 @@ module _ (handles : WeakHandles) (v : SeatView) where
   pub all_listed : (place ty : ℕ) → IsView v → MarkedHaveReferencesOf (kind_of_handles handles) v → IsMarkedOf v place ty
       → listed_cleared handles v place (offsets_of_kind (kind_of_handles handles) (kinds_of v.types ty)) ≡ body_cleared handles v place
   all_listed place ty view have (h, h_there, h_at, h_ty, marked) =
-      ap (λ (bs : List Body). (let x : SeatView = record v { bodies = bs } in x))
+      ap (λ (bs : List Body). with_bodies v bs)
       (map_same (clear_listed_at handles v.marked place offsets) (λ b. cond (eqb b.place place) (clear_handles handles v.types v.marked b) b) v.bodies each) where
         offsets : List ℕ
         offsets = offsets_of_kind (kind_of_handles handles) (kinds_of v.types ty)

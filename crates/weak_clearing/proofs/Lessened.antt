@@ -10,8 +10,9 @@ use Rattle.gc_graph.specs.Fields.{field_words}
 use Rattle.object_headers.specs.Offsets.{reference_to}
 use Rattle.type_table.specs.Types.{kinds_of}
 use Rattle.type_table.specs.Layouts.{kinds_of_words}
-use Rattle.page_words.specs.Bodies.{Body, IsReference}
-use Rattle.page_words.specs.Seat.{SeatView, holds}
+use Rattle.marker_core.specs.Bodies.{IsReference, holds}
+use Rattle.marker_core.specs.declared.states.Body.{Body}
+use Rattle.page_words.specs.Seat.{SeatView, with_bodies}
 use Rattle.weak_clearing.specs.declared.weak_handles.WeakHandles.{WeakHandles}
 use Rattle.weak_clearing.specs.declared.weak_handles.WeakHandles.TheVariants.{Fields, Pairs}
 use Rattle.weak_clearing.specs.Clearing.{names_unmarked, clear_word, clear_words, clear_pair_words, HasReferencesOf, MarkedHaveReferencesOf}
@@ -149,7 +150,7 @@ module _ (f : Body → Body) (less : (b : Body) → IsLessened b (f b)) where
     named = λ i is. word_stays_reference bodies b i (has.named i (ap (λ ty. get_or (kinds_of_words (kinds_of types ty)) i Plain) (sym (less b).ty) ∙ is));
   }
 
-  pub references_stay : (kind : Kind) (v : SeatView) → MarkedHaveReferencesOf kind v → MarkedHaveReferencesOf kind (record v { bodies = map f v.bodies })
+  pub references_stay : (kind : Kind) (v : SeatView) → MarkedHaveReferencesOf kind v → MarkedHaveReferencesOf kind (with_bodies v (map f v.bodies))
   references_stay kind v have b there marked =
       let from = Contains-map_some f v.bodies b there in
       let was : holds v.marked from.0.place ≡ true = ap (holds v.marked) (sym (less from.0).place ∙ ap (λ (x : Body). x.place) from.2) ∙ marked in

@@ -2,7 +2,8 @@
 use Rattle.std.proofs.Common.{◌≡◌, ℕ, Bool, true, false, refl, sym, ◌∙◌, arith, Contains}
 use Rattle.std.proofs.lemmas.List.Elements.{All-contains}
 use Rattle.object_headers.specs.Layout.{header_word}
-use Rattle.page_words.specs.Bodies.{Body, IsWhole}
+use Rattle.marker_core.specs.declared.states.Body.{Body}
+use Rattle.page_words.specs.Bodies.{IsWhole}
 use Rattle.page_words.specs.Seat.{SeatView, IsView}
 
 pub whole_of : (v : SeatView) (b : Body) → IsView v → Contains v.bodies b → IsWhole v.count b

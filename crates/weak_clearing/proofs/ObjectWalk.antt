@@ -4,8 +4,9 @@ use Rattle.std.specs.List.{Contains}
 use Rattle.std.proofs.lemmas.Bool.{cases_Bool, cond-true, cond-false, cond_both, eqb-true}
 use Rattle.gc_graph.specs.declared.kind.Kind.{Kind}
 use Rattle.gc_graph.specs.State.{ObjectType}
-use Rattle.page_words.specs.Bodies.{Body, IsPlace}
-use Rattle.page_words.specs.Seat.{SeatView, holds}
+use Rattle.marker_core.specs.Bodies.{IsPlace, holds}
+use Rattle.marker_core.specs.declared.states.Body.{Body}
+use Rattle.page_words.specs.Seat.{SeatView, with_bodies}
 use Rattle.weak_clearing.specs.declared.weak_handles.WeakHandles.{WeakHandles}
 use Rattle.weak_clearing.specs.Clearing.{MarkedHaveReferencesOf}
 use Rattle.weak_clearing.specs.Steps.{clear_handles, body_cleared, all_cleared}
@@ -16,7 +17,7 @@ use Rattle.weak_clearing.proofs.Lessened.{IsLessened, itself_lessened, body_less
 -- an unmarked body stays
 pub unmarked_stays : (handles : WeakHandles) (v : SeatView) (a : ℕ) → holds v.marked a ≡ false → v ≡ body_cleared handles v a
 unmarked_stays handles v a unmarked =
-    ap (λ (bs : List Body). (let x : SeatView = record v { bodies = bs } in x))
+    ap (λ (bs : List Body). with_bodies v bs)
     (sym (map_stays (λ b. cond (eqb b.place a) (clear_handles handles v.types v.marked b) b) v.bodies
     (λ b there. cond_both (eqb b.place a) (clear_handles handles v.types v.marked b) b (λ c. c ≡ b)
     (λ here. cond-false (holds v.marked b.place) _ b (ap (holds v.marked) (eqb-true b.place a here) ∙ unmarked)) (λ _. refl))))
@@ -27,7 +28,7 @@ clear_where handles types marked passes b = cond (passes b.place) (clear_handles
 
 -- the same, in a view
 abbrev pub cleared_where : WeakHandles → SeatView → (ℕ → Bool) → SeatView
-cleared_where handles v passes = record v { bodies = map (clear_where handles v.types v.marked passes) v.bodies }
+cleared_where handles v passes = with_bodies v (map (clear_where handles v.types v.marked passes) v.bodies)
 
 where_lessened : (handles : WeakHandles) (types : List ObjectType) (marked : List ℕ) (passes : ℕ → Bool) (b : Body)
     → IsLessened b (clear_where handles types marked passes b)
@@ -48,7 +49,7 @@ where_place handles v passes a place =
 pub where_none : (handles : WeakHandles) (v : SeatView) (passes : ℕ → Bool) → ((b : Body) → Contains v.bodies b → passes b.place ≡ false)
     → v ≡ cleared_where handles v passes
 where_none handles v passes none =
-    ap (λ (bs : List Body). (let x : SeatView = record v { bodies = bs } in x))
+    ap (λ (bs : List Body). with_bodies v bs)
     (sym (map_stays (clear_where handles v.types v.marked passes) v.bodies
     (λ b there. cond-false (passes b.place) (clear_handles handles v.types v.marked b) b (none b there))))
 
@@ -56,14 +57,14 @@ where_none handles v passes none =
 pub where_all : (handles : WeakHandles) (v : SeatView) (passes : ℕ → Bool) → ((b : Body) → Contains v.bodies b → passes b.place ≡ true)
     → cleared_where handles v passes ≡ all_cleared handles v
 where_all handles v passes all =
-    ap (λ (bs : List Body). (let x : SeatView = record v { bodies = bs } in x))
+    ap (λ (bs : List Body). with_bodies v bs)
     (map_same (clear_where handles v.types v.marked passes) (clear_handles handles v.types v.marked) v.bodies
     (λ b there. cond-true (passes b.place) (clear_handles handles v.types v.marked b) b (all b there)))
 
 pub where_same : (handles : WeakHandles) (v : SeatView) (passes also : ℕ → Bool) → ((a : ℕ) → passes a ≡ also a)
     → cleared_where handles v passes ≡ cleared_where handles v also
 where_same handles v passes also same =
-    ap (λ (bs : List Body). (let x : SeatView = record v { bodies = bs } in x))
+    ap (λ (bs : List Body). with_bodies v bs)
     (map_same (clear_where handles v.types v.marked passes) (clear_where handles v.types v.marked also) v.bodies
     (λ b there. ap (λ t. cond t (clear_handles handles v.types v.marked b) b) (same b.place)))
 
@@ -89,6 +90,6 @@ one_after handles types marked first next both apart either b = elim (cases_Bool
 pub where_after : (handles : WeakHandles) (v : SeatView) (first next both : ℕ → Bool) → ((a : ℕ) → first a ≡ true → next a ≡ false)
     → ((a : ℕ) → both a ≡ (first a || next a)) → cleared_where handles (cleared_where handles v first) next ≡ cleared_where handles v both
 where_after handles v first next both apart either =
-    ap (λ (bs : List Body). (let x : SeatView = record v { bodies = bs } in x))
+    ap (λ (bs : List Body). with_bodies v bs)
     (map_after (clear_where handles v.types v.marked next) (clear_where handles v.types v.marked first) v.bodies
     ∙ map_same _ (clear_where handles v.types v.marked both) v.bodies (λ b there. one_after handles v.types v.marked first next both apart either b))

@@ -5,8 +5,9 @@ use Rattle.std.proofs.lemmas.Bool.{cases_Bool, cond_both, cond-true, cond-false,
 use Rattle.gc_graph.specs.declared.kind.Kind.{Kind}
 use Rattle.gc_graph.specs.declared.kind.Kind.TheVariants.{Weak, Pair}
 use Rattle.type_table.specs.Types.{kinds_of, offsets_of_kind}
-use Rattle.page_words.specs.Bodies.{Body, IsReference}
-use Rattle.page_words.specs.Seat.{SeatView, holds}
+use Rattle.marker_core.specs.Bodies.{IsReference, holds}
+use Rattle.marker_core.specs.declared.states.Body.{Body}
+use Rattle.page_words.specs.Seat.{SeatView, with_bodies}
 use Rattle.member_fields.specs.Words.{HasWord, HasPair, IsWordIn, with_word_in, written, pair_written}
 use Rattle.weak_clearing.specs.declared.weak_handles.WeakHandles.{WeakHandles}
 use Rattle.weak_clearing.specs.declared.weak_handles.WeakHandles.TheVariants.{Fields, Pairs}
@@ -82,7 +83,7 @@ module _ (v : SeatView) (holder word w : ℕ) (is : IsWordIn v holder word w) wh
   -- a handle that names no unmarked body stays
   pub handle_stays : (handles : WeakHandles) → names_unmarked v.marked w ≡ false → v ≡ handle_cleared handles v holder word
   handle_stays handles named =
-      ap (λ (bs : List Body). (let x : SeatView = record v { bodies = bs } in x))
+      ap (λ (bs : List Body). with_bodies v bs)
       (sym (map_stays (clear_handle_in handles v.marked holder word) v.bodies (λ b there. kept handles b there named)))
 
   null_body : (handles : WeakHandles) (b : Body) → Contains v.bodies b → names_unmarked v.marked w ≡ true
@@ -99,13 +100,13 @@ module _ (v : SeatView) (holder word w : ℕ) (is : IsWordIn v holder word w) wh
   -- a weak field that names one becomes null
   pub field_nulled : names_unmarked v.marked w ≡ true → written v holder word 0 ≡ handle_cleared Fields v holder word
   field_nulled named =
-      ap (λ (bs : List Body). (let x : SeatView = record v { bodies = bs } in x))
+      ap (λ (bs : List Body). with_bodies v bs)
       (map_same (with_word_in holder word 0) (clear_handle_in Fields v.marked holder word) v.bodies (λ b there. null_body Fields b there named))
 
   -- and so do both words of a pair whose key names one
   pub pair_nulled : 2 ≤ word → names_unmarked v.marked w ≡ true → pair_written v holder word 0 0 ≡ handle_cleared Pairs v holder word
   pair_nulled first named =
-      ap (λ (bs : List Body). (let x : SeatView = record v { bodies = bs } in x))
+      ap (λ (bs : List Body). with_bodies v bs)
       (map_after (with_word_in holder word 0) (with_word_in holder (word + 1) 0) v.bodies
       ∙ map_same (λ b. with_word_in holder word 0 (with_word_in holder (word + 1) 0 b)) (clear_handle_in Pairs v.marked holder word) v.bodies
       (λ b there. both_words b ∙ null_body Pairs b there named)) where

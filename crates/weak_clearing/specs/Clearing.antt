@@ -6,8 +6,10 @@ use Rattle.gc_graph.specs.Fields.{field_words}
 use Rattle.gc_graph.specs.State.{ObjectType}
 use Rattle.type_table.specs.Types.{kinds_of}
 use Rattle.type_table.specs.Layouts.{kinds_of_words}
-use Rattle.page_words.specs.Bodies.{Body, IsReference, kind_in}
-use Rattle.page_words.specs.Seat.{SeatView, holds}
+use Rattle.marker_core.specs.Bodies.{IsReference, holds}
+use Rattle.marker_core.specs.declared.states.Body.{Body}
+use Rattle.page_words.specs.Bodies.{kind_in}
+use Rattle.page_words.specs.Seat.{SeatView, with_bodies}
 
 -- the body is of one of the types and has a word for each declared field, and each of its words of fields of the kind is null
 -- or refers to a body
@@ -54,7 +56,7 @@ clear_body types marked b =
 
 -- each body was cleared, and nothing else changed
 abbrev pub with_weak_cleared : SeatView → SeatView
-with_weak_cleared v = record v { bodies = map (clear_body v.types v.marked) v.bodies }
+with_weak_cleared v = with_bodies v (map (clear_body v.types v.marked) v.bodies)
 
 -- ---- pairs (`include/cppgc/ephemeron-pair.h`)
 
@@ -77,4 +79,4 @@ clear_pairs_of types marked b =
 
 -- each body's pairs were cleared, and nothing else changed
 abbrev pub with_pairs_cleared : SeatView → SeatView
-with_pairs_cleared v = record v { bodies = map (clear_pairs_of v.types v.marked) v.bodies }
+with_pairs_cleared v = with_bodies v (map (clear_pairs_of v.types v.marked) v.bodies)

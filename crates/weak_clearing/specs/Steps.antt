@@ -7,8 +7,10 @@ use Rattle.gc_graph.specs.Fields.{words_of_kind}
 use Rattle.object_headers.specs.Offsets.{first_field}
 use Rattle.type_table.specs.Types.{kinds_of, offsets_of_kind}
 use Rattle.type_table.specs.Layouts.{kinds_of_words}
-use Rattle.page_words.specs.Bodies.{Body, IsReference, kind_in}
-use Rattle.page_words.specs.Seat.{SeatView, holds, block_words}
+use Rattle.marker_core.specs.Bodies.{IsReference, holds}
+use Rattle.marker_core.specs.declared.states.Body.{Body}
+use Rattle.page_words.specs.Bodies.{kind_in}
+use Rattle.page_words.specs.Seat.{SeatView, block_words, with_bodies}
 use Rattle.weak_clearing.specs.declared.weak_handles.WeakHandles.{WeakHandles}
 use Rattle.weak_clearing.specs.declared.weak_handles.WeakHandles.TheVariants.{Fields, Pairs}
 use Rattle.weak_clearing.specs.Clearing.{names_unmarked, clear_words, clear_pair_words}
@@ -50,7 +52,7 @@ clear_handle_in handles marked holder word b =
 
 -- the handle at this offset of the object at `holder` was cleared
 abbrev pub handle_cleared : WeakHandles → SeatView → ℕ → ℕ → SeatView
-handle_cleared handles v holder word = record v { bodies = map (clear_handle_in handles v.marked holder word) v.bodies }
+handle_cleared handles v holder word = with_bodies v (map (clear_handle_in handles v.marked holder word) v.bodies)
 
 -- the words of a body, where these are the kinds of its fields, with the handles among them cleared
 abbrev pub clear_words_of : WeakHandles → List ℕ → List Kind → List ℕ → List ℕ
@@ -65,15 +67,13 @@ clear_handles handles types marked b =
 -- the handles of the body at a were cleared
 abbrev pub body_cleared : WeakHandles → SeatView → ℕ → SeatView
 body_cleared handles v a =
-    record v { bodies = map (λ b. if b.place == a then clear_handles handles v.types v.marked b else b) v.bodies }
+    with_bodies v (map (λ b. if b.place == a then clear_handles handles v.types v.marked b else b) v.bodies)
 
 -- the handles of the bodies that start in the block were cleared
 abbrev pub block_cleared : WeakHandles → SeatView → ℕ → SeatView
 block_cleared handles v block =
-    record v {
-      bodies = map (λ b. if b.place / block_words == block then clear_handles handles v.types v.marked b else b) v.bodies;
-    }
+    with_bodies v (map (λ b. if b.place / block_words == block then clear_handles handles v.types v.marked b else b) v.bodies)
 
 -- the handles of each body were cleared
 abbrev pub all_cleared : WeakHandles → SeatView → SeatView
-all_cleared handles v = record v { bodies = map (clear_handles handles v.types v.marked) v.bodies }
+all_cleared handles v = with_bodies v (map (clear_handles handles v.types v.marked) v.bodies)

@@ -1,8 +1,8 @@
 // Whether an object was marked.
 
 ghost use Rattle.std.specs.Prelude.{◌≡◌, false, IfSome, IfNone};
-ghost use Rattle.page_words.specs.Bodies.{IsPlace, IsReference};
-ghost use Rattle.page_words.specs.Seat.{holds};
+ghost use Rattle.marker_core.specs.Bodies.{IsPlace, IsReference};
+ghost use Rattle.marker_core.specs.Bodies.{holds};
 ghost use Rattle.page_space.specs.Space.{IsSeatOf};
 ghost use Rattle.weak_clearing.specs.Clearing.{names_unmarked};
 ghost use Rattle.weak_clearing.specs.Steps.{IsMarkedOf};

@@ -5,8 +5,8 @@ ghost use Rattle.std.specs.Prelude.{slice_index_or, slice_set};
 ghost use Rattle.std.specs.Option.{ForSome};
 ghost use Rattle.gc_graph.specs.Pause.{clear_slot};
 ghost use Rattle.page_space.specs.Space.{IsSeatOf};
-ghost use Rattle.page_words.specs.Bodies.{IsPlace};
-ghost use Rattle.page_words.specs.Seat.{holds};
+ghost use Rattle.marker_core.specs.Bodies.{IsPlace};
+ghost use Rattle.marker_core.specs.Bodies.{holds};
 ghost use Rattle.persistent_slots.specs.Clearing.{taken};
 
 use crate::marks::is_marked;

@@ -1,4 +1,4 @@
-use Rattle.page_words.specs.Seat.{holds}
+use Rattle.marker_core.specs.Bodies.{holds}
 use Rattle.nodes_in_words.specs.Judgement.{nodes_after}
 use Rattle.nodes_in_words.specs.Places.{kept_of}
 use Rattle.atomic_pause.proofs.judging.judged.Given as goal

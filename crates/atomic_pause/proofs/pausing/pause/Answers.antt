@@ -8,8 +8,9 @@ use Rattle.persistent_slots.specs.Clearing.{taken}
 use Rattle.callback_table.specs.declared.registry.Registered.{Registered}
 use Rattle.callback_table.specs.Registry.{IsRegistered}
 use Rattle.callback_table.specs.Table.{kinds_of}
-use Rattle.page_words.specs.Bodies.{Body, IsPlace}
-use Rattle.page_words.specs.Seat.{SeatView, holds}
+use Rattle.marker_core.specs.Bodies.{IsPlace, holds}
+use Rattle.marker_core.specs.declared.states.Body.{Body}
+use Rattle.page_words.specs.Seat.{SeatView}
 use Rattle.page_space.specs.Space.{extents_of_bodies}
 use Rattle.ephemerons.specs.BodyGraph.{AreReferences, PlacesDiffer}
 use Rattle.ephemerons.specs.ListedMarks.{ListsMarks-then}

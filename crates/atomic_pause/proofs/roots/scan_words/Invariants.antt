@@ -1,6 +1,6 @@
 use Rattle.std.proofs.Common.{◌≡◌, ℕ, true, take}
 use mathlib.Core.Logic.{◌⊎◌}
-use Rattle.page_words.specs.Seat.{holds}
+use Rattle.marker_core.specs.Bodies.{holds}
 use Rattle.ephemerons.specs.Fixpoint.{ListsMarks}
 use Rattle.atomic_pause.specs.Marking.{IsHitPlace}
 use Rattle.atomic_pause.proofs.roots.scan_words.Given as goal

@@ -2,7 +2,7 @@ use Rattle.std.proofs.Common.{◌<◌, length, None, Some, inl, inr, sym, ap, �
 use Rattle.std.specs.Option.{ForSome}
 use Rattle.std.proofs.lemmas.List.Elements.{All-get_or}
 use Rattle.gc_graph.specs.Members.{Contains-take_more_cases, Contains-take_more_old, Contains-take_more_new}
-use Rattle.page_words.specs.Bodies.{IsPlace}
+use Rattle.marker_core.specs.Bodies.{IsPlace}
 use Rattle.page_words.specs.Seat.{SeatView}
 use Rattle.ephemerons.specs.ListedMarks.{ListsMarks-then}
 use Rattle.atomic_pause.proofs.roots.visit_slots.Goals as goal

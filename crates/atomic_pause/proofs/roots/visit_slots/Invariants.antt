@@ -1,7 +1,7 @@
 use Rattle.std.proofs.Common.{◌≡◌, ℕ, true, take, Some}
 use mathlib.Core.Logic.{◌⊎◌}
 use Rattle.std.specs.List.{Contains}
-use Rattle.page_words.specs.Seat.{holds}
+use Rattle.marker_core.specs.Bodies.{holds}
 use Rattle.ephemerons.specs.Fixpoint.{ListsMarks}
 use Rattle.atomic_pause.proofs.roots.visit_slots.Given as goal
 

@@ -1,7 +1,18 @@
 use Rattle.std.proofs.Common.{None}
+use Rattle.mark_worklist.specs.Refusals.{refusals_of}
 use Rattle.ephemerons.specs.Fixpoint.{stage}
-use Rattle.ephemerons.proofs.Stages.{Works-popped, Works-then}
+use Rattle.ephemerons.proofs.Stages.{ground_popped, Works-popped, Works-then}
 use Rattle.ephemerons.proofs.draining.drain_alone.Goals as goal
+
+pub trace_grey-requires-clause-ground : goal.trace_grey-requires-clause-ground
+trace_grey-requires-clause-ground c =
+    (ground_popped c.args.types.now (stage c.loop-place.seat c.loop-place.marking c.loop-place.groups c.loop-place.traced) c.pop.new.self.items
+    c.in-Some.place (refusals_of (record c.loop-place.marking { list = c.pop.new.self })) c.in-Some.ensures.items c.loop-place.invariant.ground).0
+
+pub trace_grey-requires-clause-place : goal.trace_grey-requires-clause-place
+trace_grey-requires-clause-place c =
+    (ground_popped c.args.types.now (stage c.loop-place.seat c.loop-place.marking c.loop-place.groups c.loop-place.traced) c.pop.new.self.items
+    c.in-Some.place (refusals_of (record c.loop-place.marking { list = c.pop.new.self })) c.in-Some.ensures.items c.loop-place.invariant.ground).1
 
 pub loop-place-preserved : goal.loop-place-preserved
 loop-place-preserved c = record {

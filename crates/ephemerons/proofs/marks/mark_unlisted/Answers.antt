@@ -1,5 +1,6 @@
 use Rattle.std.proofs.Common.{◌≡◌, false, sym, ap, ◌∙◌}
-use Rattle.page_words.specs.Seat.{SeatView, holds, marked_at}
+use Rattle.marker_core.specs.Bodies.{holds}
+use Rattle.page_words.specs.Seat.{SeatView, marked_at}
 use Rattle.ephemerons.proofs.MarkSteps.{mark_lists}
 use Rattle.ephemerons.proofs.Holding.{in_hand}
 use Rattle.ephemerons.proofs.marks.mark_unlisted.Goals as goal

@@ -1,5 +1,5 @@
 use Rattle.std.proofs.Common.{◌≡◌, ◌-◌, ◌∙◌, ap, sym, arith}
-use Rattle.page_words.specs.Bodies.{Body}
+use Rattle.marker_core.specs.declared.states.Body.{Body}
 use Rattle.ephemerons.specs.BodyGraph.{word_at}
 use Rattle.page_words.specs.BodyPlaces.{same_body}
 use Rattle.ephemerons.proofs.marks.word_of.Goals as goal

@@ -1,7 +1,7 @@
 use Rattle.std.proofs.Common.{◌≡◌, true, sym, ap, ◌∙◌, subst, inl, inr}
 use Rattle.std.specs.List.{Contains}
-use Rattle.page_words.specs.Bodies.{IsReference}
-use Rattle.page_words.specs.Seat.{SeatView, holds}
+use Rattle.marker_core.specs.Bodies.{IsReference, holds}
+use Rattle.page_words.specs.Seat.{SeatView}
 use Rattle.ephemerons.specs.BodyGraph.{word_at}
 use Rattle.ephemerons.proofs.Graph.{strong_within}
 use Rattle.ephemerons.proofs.Holding.{no_marking}

@@ -1,6 +1,7 @@
 use Rattle.std.proofs.Common.{true, false, ◌∙◌, subst}
 use Rattle.std.specs.List.{Contains}
-use Rattle.page_words.specs.Seat.{SeatView, holds}
+use Rattle.marker_core.specs.Bodies.{holds}
+use Rattle.page_words.specs.Seat.{SeatView}
 use Rattle.ephemerons.proofs.tracing.claim.Goals as goal
 
 pub claim-requires-clause-header : goal.claim-requires-clause-header

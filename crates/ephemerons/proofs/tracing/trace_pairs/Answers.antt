@@ -3,7 +3,7 @@ use Rattle.std.specs.List.{Contains}
 use Rattle.std.proofs.lemmas.List.{take_all}
 use Rattle.gc_graph.specs.declared.kind.Kind.TheVariants.{Pair}
 use Rattle.type_table.specs.Types.{kinds_of, offsets_of_kind}
-use Rattle.page_words.specs.Bodies.{Body}
+use Rattle.marker_core.specs.declared.states.Body.{Body}
 use Rattle.ephemerons.specs.BodyGraph.{AreReferences, HasPair, pair_offsets}
 use Rattle.ephemerons.specs.Notes.{NotesGrow, HasPairNoted}
 use Rattle.ephemerons.proofs.Graph.{GrowsWithin-then}

@@ -1,5 +1,6 @@
 use Rattle.std.proofs.Common.{◌≡◌, None, true, ap, subst, sym}
-use Rattle.page_words.specs.Seat.{SeatView, holds}
+use Rattle.marker_core.specs.Bodies.{holds}
+use Rattle.page_words.specs.Seat.{SeatView}
 use Rattle.ephemerons.specs.Fixpoint.{Stage}
 use Rattle.ephemerons.proofs.Stages.{Looks-then, Looks-free}
 use Rattle.ephemerons.proofs.walking.settle_object.Goals as goal

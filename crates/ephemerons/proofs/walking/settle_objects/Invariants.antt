@@ -1,5 +1,5 @@
 use Rattle.std.proofs.Common.{◌≡◌, ℕ, ◌-◌, ◌<◌, false, None}
-use Rattle.page_words.specs.Bodies.{IsPlace}
+use Rattle.marker_core.specs.Bodies.{IsPlace}
 use Rattle.ephemerons.specs.Fixpoint.{IsGround, IsSettledAt, Looks, stage}
 use Rattle.ephemerons.proofs.walking.settle_objects.Given as goal
 

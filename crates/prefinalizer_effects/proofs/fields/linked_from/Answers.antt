@@ -1,7 +1,7 @@
 use Rattle.std.proofs.Common.{ap, subst}
 use Rattle.gc_graph.specs.declared.kind.Kind.TheVariants.{Strong}
 use Rattle.type_table.specs.Types.{is_kind}
-use Rattle.page_words.specs.Bodies.{IsReference}
+use Rattle.marker_core.specs.Bodies.{IsReference}
 use Rattle.page_words.specs.Seat.{SeatView}
 use Rattle.member_fields.specs.Words.{IsWordIn}
 use Rattle.prefinalizer_effects.proofs.FieldWords.{link_reference, reference_fits, names_place}

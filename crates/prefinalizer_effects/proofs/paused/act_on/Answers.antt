@@ -6,7 +6,7 @@ use Rattle.gc_graph.specs.ActionLaw.{HaveStayed, AreTyped}
 use Rattle.gc_graph.specs.Actions.{acted}
 use Rattle.gc_graph.specs.Valid.{IsTyped}
 use Rattle.callback_table.specs.Bodies.{StandsAt}
-use Rattle.page_words.specs.Bodies.{Body}
+use Rattle.marker_core.specs.declared.states.Body.{Body}
 use Rattle.page_words.specs.Seat.{SeatView}
 use Rattle.prefinalizer_effects.specs.Acting as words
 use Rattle.nodes_in_words.specs.Nodes.{IsThere, place_of, body_of, IsHeld}

@@ -1,8 +1,9 @@
 use Rattle.std.proofs.Common.{◌≡◌, List, ap, ◌∙◌}
 use Rattle.gc_graph.specs.State.{Node, node_at}
 use Rattle.object_headers.specs.declared.header.Header.{Header}
-use Rattle.page_words.specs.Bodies.{Body}
-use Rattle.page_words.specs.Seat.{SeatView, holds}
+use Rattle.marker_core.specs.declared.states.Body.{Body}
+use Rattle.marker_core.specs.Bodies.{holds}
+use Rattle.page_words.specs.Seat.{SeatView}
 use Rattle.nodes_in_words.specs.Nodes.{place_of, body_of}
 use Rattle.nodes_in_words.specs.NodePlaces.{node_body}
 use Rattle.prefinalizer_effects.proofs.StandingNodes.{stands_there, stands_body, mark_tells}

@@ -2,7 +2,7 @@ use Rattle.std.proofs.Common.{List, [], length, sym, ap, ◌∙◌}
 use Rattle.std.proofs.lemmas.List.Elements.{All-get_or}
 use Rattle.gc_graph.specs.State.{Setup, Node, node_at, no_node}
 use Rattle.gc_graph.specs.Valid.{IsTyped}
-use Rattle.page_words.specs.Bodies.{Body}
+use Rattle.marker_core.specs.declared.states.Body.{Body}
 use Rattle.page_words.specs.Seat.{SeatView}
 use Rattle.prefinalizer_effects.specs.Shown as shown
 use Rattle.prefinalizer_effects.specs.Prepared.{setup_of}

@@ -1,7 +1,7 @@
 use Rattle.std.proofs.Common.{◌≡◌, ◌+◌, ◌≤◌, true, not, arith, subst, sym, ap, ◌∙◌}
 use Rattle.object_headers.specs.declared.header.Header.{Header}
-use Rattle.page_words.specs.Bodies.{IsPlace}
-use Rattle.page_words.specs.Seat.{SeatView, holds, unmarked_at, retracted}
+use Rattle.marker_core.specs.Bodies.{IsPlace, holds}
+use Rattle.page_words.specs.Seat.{SeatView, unmarked_at, retracted}
 use Rattle.sweeper.specs.Sweeping.{Sweeps, dead_from}
 use Rattle.sweeper.proofs.Sweeping.{one_kept, one_gone, alone, dead_here}
 use Rattle.sweeper.proofs.objects.sweep_object.Goals as goal

@@ -1,5 +1,5 @@
 use Rattle.std.proofs.Common.{◌<◌, ◌^◌, refl, ◌∙◌, arith}
-use Rattle.page_words.specs.Bodies.{Body}
+use Rattle.marker_core.specs.declared.states.Body.{Body}
 use Rattle.sweeper.proofs.Sweeping.{nothing, sweeps_on, judged_on, serials_stay}
 use Rattle.sweeper.proofs.objects.sweep_objects.Goals as goal
 

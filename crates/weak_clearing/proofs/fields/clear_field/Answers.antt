@@ -1,6 +1,6 @@
 use Rattle.std.proofs.Common.{◌≡◌, true, false, refl, ap, sym, ◌∙◌, subst, inl}
 use Rattle.gc_graph.specs.Fields.{is_reference, is_weak}
-use Rattle.page_words.specs.Bodies.{IsReference}
+use Rattle.marker_core.specs.Bodies.{IsReference}
 use Rattle.page_words.specs.Seat.{SeatView}
 use Rattle.member_fields.specs.Words.{HasWord, written}
 use Rattle.weak_clearing.specs.declared.weak_handles.WeakHandles.TheVariants.{Fields}

@@ -1,6 +1,8 @@
 use Rattle.std.proofs.Common.{true, sym, ap, ◌∙◌}
-use Rattle.page_words.specs.Bodies.{Body, IsWhole}
-use Rattle.page_words.specs.Seat.{SeatView, holds}
+use Rattle.marker_core.specs.declared.states.Body.{Body}
+use Rattle.page_words.specs.Bodies.{IsWhole}
+use Rattle.marker_core.specs.Bodies.{holds}
+use Rattle.page_words.specs.Seat.{SeatView}
 use Rattle.weak_clearing.proofs.MarkWords.{whole_of, marked_word}
 use Rattle.weak_clearing.proofs.marks.marked_type.Goals as goal
 

@@ -1,5 +1,5 @@
 use Rattle.std.proofs.Common.{◌≡◌, true, false, ap, sym, ◌∙◌, subst}
-use Rattle.page_words.specs.Bodies.{IsReference}
+use Rattle.marker_core.specs.Bodies.{IsReference}
 use Rattle.page_words.specs.Seat.{SeatView}
 use Rattle.member_fields.specs.Words.{HasPair, pair_written}
 use Rattle.weak_clearing.specs.declared.weak_handles.WeakHandles.TheVariants.{Pairs}

@@ -1,7 +1,7 @@
 use Rattle.std.proofs.Common.{◌≡◌, ℕ, List, Bool, true, false, not, cond, Option, None, Some, get_or, set, ap, sym, ◌∙◌}
 use Rattle.std.proofs.lemmas.List.{set-get_or}
 use Rattle.gc_graph.specs.Pause.{clear_slot}
-use Rattle.page_words.specs.Seat.{holds}
+use Rattle.marker_core.specs.Bodies.{holds}
 use Rattle.weak_clearing.proofs.slots.clear_at.Goals as goal
 
 abbrev cleared : List ℕ → Option ℕ → Option ℕ

@@ -1,8 +1,8 @@
 use Rattle.std.proofs.Common.{◌<◌, ℕ, Bool, not, None, get_or, length, set, ap, sym, ◌∙◌, subst, arith}
 use Rattle.std.specs.Option.{ForSome}
 use Rattle.gc_graph.specs.Pause.{clear_slot}
-use Rattle.page_words.specs.Bodies.{IsPlace}
-use Rattle.page_words.specs.Seat.{SeatView, holds}
+use Rattle.marker_core.specs.Bodies.{IsPlace, holds}
+use Rattle.page_words.specs.Seat.{SeatView}
 use Rattle.weak_clearing.proofs.InTurn.{first_many, next_same, next_cleared, all_cleared, place_in_slot}
 use Rattle.weak_clearing.proofs.slots.clear_slots.Goals as goal
 

@@ -1,5 +1,5 @@
 use Rattle.std.proofs.Common.{◌≡◌, not}
-use Rattle.page_words.specs.Seat.{holds}
+use Rattle.marker_core.specs.Bodies.{holds}
 use Rattle.weak_clearing.proofs.InTurn.{clear_first}
 use Rattle.weak_clearing.proofs.slots.clear_slots.Given as goal
 

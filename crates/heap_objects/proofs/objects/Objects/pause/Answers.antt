@@ -2,7 +2,7 @@ use Rattle.std.proofs.Common.{◌≡◌, List, sym, ap, ◌∙◌, subst}
 use Rattle.std.specs.List.{All}
 use Rattle.std.specs.Option.{ForSome}
 use Rattle.gc_graph.specs.State.{Node}
-use Rattle.page_words.specs.Bodies.{IsPlace}
+use Rattle.marker_core.specs.Bodies.{IsPlace}
 use Rattle.page_words.specs.Seat.{SeatView}
 use Rattle.persistent_slots.specs.Clearing.{taken}
 use Rattle.nodes_in_words.specs.Nodes.{bodies_of}

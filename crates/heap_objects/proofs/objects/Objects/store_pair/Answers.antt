@@ -2,7 +2,7 @@ use Rattle.std.proofs.Common.{◌≡◌, ℕ, ◌+◌, ◌∙◌, List, length, 
 use Rattle.gc_graph.specs.declared.kind.Value.{Value}
 use Rattle.gc_graph.specs.State.{Setup, Node, node_at}
 use Rattle.gc_graph.specs.Fields.{word_of_field}
-use Rattle.page_words.specs.Bodies.{IsReference}
+use Rattle.marker_core.specs.Bodies.{IsReference}
 use Rattle.page_words.specs.Seat.{SeatView, stored}
 use Rattle.page_space.specs.Space.{IsSpaceOf}
 use Rattle.heap_objects.specs.declared.field.Field.{Field}

@@ -1,7 +1,7 @@
 use Rattle.std.proofs.Common.{ap, ◌∙◌, subst, length}
 use Rattle.std.specs.List.{sum_by}
 use Rattle.gc_graph.specs.Placement.{IsUsedPages}
-use Rattle.page_words.specs.Bodies.{Body}
+use Rattle.marker_core.specs.declared.states.Body.{Body}
 use Rattle.page_space.specs.Space.{extents_of_bodies}
 use Rattle.nodes_in_words.specs.Nodes.{place_of}
 use Rattle.nodes_in_words.specs.NodeBodies.{extents-bodies, length-bodies, used-bodies}

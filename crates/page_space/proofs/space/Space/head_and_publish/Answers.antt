@@ -1,5 +1,5 @@
 use Rattle.std.proofs.Common.{◌≡◌, ℕ, ◌+◌, ◌-◌, ◌^◌, ◌<◌, ◌≤◌, true, false, ap, ◌∙◌, sym, subst, arith, rules}
-use Rattle.page_words.specs.Bodies.{IsInBody}
+use Rattle.marker_core.specs.Bodies.{IsInBody}
 use Rattle.object_headers.specs.Layout.{header_word}
 use Rattle.page_words.specs.Seat.{IsReady, filled_with, published}
 use Rattle.page_space.specs.Pages.{word_count}

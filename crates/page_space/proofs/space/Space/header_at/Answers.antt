@@ -1,8 +1,9 @@
 use Rattle.std.proofs.Common.{◌≡◌, ◌≤◌, subst, sym, arith}
 use Rattle.std.specs.List.{Contains}
 use Rattle.object_headers.specs.Layout.{IsHeaderWord}
-use Rattle.page_words.specs.Bodies.{Body, IsWhole}
-use Rattle.page_words.specs.Seat.{holds}
+use Rattle.marker_core.specs.declared.states.Body.{Body}
+use Rattle.page_words.specs.Bodies.{IsWhole}
+use Rattle.marker_core.specs.Bodies.{holds}
 use Rattle.page_space.specs.Space.{header_in}
 use Rattle.page_space.proofs.PlaceBodies.{tells_size, header_is_one}
 use Rattle.page_words.specs.BodyPlaces.{two_words, whole_body}

@@ -1,5 +1,6 @@
 use Rattle.std.proofs.Common.{◌≡◌, arith}
-use Rattle.page_words.specs.Bodies.{Body, IsPlace}
+use Rattle.marker_core.specs.Bodies.{IsPlace}
+use Rattle.marker_core.specs.declared.states.Body.{Body}
 use Rattle.page_space.proofs.PlaceBodies.{tells_size}
 use Rattle.page_space.proofs.space.Space.start_of.Goals as goal
 

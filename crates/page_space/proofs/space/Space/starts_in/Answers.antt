@@ -1,6 +1,7 @@
 use Rattle.std.proofs.Common.{◌≡◌, ℕ, ◌+◌, ◌*◌, ◌%◌, ap, ◌∙◌, sym, arith}
 use Rattle.std.specs.Int.{bit_at}
-use Rattle.page_words.specs.Seat.{IsWordAt, bitmap_at}
+use Rattle.marker_core.specs.Layout.{bitmap_at}
+use Rattle.page_words.specs.Seat.{IsWordAt}
 use Rattle.page_space.specs.Pages.{word_count}
 use Rattle.page_space.proofs.space.Space.starts_in.Goals as goal
 

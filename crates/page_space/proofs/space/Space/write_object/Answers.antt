@@ -1,5 +1,6 @@
 use Rattle.std.proofs.Common.{◌≡◌, ◌+◌, ◌-◌, ◌≤◌, ◌∙◌, refl, ap, sym, subst, arith}
-use Rattle.page_words.specs.Bodies.{Body, IsInBody}
+use Rattle.marker_core.specs.Bodies.{IsInBody}
+use Rattle.marker_core.specs.declared.states.Body.{Body}
 use Rattle.page_words.specs.Seat.{SeatView, nulled}
 use Rattle.page_space.specs.Occupying.{HasNulls, new_body}
 use Rattle.page_space.proofs.OccupyFilled.{nulls_filled, only_nulled, nulls_inside, occupies_before}

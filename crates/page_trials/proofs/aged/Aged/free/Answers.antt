@@ -1,7 +1,8 @@
 use Rattle.std.proofs.Common.{◌≡◌, ℕ, true, false, not, List, [], ◌∷◌, ◌++◌, refl, ap, sym, ◌∙◌, map, filter, eqb, cond}
 use Rattle.std.proofs.lemmas.List.Elements.{filter-append}
-use Rattle.page_words.specs.Bodies.{Body}
-use Rattle.page_words.specs.Seat.{SeatView, retracted, without}
+use Rattle.marker_core.specs.declared.states.Body.{Body}
+use Rattle.marker_core.specs.Bodies.{without}
+use Rattle.page_words.specs.Seat.{SeatView, retracted}
 use Rattle.page_trials.proofs.aged.Aged.free.Goals as goal
 
 places_without : (bodies : List Body) (a : ℕ) → map (λ (b : Body). b.place) (filter (λ b. not (eqb b.place a)) bodies) ≡ without (map (λ (b : Body). b.place) bodies) a

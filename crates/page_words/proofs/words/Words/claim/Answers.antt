@@ -1,7 +1,8 @@
 use Rattle.std.proofs.Common.{rules, ◌≡◌, sym, subst, ◌∙◌, eqb, true, false, Contains}
 use Rattle.std.proofs.lemmas.Bool.{eq-eqb, ne_eqb}
 use Rattle.page_words.specs.declared.mutator.MutatorSeat.TheInside.{Inside}
-use Rattle.page_words.specs.Bodies.{Body, IsPlace}
+use Rattle.marker_core.specs.Bodies.{IsPlace}
+use Rattle.marker_core.specs.declared.states.Body.{Body}
 use Rattle.object_headers.specs.Layout.{header_word}
 use Rattle.page_words.specs.Seat.{SeatView, is_grey, claimed_at}
 use Rattle.page_words.specs.Ties.{Ties}

@@ -1,5 +1,5 @@
 use Rattle.std.proofs.Common.{rules, sym, subst, set}
-use Rattle.page_words.specs.Bodies.{IsInBody}
+use Rattle.marker_core.specs.Bodies.{IsInBody}
 use Rattle.page_words.specs.Seat.{SeatView}
 use Rattle.page_words.specs.Ties.{Ties}
 use Rattle.page_words.proofs.Filled.{fills}

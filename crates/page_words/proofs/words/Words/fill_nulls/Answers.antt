@@ -1,5 +1,5 @@
 use Rattle.std.proofs.Common.{◌≡◌, ◌-◌, length, subst, ap, ◌∙◌, arith}
-use Rattle.page_words.specs.Bodies.{IsInBody}
+use Rattle.marker_core.specs.Bodies.{IsInBody}
 use Rattle.page_words.specs.Seat.{SeatView, nulled}
 use Rattle.page_words.specs.Ties.{Ties, cleared}
 use Rattle.page_words.proofs.Nulled.{nulls, cleared_length, all_back}

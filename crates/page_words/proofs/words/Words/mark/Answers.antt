@@ -1,5 +1,6 @@
 use Rattle.std.proofs.Common.{rules, sym, subst, set, ap, not, ◌∙◌}
-use Rattle.page_words.specs.Seat.{SeatView, holds}
+use Rattle.marker_core.specs.Bodies.{holds}
+use Rattle.page_words.specs.Seat.{SeatView}
 use Rattle.page_words.specs.Ties.{Ties}
 use Rattle.page_words.proofs.Marks.{marks, mark_is_fresh}
 use Rattle.page_words.proofs.words.Words.mark.Goals as goal

@@ -1,5 +1,6 @@
 use Rattle.std.proofs.Common.{rules, ◌≡◌, ◌+◌, ◌/◌, ◌%◌, true, sym, subst, set}
-use Rattle.page_words.specs.Seat.{SeatView, holds}
+use Rattle.marker_core.specs.Bodies.{holds}
+use Rattle.page_words.specs.Seat.{SeatView}
 use Rattle.page_words.specs.Ties.{Ties}
 use Rattle.page_words.proofs.Bits.{without_bit}
 use Rattle.page_words.proofs.Retracted.{retracts}

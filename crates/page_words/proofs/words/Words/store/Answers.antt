@@ -1,5 +1,5 @@
 use Rattle.std.proofs.Common.{sym, subst, set}
-use Rattle.page_words.specs.Bodies.{IsFieldWord}
+use Rattle.marker_core.specs.Bodies.{IsFieldWord}
 use Rattle.page_words.specs.Seat.{SeatView}
 use Rattle.page_words.specs.Ties.{Ties}
 use Rattle.page_words.proofs.Stored.{stores}

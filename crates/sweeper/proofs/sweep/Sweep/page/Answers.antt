@@ -1,7 +1,7 @@
 use Rattle.std.proofs.Common.{rules, length, ◌≡◌, ℕ, ◌+◌, ◌-◌, ◌*◌, ◌^◌, ◌<◌, ◌≤◌, subst, sym, ap, ◌∙◌, arith}
 use Rattle.std.proofs.lemmas.List.{length-append}
 use Rattle.gc_graph.specs.State.{Shape}
-use Rattle.page_words.specs.Bodies.{Body}
+use Rattle.marker_core.specs.declared.states.Body.{Body}
 use Rattle.page_words.specs.Seat.{SeatView}
 use Rattle.page_space.specs.Pages.{word_count}
 use Rattle.sweeper.specs.Sweeping.{SweepView, cursor_at, dead_from, IsJudgedFrom, IsClearBelow, Sweeps}
