@@ -4,3 +4,4 @@ pub mod Ties
 -- Lemmas that the crates above cite too, since a crate's proofs/ can't be cited from another.
 pub mod BodyPlaces
 pub mod WrittenBodies
+pub mod Roles
