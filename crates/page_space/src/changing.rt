@@ -1,6 +1,6 @@
 // A new object in free words, and a dead one that goes.
 
-ghost use Rattle.std.specs.Prelude.{◌≡◌, ℕ, ◌+◌, ◌-◌, ◌^◌, ◌<◌, ◌≤◌, false, true};
+ghost use Rattle.std.specs.Prelude.{◌≡◌, ℕ, ◌+◌, ◌-◌, ◌^◌, ◌<◌, ◌≤◌, false, true, Contains};
 ghost use Rattle.object_headers.specs.Offsets.{first_field};
 ghost use Rattle.page_words.specs.Bodies.{Body};
 ghost use Rattle.page_words.specs.Seat.{holds, retracted};
@@ -36,18 +36,18 @@ impl Space {
         self.table.enter(page, after, bucket);
     }
 
-    /// Takes a dead object away, while no marking goes on.
-    pub fn free(&mut self, seat: &mut MutatorSeat, a: u32)
+    /// Takes a dead object of a size away, while no marking goes on.
+    pub fn free(&mut self, seat: &mut MutatorSeat, a: u32, size: u32)
         requires space { IsSpaceOf self.old seat.old }
         requires off { seat.old.on ≡ false }
         requires dead { holds seat.old.dead a ≡ true }
+        requires size { (b : Body) → Contains seat.old.bodies b → b.place ≡ a → size ≡ b.size }
         ensures freed { seat.new ≡ retracted seat.old a }
         ensures space { IsSpaceOf self.new seat.new }
         ensures shape { self.new.shape ≡ self.old.shape }
     {
         seat.bodies_lie_apart();
         self.shape_is_valid();
-        let size = self.header_at(seat, a).size;
         self.open_gap(seat, a, size);
         self.words.retract(seat, a);
         self.objects -= 1;

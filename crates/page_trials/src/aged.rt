@@ -158,7 +158,9 @@ impl Aged {
             return None;
         }
         let place = self.dead[chosen as usize % self.dead.len()];
-        self.space.free(&mut self.seat, place);
+        self.seat.bodies_lie_apart();
+        let size = self.space.header_at(&mut self.seat, place).size;
+        self.space.free(&mut self.seat, place, size);
         leave_out(&mut self.dead, place);
         leave_out(&mut self.young, place);
         Some(place)

@@ -96,7 +96,7 @@ fn sweep_object(space: &mut Space, seat: &mut MutatorSeat, a: u32, done: &mut Ve
         space.words().unmark(seat, a);
     } else {
         done.push_reserved(space.serial_at(seat, a));
-        space.free(seat, a);
+        space.free(seat, a, header.size);
     }
     header.size
 }

@@ -1,7 +1,9 @@
-use Rattle.std.proofs.Common.{◌≡◌, ℕ, true, false, not, List, [], ◌∷◌, ◌++◌, refl, ap, sym, ◌∙◌, map, filter, eqb, cond}
+use Rattle.std.proofs.Common.{subst, ◌≡◌, ℕ, true, false, not, List, [], ◌∷◌, ◌++◌, refl, ap, sym, ◌∙◌, map, filter, eqb, cond, arith}
+use Rattle.std.proofs.lemmas.Grind.{common_steps}
 use Rattle.std.proofs.lemmas.List.Elements.{filter-append}
+use Rattle.std.specs.List.{Contains}
 use Rattle.page_words.specs.Bodies.{Body}
-use Rattle.page_words.specs.Seat.{SeatView, retracted, without}
+use Rattle.page_words.specs.Seat.{SeatView, holds, retracted, without}
 use Rattle.page_trials.proofs.aged.Aged.free.Goals as goal
 
 places_without : (bodies : List Body) (a : ℕ) → map (λ (b : Body). b.place) (filter (λ b. not (eqb b.place a)) bodies) ≡ without (map (λ (b : Body). b.place) bodies) a
@@ -12,10 +14,20 @@ places_without (b ∷ bodies) a = elim (not (eqb b.place a)) as (λ t. map (λ (
       | false ↦ places_without bodies a
     ]
 
+pub header_at-size-requires-clause-start : goal.header_at-size-requires-clause-start
+header_at-size-requires-clause-start c =
+    let dead : holds c.self.inside.seat.dead c.index-place.result.now ≡ true = grind (arith, common_steps) in
+    (c.bodies_lie_apart.ensures.dead_are_unmarked c.index-place.result.now dead).0
+
+pub free-requires-clause-size : goal.free-requires-clause-size
+free-requires-clause-size c =
+    subst (λ (v : SeatView). (b : Body) → Contains v.bodies b → b.place ≡ c.index-place.result.now → c.header_at-size.result.size ≡ b.size)
+    (sym c.header_at-size.ensures.view) (λ b there at. ap (λ h. h.size) (c.header_at-size.ensures.header b there at))
+
 pub invariant_of-self : goal.invariant_of-self
 invariant_of-self c =
     let a = c.index-place.result.now in
-    let freed : c.free.new.seat ≡ retracted c.self.inside.seat a = c.free.ensures.freed in (
+    let freed : c.free.new.seat ≡ retracted c.self.inside.seat a = c.free.ensures.freed ∙ ap (λ v. retracted v a) c.header_at-size.ensures.view in (
       c.free.ensures.space,
       ap (λ (v : SeatView). v.on) freed ∙ c.self.invariant.1,
       ap (λ (v : SeatView). v.marked) freed ∙ c.self.invariant.2,
