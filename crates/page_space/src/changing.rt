@@ -3,7 +3,7 @@
 ghost use Rattle.std.specs.Prelude.{◌≡◌, ℕ, ◌+◌, ◌-◌, ◌^◌, ◌<◌, ◌≤◌, false, true, Contains};
 ghost use Rattle.object_headers.specs.Offsets.{first_field};
 ghost use Rattle.page_words.specs.Bodies.{Body};
-ghost use Rattle.page_words.specs.Seat.{holds, retracted};
+ghost use Rattle.page_words.specs.Seat.{IsUnnamed, holds, retracted};
 ghost use Rattle.page_space.specs.Space.{IsSeatOf, IsSpaceOf, IsFreePlace, extents_of_bodies};
 ghost use Rattle.page_space.specs.Occupying.{IsRoom, HasNulls, Occupies, new_body};
 
@@ -36,11 +36,13 @@ impl Space {
         self.table.enter(page, after, bucket);
     }
 
-    /// Takes a dead object of a size away, while no marking goes on.
+    /// Takes a dead object of a size away to which no object that isn't dead refers, while no marking
+    /// goes on.
     pub fn free(&mut self, seat: &mut MutatorSeat, a: u32, size: u32)
         requires space { IsSpaceOf self.old seat.old }
         requires off { seat.old.on ≡ false }
         requires dead { holds seat.old.dead a ≡ true }
+        requires unnamed { IsUnnamed seat.old.types seat.old.bodies seat.old.dead a }
         requires size { (b : Body) → Contains seat.old.bodies b → b.place ≡ a → size ≡ b.size }
         ensures freed { seat.new ≡ retracted seat.old a }
         ensures space { IsSpaceOf self.new seat.new }

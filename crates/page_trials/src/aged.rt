@@ -33,7 +33,8 @@ impl Model for Aged {
 
     ghost invariant = { λ h. IsSpaceOf h.space h.seat × (h.seat.on ≡ false)
         × (h.seat.marked ≡ []) × (h.seat.traced ≡ []) × (h.seat.dead ≡ h.dead.items)
-        × (map (λ b. b.place) h.seat.bodies ≡ h.dead.items ++ h.young.items) };
+        × (map (λ b. b.place) h.seat.bodies ≡ h.dead.items ++ h.young.items)
+        × (h.seat.types ≡ []) };
 }
 
 impl Aged {

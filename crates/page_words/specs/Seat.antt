@@ -3,7 +3,7 @@ use Rattle.std.specs.Prelude.{◌≡◌, ℕ, zero, suc, ◌+◌, ◌/◌, ◌%�
 use Rattle.std.specs.List.{list_any}
 use Rattle.gc_graph.specs.State.{ObjectType}
 use Rattle.object_headers.specs.Layout.{header_word}
-use Rattle.object_headers.specs.Offsets.{serial_offset}
+use Rattle.object_headers.specs.Offsets.{serial_offset, reference_to}
 use Rattle.page_words.specs.Bodies.{Body, end_of, fields_at, IsPlace, IsInBody, with_word, is_reference_word, IsWhole}
 
 -- a word that was filled outside the bodies
@@ -90,6 +90,12 @@ published v b =
       bodies = v.bodies ++ b ∷ [];
       filled = filter (λ f. not (nat_le b.place f.address && nat_lt f.address (end_of b))) v.filled;
     }
+
+-- no reference word of a body that isn't dead names a
+abbrev pub IsUnnamed : List ObjectType → List Body → List ℕ → ℕ → Type 0
+IsUnnamed types bodies dead a =
+    (b : Body) (i : ℕ) → Contains bodies b → holds dead b.place ≡ false → i < length b.fields → is_reference_word types b i ≡ true
+    → slice_index b.fields i ≡ reference_to a → ⊥
 
 -- the dead body at a is no longer there
 abbrev pub retracted : SeatView → ℕ → SeatView

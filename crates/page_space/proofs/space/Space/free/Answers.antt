@@ -2,7 +2,7 @@ use Rattle.std.proofs.Common.{rules, ◌≡◌, ℕ, ◌+◌, ◌-◌, ◌^◌, 
 use Rattle.std.specs.List.{Contains, filter, sum_by}
 use Rattle.gc_graph.specs.Placement.{Extent}
 use Rattle.page_words.specs.Bodies.{Body, IsPlace}
-use Rattle.page_words.specs.Seat.{SeatView, IsView, holds}
+use Rattle.page_words.specs.Seat.{SeatView, IsView, IsUnnamed, holds}
 use Rattle.page_words.specs.BodyPlaces.{two_words, within_heap}
 use Rattle.gap_bounds.specs.Gaps.{KnowsGaps}
 use Rattle.page_space.specs.Pages.{word_count}
@@ -38,6 +38,10 @@ freed_inside v a size is dead told =
 pub open_gap-requires-clause-object : goal.open_gap-requires-clause-object
 open_gap-requires-clause-object c =
     freed_extent c.args.seat.now c.args.a c.args.size c.bodies_lie_apart.ensures c.requires.dead c.requires.size
+
+pub retract-requires-clause-unnamed : goal.retract-requires-clause-unnamed
+retract-requires-clause-unnamed c =
+    subst (λ (v : SeatView). IsUnnamed v.types v.bodies v.dead c.args.a) (sym c.open_gap.ensures.view) c.requires.unnamed
 
 pub overflow_sub-self-2 : goal.overflow_sub-self-2
 overflow_sub-self-2 c =

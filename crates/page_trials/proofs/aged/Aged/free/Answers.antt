@@ -2,8 +2,10 @@ use Rattle.std.proofs.Common.{subst, ◌≡◌, ℕ, true, false, not, List, [],
 use Rattle.std.proofs.lemmas.Grind.{common_steps}
 use Rattle.std.proofs.lemmas.List.Elements.{filter-append}
 use Rattle.std.specs.List.{Contains}
-use Rattle.page_words.specs.Bodies.{Body}
-use Rattle.page_words.specs.Seat.{SeatView, holds, retracted, without}
+use Rattle.std.proofs.lemmas.Bool.{true≢false}
+use Rattle.gc_graph.specs.State.{ObjectType}
+use Rattle.page_words.specs.Bodies.{Body, is_reference_word}
+use Rattle.page_words.specs.Seat.{SeatView, IsUnnamed, holds, retracted, without}
 use Rattle.page_trials.proofs.aged.Aged.free.Goals as goal
 
 places_without : (bodies : List Body) (a : ℕ) → map (λ (b : Body). b.place) (filter (λ b. not (eqb b.place a)) bodies) ≡ without (map (λ (b : Body). b.place) bodies) a
@@ -14,6 +16,11 @@ places_without (b ∷ bodies) a = elim (not (eqb b.place a)) as (λ t. map (λ (
       | false ↦ places_without bodies a
     ]
 
+-- where there are no types each word is plain
+nothing_named : (types : List ObjectType) (bodies : List Body) (dead : List ℕ) (a : ℕ) → types ≡ [] → IsUnnamed types bodies dead a
+nothing_named types bodies dead a none b i there alive low reference named =
+    true≢false (sym reference ∙ ap (λ (ts : List ObjectType). is_reference_word ts b i) none)
+
 pub header_at-size-requires-clause-start : goal.header_at-size-requires-clause-start
 header_at-size-requires-clause-start c =
     let dead : holds c.self.inside.seat.dead c.index-place.result.now ≡ true = grind (arith, common_steps) in
@@ -23,6 +30,11 @@ pub free-requires-clause-size : goal.free-requires-clause-size
 free-requires-clause-size c =
     subst (λ (v : SeatView). (b : Body) → Contains v.bodies b → b.place ≡ c.index-place.result.now → c.header_at-size.result.size ≡ b.size)
     (sym c.header_at-size.ensures.view) (λ b there at. ap (λ h. h.size) (c.header_at-size.ensures.header b there at))
+
+pub free-requires-clause-unnamed : goal.free-requires-clause-unnamed
+free-requires-clause-unnamed c =
+    let w : SeatView = c.header_at-size.new.seat in
+    nothing_named w.types w.bodies w.dead c.index-place.result.now (ap (λ (v : SeatView). v.types) c.header_at-size.ensures.view ∙ c.self.invariant.6)
 
 pub invariant_of-self : goal.invariant_of-self
 invariant_of-self c =
@@ -35,4 +47,5 @@ invariant_of-self c =
       ap (λ (v : SeatView). v.dead) freed ∙ ap (λ places. without places a) c.self.invariant.4 ∙ sym c.leave_out.ensures,
       ap (λ (v : SeatView). map (λ (b : Body). b.place) v.bodies) freed ∙ places_without c.self.inside.seat.bodies a ∙ ap (λ places. without places a) c.self.invariant.5
           ∙ filter-append (λ p. not (eqb p a)) c.self.inside.dead.items c.self.inside.young.items ∙ sym (ap (λ places. places ++ c.leave_out-2.new.places.items) c.leave_out.ensures ∙ ap (λ places. without c.self.inside.dead.items a ++ places) c.leave_out-2.ensures),
+      ap (λ (v : SeatView). v.types) freed ∙ c.self.invariant.6,
     )
