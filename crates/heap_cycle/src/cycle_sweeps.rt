@@ -6,7 +6,9 @@ ghost use Rattle.gc_graph.specs.State.{Shape};
 ghost use Rattle.gc_graph.specs.Sweep.{phase_at};
 ghost use Rattle.page_space.specs.Pages.{word_count};
 ghost use Rattle.sweeper.specs.Sweeping.{cursor_at};
+ghost use Rattle.nodes_in_words.specs.Nodes.{AreOfValid};
 ghost use Rattle.heap_objects.specs.Finalising.{IsSweptTo, AreFewTold};
+ghost use Rattle.heap_objects.specs.Objects.{setup_of_objects};
 ghost use Rattle.heap_cycle.specs.Changes.{SweepsParts};
 
 use crate::cycle::Cycle;
@@ -28,6 +30,7 @@ impl Cycle {
         requires pages { self.old.sweep.pages ≡ objects.old.shape.pages }
         requires open { self.old.sweep.cursor < self.old.sweep.pages }
         requires marks { IsSweptTo (cursor_at objects.old.shape self.old.sweep) objects.old.seat }
+        requires valid { AreOfValid (setup_of_objects objects.old) objects.old.nodes }
         requires few { length objects.old.nodes ≤ 1000000 }
         requires told { AreFewTold objects.old.shape
             (cursor_at objects.old.shape self.old.sweep) objects.old.seat finalised.old.items }
@@ -48,6 +51,7 @@ impl Cycle {
         requires phase { self.old.phase ≡ Sweeping }
         requires pages { self.old.sweep.pages ≡ objects.old.shape.pages }
         requires marks { IsSweptTo (cursor_at objects.old.shape self.old.sweep) objects.old.seat }
+        requires valid { AreOfValid (setup_of_objects objects.old) objects.old.nodes }
         requires few { length objects.old.nodes ≤ 1000000 }
         requires told { AreFewTold objects.old.shape
             (cursor_at objects.old.shape self.old.sweep) objects.old.seat finalised.old.items }

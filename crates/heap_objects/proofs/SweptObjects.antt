@@ -7,21 +7,27 @@ use Rattle.gc_graph.specs.Sweep.{finalise}
 use Rattle.page_words.specs.Seat.{SeatView}
 use Rattle.page_space.specs.Space.{SpaceView}
 use Rattle.sweeper.specs.Sweeping.{SweepView, cursor_at, MaySweep, Sweeps}
-use Rattle.nodes_in_words.specs.Nodes.{IsHeld}
+use Rattle.nodes_in_words.specs.Nodes.{IsHeld, AreOfValid}
 use Rattle.nodes_in_words.specs.NodePlaces.{serials_fit}
+use Rattle.nodes_in_words.specs.DeadUnnamed.{dead_unnamed}
 use Rattle.heap_objects.specs.Finalising.{IsSweptTo, FinalisesBelow}
-use Rattle.heap_objects.specs.Objects.{AreObjects}
+use Rattle.heap_objects.specs.Objects.{ObjectsView, setup_of_objects, AreObjects}
 use Rattle.heap_objects.proofs.NodesSwept.{held_below, finalises_below}
+
+-- what contracts see of the objects
+abbrev view_of : SpaceView → SeatView → List ObjectType → List ActionKind → List Node → ObjectsView
+view_of space v types callbacks nodes = record { shape = space.shape; types = types; callbacks = callbacks; nodes = nodes; seat = v }
 
 -- the objects may be swept from the cursor on where all is swept below it
 pub may_sweep : (space : SpaceView) (v : SeatView) (types : List ObjectType) (callbacks : List ActionKind) (made : ℕ) (nodes : List Node) (sweep : SweepView)
     → AreObjects space v types callbacks made nodes → sweep.pages ≡ space.shape.pages → IsSweptTo (cursor_at space.shape sweep) v → length nodes ≤ 1000000
-    → MaySweep sweep space v
-may_sweep space v types callbacks made nodes sweep is pages marks few = record {
+    → AreOfValid (setup_of_objects (view_of space v types callbacks nodes)) nodes → MaySweep sweep space v
+may_sweep space v types callbacks made nodes sweep is pages marks few valid = record {
   laid = is.laid;
   pages = pages;
   off = is.off;
   judged = marks.judged;
+  unnamed = dead_unnamed (setup_of_objects (view_of space v types callbacks nodes)) nodes v valid is.held is.known;
   serials = serials_fit nodes v is.held.bodies few;
 }
 

@@ -4,6 +4,7 @@ ghost use Rattle.std.specs.Prelude.{◌≡◌, ℕ, ◌+◌, ◌*◌, ◌<◌, �
 ghost use Rattle.page_words.specs.Seat.{IsQuiet};
 ghost use Rattle.page_space.specs.Pages.{word_count};
 ghost use Rattle.sweeper.specs.Sweeping.{cursor_at, dead_from};
+ghost use Rattle.nodes_in_words.specs.Nodes.{AreOfValid};
 ghost use Rattle.heap_objects.specs.Finalising.{IsSweptTo, FinalisesBelow, AreFewTold};
 ghost use Rattle.heap_objects.specs.Objects.{setup_of_objects};
 
@@ -18,6 +19,7 @@ impl Objects {
         requires pages { sweep.old.pages ≡ self.old.shape.pages }
         requires open { sweep.old.cursor < sweep.old.pages }
         requires marks { IsSweptTo (cursor_at self.old.shape sweep.old) self.old.seat }
+        requires valid { AreOfValid (setup_of_objects self.old) self.old.nodes }
         requires few { length self.old.nodes ≤ 1000000 }
         requires told { AreFewTold self.old.shape (cursor_at self.old.shape sweep.old)
             self.old.seat finalised.old.items }
@@ -44,6 +46,7 @@ impl Objects {
     pub fn finalise_rest(&mut self, sweep: &mut Sweep, finalised: &mut Vec<u32>) -> u32
         requires pages { sweep.old.pages ≡ self.old.shape.pages }
         requires marks { IsSweptTo (cursor_at self.old.shape sweep.old) self.old.seat }
+        requires valid { AreOfValid (setup_of_objects self.old) self.old.nodes }
         requires few { length self.old.nodes ≤ 1000000 }
         requires told { AreFewTold self.old.shape (cursor_at self.old.shape sweep.old)
             self.old.seat finalised.old.items }

@@ -13,4 +13,5 @@ pub mod NodeGraph
 pub mod WeakNodes
 pub mod KeptNodes
 pub mod ReferenceWords
+pub mod DeadUnnamed
 pub mod ChangedBodies

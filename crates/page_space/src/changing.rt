@@ -1,10 +1,10 @@
 // A new object in free words, and a dead one that goes.
 
-ghost use Rattle.std.specs.Prelude.{◌≡◌, ℕ, ◌+◌, ◌-◌, ◌^◌, ◌<◌, ◌≤◌, false, true};
+ghost use Rattle.std.specs.Prelude.{◌≡◌, ℕ, ◌+◌, ◌-◌, ◌^◌, ◌<◌, ◌≤◌, false, true, Contains};
 ghost use Rattle.object_headers.specs.Offsets.{first_field};
 ghost use Rattle.marker_core.specs.declared.states.Body.{Body};
 ghost use Rattle.marker_core.specs.Bodies.{holds};
-ghost use Rattle.page_words.specs.Seat.{retracted};
+ghost use Rattle.page_words.specs.Seat.{IsUnnamed, retracted};
 ghost use Rattle.page_space.specs.Space.{IsSeatOf, IsSpaceOf, IsFreePlace, extents_of_bodies};
 ghost use Rattle.page_space.specs.Occupying.{IsRoom, HasNulls, Occupies, new_body};
 
@@ -37,18 +37,20 @@ impl Space {
         self.table.enter(page, after, bucket);
     }
 
-    /// Takes a dead object away, while no marking goes on.
-    pub fn free(&mut self, seat: &mut MutatorSeat, a: u32)
+    /// Takes a dead object of a size away to which no object that isn't dead refers, while no marking
+    /// goes on.
+    pub fn free(&mut self, seat: &mut MutatorSeat, a: u32, size: u32)
         requires space { IsSpaceOf self.old seat.old }
         requires off { seat.old.on ≡ false }
         requires dead { holds seat.old.dead a ≡ true }
+        requires unnamed { IsUnnamed seat.old.types seat.old.bodies seat.old.dead a }
+        requires size { (b : Body) → Contains seat.old.bodies b → b.place ≡ a → size ≡ b.size }
         ensures freed { seat.new ≡ retracted seat.old a }
         ensures space { IsSpaceOf self.new seat.new }
         ensures shape { self.new.shape ≡ self.old.shape }
     {
         seat.bodies_lie_apart();
         self.shape_is_valid();
-        let size = self.header_at(seat, a).size;
         self.open_gap(seat, a, size);
         self.words.retract(seat, a);
         self.objects -= 1;

@@ -33,7 +33,8 @@ impl Model for Aged {
 
     ghost invariant = { λ h. IsSpaceOf h.space h.seat × (h.seat.on ≡ false)
         × (h.seat.marked ≡ []) × (h.seat.traced ≡ []) × (h.seat.dead ≡ h.dead.items)
-        × (map (λ b. b.place) h.seat.bodies ≡ h.dead.items ++ h.young.items) };
+        × (map (λ b. b.place) h.seat.bodies ≡ h.dead.items ++ h.young.items)
+        × (h.seat.types ≡ []) };
 }
 
 impl Aged {
@@ -158,7 +159,9 @@ impl Aged {
             return None;
         }
         let place = self.dead[chosen as usize % self.dead.len()];
-        self.space.free(&mut self.seat, place);
+        self.seat.bodies_lie_apart();
+        let size = self.space.header_at(&mut self.seat, place).size;
+        self.space.free(&mut self.seat, place, size);
         leave_out(&mut self.dead, place);
         leave_out(&mut self.young, place);
         Some(place)

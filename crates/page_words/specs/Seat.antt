@@ -2,7 +2,7 @@
 use Rattle.std.specs.Prelude.{◌≡◌, ℕ, zero, suc, ◌+◌, ◌/◌, ◌%◌, ◌^◌, ◌<◌, ◌≤◌, ◌↔◌, ◌==◌, ◌&&◌, not, Bool, true, false, List, [], ◌∷◌, ◌++◌, length, map, filter, if◌then◌else◌, slice_index, Contains, All}
 use Rattle.gc_graph.specs.State.{ObjectType}
 use Rattle.object_headers.specs.Layout.{header_word}
-use Rattle.object_headers.specs.Offsets.{serial_offset}
+use Rattle.object_headers.specs.Offsets.{serial_offset, reference_to}
 use Rattle.marker_core.specs.declared.states.Body.{Body}
 use Rattle.marker_core.specs.declared.states.MutatorView.{MutatorView}
 use Rattle.marker_core.specs.Layout.{bitmap_at}
@@ -70,6 +70,12 @@ published v b =
     record v {
       mutator = record v.mutator { bodies = v.bodies ++ b ∷ []; filled = filter (λ f. not (has_word f.0 b)) v.filled };
     }
+
+-- no reference word of a body that isn't dead names a
+abbrev pub IsUnnamed : List ObjectType → List Body → List ℕ → ℕ → Type 0
+IsUnnamed types bodies dead a =
+    (b : Body) (i : ℕ) → Contains bodies b → holds dead b.place ≡ false → i < length b.fields → is_reference_word types b i ≡ true
+    → slice_index b.fields i ≡ reference_to a → ⊥
 
 -- the dead body at a is no longer there
 abbrev pub retracted : SeatView → ℕ → SeatView

@@ -23,7 +23,7 @@ use type_table::fields_stand_apart;
 /// | an object | `store` to its fields, at any time |
 /// | an object, while marking goes on | `mark`; after it `claim`, which succeeds once |
 /// | an object, while no marking goes on | `unmark` |
-/// | a dead object, while no marking goes on | `retract`: they belong to no object |
+/// | a dead object that dead ones alone name, while no marking goes on | `retract`: they belong to no object |
 ///
 /// `set_stop(false)` begins marking where nothing is marked, traced or dead; `set_stop(true)` ends
 /// it, and each object without a mark is dead from then on.

@@ -13,7 +13,7 @@ ghost use Rattle.page_words.specs.Seat.{empty_view, IsWordAt};
 ghost use Rattle.page_words.specs.Seat.{IsReady, MaySetStop, filled_with, nulled, stored};
 ghost use Rattle.page_words.specs.Seat.{published};
 ghost use Rattle.page_words.specs.Seat.{retracted, marked_at, claimed_at, unmarked_at, is_grey};
-ghost use Rattle.page_words.specs.Seat.{stop_set};
+ghost use Rattle.page_words.specs.Seat.{stop_set, IsUnnamed};
 ghost use Rattle.page_words.specs.Ties.{IsCount, cleared};
 
 use crate::mutator::MutatorSeat;
@@ -137,11 +137,13 @@ impl Words {
         seat.view = views::published(&seat.view);
     }
 
-    /// Clears the start bit of a dead object, while no marking goes on.
+    /// Clears the start bit of a dead object to which no object that isn't dead refers, while no
+    /// marking goes on.
     pub fn retract(&self, seat: &mut MutatorSeat, a: u32)
         requires heap { seat.old.count ≡ self.now }
         requires off { seat.old.on ≡ false }
         requires dead { holds seat.old.dead a ≡ true }
+        requires unnamed { IsUnnamed seat.old.types seat.old.bodies seat.old.dead a }
         ensures { seat.new ≡ retracted seat.old a }
     {
         let at = (self.count + a / BLOCK_WORDS) as usize;

@@ -1,7 +1,7 @@
 -- How what was swept grows: by nothing, by one object, and from one part to the next.
 use Rattle.std.proofs.Common.{◌≡◌, ℕ, ◌+◌, ◌<◌, ◌≤◌, Bool, true, false, not, ◌&&◌, List, [], ◌∷◌, ◌++◌, append_assoc, append-nil, refl, sym, ap, ◌∙◌, subst, inl, inr, arith, eqb, leb}
 use Rattle.std.specs.List.{All, Contains, filter}
-use Rattle.std.proofs.lemmas.Bool.{true≢false, cases_eq, cases_lt, and_left, and_right, and_from, and_parts, false_from_ne_true, eq-eqb, ne_eqb, leb-true, le-leb}
+use Rattle.std.proofs.lemmas.Bool.{true≢false, not-true, cases_Bool, cases_eq, cases_lt, and_left, and_right, and_from, and_parts, false_from_ne_true, eq-eqb, ne_eqb, leb-true, le-leb}
 use Rattle.std.proofs.lemmas.List.{length_push}
 use Rattle.std.proofs.lemmas.List.Elements.{All-filter, filter_agree}
 use Rattle.marker_core.specs.Bodies.{IsPlace, holds, without}
@@ -9,9 +9,10 @@ use Rattle.marker_core.specs.declared.states.Body.{Body}
 use Rattle.page_words.specs.Seat.{SeatView, IsView, unmarked_at, retracted}
 use Rattle.page_space.specs.Pages.{is_between}
 use Rattle.page_space.specs.Space.{HasNoStart}
-use Rattle.sweeper.specs.Sweeping.{IsJudgedFrom, IsClearBelow, outside, is_dead_in, swept_in, AreDeadSerials, Sweeps, dead_from}
+use Rattle.sweeper.specs.OutsidePlaces.{outside_holds}
+use Rattle.sweeper.specs.Sweeping.{IsJudgedFrom, DeadAreUnnamed, IsClearBelow, outside, is_dead_in, swept_in, AreDeadSerials, Sweeps, dead_from}
 use Rattle.sweeper.proofs.Filters.{filter_filter, filter_all}
-use Rattle.gc_graph.specs.Members.{was_in}
+use Rattle.gc_graph.specs.Members.{was_in, has_passed}
 use Rattle.sweeper.proofs.Places.{between, before, behind, is_first, is_last, outside_on, outside_all, outside_one, outside_behind, outside_before, outside_between, only}
 use Rattle.sweeper.proofs.Serials.{serials_none, serials_kept, serials_one, serials_on}
 use Rattle.sweeper.proofs.Counts.{count_less, count_fewer, count_some}
@@ -199,6 +200,24 @@ judged_on from mid v now early swept judged =
     outside_behind from mid v.dead b.place high
     ∙ judged b (was_in (λ c. not (is_dead_in from mid v c)) v.bodies b there) (omega arith)
     ∙ ap not (sym (outside_behind from mid v.marked b.place high)))
+
+-- a body that is left and isn't dead was not dead before
+was_alive : (from mid : ℕ) (v : SeatView) (b : Body) → Contains (swept_in from mid v).bodies b → holds (outside from mid v.dead) b.place ≡ false
+    → holds v.dead b.place ≡ false
+was_alive from mid v b there alive =
+    let stays : is_dead_in from mid v b ≡ false =
+    not-true (is_dead_in from mid v b) (has_passed (λ (c : Body). not (is_dead_in from mid v c)) v.bodies b there) in
+    false_from_ne_true (holds v.dead b.place) (λ dead. elim (cases_Bool (is_between from mid b.place)) [
+      | inl here ↦ true≢false (sym (and_from _ _ here dead) ∙ stays)
+      | inr other ↦ true≢false (sym (outside_holds from mid v.dead b.place ∙ and_from _ _ (ap not other) dead) ∙ alive)
+    ])
+
+pub unnamed_on : (from mid : ℕ) (v now : SeatView) → now ≡ swept_in from mid v → DeadAreUnnamed v → DeadAreUnnamed now
+unnamed_on from mid v now swept unnamed =
+    subst DeadAreUnnamed (sym swept)
+    (λ a dead b i there alive.
+    unnamed a (and_parts (not (is_between from mid a)) (holds v.dead a) (sym (outside_holds from mid v.dead a) ∙ dead)).1 b i
+    (was_in (λ c. not (is_dead_in from mid v c)) v.bodies b there) (was_alive from mid v b there alive))
 
 cleared : (from mid : ℕ) (places : List ℕ) → ((a : ℕ) → a < from → holds places a ≡ false) → (a : ℕ) → a < mid → holds (outside from mid places) a ≡ false
 cleared from mid places none a low = elim (cases_lt a from) [

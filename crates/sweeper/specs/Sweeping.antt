@@ -3,7 +3,7 @@ use Rattle.std.specs.Prelude.{◌≡◌, ℕ, ◌+◌, ◌*◌, ◌^◌, ◌<◌
 use Rattle.gc_graph.specs.State.{Shape}
 use Rattle.marker_core.specs.declared.states.Body.{Body}
 use Rattle.marker_core.specs.Bodies.{holds}
-use Rattle.page_words.specs.Seat.{SeatView}
+use Rattle.page_words.specs.Seat.{SeatView, IsUnnamed}
 use Rattle.page_space.specs.Pages.{is_between}
 use Rattle.page_space.specs.Space.{SpaceView, IsSpaceOf}
 
@@ -20,12 +20,17 @@ cursor_at shape sweep = sweep.cursor * shape.page_words
 abbrev pub IsJudgedFrom : ℕ → SeatView → Type 0
 IsJudgedFrom from v = (b : Body) → Contains v.bodies b → from ≤ b.place → holds v.dead b.place ≡ not (holds v.marked b.place)
 
+-- no body that isn't dead names a dead one
+abbrev pub DeadAreUnnamed : SeatView → Type 0
+DeadAreUnnamed v = (a : ℕ) → holds v.dead a ≡ true → IsUnnamed v.types v.bodies v.dead a
+
 -- a sweep may go on over the objects in the pages of a space
 pub record MaySweep (sweep : SweepView) (space : SpaceView) (v : SeatView) : Type 0 where
   pub laid : IsSpaceOf space v
   pub pages : sweep.pages ≡ space.shape.pages
   pub off : v.on ≡ false
   pub judged : IsJudgedFrom (cursor_at space.shape sweep) v
+  pub unnamed : DeadAreUnnamed v
   pub serials : All (λ b. b.serial < 2 ^ 32) v.bodies
 
 -- nothing below the address is marked, traced or dead

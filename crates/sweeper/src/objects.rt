@@ -7,7 +7,7 @@ ghost use Rattle.marker_core.specs.Bodies.{IsPlace};
 ghost use Rattle.marker_core.specs.Bodies.{holds};
 ghost use Rattle.page_space.specs.Pages.{word_count};
 ghost use Rattle.page_space.specs.Space.{IsSpaceOf, HasNoStart};
-ghost use Rattle.sweeper.specs.Sweeping.{IsJudgedFrom, Sweeps, dead_from};
+ghost use Rattle.sweeper.specs.Sweeping.{IsJudgedFrom, DeadAreUnnamed, Sweeps, dead_from};
 
 use page_space::Space;
 use page_words::MutatorSeat;
@@ -25,6 +25,7 @@ pub fn sweep_objects(
     requires inside { until ≤ word_count space.old.shape }
     requires off { seat.old.on ≡ false }
     requires judged { IsJudgedFrom from seat.old }
+    requires unnamed { DeadAreUnnamed seat.old }
     requires serials { All (λ b. b.serial < 2 ^ 32) seat.old.bodies }
     requires room { length done.old.items + dead_from from seat.old ≤ vec_capacity done.old }
     ensures swept { Sweeps from until seat.old done.old.items seat.new done.new.items }
@@ -54,6 +55,7 @@ fn sweep_next(
     requires inside { until ≤ word_count space.old.shape }
     requires off { seat.old.on ≡ false }
     requires judged { IsJudgedFrom from seat.old }
+    requires unnamed { DeadAreUnnamed seat.old }
     requires serials { All (λ b. b.serial < 2 ^ 32) seat.old.bodies }
     requires room { length done.old.items + dead_from from seat.old ≤ vec_capacity done.old }
     ensures swept { Sweeps from result seat.old done.old.items seat.new done.new.items }
@@ -80,6 +82,7 @@ fn sweep_object(space: &mut Space, seat: &mut MutatorSeat, a: u32, done: &mut Ve
     requires start { IsPlace seat.old.bodies a }
     requires off { seat.old.on ≡ false }
     requires judged { holds seat.old.dead a ≡ not (holds seat.old.marked a) }
+    requires unnamed { DeadAreUnnamed seat.old }
     requires serials { All (λ b. b.serial < 2 ^ 32) seat.old.bodies }
     requires room { length done.old.items + dead_from a seat.old ≤ vec_capacity done.old }
     ensures swept { Sweeps a (a + 1) seat.old done.old.items seat.new done.new.items }
@@ -96,7 +99,7 @@ fn sweep_object(space: &mut Space, seat: &mut MutatorSeat, a: u32, done: &mut Ve
         space.words().unmark(seat, a);
     } else {
         done.push_reserved(space.serial_at(seat, a));
-        space.free(seat, a);
+        space.free(seat, a, header.size);
     }
     header.size
 }

@@ -5,6 +5,7 @@ use Rattle.heap_cycle.specs.declared.parts.Parts.{Parts}
 use Rattle.heap_objects.specs.Finalising.{AreFewTold}
 use Rattle.heap_cycle.specs.Finalising.{IsSearched}
 use Rattle.heap_cycle.specs.Parts.{state_of, unregistered}
+use Rattle.heap_cycle.specs.Ties.{valid_nodes}
 use Rattle.heap_objects.specs.Objects.{ObjectsView}
 use Rattle.heap_cycle.proofs.SweepSteps.{still_open, marks_open}
 use Rattle.heap_cycle.proofs.WayToPlace.{between_low, begins, page_made, page_ready, page_placed, page_goes_on}
@@ -25,6 +26,9 @@ sweep_page-requires-clause-marks c =
     let pages : mid.objects.shape.pages ≡ c.args.parts.now.objects.shape.pages = ap (λ (st : Setup). st.shape.pages) c.loop-page.invariant.way.setup in
     let left : mid.cycle.sweep.cursor < mid.objects.shape.pages = omega (arith, pages, c.loop-page.invariant.cursor, c.loop-page-test.true, c.pages-page-end.ensures) in
     marks_open (unregistered c.args.count mid) c.loop-page.invariant.way.ready (still_open (unregistered c.args.count mid) c.loop-page.invariant.way.ready left)
+
+pub sweep_page-requires-clause-valid : goal.sweep_page-requires-clause-valid
+sweep_page-requires-clause-valid c = valid_nodes (unregistered c.args.count c.loop-page.parts) c.loop-page.invariant.way.ready
 
 pub returns-in-Some-clause-placed : goal.returns-in-Some-clause-placed
 returns-in-Some-clause-placed c =

@@ -4,12 +4,16 @@ use Rattle.gc_graph.specs.Sweep.{SweepsTo}
 use Rattle.sweeper.specs.Sweeping.{cursor_at}
 use Rattle.heap_cycle.specs.declared.parts.Parts.{Parts}
 use Rattle.heap_cycle.specs.Parts.{state_of}
+use Rattle.heap_cycle.specs.Ties.{valid_nodes}
 use Rattle.heap_cycle.proofs.SweepSteps.{parts_sweep, parts_ready, cursor_open}
 use Rattle.heap_cycle.proofs.sweeps.end_sweep.Goals as goal
 
 pub finish-requires-clause-told : goal.finish-requires-clause-told
 finish-requires-clause-told c =
     omega (arith, ap length c.requires.empty, c.dead_are_few.ensures (cursor_at c.args.parts.now.objects.shape c.args.parts.now.cycle.sweep))
+
+pub finish-requires-clause-valid : goal.finish-requires-clause-valid
+finish-requires-clause-valid c = valid_nodes c.args.parts.now c.requires.ready
 
 pub returns-in-Sweeping-clause-swept : goal.returns-in-Sweeping-clause-swept
 returns-in-Sweeping-clause-swept c =

@@ -9,6 +9,7 @@ use Rattle.heap_cycle.specs.declared.parts.Parts.{Parts}
 use Rattle.heap_cycle.specs.Finalising.{SweepsOn}
 use Rattle.heap_objects.specs.Finalising.{AreFewTold}
 use Rattle.heap_cycle.specs.Parts.{state_of}
+use Rattle.heap_cycle.specs.Ties.{valid_nodes}
 use Rattle.heap_cycle.proofs.SweepSteps.{parts_sweep, parts_ready, still_open, sweep_joined, nothing_swept}
 use Rattle.heap_cycle.proofs.sweeps.sweep_pages.Goals as goal
 
@@ -31,6 +32,9 @@ loop-page-init c =
       ordinal = refl;
       room = refl;
     }
+
+pub sweep_page-requires-clause-valid : goal.sweep_page-requires-clause-valid
+sweep_page-requires-clause-valid c = valid_nodes c.loop-page.parts c.loop-page.invariant.ready
 
 pub loop-page-preserved : goal.loop-page-preserved
 loop-page-preserved c =

@@ -2,7 +2,7 @@ use Rattle.std.proofs.Common.{rules, ◌≡◌, ℕ, ◌+◌, ◌<◌, ◌≤◌
 use Rattle.marker_core.specs.Bodies.{IsPlace, holds}
 use Rattle.page_words.specs.Seat.{SeatView}
 use Rattle.page_space.specs.Space.{HasNoStart}
-use Rattle.sweeper.specs.Sweeping.{Sweeps, dead_from}
+use Rattle.sweeper.specs.Sweeping.{DeadAreUnnamed, Sweeps, dead_from}
 use Rattle.sweeper.proofs.Sweeping.{nothing, sweeps_on, start_stays}
 use Rattle.sweeper.proofs.objects.sweep_next.Goals as goal
 
@@ -25,6 +25,9 @@ sweep_object-size-requires-clause-judged c =
     subst (λ (w : SeatView). holds w.dead c.start_from-a.result ≡ not (holds w.marked c.start_from-a.result)) (sym c.start_from-a.ensures.view)
     (subst (λ x. holds c.args.seat.now.dead x ≡ not (holds c.args.seat.now.marked x)) start.2
     (c.requires.judged start.0 start.1 (omega (arith, start.2, c.start_from-a.ensures.low))))
+
+pub sweep_object-size-requires-clause-unnamed : goal.sweep_object-size-requires-clause-unnamed
+sweep_object-size-requires-clause-unnamed c = subst DeadAreUnnamed (sym c.start_from-a.ensures.view) c.requires.unnamed
 
 pub sweep_object-size-requires-clause-room : goal.sweep_object-size-requires-clause-room
 sweep_object-size-requires-clause-room c =

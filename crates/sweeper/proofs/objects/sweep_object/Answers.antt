@@ -1,7 +1,7 @@
 use Rattle.std.proofs.Common.{◌≡◌, ◌+◌, ◌≤◌, true, not, arith, subst, sym, ap, ◌∙◌}
 use Rattle.object_headers.specs.declared.header.Header.{Header}
 use Rattle.marker_core.specs.Bodies.{IsPlace, holds}
-use Rattle.page_words.specs.Seat.{SeatView, unmarked_at, retracted}
+use Rattle.page_words.specs.Seat.{SeatView, IsUnnamed, unmarked_at, retracted}
 use Rattle.sweeper.specs.Sweeping.{Sweeps, dead_from}
 use Rattle.sweeper.proofs.Sweeping.{one_kept, one_gone, alone, dead_here}
 use Rattle.sweeper.proofs.objects.sweep_object.Goals as goal
@@ -30,6 +30,15 @@ push_reserved-requires c =
     let dead : holds c.args.seat.now.dead c.args.a ≡ true = c.requires.judged ∙ ap not (sym marked ∙ c.if-header.false) in
     let one : 1 ≤ dead_from c.args.a c.args.seat.now = dead_here c.args.a c.args.seat.now start.0 start.1 start.2 dead in
     omega (arith, one, c.requires.room)
+
+pub free-requires-clause-unnamed : goal.free-requires-clause-unnamed
+free-requires-clause-unnamed c =
+    let start : IsPlace c.args.seat.now.bodies c.args.a = c.requires.start in
+    let marked : c.header_at-header.result.mark ≡ holds c.args.seat.now.marked c.args.a =
+    ap (λ (h : Header). h.mark) (c.header_at-header.ensures.header start.0 start.1 start.2) ∙ ap (holds c.args.seat.now.marked) start.2 in
+    let dead : holds c.args.seat.now.dead c.args.a ≡ true = c.requires.judged ∙ ap not (sym marked ∙ c.if-header.false) in
+    let same : c.serial_at.new.seat ≡ c.args.seat.now = c.serial_at.ensures.view ∙ c.header_at-header.ensures.view in
+    subst (λ (v : SeatView). IsUnnamed v.types v.bodies v.dead c.args.a) (sym same) (c.requires.unnamed c.args.a dead)
 
 pub returns-else-header-clause-swept : goal.returns-else-header-clause-swept
 returns-else-header-clause-swept c =

@@ -1,6 +1,6 @@
 use Rattle.std.proofs.Common.{◌<◌, ◌^◌, refl, ◌∙◌, arith}
 use Rattle.marker_core.specs.declared.states.Body.{Body}
-use Rattle.sweeper.proofs.Sweeping.{nothing, sweeps_on, judged_on, serials_stay}
+use Rattle.sweeper.proofs.Sweeping.{nothing, sweeps_on, judged_on, unnamed_on, serials_stay}
 use Rattle.sweeper.proofs.objects.sweep_objects.Goals as goal
 
 pub loop-at-init : goal.loop-at-init
@@ -18,6 +18,10 @@ loop-at-init c = record {
 pub sweep_next-at-requires-clause-judged : goal.sweep_next-at-requires-clause-judged
 sweep_next-at-requires-clause-judged c =
     judged_on c.args.from c.loop-at.at c.args.seat.now c.loop-at.seat c.loop-at.invariant.low c.loop-at.invariant.swept.view c.requires.judged
+
+pub sweep_next-at-requires-clause-unnamed : goal.sweep_next-at-requires-clause-unnamed
+sweep_next-at-requires-clause-unnamed c =
+    unnamed_on c.args.from c.loop-at.at c.args.seat.now c.loop-at.seat c.loop-at.invariant.swept.view c.requires.unnamed
 
 pub sweep_next-at-requires-clause-serials : goal.sweep_next-at-requires-clause-serials
 sweep_next-at-requires-clause-serials c =

@@ -9,6 +9,7 @@ pub finish-count-requires-clause-sweeping : goal.finish-count-requires-clause-sw
 finish-count-requires-clause-sweeping c =
     may_sweep c.self.inside.space c.self.inside.seat c.self.inside.types c.self.inside.kinds.value c.self.inside.made c.self.inside.nodes.value c.args.sweep.now c.self.invariant
     (rw (← c.self.view_is) at c.requires.pages) (rw (← c.self.view_is) at c.requires.marks) (rw (← c.self.view_is) at c.requires.few)
+    (rw (← c.self.view_is) at c.requires.valid)
 
 pub invariant_of-self : goal.invariant_of-self
 invariant_of-self c =

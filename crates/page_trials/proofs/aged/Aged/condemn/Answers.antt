@@ -22,4 +22,5 @@ invariant_of-self c =
       ap (λ (v : SeatView). v.traced) over ∙ c.self.invariant.3,
       ap (λ (v : SeatView). v.dead) over ∙ ap (λ marked. filter (λ a. not (holds marked a)) (map (λ (b : Body). b.place) c.self.inside.seat.bodies)) c.self.invariant.2 ∙ all_unmarked _ ∙ places,
       ap (λ (v : SeatView). map (λ (b : Body). b.place) v.bodies) over ∙ places ∙ sym (append-nil c.swap.new.x.items) ∙ ap (λ l. c.swap.new.x.items ++ l) (sym left),
+      ap (λ (v : SeatView). v.types) over ∙ c.self.invariant.6,
     )

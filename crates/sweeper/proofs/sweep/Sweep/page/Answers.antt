@@ -5,7 +5,7 @@ use Rattle.marker_core.specs.declared.states.Body.{Body}
 use Rattle.page_words.specs.Seat.{SeatView}
 use Rattle.page_space.specs.Pages.{word_count}
 use Rattle.sweeper.specs.Sweeping.{SweepView, cursor_at, dead_from, IsJudgedFrom, IsClearBelow, Sweeps}
-use Rattle.sweeper.proofs.Sweeping.{judged_on, clear_on, serials_stay}
+use Rattle.sweeper.proofs.Sweeping.{judged_on, unnamed_on, clear_on, serials_stay}
 use Rattle.sweeper.proofs.Ends.{dead_few, quiet_end}
 use Rattle.sweeper.proofs.sweep.Sweep.page.Goals as goal
 
@@ -60,6 +60,9 @@ returns-clause-sweeping c = record {
       (sym c.sweep_objects.ensures.shape)
       (judged_on (cursor_at c.args.space.now.shape c.args.self.now) (until c) c.args.seat.now c.sweep_objects.new.seat (grows c) (swept c).view
       c.requires.sweeping.judged);
+  unnamed =
+      unnamed_on (cursor_at c.args.space.now.shape c.args.self.now) (until c) c.args.seat.now c.sweep_objects.new.seat (swept c).view
+      c.requires.sweeping.unnamed;
   serials =
       serials_stay (cursor_at c.args.space.now.shape c.args.self.now) (until c) c.args.seat.now c.sweep_objects.new.seat (λ (b : Body). b.serial < 2 ^ 32)
       (swept c).view c.requires.sweeping.serials;
