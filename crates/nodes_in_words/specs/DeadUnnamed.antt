@@ -15,7 +15,7 @@ use Rattle.type_table.specs.Layouts.{kinds_of_words}
 use Rattle.marker_core.specs.Bodies.{IsReference, holds}
 use Rattle.marker_core.specs.declared.states.Body.{Body}
 use Rattle.page_words.specs.Bodies.{kind_in, is_reference_word}
-use Rattle.page_words.specs.Seat.{SeatView, IsUnnamed}
+use Rattle.page_words.specs.Seat.{with_bodies, SeatView, IsUnnamed}
 use Rattle.nodes_in_words.specs.Nodes.{place_of, word_of, body_of, IsThere, IsHeld, AreOfValid}
 use Rattle.nodes_in_words.specs.NodePlaces.{node_body, body_node, live_is_there}
 use Rattle.nodes_in_words.specs.NodeLives.{live_if_there}
@@ -24,7 +24,7 @@ use Rattle.nodes_in_words.specs.ReferenceWords.{reference_word}
 
 -- the view of the bodies that aren't dead
 abbrev living : SeatView → SeatView
-living v = record v { bodies = filter (λ b. not (holds v.dead b.place)) v.bodies }
+living v = with_bodies v (filter (λ b. not (holds v.dead b.place)) v.bodies)
 
 live_body : (nodes : List Node) (v : SeatView) (n : ℕ) → IsHeld nodes v → IsLive nodes n → Contains (living v).bodies (body_of (place_of nodes) n (node_at nodes n))
 live_body nodes v n held live =
