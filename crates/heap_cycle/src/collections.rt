@@ -6,7 +6,7 @@ ghost use Rattle.gc_graph.specs.CycleSteps.{StepGcNow};
 ghost use Rattle.page_space.specs.Pages.{word_count};
 ghost use Rattle.callback_table.specs.Table.{kinds_of};
 ghost use Rattle.heap_cycle.specs.Parts.{setup_of, state_of, counted, IsReady, IsFrame};
-ghost use Rattle.heap_cycle.specs.Printed.{lines_with};
+ghost use Rattle.heap_cycle.specs.Printed.{lines_with, TellsThoseThatRan};
 
 use crate::outcome::Outcome;
 use crate::parts::Parts;
@@ -33,6 +33,7 @@ pub fn collect(
     ensures step { StepGcNow (setup_of parts.old) want (state_of parts.old) outcome.new.piece
         (lines_with outcome.new parts.new.cycle.ran result) (answered (state_of parts.new)) }
     ensures frame { IsFrame parts.old (counted parts.new) }
+    ensures ran { TellsThoseThatRan outcome.new parts.new.cycle.ran }
     ensures room { outcome.new.room ≡ outcome.old.room }
     ensures history { outcome.new.history ≡ outcome.old.history }
 {
@@ -57,7 +58,7 @@ pub fn collect(
         callbacks,
         want,
     );
-    outcome.prefinalise();
+    outcome.prefinalise(cycle.registry.ran());
     cycle.phase = Phase::Sweeping;
     cycle.sweep.begin();
     outcome.piece = entries::of_collection();

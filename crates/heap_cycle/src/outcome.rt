@@ -1,11 +1,12 @@
 // The outcome of a command: finalised nodes, then at most one more line, and then the prefinalizers
 // that it ran. It takes no memory after it was made.
 
-ghost use Rattle.std.specs.Prelude.{◌≡◌, ◌++◌, ◌<◌, ◌≤◌, [], length, Some, true, false};
-ghost use Rattle.std.specs.Prelude.{◌∷◌, None, IfOk, IfSome, IfNone, slice_get};
+ghost use Rattle.std.specs.Prelude.{◌≡◌, ◌++◌, ◌<◌, ◌≤◌, ◌==◌, not, [], length, Some, false};
+ghost use Rattle.std.specs.Prelude.{ℕ, List, ◌∷◌, None, IfOk, IfSome, IfNone, slice_get};
 ghost use Rattle.gc_graph.specs.declared.line.Line.{Line};
 ghost use Rattle.gc_graph.specs.declared.line.Line.TheVariants as L;
-ghost use Rattle.heap_cycle.specs.Printed.{later_lines, outcome_lines, TellsNode};
+ghost use Rattle.heap_cycle.specs.Printed.{later_lines, outcome_lines};
+ghost use Rattle.heap_cycle.specs.Printed.{TellsNode, TellsThoseThatRan};
 
 use crate::entries::{self, Entries};
 use gc_graph::{Line, NoMemory};
@@ -19,7 +20,7 @@ pub struct Outcome {
     /// The numbers of finalised nodes, which a sweep fills.
     pub(crate) finalised: Vec<u32>,
     last: Option<Line>,
-    /// Whether the last command ran prefinalizers, which the cycle holds.
+    /// Whether the last command ran some prefinalizers, which the cycle holds.
     prefinalises: bool,
     /// What the last command took of the history.
     pub(crate) piece: GhostValue<Entries>,
@@ -77,11 +78,12 @@ impl Outcome {
         self.piece = entries::none();
     }
 
-    /// The lines of the prefinalizers that the pause ran follow the last line.
-    pub fn prefinalise(&mut self)
-        ensures { self.new ≡ record self.old { prefinalises = true } }
+    /// The lines of these prefinalizers, which the pause ran, follow the last line. That it ran none
+    /// is noted here, so that `only_line` need not look at them.
+    pub fn prefinalise(&mut self, ran: &[(u32, u32)])
+        ensures { self.new ≡ record self.old { prefinalises = not (length ran.now == 0) } }
     {
-        self.prefinalises = true;
+        self.prefinalises = !ran.is_empty();
     }
 
     /// Adds the last line, and to the history what the command took of it.
@@ -108,17 +110,19 @@ impl Outcome {
         self.finalised.len() as u32 + u32::from(self.last.is_some()) + prefinalised
     }
 
-    /// The line of the outcome, where it has one alone, unless that tells a finalised node or one
-    /// of these prefinalizers, which the last pause ran.
-    pub fn only_line(&self, ran: &[(u32, u32)]) -> Option<&Line>
-        ensures line { IfSome result (λ line. outcome_lines self.now ran.now ≡ line.now ∷ []) }
-        ensures none { IfNone result ((line : Line)
-            → outcome_lines self.now ran.now ≡ line ∷ [] → TellsNode line) }
+    /// The line of the outcome, where it has one alone, unless that tells a finalised node or a
+    /// prefinalizer, whichever the last pause ran.
+    pub fn only_line(&self) -> Option<&Line>
+        ensures line { IfSome result (λ line. (ran : List (ℕ × ℕ))
+            → outcome_lines self.now ran ≡ line.now ∷ []) }
+        ensures none { IfNone result ((ran : List (ℕ × ℕ)) (line : Line)
+            → TellsThoseThatRan self.now ran → outcome_lines self.now ran ≡ line ∷ []
+            → TellsNode line) }
     {
         if !self.finalised().is_empty() {
             return None;
         }
-        if self.prefinalises && !ran.is_empty() {
+        if self.prefinalises {
             return None;
         }
         match &self.last {

@@ -23,6 +23,7 @@ pub fn sweep_some(parts: &mut Parts, outcome: &mut Outcome, n: u32) -> Line
     ensures step { StepSweep (setup_of parts.old) (state_of parts.old) n
         (lines_with outcome.new parts.new.cycle.ran result) (answered (state_of parts.new)) }
     ensures frame { IsFrame parts.old (counted parts.new) }
+    ensures calm { outcome.new.prefinalises ≡ false }
     ensures piece { outcome.new.piece ≡ outcome.old.piece }
     ensures room { outcome.new.room ≡ outcome.old.room }
     ensures history { outcome.new.history ≡ outcome.old.history }
@@ -47,6 +48,7 @@ pub fn sweep_all(parts: &mut Parts, outcome: &mut Outcome) -> Line
     ensures step { StepSweepAll (setup_of parts.old) (state_of parts.old)
         (lines_with outcome.new parts.new.cycle.ran result) (answered (state_of parts.new)) }
     ensures frame { IsFrame parts.old (counted parts.new) }
+    ensures calm { outcome.new.prefinalises ≡ false }
     ensures piece { outcome.new.piece ≡ outcome.old.piece }
     ensures room { outcome.new.room ≡ outcome.old.room }
     ensures history { outcome.new.history ≡ outcome.old.history }

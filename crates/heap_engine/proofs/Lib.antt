@@ -1,5 +1,6 @@
 pub mod StackSteps
 pub mod OutcomeLines
+pub mod StepLines
 pub mod SlotSteps
 pub mod FieldAnswers
 pub mod PairAnswers

@@ -1,10 +1,50 @@
--- The lines of a command that finalises nothing and runs no prefinalizer.
-use Rattle.std.proofs.Common.{◌≡◌, ℕ, false, List, [], ◌∷◌, ◌++◌, ap, ◌∙◌}
+-- The lines of an outcome: those of a command that finalises nothing and runs no prefinalizer, and those that tell a finalised node.
+use Rattle.std.proofs.Common.{◌≡◌, ℕ, Bool, true, false, List, [], ◌∷◌, ◌++◌, Option, Some, None, IfSome, IfNone, refl, sym, ap, ◌∙◌}
+use Rattle.std.specs.Option.{option_to_list}
+use Rattle.std.proofs.lemmas.List.{append-nil}
 use Rattle.gc_graph.specs.declared.line.Line.{Line}
+use Rattle.gc_graph.specs.declared.line.Line.TheVariants as L
 use Rattle.gc_graph.specs.Outcomes.{finalise_lines}
-use Rattle.heap_cycle.specs.Printed.{Printed, ran_lines, lines_with}
+use Rattle.heap_cycle.specs.Printed.{Printed, ran_lines, lines_with, later_lines, outcome_lines, finalised_in, TellsNode, TellsThoseThatRan}
 
 -- it tells its line alone
 pub line_alone : (o : Printed) (ran : List (ℕ × ℕ)) (line : Line) → o.numbers ≡ [] → o.prefinalises ≡ false → lines_with o ran line ≡ line ∷ []
 line_alone o ran line numbers calm =
     ap (λ ns. finalise_lines ns ++ line ∷ ran_lines o.prefinalises ran) numbers ∙ ap (λ b. line ∷ ran_lines b ran) calm
+
+-- ---- what lines tell as finalised
+
+numbers_first : (numbers : List ℕ) (lines : List Line) → finalised_in (finalise_lines numbers ++ lines) ≡ numbers ++ finalised_in lines
+numbers_first [] lines = refl
+numbers_first (n ∷ numbers) lines = ap (λ ns. n ∷ ns) (numbers_first numbers lines)
+
+none_ran : (runs : Bool) (ran : List (ℕ × ℕ)) → finalised_in (ran_lines runs ran) ≡ []
+none_ran false ran = refl
+none_ran true [] = refl
+none_ran true (r ∷ ran) = none_ran true ran
+
+after_plain : (l : Line) (lines : List Line) → (TellsNode l → ⊥) → finalised_in (l ∷ lines) ≡ finalised_in lines
+after_plain (L.Finalise k) lines plain = absurd (plain tt)
+after_plain _ lines plain = refl
+
+none_later : (last : Option Line) (runs : Bool) (ran : List (ℕ × ℕ)) → IfSome last (λ l. TellsNode l → ⊥) → finalised_in (option_to_list last ++ ran_lines runs ran) ≡ []
+none_later None runs ran plain = none_ran runs ran
+none_later (Some l) runs ran plain = after_plain l (ran_lines runs ran) plain ∙ none_ran runs ran
+
+-- an outcome tells its finalised nodes first, and no other
+pub all_finalised : (o : Printed) (ran : List (ℕ × ℕ)) → IfSome o.last (λ l. TellsNode l → ⊥) → o.numbers ≡ finalised_in (outcome_lines o ran)
+all_finalised o ran plain =
+    sym (numbers_first o.numbers (later_lines o ran) ∙ ap (λ ns. o.numbers ++ ns) (none_later o.last o.prefinalises ran plain) ∙ append-nil o.numbers)
+
+-- ---- what holds of every list of prefinalizers holds of those that ran
+
+pub at_ran : {A : Type 0} (found : Option A) (Holds : A → List (ℕ × ℕ) → Type 0) (ran : List (ℕ × ℕ)) → IfSome found (λ a. (rs : List (ℕ × ℕ)) → Holds a rs)
+    → IfSome found (λ a. Holds a ran)
+at_ran None Holds ran all = tt
+at_ran (Some a) Holds ran all = all ran
+
+pub none_at_ran : {A : Type 0} (found : Option A) (o : Printed) (ran : List (ℕ × ℕ))
+    → IfNone found ((rs : List (ℕ × ℕ)) (l : Line) → TellsThoseThatRan o rs → outcome_lines o rs ≡ l ∷ [] → TellsNode l)
+    → TellsThoseThatRan o ran → IfNone found ((l : Line) → outcome_lines o ran ≡ l ∷ [] → TellsNode l)
+none_at_ran None o ran all some = λ l is. all ran l some is
+none_at_ran (Some a) o ran all some = tt

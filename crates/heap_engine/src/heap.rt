@@ -12,7 +12,7 @@ ghost use Rattle.gc_graph.specs.Shapes.{IsShape};
 ghost use Rattle.callback_table.specs.Table.{kinds_of};
 ghost use Rattle.heap_engine.specs.Acted.{IsActed};
 ghost use Rattle.heap_objects.specs.Objects.{HaveCallbacks};
-ghost use Rattle.heap_cycle.specs.Printed.{TellsNode};
+ghost use Rattle.heap_cycle.specs.Printed.{finalised_in, TellsNode};
 
 use crate::heap_core::Core;
 use callback_table::CallbackTable;
@@ -91,10 +91,11 @@ impl<'a> Heap<'a> {
         self.core.only_line()
     }
 
-    /// The numbers of the nodes that the last command finalised, whose lines come first.
+    /// The numbers of all nodes that the last command finalised, whose lines come first.
     pub fn finalised(&self) -> &[u32]
         ensures few { length result.now ≤ length self.now.core.lines }
         ensures lines { take (length result.now) self.now.core.lines ≡ finalise_lines result.now }
+        ensures all { result.now ≡ finalised_in self.now.core.lines }
     {
         self.core.finalised()
     }

@@ -16,7 +16,8 @@ ghost use Rattle.callback_table.specs.Table.{kinds_of};
 ghost use Rattle.heap_engine.specs.Acted.{IsActed};
 ghost use Rattle.heap_objects.specs.Objects.{HaveCallbacks};
 ghost use Rattle.heap_cycle.specs.Parts.{setup_of, state_of, counted, IsReady, IsFrame};
-ghost use Rattle.heap_cycle.specs.Printed.{lines_with, TellsNode};
+ghost use Rattle.heap_cycle.specs.Printed.{lines_with, finalised_in};
+ghost use Rattle.heap_cycle.specs.Printed.{TellsNode, TellsThoseThatRan};
 
 use crate::creating::new_object;
 use crate::fields::{get, put, set, set_null, word};
@@ -123,12 +124,13 @@ impl Core {
         ensures line { IfSome result (λ line. self.now.lines ≡ line.now ∷ []) }
         ensures none { IfNone result ((line : Line) → self.now.lines ≡ line ∷ [] → TellsNode line) }
     {
-        self.outcome.only_line(self.parts.cycle.ran())
+        self.outcome.only_line()
     }
 
     pub fn finalised(&self) -> &[u32]
         ensures few { length result.now ≤ length self.now.lines }
         ensures lines { take (length result.now) self.now.lines ≡ finalise_lines result.now }
+        ensures all { result.now ≡ finalised_in self.now.lines }
     {
         self.outcome.finalised()
     }
@@ -161,6 +163,7 @@ fn run(
     ensures step { Step (setup_of parts.old) (state_of parts.old) command.now outcome.new.piece
         (lines_with outcome.new parts.new.cycle.ran result) (answered (state_of parts.new)) }
     ensures frame { IsFrame parts.old (counted parts.new) }
+    ensures ran { TellsThoseThatRan outcome.new parts.new.cycle.ran }
     ensures room { outcome.new.room ≡ outcome.old.room }
     ensures history { outcome.new.history ≡ outcome.old.history }
 {

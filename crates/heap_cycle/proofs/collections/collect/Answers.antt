@@ -1,4 +1,4 @@
-use Rattle.std.proofs.Common.{◌≡◌, ℕ, All, List, ◌∷◌, ◌++◌, true, length, refl, sym, ap, ◌∙◌, subst}
+use Rattle.std.proofs.Common.{◌≡◌, ℕ, ◌==◌, not, All, List, ◌∷◌, ◌++◌, length, refl, sym, ap, ◌∙◌, subst}
 use Rattle.std.specs.Prelude.{vec_capacity}
 use Rattle.gc_graph.specs.State.{slot_targets}
 use Rattle.gc_graph.specs.declared.line.Line.{Line}
@@ -14,6 +14,7 @@ use Rattle.heap_handles.specs.Stack.{StackView, is_precise}
 use Rattle.heap_cycle.specs.Printed.{Printed, ran_lines}
 use Rattle.heap_cycle.specs.Views.{CycleView, IsAtRest}
 use Rattle.heap_cycle.specs.Parts.{setup_of, state_of}
+use Rattle.heap_cycle.proofs.OutcomeLines.{all_told}
 use Rattle.heap_cycle.proofs.RegisteredNodes.{registered_placed}
 use Rattle.heap_cycle.proofs.CollectSteps.{stack_refused, Collects, registry_of, pause_line, pause_counts, collection_steps, collection_frame}
 use Rattle.heap_cycle.proofs.collections.collect.Given as given
@@ -79,14 +80,16 @@ returns-clause-step d c =
       room = vec_capacity c.outcome-2.inside.finalised;
     } in printed) ≡ c.prefinalise.new.self = c.outcome-2.view_is in
     let numbers : c.outcome-2.inside.finalised.items ≡ c.end_sweep.new.finalised.items = ap (λ (o : Printed). o.numbers) (told ∙ c.prefinalise.ensures) in
-    let runs : c.outcome-2.inside.prefinalises ≡ true = ap (λ (o : Printed). o.prefinalises) (told ∙ c.prefinalise.ensures) in
     let ran : List (ℕ × ℕ) = c.pause-result.new.registry.ran in
+    let runs : c.outcome-2.inside.prefinalises ≡ not (length ran == 0) =
+    ap (λ (o : Printed). o.prefinalises) (told ∙ c.prefinalise.ensures) ∙ ap (λ (rs : List (ℕ × ℕ)). not (length rs == 0)) c.ran.ensures in
     collection_steps c.args.want c.args.parts.now c.end_sweep.new.parts c.pause-result.new.objects c.pause-result.new.self _
     c.end_sweep.new.finalised.items (collects d c) c.pause-result.result.walked c.of_collection.result.value
     (finalise_lines c.outcome-2.inside.finalised.items ++ c.line_of.result ∷ ran_lines c.outcome-2.inside.prefinalises ran) c.line_of.result
     c.reach_is_least.ensures c.of_collection.ensures line
     (ap (λ ns. finalise_lines ns ++ c.line_of.result ∷ ran_lines c.outcome-2.inside.prefinalises ran) numbers
-    ∙ ap (λ b. finalise_lines c.end_sweep.new.finalised.items ++ c.line_of.result ∷ ran_lines b ran) runs)
+    ∙ ap (λ b. finalise_lines c.end_sweep.new.finalised.items ++ c.line_of.result ∷ ran_lines b ran) runs
+    ∙ ap (λ ls. finalise_lines c.end_sweep.new.finalised.items ++ c.line_of.result ∷ ls) (all_told ran))
 
 pub returns-clause-frame : goal.returns-clause-frame
 returns-clause-frame d c =

@@ -9,14 +9,13 @@ some_there zero is = cc
 some_there (suc n) is = omega arith
 
 pub returns-then-not-is_empty-clause-none : goal.returns-then-not-is_empty-clause-none
-returns-then-not-is_empty-clause-none c = λ line is.
+returns-then-not-is_empty-clause-none c = λ ran line runs is.
     let o : Printed = c.args.self.now in
     let some : 0 < length o.numbers = omega (arith, ap length c.finalised.ensures, some_there (length c.finalised.result.now) c.if-not-is_empty.ensures) in
-    alone_tells o.numbers o.last o.prefinalises c.args.ran.now line (inl some) is
+    alone_tells o.numbers o.last o.prefinalises ran line (inl some) is
 
-pub returns-then-not-is_empty-2-clause-none : goal.returns-then-not-is_empty-2-clause-none
-returns-then-not-is_empty-2-clause-none c = λ line is.
+pub returns-then-self-clause-none : goal.returns-then-self-clause-none
+returns-then-self-clause-none c = λ ran line runs is.
     let o : Printed = c.args.self.now in
-    let runs : o.prefinalises ≡ true = sym (ap (λ (p : Printed). p.prefinalises) c.self.view_is) ∙ c.if-self.true in
-    let some : 0 < length c.args.ran.now = some_there (length c.args.ran.now) c.if-not-is_empty-2.ensures in
-    alone_tells o.numbers o.last o.prefinalises c.args.ran.now line (inr (runs, some)) is
+    let told : o.prefinalises ≡ true = sym (ap (λ (p : Printed). p.prefinalises) c.self.view_is) ∙ c.if-self.true in
+    alone_tells o.numbers o.last o.prefinalises ran line (inr (told, runs told)) is

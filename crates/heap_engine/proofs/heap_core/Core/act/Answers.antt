@@ -1,5 +1,11 @@
-use Rattle.std.proofs.Common.{◌<◌, length, ap, arith}
+use Rattle.std.proofs.Common.{◌<◌, Option, IfSome, length, sym, ap, ◌∙◌, subst, arith, rules}
+use Rattle.gc_graph.specs.declared.line.Line.{Line}
+use Rattle.gc_graph.specs.Outcomes.{answered}
+use Rattle.heap_cycle.specs.Parts.{setup_of, state_of}
+use Rattle.heap_cycle.specs.Printed.{Printed, TellsNode, IsOutcome}
 use Rattle.heap_cycle.specs.Views.{CycleView}
+use Rattle.heap_engine.proofs.StepLines.{last_plain}
+use Rattle.heap_engine.proofs.heap_core.Core.act.Given as given
 use Rattle.heap_engine.proofs.heap_core.Core.act.Goals as goal
 
 -- no more prefinalizers ran than commands can have registered
@@ -14,3 +20,19 @@ count-requires d c =
       ap length c.ran.ensures,
       ap (λ (k : CycleView). length k.ran) c.count_command.ensures,
     )
+
+-- the outcome is one of a command
+told : (d : given.Over) (c : goal.After-count d) → IsOutcome c.end.new.self c.count_command.new.self.ran
+told d c = record {
+  ran_some = λ runs. omega (
+    arith,
+    c.run-line.ensures.ran (sym (ap (λ (o : Printed). o.prefinalises) c.end.ensures) ∙ runs),
+    ap (λ (k : CycleView). length k.ran) c.count_command.ensures,
+  );
+  last_plain = subst (λ (last : Option Line). IfSome last (λ l. TellsNode l → ⊥)) (sym (ap (λ (o : Printed). o.last) c.end.ensures))
+      (last_plain (setup_of c.self.inside.parts) (state_of c.self.inside.parts) c.args.command.now c.run-line.new.outcome.piece c.run-line.new.outcome c.run-line.new.parts.cycle.ran
+      c.run-line.result (answered (state_of c.run-line.new.parts)) c.requires.built c.run-line.ensures.step);
+}
+
+pub invariant_of-self : goal.invariant_of-self
+invariant_of-self d c = record { ready = search rules; told = told d c; room = search rules }

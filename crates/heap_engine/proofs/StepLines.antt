@@ -1,0 +1,204 @@
+-- The lines of a command that the heap does: those of finalised nodes come first, and the next one tells no node.
+use Rattle.std.proofs.Common.{◌≡◌, ℕ, ◌+◌, nat_lt, Bool, true, false, List, [], ◌∷◌, ◌++◌, length, Option, Some, None, ap, ◌∙◌, subst, inl, inr}
+use mathlib.Core.Logic.{◌⊎◌}
+use Rattle.std.specs.Prelude.{MatchBool, MatchOption}
+use Rattle.std.specs.List.{slice_get}
+use Rattle.gc_graph.specs.declared.command.Command.{Command}
+use Rattle.gc_graph.specs.declared.command.Command.TheVariants as C
+use Rattle.gc_graph.specs.declared.command.Want.{Want}
+use Rattle.gc_graph.specs.declared.kind.Kind.{Kind}
+use Rattle.gc_graph.specs.declared.kind.Value.{Value}
+use Rattle.gc_graph.specs.declared.kind.Value.TheVariants.{Null, Ref, Word}
+use Rattle.gc_graph.specs.declared.line.Line.{Line}
+use Rattle.gc_graph.specs.declared.line.Line.TheVariants as L
+use Rattle.gc_graph.specs.declared.line.Refusal.{Refusal}
+use Rattle.gc_graph.specs.declared.region.Entry.{Entry}
+use Rattle.gc_graph.specs.State.{Setup, State, Node, StackWord, node_at, size_of, objects_of, used_of}
+use Rattle.gc_graph.specs.State.StackWord.{Pointer, Number}
+use Rattle.gc_graph.specs.Fields.{field_count, kind_of_field, content_of, value_at, with_value, is_reference, is_weak, is_pair, is_plain}
+use Rattle.gc_graph.specs.Outcomes.{IsRefused, finalise_lines, slot_at, weak_slot_at, took}
+use Rattle.gc_graph.specs.ObjectSteps.{AtField, IsChanged, IsRead, IsNumber, StepNew, StepSet, StepPair, first_word, part_of}
+use Rattle.gc_graph.specs.HandleSteps.{IsPushed, IsPeeked}
+use Rattle.gc_graph.specs.CycleSteps.{StepGcNow, StepSweepTo, WantsMemory, IsCollection, is_marking, is_sweeping, is_stack_refused}
+use Rattle.gc_graph.specs.Pause.{condemn, live_count, dead_count, run_order, prefinalise_lines}
+use Rattle.gc_graph.specs.Step.{Step}
+use Rattle.built_forms.specs.Built.{is_built}
+use Rattle.heap_cycle.specs.Printed.{Printed, ran_lines, lines_with, TellsNode}
+
+-- finalised nodes, a line that tells no node, and others
+record HasPlain (lines : List Line) : Type 0 where
+  numbers : List ℕ
+  line : Line
+  others : List Line
+  lines_are : lines ≡ finalise_lines numbers ++ line ∷ others
+  plain : TellsNode line → ⊥
+
+alone : (line : Line) (lines : List Line) → lines ≡ line ∷ [] → (TellsNode line → ⊥) → HasPlain lines
+alone line lines is plain = record { numbers = []; line = line; others = []; lines_are = is; plain = plain }
+
+after_numbers : (numbers : List ℕ) (line : Line) (lines : List Line) → lines ≡ finalise_lines numbers ++ line ∷ [] → (TellsNode line → ⊥) → HasPlain lines
+after_numbers numbers line lines is plain = record { numbers = numbers; line = line; others = []; lines_are = is; plain = plain }
+
+refused : (why : Refusal) (old : State) (lines : List Line) (new : State) → IsRefused why old lines new → HasPlain lines
+refused why old lines new is = alone (L.Refused why) lines is.0 (λ node. node)
+
+-- ---- choices
+
+where_true : (b : Bool) (Yes No : Type 0) (lines : List Line) → MatchBool b Yes No → (Yes → HasPlain lines) → (No → HasPlain lines) → HasPlain lines
+where_true true Yes No lines is held failed = held is
+where_true false Yes No lines is held failed = failed is
+
+where_some : {A : Type 0} (o : Option A) (Nothing : Type 0) (Something : A → Type 0) (lines : List Line) → MatchOption o Nothing Something
+    → (Nothing → HasPlain lines) → ((a : A) → Something a → HasPlain lines) → HasPlain lines
+where_some None Nothing Something lines is nothing something = nothing is
+where_some (Some a) Nothing Something lines is nothing something = something a is
+
+-- ---- fields
+
+at_field : (allowed : Kind → Bool) (old : State) (p f : ℕ) (lines : List Line) (new : State) (Done : ℕ → Type 0) → AtField allowed old p f lines new Done
+    → ((n : ℕ) → Done n → HasPlain lines) → HasPlain lines
+at_field allowed old p f lines new Done is done =
+    where_some (slot_at old p) _ _ lines is (refused _ old lines new)
+    (λ n there. where_true (nat_lt f (field_count (node_at old.nodes n))) _ _ lines there
+    (λ kind. where_true (allowed (kind_of_field (node_at old.nodes n).object f)) _ _ lines kind (done n) (refused _ old lines new)) (refused _ old lines new))
+
+reads : (weak : Bool) (old : State) (value : Value) (q : ℕ) (lines : List Line) (new : State) → IsRead weak old value q lines new → HasPlain lines
+reads weak old Null q lines new is = alone L.Null lines is.0 (λ node. node)
+reads weak old (Ref n) q lines new is = alone (L.Node n) lines is.0 (λ node. node)
+reads weak old (Word w) q lines new is = absurd is
+
+tells_number : (old : State) (value : Value) (lines : List Line) (new : State) → IsNumber old value lines new → HasPlain lines
+tells_number old (Word w) lines new is = alone (L.Word w) lines is.0 (λ node. node)
+tells_number old Null lines new is = absurd is
+tells_number old (Ref n) lines new is = absurd is
+
+writes : (allowed : Kind → Bool) (old : State) (p f : ℕ) (written : ℕ → Node) (lines : List Line) (new : State)
+    → AtField allowed old p f lines new (λ n. IsChanged old n (written n) lines new) → HasPlain lines
+writes allowed old p f written lines new is =
+    at_field allowed old p f lines new (λ n. IsChanged old n (written n) lines new) is (λ n done. alone L.Fine lines done.0 (λ node. node))
+
+reads_field : (allowed : Kind → Bool) (old : State) (p f : ℕ) (weak : ℕ → Bool) (value : ℕ → Value) (q : ℕ) (lines : List Line) (new : State)
+    → AtField allowed old p f lines new (λ n. IsRead (weak n) old (value n) q lines new) → HasPlain lines
+reads_field allowed old p f weak value q lines new is =
+    at_field allowed old p f lines new (λ n. IsRead (weak n) old (value n) q lines new) is (λ n done. reads (weak n) old (value n) q lines new done)
+
+sets : (old : State) (p f : ℕ) (value : Value) (lines : List Line) (new : State) → StepSet old p f value lines new → HasPlain lines
+sets old p f value lines new is = writes is_reference old p f (λ n. with_value (node_at old.nodes n) (first_word old n f) value) lines new is
+
+sets_pair : (old : State) (p f : ℕ) (key value : Option ℕ) (lines : List Line) (new : State) → StepPair old p f key value lines new → HasPlain lines
+sets_pair old p f key value lines new is =
+    writes is_pair old p f
+    (λ n. with_value (with_value (node_at old.nodes n) (first_word old n f) (part_of key value)) (first_word old n f + 1) (part_of value key)) lines new is
+
+-- ---- the stack
+
+pushes : (old : State) (word : StackWord) (lines : List Line) (new : State) → IsPushed old word lines new → HasPlain lines
+pushes old word lines new is =
+    where_true (nat_lt (length old.stack) 1024) _ _ lines is (λ done. alone L.Fine lines done.0 (λ node. node)) (refused _ old lines new)
+
+peeks : (old : State) (word : StackWord) (q : ℕ) (lines : List Line) (new : State) → IsPeeked old word q lines new → HasPlain lines
+peeks old (Pointer n offset) q lines new is = alone (L.Node n) lines is.0 (λ node. node)
+peeks old (Number w) q lines new is = refused _ old lines new is
+
+-- ---- the cycle
+
+makes : (setup : Setup) (old : State) (p t extra : ℕ) (lines : List Line) (new : State) → StepNew setup old p t extra lines new → HasPlain lines
+makes setup old p t extra lines new (inl memory) = alone L.Memory lines memory.1.0 (λ node. node)
+makes setup old p t extra lines new (inr is) =
+    where_some is.place _ _ lines is.done (λ full. after_numbers is.numbers L.Full lines full.lines_are (λ node. node))
+    (λ place made. after_numbers is.numbers (L.Placed (length is.mid.nodes) place) lines made.lines_are (λ node. node))
+
+sweeps : (setup : Setup) (old : State) (pages : ℕ) (lines : List Line) (new : State) → StepSweepTo setup old pages lines new → HasPlain lines
+sweeps setup old pages lines new is =
+    where_true (is_sweeping old.phase) _ _ lines is (λ swept. after_numbers swept.numbers (L.Swept pages) lines swept.lines_are (λ node. node)) (refused _ old lines new)
+
+collected : (setup : Setup) (want : Want) (old : State) (piece : List Entry) (lines : List Line) (new : State) → WantsMemory old piece lines new ⊎ IsCollection setup want old piece lines new
+    → HasPlain lines
+collected setup want old piece lines new (inl memory) = alone L.Memory lines memory.1.0 (λ node. node)
+collected setup want old piece lines new (inr is) = record {
+  numbers = is.numbers;
+  line = L.Pause (live_count (condemn is.pause.kept (took is.started is.pause.before).nodes)) (dead_count (condemn is.pause.kept (took is.started is.pause.before).nodes))
+      is.pause.done.crew is.pause.done.traced is.pause.done.walked;
+  others = prefinalise_lines (run_order (condemn is.pause.kept (took is.started is.pause.before).nodes) (took is.started is.pause.before).registrations);
+  lines_are = is.lines_are ∙ ap (λ ls. finalise_lines is.numbers ++ ls) is.pause.done.lines_are;
+  plain = λ node. node;
+}
+
+collects : (setup : Setup) (want : Want) (old : State) (piece : List Entry) (lines : List Line) (new : State) → StepGcNow setup want old piece lines new → HasPlain lines
+collects setup want old piece lines new is =
+    where_true (is_marking old.phase) _ _ lines is (λ why. refused _ old lines new why.1)
+    (λ calm. where_true (is_stack_refused want old.stack) _ _ lines calm (λ why. refused _ old lines new why.1) (collected setup want old piece lines new))
+
+-- ---- every command
+
+step_has : (setup : Setup) (old : State) (command : Command) (piece : List Entry) (lines : List Line) (new : State) → is_built command ≡ true → Step setup old command piece lines new
+    → HasPlain lines
+step_has setup old (C.New p t e) piece lines new built is = makes setup old p t e lines new is.1
+step_has setup old (C.Set p f q) piece lines new built is = sets old p f (content_of (slot_at old q)) lines new is.1
+step_has setup old (C.SetNull p f) piece lines new built is = sets old p f Null lines new is.1
+step_has setup old (C.Pair p f k v) piece lines new built is = sets_pair old p f (slot_at old k) (slot_at old v) lines new is.1
+step_has setup old (C.PairNull p f) piece lines new built is = sets_pair old p f None None lines new is.1
+step_has setup old (C.Put p f n) piece lines new built is =
+    writes is_plain old p f (λ m. with_value (node_at old.nodes m) (first_word old m f) (Word n)) lines new is.1
+step_has setup old (C.Word p f) piece lines new built is =
+    at_field is_plain old p f lines new (λ n. IsNumber old (value_at (node_at old.nodes n) (first_word old n f)) lines new) is.1 (λ n done. tells_number old _ lines new done)
+step_has setup old (C.Get p f q) piece lines new built is =
+    reads_field is_reference old p f (λ n. is_weak (kind_of_field (node_at old.nodes n).object f)) (λ n. value_at (node_at old.nodes n) (first_word old n f)) q lines new is.1
+step_has setup old (C.Key p f q) piece lines new built is =
+    reads_field is_pair old p f (λ n. true) (λ n. value_at (node_at old.nodes n) (first_word old n f)) q lines new is.1
+step_has setup old (C.Val p f q) piece lines new built is =
+    reads_field is_pair old p f (λ n. true) (λ n. value_at (node_at old.nodes n) (first_word old n f + 1)) q lines new is.1
+step_has setup old (C.Copy p q) piece lines new built is = alone L.Fine lines is.1.0 (λ node. node)
+step_has setup old (C.Drop p) piece lines new built is = alone L.Fine lines is.1.0 (λ node. node)
+step_has setup old (C.Weak w p) piece lines new built is = alone L.Fine lines is.1.0 (λ node. node)
+step_has setup old (C.Read w p) piece lines new built is = reads true old (content_of (weak_slot_at old w)) p lines new is.1
+step_has setup old (C.Push p o) piece lines new built is =
+    where_some (slot_at old p) _ _ lines is.1 (refused _ old lines new)
+    (λ n there. where_true (nat_lt o (size_of (node_at old.nodes n))) _ _ lines there (pushes old (Pointer n o) lines new) (refused _ old lines new))
+step_has setup old (C.PushPlain n) piece lines new built is = pushes old (Number n) lines new is.1
+step_has setup old C.Pop piece lines new built is =
+    where_true (nat_lt 0 (length old.stack)) _ _ lines is.1 (λ done. alone L.Fine lines done.0 (λ node. node)) (refused _ old lines new)
+step_has setup old (C.Peek i q) piece lines new built is =
+    where_some (slice_get old.stack i) _ _ lines is.1 (refused _ old lines new) (λ word done. peeks old word q lines new done)
+step_has setup old (C.GcNow want) piece lines new built is = collects setup want old piece lines new is
+step_has setup old (C.Sweep n) piece lines new built is = sweeps setup old _ lines new is.1
+step_has setup old C.SweepAll piece lines new built is = sweeps setup old _ lines new is.1
+step_has setup old C.Stat piece lines new built is = alone (L.Objects (objects_of old.nodes) (used_of old.nodes) is.1.0) lines is.1.2 (λ node. node)
+step_has setup old C.GcStart piece lines new built is = cc
+step_has setup old (C.GcStep n) piece lines new built is = cc
+step_has setup old (C.GcFinish want) piece lines new built is = cc
+step_has setup old (C.Export p x) piece lines new built is = cc
+step_has setup old (C.Import x p) piece lines new built is = cc
+step_has setup old (C.At j order) piece lines new built is = cc
+step_has setup old C.ThreadsGo piece lines new built is = cc
+step_has setup old C.ThreadsJoin piece lines new built is = cc
+
+-- ---- which line that is
+
+-- no prefinalizer's line is another that tells no node
+among_ran : (numbers : List ℕ) (x : Line) (others : List Line) (runs : Bool) (ran : List (ℕ × ℕ)) → ran_lines runs ran ≡ finalise_lines numbers ++ x ∷ others
+    → (TellsNode x → ⊥) → ⊥
+among_ran [] x others false ran is plain = cc
+among_ran [] x others true [] is plain = cc
+among_ran [] x others true (r ∷ ran) is plain = (let first : L.Prefinalise r.0 r.1 ≡ x = cc in plain (subst TellsNode first tt))
+among_ran (n ∷ numbers) x others false ran is plain = cc
+among_ran (n ∷ numbers) x others true [] is plain = cc
+among_ran (n ∷ numbers) x others true (r ∷ ran) is plain = cc
+
+-- after the finalised nodes comes the line that tells no node
+first_plain : (told numbers : List ℕ) (last x : Line) (others : List Line) (runs : Bool) (ran : List (ℕ × ℕ))
+    → finalise_lines told ++ last ∷ ran_lines runs ran ≡ finalise_lines numbers ++ x ∷ others → (TellsNode x → ⊥) → TellsNode last → ⊥
+first_plain [] [] last x others runs ran is plain = (let same : last ≡ x = cc in λ node. plain (subst TellsNode same node))
+first_plain [] (n ∷ numbers) last x others runs ran is plain =
+    (let rest : ran_lines runs ran ≡ finalise_lines numbers ++ x ∷ others = cc in λ node. among_ran numbers x others runs ran rest plain)
+first_plain (m ∷ told) [] last x others runs ran is plain = (let same : L.Finalise m ≡ x = cc in λ node. plain (subst TellsNode same tt))
+first_plain (m ∷ told) (n ∷ numbers) last x others runs ran is plain =
+    (let rest : finalise_lines told ++ last ∷ ran_lines runs ran ≡ finalise_lines numbers ++ x ∷ others = cc in
+    first_plain told numbers last x others runs ran rest plain)
+
+-- the line of a command's outcome after those of the finalised nodes tells no node
+pub last_plain : (setup : Setup) (old : State) (command : Command) (piece : List Entry) (o : Printed) (ran : List (ℕ × ℕ)) (last : Line) (new : State) → is_built command ≡ true
+    → Step setup old command piece (lines_with o ran last) new → TellsNode last → ⊥
+last_plain setup old command piece o ran last new built is =
+    let has : HasPlain (lines_with o ran last) = step_has setup old command piece (lines_with o ran last) new built is in
+    first_plain o.numbers has.numbers last has.line has.others o.prefinalises ran has.lines_are has.plain
