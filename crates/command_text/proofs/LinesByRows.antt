@@ -30,7 +30,7 @@ pub record IsPlainStart (row : Row) (bytes first : List ℕ) (from : ℕ) (befor
   pub end : before.end ≡ from
   pub count : before.count ≡ 0
 
-plain_sound : (row : Row) (before : ℕ) → is_plain_row row ≡ true → before ≡ 0 → is_sound before row ≡ true
+pub plain_sound : (row : Row) (before : ℕ) → is_plain_row row ≡ true → before ≡ 0 → is_sound before row ≡ true
 plain_sound row before plain e =
     ap (λ n. is_sound n row) e ∙ (and_parts (is_sound 0 row) (agree (is_text row.name.now (codes "pair")) (makes_pair row.make)) plain).0
 

@@ -88,37 +88,50 @@ on_nothing bounds bytes old within low = record {
   lines = refl;
 }
 
--- one more place after others
-pub on_more : (bounds : Bounds) (spots : List Spot) (spot : Spot) (bytes : List ℕ) (old mid new : Said) → old.rank ≤ 9
-    → IsReadOn bounds spots bytes old mid → IsReadAt (bounds_of bounds) (place_of spot ∷ []) bytes mid new
-    → IsReadOn bounds (spots ++ spot ∷ []) bytes old new
-on_more bounds spots spot bytes old mid new low first next =
+-- more places after others
+pub on_both : (bounds : Bounds) (spots more : List Spot) (bytes : List ℕ) (old mid new : Said) → old.rank ≤ 9
+    → IsReadOn bounds spots bytes old mid → IsReadOn bounds more bytes mid new → IsReadOn bounds (spots ++ more) bytes old new
+on_both bounds spots more bytes old mid new low first next =
     let words : List (List ℕ) = words_left bytes old in
     let places : List Place = map place_of spots in
-    let all = map-append place_of spots (spot ∷ []) in
+    let after : List Place = map place_of more in
+    let all = map-append place_of spots more in
     let left : words_left bytes mid ≡ drop (length places) words =
     first.left ∙ ap (λ n. drop n words) (sym (length-map spots place_of)) in
-    let ranks : lowest (bounds_of bounds) (map place_of (spots ++ spot ∷ [])) words
-    ≡ min (lowest (bounds_of bounds) places words) (lowest (bounds_of bounds) (place_of spot ∷ []) (words_left bytes mid)) =
+    let ranks : lowest (bounds_of bounds) (map place_of (spots ++ more)) words
+    ≡ min (lowest (bounds_of bounds) places words) (lowest (bounds_of bounds) after (words_left bytes mid)) =
     ap (λ (ps : List Place). lowest (bounds_of bounds) ps words) all
-    ∙ lowest_append (bounds_of bounds) places (place_of spot ∷ []) words
-    ∙ ap (λ (ws : List (List ℕ)). min (lowest (bounds_of bounds) places words) (lowest (bounds_of bounds) (place_of spot ∷ []) ws)) (sym left) in
+    ∙ lowest_append (bounds_of bounds) places after words
+    ∙ ap (λ (ws : List (List ℕ)). min (lowest (bounds_of bounds) places words) (lowest (bounds_of bounds) after ws)) (sym left) in
     record {
       before = omega (arith, first.before, next.before);
       within = next.within;
       rank = omega (arith, first.rank, next.rank, ranks);
       numbers = λ good.
           next.numbers good
-          ∙ ap (λ ns. ns ++ all_say (place_of spot ∷ []) (words_left bytes mid)) (first.numbers (omega (arith, good, first.rank, next.rank, low)))
-          ∙ append_assoc (list_of old) (all_say places words) (all_say (place_of spot ∷ []) (words_left bytes mid))
-          ∙ ap (λ (ws : List (List ℕ)). list_of old ++ (all_say places words ++ all_say (place_of spot ∷ []) ws)) left
-          ∙ ap (λ ns. list_of old ++ ns) (sym (says_append places (place_of spot ∷ []) words))
+          ∙ ap (λ ns. ns ++ all_say after (words_left bytes mid)) (first.numbers (omega (arith, good, first.rank, next.rank, low)))
+          ∙ append_assoc (list_of old) (all_say places words) (all_say after (words_left bytes mid))
+          ∙ ap (λ (ws : List (List ℕ)). list_of old ++ (all_say places words ++ all_say after ws)) left
+          ∙ ap (λ ns. list_of old ++ ns) (sym (says_append places after words))
           ∙ ap (λ (ps : List Place). list_of old ++ all_say ps words) (sym all);
-      count = omega (arith, first.count, next.count, ap length first.left, length-drop (length spots) words, length-append spots (spot ∷ []));
-      left = next.left ∙ ap (λ (ws : List (List ℕ)). drop 1 ws) first.left ∙ drop-drop 1 (length spots) words
-          ∙ ap (λ n. drop n words) (sym (length-append spots (spot ∷ [])));
+      count = omega (arith, first.count, next.count, ap length first.left, length-drop (length spots) words, length-append spots more);
+      left = next.left ∙ ap (λ (ws : List (List ℕ)). drop (length more) ws) first.left ∙ drop-drop (length more) (length spots) words
+          ∙ ap (λ n. drop n words) (sym (length-append spots more));
       lines = first.lines ∙ next.lines;
     }
+
+-- the same of one place
+at_one : (bounds : Bounds) (spot : Spot) (bytes : List ℕ) (old new : Said) → IsReadAt (bounds_of bounds) (place_of spot ∷ []) bytes old new
+    → IsReadOn bounds (spot ∷ []) bytes old new
+at_one bounds spot bytes old new read = record {
+  before = read.before;
+  within = read.within;
+  rank = read.rank;
+  numbers = read.numbers;
+  count = read.count;
+  left = read.left;
+  lines = read.lines;
+}
 
 -- one more place of a row
 pub on_next : (bounds : Bounds) (all : List Spot) (i : ℕ) (d : Spot) (bytes : List ℕ) (old mid new : Said) → i < length all → old.rank ≤ 9
@@ -126,7 +139,7 @@ pub on_next : (bounds : Bounds) (all : List Spot) (i : ℕ) (d : Spot) (bytes : 
     → IsReadOn bounds (take (i + 1) all) bytes old new
 on_next bounds all i d bytes old mid new inside low first next =
     subst (λ (spots : List Spot). IsReadOn bounds spots bytes old new) (sym (take_more all i d inside))
-    (on_more bounds (take i all) (get_or all i d) bytes old mid new low first next)
+    (on_both bounds (take i all) (get_or all i d ∷ []) bytes old mid new low first (at_one bounds (get_or all i d) bytes mid new next))
 
 pub on_all : (bounds : Bounds) (all : List Spot) (n : ℕ) (bytes : List ℕ) (old new : Said) → length all ≤ n
     → IsReadOn bounds (take n all) bytes old new → IsReadOn bounds all bytes old new

@@ -12,7 +12,7 @@ use super::places::{Bounds, Reading, read_place};
 use super::reasons::{COUNT, FAULTLESS, UNKNOWN_WORD};
 use super::row_lines::{CommandLine, read_row, read_small_row, read_wide_row, refused};
 use super::rows::{at_row_of, gc_row_of, row_of};
-use super::said::Said;
+use super::said::{Said, nothing_said};
 use line_words::next_word;
 
 /// What the line says whose first word stands from `start` to `end` and isn't `type`.
@@ -110,23 +110,6 @@ fn read_at(bytes: &[u8], from: usize, bounds: Bounds) -> CommandLine
 }
 
 const THREAD: Spot = Spot::Number(1, 8);
-
-#[inline(always)]
-fn nothing_said(rank: u32, end: usize) -> Said
-    ensures rank { result.rank ≡ rank }
-    ensures end { result.end ≡ end }
-    ensures count { result.count ≡ 0 }
-{
-    Said {
-        rank,
-        end,
-        count: 0,
-        a: 0,
-        b: 0,
-        c: 0,
-        d: 0,
-    }
-}
 
 #[inline(always)]
 fn thread_said(thread: Reading, end: usize) -> Said

@@ -18,6 +18,7 @@ mod forms;
 mod making;
 mod pairs;
 mod places;
+mod quick_lines;
 pub mod reasons;
 mod row_lines;
 mod row_search;
@@ -27,4 +28,5 @@ mod wide;
 
 pub use command_lines::read_command;
 pub use places::Bounds;
+pub use quick_lines::{QuickLine, quick_line};
 pub use row_lines::CommandLine;

@@ -23,43 +23,82 @@ const STACK_PLACE: Spot = Spot::Number(0, 1023);
 
 const OBJECTS: Spot = Spot::Number(1, 4_294_967_295);
 
+// The rows of the most frequent lines stand by themselves, since these are read by a row each.
+pub(crate) const NEW: Row = Row {
+    name: b"new",
+    spots: &[SLOT, Spot::TypeNumber, EXTRA_WORDS],
+    least: 2,
+    make: Make::Small(SmallForm::New),
+};
+
+pub(crate) const SET: Row = Row {
+    name: b"set",
+    spots: &[SLOT, FIELD, SLOT_OR_NULL],
+    least: 3,
+    make: Make::Small(SmallForm::Set),
+};
+
+pub(crate) const PUT: Row = Row {
+    name: b"put",
+    spots: &[SLOT, FIELD],
+    least: 3,
+    make: Make::Wide(WideForm::Put),
+};
+
+pub(crate) const WORD: Row = Row {
+    name: b"word",
+    spots: &[SLOT, FIELD],
+    least: 2,
+    make: Make::Small(SmallForm::Word),
+};
+
+pub(crate) const GET: Row = Row {
+    name: b"get",
+    spots: &[SLOT, FIELD, SLOT],
+    least: 3,
+    make: Make::Small(SmallForm::Get),
+};
+
+pub(crate) const COPY: Row = Row {
+    name: b"copy",
+    spots: &[SLOT, SLOT],
+    least: 2,
+    make: Make::Small(SmallForm::Copy),
+};
+
+pub(crate) const DROP: Row = Row {
+    name: b"drop",
+    spots: &[SLOT],
+    least: 1,
+    make: Make::Small(SmallForm::Drop),
+};
+
+pub(crate) const WEAK: Row = Row {
+    name: b"weak",
+    spots: &[WEAK_SLOT, SLOT],
+    least: 2,
+    make: Make::Small(SmallForm::Weak),
+};
+
+pub(crate) const READ: Row = Row {
+    name: b"read",
+    spots: &[WEAK_SLOT, SLOT],
+    least: 2,
+    make: Make::Small(SmallForm::Read),
+};
+
 static ROWS: [Row; 21] = [
-    Row {
-        name: b"new",
-        spots: &[SLOT, Spot::TypeNumber, EXTRA_WORDS],
-        least: 2,
-        make: Make::Small(SmallForm::New),
-    },
-    Row {
-        name: b"set",
-        spots: &[SLOT, FIELD, SLOT_OR_NULL],
-        least: 3,
-        make: Make::Small(SmallForm::Set),
-    },
+    NEW,
+    SET,
     Row {
         name: b"pair",
         spots: &[SLOT, FIELD, SLOT_OR_NULL, SLOT_OR_NULL],
         least: 4,
         make: Make::Small(SmallForm::Pair),
     },
-    Row {
-        name: b"put",
-        spots: &[SLOT, FIELD],
-        least: 3,
-        make: Make::Wide(WideForm::Put),
-    },
-    Row {
-        name: b"word",
-        spots: &[SLOT, FIELD],
-        least: 2,
-        make: Make::Small(SmallForm::Word),
-    },
-    Row {
-        name: b"get",
-        spots: &[SLOT, FIELD, SLOT],
-        least: 3,
-        make: Make::Small(SmallForm::Get),
-    },
+    PUT,
+    WORD,
+    GET,
     Row {
         name: b"key",
         spots: &[SLOT, FIELD, SLOT],
@@ -72,30 +111,10 @@ static ROWS: [Row; 21] = [
         least: 3,
         make: Make::Small(SmallForm::Val),
     },
-    Row {
-        name: b"copy",
-        spots: &[SLOT, SLOT],
-        least: 2,
-        make: Make::Small(SmallForm::Copy),
-    },
-    Row {
-        name: b"drop",
-        spots: &[SLOT],
-        least: 1,
-        make: Make::Small(SmallForm::Drop),
-    },
-    Row {
-        name: b"weak",
-        spots: &[WEAK_SLOT, SLOT],
-        least: 2,
-        make: Make::Small(SmallForm::Weak),
-    },
-    Row {
-        name: b"read",
-        spots: &[WEAK_SLOT, SLOT],
-        least: 2,
-        make: Make::Small(SmallForm::Read),
-    },
+    COPY,
+    DROP,
+    WEAK,
+    READ,
     Row {
         name: b"push",
         spots: &[SLOT, FIELD],

@@ -21,6 +21,24 @@ pub(crate) struct Said {
     pub(crate) d: u32,
 }
 
+/// No word was read, up to the place `end`, and those before give this rank.
+#[inline(always)]
+pub(crate) fn nothing_said(rank: u32, end: usize) -> Said
+    ensures rank { result.rank ≡ rank }
+    ensures end { result.end ≡ end }
+    ensures count { result.count ≡ 0 }
+{
+    Said {
+        rank,
+        end,
+        count: 0,
+        a: 0,
+        b: 0,
+        c: 0,
+        d: 0,
+    }
+}
+
 /// Reads the words that are there, one at each place.
 #[inline(always)]
 pub(crate) fn read_places(bytes: &[u8], spots: &[Spot], bounds: Bounds, before: Said) -> Said
@@ -55,8 +73,9 @@ fn read_next(bytes: &[u8], spot: Spot, bounds: Bounds, said: Said) -> Said
     )
 }
 
+/// The same with one more word, which was read so and ends there.
 #[inline(always)]
-fn with_word(said: Said, reading: Reading, end: usize) -> Said
+pub(crate) fn with_word(said: Said, reading: Reading, end: usize) -> Said
     requires { said.count < 4 }
     ensures rank { result.rank ≡ min said.rank reading.rank }
     ensures end { result.end ≡ end }
