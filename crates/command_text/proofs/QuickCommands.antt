@@ -1,11 +1,9 @@
 -- A line that is read by the row of its form.
-use Rattle.std.proofs.Common.{◌≡◌, ℕ, suc, zero, ◌+◌, ◌≤◌, ◌&&◌, not, nat_le, Bool, true, false, Option, Some, None, IfSome, Ok, cond, List, [], ◌∷◌, length, drop, refl, sym, ap, ◌∙◌, subst, arith, codes}
-use Rattle.std.proofs.lemmas.Bool.{true≢false, and_parts, and_left, not-true, cond-false, leb-true}
+use Rattle.std.proofs.Common.{◌≡◌, ℕ, suc, zero, ◌+◌, ◌≤◌, ◌&&◌, not, nat_le, Bool, true, false, Option, Some, None, IfSome, Ok, List, [], ◌∷◌, length, drop, refl, sym, ap, ◌∙◌, subst, arith, codes}
+use Rattle.std.proofs.lemmas.Bool.{true≢false, and_parts, not-true, leb-true}
 use Rattle.gc_graph.specs.declared.command.Command.{Command}
-use Rattle.gc_graph.specs.declared.command.Command.TheVariants as C
 use Rattle.gc_graph.specs.Words.{is_text}
 use Rattle.gc_graph.specs.Forms.{one, two, three, new_command, set_command, row_named, rows}
-use Rattle.gc_graph.specs.Reasons.{Bounds as GrammarBounds}
 use Rattle.command_text.specs.declared.forms.Row.{Row}
 use Rattle.command_text.specs.declared.forms.Make.{Make}
 use Rattle.command_text.specs.declared.forms.Make.TheVariants as M
@@ -16,9 +14,9 @@ use Rattle.command_text.specs.declared.said.Said.{Said}
 use Rattle.command_text.specs.declared.quick_lines.QuickLine.{QuickLine}
 use Rattle.line_words.specs.Cursor.{line_words}
 use Rattle.line_words.specs.QuickWords.{IsFirstWord}
-use Rattle.command_text.specs.Rows.{bounds_of, row_by, command_of, makes_pair, is_sound, is_plain_row}
+use Rattle.command_text.specs.Rows.{bounds_of, row_by, command_of, makes_pair, is_plain_row}
 use Rattle.command_text.specs.RowLines.{IsRowLine}
-use Rattle.command_text.specs.CommandLines.{is_half_after, IsCommandLine}
+use Rattle.command_text.specs.CommandLines.{IsCommandLine}
 use Rattle.command_text.specs.QuickLines.{is_frequent, makes_frequent, is_plain_word, is_quick_row, IsQuickLine, IsQuickStart}
 use Rattle.command_text.proofs.RowEnds.{end_from}
 use Rattle.command_text.proofs.LinesByRows.{plain_sound, plain_done}
@@ -125,6 +123,7 @@ quick_start row bytes at before quick first rank end count =
       within = omega (arith, first.within, end);
       rank = rank;
       count = count;
+      single = no_pair row.make parts.frequent;
       few = parts.few;
       sound = plain_sound row before.count parts.plain count;
     }
@@ -142,11 +141,9 @@ quick_line_done bounds row bytes at before line quick named first rank end count
     let from : ℕ = at + length name in
     let rest : List (List ℕ) = line_words (drop from bytes) in
     let before_words : at ≤ from = omega arith in
-    let half : cond (makes_pair row.make && is_half_after rest) 3 9 ≡ 9 =
-    cond-false (makes_pair row.make && is_half_after rest) 3 9 (and_left (makes_pair row.make) (is_half_after rest) (no_pair row.make parts.frequent)) in
     let whole : IsCommandLine (bounds_of bounds) (name ∷ rest) bytes from (record { said = Ok line.command; end = line.end }) =
     plain_done bounds row bytes name from before (record { said = Ok line.command; end = line.end }) parts.no_type parts.no_gc parts.no_at
-    (record { named = named; plain = parts.plain; half = rank ∙ sym half; end = end; count = count }) done in
+    (record { named = named; plain = parts.plain; rank = rank; end = end; count = count }) done in
     subst (λ (words : List (List ℕ)). IsQuickLine (bounds_of bounds) words bytes at line) (sym first.words)
     (record {
       fine = whole.said.0;

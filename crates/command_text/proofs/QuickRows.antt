@@ -1,10 +1,7 @@
 -- The words of a row that is read by itself, each at its place.
-use Rattle.std.proofs.Common.{◌≡◌, ℕ, zero, suc, ◌+◌, ◌-◌, ◌<◌, ◌≤◌, ◌==◌, ◌||◌, min, true, Option, Some, None, IfSome, cond, List, [], ◌∷◌, ◌++◌, length, map, get_or, take, drop, refl, sym, ap, ◌∙◌, subst, arith}
-use Rattle.std.proofs.lemmas.List.{append-nil, drop_more, drop_all}
-use Rattle.std.proofs.Math.Seq.{drop-nil}
+use Rattle.std.proofs.Common.{◌≡◌, ℕ, ◌+◌, ◌<◌, ◌≤◌, ◌==◌, ◌||◌, min, true, Option, Some, None, IfSome, cond, List, [], ◌∷◌, ◌++◌, length, get_or, take, drop, refl, sym, ap, ◌∙◌, subst, arith}
+use Rattle.std.proofs.lemmas.List.{drop_more, drop_all}
 use Rattle.std.proofs.lemmas.Bool.{cond-true, eq-eqb}
-use Rattle.gc_graph.specs.Forms.{Place}
-use Rattle.gc_graph.specs.Reasons.{all_say}
 use Rattle.command_text.specs.declared.forms.Spot.{Spot}
 use Rattle.command_text.specs.declared.forms.Row.{Row}
 use Rattle.command_text.specs.declared.forms.Make.TheVariants as M
@@ -12,54 +9,18 @@ use Rattle.command_text.specs.declared.forms.SmallForm.{SmallForm}
 use Rattle.command_text.specs.declared.forms.WideForm.{WideForm}
 use Rattle.command_text.specs.declared.places.Bounds.{Bounds}
 use Rattle.command_text.specs.declared.said.Said.{Said}
-use Rattle.line_words.specs.Cursor.{line_words, lines_after, IsLineEnd, IsNextWord}
+use Rattle.line_words.specs.Cursor.{IsLineEnd, IsNextWord}
 use Rattle.line_words.specs.QuickWords.{IsEndOfWords}
-use Rattle.command_text.specs.Ranks.{lowest}
 use Rattle.command_text.specs.Rows.{bounds_of, place_of, wide_place_of}
-use Rattle.command_text.specs.Said.{list_of, words_left, IsReadOn}
-use Rattle.command_text.specs.QuickLines.{IsPlaceRead, IsQuickStart}
-use Rattle.command_text.proofs.PlacesRead.{lowest_nothing, says_nothing, on_nothing, on_both}
-use Rattle.command_text.proofs.RowRanks.{IsRowSaid, small_said}
+use Rattle.command_text.specs.Said.{list_of, words_left, IsPlaceRead, IsReadOn}
+use Rattle.command_text.specs.RowLines.{row_half_rank}
+use Rattle.command_text.specs.QuickLines.{IsQuickStart}
+use Rattle.command_text.proofs.PlacesRead.{on_nothing, on_both, on_word}
+use Rattle.command_text.proofs.RowRanks.{IsRowSaid, half_single, small_said}
 use Rattle.command_text.proofs.RowEnds.{end_from}
 use Rattle.command_text.proofs.WideRows.{IsWideWord, wide_said}
 
 -- ---- one place
-
--- no word is left for these places
-pub on_no_words : (bounds : Bounds) (spots : List Spot) (bytes : List ℕ) (old : Said) → old.end ≤ length bytes → old.rank ≡ 9
-    → words_left bytes old ≡ [] → IsReadOn bounds spots bytes old old
-on_no_words bounds spots bytes old within good none =
-    let places : List Place = map place_of spots in
-    let ranks : lowest (bounds_of bounds) places (words_left bytes old) ≡ 9 =
-    ap (lowest (bounds_of bounds) places) none ∙ lowest_nothing (bounds_of bounds) places in
-    record {
-      before = omega arith;
-      within = within;
-      rank = omega (arith, good, ranks);
-      numbers = λ high. sym (append-nil (list_of old)) ∙ ap (λ ns. list_of old ++ ns) (sym (ap (all_say places) none ∙ says_nothing places));
-      count = omega (arith, ap length none);
-      left = subst (λ (ws : List (List ℕ)). ws ≡ drop (length spots) ws) (sym none) (sym (drop-nil (length spots)));
-      lines = refl;
-    }
-
--- a number was read at a place
-on_number : (bounds : Bounds) (spot : Spot) (bytes : List ℕ) (old new : Said) (end value : ℕ)
-    → IsPlaceRead (bounds_of bounds) (place_of spot) bytes old.end end value → old.rank ≡ 9
-    → new.rank ≡ min old.rank 9 → new.end ≡ end → new.count ≡ old.count + 1 → list_of new ≡ list_of old ++ value ∷ []
-    → IsReadOn bounds (spot ∷ []) bytes old new
-on_number bounds spot bytes old new end value read good rank ends count numbers =
-    let places : List Place = place_of spot ∷ [] in
-    let ranks : lowest (bounds_of bounds) places (words_left bytes old) ≡ 9 =
-    ap (lowest (bounds_of bounds) places) read.words ∙ ap (λ n. min n 9) read.rank in
-    record {
-      before = omega (arith, read.order, ends);
-      within = omega (arith, read.within, ends);
-      rank = omega (arith, good, rank, ranks);
-      numbers = λ high. numbers ∙ ap (λ ns. list_of old ++ ns) (sym (ap (all_say places) read.words ∙ ap (λ ns. ns ++ []) read.number));
-      count = omega (arith, count, ap length read.words);
-      left = ap (λ n. line_words (drop n bytes)) ends ∙ sym (ap (λ (ws : List (List ℕ)). drop 1 ws) read.words);
-      lines = read.same ∙ ap (λ n. lines_after (drop n bytes)) (sym ends);
-    }
 
 -- the places of a row from one on, as many as one
 abbrev place_at : List Spot → ℕ → List Spot
@@ -69,13 +30,13 @@ place_there : (spots : List Spot) (i : ℕ) (d : Spot) → i < length spots → 
 place_there spots i d low = ap (λ (left : List Spot). take 1 left) (drop_more spots i d low)
 
 pub at_number : (bounds : Bounds) (spots : List Spot) (i : ℕ) (d : Spot) (bytes : List ℕ) (old new : Said) (end value : ℕ) → i < length spots
-    → IsPlaceRead (bounds_of bounds) (place_of (get_or spots i d)) bytes old.end end value → old.rank ≡ 9
+    → IsPlaceRead (bounds_of bounds) (place_of (get_or spots i d)) bytes old.end end 9 value → old.rank ≡ 9
     → new.rank ≡ min old.rank 9 → new.end ≡ end → new.count ≡ old.count + 1 → list_of new ≡ list_of old ++ value ∷ []
     → (new.rank ≡ 9) × IsReadOn bounds (place_at spots i) bytes old new
 at_number bounds spots i d bytes old new end value low read good rank ends count numbers = (
   omega (arith, good, rank),
   subst (λ (some : List Spot). IsReadOn bounds some bytes old new) (sym (place_there spots i d low))
-      (on_number bounds (get_or spots i d) bytes old new end value read good rank ends count numbers),
+      (on_word bounds (get_or spots i d) bytes old new end 9 value read (omega (arith, good)) rank ends count numbers),
 )
 
 -- no such place is there
@@ -130,19 +91,20 @@ pub quick_small : (bounds : Bounds) (row : Row) (form : SmallForm) (bytes : List
     → IsEndOfWords bytes said.end end → (said.count == row.least || said.count == length row.spots.now) ≡ true
     → IsRowSaid bounds row bytes before 9 (list_of said)
 quick_small bounds row form bytes before said end start makes good read nothing right =
+    let half : row_half_rank row (words_left bytes before) ≡ 9 = half_single row (words_left bytes before) start.single in
     small_said bounds row form bytes before said end end said.count 9 9 makes start.sound (omega (arith, start.rank)) read
     (no_next bytes said.end end nothing) (omega (arith, start.count)) (right_count said.count row.least (length row.spots.now) end 9 right refl)
-    (omega (arith, good))
+    (omega (arith, good, half))
 
 pub quick_wide : (bounds : Bounds) (row : Row) (form : WideForm) (bytes : List ℕ) (before said : Said) (next value end : ℕ)
     → IsQuickStart row bytes before → row.make ≡ M.Wide form → said.rank ≡ 9 → IsReadOn bounds row.spots.now bytes before said
-    → IsPlaceRead (bounds_of bounds) (wide_place_of form) bytes said.end next value → IsEndOfWords bytes next end
+    → IsPlaceRead (bounds_of bounds) (wide_place_of form) bytes said.end next 9 value → IsEndOfWords bytes next end
     → IsRowSaid bounds row bytes before 9 (list_of said ++ value ∷ [])
 quick_wide bounds row form bytes before said next value end start makes good read number nothing =
     let wide : IsWideWord bounds form bytes said number.word next 9 value = record {
       words = number.words;
-      its_rank = sym number.rank;
-      its_value = λ e. number.number;
+      its_rank = number.its_rank;
+      its_value = number.number;
     } in
     wide_said bounds row form bytes before said number.word next 9 value end end 9 9 makes start.sound (omega (arith, start.rank)) read wide
     (no_next bytes next end nothing) (sym (cond-true (end == end) 9 4 (eq-eqb end end refl))) (omega (arith, good))
@@ -153,7 +115,7 @@ pub quick_end : (bounds : Bounds) (row : Row) (bytes : List ℕ) (before said : 
 quick_end bounds row bytes before said end read nothing = end_from bytes before.end said.end end read.before read.lines nothing.ends
 
 pub quick_wide_end : (bounds : Bounds) (row : Row) (form : WideForm) (bytes : List ℕ) (before said : Said) (next value end : ℕ)
-    → IsReadOn bounds row.spots.now bytes before said → IsPlaceRead (bounds_of bounds) (wide_place_of form) bytes said.end next value
+    → IsReadOn bounds row.spots.now bytes before said → IsPlaceRead (bounds_of bounds) (wide_place_of form) bytes said.end next 9 value
     → IsEndOfWords bytes next end → IsLineEnd bytes before.end end
 quick_wide_end bounds row form bytes before said next value end read number nothing =
     end_from bytes before.end next end (omega (arith, read.before, number.order)) (read.lines ∙ number.same) nothing.ends

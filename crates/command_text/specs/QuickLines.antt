@@ -1,11 +1,10 @@
 -- Lines that are read by the row of their form alone.
-use Rattle.std.specs.Prelude.{◌≡◌, ℕ, ◌≤◌, ◌&&◌, nat_le, not, Bool, true, false, List, ◌∷◌, [], length, drop, Some, None, codes}
+use Rattle.std.specs.Prelude.{◌≡◌, ℕ, ◌≤◌, ◌&&◌, nat_le, not, Bool, true, false, List, length, Some, None, codes}
 use Rattle.gc_graph.specs.declared.command.Command.{Command}
 use Rattle.gc_graph.specs.declared.command.Command.TheVariants as C
 use Rattle.gc_graph.specs.Words.{is_text}
-use Rattle.gc_graph.specs.Forms.{Place}
-use Rattle.gc_graph.specs.Reasons.{Bounds, says, first_is, reason_of_words, command_of_words}
-use Rattle.line_words.specs.Cursor.{line_words, lines_after, IsLineEnd}
+use Rattle.gc_graph.specs.Reasons.{Bounds, first_is, reason_of_words, command_of_words}
+use Rattle.line_words.specs.Cursor.{IsLineEnd}
 use Rattle.command_text.specs.declared.forms.SmallForm.TheVariants as F
 use Rattle.command_text.specs.declared.forms.WideForm.TheVariants as W
 use Rattle.command_text.specs.declared.forms.Make.{Make}
@@ -13,8 +12,7 @@ use Rattle.command_text.specs.declared.forms.Make.TheVariants as M
 use Rattle.command_text.specs.declared.forms.Row.{Row}
 use Rattle.command_text.specs.declared.said.Said.{Said}
 use Rattle.command_text.specs.declared.quick_lines.QuickLine.{QuickLine}
-use Rattle.command_text.specs.Ranks.{rank_at}
-use Rattle.command_text.specs.Rows.{is_sound, is_plain_row}
+use Rattle.command_text.specs.Rows.{makes_pair, is_sound, is_plain_row}
 
 -- a command of one of the most frequent forms
 abbrev pub is_frequent : Command → Bool
@@ -67,15 +65,6 @@ pub record IsQuickStart (row : Row) (bytes : List ℕ) (before : Said) : Type 0 
   pub within : before.end ≤ length bytes
   pub rank : before.rank ≡ 9
   pub count : before.count ≡ 0
+  pub single : makes_pair row.make ≡ false
   pub few : length row.spots.now ≤ 3
   pub sound : is_sound before.count row ≡ true
-
--- the next word of the line, from `from` on, ends at `end`, has no fault at its place, and says this number
-pub record IsPlaceRead (bounds : Bounds) (place : Place) (bytes : List ℕ) (from end value : ℕ) : Type 0 where
-  pub word : List ℕ
-  pub words : line_words (drop from bytes) ≡ word ∷ line_words (drop end bytes)
-  pub rank : rank_at bounds place word ≡ 9
-  pub number : says place word ≡ value ∷ []
-  pub order : from ≤ end
-  pub within : end ≤ length bytes
-  pub same : lines_after (drop from bytes) ≡ lines_after (drop end bytes)

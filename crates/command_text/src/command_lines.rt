@@ -7,9 +7,8 @@ ghost use Rattle.command_text.specs.CommandLines.{IsCommandLine};
 ghost use Rattle.command_text.specs.Rows.{bounds_of};
 
 use super::forms::{Make, Spot};
-use super::pairs::half_rank_of;
 use super::places::{Bounds, Reading, read_place};
-use super::reasons::{COUNT, FAULTLESS, UNKNOWN_WORD};
+use super::reasons::{COUNT, UNKNOWN_WORD};
 use super::row_lines::{CommandLine, read_row, read_small_row, read_wide_row, refused};
 use super::rows::{at_row_of, gc_row_of, row_of};
 use super::said::{Said, nothing_said};
@@ -46,22 +45,10 @@ fn read_plain(bytes: &[u8], first: &[u8], from: usize, bounds: Bounds) -> Comman
 {
     match row_of(first) {
         Some(row) => {
-            let rank = half_rank_of(bytes, from, row.make);
+            let before = nothing_said(from);
             match row.make {
-                Make::Small(form) => read_small_row(
-                    bytes,
-                    row,
-                    form,
-                    bounds,
-                    nothing_said(rank, from),
-                ),
-                Make::Wide(form) => read_wide_row(
-                    bytes,
-                    row,
-                    form,
-                    bounds,
-                    nothing_said(rank, from),
-                ),
+                Make::Small(form) => read_small_row(bytes, row, form, bounds, before),
+                Make::Wide(form) => read_wide_row(bytes, row, form, bounds, before),
             }
         }
         None => refused(UNKNOWN_WORD),
@@ -81,7 +68,7 @@ fn read_gc(bytes: &[u8], from: usize, bounds: Bounds) -> CommandLine
         return refused(COUNT);
     }
     match gc_row_of(&bytes[start..end]) {
-        Some(row) => read_row(bytes, row, bounds, nothing_said(FAULTLESS, end)),
+        Some(row) => read_row(bytes, row, bounds, nothing_said(end)),
         None => refused(UNKNOWN_WORD),
     }
 }

@@ -7,10 +7,10 @@ ghost use Rattle.gc_graph.specs.Forms.{row_named, rows};
 ghost use Rattle.gc_graph.specs.Reasons.{Bounds as GrammarBounds};
 ghost use Rattle.line_words.specs.Cursor.{line_words};
 ghost use Rattle.line_words.specs.QuickWords.{IsFirstWord};
-ghost use Rattle.command_text.specs.QuickLines.{IsPlaceRead, IsQuickLine, IsQuickStart, is_quick_row};
+ghost use Rattle.command_text.specs.QuickLines.{IsQuickLine, IsQuickStart, is_quick_row};
 ghost use Rattle.command_text.specs.RowLines.{IsRowLine};
 ghost use Rattle.command_text.specs.Rows.{IsLow, bounds_of, place_of, row_by, wide_place_of};
-ghost use Rattle.command_text.specs.Said.{IsReadOn};
+ghost use Rattle.command_text.specs.Said.{IsPlaceRead, IsReadOn};
 
 use super::forms::{Make, Row, SmallForm, Spot, WideForm};
 use super::making::small_command;
@@ -76,7 +76,7 @@ fn line_of(bytes: &[u8], at: usize, row: &Row, bounds: Bounds) -> Option<QuickLi
     ensures { IfSome result (IsQuickLine (bounds_of bounds) (line_words (drop at bytes.now))
         bytes.now at) }
 {
-    let before = nothing_said(FAULTLESS, at + row.name.len());
+    let before = nothing_said(at + row.name.len());
     match row.make {
         Make::Small(form) => small_line(bytes, row, form, bounds, before),
         Make::Wide(form) => wide_line(bytes, row, form, bounds, before),
@@ -185,7 +185,7 @@ fn quick_next(bytes: &[u8], row: &Row, place: usize, bounds: Bounds, said: Said)
 fn small_number(bytes: &[u8], from: usize, spot: Spot, bounds: Bounds) -> Option<Small>
     requires { from ≤ length bytes.now }
     ensures { IfSome result (λ number. IsPlaceRead (bounds_of bounds) (place_of spot) bytes.now
-        from number.end number.value) }
+        from number.end 9 number.value) }
 {
     match spot {
         Spot::Number(0, last) => next_small(bytes, from, last.checked_add(1)?),
@@ -205,7 +205,7 @@ fn small_number(bytes: &[u8], from: usize, spot: Spot, bounds: Bounds) -> Option
 fn wide_number(bytes: &[u8], from: usize, form: WideForm) -> Option<Any>
     requires { from ≤ length bytes.now }
     ensures number { (bounds : GrammarBounds) → IfSome result (λ number.
-        IsPlaceRead bounds (wide_place_of form) bytes.now from number.end number.value) }
+        IsPlaceRead bounds (wide_place_of form) bytes.now from number.end 9 number.value) }
     ensures low { IfSome result (λ number. IsLow form number.value) }
 {
     match form {

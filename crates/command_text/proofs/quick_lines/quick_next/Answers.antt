@@ -1,4 +1,4 @@
-use Rattle.command_text.proofs.QuickRows.{on_no_words, at_number, at_no_place}
+use Rattle.command_text.proofs.QuickRows.{at_no_place}
 use Rattle.command_text.proofs.quick_lines.quick_next.Goals as goal
 
 pub returns-then-place-row : goal.returns-then-place-row
