@@ -2,6 +2,13 @@
 use Rattle.std.proofs.Common.{◌≡◌, ℕ, ◌+◌, ◌<◌, ◌≤◌, ◌==◌, ◌||◌, min, true, Option, Some, None, IfSome, cond, List, [], ◌∷◌, ◌++◌, length, get_or, take, drop, refl, sym, ap, ◌∙◌, subst, arith}
 use Rattle.std.proofs.lemmas.List.{drop_more, drop_all}
 use Rattle.std.proofs.lemmas.Bool.{cond-true, eq-eqb}
+use Rattle.gc_graph.specs.Reasons.{Bounds as GrammarBounds, value_of}
+use Rattle.gc_graph.specs.Words.{is_number}
+use Rattle.gc_graph.specs.Forms.{Place}
+use Rattle.line_words.specs.declared.quick_words.Small.{Small}
+use Rattle.line_words.specs.QuickWords.{IsSmall}
+use Rattle.command_text.specs.declared.quick_lines.Range.{Range}
+use Rattle.command_text.specs.QuickLines.{IsSaidFor}
 use Rattle.command_text.specs.declared.forms.Spot.{Spot}
 use Rattle.command_text.specs.declared.forms.Row.{Row}
 use Rattle.command_text.specs.declared.forms.Make.TheVariants as M
@@ -21,6 +28,25 @@ use Rattle.command_text.proofs.RowEnds.{end_from}
 use Rattle.command_text.proofs.WideRows.{IsWideWord, wide_said}
 
 -- ---- one place
+
+-- a number in the range of its place
+pub number_read : (bounds : GrammarBounds) (place : Place) (bytes : List ℕ) (from : ℕ) (range : Range) (number : Small)
+    → IsSmall bytes from range.limit number
+    → ((word : List ℕ) → is_number word ≡ true → value_of word < range.limit → IsSaidFor bounds place word (value_of word + range.more))
+    → IsPlaceRead bounds place bytes from number.end 9 (number.value + range.more)
+number_read bounds place bytes from range number small says =
+    let low : value_of small.word < range.limit = omega (arith, small.value, small.low) in
+    let said = subst (λ n. IsSaidFor bounds place small.word (n + range.more)) small.value (says small.word small.number low) in
+    record {
+      word = small.word;
+      words = small.words;
+      its_rank = sym said.rank;
+      number = λ good. said.number;
+      null = said.null;
+      order = small.order;
+      within = small.within;
+      same = small.same;
+    }
 
 -- the places of a row from one on, as many as one
 abbrev place_at : List Spot → ℕ → List Spot

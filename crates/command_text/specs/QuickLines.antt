@@ -1,9 +1,10 @@
 -- Lines that are read by the row of their form alone.
-use Rattle.std.specs.Prelude.{◌≡◌, ℕ, ◌≤◌, ◌&&◌, nat_le, not, Bool, true, false, List, length, Some, None, codes}
+use Rattle.std.specs.Prelude.{◌≡◌, ℕ, ◌≤◌, ◌&&◌, nat_le, not, Bool, true, false, List, ◌∷◌, [], length, Some, None, codes}
 use Rattle.gc_graph.specs.declared.command.Command.{Command}
 use Rattle.gc_graph.specs.declared.command.Command.TheVariants as C
 use Rattle.gc_graph.specs.Words.{is_text}
-use Rattle.gc_graph.specs.Reasons.{Bounds, first_is, reason_of_words, command_of_words}
+use Rattle.gc_graph.specs.Forms.{Place}
+use Rattle.gc_graph.specs.Reasons.{Bounds, says, first_is, reason_of_words, command_of_words}
 use Rattle.line_words.specs.Cursor.{IsLineEnd}
 use Rattle.command_text.specs.declared.forms.SmallForm.TheVariants as F
 use Rattle.command_text.specs.declared.forms.WideForm.TheVariants as W
@@ -12,6 +13,8 @@ use Rattle.command_text.specs.declared.forms.Make.TheVariants as M
 use Rattle.command_text.specs.declared.forms.Row.{Row}
 use Rattle.command_text.specs.declared.said.Said.{Said}
 use Rattle.command_text.specs.declared.quick_lines.QuickLine.{QuickLine}
+use Rattle.command_text.specs.Ranks.{rank_at}
+use Rattle.command_text.specs.Said.{IsNullSaid}
 use Rattle.command_text.specs.Rows.{makes_pair, is_sound, is_plain_row}
 
 -- a command of one of the most frequent forms
@@ -68,3 +71,9 @@ pub record IsQuickStart (row : Row) (bytes : List ℕ) (before : Said) : Type 0 
   pub single : makes_pair row.make ≡ false
   pub few : length row.spots.now ≤ 3
   pub sound : is_sound before.count row ≡ true
+
+-- a word has no fault at its place, and says this number
+pub record IsSaidFor (bounds : Bounds) (place : Place) (word : List ℕ) (value : ℕ) : Type 0 where
+  pub rank : rank_at bounds place word ≡ 9
+  pub number : says place word ≡ value ∷ []
+  pub null : IsNullSaid place word value
