@@ -1,6 +1,7 @@
 -- The line of a command from the line of the row that its first words choose.
 use Rattle.std.proofs.Common.{◌≡◌, ℕ, ◌≤◌, true, false, Some, None, Err, List, ◌∷◌, length, drop, refl, ap, ◌∙◌, subst, arith, codes}
 use Rattle.std.specs.Prelude.{is_some}
+use Rattle.std.specs.Borrow.{Bor}
 use Rattle.std.proofs.lemmas.Bool.{and_parts}
 use Rattle.gc_graph.specs.Words.{is_text}
 use Rattle.gc_graph.specs.Forms.{row_named, rows, plain_form}
@@ -11,13 +12,13 @@ use Rattle.command_text.specs.declared.said.Said.{Said}
 use Rattle.command_text.specs.declared.row_lines.CommandLine.{CommandLine}
 use Rattle.line_words.specs.Cursor.{line_words}
 use Rattle.command_text.specs.Ranks.{half_rank}
-use Rattle.command_text.specs.Rows.{bounds_of, places_in, row_by, agree, makes_pair, pair_places, command_of, is_sound, is_plain_row}
+use Rattle.command_text.specs.Rows.{bounds_of, places_in, row_by, SameRow, agree, makes_pair, pair_places, command_of, is_sound, is_plain_row}
 use Rattle.command_text.specs.Said.{words_left}
 use Rattle.command_text.specs.RowLines.{row_half_rank, row_rank, row_numbers, IsRowLine}
 use Rattle.command_text.specs.PlainForms.{form_of_plain}
 use Rattle.command_text.specs.CommandLines.{IsCommandLine}
 use Rattle.command_text.proofs.RowRanks.{sound_least}
-use Rattle.command_text.proofs.CommandForms.{name_of, plain_is_row, command_line, refused_line, unknown_form}
+use Rattle.command_text.proofs.CommandForms.{name_of, named_of, plain_is_row, command_line, refused_line, unknown_form}
 use Rattle.command_text.proofs.PairLines.{pair_word, half_is_by, pair_row_places, pair_makes}
 
 -- ---- before a row's words
@@ -29,6 +30,16 @@ pub record IsPlainStart (row : Row) (bytes first : List ℕ) (from : ℕ) (befor
   pub rank : before.rank ≡ 9
   pub end : before.end ≡ from
   pub count : before.count ≡ 0
+
+pub plain_start : (row : Bor Row) (bytes first : List ℕ) (from : ℕ) (before : Said) → SameRow (Some row) (row_named first rows)
+    → is_plain_row row.now ≡ true → before.rank ≡ 9 → before.end ≡ from → before.count ≡ 0 → IsPlainStart row.now bytes first from before
+plain_start row bytes first from before same plain rank end count = record {
+  named = named_of row (row_named first rows) same;
+  plain = plain;
+  rank = rank;
+  end = end;
+  count = count;
+}
 
 pub plain_sound : (row : Row) (before : ℕ) → is_plain_row row ≡ true → before ≡ 0 → is_sound before row ≡ true
 plain_sound row before plain e =

@@ -1,6 +1,6 @@
 -- The words of a row that is read by itself, each at its place.
-use Rattle.std.proofs.Common.{◌≡◌, ℕ, ◌+◌, ◌<◌, ◌≤◌, ◌==◌, ◌||◌, min, true, Option, Some, None, IfSome, cond, List, [], ◌∷◌, ◌++◌, length, get_or, take, drop, refl, sym, ap, ◌∙◌, subst, arith}
-use Rattle.std.proofs.lemmas.List.{drop_more, drop_all}
+use Rattle.std.proofs.Common.{◌≡◌, ℕ, ◌+◌, ◌<◌, ◌≤◌, ◌==◌, ◌||◌, true, Option, Some, None, IfSome, cond, List, [], ◌∷◌, ◌++◌, length, take, drop, refl, sym, ap, ◌∙◌, subst, arith}
+use Rattle.std.proofs.lemmas.List.{drop_all}
 use Rattle.std.proofs.lemmas.Bool.{cond-true, eq-eqb}
 use Rattle.gc_graph.specs.Reasons.{Bounds as GrammarBounds, value_of}
 use Rattle.gc_graph.specs.Words.{is_number}
@@ -18,11 +18,11 @@ use Rattle.command_text.specs.declared.places.Bounds.{Bounds}
 use Rattle.command_text.specs.declared.said.Said.{Said}
 use Rattle.line_words.specs.Cursor.{IsLineEnd, IsNextWord}
 use Rattle.line_words.specs.QuickWords.{IsEndOfWords}
-use Rattle.command_text.specs.Rows.{bounds_of, place_of, wide_place_of}
+use Rattle.command_text.specs.Rows.{bounds_of, wide_place_of}
 use Rattle.command_text.specs.Said.{list_of, words_left, IsPlaceRead, IsReadOn}
 use Rattle.command_text.specs.RowLines.{row_half_rank}
 use Rattle.command_text.specs.QuickLines.{IsQuickStart}
-use Rattle.command_text.proofs.PlacesRead.{on_nothing, on_both, on_word}
+use Rattle.command_text.proofs.PlacesRead.{on_nothing, on_both}
 use Rattle.command_text.proofs.RowRanks.{IsRowSaid, half_single, small_said}
 use Rattle.command_text.proofs.RowEnds.{end_from}
 use Rattle.command_text.proofs.WideRows.{IsWideWord, wide_said}
@@ -51,19 +51,6 @@ number_read bounds place bytes from range number small says =
 -- the places of a row from one on, as many as one
 abbrev place_at : List Spot → ℕ → List Spot
 place_at spots i = take 1 (drop i spots)
-
-place_there : (spots : List Spot) (i : ℕ) (d : Spot) → i < length spots → place_at spots i ≡ get_or spots i d ∷ []
-place_there spots i d low = ap (λ (left : List Spot). take 1 left) (drop_more spots i d low)
-
-pub at_number : (bounds : Bounds) (spots : List Spot) (i : ℕ) (d : Spot) (bytes : List ℕ) (old new : Said) (end value : ℕ) → i < length spots
-    → IsPlaceRead (bounds_of bounds) (place_of (get_or spots i d)) bytes old.end end 9 value → old.rank ≡ 9
-    → new.rank ≡ min old.rank 9 → new.end ≡ end → new.count ≡ old.count + 1 → list_of new ≡ list_of old ++ value ∷ []
-    → (new.rank ≡ 9) × IsReadOn bounds (place_at spots i) bytes old new
-at_number bounds spots i d bytes old new end value low read good rank ends count numbers = (
-  omega (arith, good, rank),
-  subst (λ (some : List Spot). IsReadOn bounds some bytes old new) (sym (place_there spots i d low))
-      (on_word bounds (get_or spots i d) bytes old new end 9 value read (omega (arith, good)) rank ends count numbers),
-)
 
 -- no such place is there
 pub at_no_place : (bounds : Bounds) (spots : List Spot) (i : ℕ) (bytes : List ℕ) (old : Said) → old.end ≤ length bytes → old.rank ≡ 9

@@ -25,6 +25,7 @@ mod row_lines;
 mod row_search;
 mod rows;
 mod said;
+mod spots;
 mod wide;
 
 pub use command_lines::read_command;

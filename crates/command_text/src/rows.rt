@@ -6,22 +6,9 @@ ghost use Rattle.command_text.specs.Rows.{SameRow, is_plain_row, is_gc_row, is_a
 
 use super::forms::{Make, OrderForm, Row, SmallForm, Spot, WideForm};
 use super::row_search::{likely_place, row_in, row_near};
-
-const SLOT: Spot = Spot::Number(0, 255);
-
-const SLOT_OR_NULL: Spot = Spot::NumberOrNull(0, 255);
-
-const WEAK_SLOT: Spot = Spot::Number(0, 63);
-
-const REGION_SLOT: Spot = Spot::Number(0, 31);
-
-const FIELD: Spot = Spot::Number(0, 67_108_863);
-
-const EXTRA_WORDS: Spot = Spot::Number(0, 33_554_432);
-
-const STACK_PLACE: Spot = Spot::Number(0, 1023);
-
-const OBJECTS: Spot = Spot::Number(1, 4_294_967_295);
+use super::spots::{
+    EXTRA_WORDS, FIELD, OBJECTS, REGION_SLOT, SLOT, SLOT_OR_NULL, STACK_PLACE, WEAK_SLOT,
+};
 
 // The rows of the most frequent lines stand by themselves, since these are read by a row each.
 pub(crate) const NEW: Row = Row {
