@@ -18,11 +18,11 @@ use Rattle.line_words.specs.Cursor.{lines_after}
 use Rattle.command_text.specs.CommandLines.{IsCommandLine}
 use Rattle.command_text.specs.PlainForms.{form_of_plain}
 use Rattle.command_text.specs.Ranks.{rank_by, lowest, rank_at, count_rank, half_rank, form_rank}
-use Rattle.command_text.specs.Rows.{bounds_of, places_in, row_by, SameRow, command_of}
+use Rattle.command_text.specs.Rows.{bounds_of, places_in, row_by, SameRow, makes_pair, command_of}
 use Rattle.command_text.specs.Said.{list_of, words_left}
-use Rattle.command_text.specs.RowLines.{row_rank, row_numbers, IsRowLine}
+use Rattle.command_text.specs.RowLines.{row_half_rank, row_rank, row_numbers, IsRowLine}
 use Rattle.command_text.proofs.RanksOfWords.{known_rank, missing_rank, faultless, faulty, many_elsewhere, half_elsewhere}
-use Rattle.command_text.proofs.RowRanks.{count_low}
+use Rattle.command_text.proofs.RowRanks.{half_single, count_low}
 use Rattle.command_text.proofs.RowEnds.{end_from}
 use Rattle.command_text.proofs.FormRanks.{lowest_of_row, says_of_row, count_of_row}
 
@@ -83,9 +83,9 @@ nothing_said said none = ap (λ n. take n (said.a ∷ said.b ∷ said.c ∷ said
 pub plain_is_row : (bounds : Bounds) (row : Row) (bytes : List ℕ) (before : Said) (first : List ℕ)
     → is_text first (codes "type") ≡ false → is_text first (codes "gc") ≡ false → is_text first (codes "at") ≡ false
     → row_named first rows ≡ Some (row_by row) → row.least ≤ length (places_in row)
-    → before.rank ≡ half_rank (first ∷ words_left bytes before) → before.count ≡ 0
+    → before.rank ≡ 9 → row_half_rank row (words_left bytes before) ≡ half_rank (first ∷ words_left bytes before) → before.count ≡ 0
     → IsRowOf bounds row bytes before (first ∷ words_left bytes before)
-plain_is_row bounds row bytes before first type gc at named within half none =
+plain_is_row bounds row bytes before first type gc at named within low half none =
     let rest : List (List ℕ) = words_left bytes before in
     let words : List (List ℕ) = first ∷ rest in
     let places : List Place = places_of (row_by row) (length rest) in
@@ -96,7 +96,7 @@ plain_is_row bounds row bytes before first type gc at named within half none =
     record {
       rank =
           let same : row_rank bounds row bytes before ≡ form_rank (bounds_of bounds) (Known places (command_of row.make)) words =
-          omega (arith, known, many, half, lowest_of_row (bounds_of bounds) row rest within, count_of_row row (length rest) within, count_low row (length rest)) in
+          omega (arith, known, many, low, half, lowest_of_row (bounds_of bounds) row rest within, count_of_row row (length rest) within, count_low row (length rest)) in
           same ∙ ap (λ f. form_rank (bounds_of bounds) f words) (sym form);
       command = λ good.
           ap (λ ns. command_of row.make (ns ++ all_say (places_in row) rest)) (nothing_said before none)
@@ -124,9 +124,9 @@ other_text word text other e ne = ap (λ w. is_text w other) ((bytes_eq-Decides 
 pub gc_is_row : (bounds : Bounds) (row : Row) (bytes : List ℕ) (before : Said) (first second : List ℕ)
     → is_text first (codes "type") ≡ false → is_text first (codes "gc") ≡ true
     → row_named second gc_rows ≡ Some (row_by row) → row.least ≤ length (places_in row)
-    → before.rank ≡ 9 → before.count ≡ 0
+    → makes_pair row.make ≡ false → before.rank ≡ 9 → before.count ≡ 0
     → IsRowOf bounds row bytes before (first ∷ second ∷ words_left bytes before)
-gc_is_row bounds row bytes before first second type gc named within low none =
+gc_is_row bounds row bytes before first second type gc named within single low none =
     let rest : List (List ℕ) = words_left bytes before in
     let words : List (List ℕ) = first ∷ second ∷ rest in
     let some : List Place = places_of (row_by row) (length rest) in
@@ -145,6 +145,7 @@ gc_is_row bounds row bytes before first second type gc named within low none =
             known,
             many,
             half,
+            half_single row rest single,
             low,
             fixed,
             count_more (length rest) (length some),
@@ -164,9 +165,9 @@ gc_is_row bounds row bytes before first second type gc named within low none =
 pub at_is_row : (bounds : Bounds) (row : Row) (bytes : List ℕ) (before : Said) (first j third : List ℕ)
     → is_text first (codes "type") ≡ false → is_text first (codes "gc") ≡ false → is_text first (codes "at") ≡ true
     → row_named third at_rows ≡ Some (row_by row) → row.least ≤ length (places_in row)
-    → before.rank ≤ 9 → before.rank ≡ rank_at (bounds_of bounds) thread j → (before.rank ≡ 9 → list_of before ≡ says thread j)
+    → makes_pair row.make ≡ false → before.rank ≤ 9 → before.rank ≡ rank_at (bounds_of bounds) thread j → (before.rank ≡ 9 → list_of before ≡ says thread j)
     → IsRowOf bounds row bytes before (first ∷ j ∷ third ∷ words_left bytes before)
-at_is_row bounds row bytes before first j third type gc at named within low its_rank its_value =
+at_is_row bounds row bytes before first j third type gc at named within single low its_rank its_value =
     let rest : List (List ℕ) = words_left bytes before in
     let words : List (List ℕ) = first ∷ j ∷ third ∷ rest in
     let some : List Place = places_of (row_by row) (length rest) in
@@ -185,6 +186,7 @@ at_is_row bounds row bytes before first j third type gc at named within low its_
             known,
             many,
             half,
+            half_single row rest single,
             its_rank,
             fixed,
             count_more (suc (length rest)) (suc (length some)),

@@ -5,6 +5,8 @@ pub mod LinesByRows
 pub mod LinesOfGroups
 pub mod PairLines
 pub mod PlacesRead
+pub mod QuickCommands
+pub mod QuickRows
 pub mod RanksOfWords
 pub mod RowEnds
 pub mod RowRanks

@@ -1,6 +1,6 @@
 -- The lines of the forms that a word after `gc`, or after `at` and its thread, chooses.
 use Rattle.std.proofs.Common.{◌≡◌, ℕ, ◌-◌, ◌≤◌, min, not, true, false, Some, None, Err, List, [], ◌∷◌, length, take, drop, refl, sym, ap, ◌∙◌, subst, arith, codes}
-use Rattle.std.proofs.lemmas.Bool.{and_parts}
+use Rattle.std.proofs.lemmas.Bool.{and_parts, not-true}
 use Rattle.gc_graph.specs.Words.{is_text}
 use Rattle.gc_graph.specs.Forms.{Place, row_named, gc_rows, at_rows, thread, gc_form, at_form}
 use Rattle.gc_graph.specs.Reasons.{Bounds as GrammarBounds, says, is_unknown, is_bad, is_outside}
@@ -25,6 +25,12 @@ gc_sound row before plain e = ap (λ n. is_sound n row) e ∙ (and_parts (is_sou
 
 pub at_sound : (row : Row) (before : ℕ) → is_at_row row ≡ true → before ≡ 1 → is_sound before row ≡ true
 at_sound row before plain e = ap (λ n. is_sound n row) e ∙ (and_parts (is_sound 1 row) (not (makes_pair row.make)) plain).0
+
+gc_single : (row : Row) → is_gc_row row ≡ true → makes_pair row.make ≡ false
+gc_single row plain = not-true (makes_pair row.make) (and_parts (is_sound 0 row) (not (makes_pair row.make)) plain).1
+
+at_single : (row : Row) → is_at_row row ≡ true → makes_pair row.make ≡ false
+at_single row plain = not-true (makes_pair row.make) (and_parts (is_sound 1 row) (not (makes_pair row.make)) plain).1
 
 rank_low : (bounds : GrammarBounds) (place : Place) (word : List ℕ) → rank_at bounds place word ≤ 9
 rank_low bounds place word = rank_le9 (is_unknown place word) (is_bad place word) false (is_outside bounds place word)
@@ -63,7 +69,7 @@ pub gc_done : (bounds : Bounds) (row : Row) (bytes : List ℕ) (from start end :
 gc_done bounds row bytes from start end before line next some named plain low ends none done first gc =
     let type : is_text first (codes "type") ≡ false = other_text first (codes "gc") (codes "type") gc refl in
     let second : List ℕ = take (end - start) (drop start bytes) in
-    let is = gc_is_row bounds row bytes before first second type gc named (sound_least 0 row (gc_sound row 0 plain refl)) low none in
+    let is = gc_is_row bounds row bytes before first second type gc named (sound_least 0 row (gc_sound row 0 plain refl)) (gc_single row plain) low none in
     let words : line_words (drop from bytes) ≡ second ∷ words_left bytes before =
     next.some (omega (arith, some, next.order)) ∙ ap (λ n. second ∷ line_words (drop n bytes)) (sym ends) in
     subst (λ (ws : List (List ℕ)). IsCommandLine (bounds_of bounds) (first ∷ ws) bytes from line) (sym words)
@@ -144,7 +150,7 @@ at_done bounds row bytes from mid rank j start end value before line its next so
     let third : List ℕ = take (end - start) (drop start bytes) in
     let said : before.rank ≡ 9 → list_of before ≡ says thread j = λ good.
     ap (λ n. take n (before.a ∷ before.b ∷ before.c ∷ before.d ∷ 0 ∷ [])) count ∙ ap (λ n. n ∷ []) number ∙ sym (its_value (sym low ∙ good)) in
-    let is = at_is_row bounds row bytes before first j third type gc at named (sound_least 1 row (at_sound row 1 plain refl))
+    let is = at_is_row bounds row bytes before first j third type gc at named (sound_least 1 row (at_sound row 1 plain refl)) (at_single row plain)
     (omega (arith, low, its.rank_is, rank_low (bounds_of bounds) thread j)) (low ∙ its.rank_is) said in
     let words : line_words (drop from bytes) ≡ j ∷ third ∷ words_left bytes before =
     its.words ∙ ap (λ (ws : List (List ℕ)). j ∷ ws)

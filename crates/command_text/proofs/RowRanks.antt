@@ -2,7 +2,7 @@
 use Rattle.std.proofs.Common.{◌≡◌, ℕ, ◌+◌, ◌-◌, ◌<◌, ◌≤◌, ◌==◌, ◌||◌, ◌&&◌, min, Bool, true, false, Some, Ok, Err, cond, List, [], ◌∷◌, ◌++◌, length, map, refl, sym, ap, ◌∙◌, inl, inr, arith, ◌⊎◌}
 use Rattle.std.specs.Prelude.{is_some, nat_le}
 use Rattle.std.proofs.lemmas.List.{append-nil, length-drop, length-take, length-map}
-use Rattle.std.proofs.lemmas.Bool.{and_parts, cond-true, cond-false, eq-eqb, ne_eqb, eqb-true, cases_eq, cases_Bool, or_cases, or_from, leb-true}
+use Rattle.std.proofs.lemmas.Bool.{and_parts, cond-true, cond-false, eq-eqb, ne_eqb, eqb-true, cases_eq, cases_Bool, or_cases, or_from, and_left, leb-true}
 use Rattle.gc_graph.specs.declared.command.Command.{Command}
 use Rattle.gc_graph.specs.Forms.{Place}
 use Rattle.gc_graph.specs.Reasons.{all_say}
@@ -17,7 +17,8 @@ use Rattle.line_words.specs.Cursor.{IsLineEnd, IsNextWord}
 use Rattle.command_text.specs.Ranks.{lowest}
 use Rattle.command_text.specs.Rows.{bounds_of, place_of, places_in, tail_of, command_of, takes, makes_pair, is_sound, is_least_right}
 use Rattle.command_text.specs.Said.{list_of, words_left, IsReadOn}
-use Rattle.command_text.specs.RowLines.{row_count_rank, row_rank, row_numbers, IsRowLine}
+use Rattle.command_text.specs.RowLines.{row_count_rank, row_half_rank, row_rank, row_numbers, IsRowLine}
+use Rattle.command_text.specs.CommandLines.{is_half_after}
 use Rattle.command_text.proofs.Accepting.{accepts}
 
 -- what is known of the words of a row's line when all were read
@@ -68,6 +69,13 @@ count_wrong row n least most =
     cond-false (n == row.least || n == length (places_in row)) 9 4
     (or_from (n == row.least) (n == length (places_in row)) (ne_eqb n row.least least) (ne_eqb n (length (places_in row)) most))
 
+-- ---- a pair
+
+-- a form that makes no pair asks nothing of one
+pub half_single : (row : Row) (words : List (List ℕ)) → makes_pair row.make ≡ false → row_half_rank row words ≡ 9
+half_single row words single =
+    cond-false (makes_pair row.make && is_half_after words) 3 9 (and_left (makes_pair row.make) (is_half_after words) single)
+
 -- ---- the end
 
 rank_parts : (bounds : Bounds) (row : Row) (bytes : List ℕ) (before : Said) → row_rank bounds row bytes before ≡ 9
@@ -114,7 +122,7 @@ good_line bounds row bytes before rank numbers command end said good makes ends 
 
 -- ---- a row of small numbers
 
-small_places : (row : Row) (form : SmallForm) → row.make ≡ M.Small form → places_in row ≡ map place_of row.spots.now
+pub small_places : (row : Row) (form : SmallForm) → row.make ≡ M.Small form → places_in row ≡ map place_of row.spots.now
 small_places row form e =
     ap (λ make. map place_of row.spots.now ++ tail_of make) e ∙ append-nil (map place_of row.spots.now)
 
@@ -183,7 +191,7 @@ pub small_said : (bounds : Bounds) (row : Row) (form : SmallForm) (bytes : List 
     → row.make ≡ M.Small form → is_sound before.count row ≡ true → before.rank ≤ 9 → IsReadOn bounds row.spots.now bytes before said
     → IsNextWord bytes said.end start end → words ≡ said.count - before.count
     → count ≡ cond (start == end) (cond (words == row.least || words == length row.spots.now) 9 4) 4
-    → rank ≡ min said.rank count
+    → rank ≡ min (min said.rank count) (row_half_rank row (words_left bytes before))
     → IsRowSaid bounds row bytes before rank (list_of said)
 small_said bounds row form bytes before said start end words count rank makes sound low read next are is total =
     let n : ℕ = length (words_left bytes before) in

@@ -11,11 +11,11 @@ use Rattle.command_text.specs.declared.places.Bounds.{Bounds}
 use Rattle.command_text.specs.declared.said.Said.{Said}
 use Rattle.line_words.specs.Cursor.{line_words, IsNextWord}
 use Rattle.command_text.specs.Ranks.{lowest, rank_at}
-use Rattle.command_text.specs.Rows.{bounds_of, place_of, places_in, tail_of, wide_place_of, is_sound, is_least_right}
+use Rattle.command_text.specs.Rows.{bounds_of, place_of, places_in, tail_of, wide_place_of, makes_pair, is_sound, is_least_right}
 use Rattle.command_text.specs.Said.{list_of, words_left, IsReadOn}
 use Rattle.command_text.specs.RowLines.{row_count_rank, row_numbers}
 use Rattle.command_text.proofs.PlacesRead.{rank_le9, lowest_append, says_append}
-use Rattle.command_text.proofs.RowRanks.{IsRowSaid, sound_parts, count_right, count_wrong, left_count, said_length, said_low}
+use Rattle.command_text.proofs.RowRanks.{IsRowSaid, half_single, sound_parts, count_right, count_wrong, left_count, said_length, said_low}
 
 -- ---- the places of the row
 
@@ -33,6 +33,10 @@ wide_least : (before : ℕ) (row : Row) (form : WideForm) → row.make ≡ M.Wid
 wide_least before row form e sound =
     eqb-true row.least (length (places_in row))
     (sym (ap (λ make. is_least_right make row.least (length (places_in row))) e) ∙ (sound_parts before row sound).right)
+
+-- a wide number makes no pair
+wide_single : (row : Row) (form : WideForm) → row.make ≡ M.Wide form → makes_pair row.make ≡ false
+wide_single row form makes = ap makes_pair makes
 
 -- the ranks of the spots and of the wide number
 wide_lowest : (bounds : Bounds) (row : Row) (form : WideForm) (bytes : List ℕ) (before said : Said) → row.make ≡ M.Wide form
@@ -63,8 +67,9 @@ short_said bounds row form bytes before said start end rank numbers makes sound 
     let counted = count_wrong row n (λ e. omega (arith, e, most, least)) (λ e. omega (arith, e, most)) in
     let ranks = wide_lowest bounds row form bytes before said makes read in
     let last = ap (lowest (bounds_of bounds) (wide_place_of form ∷ [])) nothing in
+    let half = half_single row (words_left bytes before) (wide_single row form makes) in
     record {
-      rank_is = omega (arith, total, counted, read.rank, ranks, last);
+      rank_is = omega (arith, total, counted, read.rank, ranks, last, half);
       numbers_are = λ good. absurd (omega (arith, good, total));
       count = λ good. absurd (omega (arith, good, total));
     }
@@ -146,9 +151,10 @@ wide_said bounds row form bytes before said word end rank value next last count 
     let ranks = wide_lowest bounds row form bytes before said makes read in
     let its = ap (lowest (bounds_of bounds) (wide_place_of form ∷ [])) wide.words
     ∙ ap (λ r. min r 9) (sym wide.its_rank) in
+    let half = half_single row (words_left bytes before) (wide_single row form makes) in
     let parts = both_good said.rank rank count (omega (arith, read.rank, low)) (wide_low bounds form bytes said word end rank value wide) in
     record {
-      rank_is = omega (arith, sum, counted, read.rank, ranks, its, low);
+      rank_is = omega (arith, sum, counted, read.rank, ranks, its, low, half);
       numbers_are = λ good.
           let both = parts (sym sum ∙ good) in
           wide_numbers bounds row form bytes before said word end rank value makes read wide both.0 both.1;

@@ -4,5 +4,6 @@ pub mod Rows
 pub mod Said
 pub mod RowLines
 pub mod CommandLines
+pub mod QuickLines
 -- Lemmas that the crates above need too.
 pub mod PlainForms

@@ -6,7 +6,7 @@ use Rattle.gc_graph.specs.declared.command.Command.{Command}
 use Rattle.gc_graph.specs.declared.command.Command.TheVariants as C
 use Rattle.gc_graph.specs.declared.command.Order.TheVariants as Q
 use Rattle.gc_graph.specs.Words.{is_text}
-use Rattle.gc_graph.specs.Forms.{Place, want, any_number, pages_or_all, none, one, two, three, new_command, set_command, pair_command, sweep_command, threads_command, by_want, order_of_none, order_of_one, order_of_two}
+use Rattle.gc_graph.specs.Forms.{Place, slot, field, slot_or_null, want, any_number, pages_or_all, none, one, two, three, new_command, set_command, pair_command, sweep_command, threads_command, by_want, order_of_none, order_of_one, order_of_two}
 use Rattle.gc_graph.specs.Forms.Place.{Either, Number, NumberOr, TypeNumber}
 use Rattle.gc_graph.specs.Forms.{Row as GrammarRow}
 use Rattle.gc_graph.specs.Reasons.{Bounds as GrammarBounds}
@@ -131,6 +131,10 @@ SameRow (Some row) None = ⊥
 abbrev pub makes_pair : Make → Bool
 makes_pair (M.Small F.Pair) = true
 makes_pair make = false
+
+-- the places of a pair
+abbrev pub pair_places : List Place
+pair_places = slot ∷ field ∷ slot_or_null ∷ slot_or_null ∷ []
 
 -- so many numbers can make the command
 abbrev pub takes : Make → ℕ → Bool

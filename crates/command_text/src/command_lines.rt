@@ -7,12 +7,11 @@ ghost use Rattle.command_text.specs.CommandLines.{IsCommandLine};
 ghost use Rattle.command_text.specs.Rows.{bounds_of};
 
 use super::forms::{Make, Spot};
-use super::pairs::half_rank_of;
 use super::places::{Bounds, Reading, read_place};
-use super::reasons::{COUNT, FAULTLESS, UNKNOWN_WORD};
+use super::reasons::{COUNT, UNKNOWN_WORD};
 use super::row_lines::{CommandLine, read_row, read_small_row, read_wide_row, refused};
 use super::rows::{at_row_of, gc_row_of, row_of};
-use super::said::Said;
+use super::said::{Said, nothing_said};
 use line_words::next_word;
 
 /// What the line says whose first word stands from `start` to `end` and isn't `type`.
@@ -46,22 +45,10 @@ fn read_plain(bytes: &[u8], first: &[u8], from: usize, bounds: Bounds) -> Comman
 {
     match row_of(first) {
         Some(row) => {
-            let rank = half_rank_of(bytes, from, row.make);
+            let before = nothing_said(from);
             match row.make {
-                Make::Small(form) => read_small_row(
-                    bytes,
-                    row,
-                    form,
-                    bounds,
-                    nothing_said(rank, from),
-                ),
-                Make::Wide(form) => read_wide_row(
-                    bytes,
-                    row,
-                    form,
-                    bounds,
-                    nothing_said(rank, from),
-                ),
+                Make::Small(form) => read_small_row(bytes, row, form, bounds, before),
+                Make::Wide(form) => read_wide_row(bytes, row, form, bounds, before),
             }
         }
         None => refused(UNKNOWN_WORD),
@@ -81,7 +68,7 @@ fn read_gc(bytes: &[u8], from: usize, bounds: Bounds) -> CommandLine
         return refused(COUNT);
     }
     match gc_row_of(&bytes[start..end]) {
-        Some(row) => read_row(bytes, row, bounds, nothing_said(FAULTLESS, end)),
+        Some(row) => read_row(bytes, row, bounds, nothing_said(end)),
         None => refused(UNKNOWN_WORD),
     }
 }
@@ -110,23 +97,6 @@ fn read_at(bytes: &[u8], from: usize, bounds: Bounds) -> CommandLine
 }
 
 const THREAD: Spot = Spot::Number(1, 8);
-
-#[inline(always)]
-fn nothing_said(rank: u32, end: usize) -> Said
-    ensures rank { result.rank ≡ rank }
-    ensures end { result.end ≡ end }
-    ensures count { result.count ≡ 0 }
-{
-    Said {
-        rank,
-        end,
-        count: 0,
-        a: 0,
-        b: 0,
-        c: 0,
-        d: 0,
-    }
-}
 
 #[inline(always)]
 fn thread_said(thread: Reading, end: usize) -> Said

@@ -65,6 +65,7 @@ pub(crate) enum Make {
 }
 
 /// A form: the word that chooses it, its places, and how many of them must be there.
+#[derive(Clone, Copy)]
 pub(crate) struct Row {
     pub(crate) name: &'static [u8],
     pub(crate) spots: &'static [Spot],

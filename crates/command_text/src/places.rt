@@ -1,10 +1,11 @@
 // One word at its place: its rank, and the number that it says.
 
-ghost use Rattle.std.specs.Prelude.{◌≡◌, ◌<◌, ◌≤◌, ◌+◌, ◌^◌, ◌||◌, not, false, Some, None, [], ◌∷◌, if◌then◌else◌, codes};
+ghost use Rattle.std.specs.Prelude.{◌≡◌, ◌≤◌, ◌==◌, ◌+◌, ◌^◌, ◌||◌, not, false, Some, None, [], ◌∷◌, if◌then◌else◌, codes};
 ghost use Rattle.gc_graph.specs.Reasons.{says, is_beyond, value_of};
 ghost use Rattle.gc_graph.specs.Words.{is_number, is_text};
 ghost use Rattle.command_text.specs.Ranks.{number_rank, rank_at, rank_by};
 ghost use Rattle.command_text.specs.Rows.{bounds_of, is_null, place_of};
+ghost use Rattle.command_text.specs.Said.{IsNullSaid};
 
 use super::forms::Spot;
 use super::reasons::{BAD_NUMBER, FAULTLESS, RANGE, UNKNOWN_WORD};
@@ -18,7 +19,7 @@ pub struct Bounds {
 }
 
 /// The number of the lowest reason that a word gives, or 9; and the number that the word says, which
-/// counts only there.
+/// counts only there, but that it is 0 exactly for null counts everywhere.
 #[derive(Clone, Copy)]
 pub(crate) struct Reading {
     pub(crate) rank: u32,
@@ -40,6 +41,7 @@ pub(crate) fn read_as(spot: Spot, word: &[u8], value: Option<u64>, bounds: Bound
     requires { value ≡ (if is_number word.now then Some (value_of word.now) else None) }
     ensures rank { result.rank ≡ rank_at (bounds_of bounds) (place_of spot) word.now }
     ensures value { result.rank ≡ 9 → says (place_of spot) word.now ≡ result.value ∷ [] }
+    ensures null { IsNullSaid (place_of spot) word.now result.value }
 {
     match spot {
         Spot::Number(from, last) => judged(value, from, u64::from(last) + 1),
@@ -56,7 +58,7 @@ fn judged(value: Option<u64>, from: u32, limit: u64) -> Reading
     requires { limit ≤ 2 ^ 32 }
     ensures rank { result.rank ≡ number_rank from limit value }
     ensures value { result.rank ≡ 9 → value ≡ Some result.value }
-    ensures low { result.rank ≡ 9 → result.value < limit }
+    ensures low { result.value ≤ limit }
 {
     match value {
         None => Reading {
@@ -82,6 +84,7 @@ fn judged_or_null(value: Option<u64>, word: &[u8], from: u16, last: u16) -> Read
         (is_beyond from (last + 1) word.now) }
     ensures value { result.rank ≡ 9 →
         (if is_null word.now then 0 else value_of word.now + 1) ≡ result.value }
+    ensures null { (result.value == 0) ≡ is_null word.now }
 {
     if word == b"-".as_slice() {
         return Reading {
@@ -90,13 +93,10 @@ fn judged_or_null(value: Option<u64>, word: &[u8], from: u16, last: u16) -> Read
         };
     }
     let reading = judged(value, u32::from(from), u64::from(last) + 1);
-    if reading.rank == FAULTLESS {
-        return Reading {
-            rank: FAULTLESS,
-            value: reading.value + 1,
-        };
+    Reading {
+        rank: reading.rank,
+        value: reading.value + 1,
     }
-    reading
 }
 
 #[inline(never)]

@@ -2,10 +2,11 @@
 
 ghost use Rattle.std.specs.Prelude.{◌≡◌, ◌==◌, ◌||◌, ◌≤◌, true, is_some, length, if◌then◌else◌};
 ghost use Rattle.command_text.specs.RowLines.{IsRowLine, row_numbers, row_rank};
-ghost use Rattle.command_text.specs.Rows.{command_of, is_sound, makes_pair};
+ghost use Rattle.command_text.specs.Rows.{command_of, is_sound, makes_pair, pair_places, places_in};
 
 use super::forms::{Make, Row, SmallForm, WideForm};
 use super::making::small_command;
+use super::pairs::half_rank;
 use super::places::Bounds;
 use super::reasons::{COUNT, FAULTLESS};
 use super::said::{Said, read_places};
@@ -26,6 +27,8 @@ pub(crate) fn read_row(bytes: &[u8], row: &Row, bounds: Bounds, before: Said) ->
     requires within { before.end ≤ length bytes.now }
     requires low { before.rank ≤ 9 }
     requires sound { is_sound before.count row.now ≡ true }
+    requires pair { makes_pair row.now.make ≡ true
+        → (before.count ≡ 0) × (places_in row.now ≡ pair_places) }
     requires pairs { makes_pair row.now.make ≡ true
         → row_rank bounds row.now bytes.now before ≡ 9
         → is_some (command_of row.now.make (row_numbers row.now bytes.now before)) ≡ true }
@@ -49,6 +52,8 @@ pub(crate) fn read_small_row(
     requires low { before.rank ≤ 9 }
     requires sound { is_sound before.count row.now ≡ true }
     requires makes { row.now.make ≡ Make.Small form }
+    requires pair { makes_pair row.now.make ≡ true
+        → (before.count ≡ 0) × (places_in row.now ≡ pair_places) }
     requires pairs { makes_pair row.now.make ≡ true
         → row_rank bounds row.now bytes.now before ≡ 9
         → is_some (command_of row.now.make (row_numbers row.now bytes.now before)) ≡ true }
@@ -59,7 +64,8 @@ pub(crate) fn read_small_row(
     let words = said.count - before.count;
     let rank = said
         .rank
-        .min(count_rank(start, end, words, row.least, row.spots.len()));
+        .min(count_rank(start, end, words, row.least, row.spots.len()))
+        .min(half_rank(form, said));
     if rank != FAULTLESS {
         return refused(rank);
     }

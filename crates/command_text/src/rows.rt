@@ -6,60 +6,86 @@ ghost use Rattle.command_text.specs.Rows.{SameRow, is_plain_row, is_gc_row, is_a
 
 use super::forms::{Make, OrderForm, Row, SmallForm, Spot, WideForm};
 use super::row_search::{likely_place, row_in, row_near};
+use super::spots::{
+    EXTRA_WORDS, FIELD, OBJECTS, REGION_SLOT, SLOT, SLOT_OR_NULL, STACK_PLACE, WEAK_SLOT,
+};
 
-const SLOT: Spot = Spot::Number(0, 255);
+// The rows of the most frequent lines stand by themselves, since these are read by a row each.
+pub(crate) const NEW: Row = Row {
+    name: b"new",
+    spots: &[SLOT, Spot::TypeNumber, EXTRA_WORDS],
+    least: 2,
+    make: Make::Small(SmallForm::New),
+};
 
-const SLOT_OR_NULL: Spot = Spot::NumberOrNull(0, 255);
+pub(crate) const SET: Row = Row {
+    name: b"set",
+    spots: &[SLOT, FIELD, SLOT_OR_NULL],
+    least: 3,
+    make: Make::Small(SmallForm::Set),
+};
 
-const WEAK_SLOT: Spot = Spot::Number(0, 63);
+pub(crate) const PUT: Row = Row {
+    name: b"put",
+    spots: &[SLOT, FIELD],
+    least: 3,
+    make: Make::Wide(WideForm::Put),
+};
 
-const REGION_SLOT: Spot = Spot::Number(0, 31);
+pub(crate) const WORD: Row = Row {
+    name: b"word",
+    spots: &[SLOT, FIELD],
+    least: 2,
+    make: Make::Small(SmallForm::Word),
+};
 
-const FIELD: Spot = Spot::Number(0, 67_108_863);
+pub(crate) const GET: Row = Row {
+    name: b"get",
+    spots: &[SLOT, FIELD, SLOT],
+    least: 3,
+    make: Make::Small(SmallForm::Get),
+};
 
-const EXTRA_WORDS: Spot = Spot::Number(0, 33_554_432);
+pub(crate) const COPY: Row = Row {
+    name: b"copy",
+    spots: &[SLOT, SLOT],
+    least: 2,
+    make: Make::Small(SmallForm::Copy),
+};
 
-const STACK_PLACE: Spot = Spot::Number(0, 1023);
+pub(crate) const DROP: Row = Row {
+    name: b"drop",
+    spots: &[SLOT],
+    least: 1,
+    make: Make::Small(SmallForm::Drop),
+};
 
-const OBJECTS: Spot = Spot::Number(1, 4_294_967_295);
+pub(crate) const WEAK: Row = Row {
+    name: b"weak",
+    spots: &[WEAK_SLOT, SLOT],
+    least: 2,
+    make: Make::Small(SmallForm::Weak),
+};
+
+pub(crate) const READ: Row = Row {
+    name: b"read",
+    spots: &[WEAK_SLOT, SLOT],
+    least: 2,
+    make: Make::Small(SmallForm::Read),
+};
 
 static ROWS: [Row; 21] = [
-    Row {
-        name: b"new",
-        spots: &[SLOT, Spot::TypeNumber, EXTRA_WORDS],
-        least: 2,
-        make: Make::Small(SmallForm::New),
-    },
-    Row {
-        name: b"set",
-        spots: &[SLOT, FIELD, SLOT_OR_NULL],
-        least: 3,
-        make: Make::Small(SmallForm::Set),
-    },
+    NEW,
+    SET,
     Row {
         name: b"pair",
         spots: &[SLOT, FIELD, SLOT_OR_NULL, SLOT_OR_NULL],
         least: 4,
         make: Make::Small(SmallForm::Pair),
     },
-    Row {
-        name: b"put",
-        spots: &[SLOT, FIELD],
-        least: 3,
-        make: Make::Wide(WideForm::Put),
-    },
-    Row {
-        name: b"word",
-        spots: &[SLOT, FIELD],
-        least: 2,
-        make: Make::Small(SmallForm::Word),
-    },
-    Row {
-        name: b"get",
-        spots: &[SLOT, FIELD, SLOT],
-        least: 3,
-        make: Make::Small(SmallForm::Get),
-    },
+    PUT,
+    WORD,
+    GET,
     Row {
         name: b"key",
         spots: &[SLOT, FIELD, SLOT],
@@ -72,30 +98,10 @@ static ROWS: [Row; 21] = [
         least: 3,
         make: Make::Small(SmallForm::Val),
     },
-    Row {
-        name: b"copy",
-        spots: &[SLOT, SLOT],
-        least: 2,
-        make: Make::Small(SmallForm::Copy),
-    },
-    Row {
-        name: b"drop",
-        spots: &[SLOT],
-        least: 1,
-        make: Make::Small(SmallForm::Drop),
-    },
-    Row {
-        name: b"weak",
-        spots: &[WEAK_SLOT, SLOT],
-        least: 2,
-        make: Make::Small(SmallForm::Weak),
-    },
-    Row {
-        name: b"read",
-        spots: &[WEAK_SLOT, SLOT],
-        least: 2,
-        make: Make::Small(SmallForm::Read),
-    },
+    COPY,
+    DROP,
+    WEAK,
+    READ,
     Row {
         name: b"push",
         spots: &[SLOT, FIELD],

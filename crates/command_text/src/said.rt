@@ -1,11 +1,11 @@
 // The words after the first, each at its place.
 
 ghost use Rattle.std.specs.Prelude.{◌≡◌, ◌+◌, ◌<◌, ◌≤◌, min, ◌∷◌, [], ◌++◌, length};
-ghost use Rattle.command_text.specs.Rows.{bounds_of, place_of};
-ghost use Rattle.command_text.specs.Said.{list_of, IsReadAt, IsReadOn};
+ghost use Rattle.command_text.specs.Said.{list_of, IsReadOn};
 
 use super::forms::Spot;
 use super::places::{Bounds, Reading, read_as};
+use super::reasons::FAULTLESS;
 use line_words::next_number;
 
 /// What the words of a line say as far as they are read, up to the place `end`: the number of their
@@ -19,6 +19,24 @@ pub(crate) struct Said {
     pub(crate) b: u32,
     pub(crate) c: u32,
     pub(crate) d: u32,
+}
+
+/// No word was read, up to the place `end`.
+#[inline(always)]
+pub(crate) fn nothing_said(end: usize) -> Said
+    ensures rank { result.rank ≡ 9 }
+    ensures end { result.end ≡ end }
+    ensures count { result.count ≡ 0 }
+{
+    Said {
+        rank: FAULTLESS,
+        end,
+        count: 0,
+        a: 0,
+        b: 0,
+        c: 0,
+        d: 0,
+    }
 }
 
 /// Reads the words that are there, one at each place.
@@ -42,7 +60,7 @@ fn read_next(bytes: &[u8], spot: Spot, bounds: Bounds, said: Said) -> Said
     requires within { said.end ≤ length bytes.now }
     requires low { said.rank ≤ 9 }
     requires room { said.count < 4 }
-    ensures { IsReadAt (bounds_of bounds) (place_of spot ∷ []) bytes.now said result }
+    ensures { IsReadOn bounds (spot ∷ []) bytes.now said result }
 {
     let word = next_number(bytes, said.end);
     if word.start == word.end {
@@ -55,8 +73,9 @@ fn read_next(bytes: &[u8], spot: Spot, bounds: Bounds, said: Said) -> Said
     )
 }
 
+/// The same with one more word, which was read so and ends there.
 #[inline(always)]
-fn with_word(said: Said, reading: Reading, end: usize) -> Said
+pub(crate) fn with_word(said: Said, reading: Reading, end: usize) -> Said
     requires { said.count < 4 }
     ensures rank { result.rank ≡ min said.rank reading.rank }
     ensures end { result.end ≡ end }

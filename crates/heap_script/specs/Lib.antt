@@ -4,4 +4,3 @@ pub mod Scripts
 pub mod Past
 pub mod TypeLines
 pub mod Reading
-pub mod QuickLines

@@ -18,8 +18,6 @@
 mod letters;
 mod lines;
 mod past;
-mod quick_lines;
-mod quick_numbers;
 mod script;
 mod script_lines;
 mod script_reader;

@@ -7,11 +7,10 @@ ghost use Rattle.heap_script.specs.Past.{reason_after, IsReasonOf, IsPlain, IsTy
 ghost use Rattle.heap_script.specs.Past.{IsCommandAdded, IsLineKept, IsLineRead, AreFaultyWords};
 
 use super::past::Past;
-use super::quick_lines::{QuickLine, quick_line};
 use super::type_lines::read_type;
 use super::words::is_text;
 use command_text::reasons::{NO_MEMORY, ORDER, SECTION};
-use command_text::{Bounds, read_command};
+use command_text::{Bounds, QuickLine, quick_line, read_command};
 use gc_graph::Command;
 use line_words::next_word;
 use std::alloc::Global;
