@@ -13,7 +13,6 @@ use Rattle.nodes_in_words.specs.Nodes.{place_of, word_of, body_of, bodies_from, 
 use Rattle.nodes_in_words.specs.NodeBodies.{bodies-there, bodies-gone}
 use Rattle.nodes_in_words.specs.NodePlaces.{node_body}
 use Rattle.heap_objects.specs.FieldNodes.{with_field, size_field}
-use Rattle.page_words.specs.WrittenBodies.{rewritten}
 
 -- ---- the place stays
 

@@ -9,7 +9,7 @@ use Rattle.gc_graph.specs.declared.kind.Kind.TheVariants.{Plain}
 use Rattle.gc_graph.specs.declared.line.Refusal.{Refusal}
 use Rattle.gc_graph.specs.declared.line.Refusal.TheVariants as R
 use Rattle.gc_graph.specs.Graph.{Object}
-use Rattle.gc_graph.specs.State.{Setup, Node, node_at, no_node, IsLive}
+use Rattle.gc_graph.specs.State.{Setup, Node, node_at, no_node}
 use Rattle.gc_graph.specs.Fields.{field_words, field_count, kind_of_field, word_of_field}
 use Rattle.gc_graph.specs.Valid.{IsTyped}
 use Rattle.object_headers.specs.declared.header.Header.{Header}
