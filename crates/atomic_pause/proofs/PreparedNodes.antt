@@ -14,7 +14,6 @@ use Rattle.gc_graph.specs.Valid.{IsTyped, NamesLive}
 use Rattle.gc_graph.specs.ActionLaw.{AreTyped}
 use Rattle.gc_graph.specs.Condemning.{length-condemn, clear_typed}
 use Rattle.gc_graph.specs.NodeNumbers.{there_below}
-use Rattle.prefinalizer_effects.specs.Acting as words
 use Rattle.prefinalizer_effects.specs.Prepared.{NamesThere, AllNameThere}
 use Rattle.nodes_in_words.specs.Judgement.{nodes_after}
 use Rattle.nodes_in_words.specs.Nodes.{IsThere}

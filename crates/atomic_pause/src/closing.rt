@@ -29,6 +29,7 @@ pub fn close(
 ) -> u32
     requires heap { IsSeatOf space.now seat.old }
     requires on { seat.old.on ≡ true }
+    requires types { types.now ≡ seat.old.types }
     requires references { AreReferences types.now seat.old.bodies }
     requires differ { PlacesDiffer seat.old.bodies }
     requires untraced { seat.old.traced ≡ [] }

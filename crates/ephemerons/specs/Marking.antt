@@ -4,6 +4,8 @@ use Rattle.gc_graph.specs.Graph.{ClosesUnder}
 use Rattle.gc_graph.specs.State.{ObjectType}
 use Rattle.marker_core.specs.declared.states.Body.{Body}
 use Rattle.marker_core.specs.Bodies.{holds}
+use Rattle.marker_core.specs.Closed.{IsClosedOver}
+use Rattle.page_words.specs.Roles.{kind_lists}
 use Rattle.page_words.specs.Seat.{SeatView}
 use Rattle.ephemerons.specs.BodyGraph.{graph_in, strong_offsets, word_at}
 
@@ -43,7 +45,9 @@ TracedNameMarked types v = (p : ℕ) → holds v.traced p ≡ true → HasStrong
 abbrev pub traced_count : SeatView → ℕ
 traced_count v = count_by (λ b. holds v.traced b.place) v.bodies
 
--- marking has come to its end: nothing is grey, and what is marked is closed
+-- marking has come to its end: nothing is grey, and what is marked is closed, in the graph that the bodies stand for and in
+-- their words
 pub record IsOver (types : List ObjectType) (v : SeatView) : Type 0 where
   pub no_grey : (p : ℕ) → holds v.marked p ≡ true → holds v.traced p ≡ true
   pub closed : ClosesUnder (graph_in types v) (holds v.marked)
+  pub over_words : IsClosedOver (kind_lists types) v.bodies (holds v.marked)

@@ -14,4 +14,5 @@ pub mod WeakNodes
 pub mod KeptNodes
 pub mod ReferenceWords
 pub mod DeadUnnamed
+pub mod WholePairs
 pub mod ChangedBodies

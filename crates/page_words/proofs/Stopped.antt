@@ -39,7 +39,7 @@ stopped_view v false is may = record {
   marked_are_bodies = is.marked_are_bodies;
   traced_are_marked = is.traced_are_marked;
   dead_are_unmarked = is.dead_are_unmarked;
-  dead_only_while_off = λ on. may.dead;
+  dead_only_while_off = λ on. may.0.dead;
 }
 
 -- the words below the stop word match any view with the same bodies, filled words and marks

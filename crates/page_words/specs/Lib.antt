@@ -1,7 +1,7 @@
 pub mod Bodies
+pub mod Roles
 pub mod Seat
 pub mod Ties
 -- Lemmas that the crates above cite too, since a crate's proofs/ can't be cited from another.
 pub mod BodyPlaces
 pub mod WrittenBodies
-pub mod Roles

@@ -1,7 +1,6 @@
 -- The types of objects and the lists of kinds of the step machine fit: what the kinds of a type's fields tell of an object's
 -- words is what their roles tell.
 use Rattle.std.proofs.Common.{◌≡◌, ℕ, zero, suc, ◌+◌, ◌<◌, false, not, List, [], ◌∷◌, length, map, take, get_or, refl, sym, ap, ◌∙◌, inl, inr, arith}
-use Rattle.std.specs.List.{Contains}
 use Rattle.std.proofs.lemmas.Bool.{cases_lt, true≢false}
 use Rattle.std.proofs.lemmas.List.{get_or-map, get_or_past, length-map}
 use Rattle.std.proofs.lemmas.List.Sums.{sum_by-cons}
@@ -9,10 +8,8 @@ use Rattle.gc_graph.specs.declared.kind.Kind.{Kind}
 use Rattle.gc_graph.specs.declared.kind.Kind.TheVariants.{Strong, Weak, Pair, Plain}
 use Rattle.gc_graph.specs.State.{ObjectType, no_type}
 use Rattle.gc_graph.specs.Fields.{is_plain, words_of_kind, field_words}
-use Rattle.type_table.specs.Types.{kinds_of as kinds_in, kind_of, offsets_of_kind, is_kind}
+use Rattle.type_table.specs.Types.{kinds_of as kinds_in, kind_of}
 use Rattle.type_table.specs.Layouts.{kinds_of_words}
-use Rattle.type_table.specs.FieldLaw.{FieldsStandApart}
-use Rattle.type_table.specs.KindLaws.{same_kind, kind_itself}
 use Rattle.marker_core.specs.declared.states.Role.{Role}
 use Rattle.marker_core.specs.declared.states.Role.TheVariants.{StrongWord, WeakWord, KeyWord, ValueWord, PlainWord}
 use Rattle.marker_core.specs.Bodies.{refers, role_at, kinds_of}
@@ -70,7 +67,7 @@ first_role Pair = KeyWord
 first_role Plain = PlainWord
 
 -- how many words come before a declared field's
-abbrev words_before : List Kind → ℕ → ℕ
+abbrev pub words_before : List Kind → ℕ → ℕ
 words_before kinds field = field_words (take field kinds)
 
 words_more : (kind : Kind) (kinds : List Kind) (field : ℕ) → words_before (kind ∷ kinds) (suc field) ≡ words_of_kind kind + words_before kinds field
@@ -118,10 +115,10 @@ never_a_value Pair e = cc
 never_a_value Plain e = cc
 
 -- the field is a declared one of the kind, and its first word has the number i
-record IsFirstOf (kinds : List Kind) (kind : Kind) (i field : ℕ) : Type 0 where
-  declared : field < length kinds
-  kind_is : kind_of kinds field ≡ kind
-  number : i ≡ words_before kinds field
+pub record IsFirstOf (kinds : List Kind) (kind : Kind) (i field : ℕ) : Type 0 where
+  pub declared : field < length kinds
+  pub kind_is : kind_of kinds field ≡ kind
+  pub number : i ≡ words_before kinds field
 
 -- so it is where a field of another kind comes before the others
 one_later : (before : Kind) (kinds : List Kind) (kind : Kind) (i j : ℕ) → j ≡ words_of_kind before + i → (field : ℕ) × IsFirstOf kinds kind i field
@@ -138,7 +135,7 @@ one_later before kinds kind i j at found = (
 first_there : (first : Kind) (kinds : List Kind) (kind : Kind) → first_role first ≡ first_role kind → (field : ℕ) × IsFirstOf (first ∷ kinds) kind 0 field
 first_there first kinds kind e = (0, record { declared = omega arith; kind_is = one_kind first kind e; number = refl })
 
-field_of_role : (kinds : List Kind) (i : ℕ) (kind : Kind) → is_plain kind ≡ false → role_at kinds i ≡ first_role kind
+pub field_of_role : (kinds : List Kind) (i : ℕ) (kind : Kind) → is_plain kind ≡ false → role_at kinds i ≡ first_role kind
     → (field : ℕ) × IsFirstOf kinds kind i field
 field_of_role [] i kind is e = absurd (begins_none kind is e)
 field_of_role (Strong ∷ kinds) zero kind is e = first_there Strong kinds kind e
@@ -150,22 +147,3 @@ field_of_role (Strong ∷ kinds) (suc i) kind is e = one_later Strong kinds kind
 field_of_role (Weak ∷ kinds) (suc i) kind is e = one_later Weak kinds kind i (suc i) (omega arith) (field_of_role kinds i kind is e)
 field_of_role (Plain ∷ kinds) (suc i) kind is e = one_later Plain kinds kind i (suc i) (omega arith) (field_of_role kinds i kind is e)
 field_of_role (Pair ∷ kinds) (suc (suc i)) kind is e = one_later Pair kinds kind i (suc (suc i)) (omega arith) (field_of_role kinds i kind is e)
-
-module _ (law : FieldsStandApart) (kinds : List Kind) (i : ℕ) (kind : Kind) where
-  -- an offset that is told of a kind has the role that begins its field
-  pub told_role : Contains (offsets_of_kind kind kinds) (i + 2) → role_at kinds i ≡ first_role kind
-  told_role told =
-      let found = law.begin (is_kind kind) kinds (i + 2) told in
-      let begins = found.1 in
-      let at : i ≡ words_before kinds found.0 = omega (arith, begins.offset_is, begins.declared) in
-      ap (role_at kinds) at ∙ role_of_field kinds found.0 begins.declared ∙ ap first_role (same_kind kind (kind_of kinds found.0) begins.kind)
-
-  -- and what has such a role is told
-  pub role_told : is_plain kind ≡ false → role_at kinds i ≡ first_role kind → Contains (offsets_of_kind kind kinds) (i + 2)
-  role_told is e =
-      let found = field_of_role kinds i kind is e in
-      law.told (is_kind kind) kinds (i + 2) found.0 (record {
-        declared = found.1.declared;
-        kind = ap (is_kind kind) found.1.kind_is ∙ kind_itself kind;
-        offset_is = omega (arith, found.1.number, found.1.declared);
-      })

@@ -6,8 +6,11 @@ use Rattle.object_headers.specs.Offsets.{serial_offset, reference_to}
 use Rattle.marker_core.specs.declared.states.Body.{Body}
 use Rattle.marker_core.specs.declared.states.MutatorView.{MutatorView}
 use Rattle.marker_core.specs.Layout.{bitmap_at}
-use Rattle.marker_core.specs.Bodies.{end_of, fields_at, has_word, IsPlace, IsInBody, with_word, holds, without}
+use Rattle.marker_core.specs.Bodies.{end_of, fields_at, has_word, word_in, role_in, IsPlace, IsInBody, with_word, holds, without}
+use Rattle.marker_core.specs.declared.states.Role.TheVariants.{KeyWord}
+use Rattle.marker_core.specs.Closed.{IsClosedOver}
 use Rattle.marker_core.specs.Idle.{idle_view}
+use Rattle.page_words.specs.Roles.{kind_lists}
 use Rattle.page_words.specs.Bodies.{is_reference_word, IsWhole}
 
 -- a seat's view: the number of the heap's words, the types of its objects, and the mutator's view of the words, whose parts are
@@ -121,10 +124,21 @@ abbrev pub stop_set : SeatView → Bool → SeatView
 stop_set v true = ended v
 stop_set v false = begun v
 
--- marking begins from a quiet heap, and ends while it goes on
+-- both words of each pair are null, or neither is
+abbrev pub PairsAreWhole : SeatView → Type 0
+PairsAreWhole v =
+    (b : Body) (i : ℕ) → Contains v.bodies b → role_in (kind_lists v.types) b i ≡ KeyWord → (word_in b i ≡ 0) ↔ (word_in b (i + 1) ≡ 0)
+
+-- marking has done its work: what is marked is traced, and closed over the bodies
+pub record IsMarkedOut (v : SeatView) : Type 0 where
+  pub on : v.on ≡ true
+  pub traced : (a : ℕ) → holds v.marked a ≡ true → holds v.traced a ≡ true
+  pub closed : IsClosedOver (kind_lists v.types) v.bodies (holds v.marked)
+
+-- marking begins from a quiet heap with whole pairs, and ends once it has done its work
 abbrev pub MaySetStop : SeatView → Bool → Type 0
-MaySetStop v true = v.on ≡ true
-MaySetStop v false = IsQuiet v
+MaySetStop v true = IsMarkedOut v
+MaySetStop v false = IsQuiet v × PairsAreWhole v
 
 -- the view of new words: nothing is published, filled or marked, and no marking goes on
 abbrev pub empty_view : ℕ → List ObjectType → SeatView

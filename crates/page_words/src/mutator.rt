@@ -25,8 +25,9 @@ use type_table::fields_stand_apart;
 /// | an object, while no marking goes on | `unmark` |
 /// | a dead object that dead ones alone name, while no marking goes on | `retract`: they belong to no object |
 ///
-/// `set_stop(false)` begins marking where nothing is marked, traced or dead; `set_stop(true)` ends
-/// it, and each object without a mark is dead from then on.
+/// `set_stop(false)` begins marking where nothing is marked, traced or dead and pairs are whole;
+/// `set_stop(true)` ends it where each marked object is traced and the marked ones are closed, and
+/// each object without a mark is dead from then on.
 #[derive(Drop)]
 pub struct MutatorSeat {
     pub(crate) words: Vec<u64>,

@@ -1,3 +1,7 @@
+use Rattle.std.proofs.Common.{sym, ◌∙◌, subst}
+use Rattle.marker_core.specs.Bodies.{holds}
+use Rattle.marker_core.specs.Closed.{IsClosedOver}
+use Rattle.page_words.specs.Roles.{kind_lists}
 use Rattle.ephemerons.specs.Marking.{IsOver}
 use Rattle.atomic_pause.proofs.MarkEnds.{walked_or_listed, kept_are_counted, marks_reachable}
 use Rattle.atomic_pause.proofs.closing.close.Goals as goal
@@ -8,6 +12,19 @@ fixpoint-traced-requires-clause-listed c = c.requires.listed.places
 over : (c : goal.After-marking-1) → IsOver c.args.types.now c.fixpoint-traced.new.seat
 over c =
     c.fixpoint-traced.ensures.over (walked_or_listed c.args.types.now c.args.seat.now c.args.marking.now c.args.notes.now c.requires.untraced c.requires.listed)
+
+pub set_stop-requires-clause-allowed : goal.set_stop-requires-clause-allowed
+set_stop-requires-clause-allowed c =
+    let v = c.fixpoint-traced.new.seat in
+    let kept = c.fixpoint-traced.ensures.kept in
+    let over : IsOver c.args.types.now v =
+    c.fixpoint-traced.ensures.over (walked_or_listed c.args.types.now c.args.seat.now c.args.marking.now c.args.notes.now c.requires.untraced c.requires.listed)
+    in
+    record {
+      on = kept.on ∙ c.requires.on;
+      traced = over.no_grey;
+      closed = subst (λ ts. IsClosedOver (kind_lists ts) v.bodies (holds v.marked)) (c.requires.types ∙ sym kept.types) over.over_words;
+    }
 
 pub returns-clause-over : goal.returns-clause-over
 returns-clause-over c =

@@ -27,6 +27,12 @@ use Rattle.atomic_pause.proofs.WeakJudged.{both_cleared, extents_cleared, weak_l
 use Rattle.atomic_pause.proofs.pausing.pause.Given as given
 use Rattle.atomic_pause.proofs.pausing.pause.Goals as goal
 
+pub close-traced-requires-clause-types : goal.close-traced-requires-clause-types
+close-traced-requires-clause-types g c =
+    sym
+    (ap (λ (z : SeatView). z.types) c.scan_stack.ensures.marks.view ∙ ap (λ (z : SeatView). z.types) c.visit_slots.ensures.marks.view
+    ∙ c.requires.types)
+
 pub close-traced-requires-clause-references : goal.close-traced-requires-clause-references
 close-traced-requires-clause-references g c =
     let setup : Setup = setup_of c.args.parts.space.now c.args.parts.types.now (kinds_of c.args.parts.callbacks.now) in

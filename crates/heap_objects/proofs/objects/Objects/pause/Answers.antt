@@ -8,9 +8,17 @@ use Rattle.persistent_slots.specs.Clearing.{taken}
 use Rattle.nodes_in_words.specs.Nodes.{bodies_of}
 use Rattle.nodes_in_words.specs.KeptNodes.{slots_live, named_places, weak_are_places}
 use Rattle.nodes_in_words.specs.WeakNodes.{length-after}
+use Rattle.nodes_in_words.specs.WholePairs.{pairs_whole}
 use Rattle.page_space.specs.Space.{extents_of_bodies}
 use Rattle.heap_objects.proofs.PausedSizes.{sizes_stay}
 use Rattle.heap_objects.proofs.objects.Objects.pause.Goals as goal
+
+pub set_stop-requires-clause-allowed : goal.set_stop-requires-clause-allowed
+set_stop-requires-clause-allowed g c =
+    let valid = rw (← c.self.view_is) at c.requires.valid in (
+      rw (← c.self.view_is) at c.requires.quiet,
+      pairs_whole _ c.self.inside.nodes.value c.self.inside.seat valid c.self.invariant.held c.self.invariant.known,
+    )
 
 pub pause-result-requires-clause-strong : goal.pause-result-requires-clause-strong
 pause-result-requires-clause-strong g c =
