@@ -29,7 +29,9 @@ filled_cases v a w f h = elim (Contains-cons_cases (a, w) (filter (λ (g : ℕ �
 filled_view : (v : SeatView) (a w : ℕ) → IsView v → a < v.count → (IsInBody v.bodies a → ⊥) → IsView (filled_with v a w)
 filled_view v a w is below outside = record {
   count = is.count;
+  few = is.few;
   whole = is.whole;
+  serials = is.serials;
   apart = is.apart;
   filled_outside = λ f h. elim (filled_cases v a w f h) [
     | inl same ↦ (omega (arith, same.0), λ inside. outside (subst (IsInBody v.bodies) (sym same.0) inside))

@@ -29,7 +29,9 @@ MarksHeader h w = (live mark traced : Bool) (ty size : ℕ) → h ≡ header_wor
 marked_view : (v : SeatView) (a : ℕ) → IsView v → IsPlace v.bodies a → v.on ≡ true → IsView (marked_at v a)
 marked_view v a is at on = record {
   count = is.count;
+  few = is.few;
   whole = is.whole;
+  serials = is.serials;
   apart = is.apart;
   filled_outside = is.filled_outside;
   marked_are_bodies = λ x held. elim (cases_eq x a) [
@@ -79,7 +81,9 @@ found_is_grey words v a h header t at read form =
 claimed_view : (v : SeatView) (a : ℕ) → IsView v → is_grey v a ≡ true → IsView (remarked v v.marked (v.traced ++ a ∷ []))
 claimed_view v a is grey = record {
   count = is.count;
+  few = is.few;
   whole = is.whole;
+  serials = is.serials;
   apart = is.apart;
   filled_outside = is.filled_outside;
   marked_are_bodies = is.marked_are_bodies;
@@ -131,7 +135,9 @@ unmarked_view v a is =
     ] in
     record {
       count = is.count;
+      few = is.few;
       whole = is.whole;
+      serials = is.serials;
       apart = is.apart;
       filled_outside = is.filled_outside;
       marked_are_bodies = λ x held. is.marked_are_bodies x (was_marked x held);

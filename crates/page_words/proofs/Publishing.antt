@@ -9,13 +9,14 @@ use Rattle.marker_core.specs.Bodies.{IsPlace, holds}
 use Rattle.marker_core.specs.declared.states.Body.{Body}
 use Rattle.object_headers.specs.Layout.{header_word}
 use Rattle.marker_core.specs.Layout.{bitmap_at, stop_at}
-use Rattle.page_words.specs.Seat.{SeatView, IsView, IsReady, header_of, published}
+use Rattle.marker_core.specs.SeatLaws.{IsReady}
+use Rattle.page_words.specs.Seat.{SeatView, IsView, side, header_of, published}
 use Rattle.page_words.specs.Ties.{Ties}
 use Rattle.page_words.proofs.Places.{bitmap_below_stop, later_word_kept, heap_matches}
 use Rattle.page_words.proofs.Bits.{with_bit, bit_is_set, others_kept_by_set, other_start_kept}
 use Rattle.page_words.proofs.Published.{place_stays, place_was, unmarked, untraced, still_filled, published_view, each_after}
 
-new_header : (v : SeatView) (b : Body) → IsView v → IsReady v b → header_word true false false b.ty b.size ≡ header_of (published v b) b
+new_header : (v : SeatView) (b : Body) → IsView v → IsReady (side v) b → header_word true false false b.ty b.size ≡ header_of (published v b) b
 new_header v b is ready =
     ap (λ m. header_word true m false b.ty b.size) (sym (unmarked v b is ready))
     ∙ ap (λ m. header_word true (holds v.marked b.place) m b.ty b.size) (sym (untraced v b is ready))
@@ -45,7 +46,7 @@ starts_after words v b h t heap read p below =
           (λ on. place_stays v b p (bits.0 (sym kept ∙ on)), λ there. kept ∙ bits.1 (place_was v b p there other)))
     ]
 
-published_at : (words : List ℕ) (v : SeatView) (b : Body) (h : ℕ) → Ties words v → IsReady v b → h ≡ get_or words (bitmap_at v.count b.place) h
+published_at : (words : List ℕ) (v : SeatView) (b : Body) (h : ℕ) → Ties words v → IsReady (side v) b → h ≡ get_or words (bitmap_at v.count b.place) h
     → Ties (set words (bitmap_at v.count b.place) (with_bit h (b.place % 64))) (published v b)
 published_at words v b h t ready read =
     let is = t.bodies_lie_apart in
@@ -74,7 +75,7 @@ published_at words v b h t ready read =
       stop_matches = later_word_kept words at (stop_at v.count) w stop ∙ t.stop_matches;
     }
 
-pub publishes : (words : List ℕ) (v : SeatView) (b : Body) (count a h : ℕ) → Ties words v → IsReady v b → b.place ≡ a → count ≡ v.count
+pub publishes : (words : List ℕ) (v : SeatView) (b : Body) (count a h : ℕ) → Ties words v → IsReady (side v) b → b.place ≡ a → count ≡ v.count
     → h ≡ get_or words (count + a / 64) h → Ties (set words (count + a / 64) (with_bit h (a % 64))) (published v b)
 publishes words v b count a h t ready place same read =
     let at : bitmap_at v.count b.place ≡ count + a / 64 = ap (λ n. bitmap_at n b.place) (sym same) ∙ ap (bitmap_at count) place in

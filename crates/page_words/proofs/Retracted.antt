@@ -1,13 +1,12 @@
 -- Clearing the start bit of a dead body keeps words and view together.
-use Rattle.std.proofs.Common.{◌≡◌, ℕ, ◌+◌, ◌/◌, ◌%◌, ◌<◌, List, length, get_or, set, Bool, true, false, not, eqb, sym, ap, ◌∙◌, subst, inl, inr, arith, Contains}
+use Rattle.std.proofs.Common.{◌≡◌, ◌≢◌, ℕ, ◌+◌, ◌/◌, ◌%◌, ◌<◌, List, length, get_or, set, Bool, true, false, not, eqb, sym, ap, ◌∙◌, subst, inl, inr, arith, Contains}
 use mathlib.Core.Logic.{◌↔◌}
 use Rattle.std.specs.Int.{bit_at}
 use Rattle.std.proofs.lemmas.Bool.{cases_eq, both_ways, eqb-false, ne_eqb, not-true, not_from_false}
 use Rattle.std.proofs.lemmas.List.{length-set, get_or-set_same, get_or_read}
-use Rattle.std.proofs.lemmas.List.Elements.{All-filter}
+use Rattle.std.proofs.lemmas.List.Kept.{AllPairs-filter}
 use Rattle.marker_core.specs.Bodies.{IsPlace, holds, without}
 use Rattle.marker_core.specs.declared.states.Body.{Body}
-use Rattle.page_words.specs.Bodies.{IsWhole}
 use Rattle.marker_core.specs.Layout.{bitmap_at, stop_at}
 use Rattle.page_words.specs.Seat.{SeatView, IsView, retracted}
 use Rattle.page_words.specs.Ties.{Ties}
@@ -35,7 +34,9 @@ place_stays v a x at other =
 retracted_view : (v : SeatView) (a : ℕ) → IsView v → holds v.marked a ≡ false → IsView (retracted v a)
 retracted_view v a is unmarked = record {
   count = is.count;
-  whole = All-filter (is_elsewhere a) (IsWhole v.count) v.bodies is.whole;
+  few = is.few;
+  whole = λ b h. is.whole b (was_body v a b h);
+  serials = AllPairs-filter (λ (b c : Body). b.serial ≢ c.serial) (is_elsewhere a) v.bodies is.serials;
   apart = λ b c x hb hc. is.apart b c x (was_body v a b hb) (was_body v a c hc);
   filled_outside = λ f h. (
     (is.filled_outside f h).0,

@@ -23,7 +23,9 @@ unmarked_place v x held =
 stopped_view : (v : SeatView) (on : Bool) → IsView v → MaySetStop v on → IsView (stop_set v on)
 stopped_view v true is may = record {
   count = is.count;
+  few = is.few;
   whole = is.whole;
+  serials = is.serials;
   apart = is.apart;
   filled_outside = is.filled_outside;
   marked_are_bodies = is.marked_are_bodies;
@@ -33,7 +35,9 @@ stopped_view v true is may = record {
 }
 stopped_view v false is may = record {
   count = is.count;
+  few = is.few;
   whole = is.whole;
+  serials = is.serials;
   apart = is.apart;
   filled_outside = is.filled_outside;
   marked_are_bodies = is.marked_are_bodies;

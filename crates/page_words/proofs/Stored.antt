@@ -1,12 +1,13 @@
 -- Storing a field word keeps words and view together.
-use Rattle.std.proofs.Common.{◌≡◌, ℕ, ◌+◌, ◌-◌, ◌/◌, ◌%◌, ◌<◌, ◌≤◌, ◌^◌, List, length, get_or, set, true, false, leb, ltb, sym, ap, ◌∙◌, subst, inl, inr, arith, Contains}
+use Rattle.std.proofs.Common.{◌≡◌, ℕ, ◌+◌, ◌-◌, ◌/◌, ◌%◌, ◌<◌, ◌≤◌, ◌^◌, List, length, get_or, set, map, true, false, leb, ltb, sym, ap, ◌∙◌, subst, inl, inr, arith, Contains}
 use mathlib.Core.Logic.{◌↔◌}
 use Rattle.std.proofs.lemmas.Bool.{cases_eq, and_parts, and_from, both_ways, leb-true, ltb-true, le-leb, lt-ltb}
-use Rattle.std.proofs.lemmas.List.{length-set, get_or-set_same, get_or-set_other}
-use Rattle.std.proofs.lemmas.List.Elements.{All-map, All-weaker}
+use Rattle.std.proofs.lemmas.List.{length-set, length-map, get_or-map, get_or-set_same, get_or-set_other}
+use Rattle.gc_graph.specs.declared.kind.Kind.{Kind}
 use Rattle.marker_core.specs.Bodies.{end_of, IsPlace, IsInBody, IsFieldWord, with_word, has_field}
 use Rattle.marker_core.specs.declared.states.Body.{Body}
-use Rattle.page_words.specs.Bodies.{IsWhole}
+use Rattle.marker_core.specs.Matching.{IsWhole, SerialsDiffer}
+use Rattle.page_words.specs.Roles.{kind_lists}
 use Rattle.marker_core.specs.Layout.{bitmap_at, stop_at}
 use Rattle.page_words.specs.Seat.{SeatView, IsView, header_of, stored}
 use Rattle.page_words.specs.Ties.{Ties}
@@ -37,16 +38,26 @@ in_body_was v a w x inside =
     let size : from.0.size ≡ inside.0.size = sym (same_size a w from.0) ∙ ap (λ (c : Body). c.size) from.2 in
     (from.0, from.1, omega (arith, inside.2), omega (arith, inside.3))
 
-whole_after : (count a w : ℕ) (b : Body) → IsWhole count b → IsWhole count (with_word a w b)
-whole_after count a w b whole =
-    by_word (IsWhole count) a w b
+whole_after : (count : ℕ) (types : List (List Kind)) (a w : ℕ) (b : Body) → IsWhole count types b → IsWhole count types (with_word a w b)
+whole_after count types a w b whole =
+    by_word (IsWhole count types) a w b
     (λ _. record {
       fields = ap (λ n. n + 2) (length-set b.fields (a - (b.place + 2)) w) ∙ whole.fields;
       inside = whole.inside;
       ty = whole.ty;
+      room = whole.room;
       size = whole.size;
     })
     (λ _. whole)
+
+serials_after : (a w : ℕ) (bodies : List Body) → SerialsDiffer bodies → SerialsDiffer (map (with_word a w) bodies)
+serials_after a w bodies differ i j d before within e =
+    let below : j < length bodies = omega (arith, within, length-map bodies (with_word a w)) in
+    let first : (get_or (map (with_word a w) bodies) i d).serial ≡ (get_or bodies i d).serial =
+    ap (λ (b : Body). b.serial) (get_or-map (with_word a w) bodies i d d (omega arith)) in
+    let second : (get_or (map (with_word a w) bodies) j d).serial ≡ (get_or bodies j d).serial =
+    ap (λ (b : Body). b.serial) (get_or-map (with_word a w) bodies j d d below) in
+    differ i j d before below (sym first ∙ e ∙ second)
 
 apart_after : (v : SeatView) (a w : ℕ) → IsView v → (b c : Body) (x : ℕ) → Contains (stored v a w).bodies b → Contains (stored v a w).bodies c
     → b.place ≤ x → x < end_of b → c.place ≤ x → x < end_of c → b ≡ c
@@ -62,8 +73,11 @@ apart_after v a w is b c x hb hc b_low b_high c_low c_high =
 stored_view : (v : SeatView) (a w : ℕ) → IsView v → IsView (stored v a w)
 stored_view v a w is = record {
   count = is.count;
-  whole = All-map (IsWhole v.count) (with_word a w) v.bodies
-      (All-weaker (IsWhole v.count) (λ b. IsWhole v.count (with_word a w b)) (whole_after v.count a w) v.bodies is.whole);
+  few = is.few;
+  whole = λ c h.
+      let from = Contains-map_some (with_word a w) v.bodies c h in
+      subst (IsWhole v.count (kind_lists v.types)) from.2 (whole_after v.count (kind_lists v.types) a w from.0 (is.whole from.0 from.1));
+  serials = serials_after a w v.bodies is.serials;
   apart = apart_after v a w is;
   filled_outside = λ f h. ((is.filled_outside f h).0, λ inside. (is.filled_outside f h).1 (in_body_was v a w f.0 inside));
   marked_are_bodies = λ x held. place_stays v a w x (is.marked_are_bodies x held);

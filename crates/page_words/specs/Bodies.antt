@@ -1,5 +1,5 @@
 -- What the words of an object are, by its type, and what may be stored in them.
-use Rattle.std.specs.Prelude.{◌≡◌, ◌⊎◌, ◌↔◌, ℕ, ◌+◌, ◌-◌, ◌^◌, ◌<◌, ◌≤◌, Bool, false, not, List, length, slice_index, slice_index_or, Contains}
+use Rattle.std.specs.Prelude.{◌≡◌, ◌⊎◌, ◌↔◌, ℕ, ◌+◌, ◌-◌, ◌<◌, ◌≤◌, Bool, false, not, List, slice_index, slice_index_or, Contains}
 use Rattle.gc_graph.specs.declared.kind.Kind.{Kind}
 use Rattle.gc_graph.specs.declared.kind.Kind.TheVariants.{Pair, Plain}
 use Rattle.gc_graph.specs.State.{ObjectType}
@@ -37,10 +37,3 @@ SuitsItsPair types bodies a w =
 pub record MayHold (types : List ObjectType) (bodies : List Body) (a w : ℕ) : Type 0 where
   pub kind : IsPlainWord types bodies a ⊎ IsReference bodies w
   pub pair : SuitsItsPair types bodies a w
-
--- the fields are all the words after the header and the serial number; a type has 14 bits and a size 26
-pub record IsWhole (count : ℕ) (b : Body) : Type 0 where
-  pub fields : length b.fields + first_field ≡ b.size
-  pub inside : end_of b ≤ count
-  pub ty : b.ty < 16384
-  pub size : b.size < 2 ^ 26

@@ -1,17 +1,17 @@
 -- Which words are whose: each body lies in the heap, and no two of them share a word.
 use Rattle.std.proofs.Common.{◌≡◌, ℕ, ◌+◌, ◌<◌, ◌≤◌, ap, arith, Contains}
-use Rattle.std.proofs.lemmas.List.Elements.{All-contains}
 use Rattle.marker_core.specs.Bodies.{IsPlace}
 use Rattle.marker_core.specs.declared.states.Body.{Body}
-use Rattle.page_words.specs.Bodies.{IsWhole}
+use Rattle.marker_core.specs.Matching.{IsWhole}
+use Rattle.page_words.specs.Roles.{kind_lists}
 use Rattle.page_words.specs.Seat.{SeatView, IsView}
 
-pub whole_body : (v : SeatView) → IsView v → (b : Body) → Contains v.bodies b → IsWhole v.count b
-whole_body v is b h = All-contains (IsWhole v.count) v.bodies b is.whole h
+pub whole_body : (v : SeatView) → IsView v → (b : Body) → Contains v.bodies b → IsWhole v.count (kind_lists v.types) b
+whole_body v is b h = is.whole b h
 
 -- a header and a serial number
 pub two_words : (v : SeatView) → IsView v → (b : Body) → Contains v.bodies b → 2 ≤ b.size
-two_words v is b h = let whole = whole_body v is b h in omega arith
+two_words v is b h = let whole = whole_body v is b h in omega (arith, whole.fields)
 
 pub within_heap : (v : SeatView) → IsView v → (b : Body) → Contains v.bodies b → b.place + b.size ≤ v.count
 within_heap v is b h = (whole_body v is b h).inside

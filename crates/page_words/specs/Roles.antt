@@ -12,7 +12,7 @@ use Rattle.type_table.specs.Types.{kinds_of as kinds_in, kind_of}
 use Rattle.type_table.specs.Layouts.{kinds_of_words}
 use Rattle.marker_core.specs.declared.states.Role.{Role}
 use Rattle.marker_core.specs.declared.states.Role.TheVariants.{StrongWord, WeakWord, KeyWord, ValueWord, PlainWord}
-use Rattle.marker_core.specs.Bodies.{refers, role_at, kinds_of}
+use Rattle.marker_core.specs.Bodies.{refers, role_at, kinds_of, word_count}
 
 -- the kinds of the fields of each type
 abbrev pub kind_lists : List ObjectType → List (List Kind)
@@ -147,3 +147,12 @@ field_of_role (Strong ∷ kinds) (suc i) kind is e = one_later Strong kinds kind
 field_of_role (Weak ∷ kinds) (suc i) kind is e = one_later Weak kinds kind i (suc i) (omega arith) (field_of_role kinds i kind is e)
 field_of_role (Plain ∷ kinds) (suc i) kind is e = one_later Plain kinds kind i (suc i) (omega arith) (field_of_role kinds i kind is e)
 field_of_role (Pair ∷ kinds) (suc (suc i)) kind is e = one_later Pair kinds kind i (suc (suc i)) (omega arith) (field_of_role kinds i kind is e)
+
+-- ---- how many words the fields take
+
+pub word_count_is : (kinds : List Kind) → word_count kinds ≡ field_words kinds
+word_count_is [] = refl
+word_count_is (Strong ∷ kinds) = omega (arith, word_count_is kinds, sum_by-cons words_of_kind Strong kinds)
+word_count_is (Weak ∷ kinds) = omega (arith, word_count_is kinds, sum_by-cons words_of_kind Weak kinds)
+word_count_is (Pair ∷ kinds) = omega (arith, word_count_is kinds, sum_by-cons words_of_kind Pair kinds)
+word_count_is (Plain ∷ kinds) = omega (arith, word_count_is kinds, sum_by-cons words_of_kind Plain kinds)

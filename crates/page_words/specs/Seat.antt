@@ -1,5 +1,5 @@
 -- What the mutator's seat knows of the words, and how each call changes that.
-use Rattle.std.specs.Prelude.{◌≡◌, ℕ, zero, suc, ◌+◌, ◌/◌, ◌%◌, ◌^◌, ◌<◌, ◌≤◌, ◌↔◌, ◌==◌, ◌&&◌, not, Bool, true, false, List, [], ◌∷◌, ◌++◌, length, map, filter, if◌then◌else◌, slice_index, Contains, All}
+use Rattle.std.specs.Prelude.{◌≡◌, ℕ, zero, suc, ◌+◌, ◌/◌, ◌%◌, ◌^◌, ◌<◌, ◌≤◌, ◌↔◌, ◌==◌, ◌&&◌, not, Bool, true, false, List, [], ◌∷◌, ◌++◌, length, map, filter, if◌then◌else◌, slice_index, Contains}
 use Rattle.gc_graph.specs.State.{ObjectType}
 use Rattle.object_headers.specs.Layout.{header_word}
 use Rattle.object_headers.specs.Offsets.{serial_offset, reference_to}
@@ -10,8 +10,10 @@ use Rattle.marker_core.specs.Bodies.{end_of, fields_at, has_word, word_in, role_
 use Rattle.marker_core.specs.declared.states.Role.TheVariants.{KeyWord}
 use Rattle.marker_core.specs.Closed.{IsClosedOver}
 use Rattle.marker_core.specs.Idle.{idle_view}
+use Rattle.marker_core.specs.Matching.{AreWhole, SerialsDiffer}
+use Rattle.marker_core.specs.Seats.{SeatSide}
+use Rattle.page_words.specs.Bodies.{is_reference_word}
 use Rattle.page_words.specs.Roles.{kind_lists}
-use Rattle.page_words.specs.Bodies.{is_reference_word, IsWhole}
 
 -- a seat's view: the number of the heap's words, the types of its objects, and the mutator's view of the words, whose parts are
 -- told of the seat's view too
@@ -20,6 +22,10 @@ pub record SeatView : Type 0 where
   pub types : List ObjectType
   pub mutator : MutatorView
   pub open mutator use *
+
+-- what the step machine looks at in a seat's view
+abbrev pub side : SeatView → SeatSide
+side v = record { count = v.count; types = kind_lists v.types; mutator = v.mutator }
 
 -- the view with other bodies
 abbrev pub with_bodies : SeatView → List Body → SeatView
@@ -56,16 +62,6 @@ nulled v a (suc n) = filled_with (nulled v a n) (a + n) 0
 -- the field word at a was stored
 abbrev pub stored : SeatView → ℕ → ℕ → SeatView
 stored v a w = with_bodies v (map (with_word a w) v.bodies)
-
--- the body's words were filled: a header that is live, unmarked and untraced, the serial number, and fields in which each
--- reference is null
-pub record IsReady (v : SeatView) (b : Body) : Type 0 where
-  pub header : Contains v.filled (b.place, header_word true false false b.ty b.size)
-  pub serial : Contains v.filled (b.place + serial_offset, b.serial)
-  pub fields : (i : ℕ) → i < length b.fields → Contains v.filled (fields_at b + i, slice_index b.fields i)
-  pub null : (i : ℕ) → i < length b.fields → is_reference_word v.types b i ≡ true → slice_index b.fields i ≡ 0
-  pub whole : IsWhole v.count b
-  pub apart : (a : ℕ) → b.place ≤ a → a < end_of b → IsInBody v.bodies a → ⊥
 
 -- the body was published, and its words are no longer filled ones
 abbrev pub published : SeatView → Body → SeatView
@@ -148,7 +144,9 @@ empty_view count types =
 -- what is true of every seat's view
 pub record IsView (v : SeatView) : Type 0 where
   pub count : v.count ≤ 2 ^ 24
-  pub whole : All (IsWhole v.count) v.bodies
+  pub few : length v.types < 16384
+  pub whole : AreWhole v.count (kind_lists v.types) v.bodies
+  pub serials : SerialsDiffer v.bodies
   pub apart :
       (b c : Body) (a : ℕ) → Contains v.bodies b → Contains v.bodies c → b.place ≤ a → a < end_of b → c.place ≤ a → a < end_of c
       → b ≡ c

@@ -10,7 +10,8 @@ ghost use Rattle.object_headers.specs.Layout.{header_word};
 ghost use Rattle.marker_core.specs.Bodies.{holds};
 ghost use Rattle.marker_core.specs.Layout.{stop_at};
 ghost use Rattle.page_words.specs.Seat.{empty_view, IsWordAt};
-ghost use Rattle.page_words.specs.Seat.{IsReady, MaySetStop, filled_with, nulled, stored};
+ghost use Rattle.marker_core.specs.SeatLaws.{IsReady};
+ghost use Rattle.page_words.specs.Seat.{side, MaySetStop, filled_with, nulled, stored};
 ghost use Rattle.page_words.specs.Seat.{published};
 ghost use Rattle.page_words.specs.Seat.{retracted, marked_at, claimed_at, unmarked_at, is_grey};
 ghost use Rattle.page_words.specs.Seat.{stop_set, IsUnnamed};
@@ -61,6 +62,8 @@ impl Words {
         ensures words { IfOk result (λ made. made.0 ≡ count) }
         ensures view { IfOk result (λ made. made.1 ≡ empty_view count types.now) }
     {
+        // The table tells by its count that its types are few.
+        let _few = types.count();
         let length = (count + count / BLOCK_WORDS) as usize + 1;
         let mut words = vec![in alloc; 0u64; length]?;
         words[length - 1] = 1;
@@ -127,7 +130,7 @@ impl Words {
         ghost body: { Body }
         requires heap { seat.old.count ≡ self.now }
         requires place { body.place ≡ a }
-        requires ready { IsReady seat.old body }
+        requires ready { IsReady (side seat.old) body }
         ensures { seat.new ≡ published seat.old body }
     {
         let at = (self.count + a / BLOCK_WORDS) as usize;
