@@ -1,14 +1,16 @@
 -- What is filled after one more word, and once a body joined the others.
-use Rattle.std.proofs.Common.{◌≡◌, ℕ, zero, suc, ◌+◌, ◌-◌, ◌^◌, ◌<◌, ◌≤◌, Bool, true, false, not, List, [], ◌∷◌, ◌++◌, refl, sym, ap, ◌∙◌, subst, inl, inr, arith, eqb, get_or, replicate, ◌&&◌, leb, ltb, cond}
+use Rattle.std.proofs.Common.{◌≡◌, ℕ, zero, suc, ◌+◌, ◌-◌, ◌^◌, ◌<◌, ◌≤◌, Bool, true, false, not, List, length, [], ◌∷◌, ◌++◌, refl, sym, ap, ◌∙◌, subst, inl, inr, arith, eqb, get_or, replicate, ◌&&◌, leb, ltb, cond}
 use Rattle.std.specs.List.{Contains, filter}
-use Rattle.std.proofs.lemmas.Bool.{ne_eqb, cond-true, cond-false, cases_lt, cases_Bool, false_from_ne_true, both_ways, and_from, le-leb, lt-ltb, not_from_false, not-true}
-use Rattle.std.proofs.lemmas.List.{length-replicate, get_or-replicate}
+use Rattle.std.proofs.lemmas.Bool.{and_parts, leb-true, ltb-true, ne_eqb, cond-true, cond-false, cases_lt, cases_Bool, false_from_ne_true, both_ways, and_from, le-leb, lt-ltb, not_from_false, not-true}
+use Rattle.std.proofs.lemmas.List.{length-map, length-replicate, get_or-replicate}
 use Rattle.object_headers.specs.Layout.{header_word}
-use Rattle.page_words.specs.Seat.{SeatView, IsReady, filled_with, nulled, published}
-use Rattle.marker_core.specs.Bodies.{end_of}
+use Rattle.marker_core.specs.SeatLaws.{IsReady}
+use Rattle.gc_graph.specs.State.{ObjectType}
+use Rattle.page_words.specs.Seat.{SeatView, side, filled_with, nulled, published}
+use Rattle.marker_core.specs.Bodies.{end_of, has_word, in_body, IsInBody}
 use Rattle.marker_core.specs.declared.states.Body.{Body}
-use Rattle.page_space.specs.Occupying.{HasNulls, IsRoom, Occupies, new_body}
-use Rattle.gc_graph.specs.Members.{Contains-cons, Contains-head, stays_in}
+use Rattle.page_space.specs.Occupying.{HasNulls, IsNewNumber, IsRoom, Occupies, least_size, new_body}
+use Rattle.gc_graph.specs.Members.{Contains-cons, Contains-head, any_member, stays_in}
 
 -- the word just filled, and a word filled before elsewhere
 pub filled_here : (v : SeatView) (a w : ℕ) → Contains (filled_with v a w).filled (a, w)
@@ -116,10 +118,19 @@ occupies_before old mid new fs b rest inside joins = record {
 
 -- ---- ready
 
+-- a word that is said to be in a body is one of a body's
+body_with : (bodies : List Body) (x : ℕ) → in_body bodies x ≡ true → IsInBody bodies x
+body_with bodies x held =
+    let found = any_member (has_word x) bodies held in
+    let b = found.0 in
+    let both = and_parts (leb b.place x) (ltb x (end_of b)) found.2 in
+    (b, found.1, leb-true b.place x both.0, ltb-true x (end_of b) both.1)
+
 pub ready_to_publish : (old : SeatView) (a ty size serial : ℕ) → IsRoom old size a
-    → ty < 16384 → 2 ≤ size → size < 2 ^ 26 → HasNulls old.filled (a + 2) (size - 2)
-    → IsReady (filled_with (filled_with old a (header_word true false false ty size)) (a + 1) serial) (new_body a ty size serial)
-ready_to_publish old a ty size serial room small least most nulls =
+    → ty < length old.types → least_size old ty ≤ size → size < 2 ^ 26 → IsNewNumber old serial → serial < 2 ^ 32
+    → HasNulls old.filled (a + 2) (size - 2)
+    → IsReady (side (filled_with (filled_with old a (header_word true false false ty size)) (a + 1) serial)) (new_body a ty size serial)
+ready_to_publish old a ty size serial room known least most unused number nulls =
     let inside : a + size ≤ old.count = room.inside in
     record {
       header = filled_before (filled_with old a (header_word true false false ty size)) (a + 1) serial
@@ -133,8 +144,16 @@ ready_to_publish old a ty size serial room small least most nulls =
           filled_before (filled_with old a (header_word true false false ty size)) (a + 1) serial word (λ e. let same : a + 2 + i ≡ a + 1 = e in omega arith)
           (filled_before old a (header_word true false false ty size) word (λ e. let same : a + 2 + i ≡ a = e in omega arith) null);
       null = λ i below _. get_or-replicate (size - 2) i 0 0 (omega (arith, length-replicate {A = ℕ} (size - 2) 0));
-      whole = record { fields = omega (arith, length-replicate {A = ℕ} (size - 2) 0); inside = omega arith; ty = small; size = most };
-      apart = room.free;
+      whole = record {
+        ty = omega (arith, known, length-map old.types (λ (type : ObjectType). type.kinds));
+        room = least;
+        size = most;
+        inside = omega arith;
+        fields = omega (arith, length-replicate {A = ℕ} (size - 2) 0);
+      };
+      apart = λ x low high. false_from_ne_true (in_body old.bodies x) (λ held. room.free x low high (body_with old.bodies x held));
+      number = number;
+      unused = unused;
     }
 
 -- where header and serial number are written in one after the other

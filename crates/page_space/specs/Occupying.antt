@@ -1,14 +1,23 @@
 -- A new object in free words.
-use Rattle.std.specs.Prelude.{◌≡◌, ℕ, ◌+◌, ◌-◌, ◌<◌, ◌≤◌, List, [], ◌∷◌, ◌++◌, replicate, Contains}
+use Rattle.std.specs.Prelude.{◌≡◌, ◌≢◌, ℕ, ◌+◌, ◌-◌, ◌<◌, ◌≤◌, List, [], ◌∷◌, ◌++◌, replicate, Contains}
 use Rattle.object_headers.specs.Offsets.{first_field}
-use Rattle.marker_core.specs.Bodies.{IsInBody}
+use Rattle.marker_core.specs.Bodies.{IsInBody, kinds_of, word_count}
 use Rattle.marker_core.specs.declared.states.Body.{Body}
+use Rattle.page_words.specs.Roles.{kind_lists}
 use Rattle.page_words.specs.Seat.{SeatView, published}
 
 -- words of the heap from a that belong to no object
 pub record IsRoom (v : SeatView) (size a : ℕ) : Type 0 where
   pub inside : a + size ≤ v.count
   pub free : (x : ℕ) → a ≤ x → x < a + size → IsInBody v.bodies x → ⊥
+
+-- the size of an object of the type without extra words: a header, a serial number and the type's fields
+abbrev pub least_size : SeatView → ℕ → ℕ
+least_size v ty = first_field + word_count (kinds_of (kind_lists v.types) ty)
+
+-- no object has the serial number
+abbrev pub IsNewNumber : SeatView → ℕ → Type 0
+IsNewNumber v serial = (b : Body) → Contains v.bodies b → b.serial ≢ serial
 
 -- a new body: its type, size and serial number, and null fields
 abbrev pub new_body : ℕ → ℕ → ℕ → ℕ → Body

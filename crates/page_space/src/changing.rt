@@ -1,12 +1,13 @@
 // A new object in free words, and a dead one that goes.
 
-ghost use Rattle.std.specs.Prelude.{◌≡◌, ℕ, ◌+◌, ◌-◌, ◌^◌, ◌<◌, ◌≤◌, false, true, Contains};
+ghost use Rattle.std.specs.Prelude.{◌≡◌, ℕ, ◌+◌, ◌-◌, ◌^◌, ◌<◌, ◌≤◌, false, true};
+ghost use Rattle.std.specs.Prelude.{length, Contains};
 ghost use Rattle.object_headers.specs.Offsets.{first_field};
 ghost use Rattle.marker_core.specs.declared.states.Body.{Body};
 ghost use Rattle.marker_core.specs.Bodies.{holds};
 ghost use Rattle.page_words.specs.Seat.{IsUnnamed, retracted};
 ghost use Rattle.page_space.specs.Space.{IsSeatOf, IsSpaceOf, IsFreePlace, extents_of_bodies};
-ghost use Rattle.page_space.specs.Occupying.{IsRoom, HasNulls, Occupies, new_body};
+ghost use Rattle.page_space.specs.Occupying.{IsRoom, HasNulls, Occupies, IsNewNumber, least_size, new_body};
 
 use crate::space::{Space, bucket_of};
 use object_headers::{FIRST_FIELD, Header, SERIAL};
@@ -17,9 +18,10 @@ impl Space {
     pub fn occupy(&mut self, seat: &mut MutatorSeat, a: u32, ty: u32, size: u32, serial: u32)
         requires space { IsSpaceOf self.old seat.old }
         requires place { IsFreePlace self.old.shape (extents_of_bodies seat.old.bodies) size a }
-        requires ty { ty < 16384 }
-        requires least { 2 ≤ size }
+        requires ty { ty < length seat.old.types }
+        requires least { least_size seat.old ty ≤ size }
         requires most { size < 2 ^ 26 }
+        requires number { IsNewNumber seat.old serial }
         ensures occupied { Occupies seat.old seat.new (new_body a ty size serial) }
         ensures space { IsSpaceOf self.new seat.new }
         ensures shape { self.new.shape ≡ self.old.shape }
@@ -63,9 +65,10 @@ impl Space {
     fn write_object(&self, seat: &mut MutatorSeat, a: u32, ty: u32, size: u32, serial: u32)
         requires heap { IsSeatOf self.now seat.old }
         requires room { IsRoom seat.old size a }
-        requires ty { ty < 16384 }
-        requires least { 2 ≤ size }
+        requires ty { ty < length seat.old.types }
+        requires least { least_size seat.old ty ≤ size }
         requires most { size < 2 ^ 26 }
+        requires number { IsNewNumber seat.old serial }
         ensures { Occupies seat.old seat.new (new_body a ty size serial) }
     {
         self.shape_is_valid();
@@ -79,12 +82,14 @@ impl Space {
         requires heap { IsSeatOf self.now seat.old }
         requires body { body ≡ new_body a ty size serial }
         requires room { IsRoom seat.old size a }
-        requires ty { ty < 16384 }
-        requires least { 2 ≤ size }
+        requires ty { ty < length seat.old.types }
+        requires least { least_size seat.old ty ≤ size }
         requires most { size < 2 ^ 26 }
+        requires number { IsNewNumber seat.old serial }
         requires fields { HasNulls seat.old.filled (a + first_field) (size - first_field) }
         ensures { Occupies seat.old seat.new body }
     {
+        seat.bodies_lie_apart();
         self.shape_is_valid();
         // Nobody sees these words before the object is published.
         self.words

@@ -1,5 +1,7 @@
 -- Which words are whose: each body lies in the heap, and no two of them share a word.
-use Rattle.std.proofs.Common.{◌≡◌, ℕ, ◌+◌, ◌<◌, ◌≤◌, ap, arith, Contains}
+use Rattle.std.proofs.Common.{◌≡◌, ℕ, ◌+◌, ◌<◌, ◌≤◌, length, ap, arith, Contains}
+use Rattle.std.proofs.lemmas.List.{length-map}
+use Rattle.gc_graph.specs.State.{ObjectType}
 use Rattle.marker_core.specs.Bodies.{IsPlace}
 use Rattle.marker_core.specs.declared.states.Body.{Body}
 use Rattle.marker_core.specs.Matching.{IsWhole}
@@ -8,6 +10,13 @@ use Rattle.page_words.specs.Seat.{SeatView, IsView}
 
 pub whole_body : (v : SeatView) → IsView v → (b : Body) → Contains v.bodies b → IsWhole v.count (kind_lists v.types) b
 whole_body v is b h = is.whole b h
+
+-- its type is one of the table's, and a header has room for the type's number
+pub known_type : (v : SeatView) → IsView v → (b : Body) → Contains v.bodies b → b.ty < length v.types
+known_type v is b h = omega (arith, (whole_body v is b h).ty, length-map v.types (λ (type : ObjectType). type.kinds))
+
+pub small_type : (v : SeatView) → IsView v → (b : Body) → Contains v.bodies b → b.ty < 16384
+small_type v is b h = omega (arith, is.few, known_type v is b h)
 
 -- a header and a serial number
 pub two_words : (v : SeatView) → IsView v → (b : Body) → Contains v.bodies b → 2 ≤ b.size

@@ -2,30 +2,34 @@ use Rattle.std.proofs.Common.{◌≡◌, ◌≤◌, subst, sym, arith}
 use Rattle.std.specs.List.{Contains}
 use Rattle.object_headers.specs.Layout.{IsHeaderWord}
 use Rattle.marker_core.specs.declared.states.Body.{Body}
-use Rattle.page_words.specs.Bodies.{IsWhole}
+use Rattle.marker_core.specs.Matching.{IsWhole}
+use Rattle.page_words.specs.Roles.{kind_lists}
 use Rattle.marker_core.specs.Bodies.{holds}
 use Rattle.page_space.specs.Space.{header_in}
 use Rattle.page_space.proofs.PlaceBodies.{tells_size, header_is_one}
-use Rattle.page_words.specs.BodyPlaces.{two_words, whole_body}
+use Rattle.page_words.specs.BodyPlaces.{place_below, small_type, two_words, whole_body}
 use Rattle.page_space.proofs.space.Space.header_at.Goals as goal
 use Rattle.page_space.proofs.space.Space.header_at.Goals.{After-read_unchecked}
+
+pub load-requires-clause-address : goal.load-requires-clause-address
+load-requires-clause-address c = omega (arith, place_below c.args.seat.now c.args.a c.bodies_lie_apart.ensures c.requires.start)
 
 pub read_unchecked-requires : goal.read_unchecked-requires
 read_unchecked-requires c =
     let v = c.args.seat.now in
     let b : Body = c.requires.start.0 in
-    let whole : IsWhole v.count b = whole_body v c.bodies_lie_apart.ensures b c.requires.start.1 in
+    let whole : IsWhole v.count (kind_lists v.types) b = whole_body v c.bodies_lie_apart.ensures b c.requires.start.1 in
     let size : 2 ≤ b.size = two_words v c.bodies_lie_apart.ensures b c.requires.start.1 in
     subst IsHeaderWord (sym (c.load.ensures.word.header b c.requires.start.1 c.requires.start.2))
-    (header_is_one (holds v.marked b.place) (holds v.traced b.place) b.ty b.size whole.ty (omega arith) whole.size)
+    (header_is_one (holds v.marked b.place) (holds v.traced b.place) b.ty b.size (small_type v c.bodies_lie_apart.ensures b c.requires.start.1) (omega arith) whole.size)
 
 header_is : (c : After-read_unchecked) (b : Body) → Contains c.args.seat.now.bodies b → b.place ≡ c.args.a
     → c.read_unchecked.result ≡ header_in c.args.seat.now b
 header_is c b has at =
     let v = c.args.seat.now in
-    let whole : IsWhole v.count b = whole_body v c.bodies_lie_apart.ensures b has in
+    let whole : IsWhole v.count (kind_lists v.types) b = whole_body v c.bodies_lie_apart.ensures b has in
     let size : 2 ≤ b.size = two_words v c.bodies_lie_apart.ensures b has in
-    c.read_unchecked.ensures.exact (holds v.marked b.place) (holds v.traced b.place) b.ty b.size whole.ty (omega arith) whole.size
+    c.read_unchecked.ensures.exact (holds v.marked b.place) (holds v.traced b.place) b.ty b.size (small_type v c.bodies_lie_apart.ensures b has) (omega arith) whole.size
     (c.load.ensures.word.header b has at)
 
 pub returns-clause-header : goal.returns-clause-header
@@ -46,5 +50,5 @@ returns-clause-inside c =
     let v = c.args.seat.now in
     let start = c.requires.start in
     let at : start.0.place ≡ c.args.a = start.2 in
-    let whole : IsWhole v.count start.0 = whole_body v c.bodies_lie_apart.ensures start.0 start.1 in
+    let whole : IsWhole v.count (kind_lists v.types) start.0 = whole_body v c.bodies_lie_apart.ensures start.0 start.1 in
     omega (arith, at, tells_size v c.args.a c.read_unchecked.result (header_is c) start.0 start.1 start.2, whole.inside, c.requires.heap)

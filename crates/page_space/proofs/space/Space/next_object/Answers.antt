@@ -1,6 +1,7 @@
 use Rattle.std.proofs.Common.{◌≡◌, ap, ◌∙◌, sym, inl, inr, arith}
 use Rattle.std.proofs.lemmas.Bool.{cases_lt}
-use Rattle.page_words.specs.Bodies.{IsWhole}
+use Rattle.marker_core.specs.Matching.{IsWhole}
+use Rattle.page_words.specs.Roles.{kind_lists}
 use Rattle.page_space.specs.Pages.{word_count}
 use Rattle.page_words.specs.BodyPlaces.{two_words, whole_body}
 use Rattle.page_space.proofs.space.Space.next_object.Goals as goal
@@ -34,7 +35,7 @@ pub returns-clause-none : goal.returns-clause-none
 returns-clause-none c a place =
     let b = place.1.0 in
     let at : b.place ≡ a = place.1.2 in
-    let whole : IsWhole c.args.seat.now.count b = whole_body c.args.seat.now c.bodies_lie_apart.ensures b place.1.1 in
+    let whole : IsWhole c.args.seat.now.count (kind_lists c.args.seat.now.types) b = whole_body c.args.seat.now c.bodies_lie_apart.ensures b place.1.1 in
     let count : c.count-count.result ≡ c.args.seat.now.count =
     c.count-count.ensures.count ∙ c.self.invariant.words ∙ ap (λ s. word_count s.shape) c.self.view_is ∙ sym c.requires.heap in
     c.loop-at.invariant.none a place.0

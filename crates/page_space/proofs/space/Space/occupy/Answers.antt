@@ -67,7 +67,7 @@ returns-clause-space c =
     let now : IsSpaceOver
     (record { shape = space.shape; objects = space.objects + 1; used = space.used + c.args.size; table = c.enter.new.self; gaps = c.fill.new.self })
     c.args.seat.now.count (es ++ e ∷ []) =
-    joined space c.args.seat.now.count es e c.enter.new.self c.fill.new.self (omega (arith, words.0)) over c.requires.least good
+    joined space c.args.seat.now.count es e c.enter.new.self c.fill.new.self (omega (arith, words.0)) over (omega (arith, c.requires.least)) good
     (record {
       objects = c.enter.ensures.objects;
       buckets = λ page.
@@ -76,7 +76,7 @@ returns-clause-space c =
       starts = c.enter.ensures.starts;
     })
     (c.fill.ensures.knows space.shape es (es ++ e ∷ [])
-    (gaps_taken space c.args.seat.now.count es e _ (omega (arith, words.0)) c.requires.least over good (λ none. eq-eqb c.objects_in-was_empty.result 0 (c.objects_in-was_empty.ensures ∙ none)))
+    (gaps_taken space c.args.seat.now.count es e _ (omega (arith, words.0)) (omega (arith, c.requires.least)) over good (λ none. eq-eqb c.objects_in-was_empty.result 0 (c.objects_in-was_empty.ensures ∙ none)))
     over.gaps) in
     let count : c.write_object.new.seat.count ≡ c.args.seat.now.count = c.write_object.ensures.count in
     let extents : extents_of_bodies c.write_object.new.seat.bodies ≡ es ++ e ∷ [] =

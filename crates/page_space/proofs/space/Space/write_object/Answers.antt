@@ -1,8 +1,9 @@
-use Rattle.std.proofs.Common.{◌≡◌, ◌+◌, ◌-◌, ◌≤◌, ◌∙◌, refl, ap, sym, subst, arith}
+use Rattle.std.proofs.Common.{◌≡◌, ◌+◌, ◌-◌, ◌≤◌, ◌<◌, List, length, ◌∙◌, refl, ap, sym, subst, arith}
+use Rattle.gc_graph.specs.State.{ObjectType}
 use Rattle.marker_core.specs.Bodies.{IsInBody}
 use Rattle.marker_core.specs.declared.states.Body.{Body}
 use Rattle.page_words.specs.Seat.{SeatView, nulled}
-use Rattle.page_space.specs.Occupying.{HasNulls, new_body}
+use Rattle.page_space.specs.Occupying.{HasNulls, IsNewNumber, least_size, new_body}
 use Rattle.page_space.proofs.OccupyFilled.{nulls_filled, only_nulled, nulls_inside, occupies_before}
 use Rattle.page_space.proofs.space.Space.write_object.Goals as goal
 
@@ -17,6 +18,11 @@ head_and_publish-requires c =
     let rest = filled ∙ only_nulled v (c.args.a + 2) (c.args.size - 2) in
     let same : c.fill_nulls.new.seat.bodies ≡ v.bodies = ap (λ (s : SeatView). s.bodies) rest in
     let count : c.fill_nulls.new.seat.count ≡ v.count = ap (λ (s : SeatView). s.count) rest in
+    let types : c.fill_nulls.new.seat.types ≡ v.types = ap (λ (s : SeatView). s.types) rest in
+    let known : c.args.ty < length c.fill_nulls.new.seat.types = subst (λ (types : List ObjectType). c.args.ty < length types) (sym types) c.requires.ty in
+    let least : least_size c.fill_nulls.new.seat c.args.ty ≤ c.args.size =
+    subst (λ (s : SeatView). least_size s c.args.ty ≤ c.args.size) (sym rest) c.requires.least in
+    let unused : IsNewNumber c.fill_nulls.new.seat c.args.serial = subst (λ (s : SeatView). IsNewNumber s c.args.serial) (sym rest) c.requires.number in
     let nulls : HasNulls c.fill_nulls.new.seat.filled (c.args.a + 2) (c.args.size - 2) =
     subst (λ (s : SeatView). HasNulls s.filled (c.args.a + 2) (c.args.size - 2)) (sym filled) (nulls_filled v (c.args.a + 2) (c.args.size - 2)) in (
       count ∙ c.requires.heap,
@@ -27,7 +33,7 @@ head_and_publish-requires c =
             inside = omega (arith, c.requires.room.inside);
             free = λ x low high word. c.requires.room.free x low high (subst (λ bodies. IsInBody bodies x) same word);
           },
-          (c.requires.ty, (c.requires.least, (c.requires.most, nulls))),
+          (known, (least, (c.requires.most, (unused, nulls)))),
         ),
       ),
     )
@@ -38,6 +44,6 @@ returns c =
     let fields : c.args.a + c.args.size - (c.args.a + 2) ≡ c.args.size - 2 = omega arith in
     let rest = c.fill_nulls.ensures ∙ ap (nulled v (c.args.a + 2)) fields ∙ only_nulled v (c.args.a + 2) (c.args.size - 2) in
     let b : Body = new_body c.args.a c.args.ty c.args.size c.args.serial in
-    let least : 2 ≤ c.args.size = c.requires.least in
+    let least : 2 ≤ c.args.size = omega (arith, c.requires.least) in
     occupies_before v c.fill_nulls.new.seat c.head_and_publish.new.seat (nulled v (c.args.a + 2) (c.args.size - 2)).filled b rest
     (nulls_inside v b (c.args.a + 2) (c.args.size - 2) (omega arith) (omega arith)) c.head_and_publish.ensures
