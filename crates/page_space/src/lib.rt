@@ -21,10 +21,11 @@
 //! | more | 4, large: it starts a page and takes as many pages as it needs |
 //!
 //! What is proved: `find` and `find_empty` answer the lowest place, and none exactly where there
-//! is none. `occupy` publishes an object whose fields are null, and `free` takes one away. After
-//! each of them small objects lie in one page, large ones share none, and the counts are right.
-//! No gap is longer than what is remembered says, so no answer depends on it. `start_of` answers
-//! the object that has the word, an inner one too, and none exactly where none has it.
+//! is none. `occupy` publishes an object whose fields are null and whose serial number no other has,
+//! and `free` takes one away. After each of them small objects lie in one page, large ones share none,
+//! and the counts are right. No gap is longer than what is remembered says, so no answer depends on
+//! it. `start_of` answers the object that has the word, an inner one too, and none exactly where none
+//! has it.
 //!
 //! What is only tested or not said: that `Space::new` succeeds where there is memory, and what is
 //! found in heaps of a few pages, is tested in `page_trials`. How long a search takes is not said;

@@ -16,7 +16,8 @@
 //!
 //! What is proved: each call answers the word that the view tells, and changes the view as its
 //! clause says. The words and the view belong together after each call: headers, serial numbers,
-//! fields, filled words, start bits and the stop word match, and bodies lie apart.
+//! fields, filled words, start bits and the stop word match; bodies lie apart, each with room for the
+//! fields of its type, and no two have one serial number.
 //!
 //! What is only tested or not said: that `Words::new` succeeds where there is memory, and where the
 //! stop word is, is tested in `page_trials`. A word that belongs to no object and was not filled may
