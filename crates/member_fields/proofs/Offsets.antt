@@ -1,18 +1,11 @@
 -- Where a word of an object is, and what a read of it tells.
-use Rattle.std.proofs.Common.{◌≡◌, ℕ, ◌+◌, ◌-◌, ◌<◌, Bool, true, sym, ap, ◌∙◌, arith}
+use Rattle.std.proofs.Common.{◌≡◌, ℕ, ◌+◌, ◌-◌, Bool, true, sym, ap, ◌∙◌, arith}
 use Rattle.gc_graph.specs.declared.kind.Kind.{Kind}
 use Rattle.marker_core.specs.declared.states.Body.{Body}
 use Rattle.page_words.specs.Bodies.{kind_in}
 use Rattle.page_words.specs.Seat.{SeatView, IsWordAt, IsView}
-use Rattle.member_fields.specs.Words.{HasWord, HasWordOfSomeKind, HasPair, IsWordIn}
-use Rattle.page_words.specs.BodyPlaces.{whole_body, within_heap, same_body}
-
--- both words of a pair are the heap's, and so is any other field word
-pub pair_in_heap : (v : SeatView) (holder word : ℕ) → IsView v → HasPair v holder word → holder + (word + 1) < v.count
-pair_in_heap v holder word is has = omega (arith, has.place, has.last, within_heap v is has.body has.there)
-
-pub word_in_heap : (v : SeatView) (holder word : ℕ) → IsView v → HasWordOfSomeKind v holder word → holder + word < v.count
-word_in_heap v holder word is has = omega (arith, has.1.place, has.1.last, within_heap v is has.1.body has.1.there)
+use Rattle.member_fields.specs.Words.{HasWord, HasWordOfSomeKind, IsWordIn}
+use Rattle.page_words.specs.BodyPlaces.{whole_body, same_body}
 
 pub word_read : (v : SeatView) (holder word w : ℕ) → IsView v → HasWordOfSomeKind v holder word → IsWordAt v (holder + word) w → IsWordIn v holder word w
 word_read v holder word w is has at b there place =

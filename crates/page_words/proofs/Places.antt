@@ -1,26 +1,15 @@
 -- Which words are whose: bodies lie apart, below the start bits and the stop word.
-use Rattle.std.proofs.Common.{◌≡◌, ℕ, ◌+◌, ◌/◌, ◌<◌, ◌≤◌, List, length, get_or, set, ◌∙◌, arith, Contains}
+use Rattle.std.proofs.Common.{◌≡◌, ℕ, ◌+◌, ◌<◌, ◌≤◌, List, length, get_or, set, ◌∙◌, arith, Contains}
 use Rattle.std.proofs.lemmas.List.{get_or-set_other}
 use Rattle.marker_core.specs.declared.states.Body.{Body}
-use Rattle.marker_core.specs.Bodies.{IsPlace}
 use Rattle.marker_core.specs.Layout.{bitmap_at, stop_at}
 use Rattle.page_words.specs.Seat.{SeatView, header_of}
 use Rattle.page_words.specs.Ties.{Ties, IsCount}
-use Rattle.page_words.specs.BodyPlaces.{whole_body, two_words, within_heap, place_below}
+use Rattle.page_words.specs.BodyPlaces.{whole_body, two_words, within_heap}
 
 -- the start bits lie between the heap's words and the stop word
 pub bitmap_below_stop : (count a : ℕ) → IsCount count → a < count → bitmap_at count a < stop_at count
 bitmap_below_stop count a is below = let bits = is.bits in omega arith
-
--- a body's place has a word
-pub in_words : (words : List ℕ) (v : SeatView) (a : ℕ) → Ties words v → IsPlace v.bodies a → a < length words
-in_words words v a t at = omega (arith, t.length_is, place_below v a t.bodies_lie_apart at)
-
--- and so has its start bit
-pub bitmap_in_words : (words : List ℕ) (v : SeatView) (count a : ℕ) → Ties words v → count ≡ v.count → IsPlace v.bodies a
-    → count + a / 64 < length words
-bitmap_in_words words v count a t same at =
-    omega (arith, t.length_is, same, bitmap_below_stop v.count a t.count (place_below v a t.bodies_lie_apart at))
 
 pub later_word_kept : (words : List ℕ) (a x w : ℕ) → a < x → get_or (set words a w) x 0 ≡ get_or words x 0
 later_word_kept words a x w below = get_or-set_other words a x w 0 (λ e. omega arith)

@@ -1,7 +1,7 @@
 -- Publishing a body whose words were filled keeps words and view together.
 use Rattle.std.proofs.Common.{◌≡◌, ◌≢◌, ℕ, get_or, ◌<◌, ◌≤◌, [], ◌∷◌, Bool, false, not, ◌&&◌, leb, ltb, sym, ap, ◌∙◌, subst, inl, inr, arith, Contains}
 use Rattle.std.proofs.lemmas.Bool.{and_from, both_ways, false_from_ne_true, not-true, le-leb, lt-ltb}
-use Rattle.std.proofs.lemmas.List.Elements.{Contains-append_left, Contains-push_cases, Contains-get_or}
+use Rattle.std.proofs.lemmas.List.Elements.{All-push, Contains-append_left, Contains-push_cases, Contains-get_or}
 use Rattle.std.proofs.lemmas.List.Quantifiers.{all_pairs_push}
 use Rattle.marker_core.specs.Bodies.{end_of, has_word, in_body, IsPlace, IsInBody, holds}
 use Rattle.marker_core.specs.declared.states.Body.{Body}
@@ -84,10 +84,7 @@ pub published_view : (v : SeatView) (b : Body) → IsView v → IsReady (side v)
 published_view v b is ready = record {
   count = is.count;
   few = is.few;
-  whole = λ c h. elim (Contains-push_cases v.bodies b c h) [
-    | inl old ↦ is.whole c old
-    | inr same ↦ subst (IsWhole v.count (kind_lists v.types)) same ready.whole
-  ];
+  whole = All-push (IsWhole v.count (kind_lists v.types)) v.bodies b is.whole ready.whole;
   serials = all_pairs_push (λ (c d : Body). c.serial ≢ d.serial) v.bodies b is.serials
       (λ k d l. ready.unused (get_or v.bodies k d) (Contains-get_or v.bodies k d l));
   apart = apart_after v b is ready;

@@ -4,6 +4,9 @@ use mathlib.Core.Logic.{◌↔◌}
 use Rattle.std.specs.Int.{bit_at}
 use Rattle.std.proofs.lemmas.Bool.{cases_eq, both_ways, eqb-false, ne_eqb, not-true, not_from_false}
 use Rattle.std.proofs.lemmas.List.{length-set, get_or-set_same, get_or_read}
+use Rattle.std.proofs.lemmas.List.Elements.{All-filter}
+use Rattle.marker_core.specs.Matching.{IsWhole}
+use Rattle.page_words.specs.Roles.{kind_lists}
 use Rattle.std.proofs.lemmas.List.Kept.{AllPairs-filter}
 use Rattle.marker_core.specs.Bodies.{IsPlace, holds, without}
 use Rattle.marker_core.specs.declared.states.Body.{Body}
@@ -35,7 +38,7 @@ retracted_view : (v : SeatView) (a : ℕ) → IsView v → holds v.marked a ≡ 
 retracted_view v a is unmarked = record {
   count = is.count;
   few = is.few;
-  whole = λ b h. is.whole b (was_body v a b h);
+  whole = All-filter (is_elsewhere a) (IsWhole v.count (kind_lists v.types)) v.bodies is.whole;
   serials = AllPairs-filter (λ (b c : Body). b.serial ≢ c.serial) (is_elsewhere a) v.bodies is.serials;
   apart = λ b c x hb hc. is.apart b c x (was_body v a b hb) (was_body v a c hc);
   filled_outside = λ f h. (

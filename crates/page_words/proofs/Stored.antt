@@ -3,6 +3,7 @@ use Rattle.std.proofs.Common.{◌≡◌, ℕ, ◌+◌, ◌-◌, ◌/◌, ◌%◌
 use mathlib.Core.Logic.{◌↔◌}
 use Rattle.std.proofs.lemmas.Bool.{cases_eq, and_parts, and_from, both_ways, leb-true, ltb-true, le-leb, lt-ltb}
 use Rattle.std.proofs.lemmas.List.{length-set, length-map, get_or-map, get_or-set_same, get_or-set_other}
+use Rattle.std.proofs.lemmas.List.Elements.{All-map, All-weaker}
 use Rattle.gc_graph.specs.declared.kind.Kind.{Kind}
 use Rattle.marker_core.specs.Bodies.{end_of, IsPlace, IsInBody, IsFieldWord, with_word, has_field}
 use Rattle.marker_core.specs.declared.states.Body.{Body}
@@ -74,9 +75,8 @@ stored_view : (v : SeatView) (a w : ℕ) → IsView v → IsView (stored v a w)
 stored_view v a w is = record {
   count = is.count;
   few = is.few;
-  whole = λ c h.
-      let from = Contains-map_some (with_word a w) v.bodies c h in
-      subst (IsWhole v.count (kind_lists v.types)) from.2 (whole_after v.count (kind_lists v.types) a w from.0 (is.whole from.0 from.1));
+  whole = All-map (IsWhole v.count (kind_lists v.types)) (with_word a w) v.bodies
+      (All-weaker (IsWhole v.count (kind_lists v.types)) (λ b. IsWhole v.count (kind_lists v.types) (with_word a w b)) (whole_after v.count (kind_lists v.types) a w) v.bodies is.whole);
   serials = serials_after a w v.bodies is.serials;
   apart = apart_after v a w is;
   filled_outside = λ f h. ((is.filled_outside f h).0, λ inside. (is.filled_outside f h).1 (in_body_was v a w f.0 inside));

@@ -1,6 +1,7 @@
 -- Which words are whose: each body lies in the heap, and no two of them share a word.
 use Rattle.std.proofs.Common.{◌≡◌, ℕ, ◌+◌, ◌<◌, ◌≤◌, length, ap, arith, Contains}
 use Rattle.std.proofs.lemmas.List.{length-map}
+use Rattle.std.proofs.lemmas.List.Elements.{All-contains}
 use Rattle.gc_graph.specs.State.{ObjectType}
 use Rattle.marker_core.specs.Bodies.{IsPlace}
 use Rattle.marker_core.specs.declared.states.Body.{Body}
@@ -9,7 +10,7 @@ use Rattle.page_words.specs.Roles.{kind_lists}
 use Rattle.page_words.specs.Seat.{SeatView, IsView}
 
 pub whole_body : (v : SeatView) → IsView v → (b : Body) → Contains v.bodies b → IsWhole v.count (kind_lists v.types) b
-whole_body v is b h = is.whole b h
+whole_body v is b h = All-contains (IsWhole v.count (kind_lists v.types)) v.bodies b is.whole h
 
 -- its type is one of the table's, and a header has room for the type's number
 pub known_type : (v : SeatView) → IsView v → (b : Body) → Contains v.bodies b → b.ty < length v.types

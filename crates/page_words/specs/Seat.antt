@@ -1,5 +1,5 @@
 -- What the mutator's seat knows of the words, and how each call changes that.
-use Rattle.std.specs.Prelude.{◌≡◌, ℕ, zero, suc, ◌+◌, ◌/◌, ◌%◌, ◌^◌, ◌<◌, ◌≤◌, ◌↔◌, ◌==◌, ◌&&◌, not, Bool, true, false, List, [], ◌∷◌, ◌++◌, length, map, filter, if◌then◌else◌, slice_index, Contains}
+use Rattle.std.specs.Prelude.{◌≡◌, ℕ, zero, suc, ◌+◌, ◌/◌, ◌%◌, ◌^◌, ◌<◌, ◌≤◌, ◌↔◌, ◌==◌, ◌&&◌, not, Bool, true, false, List, [], ◌∷◌, ◌++◌, length, map, filter, if◌then◌else◌, slice_index, Contains, All}
 use Rattle.gc_graph.specs.State.{ObjectType}
 use Rattle.object_headers.specs.Layout.{header_word}
 use Rattle.object_headers.specs.Offsets.{serial_offset, reference_to}
@@ -10,7 +10,7 @@ use Rattle.marker_core.specs.Bodies.{end_of, fields_at, has_word, word_in, role_
 use Rattle.marker_core.specs.declared.states.Role.TheVariants.{KeyWord}
 use Rattle.marker_core.specs.Closed.{IsClosedOver}
 use Rattle.marker_core.specs.Idle.{idle_view}
-use Rattle.marker_core.specs.Matching.{AreWhole, SerialsDiffer}
+use Rattle.marker_core.specs.Matching.{IsWhole, SerialsDiffer}
 use Rattle.marker_core.specs.Seats.{SeatSide}
 use Rattle.page_words.specs.Bodies.{is_reference_word}
 use Rattle.page_words.specs.Roles.{kind_lists}
@@ -145,7 +145,7 @@ empty_view count types =
 pub record IsView (v : SeatView) : Type 0 where
   pub count : v.count ≤ 2 ^ 24
   pub few : length v.types < 16384
-  pub whole : AreWhole v.count (kind_lists v.types) v.bodies
+  pub whole : All (IsWhole v.count (kind_lists v.types)) v.bodies
   pub serials : SerialsDiffer v.bodies
   pub apart :
       (b c : Body) (a : ℕ) → Contains v.bodies b → Contains v.bodies c → b.place ≤ a → a < end_of b → c.place ≤ a → a < end_of c

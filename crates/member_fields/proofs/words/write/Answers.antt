@@ -1,13 +1,7 @@
-use Rattle.std.proofs.Common.{◌^◌, ◌+◌, ◌<◌, arith, rules, ◌∙◌}
-use Rattle.member_fields.proofs.Offsets.{word_in_heap}
+use Rattle.std.proofs.Common.{◌∙◌}
 use Rattle.member_fields.proofs.PairWords.{holds_lone}
 use Rattle.member_fields.proofs.Writes.{stored_word}
 use Rattle.member_fields.proofs.words.write.Goals as goal
-
-pub overflow_add-holder : goal.overflow_add-holder
-overflow_add-holder c =
-    let bound : c.args.holder + c.args.word < 2 ^ 32 = omega (arith, word_in_heap c.args.seat.now c.args.holder c.args.word c.bodies_lie_apart.ensures (c.requires.field.0, c.requires.field.2), c.bodies_lie_apart.ensures.count) in
-    search rules
 
 pub store-requires-clause-word : goal.store-requires-clause-word
 store-requires-clause-word c =

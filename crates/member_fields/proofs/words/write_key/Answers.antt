@@ -1,15 +1,9 @@
-use Rattle.std.proofs.Common.{◌^◌, ◌+◌, ◌<◌, arith, rules, ◌∙◌}
+use Rattle.std.proofs.Common.{◌∙◌}
 use Rattle.gc_graph.specs.declared.kind.Kind.TheVariants.{Pair}
 use Rattle.type_table.specs.Types.{is_kind}
-use Rattle.member_fields.proofs.Offsets.{pair_in_heap}
 use Rattle.member_fields.proofs.Writes.{stored_word}
 use Rattle.member_fields.proofs.PairWords.{key_word, holds_key}
 use Rattle.member_fields.proofs.words.write_key.Goals as goal
-
-pub overflow_add-holder : goal.overflow_add-holder
-overflow_add-holder c =
-    let bound : c.args.holder + c.args.word < 2 ^ 32 = omega (arith, pair_in_heap c.args.seat.now c.args.holder c.args.word c.bodies_lie_apart.ensures c.requires.pair, c.bodies_lie_apart.ensures.count) in
-    search rules
 
 pub store-requires-clause-word : goal.store-requires-clause-word
 store-requires-clause-word c =

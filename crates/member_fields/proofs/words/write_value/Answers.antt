@@ -1,23 +1,12 @@
-use Rattle.std.proofs.Common.{◌^◌, ◌<◌, arith, rules, ◌≡◌, ◌+◌, sym, ◌∙◌, subst}
+use Rattle.std.proofs.Common.{◌≡◌, ◌+◌, sym, ◌∙◌, subst}
 use Rattle.gc_graph.specs.declared.kind.Kind.TheVariants.{Pair}
 use Rattle.type_table.specs.Types.{is_kind}
 use Rattle.marker_core.specs.Bodies.{IsReference}
 use Rattle.page_words.specs.Seat.{SeatView}
 use Rattle.member_fields.specs.Words.{HasPair, IsWordIn, HasWordOfSomeKind, written}
-use Rattle.member_fields.proofs.Offsets.{pair_in_heap}
 use Rattle.member_fields.proofs.Writes.{stored_word, word_written}
 use Rattle.member_fields.proofs.PairWords.{value_word, holds_value, pair_kept, reference_kept}
 use Rattle.member_fields.proofs.words.write_value.Goals as goal
-
-pub overflow_add-word : goal.overflow_add-word
-overflow_add-word c =
-    let bound : c.args.word + 1 < 2 ^ 32 = omega (arith, pair_in_heap c.args.seat.now c.args.holder c.args.word c.bodies_lie_apart.ensures c.requires.pair, c.bodies_lie_apart.ensures.count) in
-    search rules
-
-pub overflow_add-holder : goal.overflow_add-holder
-overflow_add-holder c =
-    let bound : c.args.holder + (c.args.word + 1) < 2 ^ 32 = omega (arith, pair_in_heap c.args.seat.now c.args.holder c.args.word c.bodies_lie_apart.ensures c.requires.pair, c.bodies_lie_apart.ensures.count) in
-    search rules
 
 has_value : (c : goal.After-store) → HasWordOfSomeKind c.args.seat.now c.args.holder (c.args.word + 1)
 has_value c = (is_kind Pair, value_word c.args.seat.now c.args.holder c.args.word c.values_come_before_keys.ensures.kind c.requires.pair)

@@ -7,12 +7,9 @@ use Rattle.page_words.specs.Roles.{kind_lists}
 use Rattle.marker_core.specs.Bodies.{holds}
 use Rattle.page_space.specs.Space.{header_in}
 use Rattle.page_space.proofs.PlaceBodies.{tells_size, header_is_one}
-use Rattle.page_words.specs.BodyPlaces.{place_below, small_type, two_words, whole_body}
+use Rattle.page_words.specs.BodyPlaces.{small_type, two_words, whole_body}
 use Rattle.page_space.proofs.space.Space.header_at.Goals as goal
 use Rattle.page_space.proofs.space.Space.header_at.Goals.{After-read_unchecked}
-
-pub load-requires-clause-address : goal.load-requires-clause-address
-load-requires-clause-address c = omega (arith, place_below c.args.seat.now c.args.a c.bodies_lie_apart.ensures c.requires.start)
 
 pub read_unchecked-requires : goal.read_unchecked-requires
 read_unchecked-requires c =

@@ -1,18 +1,7 @@
-use Rattle.std.proofs.Common.{rules, ◌≡◌, ◌+◌, ◌^◌, ◌<◌, arith}
+use Rattle.std.proofs.Common.{rules, ◌≡◌, ◌^◌, ◌<◌, arith}
 use Rattle.std.proofs.lemmas.List.Elements.{All-contains}
 use Rattle.marker_core.specs.declared.states.Body.{Body}
-use Rattle.page_words.specs.BodyPlaces.{place_below}
 use Rattle.page_space.proofs.space.Space.serial_at.Goals as goal
-
-pub overflow_add-a : goal.overflow_add-a
-overflow_add-a c =
-    let bound : c.args.a + 1 < 2 ^ 32 =
-    omega (arith, place_below c.args.seat.now c.args.a c.bodies_lie_apart.ensures c.requires.start, c.bodies_lie_apart.ensures.count)
-    in
-    search rules
-
-pub load-requires-clause-address : goal.load-requires-clause-address
-load-requires-clause-address c = omega (arith, place_below c.args.seat.now c.args.a c.bodies_lie_apart.ensures c.requires.start)
 
 pub overflow_cast-result : goal.overflow_cast-result
 overflow_cast-result c =

@@ -2,7 +2,6 @@ use Rattle.std.proofs.Common.{◌≡◌, arith}
 use Rattle.marker_core.specs.Bodies.{IsPlace}
 use Rattle.marker_core.specs.declared.states.Body.{Body}
 use Rattle.page_space.proofs.PlaceBodies.{tells_size}
-use Rattle.page_words.specs.BodyPlaces.{within_heap}
 use Rattle.page_space.proofs.space.Space.start_of.Goals as goal
 
 pub returns-in-Some-clause-found : goal.returns-in-Some-clause-found
@@ -24,7 +23,3 @@ returns-in_default-clause-none c a h =
 
 pub returns-in_default-2-clause-none : goal.returns-in_default-2-clause-none
 returns-in_default-2-clause-none c a h = (let only = c.only_start_for.ensures.only a h in let none = c.in_default.is in cc)
-
-pub returns-then-inner-from-clause-none : goal.returns-then-inner-from-clause-none
-returns-then-inner-from-clause-none c a h =
-    omega (arith, h.4, within_heap c.args.seat.now c.bodies_lie_apart.ensures h.0 h.1, c.requires.space.seat)

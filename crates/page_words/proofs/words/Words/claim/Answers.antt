@@ -1,4 +1,4 @@
-use Rattle.std.proofs.Common.{length, ◌<◌, rules, ◌≡◌, sym, subst, ◌∙◌, eqb, true, false, Contains}
+use Rattle.std.proofs.Common.{rules, ◌≡◌, sym, subst, ◌∙◌, eqb, true, false, Contains}
 use Rattle.std.proofs.lemmas.Bool.{eq-eqb, ne_eqb}
 use Rattle.page_words.specs.declared.mutator.MutatorSeat.TheInside.{Inside}
 use Rattle.marker_core.specs.Bodies.{IsPlace}
@@ -6,7 +6,6 @@ use Rattle.marker_core.specs.declared.states.Body.{Body}
 use Rattle.object_headers.specs.Layout.{header_word}
 use Rattle.page_words.specs.Seat.{SeatView, is_grey, claimed_at}
 use Rattle.page_words.specs.Ties.{Ties}
-use Rattle.page_words.proofs.Places.{in_words}
 use Rattle.page_words.proofs.Marks.{claims_grey, passes_over_others, found_is_grey}
 use Rattle.page_words.proofs.words.Words.claim.Goals as goal
 use Rattle.page_words.proofs.words.Words.claim.Goals.{then-found, else-found}
@@ -31,15 +30,3 @@ invariant_of-seat c =
       | else-found w ↦ subst (λ (s : Inside). Ties s.words.items (claimed_at s.view.value a)) (sym w.seat-inside-is)
           (passes_over_others words v a c.seat.invariant (sym grey ∙ ne_eqb c.index.result.now c.args.header w.if-found.false))
     ])
-
-pub index-requires : goal.index-requires
-index-requires c =
-    let place : IsPlace c.seat.inside.view.value.bodies c.args.a = subst (λ (s : SeatView). IsPlace s.bodies c.args.a) (sym c.seat.view_is) c.requires.place in
-    let bound : c.args.a < length c.seat.inside.words.items = in_words c.seat.inside.words.items c.seat.inside.view.value c.args.a c.seat.invariant place in
-    search rules
-
-pub index_mut-requires : goal.index_mut-requires
-index_mut-requires c =
-    let place : IsPlace c.seat.inside.view.value.bodies c.args.a = subst (λ (s : SeatView). IsPlace s.bodies c.args.a) (sym c.seat.view_is) c.requires.place in
-    let bound : c.args.a < length c.seat.inside.words.items = in_words c.seat.inside.words.items c.seat.inside.view.value c.args.a c.seat.invariant place in
-    search rules

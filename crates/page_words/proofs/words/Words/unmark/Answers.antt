@@ -1,8 +1,5 @@
-use Rattle.std.proofs.Common.{length, ◌<◌, rules, false, sym, subst, set}
-use Rattle.marker_core.specs.Bodies.{IsPlace}
-use Rattle.page_words.specs.Seat.{SeatView}
+use Rattle.std.proofs.Common.{rules, false, sym, subst, set}
 use Rattle.page_words.specs.Ties.{Ties}
-use Rattle.page_words.proofs.Places.{in_words}
 use Rattle.page_words.proofs.Marks.{unmarks}
 use Rattle.page_words.proofs.words.Words.unmark.Goals as goal
 
@@ -11,15 +8,3 @@ invariant_of-seat c =
     subst (Ties (set c.seat.inside.words.items c.args.a c.with_traced.result)) (sym c.unmarked.ensures)
     (unmarks c.seat.inside.words.items c.seat.inside.view.value c.args.a c.index-header.result.now c.with_traced.result c.seat.invariant (search rules)
     (search rules) (λ l m t ty size is. c.with_traced.ensures.header l false t ty size (c.with_mark.ensures.header l m t ty size is)))
-
-pub index-header-requires : goal.index-header-requires
-index-header-requires c =
-    let place : IsPlace c.seat.inside.view.value.bodies c.args.a = subst (λ (s : SeatView). IsPlace s.bodies c.args.a) (sym c.seat.view_is) c.requires.place in
-    let bound : c.args.a < length c.seat.inside.words.items = in_words c.seat.inside.words.items c.seat.inside.view.value c.args.a c.seat.invariant place in
-    search rules
-
-pub index_mut-requires : goal.index_mut-requires
-index_mut-requires c =
-    let place : IsPlace c.seat.inside.view.value.bodies c.args.a = subst (λ (s : SeatView). IsPlace s.bodies c.args.a) (sym c.seat.view_is) c.requires.place in
-    let bound : c.args.a < length c.seat.inside.words.items = in_words c.seat.inside.words.items c.seat.inside.view.value c.args.a c.seat.invariant place in
-    search rules
