@@ -2,13 +2,15 @@
 use Rattle.std.proofs.Common.{◌≡◌, ℕ, ◌+◌, ◌<◌, ◌^◌, Bool, true, false, List, length, get_or, sym, ap, ◌∙◌, subst, inl, inr, arith}
 use Rattle.std.specs.List.{Contains}
 use Rattle.std.proofs.lemmas.Bool.{true≢false}
-use Rattle.std.proofs.lemmas.List.Elements.{All-contains, Contains-get_or}
+use Rattle.std.proofs.lemmas.List.Elements.{Contains-get_or}
 use Rattle.gc_graph.specs.declared.kind.Kind.TheVariants.{Strong, Pair}
 use Rattle.gc_graph.specs.State.{ObjectType}
 use Rattle.type_table.specs.Types.{kinds_of, offsets_of_kind}
 use Rattle.marker_core.specs.Bodies.{IsReference, holds}
 use Rattle.marker_core.specs.declared.states.Body.{Body}
-use Rattle.page_words.specs.Bodies.{IsWhole}
+use Rattle.marker_core.specs.Matching.{IsWhole}
+use Rattle.page_words.specs.BodyPlaces.{whole_body}
+use Rattle.page_words.specs.Roles.{kind_lists}
 use Rattle.page_words.specs.Seat.{SeatView, IsView}
 use Rattle.ephemerons.specs.BodyGraph.{AreReferences, HasType, HasPair, strong_offsets, word_at}
 use Rattle.ephemerons.specs.Notes.{note_of}
@@ -31,7 +33,7 @@ value_there types bodies holder word refers has =
 
 pub word_low : (v : SeatView) (holder offset : ℕ) → IsView v → HasWord v.bodies holder offset → offset < 2 ^ 32
 word_low v holder offset view has =
-    let whole : IsWhole v.count has.0 = All-contains (IsWhole v.count) v.bodies has.0 view.whole has.1 in
+    let whole : IsWhole v.count (kind_lists v.types) has.0 = whole_body v view has.0 has.1 in
     omega (arith, has.3, has.4, whole.fields, whole.inside, view.count)
 
 pub key_reference : (types : List ObjectType) (bodies : List Body) (holder word key : ℕ) → AreReferences types bodies

@@ -2,14 +2,16 @@
 use Rattle.std.proofs.Common.{◌≡◌, ℕ, ◌-◌, ◌<◌, true, cond, List, [], ◌∷◌, ◌++◌, length, get_or, map, refl, sym, ap, ◌∙◌, subst, inl, inr, arith, eqb}
 use Rattle.std.specs.List.{Contains}
 use Rattle.std.proofs.lemmas.Bool.{cases_eq, cond-true, cond-false, cond_both, ne_eqb}
-use Rattle.std.proofs.lemmas.List.Elements.{All-contains, Contains-get_or}
+use Rattle.std.proofs.lemmas.List.Elements.{Contains-get_or}
 use Rattle.gc_graph.specs.declared.kind.Kind.{Kind}
 use Rattle.gc_graph.specs.declared.kind.Kind.TheVariants.{Plain}
 use Rattle.type_table.specs.Types.{kinds_of, offsets_of_kind}
 use Rattle.type_table.specs.Layouts.{kinds_of_words}
 use Rattle.marker_core.specs.Bodies.{IsReference, holds}
 use Rattle.marker_core.specs.declared.states.Body.{Body}
-use Rattle.page_words.specs.Bodies.{IsWhole, kind_in}
+use Rattle.marker_core.specs.Matching.{IsWhole}
+use Rattle.page_words.specs.Bodies.{kind_in}
+use Rattle.page_words.specs.Roles.{kind_lists}
 use Rattle.page_words.specs.Seat.{SeatView, IsView, with_bodies}
 use Rattle.weak_clearing.specs.declared.weak_handles.WeakHandles.{WeakHandles}
 use Rattle.weak_clearing.specs.Clearing.{HasReferencesOf, MarkedHaveReferencesOf}
@@ -19,7 +21,7 @@ use Rattle.gc_graph.specs.Members.{Contains-map}
 use Rattle.weak_clearing.proofs.HandleWords.{BeginsField, field_told, clear_listed, clear_listed-push, listed_are_cleared}
 use Rattle.weak_clearing.proofs.Words.{at_twice}
 use Rattle.weak_clearing.proofs.Lessened.{IsLessened, itself_lessened, with_fields, listed_lessened, word_stays_reference}
-use Rattle.page_words.specs.BodyPlaces.{same_body}
+use Rattle.page_words.specs.BodyPlaces.{same_body, whole_body}
 
 abbrev listed_body : WeakHandles → List ℕ → List ℕ → Body → Body
 listed_body handles marked offsets b = record b { fields = clear_listed handles marked offsets b.fields }
@@ -50,7 +52,7 @@ pub has_handle : (handles : WeakHandles) (v : SeatView) (b : Body) (told : List 
     → HasHandle handles v b.place (get_or told k 0)
 has_handle handles v b told k view there has is low =
     let kind : Kind = kind_of_handles handles in
-    let whole : IsWhole v.count b = All-contains (IsWhole v.count) v.bodies b view.whole there in
+    let whole : IsWhole v.count (kind_lists v.types) b = whole_body v view b there in
     let field : BeginsField kind 2 (kinds_of v.types b.ty) (get_or told k 0) = field_told kind (kinds_of v.types b.ty) told k is low in
     let number : get_or told k 0 - 2 ≡ field.index = omega (arith, field.at) in
     record {

@@ -1,13 +1,14 @@
 use Rattle.std.proofs.Common.{◌≡◌, ℕ, ◌+◌, ◌*◌, ◌/◌, ◌<◌, List, [], length, ltb, eqb, arith, ap, sym, ◌∙◌, subst}
 use Rattle.std.proofs.lemmas.Bool.{lt-ltb, le-ltb}
 use Rattle.gc_graph.specs.State.{ObjectType}
-use Rattle.page_words.specs.Bodies.{IsWhole}
+use Rattle.marker_core.specs.Matching.{IsWhole}
+use Rattle.page_words.specs.BodyPlaces.{whole_body}
+use Rattle.page_words.specs.Roles.{kind_lists}
 use Rattle.page_words.specs.Seat.{SeatView}
 use Rattle.type_table.specs.Types.{kinds_of, offsets_of_kind}
 use Rattle.weak_clearing.specs.Clearing.{MarkedHaveReferencesOf}
 use Rattle.weak_clearing.specs.Steps.{kind_of_handles, block_cleared}
 use Rattle.weak_clearing.proofs.BlockWalk.{below_next, below_apart}
-use Rattle.weak_clearing.proofs.MarkWords.{whole_of}
 use Rattle.weak_clearing.proofs.NoHandles.{none_cleared}
 use Rattle.weak_clearing.proofs.ObjectWalk.{where_references, where_none, where_after, where_all}
 use Rattle.weak_clearing.proofs.walk.clear_handles.Goals as goal
@@ -32,7 +33,7 @@ pub returns : goal.returns
 returns c =
     c.loop-block.invariant
     ∙ where_all c.args.handles c.args.seat.now (λ a. ltb a (64 * c.loop-block.block)) (λ b there.
-    let whole : IsWhole c.args.seat.now.count b = whole_of c.args.seat.now b c.bodies_lie_apart.ensures there in
+    let whole : IsWhole c.args.seat.now.count (kind_lists c.args.seat.now.types) b = whole_body c.args.seat.now c.bodies_lie_apart.ensures b there in
     lt-ltb b.place (64 * c.loop-block.block) (omega (arith, whole.inside, whole.fields, c.requires.heap, c.count-block-end.ensures.valid.bits, c.count-block-end.ensures.count, c.words.ensures)))
 
 pub returns-then-not-are_in : goal.returns-then-not-are_in
