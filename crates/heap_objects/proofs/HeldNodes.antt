@@ -1,24 +1,28 @@
 -- The words hold the nodes after each change: a node made, a field written, a sweep, a pause.
-use Rattle.std.proofs.Common.{◌≡◌, ℕ, ◌+◌, ◌-◌, ◌<◌, false, not, List, [], ◌∷◌, ◌++◌, length, map, replicate, refl, sym, ap, ◌∙◌, subst, inl, inr, arith}
+use Rattle.std.proofs.Common.{◌≡◌, ℕ, ◌+◌, ◌-◌, ◌<◌, ◌≤◌, false, not, List, [], ◌∷◌, ◌++◌, length, map, replicate, refl, sym, ap, ◌∙◌, subst, inl, inr, arith}
 use Rattle.std.specs.List.{All, Contains}
 use Rattle.std.proofs.lemmas.Bool.{cases_lt}
 use Rattle.std.proofs.lemmas.List.{length_push, length-map, length-replicate}
 use Rattle.std.proofs.lemmas.List.Elements.{All-weaker, Contains-push_cases}
 use Rattle.gc_graph.specs.declared.phase.Phase.{Phase}
 use Rattle.gc_graph.specs.declared.phase.Phase.TheVariants.{Idle, Marking, Sweeping}
+use Rattle.gc_graph.specs.declared.kind.Kind.{Kind}
 use Rattle.gc_graph.specs.declared.kind.Value.{Value}
 use Rattle.gc_graph.specs.declared.kind.Value.TheVariants.{Null, Ref, Word}
-use Rattle.gc_graph.specs.State.{Setup, Node, type_at, node_at, is_there, is_dead, size_of}
+use Rattle.gc_graph.specs.State.{Setup, ObjectType, Node, type_at, node_at, is_there, is_dead, size_of}
 use Rattle.gc_graph.specs.Fields.{field_words, new_node, size_of_type}
-use Rattle.marker_core.specs.Bodies.{with_word, holds}
+use Rattle.type_table.specs.Types.{kinds_of}
+use Rattle.marker_core.specs.Bodies.{kinds_of as step_kinds, with_word, holds, word_count}
 use Rattle.marker_core.specs.declared.states.Body.{Body}
+use Rattle.page_words.specs.Roles.{kind_lists, kinds_fit, word_count_is}
 use Rattle.page_words.specs.Seat.{SeatView, IsView, stored}
 use Rattle.gc_graph.specs.Placement.{extents_of}
-use Rattle.page_space.specs.Occupying.{Occupies, new_body}
+use Rattle.page_space.specs.Occupying.{Occupies, IsNewNumber, least_size, new_body}
 use Rattle.page_space.specs.Space.{extents_of_bodies}
 use Rattle.nodes_in_words.specs.Nodes.{place_of, word_of, body_of, bodies_of, IsThere, IsHeld}
 use Rattle.heap_objects.specs.Finalising.{HasMarks}
 use Rattle.nodes_in_words.specs.TypedNodes.{AreKnown, NamesBelow, new_words}
+use Rattle.nodes_in_words.specs.NodePlaces.{body_node}
 use Rattle.nodes_in_words.specs.NodeBodies.{bodies-push, extents-bodies}
 use Rattle.nodes_in_words.specs.NodeChanges.{AgreeOn, AgreeIn, bodies-places, bodies-same}
 use Rattle.heap_objects.specs.FieldNodes.{with_field, place-field, life-field}
@@ -44,6 +48,20 @@ body_is_new setup f k t extra place =
     let rest : count ≡ 2 + count - 2 = omega arith in
     ap (λ n. (let b : Body = record { place = place; ty = t; size = n; serial = k; fields = map (word_of f) x.object.values } in b)) size
     ∙ ap (λ ws. (let b : Body = record { place = place; ty = t; size = 2 + count; serial = k; fields = ws } in b)) (words ∙ ap (λ n. replicate n 0) rest)
+
+-- a size that the type tells has room for the type's fields
+pub room_for_fields : (setup : Setup) (v : SeatView) (t extra : ℕ) → v.types ≡ setup.types → least_size v t ≤ size_of_type setup t extra
+room_for_fields setup v t extra same =
+    let kinds : List Kind = step_kinds (kind_lists v.types) t in
+    let told : kinds ≡ (type_at setup t).kinds = kinds_fit v.types t ∙ ap (λ (types : List ObjectType). kinds_of types t) same in
+    let words : word_count kinds ≡ field_words (type_at setup t).kinds = word_count_is kinds ∙ ap field_words told in
+    omega (arith, words)
+
+-- the number after those of all nodes is no object's
+pub next_is_new : (nodes : List Node) (v : SeatView) → v.bodies ≡ bodies_of nodes → IsNewNumber v (length nodes)
+next_is_new nodes v held b there same =
+    let node = body_node nodes v b held there in
+    omega (arith, node.1, same, ap (λ (c : Body). c.serial) node.3)
 
 pub held_made : (setup : Setup) (nodes : List Node) (v new : SeatView) (t extra place : ℕ) → AreKnown setup nodes → holds v.dead place ≡ false → IsHeld nodes v
     → Occupies v new (new_body place t (size_of_type setup t extra) (length nodes)) → IsHeld (nodes ++ new_node setup t extra place ∷ []) new

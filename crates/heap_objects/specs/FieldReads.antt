@@ -13,7 +13,9 @@ use Rattle.gc_graph.specs.Fields.{word_of_field, target_of, is_reference, is_pla
 use Rattle.gc_graph.specs.Valid.{IsReferenceBelow, NamesLive}
 use Rattle.marker_core.specs.Bodies.{IsReference}
 use Rattle.marker_core.specs.declared.states.Body.{Body}
-use Rattle.page_words.specs.Bodies.{IsWhole}
+use Rattle.marker_core.specs.Matching.{IsWhole}
+use Rattle.page_words.specs.BodyPlaces.{whole_body}
+use Rattle.page_words.specs.Roles.{kind_lists}
 use Rattle.page_words.specs.Seat.{SeatView, IsWordAt, IsView}
 use Rattle.member_fields.specs.Words.{IsWordIn}
 use Rattle.heap_objects.specs.declared.field.Field.{Field}
@@ -156,7 +158,7 @@ reads_node nodes v x w held read other =
 pub head_address : (nodes : List Node) (v : SeatView) (x : Value) (w m : ℕ) → IsView v → NamesNode nodes v x w m → w < v.count
 head_address nodes v x w m view read =
     let b : Body = body_of (place_of nodes) m (node_at nodes m) in
-    let whole : IsWhole v.count b = All-contains (IsWhole v.count) v.bodies b view.whole read.body in
+    let whole : IsWhole v.count (kind_lists v.types) b = whole_body v view b read.body in
     omega (arith, whole.inside, read.word, whole.fields)
 
 -- a word that was read at a field is null, or one more than a place of the heap

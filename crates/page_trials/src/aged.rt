@@ -1,8 +1,9 @@
 // A heap in which the older objects are dead, and may be freed one at a time in any order.
 
-ghost use Rattle.std.specs.Prelude.{◌≡◌, ◌^◌, ◌<◌, ◌≤◌};
+ghost use Rattle.std.specs.Prelude.{◌≡◌, ◌^◌, ◌<◌, ◌≤◌, [], ◌∷◌, IfOk};
 ghost use Rattle.marker_core.specs.Bodies.{without};
 ghost use Rattle.gc_graph.specs.Shapes.{IsShape};
+ghost use Rattle.gc_graph.specs.State.{no_type};
 
 use crate::plain;
 use gc_graph::NoMemory;
@@ -11,7 +12,10 @@ use page_words::MutatorSeat;
 use std::alloc::Global;
 use std::marker::Model;
 use std::mem;
-use type_table::TypeTable;
+use type_table::{TypeDecl, TypeTable};
+
+/// The number of the first object.
+const FIRST_NUMBER: u32 = 7;
 
 /// A heap with the places of its objects, those of each kind in the order in which they were made.
 #[derive(Drop)]
@@ -20,10 +24,14 @@ pub struct Aged {
     seat: MutatorSeat,
     dead: Vec<u32>,
     young: Vec<u32>,
+    /// The number of the next object.
+    next: u32,
 }
 
 impl Model for Aged {
-    ghost use Rattle.std.specs.Prelude.{◌≡◌, ◌++◌, false, [], map};
+    ghost use Rattle.std.specs.Prelude.{◌≡◌, ◌<◌, ◌∷◌, ◌++◌, false, [], map, Contains};
+    ghost use Rattle.gc_graph.specs.State.{no_type};
+    ghost use Rattle.marker_core.specs.declared.states.Body.{Body};
     ghost use Rattle.page_words.specs.Seat.{SeatView};
     ghost use Rattle.page_space.specs.Space.{IsSpaceOf};
 
@@ -34,23 +42,23 @@ impl Model for Aged {
     ghost invariant = { λ h. IsSpaceOf h.space h.seat × (h.seat.on ≡ false)
         × (h.seat.marked ≡ []) × (h.seat.traced ≡ []) × (h.seat.dead ≡ h.dead.items)
         × (map (λ b. b.place) h.seat.bodies ≡ h.dead.items ++ h.young.items)
-        × (h.seat.types ≡ []) };
+        × (h.seat.types ≡ no_type ∷ no_type ∷ [])
+        × ((b : Body) → Contains h.seat.bodies b → b.serial < h.next) };
 }
 
 impl Aged {
-    /// Pages without objects. There are no types, so that each word after the head is an extra one.
+    /// Pages without objects. No type has fields, so each word after the head is an extra one.
     pub fn new(alloc: Global, pages: u32, page_words: u32) -> Result<Aged, NoMemory>
         requires { IsShape (record { pages = pages; page_words = page_words }) }
     {
-        let Ok(types) = TypeTable::new(alloc, Vec::new(alloc), 0) else {
-            return Err(NoMemory);
-        };
+        let types = two_types(alloc)?;
         let (space, seat) = Space::new(alloc, pages, page_words, &types)?;
         Ok(Aged {
             space,
             seat,
             dead: Vec::new(alloc),
             young: Vec::new(alloc),
+            next: FIRST_NUMBER,
         })
     }
 
@@ -127,10 +135,13 @@ impl Aged {
             Some(a) => a,
             None => self.space.find_empty(&mut self.seat, size)?,
         };
+        let number = self.next;
+        let next = number.checked_add(1)?;
         if self.young.push(place).is_err() {
             return None;
         }
-        self.space.occupy(&mut self.seat, place, 1, size, 7);
+        self.space.occupy(&mut self.seat, place, 1, size, number);
+        self.next = next;
         Some(place)
     }
 
@@ -166,6 +177,19 @@ impl Aged {
         leave_out(&mut self.young, place);
         Some(place)
     }
+}
+
+/// A table of two types without fields.
+fn two_types(alloc: Global) -> Result<TypeTable, NoMemory>
+    ensures { IfOk result (λ types. types ≡ no_type ∷ no_type ∷ []) }
+{
+    let mut types = Vec::new(alloc);
+    types.push(TypeDecl::new(Vec::new(alloc), Vec::new(alloc)))?;
+    types.push(TypeDecl::new(Vec::new(alloc), Vec::new(alloc)))?;
+    let Ok(types) = TypeTable::new(alloc, types, 0) else {
+        return Err(NoMemory);
+    };
+    Ok(types)
 }
 
 fn leave_out(places: &mut Vec<u32>, place: u32)

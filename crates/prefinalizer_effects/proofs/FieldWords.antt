@@ -3,7 +3,6 @@ use Rattle.std.proofs.Common.{◌≡◌, ℕ, ◌+◌, ◌-◌, ◌^◌, ◌<◌
 use Rattle.std.specs.Prelude.{MatchOption, IfSome}
 use Rattle.std.specs.List.{Contains}
 use Rattle.std.proofs.lemmas.Bool.{true≢false, cases_lt}
-use Rattle.std.proofs.lemmas.List.Elements.{All-contains}
 use Rattle.std.proofs.lemmas.List.{take_all, get_or_past}
 use Rattle.std.proofs.lemmas.List.Sums.{sum_by_more_le}
 use Rattle.gc_graph.specs.declared.kind.Kind.{Kind}
@@ -15,7 +14,10 @@ use Rattle.type_table.specs.Types.{kinds_of, kind_of, count_with, size_with, is_
 use Rattle.type_table.specs.FieldLaw.{FieldsStandApart}
 use Rattle.marker_core.specs.Bodies.{IsPlace, IsReference}
 use Rattle.marker_core.specs.declared.states.Body.{Body}
-use Rattle.page_words.specs.Bodies.{IsWhole, kind_in}
+use Rattle.marker_core.specs.Matching.{IsWhole}
+use Rattle.page_words.specs.Bodies.{kind_in}
+use Rattle.page_words.specs.BodyPlaces.{whole_body}
+use Rattle.page_words.specs.Roles.{kind_lists}
 use Rattle.page_words.specs.Seat.{SeatView, IsView}
 use Rattle.page_space.specs.Space.{header_in}
 use Rattle.member_fields.specs.Words.{HasWord, HasPair, IsWordIn}
@@ -111,12 +113,12 @@ size_told v types b header none same is size =
 -- the body has a word for each word of its declared fields
 pub long_fields : (v : SeatView) (b : Body) → IsView v → Contains v.bodies b → IsTyped v.types b → field_words (kinds_of v.types b.ty) ≤ length b.fields
 long_fields v b view there typed =
-    let whole : IsWhole v.count b = All-contains (IsWhole v.count) v.bodies b view.whole there in
+    let whole : IsWhole v.count (kind_lists v.types) b = whole_body v view b there in
     omega (arith, whole.fields, typed.whole)
 
 pub fields_inside : (v : SeatView) (b : Body) → IsView v → Contains v.bodies b → b.place + (2 + length b.fields) ≤ v.count
 fields_inside v b view there =
-    let whole : IsWhole v.count b = All-contains (IsWhole v.count) v.bodies b view.whole there in
+    let whole : IsWhole v.count (kind_lists v.types) b = whole_body v view b there in
     omega (arith, whole.fields, whole.inside)
 
 -- ---- what was found
@@ -159,7 +161,7 @@ link_reference v place word w links has is =
 pub reference_fits : (v : SeatView) (w : ℕ) → IsView v → IsReference v.bodies w → w ≤ 2 ^ 32
 reference_fits v w view (inl null) = omega arith
 reference_fits v w view (inr (b, there, at)) =
-    let whole : IsWhole v.count b = All-contains (IsWhole v.count) v.bodies b view.whole there in
+    let whole : IsWhole v.count (kind_lists v.types) b = whole_body v view b there in
     omega (arith, at, whole.fields, whole.inside, view.count)
 
 pub names_place : (bodies : List Body) (w : ℕ) (named : Option ℕ) → IsReference bodies w → MatchOption named (w ≡ 0) (λ p. w ≡ p + 1) → IfSome named (IsPlace bodies)

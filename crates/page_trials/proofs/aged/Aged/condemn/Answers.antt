@@ -1,14 +1,31 @@
-use Rattle.std.proofs.Common.{◌≡◌, ℕ, not, List, [], ◌∷◌, ◌++◌, refl, ap, sym, ◌∙◌, subst, map, filter, append-nil, arith}
+use Rattle.std.proofs.Common.{◌≡◌, ℕ, not, List, [], ◌∷◌, ◌++◌, refl, ap, sym, ◌∙◌, subst, map, filter, append-nil, arith, Contains, ◌<◌}
 use Rattle.std.proofs.lemmas.Grind.{common_steps}
 use Rattle.marker_core.specs.declared.states.Body.{Body}
 use Rattle.marker_core.specs.Bodies.{holds}
-use Rattle.page_words.specs.Seat.{SeatView, begun, ended}
+use Rattle.page_words.specs.Seat.{SeatView, IsMarkedOut, begun, ended}
 use Rattle.page_space.specs.Space.{IsSpaceOf}
+use Rattle.page_trials.proofs.NoFields.{no_pairs, marked_out}
 use Rattle.page_trials.proofs.aged.Aged.condemn.Goals as goal
 
 all_unmarked : (places : List ℕ) → filter (λ a. not (holds [] a)) places ≡ places
 all_unmarked [] = refl
 all_unmarked (a ∷ places) = ap (λ l. a ∷ l) (all_unmarked places)
+
+pub set_stop-requires-clause-allowed : goal.set_stop-requires-clause-allowed
+set_stop-requires-clause-allowed c =
+    let none : c.self.inside.dead.items ≡ [] = grind (arith, common_steps) in (
+      record {
+        off = c.self.invariant.1;
+        marked = c.self.invariant.2;
+        traced = c.self.invariant.3;
+        dead = c.self.invariant.4 ∙ none;
+      },
+      no_pairs c.self.inside.seat c.self.invariant.6,
+    )
+
+pub set_stop-2-requires-clause-allowed : goal.set_stop-2-requires-clause-allowed
+set_stop-2-requires-clause-allowed c =
+    subst IsMarkedOut (sym (c.load-stop.ensures.view ∙ c.set_stop.ensures)) (marked_out c.self.inside.seat c.self.invariant.2)
 
 pub invariant_of-self : goal.invariant_of-self
 invariant_of-self c =
@@ -23,4 +40,5 @@ invariant_of-self c =
       ap (λ (v : SeatView). v.dead) over ∙ ap (λ marked. filter (λ a. not (holds marked a)) (map (λ (b : Body). b.place) c.self.inside.seat.bodies)) c.self.invariant.2 ∙ all_unmarked _ ∙ places,
       ap (λ (v : SeatView). map (λ (b : Body). b.place) v.bodies) over ∙ places ∙ sym (append-nil c.swap.new.x.items) ∙ ap (λ l. c.swap.new.x.items ++ l) (sym left),
       ap (λ (v : SeatView). v.types) over ∙ c.self.invariant.6,
+      subst (λ (v : SeatView). (b : Body) → Contains v.bodies b → b.serial < c.self.inside.next) (sym over) c.self.invariant.7,
     )

@@ -1,13 +1,12 @@
-use Rattle.std.proofs.Common.{subst, ◌≡◌, ℕ, true, false, not, List, [], ◌∷◌, ◌++◌, refl, ap, sym, ◌∙◌, map, filter, eqb, cond, arith}
+use Rattle.std.proofs.Common.{subst, ◌≡◌, ◌<◌, ℕ, true, false, not, List, [], ◌∷◌, ◌++◌, refl, ap, sym, ◌∙◌, map, filter, eqb, cond, arith}
 use Rattle.std.proofs.lemmas.Grind.{common_steps}
 use Rattle.std.proofs.lemmas.List.Elements.{filter-append}
 use Rattle.std.specs.List.{Contains}
-use Rattle.std.proofs.lemmas.Bool.{true≢false}
-use Rattle.gc_graph.specs.State.{ObjectType}
 use Rattle.marker_core.specs.declared.states.Body.{Body}
-use Rattle.page_words.specs.Bodies.{is_reference_word}
 use Rattle.marker_core.specs.Bodies.{holds, without}
-use Rattle.page_words.specs.Seat.{SeatView, IsUnnamed, retracted}
+use Rattle.page_words.specs.Seat.{SeatView, retracted}
+use Rattle.gc_graph.specs.Members.{was_in}
+use Rattle.page_trials.proofs.NoFields.{nothing_named}
 use Rattle.page_trials.proofs.aged.Aged.free.Goals as goal
 
 places_without : (bodies : List Body) (a : ℕ) → map (λ (b : Body). b.place) (filter (λ b. not (eqb b.place a)) bodies) ≡ without (map (λ (b : Body). b.place) bodies) a
@@ -17,11 +16,6 @@ places_without (b ∷ bodies) a = elim (not (eqb b.place a)) as (λ t. map (λ (
       | true ↦ ap (λ l. b.place ∷ l) (places_without bodies a)
       | false ↦ places_without bodies a
     ]
-
--- where there are no types each word is plain
-nothing_named : (types : List ObjectType) (bodies : List Body) (dead : List ℕ) (a : ℕ) → types ≡ [] → IsUnnamed types bodies dead a
-nothing_named types bodies dead a none b i there alive low reference named =
-    true≢false (sym reference ∙ ap (λ (ts : List ObjectType). is_reference_word ts b i) none)
 
 pub header_at-size-requires-clause-start : goal.header_at-size-requires-clause-start
 header_at-size-requires-clause-start c =
@@ -36,7 +30,8 @@ free-requires-clause-size c =
 pub free-requires-clause-unnamed : goal.free-requires-clause-unnamed
 free-requires-clause-unnamed c =
     let w : SeatView = c.header_at-size.new.seat in
-    nothing_named w.types w.bodies w.dead c.index-place.result.now (ap (λ (v : SeatView). v.types) c.header_at-size.ensures.view ∙ c.self.invariant.6)
+    nothing_named w.types w.bodies w.dead c.index-place.result.now
+    (ap (λ (v : SeatView). v.types) c.header_at-size.ensures.view ∙ c.self.invariant.6)
 
 pub invariant_of-self : goal.invariant_of-self
 invariant_of-self c =
@@ -50,4 +45,6 @@ invariant_of-self c =
       ap (λ (v : SeatView). map (λ (b : Body). b.place) v.bodies) freed ∙ places_without c.self.inside.seat.bodies a ∙ ap (λ places. without places a) c.self.invariant.5
           ∙ filter-append (λ p. not (eqb p a)) c.self.inside.dead.items c.self.inside.young.items ∙ sym (ap (λ places. places ++ c.leave_out-2.new.places.items) c.leave_out.ensures ∙ ap (λ places. without c.self.inside.dead.items a ++ places) c.leave_out-2.ensures),
       ap (λ (v : SeatView). v.types) freed ∙ c.self.invariant.6,
+      subst (λ (v : SeatView). (b : Body) → Contains v.bodies b → b.serial < c.self.inside.next) (sym freed)
+          (λ b there. c.self.invariant.7 b (was_in (λ (d : Body). not (eqb d.place a)) c.self.inside.seat.bodies b there)),
     )
