@@ -91,11 +91,10 @@ module _ (v : SeatSide) (words : List ℕ) (markers : List MarkerView) (ok : IsC
       let role = role_at_hand v.types h in
       record {
         holder = (place_of_body bodies fits.body h.place fits.there fits.place, may.hands_in h (inl own));
-        target = λ t e.
-            (
-              (subst (λ (part : Part). PartFits bodies marks v.mutator.pending v.mutator.may role fits.body (h.next - 2) part) e fits.part).0,
-              may.loaded_in h t (inl own) e,
-            );
+        target = λ t e. (
+          (subst (λ (part : Part). PartFits bodies marks v.mutator.pending v.mutator.may role fits.body (h.next - 2) part) e fits.part).0,
+          may.loaded_in h t (inl own) e,
+        );
         key = λ k e. (subst (λ (part : Part). PartFits bodies marks v.mutator.pending v.mutator.may role fits.body (h.next - 2) part) e fits.part).0;
       }
 

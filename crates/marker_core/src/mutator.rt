@@ -45,7 +45,8 @@ fn wants_load(s: &CoreState, a: u32) -> bool
 /// A header that is loaded is looked at.
 pub fn look_at(s: &mut CoreState, a: u32) -> Result<(), NoMemory>
     ensures { OnOk result (s.new ≡ record s.old {
-        mutator = seat_looked (seat_of s.old) a (slice_index s.old.words a) }) }
+      mutator = seat_looked (seat_of s.old) a (slice_index s.old.words a);
+    }) }
 {
     let place = is_place(s.mutator.bodies.as_slice(), u64::from(a));
     let done = s.mutator.on && place && is_traced(s.words.as_slice(), a);
