@@ -1,1 +1,2 @@
 pub mod NoFields
+pub mod AgedHeaps

@@ -130,17 +130,17 @@ impl Aged {
         if size < 2 || size > 65536 {
             return None;
         }
+        let next = self.next.checked_add(1)?;
+        if self.young.reserve(1).is_err() {
+            return None;
+        }
         let pages = self.space.pages();
         let place = match self.space.find(&mut self.seat, size, 0, pages) {
             Some(a) => a,
             None => self.space.find_empty(&mut self.seat, size)?,
         };
-        let number = self.next;
-        let next = number.checked_add(1)?;
-        if self.young.push(place).is_err() {
-            return None;
-        }
-        self.space.occupy(&mut self.seat, place, 1, size, number);
+        self.space.occupy(&mut self.seat, place, 1, size, self.next);
+        self.young.push_reserved(place);
         self.next = next;
         Some(place)
     }

@@ -23,8 +23,8 @@ set_stop-requires-clause-allowed c =
       no_pairs c.self.inside.seat c.self.invariant.6,
     )
 
-pub set_stop-2-requires-clause-allowed : goal.set_stop-2-requires-clause-allowed
-set_stop-2-requires-clause-allowed c =
+pub set_stop-requires-2-clause-allowed : goal.set_stop-requires-2-clause-allowed
+set_stop-requires-2-clause-allowed c =
     subst IsMarkedOut (sym (c.load-stop.ensures.view ∙ c.set_stop.ensures)) (marked_out c.self.inside.seat c.self.invariant.2)
 
 pub invariant_of-self : goal.invariant_of-self
