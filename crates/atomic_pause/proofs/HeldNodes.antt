@@ -8,7 +8,8 @@ use Rattle.gc_graph.specs.Pause.{judged, condemn}
 use Rattle.gc_graph.specs.Members.{Contains-map, filtered_holds, holds_from}
 use Rattle.marker_core.specs.declared.states.Body.{Body}
 use Rattle.marker_core.specs.Bodies.{holds}
-use Rattle.page_words.specs.Seat.{SeatView, unmarked_places}
+use Rattle.marker_core.specs.SeatSteps.{unmarked_places}
+use Rattle.page_words.specs.Seat.{SeatView, side}
 use Rattle.nodes_in_words.specs.Places.{IsJudged, kept_of}
 use Rattle.nodes_in_words.specs.Nodes.{place_of, body_of, bodies_of, IsThere, IsHeld}
 use Rattle.nodes_in_words.specs.NodeChanges.{bodies-same, bodies-condemn}
@@ -19,7 +20,7 @@ use Rattle.atomic_pause.specs.Marking.{MarksReachable}
 
 -- ---- a pause
 
-pub dead_if_unmarked : (v : SeatView) (b : Body) → v.dead ≡ unmarked_places v → Contains v.bodies b → holds v.dead b.place ≡ not (holds v.marked b.place)
+pub dead_if_unmarked : (v : SeatView) (b : Body) → v.dead ≡ unmarked_places (side v) → Contains v.bodies b → holds v.dead b.place ≡ not (holds v.marked b.place)
 dead_if_unmarked v b is there =
     ap (λ l. holds l b.place) is ∙ filtered_holds (λ a. not (holds v.marked a)) (map (λ (c : Body). c.place) v.bodies) b.place
     ∙ ap (λ h. not (holds v.marked b.place) && h) (holds_from (map (λ (c : Body). c.place) v.bodies) b.place (Contains-map (λ (c : Body). c.place) v.bodies b there))

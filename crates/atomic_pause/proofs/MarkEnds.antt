@@ -33,22 +33,22 @@ count_none (b ∷ bodies) =
 
 -- ---- the end
 
-black_or_white : (types : List ObjectType) (v : SeatView) → IsView v → IsOver types v → (p : ℕ) → holds v.traced p ≡ holds v.marked p
-black_or_white types v view over p =
+black_or_white : (types : List ObjectType) (v : SeatView) → IsView v → v.lent ≡ 0 → IsOver types v → (p : ℕ) → holds v.traced p ≡ holds v.marked p
+black_or_white types v view alone over p =
     elim (cases_Bool (holds v.marked p)) [
       | inl marked ↦ over.no_grey p marked ∙ sym marked
       | inr white ↦ elim (cases_Bool (holds v.traced p)) [
-        | inl traced ↦ absurd (true≢false (sym (view.traced_are_marked p traced) ∙ white))
+        | inl traced ↦ absurd (true≢false (sym (view.traced_are_marked alone p traced) ∙ white))
         | inr not_traced ↦ not_traced ∙ sym white
       ]
     ]
 
 -- the fixpoint traced as many objects as are marked
-pub kept_are_counted : (types : List ObjectType) (w x y : SeatView) (n : ℕ) → w.traced ≡ [] → IsView x → IsOver types x → traced_count x ≡ traced_count w + n
+pub kept_are_counted : (types : List ObjectType) (w x y : SeatView) (n : ℕ) → w.traced ≡ [] → IsView x → x.lent ≡ 0 → IsOver types x → traced_count x ≡ traced_count w + n
     → y ≡ ended x → n ≡ marked_count y
-kept_are_counted types w x y n untraced view over counted ends =
+kept_are_counted types w x y n untraced view alone over counted ends =
     let none : traced_count w ≡ 0 = ap (λ ps. count_by (λ (b : Body). holds ps b.place) w.bodies) untraced ∙ count_none w.bodies in
-    let all : traced_count x ≡ marked_count x = count_agrees x.bodies (holds x.traced) (holds x.marked) (black_or_white types x view over) in
+    let all : traced_count x ≡ marked_count x = count_agrees x.bodies (holds x.traced) (holds x.marked) (black_or_white types x view alone over) in
     let last : marked_count y ≡ marked_count x = ap marked_count ends in
     omega (arith, counted, none, all, last)
 

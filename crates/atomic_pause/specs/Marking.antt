@@ -1,11 +1,14 @@
 -- How a pause marks the words: what its roots are, what it starts from and what it ends with.
-use Rattle.std.specs.Prelude.{◌≡◌, ◌⊎◌, ℕ, Bool, true, false, List, [], ◌∷◌, Option, Some, count_by, Contains}
+use Rattle.std.specs.Prelude.{◌≡◌, ◌⊎◌, ℕ, Bool, true, false, List, [], ◌∷◌, ◌++◌, filter, Option, Some, count_by, Contains}
+use Rattle.std.specs.List.{list_any}
 use Rattle.gc_graph.specs.Graph.{ClosesUnder}
 use Rattle.gc_graph.specs.State.{ObjectType}
 use Rattle.mark_worklist.specs.declared.marking.Marking.{Marking}
-use Rattle.marker_core.specs.Bodies.{IsPlace, holds}
+use Rattle.marker_core.specs.Bodies.{IsPlace, holds, has_word, places}
 use Rattle.marker_core.specs.declared.states.Body.{Body}
-use Rattle.page_words.specs.Seat.{SeatView, unmarked_places}
+use Rattle.marker_core.specs.SeatSteps.{unmarked_places}
+use Rattle.page_words.specs.Seat.{SeatView, IsAlone, side}
+use Rattle.persistent_slots.specs.Clearing.{taken}
 use Rattle.page_space.specs.Space.{HoldsAddress}
 use Rattle.ephemerons.specs.BodyGraph.{graph_in}
 use Rattle.ephemerons.specs.Notes.{NotesState, no_notes}
@@ -30,9 +33,20 @@ HoldsRoots test root = (p : ℕ) → root p → test p ≡ true
 abbrev pub marked_count : SeatView → ℕ
 marked_count v = count_by (λ b. holds v.marked b.place) v.bodies
 
--- marking has just begun: nothing is marked, traced, dead, listed or noted
+-- the places at which marking begins: those in the slots, and unless the pause is precise those of the bodies with a word at
+-- an address of the stack
+abbrev pub root_places : List (Option ℕ) → Bool → List Body → List ℕ → List ℕ
+root_places slots true bodies stack = taken slots
+root_places slots false bodies stack = taken slots ++ places (filter (λ b. list_any (λ a. has_word a b) stack) bodies)
+
+-- each root may be kept
+abbrev pub RootsMayBeKept : List (Option ℕ) → Bool → List ℕ → SeatView → Type 0
+RootsMayBeKept slots precise stack v = (p : ℕ) → IsRootPlace slots precise v.bodies stack p → holds v.may p ≡ true
+
+-- marking has just begun: nothing is marked, traced, dead, listed, noted or in hand
 pub record HasBegun (v : SeatView) (marking : Marking) (notes : List NotesState) : Type 0 where
   pub on : v.on ≡ true
+  pub alone : IsAlone v
   pub unmarked : v.marked ≡ []
   pub untraced : v.traced ≡ []
   pub none_dead : v.dead ≡ []
@@ -53,4 +67,4 @@ pub record MarksReachable (types : List ObjectType) (root : ℕ → Type 0) (old
   pub roots : HoldsRoots (holds new.marked) root
   pub closed : ClosesUnder (graph_in types new) (holds new.marked)
   pub least : (test : ℕ → Bool) → ClosesUnder (graph_in types new) test → HoldsRoots test root → (p : ℕ) → holds new.marked p ≡ true → test p ≡ true
-  pub dead : new.dead ≡ unmarked_places new
+  pub dead : new.dead ≡ unmarked_places (side new)

@@ -1,7 +1,7 @@
 // Weak clearing: what is weak and names an object that was not marked becomes null, before any
 // object goes.
 
-ghost use Rattle.std.specs.Prelude.{◌≡◌, All, map, not};
+ghost use Rattle.std.specs.Prelude.{◌≡◌, false, All, map, not};
 ghost use Rattle.gc_graph.specs.Pause.{clear_slot};
 ghost use Rattle.gc_graph.specs.declared.kind.Kind.TheVariants.{Pair};
 ghost use Rattle.marker_core.specs.Bodies.{IsPlace};
@@ -21,6 +21,7 @@ use weak_clearing::{clear_fields, clear_pairs, clear_slots};
 /// whose object is not, and the pairs whose key is not.
 pub fn clear_weak(space: &Space, types: &TypeTable, seat: &mut MutatorSeat, weak: &mut Slots)
     requires heap { IsSeatOf space.now seat.old }
+    requires off { seat.old.on ≡ false }
     requires types { types.now ≡ seat.old.types }
     requires references { MarkedHaveWeakReferences seat.old }
     requires pairs { MarkedHaveReferencesOf Pair seat.old }

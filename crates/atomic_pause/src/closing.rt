@@ -5,6 +5,7 @@ ghost use Rattle.std.specs.Prelude.{◌≡◌, ◌<◌, ℕ, true, false, [], �
 ghost use Rattle.mark_worklist.specs.Refusals.{TellsRefused, refusals_of};
 ghost use Rattle.marker_core.specs.Bodies.{IsPlace};
 ghost use Rattle.marker_core.specs.Bodies.{holds};
+ghost use Rattle.page_words.specs.Seat.{IsAlone};
 ghost use Rattle.page_space.specs.Space.{IsSeatOf};
 ghost use Rattle.ephemerons.specs.BodyGraph.{AreReferences, PlacesDiffer};
 ghost use Rattle.ephemerons.specs.Fixpoint.{IsUnrefused};
@@ -29,6 +30,7 @@ pub fn close(
 ) -> u32
     requires heap { IsSeatOf space.now seat.old }
     requires on { seat.old.on ≡ true }
+    requires alone { IsAlone seat.old }
     requires types { types.now ≡ seat.old.types }
     requires references { AreReferences types.now seat.old.bodies }
     requires differ { PlacesDiffer seat.old.bodies }

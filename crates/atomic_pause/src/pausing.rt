@@ -15,7 +15,7 @@ ghost use Rattle.ephemerons.specs.Fixpoint.{IsUnrefused};
 ghost use Rattle.nodes_in_words.specs.Nodes.{AreOfValid, IsHeld};
 ghost use Rattle.nodes_in_words.specs.Places.{places_of};
 ghost use Rattle.prefinalizer_effects.specs.Prepared.{setup_of, IsPrepared};
-ghost use Rattle.atomic_pause.specs.Marking.{HasBegun};
+ghost use Rattle.atomic_pause.specs.Marking.{HasBegun, RootsMayBeKept};
 ghost use Rattle.atomic_pause.specs.Pausing.{NamePlaces, hits_in, IsPaused};
 ghost use Rattle.atomic_pause.specs.Left.{seat_left, nodes_left, marking_left, notes_left};
 ghost use Rattle.atomic_pause.specs.Left.{weak_left, registry_left};
@@ -41,6 +41,7 @@ pub fn pause(parts: Parts, stack: &[u64], precise: bool) -> PauseResult
     requires held { IsHeld parts.nodes.now.value parts.seat.now }
     requires few { length parts.nodes.now.value ≤ 1000000 }
     requires begun { HasBegun parts.seat.now parts.marking.now parts.notes.now }
+    requires may { RootsMayBeKept parts.strong.now precise stack.now parts.seat.now }
     requires strong { All (λ slot. ForSome slot (IsPlace parts.seat.now.bodies)) parts.strong.now }
     requires weak { All (IsPlace parts.seat.now.bodies) (taken parts.weak.now) }
     requires registered { All (IsRegistered parts.nodes.now.value

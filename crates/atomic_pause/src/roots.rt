@@ -18,7 +18,9 @@ use persistent_slots::Slots;
 pub fn visit_slots(words: &Words, seat: &mut MutatorSeat, marking: &mut Marking, slots: &Slots)
     requires heap { seat.old.count ≡ words.now }
     requires on { seat.old.on ≡ true }
+    requires alone { seat.old.lent ≡ 0 }
     requires slots { All (λ slot. ForSome slot (IsPlace seat.old.bodies)) slots.now }
+    requires may { (p : ℕ) → Contains slots.now (Some p) → holds seat.old.may p ≡ true }
     ensures marks { ListsMarks seat.old marking.old seat.new marking.new }
     ensures roots { (p : ℕ) → Contains slots.now (Some p) → holds seat.new.marked p ≡ true }
     ensures only { (p : ℕ) → holds seat.new.marked p ≡ true
@@ -32,7 +34,9 @@ pub fn visit_slots(words: &Words, seat: &mut MutatorSeat, marking: &mut Marking,
 fn visit_slot(words: &Words, seat: &mut MutatorSeat, marking: &mut Marking, slot: Option<u32>)
     requires heap { seat.old.count ≡ words.now }
     requires on { seat.old.on ≡ true }
+    requires alone { seat.old.lent ≡ 0 }
     requires slot { ForSome slot (IsPlace seat.old.bodies) }
+    requires may { (p : ℕ) → slot ≡ Some p → holds seat.old.may p ≡ true }
     ensures marks { ListsMarks seat.old marking.old seat.new marking.new }
     ensures root { (p : ℕ) → slot ≡ Some p → holds seat.new.marked p ≡ true }
     ensures only { (p : ℕ) → holds seat.new.marked p ≡ true
@@ -54,6 +58,9 @@ pub fn scan_stack(
 )
     requires space { IsSpaceOf space.now seat.old }
     requires on { seat.old.on ≡ true }
+    requires alone { seat.old.lent ≡ 0 }
+    requires may { (p : ℕ) → IsScanned precise seat.old.bodies stack.now p
+        → holds seat.old.may p ≡ true }
     ensures marks { ListsMarks seat.old marking.old seat.new marking.new }
     ensures roots { (p : ℕ) → IsScanned precise seat.old.bodies stack.now p
         → holds seat.new.marked p ≡ true }
@@ -68,6 +75,8 @@ pub fn scan_stack(
 fn scan_words(space: &Space, seat: &mut MutatorSeat, marking: &mut Marking, stack: &[u64])
     requires space { IsSpaceOf space.now seat.old }
     requires on { seat.old.on ≡ true }
+    requires alone { seat.old.lent ≡ 0 }
+    requires may { (p : ℕ) → IsHitPlace seat.old.bodies stack.now p → holds seat.old.may p ≡ true }
     ensures marks { ListsMarks seat.old marking.old seat.new marking.new }
     ensures roots { (p : ℕ) → IsHitPlace seat.old.bodies stack.now p
         → holds seat.new.marked p ≡ true }
@@ -82,6 +91,8 @@ fn scan_words(space: &Space, seat: &mut MutatorSeat, marking: &mut Marking, stac
 fn scan_word(space: &Space, seat: &mut MutatorSeat, marking: &mut Marking, word: u64)
     requires space { IsSpaceOf space.now seat.old }
     requires on { seat.old.on ≡ true }
+    requires alone { seat.old.lent ≡ 0 }
+    requires may { (p : ℕ) → HoldsAddress seat.old.bodies word p → holds seat.old.may p ≡ true }
     ensures marks { ListsMarks seat.old marking.old seat.new marking.new }
     ensures root { (p : ℕ) → HoldsAddress seat.old.bodies word p → holds seat.new.marked p ≡ true }
     ensures only { (p : ℕ) → holds seat.new.marked p ≡ true

@@ -1,4 +1,4 @@
--- Marks with one object in hand, which counts as listed.
+-- Marks with one object that is held back from the list, and counts as listed.
 use Rattle.std.proofs.Common.{◌≡◌, ℕ, ◌<◌, true, false, List, [], ◌∷◌, ◌++◌, Option, Some, None, refl, sym, ap, ◌∙◌, subst, inl, inr, arith}
 use Rattle.std.specs.Prelude.{MatchOption, IfSome, IfNone}
 use Rattle.std.specs.Option.{is_some}
@@ -12,6 +12,7 @@ use Rattle.mark_worklist.specs.Refusals.{Refusals, refusals_of}
 use Rattle.mark_worklist.specs.declared.marking.Marking.{Marking}
 use Rattle.marker_core.specs.Bodies.{IsPlace}
 use Rattle.page_words.specs.Seat.{SeatView}
+use Rattle.ephemerons.specs.Marking.{heap_and_marks}
 use Rattle.ephemerons.specs.Notes.{NotesState}
 use Rattle.ephemerons.specs.Fixpoint.{Stage, stage, weight, IsGround, Works, ListsMarks, IsListed, IsStillHeld, weight_of, with_held}
 use Rattle.mark_worklist.specs.Told.{told_same}
@@ -23,6 +24,9 @@ no_marking = record { on = false; overflow = false; list = no_items }
 pub ListsMarks-same : (v : SeatView) (m : Marking) → ListsMarks v m v m
 ListsMarks-same v m = record {
   view = refl;
+  traced = refl;
+  no_hand = λ none. none;
+  no_pending = λ none. none;
   marked = λ p h. h;
   on = refl;
   overflow = λ fine. fine;
@@ -33,8 +37,8 @@ ListsMarks-same v m = record {
   lighter = omega arith;
 }
 
-pub in_hand : (m : Marking) (a : ℕ) → IsListed m (with_held (Some a) m) a
-in_hand m a = record {
+pub held_back : (m : Marking) (a : ℕ) → IsListed m (with_held (Some a) m) a
+held_back m a = record {
   on = refl;
   overflow = λ fine. fine;
   told = told_same (refusals_of m);
@@ -44,7 +48,7 @@ in_hand m a = record {
   length = omega (arith, length_push m.list.items a);
 }
 
--- an object was marked, or none, and what is in hand then is listed
+-- an object was marked, or none, and what was held back is listed
 pub fresh_listed : (v w : SeatView) (m n : Marking) (fresh : Option ℕ) → ((k : Marking) → ListsMarks v k w (with_held fresh k))
     → MatchOption fresh (n ≡ m) (IsListed m n) → ListsMarks v m w n
 fresh_listed v w m n None marks same = subst (ListsMarks v m w) (sym same) (marks m)
@@ -52,6 +56,9 @@ fresh_listed v w m n (Some a) marks listed =
     let x : ListsMarks v m w (with_held (Some a) m) = marks m in
     record {
       view = x.view;
+      traced = x.traced;
+      no_hand = x.no_hand;
+      no_pending = x.no_pending;
       marked = x.marked;
       on = listed.on;
       overflow = listed.overflow;
@@ -76,12 +83,12 @@ pub fresh_lighter : (v w : SeatView) (m n : Marking) (fresh : Option ℕ) → ((
 fresh_lighter v w m n None less same found = absurd (true≢false (sym found))
 fresh_lighter v w m n (Some a) less listed found = omega (arith, less m, listed.length, length_push m.list.items a)
 
-pub fresh_still : (v w : SeatView) (m n : Marking) (fresh : Option ℕ) → IfNone fresh (w ≡ v) → MatchOption fresh (n ≡ m) (IsListed m n)
-    → is_some fresh ≡ false → (w ≡ v) × (n ≡ m)
+pub fresh_still : (v w : SeatView) (m n : Marking) (fresh : Option ℕ) → IfNone fresh (heap_and_marks w ≡ heap_and_marks v)
+    → MatchOption fresh (n ≡ m) (IsListed m n) → is_some fresh ≡ false → (heap_and_marks w ≡ heap_and_marks v) × (n ≡ m)
 fresh_still v w m n None still same none = (still, same)
 fresh_still v w m n (Some a) still listed none = absurd (true≢false none)
 
--- where list and hand have what they had, the stage is as it was
+-- where the list and what is held back have what they had, the stage is as it was
 pub still_stage : (m n : Marking) (old new : Option ℕ) → IsStillHeld m old n new → (v : SeatView) (groups : List NotesState) (t : ℕ)
     → stage v (with_held new n) groups t ≡ stage v (with_held old m) groups t
 still_stage m n old new x v groups t =
@@ -89,16 +96,18 @@ still_stage m n old new x v groups t =
     ∙ ap (λ on. record { view = v; on = on; refusals = refusals_of (with_held new n); list = (with_held old m).list.items; groups = groups; traced = t }) x.on
     ∙ ap (λ (r : Refusals). record { view = v; on = (with_held old m).on; refusals = r; list = (with_held old m).list.items; groups = groups; traced = t }) x.refusals
 
--- the object in hand is the next one
+-- the object that was held back is the next one
 pub held_works : (types : List ObjectType) (v : SeatView) (m : Marking) (groups : List NotesState) (t a : ℕ) (after : Stage)
     → Works types (Some a) (stage v m groups t) after → Works types None (stage v (with_held (Some a) m) groups t) after
 held_works types v m groups t a after x = Works-popped types (stage v (with_held (Some a) m) groups t) after m.list.items a m.list.refused refl refl x
 
--- what holds at a stage holds without the object in hand
+-- what holds at a stage holds without the object that is held back
 pub held_ground : (types : List ObjectType) (v : SeatView) (m : Marking) (groups : List NotesState) (t a : ℕ)
     → IsGround types (stage v (with_held (Some a) m) groups t) → IsGround types (stage v m groups t)
 held_ground types v m groups t a x = record {
   on = x.on;
+  known = x.known;
+  alone = x.alone;
   references = x.references;
   traced_name_marked = x.traced_name_marked;
   listed = λ p h. x.listed p (Contains-append_left m.list.items (a ∷ []) p h);

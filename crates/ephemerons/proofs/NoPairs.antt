@@ -1,11 +1,20 @@
--- Where no type has a pair, no pair is noted.
-use Rattle.std.proofs.Common.{◌≡◌, ℕ, ◌<◌, List, length, set, subst, inl, arith}
+-- Where no type has a pair, no pair is noted, and tracing reads the strong fields alone.
+use Rattle.std.proofs.Common.{◌≡◌, ℕ, ◌<◌, List, [], length, set, sym, ap, ◌∙◌, subst, inl, arith}
 use Rattle.std.specs.List.{Contains}
 use Rattle.std.proofs.lemmas.List.{set-get_or}
 use Rattle.gc_graph.specs.State.{ObjectType}
+use Rattle.gc_graph.specs.declared.kind.Kind.{Kind}
+use Rattle.gc_graph.specs.declared.kind.Kind.TheVariants.{Strong, Pair}
+use Rattle.type_table.specs.Types.{kinds_of as kinds_in, offsets_of_kind}
+use Rattle.type_table.specs.TracedWords.{traced_words_of}
+use Rattle.type_table.specs.TracedLaws.{strong_told, pairs_told, all_strong}
 use Rattle.marker_core.specs.declared.states.Body.{Body}
-use Rattle.page_words.specs.Seat.{SeatView}
-use Rattle.ephemerons.specs.BodyGraph.{AreReferences, HaveNoPairs}
+use Rattle.marker_core.specs.Hands.{traced_offsets}
+use Rattle.page_words.specs.BodyPlaces.{known_type}
+use Rattle.page_words.specs.Roles.{kinds_fit, traced_fit}
+use Rattle.page_words.specs.Seat.{SeatView, IsView}
+use Rattle.ephemerons.specs.BodyGraph.{AreReferences, HasType, HaveNoPairs}
+use Rattle.ephemerons.specs.InHand.{traced_in}
 use Rattle.ephemerons.specs.declared.notes.Note.{Note}
 use Rattle.ephemerons.specs.Notes.{NotesState, NotesGrow, HasPairsNoted, group_at, no_notes}
 
@@ -20,3 +29,14 @@ none_noted types v w place have none same is_noted offset b k x there at told ke
 
 pub same_groups : (groups : List NotesState) → 0 < length groups → set groups 0 (group_at groups 0) ≡ groups
 same_groups groups own = set-get_or groups 0 no_notes
+
+strong_alone : (kinds : List Kind) → offsets_of_kind Pair kinds ≡ [] → offsets_of_kind Strong kinds ≡ traced_offsets 2 kinds
+strong_alone kinds none =
+    strong_told kinds ∙ sym (all_strong (traced_words_of kinds) (sym (pairs_told kinds) ∙ none)) ∙ traced_fit 2 kinds
+
+-- the strong fields of an object's type are all that the hand comes to
+pub all_traced : (types : List ObjectType) (v : SeatView) (place ty : ℕ) (told : List ℕ) → IsView v → v.types ≡ types → HaveNoPairs types
+    → HasType v.bodies place ty → told ≡ offsets_of_kind Strong (kinds_in types ty) → traced_in v.types ty ≡ told
+all_traced types v place ty told view known none has is =
+    let low : ty < length types = omega (arith, known_type v view has.0 has.1, has.3, ap length known) in
+    ap (λ ts. traced_in ts ty) known ∙ ap (traced_offsets 2) (kinds_fit types ty) ∙ sym (strong_alone (kinds_in types ty) (none ty low)) ∙ sym is

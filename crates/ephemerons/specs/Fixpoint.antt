@@ -7,10 +7,10 @@ use Rattle.mark_worklist.specs.Refusals.{Refusals, TellsRefused, refusals_of}
 use Rattle.mark_worklist.specs.declared.marking.Marking.{Marking}
 use Rattle.marker_core.specs.Bodies.{IsPlace, holds}
 use Rattle.marker_core.specs.declared.states.Body.{Body}
-use Rattle.page_words.specs.Seat.{SeatView}
+use Rattle.page_words.specs.Seat.{SeatView, IsAlone}
 use Rattle.ephemerons.specs.declared.notes.Note.{Note}
 use Rattle.ephemerons.specs.BodyGraph.{PlacesDiffer, AreReferences, pair_offsets, word_at}
-use Rattle.ephemerons.specs.Marking.{MarksOn, GrowsWithin, TracedNameMarked, traced_count}
+use Rattle.ephemerons.specs.Marking.{heap_and_marks, heap_alone, MarksOn, GrowsWithin, TracedNameMarked, traced_count}
 use Rattle.ephemerons.specs.Notes.{NotesState, group_at, IsNotedIn, IsNote, HasPairsNoted, note_of}
 
 -- how many addresses are not marked
@@ -51,6 +51,8 @@ pub record IsUnrefused (overflow : Bool) (groups : List NotesState) : Type 0 whe
 -- what holds at each stage
 pub record IsGround (types : List ObjectType) (s : Stage) : Type 0 where
   pub on : s.view.on ≡ true
+  pub known : s.view.types ≡ types
+  pub alone : IsAlone s.view
   pub references : AreReferences types s.view.bodies
   pub traced_name_marked : TracedNameMarked types s.view
   pub listed : (p : ℕ) → Contains s.list p → IsPlace s.view.bodies p
@@ -58,12 +60,12 @@ pub record IsGround (types : List ObjectType) (s : Stage) : Type 0 where
   pub own : 0 < length s.groups
   pub few : s.traced + untraced_places s.view < 2 ^ 32
 
--- each grey object but the one in hand is listed or noted, and each pair of a traced object has a marked or null value or
--- a null key, or is noted
-pub record IsAccounted (types : List ObjectType) (hand : Option ℕ) (v : SeatView) (list : List ℕ) (groups : List NotesState) : Type 0 where
+-- each grey object but the one that was taken from the list is listed or noted, and each pair of a traced object has a
+-- marked or null value or a null key, or is noted
+pub record IsAccounted (types : List ObjectType) (taken : Option ℕ) (v : SeatView) (list : List ℕ) (groups : List NotesState) : Type 0 where
   pub grey :
       (p : ℕ) → holds v.marked p ≡ true → holds v.traced p ≡ false
-      → (hand ≡ Some p) ⊎ (Contains list p ⊎ IsNotedIn groups (note_of p 0))
+      → (taken ≡ Some p) ⊎ (Contains list p ⊎ IsNotedIn groups (note_of p 0))
   pub pairs : (p : ℕ) → holds v.traced p ≡ true → HasPairsNoted types v p (IsNotedIn groups)
 
 -- the note asks for no more work: the object is traced if it is marked; and if holder and key are marked, so is the value
@@ -90,7 +92,10 @@ pub record IsListed (before after : Marking) (place : ℕ) : Type 0 where
 
 -- objects were marked, and each of them is listed unless a push was refused
 pub record ListsMarks (old : SeatView) (before : Marking) (new : SeatView) (after : Marking) : Type 0 where
-  pub view : new ≡ record old { mutator = record old.mutator { marked = new.marked } }
+  pub view : heap_alone new ≡ heap_alone old
+  pub traced : new.traced ≡ old.traced
+  pub no_hand : old.hand ≡ None → new.hand ≡ None
+  pub no_pending : old.pending ≡ None → new.pending ≡ None
   pub marked : (p : ℕ) → holds old.marked p ≡ true → holds new.marked p ≡ true
   pub on : after.on ≡ before.on
   pub overflow : after.overflow ≡ false → before.overflow ≡ false
@@ -101,20 +106,20 @@ pub record ListsMarks (old : SeatView) (before : Marking) (new : SeatView) (afte
       after.overflow ≡ false → (p : ℕ) → holds new.marked p ≡ true → (holds old.marked p ≡ true) ⊎ Contains after.list.items p
   pub lighter : weight_of new after ≤ weight_of old before
 
--- the marking state, with the object in hand at the end of its list
+-- the marking state, with the object that is held back from its list at the end of it
 abbrev pub with_held : Option ℕ → Marking → Marking
 with_held None m = m
 with_held (Some p) m = record m { list = record m.list { items = m.list.items ++ p ∷ [] } }
 
--- list and hand together have what they had
+-- the list and what is held back from it have together what they had
 pub record IsStillHeld (before : Marking) (old : Option ℕ) (after : Marking) (new : Option ℕ) : Type 0 where
   pub items : (with_held new after).list.items ≡ (with_held old before).list.items
   pub on : (with_held new after).on ≡ (with_held old before).on
   pub refusals : refusals_of (with_held new after) ≡ refusals_of (with_held old before)
 
 -- from one stage to a later one: more may be marked, traced and noted, and what was accounted for still is, with the
--- object in hand, unless a push or note was refused
-pub record Works (types : List ObjectType) (hand : Option ℕ) (old new : Stage) : Type 0 where
+-- object that was taken from the list, unless a push or note was refused
+pub record Works (types : List ObjectType) (taken : Option ℕ) (old new : Stage) : Type 0 where
   pub kept : MarksOn old.view new.view
   pub within : GrowsWithin types old.view new.view
   pub on : new.on ≡ old.on
@@ -123,17 +128,21 @@ pub record Works (types : List ObjectType) (hand : Option ℕ) (old new : Stage)
   pub many : length new.groups ≡ length old.groups
   pub noted : (note : Note) → IsNotedIn old.groups note → IsNotedIn new.groups note
   pub accounted :
-      IsUnrefused new.refusals.told new.groups → IsAccounted types hand old.view old.list old.groups
+      IsUnrefused new.refusals.told new.groups → IsAccounted types taken old.view old.list old.groups
       → IsAccounted types None new.view new.list new.groups
   pub lighter : weight new ≤ weight old
   pub fewer : new.traced + untraced_places new.view ≤ old.traced + untraced_places old.view
   pub counted : PlacesDiffer old.view.bodies → traced_count new.view + old.traced ≡ traced_count old.view + new.traced
 
+-- the stage without what was only seen or looked at
+abbrev pub without_looks : Stage → Stage
+without_looks s = record s { view = heap_and_marks s.view }
+
 -- work was found and done, and there is less to do; or none was found, and all is as before
-pub record Looks (types : List ObjectType) (hand : Option ℕ) (old new : Stage) (found : Bool) : Type 0 where
-  pub works : Works types hand old new
+pub record Looks (types : List ObjectType) (taken : Option ℕ) (old new : Stage) (found : Bool) : Type 0 where
+  pub works : Works types taken old new
   pub lighter : found ≡ true → weight new < weight old
-  pub still : found ≡ false → new ≡ old
+  pub still : found ≡ false → without_looks new ≡ without_looks old
 
 -- the object at the place asks for no more work, and none of its pairs does
 abbrev pub IsSettledAt : List ObjectType → SeatView → ℕ → Type 0

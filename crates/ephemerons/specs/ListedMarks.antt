@@ -1,15 +1,18 @@
--- What was marked and listed in two goes was in one.
+-- What was marked and listed in two goes was in one; and whoever was alone still is.
 use Rattle.std.proofs.Common.{ap, ◌∙◌, subst, inl, inr, arith}
 use Rattle.mark_worklist.specs.Refusals.{refusals_of}
 use Rattle.mark_worklist.specs.Told.{told_then}
 use Rattle.mark_worklist.specs.declared.marking.Marking.{Marking}
 use Rattle.marker_core.specs.Bodies.{IsPlace}
-use Rattle.page_words.specs.Seat.{SeatView}
+use Rattle.page_words.specs.Seat.{SeatView, IsAlone}
 use Rattle.ephemerons.specs.Fixpoint.{ListsMarks}
 
 pub ListsMarks-then : (u v w : SeatView) (l m n : Marking) → ListsMarks u l v m → ListsMarks v m w n → ListsMarks u l w n
 ListsMarks-then u v w l m n x y = record {
-  view = y.view ∙ ap (λ (z : SeatView). record z { mutator = record z.mutator { marked = w.marked } }) x.view;
+  view = y.view ∙ x.view;
+  traced = y.traced ∙ x.traced;
+  no_hand = λ none. y.no_hand (x.no_hand none);
+  no_pending = λ none. y.no_pending (x.no_pending none);
   marked = λ p h. y.marked p (x.marked p h);
   on = y.on ∙ x.on;
   overflow = λ h. x.overflow (y.overflow h);
@@ -24,4 +27,11 @@ ListsMarks-then u v w l m n x y = record {
     | inr there ↦ inr there
   ];
   lighter = omega (arith, x.lighter, y.lighter);
+}
+
+pub alone_still : (u v : SeatView) (l m : Marking) → ListsMarks u l v m → IsAlone u → IsAlone v
+alone_still u v l m x alone = record {
+  no_hand = x.no_hand alone.no_hand;
+  no_pending = x.no_pending alone.no_pending;
+  none_lent = ap (λ (z : SeatView). z.lent) x.view ∙ alone.none_lent;
 }

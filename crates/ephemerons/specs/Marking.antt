@@ -1,5 +1,5 @@
 -- What marking may change, what it may mark, and how it ends.
-use Rattle.std.specs.Prelude.{◌≡◌, ℕ, ◌+◌, Bool, true, List, Contains, count_by}
+use Rattle.std.specs.Prelude.{◌≡◌, ℕ, ◌+◌, Bool, true, List, [], None, Contains, count_by}
 use Rattle.gc_graph.specs.Graph.{ClosesUnder}
 use Rattle.gc_graph.specs.State.{ObjectType}
 use Rattle.marker_core.specs.declared.states.Body.{Body}
@@ -9,7 +9,17 @@ use Rattle.page_words.specs.Roles.{kind_lists}
 use Rattle.page_words.specs.Seat.{SeatView}
 use Rattle.ephemerons.specs.BodyGraph.{graph_in, strong_offsets, word_at}
 
--- the bodies and all else but marks are as before, and what was marked or traced still is
+-- the heap and its marks: the view without what was seen, looked at or noted, is in hand or waits for its mark
+abbrev pub heap_and_marks : SeatView → SeatView
+heap_and_marks v = record v {
+  mutator = record v.mutator { pending = None; seen = []; noted = []; hand = None; looked = []; done = []; missed = [] };
+}
+
+-- the heap alone: the same without marks and traced bits
+abbrev pub heap_alone : SeatView → SeatView
+heap_alone v = record v { mutator = record (heap_and_marks v).mutator { marked = []; traced = [] } }
+
+-- the bodies and what may be kept are as before, and what was marked or traced still is
 pub record MarksOn (old new : SeatView) : Type 0 where
   pub count : new.count ≡ old.count
   pub types : new.types ≡ old.types
@@ -17,6 +27,8 @@ pub record MarksOn (old new : SeatView) : Type 0 where
   pub bodies : new.bodies ≡ old.bodies
   pub filled : new.filled ≡ old.filled
   pub dead : new.dead ≡ old.dead
+  pub may : new.may ≡ old.may
+  pub lent : new.lent ≡ old.lent
   pub marked : (p : ℕ) → holds old.marked p ≡ true → holds new.marked p ≡ true
   pub traced : (p : ℕ) → holds old.traced p ≡ true → holds new.traced p ≡ true
 

@@ -4,6 +4,7 @@ ghost use Rattle.std.specs.Prelude.{◌≡◌, ◌⊎◌, ℕ, ◌+◌, ◌<◌,
 ghost use Rattle.std.specs.Prelude.{length};
 ghost use Rattle.mark_worklist.specs.Refusals.{TellsRefused, refusals_of};
 ghost use Rattle.marker_core.specs.Bodies.{IsPlace};
+ghost use Rattle.page_words.specs.Seat.{IsAlone};
 ghost use Rattle.page_space.specs.Space.{IsSeatOf};
 ghost use Rattle.ephemerons.specs.declared.notes.Note.{Note};
 ghost use Rattle.ephemerons.specs.BodyGraph.{PlacesDiffer, AreReferences};
@@ -36,6 +37,8 @@ pub fn fixpoint(
 ) -> u32
     requires heap { IsSeatOf space.now seat.old }
     requires on { seat.old.on ≡ true }
+    requires types { types.now ≡ seat.old.types }
+    requires alone { IsAlone seat.old }
     requires references { AreReferences types.now seat.old.bodies }
     requires traced { TracedNameMarked types.now seat.old }
     requires listed { (p : ℕ) → Contains marking.old.list.items p → IsPlace seat.old.bodies p }
@@ -47,6 +50,7 @@ pub fn fixpoint(
         → IsOver types.now seat.new }
     ensures within { GrowsWithin types.now seat.old seat.new }
     ensures kept { MarksOn seat.old seat.new }
+    ensures alone { IsAlone seat.new }
     ensures counted { PlacesDiffer seat.old.bodies
         → traced_count seat.new ≡ traced_count seat.old + result }
     ensures list { marking.new.list.items ≡ [] }

@@ -4,12 +4,18 @@
 //! names; a pair marks its value once its key is marked (`include/cppgc/ephemeron-pair.h`).
 //!
 //! The parts: `Pairs` (notes of pairs whose key was not marked yet, and of objects that may still
-//! have to be traced), `mark` (one object, as a root does it), `trace` (one object that was claimed),
-//! `fixpoint` (all that is marked, until nothing asks for more). The next level down is `page_words`.
+//! have to be traced), `mark` (one object, as a root does it), `trace` (one object that was
+//! claimed), `fixpoint` (all that is marked, until nothing asks for more). Below is `page_words`.
+//!
+//! An object is claimed, and traced to its end before the next one is. Meanwhile it is in the step
+//! machine's hand: its strong fields and pairs are read in the order of their offsets, and what a
+//! strong field or a value names is marked by a call each time, marked before or not.
 //!
 //! What is proved: `fixpoint` ends with a closed marked set in which nothing is grey, and marks
 //! nothing but what each closed set holds that holds what was marked before; its answer is how many
 //! objects it traced. Neither needs memory: where a push or a note is refused, the heap is walked.
+//! It asks that no view is lent, nothing is in hand and nothing waits for its mark, and leaves that
+//! so. What is marked is something that the cycle may keep.
 //!
 //! What is only tested or not said: how long it takes. That the tree over keys tells all notes of a
 //! key is tested in `part_tests`.
@@ -19,6 +25,7 @@ mod closing;
 mod draining;
 mod marks;
 mod notes;
+mod pair_fields;
 mod settling;
 mod strong_fields;
 mod tracing;

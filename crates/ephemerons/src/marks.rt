@@ -1,26 +1,31 @@
 // Marks of objects, and the words of their fields.
 
-ghost use Rattle.std.specs.Prelude.{◌≡◌, ◌⊎◌, ℕ, ◌+◌, ◌-◌, ◌<◌, ◌≤◌, true, false, length};
+ghost use Rattle.std.specs.Prelude.{◌≡◌, ◌⊎◌, ℕ, ◌<◌, true, false};
 ghost use Rattle.std.specs.Prelude.{Contains, MatchOption, Some, IfSome, IfNone};
 ghost use Rattle.mark_worklist.specs.declared.marking.Marking.{Marking};
-ghost use Rattle.object_headers.specs.Offsets.{first_field, reference_to};
+ghost use Rattle.object_headers.specs.Offsets.{reference_to};
 ghost use Rattle.marker_core.specs.Bodies.{IsPlace, IsReference};
 ghost use Rattle.marker_core.specs.declared.states.Body.{Body};
 ghost use Rattle.marker_core.specs.Bodies.{holds};
-ghost use Rattle.page_words.specs.Seat.{marked_at};
+ghost use Rattle.marker_core.specs.Hands.{hand_after_mark, each_hand};
+ghost use Rattle.marker_core.specs.Layout as layout;
+ghost use Rattle.page_words.specs.Roles.{kind_lists};
 ghost use Rattle.page_space.specs.Space.{IsSeatOf};
-ghost use Rattle.ephemerons.specs.BodyGraph.{word_at};
+ghost use Rattle.ephemerons.specs.BodyGraph.{HasType, word_at};
+ghost use Rattle.ephemerons.specs.Marking.{heap_and_marks};
+ghost use Rattle.ephemerons.specs.InHand.{MayMark};
 ghost use Rattle.ephemerons.specs.Fixpoint.{ListsMarks, IsListed, HasWord, weight_of};
 ghost use Rattle.ephemerons.specs.Fixpoint.{IsStillHeld, with_held};
 
 use mark_worklist::Marking;
-use object_headers::{place_in, with_mark};
+use object_headers::{Header, place_in, with_mark};
 use page_space::Space;
-use page_words::{MutatorSeat, Words};
+use page_words::{MutatorSeat, Reading, Words};
 
 /// Whether the object that a reference names is marked. Null names none.
 pub(crate) fn names_marked(space: &Space, seat: &mut MutatorSeat, reference: u64) -> bool
     requires heap { IsSeatOf space.now seat.old }
+    requires alone { seat.old.lent ≡ 0 }
     requires reference { IsReference seat.old.bodies reference }
     ensures named { (p : ℕ) → reference ≡ reference_to p → result ≡ holds seat.old.marked p }
     ensures null { reference ≡ 0 → result ≡ false }
@@ -33,13 +38,31 @@ pub(crate) fn names_marked(space: &Space, seat: &mut MutatorSeat, reference: u64
 /// Whether the object at a place is marked. No more of its header is looked at.
 pub(crate) fn is_marked(words: &Words, seat: &mut MutatorSeat, place: u32) -> bool
     requires heap { seat.old.count ≡ words.now }
+    requires alone { seat.old.lent ≡ 0 }
     requires place { IsPlace seat.old.bodies place }
     ensures mark { result ≡ holds seat.old.marked place }
     ensures view { seat.new ≡ seat.old }
 {
     seat.bodies_lie_apart();
-    let word = words.load(seat, place);
-    word == with_mark(word, true)
+    has_mark(words.load::<Reading>(seat, place))
+}
+
+/// Whether the mark is set in the word of a header.
+pub(crate) fn has_mark(header: u64) -> bool
+    ensures { result ≡ layout.has_mark header }
+{
+    header == with_mark(header, true)
+}
+
+/// The type of the object at a place.
+pub(crate) fn type_of(words: &Words, seat: &mut MutatorSeat, place: u32) -> u32
+    requires heap { seat.old.count ≡ words.now }
+    requires place { IsPlace seat.old.bodies place }
+    ensures body { HasType seat.old.bodies place result }
+    ensures view { seat.new ≡ seat.old }
+{
+    seat.bodies_lie_apart();
+    Header::type_in(words.load::<Reading>(seat, place))
 }
 
 /// The field word at an offset of the object at a place.
@@ -51,7 +74,7 @@ pub(crate) fn word_of(words: &Words, seat: &mut MutatorSeat, holder: u32, offset
     ensures view { seat.new ≡ seat.old }
 {
     seat.bodies_lie_apart();
-    words.load(seat, holder + offset)
+    words.load::<Reading>(seat, holder + offset)
 }
 
 /// Marks and lists what a field word names. True where it was not marked.
@@ -63,14 +86,16 @@ pub(crate) fn mark_reference(
 ) -> bool
     requires heap { seat.old.count ≡ words.now }
     requires on { seat.old.on ≡ true }
-    requires reference { IsReference seat.old.bodies reference }
+    requires alone { seat.old.lent ≡ 0 }
+    requires may { MayMark seat.old reference }
     ensures marks { ListsMarks seat.old marking.old seat.new marking.new }
     ensures target { (p : ℕ) → reference ≡ reference_to p → holds seat.new.marked p ≡ true }
     ensures only { (p : ℕ) → holds seat.new.marked p ≡ true
         → (holds seat.old.marked p ≡ true) ⊎ (reference ≡ reference_to p) }
     ensures found { result ≡ true
         → weight_of seat.new marking.new < weight_of seat.old marking.old }
-    ensures still { result ≡ false → (seat.new ≡ seat.old) × (marking.new ≡ marking.old) }
+    ensures still { result ≡ false → (heap_and_marks seat.new ≡ heap_and_marks seat.old)
+        × (marking.new ≡ marking.old) }
 {
     let fresh = mark_named(words, seat, reference);
     list_held(marking, fresh);
@@ -82,14 +107,17 @@ pub(crate) fn mark_reference(
 pub fn mark(words: &Words, seat: &mut MutatorSeat, marking: &mut Marking, place: u32) -> bool
     requires heap { seat.old.count ≡ words.now }
     requires on { seat.old.on ≡ true }
+    requires alone { seat.old.lent ≡ 0 }
     requires place { IsPlace seat.old.bodies place }
+    requires may { holds seat.old.may place ≡ true }
     ensures marks { ListsMarks seat.old marking.old seat.new marking.new }
     ensures target { holds seat.new.marked place ≡ true }
     ensures only { (p : ℕ) → holds seat.new.marked p ≡ true
         → (holds seat.old.marked p ≡ true) ⊎ (place ≡ p) }
     ensures found { result ≡ true
         → weight_of seat.new marking.new < weight_of seat.old marking.old }
-    ensures still { result ≡ false → (seat.new ≡ seat.old) × (marking.new ≡ marking.old) }
+    ensures still { result ≡ false → (heap_and_marks seat.new ≡ heap_and_marks seat.old)
+        × (marking.new ≡ marking.old) }
 {
     let fresh = mark_unlisted(words, seat, place);
     list_held(marking, fresh);
@@ -109,14 +137,18 @@ fn list(marking: &mut Marking, place: u32)
 pub(crate) fn mark_named(words: &Words, seat: &mut MutatorSeat, reference: u64) -> Option<u32>
     requires heap { seat.old.count ≡ words.now }
     requires on { seat.old.on ≡ true }
-    requires reference { IsReference seat.old.bodies reference }
+    requires alone { seat.old.lent ≡ 0 }
+    requires may { MayMark seat.old reference }
     ensures marks { (m : Marking) → ListsMarks seat.old m seat.new (with_held result m) }
     ensures found { (m : Marking) → IfSome result (λ p.
         weight_of seat.new (with_held (Some p) m) < weight_of seat.old m) }
-    ensures still { IfNone result (seat.new ≡ seat.old) }
+    ensures still { IfNone result (heap_and_marks seat.new ≡ heap_and_marks seat.old) }
     ensures target { (p : ℕ) → reference ≡ reference_to p → holds seat.new.marked p ≡ true }
     ensures only { (p : ℕ) → holds seat.new.marked p ≡ true
         → (holds seat.old.marked p ≡ true) ⊎ (reference ≡ reference_to p) }
+    ensures null { reference ≡ 0 → seat.new ≡ seat.old }
+    ensures hand { (p : ℕ) → reference ≡ reference_to p
+        → seat.new.hand ≡ each_hand (hand_after_mark (kind_lists seat.old.types) p) seat.old.hand }
 {
     seat.bodies_lie_apart();
     match place_in(reference) {
@@ -129,25 +161,28 @@ pub(crate) fn mark_named(words: &Words, seat: &mut MutatorSeat, reference: u64) 
 fn mark_unlisted(words: &Words, seat: &mut MutatorSeat, place: u32) -> Option<u32>
     requires heap { seat.old.count ≡ words.now }
     requires on { seat.old.on ≡ true }
+    requires alone { seat.old.lent ≡ 0 }
     requires place { IsPlace seat.old.bodies place }
+    requires may { holds seat.old.may place ≡ true }
     ensures marks { (m : Marking) → ListsMarks seat.old m seat.new (with_held result m) }
     ensures found { (m : Marking) → IfSome result (λ p.
         weight_of seat.new (with_held (Some p) m) < weight_of seat.old m) }
-    ensures still { IfNone result (seat.new ≡ seat.old) }
+    ensures still { IfNone result (heap_and_marks seat.new ≡ heap_and_marks seat.old) }
     ensures target { holds seat.new.marked place ≡ true }
     ensures only { (p : ℕ) → holds seat.new.marked p ≡ true
         → (holds seat.old.marked p ≡ true) ⊎ (place ≡ p) }
+    ensures hand { seat.new.hand
+        ≡ each_hand (hand_after_mark (kind_lists seat.old.types) place) seat.old.hand }
 {
     seat.bodies_lie_apart();
-    // Nothing is written to a marked object.
-    if is_marked(words, seat, place) {
-        return None;
+    if words.mark(seat, place) {
+        Some(place)
+    } else {
+        None
     }
-    words.mark(seat, place);
-    Some(place)
 }
 
-/// Lists the object in hand, if there is one.
+/// Lists the object that was held back, if there is one.
 pub(crate) fn list_held(marking: &mut Marking, held: Option<u32>)
     ensures listed { MatchOption held (marking.new ≡ marking.old)
         (IsListed marking.old marking.new) }
@@ -157,7 +192,7 @@ pub(crate) fn list_held(marking: &mut Marking, held: Option<u32>)
     }
 }
 
-/// The object in hand, or else the last one that was listed.
+/// The object that was held back, or else the last one that was listed.
 pub(crate) fn next_listed(marking: &mut Marking, held: Option<u32>) -> Option<u32>
     ensures next { IsStillHeld marking.old held marking.new result }
 {

@@ -4,7 +4,7 @@ ghost use Rattle.std.specs.Prelude.{◌≡◌, true, false, ◌<◌, length};
 ghost use Rattle.ephemerons.specs.Notes.{no_notes, note_at, noted, overflowed};
 
 use key_index::Index;
-use page_words::{MutatorSeat, Words};
+use page_words::{MutatorSeat, Reading, Words};
 use std::alloc::Global;
 use std::marker::Model;
 
@@ -108,7 +108,7 @@ impl Pairs {
             let note = self.notes[i];
             let address = note.holder.wrapping_add(note.word);
             if note.word != 0 && address < words.count() {
-                let key = words.load(seat, address) % KEYS;
+                let key = words.load::<Reading>(seat, address) % KEYS;
                 self.index.link(i, key as u32);
             }
         }

@@ -1,19 +1,27 @@
-// The strong fields of an object: what they name is marked.
+// The strong fields of an object in hand: what they name is marked.
 
-ghost use Rattle.std.specs.Prelude.{◌≡◌, ℕ, true, Contains};
+ghost use Rattle.std.specs.Prelude.{◌≡◌, ◌⊎◌, ℕ, ◌+◌, true, None, Contains, length, drop};
+ghost use Rattle.gc_graph.specs.declared.kind.Kind.TheVariants.{Strong};
+ghost use Rattle.type_table.specs.Types.{kinds_of, offsets_of_kind};
 ghost use Rattle.mark_worklist.specs.declared.marking.Marking.{Marking};
+ghost use Rattle.object_headers.specs.Offsets.{reference_to};
 ghost use Rattle.marker_core.specs.Bodies.{holds};
-ghost use Rattle.ephemerons.specs.BodyGraph.{AreReferences, HasType, HasStrong};
+ghost use Rattle.marker_core.specs.declared.states.Body.{Body};
+ghost use Rattle.marker_core.specs.declared.states.Part.TheVariants.{Read};
+ghost use Rattle.ephemerons.specs.BodyGraph.{HasType, HaveNoPairs, strong_offsets, word_at};
 ghost use Rattle.ephemerons.specs.Marking.{GrowsWithin, HasStrongMarked, HasTargetMarked};
-ghost use Rattle.ephemerons.specs.Fixpoint.{ListsMarks, with_held};
+ghost use Rattle.ephemerons.specs.InHand.{IsTracing, IsPast, IsAt, IsAtTarget};
+ghost use Rattle.ephemerons.specs.InHand.{hand_over, traced_in, moved_on, BeginsWith};
+ghost use Rattle.ephemerons.specs.Fixpoint.{ListsMarks, HasWord, with_held};
 
-use crate::marks::{list_held, mark_named, word_of};
+use crate::marks::{list_held, mark_named};
 use mark_worklist::Marking;
-use page_words::{MutatorSeat, Words};
+use page_words::{MutatorSeat, Tracing, Words};
 use type_table::TypeTable;
 
-/// Marks what the strong fields of an object name. All of it is listed but what the last one names:
-/// that is the answer, if it was not marked. So a chain is traced without the list.
+/// Traces an object in hand, of a type without pairs: marks what its strong fields name. All of it
+/// is listed but what the last one names: that is the answer, if it was not marked. So a chain is
+/// traced without the list.
 pub(crate) fn trace_strong(
     words: &Words,
     types: &TypeTable,
@@ -23,71 +31,101 @@ pub(crate) fn trace_strong(
     ty: u32,
 ) -> Option<u32>
     requires heap { seat.old.count ≡ words.now }
-    requires on { seat.old.on ≡ true }
-    requires references { AreReferences types.now seat.old.bodies }
+    requires types { seat.old.types ≡ types.now }
+    requires tracing { IsTracing seat.old }
+    requires pairless { HaveNoPairs types.now }
     requires body { HasType seat.old.bodies place ty }
-    requires hand { holds seat.old.marked place ≡ true }
+    requires marked { holds seat.old.marked place ≡ true }
+    requires hand { IsPast seat.old place ty 1 }
     ensures marks { ListsMarks seat.old marking.old seat.new (with_held result marking.new) }
     ensures within { GrowsWithin types.now seat.old seat.new }
     ensures strong { HasStrongMarked types.now seat.new place }
+    ensures hand { seat.new.hand ≡ None }
 {
     seat.bodies_lie_apart();
     let strong = types.strong_words(ty);
     match strong.split_last() {
         Some((last, others)) => {
-            trace_words(words, types, seat, marking, place, others);
-            mark_field(words, types, seat, place, *last)
+            trace_words(words, seat, marking, place, ty, others);
+            trace_strong_word(words, seat, place, *last)
         }
         None => None,
     }
 }
 
-/// Marks and lists what strong fields of an object name.
-pub(crate) fn trace_words(
+/// Marks and lists what the first words that the hand comes to name, which are strong fields.
+fn trace_words(
     words: &Words,
-    types: &TypeTable,
     seat: &mut MutatorSeat,
     marking: &mut Marking,
     place: u32,
+    ty: u32,
     offsets: &[u32],
 )
     requires heap { seat.old.count ≡ words.now }
-    requires on { seat.old.on ≡ true }
-    requires references { AreReferences types.now seat.old.bodies }
+    requires tracing { IsTracing seat.old }
+    requires body { HasType seat.old.bodies place ty }
     requires strong { (offset : ℕ) → Contains offsets.now offset
-        → HasStrong types.now seat.old.bodies place offset }
-    requires hand { holds seat.old.marked place ≡ true }
+        → Contains (offsets_of_kind Strong (kinds_of seat.old.types ty)) offset }
+    requires first { BeginsWith (traced_in seat.old.types ty) offsets.now }
+    requires marked { holds seat.old.marked place ≡ true }
+    requires hand { seat.old.hand ≡ hand_over place ty (traced_in seat.old.types ty) }
     ensures marks { ListsMarks seat.old marking.old seat.new marking.new }
-    ensures within { GrowsWithin types.now seat.old seat.new }
+    ensures within { GrowsWithin seat.old.types seat.old seat.new }
     ensures named { (offset : ℕ) → Contains offsets.now offset
         → HasTargetMarked seat.new place offset }
+    ensures hand { seat.new.hand
+        ≡ hand_over place ty (drop (length offsets.now) (traced_in seat.old.types ty)) }
 {
+    let _ = ty;
     for offset in offsets {
-        let fresh = mark_field(words, types, seat, place, *offset);
+        let fresh = trace_strong_word(words, seat, place, *offset);
         list_held(marking, fresh);
     }
 }
 
-/// Marks what a strong field of a marked object names. Its place where it was not marked: the caller
-/// lists or traces it.
-fn mark_field(
+/// Marks what the strong field in hand names. Its place where it was not marked: the caller lists or
+/// traces it.
+pub(crate) fn trace_strong_word(
     words: &Words,
-    types: &TypeTable,
     seat: &mut MutatorSeat,
     holder: u32,
     offset: u32,
 ) -> Option<u32>
     requires heap { seat.old.count ≡ words.now }
-    requires on { seat.old.on ≡ true }
-    requires references { AreReferences types.now seat.old.bodies }
-    requires strong { HasStrong types.now seat.old.bodies holder offset }
-    requires hand { holds seat.old.marked holder ≡ true }
+    requires tracing { IsTracing seat.old }
+    requires marked { holds seat.old.marked holder ≡ true }
+    requires hand { IsAt strong_offsets seat.old holder offset Read }
     ensures marks { (m : Marking) → ListsMarks seat.old m seat.new (with_held result m) }
-    ensures within { GrowsWithin types.now seat.old seat.new }
+    ensures within { GrowsWithin seat.old.types seat.old seat.new }
     ensures named { HasTargetMarked seat.new holder offset }
+    ensures hand { seat.new.hand ≡ moved_on seat.old }
 {
-    let _ = types;
     seat.bodies_lie_apart();
-    let reference = word_of(words, seat, holder, offset);
+    trace_target(words, seat, holder, offset)
+}
+
+/// Reads the word that the hand wants, and marks what it names: then the hand moves on. Its place
+/// where it was not marked.
+pub(crate) fn trace_target(
+    words: &Words,
+    seat: &mut MutatorSeat,
+    holder: u32,
+    offset: u32,
+) -> Option<u32>
+    requires heap { seat.old.count ≡ words.now }
+    requires tracing { IsTracing seat.old }
+    requires field { HasWord seat.old.bodies holder offset }
+    requires hand { IsAtTarget seat.old (holder + offset) }
+    ensures marks { (m : Marking) → ListsMarks seat.old m seat.new (with_held result m) }
+    ensures named { HasTargetMarked seat.new holder offset }
+    ensures only { (b : Body) (p : ℕ) → Contains seat.old.bodies b → b.place ≡ holder
+        → holds seat.new.marked p ≡ true
+        → (holds seat.old.marked p ≡ true) ⊎ (word_at b offset ≡ reference_to p) }
+    ensures hand { seat.new.hand ≡ moved_on seat.old }
+{
+    seat.bodies_lie_apart();
+    let reference = words.load::<Tracing>(seat, holder + offset);
+    seat.bodies_lie_apart();
     mark_named(words, seat, reference)
 }

@@ -1,34 +1,33 @@
 // Tracing: what the strong fields of an object name is marked, and so is the value of each pair
-// whose key is marked.
+// whose key is marked. It is the machine's hand that goes from word to word.
 
-ghost use Rattle.std.specs.Prelude.{◌≡◌, ◌⊎◌, ℕ, ◌+◌, ◌<◌, true, false, Contains, Some, IfSome, length};
+ghost use Rattle.std.specs.Prelude.{◌≡◌, ℕ, true, false, Contains, Some, None, IfSome, IfNone};
 ghost use Rattle.std.specs.Option.{is_some};
-ghost use Rattle.object_headers.specs.Offsets.{reference_to};
-ghost use Rattle.marker_core.specs.Bodies.{IsPlace};
-ghost use Rattle.marker_core.specs.declared.states.Body.{Body};
-ghost use Rattle.marker_core.specs.Bodies.{holds};
-ghost use Rattle.page_words.specs.Seat.{is_grey, claimed_at};
+ghost use Rattle.marker_core.specs.Bodies.{IsPlace, holds};
+ghost use Rattle.page_words.specs.Seat.{IsAlone, is_grey_at};
 ghost use Rattle.page_space.specs.Space.{IsSeatOf};
-ghost use Rattle.ephemerons.specs.BodyGraph.{AreReferences, HasType, HasPair, HaveNoPairs};
-ghost use Rattle.ephemerons.specs.BodyGraph.{strong_offsets, word_at};
-ghost use Rattle.ephemerons.specs.Marking.{MarksOn, GrowsWithin, HasStrongMarked};
-ghost use Rattle.ephemerons.specs.Notes.{NotesGrow, HasPairsNoted, HasPairNoted};
+ghost use Rattle.ephemerons.specs.BodyGraph.{HasType, HaveNoPairs};
+ghost use Rattle.ephemerons.specs.Marking.{GrowsWithin, HasStrongMarked};
+ghost use Rattle.ephemerons.specs.Notes.{NotesGrow, HasPairsNoted};
+ghost use Rattle.ephemerons.specs.InHand.{IsTracing, IsPast, IsAtWord, IsWordTraced};
+ghost use Rattle.ephemerons.specs.InHand.{Claims, OnlyLooks, moved_on};
 ghost use Rattle.ephemerons.specs.Fixpoint.{ListsMarks, with_held};
 ghost use Rattle.ephemerons.specs.Fixpoint.{IsGround, Looks, Works, stage};
 
-use crate::marks::{mark_reference, names_marked, word_of};
+use crate::marks::{list_held, type_of};
 use crate::notes::Pairs;
-use crate::strong_fields::{trace_strong, trace_words};
+use crate::pair_fields::trace_pair;
+use crate::strong_fields::{trace_strong, trace_strong_word};
 use mark_worklist::Marking;
 use object_headers::{Header, with_mark, with_traced};
 use page_space::Space;
-use page_words::{MutatorSeat, Words};
-use type_table::TypeTable;
+use page_words::{MutatorSeat, Reading, Words};
+use type_table::{TracedWord, TypeTable};
 
-/// Traces an object that this seat claimed: marks and lists what its strong fields name, and for
-/// each pair marks and lists the value where the key is marked, and notes the pair otherwise.
-/// A refused push leaves its object marked and raises `overflow` of the marking, and a refused note
-/// that of the notes.
+/// Traces an object that this seat claimed, and that is in hand as the claim left it: marks and
+/// lists what its strong fields name, and for each pair marks and lists the value where the key is
+/// marked, and notes the pair otherwise. A refused push leaves its object marked and raises
+/// `overflow` of the marking, and a refused note that of the notes.
 pub fn trace(
     space: &Space,
     types: &TypeTable,
@@ -38,24 +37,26 @@ pub fn trace(
     place: u32,
 )
     requires heap { IsSeatOf space.now seat.old }
-    requires on { seat.old.on ≡ true }
-    requires references { AreReferences types.now seat.old.bodies }
+    requires types { seat.old.types ≡ types.now }
+    requires tracing { IsTracing seat.old }
     requires claimed { holds seat.old.traced place ≡ true }
+    requires hand { (ty : ℕ) → HasType seat.old.bodies place ty → IsPast seat.old place ty 1 }
     ensures marks { ListsMarks seat.old marking.old seat.new marking.new }
     ensures within { GrowsWithin types.now seat.old seat.new }
     ensures strong { HasStrongMarked types.now seat.new place }
     ensures notes { NotesGrow types.now seat.old.bodies notes.old notes.new }
     ensures pairs { notes.new.overflow ≡ false
         → HasPairsNoted types.now seat.new place (Contains notes.new.notes) }
+    ensures hand { seat.new.hand ≡ None }
 {
     seat.bodies_lie_apart();
-    let ty = space.header_at(seat, place).ty;
-    trace_fields(space, types, seat, marking, notes, place, ty);
+    let ty = type_of(space.words(), seat, place);
+    trace_fields(space.words(), types, seat, marking, notes, place, ty);
 }
 
-/// Traces a marked object of a type. Its other words are never read.
+/// Traces a marked object of a type, which is in hand. Its other words are never read.
 pub(crate) fn trace_fields(
-    space: &Space,
+    words: &Words,
     types: &TypeTable,
     seat: &mut MutatorSeat,
     marking: &mut Marking,
@@ -63,81 +64,52 @@ pub(crate) fn trace_fields(
     place: u32,
     ty: u32,
 )
-    requires heap { IsSeatOf space.now seat.old }
-    requires on { seat.old.on ≡ true }
-    requires references { AreReferences types.now seat.old.bodies }
+    requires heap { seat.old.count ≡ words.now }
+    requires types { seat.old.types ≡ types.now }
+    requires tracing { IsTracing seat.old }
     requires body { HasType seat.old.bodies place ty }
-    requires hand { holds seat.old.marked place ≡ true }
+    requires marked { holds seat.old.marked place ≡ true }
+    requires hand { IsPast seat.old place ty 1 }
     ensures marks { ListsMarks seat.old marking.old seat.new marking.new }
     ensures within { GrowsWithin types.now seat.old seat.new }
     ensures strong { HasStrongMarked types.now seat.new place }
     ensures notes { NotesGrow types.now seat.old.bodies notes.old notes.new }
     ensures pairs { notes.new.overflow ≡ false
         → HasPairsNoted types.now seat.new place (Contains notes.new.notes) }
+    ensures hand { seat.new.hand ≡ None }
 {
     seat.bodies_lie_apart();
-    let strong = types.strong_words(ty);
-    trace_words(space.words(), types, seat, marking, place, strong);
-    trace_pairs(space, types, seat, marking, notes, place, ty);
-}
-
-/// Marks and lists the values of an object's pairs whose key is marked, and notes the others.
-fn trace_pairs(
-    space: &Space,
-    types: &TypeTable,
-    seat: &mut MutatorSeat,
-    marking: &mut Marking,
-    notes: &mut Pairs,
-    place: u32,
-    ty: u32,
-)
-    requires heap { IsSeatOf space.now seat.old }
-    requires on { seat.old.on ≡ true }
-    requires references { AreReferences types.now seat.old.bodies }
-    requires body { HasType seat.old.bodies place ty }
-    requires hand { holds seat.old.marked place ≡ true }
-    ensures marks { ListsMarks seat.old marking.old seat.new marking.new }
-    ensures within { GrowsWithin types.now seat.old seat.new }
-    ensures notes { NotesGrow types.now seat.old.bodies notes.old notes.new }
-    ensures pairs { notes.new.overflow ≡ false
-        → HasPairsNoted types.now seat.new place (Contains notes.new.notes) }
-{
-    seat.bodies_lie_apart();
-    let pairs = types.pair_words(ty);
-    for word in pairs {
-        trace_pair(space, types, seat, marking, notes, place, *word);
+    let traced = types.traced_words(ty);
+    for word in traced {
+        trace_word(words, seat, marking, notes, place, *word);
     }
 }
 
-/// Marks and lists the value of a marked object's pair where the key is marked, and notes the pair
-/// otherwise. A pair without a key asks for nothing.
-fn trace_pair(
-    space: &Space,
-    types: &TypeTable,
+/// Traces the word in hand of a marked object.
+fn trace_word(
+    words: &Words,
     seat: &mut MutatorSeat,
     marking: &mut Marking,
     notes: &mut Pairs,
-    holder: u32,
-    word: u32,
+    place: u32,
+    word: TracedWord,
 )
-    requires heap { IsSeatOf space.now seat.old }
-    requires on { seat.old.on ≡ true }
-    requires references { AreReferences types.now seat.old.bodies }
-    requires pair { HasPair types.now seat.old.bodies holder word }
-    requires hand { holds seat.old.marked holder ≡ true }
+    requires heap { seat.old.count ≡ words.now }
+    requires tracing { IsTracing seat.old }
+    requires marked { holds seat.old.marked place ≡ true }
+    requires hand { IsAtWord seat.old place word }
     ensures marks { ListsMarks seat.old marking.old seat.new marking.new }
-    ensures within { GrowsWithin types.now seat.old seat.new }
-    ensures notes { NotesGrow types.now seat.old.bodies notes.old notes.new }
-    ensures pair { notes.new.overflow ≡ false
-        → HasPairNoted types.now seat.new holder word (Contains notes.new.notes) }
+    ensures within { GrowsWithin seat.old.types seat.old seat.new }
+    ensures notes { NotesGrow seat.old.types seat.old.bodies notes.old notes.new }
+    ensures done { IsWordTraced seat.old.types seat.new place notes.new word }
+    ensures hand { seat.new.hand ≡ moved_on seat.old }
 {
-    seat.bodies_lie_apart();
-    let key = word_of(space.words(), seat, holder, word);
-    if names_marked(space, seat, key) {
-        let value = word_of(space.words(), seat, holder, word + 1);
-        mark_reference(space.words(), seat, marking, value);
-    } else if key != 0 {
-        notes.note(holder, word);
+    match word {
+        TracedWord::StrongAt(offset) => {
+            let fresh = trace_strong_word(words, seat, place, offset);
+            list_held(marking, fresh);
+        }
+        TracedWord::PairAt(offset) => trace_pair(words, seat, marking, notes, place, offset),
     }
 }
 
@@ -166,15 +138,15 @@ pub(crate) fn trace_grey(
         Some(ty) => {
             *traced += 1;
             let own = &mut groups[0];
-            trace_fields(space, types, seat, marking, own, place, ty);
+            trace_fields(space.words(), types, seat, marking, own, place, ty);
             true
         }
         None => false,
     }
 }
 
-/// The same where no type has a pair: the strong fields are all that there is to trace.
-/// Of what was marked the answer has one object, and the others are listed.
+/// The same where no type has a pair: the strong fields are all that there is to trace. Of what was
+/// marked the answer has one object, which is held back, and the others are listed.
 pub(crate) fn trace_pairless(
     space: &Space,
     types: &TypeTable,
@@ -210,13 +182,15 @@ pub(crate) fn trace_pairless(
 fn claim(words: &Words, seat: &mut MutatorSeat, place: u32) -> Option<u32>
     requires heap { seat.old.count ≡ words.now }
     requires on { seat.old.on ≡ true }
+    requires alone { IsAlone seat.old }
     requires place { IsPlace seat.old.bodies place }
-    ensures grey { is_some result ≡ is_grey seat.old place }
+    ensures grey { is_some result ≡ is_grey_at seat.old place }
     ensures body { IfSome result (HasType seat.old.bodies place) }
-    ensures view { seat.new ≡ claimed_at seat.old place }
+    ensures claimed { IfSome result (Claims seat.old seat.new place) }
+    ensures failed { IfNone result (OnlyLooks seat.old seat.new) }
 {
     seat.bodies_lie_apart();
-    let word = words.load(seat, place);
+    let word = words.load::<Reading>(seat, place);
     // Two tests, of a bit each: the compiler makes one of them.
     if word != with_mark(word, true) {
         return None;

@@ -10,6 +10,7 @@ ghost use Rattle.ephemerons.specs.Fixpoint.{IsGround, IsSettled, IsSettledAt, Lo
 ghost use Rattle.ephemerons.specs.Fixpoint.{Works, stage, weight};
 
 use crate::draining::drain;
+use crate::marks::type_of;
 use crate::notes::Pairs;
 use crate::settling::settle_pair;
 use crate::tracing::trace_grey;
@@ -140,7 +141,7 @@ fn settle_pairs(
         → IsSettled types.now seat.new (note_of a offset) }
 {
     seat.bodies_lie_apart();
-    let ty = space.header_at(seat, a).ty;
+    let ty = type_of(space.words(), seat, a);
     let pairs = types.pair_words(ty);
     let mut found = false;
     for word in pairs {

@@ -15,7 +15,7 @@ use Rattle.type_table.specs.Types.{kinds_of}
 use Rattle.marker_core.specs.Bodies.{kinds_of as step_kinds, with_word, holds, word_count}
 use Rattle.marker_core.specs.declared.states.Body.{Body}
 use Rattle.page_words.specs.Roles.{kind_lists, kinds_fit, word_count_is}
-use Rattle.page_words.specs.Seat.{SeatView, IsView, stored}
+use Rattle.page_words.specs.Seat.{SeatView, IsView, rewritten}
 use Rattle.gc_graph.specs.Placement.{extents_of}
 use Rattle.page_space.specs.Occupying.{Occupies, IsNewNumber, least_size, new_body}
 use Rattle.page_space.specs.Space.{extents_of_bodies}
@@ -123,7 +123,7 @@ extents_held nodes v held = ap extents_of_bodies held.bodies ∙ extents-bodies 
 
 -- ---- a field
 
-pub marks_stored : (phase : Phase) (limit : ℕ) (v : SeatView) (a w : ℕ) → HasMarks phase limit v → HasMarks phase limit (stored v a w)
+pub marks_stored : (phase : Phase) (limit : ℕ) (v : SeatView) (a w : ℕ) → HasMarks phase limit v → HasMarks phase limit (rewritten v a w)
 marks_stored Idle limit v a w quiet = record { off = quiet.off; marked = quiet.marked; traced = quiet.traced; dead = quiet.dead }
 marks_stored Marking limit v a w quiet = record { off = quiet.off; marked = quiet.marked; traced = quiet.traced; dead = quiet.dead }
 marks_stored Sweeping limit v a w swept = record {
@@ -135,7 +135,7 @@ marks_stored Sweeping limit v a w swept = record {
 }
 
 pub held_stored : (nodes : List Node) (v : SeatView) (a n f : ℕ) (x : Value) → IsView v → IsHeld nodes v → IsThere nodes n
-    → a ≡ place_of nodes n + 2 + f → f < length (node_at nodes n).object.values → IsHeld (with_field nodes n f x) (stored v a (word_of (place_of nodes) x))
+    → a ≡ place_of nodes n + 2 + f → f < length (node_at nodes n).object.values → IsHeld (with_field nodes n f x) (rewritten v a (word_of (place_of nodes) x))
 held_stored nodes v a n f x view held there at low =
     let new : List Node = with_field nodes n f x in
     let place : (m : ℕ) → place_of new m ≡ place_of nodes m = place-field nodes n f x in

@@ -5,7 +5,7 @@ use Rattle.gc_graph.specs.declared.kind.Value.{Value}
 use Rattle.gc_graph.specs.State.{Node, node_at, no_node, is_there, is_dead}
 use Rattle.gc_graph.specs.Fields.{with_value}
 use Rattle.marker_core.specs.Bodies.{with_word, holds}
-use Rattle.page_words.specs.Seat.{SeatView, IsView, stored}
+use Rattle.page_words.specs.Seat.{SeatView, IsView, rewritten}
 use Rattle.nodes_in_words.specs.Nodes.{place_of, word_of, bodies_from, bodies_of, IsThere, IsHeld}
 use Rattle.nodes_in_words.specs.NodeChanges.{bodies-same, place_set, life_set}
 use Rattle.heap_objects.specs.FieldNodes.{with_field, place-field, life-field, pair_node, with_pair}
@@ -49,10 +49,10 @@ bodies_paired nodes v a b n i key value view held there at next low =
     (λ m present other. value_elsewhere nodes v a n i value m view held there at low present other)
     ∙ ap (bodies_from (place_of nodes) 0) (one_then_other nodes n i key value known)
 
--- the words hold the nodes once the value was stored, and then the key
+-- the words hold the nodes once the value was rewritten, and then the key
 pub held_paired : (nodes : List Node) (v : SeatView) (a b n i : ℕ) (key value : Value) → IsView v → IsHeld nodes v → IsThere nodes n → a ≡ place_of nodes n + 2 + i
     → b ≡ place_of nodes n + 2 + (i + 1) → i + 1 < length (node_at nodes n).object.values
-    → IsHeld (with_pair nodes n i key value) (stored (stored v b (word_of (place_of nodes) value)) a (word_of (place_of nodes) key))
+    → IsHeld (with_pair nodes n i key value) (rewritten (rewritten v b (word_of (place_of nodes) value)) a (word_of (place_of nodes) key))
 held_paired nodes v a b n i key value view held there at next low =
     let new : List Node = with_pair nodes n i key value in
     let y : Node = pair_node (node_at nodes n) i key value in

@@ -18,7 +18,7 @@ use Rattle.marker_core.specs.Bodies.{IsPlace}
 use Rattle.marker_core.specs.declared.states.Body.{Body}
 use Rattle.page_words.specs.Bodies.{kind_in}
 use Rattle.page_words.specs.Seat.{SeatView}
-use Rattle.page_space.specs.Space.{header_in}
+use Rattle.page_space.specs.Space.{IsHeaderOf}
 use Rattle.member_fields.specs.Words.{HasWord}
 use Rattle.heap_objects.specs.declared.field.Field.{Field}
 use Rattle.nodes_in_words.specs.Nodes.{place_of, body_of, bodies_of, AreOfValid}
@@ -41,19 +41,19 @@ pub record IsHead (setup : Setup) (nodes : List Node) (n size ty : ℕ) : Type 0
   pub size_is : size ≡ table.size_with (table.kinds_of setup.types ty) (node_at nodes n).object.extra
 
 pub live_head : (setup : Setup) (nodes : List Node) (v : SeatView) (n place : ℕ) (header : Header) → AreOfValid setup nodes → v.bodies ≡ bodies_of nodes → IsLiveAt nodes n place
-    → ((b : Body) → Contains v.bodies b → b.place ≡ place → header ≡ header_in v b) → IsHead setup nodes n header.size header.ty
+    → ((b : Body) → Contains v.bodies b → b.place ≡ place → IsHeaderOf v b header) → IsHead setup nodes n header.size header.ty
 live_head setup nodes v n place header valid held at tells =
     let node : Node = node_at nodes n in
     let b : Body = body_of (place_of nodes) n node in
-    let is : header ≡ header_in v b = tells b (node_body nodes v n held (live_is_there nodes n at.0)) at.1 in
-    let type : header.ty ≡ node.object.ty = ap (λ (h : Header). h.ty) is in
+    let is : IsHeaderOf v b header = tells b (node_body nodes v n held (live_is_there nodes n at.0)) at.1 in
+    let type : header.ty ≡ node.object.ty = is.ty in
     let known : AreKnown setup nodes = known_nodes setup nodes valid in
     let typed : IsTyped setup (length nodes) node = All-get_or (IsTyped setup (length nodes)) nodes n no_node (live_below nodes n at.0) known.typed in
     let kinds : node.object.kinds ≡ table.kinds_of setup.types header.ty = typed.kinds_are ∙ ap (table.kinds_of setup.types) (sym type) in
     record {
       known = omega (arith, type, typed.ty);
       kinds = kinds;
-      size_is = omega (arith, ap (λ (h : Header). h.size) is, typed.count, ap field_words kinds);
+      size_is = omega (arith, is.size, typed.count, ap field_words kinds);
     }
 
 -- how many extra words the object has

@@ -1,11 +1,11 @@
 // A field of an object, and how its word is written (`include/cppgc/member.h`).
 
-ghost use Rattle.std.specs.Prelude.{◌≡◌, ◌+◌};
+ghost use Rattle.std.specs.Prelude.{◌≡◌, ◌+◌, false};
 ghost use Rattle.std.specs.Prelude.{Some, None, Ok, Err};
 ghost use Rattle.std.specs.Prelude.{MatchOption, MatchBool};
 ghost use Rattle.gc_graph.specs.declared.line.Refusal.TheVariants as R;
 ghost use Rattle.type_table.specs.Types.{is_kind};
-ghost use Rattle.page_words.specs.Seat.{stored};
+ghost use Rattle.page_words.specs.Seat.{rewritten};
 ghost use Rattle.page_space.specs.Space.{IsSeatOf};
 ghost use Rattle.member_fields.specs.Words.{HasWord};
 ghost use Rattle.heap_objects.specs.Fields.{allows, TakesWord};
@@ -85,12 +85,14 @@ pub fn wanted_field(
     }
 }
 
-/// Writes the word of a field that is no pair, as fields of its kind are written.
+/// Writes the word of a field that is no pair, as fields of its kind are written, while no marking
+/// goes on.
 pub fn write_field(space: &Space, seat: &mut MutatorSeat, field: Field, w: u64)
     requires heap { IsSeatOf space.now seat.old }
+    requires off { seat.old.on ≡ false }
     requires field { HasWord (is_kind field.kind) seat.old field.holder field.word }
     requires word { TakesWord field.kind seat.old.bodies w }
-    ensures { seat.new ≡ stored seat.old (field.holder + field.word) w }
+    ensures { seat.new ≡ rewritten seat.old (field.holder + field.word) w }
 {
     match field.kind {
         Kind::Strong => set(space, seat, field.holder, field.word, w),

@@ -22,6 +22,7 @@ use gc_graph::Refusal;
 use ghost_values::GhostValue;
 use member_fields::{get, get_word};
 use object_headers::{SERIAL, place_in};
+use page_words::Reading;
 
 impl Objects {
     /// Field f of the object at a place, where it is one of those wanted. A missing field is told
@@ -65,7 +66,8 @@ impl Objects {
         self.seat.bodies_lie_apart();
         match place_in(reference) {
             Some(place) => {
-                let number = self.space.words().load(&mut self.seat, place + SERIAL) as u32;
+                let words = self.space.words();
+                let number = words.load::<Reading>(&mut self.seat, place + SERIAL) as u32;
                 Some((place, number))
             }
             None => None,

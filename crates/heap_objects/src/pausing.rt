@@ -2,13 +2,16 @@
 
 ghost use Rattle.std.specs.Prelude.{◌≡◌, ℕ, List, Option, ◌*◌, ◌^◌, ◌<◌, ◌++◌};
 ghost use Rattle.std.specs.Prelude.{◌≤◌, [], length, map, All};
+ghost use Rattle.std.specs.Option.{ForSome};
 ghost use Rattle.gc_graph.specs.State.{node_at, size_of, IsLive, slot_targets};
 ghost use Rattle.gc_graph.specs.Pause.{live_count, dead_count, is_dead_at, clear_slot};
 ghost use Rattle.callback_table.specs.Registry.{IsRegistered};
 ghost use Rattle.callback_table.specs.Table.{kinds_of};
-ghost use Rattle.page_words.specs.Seat.{IsQuiet};
+ghost use Rattle.marker_core.specs.Bodies.{IsPlace};
+ghost use Rattle.page_words.specs.Seat.{IsQuiet, PairsAreWhole, begun};
 ghost use Rattle.nodes_in_words.specs.Nodes.{AreOfValid};
 ghost use Rattle.nodes_in_words.specs.Places.{places_of, IsJudged};
+ghost use Rattle.atomic_pause.specs.Marking.{RootsMayBeKept, root_places};
 ghost use Rattle.atomic_pause.specs.Pausing.{IsPaused, NamePlaces, hits_in};
 ghost use Rattle.heap_objects.specs.Objects.{setup_of_objects};
 
@@ -16,6 +19,7 @@ use crate::marking::{Grey, clear};
 use crate::objects::Objects;
 use atomic_pause::{Parts, PauseResult, pause};
 use callback_table::{CallbackTable, Registry};
+use page_words::{MutatorSeat, Words};
 use persistent_slots::Slots;
 
 impl Objects {
@@ -56,7 +60,7 @@ impl Objects {
         ensures setup { setup_of_objects self.new ≡ setup_of_objects self.old }
     {
         self.seat.bodies_lie_apart();
-        self.space.words().set_stop(&mut self.seat, false);
+        begin(self.space.words(), &mut self.seat, strong, stack, precise);
         grey.marking.on = true;
         let result = pause(
             Parts {
@@ -77,4 +81,22 @@ impl Objects {
         clear(&mut grey.marking, &mut grey.notes);
         result
     }
+}
+
+/// Begins marking: from now on what the roots reach may be kept. Contracts alone see `roots`: the
+/// places of what the strong slots name and, unless the pause is precise, of what the stack hits.
+fn begin(words: &Words, seat: &mut MutatorSeat, strong: &Slots, stack: &[u64], precise: bool)
+    ghost roots: { List ℕ }
+    requires roots { roots ≡ root_places strong.now precise seat.old.bodies stack.now }
+    requires heap { seat.old.count ≡ words.now }
+    requires quiet { IsQuiet seat.old }
+    requires pairs { PairsAreWhole seat.old }
+    requires slots { All (λ slot. ForSome slot (IsPlace seat.old.bodies)) strong.now }
+    ensures view { seat.new ≡ begun seat.old roots }
+    ensures may { RootsMayBeKept strong.now precise stack.now seat.new }
+{
+    let _ = strong;
+    let _ = stack;
+    let _ = precise;
+    words.set_stop(seat, false);
 }

@@ -2,6 +2,7 @@
 use Rattle.std.proofs.Common.{◌≡◌, ℕ, ◌+◌, ◌-◌, Bool, true, sym, ap, ◌∙◌, arith}
 use Rattle.gc_graph.specs.declared.kind.Kind.{Kind}
 use Rattle.marker_core.specs.declared.states.Body.{Body}
+use Rattle.marker_core.specs.Bodies.{IsFieldWord}
 use Rattle.page_words.specs.Bodies.{kind_in}
 use Rattle.page_words.specs.Seat.{SeatView, IsWordAt, IsView}
 use Rattle.member_fields.specs.Words.{HasWord, HasWordOfSomeKind, IsWordIn}
@@ -13,6 +14,10 @@ word_read v holder word w is has at b there place =
     let size : has.1.body.size ≡ b.size = ap (λ (c : Body). c.size) same in
     let whole = whole_body v is b there in
     at.field b (word - 2) there (omega (arith, size, has.1.last, has.1.first, whole.fields)) (omega (arith, place, has.1.first))
+
+pub field_word : (v : SeatView) (holder word : ℕ) → HasWordOfSomeKind v holder word → IsFieldWord v.bodies (holder + word)
+field_word v holder word has =
+    let b : Body = has.1.body in (b, has.1.there, omega (arith, has.1.place, has.1.first), omega (arith, has.1.place, has.1.last))
 
 pub one_kind : (v : SeatView) → IsView v → (is_so is_other : Kind → Bool) (holder word : ℕ)
     → ((kind : Kind) → is_so kind ≡ true → is_other kind ≡ true → ⊥) → HasWord is_so v holder word → HasWord is_other v holder word → ⊥

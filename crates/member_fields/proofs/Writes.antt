@@ -7,7 +7,7 @@ use Rattle.gc_graph.specs.declared.kind.Kind.{Kind}
 use Rattle.marker_core.specs.Bodies.{end_of, with_word}
 use Rattle.marker_core.specs.declared.states.Body.{Body}
 use Rattle.page_words.specs.Bodies.{kind_in}
-use Rattle.page_words.specs.Seat.{SeatView, IsView, stored, with_bodies}
+use Rattle.page_words.specs.Seat.{SeatView, IsView, rewritten, with_bodies}
 use Rattle.member_fields.specs.Words.{HasWord, HasWordOfSomeKind, IsWordIn, with_word_in, written}
 use Rattle.page_words.specs.BodyPlaces.{whole_body, same_body}
 
@@ -45,8 +45,8 @@ body_with_word v holder word w is has b there =
     (and_from (leb (b.place + 2) a) (ltb a (end_of b)) (le-leb (b.place + 2) a (omega (arith, has.1.first))) (lt-ltb a (end_of b) (omega (arith, has.1.last))))))
     (λ _. refl))
 
-pub stored_word : (v : SeatView) (holder word w : ℕ) → IsView v → HasWordOfSomeKind v holder word → stored v (holder + word) w ≡ written v holder word w
-stored_word v holder word w is has =
+pub rewritten_word : (v : SeatView) (holder word w : ℕ) → IsView v → HasWordOfSomeKind v holder word → rewritten v (holder + word) w ≡ written v holder word w
+rewritten_word v holder word w is has =
     ap (λ (bodies : List Body). with_bodies v bodies)
     (each_same (with_word (holder + word) w) (with_word_in holder word w) v.bodies (body_with_word v holder word w is has))
 

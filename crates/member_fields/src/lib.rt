@@ -16,8 +16,9 @@
 //! | plain, or an extra word | `get_word` | `put_word` | any number |
 //!
 //! What is proved: each read answers the word that the view tells and changes nothing. Each write
-//! changes exactly the word that it names. Each call asks for a word of its kind, and a reference
-//! that is written names an object. A word is of one kind. A pair's value is stored before its key.
+//! changes exactly the word that it names, and comes while no marking goes on. Each call asks for a
+//! word of its kind, and a reference that is written names an object. A word is of one kind. A pair's
+//! value is stored before its key.
 //!
 //! What is only tested or not said: that what is read of a strong or weak field is null or names an
 //! object is not said here; whoever writes all the words knows it.

@@ -1,8 +1,8 @@
 // Ephemeron pairs (`include/cppgc/ephemeron-pair.h`).
 
-ghost use Rattle.std.specs.Prelude.{◌≡◌, ◌↔◌, ◌+◌};
+ghost use Rattle.std.specs.Prelude.{◌≡◌, ◌↔◌, ◌+◌, false};
 ghost use Rattle.marker_core.specs.Bodies.{IsReference};
-ghost use Rattle.page_words.specs.Seat.{stored};
+ghost use Rattle.page_words.specs.Seat.{rewritten};
 ghost use Rattle.page_space.specs.Space.{IsSeatOf};
 ghost use Rattle.member_fields.specs.Words.{HasPair, IsWordIn, pair_written};
 
@@ -29,13 +29,14 @@ pub fn read_pair(space: &Space, seat: &mut MutatorSeat, holder: u32, word: u32) 
 /// both 0. The value is stored first, so that nobody meets the key of a value that isn't there yet.
 pub fn set_pair(space: &Space, seat: &mut MutatorSeat, holder: u32, word: u32, key: u64, value: u64)
     requires heap { IsSeatOf space.now seat.old }
+    requires off { seat.old.on ≡ false }
     requires pair { HasPair seat.old holder word }
     requires key { IsReference seat.old.bodies key }
     requires value { IsReference seat.old.bodies value }
     requires both { (key ≡ 0) ↔ (value ≡ 0) }
     ensures words { seat.new ≡ pair_written seat.old holder word key value }
     ensures addresses { seat.new
-        ≡ stored (stored seat.old (holder + (word + 1)) value) (holder + word) key }
+        ≡ rewritten (rewritten seat.old (holder + (word + 1)) value) (holder + word) key }
 {
     words::write_value(space, seat, holder, word, value);
     words::write_key(space, seat, holder, word, key);

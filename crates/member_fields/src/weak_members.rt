@@ -1,9 +1,9 @@
 // Weak fields (`include/cppgc/member.h`).
 
-ghost use Rattle.std.specs.Prelude.{◌≡◌, ◌+◌};
+ghost use Rattle.std.specs.Prelude.{◌≡◌, ◌+◌, false};
 ghost use Rattle.gc_graph.specs.Fields.{is_weak};
 ghost use Rattle.marker_core.specs.Bodies.{IsReference};
-ghost use Rattle.page_words.specs.Seat.{stored};
+ghost use Rattle.page_words.specs.Seat.{rewritten};
 ghost use Rattle.page_space.specs.Space.{IsSeatOf};
 ghost use Rattle.member_fields.specs.Words.{HasWord, written};
 
@@ -15,10 +15,11 @@ use page_words::MutatorSeat;
 /// named is not kept for it.
 pub fn set_weak(space: &Space, seat: &mut MutatorSeat, holder: u32, word: u32, target: u64)
     requires heap { IsSeatOf space.now seat.old }
+    requires off { seat.old.on ≡ false }
     requires field { HasWord is_weak seat.old holder word }
     requires target { IsReference seat.old.bodies target }
     ensures word { seat.new ≡ written seat.old holder word target }
-    ensures address { seat.new ≡ stored seat.old (holder + word) target }
+    ensures address { seat.new ≡ rewritten seat.old (holder + word) target }
 {
     words::write(space, seat, holder, word, target);
 }

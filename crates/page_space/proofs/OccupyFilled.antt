@@ -6,10 +6,10 @@ use Rattle.std.proofs.lemmas.List.{length-map, length-replicate, get_or-replicat
 use Rattle.object_headers.specs.Layout.{header_word}
 use Rattle.marker_core.specs.SeatLaws.{IsReady}
 use Rattle.gc_graph.specs.State.{ObjectType}
-use Rattle.page_words.specs.Seat.{SeatView, side, filled_with, nulled, published}
+use Rattle.page_words.specs.Seat.{SeatView, side, filled_with, published}
 use Rattle.marker_core.specs.Bodies.{end_of, has_word, in_body, IsInBody}
 use Rattle.marker_core.specs.declared.states.Body.{Body}
-use Rattle.page_space.specs.Occupying.{HasNulls, IsNewNumber, IsRoom, Occupies, least_size, new_body}
+use Rattle.page_space.specs.Occupying.{HasNulls, IsNewNumber, IsRoom, Occupies, least_size, new_body, nulled}
 use Rattle.gc_graph.specs.Members.{Contains-cons, Contains-head, any_member, stays_in}
 
 -- the word just filled, and a word filled before elsewhere
@@ -51,6 +51,20 @@ pub only_nulled : (v : SeatView) (a n : ℕ) → nulled v a n ≡ record v { mut
 unfolding nulled
 only_nulled v a zero = refl
 only_nulled v a (suc n) = only_filled v (nulled v a n) (nulled v a (suc n)) (a + n) 0 (only_nulled v a n) refl
+
+-- one more word after those that were filled
+pub nulled_next : (old now : SeatView) (first place : ℕ) → first ≤ place → now ≡ nulled old first (place - first)
+    → filled_with now place 0 ≡ nulled old first (place + 1 - first)
+unfolding nulled
+nulled_next old now first place order so_far =
+    let n : ℕ = place - first in
+    let at : first + n ≡ place = omega arith in
+    let more : place + 1 - first ≡ suc n = omega arith in
+    ap (λ (v : SeatView). filled_with v place 0) so_far ∙ ap (λ p. filled_with (nulled old first n) p 0) (sym at) ∙ ap (nulled old first) (sym more)
+
+pub nulled_none : (v : SeatView) (first : ℕ) → v ≡ nulled v first (first - first)
+unfolding nulled
+nulled_none v first = (let none : first - first ≡ 0 = omega arith in ap (nulled v first) (sym none))
 
 -- ---- what stays filled
 

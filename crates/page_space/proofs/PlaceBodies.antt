@@ -8,7 +8,7 @@ use Rattle.object_headers.specs.declared.header.Header.{Header}
 use Rattle.marker_core.specs.Bodies.{IsInBody}
 use Rattle.marker_core.specs.declared.states.Body.{Body}
 use Rattle.page_words.specs.Seat.{SeatView}
-use Rattle.page_space.specs.Space.{extent_of, extents_of_bodies, header_in}
+use Rattle.page_space.specs.Space.{extent_of, extents_of_bodies, IsHeaderOf}
 
 pub taken_by_body : (bodies : List Body) (a : ℕ) → IsInBody bodies a → IsTaken (extents_of_bodies bodies) a
 taken_by_body bodies a h = (extent_of h.0, Contains-map extent_of bodies h.0 h.1, (h.2, h.3))
@@ -37,6 +37,6 @@ header_is_one mark traced ty size few some small =
     record { live = omega arith; size = omega arith; bits = omega arith }
 
 -- the size that a header tells is that of the body
-pub tells_size : (v : SeatView) (a : ℕ) (header : Header) → ((b : Body) → Contains v.bodies b → b.place ≡ a → header ≡ header_in v b)
+pub tells_size : (v : SeatView) (a : ℕ) (header : Header) → ((b : Body) → Contains v.bodies b → b.place ≡ a → IsHeaderOf v b header)
     → (b : Body) → Contains v.bodies b → b.place ≡ a → header.size ≡ b.size
-tells_size v a header tells b has at = ap (λ (h : Header). h.size) (tells b has at)
+tells_size v a header tells b has at = (tells b has at).size

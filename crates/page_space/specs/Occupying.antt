@@ -1,10 +1,10 @@
 -- A new object in free words.
-use Rattle.std.specs.Prelude.{◌≡◌, ◌≢◌, ℕ, ◌+◌, ◌-◌, ◌<◌, ◌≤◌, List, [], ◌∷◌, ◌++◌, replicate, Contains}
+use Rattle.std.specs.Prelude.{◌≡◌, ◌≢◌, ℕ, zero, suc, ◌+◌, ◌-◌, ◌<◌, ◌≤◌, List, [], ◌∷◌, ◌++◌, replicate, Contains}
 use Rattle.object_headers.specs.Offsets.{first_field}
 use Rattle.marker_core.specs.Bodies.{IsInBody, kinds_of, word_count}
 use Rattle.marker_core.specs.declared.states.Body.{Body}
 use Rattle.page_words.specs.Roles.{kind_lists}
-use Rattle.page_words.specs.Seat.{SeatView, published}
+use Rattle.page_words.specs.Seat.{SeatView, filled_with, published}
 
 -- words of the heap from a that belong to no object
 pub record IsRoom (v : SeatView) (size a : ℕ) : Type 0 where
@@ -27,7 +27,12 @@ new_body a ty size serial = record { place = a; ty = ty; size = size; serial = s
 abbrev pub HasNulls : List (ℕ × ℕ) → ℕ → ℕ → Type 0
 HasNulls filled first count = (i : ℕ) → i < count → Contains filled (first + i, 0)
 
--- the body joined the others, words that were filled in it are no longer filled ones, and marking is as before
+-- so many words from a were filled with null, each in place of an older one
+unfoldable pub nulled : SeatView → ℕ → ℕ → SeatView
+nulled v a zero = v
+nulled v a (suc n) = filled_with (nulled v a n) (a + n) 0
+
+-- the body joined the others, words that were filled in it are no longer filled ones, and marks are as before
 pub record Occupies (old new : SeatView) (b : Body) : Type 0 where
   pub count : new.count ≡ old.count
   pub types : new.types ≡ old.types

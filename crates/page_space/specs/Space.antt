@@ -6,6 +6,7 @@ use Rattle.gc_graph.specs.PlacementLaw.{LiesInPage, TakesPages}
 use Rattle.object_headers.specs.declared.header.Header.{Header}
 use Rattle.marker_core.specs.Bodies.{end_of, IsPlace, holds}
 use Rattle.marker_core.specs.declared.states.Body.{Body}
+use Rattle.marker_core.specs.SeatFacts.{IsTold}
 use Rattle.page_words.specs.Seat.{SeatView, block_words}
 use Rattle.page_space.specs.Pages.{PageTable, word_count, first_page, is_in_page, free_words}
 use Rattle.gap_bounds.specs.Gaps.{GapTable, KnowsGaps}
@@ -87,9 +88,12 @@ FitsBetween shape from to extents size a =
 abbrev pub IsFreePlace : Shape → List Extent → ℕ → ℕ → Type 0
 IsFreePlace shape extents size a = Fits shape shape.pages extents size a ⊎ StartsEmptyRun shape extents size a
 
--- what the header of a body tells
-abbrev pub header_in : SeatView → Body → Header
-header_in v b = record { mark = holds v.marked b.place; traced = holds v.traced b.place; ty = b.ty; size = b.size }
+-- what a header tells of its body: type and size, and mark and traced bit as far as the seat set them or no view is lent
+pub record IsHeaderOf (v : SeatView) (b : Body) (header : Header) : Type 0 where
+  pub ty : header.ty ≡ b.ty
+  pub size : header.size ≡ b.size
+  pub mark : IsTold v.lent (holds v.marked b.place) header.mark
+  pub traced : IsTold v.lent (holds v.traced b.place) header.traced
 
 -- a is a place, and not below from
 abbrev pub IsPlaceFrom : List Body → ℕ → ℕ → Type 0

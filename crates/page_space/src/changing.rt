@@ -4,10 +4,11 @@ ghost use Rattle.std.specs.Prelude.{◌≡◌, ℕ, ◌+◌, ◌-◌, ◌^◌, �
 ghost use Rattle.std.specs.Prelude.{length, Contains};
 ghost use Rattle.object_headers.specs.Offsets.{first_field};
 ghost use Rattle.marker_core.specs.declared.states.Body.{Body};
-ghost use Rattle.marker_core.specs.Bodies.{holds};
+ghost use Rattle.marker_core.specs.Bodies.{IsInBody, holds};
 ghost use Rattle.page_words.specs.Seat.{IsUnnamed, retracted};
 ghost use Rattle.page_space.specs.Space.{IsSeatOf, IsSpaceOf, IsFreePlace, extents_of_bodies};
-ghost use Rattle.page_space.specs.Occupying.{IsRoom, HasNulls, Occupies, IsNewNumber, least_size, new_body};
+ghost use Rattle.page_space.specs.Occupying.{IsRoom, HasNulls, Occupies, IsNewNumber, least_size};
+ghost use Rattle.page_space.specs.Occupying.{new_body, nulled};
 
 use crate::space::{Space, bucket_of};
 use object_headers::{FIRST_FIELD, Header, SERIAL};
@@ -72,8 +73,21 @@ impl Space {
         ensures { Occupies seat.old seat.new (new_body a ty size serial) }
     {
         self.shape_is_valid();
-        self.words.fill_nulls(seat, a + FIRST_FIELD, a + size);
+        self.fill_nulls(seat, a + FIRST_FIELD, a + size);
         self.head_and_publish(seat, a, ty, size, serial);
+    }
+
+    /// Writes null to words from an address up to another that belong to no object.
+    fn fill_nulls(&self, seat: &mut MutatorSeat, first: u32, end: u32)
+        requires heap { IsSeatOf self.now seat.old }
+        requires order { first ≤ end }
+        requires end { end ≤ seat.old.count }
+        requires outside { (x : ℕ) → first ≤ x → x < end → IsInBody seat.old.bodies x → ⊥ }
+        ensures { seat.new ≡ nulled seat.old first (end - first) }
+    {
+        for x in first..end {
+            self.words.fill(seat, x, 0);
+        }
     }
 
     /// Writes header and serial number before an object's null fields, and publishes it.

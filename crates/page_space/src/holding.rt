@@ -10,7 +10,7 @@ ghost use Rattle.page_space.specs.Space.{IsSeatOf, IsSpaceOf, HoldsAddress};
 ghost use Rattle.page_space.specs.Space.{HasNoStart, IsLastStart};
 
 use crate::space::{LARGE, Space};
-use page_words::{BLOCK_WORDS, MutatorSeat};
+use page_words::{BLOCK_WORDS, MutatorSeat, Reading};
 
 impl Space {
     /// The place of the object that has the word at an address, which may be any number.
@@ -66,7 +66,7 @@ impl Space {
     {
         let block = a / BLOCK_WORDS;
         let up_to_a = u64::MAX >> (BLOCK_WORDS - 1 - a % BLOCK_WORDS);
-        let bits = self.words.load(seat, self.words.count() + block) & up_to_a;
+        let bits = self.words.load::<Reading>(seat, self.words.count() + block) & up_to_a;
         if bits != 0 {
             return Some(BLOCK_WORDS * block + bits.ilog2());
         }

@@ -7,13 +7,13 @@ ghost use Rattle.marker_core.specs.Bodies.{IsPlace};
 ghost use Rattle.marker_core.specs.declared.states.Body.{Body};
 ghost use Rattle.page_words.specs.Seat.{block_words};
 ghost use Rattle.page_space.specs.Pages.{word_count};
-ghost use Rattle.page_space.specs.Space.{IsSeatOf, IsPlaceFrom, HasNoStart, header_in};
+ghost use Rattle.page_space.specs.Space.{IsSeatOf, IsPlaceFrom, HasNoStart, IsHeaderOf};
 ghost use Rattle.page_space.specs.Space.{IsLastStart, AreStartsOf};
 ghost use Rattle.page_space.specs.Walks.{block_end};
 
 use crate::space::Space;
 use object_headers::{Header, SERIAL};
-use page_words::{BLOCK_WORDS, MutatorSeat};
+use page_words::{BLOCK_WORDS, MutatorSeat, Reading};
 
 impl Space {
     /// The lowest place that is not below an address.
@@ -71,7 +71,7 @@ impl Space {
     {
         self.shape_is_valid();
         let starts = self.words.count() + at / BLOCK_WORDS;
-        let bits = self.words.load(seat, starts) >> (at % BLOCK_WORDS);
+        let bits = self.words.load::<Reading>(seat, starts) >> (at % BLOCK_WORDS);
         if bits == 0 {
             return None;
         }
@@ -92,7 +92,7 @@ impl Space {
         let mut word = end;
         while word > first {
             word -= 1;
-            let bits = self.words.load(seat, self.words.count() + word);
+            let bits = self.words.load::<Reading>(seat, self.words.count() + word);
             if bits != 0 {
                 return Some(BLOCK_WORDS * word + bits.ilog2());
             }
@@ -107,7 +107,9 @@ impl Space {
         ensures start { IsTrue result ↔ IsPlace seat.old.bodies a }
         ensures view { seat.new ≡ seat.old }
     {
-        let bits = self.words.load(seat, self.words.count() + a / BLOCK_WORDS);
+        let bits = self
+            .words
+            .load::<Reading>(seat, self.words.count() + a / BLOCK_WORDS);
         bits >> (a % BLOCK_WORDS) & 1 == 1
     }
 
@@ -118,7 +120,7 @@ impl Space {
         ensures starts { AreStartsOf seat.old.bodies block result }
         ensures view { seat.new ≡ seat.old }
     {
-        self.words.load(seat, self.words.count() + block)
+        self.words.load::<Reading>(seat, self.words.count() + block)
     }
 
     /// The header of the object that starts at an address.
@@ -126,14 +128,14 @@ impl Space {
         requires heap { IsSeatOf self.now seat.old }
         requires start { IsPlace seat.old.bodies a }
         ensures header { (b : Body) → Contains seat.old.bodies b → b.place ≡ a
-            → result ≡ header_in seat.old b }
+            → IsHeaderOf seat.old b result }
         ensures least { 2 ≤ result.size }
         ensures inside { a + result.size ≤ word_count self.now.shape }
         ensures view { seat.new ≡ seat.old }
     {
         seat.bodies_lie_apart();
         // An object starts here, so the word is a header.
-        Header::read_unchecked(self.words.load(seat, a))
+        Header::read_unchecked(self.words.load::<Reading>(seat, a))
     }
 
     /// The serial number of the object that starts at an address.
@@ -145,6 +147,6 @@ impl Space {
         ensures view { seat.new ≡ seat.old }
     {
         seat.bodies_lie_apart();
-        self.words.load(seat, a + SERIAL) as u32
+        self.words.load::<Reading>(seat, a + SERIAL) as u32
     }
 }

@@ -6,11 +6,12 @@ use Rattle.gc_graph.specs.State.{ObjectType, no_type}
 use Rattle.gc_graph.specs.Fields.{is_plain}
 use Rattle.type_table.specs.Layouts.{kinds_of_words}
 use Rattle.marker_core.specs.declared.states.Body.{Body}
+use Rattle.marker_core.specs.SeatFacts.{IsAtRest}
 use Rattle.marker_core.specs.declared.states.Role.TheVariants.{KeyWord, PlainWord}
 use Rattle.marker_core.specs.Bodies.{role_at, role_in, holds}
 use Rattle.page_words.specs.Bodies.{is_reference_word}
 use Rattle.page_words.specs.Roles.{kind_lists}
-use Rattle.page_words.specs.Seat.{SeatView, IsUnnamed, PairsAreWhole, IsMarkedOut, begun}
+use Rattle.page_words.specs.Seat.{SeatView, side, IsUnnamed, PairsAreWhole, IsMarkedOut, begun}
 
 -- two types without fields
 abbrev pub two_types : List ObjectType
@@ -45,9 +46,9 @@ nothing_marked : (v : SeatView) → v.marked ≡ [] → (a : ℕ) → holds v.ma
 nothing_marked v none a held = true≢false (sym held ∙ ap (λ marked. holds marked a) none)
 
 -- marking that has just begun may end where nothing is marked
-pub marked_out : (v : SeatView) → v.marked ≡ [] → IsMarkedOut (begun v)
-marked_out v none = record {
-  on = refl;
+pub marked_out : (v : SeatView) → IsAtRest (side v) → v.marked ≡ [] → IsMarkedOut (begun v [])
+marked_out v rest none = record {
+  alone = record { no_hand = rest.no_hand; no_pending = rest.no_pending; none_lent = rest.none_lent };
   traced = λ a held. absurd (nothing_marked v none a held);
   closed = record {
     strong = λ b i there held role some. absurd (nothing_marked v none b.place held);

@@ -8,7 +8,7 @@ ghost use Rattle.gc_graph.specs.State.{no_type};
 use crate::plain;
 use gc_graph::NoMemory;
 use page_space::Space;
-use page_words::MutatorSeat;
+use page_words::{MutatorSeat, Reading};
 use std::alloc::Global;
 use std::marker::Model;
 use std::mem;
@@ -82,7 +82,7 @@ impl Aged {
         if a > count + count / 64 {
             return None;
         }
-        u32::try_from(self.space.words().load(&mut self.seat, a)).ok()
+        u32::try_from(self.space.words().load::<Reading>(&mut self.seat, a)).ok()
     }
 
     /// The bucket of a page, the first start bits, or one of the totals.
@@ -156,9 +156,13 @@ impl Aged {
             return None;
         }
         self.space.shape_is_valid();
+        self.seat.bodies_lie_apart();
         self.space.words().set_stop(&mut self.seat, false);
         let count = self.space.word_count();
-        let stop = self.space.words().load(&mut self.seat, count + count / 64);
+        let stop = self
+            .space
+            .words()
+            .load::<Reading>(&mut self.seat, count + count / 64);
         self.space.words().set_stop(&mut self.seat, true);
         mem::swap(&mut self.dead, &mut self.young);
         u32::try_from(stop).ok()

@@ -37,7 +37,7 @@ word 1028|17
 word 1032|257
 word 1036|65537
 word 1038|65536
-word 1040|1
+word 1040|0
 ";
 
 /// Large objects take pages, of which there are eight.
@@ -65,12 +65,13 @@ pages|8
 ";
 
 /// A hole is used again by what fits in it, on one page. Bits 0, 5 and 8 are set in 289, and the stop
-/// word is 0 while marking goes on.
+/// word, the last, is 0 while marking goes on and 1 from its end.
 const HOLE: &str = "\
 put 3|0
 put 2|3
 put 3|5
 condemn|0
+word 260|1
 free 1|3
 used|6
 put 3|8

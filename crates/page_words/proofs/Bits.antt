@@ -1,42 +1,25 @@
--- One start bit that is set or cleared, and the others.
-use Rattle.std.proofs.Common.{◌≡◌, ℕ, ◌-◌, ◌*◌, ◌%◌, ◌<◌, ◌^◌, List, length, get_or, set, bit_and, bit_or, ap, ◌∙◌, sym, inl, inr, arith}
-use Rattle.std.specs.Int.{bit_at}
-use mir.Syntax.{w64}
-use Rattle.std.proofs.lemmas.Nat.Bits.{bit_at_set_same, bit_at_set_other, bit_at_clear_same, bit_at_clear_other}
-use Rattle.std.proofs.lemmas.Bool.{cases_eq}
-use Rattle.std.proofs.lemmas.List.{get_or-set_same, get_or-set_other}
-use Rattle.marker_core.specs.Layout.{bitmap_at}
+-- What the code writes is what the steps make of a word.
+use Rattle.std.proofs.Common.{◌≡◌, ℕ, ◌*◌, ◌/◌, ◌%◌, ◌^◌, ◌&&◌, Bool, true, false, not, eqb, refl, sym, ◌∙◌, inl, inr, arith}
+use Rattle.std.proofs.lemmas.Bool.{cases_eq, eq-eqb, ne_eqb}
+use Rattle.std.proofs.lemmas.Grind.{one_shifted}
+use Rattle.object_headers.specs.Layout.{header_word, word_with_mark}
+use Rattle.marker_core.specs.Layout.{has_mark}
 
--- where the word at a's start bit changes in no other bit, the start bits of other places stay
-pub other_start_kept : (words : List ℕ) (count a p w : ℕ) → bitmap_at count a < length words
-    → ((i : ℕ) → i < 64 → (i ≡ a % 64 → ⊥) → bit_at w i ≡ bit_at (get_or words (bitmap_at count a) 0) i) → (p ≡ a → ⊥)
-    → bit_at (get_or (set words (bitmap_at count a) w) (bitmap_at count p) 0) (p % 64) ≡ bit_at (get_or words (bitmap_at count p) 0) (p % 64)
-other_start_kept words count a p w within kept other = elim (cases_eq (bitmap_at count p) (bitmap_at count a)) [
-  | inl same ↦
-      (let bit : (p % 64 ≡ a % 64) → ⊥ = λ e. other (omega arith) in
-      let now : get_or (set words (bitmap_at count a) w) (bitmap_at count p) 0 ≡ w =
-      ap (λ x. get_or (set words (bitmap_at count a) w) x 0) same ∙ get_or-set_same words (bitmap_at count a) w 0 within
-      in
-      let was : get_or words (bitmap_at count a) 0 ≡ get_or words (bitmap_at count p) 0 = ap (λ x. get_or words x 0) (sym same) in
-      ap (λ n. bit_at n (p % 64)) now ∙ kept (p % 64) (omega arith) bit ∙ ap (λ n. bit_at n (p % 64)) was)
-  | inr apart ↦ ap (λ n. bit_at n (p % 64)) (get_or-set_other words (bitmap_at count a) (bitmap_at count p) w 0 apart)
+-- the bit that the code shifts to its place
+pub bit_at_place : (a : ℕ) → 1 * 2 ^ (a % 64) % 18446744073709551616 ≡ 2 ^ (a % 64)
+bit_at_place a = (one_shifted (a % 64) 18446744073709551615 refl (omega arith)).0
+
+-- a word keeps its text under a mark just where it has one
+pub mark_stands : (w : ℕ) → eqb w (word_with_mark true w) ≡ has_mark w
+mark_stands w = elim (cases_eq (w / 2 % 2) 1) [
+  | inl bit ↦ eq-eqb w (word_with_mark true w) (omega (arith, bit)) ∙ sym (eq-eqb (w / 2 % 2) 1 bit)
+  | inr none ↦ ne_eqb w (word_with_mark true w) (λ e. none (omega (arith, e))) ∙ sym (ne_eqb (w / 2 % 2) 1 none)
 ]
 
--- `word | 1 << k` and `word & !(1 << k)`
-abbrev pub with_bit : ℕ → ℕ → ℕ
-with_bit word k = bit_or word (1 * 2 ^ k % 18446744073709551616)
-
-abbrev pub without_bit : ℕ → ℕ → ℕ
-without_bit word k = bit_and word (18446744073709551615 - 1 * 2 ^ k % 18446744073709551616)
-
-pub bit_is_set : (word a : ℕ) → bit_at (with_bit word (a % 64)) (a % 64) ≡ 1
-bit_is_set word a = let small : a % 64 < 64 = omega arith in bit_at_set_same w64 word (a % 64) small
-
-pub bit_is_cleared : (word a : ℕ) → bit_at (without_bit word (a % 64)) (a % 64) ≡ 0
-bit_is_cleared word a = let small : a % 64 < 64 = omega arith in bit_at_clear_same w64 word (a % 64) small
-
-pub others_kept_by_set : (word a i : ℕ) → (i ≡ a % 64 → ⊥) → bit_at (with_bit word (a % 64)) i ≡ bit_at word i
-others_kept_by_set word a i other = let small : a % 64 < 64 = omega arith in bit_at_set_other w64 word (a % 64) small i other
-
-pub others_kept_by_clear : (word a i : ℕ) → i < 64 → (i ≡ a % 64 → ⊥) → bit_at (without_bit word (a % 64)) i ≡ bit_at word i
-others_kept_by_clear word a i below other = let small : a % 64 < 64 = omega arith in bit_at_clear_other w64 word (a % 64) small i below other
+-- the header with these bits is the one with the mark alone just where it has the mark and not the traced bit
+pub grey_is_found : (mark traced : Bool) (ty size : ℕ)
+    → eqb (header_word true mark traced ty size) (header_word true true false ty size) ≡ (mark && not traced)
+grey_is_found true false ty size = eq-eqb (header_word true true false ty size) (header_word true true false ty size) refl
+grey_is_found true true ty size = ne_eqb (header_word true true true ty size) (header_word true true false ty size) (λ e. omega (arith, e))
+grey_is_found false false ty size = ne_eqb (header_word true false false ty size) (header_word true true false ty size) (λ e. omega (arith, e))
+grey_is_found false true ty size = ne_eqb (header_word true false true ty size) (header_word true true false ty size) (λ e. omega (arith, e))

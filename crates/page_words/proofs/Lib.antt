@@ -1,15 +1,11 @@
-mod Members
-mod Places
-mod Bits
-mod Headers
-mod Remarked
-pub mod Marks
-pub mod Filled
+pub mod Elements
+pub mod Allowed
+pub mod Bits
+pub mod Steps
+pub mod Stores
+pub mod ViewFacts
 pub mod Pairs
 pub mod WordKinds
-pub mod Stored
-pub mod Stopped
-mod Published
-pub mod Publishing
-pub mod Retracted
-mod Nulled
+pub mod StopWord
+pub mod NewWords
+pub mod Marks

@@ -1,7 +1,8 @@
 pub mod Bodies
 pub mod Roles
 pub mod Seat
-pub mod Ties
+pub mod Heaps
 -- Lemmas that the crates above cite too, since a crate's proofs/ can't be cited from another.
 pub mod BodyPlaces
+pub mod PlaceTests
 pub mod WrittenBodies

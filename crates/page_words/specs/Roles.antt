@@ -10,9 +10,11 @@ use Rattle.gc_graph.specs.State.{ObjectType, no_type}
 use Rattle.gc_graph.specs.Fields.{is_plain, words_of_kind, field_words}
 use Rattle.type_table.specs.Types.{kinds_of as kinds_in, kind_of}
 use Rattle.type_table.specs.Layouts.{kinds_of_words}
+use Rattle.type_table.specs.TracedWords.{traced_from, offset_in}
 use Rattle.marker_core.specs.declared.states.Role.{Role}
 use Rattle.marker_core.specs.declared.states.Role.TheVariants.{StrongWord, WeakWord, KeyWord, ValueWord, PlainWord}
 use Rattle.marker_core.specs.Bodies.{refers, role_at, kinds_of, word_count}
+use Rattle.marker_core.specs.Hands.{traced_offsets}
 
 -- the kinds of the fields of each type
 abbrev pub kind_lists : List ObjectType → List (List Kind)
@@ -156,3 +158,13 @@ word_count_is (Strong ∷ kinds) = omega (arith, word_count_is kinds, sum_by-con
 word_count_is (Weak ∷ kinds) = omega (arith, word_count_is kinds, sum_by-cons words_of_kind Weak kinds)
 word_count_is (Pair ∷ kinds) = omega (arith, word_count_is kinds, sum_by-cons words_of_kind Pair kinds)
 word_count_is (Plain ∷ kinds) = omega (arith, word_count_is kinds, sum_by-cons words_of_kind Plain kinds)
+
+-- ---- what tracing reads
+
+-- the machine's hand stops at the words that the table tells
+pub traced_fit : (offset : ℕ) (kinds : List Kind) → map offset_in (traced_from offset kinds) ≡ traced_offsets offset kinds
+traced_fit offset [] = refl
+traced_fit offset (Strong ∷ kinds) = ap (λ xs. offset ∷ xs) (traced_fit (offset + 1) kinds)
+traced_fit offset (Weak ∷ kinds) = traced_fit (offset + 1) kinds
+traced_fit offset (Pair ∷ kinds) = ap (λ xs. offset ∷ xs) (traced_fit (offset + 2) kinds)
+traced_fit offset (Plain ∷ kinds) = traced_fit (offset + 1) kinds

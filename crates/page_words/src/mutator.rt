@@ -4,12 +4,15 @@ ghost use Rattle.std.specs.Prelude.{◌≡◌, ℕ, ◌+◌, ◌<◌, ◌↔◌,
 ghost use Rattle.gc_graph.specs.declared.kind.Kind.TheVariants.{Pair};
 ghost use Rattle.marker_core.specs.Bodies.{IsReference, fields_at};
 ghost use Rattle.marker_core.specs.declared.states.Body.{Body};
+ghost use Rattle.marker_core.specs.Bodies.{IsFieldWord};
+ghost use Rattle.marker_core.specs.SeatSteps.{seat_can_store};
 ghost use Rattle.page_words.specs.Bodies.{MayHold, is_reference_word};
 ghost use Rattle.page_words.specs.Bodies.{IsKeyWord, SuitsItsPair, kind_in};
-ghost use Rattle.page_words.specs.Seat.{IsView};
+ghost use Rattle.page_words.specs.Seat.{IsView, side};
 
 use crate::views::SeatViews;
 use ghost_values::GhostValue;
+use marker_core::views_are_ok;
 use std::marker::Model;
 use type_table::fields_stand_apart;
 
@@ -20,8 +23,9 @@ use type_table::fields_stand_apart;
 /// |---|---|
 /// | belong to no object | `fill` of each of them, in any order and again |
 /// | filled: a header without mark and traced bit, a serial number, null references | `publish` makes them an object |
-/// | an object | `store` to its fields, at any time |
+/// | an object | `store` to its fields, while nothing is in hand and nothing waits for its mark |
 /// | an object, while marking goes on | `mark`; after it `claim`, which succeeds once |
+/// | the object in hand | loads to trace it, by offset: each strong word and each pair; `mark` of what they name |
 /// | an object, while no marking goes on | `unmark` |
 /// | a dead object that dead ones alone name, while no marking goes on | `retract`: they belong to no object |
 ///
@@ -39,20 +43,33 @@ impl Model for MutatorSeat {
 
     ghost Value = { SeatView };
 
-    ghost use Rattle.page_words.specs.Ties.{Ties};
+    ghost use Rattle.page_words.specs.Heaps.{IsHeap};
 
     ghost view = { λ s. s.view.value };
 
-    ghost invariant = { λ s. Ties s.words.items s.view.value };
+    ghost invariant = { λ s. IsHeap s.words.items s.view.value };
 }
 
 impl MutatorSeat {
-    /// What is true of every view: bodies lie apart and within the heap, and what is marked, traced
-    /// or dead is a body. Whoever calls this has the law. It reads nothing.
+    /// What is true of every view: bodies lie apart and within the heap, what is marked, traced or
+    /// dead is a body, and what is in hand or may be kept is as the step machine has it. Whoever
+    /// calls this has the law. It reads nothing.
     pub fn bodies_lie_apart(&self)
         ensures { IsView self.now }
     {
+        views_are_ok();
         let _words = &self.words;
+    }
+
+    /// While no marking goes on, a field word takes what it may hold by its kind and its pair.
+    /// Whoever calls this has the law. It reads nothing.
+    pub fn fields_take_what_fits(&self)
+        ensures { (a w : ℕ) → self.now.on ≡ false → IsFieldWord self.now.bodies a
+            → MayHold self.now.types self.now.bodies a w
+            → seat_can_store (side self.now) a w ≡ true }
+    {
+        fields_stand_apart();
+        self.bodies_lie_apart();
     }
 
     /// What a field word may hold, by its kind: a plain word any number, and any other word null or
@@ -67,7 +84,7 @@ impl MutatorSeat {
             → IsReference self.now.bodies w }
     {
         fields_stand_apart();
-        let _words = &self.words;
+        self.bodies_lie_apart();
     }
 
     /// What may be stored for the sake of a word's pair: anything where the word belongs to no pair
@@ -87,6 +104,6 @@ impl MutatorSeat {
             → (kind_in self.now.types b i ≡ Pair) × (kind_in self.now.types b (i + 1) ≡ Pair) }
     {
         fields_stand_apart();
-        let _words = &self.words;
+        self.bodies_lie_apart();
     }
 }

@@ -4,7 +4,7 @@ ghost use Rattle.std.specs.Prelude.{◌≡◌, length, IfOk};
 
 use gc_graph::{Kind, NoMemory};
 use std::alloc::Global;
-use type_table::{TypeDecl, TypeFault, TypeTable};
+use type_table::{TracedWord, TypeDecl, TypeFault, TypeTable};
 
 /// A strong field, a pair, a weak field and a pair; and a type without fields, with two callbacks.
 fn two_types(alloc: Global) -> Result<Vec<TypeDecl>, NoMemory>
@@ -72,6 +72,13 @@ fn counts_and_lists_are_told(table: &TypeTable) -> bool
         & (table.strong_words(0) == [2].as_slice())
         & (table.weak_words(0) == [5].as_slice())
         & (table.pair_words(0) == [3, 6].as_slice())
+        & (table.traced_words(0)
+            == [
+                TracedWord::StrongAt(2),
+                TracedWord::PairAt(3),
+                TracedWord::PairAt(6),
+            ]
+            .as_slice())
         & (table.callbacks(1) == [3, 0].as_slice())
 }
 

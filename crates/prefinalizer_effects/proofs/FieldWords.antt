@@ -19,22 +19,22 @@ use Rattle.page_words.specs.Bodies.{kind_in}
 use Rattle.page_words.specs.BodyPlaces.{whole_body}
 use Rattle.page_words.specs.Roles.{kind_lists}
 use Rattle.page_words.specs.Seat.{SeatView, IsView}
-use Rattle.page_space.specs.Space.{header_in}
+use Rattle.page_space.specs.Space.{IsHeaderOf}
 use Rattle.member_fields.specs.Words.{HasWord, HasPair, IsWordIn}
 use Rattle.prefinalizer_effects.specs.Acting.{IsTyped, AreTyped, AreLinked, extra_in, field_count}
 use Rattle.prefinalizer_effects.specs.Places.{IsFound, HasFoundWord, HasFoundPair}
 
 -- ---- what the header tells
 
-pub type_told : (v : SeatView) (b : Body) (header : Header) → header ≡ header_in v b → header.ty ≡ b.ty
-type_told v b header is = ap (λ (h : Header). h.ty) is
+pub type_told : (v : SeatView) (b : Body) (header : Header) → IsHeaderOf v b header → header.ty ≡ b.ty
+type_told v b header is = is.ty
 
-pub extra_told : (v : SeatView) (types : List ObjectType) (b : Body) (header : Header) (none : ℕ) → types ≡ v.types → header ≡ header_in v b
+pub extra_told : (v : SeatView) (types : List ObjectType) (b : Body) (header : Header) (none : ℕ) → types ≡ v.types → IsHeaderOf v b header
     → none ≡ size_with (kinds_of types header.ty) 0 → header.size - none ≡ extra_in v.types b
 extra_told v types b header none same is size =
     let least : none ≡ size_with (kinds_of v.types b.ty) 0 =
     size ∙ ap (λ ts. size_with (kinds_of ts header.ty) 0) same ∙ ap (λ ty. size_with (kinds_of v.types ty) 0) (type_told v b header is) in
-    ap (λ n. n - none) (ap (λ (h : Header). h.size) is) ∙ ap (λ n. b.size - n) least
+    ap (λ n. n - none) is.size ∙ ap (λ n. b.size - n) least
 
 -- what the table tells of the field, for this body
 pub field_told : (v : SeatView) (types : List ObjectType) (b : Body) (ty extra field : ℕ) (found : Option (Kind × ℕ)) → types ≡ v.types → ty ≡ b.ty
@@ -101,11 +101,11 @@ found_pair v place field b t law there at typed found pair =
           (law.told (is_kind Pair) kinds t.1 field (record { declared = low; kind = ap (is_kind Pair) kind; offset_is = found.offset }));
     }
 
-pub kinds_told : (v : SeatView) (types : List ObjectType) (b : Body) (header : Header) → types ≡ v.types → header ≡ header_in v b
+pub kinds_told : (v : SeatView) (types : List ObjectType) (b : Body) (header : Header) → types ≡ v.types → IsHeaderOf v b header
     → kinds_of types header.ty ≡ kinds_of v.types b.ty
 kinds_told v types b header same is = ap (λ ts. kinds_of ts header.ty) same ∙ ap (kinds_of v.types) (type_told v b header is)
 
-pub size_told : (v : SeatView) (types : List ObjectType) (b : Body) (header : Header) (none : ℕ) → types ≡ v.types → header ≡ header_in v b
+pub size_told : (v : SeatView) (types : List ObjectType) (b : Body) (header : Header) (none : ℕ) → types ≡ v.types → IsHeaderOf v b header
     → none ≡ size_with (kinds_of types header.ty) 0 → none ≡ field_words (kinds_of v.types b.ty) + 2
 size_told v types b header none same is size =
     (let told = size ∙ ap (λ kinds. size_with kinds 0) (kinds_told v types b header same is) in omega (arith, told))
@@ -124,14 +124,14 @@ fields_inside v b view there =
 -- ---- what was found
 
 -- the body has all words that its type asks for
-pub size_least : (v : SeatView) (types : List ObjectType) (b : Body) (header : Header) (none : ℕ) → types ≡ v.types → header ≡ header_in v b
+pub size_least : (v : SeatView) (types : List ObjectType) (b : Body) (header : Header) (none : ℕ) → types ≡ v.types → IsHeaderOf v b header
     → none ≡ size_with (kinds_of types header.ty) 0 → IsTyped v.types b → none ≤ header.size
 size_least v types b header none same is size typed =
     let least : none ≡ size_with (kinds_of v.types b.ty) 0 =
     size ∙ ap (λ ts. size_with (kinds_of ts header.ty) 0) same ∙ ap (λ ty. size_with (kinds_of v.types ty) 0) (type_told v b header is) in
-    omega (arith, least, typed.whole, ap (λ (h : Header). h.size) is)
+    omega (arith, least, typed.whole, is.size)
 
-pub type_known : (v : SeatView) (types : List ObjectType) (b : Body) (header : Header) → types ≡ v.types → header ≡ header_in v b → IsTyped v.types b
+pub type_known : (v : SeatView) (types : List ObjectType) (b : Body) (header : Header) → types ≡ v.types → IsHeaderOf v b header → IsTyped v.types b
     → header.ty < length types
 type_known v types b header same is typed = omega (arith, typed.known, type_told v b header is, ap length same)
 

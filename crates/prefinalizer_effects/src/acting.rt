@@ -1,7 +1,7 @@
 // What the action of a prefinalizer does (`include/cppgc/prefinalizer.h`). Marking is over then, so
 // that no barrier is needed, and to clear adds no reference.
 
-ghost use Rattle.std.specs.Prelude.{◌≡◌, Contains};
+ghost use Rattle.std.specs.Prelude.{◌≡◌, false, Contains};
 ghost use Rattle.marker_core.specs.Bodies.{IsPlace};
 ghost use Rattle.marker_core.specs.declared.states.Body.{Body};
 ghost use Rattle.page_space.specs.Space.{IsSeatOf};
@@ -18,6 +18,7 @@ use type_table::{TypeTable, fields_stand_apart};
 /// Does what the action says for the dying object at a place.
 pub fn apply(space: &Space, types: &TypeTable, seat: &mut MutatorSeat, place: u32, action: Action)
     requires heap { IsSeatOf space.now seat.old }
+    requires off { seat.old.on ≡ false }
     requires types { types.now ≡ seat.old.types }
     requires typed { AreTyped seat.old }
     requires links { AreLinked seat.old }
@@ -50,6 +51,7 @@ pub fn apply(space: &Space, types: &TypeTable, seat: &mut MutatorSeat, place: u3
 /// Sets a field to null, where it is there and holds references.
 fn clear(space: &Space, types: &TypeTable, seat: &mut MutatorSeat, place: u32, field: u32)
     requires heap { IsSeatOf space.now seat.old }
+    requires off { seat.old.on ≡ false }
     requires types { types.now ≡ seat.old.types }
     requires typed { AreTyped seat.old }
     requires place { IsPlace seat.old.bodies place }
@@ -74,6 +76,7 @@ fn add(
     amount: u64,
 )
     requires heap { IsSeatOf space.now seat.old }
+    requires off { seat.old.on ≡ false }
     requires types { types.now ≡ seat.old.types }
     requires typed { AreTyped seat.old }
     requires place { IsPlace seat.old.bodies place }

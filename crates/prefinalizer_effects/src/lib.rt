@@ -1,8 +1,8 @@
 //! # The effects of prefinalizers
 //!
 //! What it is: what a prefinalizer is shown of a dying object, and what the action that it answers
-//! does to words, and so to the nodes that these hold. It knows nothing of registrations or of how a
-//! pause gets there.
+//! does to words once marking is over, and so to the nodes that these hold. It knows nothing of
+//! registrations or of how a pause gets there.
 //!
 //! The parts: `shown_words` (the words of the declared fields as they are shown), `apply` (the
 //! effect of an action), and `PausedBodies`, which runs both for the registry of `callback_table`.

@@ -10,7 +10,7 @@ ghost use Rattle.prefinalizer_effects.specs.Acting.{AreTyped};
 use gc_graph::Kind;
 use object_headers::FIRST_FIELD;
 use page_space::Space;
-use page_words::MutatorSeat;
+use page_words::{MutatorSeat, Reading};
 use type_table::{TypeTable, fields_stand_apart};
 
 /// Writes the shown words of the object at a place to the front of `into`, and answers how many
@@ -37,7 +37,7 @@ pub fn shown_words(
     let count = (types.size_of(ty, 0) - FIRST_FIELD).min(64);
     for i in 0..count {
         let word = FIRST_FIELD + i;
-        let w = space.words().load(seat, place + word);
+        let w = space.words().load::<Reading>(seat, place + word);
         into[i as usize] = shown(types.kind_at(ty, word), w);
     }
     count

@@ -11,7 +11,7 @@ use Rattle.page_space.specs.Space.{SpaceView, IsSpaceOf, extent_of}
 use Rattle.sweeper.specs.Sweeping.{IsClearBelow, is_dead_in, swept_in, all_swept, dead_from, outside}
 use Rattle.sweeper.proofs.Filters.{filter_same}
 use Rattle.sweeper.proofs.Places.{between, outside_none}
-use Rattle.sweeper.proofs.Sweeping.{changed_same, unmarked_without_body, undead_without_body, untraced_if_unmarked}
+use Rattle.sweeper.proofs.Sweeping.{changed_same, unmarked_without_body, untraced_without_body, undead_without_body}
 use Rattle.sweeper.proofs.Counts.{count_half}
 use Rattle.page_words.specs.BodyPlaces.{body_below, place_below}
 
@@ -26,17 +26,20 @@ holds_nothing (p ∷ places) none = absurd (true≢false (sym (or_left (eqb p p)
 -- a heap is quiet where nothing below its end is marked, traced or dead
 pub quiet_end : (v : SeatView) → IsView v → v.on ≡ false → IsClearBelow v.count v → IsQuiet v
 quiet_end v view off clear =
-    let unmarked : (x : ℕ) → holds v.marked x ≡ false = λ x. elim (cases_lt x v.count) [
-      | inl low ↦ clear.marked x low
-      | inr high ↦ unmarked_without_body v x view (no_place_behind v x view high)
-    ] in
+    let none_behind : (x : ℕ) → v.count ≤ x → IsPlace v.bodies x → ⊥ = λ x high. no_place_behind v x view high in
     record {
       off = off;
-      marked = holds_nothing v.marked unmarked;
-      traced = holds_nothing v.traced (λ x. untraced_if_unmarked v x view (unmarked x));
+      marked = holds_nothing v.marked (λ x. elim (cases_lt x v.count) [
+        | inl low ↦ clear.marked x low
+        | inr high ↦ unmarked_without_body v x view (none_behind x high)
+      ]);
+      traced = holds_nothing v.traced (λ x. elim (cases_lt x v.count) [
+        | inl low ↦ clear.traced x low
+        | inr high ↦ untraced_without_body v x view (none_behind x high)
+      ]);
       dead = holds_nothing v.dead (λ x. elim (cases_lt x v.count) [
         | inl low ↦ clear.dead x low
-        | inr high ↦ undead_without_body v x view (no_place_behind v x view high)
+        | inr high ↦ undead_without_body v x view (none_behind x high)
       ]);
     }
 
@@ -59,7 +62,7 @@ all_end from v view clear =
     ])))
     (outside_none from v.count v.marked (held_between from v v.marked view clear.marked view.marked_are_bodies))
     (outside_none from v.count v.traced
-    (held_between from v v.traced view clear.traced (λ a traced. view.marked_are_bodies a (view.traced_are_marked a traced))))
+    (held_between from v v.traced view clear.traced view.traced_are_bodies))
     (outside_none from v.count v.dead (held_between from v v.dead view clear.dead (λ a dead. (view.dead_are_unmarked a dead).0)))
 
 -- each dead body has two words at least

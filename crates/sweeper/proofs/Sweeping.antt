@@ -26,9 +26,14 @@ unmarked_without_body v x view none = false_from_ne_true (holds v.marked x) (λ 
 pub undead_without_body : (v : SeatView) (x : ℕ) → IsView v → (IsPlace v.bodies x → ⊥) → holds v.dead x ≡ false
 undead_without_body v x view none = false_from_ne_true (holds v.dead x) (λ dead. none (view.dead_are_unmarked x dead).0)
 
-pub untraced_if_unmarked : (v : SeatView) (x : ℕ) → IsView v → holds v.marked x ≡ false → holds v.traced x ≡ false
-untraced_if_unmarked v x view unmarked =
-    false_from_ne_true (holds v.traced x) (λ traced. true≢false (sym (view.traced_are_marked x traced) ∙ unmarked))
+pub untraced_without_body : (v : SeatView) (x : ℕ) → IsView v → (IsPlace v.bodies x → ⊥) → holds v.traced x ≡ false
+untraced_without_body v x view none = false_from_ne_true (holds v.traced x) (λ traced. none (view.traced_are_bodies x traced))
+
+-- ---- while no marking goes on, what is traced is marked
+
+untraced_if_unmarked : (v : SeatView) (x : ℕ) → IsView v → v.on ≡ false → holds v.marked x ≡ false → holds v.traced x ≡ false
+untraced_if_unmarked v x view off unmarked =
+    false_from_ne_true (holds v.traced x) (λ traced. true≢false (sym (view.traced_are_marked (view.at_rest off).none_lent x traced) ∙ unmarked))
 
 pub undead_if_marked : (v : SeatView) (x : ℕ) → IsView v → holds v.marked x ≡ true → holds v.dead x ≡ false
 undead_if_marked v x view marked = false_from_ne_true (holds v.dead x) (λ dead. true≢false (sym marked ∙ (view.dead_are_unmarked x dead).1))
@@ -47,7 +52,6 @@ changed_same v b c m n t u d e bodies marked traced dead =
 pub nothing : (from until : ℕ) (v : SeatView) (numbers : List ℕ) → IsView v → from ≤ until → HasNoStart v.bodies from until
     → Sweeps from until v numbers v numbers
 nothing from until v numbers view order none =
-    let unmarked : (x : ℕ) → from ≤ x → x < until → holds v.marked x ≡ false = λ x first last. unmarked_without_body v x view (none x first last) in
     record {
       view =
           changed_same v v.bodies (filter (λ b. not (is_dead_in from until v b)) v.bodies) v.marked (outside from until v.marked) v.traced
@@ -55,8 +59,8 @@ nothing from until v numbers view order none =
           (sym (filter_all (λ b. not (is_dead_in from until v b)) v.bodies (λ b there. ap not (and_left _ (holds v.dead b.place)
           (false_from_ne_true (is_between from until b.place) (λ is.
           none b.place (is_first from until b.place is) (is_last from until b.place is) (b, there, refl)))))))
-          (sym (outside_all from until v.marked unmarked))
-          (sym (outside_all from until v.traced (λ x first last. untraced_if_unmarked v x view (unmarked x first last))))
+          (sym (outside_all from until v.marked (λ x first last. unmarked_without_body v x view (none x first last))))
+          (sym (outside_all from until v.traced (λ x first last. untraced_without_body v x view (none x first last))))
           (sym (outside_all from until v.dead (λ x first last. undead_without_body v x view (none x first last))));
       told = record { numbers = []; are = serials_none from until v none; follow = sym (append-nil numbers) };
       few =
@@ -93,9 +97,9 @@ one_kept a v numbers view marked =
     }
 
 -- a dead body: it is no longer there, and its number follows the others
-pub one_gone : (a : ℕ) (v : SeatView) (b : Body) (numbers : List ℕ) → IsView v → Contains v.bodies b → b.place ≡ a → holds v.dead a ≡ true
+pub one_gone : (a : ℕ) (v : SeatView) (b : Body) (numbers : List ℕ) → IsView v → v.on ≡ false → Contains v.bodies b → b.place ≡ a → holds v.dead a ≡ true
     → Sweeps a (a + 1) v numbers (retracted v a) (numbers ++ b.serial ∷ [])
-one_gone a v b numbers view there at gone =
+one_gone a v b numbers view off there at gone =
     let unmarked : holds v.marked a ≡ false = (view.dead_are_unmarked a gone).1 in
     let clear : (x : ℕ) → a ≤ x → x < a + 1 → holds v.marked x ≡ false =
     λ x first last. let here : x ≡ a = omega arith in ap (holds v.marked) here ∙ unmarked in
@@ -112,7 +116,7 @@ one_gone a v b numbers view there at gone =
                 ∙ sym (and_left _ (holds v.dead c.place) (only a c.place ∙ ne_eqb c.place a other))
           ])) v.bodies)
           (sym (outside_all a (a + 1) v.marked clear))
-          (sym (outside_all a (a + 1) v.traced (λ x first last. untraced_if_unmarked v x view (clear x first last)))) (outside_one v.dead a);
+          (sym (outside_all a (a + 1) v.traced (λ x first last. untraced_if_unmarked v x view off (clear x first last)))) (outside_one v.dead a);
       told = record {
         numbers = b.serial ∷ [];
         are = serials_one a v b there at gone (λ c c_there here. same_body v b c view there c_there (at ∙ sym here));

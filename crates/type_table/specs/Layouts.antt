@@ -5,10 +5,12 @@ use Rattle.gc_graph.specs.declared.kind.Kind.{Kind}
 use Rattle.gc_graph.specs.declared.kind.Kind.TheVariants.{Strong, Weak, Pair}
 use Rattle.gc_graph.specs.State.{ObjectType}
 use Rattle.gc_graph.specs.Fields.{words_of_kind, field_words}
+use Rattle.type_table.specs.declared.traced.TracedWord.{TracedWord}
 use Rattle.type_table.specs.Types.{offset_of, offsets_of_kind}
+use Rattle.type_table.specs.TracedWords.{traced_words_of}
 
--- how many words the declared fields take, the offset of each field, the kind of each word's field, and the offsets of
--- the strong fields, of the weak ones and of the pairs
+-- how many words the declared fields take, the offset of each field, the kind of each word's field, the offsets of the
+-- strong fields, of the weak ones and of the pairs, and what tracing reads
 pub record LayoutState : Type 0 where
   pub words : ℕ
   pub offsets : List ℕ
@@ -16,6 +18,7 @@ pub record LayoutState : Type 0 where
   pub strong : List ℕ
   pub weak : List ℕ
   pub pairs : List ℕ
+  pub traced : List TracedWord
 
 -- the offsets of the declared fields, in their order
 abbrev pub offsets_of : List Kind → List ℕ
@@ -34,6 +37,7 @@ layout_of kinds = record {
   strong = offsets_of_kind Strong kinds;
   weak = offsets_of_kind Weak kinds;
   pairs = offsets_of_kind Pair kinds;
+  traced = traced_words_of kinds;
 }
 
 -- the layouts of types, by number

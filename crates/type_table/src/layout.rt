@@ -6,6 +6,7 @@ ghost use Rattle.gc_graph.specs.Fields as fields;
 ghost use Rattle.type_table.specs.Types as spec;
 ghost use Rattle.type_table.specs.Layouts as layouts;
 
+use crate::traced::{TracedWord, traced_words_of};
 use gc_graph::{Kind, NoMemory};
 use object_headers::FIRST_FIELD;
 use std::alloc::Global;
@@ -19,6 +20,7 @@ pub(crate) struct Layout {
     strong: Vec<u32>,
     weak: Vec<u32>,
     pairs: Vec<u32>,
+    traced: Vec<TracedWord>,
 }
 
 impl Model for Layout {
@@ -33,6 +35,7 @@ impl Model for Layout {
       strong = l.strong.items;
       weak = l.weak.items;
       pairs = l.pairs.items;
+      traced = l.traced.items;
     } };
 }
 
@@ -45,6 +48,7 @@ impl Layout {
         let strong = offsets_where(alloc, kinds, &offsets, Kind::Strong)?;
         let weak = offsets_where(alloc, kinds, &offsets, Kind::Weak)?;
         let pairs = offsets_where(alloc, kinds, &offsets, Kind::Pair)?;
+        let traced = traced_words_of(alloc, kinds)?;
         let by_word = kinds_of_words(alloc, kinds)?;
         Ok(Layout {
             words: field_words(kinds),
@@ -53,6 +57,7 @@ impl Layout {
             strong,
             weak,
             pairs,
+            traced,
         })
     }
 
@@ -98,9 +103,15 @@ impl Layout {
     {
         self.pairs.as_slice()
     }
+
+    pub(crate) fn traced(&self) -> &[TracedWord]
+        ensures { result.now ≡ self.now.traced }
+    {
+        self.traced.as_slice()
+    }
 }
 
-fn words_of(kind: Kind) -> u32
+pub(crate) fn words_of(kind: Kind) -> u32
     ensures value { result ≡ fields.words_of_kind kind }
     ensures few { result ≤ 2 }
 {

@@ -4,8 +4,8 @@
 //! an object's words. It knows nothing of any object.
 //!
 //! The parts: `TypeDecl` (the fields and the prefinalizers that a type line declares), `TypeTable`
-//! (all of them, with their layouts worked out, and a law, `fields_stand_apart`),
-//! `TypeFault` (why there is no such table).
+//! (all of them, with their layouts worked out, and a law, `fields_stand_apart`), `TracedWord` (a
+//! strong field or a pair, which tracing reads), `TypeFault` (why there is no such table).
 //!
 //! | offset | word of an object |
 //! |---|---|
@@ -25,8 +25,10 @@ mod faults;
 mod laws;
 mod layout;
 mod table;
+mod traced;
 
 pub use decl::TypeDecl;
 pub use faults::TypeFault;
 pub use laws::fields_stand_apart;
 pub use table::TypeTable;
+pub use traced::TracedWord;

@@ -8,11 +8,13 @@ ghost use Rattle.gc_graph.specs.State.{ObjectType};
 ghost use Rattle.object_headers.specs.Offsets.{first_field};
 ghost use Rattle.type_table.specs.Types as spec;
 ghost use Rattle.type_table.specs.Layouts as layouts;
+ghost use Rattle.type_table.specs.TracedWords.{traced_words_of};
 ghost use Rattle.type_table.specs.Faults.{AreGoodTypes, IsTypeFault};
 
 use crate::decl::TypeDecl;
 use crate::faults::{TypeFault, fault_of};
 use crate::layout::Layout;
+use crate::traced::TracedWord;
 use gc_graph::{Kind, NoMemory};
 use object_headers::FIRST_FIELD;
 use std::alloc::Global;
@@ -60,6 +62,7 @@ impl TypeTable {
     pub fn count(&self) -> u32
         ensures value { result ≡ length self.now }
         ensures few { length self.now ≤ 16383 }
+        ensures narrow { All (λ type. length type.kinds ≤ 64) self.now }
     {
         self.types.len() as u32
     }
@@ -137,6 +140,15 @@ impl TypeTable {
         ensures { result.now ≡ spec.offsets_of_kind Pair (spec.kinds_of self.now ty) }
     {
         self.layout(ty).pairs()
+    }
+
+    /// The strong fields and the pairs, in the order of their offsets: what an object's tracing
+    /// reads.
+    pub fn traced_words(&self, ty: u32) -> &[TracedWord]
+        requires { ty < length self.now }
+        ensures { result.now ≡ traced_words_of (spec.kinds_of self.now ty) }
+    {
+        self.layout(ty).traced()
     }
 
     /// The numbers of the callbacks that are the type's prefinalizers.

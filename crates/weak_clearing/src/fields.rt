@@ -1,7 +1,7 @@
 // Weak fields of marked objects (`WeakMember`, `include/cppgc/member.h`). What an object that is not
 // marked holds is left as it is.
 
-ghost use Rattle.std.specs.Prelude.{◌≡◌};
+ghost use Rattle.std.specs.Prelude.{◌≡◌, false};
 ghost use Rattle.page_space.specs.Space.{IsSeatOf};
 ghost use Rattle.weak_clearing.specs.declared.weak_handles.WeakHandles.TheVariants.{Fields};
 ghost use Rattle.weak_clearing.specs.Clearing.{MarkedHaveWeakReferences, with_weak_cleared};
@@ -18,6 +18,7 @@ use type_table::TypeTable;
 /// Sets to null exactly the weak fields of marked objects whose target is not marked.
 pub fn clear_fields(space: &Space, types: &TypeTable, seat: &mut MutatorSeat)
     requires heap { IsSeatOf space.now seat.old }
+    requires off { seat.old.on ≡ false }
     requires types { types.now ≡ seat.old.types }
     requires references { MarkedHaveWeakReferences seat.old }
     ensures cleared { seat.new ≡ with_weak_cleared seat.old }
@@ -28,6 +29,7 @@ pub fn clear_fields(space: &Space, types: &TypeTable, seat: &mut MutatorSeat)
 /// Sets a weak field to null, if it names an object that is not marked.
 pub(crate) fn clear_field(space: &Space, seat: &mut MutatorSeat, holder: u32, word: u32)
     requires heap { IsSeatOf space.now seat.old }
+    requires off { seat.old.on ≡ false }
     requires field { HasHandle Fields seat.old holder word }
     ensures { seat.new ≡ handle_cleared Fields seat.old holder word }
 {

@@ -1,7 +1,7 @@
 //! # Weak clearing
 //!
-//! What it is: after marking, weak handles to what was not marked become null, and so do pairs
-//! whose key was not. It is part of the pause, before any object goes.
+//! What it is: once marking is over, weak handles to what was not marked become null, and so do
+//! pairs whose key was not. It is part of the pause, before any object goes.
 //!
 //! The parts: `clear_fields` (the weak fields of the marked objects), `clear_pairs` (their pairs)
 //! and `clear_slots` (slots outside the heap). None takes memory. Inside, `walk` goes from object

@@ -9,11 +9,12 @@ ghost use Rattle.weak_clearing.specs.Steps.{IsMarkedOf};
 
 use object_headers::{Header, with_mark};
 use page_space::Space;
-use page_words::MutatorSeat;
+use page_words::{MutatorSeat, Reading};
 
 /// Whether a field word names an object that is not marked.
 pub(crate) fn is_to_unmarked(space: &Space, seat: &mut MutatorSeat, reference: u64) -> bool
     requires heap { IsSeatOf space.now seat.old }
+    requires off { seat.old.on ≡ false }
     requires reference { IsReference seat.old.bodies reference }
     ensures names { result ≡ names_unmarked seat.old.marked reference }
     ensures view { seat.new ≡ seat.old }
@@ -25,25 +26,27 @@ pub(crate) fn is_to_unmarked(space: &Space, seat: &mut MutatorSeat, reference: u
 /// Whether the object at a place is marked. No more of its header is looked at.
 pub(crate) fn is_marked(space: &Space, seat: &mut MutatorSeat, place: u32) -> bool
     requires heap { IsSeatOf space.now seat.old }
+    requires off { seat.old.on ≡ false }
     requires place { IsPlace seat.old.bodies place }
     ensures mark { result ≡ holds seat.old.marked place }
     ensures view { seat.new ≡ seat.old }
 {
     seat.bodies_lie_apart();
-    let word = space.words().load(seat, place);
+    let word = space.words().load::<Reading>(seat, place);
     word == with_mark(word, true)
 }
 
 /// The type of the object at a place, if that is marked.
 pub(crate) fn marked_type(space: &Space, seat: &mut MutatorSeat, place: u32) -> Option<u32>
     requires heap { IsSeatOf space.now seat.old }
+    requires off { seat.old.on ≡ false }
     requires place { IsPlace seat.old.bodies place }
     ensures marked { IfSome result (IsMarkedOf seat.old place) }
     ensures unmarked { IfNone result (holds seat.old.marked place ≡ false) }
     ensures view { seat.new ≡ seat.old }
 {
     seat.bodies_lie_apart();
-    let word = space.words().load(seat, place);
+    let word = space.words().load::<Reading>(seat, place);
     if with_mark(word, true) == word {
         Some(Header::type_in(word))
     } else {

@@ -1,7 +1,7 @@
 // Ephemeron pairs of marked objects (`include/cppgc/ephemeron-pair.h`). What an object that is not
 // marked holds is left as it is.
 
-ghost use Rattle.std.specs.Prelude.{◌≡◌};
+ghost use Rattle.std.specs.Prelude.{◌≡◌, false};
 ghost use Rattle.gc_graph.specs.declared.kind.Kind.TheVariants.{Pair};
 ghost use Rattle.page_space.specs.Space.{IsSeatOf};
 ghost use Rattle.weak_clearing.specs.declared.weak_handles.WeakHandles.TheVariants.{Pairs};
@@ -19,6 +19,7 @@ use type_table::TypeTable;
 /// Sets to null both words of exactly the pairs of marked objects whose key is not marked.
 pub fn clear_pairs(space: &Space, types: &TypeTable, seat: &mut MutatorSeat)
     requires heap { IsSeatOf space.now seat.old }
+    requires off { seat.old.on ≡ false }
     requires types { types.now ≡ seat.old.types }
     requires references { MarkedHaveReferencesOf Pair seat.old }
     ensures cleared { seat.new ≡ with_pairs_cleared seat.old }
@@ -30,6 +31,7 @@ pub fn clear_pairs(space: &Space, types: &TypeTable, seat: &mut MutatorSeat)
 /// mark is never asked for.
 pub(crate) fn clear_pair(space: &Space, seat: &mut MutatorSeat, holder: u32, word: u32)
     requires heap { IsSeatOf space.now seat.old }
+    requires off { seat.old.on ≡ false }
     requires pair { HasHandle Pairs seat.old holder word }
     ensures { seat.new ≡ handle_cleared Pairs seat.old holder word }
 {

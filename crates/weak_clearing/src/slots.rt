@@ -1,6 +1,6 @@
 // Weak handles outside the heap (`WeakPersistent`, `include/cppgc/persistent.h`).
 
-ghost use Rattle.std.specs.Prelude.{◌≡◌, ◌<◌, All, None, length, map, not};
+ghost use Rattle.std.specs.Prelude.{◌≡◌, ◌<◌, All, None, length, map, not, false};
 ghost use Rattle.std.specs.Prelude.{slice_index_or, slice_set};
 ghost use Rattle.std.specs.Option.{ForSome};
 ghost use Rattle.gc_graph.specs.Pause.{clear_slot};
@@ -17,6 +17,7 @@ use persistent_slots::Slots;
 /// Empties exactly the slots whose object is not marked.
 pub fn clear_slots(space: &Space, seat: &mut MutatorSeat, weak: &mut Slots)
     requires heap { IsSeatOf space.now seat.old }
+    requires off { seat.old.on ≡ false }
     requires places { All (IsPlace seat.old.bodies) (taken weak.old) }
     ensures cleared { weak.new ≡ map (clear_slot (λ a. not (holds seat.old.marked a))) weak.old }
     ensures view { seat.new ≡ seat.old }
@@ -29,6 +30,7 @@ pub fn clear_slots(space: &Space, seat: &mut MutatorSeat, weak: &mut Slots)
 /// Empties a slot, if its object is not marked.
 fn clear_at(space: &Space, seat: &mut MutatorSeat, weak: &mut Slots, i: u32)
     requires heap { IsSeatOf space.now seat.old }
+    requires off { seat.old.on ≡ false }
     requires slot { i < length weak.old }
     requires place { ForSome (slice_index_or weak.old i None) (IsPlace seat.old.bodies) }
     ensures cleared { weak.new ≡ slice_set weak.old i (clear_slot

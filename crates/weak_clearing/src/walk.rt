@@ -1,6 +1,6 @@
 // From object to object, and from handle to handle of each.
 
-ghost use Rattle.std.specs.Prelude.{◌≡◌, ◌/◌, ◌<◌};
+ghost use Rattle.std.specs.Prelude.{◌≡◌, ◌/◌, ◌<◌, false};
 ghost use Rattle.marker_core.specs.Bodies.{IsPlace};
 ghost use Rattle.page_words.specs.Seat.{block_words};
 ghost use Rattle.page_space.specs.Pages.{word_count};
@@ -22,6 +22,7 @@ use type_table::TypeTable;
 /// marked.
 pub fn clear_handles(space: &Space, types: &TypeTable, seat: &mut MutatorSeat, handles: WeakHandles)
     requires heap { IsSeatOf space.now seat.old }
+    requires off { seat.old.on ≡ false }
     requires types { types.now ≡ seat.old.types }
     requires references { MarkedHaveReferencesOf (kind_of_handles handles) seat.old }
     ensures { seat.new ≡ all_cleared handles seat.old }
@@ -48,6 +49,7 @@ fn clear_block(
     starts: u64,
 )
     requires heap { IsSeatOf space.now seat.old }
+    requires off { seat.old.on ≡ false }
     requires types { types.now ≡ seat.old.types }
     requires references { MarkedHaveReferencesOf (kind_of_handles handles) seat.old }
     requires block { block < word_count space.now.shape / block_words }
@@ -72,6 +74,7 @@ fn clear_object(
     a: u32,
 )
     requires heap { IsSeatOf space.now seat.old }
+    requires off { seat.old.on ≡ false }
     requires types { types.now ≡ seat.old.types }
     requires references { MarkedHaveReferencesOf (kind_of_handles handles) seat.old }
     requires start { IsPlace seat.old.bodies a }
@@ -92,6 +95,7 @@ fn clear_holder(
     ty: u32,
 )
     requires heap { IsSeatOf space.now seat.old }
+    requires off { seat.old.on ≡ false }
     requires types { types.now ≡ seat.old.types }
     requires references { MarkedHaveReferencesOf (kind_of_handles handles) seat.old }
     requires marked { IsMarkedOf seat.old holder ty }
@@ -107,6 +111,7 @@ fn clear_holder(
 /// Clears the handle at an offset, if it names an object that is not marked.
 fn clear_handle(space: &Space, seat: &mut MutatorSeat, handles: WeakHandles, holder: u32, word: u32)
     requires heap { IsSeatOf space.now seat.old }
+    requires off { seat.old.on ≡ false }
     requires handle { HasHandle handles seat.old holder word }
     ensures { seat.new ≡ handle_cleared handles seat.old holder word }
 {

@@ -1,6 +1,7 @@
-use Rattle.std.proofs.Common.{sym, ◌∙◌, subst}
+use Rattle.std.proofs.Common.{◌≡◌, refl, sym, ◌∙◌, subst}
 use Rattle.marker_core.specs.Bodies.{holds}
 use Rattle.marker_core.specs.Closed.{IsClosedOver}
+use Rattle.page_words.specs.Seat.{ended}
 use Rattle.page_words.specs.Roles.{kind_lists}
 use Rattle.ephemerons.specs.Marking.{IsOver}
 use Rattle.atomic_pause.proofs.MarkEnds.{walked_or_listed, kept_are_counted, marks_reachable}
@@ -13,25 +14,31 @@ over : (c : goal.After-marking-1) → IsOver c.args.types.now c.fixpoint-traced.
 over c =
     c.fixpoint-traced.ensures.over (walked_or_listed c.args.types.now c.args.seat.now c.args.marking.now c.args.notes.now c.requires.untraced c.requires.listed)
 
-pub set_stop-requires-clause-allowed : goal.set_stop-requires-clause-allowed
-set_stop-requires-clause-allowed c =
+pub set_stop-requires : goal.set_stop-requires
+set_stop-requires c =
     let v = c.fixpoint-traced.new.seat in
     let kept = c.fixpoint-traced.ensures.kept in
     let over : IsOver c.args.types.now v =
     c.fixpoint-traced.ensures.over (walked_or_listed c.args.types.now c.args.seat.now c.args.marking.now c.args.notes.now c.requires.untraced c.requires.listed)
-    in
-    record {
-      on = kept.on ∙ c.requires.on;
-      traced = over.no_grey;
-      closed = subst (λ ts. IsClosedOver (kind_lists ts) v.bodies (holds v.marked)) (c.requires.types ∙ sym kept.types) over.over_words;
-    }
+    in (
+      kept.count ∙ c.requires.heap ∙ sym c.words.ensures,
+      λ on alone. record {
+        alone = c.fixpoint-traced.ensures.alone;
+        traced = over.no_grey;
+        closed = subst (λ ts. IsClosedOver (kind_lists ts) v.bodies (holds v.marked)) (c.requires.types ∙ sym kept.types) over.over_words;
+      },
+    )
+
+ends : (c : goal.After-marking-1) → c.set_stop.new.seat ≡ ended c.fixpoint-traced.new.seat
+ends c =
+    c.set_stop.ensures.ended refl (c.fixpoint-traced.ensures.kept.on ∙ c.requires.on) c.fixpoint-traced.ensures.alone.none_lent
 
 pub returns-clause-over : goal.returns-clause-over
 returns-clause-over c =
     marks_reachable c.args.types.now c.args.seat.now c.fixpoint-traced.new.seat c.set_stop.new.seat c.fixpoint-traced.ensures.kept (over c)
-    c.fixpoint-traced.ensures.within c.set_stop.ensures
+    c.fixpoint-traced.ensures.within (ends c)
 
 pub returns-clause-traced : goal.returns-clause-traced
 returns-clause-traced c =
     kept_are_counted c.args.types.now c.args.seat.now c.fixpoint-traced.new.seat c.set_stop.new.seat c.fixpoint-traced.result c.requires.untraced
-    c.bodies_lie_apart.ensures (over c) (c.fixpoint-traced.ensures.counted c.requires.differ) c.set_stop.ensures
+    c.bodies_lie_apart.ensures c.fixpoint-traced.ensures.alone.none_lent (over c) (c.fixpoint-traced.ensures.counted c.requires.differ) (ends c)

@@ -1,4 +1,4 @@
-use Rattle.std.proofs.Common.{◌≡◌, ℕ, Bool, List, length, get_or, refl, sym, ap, ◌∙◌, subst}
+use Rattle.std.proofs.Common.{true, inl, inr, ◌≡◌, ℕ, Bool, List, length, get_or, refl, sym, ap, ◌∙◌, subst}
 use Rattle.std.specs.List.{All}
 use Rattle.gc_graph.specs.State.{Setup, Node}
 use Rattle.gc_graph.specs.declared.kind.Kind.TheVariants.{Weak, Pair}
@@ -18,7 +18,7 @@ use Rattle.prefinalizer_effects.specs.Prepared.{setup_of, IsPrepared}
 use Rattle.nodes_in_words.specs.Places.{kept_of}
 use Rattle.nodes_in_words.specs.Judgement.{nodes_after}
 use Rattle.nodes_in_words.specs.NodePlaces.{places_differ}
-use Rattle.atomic_pause.specs.Marking.{IsRootPlace, MarksReachable}
+use Rattle.atomic_pause.specs.Marking.{IsRootPlace, IsScanned, MarksReachable}
 use Rattle.atomic_pause.proofs.BodyReferences.{alive_unjudged, alive_marked, references_hold, marked_references}
 use Rattle.atomic_pause.proofs.MarkEnds.{listed_from}
 use Rattle.atomic_pause.proofs.PausedNodes.{roots_marked, prepared, paused_is, registered_after, kept_count, dead_left}
@@ -26,6 +26,28 @@ use Rattle.atomic_pause.proofs.ReachedNodes.{has_marked, all_roots, keeps_reache
 use Rattle.atomic_pause.proofs.WeakJudged.{both_cleared, extents_cleared, weak_left_is}
 use Rattle.atomic_pause.proofs.pausing.pause.Given as given
 use Rattle.atomic_pause.proofs.pausing.pause.Goals as goal
+
+pub visit_slots-requires-clause-may : goal.visit_slots-requires-clause-may
+visit_slots-requires-clause-may g c p slot = c.requires.may p (inl slot)
+
+pub scan_stack-requires-clause-alone : goal.scan_stack-requires-clause-alone
+scan_stack-requires-clause-alone g c = ap (λ (z : SeatView). z.lent) c.visit_slots.ensures.marks.view ∙ c.requires.begun.alone.none_lent
+
+pub scan_stack-requires-clause-may : goal.scan_stack-requires-clause-may
+scan_stack-requires-clause-may g c p hit =
+    let same = c.visit_slots.ensures.marks.view in
+    subst (λ places. holds places p ≡ true) (sym (ap (λ (z : SeatView). z.may) same))
+    (c.requires.may p (inr (subst (λ bs. IsScanned c.args.precise bs c.args.stack.now p) (ap (λ (z : SeatView). z.bodies) same) hit)))
+
+pub close-traced-requires-clause-alone : goal.close-traced-requires-clause-alone
+close-traced-requires-clause-alone g c =
+    let visit = c.visit_slots.ensures.marks in
+    let scan = c.scan_stack.ensures.marks in
+    record {
+      no_hand = scan.no_hand (visit.no_hand c.requires.begun.alone.no_hand);
+      no_pending = scan.no_pending (visit.no_pending c.requires.begun.alone.no_pending);
+      none_lent = ap (λ (z : SeatView). z.lent) scan.view ∙ ap (λ (z : SeatView). z.lent) visit.view ∙ c.requires.begun.alone.none_lent;
+    }
 
 pub close-traced-requires-clause-types : goal.close-traced-requires-clause-types
 close-traced-requires-clause-types g c =

@@ -1,6 +1,8 @@
-use Rattle.std.proofs.Common.{◌≡◌, ◌<◌, ℕ, List, length, get_or, inl, inr, refl, sym, ap, ◌∙◌, subst, arith}
+use Rattle.std.proofs.Common.{◌≡◌, true, ◌<◌, ℕ, List, length, get_or, inl, inr, refl, sym, ap, ◌∙◌, subst, arith}
+use Rattle.std.proofs.lemmas.List.Elements.{Contains-get_or}
 use Rattle.gc_graph.specs.Members.{Contains-take_more_cases, Contains-take_more_old, Contains-take_more_new}
 use Rattle.marker_core.specs.declared.states.Body.{Body}
+use Rattle.marker_core.specs.Bodies.{holds}
 use Rattle.page_words.specs.Seat.{SeatView}
 use Rattle.page_space.specs.Space.{HoldsAddress, IsSpaceOver, extents_of_bodies}
 use Rattle.ephemerons.specs.ListedMarks.{ListsMarks-then}
@@ -16,6 +18,20 @@ scan_word-requires-clause-space c =
 
 pub scan_word-requires-clause-on : goal.scan_word-requires-clause-on
 scan_word-requires-clause-on c = ap (λ (v : SeatView). v.on) c.loop-i.invariant.marks.view ∙ c.requires.on
+
+pub scan_word-requires-clause-alone : goal.scan_word-requires-clause-alone
+scan_word-requires-clause-alone c = ap (λ (v : SeatView). v.lent) c.loop-i.invariant.marks.view ∙ c.requires.alone
+
+pub scan_word-requires-clause-may : goal.scan_word-requires-clause-may
+scan_word-requires-clause-may c p hit =
+    let low : c.loop-i.i < length c.args.stack.now = omega arith in
+    let a : ℕ = get_or c.args.stack.now c.loop-i.i 0 in
+    subst (λ places. holds places p ≡ true) (sym (ap (λ (v : SeatView). v.may) c.loop-i.invariant.marks.view))
+    (c.requires.may p (
+      a,
+      Contains-get_or c.args.stack.now c.loop-i.i 0 low,
+      subst (λ bs. HoldsAddress bs a p) (ap (λ (v : SeatView). v.bodies) c.loop-i.invariant.marks.view) hit,
+    ))
 
 pub loop-i-preserved : goal.loop-i-preserved
 loop-i-preserved c =

@@ -1,8 +1,9 @@
-use Rattle.std.proofs.Common.{◌<◌, length, None, Some, inl, inr, sym, ap, ◌∙◌, subst, arith}
+use Rattle.std.proofs.Common.{◌≡◌, true, ◌<◌, length, None, Some, inl, inr, sym, ap, ◌∙◌, subst, arith}
+use Rattle.std.specs.List.{Contains}
 use Rattle.std.specs.Option.{ForSome}
-use Rattle.std.proofs.lemmas.List.Elements.{All-get_or}
+use Rattle.std.proofs.lemmas.List.Elements.{All-get_or, Contains-get_or}
 use Rattle.gc_graph.specs.Members.{Contains-take_more_cases, Contains-take_more_old, Contains-take_more_new}
-use Rattle.marker_core.specs.Bodies.{IsPlace}
+use Rattle.marker_core.specs.Bodies.{IsPlace, holds}
 use Rattle.page_words.specs.Seat.{SeatView}
 use Rattle.ephemerons.specs.ListedMarks.{ListsMarks-then}
 use Rattle.atomic_pause.proofs.roots.visit_slots.Goals as goal
@@ -19,6 +20,15 @@ visit_slot-requires-clause-slot c =
     subst (λ bs. ForSome c.get.result (IsPlace bs)) (sym (ap (λ (v : SeatView). v.bodies) c.loop-i.invariant.marks.view))
     (subst (λ slot. ForSome slot (IsPlace c.args.seat.now.bodies)) (sym c.get.ensures)
     (All-get_or (λ slot. ForSome slot (IsPlace c.args.seat.now.bodies)) c.args.slots.now c.loop-i.i None low c.requires.slots))
+
+pub visit_slot-requires-clause-alone : goal.visit_slot-requires-clause-alone
+visit_slot-requires-clause-alone c = ap (λ (v : SeatView). v.lent) c.loop-i.invariant.marks.view ∙ c.requires.alone
+
+pub visit_slot-requires-clause-may : goal.visit_slot-requires-clause-may
+visit_slot-requires-clause-may c p is =
+    let low : c.loop-i.i < length c.args.slots.now = omega arith in
+    subst (λ places. holds places p ≡ true) (sym (ap (λ (v : SeatView). v.may) c.loop-i.invariant.marks.view))
+    (c.requires.may p (subst (Contains c.args.slots.now) (sym c.get.ensures ∙ is) (Contains-get_or c.args.slots.now c.loop-i.i None low)))
 
 pub loop-i-preserved : goal.loop-i-preserved
 loop-i-preserved c =

@@ -11,6 +11,8 @@ pub settle_all-requires-clause-ground : goal.settle_all-requires-clause-ground
 settle_all-requires-clause-ground c =
     subst (λ (gs : List NotesState). IsGround c.args.types.now (stage c.args.seat.now c.args.marking.now gs 0)) (sym c.begin_indexes.ensures) (record {
       on = c.requires.on;
+      known = sym c.requires.types;
+      alone = c.requires.alone;
       references = c.requires.references;
       traced_name_marked = c.requires.traced;
       listed = c.requires.listed;

@@ -1,20 +1,23 @@
-use Rattle.std.proofs.Common.{◌≡◌, false, sym, ap, ◌∙◌}
+use Rattle.std.proofs.Common.{◌≡◌, Bool, false, not, sym, ap, ◌∙◌}
+use Rattle.std.proofs.lemmas.Bool.{not-true}
 use Rattle.marker_core.specs.Bodies.{holds}
-use Rattle.page_words.specs.Seat.{SeatView, marked_at}
+use Rattle.page_words.specs.Seat.{marked_at}
 use Rattle.ephemerons.proofs.MarkSteps.{mark_lists}
-use Rattle.ephemerons.proofs.Holding.{in_hand}
+use Rattle.ephemerons.proofs.Holding.{held_back}
 use Rattle.ephemerons.proofs.marks.mark_unlisted.Goals as goal
 
-pub returns-clause-marks : goal.returns-clause-marks
-returns-clause-marks c m =
-    let fresh : holds c.args.seat.now.marked c.args.place ≡ false = sym c.is_marked.ensures.mark ∙ c.if-is_marked.false in
-    let view : c.mark.new.seat ≡ marked_at c.args.seat.now c.args.place =
-    c.mark.ensures.view ∙ ap (λ (v : SeatView). marked_at v c.args.place) c.is_marked.ensures.view in
-    (mark_lists c.args.seat.now c.mark.new.seat m _ c.args.place c.bodies_lie_apart.ensures c.requires.place view fresh (in_hand m c.args.place)).0
+view : (c : goal.Then-mark) → c.mark.new.seat ≡ marked_at c.args.seat.now c.args.place false
+view c = c.mark.ensures.view ∙ ap (λ (b : Bool). marked_at c.args.seat.now c.args.place (not b)) c.if-mark.true
 
-pub returns-clause-found : goal.returns-clause-found
-returns-clause-found c m =
-    let fresh : holds c.args.seat.now.marked c.args.place ≡ false = sym c.is_marked.ensures.mark ∙ c.if-is_marked.false in
-    let view : c.mark.new.seat ≡ marked_at c.args.seat.now c.args.place =
-    c.mark.ensures.view ∙ ap (λ (v : SeatView). marked_at v c.args.place) c.is_marked.ensures.view in
-    (mark_lists c.args.seat.now c.mark.new.seat m _ c.args.place c.bodies_lie_apart.ensures c.requires.place view fresh (in_hand m c.args.place)).1
+fresh : (c : goal.Then-mark) → holds c.args.seat.now.marked c.args.place ≡ false
+fresh c = not-true (holds c.args.seat.now.marked c.args.place) (sym (c.mark.ensures.fresh c.requires.alone) ∙ c.if-mark.true)
+
+pub returns-then-mark-clause-marks : goal.returns-then-mark-clause-marks
+returns-then-mark-clause-marks c m =
+    (mark_lists c.args.seat.now c.mark.new.seat m _ c.args.place c.bodies_lie_apart.ensures c.requires.place (view c) (fresh c)
+    (held_back m c.args.place)).0
+
+pub returns-then-mark-clause-found : goal.returns-then-mark-clause-found
+returns-then-mark-clause-found c m =
+    (mark_lists c.args.seat.now c.mark.new.seat m _ c.args.place c.bodies_lie_apart.ensures c.requires.place (view c) (fresh c)
+    (held_back m c.args.place)).1

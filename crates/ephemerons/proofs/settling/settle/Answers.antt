@@ -1,4 +1,4 @@
-use Rattle.ephemerons.proofs.Stages.{Looks-free}
+use Rattle.ephemerons.proofs.Looks.{Looks-free}
 use Rattle.ephemerons.proofs.settling.settle.Goals as goal
 
 pub returns-then-note-eq0-clause-looks : goal.returns-then-note-eq0-clause-looks

@@ -2,7 +2,7 @@ use Rattle.std.proofs.Common.{◌≡◌, ℕ, ◌<◌, ◌||◌, None, get_or, l
 use Rattle.std.proofs.lemmas.List.{get_or_default}
 use Rattle.ephemerons.specs.Notes.{NotesState, group_at, no_notes, note_at, note_of}
 use Rattle.ephemerons.specs.Fixpoint.{Stage, stage, IsSettled}
-use Rattle.ephemerons.proofs.Stages.{joined, Looks-then, looks_more}
+use Rattle.ephemerons.proofs.Looks.{joined, noted_stays, Looks-then, looks_more}
 use Rattle.ephemerons.proofs.settling.settle_group.Goals.{then-found, else-found}
 use Rattle.ephemerons.proofs.settling.settle_group.Goals as goal
 
@@ -17,7 +17,7 @@ loop-j-preserved c =
       looks = rw either (Looks-then c.args.types.now None _ _ _ c.loop-j.found c.settle_at-more.result c.loop-j.invariant.looks c.settle_at-more.ensures.looks);
       settled = λ none. looks_more
           (λ (s : Stage) (k : ℕ). k < length (group_at s.groups c.args.i).notes → IsSettled c.args.types.now s.view (note_at (group_at s.groups c.args.i) k))
-          before after c.loop-j.found c.settle_at-more.result c.loop-j.j c.loop-j.invariant.settled c.settle_at-more.ensures.looks.still
+          (noted_stays c.args.types.now c.args.i) before after c.loop-j.found c.settle_at-more.result c.loop-j.j c.loop-j.invariant.settled c.settle_at-more.ensures.looks.still
           c.settle_at-more.ensures.settled (sym either ∙ none);
     }
 

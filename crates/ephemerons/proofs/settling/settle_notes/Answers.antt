@@ -3,7 +3,7 @@ use Rattle.std.specs.List.{Contains}
 use Rattle.ephemerons.specs.declared.notes.Note.{Note}
 use Rattle.ephemerons.specs.Notes.{group_at}
 use Rattle.ephemerons.specs.Fixpoint.{Stage, stage, IsSettled}
-use Rattle.ephemerons.proofs.Stages.{joined, Looks-then, looks_more}
+use Rattle.ephemerons.proofs.Looks.{joined, group_stays, Looks-then, looks_more}
 use Rattle.ephemerons.proofs.settling.settle_notes.Goals.{then-found, else-found}
 use Rattle.ephemerons.proofs.settling.settle_notes.Goals as goal
 
@@ -18,7 +18,7 @@ loop-i-preserved c =
       looks = rw either (Looks-then c.args.types.now None _ _ _ c.loop-i.found c.settle_group-more.result c.loop-i.invariant.looks c.settle_group-more.ensures.looks);
       settled = λ none. looks_more
           (λ (s : Stage) (k : ℕ). (note : Note) → Contains (group_at s.groups k).notes note → IsSettled c.args.types.now s.view note)
-          before after c.loop-i.found c.settle_group-more.result c.loop-i.i c.loop-i.invariant.settled c.settle_group-more.ensures.looks.still
+          (group_stays c.args.types.now) before after c.loop-i.found c.settle_group-more.result c.loop-i.i c.loop-i.invariant.settled c.settle_group-more.ensures.looks.still
           c.settle_group-more.ensures.settled (sym either ∙ none);
     }
 

@@ -1,12 +1,14 @@
-use Rattle.std.proofs.Common.{ℕ, take}
+use Rattle.std.proofs.Common.{◌≡◌, ℕ, take, drop}
 use Rattle.std.specs.List.{Contains}
 use Rattle.ephemerons.specs.Marking.{GrowsWithin, HasTargetMarked}
+use Rattle.ephemerons.specs.InHand.{hand_over, traced_in}
 use Rattle.ephemerons.specs.Fixpoint.{ListsMarks}
 use Rattle.ephemerons.proofs.strong_fields.trace_words.Given as goal
 
 abbrev pub invariant-loop-offset : goal.invariant-loop-offset
 invariant-loop-offset l = record {
   marks : ListsMarks l.initial.seat l.initial.marking l.seat l.marking;
-  within : GrowsWithin l.types l.initial.seat l.seat;
+  within : GrowsWithin l.initial.seat.types l.initial.seat l.seat;
   named : (offset : ℕ) → Contains (take l.offset-index l.offsets) offset → HasTargetMarked l.seat l.place offset;
+  hand : l.seat.hand ≡ hand_over l.place l.ty (drop l.offset-index (traced_in l.initial.seat.types l.ty));
 }

@@ -1,6 +1,7 @@
-use Rattle.std.proofs.Common.{true, false, ◌∙◌, subst}
+use Rattle.std.proofs.Common.{true, false, sym, ◌∙◌, subst}
 use Rattle.std.specs.List.{Contains}
 use Rattle.marker_core.specs.Bodies.{holds}
+use Rattle.page_words.specs.BodyPlaces.{small_type}
 use Rattle.page_words.specs.Seat.{SeatView}
 use Rattle.ephemerons.proofs.tracing.claim.Goals as goal
 
@@ -8,6 +9,18 @@ pub claim-requires-clause-header : goal.claim-requires-clause-header
 claim-requires-clause-header c b there at =
     let v : SeatView = c.args.seat.now in
     let here : Contains v.bodies b = subst (λ (x : SeatView). Contains x.bodies b) c.load-word.ensures.view there in
-    let read = c.load-word.ensures.word.header b here at in
+    let read = c.load-word.ensures.word.alone c.requires.alone.none_lent b here at in
     let untraced = c.if-word-with_traced.false ∙ c.with_traced.ensures.header true (holds v.marked b.place) (holds v.traced b.place) b.ty b.size read in
     c.if-word-with_mark.false ∙ c.with_mark.ensures.header true (holds v.marked b.place) false b.ty b.size untraced
+
+pub returns-clause-body : goal.returns-clause-body
+returns-clause-body c =
+    let v : SeatView = c.args.seat.now in
+    let at = c.requires.place in
+    let read = c.load-word.ensures.word.alone c.requires.alone.none_lent at.0 at.1 at.2 in (
+      at.0,
+      at.1,
+      at.2,
+      sym (c.type_in.ensures.header true (holds v.marked at.0.place) (holds v.traced at.0.place) at.0.ty at.0.size
+          (small_type v c.bodies_lie_apart.ensures at.0 at.1) read),
+    )

@@ -1,25 +1,104 @@
-use Rattle.ephemerons.proofs.Graph.{GrowsWithin-then}
-use Rattle.ephemerons.proofs.MarkSteps.{same_bodies, same_count}
+use Rattle.std.proofs.Common.{◌≡◌, ℕ, List, get_or, ap, ◌∙◌, sym, subst, inl, inr, refl, arith}
+use Rattle.std.specs.List.{Contains}
+use Rattle.std.proofs.lemmas.List.{take_all}
+use Rattle.gc_graph.specs.Members.{Contains-take_more_cases}
+use Rattle.gc_graph.specs.State.{ObjectType}
+use Rattle.type_table.specs.declared.traced.TracedWord.{TracedWord}
+use Rattle.type_table.specs.declared.traced.TracedWord.TheVariants.{StrongAt}
+use Rattle.type_table.specs.Types.{kinds_of}
+use Rattle.type_table.specs.TracedWords.{traced_words_of}
+use Rattle.ephemerons.specs.Marking.{GrowsWithin, HasStrongMarked}
+use Rattle.ephemerons.specs.Notes.{NotesGrow, HasPairsNoted}
+use Rattle.ephemerons.specs.InHand.{IsWordTraced, traced_in}
 use Rattle.ephemerons.specs.ListedMarks.{ListsMarks-then}
-use Rattle.ephemerons.proofs.StrongWords.{all_named, target_stays}
+use Rattle.ephemerons.proofs.HandPath.{hand_at_first, hand_at_next, hand_at_end}
+use Rattle.ephemerons.proofs.Holding.{ListsMarks-same}
+use Rattle.ephemerons.proofs.MarkSteps.{same_bodies, same_types}
+use Rattle.ephemerons.proofs.NoPairs.{nothing_noted}
+use Rattle.ephemerons.proofs.NoteSteps.{NotesGrow-then}
+use Rattle.ephemerons.proofs.StrongWords.{within_then}
+use Rattle.ephemerons.proofs.TracedFields.{told_length, at_each_word, word_stays, strong_done, pairs_done}
 use Rattle.ephemerons.proofs.tracing.trace_fields.Goals as goal
 
-pub returns-clause-marks : goal.returns-clause-marks
-returns-clause-marks c =
-    ListsMarks-then c.args.seat.now c.trace_words.new.seat c.trace_pairs.new.seat c.args.marking.now c.trace_words.new.marking c.trace_pairs.new.marking
-    c.trace_words.ensures.marks c.trace_pairs.ensures.marks
+pub loop-word-init : goal.loop-word-init
+loop-word-init c = record {
+  marks = ListsMarks-same c.args.seat.now c.args.marking.now;
+  within = λ test closed held p marked. held p marked;
+  notes = nothing_noted c.args.seat.now.types c.args.seat.now.bodies c.args.notes.now;
+  done = λ word there. absurd (omega (arith, there.1));
+  hand = hand_at_first c.args.seat.now.types c.args.seat.now c.args.place c.args.ty refl c.requires.hand;
+}
+
+pub trace_word-requires-clause-hand : goal.trace_word-requires-clause-hand
+trace_word-requires-clause-hand c =
+    let u = c.args.seat.now in
+    let v = c.loop-word.seat in
+    at_each_word u v (same_bodies u v c.args.marking.now c.loop-word.marking c.loop-word.invariant.marks)
+    (same_types u v c.args.marking.now c.loop-word.marking c.loop-word.invariant.marks) c.args.place c.args.ty c.requires.body
+    c.traced_words-traced.result.now
+    (c.traced_words-traced.ensures ∙ ap (λ (ts : List ObjectType). traced_words_of (kinds_of ts c.args.ty)) (sym c.requires.types)) c.loop-word.word-index
+    c.loop-word-test.true c.loop-word.invariant.hand
+
+pub loop-word-preserved : goal.loop-word-preserved
+loop-word-preserved c =
+    let u = c.args.seat.now in
+    let v = c.loop-word.seat in
+    let w = c.trace_word.new.seat in
+    let i : ℕ = c.loop-word.word-index in
+    let told : List TracedWord = c.traced_words-traced.result.now in
+    let marks = c.loop-word.invariant.marks in
+    let types = same_types u v c.args.marking.now c.loop-word.marking marks in
+    let bodies = same_bodies u v c.args.marking.now c.loop-word.marking marks in
+    let is : told ≡ traced_words_of (kinds_of u.types c.args.ty) =
+    c.traced_words-traced.ensures ∙ ap (λ (ts : List ObjectType). traced_words_of (kinds_of ts c.args.ty)) (sym c.requires.types) in
+    let grow : NotesGrow u.types v.bodies c.loop-word.notes c.trace_word.new.notes =
+    subst (λ (ts : List ObjectType). NotesGrow ts v.bodies c.loop-word.notes c.trace_word.new.notes) types c.trace_word.ensures.notes in
+    record {
+      marks = ListsMarks-then u v w c.args.marking.now c.loop-word.marking c.trace_word.new.marking marks c.trace_word.ensures.marks;
+      within = within_then u.types u v w c.args.marking.now c.loop-word.marking types marks c.loop-word.invariant.within c.trace_word.ensures.within;
+      notes = NotesGrow-then u.types u.bodies c.args.notes.now c.loop-word.notes c.trace_word.new.notes c.loop-word.invariant.notes
+          (subst (λ bs. NotesGrow u.types bs c.loop-word.notes c.trace_word.new.notes) bodies grow);
+      done = λ word among. elim (Contains-take_more_cases told i (StrongAt 0) word c.loop-word-test.true among) [
+        | inl earlier ↦ word_stays u.types v w c.loop-word.marking c.trace_word.new.marking c.args.place c.loop-word.notes c.trace_word.new.notes word
+            c.trace_word.ensures.marks grow (c.loop-word.invariant.done word earlier)
+        | inr here ↦ subst (IsWordTraced u.types w c.args.place c.trace_word.new.notes) here
+            (subst (λ (ts : List ObjectType). IsWordTraced ts w c.args.place c.trace_word.new.notes (get_or told i (StrongAt 0))) types c.trace_word.ensures.done)
+      ];
+      hand = hand_at_next u.types v w c.args.place c.args.ty i types (omega (arith, c.loop-word-test.true, told_length u.types c.args.ty told is))
+          c.loop-word.invariant.hand c.trace_word.ensures.hand;
+    }
 
 pub returns-clause-within : goal.returns-clause-within
 returns-clause-within c =
-    GrowsWithin-then c.args.types.now c.args.seat.now c.trace_words.new.seat c.trace_pairs.new.seat
-    (same_bodies c.args.seat.now c.trace_words.new.seat c.args.marking.now c.trace_words.new.marking c.trace_words.ensures.marks)
-    (same_count c.args.seat.now c.trace_words.new.seat c.args.marking.now c.trace_words.new.marking c.trace_words.ensures.marks)
-    c.trace_words.ensures.within c.trace_pairs.ensures.within
+    subst (λ (ts : List ObjectType). GrowsWithin ts c.args.seat.now c.loop-word.seat) c.requires.types c.loop-word.invariant.within
 
 pub returns-clause-strong : goal.returns-clause-strong
 returns-clause-strong c =
-    all_named c.args.types.now c.args.seat.now c.trace_pairs.new.seat c.args.place c.args.ty c.strong_words-strong.result.now c.bodies_lie_apart.ensures
-    c.requires.body c.strong_words-strong.ensures
-    (same_bodies c.args.seat.now c.trace_pairs.new.seat c.args.marking.now c.trace_pairs.new.marking (returns-clause-marks c))
-    (λ offset there. target_stays c.trace_words.new.seat c.trace_pairs.new.seat c.trace_words.new.marking c.trace_pairs.new.marking c.args.place offset
-    c.trace_pairs.ensures.marks (c.trace_words.ensures.named offset there))
+    let u = c.args.seat.now in
+    let w = c.loop-word.seat in
+    let told : List TracedWord = c.traced_words-traced.result.now in
+    subst (λ (ts : List ObjectType). HasStrongMarked ts w c.args.place) c.requires.types
+    (strong_done u w c.args.place c.args.ty told c.loop-word.notes c.bodies_lie_apart.ensures c.requires.body
+    (c.traced_words-traced.ensures ∙ ap (λ (ts : List ObjectType). traced_words_of (kinds_of ts c.args.ty)) (sym c.requires.types))
+    (same_bodies u w c.args.marking.now c.loop-word.marking c.loop-word.invariant.marks)
+    (λ word there. c.loop-word.invariant.done word (subst (λ l. Contains l word) (sym (take_all c.loop-word.word-index told (omega arith))) there)))
+
+pub returns-clause-pairs : goal.returns-clause-pairs
+returns-clause-pairs c fine =
+    let u = c.args.seat.now in
+    let w = c.loop-word.seat in
+    let told : List TracedWord = c.traced_words-traced.result.now in
+    subst (λ (ts : List ObjectType). HasPairsNoted ts w c.args.place (Contains c.loop-word.notes.notes)) c.requires.types
+    (pairs_done u w c.args.place c.args.ty told c.loop-word.notes c.bodies_lie_apart.ensures c.requires.body
+    (c.traced_words-traced.ensures ∙ ap (λ (ts : List ObjectType). traced_words_of (kinds_of ts c.args.ty)) (sym c.requires.types))
+    (same_bodies u w c.args.marking.now c.loop-word.marking c.loop-word.invariant.marks)
+    (λ word there. c.loop-word.invariant.done word (subst (λ l. Contains l word) (sym (take_all c.loop-word.word-index told (omega arith))) there)) fine)
+
+pub returns-clause-hand : goal.returns-clause-hand
+returns-clause-hand c =
+    let u = c.args.seat.now in
+    let told : List TracedWord = c.traced_words-traced.result.now in
+    let is : told ≡ traced_words_of (kinds_of u.types c.args.ty) =
+    c.traced_words-traced.ensures ∙ ap (λ (ts : List ObjectType). traced_words_of (kinds_of ts c.args.ty)) (sym c.requires.types) in
+    hand_at_end (traced_in u.types c.args.ty) c.loop-word.seat c.args.place c.args.ty c.loop-word.word-index
+    (omega (arith, c.loop-word-test.false, told_length u.types c.args.ty told is)) c.loop-word.invariant.hand

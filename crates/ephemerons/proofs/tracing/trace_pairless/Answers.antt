@@ -1,45 +1,44 @@
-use Rattle.std.proofs.Common.{rules, ◌≡◌, ◌+◌, ◌<◌, ◌^◌, true, List, Some, sym, ap, subst, arith}
+use Rattle.std.proofs.Common.{rules, ◌≡◌, ◌+◌, ◌<◌, ◌^◌, true, List, Some, sym, ap, ◌∙◌, subst, arith}
 use Rattle.std.specs.List.{Contains}
-use Rattle.page_words.specs.Seat.{SeatView, is_grey}
+use Rattle.page_words.specs.Seat.{SeatView, is_grey_at}
 use Rattle.ephemerons.specs.Notes.{NotesState, group_at}
 use Rattle.ephemerons.specs.Fixpoint.{IsGround, Works, stage, with_held}
-use Rattle.ephemerons.proofs.GreySteps.{ReadsFields, with_trace, claim_is, fewer_untraced, grey_ground, grey_looks, black_ground, black_looks}
+use Rattle.ephemerons.proofs.GreySteps.{ReadsFields, fewer_untraced, grey_ground, grey_looks, black_ground, black_looks}
 use Rattle.ephemerons.proofs.NoPairs.{nothing_noted, none_noted, same_groups}
 use Rattle.ephemerons.proofs.tracing.trace_pairless.Goals as goal
 
 pub overflow_add-traced : goal.overflow_add-traced
 overflow_add-traced c =
-    let grey : is_grey c.args.seat.now c.args.place ≡ true = sym c.in-Some.ensures.grey in
+    let grey : is_grey_at c.args.seat.now c.args.place ≡ true = sym c.in-Some.ensures.grey in
     let low : c.args.traced.now + 1 < 2 ^ 32 =
     omega (arith, fewer_untraced c.args.seat.now c.args.place c.bodies_lie_apart.ensures c.requires.place grey, c.requires.ground.few) in
     search rules
 
 read : (c : goal.After-trace_strong)
-    → ReadsFields c.args.types.now c.args.seat.now c.trace_strong.new.seat c.args.marking.now
+    → ReadsFields c.args.types.now c.args.seat.now c.claim.new.seat c.trace_strong.new.seat c.args.marking.now
     (with_held c.trace_strong.result c.trace_strong.new.marking) (group_at c.args.groups.now 0)
     (group_at c.args.groups.now 0) c.args.place
-read c =
-    let grey : is_grey c.args.seat.now c.args.place ≡ true = sym c.in-Some.ensures.grey in
-    let is : c.claim.new.seat ≡ with_trace c.args.seat.now c.args.place =
-    claim_is c.args.seat.now c.claim.new.seat c.args.place c.claim.ensures.view grey in
-    record {
-      view = c.bodies_lie_apart.ensures;
-      place = c.requires.place;
-      grey = grey;
-      marks = (rw is at c.trace_strong.ensures.marks);
-      within = rw is at c.trace_strong.ensures.within;
-      strong = c.trace_strong.ensures.strong;
-      notes = nothing_noted c.args.types.now c.args.seat.now.bodies (group_at c.args.groups.now 0);
-      pairs = λ fine. none_noted c.args.types.now c.args.seat.now c.trace_strong.new.seat c.args.place c.requires.ground.references c.requires.pairless
-          (ap (λ (v : SeatView). v.bodies) (rw is at c.trace_strong.ensures.marks).view)
-          (Contains (group_at c.args.groups.now 0).notes);
-    }
+read c = record {
+  view = c.bodies_lie_apart.ensures;
+  place = c.requires.place;
+  grey = sym c.in-Some.ensures.grey;
+  claimed = c.in-Some.ensures.claimed.marks;
+  marks = c.trace_strong.ensures.marks;
+  within = c.trace_strong.ensures.within;
+  strong = c.trace_strong.ensures.strong;
+  notes = nothing_noted c.args.types.now c.args.seat.now.bodies (group_at c.args.groups.now 0);
+  pairs = λ fine. none_noted c.args.types.now c.args.seat.now c.trace_strong.new.seat c.args.place c.requires.ground.references c.requires.pairless
+      (ap (λ (v : SeatView). v.bodies) c.trace_strong.ensures.marks.view ∙ ap (λ (v : SeatView). v.bodies) c.in-Some.ensures.claimed.marks)
+      (Contains (group_at c.args.groups.now 0).notes);
+  no_hand = c.trace_strong.ensures.hand;
+  no_pending = c.trace_strong.ensures.marks.no_pending c.in-Some.ensures.claimed.no_pending;
+}
 
 pub returns-in-Some-clause-ground : goal.returns-in-Some-clause-ground
 returns-in-Some-clause-ground c =
     subst (λ (gs : List NotesState). IsGround c.args.types.now (stage c.trace_strong.new.seat (with_held c.trace_strong.result c.trace_strong.new.marking) gs (c.args.traced.now + 1)))
     (same_groups c.args.groups.now c.requires.ground.own)
-    (grey_ground c.args.types.now c.args.seat.now c.trace_strong.new.seat c.args.marking.now
+    (grey_ground c.args.types.now c.args.seat.now c.claim.new.seat c.trace_strong.new.seat c.args.marking.now
     (with_held c.trace_strong.result c.trace_strong.new.marking) c.args.groups.now
     (group_at c.args.groups.now 0) c.args.traced.now c.args.place (read c) c.requires.ground)
 
@@ -48,16 +47,16 @@ returns-in-Some-clause-works c =
     subst
     (λ (gs : List NotesState). Works c.args.types.now (Some c.args.place) (stage c.args.seat.now c.args.marking.now c.args.groups.now c.args.traced.now)
     (stage c.trace_strong.new.seat (with_held c.trace_strong.result c.trace_strong.new.marking) gs (c.args.traced.now + 1))) (same_groups c.args.groups.now c.requires.ground.own)
-    (grey_looks c.args.types.now c.args.seat.now c.trace_strong.new.seat c.args.marking.now
+    (grey_looks c.args.types.now c.args.seat.now c.claim.new.seat c.trace_strong.new.seat c.args.marking.now
     (with_held c.trace_strong.result c.trace_strong.new.marking) c.args.groups.now
     (group_at c.args.groups.now 0) c.args.traced.now c.args.place (read c) c.requires.ground).works
 
 pub returns-in-None-clause-ground : goal.returns-in-None-clause-ground
 returns-in-None-clause-ground c =
     black_ground c.args.types.now c.args.seat.now c.claim.new.seat c.args.marking.now c.args.groups.now c.args.traced.now c.args.place
-    c.claim.ensures.view (sym c.in-None.ensures.grey) c.requires.ground
+    c.in-None.ensures.failed (sym c.in-None.ensures.grey) c.requires.ground
 
 pub returns-in-None-clause-works : goal.returns-in-None-clause-works
 returns-in-None-clause-works c =
     (black_looks c.args.types.now c.args.seat.now c.claim.new.seat c.args.marking.now c.args.groups.now c.args.traced.now c.args.place
-    c.claim.ensures.view (sym c.in-None.ensures.grey)).works
+    c.in-None.ensures.failed (sym c.in-None.ensures.grey)).works

@@ -3,7 +3,7 @@ use Rattle.std.proofs.lemmas.Bool.{cases_lt}
 use Rattle.marker_core.specs.Bodies.{IsPlace}
 use Rattle.page_words.specs.Seat.{SeatView}
 use Rattle.ephemerons.specs.Fixpoint.{Stage, stage, IsSettledAt, Looks}
-use Rattle.ephemerons.proofs.Stages.{joined, Looks-then, looks_more}
+use Rattle.ephemerons.proofs.Looks.{joined, object_stays, Looks-then, looks_more}
 use Rattle.ephemerons.proofs.walking.settle_objects.Goals.{then-found, else-found}
 use Rattle.ephemerons.proofs.walking.settle_objects.Goals as goal
 
@@ -20,7 +20,8 @@ loop-a-preserved c =
     record {
       ground = c.settle_object-more.ensures.ground;
       looks = rw either (Looks-then c.args.types.now None _ before after c.loop-a.found c.settle_object-more.result c.loop-a.invariant.looks looks);
-      settled = λ none. looks_more (λ (s : Stage) (p : ℕ). IsPlace s.view.bodies p → IsSettledAt c.args.types.now s.view p) before after c.loop-a.found
+      settled = λ none. looks_more (λ (s : Stage) (p : ℕ). IsPlace s.view.bodies p → IsSettledAt c.args.types.now s.view p)
+          (object_stays c.args.types.now) before after c.loop-a.found
           c.settle_object-more.result c.in-Some.a
           (λ nothing k low place. elim (cases_lt k c.loop-a.from) [
             | inl early ↦ c.loop-a.invariant.settled nothing k early place

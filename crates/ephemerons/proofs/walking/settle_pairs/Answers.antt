@@ -3,29 +3,26 @@ use Rattle.std.specs.List.{Contains}
 use Rattle.std.proofs.lemmas.List.{get_or_default}
 use Rattle.gc_graph.specs.declared.kind.Kind.TheVariants.{Pair}
 use Rattle.type_table.specs.Types.{kinds_of, offsets_of_kind}
-use Rattle.object_headers.specs.declared.header.Header.{Header}
-use Rattle.marker_core.specs.Bodies.{IsPlace}
+use Rattle.marker_core.specs.declared.states.Body.{Body}
+use Rattle.page_words.specs.BodyPlaces.{same_body}
 use Rattle.ephemerons.specs.BodyGraph.{HasType}
 use Rattle.ephemerons.specs.Notes.{note_of}
 use Rattle.ephemerons.specs.Fixpoint.{Stage, stage, IsSettled}
 use Rattle.ephemerons.proofs.PairWords.{told_pair}
-use Rattle.ephemerons.proofs.Stages.{joined, Looks-then, looks_more}
+use Rattle.ephemerons.proofs.Looks.{joined, settled_stays, Looks-then, looks_more}
 use Rattle.ephemerons.proofs.walking.settle_pairs.Goals.{then-found, else-found}
 use Rattle.ephemerons.proofs.walking.settle_pairs.Goals as goal
 
 pub pair_words-pairs-requires : goal.pair_words-pairs-requires
 pair_words-pairs-requires c =
-    let place : IsPlace c.args.seat.now.bodies c.args.a = c.requires.place in
-    omega (arith, c.requires.ground.references.typed place.0 place.1, ap (λ (h : Header). h.ty) (c.header_at-ty.ensures.header place.0 place.1 place.2))
+    let has : HasType c.args.seat.now.bodies c.args.a c.type_of-ty.result = c.type_of-ty.ensures.body in
+    omega (arith, c.requires.ground.references.typed has.0 has.1, has.3)
 
 pub settle_pair-more-requires-clause-pair : goal.settle_pair-more-requires-clause-pair
 settle_pair-more-requires-clause-pair c =
-    let place : IsPlace c.args.seat.now.bodies c.args.a = c.requires.place in
-    let has : HasType c.args.seat.now.bodies c.args.a c.header_at-ty.result.ty =
-    (place.0, place.1, place.2, ap (λ (h : Header). h.ty) (sym (c.header_at-ty.ensures.header place.0 place.1 place.2))) in
-    rw (c.loop-word.invariant.looks.works.kept.bodies, c.header_at-ty.ensures.view)
-    (told_pair c.args.types.now c.args.seat.now.bodies c.args.a c.header_at-ty.result.ty c.loop-word.word-index c.pair_words-pairs.result.now has
-    c.pair_words-pairs.ensures c.loop-word-test.true)
+    rw (c.loop-word.invariant.looks.works.kept.bodies, c.type_of-ty.ensures.view)
+    (told_pair c.args.types.now c.args.seat.now.bodies c.args.a c.type_of-ty.result c.loop-word.word-index c.pair_words-pairs.result.now
+    c.type_of-ty.ensures.body c.pair_words-pairs.ensures c.loop-word-test.true)
 
 pub loop-word-preserved : goal.loop-word-preserved
 loop-word-preserved c =
@@ -38,15 +35,17 @@ loop-word-preserved c =
       looks = rw either (Looks-then c.args.types.now None _ _ _ c.loop-word.found c.settle_pair-more.result c.loop-word.invariant.looks c.settle_pair-more.ensures.looks);
       settled = λ none. looks_more
           (λ (s : Stage) (k : ℕ). IsSettled c.args.types.now s.view (note_of c.args.a (get_or c.pair_words-pairs.result.now k 0)))
-          before after c.loop-word.found c.settle_pair-more.result c.loop-word.word-index c.loop-word.invariant.settled
+          (λ s t same k settled. settled_stays c.args.types.now s t same (note_of c.args.a (get_or c.pair_words-pairs.result.now k 0)) settled) before after c.loop-word.found c.settle_pair-more.result c.loop-word.word-index c.loop-word.invariant.settled
           c.settle_pair-more.ensures.looks.still c.settle_pair-more.ensures.settled (sym either ∙ none);
     }
 
 pub returns-clause-settled : goal.returns-clause-settled
 returns-clause-settled c none offset has =
     let told : List ℕ = c.pair_words-pairs.result.now in
-    let first : Contains c.args.seat.now.bodies has.0 = rw (c.loop-word.invariant.looks.works.kept.bodies, c.header_at-ty.ensures.view) at has.1 in
-    let ty : c.header_at-ty.result.ty ≡ has.0.ty = ap (λ (h : Header). h.ty) (c.header_at-ty.ensures.header has.0 first has.2) in
+    let first : Contains c.args.seat.now.bodies has.0 = rw (c.loop-word.invariant.looks.works.kept.bodies, c.type_of-ty.ensures.view) at has.1 in
+    let known : HasType c.args.seat.now.bodies c.args.a c.type_of-ty.result = c.type_of-ty.ensures.body in
+    let one : known.0 ≡ has.0 = same_body c.args.seat.now known.0 has.0 c.bodies_lie_apart.ensures known.1 first (known.2 ∙ sym has.2) in
+    let ty : c.type_of-ty.result ≡ has.0.ty = sym known.3 ∙ ap (λ (b : Body). b.ty) one in
     let among : Contains told offset =
     subst (λ l. Contains l offset) (sym (c.pair_words-pairs.ensures ∙ ap (λ t. offsets_of_kind Pair (kinds_of c.args.types.now t)) ty)) has.3 in
     subst (λ o. IsSettled c.args.types.now c.loop-word.seat (note_of c.args.a o)) (get_or_default told among.0 0 offset among.1 ∙ among.2)

@@ -4,7 +4,8 @@ use Rattle.type_table.specs.Types.{is_kind}
 use Rattle.marker_core.specs.Bodies.{IsReference}
 use Rattle.page_words.specs.Seat.{SeatView}
 use Rattle.member_fields.specs.Words.{HasPair, IsWordIn, HasWordOfSomeKind, written}
-use Rattle.member_fields.proofs.Writes.{stored_word, word_written}
+use Rattle.member_fields.proofs.Offsets.{field_word}
+use Rattle.member_fields.proofs.Writes.{rewritten_word, word_written}
 use Rattle.member_fields.proofs.PairWords.{value_word, holds_value, pair_kept, reference_kept}
 use Rattle.member_fields.proofs.words.write_value.Goals as goal
 
@@ -13,13 +14,16 @@ has_value c = (is_kind Pair, value_word c.args.seat.now c.args.holder c.args.wor
 
 now_written : (c : goal.After-store) → c.store.new.seat ≡ written c.args.seat.now c.args.holder (c.args.word + 1) c.args.value
 now_written c =
-    c.store.ensures
-    ∙ stored_word c.args.seat.now c.args.holder (c.args.word + 1) c.args.value c.bodies_lie_apart.ensures (has_value c)
+    c.store.ensures.alone c.requires.off
+    ∙ rewritten_word c.args.seat.now c.args.holder (c.args.word + 1) c.args.value c.bodies_lie_apart.ensures (has_value c)
 
-pub store-requires-clause-word : goal.store-requires-clause-word
-store-requires-clause-word c =
-    holds_value c.args.seat.now c.args.holder c.args.word c.args.value c.bodies_lie_apart.ensures c.requires.pair
-    c.values_come_before_keys.ensures.value c.requires.value
+pub store-requires-clause-allowed : goal.store-requires-clause-allowed
+store-requires-clause-allowed c =
+    c.fields_take_what_fits.ensures (c.args.holder + (c.args.word + 1)) c.args.value c.requires.off
+    (field_word c.args.seat.now c.args.holder (c.args.word + 1)
+    (is_kind Pair, value_word c.args.seat.now c.args.holder c.args.word c.values_come_before_keys.ensures.kind c.requires.pair))
+    (holds_value c.args.seat.now c.args.holder c.args.word c.args.value c.bodies_lie_apart.ensures c.requires.pair
+    c.values_come_before_keys.ensures.value c.requires.value)
 
 pub returns-clause-word : goal.returns-clause-word
 returns-clause-word c = now_written c

@@ -1,6 +1,5 @@
 use Rattle.std.proofs.Common.{◌≡◌, List, ap, ◌∙◌}
 use Rattle.gc_graph.specs.State.{Node, node_at}
-use Rattle.object_headers.specs.declared.header.Header.{Header}
 use Rattle.marker_core.specs.declared.states.Body.{Body}
 use Rattle.marker_core.specs.Bodies.{holds}
 use Rattle.page_words.specs.Seat.{SeatView}
@@ -20,5 +19,6 @@ returns-clause-mark c = (λ n stands.
     let b : Body = body_of (place_of nodes) n (node_at nodes n) in
     let ready = c.requires.ready in
     let at : b.place ≡ c.args.place = stands.place_is in
-    ap (λ (h : Header). h.mark) (c.header_at.ensures.header b (node_body nodes v n c.requires.ready.held.bodies (stands_there nodes c.args.place n stands)) at)
+    (c.header_at.ensures.header b (node_body nodes v n c.requires.ready.held.bodies (stands_there nodes c.args.place n stands)) at).mark.alone
+    (c.bodies_lie_apart.ensures.at_rest ready.off).none_lent
     ∙ ap (holds v.marked) at ∙ mark_tells nodes v c.args.place n c.requires.ready.held ready.judged stands)

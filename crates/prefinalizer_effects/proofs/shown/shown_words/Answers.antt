@@ -1,10 +1,11 @@
 use Rattle.std.proofs.Common.{◌≡◌, ℕ, ◌+◌, ◌<◌, ◌≤◌, List, length, take, get_or, sym, ap, ◌∙◌, subst, inl, inr, arith}
-use Rattle.std.proofs.lemmas.Bool.{cases_lt}
+use Rattle.std.proofs.lemmas.Bool.{cases_lt, le-leb}
 use Rattle.std.proofs.lemmas.List.{length-set}
 use Rattle.gc_graph.specs.declared.kind.Kind.{Kind}
 use Rattle.gc_graph.specs.Fields.{field_words}
 use Rattle.type_table.specs.Types.{kinds_of, kind_of, IsWordOf}
 use Rattle.type_table.specs.Layouts.{kinds_of_words}
+use Rattle.marker_core.specs.Layout.{stop_at}
 use Rattle.page_words.specs.Seat.{SeatView, IsWordAt}
 use Rattle.prefinalizer_effects.specs.Shown.{shown_of_kinds}
 use Rattle.prefinalizer_effects.proofs.FieldWords.{type_known, kinds_told, size_told, long_fields, fields_inside}
@@ -27,6 +28,9 @@ load-w-requires-clause-address c =
     let low : c.loop-i.i < length at.0.fields = omega (arith, c.loop-i-test.true, c.min-count.ensures, size, long) in
     let inside : c.args.place + (2 + c.loop-i.i) ≤ c.loop-i.seat.count = omega (arith, low, count, at.2, fields_inside v at.0 c.bodies_lie_apart.ensures at.1) in
     omega (arith, inside)
+
+pub load-w-requires-clause-allowed : goal.load-w-requires-clause-allowed
+load-w-requires-clause-allowed c = le-leb (c.args.place + (2 + c.loop-i.i)) (stop_at c.loop-i.seat.count) (load-w-requires-clause-address c)
 
 pub loop-i-preserved : goal.loop-i-preserved
 loop-i-preserved c = record {

@@ -11,7 +11,8 @@ returns-then-with_mark-word-clause-marked c =
     let v : SeatView = c.args.seat.now in
     let b : Body = c.requires.place.0 in
     let small : b.ty < 16384 = small_type v c.bodies_lie_apart.ensures b c.requires.place.1 in
-    let word = c.load-word.ensures.word.header b c.requires.place.1 c.requires.place.2 in (
+    let none_lent = (c.bodies_lie_apart.ensures.at_rest c.requires.off).none_lent in
+    let word = c.load-word.ensures.word.alone none_lent b c.requires.place.1 c.requires.place.2 in (
       b,
       c.requires.place.1,
       c.requires.place.2,

@@ -1,6 +1,8 @@
 use Rattle.std.proofs.Common.{◌≡◌, ℕ, ◌+◌, ◌<◌, List, sym, arith}
+use Rattle.std.proofs.lemmas.Bool.{le-leb}
 use Rattle.gc_graph.specs.declared.kind.Value.{Value}
 use Rattle.gc_graph.specs.State.{Node}
+use Rattle.marker_core.specs.Layout.{stop_at}
 use Rattle.page_words.specs.Seat.{SeatView}
 use Rattle.heap_objects.specs.Objects.{IsReferenceTo}
 use Rattle.heap_objects.specs.FieldReads.{NamesNode, reads_null, reads_node, reference_fits, head_address, head_number, number_fits, reads_target}
@@ -32,6 +34,9 @@ overflow_add-place c = omega (arith, place_inside c, c.in-Some.ensures, c.bodies
 
 pub load-number-requires-clause-address : goal.load-number-requires-clause-address
 load-number-requires-clause-address c = omega (arith, place_inside c, c.in-Some.ensures)
+
+pub load-number-requires-clause-allowed : goal.load-number-requires-clause-allowed
+load-number-requires-clause-allowed c = le-leb (c.in-Some.place + 1) (stop_at c.self.inside.seat.count) (load-number-requires-clause-address c)
 
 -- the number that was read is that of the node
 number_at : (c : goal.After-load-number) (x : Value) → IsReferenceTo c.self.inside.nodes.value x c.args.reference

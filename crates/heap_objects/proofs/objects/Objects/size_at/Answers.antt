@@ -1,6 +1,5 @@
-use Rattle.std.proofs.Common.{List, ap}
+use Rattle.std.proofs.Common.{List}
 use Rattle.gc_graph.specs.State.{Node, node_at}
-use Rattle.object_headers.specs.declared.header.Header.{Header}
 use Rattle.nodes_in_words.specs.Nodes.{place_of, body_of}
 use Rattle.heap_objects.specs.FieldPlaces.{live_place}
 use Rattle.nodes_in_words.specs.NodePlaces.{live_is_there, node_body}
@@ -14,5 +13,4 @@ header_at-requires-clause-start c =
 pub returns-clause-size : goal.returns-clause-size
 returns-clause-size c = rw (← c.self.view_is) (λ n at.
     let nodes : List Node = c.self.inside.nodes.value in
-    ap (λ (h : Header). h.size)
-    (c.header_at.ensures.header (body_of (place_of nodes) n (node_at nodes n)) (node_body nodes c.self.inside.seat n c.self.invariant.held.bodies (live_is_there nodes n at.0)) at.1))
+    (c.header_at.ensures.header (body_of (place_of nodes) n (node_at nodes n)) (node_body nodes c.self.inside.seat n c.self.invariant.held.bodies (live_is_there nodes n at.0)) at.1).size)

@@ -3,7 +3,7 @@ use Rattle.gc_graph.specs.declared.kind.Value.{Value}
 use Rattle.gc_graph.specs.State.{Setup, Node, node_at}
 use Rattle.gc_graph.specs.Fields.{word_of_field}
 use Rattle.type_table.specs.Types.{is_kind}
-use Rattle.page_words.specs.Seat.{SeatView, stored}
+use Rattle.page_words.specs.Seat.{SeatView, rewritten}
 use Rattle.page_space.specs.Space.{IsSpaceOf}
 use Rattle.heap_objects.specs.declared.field.Field.{Field}
 use Rattle.nodes_in_words.specs.Nodes.{place_of, word_of, IsHeld}
@@ -43,7 +43,7 @@ invariant_of-self c =
     let index : ℕ = word_of_field (node_at nodes is.0).object c.args.f in
     let at : a ≡ place_of nodes is.0 + 2 + index =
     omega (arith, ap (λ (y : Field). y.holder) is.2.is, ap (λ (y : Field). y.word) is.2.is) in
-    let seat : stored c.self.inside.seat a (word_of (place_of nodes) x) ≡ c.write_field.new.seat = sym (c.write_field.ensures ∙ ap (stored c.self.inside.seat a) word) in
+    let seat : rewritten c.self.inside.seat a (word_of (place_of nodes) x) ≡ c.write_field.new.seat = sym (c.write_field.ensures ∙ ap (rewritten c.self.inside.seat a) word) in
     let new : with_field nodes is.0 index x ≡ c.written.result.value = sym (c.written.ensures ∙ ap (λ slot. written_in nodes slot c.args.f x) is.1) in
     record {
       called = c.self.invariant.called;

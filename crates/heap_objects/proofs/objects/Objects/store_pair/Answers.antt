@@ -3,7 +3,7 @@ use Rattle.gc_graph.specs.declared.kind.Value.{Value}
 use Rattle.gc_graph.specs.State.{Setup, Node, node_at}
 use Rattle.gc_graph.specs.Fields.{word_of_field}
 use Rattle.marker_core.specs.Bodies.{IsReference}
-use Rattle.page_words.specs.Seat.{SeatView, stored}
+use Rattle.page_words.specs.Seat.{SeatView, rewritten}
 use Rattle.page_space.specs.Space.{IsSpaceOf}
 use Rattle.heap_objects.specs.declared.field.Field.{Field}
 use Rattle.nodes_in_words.specs.Nodes.{place_of, word_of, IsHeld}
@@ -19,7 +19,7 @@ use Rattle.heap_objects.proofs.objects.Objects.store_pair.Goals as goal
 
 -- the words of the two, and the pair as it was written
 abbrev after : SeatView → ℕ → ℕ → ℕ → ℕ → SeatView
-after v holder word key value = stored (stored v (holder + (word + 1)) value) (holder + word) key
+after v holder word key value = rewritten (rewritten v (holder + (word + 1)) value) (holder + word) key
 
 pub set_pair-requires-clause-pair : goal.set_pair-requires-clause-pair
 set_pair-requires-clause-pair c =
@@ -74,7 +74,7 @@ invariant_of-self c =
       few = c.self.invariant.few;
       known = ap (λ (u : SeatView). u.types) c.set_pair.ensures.addresses ∙ c.self.invariant.known;
       laid = subst (IsSpaceOf c.self.inside.space) (sym c.set_pair.ensures.addresses)
-          (c.lasts_while_objects_stay.ensures.store (stored v (holder + (word + 1)) c.args.pair.now.value.word) (holder + word) c.args.pair.now.key.word
+          (c.lasts_while_objects_stay.ensures.store (rewritten v (holder + (word + 1)) c.args.pair.now.value.word) (holder + word) c.args.pair.now.key.word
           (c.lasts_while_objects_stay.ensures.store v (holder + (word + 1)) c.args.pair.now.value.word c.self.invariant.laid));
       off = ap (λ (u : SeatView). u.on) c.set_pair.ensures.addresses ∙ c.self.invariant.off;
       held = subst (λ (ns : List Node). IsHeld ns c.set_pair.new.seat) new (subst (IsHeld (with_pair nodes is.0 index k x)) seat
@@ -86,5 +86,5 @@ invariant_of-self c =
 pub returns-clause-marks : goal.returns-clause-marks
 returns-clause-marks c = rw (← c.self.view_is) (λ phase limit marks.
     subst (HasMarks phase limit) (sym c.set_pair.ensures.addresses)
-    (marks_stored phase limit (stored c.self.inside.seat (c.args.field.holder + (c.args.field.word + 1)) c.args.pair.now.value.word) (c.args.field.holder + c.args.field.word) c.args.pair.now.key.word
+    (marks_stored phase limit (rewritten c.self.inside.seat (c.args.field.holder + (c.args.field.word + 1)) c.args.pair.now.value.word) (c.args.field.holder + c.args.field.word) c.args.pair.now.key.word
     (marks_stored phase limit c.self.inside.seat (c.args.field.holder + (c.args.field.word + 1)) c.args.pair.now.value.word marks)))

@@ -1,11 +1,14 @@
-use Rattle.std.proofs.Common.{◌≡◌, ◌≤◌, subst, sym, arith}
+use Rattle.std.proofs.Common.{◌≡◌, ◌≤◌, refl, subst, sym, arith}
 use Rattle.std.specs.List.{Contains}
 use Rattle.object_headers.specs.Layout.{IsHeaderWord}
 use Rattle.marker_core.specs.declared.states.Body.{Body}
 use Rattle.marker_core.specs.Matching.{IsWhole}
+use Rattle.marker_core.specs.Layout.{has_mark, has_traced}
+use Rattle.marker_core.specs.SeatFacts.{IsTold, IsHeaderAt}
+use Rattle.page_words.specs.Seat.{side}
 use Rattle.page_words.specs.Roles.{kind_lists}
 use Rattle.marker_core.specs.Bodies.{holds}
-use Rattle.page_space.specs.Space.{header_in}
+use Rattle.page_space.specs.Space.{IsHeaderOf}
 use Rattle.page_space.proofs.PlaceBodies.{tells_size, header_is_one}
 use Rattle.page_words.specs.BodyPlaces.{small_type, two_words, whole_body}
 use Rattle.page_space.proofs.space.Space.header_at.Goals as goal
@@ -14,20 +17,32 @@ use Rattle.page_space.proofs.space.Space.header_at.Goals.{After-read_unchecked}
 pub read_unchecked-requires : goal.read_unchecked-requires
 read_unchecked-requires c =
     let v = c.args.seat.now in
+    let w = c.load.result in
     let b : Body = c.requires.start.0 in
     let whole : IsWhole v.count (kind_lists v.types) b = whole_body v c.bodies_lie_apart.ensures b c.requires.start.1 in
     let size : 2 ≤ b.size = two_words v c.bodies_lie_apart.ensures b c.requires.start.1 in
-    subst IsHeaderWord (sym (c.load.ensures.word.header b c.requires.start.1 c.requires.start.2))
-    (header_is_one (holds v.marked b.place) (holds v.traced b.place) b.ty b.size (small_type v c.bodies_lie_apart.ensures b c.requires.start.1) (omega arith) whole.size)
+    let told : IsHeaderAt (side v) c.args.a w = c.load.ensures.word.header b c.requires.start.1 c.requires.start.2 in
+    subst IsHeaderWord (sym (told.word b c.requires.start.1 c.requires.start.2))
+    (header_is_one (has_mark w) (has_traced w) b.ty b.size (small_type v c.bodies_lie_apart.ensures b c.requires.start.1) (omega arith) whole.size)
 
 header_is : (c : After-read_unchecked) (b : Body) → Contains c.args.seat.now.bodies b → b.place ≡ c.args.a
-    → c.read_unchecked.result ≡ header_in c.args.seat.now b
+    → IsHeaderOf c.args.seat.now b c.read_unchecked.result
 header_is c b has at =
     let v = c.args.seat.now in
+    let w = c.load.result in
     let whole : IsWhole v.count (kind_lists v.types) b = whole_body v c.bodies_lie_apart.ensures b has in
     let size : 2 ≤ b.size = two_words v c.bodies_lie_apart.ensures b has in
-    c.read_unchecked.ensures.exact (holds v.marked b.place) (holds v.traced b.place) b.ty b.size (small_type v c.bodies_lie_apart.ensures b has) (omega arith) whole.size
-    (c.load.ensures.word.header b has at)
+    let told : IsHeaderAt (side v) c.args.a w = c.load.ensures.word.header b has at in
+    let is : c.read_unchecked.result ≡ record { mark = has_mark w; traced = has_traced w; ty = b.ty; size = b.size } =
+    c.read_unchecked.ensures.exact (has_mark w) (has_traced w) b.ty b.size (small_type v c.bodies_lie_apart.ensures b has) (omega arith) whole.size
+    (told.word b has at) in
+    subst (IsHeaderOf v b) (sym is)
+    (record {
+      ty = refl;
+      size = refl;
+      mark = subst (λ a. IsTold v.lent (holds v.marked a) (has_mark w)) (sym at) told.mark;
+      traced = subst (λ a. IsTold v.lent (holds v.traced a) (has_traced w)) (sym at) told.traced;
+    })
 
 pub returns-clause-header : goal.returns-clause-header
 returns-clause-header c b has at = header_is c b has at

@@ -1,8 +1,8 @@
-use Rattle.std.proofs.Common.{◌≡◌, ℕ, not, List, [], ◌∷◌, ◌++◌, refl, ap, sym, ◌∙◌, subst, map, filter, append-nil, arith, Contains, ◌<◌}
+use Rattle.std.proofs.Common.{◌≡◌, ℕ, not, true, List, [], ◌∷◌, ◌++◌, refl, ap, sym, ◌∙◌, subst, map, filter, append-nil, arith, rules, Contains, ◌<◌}
 use Rattle.std.proofs.lemmas.Grind.{common_steps}
 use Rattle.marker_core.specs.declared.states.Body.{Body}
 use Rattle.marker_core.specs.Bodies.{holds}
-use Rattle.page_words.specs.Seat.{SeatView, IsMarkedOut, begun, ended}
+use Rattle.page_words.specs.Seat.{SeatView, MaySetStop, begun, ended}
 use Rattle.page_space.specs.Space.{IsSpaceOf}
 use Rattle.page_trials.proofs.NoFields.{no_pairs, marked_out}
 use Rattle.page_trials.proofs.aged.Aged.condemn.Goals as goal
@@ -11,25 +11,35 @@ all_unmarked : (places : List ℕ) → filter (λ a. not (holds [] a)) places �
 all_unmarked [] = refl
 all_unmarked (a ∷ places) = ap (λ l. a ∷ l) (all_unmarked places)
 
-pub set_stop-requires-clause-allowed : goal.set_stop-requires-clause-allowed
-set_stop-requires-clause-allowed c =
+pub set_stop-requires : goal.set_stop-requires
+set_stop-requires c =
     let none : c.self.inside.dead.items ≡ [] = grind (arith, common_steps) in (
-      record {
-        off = c.self.invariant.1;
-        marked = c.self.invariant.2;
-        traced = c.self.invariant.3;
-        dead = c.self.invariant.4 ∙ none;
-      },
-      no_pairs c.self.inside.seat c.self.invariant.6,
+      search rules,
+      (
+        record {
+          off = c.self.invariant.1;
+          marked = c.self.invariant.2;
+          traced = c.self.invariant.3;
+          dead = c.self.invariant.4 ∙ none;
+        },
+        no_pairs c.self.inside.seat c.self.invariant.6,
+      ),
     )
 
-pub set_stop-requires-2-clause-allowed : goal.set_stop-requires-2-clause-allowed
-set_stop-requires-2-clause-allowed c =
-    subst IsMarkedOut (sym (c.load-stop.ensures.view ∙ c.set_stop.ensures)) (marked_out c.self.inside.seat c.self.invariant.2)
+pub set_stop-requires-2 : goal.set_stop-requires-2
+set_stop-requires-2 c = (
+  search rules,
+  subst (λ (v : SeatView). MaySetStop v true) (sym (c.load-stop.ensures.view ∙ c.set_stop.ensures.view))
+      (λ on alone. marked_out c.self.inside.seat (c.bodies_lie_apart.ensures.at_rest c.self.invariant.1) c.self.invariant.2),
+)
 
 pub invariant_of-self : goal.invariant_of-self
 invariant_of-self c =
-    let over : c.set_stop-2.new.seat ≡ ended (begun c.self.inside.seat) = c.set_stop-2.ensures ∙ ap ended (c.load-stop.ensures.view ∙ c.set_stop.ensures) in
+    let v : SeatView = c.self.inside.seat in
+    let began : c.load-stop.new.seat ≡ begun v [] = c.load-stop.ensures.view ∙ c.set_stop.ensures.view in
+    let over : c.set_stop-2.new.seat ≡ ended (begun v []) =
+    c.set_stop-2.ensures.ended refl (ap (λ (u : SeatView). u.on) began)
+    (ap (λ (u : SeatView). u.lent) began ∙ (c.bodies_lie_apart.ensures.at_rest c.self.invariant.1).none_lent) ∙ ap ended began in
     let none : c.self.inside.dead.items ≡ [] = grind (arith, common_steps) in
     let left : c.swap.new.y.items ≡ [] = cc in
     let places : map (λ (b : Body). b.place) c.self.inside.seat.bodies ≡ c.swap.new.x.items = cc in (

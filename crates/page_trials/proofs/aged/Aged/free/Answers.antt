@@ -25,7 +25,7 @@ header_at-size-requires-clause-start c =
 pub free-requires-clause-size : goal.free-requires-clause-size
 free-requires-clause-size c =
     subst (λ (v : SeatView). (b : Body) → Contains v.bodies b → b.place ≡ c.index-place.result.now → c.header_at-size.result.size ≡ b.size)
-    (sym c.header_at-size.ensures.view) (λ b there at. ap (λ h. h.size) (c.header_at-size.ensures.header b there at))
+    (sym c.header_at-size.ensures.view) (λ b there at. (c.header_at-size.ensures.header b there at).size)
 
 pub free-requires-clause-unnamed : goal.free-requires-clause-unnamed
 free-requires-clause-unnamed c =

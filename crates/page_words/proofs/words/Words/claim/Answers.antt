@@ -1,32 +1,119 @@
-use Rattle.std.proofs.Common.{rules, ◌≡◌, sym, subst, ◌∙◌, eqb, true, false, Contains}
+use Rattle.std.proofs.Common.{rules, ◌≡◌, ◌<◌, length, true, get_or, sym, subst, ap, ◌∙◌, set}
 use Rattle.std.proofs.lemmas.Bool.{eq-eqb, ne_eqb}
-use Rattle.page_words.specs.declared.mutator.MutatorSeat.TheInside.{Inside}
+use Rattle.std.proofs.lemmas.List.{get_or_read}
 use Rattle.marker_core.specs.Bodies.{IsPlace}
-use Rattle.marker_core.specs.declared.states.Body.{Body}
-use Rattle.object_headers.specs.Layout.{header_word}
-use Rattle.page_words.specs.Seat.{SeatView, is_grey, claimed_at}
-use Rattle.page_words.specs.Ties.{Ties}
-use Rattle.page_words.proofs.Marks.{claims_grey, passes_over_others, found_is_grey}
+use Rattle.marker_core.specs.SeatLaws.{IsGreyHeader}
+use Rattle.marker_core.specs.SeatSteps.{seat_can_claim}
+use Rattle.page_words.specs.Seat.{SeatView, IsWordAt, side, claimed_at}
+use Rattle.page_words.specs.Heaps.{IsHeap}
+use Rattle.page_words.proofs.Allowed.{claim_allowed}
+use Rattle.page_words.proofs.Marks.{finds_grey, grey_alone}
+use Rattle.page_words.proofs.Steps.{claims_grey, claims_none}
+use Rattle.page_words.proofs.ViewFacts.{place_within, word_is}
 use Rattle.page_words.proofs.words.Words.claim.Goals as goal
-use Rattle.page_words.proofs.words.Words.claim.Goals.{then-found, else-found}
+
+pub index_mut-requires : goal.index_mut-requires
+index_mut-requires c =
+    let v = c.seat.inside.view.value in
+    let place : IsPlace v.bodies c.args.a = subst (λ (s : SeatView). IsPlace s.bodies c.args.a) (sym c.seat.view_is) c.requires.place in
+    let below : c.args.a < length c.seat.inside.words.items = place_within c.seat.inside.words.items v c.args.a c.seat.invariant place in
+    search rules
 
 pub invariant_of-seat : goal.invariant_of-seat
 invariant_of-seat c =
     let words = c.seat.inside.words.items in
     let v = c.seat.inside.view.value in
-    let a = c.args.a in
-    let place : IsPlace v.bodies a = search rules in
-    let form : (b : Body) → Contains v.bodies b → b.place ≡ a → c.args.header ≡ header_word true true false b.ty b.size =
-    subst (λ (s : SeatView). (b : Body) → Contains s.bodies b → b.place ≡ a → c.args.header ≡ header_word true true false b.ty b.size) (sym c.seat.view_is)
-    c.requires.header in
-    let grey : eqb c.index.result.now c.args.header ≡ is_grey v a =
-    found_is_grey words v a c.index.result.now c.args.header c.seat.invariant place c.index.ensures form
+    let w = c.index-w.result.now in
+    let place : IsPlace v.bodies c.args.a = subst (λ (s : SeatView). IsPlace s.bodies c.args.a) (sym c.seat.view_is) c.requires.place in
+    let read : w ≡ get_or words c.args.a 0 =
+    get_or_read words c.args.a w (place_within words v c.args.a c.seat.invariant place) c.index-w.ensures 0
     in
-    subst (Ties c.if-found.seat-inside.words.items) (sym c.claimed.ensures)
-    (elim c.if-found.branch [
-      | then-found w ↦ subst (λ (s : Inside). Ties s.words.items (claimed_at s.view.value a)) (sym w.seat-inside-is)
-          (claims_grey words v a c.args.header w.with_traced.result c.seat.invariant place form
-          (sym grey ∙ eq-eqb c.index.result.now c.args.header w.if-found.true) w.with_traced.ensures.header)
-      | else-found w ↦ subst (λ (s : Inside). Ties s.words.items (claimed_at s.view.value a)) (sym w.seat-inside-is)
-          (passes_over_others words v a c.seat.invariant (sym grey ∙ ne_eqb c.index.result.now c.args.header w.if-found.false))
-    ])
+    let allowed : seat_can_claim (side v) c.args.a ≡ true =
+    subst (λ (s : SeatView). seat_can_claim (side s) c.args.a ≡ true) (sym c.seat.view_is)
+    (claim_allowed c.args.seat.now c.args.a c.requires.on c.requires.hand c.requires.place) in
+    let form : IsGreyHeader (side v) c.args.a c.args.header =
+    subst (λ (s : SeatView). IsGreyHeader (side s) c.args.a c.args.header) (sym c.seat.view_is) c.requires.header in
+    subst (IsHeap (set words c.args.a c.with_traced.result)) (sym c.chosen.ensures)
+    (subst (λ n. IsHeap (set words c.args.a n) (claimed_at v c.args.a w)) (sym c.with_traced.ensures.bit)
+    (claims_grey c.every_step_keeps.ensures c.claims_are_steps.ensures words v c.args.a c.args.header w c.seat.invariant allowed form read
+    (eq-eqb w c.args.header c.if-found.true)))
+
+pub invariant_of-seat-else-found : goal.invariant_of-seat-else-found
+invariant_of-seat-else-found c =
+    let words = c.seat.inside.words.items in
+    let v = c.seat.inside.view.value in
+    let w = c.index-w.result.now in
+    let place : IsPlace v.bodies c.args.a = subst (λ (s : SeatView). IsPlace s.bodies c.args.a) (sym c.seat.view_is) c.requires.place in
+    let read : w ≡ get_or words c.args.a 0 =
+    get_or_read words c.args.a w (place_within words v c.args.a c.seat.invariant place) c.index-w.ensures 0
+    in
+    let allowed : seat_can_claim (side v) c.args.a ≡ true =
+    subst (λ (s : SeatView). seat_can_claim (side s) c.args.a ≡ true) (sym c.seat.view_is)
+    (claim_allowed c.args.seat.now c.args.a c.requires.on c.requires.hand c.requires.place) in
+    let form : IsGreyHeader (side v) c.args.a c.args.header =
+    subst (λ (s : SeatView). IsGreyHeader (side s) c.args.a c.args.header) (sym c.seat.view_is) c.requires.header in
+    subst (IsHeap words) (sym c.chosen.ensures)
+    (claims_none c.every_step_keeps.ensures c.claims_are_steps.ensures words v c.args.a c.args.header w c.seat.invariant allowed form read
+    (ne_eqb w c.args.header c.if-found.false))
+
+pub returns-then-found-clause-grey : goal.returns-then-found-clause-grey
+returns-then-found-clause-grey c =
+    let words = c.seat.inside.words.items in
+    let v = c.seat.inside.view.value in
+    let w = c.index-w.result.now in
+    let place : IsPlace v.bodies c.args.a = subst (λ (s : SeatView). IsPlace s.bodies c.args.a) (sym c.seat.view_is) c.requires.place in
+    let read : w ≡ get_or words c.args.a 0 =
+    get_or_read words c.args.a w (place_within words v c.args.a c.seat.invariant place) c.index-w.ensures 0
+    in
+    let is : IsWordAt c.args.seat.now c.args.a w = subst (λ (s : SeatView). IsWordAt s c.args.a w) c.seat.view_is
+    (word_is c.words_may_be_found.ensures words v c.args.a w c.seat.invariant read) in
+    λ alone. finds_grey c.args.seat.now c.args.a w is c.requires.place c.args.header c.requires.header
+    ∙ grey_alone c.args.seat.now c.args.a w is c.requires.place alone
+
+pub returns-then-found-clause-view : goal.returns-then-found-clause-view
+returns-then-found-clause-view c =
+    let words = c.seat.inside.words.items in
+    let v = c.seat.inside.view.value in
+    let w = c.index-w.result.now in
+    let place : IsPlace v.bodies c.args.a = subst (λ (s : SeatView). IsPlace s.bodies c.args.a) (sym c.seat.view_is) c.requires.place in
+    let read : w ≡ get_or words c.args.a 0 =
+    get_or_read words c.args.a w (place_within words v c.args.a c.seat.invariant place) c.index-w.ensures 0
+    in
+    let is : IsWordAt c.args.seat.now c.args.a w = subst (λ (s : SeatView). IsWordAt s c.args.a w) c.seat.view_is
+    (word_is c.words_may_be_found.ensures words v c.args.a w c.seat.invariant read) in (
+      w,
+      is,
+      finds_grey c.args.seat.now c.args.a w is c.requires.place c.args.header c.requires.header,
+      c.chosen.ensures ∙ ap (λ (s : SeatView). claimed_at s c.args.a w) c.seat.view_is,
+    )
+
+pub returns-else-found-clause-grey : goal.returns-else-found-clause-grey
+returns-else-found-clause-grey c =
+    let words = c.seat.inside.words.items in
+    let v = c.seat.inside.view.value in
+    let w = c.index-w.result.now in
+    let place : IsPlace v.bodies c.args.a = subst (λ (s : SeatView). IsPlace s.bodies c.args.a) (sym c.seat.view_is) c.requires.place in
+    let read : w ≡ get_or words c.args.a 0 =
+    get_or_read words c.args.a w (place_within words v c.args.a c.seat.invariant place) c.index-w.ensures 0
+    in
+    let is : IsWordAt c.args.seat.now c.args.a w = subst (λ (s : SeatView). IsWordAt s c.args.a w) c.seat.view_is
+    (word_is c.words_may_be_found.ensures words v c.args.a w c.seat.invariant read) in
+    λ alone. finds_grey c.args.seat.now c.args.a w is c.requires.place c.args.header c.requires.header
+    ∙ grey_alone c.args.seat.now c.args.a w is c.requires.place alone
+
+pub returns-else-found-clause-view : goal.returns-else-found-clause-view
+returns-else-found-clause-view c =
+    let words = c.seat.inside.words.items in
+    let v = c.seat.inside.view.value in
+    let w = c.index-w.result.now in
+    let place : IsPlace v.bodies c.args.a = subst (λ (s : SeatView). IsPlace s.bodies c.args.a) (sym c.seat.view_is) c.requires.place in
+    let read : w ≡ get_or words c.args.a 0 =
+    get_or_read words c.args.a w (place_within words v c.args.a c.seat.invariant place) c.index-w.ensures 0
+    in
+    let is : IsWordAt c.args.seat.now c.args.a w = subst (λ (s : SeatView). IsWordAt s c.args.a w) c.seat.view_is
+    (word_is c.words_may_be_found.ensures words v c.args.a w c.seat.invariant read) in (
+      w,
+      is,
+      finds_grey c.args.seat.now c.args.a w is c.requires.place c.args.header c.requires.header,
+      c.chosen.ensures ∙ ap (λ (s : SeatView). claimed_at s c.args.a w) c.seat.view_is,
+    )

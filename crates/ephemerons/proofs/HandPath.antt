@@ -1,0 +1,98 @@
+-- The way of the hand along the strong words and the pairs of an object.
+use Rattle.std.proofs.Common.{◌≡◌, ℕ, zero, suc, ◌+◌, ◌<◌, ◌≤◌, List, [], ◌∷◌, length, get_or, drop, Option, Some, None, ltb, refl, sym, ap, ◌∙◌, arith}
+use Rattle.std.specs.List.{find}
+use Rattle.std.specs.Option.{option_map}
+use Rattle.std.proofs.lemmas.Bool.{cond-true, cond-false, lt-ltb, le-ltb}
+use Rattle.std.proofs.lemmas.List.{drop_more, drop_all}
+use Rattle.gc_graph.specs.declared.kind.Kind.{Kind}
+use Rattle.gc_graph.specs.declared.kind.Kind.TheVariants.{Strong, Weak, Pair, Plain}
+use Rattle.gc_graph.specs.State.{ObjectType}
+use Rattle.marker_core.specs.declared.states.Hand.{Hand}
+use Rattle.marker_core.specs.declared.states.Part.TheVariants.{Read}
+use Rattle.marker_core.specs.Bodies.{kinds_of}
+use Rattle.marker_core.specs.Hands.{traced_offsets, hand_moved, each_hand}
+use Rattle.page_words.specs.Roles.{kind_lists}
+use Rattle.page_words.specs.Seat.{SeatView}
+use Rattle.ephemerons.specs.InHand.{IsPast, hand_over, traced_in, moved_on}
+
+-- the hand at the first of these offsets past another
+abbrev found : ℕ → ℕ → ℕ → List ℕ → Option Hand
+found place ty past offsets =
+    option_map (λ next. record { place = place; ty = ty; next = next; part = Read }) (find (λ next. ltb past next) offsets)
+
+-- the first offset is past another
+found_first : (place ty past offset : ℕ) (offsets : List ℕ) → past < offset → found place ty past (offset ∷ offsets) ≡ hand_over place ty (offset ∷ offsets)
+found_first place ty past offset offsets low =
+    ap (option_map (λ next. record { place = place; ty = ty; next = next; part = Read }))
+    (cond-true (ltb past offset) (Some offset) (find (λ next. ltb past next) offsets) (lt-ltb past offset low))
+
+-- it isn't
+found_later : (place ty past offset : ℕ) (offsets : List ℕ) → offset ≤ past → found place ty past (offset ∷ offsets) ≡ found place ty past offsets
+found_later place ty past offset offsets high =
+    ap (option_map (λ next. record { place = place; ty = ty; next = next; part = Read }))
+    (cond-false (ltb past offset) (Some offset) (find (λ next. ltb past next) offsets) (le-ltb past offset high))
+
+-- all offsets of fields are past one below
+past_low : (place ty past offset : ℕ) (kinds : List Kind) → past < offset
+    → found place ty past (traced_offsets offset kinds) ≡ hand_over place ty (traced_offsets offset kinds)
+past_low place ty past offset [] low = refl
+past_low place ty past offset (Strong ∷ kinds) low = found_first place ty past offset (traced_offsets (offset + 1) kinds) low
+past_low place ty past offset (Weak ∷ kinds) low = past_low place ty past (offset + 1) kinds (omega arith)
+past_low place ty past offset (Pair ∷ kinds) low = found_first place ty past offset (traced_offsets (offset + 2) kinds) low
+past_low place ty past offset (Plain ∷ kinds) low = past_low place ty past (offset + 1) kinds (omega arith)
+
+none_lower : (offset : ℕ) (kinds : List Kind) (i d : ℕ) → i < length (traced_offsets offset kinds) → offset ≤ get_or (traced_offsets offset kinds) i d
+none_lower offset [] i d low = absurd (omega arith)
+none_lower offset (Strong ∷ kinds) zero d low = omega arith
+none_lower offset (Strong ∷ kinds) (suc i) d low = omega (arith, none_lower (offset + 1) kinds i d (omega arith))
+none_lower offset (Weak ∷ kinds) i d low = omega (arith, none_lower (offset + 1) kinds i d low)
+none_lower offset (Pair ∷ kinds) zero d low = omega arith
+none_lower offset (Pair ∷ kinds) (suc i) d low = omega (arith, none_lower (offset + 2) kinds i d (omega arith))
+none_lower offset (Plain ∷ kinds) i d low = omega (arith, none_lower (offset + 1) kinds i d low)
+
+-- past each offset comes the next one
+past_each : (place ty offset : ℕ) (kinds : List Kind) (i d : ℕ) → i < length (traced_offsets offset kinds)
+    → found place ty (get_or (traced_offsets offset kinds) i d) (traced_offsets offset kinds) ≡ hand_over place ty (drop (i + 1) (traced_offsets offset kinds))
+past_each place ty offset [] i d low = absurd (omega arith)
+past_each place ty offset (Strong ∷ kinds) zero d low =
+    found_later place ty offset offset (traced_offsets (offset + 1) kinds) (omega arith) ∙ past_low place ty offset (offset + 1) kinds (omega arith)
+past_each place ty offset (Strong ∷ kinds) (suc i) d low =
+    let rest = traced_offsets (offset + 1) kinds in
+    let more : suc i + 1 ≡ suc (i + 1) = omega arith in
+    let high : offset ≤ get_or rest i d = omega (arith, none_lower (offset + 1) kinds i d (omega arith)) in
+    found_later place ty (get_or rest i d) offset rest high ∙ past_each place ty (offset + 1) kinds i d (omega arith)
+    ∙ ap (λ n. hand_over place ty (drop n (offset ∷ rest))) (sym more)
+past_each place ty offset (Weak ∷ kinds) i d low = past_each place ty (offset + 1) kinds i d low
+past_each place ty offset (Pair ∷ kinds) zero d low =
+    found_later place ty offset offset (traced_offsets (offset + 2) kinds) (omega arith) ∙ past_low place ty offset (offset + 2) kinds (omega arith)
+past_each place ty offset (Pair ∷ kinds) (suc i) d low =
+    let rest = traced_offsets (offset + 2) kinds in
+    let more : suc i + 1 ≡ suc (i + 1) = omega arith in
+    let high : offset ≤ get_or rest i d = omega (arith, none_lower (offset + 2) kinds i d (omega arith)) in
+    found_later place ty (get_or rest i d) offset rest high ∙ past_each place ty (offset + 2) kinds i d (omega arith)
+    ∙ ap (λ n. hand_over place ty (drop n (offset ∷ rest))) (sym more)
+past_each place ty offset (Plain ∷ kinds) i d low = past_each place ty (offset + 1) kinds i d low
+
+-- ---- of a view, whose objects are of these types
+
+-- as the claim left it
+pub hand_at_first : (types : List ObjectType) (v : SeatView) (place ty : ℕ) → v.types ≡ types → IsPast v place ty 1 → v.hand ≡ hand_over place ty (traced_in types ty)
+hand_at_first types v place ty known past =
+    past ∙ ap (λ ts. found place ty 1 (traced_in ts ty)) known ∙ past_low place ty 1 2 (kinds_of (kind_lists types) ty) (omega arith)
+
+-- at each offset
+pub hand_at_each : (offsets : List ℕ) (v : SeatView) (place ty i : ℕ) → i < length offsets → v.hand ≡ hand_over place ty (drop i offsets)
+    → v.hand ≡ Some (record { place = place; ty = ty; next = get_or offsets i 0; part = Read })
+hand_at_each offsets v place ty i low is = is ∙ ap (hand_over place ty) (drop_more offsets i 0 low)
+
+-- and once it has moved on
+pub hand_at_next : (types : List ObjectType) (v w : SeatView) (place ty i : ℕ) → v.types ≡ types → i < length (traced_in types ty)
+    → v.hand ≡ hand_over place ty (drop i (traced_in types ty)) → w.hand ≡ moved_on v → w.hand ≡ hand_over place ty (drop (i + 1) (traced_in types ty))
+hand_at_next types v w place ty i known low is moved =
+    moved ∙ ap (λ ts. each_hand (hand_moved (kind_lists ts)) v.hand) known
+    ∙ ap (each_hand (hand_moved (kind_lists types))) (hand_at_each (traced_in types ty) v place ty i low is)
+    ∙ past_each place ty 2 (kinds_of (kind_lists types) ty) i 0 low
+
+-- past all of them
+pub hand_at_end : (offsets : List ℕ) (v : SeatView) (place ty n : ℕ) → length offsets ≤ n → v.hand ≡ hand_over place ty (drop n offsets) → v.hand ≡ None
+hand_at_end offsets v place ty n past is = is ∙ ap (hand_over place ty) (drop_all n offsets past)

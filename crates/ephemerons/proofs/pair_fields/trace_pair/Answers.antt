@@ -1,0 +1,71 @@
+use Rattle.std.proofs.Common.{rules, ◌≡◌, ◌+◌, ◌<◌, ◌^◌, true, sym, ap, ◌∙◌, subst, inl, inr, arith}
+use Rattle.std.specs.List.{Contains}
+use Rattle.marker_core.specs.Bodies.{holds}
+use Rattle.marker_core.specs.declared.states.Part.TheVariants.{Read}
+use Rattle.page_words.specs.Seat.{SeatView}
+use Rattle.ephemerons.specs.Marking.{heap_and_marks}
+use Rattle.ephemerons.specs.Fixpoint.{HasWord}
+use Rattle.ephemerons.specs.ListedMarks.{ListsMarks-then}
+use Rattle.ephemerons.proofs.FieldWords.{value_there, word_below, pair_in_hand, at_value}
+use Rattle.ephemerons.proofs.Graph.{pair_within}
+use Rattle.ephemerons.proofs.Holding.{fresh_listed}
+use Rattle.ephemerons.proofs.MarkSteps.{looks_list}
+use Rattle.ephemerons.proofs.NoteSteps.{asked}
+use Rattle.ephemerons.proofs.pair_fields.trace_pair.Goals as goal
+
+pub overflow_add-offset : goal.overflow_add-offset
+overflow_add-offset c =
+    let v = c.args.seat.now in
+    let there = value_there v c.args.holder c.args.offset c.bodies_lie_apart.ensures (pair_in_hand v c.args.holder c.args.offset Read c.requires.hand) in
+    let low : c.args.offset + 1 < 2 ^ 32 =
+    omega (arith, word_below v c.args.holder (c.args.offset + 1) c.bodies_lie_apart.ensures there, c.bodies_lie_apart.ensures.count) in
+    search rules
+
+pub trace_target-fresh-requires-clause-field : goal.trace_target-fresh-requires-clause-field
+trace_target-fresh-requires-clause-field c =
+    let v = c.args.seat.now in
+    let same : heap_and_marks c.key_is_marked.new.seat ≡ heap_and_marks v = c.key_is_marked.ensures.view ∙ c.read_key.ensures.view in
+    subst (λ bs. HasWord bs c.args.holder (c.args.offset + 1)) (sym (ap (λ (x : SeatView). x.bodies) same))
+    (value_there v c.args.holder c.args.offset c.bodies_lie_apart.ensures (pair_in_hand v c.args.holder c.args.offset Read c.requires.hand))
+
+pub trace_target-fresh-requires-clause-hand : goal.trace_target-fresh-requires-clause-hand
+trace_target-fresh-requires-clause-hand c =
+    at_value c.key_is_marked.new.seat c.args.holder c.args.offset (c.key_is_marked.ensures.hand c.if-key_is_marked.true)
+
+pub returns-then-key_is_marked-clause-marks : goal.returns-then-key_is_marked-clause-marks
+returns-then-key_is_marked-clause-marks c =
+    let v = c.args.seat.now in
+    let u = c.key_is_marked.new.seat in
+    ListsMarks-then v u c.trace_target-fresh.new.seat c.args.marking.now c.args.marking.now c.list_held.new.marking
+    (looks_list v u c.args.marking.now (c.key_is_marked.ensures.view ∙ c.read_key.ensures.view)
+    (c.key_is_marked.ensures.pending ∙ sym c.requires.tracing.no_pending) (λ none. cc (none, c.requires.hand.hand)))
+    (fresh_listed u c.trace_target-fresh.new.seat c.args.marking.now c.list_held.new.marking c.trace_target-fresh.result c.trace_target-fresh.ensures.marks
+    c.list_held.ensures.listed)
+
+pub returns-then-key_is_marked-clause-within : goal.returns-then-key_is_marked-clause-within
+returns-then-key_is_marked-clause-within c =
+    let v = c.args.seat.now in
+    let u = c.key_is_marked.new.seat in
+    let at = c.requires.hand in
+    let same : heap_and_marks u ≡ heap_and_marks v = c.key_is_marked.ensures.view ∙ c.read_key.ensures.view in
+    let key_marked : holds v.marked c.in-Some.key ≡ true =
+    sym (ap (λ (x : SeatView). holds x.marked c.in-Some.key) c.read_key.ensures.view) ∙ sym c.key_is_marked.ensures.mark ∙ c.if-key_is_marked.true in
+    pair_within v.types v c.trace_target-fresh.new.seat at.body c.args.offset c.in-Some.key c.bodies_lie_apart.ensures at.there
+    (subst (λ p. holds v.marked p ≡ true) (sym at.place_is) c.requires.marked) at.among (c.in-Some.ensures.key at.body at.there at.place_is) key_marked
+    (λ p marked. elim (c.trace_target-fresh.ensures.only at.body p (subst (λ bs. Contains bs at.body) (sym (ap (λ (x : SeatView). x.bodies) same)) at.there)
+    at.place_is marked) [
+      | inl old ↦ inl (subst (λ l. holds l p ≡ true) (ap (λ (x : SeatView). x.marked) same) old)
+      | inr is ↦ inr is
+    ])
+
+pub returns-else-key_is_marked-clause-notes : goal.returns-else-key_is_marked-clause-notes
+returns-else-key_is_marked-clause-notes c =
+    let at = c.requires.hand in
+    (asked c.args.seat.now.types c.args.seat.now.bodies c.args.notes.now c.note.new.self c.args.holder c.args.offset c.note.result c.note.ensures.noted
+    c.note.ensures.refused (at.body, at.there, at.place_is, at.among)).0
+
+pub returns-else-key_is_marked-clause-pair : goal.returns-else-key_is_marked-clause-pair
+returns-else-key_is_marked-clause-pair c fine b k w there where_it_is pair key value =
+    let at = c.requires.hand in
+    inr ((asked c.args.seat.now.types c.args.seat.now.bodies c.args.notes.now c.note.new.self c.args.holder c.args.offset c.note.result c.note.ensures.noted
+    c.note.ensures.refused (at.body, at.there, at.place_is, at.among)).1 fine)

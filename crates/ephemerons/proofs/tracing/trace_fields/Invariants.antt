@@ -1,0 +1,17 @@
+use Rattle.std.proofs.Common.{◌≡◌, take, drop}
+use Rattle.std.specs.List.{Contains}
+use Rattle.type_table.specs.declared.traced.TracedWord.{TracedWord}
+use Rattle.ephemerons.specs.Marking.{GrowsWithin}
+use Rattle.ephemerons.specs.Notes.{NotesGrow}
+use Rattle.ephemerons.specs.InHand.{IsWordTraced, hand_over, traced_in}
+use Rattle.ephemerons.specs.Fixpoint.{ListsMarks}
+use Rattle.ephemerons.proofs.tracing.trace_fields.Given as goal
+
+abbrev pub invariant-loop-word : goal.invariant-loop-word
+invariant-loop-word l = record {
+  marks : ListsMarks l.initial.seat l.initial.marking l.seat l.marking;
+  within : GrowsWithin l.initial.seat.types l.initial.seat l.seat;
+  notes : NotesGrow l.initial.seat.types l.initial.seat.bodies l.initial.notes l.notes;
+  done : (word : TracedWord) → Contains (take l.word-index l.traced) word → IsWordTraced l.initial.seat.types l.seat l.place l.notes word;
+  hand : l.seat.hand ≡ hand_over l.place l.ty (drop l.word-index (traced_in l.initial.seat.types l.ty));
+}

@@ -1,5 +1,0 @@
-use Rattle.page_words.specs.Seat.{published}
-use Rattle.page_words.proofs.views.published.Given as goal
-
-abbrev pub ghost-chosen : goal.ghost-chosen
-ghost-chosen g a = published a.about.now.view.now.value g.body

@@ -1,5 +1,0 @@
-use Rattle.page_words.specs.Seat.{retracted}
-use Rattle.page_words.proofs.views.retracted.Given as goal
-
-abbrev pub ghost-chosen : goal.ghost-chosen
-ghost-chosen a = retracted a.about.now.view.now.value a.about.now.a

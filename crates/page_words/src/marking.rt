@@ -1,0 +1,125 @@
+// The calls on words and seat that mark: each reads a header and sets or clears bits of it, or sets
+// the stop word.
+
+ghost use Rattle.std.specs.Prelude.{◌≡◌, ℕ, List, not, true, false, None, Contains};
+ghost use Rattle.object_headers.specs.Layout.{header_word};
+ghost use Rattle.marker_core.specs.declared.states.Body.{Body};
+ghost use Rattle.marker_core.specs.Bodies.{IsPlace, holds};
+ghost use Rattle.marker_core.specs.SeatSteps.{is_grey};
+ghost use Rattle.page_words.specs.Seat.{IsWordAt, marked_at, is_grey_at, claimed_at, unmarked_at};
+ghost use Rattle.page_words.specs.Seat.{MaySetStop, ended, stop_set};
+
+use crate::mutator::MutatorSeat;
+use crate::views::{About, AboutStop};
+use crate::words::{BLOCK_WORDS, Words};
+use ghost_values::GhostValue;
+use marker_core::{
+    begins_are_steps, claims_are_steps, every_step_keeps, marks_are_steps, reach_over_is_least,
+    stops_are_steps, unmarks_are_steps, words_may_be_found,
+};
+use object_headers::{with_mark, with_traced};
+
+impl Words {
+    /// Marks an object while marking goes on. True where this call set the mark. Where the object
+    /// was in hand to be marked, the hand moves on.
+    pub fn mark(&self, seat: &mut MutatorSeat, a: u32) -> bool
+        requires heap { seat.old.count ≡ self.now }
+        requires on { seat.old.on ≡ true }
+        requires place { IsPlace seat.old.bodies a }
+        requires may { holds seat.old.may a ≡ true }
+        ensures fresh { seat.old.lent ≡ 0 → result ≡ not (holds seat.old.marked a) }
+        ensures view { seat.new ≡ marked_at seat.old a (not result) }
+    {
+        words_may_be_found();
+        marks_are_steps();
+        every_step_keeps();
+        let w = seat.words[a as usize];
+        seat.view = GhostValue::chosen(&About {
+            view: &seat.view,
+            a,
+            w,
+        });
+        let marked = with_mark(w, true);
+        let fresh = w != marked;
+        // Nothing is written to a marked object.
+        if fresh {
+            seat.words[a as usize] = marked;
+        }
+        fresh
+    }
+
+    /// Claims a marked object for tracing. `header` is its header word with the mark and without
+    /// the traced bit. True where the object was marked and not yet traced; this call has then set
+    /// the traced bit, and the object is in hand.
+    pub fn claim(&self, seat: &mut MutatorSeat, a: u32, header: u64) -> bool
+        requires heap { seat.old.count ≡ self.now }
+        requires on { seat.old.on ≡ true }
+        requires hand { seat.old.hand ≡ None }
+        requires place { IsPlace seat.old.bodies a }
+        requires header { (b : Body) → Contains seat.old.bodies b → b.place ≡ a
+            → header ≡ header_word true true false b.ty b.size }
+        ensures grey { seat.old.lent ≡ 0 → result ≡ is_grey_at seat.old a }
+        ensures view { (found : ℕ) × IsWordAt seat.old a found × (result ≡ is_grey found)
+            × (seat.new ≡ claimed_at seat.old a found) }
+    {
+        words_may_be_found();
+        claims_are_steps();
+        every_step_keeps();
+        // The whole word is compared, and nothing may come between test and write: of two that
+        // claim an object one alone finds the word without the traced bit, and traces it.
+        let w = seat.words[a as usize];
+        seat.view = GhostValue::chosen(&About {
+            view: &seat.view,
+            a,
+            w,
+        });
+        let found = w == header;
+        if found {
+            seat.words[a as usize] = with_traced(header, true);
+        }
+        found
+    }
+
+    /// Clears the mark and the traced bit of an object, while no marking goes on.
+    pub fn unmark(&self, seat: &mut MutatorSeat, a: u32)
+        requires heap { seat.old.count ≡ self.now }
+        requires off { seat.old.on ≡ false }
+        requires place { IsPlace seat.old.bodies a }
+        ensures { seat.new ≡ unmarked_at seat.old a }
+    {
+        unmarks_are_steps();
+        every_step_keeps();
+        let header = seat.words[a as usize];
+        seat.words[a as usize] = with_traced(with_mark(header, false), false);
+        seat.view = GhostValue::chosen(&About {
+            view: &seat.view,
+            a,
+            w: 0,
+        });
+    }
+
+    /// Sets the stop word: `false` begins marking on a quiet heap, and what the roots reach may be
+    /// kept; `true` ends it where no view is lent, and what is not marked is then dead.
+    pub fn set_stop(&self, seat: &mut MutatorSeat, on: bool)
+        ghost roots: { List ℕ }
+        requires heap { seat.old.count ≡ self.now }
+        requires allowed { MaySetStop seat.old on }
+        ensures view { seat.new ≡ stop_set seat.old roots on }
+        ensures ended { on ≡ true → seat.old.on ≡ true → seat.old.lent ≡ 0
+            → seat.new ≡ ended seat.old }
+        ensures may { (p : ℕ) → on ≡ false → IsPlace seat.old.bodies p → holds roots p ≡ true
+            → holds seat.new.may p ≡ true }
+    {
+        reach_over_is_least();
+        begins_are_steps();
+        stops_are_steps();
+        every_step_keeps();
+        seat.bodies_lie_apart();
+        let at = (self.count + self.count / BLOCK_WORDS) as usize;
+        seat.words[at] = u64::from(on);
+        seat.view = GhostValue::chosen(&AboutStop {
+            view: &seat.view,
+            on,
+        });
+    }
+}
