@@ -1,5 +1,6 @@
 -- What a header that was found tells of marks.
-use Rattle.std.proofs.Common.{◌≡◌, ℕ, ◌&&◌, Bool, true, false, not, eqb, refl, sym, ap, ◌∙◌, Contains}
+use Rattle.std.proofs.Common.{◌≡◌, ℕ, ◌&&◌, Bool, true, false, not, eqb, sym, ap, ◌∙◌, Contains}
+use Rattle.std.proofs.lemmas.Bool.{eqb-true}
 use Rattle.object_headers.specs.Layout.{header_word, word_with_mark}
 use Rattle.marker_core.specs.declared.states.Body.{Body}
 use Rattle.marker_core.specs.Bodies.{IsPlace, holds}
@@ -9,21 +10,17 @@ use Rattle.marker_core.specs.SeatSteps.{is_grey}
 use Rattle.page_words.specs.Seat.{SeatView, IsWordAt, side, is_grey_at}
 use Rattle.page_words.proofs.Bits.{mark_stands, grey_is_found}
 
-not_not : (b : Bool) → not (not b) ≡ b
-not_not true = refl
-not_not false = refl
-
--- it had the mark just where the word stays
-pub mark_was : (w marked : ℕ) → marked ≡ word_with_mark true w → has_mark w ≡ not (not (eqb w marked))
-mark_was w marked made = sym (ap (λ n. not (not (eqb w n))) made ∙ ap (λ b. not (not b)) (mark_stands w) ∙ not_not (has_mark w))
+-- where the mark is found, the word is the one with it
+pub marked_stays : (w : ℕ) (found : Bool) → found ≡ has_mark w → found ≡ true → w ≡ word_with_mark true w
+marked_stays w found is there = eqb-true w (word_with_mark true w) (mark_stands w ∙ sym is ∙ there)
 
 module _ (v : SeatView) (a w : ℕ) (is : IsWordAt v a w) (at : IsPlace v.bodies a) where
   told : IsHeaderAt (side v) a w
   told = is.header at.0 at.1 at.2
 
-  -- where no view is lent, a mark changes the word of an object that wasn't marked
-  pub mark_is_fresh : (marked : ℕ) → marked ≡ word_with_mark true w → v.lent ≡ 0 → not (eqb w marked) ≡ not (holds v.marked a)
-  mark_is_fresh marked made alone = ap not (ap (eqb w) made ∙ mark_stands w ∙ told.mark.alone alone)
+  -- where no view is lent, the word has the mark just where the object is marked
+  pub mark_is_fresh : (found : Bool) → found ≡ has_mark w → v.lent ≡ 0 → not found ≡ not (holds v.marked a)
+  mark_is_fresh found is alone = ap not (is ∙ told.mark.alone alone)
 
   -- the grey header is found just where the one that is there is grey
   pub finds_grey : (header : ℕ) → ((b : Body) → Contains v.bodies b → b.place ≡ a → header ≡ header_word true true false b.ty b.size)

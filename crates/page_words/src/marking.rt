@@ -5,6 +5,7 @@ ghost use Rattle.std.specs.Prelude.{◌≡◌, ℕ, List, not, true, false, None
 ghost use Rattle.object_headers.specs.Layout.{header_word};
 ghost use Rattle.marker_core.specs.declared.states.Body.{Body};
 ghost use Rattle.marker_core.specs.Bodies.{IsPlace, holds};
+ghost use Rattle.marker_core.specs.Layout as layout;
 ghost use Rattle.marker_core.specs.SeatSteps.{is_grey};
 ghost use Rattle.page_words.specs.Seat.{IsWordAt, marked_at, is_grey_at, claimed_at, unmarked_at};
 ghost use Rattle.page_words.specs.Seat.{MaySetStop, ended, stop_set};
@@ -39,13 +40,12 @@ impl Words {
             a,
             w,
         });
-        let marked = with_mark(w, true);
-        let fresh = w != marked;
+        let marked = has_mark(w);
         // Nothing is written to a marked object.
-        if fresh {
-            seat.words[a as usize] = marked;
+        if !marked {
+            seat.words[a as usize] = with_mark(w, true);
         }
-        fresh
+        !marked
     }
 
     /// Claims a marked object for tracing. `header` is its header word with the mark and without
@@ -122,4 +122,11 @@ impl Words {
             on,
         });
     }
+}
+
+/// Whether the mark is set in the word of a header. By itself it is a test of one bit.
+fn has_mark(header: u64) -> bool
+    ensures { result ≡ layout.has_mark header }
+{
+    header == with_mark(header, true)
 }
