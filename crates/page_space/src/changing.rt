@@ -5,7 +5,7 @@ ghost use Rattle.std.specs.Prelude.{length, Contains};
 ghost use Rattle.object_headers.specs.Offsets.{first_field};
 ghost use Rattle.marker_core.specs.declared.states.Body.{Body};
 ghost use Rattle.marker_core.specs.Bodies.{IsInBody, holds};
-ghost use Rattle.page_words.specs.Seat.{IsUnnamed, retracted};
+ghost use Rattle.page_words.specs.Seat.{IsUnnamed, OnlyLooked, retracted};
 ghost use Rattle.page_space.specs.Space.{IsSeatOf, IsSpaceOf, IsFreePlace, extents_of_bodies};
 ghost use Rattle.page_space.specs.Occupying.{IsRoom, HasNulls, Occupies, IsNewNumber, least_size};
 ghost use Rattle.page_space.specs.Occupying.{new_body, nulled};
@@ -48,7 +48,7 @@ impl Space {
         requires dead { holds seat.old.dead a ≡ true }
         requires unnamed { IsUnnamed seat.old.types seat.old.bodies seat.old.dead a }
         requires size { (b : Body) → Contains seat.old.bodies b → b.place ≡ a → size ≡ b.size }
-        ensures freed { seat.new ≡ retracted seat.old a }
+        ensures freed { OnlyLooked (retracted seat.old a) seat.new }
         ensures space { IsSpaceOf self.new seat.new }
         ensures shape { self.new.shape ≡ self.old.shape }
     {

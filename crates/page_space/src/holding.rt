@@ -4,7 +4,7 @@
 ghost use Rattle.std.specs.Prelude.{◌≡◌, ℕ, ◌+◌, ◌*◌, ◌<◌, ◌≤◌, Some, IfSome, IfNone};
 ghost use Rattle.gc_graph.specs.Placement.{IsNowhere};
 ghost use Rattle.marker_core.specs.Bodies.{IsPlace};
-ghost use Rattle.page_words.specs.Seat.{block_words};
+ghost use Rattle.page_words.specs.Seat.{OnlyLooked, block_words};
 ghost use Rattle.page_space.specs.Pages.{word_count};
 ghost use Rattle.page_space.specs.Space.{IsSeatOf, IsSpaceOf, HoldsAddress};
 ghost use Rattle.page_space.specs.Space.{HasNoStart, IsLastStart};
@@ -18,7 +18,7 @@ impl Space {
         requires space { IsSpaceOf self.now seat.old }
         ensures found { IfSome result (HoldsAddress seat.old.bodies inner) }
         ensures none { IfNone result (IsNowhere (HoldsAddress seat.old.bodies inner)) }
-        ensures view { seat.new ≡ seat.old }
+        ensures view { OnlyLooked seat.old seat.new }
     {
         seat.bodies_lie_apart();
         self.shape_is_valid();
@@ -64,6 +64,7 @@ impl Space {
             (HasNoStart seat.old.bodies (block_words * first) (a + 1)) }
         ensures view { seat.new ≡ seat.old }
     {
+        seat.bodies_lie_apart();
         let block = a / BLOCK_WORDS;
         let up_to_a = u64::MAX >> (BLOCK_WORDS - 1 - a % BLOCK_WORDS);
         let bits = self.words.load::<Reading>(seat, self.words.count() + block) & up_to_a;

@@ -4,6 +4,7 @@
 ghost use Rattle.std.specs.Prelude.{◌≡◌, ◌+◌, ◌*◌, ◌/◌, ◌<◌, ◌≤◌, IfSome, Contains};
 ghost use Rattle.marker_core.specs.Bodies.{IsPlace};
 ghost use Rattle.gap_bounds.specs.Gaps.{KnowsGaps};
+ghost use Rattle.page_words.specs.Seat.{OnlyLooked};
 ghost use Rattle.gap_bounds.specs.Changes.{GapsOpened};
 ghost use Rattle.page_space.specs.Pages.{word_count};
 ghost use Rattle.page_space.specs.Space.{IsSeatOf, IsSpaceOf, extents_of_bodies};
@@ -33,7 +34,7 @@ impl Space {
         ensures knows { KnowsGaps self.old.shape
             (without_place (extents_of_bodies seat.old.bodies) a) self.new.gaps }
         ensures rest { self.new ≡ record self.old { gaps = self.new.gaps } }
-        ensures view { seat.new ≡ seat.old }
+        ensures view { OnlyLooked seat.old seat.new }
     {
         self.shape_is_valid();
         seat.bodies_lie_apart();
@@ -59,7 +60,7 @@ impl Space {
             (without_place (extents_of_bodies seat.old.bodies) a) page g.from g.until) }
         ensures order { IfSome result (λ g. g.from < g.until) }
         ensures inside { IfSome result (λ g. g.until ≤ word_count self.now.shape) }
-        ensures view { seat.new ≡ seat.old }
+        ensures view { OnlyLooked seat.old seat.new }
     {
         self.shape_is_valid();
         seat.bodies_lie_apart();
@@ -79,7 +80,7 @@ impl Space {
         requires first { page * self.now.shape.page_words ≤ a }
         requires address { a < word_count self.now.shape }
         ensures edge { IfSome result (IsEdgeBefore self.now.shape seat.old.bodies page a) }
-        ensures view { seat.new ≡ seat.old }
+        ensures view { OnlyLooked seat.old seat.new }
     {
         self.shape_is_valid();
         seat.bodies_lie_apart();

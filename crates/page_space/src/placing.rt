@@ -4,6 +4,7 @@ ghost use Rattle.std.specs.Prelude.{◌≡◌, ℕ, ◌+◌, ◌*◌, ◌/◌, �
 ghost use Rattle.std.specs.Prelude.{◌↔◌, IsTrue, IfSome, IfNone, unwrap_or};
 ghost use Rattle.gc_graph.specs.Placement.{StartsEmptyRun, IsPageCount, PageHasBucket};
 ghost use Rattle.gc_graph.specs.Placement.{UsesPage, IsLowest, IsNowhere};
+ghost use Rattle.page_words.specs.Seat.{OnlyLooked};
 ghost use Rattle.page_space.specs.Space.{IsSpaceOf, FitsBetween, FitsIn, SinceEmpty};
 ghost use Rattle.page_space.specs.Space.{IsFreePlace, extents_of_bodies};
 ghost use Rattle.gap_bounds.specs.Gaps.{IsGap, IsClassOf, HasClass, class_count, least_of, is_known};
@@ -28,7 +29,7 @@ impl Space {
             (IsFreePlace self.old.shape (extents_of_bodies seat.old.bodies) size) }
         ensures space { IsSpaceOf self.new seat.new }
         ensures shape { self.new.shape ≡ self.old.shape }
-        ensures view { seat.new ≡ seat.old }
+        ensures view { OnlyLooked seat.old seat.new }
     {
         self.shape_is_valid();
         if size > self.page_words / 2 {
@@ -123,7 +124,7 @@ impl Space {
         ensures none { IfNone result (IsNowhere (FitsIn self.old.shape seat.old.bodies size page)) }
         ensures space { IsSpaceOf self.new seat.new }
         ensures shape { self.new.shape ≡ self.old.shape }
-        ensures view { seat.new ≡ seat.old }
+        ensures view { OnlyLooked seat.old seat.new }
     {
         self.shape_is_valid();
         let start = page * self.page_words;

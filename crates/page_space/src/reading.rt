@@ -1,11 +1,11 @@
 // Where objects start, and what their headers tell.
 
-ghost use Rattle.std.specs.Prelude.{◌≡◌, ◌+◌, ◌*◌, ◌/◌, ◌^◌, ◌<◌};
+ghost use Rattle.std.specs.Prelude.{◌≡◌, ◌+◌, ◌*◌, ◌/◌, ◌^◌, ◌<◌, [], ◌∷◌, ◌++◌};
 ghost use Rattle.std.specs.Prelude.{◌≤◌, ◌↔◌, IsTrue, IfSome, IfNone, Contains, All};
 ghost use Rattle.gc_graph.specs.Placement.{IsLowest, IsNowhere};
 ghost use Rattle.marker_core.specs.Bodies.{IsPlace};
 ghost use Rattle.marker_core.specs.declared.states.Body.{Body};
-ghost use Rattle.page_words.specs.Seat.{block_words};
+ghost use Rattle.page_words.specs.Seat.{OnlyLooked, block_words};
 ghost use Rattle.page_space.specs.Pages.{word_count};
 ghost use Rattle.page_space.specs.Space.{IsSeatOf, IsPlaceFrom, HasNoStart, IsHeaderOf};
 ghost use Rattle.page_space.specs.Space.{IsLastStart, AreStartsOf};
@@ -69,6 +69,7 @@ impl Space {
         ensures none { IfNone result (HasNoStart seat.old.bodies at (block_end at)) }
         ensures view { seat.new ≡ seat.old }
     {
+        seat.bodies_lie_apart();
         self.shape_is_valid();
         let starts = self.words.count() + at / BLOCK_WORDS;
         let bits = self.words.load::<Reading>(seat, starts) >> (at % BLOCK_WORDS);
@@ -88,6 +89,7 @@ impl Space {
             (HasNoStart seat.old.bodies (block_words * first) (block_words * end)) }
         ensures view { seat.new ≡ seat.old }
     {
+        seat.bodies_lie_apart();
         self.shape_is_valid();
         let mut word = end;
         while word > first {
@@ -107,6 +109,7 @@ impl Space {
         ensures start { IsTrue result ↔ IsPlace seat.old.bodies a }
         ensures view { seat.new ≡ seat.old }
     {
+        seat.bodies_lie_apart();
         let bits = self
             .words
             .load::<Reading>(seat, self.words.count() + a / BLOCK_WORDS);
@@ -120,6 +123,7 @@ impl Space {
         ensures starts { AreStartsOf seat.old.bodies block result }
         ensures view { seat.new ≡ seat.old }
     {
+        seat.bodies_lie_apart();
         self.words.load::<Reading>(seat, self.words.count() + block)
     }
 
@@ -131,7 +135,8 @@ impl Space {
             → IsHeaderOf seat.old b result }
         ensures least { 2 ≤ result.size }
         ensures inside { a + result.size ≤ word_count self.now.shape }
-        ensures view { seat.new ≡ seat.old }
+        ensures looked { seat.new.looked ≡ seat.old.looked ++ a ∷ [] }
+        ensures view { OnlyLooked seat.old seat.new }
     {
         seat.bodies_lie_apart();
         // An object starts here, so the word is a header.

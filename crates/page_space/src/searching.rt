@@ -3,6 +3,7 @@
 
 ghost use Rattle.std.specs.Prelude.{◌≡◌, ℕ, ◌+◌, ◌*◌, ◌/◌, ◌<◌, ◌≤◌, true, IfSome, IfNone};
 ghost use Rattle.gc_graph.specs.Placement.{IsLowest, IsNowhere};
+ghost use Rattle.page_words.specs.Seat.{OnlyLooked};
 ghost use Rattle.page_space.specs.Space.{IsSpaceOf, HoldsWhole, extents_of_bodies};
 ghost use Rattle.gap_bounds.specs.Gaps.{is_known};
 ghost use Rattle.page_space.specs.Walks.{BeginsBetween};
@@ -37,7 +38,7 @@ impl Space {
         ensures known { is_known self.new.gaps page ≡ true }
         ensures space { IsSpaceOf self.new seat.new }
         ensures shape { self.new.shape ≡ self.old.shape }
-        ensures view { seat.new ≡ seat.old }
+        ensures view { OnlyLooked seat.old seat.new }
     {
         self.learn(seat, page);
         if self.gaps.most(page) < size {
@@ -100,7 +101,7 @@ impl Space {
         ensures known { self.new.gaps.known ≡ self.old.gaps.known }
         ensures space { IsSpaceOf self.new seat.new }
         ensures shape { self.new.shape ≡ self.old.shape }
-        ensures view { seat.new ≡ seat.old }
+        ensures view { OnlyLooked seat.old seat.new }
     {
         self.shape_is_valid();
         let end = (page + 1) * self.page_words;
@@ -135,7 +136,7 @@ impl Space {
         ensures known { self.new.gaps.known ≡ self.old.gaps.known }
         ensures space { IsSpaceOf self.new seat.new }
         ensures shape { self.new.shape ≡ self.old.shape }
-        ensures view { seat.new ≡ seat.old }
+        ensures view { OnlyLooked seat.old seat.new }
     {
         self.shape_is_valid();
         let until = *at / BLOCK_WORDS * BLOCK_WORDS + BLOCK_WORDS;

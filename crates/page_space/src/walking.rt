@@ -3,7 +3,7 @@
 ghost use Rattle.std.specs.Prelude.{◌≡◌, ℕ, ◌+◌, ◌*◌, ◌/◌, ◌<◌, ◌≤◌, IfSome, IfNone, min};
 ghost use Rattle.gc_graph.specs.Placement.{IsLowest, IsNowhere};
 ghost use Rattle.marker_core.specs.Bodies.{IsInBody};
-ghost use Rattle.page_words.specs.Seat.{block_words};
+ghost use Rattle.page_words.specs.Seat.{OnlyLooked, block_words};
 ghost use Rattle.gap_bounds.specs.Changes.{HasGroups};
 ghost use Rattle.page_space.specs.Pages.{word_count};
 ghost use Rattle.page_space.specs.Space.{IsSeatOf, HoldsWhole, extents_of_bodies};
@@ -49,7 +49,7 @@ impl Space {
         ensures inside { result ≤ (page + 1) * self.now.shape.page_words }
         ensures taken { (x : ℕ) → at ≤ x → x < result → IsInBody seat.old.bodies x }
         ensures edge { IsEdge seat.old.bodies result }
-        ensures view { seat.new ≡ seat.old }
+        ensures view { OnlyLooked seat.old seat.new }
     {
         self.shape_is_valid();
         seat.bodies_lie_apart();
@@ -86,7 +86,7 @@ impl Space {
             → n ≤ walk.new.longest) }
         ensures until { IfNone result (until ≤ walk.new.at) }
         ensures inside { walk.new.at ≤ (page + 1) * self.now.shape.page_words }
-        ensures view { seat.new ≡ seat.old }
+        ensures view { OnlyLooked seat.old seat.new }
     {
         self.shape_is_valid();
         seat.bodies_lie_apart();

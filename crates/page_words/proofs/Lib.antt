@@ -8,4 +8,5 @@ pub mod Pairs
 pub mod WordKinds
 pub mod StopWord
 pub mod NewWords
+pub mod Found
 pub mod Marks

@@ -33,3 +33,8 @@ module _ (v : SeatView) (a w : ℕ) (is : IsWordAt v a w) (at : IsPlace v.bodies
 
   pub grey_alone : v.lent ≡ 0 → is_grey w ≡ is_grey_at v a
   grey_alone alone = ap (λ m. m && not (has_traced w)) (told.mark.alone alone) ∙ ap (λ t. holds v.marked a && not t) (told.traced.alone alone)
+
+  -- both in one
+  pub grey_is_told : (header : ℕ) → ((b : Body) → Contains v.bodies b → b.place ≡ a → header ≡ header_word true true false b.ty b.size)
+      → v.lent ≡ 0 → eqb w header ≡ is_grey_at v a
+  grey_is_told header form alone = finds_grey header form ∙ grey_alone alone

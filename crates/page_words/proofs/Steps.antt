@@ -67,7 +67,7 @@ traced_on v a n =
 
 pub loads : StepsKeep → LoadsAreSteps → (words : List ℕ) (v : SeatView) (a w : ℕ) (why : Why) → IsHeap words v → seat_can_load (side v) a why ≡ true
     → w ≡ get_or words a 0 → IsHeap words (loaded v a why w)
-loads steps law words v a w Read heap can read = heap
+loads steps law words v a w Read heap can read = loads_for steps law words v a w Read heap can (λ n. heap.none_noted) read
 loads steps law words v a w Weak heap can read = loads_for steps law words v a w Weak heap can (λ n. heap.none_noted) read
 loads steps law words v a w Trace heap can read = loads_for steps law words v a w Trace heap can
     (λ n off. absurd (no_hand_wants (λ h. wants_word h h.part a || wants_key h.part a) v.hand

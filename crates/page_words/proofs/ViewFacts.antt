@@ -1,15 +1,16 @@
 -- What is true of every seat's view, and what a word that was found tells.
-use Rattle.std.proofs.Common.{◌≡◌, ℕ, ◌+◌, ◌/◌, ◌%◌, ◌^◌, ◌<◌, ◌≤◌, List, [], length, get_or, true, leb, ltb, ◌&&◌, sym, ap, ◌∙◌, subst, inl, inr, arith, Contains}
+use Rattle.std.proofs.Common.{◌≡◌, ℕ, ◌+◌, ◌/◌, ◌%◌, ◌^◌, ◌<◌, ◌≤◌, List, [], length, get_or, ◌∷◌, ◌++◌, true, false, leb, ltb, ◌&&◌, if◌then◌else◌, refl, sym, ap, ◌∙◌, subst, inl, inr, arith, Contains}
 use mathlib.Core.Logic.{◌⊎◌}
 use Rattle.std.specs.List.{list_any}
 use Rattle.std.specs.Option.{is_none}
-use Rattle.std.proofs.lemmas.Bool.{cases_order, eq-eqb, eqb-true, and_parts, ltb-true}
+use Rattle.std.proofs.lemmas.Bool.{cases_Bool, cases_order, cond-false, eq-eqb, eqb-true, and_parts, and_left, and_right, ltb-true}
 use Rattle.std.proofs.lemmas.List.{get_or_default, length-map}
 use Rattle.gc_graph.specs.Members.{any_member}
 use Rattle.gc_graph.specs.State.{ObjectType}
 use Rattle.object_headers.specs.Layout.{header_word}
 use Rattle.marker_core.specs.declared.states.Body.{Body}
-use Rattle.marker_core.specs.Bodies.{end_of, IsPlace, holds, has_field}
+use Rattle.marker_core.specs.Bodies.{end_of, is_place, IsPlace, holds, has_field}
+use Rattle.marker_core.specs.declared.states.Why.TheVariants.{Read}
 use Rattle.marker_core.specs.Layout.{stop_at, has_traced}
 use Rattle.marker_core.specs.SeatSteps.{seat_can_store, store_fits}
 use Rattle.marker_core.specs.Matching.{IsWhole, LieApart}
@@ -18,7 +19,7 @@ use Rattle.page_words.proofs.Elements.{members_are}
 use Rattle.page_words.specs.Heaps.{IsHeap}
 use Rattle.page_words.specs.PlaceTests.{place_of_test, test_of_place, outside_of_test}
 use Rattle.page_words.specs.Roles.{kind_lists}
-use Rattle.page_words.specs.Seat.{SeatView, IsView, IsWordAt, side, header_of}
+use Rattle.page_words.specs.Seat.{SeatView, IsView, IsWordAt, side, header_of, with_mutator, loaded}
 
 -- two bodies that share a word are one
 shared : (bodies : List Body) → LieApart bodies → (b c : Body) (a : ℕ) → Contains bodies b → Contains bodies c → b.place ≤ a → a < end_of b
@@ -102,3 +103,18 @@ store_within words v a w heap can =
     let field : has_field a b ≡ true = (and_parts _ _ (and_parts _ _ (and_parts _ _ found.2).0).0).0 in
     let below = ltb-true a (end_of b) (and_parts (leb (b.place + 2) a) (ltb a (end_of b)) field).1 in
     within words v a heap (omega (arith, whole.inside))
+
+-- what is loaded to read and is no header leaves the view as it was
+pub read_beside : (v : SeatView) (a found : ℕ) → (IsPlace v.bodies a → ⊥) → loaded v a Read found ≡ v
+read_beside v a found beside =
+    let none : is_place v.bodies a ≡ false = elim (cases_Bool (is_place v.bodies a)) [
+      | inl there ↦ absurd (beside (place_of_test v.bodies a there))
+      | inr other ↦ other
+    ] in
+    ap (λ there. with_mutator v (record v.mutator {
+      looked = if there then v.looked ++ a ∷ [] else v.looked;
+      done = if v.on && there && has_traced found then v.done ++ a ∷ [] else v.done;
+    })) none
+    ∙ ap (λ done. with_mutator v (record v.mutator { done = done }))
+    (cond-false (v.on && false && has_traced found) (v.done ++ a ∷ []) v.done
+    (and_left (v.on && false) (has_traced found) (and_right v.on false refl)))

@@ -50,3 +50,12 @@ body_below v b is h = omega (arith, two_words v is b h, within_heap v is b h)
 
 pub place_below : (v : SeatView) (a : ℕ) → IsView v → IsPlace v.bodies a → a < v.count
 place_below v a is at = omega (arith, body_below v at.0 is at.1, at.2)
+
+-- no object starts at a later word of a body, or beyond the heap
+pub no_place_within : (v : SeatView) (b : Body) (i : ℕ) → IsView v → Contains v.bodies b → 1 ≤ i → i < b.size → IsPlace v.bodies (b.place + i) → ⊥
+no_place_within v b i is h some low at =
+    let same : i ≡ 0 = same_offset v is b at.0 h at.1 i 0 low (omega (arith, two_words v is at.0 at.1)) (omega (arith, at.2)) in
+    omega (arith, same)
+
+pub no_place_beyond : (v : SeatView) (a : ℕ) → IsView v → v.count ≤ a → IsPlace v.bodies a → ⊥
+no_place_beyond v a is beyond at = omega (arith, place_below v a is at)

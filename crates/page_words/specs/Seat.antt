@@ -7,7 +7,6 @@ use Rattle.marker_core.specs.declared.states.Body.{Body}
 use Rattle.marker_core.specs.declared.states.MutatorView.{MutatorView}
 use Rattle.marker_core.specs.Layout.{bitmap_at}
 use Rattle.marker_core.specs.declared.states.Why.{Why}
-use Rattle.marker_core.specs.declared.states.Why.TheVariants.{Read, Weak, Trace}
 use Rattle.marker_core.specs.Bodies.{end_of, fields_at, word_in, role_in, IsPlace, IsInBody, with_word, holds}
 use Rattle.marker_core.specs.declared.states.Role.TheVariants.{KeyWord}
 use Rattle.marker_core.specs.Closed.{IsClosedOver}
@@ -59,11 +58,17 @@ pub record IsWordAt (v : SeatView) (a w : ℕ) : Type 0 where
 abbrev pub with_mutator : SeatView → MutatorView → SeatView
 with_mutator v m = record v { mutator = m }
 
--- a word was loaded: to trace it or as a weak read as the machine tells, and else nothing has changed
+-- the word at a was loaded, for this reason
 abbrev pub loaded : SeatView → ℕ → Why → ℕ → SeatView
-loaded v a Read found = v
-loaded v a Weak found = with_mutator v (seat_loaded (side v) a Weak found)
-loaded v a Trace found = with_mutator v (seat_loaded (side v) a Trace found)
+loaded v a why found = with_mutator v (seat_loaded (side v) a why found)
+
+-- the view without what was looked at
+abbrev pub unlooked : SeatView → SeatView
+unlooked v = record v { mutator = record v.mutator { looked = []; done = [] } }
+
+-- headers were looked at, and nothing else has changed
+abbrev pub OnlyLooked : SeatView → SeatView → Type 0
+OnlyLooked old new = unlooked new ≡ unlooked old
 
 -- the word at a was filled, in place of an older one
 abbrev pub filled_with : SeatView → ℕ → ℕ → SeatView

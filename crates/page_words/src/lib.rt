@@ -15,7 +15,7 @@
 //! | after these | the stop word: 0 at first and from when marking begins, 1 from when it ends |
 //!
 //! What is proved: each call answers the word that the view tells, and changes the view as a step of
-//! the machine does, but for a load that is made to read, which leaves it. After each call words and
+//! the machine does. After each call words and
 //! view are a state of the machine of which all is true that is true of every state (`IsCoreOk`):
 //! headers, serial numbers, fields, filled words and start bits match; bodies lie apart, each with
 //! room for the fields of its type, and no two have one serial number; while marking goes on every
@@ -23,7 +23,7 @@
 //!
 //! What is only tested or not said: that `Words::new` succeeds where there is memory, and where the
 //! stop word is, is tested in `page_trials`. A word that belongs to no object and was not filled may
-//! be anything. That a header was looked at to read it isn't noted in the view yet.
+//! be anything.
 #![tactic(auto)]
 
 mod marking;
@@ -32,6 +32,7 @@ mod reasons;
 mod views;
 mod words;
 
+pub use marking::has_mark;
 pub use mutator::MutatorSeat;
 pub use reasons::{Reading, Reason, Tracing, WeakRead};
 pub use words::{BLOCK_WORDS, Words};

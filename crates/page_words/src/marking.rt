@@ -125,7 +125,7 @@ impl Words {
 }
 
 /// Whether the mark is set in the word of a header. By itself it is a test of one bit.
-fn has_mark(header: u64) -> bool
+pub fn has_mark(header: u64) -> bool
     ensures { result ≡ layout.has_mark header }
 {
     header == with_mark(header, true)

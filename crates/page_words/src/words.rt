@@ -3,11 +3,12 @@
 
 ghost use Rattle.std.specs.Prelude.{◌≡◌, ◌≤◌, ◌<◌, true, false, IfOk};
 ghost use Rattle.marker_core.specs.declared.states.Body.{Body};
-ghost use Rattle.marker_core.specs.Bodies.{IsInBody, holds};
+ghost use Rattle.marker_core.specs.Bodies.{IsInBody, IsPlace, holds};
+ghost use Rattle.marker_core.specs.declared.states.Why.TheVariants.{Read};
 ghost use Rattle.marker_core.specs.Layout.{stop_at};
 ghost use Rattle.marker_core.specs.SeatLaws.{IsReady};
 ghost use Rattle.marker_core.specs.SeatSteps.{seat_can_load, seat_can_store};
-ghost use Rattle.page_words.specs.Seat.{side, IsWordAt, empty_view, loaded, filled_with};
+ghost use Rattle.page_words.specs.Seat.{side, IsWordAt, empty_view, loaded, OnlyLooked, filled_with};
 ghost use Rattle.page_words.specs.Seat.{stored, rewritten, published, IsUnnamed, retracted};
 ghost use Rattle.page_words.specs.Heaps.{IsCount};
 
@@ -82,6 +83,8 @@ impl Words {
         requires allowed { seat_can_load (side seat.old) a W.why ≡ true }
         ensures word { IsWordAt seat.old a result }
         ensures view { seat.new ≡ loaded seat.old a W.why result }
+        ensures read { W.why ≡ Read → OnlyLooked seat.old seat.new }
+        ensures beside { W.why ≡ Read → (IsPlace seat.old.bodies a → ⊥) → seat.new ≡ seat.old }
     {
         words_may_be_found();
         loads_are_steps();

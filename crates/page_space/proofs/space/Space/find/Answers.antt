@@ -2,6 +2,7 @@ use Rattle.std.proofs.Common.{◌≡◌, ℕ, ◌+◌, ◌*◌, ◌/◌, ◌<◌
 use Rattle.std.proofs.lemmas.Bool.{cases_lt}
 use Rattle.gc_graph.specs.Placement.{PageHasBucket, IsNowhere, bucket_of}
 use Rattle.gap_bounds.specs.Gaps.{HasClass, least_of}
+use Rattle.page_words.specs.Seat.{SeatView}
 use Rattle.page_space.specs.Space.{IsSpaceOf, FitsIn, extents_of_bodies}
 use Rattle.page_space.proofs.PageSpan.{page_of}
 use Rattle.gc_graph.specs.PageNumbers.{page_before}
@@ -39,20 +40,20 @@ loop-page-init c = record {
 pub returns-in-Some-clause-found : goal.returns-in-Some-clause-found
 returns-in-Some-clause-found c =
     let words : c.self.inside.page_words ≡ c.args.self.now.shape.page_words = ap (λ s. s.shape.page_words) c.self.view_is in
-    let low = rw (c.loop-page.invariant.view, c.loop-page.invariant.shape) at c.in-Some.ensures.found in
+    let low = rw (ap (λ (v : SeatView). v.bodies) c.loop-page.invariant.view, c.loop-page.invariant.shape) at c.in-Some.ensures.found in
     fits_found c.args.self.now.shape c.args.seat.now.bodies c.args.from c.args.to c.args.size c.loop-page.page c.in-Some.a (omega arith) (omega arith) (omega arith) (omega arith)
     c.loop-page.invariant.none low
 
 pub returns-in-Some-clause-place : goal.returns-in-Some-clause-place
 returns-in-Some-clause-place c =
     let words : c.self.inside.page_words ≡ c.args.self.now.shape.page_words = ap (λ s. s.shape.page_words) c.self.view_is in
-    let low = rw (c.loop-page.invariant.view, c.loop-page.invariant.shape) at c.in-Some.ensures.found in
+    let low = rw (ap (λ (v : SeatView). v.bodies) c.loop-page.invariant.view, c.loop-page.invariant.shape) at c.in-Some.ensures.found in
     inl (omega arith, (c.loop-page.page, omega arith, low.0))
 
 pub loop-page-preserved : goal.loop-page-preserved
 loop-page-preserved c =
     let view = c.find_in.ensures.view ∙ c.loop-page.invariant.view in
-    let none = rw (c.loop-page.invariant.view, c.loop-page.invariant.shape) at c.in_default.ensures.none in
+    let none = rw (ap (λ (v : SeatView). v.bodies) c.loop-page.invariant.view, c.loop-page.invariant.shape) at c.in_default.ensures.none in
     record {
       view = view;
       space = subst (IsSpaceOf c.find_in.new.self) view c.find_in.ensures.space;

@@ -1,7 +1,7 @@
 use Rattle.std.proofs.Common.{◌≡◌, ◌⊎◌, ℕ, ◌+◌, ◌*◌, ◌/◌, ◌≤◌, inl, inr, get_or, ap, ◌∙◌, sym, subst, arith}
 use Rattle.std.proofs.lemmas.Bool.{cases_lt, true≢false}
 use Rattle.gc_graph.specs.Placement.{PageHasBucket, bucket_of}
-use Rattle.page_words.specs.Seat.{SeatView}
+use Rattle.page_words.specs.Seat.{SeatView, unlooked}
 use Rattle.gap_bounds.specs.Gaps.{IsGap, IsClassOf, HasClass, least_of}
 use Rattle.page_space.specs.Space.{SpaceView, IsSpaceOf, HoldsWhole, FitsIn, extents_of_bodies}
 use Rattle.page_space.specs.Walks.{BeginsBetween}
@@ -77,7 +77,7 @@ pass_searched-requires-clause-searched c a gap =
       | inl more ↦ inl (omega (arith, c.min-from.ensures, c.max.ensures))
       | inr less ↦ inr (omega (arith, c.min-from.ensures, c.max.ensures))
     ] in
-    let here : IsGap now.shape es c.args.size c.args.page a = rw (c.gap_in-found.ensures.view ∙ c.has_bucket.ensures.view, c.gap_in-found.ensures.shape) at gap in
+    let here : IsGap now.shape es c.args.size c.args.page a = rw (ap (λ (v : SeatView). v.bodies) (c.gap_in-found.ensures.view ∙ ap unlooked c.has_bucket.ensures.view), c.gap_in-found.ensures.shape) at gap in
     let begins = searched_from now c.args.seat.now c.args.page c.args.size c.args.class.number c.args.class.least c.min-from.result c.requires.space words.0
     c.requires.small c.requires.some c.requires.class has from a here in
     rw c.gap_in-found.ensures.shape

@@ -3,7 +3,7 @@ use Rattle.std.specs.List.{Contains, filter, sum_by}
 use Rattle.gc_graph.specs.Placement.{Extent}
 use Rattle.marker_core.specs.Bodies.{IsPlace, holds}
 use Rattle.marker_core.specs.declared.states.Body.{Body}
-use Rattle.page_words.specs.Seat.{SeatView, IsView, IsUnnamed}
+use Rattle.page_words.specs.Seat.{SeatView, IsView, IsUnnamed, OnlyLooked}
 use Rattle.page_words.specs.BodyPlaces.{two_words, within_heap}
 use Rattle.gap_bounds.specs.Gaps.{KnowsGaps}
 use Rattle.page_space.specs.Pages.{word_count}
@@ -120,9 +120,9 @@ returns-clause-space c =
     left space c.args.seat.now.count es e c.leave.new.self c.self.inside.gaps (omega (arith, (shape_words space.shape c.self.invariant.shape).0)) over (seat_apart c.args.seat.now c.bodies_lie_apart.ensures) there
     (omega (arith, freed_inside c.args.seat.now c.args.a c.args.size c.bodies_lie_apart.ensures c.requires.dead c.requires.size, c.requires.space.seat))
     (record { objects = c.leave.ensures.objects; buckets = c.leave.ensures.buckets; starts = c.leave.ensures.starts }) knows in
-    let opened : c.open_gap.new.seat ≡ c.args.seat.now = c.open_gap.ensures.view in
-    let count : c.retract.new.seat.count ≡ c.args.seat.now.count = ap (λ v. v.count) c.retract.ensures ∙ ap (λ v. v.count) opened in
+    let opened : OnlyLooked c.args.seat.now c.open_gap.new.seat = c.open_gap.ensures.view in
+    let count : c.retract.new.seat.count ≡ c.args.seat.now.count = ap (λ v. v.count) c.retract.ensures ∙ ap (λ (v : SeatView). v.count) opened in
     let extents : extents_of_bodies c.retract.new.seat.bodies ≡ filter (others c.args.a) es =
     ap (λ v. extents_of_bodies v.bodies) c.retract.ensures ∙ extents_filter c.open_gap.new.seat.bodies c.args.a
-    ∙ ap (λ v. filter (others c.args.a) (extents_of_bodies v.bodies)) opened in
+    ∙ ap (λ (v : SeatView). filter (others c.args.a) (extents_of_bodies v.bodies)) opened in
     rw (count, extents) now

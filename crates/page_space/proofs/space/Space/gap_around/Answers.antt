@@ -1,5 +1,6 @@
 use Rattle.std.proofs.Common.{ℕ, ◌+◌, ◌*◌, ◌/◌, ◌^◌, ◌<◌, ◌≤◌, ap, rules, arith}
 use Rattle.gc_graph.specs.PageNumbers.{page_before}
+use Rattle.page_words.specs.Seat.{SeatView}
 use Rattle.page_space.proofs.OpenedGaps.{seated, gaps_opened}
 use Rattle.page_space.proofs.space.Space.gap_around.Goals as goal
 
@@ -48,7 +49,7 @@ returns-clause-gap c =
     gaps_opened c.args.seat.now c.args.self.now.shape c.args.page c.args.a c.args.size c.in_ok-from.from c.in_ok-until.until c.bodies_lie_apart.ensures
     (omega (arith, own.some)) own.one (omega (arith, own.low, ap (λ p. p * w) c.requires.page))
     (omega (arith, own.high small, ap (λ p. (p + 1) * w) c.requires.page)) c.in_ok-from.ensures.edge
-    (rw c.near_edge.ensures.view at c.in_ok-until.ensures.end)
+    (rw (ap (λ (v : SeatView). v.bodies) c.near_edge.ensures.view) at c.in_ok-until.ensures.end)
 
 pub returns-clause-order : goal.returns-clause-order
 returns-clause-order c =

@@ -1,7 +1,7 @@
 use Rattle.std.proofs.Common.{◌≡◌, ◌+◌, ◌*◌, Bool, false, get_or, List, refl, ap, ◌∙◌, sym, subst, inl, inr, arith}
 use Rattle.std.proofs.lemmas.Bool.{cases_lt}
 use Rattle.gc_graph.specs.State.{Shape}
-use Rattle.page_words.specs.Seat.{SeatView}
+use Rattle.page_words.specs.Seat.{SeatView, OnlyLooked}
 use Rattle.gap_bounds.specs.Gaps.{IsGap, bound_at}
 use Rattle.page_space.specs.Space.{IsSpaceOf, HoldsWhole, extents_of_bodies}
 use Rattle.gc_graph.specs.PageNumbers.{page_before}
@@ -45,7 +45,7 @@ look-requires-clause-whole c =
 
 pub returns-in-Some-clause-found : goal.returns-in-Some-clause-found
 returns-in-Some-clause-found c =
-    let low = rw (c.loop-at.invariant.view, c.loop-at.invariant.shape) at c.in-Some.ensures.found in (
+    let low = rw (ap (λ (v : SeatView). v.bodies) c.loop-at.invariant.view, c.loop-at.invariant.shape) at c.in-Some.ensures.found in (
       (omega (arith, low.0.0, c.loop-at.invariant.low), low.0.1, low.0.2),
       (λ b before begins. elim (cases_lt b c.loop-at.at) [
         | inl earlier ↦ c.loop-at.invariant.none b (begins.0, earlier, begins.2)
@@ -62,12 +62,12 @@ returns-clause-none c a begins =
 pub loop-at-preserved : goal.loop-at-preserved
 loop-at-preserved c =
     let shape = c.args.self.now.shape in
-    let view : c.look.new.seat ≡ c.args.seat.now = c.look.ensures.view ∙ c.loop-at.invariant.view in
+    let view : OnlyLooked c.args.seat.now c.look.new.seat = c.look.ensures.view ∙ c.loop-at.invariant.view in
     let same : c.look.new.self.shape ≡ shape = c.look.ensures.shape ∙ c.loop-at.invariant.shape in
     let known : c.look.new.self.gaps.known ≡ c.args.self.now.gaps.known = c.look.ensures.known ∙ c.loop-at.invariant.known in
     let end : (c.args.page + 1) * c.self.inside.page_words ≡ (c.args.page + 1) * shape.page_words = ap (λ s. (c.args.page + 1) * s.shape.page_words) c.self.view_is in
     let space : IsSpaceOf c.look.new.self c.args.seat.now = subst (IsSpaceOf c.look.new.self) view c.look.ensures.space in
-    let vain = rw (c.loop-at.invariant.view, c.loop-at.invariant.shape) at c.in_default.ensures.none in
+    let vain = rw (ap (λ (v : SeatView). v.bodies) c.loop-at.invariant.view, c.loop-at.invariant.shape) at c.in_default.ensures.none in
     record {
       view = view;
       space = space;

@@ -1,9 +1,20 @@
-use Rattle.std.proofs.Common.{◌≡◌, ℕ, ◌+◌, ◌-◌, ◌*◌, ◌/◌, ◌%◌, ◌^◌, ◌<◌, ◌≤◌, ap, ◌∙◌, sym, subst, inl, inr, arith}
+use Rattle.std.proofs.Common.{◌≡◌, ℕ, ◌+◌, ◌-◌, ◌*◌, ◌/◌, ◌%◌, ◌^◌, ◌<◌, ◌≤◌, refl, ap, ◌∙◌, sym, subst, inl, inr, arith}
 use Rattle.std.proofs.lemmas.Bool.{cases_lt}
-use Rattle.page_words.specs.Seat.{IsWordAt}
+use Rattle.page_words.specs.BodyPlaces.{no_place_beyond}
+use Rattle.page_words.specs.Seat.{SeatView, IsView, IsWordAt}
 use Rattle.page_space.specs.Pages.{word_count}
 use Rattle.page_space.proofs.StartBits.{IsBitsAt, IsLastPlace, no_bits, highest_bit}
 use Rattle.page_space.proofs.space.Space.last_start.Goals as goal
+use Rattle.page_space.proofs.space.Space.last_start.Goals.{After-load-bits}
+
+-- a word of start bits is no header
+same_view : (c : After-load-bits) → c.load-bits.new.seat ≡ c.loop-word.seat
+same_view c =
+    let is : IsView c.loop-word.seat = subst IsView (sym c.loop-word.invariant.view) c.bodies_lie_apart.ensures in
+    let count : c.count.result ≡ c.loop-word.seat.count =
+    c.count.ensures.count ∙ c.self.invariant.words ∙ ap (λ s. word_count s.shape) c.self.view_is ∙ sym c.requires.heap
+    ∙ ap (λ (v : SeatView). v.count) (sym c.loop-word.invariant.view) in
+    c.load-bits.ensures.beside refl (no_place_beyond c.loop-word.seat (c.count.result + (c.loop-word.word - 1)) is (omega (arith, count)))
 
 pub returns-then-bits-ne0-clause-found : goal.returns-then-bits-ne0-clause-found
 returns-then-bits-ne0-clause-found c =
@@ -42,7 +53,7 @@ loop-word-preserved c =
     let bits : 0 ≡ c.load-bits.result / 2 ^ (64 * at % 64) =
     sym (ap (λ n. n / 2 ^ (64 * at % 64)) c.if-bits-ne0.false ∙ ap (λ k. 0 / 2 ^ k) (let e : 64 * at % 64 ≡ 0 = omega arith in e)) in
     record {
-      view = c.load-bits.ensures.view ∙ view;
+      view = same_view c.before ∙ view;
       high = omega (arith, c.loop-word.invariant.high);
       none = λ p above below place. elim (cases_lt p (64 * at + 64)) [
         | inl inside ↦ no_bits c.args.seat.now c.load-bits.result (64 * at) 0 word bits (let e : 0 ≡ 0 = omega arith in e) p above (omega arith)
@@ -53,3 +64,6 @@ loop-word-preserved c =
 
 pub returns-clause-none : goal.returns-clause-none
 returns-clause-none c p low high place = c.loop-word.invariant.none p (omega (arith, c.loop-word-test.false)) high place
+
+pub returns-then-bits-ne0-clause-view : goal.returns-then-bits-ne0-clause-view
+returns-then-bits-ne0-clause-view c = same_view c.before.before ∙ c.loop-word.invariant.view

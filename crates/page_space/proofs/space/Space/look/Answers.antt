@@ -1,6 +1,6 @@
 use Rattle.std.proofs.Common.{◌≡◌, ℕ, ◌+◌, ◌*◌, ◌<◌, ◌≤◌, length, ap, ◌∙◌, sym, subst, inl, inr, arith}
 use Rattle.std.proofs.lemmas.Bool.{cases_lt}
-use Rattle.page_words.specs.Seat.{SeatView}
+use Rattle.page_words.specs.Seat.{SeatView, OnlyLooked}
 use Rattle.gap_bounds.specs.Gaps.{IsGap}
 use Rattle.page_space.specs.Pages.{word_count}
 use Rattle.page_space.specs.Space.{SpaceView, HoldsWhole, extents_of_bodies}
@@ -25,7 +25,7 @@ walk-requires-clause-edge c = subst (λ (v : SeatView). IsEdge v.bodies c.edge_f
 pub returns-in-Some-clause-found : goal.returns-in-Some-clause-found
 returns-in-Some-clause-found c =
     let shape = c.args.self.now.shape in
-    let low = rw c.edge_from.ensures.view at c.in-Some.ensures.found in
+    let low = rw (ap (λ (v : SeatView). v.bodies) c.edge_from.ensures.view) at c.in-Some.ensures.found in
     let until = block_ends shape c.args.page c.args.at.now (shape_words shape c.shape_is_valid.ensures).2 c.requires.address in (
       (omega (arith, low.0.0, c.edge_from.ensures.from), omega (arith, low.0.1, until), low.0.2),
       (λ b before begins.
@@ -39,7 +39,7 @@ returns-in-Some-clause-found c =
 
 pub returns-clause-none : goal.returns-clause-none
 returns-clause-none c a begins =
-    rw c.edge_from.ensures.view at c.in_default.ensures.none a (
+    rw (ap (λ (v : SeatView). v.bodies) c.edge_from.ensures.view) at c.in_default.ensures.none a (
       from_edge c.args.seat.now c.args.self.now.shape c.args.size c.args.page c.args.at.now c.edge_from.result a c.edge_from.ensures.taken
           (omega (arith, c.requires.some)) begins.0 begins.2,
       omega (arith, begins.1),
@@ -65,8 +65,9 @@ returns-clause-space c =
     let w : ℕ = now.shape.page_words in
     let es = extents_of_bodies v.bodies in
     let same : c.self.inside.gaps ≡ now.gaps = ap (λ s. s.gaps) c.self.view_is in
-    let longest = rw c.edge_from.ensures.view at c.in_default.ensures.longest in
-    rw (c.walk.ensures.view ∙ c.edge_from.ensures.view)
+    let longest = rw (ap (λ (v : SeatView). v.bodies) c.edge_from.ensures.view) at c.in_default.ensures.longest in
+    let view : OnlyLooked v c.walk.new.seat = c.walk.ensures.view ∙ c.edge_from.ensures.view in
+    rw (ap (λ (u : SeatView). u.count) view, ap (λ (u : SeatView). u.bodies) view)
     (others_stay _ now v.count es c.saw.new.self c.self.view_is c.requires.space
     (c.saw.ensures.knows now.shape es
     (λ page size a gap from to. elim (cases_lt 0 size) [

@@ -1,6 +1,8 @@
-use Rattle.std.proofs.Common.{rules, ◌≡◌, ◌^◌, ◌<◌, arith}
+use Rattle.std.proofs.Common.{rules, ◌≡◌, ◌+◌, ◌^◌, ◌<◌, refl, ap, sym, subst, arith}
 use Rattle.std.proofs.lemmas.List.Elements.{All-contains}
+use Rattle.marker_core.specs.Bodies.{IsPlace}
 use Rattle.marker_core.specs.declared.states.Body.{Body}
+use Rattle.page_words.specs.BodyPlaces.{two_words, no_place_within}
 use Rattle.page_space.proofs.space.Space.serial_at.Goals as goal
 
 pub overflow_cast-result : goal.overflow_cast-result
@@ -10,3 +12,12 @@ overflow_cast-result c =
     c.load.ensures.word.serial c.requires.start.0 c.requires.start.1 (omega (arith, c.requires.start.2)) in
     let low : c.load.result < 2 ^ 32 = omega (arith, small, word) in
     search rules
+
+pub returns-clause-view : goal.returns-clause-view
+returns-clause-view c =
+    let v = c.args.seat.now in
+    let b : Body = c.requires.start.0 in
+    c.load.ensures.beside refl
+    (λ at. no_place_within v b 1 c.bodies_lie_apart.ensures c.requires.start.1 (omega arith)
+    (omega (arith, two_words v c.bodies_lie_apart.ensures b c.requires.start.1))
+    (subst (λ p. IsPlace v.bodies (p + 1)) (sym c.requires.start.2) at))

@@ -1,6 +1,7 @@
 use Rattle.std.proofs.Common.{◌≡◌, ◌+◌, ◌/◌, ◌%◌, ◌^◌, ap, ◌∙◌, sym, refl, arith}
 use Rattle.std.specs.Int.{trailing_zeros}
 use mir.Syntax.{w64}
+use Rattle.page_words.specs.BodyPlaces.{no_place_beyond}
 use Rattle.page_space.specs.Pages.{word_count}
 use Rattle.page_space.proofs.StartBits.{IsBitsAt, IsNextPlace, no_bits, lowest_bit}
 use Rattle.page_space.proofs.space.Space.start_in_block.Goals as goal
@@ -31,3 +32,15 @@ returns-clause-found c =
 
 pub returns-clause-near : goal.returns-clause-near
 returns-clause-near c = (next_place c).near
+
+-- a word of start bits is no header
+same_view : (c : After-load) → c.load.new.seat ≡ c.args.seat.now
+same_view c =
+    c.load.ensures.beside refl
+    (no_place_beyond c.args.seat.now (c.count.result + c.args.at / 64) c.bodies_lie_apart.ensures (omega (arith, counted c)))
+
+pub returns-then-bits-eq0-clause-view : goal.returns-then-bits-eq0-clause-view
+returns-then-bits-eq0-clause-view c = same_view c.before
+
+pub returns-clause-view : goal.returns-clause-view
+returns-clause-view c = same_view c.before

@@ -1,6 +1,7 @@
-use Rattle.std.proofs.Common.{◌≡◌, ℕ, ◌+◌, ◌*◌, ◌%◌, ap, ◌∙◌, sym, arith}
+use Rattle.std.proofs.Common.{◌≡◌, ℕ, ◌+◌, ◌*◌, ◌%◌, refl, ap, ◌∙◌, sym, arith}
 use Rattle.std.specs.Int.{bit_at}
 use Rattle.marker_core.specs.Layout.{bitmap_at}
+use Rattle.page_words.specs.BodyPlaces.{no_place_beyond}
 use Rattle.page_words.specs.Seat.{IsWordAt}
 use Rattle.page_space.specs.Pages.{word_count}
 use Rattle.page_space.proofs.space.Space.starts_in.Goals as goal
@@ -17,3 +18,10 @@ returns-clause-starts c i few =
       (λ set. starts.0 (ap (bit_at c.load.result) bit ∙ set)),
       (λ place. sym (ap (bit_at c.load.result) bit) ∙ starts.1 place),
     )
+
+pub returns-clause-view : goal.returns-clause-view
+returns-clause-view c =
+    let count : c.count.result ≡ c.args.seat.now.count =
+    c.count.ensures.count ∙ c.self.invariant.words ∙ ap (λ s. word_count s.shape) c.self.view_is ∙ sym c.requires.heap in
+    c.load.ensures.beside refl
+    (no_place_beyond c.args.seat.now (c.count.result + c.args.block) c.bodies_lie_apart.ensures (omega (arith, count)))

@@ -5,6 +5,7 @@ use Rattle.marker_core.specs.declared.states.Body.{Body}
 use Rattle.page_space.specs.Space.{HasNoStart, extents_of_bodies}
 use Rattle.gap_bounds.specs.Gaps.{IsGap}
 use Rattle.page_space.proofs.PlaceBodies.{tells_size}
+use Rattle.page_words.specs.Seat.{SeatView, unlooked}
 use Rattle.page_words.specs.BodyPlaces.{two_words}
 use Rattle.page_space.proofs.Shapes.{shape_words}
 use Rattle.page_space.proofs.WalkSteps.{edge_moves, gap_here, gap_ends}
@@ -29,17 +30,17 @@ words_to_next-requires-clause-blocks c =
 
 pub returns-in_default-clause-found : goal.returns-in_default-clause-found
 returns-in_default-clause-found c =
-    let view = c.loop-walk.invariant.view in
+    let bodies : c.loop-walk.seat.bodies ≡ c.args.seat.now.bodies = ap (λ (v : SeatView). v.bodies) c.loop-walk.invariant.view in
     let end : (c.args.page + 1) * c.self.inside.page_words ≡ (c.args.page + 1) * c.args.self.now.shape.page_words =
     ap (λ s. (c.args.page + 1) * s.shape.page_words) c.self.view_is in
     let gap : IsGap c.args.self.now.shape (extents_of_bodies c.args.seat.now.bodies) c.args.size c.args.page c.loop-walk.walk.at =
     elim c.in_default.branch [
       | in_default-via-in-Some+else-gap-size w ↦
-          let found = rw view at w.in-Some.ensures.found in
+          let found = rw bodies at w.in-Some.ensures.found in
           gap_at c.before (λ p low high place. found.1 p (omega (arith, w.if-gap-size.false)) (low, place))
           (omega (arith, w.in-Some.ensures.within, w.if-gap-size.false))
       | in_default-via-in-None+else-end-walk w ↦
-          let none = rw view at w.in-None.ensures.none in
+          let none = rw bodies at w.in-None.ensures.none in
           gap_at c.before (λ p low high place. none p low (omega (arith, w.if-end-walk.false)) place)
           (omega (arith, w.if-end-walk.false))
     ] in (
@@ -73,14 +74,14 @@ loop-walk-preserved c =
     let next : ℕ = at + c.in-Some.gap in
     let end : (c.args.page + 1) * c.self.inside.page_words ≡ (c.args.page + 1) * c.args.self.now.shape.page_words =
     ap (λ s. (c.args.page + 1) * s.shape.page_words) c.self.view_is in
-    let view = c.loop-walk.invariant.view in
-    let found = rw view at c.in-Some.ensures.found in
+    let bodies : c.loop-walk.seat.bodies ≡ c.args.seat.now.bodies = ap (λ (v : SeatView). v.bodies) c.loop-walk.invariant.view in
+    let found = rw bodies at c.in-Some.ensures.found in
     let place : IsPlace c.args.seat.now.bodies next = found.0.1 in
     let inside : next < (c.args.page + 1) * c.args.self.now.shape.page_words = omega (arith, c.in-Some.ensures.within) in
     let none : HasNoStart c.args.seat.now.bodies at next = λ p low high start. found.1 p high (low, start) in
     let b : Body = place.0 in
     let size_is : c.header_at.result.size ≡ b.size =
-    rw (c.words_to_next.ensures.view ∙ view) at (tells_size c.words_to_next.new.seat next c.header_at.result c.header_at.ensures.header) b place.1 place.2 in
+    rw (ap (λ v. v.bodies) c.words_to_next.ensures.view ∙ bodies) at (tells_size c.words_to_next.new.seat next c.header_at.result c.header_at.ensures.header) b place.1 place.2 in
     let b_at : b.place ≡ next = place.2 in
     let some : 2 ≤ b.size = two_words c.args.seat.now c.bodies_lie_apart.ensures b place.1 in
     let last : end_of b ≤ (c.args.page + 1) * c.args.self.now.shape.page_words =
@@ -88,7 +89,7 @@ loop-walk-preserved c =
     let after : ℕ = next + c.header_at.result.size in
     let gap = λ (n x : ℕ). gap_ends c.args.seat.now c.args.self.now.shape n c.args.page next after x b c.bodies_lie_apart.ensures place.1 b_at (omega (arith, size_is)) in
     record {
-      view = c.header_at.ensures.view ∙ c.words_to_next.ensures.view ∙ view;
+      view = c.header_at.ensures.view ∙ ap unlooked c.words_to_next.ensures.view ∙ c.loop-walk.invariant.view;
       low = omega (arith, c.loop-walk.invariant.low);
       inside = omega (arith, size_is);
       edge = edge_moves c.args.seat.now at next after b c.bodies_lie_apart.ensures c.loop-walk.invariant.edge none place.1 b_at found.0.0 (omega (arith, size_is));

@@ -1,15 +1,15 @@
 use Rattle.std.proofs.Common.{rules, ◌≡◌, ◌<◌, length, true, get_or, sym, subst, ap, ◌∙◌, set}
 use Rattle.std.proofs.lemmas.Bool.{eq-eqb, ne_eqb}
-use Rattle.std.proofs.lemmas.List.{get_or_read}
 use Rattle.marker_core.specs.Bodies.{IsPlace}
 use Rattle.marker_core.specs.SeatLaws.{IsGreyHeader}
 use Rattle.marker_core.specs.SeatSteps.{seat_can_claim}
 use Rattle.page_words.specs.Seat.{SeatView, IsWordAt, side, claimed_at}
 use Rattle.page_words.specs.Heaps.{IsHeap}
 use Rattle.page_words.proofs.Allowed.{claim_allowed}
-use Rattle.page_words.proofs.Marks.{finds_grey, grey_alone}
+use Rattle.page_words.proofs.Found.{word_found, told_by_view}
+use Rattle.page_words.proofs.Marks.{finds_grey, grey_is_told}
 use Rattle.page_words.proofs.Steps.{claims_grey, claims_none}
-use Rattle.page_words.proofs.ViewFacts.{place_within, word_is}
+use Rattle.page_words.proofs.ViewFacts.{place_within}
 use Rattle.page_words.proofs.words.Words.claim.Goals as goal
 
 pub index_mut-requires : goal.index_mut-requires
@@ -24,10 +24,8 @@ invariant_of-seat c =
     let words = c.seat.inside.words.items in
     let v = c.seat.inside.view.value in
     let w = c.index-w.result.now in
-    let place : IsPlace v.bodies c.args.a = subst (λ (s : SeatView). IsPlace s.bodies c.args.a) (sym c.seat.view_is) c.requires.place in
     let read : w ≡ get_or words c.args.a 0 =
-    get_or_read words c.args.a w (place_within words v c.args.a c.seat.invariant place) c.index-w.ensures 0
-    in
+    word_found words v c.args.seat.now c.args.a w c.seat.invariant c.seat.view_is c.requires.place c.index-w.ensures in
     let allowed : seat_can_claim (side v) c.args.a ≡ true =
     subst (λ (s : SeatView). seat_can_claim (side s) c.args.a ≡ true) (sym c.seat.view_is)
     (claim_allowed c.args.seat.now c.args.a c.requires.on c.requires.hand c.requires.place) in
@@ -43,10 +41,8 @@ invariant_of-seat-else-found c =
     let words = c.seat.inside.words.items in
     let v = c.seat.inside.view.value in
     let w = c.index-w.result.now in
-    let place : IsPlace v.bodies c.args.a = subst (λ (s : SeatView). IsPlace s.bodies c.args.a) (sym c.seat.view_is) c.requires.place in
     let read : w ≡ get_or words c.args.a 0 =
-    get_or_read words c.args.a w (place_within words v c.args.a c.seat.invariant place) c.index-w.ensures 0
-    in
+    word_found words v c.args.seat.now c.args.a w c.seat.invariant c.seat.view_is c.requires.place c.index-w.ensures in
     let allowed : seat_can_claim (side v) c.args.a ≡ true =
     subst (λ (s : SeatView). seat_can_claim (side s) c.args.a ≡ true) (sym c.seat.view_is)
     (claim_allowed c.args.seat.now c.args.a c.requires.on c.requires.hand c.requires.place) in
@@ -61,26 +57,17 @@ returns-then-found-clause-grey c =
     let words = c.seat.inside.words.items in
     let v = c.seat.inside.view.value in
     let w = c.index-w.result.now in
-    let place : IsPlace v.bodies c.args.a = subst (λ (s : SeatView). IsPlace s.bodies c.args.a) (sym c.seat.view_is) c.requires.place in
-    let read : w ≡ get_or words c.args.a 0 =
-    get_or_read words c.args.a w (place_within words v c.args.a c.seat.invariant place) c.index-w.ensures 0
-    in
-    let is : IsWordAt c.args.seat.now c.args.a w = subst (λ (s : SeatView). IsWordAt s c.args.a w) c.seat.view_is
-    (word_is c.words_may_be_found.ensures words v c.args.a w c.seat.invariant read) in
-    λ alone. finds_grey c.args.seat.now c.args.a w is c.requires.place c.args.header c.requires.header
-    ∙ grey_alone c.args.seat.now c.args.a w is c.requires.place alone
+    let is : IsWordAt c.args.seat.now c.args.a w =
+    told_by_view words v c.args.seat.now c.args.a w c.seat.invariant c.seat.view_is c.requires.place c.index-w.ensures c.words_may_be_found.ensures in
+    grey_is_told c.args.seat.now c.args.a w is c.requires.place c.args.header c.requires.header
 
 pub returns-then-found-clause-view : goal.returns-then-found-clause-view
 returns-then-found-clause-view c =
     let words = c.seat.inside.words.items in
     let v = c.seat.inside.view.value in
     let w = c.index-w.result.now in
-    let place : IsPlace v.bodies c.args.a = subst (λ (s : SeatView). IsPlace s.bodies c.args.a) (sym c.seat.view_is) c.requires.place in
-    let read : w ≡ get_or words c.args.a 0 =
-    get_or_read words c.args.a w (place_within words v c.args.a c.seat.invariant place) c.index-w.ensures 0
-    in
-    let is : IsWordAt c.args.seat.now c.args.a w = subst (λ (s : SeatView). IsWordAt s c.args.a w) c.seat.view_is
-    (word_is c.words_may_be_found.ensures words v c.args.a w c.seat.invariant read) in (
+    let is : IsWordAt c.args.seat.now c.args.a w =
+    told_by_view words v c.args.seat.now c.args.a w c.seat.invariant c.seat.view_is c.requires.place c.index-w.ensures c.words_may_be_found.ensures in (
       w,
       is,
       finds_grey c.args.seat.now c.args.a w is c.requires.place c.args.header c.requires.header,
@@ -92,26 +79,17 @@ returns-else-found-clause-grey c =
     let words = c.seat.inside.words.items in
     let v = c.seat.inside.view.value in
     let w = c.index-w.result.now in
-    let place : IsPlace v.bodies c.args.a = subst (λ (s : SeatView). IsPlace s.bodies c.args.a) (sym c.seat.view_is) c.requires.place in
-    let read : w ≡ get_or words c.args.a 0 =
-    get_or_read words c.args.a w (place_within words v c.args.a c.seat.invariant place) c.index-w.ensures 0
-    in
-    let is : IsWordAt c.args.seat.now c.args.a w = subst (λ (s : SeatView). IsWordAt s c.args.a w) c.seat.view_is
-    (word_is c.words_may_be_found.ensures words v c.args.a w c.seat.invariant read) in
-    λ alone. finds_grey c.args.seat.now c.args.a w is c.requires.place c.args.header c.requires.header
-    ∙ grey_alone c.args.seat.now c.args.a w is c.requires.place alone
+    let is : IsWordAt c.args.seat.now c.args.a w =
+    told_by_view words v c.args.seat.now c.args.a w c.seat.invariant c.seat.view_is c.requires.place c.index-w.ensures c.words_may_be_found.ensures in
+    grey_is_told c.args.seat.now c.args.a w is c.requires.place c.args.header c.requires.header
 
 pub returns-else-found-clause-view : goal.returns-else-found-clause-view
 returns-else-found-clause-view c =
     let words = c.seat.inside.words.items in
     let v = c.seat.inside.view.value in
     let w = c.index-w.result.now in
-    let place : IsPlace v.bodies c.args.a = subst (λ (s : SeatView). IsPlace s.bodies c.args.a) (sym c.seat.view_is) c.requires.place in
-    let read : w ≡ get_or words c.args.a 0 =
-    get_or_read words c.args.a w (place_within words v c.args.a c.seat.invariant place) c.index-w.ensures 0
-    in
-    let is : IsWordAt c.args.seat.now c.args.a w = subst (λ (s : SeatView). IsWordAt s c.args.a w) c.seat.view_is
-    (word_is c.words_may_be_found.ensures words v c.args.a w c.seat.invariant read) in (
+    let is : IsWordAt c.args.seat.now c.args.a w =
+    told_by_view words v c.args.seat.now c.args.a w c.seat.invariant c.seat.view_is c.requires.place c.index-w.ensures c.words_may_be_found.ensures in (
       w,
       is,
       finds_grey c.args.seat.now c.args.a w is c.requires.place c.args.header c.requires.header,

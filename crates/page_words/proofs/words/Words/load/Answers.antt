@@ -2,10 +2,10 @@ use Rattle.std.proofs.Common.{◌≡◌, ◌≤◌, true, sym, subst, ap, ◌∙
 use Rattle.std.proofs.lemmas.List.{get_or_read}
 use Rattle.marker_core.specs.Layout.{stop_at}
 use Rattle.marker_core.specs.SeatSteps.{seat_can_load}
-use Rattle.page_words.specs.Seat.{SeatView, side, loaded, IsWordAt}
+use Rattle.page_words.specs.Seat.{SeatView, side, loaded, unlooked, IsWordAt}
 use Rattle.page_words.specs.Heaps.{IsHeap}
 use Rattle.page_words.proofs.Steps.{loads}
-use Rattle.page_words.proofs.ViewFacts.{within, word_is}
+use Rattle.page_words.proofs.ViewFacts.{within, word_is, read_beside}
 use Rattle.page_words.proofs.words.Words.load.Goals as goal
 
 pub invariant_of-seat : goal.invariant_of-seat
@@ -31,3 +31,13 @@ returns-clause-word g c =
 
 pub returns-clause-view : goal.returns-clause-view
 returns-clause-view g c = c.chosen.ensures ∙ ap (λ (s : SeatView). loaded s c.args.a g.W.Reason.why c.index-word.result.now) c.seat.view_is
+
+pub returns-clause-read : goal.returns-clause-read
+returns-clause-read g c read = ap unlooked (c.chosen.ensures ∙ ap (λ (s : SeatView). loaded s c.args.a g.W.Reason.why c.index-word.result.now) c.seat.view_is)
+    ∙ ap (λ why. unlooked (loaded c.args.seat.now c.args.a why c.index-word.result.now)) read
+
+pub returns-clause-beside : goal.returns-clause-beside
+returns-clause-beside g c read beside = c.chosen.ensures
+    ∙ ap (λ (s : SeatView). loaded s c.args.a g.W.Reason.why c.index-word.result.now) c.seat.view_is
+    ∙ ap (λ why. loaded c.args.seat.now c.args.a why c.index-word.result.now) read
+    ∙ read_beside c.args.seat.now c.args.a c.index-word.result.now beside
