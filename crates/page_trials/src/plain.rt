@@ -1,6 +1,7 @@
 // Where a new object goes, as the rule tells it: a walk over all words, by start bits and headers.
 
 ghost use Rattle.std.specs.Prelude.{◌≡◌, ◌^◌, ◌<◌, ◌≤◌};
+ghost use Rattle.page_words.specs.Seat.{OnlyLooked};
 ghost use Rattle.page_space.specs.Pages.{word_count};
 ghost use Rattle.page_space.specs.Space.{IsSeatOf};
 
@@ -12,7 +13,7 @@ use page_words::MutatorSeat;
 pub fn find(space: &Space, seat: &mut MutatorSeat, size: u32, from: u32, to: u32) -> Option<u32>
     requires heap { IsSeatOf space.now seat.old }
     requires to { to ≤ space.now.shape.pages }
-    ensures { seat.new ≡ seat.old }
+    ensures { OnlyLooked seat.old seat.new }
 {
     for page in from..to {
         if let Some(a) = find_in(space, seat, size, page) {
@@ -26,7 +27,7 @@ pub fn find(space: &Space, seat: &mut MutatorSeat, size: u32, from: u32, to: u32
 pub fn find_empty(space: &Space, seat: &mut MutatorSeat, size: u32) -> Option<u32>
     requires heap { IsSeatOf space.now seat.old }
     requires most { size < 2 ^ 26 }
-    ensures { seat.new ≡ seat.old }
+    ensures { OnlyLooked seat.old seat.new }
 {
     seat.bodies_lie_apart();
     space.shape_is_valid();
@@ -48,7 +49,7 @@ pub fn find_empty(space: &Space, seat: &mut MutatorSeat, size: u32) -> Option<u3
 pub fn page_bucket(space: &Space, seat: &mut MutatorSeat, page: u32) -> Option<u32>
     requires heap { IsSeatOf space.now seat.old }
     requires page { page < space.now.shape.pages }
-    ensures { seat.new ≡ seat.old }
+    ensures { OnlyLooked seat.old seat.new }
 {
     seat.bodies_lie_apart();
     space.shape_is_valid();
@@ -67,7 +68,7 @@ pub fn page_bucket(space: &Space, seat: &mut MutatorSeat, page: u32) -> Option<u
 fn bucket_past(space: &Space, seat: &mut MutatorSeat, a: u32, start: u32) -> Option<u32>
     requires heap { IsSeatOf space.now seat.old }
     requires address { a < word_count space.now.shape }
-    ensures { seat.new ≡ seat.old }
+    ensures { OnlyLooked seat.old seat.new }
 {
     space.shape_is_valid();
     if !space.is_start(seat, a) {
@@ -96,7 +97,7 @@ fn bucket_of(space: &Space, size: u32) -> u32 {
 fn find_in(space: &Space, seat: &mut MutatorSeat, size: u32, page: u32) -> Option<u32>
     requires heap { IsSeatOf space.now seat.old }
     requires page { page < space.now.shape.pages }
-    ensures { seat.new ≡ seat.old }
+    ensures { OnlyLooked seat.old seat.new }
 {
     let bucket = bucket_of(space, size);
     if bucket < 4 && page_bucket(space, seat, page) == Some(bucket) {
@@ -110,7 +111,7 @@ fn find_in(space: &Space, seat: &mut MutatorSeat, size: u32, page: u32) -> Optio
 fn gap_in(space: &Space, seat: &mut MutatorSeat, size: u32, page: u32) -> Option<u32>
     requires heap { IsSeatOf space.now seat.old }
     requires page { page < space.now.shape.pages }
-    ensures { seat.new ≡ seat.old }
+    ensures { OnlyLooked seat.old seat.new }
 {
     seat.bodies_lie_apart();
     space.shape_is_valid();
@@ -130,7 +131,7 @@ fn gap_in(space: &Space, seat: &mut MutatorSeat, size: u32, page: u32) -> Option
 fn end_at(space: &Space, seat: &mut MutatorSeat, a: u32, before: u32) -> u32
     requires heap { IsSeatOf space.now seat.old }
     requires address { a < word_count space.now.shape }
-    ensures { seat.new ≡ seat.old }
+    ensures { OnlyLooked seat.old seat.new }
 {
     space.shape_is_valid();
     if space.is_start(seat, a) {

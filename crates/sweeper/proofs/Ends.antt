@@ -8,7 +8,7 @@ use Rattle.marker_core.specs.declared.states.Body.{Body}
 use Rattle.page_words.specs.Seat.{SeatView, IsView, IsQuiet}
 use Rattle.page_space.specs.Pages.{word_count, is_between}
 use Rattle.page_space.specs.Space.{SpaceView, IsSpaceOf, extent_of}
-use Rattle.sweeper.specs.Sweeping.{IsClearBelow, is_dead_in, swept_in, all_swept, dead_from, outside}
+use Rattle.sweeper.specs.Sweeping.{IsClearBelow, is_dead_in, swept_in, all_swept, dead_between, outside}
 use Rattle.sweeper.proofs.Filters.{filter_same}
 use Rattle.sweeper.proofs.Places.{between, outside_none}
 use Rattle.sweeper.proofs.Sweeping.{changed_same, unmarked_without_body, untraced_without_body, undead_without_body}
@@ -66,7 +66,7 @@ all_end from v view clear =
     (outside_none from v.count v.dead (held_between from v v.dead view clear.dead (λ a dead. (view.dead_are_unmarked a dead).0)))
 
 -- each dead body has two words at least
-pub dead_few : (space : SpaceView) (v : SeatView) (from : ℕ) → IsSpaceOf space v → 2 * dead_from from v ≤ word_count space.shape
-dead_few space v from over =
-    let half = count_half (λ (b : Body). leb from b.place && holds v.dead b.place) extent_of (λ (e : Extent). e.size) v.bodies over.sizes in
+pub dead_few : (space : SpaceView) (v : SeatView) (from until : ℕ) → IsSpaceOf space v → 2 * dead_between from until v ≤ word_count space.shape
+dead_few space v from until over =
+    let half = count_half (is_dead_in from until v) extent_of (λ (e : Extent). e.size) v.bodies over.sizes in
     omega (arith, half, over.free, over.seat)

@@ -23,6 +23,9 @@ is_first from until a is = leb-true from a (and_parts _ _ is).0
 pub is_last : (from until a : ℕ) → is_between from until a ≡ true → a < until
 is_last from until a is = ltb-true a until (and_parts _ _ is).1
 
+pub later : (from mid until a : ℕ) → from ≤ mid → is_between mid until a ≡ true → is_between from until a ≡ true
+later from mid until a early is = between from until a (omega (arith, is_first mid until a is)) (is_last mid until a is)
+
 -- what lies outside of both of two neighbours lies outside of the two together
 pub outside_both : (from mid until a : ℕ) → from ≤ mid → mid ≤ until
     → (not (is_between from mid a) && not (is_between mid until a)) ≡ not (is_between from until a)

@@ -6,7 +6,7 @@ use Rattle.std.proofs.lemmas.List.{map-append, length-append, get_or_append_left
 use Rattle.std.proofs.lemmas.List.Elements.{All-append, All-weaker, All-nil, All-cons, All-get_or, Contains-append_left, Contains-append_right}
 use Rattle.marker_core.specs.declared.states.Body.{Body}
 use Rattle.marker_core.specs.Bodies.{holds}
-use Rattle.page_words.specs.Seat.{SeatView}
+use Rattle.page_words.specs.Seat.{SeatView, OnlyLooked}
 use Rattle.page_space.specs.Space.{HasNoStart}
 use Rattle.sweeper.specs.Sweeping.{swept_in, is_dead_in, IsDeadIn, AreDeadSerials, no_body}
 use Rattle.gc_graph.specs.Members.{Contains-head, was_in, stays_in}
@@ -127,4 +127,23 @@ serials_on from mid until v xs ys early late first second = record {
       ascends mid first.dead second.dead (All-weaker (IsDeadIn from mid v) (λ b. b.place < mid) (λ b is. is.last) first.dead first.each)
       (All-weaker (IsDeadIn mid until (swept_in from mid v)) (λ b. mid ≤ b.place) (λ b is. is.first) second.dead second.each) first.ascending
       second.ascending;
+}
+
+-- headers were looked at: the same are dead
+dead_looked : (from until : ℕ) (v w : SeatView) → OnlyLooked v w → (b : Body) → IsDeadIn from until w b → IsDeadIn from until v b
+dead_looked from until v w same b is = record {
+  there = subst (λ bs. Contains bs b) (ap (λ (x : SeatView). x.bodies) same) is.there;
+  dead = ap (λ (x : SeatView). holds x.dead b.place) (sym same) ∙ is.dead;
+  first = is.first;
+  last = is.last;
+}
+
+pub serials_looked : (from until : ℕ) (v w : SeatView) (numbers : List ℕ) → OnlyLooked v w → AreDeadSerials from until w numbers
+    → AreDeadSerials from until v numbers
+serials_looked from until v w numbers same are = record {
+  dead = are.dead;
+  numbers_are = are.numbers_are;
+  each = All-weaker (IsDeadIn from until w) (IsDeadIn from until v) (λ b is. dead_looked from until v w same b is) are.dead are.each;
+  whole = λ b is. are.whole b (dead_looked from until w v (sym same) b is);
+  ascending = are.ascending;
 }

@@ -6,15 +6,15 @@ use Rattle.std.proofs.lemmas.List.{length_push}
 use Rattle.std.proofs.lemmas.List.Elements.{All-filter, filter_agree}
 use Rattle.marker_core.specs.Bodies.{IsPlace, holds, without}
 use Rattle.marker_core.specs.declared.states.Body.{Body}
-use Rattle.page_words.specs.Seat.{SeatView, IsView, unmarked_at, retracted}
+use Rattle.page_words.specs.Seat.{SeatView, IsView, OnlyLooked, unlooked, unmarked_at, retracted}
 use Rattle.page_space.specs.Pages.{is_between}
 use Rattle.page_space.specs.Space.{HasNoStart}
 use Rattle.sweeper.specs.OutsidePlaces.{outside_holds}
-use Rattle.sweeper.specs.Sweeping.{IsJudgedFrom, DeadAreUnnamed, IsClearBelow, outside, is_dead_in, swept_in, AreDeadSerials, Sweeps, dead_from}
+use Rattle.sweeper.specs.Sweeping.{IsJudgedFrom, DeadAreUnnamed, IsClearBelow, outside, is_dead_in, swept_in, Sweeps, dead_between}
 use Rattle.sweeper.proofs.Filters.{filter_filter, filter_all}
 use Rattle.gc_graph.specs.Members.{was_in, has_passed}
-use Rattle.sweeper.proofs.Places.{between, before, behind, is_first, is_last, outside_on, outside_all, outside_one, outside_behind, outside_before, outside_between, only}
-use Rattle.sweeper.proofs.Serials.{serials_none, serials_kept, serials_one, serials_on}
+use Rattle.sweeper.proofs.Places.{between, before, behind, later, is_first, is_last, outside_on, outside_all, outside_one, outside_behind, outside_before, outside_between, only}
+use Rattle.sweeper.proofs.Serials.{serials_none, serials_kept, serials_one, serials_on, serials_looked}
 use Rattle.sweeper.proofs.Counts.{count_less, count_fewer, count_some}
 use Rattle.page_words.specs.BodyPlaces.{two_words, same_body}
 
@@ -47,6 +47,25 @@ pub changed_same : (v : SeatView) (b c : List Body) (m n t u d e : List ℕ) →
 changed_same v b c m n t u d e bodies marked traced dead =
     ap (λ x. changed v x m t d) bodies ∙ ap (λ x. changed v c x t d) marked ∙ ap (λ x. changed v c n x d) traced ∙ ap (λ x. changed v c n u x) dead
 
+-- ---- how many dead there are
+
+-- from a later address on there are no more
+fewer_dead : (from mid end : ℕ) (v : SeatView) → from ≤ mid → dead_between mid end v ≤ dead_between from end v
+fewer_dead from mid end v early =
+    count_fewer (is_dead_in from end v) (is_dead_in mid end v) v.bodies
+    (λ b is. let both = and_parts (is_between mid end b.place) (holds v.dead b.place) is in and_from _ _ (later from mid end b.place early both.0) both.1)
+
+-- and past one that is gone there is one less
+one_dead_less : (a end : ℕ) (v : SeatView) (b : Body) → Contains v.bodies b → b.place ≡ a → holds v.dead a ≡ true → a + 1 ≤ end
+    → 1 + dead_between (a + 1) end (retracted v a) ≤ dead_between a end v
+one_dead_less a end v b there at gone far =
+    count_less (is_dead_in a end v) (λ c. is_between (a + 1) end c.place && holds (without v.dead a) c.place)
+    (λ (c : Body). not (eqb c.place a)) v.bodies b
+    (λ c _ is. let both = and_parts (is_between (a + 1) end c.place) (holds (without v.dead a) c.place) is in
+    and_from _ _ (later a (a + 1) end c.place (omega arith) both.0)
+    (sym (outside_behind a (a + 1) v.dead c.place (is_first (a + 1) end c.place both.0)) ∙ ap (λ l. holds l c.place) (sym (outside_one v.dead a)) ∙ both.1))
+    there (and_from _ _ (between a end b.place (omega (arith, at)) (omega (arith, at))) (ap (holds v.dead) at ∙ gone)) (ap not (eq-eqb b.place a at))
+
 -- ---- nothing to sweep
 
 pub nothing : (from until : ℕ) (v : SeatView) (numbers : List ℕ) → IsView v → from ≤ until → HasNoStart v.bodies from until
@@ -54,21 +73,16 @@ pub nothing : (from until : ℕ) (v : SeatView) (numbers : List ℕ) → IsView 
 nothing from until v numbers view order none =
     record {
       view =
-          changed_same v v.bodies (filter (λ b. not (is_dead_in from until v b)) v.bodies) v.marked (outside from until v.marked) v.traced
+          ap unlooked (changed_same v v.bodies (filter (λ b. not (is_dead_in from until v b)) v.bodies) v.marked (outside from until v.marked) v.traced
           (outside from until v.traced) v.dead (outside from until v.dead)
           (sym (filter_all (λ b. not (is_dead_in from until v b)) v.bodies (λ b there. ap not (and_left _ (holds v.dead b.place)
           (false_from_ne_true (is_between from until b.place) (λ is.
           none b.place (is_first from until b.place is) (is_last from until b.place is) (b, there, refl)))))))
           (sym (outside_all from until v.marked (λ x first last. unmarked_without_body v x view (none x first last))))
           (sym (outside_all from until v.traced (λ x first last. untraced_without_body v x view (none x first last))))
-          (sym (outside_all from until v.dead (λ x first last. undead_without_body v x view (none x first last))));
+          (sym (outside_all from until v.dead (λ x first last. undead_without_body v x view (none x first last)))));
       told = record { numbers = []; are = serials_none from until v none; follow = sym (append-nil numbers) };
-      few =
-          (let fewer : dead_from until v ≤ dead_from from v =
-          count_fewer (λ b. leb from b.place && holds v.dead b.place) (λ b. leb until b.place && holds v.dead b.place) v.bodies
-          (λ b is. let both = and_parts (leb until b.place) (holds v.dead b.place) is in
-          and_from _ _ (le-leb from b.place (omega (arith, leb-true until b.place both.0))) both.1) in
-          omega arith);
+      few = λ end far. (let fewer = fewer_dead from until end v order in omega arith);
     }
 
 -- ---- one object
@@ -79,21 +93,16 @@ one_kept a v numbers view marked =
     let alive : holds v.dead a ≡ false = undead_if_marked v a view marked in
     record {
       view =
-          changed_same v v.bodies (filter (λ b. not (is_dead_in a (a + 1) v b)) v.bodies) (without v.marked a) (outside a (a + 1) v.marked)
+          ap unlooked (changed_same v v.bodies (filter (λ b. not (is_dead_in a (a + 1) v b)) v.bodies) (without v.marked a) (outside a (a + 1) v.marked)
           (without v.traced a) (outside a (a + 1) v.traced) v.dead (outside a (a + 1) v.dead)
           (sym (filter_all (λ b. not (is_dead_in a (a + 1) v b)) v.bodies (λ b there. ap not (elim (cases_eq b.place a) [
             | inl here ↦ and_right (is_between a (a + 1) b.place) _ (ap (holds v.dead) here ∙ alive)
             | inr other ↦ and_left _ (holds v.dead b.place) (only a b.place ∙ ne_eqb b.place a other)
           ]))))
           (outside_one v.marked a) (outside_one v.traced a)
-          (sym (outside_all a (a + 1) v.dead (λ x first last. let here : x ≡ a = omega arith in ap (holds v.dead) here ∙ alive)));
+          (sym (outside_all a (a + 1) v.dead (λ x first last. let here : x ≡ a = omega arith in ap (holds v.dead) here ∙ alive))));
       told = record { numbers = []; are = serials_kept a v alive; follow = sym (append-nil numbers) };
-      few =
-          (let fewer : dead_from (a + 1) (unmarked_at v a) ≤ dead_from a v =
-          count_fewer (λ b. leb a b.place && holds v.dead b.place) (λ b. leb (a + 1) b.place && holds v.dead b.place) v.bodies
-          (λ b is. let both = and_parts (leb (a + 1) b.place) (holds v.dead b.place) is in
-          and_from _ _ (le-leb a b.place (omega (arith, leb-true (a + 1) b.place both.0))) both.1) in
-          omega arith);
+      few = λ end far. (let fewer = fewer_dead a (a + 1) end v (omega arith) in omega arith);
     }
 
 -- a dead body: it is no longer there, and its number follows the others
@@ -105,7 +114,7 @@ one_gone a v b numbers view off there at gone =
     λ x first last. let here : x ≡ a = omega arith in ap (holds v.marked) here ∙ unmarked in
     record {
       view =
-          changed_same v (filter (λ (c : Body). not (eqb c.place a)) v.bodies) (filter (λ c. not (is_dead_in a (a + 1) v c)) v.bodies) v.marked
+          ap unlooked (changed_same v (filter (λ (c : Body). not (eqb c.place a)) v.bodies) (filter (λ c. not (is_dead_in a (a + 1) v c)) v.bodies) v.marked
           (outside a (a + 1) v.marked) v.traced (outside a (a + 1) v.traced) (without v.dead a) (outside a (a + 1) v.dead)
           (filter_agree (λ (c : Body). not (eqb c.place a)) (λ c. not (is_dead_in a (a + 1) v c)) (λ c. ap not (elim (cases_eq c.place a) [
             | inl here ↦
@@ -116,28 +125,36 @@ one_gone a v b numbers view off there at gone =
                 ∙ sym (and_left _ (holds v.dead c.place) (only a c.place ∙ ne_eqb c.place a other))
           ])) v.bodies)
           (sym (outside_all a (a + 1) v.marked clear))
-          (sym (outside_all a (a + 1) v.traced (λ x first last. untraced_if_unmarked v x view off (clear x first last)))) (outside_one v.dead a);
+          (sym (outside_all a (a + 1) v.traced (λ x first last. untraced_if_unmarked v x view off (clear x first last)))) (outside_one v.dead a));
       told = record {
         numbers = b.serial ∷ [];
         are = serials_one a v b there at gone (λ c c_there here. same_body v b c view there c_there (at ∙ sym here));
         follow = refl;
       };
-      few =
-          (let fewer : 1 + dead_from (a + 1) (retracted v a) ≤ dead_from a v =
-          count_less (λ c. leb a c.place && holds v.dead c.place) (λ c. leb (a + 1) c.place && holds (without v.dead a) c.place)
-          (λ (c : Body). not (eqb c.place a)) v.bodies b
-          (λ c _ is. let both = and_parts (leb (a + 1) c.place) (holds (without v.dead a) c.place) is in
-          let high : a + 1 ≤ c.place = leb-true (a + 1) c.place both.0 in
-          and_from _ _ (le-leb a c.place (omega arith))
-          (sym (outside_behind a (a + 1) v.dead c.place high) ∙ ap (λ l. holds l c.place) (sym (outside_one v.dead a)) ∙ both.1))
-          there (and_from _ _ (le-leb a b.place (omega arith)) (ap (holds v.dead) at ∙ gone)) (ap not (eq-eqb b.place a at)) in
-          omega (arith, fewer, length_push numbers b.serial));
+      few = λ end far. (let fewer = one_dead_less a end v b there at gone far in omega (arith, fewer, length_push numbers b.serial));
     }
 
-pub dead_here : (a : ℕ) (v : SeatView) (b : Body) → Contains v.bodies b → b.place ≡ a → holds v.dead a ≡ true → 1 ≤ dead_from a v
+pub dead_here : (a : ℕ) (v : SeatView) (b : Body) → Contains v.bodies b → b.place ≡ a → holds v.dead a ≡ true → 1 ≤ dead_between a (a + 1) v
 dead_here a v b there at gone =
-    count_some (λ c. leb a c.place && holds v.dead c.place) v.bodies b there
-    (and_from _ _ (le-leb a b.place (omega arith)) (ap (holds v.dead) at ∙ gone))
+    count_some (is_dead_in a (a + 1) v) v.bodies b there
+    (and_from _ _ (between a (a + 1) b.place (omega (arith, at)) (omega (arith, at))) (ap (holds v.dead) at ∙ gone))
+
+-- a part of what is between two addresses has no more dead
+pub part_dead : (from mid until end : ℕ) (v : SeatView) → from ≤ mid → until ≤ end → dead_between mid until v ≤ dead_between from end v
+part_dead from mid until end v early late =
+    count_fewer (is_dead_in from end v) (is_dead_in mid until v) v.bodies
+    (λ b is. let both = and_parts (is_between mid until b.place) (holds v.dead b.place) is in
+    and_from _ _ (between from end b.place (omega (arith, is_first mid until b.place both.0)) (omega (arith, is_last mid until b.place both.0))) both.1)
+
+-- ---- headers were looked at besides
+
+pub sweeps_looked : (from until : ℕ) (v w x : SeatView) (before after : List ℕ) → OnlyLooked w x → Sweeps from until v before w after
+    → Sweeps from until v before x after
+sweeps_looked from until v w x before after same swept = record {
+  view = same ∙ swept.view;
+  told = swept.told;
+  few = λ end far. omega (arith, swept.few end far, ap (dead_between until end) same);
+}
 
 -- ---- one part after another
 
@@ -183,21 +200,21 @@ swept_on from mid until v early late =
 pub sweeps_on : (from mid until : ℕ) (v now new : SeatView) (first then last : List ℕ) → from ≤ mid → mid ≤ until → Sweeps from mid v first now then
     → Sweeps mid until now then new last → Sweeps from until v first new last
 sweeps_on from mid until v now new first then last early late one two = record {
-  view = two.view ∙ ap (swept_in mid until) one.view ∙ swept_on from mid until v early late;
+  view = two.view ∙ ap (swept_in mid until) one.view ∙ ap unlooked (swept_on from mid until v early late);
   told = record {
     numbers = one.told.numbers ++ two.told.numbers;
     are =
         serials_on from mid until v one.told.numbers two.told.numbers early late one.told.are
-        (subst (λ w. AreDeadSerials mid until w two.told.numbers) one.view two.told.are);
+        (serials_looked mid until (swept_in from mid v) now two.told.numbers one.view two.told.are);
     follow =
         two.told.follow ∙ ap (λ l. l ++ two.told.numbers) one.told.follow ∙ append_assoc first one.told.numbers two.told.numbers;
   };
-  few = omega (arith, one.few, two.few);
+  few = λ end far. omega (arith, one.few end (omega arith), two.few end far);
 }
 
 -- ---- what lasts
 
-pub judged_on : (from mid : ℕ) (v now : SeatView) → from ≤ mid → now ≡ swept_in from mid v → IsJudgedFrom from v → IsJudgedFrom mid now
+pub judged_on : (from mid : ℕ) (v now : SeatView) → from ≤ mid → OnlyLooked (swept_in from mid v) now → IsJudgedFrom from v → IsJudgedFrom mid now
 judged_on from mid v now early swept judged =
     subst (IsJudgedFrom mid) (sym swept)
     (λ b there high.
@@ -216,7 +233,7 @@ was_alive from mid v b there alive =
       | inr other ↦ true≢false (sym (outside_holds from mid v.dead b.place ∙ and_from _ _ (ap not other) dead) ∙ alive)
     ])
 
-pub unnamed_on : (from mid : ℕ) (v now : SeatView) → now ≡ swept_in from mid v → DeadAreUnnamed v → DeadAreUnnamed now
+pub unnamed_on : (from mid : ℕ) (v now : SeatView) → OnlyLooked (swept_in from mid v) now → DeadAreUnnamed v → DeadAreUnnamed now
 unnamed_on from mid v now swept unnamed =
     subst DeadAreUnnamed (sym swept)
     (λ a dead b i there alive.
@@ -229,18 +246,18 @@ cleared from mid places none a low = elim (cases_lt a from) [
   | inr late ↦ outside_between from mid places a late low
 ]
 
-pub clear_on : (from mid : ℕ) (v now : SeatView) → now ≡ swept_in from mid v → IsClearBelow from v → IsClearBelow mid now
-clear_on from mid v now swept clear = subst (IsClearBelow mid) (sym swept) (record {
-  marked = cleared from mid v.marked clear.marked;
-  traced = cleared from mid v.traced clear.traced;
-  dead = cleared from mid v.dead clear.dead;
-})
+pub clear_on : (from mid : ℕ) (v now : SeatView) → OnlyLooked (swept_in from mid v) now → IsClearBelow from v → IsClearBelow mid now
+clear_on from mid v now swept clear = record {
+  marked = λ a low. ap (λ (w : SeatView). holds w.marked a) swept ∙ cleared from mid v.marked clear.marked a low;
+  traced = λ a low. ap (λ (w : SeatView). holds w.traced a) swept ∙ cleared from mid v.traced clear.traced a low;
+  dead = λ a low. ap (λ (w : SeatView). holds w.dead a) swept ∙ cleared from mid v.dead clear.dead a low;
+}
 
-pub serials_stay : (from mid : ℕ) (v now : SeatView) (P : Body → Type 0) → now ≡ swept_in from mid v → All P v.bodies → All P now.bodies
+pub serials_stay : (from mid : ℕ) (v now : SeatView) (P : Body → Type 0) → OnlyLooked (swept_in from mid v) now → All P v.bodies → All P now.bodies
 serials_stay from mid v now P swept all =
     subst (λ (w : SeatView). All P w.bodies) (sym swept) (All-filter (λ b. not (is_dead_in from mid v b)) P v.bodies all)
 
-pub start_stays : (from mid low high : ℕ) (v now : SeatView) → now ≡ swept_in from mid v → HasNoStart v.bodies low high → HasNoStart now.bodies low high
+pub start_stays : (from mid low high : ℕ) (v now : SeatView) → OnlyLooked (swept_in from mid v) now → HasNoStart v.bodies low high → HasNoStart now.bodies low high
 start_stays from mid low high v now swept none =
     subst (λ (w : SeatView). HasNoStart w.bodies low high) (sym swept)
     (λ a first last start.

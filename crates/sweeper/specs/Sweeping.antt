@@ -1,9 +1,9 @@
 -- Sweeping page by page, over the bodies of a heap (lazy sweeping, `include/cppgc/heap.h`).
-use Rattle.std.specs.Prelude.{◌≡◌, ℕ, ◌+◌, ◌*◌, ◌^◌, ◌<◌, ◌≤◌, ◌&&◌, nat_le, not, Bool, true, false, List, [], ◌++◌, length, map, filter, count_by, slice_index_or, Contains, All}
+use Rattle.std.specs.Prelude.{◌≡◌, ℕ, ◌+◌, ◌*◌, ◌^◌, ◌<◌, ◌≤◌, ◌&&◌, not, Bool, true, false, List, [], ◌++◌, length, map, filter, count_by, slice_index_or, Contains, All}
 use Rattle.gc_graph.specs.State.{Shape}
 use Rattle.marker_core.specs.declared.states.Body.{Body}
 use Rattle.marker_core.specs.Bodies.{holds}
-use Rattle.page_words.specs.Seat.{SeatView, IsUnnamed}
+use Rattle.page_words.specs.Seat.{SeatView, IsUnnamed, OnlyLooked}
 use Rattle.page_space.specs.Pages.{is_between}
 use Rattle.page_space.specs.Space.{SpaceView, IsSpaceOf}
 
@@ -101,12 +101,13 @@ pub record TellsDead (from until : ℕ) (v : SeatView) (before after : List ℕ)
   pub are : AreDeadSerials from until v numbers
   pub follow : after ≡ before ++ numbers
 
--- how many bodies are dead whose place is not below the address
-abbrev pub dead_from : ℕ → SeatView → ℕ
-dead_from from v = count_by (λ b. nat_le from b.place && holds v.dead b.place) v.bodies
+-- how many bodies there are dead
+abbrev pub dead_between : ℕ → ℕ → SeatView → ℕ
+dead_between from until v = count_by (is_dead_in from until v) v.bodies
 
--- the objects there were swept and their numbers told; with the dead that are left these are no more than before
+-- the objects there were swept and their numbers told; up to each later address, with the dead that are left, these are no
+-- more than before
 pub record Sweeps (from until : ℕ) (old : SeatView) (before : List ℕ) (new : SeatView) (after : List ℕ) : Type 0 where
-  pub view : new ≡ swept_in from until old
+  pub view : OnlyLooked (swept_in from until old) new
   pub told : TellsDead from until old before after
-  pub few : length after + dead_from until new ≤ length before + dead_from from old
+  pub few : (end : ℕ) → until ≤ end → length after + dead_between until end new ≤ length before + dead_between from end old

@@ -7,7 +7,7 @@ ghost use Rattle.marker_core.specs.Bodies.{IsPlace};
 ghost use Rattle.marker_core.specs.Bodies.{holds};
 ghost use Rattle.page_space.specs.Pages.{word_count};
 ghost use Rattle.page_space.specs.Space.{IsSpaceOf, HasNoStart};
-ghost use Rattle.sweeper.specs.Sweeping.{IsJudgedFrom, DeadAreUnnamed, Sweeps, dead_from};
+ghost use Rattle.sweeper.specs.Sweeping.{IsJudgedFrom, DeadAreUnnamed, Sweeps, dead_between};
 
 use page_space::Space;
 use page_words::MutatorSeat;
@@ -27,7 +27,8 @@ pub fn sweep_objects(
     requires judged { IsJudgedFrom from seat.old }
     requires unnamed { DeadAreUnnamed seat.old }
     requires serials { All (λ b. b.serial < 2 ^ 32) seat.old.bodies }
-    requires room { length done.old.items + dead_from from seat.old ≤ vec_capacity done.old }
+    requires room { length done.old.items + dead_between from until seat.old
+        ≤ vec_capacity done.old }
     ensures swept { Sweeps from until seat.old done.old.items seat.new done.new.items }
     ensures space { IsSpaceOf space.new seat.new }
     ensures shape { space.new.shape ≡ space.old.shape }
@@ -57,7 +58,8 @@ fn sweep_next(
     requires judged { IsJudgedFrom from seat.old }
     requires unnamed { DeadAreUnnamed seat.old }
     requires serials { All (λ b. b.serial < 2 ^ 32) seat.old.bodies }
-    requires room { length done.old.items + dead_from from seat.old ≤ vec_capacity done.old }
+    requires room { length done.old.items + dead_between from until seat.old
+        ≤ vec_capacity done.old }
     ensures swept { Sweeps from result seat.old done.old.items seat.new done.new.items }
     ensures further { from < result }
     ensures within { result ≤ until }
@@ -84,7 +86,8 @@ fn sweep_object(space: &mut Space, seat: &mut MutatorSeat, a: u32, done: &mut Ve
     requires judged { holds seat.old.dead a ≡ not (holds seat.old.marked a) }
     requires unnamed { DeadAreUnnamed seat.old }
     requires serials { All (λ b. b.serial < 2 ^ 32) seat.old.bodies }
-    requires room { length done.old.items + dead_from a seat.old ≤ vec_capacity done.old }
+    requires room { length done.old.items + dead_between a (a + 1) seat.old
+        ≤ vec_capacity done.old }
     ensures swept { Sweeps a (a + 1) seat.old done.old.items seat.new done.new.items }
     ensures alone { HasNoStart seat.old.bodies (a + 1) (a + result) }
     ensures least { 2 ≤ result }

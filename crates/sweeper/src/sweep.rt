@@ -1,10 +1,10 @@
 // A sweep, page by page.
 
 ghost use Rattle.std.specs.Prelude.{◌≡◌, ℕ, ◌+◌, ◌*◌, ◌<◌, ◌≤◌, length, vec_capacity};
-ghost use Rattle.page_words.specs.Seat.{IsQuiet};
+ghost use Rattle.page_words.specs.Seat.{IsQuiet, OnlyLooked};
 ghost use Rattle.page_space.specs.Pages.{word_count};
 ghost use Rattle.page_space.specs.Space.{IsSpaceOf};
-ghost use Rattle.sweeper.specs.Sweeping.{cursor_at, dead_from, MaySweep, IsClearBelow};
+ghost use Rattle.sweeper.specs.Sweeping.{cursor_at, dead_between, MaySweep, IsClearBelow};
 ghost use Rattle.sweeper.specs.Sweeping.{Sweeps, all_swept};
 
 use crate::objects::sweep_objects;
@@ -62,7 +62,7 @@ impl Sweep {
         self.cursor
     }
 
-    /// Sweeps the page at the cursor.
+    /// Sweeps the page at the cursor, for whose dead objects `done` has room.
     pub fn page(
         &mut self,
         space: &mut Space,
@@ -72,7 +72,9 @@ impl Sweep {
         requires sweeping { MaySweep self.old space.old seat.old }
         requires open { self.old.cursor < self.old.pages }
         requires room { length done.old.items
-            + dead_from (cursor_at space.old.shape self.old) seat.old ≤ vec_capacity done.old }
+            + dead_between (cursor_at space.old.shape self.old)
+            (cursor_at space.old.shape self.old + space.old.shape.page_words) seat.old
+            ≤ vec_capacity done.old }
         ensures cursor { self.new ≡ record self.old { cursor = self.old.cursor + 1 } }
         ensures swept { Sweeps (cursor_at space.old.shape self.old)
             (cursor_at space.old.shape self.new)
@@ -99,11 +101,13 @@ impl Sweep {
         }
     }
 
-    /// Sweeps the pages that are left. Answers how many objects were finalised.
+    /// Sweeps the pages that are left, for whose dead objects `done` has room. Answers how many
+    /// objects were finalised.
     pub fn finish(&mut self, space: &mut Space, seat: &mut MutatorSeat, done: &mut Vec<u32>) -> u32
         requires sweeping { MaySweep self.old space.old seat.old }
         requires room { length done.old.items
-            + dead_from (cursor_at space.old.shape self.old) seat.old ≤ vec_capacity done.old }
+            + dead_between (cursor_at space.old.shape self.old) (word_count space.old.shape)
+            seat.old ≤ vec_capacity done.old }
         ensures cursor { self.new ≡ record self.old { cursor = self.old.pages } }
         ensures swept { Sweeps (cursor_at space.old.shape self.old)
             (cursor_at space.old.shape self.new)
@@ -111,7 +115,7 @@ impl Sweep {
         ensures finalised { length done.new.items ≡ length done.old.items + result }
         ensures sweeping { MaySweep self.new space.new seat.new }
         ensures all { IsClearBelow (cursor_at space.old.shape self.old) seat.old
-            → seat.new ≡ all_swept seat.old }
+            → OnlyLooked (all_swept seat.old) seat.new }
         ensures shape { space.new.shape ≡ space.old.shape }
         ensures room { vec_capacity done.new ≡ vec_capacity done.old }
     {
@@ -124,11 +128,11 @@ impl Sweep {
     }
 }
 
-/// At most half as many objects are dead as there are words. Whoever calls this has the law. It
-/// reads nothing.
+/// At most half as many objects are dead as there are words, wherever these are. Whoever calls this
+/// has the law. It reads nothing.
 pub fn dead_are_few(space: &Space, seat: &MutatorSeat)
-    ensures { (from : ℕ) → IsSpaceOf space.now seat.now
-        → 2 * dead_from from seat.now ≤ word_count space.now.shape }
+    ensures { (from until : ℕ) → IsSpaceOf space.now seat.now
+        → 2 * dead_between from until seat.now ≤ word_count space.now.shape }
 {
     let _ = space;
     let _ = seat;

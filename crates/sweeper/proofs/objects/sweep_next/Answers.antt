@@ -2,8 +2,8 @@ use Rattle.std.proofs.Common.{rules, ◌≡◌, ℕ, ◌+◌, ◌<◌, ◌≤◌
 use Rattle.marker_core.specs.Bodies.{IsPlace, holds}
 use Rattle.page_words.specs.Seat.{SeatView}
 use Rattle.page_space.specs.Space.{HasNoStart}
-use Rattle.sweeper.specs.Sweeping.{DeadAreUnnamed, Sweeps, dead_from}
-use Rattle.sweeper.proofs.Sweeping.{nothing, sweeps_on, start_stays}
+use Rattle.sweeper.specs.Sweeping.{DeadAreUnnamed, Sweeps, dead_between}
+use Rattle.sweeper.proofs.Sweeping.{nothing, sweeps_on, start_stays, part_dead}
 use Rattle.sweeper.proofs.objects.sweep_next.Goals as goal
 
 pub returns-then-a-until-clause-swept : goal.returns-then-a-until-clause-swept
@@ -12,12 +12,6 @@ returns-then-a-until-clause-swept c =
     subst (λ (w : SeatView). Sweeps c.args.from c.args.until c.args.seat.now numbers w numbers) (sym c.start_from-a.ensures.view)
     (nothing c.args.from c.args.until c.args.seat.now numbers c.bodies_lie_apart.ensures (omega arith)
     (subst (HasNoStart c.args.seat.now.bodies c.args.from) c.if-a-until.true c.start_from-a.ensures.none))
-
--- what was told before the object's own number
-so_far : (c : goal.After-sweep_object-arg-3-1) → Sweeps c.args.from c.start_from-a.result c.args.seat.now c.args.done.now.items c.args.seat.now c.args.done.now.items
-so_far c =
-    nothing c.args.from c.start_from-a.result c.args.seat.now c.args.done.now.items c.bodies_lie_apart.ensures c.start_from-a.ensures.low
-    c.start_from-a.ensures.none
 
 pub sweep_object-size-requires-clause-judged : goal.sweep_object-size-requires-clause-judged
 sweep_object-size-requires-clause-judged c =
@@ -31,8 +25,14 @@ sweep_object-size-requires-clause-unnamed c = subst DeadAreUnnamed (sym c.start_
 
 pub sweep_object-size-requires-clause-room : goal.sweep_object-size-requires-clause-room
 sweep_object-size-requires-clause-room c =
-    subst (λ (w : SeatView). length c.args.done.now.items + dead_from c.start_from-a.result w ≤ vec_capacity c.args.done.now)
-    (sym c.start_from-a.ensures.view) (omega (arith, (so_far c).few, c.requires.room))
+    let a : ℕ = c.start_from-a.result in
+    subst (λ (w : SeatView). length c.args.done.now.items + dead_between a (a + 1) w ≤ vec_capacity c.args.done.now)
+    (sym c.start_from-a.ensures.view)
+    (omega (
+      arith,
+      part_dead c.args.from a (a + 1) c.args.until c.args.seat.now c.start_from-a.ensures.low (omega (arith, c.start_from-a.ensures.within)),
+      c.requires.room,
+    ))
 
 pub overflow_add-a : goal.overflow_add-a
 overflow_add-a c =

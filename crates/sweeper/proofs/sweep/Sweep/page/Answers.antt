@@ -4,7 +4,7 @@ use Rattle.gc_graph.specs.State.{Shape}
 use Rattle.marker_core.specs.declared.states.Body.{Body}
 use Rattle.page_words.specs.Seat.{SeatView}
 use Rattle.page_space.specs.Pages.{word_count}
-use Rattle.sweeper.specs.Sweeping.{SweepView, cursor_at, dead_from, IsJudgedFrom, IsClearBelow, Sweeps}
+use Rattle.sweeper.specs.Sweeping.{SweepView, cursor_at, dead_between, IsJudgedFrom, IsClearBelow, Sweeps}
 use Rattle.sweeper.proofs.Sweeping.{judged_on, unnamed_on, clear_on, serials_stay}
 use Rattle.sweeper.proofs.Ends.{dead_few, quiet_end}
 use Rattle.sweeper.proofs.sweep.Sweep.page.Goals as goal
@@ -33,8 +33,8 @@ grows c =
 
 pub overflow_cast-result : goal.overflow_cast-result
 overflow_cast-result c =
-    let all : 2 * dead_from (cursor_at c.args.space.now.shape c.args.self.now) c.args.seat.now ≤ word_count c.args.space.now.shape =
-    dead_few c.args.space.now c.args.seat.now (cursor_at c.args.space.now.shape c.args.self.now) c.requires.sweeping.laid in
+    let all : 2 * dead_between (cursor_at c.args.space.now.shape c.args.self.now) (until c) c.args.seat.now ≤ word_count c.args.space.now.shape =
+    dead_few c.args.space.now c.args.seat.now (cursor_at c.args.space.now.shape c.args.self.now) (until c) c.requires.sweeping.laid in
     let count : c.sweep_objects.new.seat.count ≡ c.args.seat.now.count = ap (λ (w : SeatView). w.count) (swept c).view in
     let low : c.len.result - c.len-before.result < 2 ^ 32 = omega (
       arith,
@@ -42,7 +42,7 @@ overflow_cast-result c =
       count,
       c.requires.sweeping.laid.seat,
       c.bodies_lie_apart.ensures.count,
-      (swept c).few,
+      (swept c).few (until c) (omega arith),
       c.len.ensures,
       c.len-before.ensures,
     ) in
