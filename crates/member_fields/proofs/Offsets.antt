@@ -1,12 +1,12 @@
 -- Where a word of an object is, and what a read of it tells.
-use Rattle.std.proofs.Common.{◌≡◌, ℕ, ◌+◌, ◌-◌, Bool, true, sym, ap, ◌∙◌, arith}
+use Rattle.std.proofs.Common.{◌≡◌, ℕ, ◌+◌, ◌-◌, Bool, true, sym, ap, ◌∙◌, subst, arith}
 use Rattle.gc_graph.specs.declared.kind.Kind.{Kind}
 use Rattle.marker_core.specs.declared.states.Body.{Body}
-use Rattle.marker_core.specs.Bodies.{IsFieldWord}
+use Rattle.marker_core.specs.Bodies.{IsFieldWord, IsPlace}
 use Rattle.page_words.specs.Bodies.{kind_in}
 use Rattle.page_words.specs.Seat.{SeatView, IsWordAt, IsView}
 use Rattle.member_fields.specs.Words.{HasWord, HasWordOfSomeKind, IsWordIn}
-use Rattle.page_words.specs.BodyPlaces.{whole_body, same_body}
+use Rattle.page_words.specs.BodyPlaces.{whole_body, same_body, no_place_within}
 
 pub word_read : (v : SeatView) (holder word w : ℕ) → IsView v → HasWordOfSomeKind v holder word → IsWordAt v (holder + word) w → IsWordIn v holder word w
 word_read v holder word w is has at b there place =
@@ -14,6 +14,12 @@ word_read v holder word w is has at b there place =
     let size : has.1.body.size ≡ b.size = ap (λ (c : Body). c.size) same in
     let whole = whole_body v is b there in
     at.field b (word - 2) there (omega (arith, size, has.1.last, has.1.first, whole.fields)) (omega (arith, place, has.1.first))
+
+-- a field word is no header
+pub field_is_no_place : (v : SeatView) (holder word : ℕ) → IsView v → HasWordOfSomeKind v holder word → IsPlace v.bodies (holder + word) → ⊥
+field_is_no_place v holder word is has at =
+    no_place_within v has.1.body word is has.1.there (omega (arith, has.1.first)) has.1.last
+    (subst (λ p. IsPlace v.bodies (p + word)) (sym has.1.place) at)
 
 pub field_word : (v : SeatView) (holder word : ℕ) → HasWordOfSomeKind v holder word → IsFieldWord v.bodies (holder + word)
 field_word v holder word has =

@@ -12,7 +12,7 @@ use Rattle.marker_core.specs.declared.states.Body.{Body}
 use Rattle.marker_core.specs.Matching.{IsWhole}
 use Rattle.page_words.specs.Bodies.{kind_in}
 use Rattle.page_words.specs.Roles.{kind_lists}
-use Rattle.page_words.specs.Seat.{SeatView, IsView, with_bodies}
+use Rattle.page_words.specs.Seat.{SeatView, IsView, OnlyLooked, with_bodies}
 use Rattle.weak_clearing.specs.declared.weak_handles.WeakHandles.{WeakHandles}
 use Rattle.weak_clearing.specs.Clearing.{HasReferencesOf, MarkedHaveReferencesOf}
 use Rattle.weak_clearing.specs.Steps.{IsMarkedOf, HasHandle, kind_of_handles, cleared_at, clear_handle_in, clear_handles, clear_words_of, handle_cleared, body_cleared}
@@ -139,3 +139,17 @@ module _ (handles : WeakHandles) (v : SeatView) where
               cond-false (eqb b.place place) (listed_body handles v.marked offsets b) b (ne_eqb b.place place other)
               ∙ sym (cond-false (eqb b.place place) (clear_handles handles v.types v.marked b) b (ne_eqb b.place place other))
         ]
+
+-- headers were looked at
+pub handle_looked : (handles : WeakHandles) (v w : SeatView) (holder word : ℕ) → OnlyLooked v w → HasHandle handles v holder word
+    → HasHandle handles w holder word
+handle_looked handles v w holder word same has = record {
+  body = has.body;
+  there = subst (λ bs. Contains bs has.body) (ap (λ (x : SeatView). x.bodies) (sym same)) has.there;
+  place = has.place;
+  first = has.first;
+  last = has.last;
+  told = subst (λ ts. Contains (offsets_of_kind (kind_of_handles handles) (kinds_of ts has.body.ty)) word) (ap (λ (x : SeatView). x.types) (sym same)) has.told;
+  kind = ap (λ (x : SeatView). kind_in x.types has.body (word - 2)) same ∙ has.kind;
+  reference = subst (λ bs. IsReference bs (get_or has.body.fields (word - 2) 0)) (ap (λ (x : SeatView). x.bodies) (sym same)) has.reference;
+}

@@ -6,5 +6,4 @@ pub mod Holder
 pub mod ObjectWalk
 pub mod BlockWalk
 pub mod InTurn
-pub mod MarkWords
 pub mod NoHandles

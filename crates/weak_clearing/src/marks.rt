@@ -3,13 +3,14 @@
 ghost use Rattle.std.specs.Prelude.{◌≡◌, false, IfSome, IfNone};
 ghost use Rattle.marker_core.specs.Bodies.{IsPlace, IsReference};
 ghost use Rattle.marker_core.specs.Bodies.{holds};
+ghost use Rattle.page_words.specs.Seat.{OnlyLooked};
 ghost use Rattle.page_space.specs.Space.{IsSeatOf};
 ghost use Rattle.weak_clearing.specs.Clearing.{names_unmarked};
 ghost use Rattle.weak_clearing.specs.Steps.{IsMarkedOf};
 
-use object_headers::{Header, with_mark};
+use object_headers::Header;
 use page_space::Space;
-use page_words::{MutatorSeat, Reading};
+use page_words::{MutatorSeat, Reading, has_mark};
 
 /// Whether a field word names an object that is not marked.
 pub(crate) fn is_to_unmarked(space: &Space, seat: &mut MutatorSeat, reference: u64) -> bool
@@ -17,7 +18,7 @@ pub(crate) fn is_to_unmarked(space: &Space, seat: &mut MutatorSeat, reference: u
     requires off { seat.old.on ≡ false }
     requires reference { IsReference seat.old.bodies reference }
     ensures names { result ≡ names_unmarked seat.old.marked reference }
-    ensures view { seat.new ≡ seat.old }
+    ensures view { OnlyLooked seat.old seat.new }
 {
     seat.bodies_lie_apart();
     reference != 0 && !is_marked(space, seat, (reference - 1) as u32)
@@ -29,11 +30,10 @@ pub(crate) fn is_marked(space: &Space, seat: &mut MutatorSeat, place: u32) -> bo
     requires off { seat.old.on ≡ false }
     requires place { IsPlace seat.old.bodies place }
     ensures mark { result ≡ holds seat.old.marked place }
-    ensures view { seat.new ≡ seat.old }
+    ensures view { OnlyLooked seat.old seat.new }
 {
     seat.bodies_lie_apart();
-    let word = space.words().load::<Reading>(seat, place);
-    word == with_mark(word, true)
+    has_mark(space.words().load::<Reading>(seat, place))
 }
 
 /// The type of the object at a place, if that is marked.
@@ -43,11 +43,11 @@ pub(crate) fn marked_type(space: &Space, seat: &mut MutatorSeat, place: u32) -> 
     requires place { IsPlace seat.old.bodies place }
     ensures marked { IfSome result (IsMarkedOf seat.old place) }
     ensures unmarked { IfNone result (holds seat.old.marked place ≡ false) }
-    ensures view { seat.new ≡ seat.old }
+    ensures view { OnlyLooked seat.old seat.new }
 {
     seat.bodies_lie_apart();
     let word = space.words().load::<Reading>(seat, place);
-    if with_mark(word, true) == word {
+    if has_mark(word) {
         Some(Header::type_in(word))
     } else {
         None

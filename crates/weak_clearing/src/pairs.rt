@@ -3,6 +3,7 @@
 
 ghost use Rattle.std.specs.Prelude.{◌≡◌, false};
 ghost use Rattle.gc_graph.specs.declared.kind.Kind.TheVariants.{Pair};
+ghost use Rattle.page_words.specs.Seat.{OnlyLooked};
 ghost use Rattle.page_space.specs.Space.{IsSeatOf};
 ghost use Rattle.weak_clearing.specs.declared.weak_handles.WeakHandles.TheVariants.{Pairs};
 ghost use Rattle.weak_clearing.specs.Clearing.{MarkedHaveReferencesOf, with_pairs_cleared};
@@ -22,7 +23,7 @@ pub fn clear_pairs(space: &Space, types: &TypeTable, seat: &mut MutatorSeat)
     requires off { seat.old.on ≡ false }
     requires types { types.now ≡ seat.old.types }
     requires references { MarkedHaveReferencesOf Pair seat.old }
-    ensures cleared { seat.new ≡ with_pairs_cleared seat.old }
+    ensures cleared { OnlyLooked (with_pairs_cleared seat.old) seat.new }
 {
     clear_handles(space, types, seat, WeakHandles::Pairs);
 }
@@ -33,7 +34,7 @@ pub(crate) fn clear_pair(space: &Space, seat: &mut MutatorSeat, holder: u32, wor
     requires heap { IsSeatOf space.now seat.old }
     requires off { seat.old.on ≡ false }
     requires pair { HasHandle Pairs seat.old holder word }
-    ensures { seat.new ≡ handle_cleared Pairs seat.old holder word }
+    ensures { OnlyLooked (handle_cleared Pairs seat.old holder word) seat.new }
 {
     let (key, _value) = read_pair(space, seat, holder, word);
     if is_to_unmarked(space, seat, key) {

@@ -4,6 +4,7 @@ ghost use Rattle.std.specs.Prelude.{◌≡◌, ◌<◌, All, None, length, map, 
 ghost use Rattle.std.specs.Prelude.{slice_index_or, slice_set};
 ghost use Rattle.std.specs.Option.{ForSome};
 ghost use Rattle.gc_graph.specs.Pause.{clear_slot};
+ghost use Rattle.page_words.specs.Seat.{OnlyLooked};
 ghost use Rattle.page_space.specs.Space.{IsSeatOf};
 ghost use Rattle.marker_core.specs.Bodies.{IsPlace};
 ghost use Rattle.marker_core.specs.Bodies.{holds};
@@ -20,7 +21,7 @@ pub fn clear_slots(space: &Space, seat: &mut MutatorSeat, weak: &mut Slots)
     requires off { seat.old.on ≡ false }
     requires places { All (IsPlace seat.old.bodies) (taken weak.old) }
     ensures cleared { weak.new ≡ map (clear_slot (λ a. not (holds seat.old.marked a))) weak.old }
-    ensures view { seat.new ≡ seat.old }
+    ensures view { OnlyLooked seat.old seat.new }
 {
     for i in 0..weak.len() {
         clear_at(space, seat, weak, i);
@@ -35,7 +36,7 @@ fn clear_at(space: &Space, seat: &mut MutatorSeat, weak: &mut Slots, i: u32)
     requires place { ForSome (slice_index_or weak.old i None) (IsPlace seat.old.bodies) }
     ensures cleared { weak.new ≡ slice_set weak.old i (clear_slot
         (λ a. not (holds seat.old.marked a)) (slice_index_or weak.old i None)) }
-    ensures view { seat.new ≡ seat.old }
+    ensures view { OnlyLooked seat.old seat.new }
 {
     if let Some(place) = weak.get(i) {
         if !is_marked(space, seat, place) {

@@ -1,8 +1,9 @@
 use Rattle.std.proofs.Common.{◌≡◌, true, false, refl, ap, sym, ◌∙◌, subst, inl}
 use Rattle.gc_graph.specs.Fields.{is_reference, is_weak}
 use Rattle.marker_core.specs.Bodies.{IsReference}
-use Rattle.page_words.specs.Seat.{SeatView}
-use Rattle.member_fields.specs.Words.{HasWord, written}
+use Rattle.page_words.specs.Seat.{SeatView, unlooked}
+use Rattle.member_fields.specs.Words.{written}
+use Rattle.member_fields.specs.Looked.{word_looked}
 use Rattle.weak_clearing.specs.declared.weak_handles.WeakHandles.TheVariants.{Fields}
 use Rattle.weak_clearing.specs.Clearing.{names_unmarked}
 use Rattle.weak_clearing.proofs.Words.{field_word, reads_reference, handle_stays, field_nulled}
@@ -18,7 +19,7 @@ is_to_unmarked-requires-clause-reference c =
 
 pub set_weak-requires-clause-field : goal.set_weak-requires-clause-field
 set_weak-requires-clause-field c =
-    subst (λ (v : SeatView). HasWord is_weak v c.args.holder c.args.word) (sym (c.is_to_unmarked.ensures.view ∙ c.get-target.ensures.view))
+    word_looked is_weak c.args.seat.now c.is_to_unmarked.new.seat c.args.holder c.args.word (c.is_to_unmarked.ensures.view ∙ ap unlooked c.get-target.ensures.view)
     (field_word is_weak c.args.seat.now c.args.holder c.args.word refl c.requires.field)
 
 pub set_weak-requires-clause-target : goal.set_weak-requires-clause-target
@@ -28,13 +29,13 @@ pub returns-then-is_to_unmarked : goal.returns-then-is_to_unmarked
 returns-then-is_to_unmarked c =
     let named : names_unmarked c.args.seat.now.marked c.get-target.result ≡ true =
     ap (λ (v : SeatView). names_unmarked v.marked c.get-target.result) (sym c.get-target.ensures.view) ∙ sym c.is_to_unmarked.ensures.names ∙ c.if-is_to_unmarked.true in
-    c.set_weak.ensures.word
-    ∙ ap (λ (v : SeatView). written v c.args.holder c.args.word 0) (c.is_to_unmarked.ensures.view ∙ c.get-target.ensures.view)
-    ∙ field_nulled c.args.seat.now c.args.holder c.args.word c.get-target.result c.get-target.ensures.word named
+    ap unlooked c.set_weak.ensures.word
+    ∙ ap (λ (v : SeatView). written v c.args.holder c.args.word 0) (c.is_to_unmarked.ensures.view ∙ ap unlooked c.get-target.ensures.view)
+    ∙ ap unlooked (field_nulled c.args.seat.now c.args.holder c.args.word c.get-target.result c.get-target.ensures.word named)
 
 pub returns-else-is_to_unmarked : goal.returns-else-is_to_unmarked
 returns-else-is_to_unmarked c =
     let kept : names_unmarked c.args.seat.now.marked c.get-target.result ≡ false =
     ap (λ (v : SeatView). names_unmarked v.marked c.get-target.result) (sym c.get-target.ensures.view) ∙ sym c.is_to_unmarked.ensures.names ∙ c.if-is_to_unmarked.false in
-    c.is_to_unmarked.ensures.view ∙ c.get-target.ensures.view
-    ∙ handle_stays c.args.seat.now c.args.holder c.args.word c.get-target.result c.get-target.ensures.word Fields kept
+    c.is_to_unmarked.ensures.view ∙ ap unlooked c.get-target.ensures.view
+    ∙ ap unlooked (handle_stays c.args.seat.now c.args.holder c.args.word c.get-target.result c.get-target.ensures.word Fields kept)

@@ -1,7 +1,8 @@
 use Rattle.std.proofs.Common.{◌≡◌, true, false, ap, sym, ◌∙◌, subst}
 use Rattle.marker_core.specs.Bodies.{IsReference}
-use Rattle.page_words.specs.Seat.{SeatView}
-use Rattle.member_fields.specs.Words.{HasPair, pair_written}
+use Rattle.page_words.specs.Seat.{SeatView, unlooked}
+use Rattle.member_fields.specs.Words.{pair_written}
+use Rattle.member_fields.specs.Looked.{pair_looked}
 use Rattle.weak_clearing.specs.declared.weak_handles.WeakHandles.TheVariants.{Pairs}
 use Rattle.weak_clearing.specs.Clearing.{names_unmarked}
 use Rattle.weak_clearing.proofs.Words.{whole_pair, reads_reference, handle_stays, pair_nulled}
@@ -17,20 +18,20 @@ is_to_unmarked-requires-clause-reference c =
 
 pub set_pair-requires-clause-pair : goal.set_pair-requires-clause-pair
 set_pair-requires-clause-pair c =
-    subst (λ (v : SeatView). HasPair v c.args.holder c.args.word) (sym (c.is_to_unmarked.ensures.view ∙ c.read_pair-key.ensures.view))
+    pair_looked c.args.seat.now c.is_to_unmarked.new.seat c.args.holder c.args.word (c.is_to_unmarked.ensures.view ∙ ap unlooked c.read_pair-key.ensures.view)
     (whole_pair c.args.seat.now c.args.holder c.args.word c.requires.pair)
 
 pub returns-then-is_to_unmarked : goal.returns-then-is_to_unmarked
 returns-then-is_to_unmarked c =
     let named : names_unmarked c.args.seat.now.marked c.read_pair-key.result.0 ≡ true =
     ap (λ (v : SeatView). names_unmarked v.marked c.read_pair-key.result.0) (sym c.read_pair-key.ensures.view) ∙ sym c.is_to_unmarked.ensures.names ∙ c.if-is_to_unmarked.true in
-    c.set_pair.ensures.words
-    ∙ ap (λ (v : SeatView). pair_written v c.args.holder c.args.word 0 0) (c.is_to_unmarked.ensures.view ∙ c.read_pair-key.ensures.view)
-    ∙ pair_nulled c.args.seat.now c.args.holder c.args.word c.read_pair-key.result.0 c.read_pair-key.ensures.key c.requires.pair.first named
+    ap unlooked c.set_pair.ensures.words
+    ∙ ap (λ (v : SeatView). pair_written v c.args.holder c.args.word 0 0) (c.is_to_unmarked.ensures.view ∙ ap unlooked c.read_pair-key.ensures.view)
+    ∙ ap unlooked (pair_nulled c.args.seat.now c.args.holder c.args.word c.read_pair-key.result.0 c.read_pair-key.ensures.key c.requires.pair.first named)
 
 pub returns-else-is_to_unmarked : goal.returns-else-is_to_unmarked
 returns-else-is_to_unmarked c =
     let kept : names_unmarked c.args.seat.now.marked c.read_pair-key.result.0 ≡ false =
     ap (λ (v : SeatView). names_unmarked v.marked c.read_pair-key.result.0) (sym c.read_pair-key.ensures.view) ∙ sym c.is_to_unmarked.ensures.names ∙ c.if-is_to_unmarked.false in
-    c.is_to_unmarked.ensures.view ∙ c.read_pair-key.ensures.view
-    ∙ handle_stays c.args.seat.now c.args.holder c.args.word c.read_pair-key.result.0 c.read_pair-key.ensures.key Pairs kept
+    c.is_to_unmarked.ensures.view ∙ ap unlooked c.read_pair-key.ensures.view
+    ∙ ap unlooked (handle_stays c.args.seat.now c.args.holder c.args.word c.read_pair-key.result.0 c.read_pair-key.ensures.key Pairs kept)

@@ -5,7 +5,7 @@ use Rattle.std.proofs.lemmas.Bool.{cases_eq}
 use Rattle.std.proofs.lemmas.Nat.{and_le_l}
 use Rattle.std.proofs.lemmas.Nat.Bits.{bit_at-zero, bit_at-trailing_zeros, bit_at_clear_same, bit_at_clear_other}
 use Rattle.marker_core.specs.Bodies.{IsPlace}
-use Rattle.page_words.specs.Seat.{SeatView}
+use Rattle.page_words.specs.Seat.{SeatView, unlooked}
 use Rattle.weak_clearing.specs.Clearing.{MarkedHaveReferencesOf}
 use Rattle.weak_clearing.specs.Steps.{kind_of_handles, body_cleared}
 use Rattle.weak_clearing.proofs.BlockWalk.{is_passed, still_left, none_left, one_passed, not_next}
@@ -14,9 +14,9 @@ use Rattle.weak_clearing.proofs.walk.clear_block.Goals as goal
 
 pub loop-left-init : goal.loop-left-init
 loop-left-init c = record {
-  cleared = where_none c.args.handles c.args.seat.now (is_passed c.args.block c.args.starts) (λ b there. still_left c.args.block c.args.starts b.place (λ here.
+  cleared = ap unlooked (where_none c.args.handles c.args.seat.now (is_passed c.args.block c.args.starts) (λ b there. still_left c.args.block c.args.starts b.place (λ here.
       (c.requires.starts (b.place % 64) (omega arith)).1
-      (let at : b.place ≡ 64 * c.args.block + b.place % 64 = omega (arith, here) in (b, there, at))));
+      (let at : b.place ≡ 64 * c.args.block + b.place % 64 = omega (arith, here) in (b, there, at)))));
   starts = λ i few set. set;
 }
 
@@ -74,9 +74,9 @@ loop-left-preserved c =
       cleared =
           c.clear_object.ensures
           ∙ ap (λ (v : SeatView). body_cleared c.args.handles v (64 * c.args.block + start)) c.loop-left.invariant.cleared
-          ∙ where_after c.args.handles c.args.seat.now (is_passed c.args.block left) (λ a. eqb a (64 * c.args.block + start)) (is_passed c.args.block (rest_of left start))
+          ∙ ap unlooked (where_after c.args.handles c.args.seat.now (is_passed c.args.block left) (λ a. eqb a (64 * c.args.block + start)) (is_passed c.args.block (rest_of left start))
           (λ a. not_next c.args.block left start a low.0 low.1)
-          (λ a. one_passed c.args.block left (rest_of left start) start a low.0 low.1 clear others);
+          (λ a. one_passed c.args.block left (rest_of left start) start a low.0 low.1 clear others));
       starts = λ i few set. elim (cases_eq i start) [
         | inl here ↦ absurd (omega (arith, set, clear, ap (bit_at (rest_of left start)) here))
         | inr other ↦ c.loop-left.invariant.starts i few (sym (others i few other) ∙ set)
@@ -86,5 +86,5 @@ loop-left-preserved c =
 pub returns : goal.returns
 returns c =
     c.loop-left.invariant.cleared
-    ∙ where_same c.args.handles c.args.seat.now (is_passed c.args.block c.loop-left.left) (λ a. eqb (a / 64) c.args.block)
-    (λ a. sym (none_left c.args.block c.loop-left.left a (λ i. ap (λ n. bit_at n i) c.loop-left-test.false ∙ bit_at-zero i)))
+    ∙ ap unlooked (where_same c.args.handles c.args.seat.now (is_passed c.args.block c.loop-left.left) (λ a. eqb (a / 64) c.args.block)
+    (λ a. sym (none_left c.args.block c.loop-left.left a (λ i. ap (λ n. bit_at n i) c.loop-left-test.false ∙ bit_at-zero i))))

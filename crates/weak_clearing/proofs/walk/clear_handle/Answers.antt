@@ -1,4 +1,5 @@
 use Rattle.std.proofs.Common.{sym, ap, subst, ◌∙◌}
+use Rattle.page_words.specs.Seat.{unlooked}
 use Rattle.weak_clearing.specs.declared.weak_handles.WeakHandles.{WeakHandles}
 use Rattle.weak_clearing.specs.Steps.{HasHandle, handle_cleared}
 use Rattle.weak_clearing.proofs.walk.clear_handle.Goals as goal
@@ -10,4 +11,4 @@ clear_field-requires-clause-field c =
 pub returns-in-Fields : goal.returns-in-Fields
 returns-in-Fields c =
     c.clear_field.ensures
-    ∙ ap (λ (handles : WeakHandles). handle_cleared handles c.args.seat.now c.args.holder c.args.word) (sym c.in-Fields.is)
+    ∙ ap (λ (handles : WeakHandles). unlooked (handle_cleared handles c.args.seat.now c.args.holder c.args.word)) (sym c.in-Fields.is)

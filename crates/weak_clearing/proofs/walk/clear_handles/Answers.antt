@@ -4,7 +4,7 @@ use Rattle.gc_graph.specs.State.{ObjectType}
 use Rattle.marker_core.specs.Matching.{IsWhole}
 use Rattle.page_words.specs.BodyPlaces.{whole_body}
 use Rattle.page_words.specs.Roles.{kind_lists}
-use Rattle.page_words.specs.Seat.{SeatView}
+use Rattle.page_words.specs.Seat.{SeatView, unlooked}
 use Rattle.type_table.specs.Types.{kinds_of, offsets_of_kind}
 use Rattle.weak_clearing.specs.Clearing.{MarkedHaveReferencesOf}
 use Rattle.weak_clearing.specs.Steps.{kind_of_handles, block_cleared}
@@ -14,30 +14,30 @@ use Rattle.weak_clearing.proofs.ObjectWalk.{where_references, where_none, where_
 use Rattle.weak_clearing.proofs.walk.clear_handles.Goals as goal
 
 pub loop-block-init : goal.loop-block-init
-loop-block-init c = where_none c.args.handles c.args.seat.now (λ a. ltb a (64 * 0)) (λ b there. le-ltb b.place (64 * 0) (omega arith))
+loop-block-init c = ap unlooked (where_none c.args.handles c.args.seat.now (λ a. ltb a (64 * 0)) (λ b there. le-ltb b.place (64 * 0) (omega arith)))
 
 pub clear_block-requires-clause-references : goal.clear_block-requires-clause-references
 clear_block-requires-clause-references c =
-    subst (MarkedHaveReferencesOf (kind_of_handles c.args.handles)) (sym (c.starts_in-starts.ensures.view ∙ c.loop-block.invariant))
+    subst (MarkedHaveReferencesOf (kind_of_handles c.args.handles)) (sym (ap unlooked c.starts_in-starts.ensures.view ∙ c.loop-block.invariant))
     (where_references c.args.handles (kind_of_handles c.args.handles) c.args.seat.now (λ a. ltb a (64 * c.loop-block.block)) c.requires.references)
 
 pub loop-block-preserved : goal.loop-block-preserved
 loop-block-preserved c =
     let block : ℕ = c.loop-block.block in
     c.clear_block.ensures
-    ∙ ap (λ (v : SeatView). block_cleared c.args.handles v block) (c.starts_in-starts.ensures.view ∙ c.loop-block.invariant)
-    ∙ where_after c.args.handles c.args.seat.now (λ a. ltb a (64 * block)) (λ a. eqb (a / 64) block) (λ a. ltb a (64 * (block + 1)))
-    (below_apart block) (below_next block)
+    ∙ ap (λ (v : SeatView). block_cleared c.args.handles v block) (ap unlooked c.starts_in-starts.ensures.view ∙ c.loop-block.invariant)
+    ∙ ap unlooked (where_after c.args.handles c.args.seat.now (λ a. ltb a (64 * block)) (λ a. eqb (a / 64) block) (λ a. ltb a (64 * (block + 1)))
+    (below_apart block) (below_next block))
 
 pub returns : goal.returns
 returns c =
     c.loop-block.invariant
-    ∙ where_all c.args.handles c.args.seat.now (λ a. ltb a (64 * c.loop-block.block)) (λ b there.
+    ∙ ap unlooked (where_all c.args.handles c.args.seat.now (λ a. ltb a (64 * c.loop-block.block)) (λ b there.
     let whole : IsWhole c.args.seat.now.count (kind_lists c.args.seat.now.types) b = whole_body c.args.seat.now c.bodies_lie_apart.ensures b there in
-    lt-ltb b.place (64 * c.loop-block.block) (omega (arith, whole.inside, whole.fields, c.requires.heap, c.count-block-end.ensures.valid.bits, c.count-block-end.ensures.count, c.words.ensures)))
+    lt-ltb b.place (64 * c.loop-block.block) (omega (arith, whole.inside, whole.fields, c.requires.heap, c.count-block-end.ensures.valid.bits, c.count-block-end.ensures.count, c.words.ensures))))
 
 pub returns-then-not-are_in : goal.returns-then-not-are_in
 returns-then-not-are_in c =
-    none_cleared c.args.handles c.args.seat.now c.requires.references
+    ap unlooked (none_cleared c.args.handles c.args.seat.now c.requires.references
     (subst (λ (ts : List ObjectType). (ty : ℕ) → ty < length ts → offsets_of_kind (kind_of_handles c.args.handles) (kinds_of ts ty) ≡ []) c.requires.types
-    (c.are_in.ensures.none c.if-not-are_in.true))
+    (c.are_in.ensures.none c.if-not-are_in.true)))

@@ -1,6 +1,7 @@
-use Rattle.std.proofs.Common.{◌≡◌, ◌*◌, ltb}
+use Rattle.std.proofs.Common.{◌*◌, ltb}
+use Rattle.page_words.specs.Seat.{OnlyLooked}
 use Rattle.weak_clearing.proofs.ObjectWalk.{cleared_where}
 use Rattle.weak_clearing.proofs.walk.clear_handles.Given as goal
 
 abbrev pub invariant-loop-block : goal.invariant-loop-block
-invariant-loop-block l = l.seat ≡ cleared_where l.handles l.fn.seat (λ a. ltb a (64 * l.block))
+invariant-loop-block l = OnlyLooked (cleared_where l.handles l.fn.seat (λ a. ltb a (64 * l.block))) l.seat

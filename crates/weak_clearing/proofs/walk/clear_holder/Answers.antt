@@ -2,14 +2,14 @@ use Rattle.std.proofs.Common.{◌≡◌, ℕ, List, get_or, take, arith, ap, sym
 use Rattle.std.proofs.lemmas.List.{take_all, take_more}
 use Rattle.gc_graph.specs.State.{ObjectType}
 use Rattle.type_table.specs.Types.{kinds_of, offsets_of_kind}
-use Rattle.page_words.specs.Seat.{SeatView}
+use Rattle.page_words.specs.Seat.{SeatView, unlooked}
 use Rattle.weak_clearing.specs.declared.weak_handles.WeakHandles.{WeakHandles}
 use Rattle.weak_clearing.specs.Steps.{HasHandle, kind_of_handles, handle_cleared}
-use Rattle.weak_clearing.proofs.Holder.{holder_handle, handle_stays, listed_none, listed_cleared, one_more_cleared, all_listed}
+use Rattle.weak_clearing.proofs.Holder.{holder_handle, handle_stays, handle_looked, listed_none, listed_cleared, one_more_cleared, all_listed}
 use Rattle.weak_clearing.proofs.walk.clear_holder.Goals as goal
 
 pub loop-word-init : goal.loop-word-init
-loop-word-init c = listed_none c.args.handles c.args.seat.now c.args.holder
+loop-word-init c = ap unlooked (listed_none c.args.handles c.args.seat.now c.args.holder)
 
 told : (handles : WeakHandles) (types : List ObjectType) (v : SeatView) (ty : ℕ) (words : List ℕ) → types ≡ v.types
     → words ≡ offsets_of_kind (kind_of_handles handles) (kinds_of types ty) → words ≡ offsets_of_kind (kind_of_handles handles) (kinds_of v.types ty)
@@ -22,7 +22,8 @@ clear_handle-requires-clause-handle c =
     let has : HasHandle c.args.handles c.args.seat.now c.args.holder offset =
     holder_handle c.args.handles c.args.seat.now c.args.holder c.args.ty words c.loop-word.word-index c.bodies_lie_apart.ensures c.requires.references c.requires.marked
     (told c.args.handles c.args.types.now c.args.seat.now c.args.ty words c.requires.types c.words_of-words.ensures) c.loop-word-test.true in
-    subst (λ (v : SeatView). HasHandle c.args.handles v c.args.holder offset) (sym c.loop-word.invariant)
+    handle_looked c.args.handles (listed_cleared c.args.handles c.args.seat.now c.args.holder (take c.loop-word.word-index words)) c.loop-word.seat c.args.holder offset
+    c.loop-word.invariant
     (handle_stays c.args.handles c.args.seat.now c.args.holder offset (take c.loop-word.word-index words) has)
 
 pub loop-word-preserved : goal.loop-word-preserved
@@ -32,15 +33,15 @@ loop-word-preserved c =
     let offset : ℕ = get_or words k 0 in
     c.clear_handle.ensures
     ∙ ap (λ (v : SeatView). handle_cleared c.args.handles v c.args.holder offset) c.loop-word.invariant
-    ∙ one_more_cleared c.args.handles c.args.seat.now c.args.holder offset (take k words)
-    ∙ ap (listed_cleared c.args.handles c.args.seat.now c.args.holder) (sym (take_more words k 0 c.loop-word-test.true))
+    ∙ ap unlooked (one_more_cleared c.args.handles c.args.seat.now c.args.holder offset (take k words))
+    ∙ ap (λ ws. unlooked (listed_cleared c.args.handles c.args.seat.now c.args.holder ws)) (sym (take_more words k 0 c.loop-word-test.true))
 
 pub returns : goal.returns
 returns c =
     let words : List ℕ = c.words_of-words.result.now in
     c.loop-word.invariant
-    ∙ ap (listed_cleared c.args.handles c.args.seat.now c.args.holder) (
+    ∙ ap (λ ws. unlooked (listed_cleared c.args.handles c.args.seat.now c.args.holder ws)) (
     take_all c.loop-word.word-index words (omega arith)
     ∙ told c.args.handles c.args.types.now c.args.seat.now c.args.ty words c.requires.types c.words_of-words.ensures
     )
-    ∙ all_listed c.args.handles c.args.seat.now c.args.holder c.args.ty c.bodies_lie_apart.ensures c.requires.references c.requires.marked
+    ∙ ap unlooked (all_listed c.args.handles c.args.seat.now c.args.holder c.args.ty c.bodies_lie_apart.ensures c.requires.references c.requires.marked)

@@ -1,0 +1,8 @@
+use Rattle.std.proofs.Common.{◌∙◌}
+use Rattle.weak_clearing.proofs.marks.is_marked.Goals as goal
+
+pub returns-clause-mark : goal.returns-clause-mark
+returns-clause-mark c =
+    let place = c.requires.place in
+    c.has_mark.ensures
+    ∙ (c.load.ensures.word.header place.0 place.1 place.2).mark.alone (c.bodies_lie_apart.ensures.at_rest c.requires.off).none_lent
