@@ -1,5 +1,5 @@
 -- How marking begins and ends.
-use Rattle.std.proofs.Common.{◌≡◌, ℕ, ◌+◌, Bool, true, List, [], ◌∷◌, None, refl, sym, ap, ◌∙◌, subst, inl, inr, arith, cond, map}
+use Rattle.std.proofs.Common.{◌≡◌, ℕ, ◌+◌, Bool, true, List, [], ◌∷◌, length, None, refl, sym, ap, ◌∙◌, subst, inl, inr, arith, cond, map}
 use mathlib.Core.Logic.{◌⊎◌}
 use Rattle.std.specs.List.{Contains, count_by, range_with_len}
 use Rattle.std.proofs.lemmas.Bool.{true≢false, cases_Bool}
@@ -12,7 +12,8 @@ use Rattle.marker_core.specs.declared.states.Body.{Body}
 use Rattle.page_words.specs.Seat.{SeatView, IsView, ended}
 use Rattle.ephemerons.specs.BodyGraph.{object_there, graph_in}
 use Rattle.ephemerons.specs.Marking.{MarksOn, GrowsWithin, IsOver, traced_count}
-use Rattle.ephemerons.specs.Notes.{NotesState}
+use Rattle.ephemerons.specs.Notes.{NotesState, IsUnnoted, IsNotedIn, group_at}
+use Rattle.ephemerons.specs.declared.notes.Note.{Note}
 use Rattle.ephemerons.specs.Fixpoint.{ListsMarks, IsAccounted}
 use Rattle.atomic_pause.specs.Marking.{ListsMarked, MarksReachable, marked_count}
 
@@ -102,9 +103,16 @@ listed_from v w l m none empty marks = record {
   ];
   places = λ p there. elim (marks.listed p there) [
     | inl before ↦ absurd (omega (arith, (subst (λ ps. Contains ps p) empty before).1))
-    | inr place ↦ subst (λ bs. IsPlace bs p) (sym (ap (λ (z : SeatView). z.bodies) marks.view)) place
+    | inr fresh ↦ subst (λ bs. IsPlace bs p) (sym (ap (λ (z : SeatView). z.bodies) marks.view)) fresh.place
   ];
 }
+
+-- nothing is noted where there are no notes
+pub none_noted : (groups : List NotesState) → IsUnnoted groups → (note : Note) → IsNotedIn groups note → ⊥
+none_noted groups none note noted =
+    let first : noted.0 ≡ 0 = omega (arith, noted.1, none.one) in
+    let there : Contains (group_at groups 0).notes note = subst (λ i. Contains (group_at groups i).notes note) first noted.2 in
+    omega (arith, there.1, ap length none.empty)
 
 -- what is grey is listed, unless a push was refused, and then the heap is walked
 pub walked_or_listed : (types : List ObjectType) (w : SeatView) (m : Marking) (groups : List NotesState) → w.traced ≡ [] → ListsMarked w m

@@ -11,7 +11,7 @@ use Rattle.page_words.specs.Seat.{SeatView, IsAlone, side}
 use Rattle.persistent_slots.specs.Clearing.{taken}
 use Rattle.page_space.specs.Space.{HoldsAddress}
 use Rattle.ephemerons.specs.BodyGraph.{graph_in}
-use Rattle.ephemerons.specs.Notes.{NotesState, no_notes}
+use Rattle.ephemerons.specs.Notes.{NotesState, IsUnnoted}
 
 -- a word of the stack is an address of a word of the body at the place
 abbrev pub IsHitPlace : List Body → List ℕ → ℕ → Type 0
@@ -51,7 +51,7 @@ pub record HasBegun (v : SeatView) (marking : Marking) (notes : List NotesState)
   pub untraced : v.traced ≡ []
   pub none_dead : v.dead ≡ []
   pub none_listed : marking.list.items ≡ []
-  pub none_noted : notes ≡ no_notes ∷ []
+  pub none_noted : IsUnnoted notes
 
 -- each object that is marked is listed, unless a push was refused, and what is listed are places of objects
 pub record ListsMarked (v : SeatView) (marking : Marking) : Type 0 where

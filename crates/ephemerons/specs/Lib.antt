@@ -2,6 +2,7 @@ pub mod BodyGraph
 pub mod Marking
 pub mod Notes
 pub mod InHand
+pub mod Traces
 pub mod Fixpoint
 -- Lemmas that the crates above cite too, since a crate's proofs/ can't be cited from another.
 pub mod ObjectsThere
