@@ -1,27 +1,23 @@
 -- The reference words of the bodies of live nodes are null or refer to bodies.
-use Rattle.std.proofs.Common.{◌≡◌, ℕ, ◌+◌, ◌-◌, ◌<◌, ◌≤◌, true, false, List, [], length, get_or, refl, sym, ap, ◌∙◌, subst, inl, inr, arith}
+use Rattle.std.proofs.Common.{◌≡◌, ℕ, ◌<◌, ◌≤◌, false, List, [], length, get_or, refl, sym, ap, ◌∙◌, subst, inl, inr, arith}
 use Rattle.std.specs.List.{Contains}
-use Rattle.std.proofs.lemmas.Bool.{true≢false}
 use Rattle.std.proofs.lemmas.List.{length-map}
 use Rattle.std.proofs.lemmas.List.Elements.{All-get_or}
 use Rattle.gc_graph.specs.declared.kind.Kind.{Kind}
-use Rattle.gc_graph.specs.declared.kind.Kind.TheVariants.{Strong, Weak, Pair, Plain}
+use Rattle.gc_graph.specs.declared.kind.Kind.TheVariants.{Plain}
 use Rattle.gc_graph.specs.declared.kind.Value.{Value}
 use Rattle.gc_graph.specs.declared.kind.Value.TheVariants.{Null, Ref, Word}
 use Rattle.gc_graph.specs.State.{Setup, ObjectType, Node, node_at, type_at, no_node, IsLive, IsDead}
-use Rattle.gc_graph.specs.Fields.{field_words, is_plain, words_of_kind}
+use Rattle.gc_graph.specs.Fields.{field_words, is_plain}
 use Rattle.gc_graph.specs.Valid.{IsTyped, IsReferenceBelow, NamesLive}
-use Rattle.type_table.specs.FieldLaw.{FieldsStandApart}
-use Rattle.type_table.specs.Types.{kinds_of, kind_of, is_kind, offsets_of_kind}
+use Rattle.type_table.specs.Types.{kinds_of}
 use Rattle.type_table.specs.Layouts.{kinds_of_words}
 use Rattle.marker_core.specs.Bodies.{IsReference}
 use Rattle.marker_core.specs.declared.states.Body.{Body}
 use Rattle.page_words.specs.Bodies.{kind_in}
 use Rattle.page_words.specs.Seat.{SeatView}
-use Rattle.ephemerons.specs.BodyGraph.{AreReferences}
 use Rattle.weak_clearing.specs.Clearing.{MarkedHaveReferencesOf}
 use Rattle.nodes_in_words.specs.Nodes.{place_of, word_of, body_of, bodies_of, IsHeld, AreOfValid}
-use Rattle.nodes_in_words.specs.FieldKinds.{some_words}
 use Rattle.nodes_in_words.specs.NodePlaces.{node_body, body_node, live_is_there}
 use Rattle.nodes_in_words.specs.NodeLives.{live_if_there, none_dead}
 use Rattle.nodes_in_words.specs.TypedNodes.{AreKnown, known_nodes}

@@ -18,7 +18,7 @@ use Rattle.page_words.specs.Seat.{SeatView, IsView, loaded}
 use Rattle.ephemerons.specs.BodyGraph.{pair_offsets}
 use Rattle.ephemerons.specs.Marking.{heap_and_marks}
 use Rattle.ephemerons.specs.InHand.{IsAt}
-use Rattle.ephemerons.proofs.FieldWords.{role_of_offset}
+use Rattle.ephemerons.specs.BodyLeads.{role_of_offset}
 use Rattle.ephemerons.specs.Traces.{noted_unless}
 use Rattle.ephemerons.proofs.HandLoads.{read_marks, word_named, load_of_key, noted_by_word, noted_by_key}
 

@@ -1,6 +1,4 @@
 pub mod Lists
-pub mod Fields
-pub mod PairFields
 pub mod Graph
 pub mod Weights
 pub mod HandPath

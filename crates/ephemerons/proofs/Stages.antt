@@ -1,5 +1,5 @@
 -- Stages that follow one another.
-use Rattle.std.proofs.Common.{◌≡◌, ℕ, ◌≤◌, List, length, Option, Some, None, refl, sym, ap, ◌∙◌, subst, inl, inr, arith}
+use Rattle.std.proofs.Common.{◌≡◌, ℕ, ◌≤◌, List, Option, Some, None, refl, sym, ap, ◌∙◌, subst, inl, inr, arith}
 use Rattle.gc_graph.specs.State.{ObjectType}
 use Rattle.mark_worklist.specs.Lists.{IsOneMore}
 use Rattle.mark_worklist.specs.OneMore.{one_longer, is_there, still_there, was_there}
@@ -60,7 +60,7 @@ Works-same types s = record {
 pub Works-then : (types : List ObjectType) (taken : Option ℕ) (a b c : Stage) → Works types taken a b → Works types None b c → Works types taken a c
 Works-then types taken a b c x y = record {
   kept = MarksOn-then a.view b.view c.view x.kept y.kept;
-  within = GrowsWithin-then types a.view b.view c.view x.kept.bodies x.kept.count x.within y.within;
+  within = GrowsWithin-then types a.view b.view c.view x.kept.bodies x.within y.within;
   on = y.on ∙ x.on;
   unrefused = λ fine. x.unrefused (y.unrefused fine);
   told = told_then a.refusals b.refusals c.refusals x.told y.told;

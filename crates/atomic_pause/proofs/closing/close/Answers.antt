@@ -31,7 +31,7 @@ set_stop-requires c =
       λ on alone. record {
         alone = c.fixpoint-traced.ensures.alone;
         traced = over.no_grey;
-        closed = subst (λ ts. IsClosedOver (kind_lists ts) v.bodies (holds v.marked)) (c.requires.types ∙ sym kept.types) over.over_words;
+        closed = subst (λ ts. IsClosedOver (kind_lists ts) v.bodies (holds v.marked)) (c.requires.types ∙ sym kept.types) over.closed;
       },
     )
 

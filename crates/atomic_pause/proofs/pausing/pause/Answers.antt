@@ -1,6 +1,6 @@
 use Rattle.std.proofs.Common.{true, inl, inr, ◌≡◌, ℕ, Bool, List, length, get_or, refl, sym, ap, ◌∙◌, subst}
 use Rattle.std.specs.List.{All}
-use Rattle.gc_graph.specs.State.{Setup, Node}
+use Rattle.gc_graph.specs.State.{Node}
 use Rattle.gc_graph.specs.declared.kind.Kind.TheVariants.{Weak, Pair}
 use Rattle.gc_graph.specs.ActionLaw.{HaveStayed}
 use Rattle.gc_graph.specs.Pause.{live_count}

@@ -26,7 +26,7 @@ settle_all-requires-clause-ground c =
 pub returns-then-walk-clause-within : goal.returns-then-walk-clause-within
 returns-then-walk-clause-within c =
     GrowsWithin-then c.args.types.now c.args.seat.now c.settle_all.new.seat c.walk_heap.new.seat c.settle_all.ensures.works.kept.bodies
-    c.settle_all.ensures.works.kept.count c.settle_all.ensures.works.within c.walk_heap.ensures.works.within
+    c.settle_all.ensures.works.within c.walk_heap.ensures.works.within
 
 pub returns-then-walk-clause-told : goal.returns-then-walk-clause-told
 returns-then-walk-clause-told c =

@@ -1,5 +1,4 @@
 use Rattle.std.proofs.Common.{refl, sym, ap, subst}
-use Rattle.mark_worklist.specs.Refusals.{Refusals}
 use Rattle.ephemerons.specs.Fixpoint.{IsStillHeld}
 use Rattle.ephemerons.proofs.Holding.{popped_held}
 use Rattle.ephemerons.proofs.marks.next_listed.Goals as goal

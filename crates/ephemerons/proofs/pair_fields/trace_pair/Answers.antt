@@ -53,7 +53,7 @@ returns-then-key_is_marked-clause-within c =
     let same : heap_and_marks u ≡ heap_and_marks v = c.key_is_marked.ensures.view ∙ c.read_key.ensures.view in
     let key_marked : holds v.marked c.in-Some.key ≡ true =
     sym (ap (λ (x : SeatView). holds x.marked c.in-Some.key) c.read_key.ensures.view) ∙ sym c.key_is_marked.ensures.mark ∙ c.if-key_is_marked.true in
-    pair_within v.types v c.trace_target-fresh.new.seat at.body c.args.offset c.in-Some.key c.bodies_lie_apart.ensures at.there
+    pair_within v.types v c.trace_target-fresh.new.seat at.body c.args.offset c.in-Some.key at.there
     (subst (λ p. holds v.marked p ≡ true) (sym at.place_is) c.requires.marked) at.among (c.in-Some.ensures.key at.body at.there at.place_is) key_marked
     (λ p marked. elim (c.trace_target-fresh.ensures.only at.body p (subst (λ bs. Contains bs at.body) (sym (ap (λ (x : SeatView). x.bodies) same)) at.there)
     at.place_is marked) [

@@ -1,5 +1,4 @@
-use Rattle.std.proofs.Common.{◌≡◌, List, sym, ap, ◌∙◌, subst}
-use Rattle.gc_graph.specs.State.{ObjectType}
+use Rattle.std.proofs.Common.{◌≡◌, sym, ap, ◌∙◌, subst}
 use Rattle.type_table.specs.Types.{kinds_of}
 use Rattle.type_table.specs.TracedWords.{traced_words_of}
 use Rattle.marker_core.specs.declared.states.Body.{Body}
