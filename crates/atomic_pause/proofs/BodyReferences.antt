@@ -1,27 +1,23 @@
 -- The reference words of the bodies of live nodes are null or refer to bodies.
-use Rattle.std.proofs.Common.{◌≡◌, ℕ, ◌+◌, ◌-◌, ◌<◌, ◌≤◌, true, false, List, [], length, get_or, refl, sym, ap, ◌∙◌, subst, inl, inr, arith}
+use Rattle.std.proofs.Common.{◌≡◌, ℕ, ◌<◌, ◌≤◌, false, List, [], length, get_or, refl, sym, ap, ◌∙◌, subst, inl, inr, arith}
 use Rattle.std.specs.List.{Contains}
-use Rattle.std.proofs.lemmas.Bool.{true≢false}
 use Rattle.std.proofs.lemmas.List.{length-map}
 use Rattle.std.proofs.lemmas.List.Elements.{All-get_or}
 use Rattle.gc_graph.specs.declared.kind.Kind.{Kind}
-use Rattle.gc_graph.specs.declared.kind.Kind.TheVariants.{Strong, Weak, Pair, Plain}
+use Rattle.gc_graph.specs.declared.kind.Kind.TheVariants.{Plain}
 use Rattle.gc_graph.specs.declared.kind.Value.{Value}
 use Rattle.gc_graph.specs.declared.kind.Value.TheVariants.{Null, Ref, Word}
 use Rattle.gc_graph.specs.State.{Setup, ObjectType, Node, node_at, type_at, no_node, IsLive, IsDead}
-use Rattle.gc_graph.specs.Fields.{field_words, is_plain, words_of_kind}
+use Rattle.gc_graph.specs.Fields.{field_words, is_plain}
 use Rattle.gc_graph.specs.Valid.{IsTyped, IsReferenceBelow, NamesLive}
-use Rattle.type_table.specs.FieldLaw.{FieldsStandApart}
-use Rattle.type_table.specs.Types.{kinds_of, kind_of, is_kind, offsets_of_kind}
+use Rattle.type_table.specs.Types.{kinds_of}
 use Rattle.type_table.specs.Layouts.{kinds_of_words}
 use Rattle.marker_core.specs.Bodies.{IsReference}
 use Rattle.marker_core.specs.declared.states.Body.{Body}
 use Rattle.page_words.specs.Bodies.{kind_in}
 use Rattle.page_words.specs.Seat.{SeatView}
-use Rattle.ephemerons.specs.BodyGraph.{AreReferences}
 use Rattle.weak_clearing.specs.Clearing.{MarkedHaveReferencesOf}
 use Rattle.nodes_in_words.specs.Nodes.{place_of, word_of, body_of, bodies_of, IsHeld, AreOfValid}
-use Rattle.nodes_in_words.specs.FieldKinds.{some_words}
 use Rattle.nodes_in_words.specs.NodePlaces.{node_body, body_node, live_is_there}
 use Rattle.nodes_in_words.specs.NodeLives.{live_if_there, none_dead}
 use Rattle.nodes_in_words.specs.TypedNodes.{AreKnown, known_nodes}
@@ -40,9 +36,6 @@ pub record AreAlive (setup : Setup) (nodes : List Node) (v : SeatView) : Type 0 
   pub known : AreKnown setup nodes
   pub held : v.bodies ≡ bodies_of nodes
   pub alive : (n : ℕ) → IsDead nodes n → ⊥
-
-pub alive_unjudged : (setup : Setup) (nodes : List Node) (v : SeatView) → AreOfValid setup nodes → IsHeld nodes v → v.dead ≡ [] → AreAlive setup nodes v
-alive_unjudged setup nodes v valid held none = record { known = known_nodes setup nodes valid; held = held.bodies; alive = none_dead nodes v held none }
 
 -- marking moves no object, and no node dies before it is over
 pub alive_marked : (setup : Setup) (nodes : List Node) (root : ℕ → Type 0) (v new : SeatView) → AreOfValid setup nodes → IsHeld nodes v → v.dead ≡ []
@@ -67,51 +60,7 @@ body_reference setup nodes v b i is there told =
     (reference_word (place_of nodes) v (length nodes) (NamesLive nodes) (λ y named below. live_reference nodes v (length nodes) y is.held named below)
     x.object.kinds x.object.values i typed.values_are (is.known.references node.0 live) kind)
 
--- ---- by the offsets that the type table tells
-
-plain_of_kind : (wanted kind : Kind) → is_kind wanted kind ≡ true → is_plain kind ≡ is_plain wanted
-plain_of_kind Strong Strong is = refl
-plain_of_kind Strong Weak is = absurd (true≢false (sym is))
-plain_of_kind Strong Pair is = absurd (true≢false (sym is))
-plain_of_kind Strong Plain is = absurd (true≢false (sym is))
-plain_of_kind Weak Strong is = absurd (true≢false (sym is))
-plain_of_kind Weak Weak is = refl
-plain_of_kind Weak Pair is = absurd (true≢false (sym is))
-plain_of_kind Weak Plain is = absurd (true≢false (sym is))
-plain_of_kind Pair Strong is = absurd (true≢false (sym is))
-plain_of_kind Pair Weak is = absurd (true≢false (sym is))
-plain_of_kind Pair Pair is = refl
-plain_of_kind Pair Plain is = absurd (true≢false (sym is))
-plain_of_kind Plain Strong is = absurd (true≢false (sym is))
-plain_of_kind Plain Weak is = absurd (true≢false (sym is))
-plain_of_kind Plain Pair is = absurd (true≢false (sym is))
-plain_of_kind Plain Plain is = refl
-
-two_words : (kind : Kind) → is_kind Pair kind ≡ true → words_of_kind kind ≡ 2
-two_words Strong is = absurd (true≢false (sym is))
-two_words Weak is = absurd (true≢false (sym is))
-two_words Pair is = refl
-two_words Plain is = absurd (true≢false (sym is))
-
--- the first word of a field holds a reference where its kind does
-first_word_plain : (kind : Kind) (kinds : List Kind) (offset : ℕ) → FieldsStandApart → Contains (offsets_of_kind kind kinds) offset
-    → is_plain (get_or (kinds_of_words kinds) (offset - 2) Plain) ≡ is_plain kind
-first_word_plain kind kinds offset law there =
-    let field = law.begin (is_kind kind) kinds offset there in
-    let words : 1 ≤ words_of_kind (kind_of kinds field.0) = some_words (kind_of kinds field.0) in
-    ap is_plain (law.kind kinds field.0 offset (record { first = omega (arith, field.1.offset_is); last = omega (arith, field.1.offset_is, words) }))
-    ∙ plain_of_kind kind (kind_of kinds field.0) field.1.kind
-
--- and so does the second word of a pair
-second_word_plain : (kinds : List Kind) (offset : ℕ) → FieldsStandApart → Contains (offsets_of_kind Pair kinds) offset
-    → is_plain (get_or (kinds_of_words kinds) (offset + 1 - 2) Plain) ≡ false
-second_word_plain kinds offset law there =
-    let field = law.begin (is_kind Pair) kinds offset there in
-    let words : words_of_kind (kind_of kinds field.0) ≡ 2 = two_words (kind_of kinds field.0) field.1.kind in
-    ap is_plain (law.kind kinds field.0 (offset + 1) (record { first = omega (arith, field.1.offset_is); last = omega (arith, field.1.offset_is, words) }))
-    ∙ plain_of_kind Pair (kind_of kinds field.0) field.1.kind
-
--- ---- what marking and weak clearing ask of the bodies
+-- ---- what weak clearing asks of the bodies
 
 body_typed : (setup : Setup) (nodes : List Node) (v : SeatView) (b : Body) → AreAlive setup nodes v → Contains v.bodies b → b.ty < length setup.types
 body_typed setup nodes v b is there =
@@ -128,19 +77,6 @@ body_whole setup nodes v b is there =
     let kinds : field_words (type_at setup b.ty).kinds ≡ field_words x.object.kinds =
     ap (λ (c : Body). field_words (type_at setup c.ty).kinds) node.3 ∙ ap field_words (sym typed.kinds_are) in
     omega (arith, typed.count, kinds, ap (λ (c : Body). length c.fields) node.3, length-map x.object.values (word_of (place_of nodes)))
-
--- each strong field, and each key and value of a pair, is null or names a body
-pub references_hold : (setup : Setup) (nodes : List Node) (v : SeatView) → FieldsStandApart → AreAlive setup nodes v → AreReferences setup.types v.bodies
-references_hold setup nodes v law is = record {
-  typed = λ b there. body_typed setup nodes v b is there;
-  whole = λ b there. body_whole setup nodes v b is there;
-  named = λ b offset there strong.
-      body_reference setup nodes v b (offset - 2) is there (first_word_plain Strong (kinds_of setup.types b.ty) offset law strong);
-  keys = λ b offset there pair.
-      body_reference setup nodes v b (offset - 2) is there (first_word_plain Pair (kinds_of setup.types b.ty) offset law pair);
-  values = λ b offset there pair.
-      body_reference setup nodes v b (offset + 1 - 2) is there (second_word_plain (kinds_of setup.types b.ty) offset law pair);
-}
 
 -- each word of fields of a kind that holds references is null or names a body
 pub marked_references : (kind : Kind) (setup : Setup) (nodes : List Node) (v : SeatView) → is_plain kind ≡ false → v.types ≡ setup.types

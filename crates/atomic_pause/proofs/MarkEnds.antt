@@ -1,18 +1,19 @@
 -- How marking begins and ends.
-use Rattle.std.proofs.Common.{◌≡◌, ℕ, ◌+◌, Bool, true, List, [], ◌∷◌, None, refl, sym, ap, ◌∙◌, subst, inl, inr, arith, cond, map}
+use Rattle.std.proofs.Common.{◌≡◌, ℕ, ◌+◌, Bool, true, List, [], ◌∷◌, length, None, refl, sym, ap, ◌∙◌, subst, inl, inr, arith, cond}
 use mathlib.Core.Logic.{◌⊎◌}
-use Rattle.std.specs.List.{Contains, count_by, range_with_len}
+use Rattle.std.specs.List.{Contains, count_by}
 use Rattle.std.proofs.lemmas.Bool.{true≢false, cases_Bool}
 use Rattle.std.proofs.lemmas.List.Sums.{sum_by-cons}
-use Rattle.gc_graph.specs.Graph.{ClosesUnder}
 use Rattle.gc_graph.specs.State.{ObjectType}
 use Rattle.mark_worklist.specs.declared.marking.Marking.{Marking}
 use Rattle.marker_core.specs.Bodies.{IsPlace, holds}
 use Rattle.marker_core.specs.declared.states.Body.{Body}
+use Rattle.marker_core.specs.Closed.{IsClosedOver}
+use Rattle.page_words.specs.Roles.{kind_lists}
 use Rattle.page_words.specs.Seat.{SeatView, IsView, ended}
-use Rattle.ephemerons.specs.BodyGraph.{object_there, graph_in}
 use Rattle.ephemerons.specs.Marking.{MarksOn, GrowsWithin, IsOver, traced_count}
-use Rattle.ephemerons.specs.Notes.{NotesState}
+use Rattle.ephemerons.specs.Notes.{NotesState, IsUnnoted, IsNotedIn, group_at}
+use Rattle.ephemerons.specs.declared.notes.Note.{Note}
 use Rattle.ephemerons.specs.Fixpoint.{ListsMarks, IsAccounted}
 use Rattle.atomic_pause.specs.Marking.{ListsMarked, MarksReachable, marked_count}
 
@@ -52,11 +53,6 @@ kept_are_counted types w x y n untraced view alone over counted ends =
     let last : marked_count y ≡ marked_count x = ap marked_count ends in
     omega (arith, counted, none, all, last)
 
--- the words stand for the same graph
-same_graph : (types : List ObjectType) (a b : SeatView) → MarksOn a b → graph_in types b ≡ graph_in types a
-same_graph types a b x =
-    ap (λ bs. map (object_there types bs) (range_with_len 0 b.count)) x.bodies ∙ ap (λ n. map (object_there types a.bodies) (range_with_len 0 n)) x.count
-
 -- the places that a view marks
 abbrev pub IsMarkedIn : SeatView → ℕ → Type 0
 IsMarkedIn w p = holds w.marked p ≡ true
@@ -72,7 +68,7 @@ marks_reachable types w x y led over grows ends =
       bodies = led.bodies;
       roots = λ p marked. led.marked p marked;
       closed = over.closed;
-      least = λ test closed held p marked. grows test (subst (λ g. ClosesUnder g test) (same_graph types w x led) closed) held p marked;
+      least = λ test closed held p marked. grows test (subst (λ bs. IsClosedOver (kind_lists types) bs test) led.bodies closed) held p marked;
       dead = refl;
     })
 
@@ -102,9 +98,16 @@ listed_from v w l m none empty marks = record {
   ];
   places = λ p there. elim (marks.listed p there) [
     | inl before ↦ absurd (omega (arith, (subst (λ ps. Contains ps p) empty before).1))
-    | inr place ↦ subst (λ bs. IsPlace bs p) (sym (ap (λ (z : SeatView). z.bodies) marks.view)) place
+    | inr fresh ↦ subst (λ bs. IsPlace bs p) (sym (ap (λ (z : SeatView). z.bodies) marks.view)) fresh.place
   ];
 }
+
+-- nothing is noted where there are no notes
+pub none_noted : (groups : List NotesState) → IsUnnoted groups → (note : Note) → IsNotedIn groups note → ⊥
+none_noted groups none note noted =
+    let first : noted.0 ≡ 0 = omega (arith, noted.1, none.one) in
+    let there : Contains (group_at groups 0).notes note = subst (λ i. Contains (group_at groups i).notes note) first noted.2 in
+    omega (arith, there.1, ap length none.empty)
 
 -- what is grey is listed, unless a push was refused, and then the heap is walked
 pub walked_or_listed : (types : List ObjectType) (w : SeatView) (m : Marking) (groups : List NotesState) → w.traced ≡ [] → ListsMarked w m

@@ -1,9 +1,9 @@
 -- What marking kept, over the nodes: exactly what the roots reach.
-use Rattle.std.proofs.Common.{◌≡◌, ℕ, ◌+◌, ◌<◌, ◌≤◌, Bool, true, false, ◌&&◌, List, [], ◌++◌, length, map, Option, Some, refl, sym, ap, ◌∙◌, subst, inl, inr, arith, eqb, leb, ltb}
+use Rattle.std.proofs.Common.{◌≡◌, ℕ, ◌+◌, ◌<◌, ◌≤◌, Bool, true, false, ◌&&◌, List, [], ◌++◌, length, Option, Some, refl, sym, ap, ◌∙◌, subst, inl, inr, arith, eqb, leb, ltb}
 use Rattle.std.specs.List.{Contains, list_any, range_with_len}
 use Rattle.std.proofs.lemmas.Bool.{true≢false, and_parts, and_from, leb-true, ltb-true, le-leb, lt-ltb, eqb-true, eq-eqb}
 use Rattle.std.proofs.lemmas.List.{length-map}
-use Rattle.gc_graph.specs.Graph.{Object, object_at, has, IsIn, IsClosed, ClosesUnder, leads_to}
+use Rattle.gc_graph.specs.Graph.{Object, has, IsIn, IsClosed, leads_to}
 use Rattle.gc_graph.specs.Reach.{Reach, AreNodes, IsLeastClosed, ReachIsLeast, any_below}
 use Rattle.gc_graph.specs.State.{Setup, Node, node_at, size_of, graph_of, slot_targets, is_live, is_there, IsLive}
 use Rattle.gc_graph.specs.May.{has_word}
@@ -13,9 +13,12 @@ use Rattle.gc_graph.specs.Leading.{IsLed, is_led, led_leads, led_named, led_wide
 use Rattle.gc_graph.specs.AnyBelow.{any_below-from, any_below-some}
 use Rattle.marker_core.specs.declared.states.Body.{Body}
 use Rattle.marker_core.specs.Bodies.{holds}
+use Rattle.marker_core.specs.Closed.{IsClosedOver}
+use Rattle.page_words.specs.BodyPlaces.{same_body}
+use Rattle.page_words.specs.Roles.{kind_lists}
 use Rattle.page_words.specs.Seat.{SeatView, IsView}
-use Rattle.ephemerons.specs.BodyGraph.{object_in, object_there, graph_in}
-use Rattle.ephemerons.specs.ObjectsThere.{there_is}
+use Rattle.ephemerons.specs.BodyGraph.{object_in}
+use Rattle.ephemerons.specs.BodyLeads.{led_within, closed_from}
 use Rattle.nodes_in_words.specs.Nodes.{place_of, body_of, bodies_of, IsThere, IsHeld, AreOfValid}
 use Rattle.nodes_in_words.specs.Places.{kept_of}
 use Rattle.nodes_in_words.specs.Judgement.{IsReached}
@@ -145,14 +148,11 @@ reached_some nodes roots p h =
     let rest = and_parts (eqb (place_of nodes w.0) p) (has (Reach (graph_of nodes) roots) w.0) live.1 in
     (w.0, is_live_life (node_at nodes w.0).life live.0, eqb-true (place_of nodes w.0) p rest.0, rest.1)
 
-in_words : (setup : Setup) (nodes : List Node) (roots : List ℕ) (root : ℕ → Type 0) (v new : SeatView) → HasMarked setup nodes roots root v new
-    → (m : ℕ) → IsLive nodes m → object_at (graph_in setup.types new) (place_of nodes m) ≡ object_in setup.types (body_of (place_of nodes) m (node_at nodes m))
-in_words setup nodes roots root v new done m live =
-    let graph : graph_in setup.types new ≡ graph_in setup.types v =
-    ap (λ bs. map (object_there setup.types bs) (range_with_len 0 new.count)) done.marks.bodies
-    ∙ ap (λ n. map (object_there setup.types v.bodies) (range_with_len 0 n)) done.marks.count in
-    ap (λ g. object_at g (place_of nodes m)) graph
-    ∙ there_is setup.types v (body_of (place_of nodes) m (node_at nodes m)) done.view (node_body nodes v m done.held (live_is_there nodes m live))
+-- the body of a live node, as marking left it
+body_there : (setup : Setup) (nodes : List Node) (roots : List ℕ) (root : ℕ → Type 0) (v new : SeatView) → HasMarked setup nodes roots root v new
+    → (m : ℕ) → IsLive nodes m → Contains new.bodies (body_of (place_of nodes) m (node_at nodes m))
+body_there setup nodes roots root v new done m live =
+    subst (λ bs. Contains bs (body_of (place_of nodes) m (node_at nodes m))) (sym done.marks.bodies) (node_body nodes v m done.held (live_is_there nodes m live))
 
 kept_closed : (setup : Setup) (nodes : List Node) (roots : List ℕ) (root : ℕ → Type 0) (v new : SeatView) → HasMarked setup nodes roots root v new
     → IsClosed (graph_of nodes) (kept_of (holds new.marked) nodes)
@@ -165,23 +165,23 @@ kept_closed setup nodes roots root v new done m n is leads =
     let words : IsLed (holds new.marked) (renamed_object place o) (place n) =
     led_renamed place (holds new.marked) o n (led_wider (has kept) (λ k. holds new.marked (place k)) o n (λ k there in_kept. (kept_parts (holds new.marked) nodes k in_kept).1) led) in
     kept_from (holds new.marked) nodes n (named_live setup nodes m n done.valid parts.0 (led_named (has kept) o n led))
-    (done.marks.closed (place m) (place n) parts.1 (led_leads (holds new.marked) (object_at (graph_in setup.types new) (place m)) (place n)
-    (subst (λ x. IsLed (holds new.marked) x (place n)) (sym (in_words setup nodes roots root v new done m parts.0))
-    (led_node setup place (length nodes) m (node_at nodes m) (holds new.marked) (place n) (live_typed setup nodes m done.valid parts.0) words))))
+    (led_within setup.types new.bodies (holds new.marked) (body_of place m (node_at nodes m)) (place n) done.marks.closed
+    (body_there setup nodes roots root v new done m parts.0) parts.1
+    (led_node setup place (length nodes) m (node_at nodes m) (holds new.marked) (place n) (live_typed setup nodes m done.valid parts.0) words))
 
 reached_closed : (setup : Setup) (nodes : List Node) (roots : List ℕ) (root : ℕ → Type 0) (v new : SeatView) → HasMarked setup nodes roots root v new
-    → IsLeastClosed (graph_of nodes) roots (Reach (graph_of nodes) roots) → ClosesUnder (graph_in setup.types new) (reached_place nodes roots)
-reached_closed setup nodes roots root v new done least p q is leads =
+    → IsLeastClosed (graph_of nodes) roots (Reach (graph_of nodes) roots) → IsClosedOver (kind_lists setup.types) new.bodies (reached_place nodes roots)
+reached_closed setup nodes roots root v new done least = closed_from setup.types new.bodies (reached_place nodes roots) (λ b q there is leads.
     let place : ℕ → ℕ = place_of nodes in
     let reach : List Bool = Reach (graph_of nodes) roots in
-    let w = reached_some nodes roots p is in
+    let w = reached_some nodes roots b.place is in
     let o : Object = (node_at nodes w.0).object in
-    let led : IsLed (reached_place nodes roots) (object_at (graph_in setup.types new) (place w.0)) q =
-    subst (λ a. IsLed (reached_place nodes roots) (object_at (graph_in setup.types new) a) q) (sym w.2)
-    (is_led (reached_place nodes roots) (object_at (graph_in setup.types new) p) q leads) in
+    let one : b ≡ body_of place w.0 (node_at nodes w.0) =
+    same_body v b (body_of place w.0 (node_at nodes w.0)) done.view (subst (λ bs. Contains bs b) done.marks.bodies there)
+    (node_body nodes v w.0 done.held (live_is_there nodes w.0 w.1)) (sym w.2) in
     let edge = renamed_led place (reached_place nodes roots) o q
     (node_led setup place (length nodes) w.0 (node_at nodes w.0) (reached_place nodes roots) q (live_typed setup nodes w.0 done.valid w.1)
-    (subst (λ x. IsLed (reached_place nodes roots) x q) (in_words setup nodes roots root v new done w.0 w.1) led)) in
+    (subst (λ (c : Body). IsLed (reached_place nodes roots) (object_in setup.types c) q) one leads)) in
     let within : IsLed (has reach) o edge.0 = led_wider (λ k. reached_place nodes roots (place k)) (has reach) o edge.0
     (λ k there reached.
     let x = reached_some nodes roots (place k) reached in
@@ -189,7 +189,7 @@ reached_closed setup nodes roots root v new done least p q is leads =
     subst (IsIn reach) (same_node nodes v x.0 k done.view done.held (live_is_there nodes x.0 x.1) k_there x.2) x.3) edge.2 in
     subst (λ a. reached_place nodes roots a ≡ true) edge.1
     (reached_from nodes roots edge.0 (named_live setup nodes w.0 edge.0 done.valid w.1 (led_named (has reach) o edge.0 within))
-    (least.closed w.0 edge.0 w.3 (subst (λ x. leads_to reach x edge.0 ≡ true) (sym (object_of_node nodes w.0)) (led_leads (has reach) o edge.0 within))))
+    (least.closed w.0 edge.0 w.3 (subst (λ x. leads_to reach x edge.0 ≡ true) (sym (object_of_node nodes w.0)) (led_leads (has reach) o edge.0 within)))))
 
 are_nodes : (setup : Setup) (nodes : List Node) (roots : List ℕ) (root : ℕ → Type 0) (v new : SeatView) → HasMarked setup nodes roots root v new → AreNodes (graph_of nodes) roots
 are_nodes setup nodes roots root v new done n is =

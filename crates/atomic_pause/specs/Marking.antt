@@ -1,17 +1,17 @@
 -- How a pause marks the words: what its roots are, what it starts from and what it ends with.
-use Rattle.std.specs.Prelude.{◌≡◌, ◌⊎◌, ℕ, Bool, true, false, List, [], ◌∷◌, ◌++◌, filter, Option, Some, count_by, Contains}
+use Rattle.std.specs.Prelude.{◌≡◌, ◌⊎◌, ℕ, Bool, true, false, List, [], ◌++◌, filter, Option, Some, count_by, Contains}
 use Rattle.std.specs.List.{list_any}
-use Rattle.gc_graph.specs.Graph.{ClosesUnder}
 use Rattle.gc_graph.specs.State.{ObjectType}
 use Rattle.mark_worklist.specs.declared.marking.Marking.{Marking}
 use Rattle.marker_core.specs.Bodies.{IsPlace, holds, has_word, places}
 use Rattle.marker_core.specs.declared.states.Body.{Body}
+use Rattle.marker_core.specs.Closed.{IsClosedOver}
 use Rattle.marker_core.specs.SeatSteps.{unmarked_places}
+use Rattle.page_words.specs.Roles.{kind_lists}
 use Rattle.page_words.specs.Seat.{SeatView, IsAlone, side}
 use Rattle.persistent_slots.specs.Clearing.{taken}
 use Rattle.page_space.specs.Space.{HoldsAddress}
-use Rattle.ephemerons.specs.BodyGraph.{graph_in}
-use Rattle.ephemerons.specs.Notes.{NotesState, no_notes}
+use Rattle.ephemerons.specs.Notes.{NotesState, IsUnnoted}
 
 -- a word of the stack is an address of a word of the body at the place
 abbrev pub IsHitPlace : List Body → List ℕ → ℕ → Type 0
@@ -51,7 +51,7 @@ pub record HasBegun (v : SeatView) (marking : Marking) (notes : List NotesState)
   pub untraced : v.traced ≡ []
   pub none_dead : v.dead ≡ []
   pub none_listed : marking.list.items ≡ []
-  pub none_noted : notes ≡ no_notes ∷ []
+  pub none_noted : IsUnnoted notes
 
 -- each object that is marked is listed, unless a push was refused, and what is listed are places of objects
 pub record ListsMarked (v : SeatView) (marking : Marking) : Type 0 where
@@ -65,6 +65,6 @@ pub record MarksReachable (types : List ObjectType) (root : ℕ → Type 0) (old
   pub off : new.on ≡ false
   pub bodies : new.bodies ≡ old.bodies
   pub roots : HoldsRoots (holds new.marked) root
-  pub closed : ClosesUnder (graph_in types new) (holds new.marked)
-  pub least : (test : ℕ → Bool) → ClosesUnder (graph_in types new) test → HoldsRoots test root → (p : ℕ) → holds new.marked p ≡ true → test p ≡ true
+  pub closed : IsClosedOver (kind_lists types) new.bodies (holds new.marked)
+  pub least : (test : ℕ → Bool) → IsClosedOver (kind_lists types) new.bodies test → HoldsRoots test root → (p : ℕ) → holds new.marked p ≡ true → test p ≡ true
   pub dead : new.dead ≡ unmarked_places (side new)

@@ -12,6 +12,7 @@ ghost use Rattle.marker_core.specs.Bodies.{IsPlace};
 ghost use Rattle.page_space.specs.Space.{IsSpaceOf, extents_of_bodies};
 ghost use Rattle.persistent_slots.specs.Clearing.{taken};
 ghost use Rattle.ephemerons.specs.Fixpoint.{IsUnrefused};
+ghost use Rattle.ephemerons.specs.Notes.{group_at, refusals_in};
 ghost use Rattle.nodes_in_words.specs.Nodes.{AreOfValid, IsHeld};
 ghost use Rattle.nodes_in_words.specs.Places.{places_of};
 ghost use Rattle.prefinalizer_effects.specs.Prepared.{setup_of, IsPrepared};
@@ -71,6 +72,9 @@ pub fn pause(parts: Parts, stack: &[u64], precise: bool) -> PauseResult
         IsUnrefused (marking_left parts.exit).now.overflow (notes_left parts.exit).now }
     ensures told { TellsRefused (refusals_of parts.entry.marking.now)
         (refusals_of (marking_left parts.exit).now) }
+    ensures notes_told { (i : ℕ) → TellsRefused
+        (refusals_in (group_at parts.entry.notes.now i))
+        (refusals_in (group_at (notes_left parts.exit).now i)) }
 {
     let Parts {
         seat,
@@ -85,7 +89,6 @@ pub fn pause(parts: Parts, stack: &[u64], precise: bool) -> PauseResult
         callbacks,
     } = parts;
     gc_graph::reach_is_least();
-    type_table::fields_stand_apart();
     seat.bodies_lie_apart();
     visit_slots(space.words(), seat, marking, strong);
     scan_stack(space, seat, marking, stack, precise);

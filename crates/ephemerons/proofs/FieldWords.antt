@@ -1,34 +1,24 @@
 -- The words of strong fields and of pairs: they lie among the fields, are read as they are, and what they are to the hand.
-use Rattle.std.proofs.Common.{◌≡◌, ℕ, ◌+◌, ◌-◌, ◌<◌, ◌≤◌, List, length, refl, sym, ap, ◌∙◌, arith}
+use Rattle.std.proofs.Common.{◌≡◌, ℕ, ◌+◌, ◌-◌, ◌<◌, ◌≤◌, length, refl, sym, ap, ◌∙◌, arith}
 use Rattle.std.specs.List.{Contains}
 use Rattle.std.proofs.lemmas.Bool.{eq-eqb}
 use Rattle.gc_graph.specs.declared.kind.Kind.{Kind}
 use Rattle.gc_graph.specs.declared.kind.Kind.TheVariants.{Strong, Pair}
 use Rattle.gc_graph.specs.Fields.{words_of_kind}
-use Rattle.gc_graph.specs.State.{ObjectType}
 use Rattle.type_table.specs.Types.{kinds_of as kinds_in, offsets_of_kind}
 use Rattle.marker_core.specs.declared.states.Body.{Body}
 use Rattle.marker_core.specs.declared.states.Part.{Part}
 use Rattle.marker_core.specs.declared.states.Part.TheVariants.{Read, Value}
-use Rattle.marker_core.specs.Bodies.{word_count, role_at, role_in}
+use Rattle.marker_core.specs.Bodies.{word_count}
 use Rattle.marker_core.specs.Hands.{part_found}
 use Rattle.page_words.specs.BodyPlaces.{whole_body, same_body}
-use Rattle.page_words.specs.Roles.{kind_lists, kinds_fit, words_before, first_role, role_of_field, word_count_is}
+use Rattle.page_words.specs.Roles.{kinds_fit, word_count_is}
 use Rattle.page_words.specs.Seat.{SeatView, IsView, IsWordAt}
 use Rattle.ephemerons.specs.BodyGraph.{HasStrong, HasPair, strong_offsets, pair_offsets, word_at}
 use Rattle.ephemerons.specs.InHand.{IsAt, IsAtTarget}
 use Rattle.ephemerons.specs.Fixpoint.{HasWord}
-use Rattle.ephemerons.proofs.Fields.{field_at_offset, field_below}
-
--- the first word of a field is to the machine what the field's kind says
-pub role_of_offset : (types : List ObjectType) (b : Body) (kind : Kind) (offset : ℕ) → Contains (offsets_of_kind kind (kinds_in types b.ty)) offset
-    → role_in (kind_lists types) b (offset - 2) ≡ first_role kind
-role_of_offset types b kind offset there =
-    let kinds = kinds_in types b.ty in
-    let field = field_at_offset kind kinds offset there in
-    let number : offset - 2 ≡ words_before kinds field.0 = omega (arith, field.2) in
-    ap (λ ks. role_at ks (offset - 2)) (kinds_fit types b.ty) ∙ ap (role_at kinds) number ∙ role_of_field kinds field.0 field.1.low
-    ∙ ap first_role field.1.is
+use Rattle.ephemerons.specs.BodyLeads.{role_of_offset}
+use Rattle.ephemerons.specs.Fields.{field_at_offset, field_below}
 
 -- all words of a field are there
 pub field_there : (v : SeatView) (b : Body) (kind : Kind) (offset : ℕ) → IsView v → Contains v.bodies b

@@ -10,7 +10,7 @@ use Rattle.marker_core.specs.Bodies.{IsPlace, holds}
 use Rattle.page_words.specs.Seat.{SeatView, IsView, is_grey_at}
 use Rattle.ephemerons.specs.BodyGraph.{AreReferences}
 use Rattle.ephemerons.specs.Marking.{heap_and_marks, GrowsWithin, HasStrongMarked, traced_count}
-use Rattle.ephemerons.specs.Notes.{NotesState, NotesGrow, HasPairsNoted, group_at, IsNotedIn, IsNote, note_of}
+use Rattle.ephemerons.specs.Notes.{NotesState, NotesGrow, HasPairsNoted, group_at, refusals_in, IsNotedIn, IsNote, note_of}
 use Rattle.ephemerons.specs.InHand.{with_trace, OnlyLooks}
 use Rattle.ephemerons.specs.Fixpoint.{Stage, stage, weight, IsGround, IsAccounted, IsUnrefused, Works, Looks, ListsMarks, unmarked_places, untraced_places}
 use Rattle.ephemerons.proofs.Lists.{holds_push_old, holds_push_cases}
@@ -123,7 +123,7 @@ module _ (types : List ObjectType) (v u w : SeatView) (m n : Marking) (groups : 
         ];
         listed = λ p listed. subst (λ bs. IsPlace bs p) (sym bodies) (elim (r.marks.listed p listed) [
           | inl old ↦ ground.listed p old
-          | inr place ↦ subst (λ bs. IsPlace bs p) (ap (λ (z : SeatView). z.bodies) r.claimed) place
+          | inr fresh ↦ subst (λ bs. IsPlace bs p) (ap (λ (z : SeatView). z.bodies) r.claimed) fresh.place
         ]);
         noted = λ note h. subst (λ bs. IsNote types bs note) (sym bodies) (elim (grow.pairs note h) [ inl old ↦ ground.noted note old | inr pair ↦ inr pair ]);
         own = omega (arith, grow.many, ground.own);
@@ -187,6 +187,7 @@ module _ (types : List ObjectType) (v u w : SeatView) (m n : Marking) (groups : 
         on = r.marks.on;
         unrefused = λ fine. record { pushes = r.marks.overflow fine.pushes; notes = grow.overflow fine.notes };
         told = r.marks.told;
+        notes_told = grow.told;
         many = grow.many;
         noted = grow.kept;
         accounted = grey_accounted r ground;
@@ -210,6 +211,7 @@ Works-black types s a black = record {
   on = refl;
   unrefused = λ h. h;
   told = told_same s.refusals;
+  notes_told = λ i. told_same (refusals_in (group_at s.groups i));
   many = refl;
   noted = λ note h. h;
   accounted = λ fine h. record {

@@ -6,7 +6,9 @@ use Rattle.gc_graph.specs.State.{ObjectType}
 use Rattle.marker_core.specs.declared.states.Body.{Body}
 use Rattle.ephemerons.specs.declared.notes.Note.{Note}
 use Rattle.ephemerons.specs.BodyGraph.{HasPair}
-use Rattle.ephemerons.specs.Notes.{NotesState, NotesGrow, group_at, IsNotedIn}
+use Rattle.mark_worklist.specs.Refusals.{TellsRefused}
+use Rattle.mark_worklist.specs.Told.{told_same}
+use Rattle.ephemerons.specs.Notes.{NotesState, NotesGrow, group_at, refusals_in, IsNotedIn}
 
 -- what the groups hold after it
 pub record GroupsGrow (types : List ObjectType) (bodies : List Body) (old new : List NotesState) (first : NotesState) : Type 0 where
@@ -15,6 +17,7 @@ pub record GroupsGrow (types : List ObjectType) (bodies : List Body) (old new : 
   pub kept : (note : Note) → IsNotedIn old note → IsNotedIn new note
   pub pairs : (note : Note) → IsNotedIn new note → IsNotedIn old note ⊎ HasPair types bodies note.holder note.word
   pub overflow : ((i : ℕ) → i < length new → (group_at new i).overflow ≡ false) → (i : ℕ) → i < length old → (group_at old i).overflow ≡ false
+  pub told : (i : ℕ) → TellsRefused (refusals_in (group_at old i)) (refusals_in (group_at new i))
 
 pub first_grows : (types : List ObjectType) (bodies : List Body) (groups : List NotesState) (g : NotesState) → 0 < length groups
     → NotesGrow types bodies (group_at groups 0) g → GroupsGrow types bodies groups (slice_set groups 0 g) g
@@ -25,6 +28,7 @@ first_grows types bodies (f ∷ groups) g own grow = record {
   kept = kept;
   pairs = pairs;
   overflow = overflow;
+  told = told;
 } where
   kept : (note : Note) → IsNotedIn (f ∷ groups) note → IsNotedIn (g ∷ groups) note
   kept note (zero, low, there) = (zero, low, grow.kept note there)
@@ -38,3 +42,7 @@ first_grows types bodies (f ∷ groups) g own grow = record {
       → (group_at (f ∷ groups) i).overflow ≡ false
   overflow fine zero low = grow.overflow (fine zero low)
   overflow fine (suc i) low = fine (suc i) low
+
+  told : (i : ℕ) → TellsRefused (refusals_in (group_at (f ∷ groups) i)) (refusals_in (group_at (g ∷ groups) i))
+  told zero = grow.told
+  told (suc i) = told_same (refusals_in (group_at groups i))

@@ -1,5 +1,5 @@
 -- The key of the pair in hand.
-use Rattle.std.proofs.Common.{◌≡◌, ℕ, ◌+◌, true, cond, List, Option, Some, None, MatchOption, refl, sym, ap, ◌∙◌, subst}
+use Rattle.std.proofs.Common.{◌≡◌, ℕ, ◌+◌, ◌++◌, true, cond, List, Option, Some, None, MatchOption, refl, sym, ap, ◌∙◌, subst}
 use Rattle.std.specs.Prelude.{IfSome}
 use Rattle.std.specs.List.{Contains}
 use Rattle.std.proofs.lemmas.Bool.{cond-true, eq-eqb}
@@ -18,8 +18,9 @@ use Rattle.page_words.specs.Seat.{SeatView, IsView, loaded}
 use Rattle.ephemerons.specs.BodyGraph.{pair_offsets}
 use Rattle.ephemerons.specs.Marking.{heap_and_marks}
 use Rattle.ephemerons.specs.InHand.{IsAt}
-use Rattle.ephemerons.proofs.FieldWords.{role_of_offset}
-use Rattle.ephemerons.proofs.HandLoads.{read_marks, word_named, load_of_key}
+use Rattle.ephemerons.specs.BodyLeads.{role_of_offset}
+use Rattle.ephemerons.specs.Traces.{noted_unless}
+use Rattle.ephemerons.proofs.HandLoads.{read_marks, word_named, load_of_key, noted_by_word, noted_by_key}
 
 -- the pair is in hand further on
 pub further : (v u : SeatView) (holder offset : ℕ) (part next : Part) → heap_and_marks u ≡ heap_and_marks v → (at : IsAt pair_offsets v holder offset part)
@@ -45,6 +46,11 @@ key_read v u holder offset w key at is names =
     further v u holder offset Read (Key key) (read_marks v u (holder + offset) w is) at
     (ap (λ (x : SeatView). x.hand) is ∙ word_named v (holder + offset) w key h (Key key) at.hand refl finds names)
 
+pub key_notes_none : (v u : SeatView) (holder offset w : ℕ) → IsAt pair_offsets v holder offset Read → u ≡ loaded v (holder + offset) Trace w → u.noted ≡ v.noted
+key_notes_none v u holder offset w at is =
+    ap (λ (x : SeatView). x.noted) is
+    ∙ noted_by_word v (holder + offset) w (record { place = holder; ty = at.body.ty; next = offset; part = Read }) at.hand refl
+
 -- where it isn't null
 pub key_told : (v u : SeatView) (holder offset w : ℕ) (key : Option ℕ) → (at : IsAt pair_offsets v holder offset Read) → u ≡ loaded v (holder + offset) Trace w
     → MatchOption key (w ≡ 0) (λ k. w ≡ k + 1) → IfSome key (λ k. IsAt pair_offsets u holder offset (Key k))
@@ -58,6 +64,9 @@ module _ (v u : SeatView) (holder offset key w : ℕ) (at : IsAt pair_offsets v 
 
   key_looked : u.hand ≡ cond (has_mark w) (Some (record held { part = Value })) (hand_moved (kind_lists v.types) held)
   key_looked = ap (λ (x : SeatView). x.hand) is ∙ load_of_key v key w held at.hand (eq-eqb key key refl)
+
+  pub key_noted : u.noted ≡ v.noted ++ noted_unless (has_mark w) holder offset
+  key_noted = ap (λ (x : SeatView). x.noted) is ∙ noted_by_key v key w held at.hand (eq-eqb key key refl)
 
   -- and it is marked
   pub key_marked : has_mark w ≡ true → IsAt pair_offsets u holder offset Value

@@ -54,6 +54,13 @@ module _ (v : SeatView) (a w : ℕ) where
   load_of_key h is key =
       ap (λ b. (cond b with_key with_target).hand) (ap is_key is ∙ key) ∙ ap (each_hand (hand_looked (kind_lists v.types) w)) is
 
+  -- the pair of a key in hand is noted where that has no mark, and nothing else is
+  pub noted_by_word : (h : Hand) → v.hand ≡ Some h → wants_key h.part a ≡ false → (loaded v a Trace w).noted ≡ v.noted
+  noted_by_word h is other = ap (λ b. (cond b with_key with_target).noted) (ap is_key is ∙ other)
+
+  pub noted_by_key : (h : Hand) → v.hand ≡ Some h → wants_key h.part a ≡ true → (loaded v a Trace w).noted ≡ v.noted ++ noted_pair w (Some h)
+  noted_by_key h is key = ap (λ b. (cond b with_key with_target).noted) (ap is_key is ∙ key) ∙ ap (λ hand. v.noted ++ noted_pair w hand) is
+
 -- a hand that wants a word wants no key
 no_key : (h : Hand) (part : Part) (a : ℕ) → wants_word h part a ≡ true → wants_key part a ≡ false
 no_key h Read a wanted = refl
@@ -109,6 +116,11 @@ target_moves v u n a (suc t) at is null marked =
     ∙ ap (each_hand (hand_after_mark (kind_lists v.types) t)) (ap (λ (x : SeatView). x.hand) is ∙ target_named v a (suc t) t at more)
     ∙ mark_moves (kind_lists v.types) at.hand t
     ∙ sym (ap (each_hand (hand_moved (kind_lists v.types))) at.is)
+
+-- no pair is noted
+pub target_notes_none : (v u : SeatView) (a w : ℕ) → IsAtTarget v a → u ≡ loaded v a Trace w → u.noted ≡ v.noted
+target_notes_none v u a w at is =
+    ap (λ (x : SeatView). x.noted) is ∙ noted_by_word v a w at.hand at.is (no_key at.hand at.hand.part a at.wants)
 
 -- and may be
 pub target_may : (v u : SeatView) (a w t : ℕ) → IsView u → v.on ≡ true → IsAtTarget v a → u ≡ loaded v a Trace w → w ≡ t + 1 → holds u.may t ≡ true

@@ -50,6 +50,13 @@ none_lower offset (Pair ∷ kinds) zero d low = omega arith
 none_lower offset (Pair ∷ kinds) (suc i) d low = omega (arith, none_lower (offset + 2) kinds i d (omega arith))
 none_lower offset (Plain ∷ kinds) i d low = omega (arith, none_lower (offset + 1) kinds i d low)
 
+-- the hand past one of the others, where a first offset stands before them
+found_after : (place ty first i d : ℕ) (rest : List ℕ) → first ≤ get_or rest i d → found place ty (get_or rest i d) rest ≡ hand_over place ty (drop (i + 1) rest)
+    → found place ty (get_or rest i d) (first ∷ rest) ≡ hand_over place ty (drop (suc i + 1) (first ∷ rest))
+found_after place ty first i d rest high later =
+    let more : suc i + 1 ≡ suc (i + 1) = omega arith in
+    found_later place ty (get_or rest i d) first rest high ∙ later ∙ ap (λ n. hand_over place ty (drop n (first ∷ rest))) (sym more)
+
 -- past each offset comes the next one
 past_each : (place ty offset : ℕ) (kinds : List Kind) (i d : ℕ) → i < length (traced_offsets offset kinds)
     → found place ty (get_or (traced_offsets offset kinds) i d) (traced_offsets offset kinds) ≡ hand_over place ty (drop (i + 1) (traced_offsets offset kinds))
@@ -57,21 +64,28 @@ past_each place ty offset [] i d low = absurd (omega arith)
 past_each place ty offset (Strong ∷ kinds) zero d low =
     found_later place ty offset offset (traced_offsets (offset + 1) kinds) (omega arith) ∙ past_low place ty offset (offset + 1) kinds (omega arith)
 past_each place ty offset (Strong ∷ kinds) (suc i) d low =
-    let rest = traced_offsets (offset + 1) kinds in
-    let more : suc i + 1 ≡ suc (i + 1) = omega arith in
-    let high : offset ≤ get_or rest i d = omega (arith, none_lower (offset + 1) kinds i d (omega arith)) in
-    found_later place ty (get_or rest i d) offset rest high ∙ past_each place ty (offset + 1) kinds i d (omega arith)
-    ∙ ap (λ n. hand_over place ty (drop n (offset ∷ rest))) (sym more)
+    found_after place ty offset i d (traced_offsets (offset + 1) kinds) (omega (arith, none_lower (offset + 1) kinds i d (omega arith)))
+    (past_each place ty (offset + 1) kinds i d (omega arith))
 past_each place ty offset (Weak ∷ kinds) i d low = past_each place ty (offset + 1) kinds i d low
 past_each place ty offset (Pair ∷ kinds) zero d low =
     found_later place ty offset offset (traced_offsets (offset + 2) kinds) (omega arith) ∙ past_low place ty offset (offset + 2) kinds (omega arith)
 past_each place ty offset (Pair ∷ kinds) (suc i) d low =
-    let rest = traced_offsets (offset + 2) kinds in
-    let more : suc i + 1 ≡ suc (i + 1) = omega arith in
-    let high : offset ≤ get_or rest i d = omega (arith, none_lower (offset + 2) kinds i d (omega arith)) in
-    found_later place ty (get_or rest i d) offset rest high ∙ past_each place ty (offset + 2) kinds i d (omega arith)
-    ∙ ap (λ n. hand_over place ty (drop n (offset ∷ rest))) (sym more)
+    found_after place ty offset i d (traced_offsets (offset + 2) kinds) (omega (arith, none_lower (offset + 2) kinds i d (omega arith)))
+    (past_each place ty (offset + 2) kinds i d (omega arith))
 past_each place ty offset (Plain ∷ kinds) i d low = past_each place ty (offset + 1) kinds i d low
+
+-- the offsets rise
+pub rising : (offset : ℕ) (kinds : List Kind) (i j d : ℕ) → j < i → i < length (traced_offsets offset kinds)
+    → get_or (traced_offsets offset kinds) j d < get_or (traced_offsets offset kinds) i d
+rising offset [] i j d before low = absurd (omega arith)
+rising offset (Strong ∷ kinds) zero j d before low = absurd (omega arith)
+rising offset (Strong ∷ kinds) (suc i) zero d before low = omega (arith, none_lower (offset + 1) kinds i d (omega arith))
+rising offset (Strong ∷ kinds) (suc i) (suc j) d before low = rising (offset + 1) kinds i j d (omega arith) (omega arith)
+rising offset (Weak ∷ kinds) i j d before low = rising (offset + 1) kinds i j d before low
+rising offset (Pair ∷ kinds) zero j d before low = absurd (omega arith)
+rising offset (Pair ∷ kinds) (suc i) zero d before low = omega (arith, none_lower (offset + 2) kinds i d (omega arith))
+rising offset (Pair ∷ kinds) (suc i) (suc j) d before low = rising (offset + 2) kinds i j d (omega arith) (omega arith)
+rising offset (Plain ∷ kinds) i j d before low = rising (offset + 1) kinds i j d before low
 
 -- ---- of a view, whose objects are of these types
 

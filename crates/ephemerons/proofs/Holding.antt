@@ -1,5 +1,5 @@
 -- Marks with one object that is held back from the list, and counts as listed.
-use Rattle.std.proofs.Common.{◌≡◌, ℕ, ◌<◌, true, false, List, [], ◌∷◌, ◌++◌, Option, Some, None, refl, sym, ap, ◌∙◌, subst, inl, inr, arith}
+use Rattle.std.proofs.Common.{◌≡◌, ℕ, ◌<◌, true, false, List, [], ◌∷◌, ◌++◌, length, Option, Some, None, refl, sym, ap, ◌∙◌, subst, inl, inr, arith}
 use Rattle.std.specs.Prelude.{MatchOption, IfSome, IfNone}
 use Rattle.std.specs.Option.{is_some}
 use Rattle.std.proofs.lemmas.Bool.{true≢false}
@@ -7,16 +7,17 @@ use Rattle.std.specs.List.{Contains}
 use Rattle.std.proofs.lemmas.List.{length_push}
 use Rattle.std.proofs.lemmas.List.Elements.{Contains-append_left, Contains-push, Contains-push_cases}
 use Rattle.gc_graph.specs.State.{ObjectType}
-use Rattle.mark_worklist.specs.Lists.{no_items}
-use Rattle.mark_worklist.specs.Refusals.{Refusals, refusals_of}
+use Rattle.mark_worklist.specs.Lists.{no_items, IsOneMore}
+use Rattle.mark_worklist.specs.OneMore.{at_the_end, one_longer, is_there, still_there, was_there}
+use Rattle.mark_worklist.specs.Refusals.{Refusals, TellsRefused, refusals_of}
 use Rattle.mark_worklist.specs.declared.marking.Marking.{Marking}
 use Rattle.marker_core.specs.Bodies.{IsPlace}
 use Rattle.page_words.specs.Seat.{SeatView}
 use Rattle.ephemerons.specs.Marking.{heap_and_marks}
-use Rattle.ephemerons.specs.Notes.{NotesState}
+use Rattle.ephemerons.specs.Notes.{NotesState, group_at, refusals_in}
 use Rattle.ephemerons.specs.Fixpoint.{Stage, stage, weight, IsGround, Works, ListsMarks, IsListed, IsStillHeld, weight_of, with_held}
 use Rattle.mark_worklist.specs.Told.{told_same}
-use Rattle.ephemerons.proofs.Stages.{Works-popped}
+use Rattle.ephemerons.proofs.Stages.{MarksOn-same, Works-popped}
 
 pub no_marking : Marking
 no_marking = record { on = false; overflow = false; list = no_items }
@@ -88,18 +89,90 @@ pub fresh_still : (v w : SeatView) (m n : Marking) (fresh : Option ℕ) → IfNo
 fresh_still v w m n None still same none = (still, same)
 fresh_still v w m n (Some a) still listed none = absurd (true≢false none)
 
--- where the list and what is held back have what they had, the stage is as it was
-pub still_stage : (m n : Marking) (old new : Option ℕ) → IsStillHeld m old n new → (v : SeatView) (groups : List NotesState) (t : ℕ)
-    → stage v (with_held new n) groups t ≡ stage v (with_held old m) groups t
-still_stage m n old new x v groups t =
-    ap (λ (list : List ℕ). record { view = v; on = (with_held new n).on; refusals = refusals_of (with_held new n); list = list; groups = groups; traced = t }) x.items
-    ∙ ap (λ on. record { view = v; on = on; refusals = refusals_of (with_held new n); list = (with_held old m).list.items; groups = groups; traced = t }) x.on
-    ∙ ap (λ (r : Refusals). record { view = v; on = (with_held old m).on; refusals = r; list = (with_held old m).list.items; groups = groups; traced = t }) x.refusals
+-- ---- the list and what is held back have what they had
+
+-- nothing is held back and nothing was listed
+pub none_held : (m n : Marking) → n.on ≡ m.on → refusals_of n ≡ refusals_of m → m.list.items ≡ [] → n.list.items ≡ [] → IsStillHeld m None n None
+none_held m n on refusals before after = record {
+  items = record {
+    there = λ p h. absurd (omega (arith, h.1, ap length before));
+    back = λ p h. absurd (omega (arith, h.1, ap length after));
+    long = ap length after ∙ sym (ap length before);
+  };
+  on = on;
+  refusals = refusals;
+}
+
+-- one that was listed is held back
+pub one_held : (m n : Marking) (a : ℕ) → n.on ≡ m.on → refusals_of n ≡ refusals_of m → IsOneMore n.list.items a m.list.items → IsStillHeld m None n (Some a)
+one_held m n a on refusals one =
+    let held = at_the_end n.list.items a in
+    record {
+      items = record {
+        there = λ p h. elim (was_there n.list.items m.list.items a one p h) [
+          | inl still ↦ still_there n.list.items (n.list.items ++ a ∷ []) a held p still
+          | inr here ↦ subst (Contains (n.list.items ++ a ∷ [])) here (is_there n.list.items (n.list.items ++ a ∷ []) a held)
+        ];
+        back = λ p h. elim (was_there n.list.items (n.list.items ++ a ∷ []) a held p h) [
+          | inl still ↦ still_there n.list.items m.list.items a one p still
+          | inr here ↦ subst (Contains m.list.items) here (is_there n.list.items m.list.items a one)
+        ];
+        long = omega (arith, one_longer n.list.items m.list.items a one, one_longer n.list.items (n.list.items ++ a ∷ []) a held);
+      };
+      on = on;
+      refusals = refusals;
+    }
+
+-- what a pop gave is held back
+pub popped_held : (m n : Marking) (popped : Option ℕ) → n.on ≡ m.on → refusals_of n ≡ refusals_of m
+    → MatchOption popped ((m.list.items ≡ []) × (n.list.items ≡ [])) (λ a. IsOneMore n.list.items a m.list.items) → IsStillHeld m None n popped
+popped_held m n None on refusals none = none_held m n on refusals none.0 none.1
+popped_held m n (Some a) on refusals one = one_held m n a on refusals one
+
+module _ (m n : Marking) (old new : Option ℕ) (x : IsStillHeld m old n new) (v : SeatView) (groups : List NotesState) (t : ℕ) where
+  pub still_weighs : weight (stage v (with_held new n) groups t) ≡ weight (stage v (with_held old m) groups t)
+  still_weighs = omega (arith, x.items.long)
+
+  pub still_ground : (types : List ObjectType) → IsGround types (stage v (with_held old m) groups t) → IsGround types (stage v (with_held new n) groups t)
+  still_ground types ground = record {
+    on = ground.on;
+    known = ground.known;
+    alone = ground.alone;
+    references = ground.references;
+    traced_name_marked = ground.traced_name_marked;
+    listed = λ p h. ground.listed p (x.items.back p h);
+    noted = ground.noted;
+    own = ground.own;
+    few = ground.few;
+  }
+
+  pub still_works : (types : List ObjectType) → Works types None (stage v (with_held old m) groups t) (stage v (with_held new n) groups t)
+  still_works types = record {
+    kept = MarksOn-same v;
+    within = λ test closed held p marked. held p marked;
+    on = x.on;
+    unrefused = λ fine. record { pushes = sym (ap (λ (r : Refusals). r.told) x.refusals) ∙ fine.pushes; notes = fine.notes };
+    told = subst (TellsRefused (refusals_of (with_held old m))) (sym x.refusals) (told_same (refusals_of (with_held old m)));
+    notes_told = λ i. told_same (refusals_in (group_at groups i));
+    many = refl;
+    noted = λ note h. h;
+    accounted = λ fine h. record {
+      grey = λ p marked untraced. elim (h.grey p marked untraced) [
+        | inl none ↦ inl none
+        | inr known ↦ inr (elim known [ inl listed ↦ inl (x.items.there p listed) | inr noted ↦ inr noted ])
+      ];
+      pairs = h.pairs;
+    };
+    lighter = omega (arith, still_weighs);
+    fewer = omega arith;
+    counted = λ differ. refl;
+  }
 
 -- the object that was held back is the next one
 pub held_works : (types : List ObjectType) (v : SeatView) (m : Marking) (groups : List NotesState) (t a : ℕ) (after : Stage)
     → Works types (Some a) (stage v m groups t) after → Works types None (stage v (with_held (Some a) m) groups t) after
-held_works types v m groups t a after x = Works-popped types (stage v (with_held (Some a) m) groups t) after m.list.items a m.list.refused refl refl x
+held_works types v m groups t a after x =
+    Works-popped types (stage v (with_held (Some a) m) groups t) after m.list.items a m.list.refused (at_the_end m.list.items a) refl x
 
 -- what holds at a stage holds without the object that is held back
 pub held_ground : (types : List ObjectType) (v : SeatView) (m : Marking) (groups : List NotesState) (t a : ℕ)

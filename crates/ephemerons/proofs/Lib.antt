@@ -1,6 +1,4 @@
 pub mod Lists
-pub mod Fields
-pub mod PairFields
 pub mod Graph
 pub mod Weights
 pub mod HandPath
@@ -10,6 +8,7 @@ pub mod FieldWords
 pub mod HandKeys
 pub mod PairWords
 pub mod NoteSteps
+pub mod Traced
 pub mod Stages
 pub mod Looks
 pub mod MarkStages
@@ -18,5 +17,6 @@ pub mod GreySteps
 pub mod Ends
 pub mod NoPairs
 pub mod Holding
+pub mod TrueOfViews
 pub mod StrongWords
 pub mod TracedFields

@@ -7,7 +7,7 @@ use Rattle.gc_graph.specs.State.{ObjectType}
 use Rattle.marker_core.specs.Bodies.{IsPlace}
 use Rattle.page_words.specs.Seat.{SeatView, IsAlone}
 use Rattle.ephemerons.specs.declared.notes.Note.{Note}
-use Rattle.ephemerons.specs.Marking.{heap_and_marks}
+use Rattle.ephemerons.specs.Marking.{heap_and_marks, MarksOn}
 use Rattle.ephemerons.specs.Notes.{group_at, note_at, note_of}
 use Rattle.ephemerons.specs.Fixpoint.{Stage, IsGround, IsSettled, IsSettledAt, Works, Looks, without_looks}
 use Rattle.ephemerons.proofs.Stages.{Works-then, Works-free}
@@ -109,55 +109,67 @@ looked_ground types s t same alone ground =
       few = last.few;
     }
 
--- and work goes on from there
+-- more may be marked than before, looks apart
+kept_apart : (u v : SeatView) → MarksOn u v → MarksOn u (heap_and_marks v)
+kept_apart u v x = record {
+  count = x.count;
+  types = x.types;
+  on = x.on;
+  bodies = x.bodies;
+  filled = x.filled;
+  dead = x.dead;
+  may = x.may;
+  lent = x.lent;
+  marked = x.marked;
+  traced = x.traced;
+}
+
+kept_with : (u v : SeatView) → MarksOn u (heap_and_marks v) → MarksOn u v
+kept_with u v x = record {
+  count = x.count;
+  types = x.types;
+  on = x.on;
+  bodies = x.bodies;
+  filled = x.filled;
+  dead = x.dead;
+  may = x.may;
+  lent = x.lent;
+  marked = x.marked;
+  traced = x.traced;
+}
+
+-- and work goes on without looks, and with them
+works_apart : (types : List ObjectType) (taken : Option ℕ) (s t : Stage) → Works types taken s t → Works types taken s (without_looks t)
+works_apart types taken s t x = record {
+  kept = kept_apart s.view t.view x.kept;
+  within = x.within;
+  on = x.on;
+  unrefused = x.unrefused;
+  told = x.told;
+  notes_told = x.notes_told;
+  many = x.many;
+  noted = x.noted;
+  accounted = λ fine h. (let known = x.accounted fine h in record { grey = known.grey; pairs = known.pairs });
+  lighter = x.lighter;
+  fewer = x.fewer;
+  counted = x.counted;
+}
+
+works_with : (types : List ObjectType) (taken : Option ℕ) (s t : Stage) → Works types taken s (without_looks t) → Works types taken s t
+works_with types taken s t x = record {
+  kept = kept_with s.view t.view x.kept;
+  within = x.within;
+  on = x.on;
+  unrefused = x.unrefused;
+  told = x.told;
+  notes_told = x.notes_told;
+  many = x.many;
+  noted = x.noted;
+  accounted = λ fine h. (let known = x.accounted fine h in record { grey = known.grey; pairs = known.pairs });
+  lighter = x.lighter;
+  fewer = x.fewer;
+  counted = x.counted;
+}
+
 pub looked_works : (types : List ObjectType) (taken : Option ℕ) (s t : Stage) → without_looks t ≡ without_looks s → Works types taken s s → Works types taken s t
-looked_works types taken s t same x =
-    let first : Works types taken s (without_looks s) = record {
-      kept = record {
-        count = x.kept.count;
-        types = x.kept.types;
-        on = x.kept.on;
-        bodies = x.kept.bodies;
-        filled = x.kept.filled;
-        dead = x.kept.dead;
-        may = x.kept.may;
-        lent = x.kept.lent;
-        marked = x.kept.marked;
-        traced = x.kept.traced;
-      };
-      within = x.within;
-      on = x.on;
-      unrefused = x.unrefused;
-      told = x.told;
-      many = x.many;
-      noted = x.noted;
-      accounted = λ fine h. (let known = x.accounted fine h in record { grey = known.grey; pairs = known.pairs });
-      lighter = x.lighter;
-      fewer = x.fewer;
-      counted = x.counted;
-    } in
-    let last : Works types taken s (without_looks t) = subst (Works types taken s) (sym same) first in
-    record {
-      kept = record {
-        count = last.kept.count;
-        types = last.kept.types;
-        on = last.kept.on;
-        bodies = last.kept.bodies;
-        filled = last.kept.filled;
-        dead = last.kept.dead;
-        may = last.kept.may;
-        lent = last.kept.lent;
-        marked = last.kept.marked;
-        traced = last.kept.traced;
-      };
-      within = last.within;
-      on = last.on;
-      unrefused = last.unrefused;
-      told = last.told;
-      many = last.many;
-      noted = last.noted;
-      accounted = λ fine h. (let known = last.accounted fine h in record { grey = known.grey; pairs = known.pairs });
-      lighter = last.lighter;
-      fewer = last.fewer;
-      counted = last.counted;
-    }
+looked_works types taken s t same x = works_with types taken s t (subst (Works types taken s) (sym same) (works_apart types taken s s x))

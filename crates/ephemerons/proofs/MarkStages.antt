@@ -2,14 +2,15 @@
 use Rattle.std.proofs.Common.{◌≡◌, ℕ, ◌<◌, true, false, not, List, None, refl, sym, ap, ◌∙◌, subst, inl, inr, arith}
 use Rattle.std.specs.List.{Contains, count_by, range_with_len}
 use Rattle.gc_graph.specs.State.{ObjectType}
+use Rattle.mark_worklist.specs.Told.{told_same}
 use Rattle.mark_worklist.specs.declared.marking.Marking.{Marking}
 use Rattle.marker_core.specs.Bodies.{IsPlace, holds}
 use Rattle.marker_core.specs.declared.states.Body.{Body}
 use Rattle.page_words.specs.Seat.{SeatView}
 use Rattle.ephemerons.specs.BodyGraph.{AreReferences}
 use Rattle.ephemerons.specs.Marking.{heap_and_marks, GrowsWithin, traced_count}
-use Rattle.ephemerons.specs.Notes.{NotesState, IsNote}
-use Rattle.ephemerons.specs.Fixpoint.{stage, weight, IsGround, Works, ListsMarks, without_looks, untraced_places, weight_of}
+use Rattle.ephemerons.specs.Notes.{NotesState, group_at, refusals_in, IsNote}
+use Rattle.ephemerons.specs.Fixpoint.{stage, weight, IsGround, IsAccounted, Works, ListsMarks, without_looks, untraced_places, weight_of}
 use Rattle.ephemerons.specs.ListedMarks.{alone_still}
 
 untraced_same : (v w : SeatView) (m n : Marking) → ListsMarks v m w n → untraced_places w ≡ untraced_places v
@@ -22,44 +23,49 @@ count_same v w m n x =
     ap (λ bs. count_by (λ (b : Body). holds w.traced b.place) bs) (ap (λ (z : SeatView). z.bodies) x.view)
     ∙ ap (λ ts. count_by (λ (b : Body). holds ts b.place) v.bodies) x.traced
 
+-- what was accounted for still is
+marks_accounted : (types : List ObjectType) (v w : SeatView) (m n : Marking) (groups : List NotesState) → ListsMarks v m w n → n.overflow ≡ false
+    → IsAccounted types None v m.list.items groups → IsAccounted types None w n.list.items groups
+marks_accounted types v w m n groups x fine h = record {
+  grey = λ p marked untraced. elim (x.fresh fine p marked) [
+    | inl before ↦ elim (h.grey p before (subst (λ l. holds l p ≡ false) x.traced untraced)) [
+      | inl last ↦ inl last
+      | inr known ↦ inr (elim known [ inl listed ↦ inl (x.kept p listed) | inr noted ↦ inr noted ])
+    ]
+    | inr listed ↦ inr (inl listed)
+  ];
+  pairs = λ p is offset b k q there at pair key value.
+      elim (h.pairs p (subst (λ l. holds l p ≡ true) x.traced is) offset b k q (subst (λ bs. Contains bs b) (ap (λ (z : SeatView). z.bodies) x.view) there)
+      at pair key value) [
+        | inl marked ↦ inl (x.marked q marked)
+        | inr noted ↦ inr noted
+      ];
+}
+
 pub marks_work : (types : List ObjectType) (v w : SeatView) (m n : Marking) (groups : List NotesState) (t : ℕ) → ListsMarks v m w n → GrowsWithin types v w
     → Works types None (stage v m groups t) (stage w n groups t)
 marks_work types v w m n groups t x within =
-    let traced : w.traced ≡ v.traced = x.traced in
-    let bodies : w.bodies ≡ v.bodies = ap (λ (z : SeatView). z.bodies) x.view in
     record {
       kept = record {
         count = ap (λ (z : SeatView). z.count) x.view;
         types = ap (λ (z : SeatView). z.types) x.view;
         on = ap (λ (z : SeatView). z.on) x.view;
-        bodies = bodies;
+        bodies = ap (λ (z : SeatView). z.bodies) x.view;
         filled = ap (λ (z : SeatView). z.filled) x.view;
         dead = ap (λ (z : SeatView). z.dead) x.view;
         may = ap (λ (z : SeatView). z.may) x.view;
         lent = ap (λ (z : SeatView). z.lent) x.view;
         marked = x.marked;
-        traced = λ p h. subst (λ l. holds l p ≡ true) (sym traced) h;
+        traced = λ p h. subst (λ l. holds l p ≡ true) (sym x.traced) h;
       };
       within = within;
       on = x.on;
       unrefused = λ fine. record { pushes = x.overflow fine.pushes; notes = fine.notes };
       told = x.told;
+      notes_told = λ i. told_same (refusals_in (group_at groups i));
       many = refl;
       noted = λ note h. h;
-      accounted = λ fine h. record {
-        grey = λ p marked untraced. elim (x.fresh fine.pushes p marked) [
-          | inl before ↦ elim (h.grey p before (subst (λ l. holds l p ≡ false) traced untraced)) [
-            | inl last ↦ inl last
-            | inr known ↦ inr (elim known [ inl listed ↦ inl (x.kept p listed) | inr noted ↦ inr noted ])
-          ]
-          | inr listed ↦ inr (inl listed)
-        ];
-        pairs = λ p is offset b k q there at pair key value.
-            elim (h.pairs p (subst (λ l. holds l p ≡ true) traced is) offset b k q (subst (λ bs. Contains bs b) bodies there) at pair key value) [
-              | inl marked ↦ inl (x.marked q marked)
-              | inr noted ↦ inr noted
-            ];
-      };
+      accounted = λ fine h. marks_accounted types v w m n groups x fine.pushes h;
       lighter = omega (arith, x.lighter, untraced_same v w m n x);
       fewer = omega (arith, untraced_same v w m n x);
       counted = λ differ. omega (arith, count_same v w m n x);
@@ -77,7 +83,7 @@ marks_ground types v w m n groups t x ground =
       references = subst (AreReferences types) (sym bodies) ground.references;
       traced_name_marked = λ p is b offset q there at strong names.
           x.marked q (ground.traced_name_marked p (subst (λ l. holds l p ≡ true) traced is) b offset q (subst (λ bs. Contains bs b) bodies there) at strong names);
-      listed = λ p listed. subst (λ bs. IsPlace bs p) (sym bodies) (elim (x.listed p listed) [ inl before ↦ ground.listed p before | inr place ↦ place ]);
+      listed = λ p listed. subst (λ bs. IsPlace bs p) (sym bodies) (elim (x.listed p listed) [ inl before ↦ ground.listed p before | inr fresh ↦ fresh.place ]);
       noted = λ note h. subst (λ bs. IsNote types bs note) (sym bodies) (ground.noted note h);
       own = ground.own;
       few = omega (arith, ground.few, untraced_same v w m n x);

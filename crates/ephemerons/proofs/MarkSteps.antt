@@ -12,9 +12,9 @@ use Rattle.mark_worklist.specs.Refusals.{refusals_of}
 use Rattle.mark_worklist.specs.Told.{told_same}
 use Rattle.ephemerons.specs.Marking.{heap_and_marks, heap_alone}
 use Rattle.ephemerons.specs.InHand.{IsTracing, MayMark}
-use Rattle.ephemerons.specs.Fixpoint.{ListsMarks, IsListed, unmarked_places, weight_of}
+use Rattle.ephemerons.specs.Fixpoint.{ListsMarks, IsListed, IsFresh, unmarked_places, weight_of}
 use Rattle.ephemerons.proofs.Lists.{holds_push_old, holds_push_cases}
-use Rattle.gc_graph.specs.Members.{to_range}
+use Rattle.gc_graph.specs.Members.{to_range, pushed_is_held}
 use Rattle.ephemerons.proofs.Weights.{one_fewer}
 use Rattle.page_words.specs.BodyPlaces.{place_below}
 use Rattle.page_words.specs.PlaceTests.{place_of_test}
@@ -54,7 +54,7 @@ mark_lists v new m n a view place is fresh listed =
         kept = listed.kept;
         listed = λ p h. elim (listed.listed p h) [
           | inl before ↦ inl before
-          | inr here ↦ inr (subst (IsPlace v.bodies) here place)
+          | inr here ↦ inr (subst (IsFresh v (marked_at v a false)) here (record { place = place; unmarked = fresh; marked = pushed_is_held v.marked a }))
         ];
         fresh = λ fine p h. elim (holds_push_cases v.marked a p h) [
           | inl before ↦ inl before

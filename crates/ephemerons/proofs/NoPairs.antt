@@ -5,6 +5,7 @@ use Rattle.std.proofs.lemmas.List.{set-get_or}
 use Rattle.gc_graph.specs.State.{ObjectType}
 use Rattle.gc_graph.specs.declared.kind.Kind.{Kind}
 use Rattle.gc_graph.specs.declared.kind.Kind.TheVariants.{Strong, Pair}
+use Rattle.mark_worklist.specs.Told.{told_same}
 use Rattle.type_table.specs.Types.{kinds_of as kinds_in, offsets_of_kind}
 use Rattle.type_table.specs.TracedWords.{traced_words_of}
 use Rattle.type_table.specs.TracedLaws.{strong_told, pairs_told, all_strong}
@@ -16,10 +17,15 @@ use Rattle.page_words.specs.Seat.{SeatView, IsView}
 use Rattle.ephemerons.specs.BodyGraph.{AreReferences, HasType, HaveNoPairs}
 use Rattle.ephemerons.specs.InHand.{traced_in}
 use Rattle.ephemerons.specs.declared.notes.Note.{Note}
-use Rattle.ephemerons.specs.Notes.{NotesState, NotesGrow, HasPairsNoted, group_at, no_notes}
+use Rattle.ephemerons.specs.Notes.{NotesState, NotesGrow, HasPairsNoted, group_at, refusals_in, no_notes}
 
 pub nothing_noted : (types : List ObjectType) (bodies : List Body) (s : NotesState) → NotesGrow types bodies s s
-nothing_noted types bodies s = record { kept = λ note there. there; pairs = λ note there. inl there; overflow = λ fine. fine }
+nothing_noted types bodies s = record {
+  kept = λ note there. there;
+  pairs = λ note there. inl there;
+  overflow = λ fine. fine;
+  told = told_same (refusals_in s);
+}
 
 pub none_noted : (types : List ObjectType) (v w : SeatView) (place : ℕ) → AreReferences types v.bodies → HaveNoPairs types → w.bodies ≡ v.bodies
     → (is_noted : Note → Type 0) → HasPairsNoted types w place is_noted

@@ -1,19 +1,19 @@
 -- The words of a pair, as they are read once holder and key are marked.
-use Rattle.std.proofs.Common.{◌≡◌, ℕ, ◌+◌, ◌-◌, ◌<◌, Bool, true, false, List, length, get_or, sym, ap, ◌∙◌, subst, inl, inr, arith}
+use Rattle.std.proofs.Common.{◌≡◌, ℕ, ◌+◌, ◌<◌, Bool, true, false, List, length, get_or, sym, ap, ◌∙◌, subst, inl, inr, arith}
 use Rattle.std.specs.List.{Contains}
 use Rattle.std.proofs.lemmas.Bool.{true≢false}
 use Rattle.std.proofs.lemmas.List.Elements.{Contains-get_or}
 use Rattle.gc_graph.specs.declared.kind.Kind.TheVariants.{Pair}
 use Rattle.gc_graph.specs.State.{ObjectType}
 use Rattle.type_table.specs.Types.{kinds_of, offsets_of_kind}
-use Rattle.marker_core.specs.Bodies.{IsReference, holds, word_in}
+use Rattle.marker_core.specs.Bodies.{IsReference, holds}
 use Rattle.marker_core.specs.declared.states.Body.{Body}
 use Rattle.page_words.specs.Seat.{SeatView, IsView}
 use Rattle.ephemerons.specs.BodyGraph.{AreReferences, HasType, HasPair, pair_offsets, word_at}
 use Rattle.ephemerons.specs.Notes.{note_of}
 use Rattle.ephemerons.specs.Fixpoint.{IsSettled}
-use Rattle.ephemerons.proofs.Fields.{field_at_offset}
-use Rattle.ephemerons.proofs.FieldWords.{role_of_offset}
+use Rattle.ephemerons.specs.Fields.{field_at_offset}
+use Rattle.ephemerons.specs.BodyLeads.{pair_within_closed}
 
 pub key_reference : (types : List ObjectType) (bodies : List Body) (holder word key : ℕ) → AreReferences types bodies
     → (has : HasPair types bodies holder word) → key ≡ word_at has.0 word → IsReference bodies key
@@ -41,14 +41,8 @@ pub value_may : (v : SeatView) (b : Body) (offset k q : ℕ) → IsView v → v.
     → holds v.marked b.place ≡ true → word_at b offset ≡ k + 1 → holds v.marked k ≡ true → word_at b (offset + 1) ≡ q + 1 → holds v.may q ≡ true
 value_may v b offset k q view on there pair marked key key_marked value =
     let marking = view.marking on in
-    let field = field_at_offset Pair (kinds_of v.types b.ty) offset pair in
-    let next : offset + 1 - 2 ≡ offset - 2 + 1 = omega (arith, field.2) in
-    let at_value : word_in b (offset - 2 + 1) ≡ q + 1 = ap (word_in b) (sym next) ∙ value in
-    let named : word_in b (offset - 2) - 1 ≡ k = omega (arith, key) in
-    let target : word_in b (offset - 2 + 1) - 1 ≡ q = omega (arith, at_value) in
-    subst (λ p. holds v.may p ≡ true) target
-    (marking.closed.pairs b (offset - 2) there (marking.marked_in b.place marked) (role_of_offset v.types b Pair offset pair) (omega (arith, key))
-    (subst (λ p. holds v.may p ≡ true) (sym named) (marking.marked_in k key_marked)) (omega (arith, at_value)))
+    pair_within_closed v.types v.bodies (holds v.may) b offset k q marking.closed there (marking.marked_in b.place marked) pair key value
+    (marking.marked_in k key_marked)
 
 -- a pair is settled where its value is marked whenever holder and key are
 pub pair_settled : (types : List ObjectType) (v : SeatView) (holder word : ℕ) → HasPair types v.bodies holder word

@@ -1,14 +1,14 @@
 -- Stages that follow one another.
-use Rattle.std.proofs.Common.{◌≡◌, ℕ, ◌≤◌, List, [], ◌∷◌, ◌++◌, length, Option, Some, None, refl, sym, ap, ◌∙◌, subst, inl, inr, arith}
-use Rattle.std.specs.List.{Contains}
-use Rattle.std.proofs.lemmas.List.{length_push}
-use Rattle.std.proofs.lemmas.List.Elements.{Contains-push_cases, Contains-append_left, Contains-push}
+use Rattle.std.proofs.Common.{◌≡◌, ℕ, ◌≤◌, List, Option, Some, None, refl, sym, ap, ◌∙◌, subst, inl, inr, arith}
 use Rattle.gc_graph.specs.State.{ObjectType}
+use Rattle.mark_worklist.specs.Lists.{IsOneMore}
+use Rattle.mark_worklist.specs.OneMore.{one_longer, is_there, still_there, was_there}
 use Rattle.mark_worklist.specs.Refusals.{Refusals}
 use Rattle.marker_core.specs.Bodies.{IsPlace}
 use Rattle.page_words.specs.Seat.{SeatView}
 use Rattle.ephemerons.specs.BodyGraph.{PlacesDiffer}
 use Rattle.ephemerons.specs.Marking.{MarksOn}
+use Rattle.ephemerons.specs.Notes.{group_at, refusals_in}
 use Rattle.ephemerons.specs.Fixpoint.{Stage, weight, IsGround, Works}
 use Rattle.ephemerons.proofs.Graph.{GrowsWithin-then}
 use Rattle.mark_worklist.specs.Told.{told_same, told_then, told_from}
@@ -48,6 +48,7 @@ Works-same types s = record {
   on = refl;
   unrefused = λ h. h;
   told = told_same s.refusals;
+  notes_told = λ i. told_same (refusals_in (group_at s.groups i));
   many = refl;
   noted = λ note h. h;
   accounted = λ fine h. h;
@@ -59,10 +60,12 @@ Works-same types s = record {
 pub Works-then : (types : List ObjectType) (taken : Option ℕ) (a b c : Stage) → Works types taken a b → Works types None b c → Works types taken a c
 Works-then types taken a b c x y = record {
   kept = MarksOn-then a.view b.view c.view x.kept y.kept;
-  within = GrowsWithin-then types a.view b.view c.view x.kept.bodies x.kept.count x.within y.within;
+  within = GrowsWithin-then types a.view b.view c.view x.kept.bodies x.within y.within;
   on = y.on ∙ x.on;
   unrefused = λ fine. x.unrefused (y.unrefused fine);
   told = told_then a.refusals b.refusals c.refusals x.told y.told;
+  notes_told = λ i. told_then (refusals_in (group_at a.groups i)) (refusals_in (group_at b.groups i)) (refusals_in (group_at c.groups i))
+      (x.notes_told i) (y.notes_told i);
   many = y.many ∙ x.many;
   noted = λ note h. y.noted note (x.noted note h);
   accounted = λ fine h. y.accounted fine (x.accounted (y.unrefused fine) h);
@@ -82,6 +85,7 @@ Works-free types p a b x = record {
   on = x.on;
   unrefused = x.unrefused;
   told = x.told;
+  notes_told = x.notes_told;
   many = x.many;
   noted = x.noted;
   accounted = λ fine h. x.accounted fine (record {
@@ -93,43 +97,44 @@ Works-free types p a b x = record {
   counted = x.counted;
 }
 
-pub popped_lighter : (s t : Stage) (list : List ℕ) (a : ℕ) → s.list ≡ list ++ a ∷ [] → weight t ≤ weight (record s { list = list }) → weight t ≤ weight s
-popped_lighter s t list a last less = omega (arith, less, ap length last, length_push list a)
+pub popped_lighter : (s t : Stage) (list : List ℕ) (a : ℕ) → IsOneMore list a s.list → weight t ≤ weight (record s { list = list }) → weight t ≤ weight s
+popped_lighter s t list a one less = omega (arith, less, one_longer list s.list a one)
 
--- the ground stays where the last that was listed is taken from the list, and it is an object's place
-pub ground_popped : (types : List ObjectType) (s : Stage) (list : List ℕ) (a : ℕ) (refusals : Refusals) → s.list ≡ list ++ a ∷ [] → IsGround types s
+-- the ground stays where an object is taken from the list, and it is an object's place
+pub ground_popped : (types : List ObjectType) (s : Stage) (list : List ℕ) (a : ℕ) (refusals : Refusals) → IsOneMore list a s.list → IsGround types s
     → IsGround types (record s { list = list; refusals = refusals }) × IsPlace s.view.bodies a
-ground_popped types s list a refusals last ground = (
+ground_popped types s list a refusals one ground = (
   record {
     on = ground.on;
     known = ground.known;
     alone = ground.alone;
     references = ground.references;
     traced_name_marked = ground.traced_name_marked;
-    listed = λ p h. ground.listed p (subst (λ l. Contains l p) (sym last) (Contains-append_left list (a ∷ []) p h));
+    listed = λ p h. ground.listed p (still_there list s.list a one p h);
     noted = ground.noted;
     own = ground.own;
     few = ground.few;
   },
-  ground.listed a (subst (λ l. Contains l a) (sym last) (Contains-push list a)),
+  ground.listed a (is_there list s.list a one),
 )
 
--- the object that was taken is the last one that was listed
-pub Works-popped : (types : List ObjectType) (s t : Stage) (list : List ℕ) (a count : ℕ) → s.list ≡ list ++ a ∷ [] → count ≡ s.refusals.count
+-- the object that was taken is one that was listed
+pub Works-popped : (types : List ObjectType) (s t : Stage) (list : List ℕ) (a count : ℕ) → IsOneMore list a s.list → count ≡ s.refusals.count
     → Works types (Some a) (record s { list = list; refusals = record { told = s.refusals.told; count = count } }) t → Works types None s t
-Works-popped types s t list a count last same x = record {
+Works-popped types s t list a count one same x = record {
   kept = x.kept;
   within = x.within;
   on = x.on;
   unrefused = x.unrefused;
   told = told_from s.refusals t.refusals count same x.told;
+  notes_told = x.notes_told;
   many = x.many;
   noted = x.noted;
   accounted = λ fine h. x.accounted fine (record {
     grey = λ p marked untraced. elim (h.grey p marked untraced) [
       | inl never ↦ absurd (none_taken p never)
       | inr known ↦ elim known [
-        | inl listed ↦ elim (Contains-push_cases list a p (subst (λ l. Contains l p) last listed)) [
+        | inl listed ↦ elim (was_there list s.list a one p listed) [
           | inl still ↦ inr (inl still)
           | inr here ↦ inl (ap Some here)
         ]
@@ -138,7 +143,7 @@ Works-popped types s t list a count last same x = record {
     ];
     pairs = h.pairs;
   });
-  lighter = popped_lighter s t list a last x.lighter;
+  lighter = popped_lighter s t list a one x.lighter;
   fewer = x.fewer;
   counted = x.counted;
 }

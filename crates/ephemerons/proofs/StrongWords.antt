@@ -17,7 +17,7 @@ use Rattle.ephemerons.specs.Fixpoint.{ListsMarks}
 use Rattle.ephemerons.proofs.Graph.{GrowsWithin-then}
 use Rattle.ephemerons.proofs.HandPath.{hand_at_each}
 use Rattle.page_words.specs.BodyPlaces.{same_body}
-use Rattle.ephemerons.proofs.MarkSteps.{same_bodies, same_count}
+use Rattle.ephemerons.proofs.MarkSteps.{same_bodies}
 
 -- u is the view at first, and v has the same objects, of the same types
 module _ (u v : SeatView) (bodies : v.bodies ≡ u.bodies) (types : v.types ≡ u.types) (place ty : ℕ) (has : HasType u.bodies place ty) where
@@ -78,4 +78,4 @@ target_stays v w m n place offset x named b q there at names = x.marked q (named
 pub within_then : (types : List ObjectType) (u v w : SeatView) (l m : Marking) → v.types ≡ types → ListsMarks u l v m → GrowsWithin types u v
     → GrowsWithin v.types v w → GrowsWithin types u w
 within_then types u v w l m known x before more =
-    GrowsWithin-then types u v w (same_bodies u v l m x) (same_count u v l m x) before (subst (λ (ts : List ObjectType). GrowsWithin ts v w) known more)
+    GrowsWithin-then types u v w (same_bodies u v l m x) before (subst (λ (ts : List ObjectType). GrowsWithin ts v w) known more)

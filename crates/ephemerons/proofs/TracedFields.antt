@@ -1,8 +1,9 @@
 -- The strong fields and the pairs of an object, one after another in the order of their offsets.
-use Rattle.std.proofs.Common.{◌≡◌, ℕ, ◌<◌, false, List, length, get_or, drop, map, Some, refl, sym, ap, ◌∙◌, subst, inl, inr, arith}
+use Rattle.std.proofs.Common.{◌≡◌, ℕ, ◌<◌, false, List, [], ◌∷◌, length, get_or, take, drop, map, Some, refl, sym, ap, ◌∙◌, subst, inl, inr, arith}
 use Rattle.std.specs.List.{Contains}
-use Rattle.std.proofs.lemmas.List.{get_or-map, length-map}
+use Rattle.std.proofs.lemmas.List.{get_or-map, get_or-take, get_or_default, length-map, length-take}
 use Rattle.std.proofs.lemmas.List.Elements.{Contains-get_or}
+use Rattle.gc_graph.specs.Members.{Contains-cons_cases}
 use Rattle.gc_graph.specs.declared.kind.Kind.TheVariants.{Strong, Pair}
 use Rattle.gc_graph.specs.State.{ObjectType}
 use Rattle.type_table.specs.declared.traced.TracedWord.{TracedWord}
@@ -13,16 +14,17 @@ use Rattle.type_table.specs.TracedLaws.{strong_told, pairs_told, strong_there, s
 use Rattle.mark_worklist.specs.declared.marking.Marking.{Marking}
 use Rattle.marker_core.specs.declared.states.Body.{Body}
 use Rattle.marker_core.specs.declared.states.Part.TheVariants.{Read}
+use Rattle.marker_core.specs.Bodies.{kinds_of}
 use Rattle.marker_core.specs.Hands.{traced_offsets}
 use Rattle.page_words.specs.BodyPlaces.{same_body}
-use Rattle.page_words.specs.Roles.{kinds_fit, traced_fit}
+use Rattle.page_words.specs.Roles.{kind_lists, kinds_fit, traced_fit}
 use Rattle.page_words.specs.Seat.{SeatView, IsView}
 use Rattle.ephemerons.specs.BodyGraph.{HasType, pair_offsets}
 use Rattle.ephemerons.specs.Marking.{HasStrongMarked}
 use Rattle.ephemerons.specs.Notes.{NotesState, NotesGrow, HasPairsNoted, note_of}
 use Rattle.ephemerons.specs.InHand.{IsAtWord, IsWordTraced, hand_over, traced_in}
 use Rattle.ephemerons.specs.Fixpoint.{ListsMarks}
-use Rattle.ephemerons.proofs.HandPath.{hand_at_each}
+use Rattle.ephemerons.proofs.HandPath.{hand_at_each, rising}
 use Rattle.ephemerons.proofs.MarkSteps.{same_bodies}
 use Rattle.ephemerons.proofs.StrongWords.{at_strong_field, at_pair_field, all_named, target_stays}
 
@@ -32,6 +34,26 @@ told_offsets types ty told is = ap (traced_offsets 2) (kinds_fit types ty) ∙ s
 
 pub told_length : (types : List ObjectType) (ty : ℕ) (told : List TracedWord) → told ≡ traced_words_of (kinds_in types ty) → length (traced_in types ty) ≡ length told
 told_length types ty told is = ap length (told_offsets types ty told is) ∙ length-map told offset_in
+
+-- no pair that was told before is told again
+pub told_apart : (types : List ObjectType) (ty : ℕ) (told : List TracedWord) → told ≡ traced_words_of (kinds_in types ty) → (i : ℕ) → i < length told
+    → (offset : ℕ) → Contains (take i told) (PairAt offset) → Contains (get_or told i (StrongAt 0) ∷ []) (PairAt offset) → ⊥
+told_apart types ty told is i low offset early here =
+    let offsets : List ℕ = traced_offsets 2 (kinds_of (kind_lists types) ty) in
+    let long : length offsets ≡ length told = told_length types ty told is in
+    let j : ℕ = early.0 in
+    let before : j < i = omega (arith, early.1, length-take i told) in
+    let same : get_or told j (StrongAt 0) ≡ PairAt offset =
+    get_or_default told j (StrongAt 0) (PairAt offset) (omega arith) ∙ sym (get_or-take i told j (PairAt offset) before) ∙ early.2 in
+    let last : get_or told i (StrongAt 0) ≡ PairAt offset = elim (Contains-cons_cases (get_or told i (StrongAt 0)) [] (PairAt offset) here) [
+      | inl is_here ↦ is_here
+      | inr later ↦ absurd (omega (arith, later.1))
+    ] in
+    let at_j : get_or offsets j 0 ≡ offset = offset_at j (omega arith) ∙ ap offset_in same in
+    let at_i : get_or offsets i 0 ≡ offset = offset_at i low ∙ ap offset_in last in
+    omega (arith, at_j, at_i, rising 2 (kinds_of (kind_lists types) ty) i j 0 before (omega (arith, long))) where
+      offset_at : (k : ℕ) → k < length told → get_or (traced_in types ty) k 0 ≡ offset_in (get_or told k (StrongAt 0))
+      offset_at k below = ap (λ l. get_or l k 0) (told_offsets types ty told is) ∙ get_or-map offset_in told k (StrongAt 0) 0 below
 
 -- u is the view at first, and v has the same objects, of the same types
 module _ (u v : SeatView) (bodies : v.bodies ≡ u.bodies) (types : v.types ≡ u.types) (place ty : ℕ) (has : HasType u.bodies place ty)

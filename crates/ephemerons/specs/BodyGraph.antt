@@ -1,18 +1,16 @@
--- The graph that the bodies of a heap stand for: its nodes are addresses.
-use Rattle.std.specs.Prelude.{◌≡◌, ℕ, zero, suc, ◌+◌, ◌-◌, ◌<◌, ◌≤◌, ◌==◌, List, [], ◌∷◌, length, map, slice_index, slice_index_or, if◌then◌else◌, Contains, All, ⊤}
-use Rattle.std.specs.List.{range_with_len}
+-- The words of bodies by the fields of their types, and the objects that bodies stand for.
+use Rattle.std.specs.Prelude.{◌≡◌, ℕ, zero, suc, ◌+◌, ◌-◌, ◌<◌, ◌≤◌, List, [], ◌∷◌, length, map, slice_index, slice_index_or, Contains, All, ⊤}
 use Rattle.gc_graph.specs.declared.kind.Kind.{Kind}
 use Rattle.gc_graph.specs.declared.kind.Kind.TheVariants.{Strong, Weak, Pair, Plain}
 use Rattle.gc_graph.specs.declared.kind.Value.{Value}
 use Rattle.gc_graph.specs.declared.kind.Value.TheVariants.{Null, Ref, Word}
-use Rattle.gc_graph.specs.Graph.{Object, no_object}
+use Rattle.gc_graph.specs.Graph.{Object}
 use Rattle.gc_graph.specs.State.{ObjectType, no_type}
 use Rattle.gc_graph.specs.Fields.{field_words}
 use Rattle.object_headers.specs.Offsets.{first_field}
 use Rattle.type_table.specs.Types.{kinds_of, offsets_of_kind}
 use Rattle.marker_core.specs.Bodies.{IsReference}
 use Rattle.marker_core.specs.declared.states.Body.{Body}
-use Rattle.page_words.specs.Seat.{SeatView}
 
 -- no two bodies have one place
 abbrev pub PlacesDiffer : List Body → Type 0
@@ -62,7 +60,7 @@ HasPair types bodies place offset =
 abbrev pub HaveNoPairs : List ObjectType → Type 0
 HaveNoPairs types = (ty : ℕ) → ty < length types → offsets_of_kind Pair (kinds_of types ty) ≡ []
 
--- ---- the graph
+-- ---- the object that a body stands for
 
 -- what a reference word stands for: null, or what lies at the place
 abbrev pub reference_in : ℕ → Value
@@ -87,12 +85,3 @@ object_in types b = record {
   kinds = (slice_index_or types b.ty no_type).kinds;
   values = values_in (slice_index_or types b.ty no_type).kinds b.fields;
 }
-
--- the object of the body at the place, where there is one
-abbrev pub object_there : List ObjectType → List Body → ℕ → Object
-object_there types [] place = no_object
-object_there types (b ∷ bodies) place = if b.place == place then object_in types b else object_there types bodies place
-
--- the graph of the bodies: for each address the object there
-abbrev pub graph_in : List ObjectType → SeatView → List Object
-graph_in types v = map (object_there types v.bodies) (range_with_len 0 v.count)

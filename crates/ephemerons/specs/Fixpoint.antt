@@ -11,7 +11,7 @@ use Rattle.page_words.specs.Seat.{SeatView, IsAlone}
 use Rattle.ephemerons.specs.declared.notes.Note.{Note}
 use Rattle.ephemerons.specs.BodyGraph.{PlacesDiffer, AreReferences, pair_offsets, word_at}
 use Rattle.ephemerons.specs.Marking.{heap_and_marks, heap_alone, MarksOn, GrowsWithin, TracedNameMarked, traced_count}
-use Rattle.ephemerons.specs.Notes.{NotesState, group_at, IsNotedIn, IsNote, HasPairsNoted, note_of}
+use Rattle.ephemerons.specs.Notes.{NotesState, group_at, refusals_in, IsNotedIn, IsNote, HasPairsNoted, note_of}
 
 -- how many addresses are not marked
 abbrev pub unmarked_places : SeatView → ℕ
@@ -90,7 +90,13 @@ pub record IsListed (before after : Marking) (place : ℕ) : Type 0 where
   pub there : after.overflow ≡ false → Contains after.list.items place
   pub length : length after.list.items ≤ length before.list.items + 1
 
--- objects were marked, and each of them is listed unless a push was refused
+-- the object at the place was marked, which had no mark before
+pub record IsFresh (old new : SeatView) (p : ℕ) : Type 0 where
+  pub place : IsPlace old.bodies p
+  pub unmarked : holds old.marked p ≡ false
+  pub marked : holds new.marked p ≡ true
+
+-- objects were marked, and each of them is listed unless a push was refused; nothing else is
 pub record ListsMarks (old : SeatView) (before : Marking) (new : SeatView) (after : Marking) : Type 0 where
   pub view : heap_alone new ≡ heap_alone old
   pub traced : new.traced ≡ old.traced
@@ -101,19 +107,25 @@ pub record ListsMarks (old : SeatView) (before : Marking) (new : SeatView) (afte
   pub overflow : after.overflow ≡ false → before.overflow ≡ false
   pub told : TellsRefused (refusals_of before) (refusals_of after)
   pub kept : (p : ℕ) → Contains before.list.items p → Contains after.list.items p
-  pub listed : (p : ℕ) → Contains after.list.items p → Contains before.list.items p ⊎ IsPlace old.bodies p
+  pub listed : (p : ℕ) → Contains after.list.items p → Contains before.list.items p ⊎ IsFresh old new p
   pub fresh :
       after.overflow ≡ false → (p : ℕ) → holds new.marked p ≡ true → (holds old.marked p ≡ true) ⊎ Contains after.list.items p
   pub lighter : weight_of new after ≤ weight_of old before
 
--- the marking state, with the object that is held back from its list at the end of it
+-- the marking state, with the object that is held back from its list
 abbrev pub with_held : Option ℕ → Marking → Marking
 with_held None m = m
 with_held (Some p) m = record m { list = record m.list { items = m.list.items ++ p ∷ [] } }
 
--- the list and what is held back from it have together what they had
+-- what is in one list is in the other, and they are equally long
+pub record HoldTheSame (first second : List ℕ) : Type 0 where
+  pub there : (p : ℕ) → Contains first p → Contains second p
+  pub back : (p : ℕ) → Contains second p → Contains first p
+  pub long : length second ≡ length first
+
+-- the list and what is held back from it have together what they had, in any order
 pub record IsStillHeld (before : Marking) (old : Option ℕ) (after : Marking) (new : Option ℕ) : Type 0 where
-  pub items : (with_held new after).list.items ≡ (with_held old before).list.items
+  pub items : HoldTheSame (with_held old before).list.items (with_held new after).list.items
   pub on : (with_held new after).on ≡ (with_held old before).on
   pub refusals : refusals_of (with_held new after) ≡ refusals_of (with_held old before)
 
@@ -125,6 +137,7 @@ pub record Works (types : List ObjectType) (taken : Option ℕ) (old new : Stage
   pub on : new.on ≡ old.on
   pub unrefused : IsUnrefused new.refusals.told new.groups → IsUnrefused old.refusals.told old.groups
   pub told : TellsRefused old.refusals new.refusals
+  pub notes_told : (i : ℕ) → TellsRefused (refusals_in (group_at old.groups i)) (refusals_in (group_at new.groups i))
   pub many : length new.groups ≡ length old.groups
   pub noted : (note : Note) → IsNotedIn old.groups note → IsNotedIn new.groups note
   pub accounted :

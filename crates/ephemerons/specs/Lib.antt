@@ -2,7 +2,10 @@ pub mod BodyGraph
 pub mod Marking
 pub mod Notes
 pub mod InHand
+pub mod Traces
 pub mod Fixpoint
 -- Lemmas that the crates above cite too, since a crate's proofs/ can't be cited from another.
-pub mod ObjectsThere
+pub mod Fields
+pub mod PairFields
+pub mod BodyLeads
 pub mod ListedMarks

@@ -1,11 +1,22 @@
 -- What was marked and listed in two goes was in one; and whoever was alone still is.
-use Rattle.std.proofs.Common.{ap, ◌∙◌, subst, inl, inr, arith}
+use Rattle.std.proofs.Common.{ℕ, ap, ◌∙◌, sym, subst, inl, inr, arith}
+use Rattle.std.proofs.lemmas.Bool.{true≢false, false_from_ne_true}
 use Rattle.mark_worklist.specs.Refusals.{refusals_of}
 use Rattle.mark_worklist.specs.Told.{told_then}
 use Rattle.mark_worklist.specs.declared.marking.Marking.{Marking}
-use Rattle.marker_core.specs.Bodies.{IsPlace}
+use Rattle.marker_core.specs.Bodies.{IsPlace, holds}
 use Rattle.page_words.specs.Seat.{SeatView, IsAlone}
-use Rattle.ephemerons.specs.Fixpoint.{ListsMarks}
+use Rattle.ephemerons.specs.Fixpoint.{ListsMarks, IsFresh}
+
+fresh_after : (u v w : SeatView) (m n : Marking) (p : ℕ) → ListsMarks v m w n → IsFresh u v p → IsFresh u w p
+fresh_after u v w m n p y fresh = record { place = fresh.place; unmarked = fresh.unmarked; marked = y.marked p fresh.marked }
+
+fresh_before : (u v w : SeatView) (l m : Marking) (p : ℕ) → ListsMarks u l v m → IsFresh v w p → IsFresh u w p
+fresh_before u v w l m p x fresh = record {
+  place = subst (λ bs. IsPlace bs p) (ap (λ (z : SeatView). z.bodies) x.view) fresh.place;
+  unmarked = false_from_ne_true (holds u.marked p) (λ early. true≢false (sym (x.marked p early) ∙ fresh.unmarked));
+  marked = fresh.marked;
+}
 
 pub ListsMarks-then : (u v w : SeatView) (l m n : Marking) → ListsMarks u l v m → ListsMarks v m w n → ListsMarks u l w n
 ListsMarks-then u v w l m n x y = record {
@@ -19,8 +30,8 @@ ListsMarks-then u v w l m n x y = record {
   told = told_then (refusals_of l) (refusals_of m) (refusals_of n) x.told y.told;
   kept = λ p h. y.kept p (x.kept p h);
   listed = λ p h. elim (y.listed p h) [
-    | inl before ↦ x.listed p before
-    | inr place ↦ inr (subst (λ bs. IsPlace bs p) (ap (λ (z : SeatView). z.bodies) x.view) place)
+    | inl before ↦ elim (x.listed p before) [ inl first ↦ inl first | inr fresh ↦ inr (fresh_after u v w m n p y fresh) ]
+    | inr fresh ↦ inr (fresh_before u v w l m p x fresh)
   ];
   fresh = λ fine p h. elim (y.fresh fine p h) [
     | inl before ↦ elim (x.fresh (y.overflow fine) p before) [ inl first ↦ inl first | inr there ↦ inr (y.kept p there) ]

@@ -1,13 +1,12 @@
 -- What marking may change, what it may mark, and how it ends.
 use Rattle.std.specs.Prelude.{◌≡◌, ℕ, ◌+◌, Bool, true, List, [], None, Contains, count_by}
-use Rattle.gc_graph.specs.Graph.{ClosesUnder}
 use Rattle.gc_graph.specs.State.{ObjectType}
 use Rattle.marker_core.specs.declared.states.Body.{Body}
 use Rattle.marker_core.specs.Bodies.{holds}
 use Rattle.marker_core.specs.Closed.{IsClosedOver}
 use Rattle.page_words.specs.Roles.{kind_lists}
 use Rattle.page_words.specs.Seat.{SeatView}
-use Rattle.ephemerons.specs.BodyGraph.{graph_in, strong_offsets, word_at}
+use Rattle.ephemerons.specs.BodyGraph.{strong_offsets, word_at}
 
 -- the heap and its marks: the view without what was seen, looked at or noted, is in hand or waits for its mark
 abbrev pub heap_and_marks : SeatView → SeatView
@@ -32,10 +31,10 @@ pub record MarksOn (old new : SeatView) : Type 0 where
   pub marked : (p : ℕ) → holds old.marked p ≡ true → holds new.marked p ≡ true
   pub traced : (p : ℕ) → holds old.traced p ≡ true → holds new.traced p ≡ true
 
--- what is marked now lies in each closed test that holds of what was marked
+-- what is marked now lies in each test that is closed over the bodies and holds of what was marked
 abbrev pub GrowsWithin : List ObjectType → SeatView → SeatView → Type 0
 GrowsWithin types old new =
-    (test : ℕ → Bool) → ClosesUnder (graph_in types old) test → ((p : ℕ) → holds old.marked p ≡ true → test p ≡ true)
+    (test : ℕ → Bool) → IsClosedOver (kind_lists types) old.bodies test → ((p : ℕ) → holds old.marked p ≡ true → test p ≡ true)
     → (p : ℕ) → holds new.marked p ≡ true → test p ≡ true
 
 -- what the word at the offset of the body at the place names is marked
@@ -57,9 +56,7 @@ TracedNameMarked types v = (p : ℕ) → holds v.traced p ≡ true → HasStrong
 abbrev pub traced_count : SeatView → ℕ
 traced_count v = count_by (λ b. holds v.traced b.place) v.bodies
 
--- marking has come to its end: nothing is grey, and what is marked is closed, in the graph that the bodies stand for and in
--- their words
+-- marking has come to its end: nothing is grey, and what is marked is closed over the bodies
 pub record IsOver (types : List ObjectType) (v : SeatView) : Type 0 where
   pub no_grey : (p : ℕ) → holds v.marked p ≡ true → holds v.traced p ≡ true
-  pub closed : ClosesUnder (graph_in types v) (holds v.marked)
-  pub over_words : IsClosedOver (kind_lists types) v.bodies (holds v.marked)
+  pub closed : IsClosedOver (kind_lists types) v.bodies (holds v.marked)

@@ -1,20 +1,38 @@
 -- Notes of pairs whose key was not marked yet, and of objects that may still have to be traced.
 use Rattle.std.specs.Prelude.{◌≡◌, ◌⊎◌, ℕ, ◌+◌, ◌<◌, Bool, true, false, List, [], ◌∷◌, ◌++◌, length, slice_index_or, Contains}
 use Rattle.gc_graph.specs.State.{ObjectType}
+use Rattle.mark_worklist.specs.Lists.{one_counted}
+use Rattle.mark_worklist.specs.Refusals.{Refusals, TellsRefused}
 use Rattle.marker_core.specs.Bodies.{IsPlace, holds}
 use Rattle.marker_core.specs.declared.states.Body.{Body}
 use Rattle.page_words.specs.Seat.{SeatView}
 use Rattle.ephemerons.specs.BodyGraph.{HasPair, pair_offsets, word_at}
 use Rattle.ephemerons.specs.declared.notes.Note.{Note}
 
--- the notes, in the order in which they were made, and whether one was refused
+-- the notes, in the order in which they were made, whether one was refused since they were cleared, and how many were since
+-- the group was made
 pub record NotesState : Type 0 where
   pub notes : List Note
   pub overflow : Bool
+  pub refused : ℕ
 
 -- nothing was noted and nothing refused
 abbrev pub no_notes : NotesState
-no_notes = record { notes = []; overflow = false }
+no_notes = record { notes = []; overflow = false; refused = 0 }
+
+-- no notes, and that one was refused is forgotten; how many were is not
+abbrev pub cleared : NotesState → NotesState
+cleared s = record s { notes = []; overflow = false }
+
+-- there is one group, without notes, and none was refused since it was cleared
+pub record IsUnnoted (groups : List NotesState) : Type 0 where
+  pub one : length groups ≡ 1
+  pub empty : (slice_index_or groups 0 no_notes).notes ≡ []
+  pub unrefused : (slice_index_or groups 0 no_notes).overflow ≡ false
+
+-- whether notes were refused, and how many
+abbrev pub refusals_in : NotesState → Refusals
+refusals_in s = record { told = s.overflow; count = s.refused }
 
 -- the note of the pair at an offset of the object at a place; offset 0 is for the object itself
 abbrev pub note_of : ℕ → ℕ → Note
@@ -30,7 +48,7 @@ noted s place offset = record s { notes = s.notes ++ note_of place offset ∷ []
 
 -- a note was refused
 abbrev pub overflowed : NotesState → NotesState
-overflowed s = record s { overflow = true }
+overflowed s = record s { overflow = true; refused = one_counted s.refused }
 
 -- the group with a number
 abbrev pub group_at : List NotesState → ℕ → NotesState
@@ -45,11 +63,12 @@ abbrev pub IsNote : List ObjectType → List Body → Note → Type 0
 IsNote types bodies note =
     ((note.word ≡ 0) × IsPlace bodies note.holder) ⊎ HasPair types bodies note.holder note.word
 
--- the notes of old are kept, and new ones are for pairs
+-- the notes of old are kept, new ones are for pairs, and that one was refused comes to be told where the count of these rose
 pub record NotesGrow (types : List ObjectType) (bodies : List Body) (old new : NotesState) : Type 0 where
   pub kept : (note : Note) → Contains old.notes note → Contains new.notes note
   pub pairs : (note : Note) → Contains new.notes note → Contains old.notes note ⊎ HasPair types bodies note.holder note.word
   pub overflow : new.overflow ≡ false → old.overflow ≡ false
+  pub told : TellsRefused (refusals_in old) (refusals_in new)
 
 -- the value of the pair of the body at the place is marked or null, or its key is null, or it is noted
 abbrev pub HasPairNoted : List ObjectType → SeatView → ℕ → ℕ → (Note → Type 0) → Type 0

@@ -7,10 +7,9 @@ ghost use Rattle.marker_core.specs.Bodies.{IsPlace};
 ghost use Rattle.page_words.specs.Seat.{IsAlone};
 ghost use Rattle.page_space.specs.Space.{IsSeatOf};
 ghost use Rattle.ephemerons.specs.declared.notes.Note.{Note};
-ghost use Rattle.ephemerons.specs.BodyGraph.{PlacesDiffer, AreReferences};
-ghost use Rattle.ephemerons.specs.Marking.{MarksOn, GrowsWithin, TracedNameMarked};
-ghost use Rattle.ephemerons.specs.Marking.{IsOver, traced_count};
-ghost use Rattle.ephemerons.specs.Notes.{IsNote, IsNotedIn};
+ghost use Rattle.ephemerons.specs.BodyGraph.{PlacesDiffer};
+ghost use Rattle.ephemerons.specs.Marking.{MarksOn, GrowsWithin, IsOver, traced_count};
+ghost use Rattle.ephemerons.specs.Notes.{IsNote, IsNotedIn, group_at, refusals_in};
 ghost use Rattle.ephemerons.specs.Fixpoint.{IsGround, IsAccounted, IsSettled, IsUnrefused};
 ghost use Rattle.ephemerons.specs.Fixpoint.{Works, stage, weight};
 
@@ -39,8 +38,6 @@ pub fn fixpoint(
     requires on { seat.old.on ≡ true }
     requires types { types.now ≡ seat.old.types }
     requires alone { IsAlone seat.old }
-    requires references { AreReferences types.now seat.old.bodies }
-    requires traced { TracedNameMarked types.now seat.old }
     requires listed { (p : ℕ) → Contains marking.old.list.items p → IsPlace seat.old.bodies p }
     requires noted { (note : Note) → IsNotedIn groups.old note
         → IsNote types.now seat.old.bodies note }
@@ -59,6 +56,8 @@ pub fn fixpoint(
     ensures refused { IsUnrefused marking.new.overflow groups.new
         → IsUnrefused marking.old.overflow groups.old }
     ensures told { TellsRefused (refusals_of marking.old) (refusals_of marking.new) }
+    ensures notes_told { (i : ℕ) → TellsRefused
+        (refusals_in (group_at groups.old i)) (refusals_in (group_at groups.new i)) }
 {
     seat.bodies_lie_apart();
     begin_indexes(groups);

@@ -11,11 +11,13 @@
 //! machine's hand: its strong fields and pairs are read in the order of their offsets, and what a
 //! strong field or a value names is marked by a call each time, marked before or not.
 //!
-//! What is proved: `fixpoint` ends with a closed marked set in which nothing is grey, and marks
-//! nothing but what each closed set holds that holds what was marked before; its answer is how many
-//! objects it traced. Neither needs memory: where a push or a note is refused, the heap is walked.
-//! It asks that no view is lent, nothing is in hand and nothing waits for its mark, and leaves that
-//! so. What is marked is something that the cycle may keep.
+//! What is proved: `trace` marks just what strong fields name and the values of pairs whose key is
+//! marked, and notes just the other pairs with a key, in their order. `fixpoint` ends with a closed
+//! marked set in which nothing is grey, and marks nothing but what each closed set holds that holds
+//! what was marked before; its answer is how many objects it traced. Neither needs memory: where a
+//! push or a note is refused, the heap is walked, and a count tells of it. It asks that no view is
+//! lent, nothing is in hand and nothing waits for its mark, and leaves that so. What is marked is
+//! something that the cycle may keep.
 //!
 //! What is only tested or not said: how long it takes. That the tree over keys tells all notes of a
 //! key is tested in `part_tests`.

@@ -128,7 +128,7 @@ pub fn mark(words: &Words, seat: &mut MutatorSeat, marking: &mut Marking, place:
 fn list(marking: &mut Marking, place: u32)
     ensures { IsListed marking.old marking.new place }
 {
-    if marking.list.push(place).is_err() {
+    if let Err(_) = marking.list.push(place) {
         marking.overflow = true;
     }
 }
@@ -147,6 +147,7 @@ pub(crate) fn mark_named(words: &Words, seat: &mut MutatorSeat, reference: u64) 
     ensures only { (p : ℕ) → holds seat.new.marked p ≡ true
         → (holds seat.old.marked p ≡ true) ⊎ (reference ≡ reference_to p) }
     ensures null { reference ≡ 0 → seat.new ≡ seat.old }
+    ensures noted { seat.new.noted ≡ seat.old.noted }
     ensures hand { (p : ℕ) → reference ≡ reference_to p
         → seat.new.hand ≡ each_hand (hand_after_mark (kind_lists seat.old.types) p) seat.old.hand }
 {
@@ -171,6 +172,7 @@ fn mark_unlisted(words: &Words, seat: &mut MutatorSeat, place: u32) -> Option<u3
     ensures target { holds seat.new.marked place ≡ true }
     ensures only { (p : ℕ) → holds seat.new.marked p ≡ true
         → (holds seat.old.marked p ≡ true) ⊎ (place ≡ p) }
+    ensures noted { seat.new.noted ≡ seat.old.noted }
     ensures hand { seat.new.hand
         ≡ each_hand (hand_after_mark (kind_lists seat.old.types) place) seat.old.hand }
 {
@@ -192,7 +194,7 @@ pub(crate) fn list_held(marking: &mut Marking, held: Option<u32>)
     }
 }
 
-/// The object that was held back, or else the last one that was listed.
+/// The object that was held back, or else one that was listed.
 pub(crate) fn next_listed(marking: &mut Marking, held: Option<u32>) -> Option<u32>
     ensures next { IsStillHeld marking.old held marking.new result }
 {

@@ -1,7 +1,8 @@
 // Notes of pairs whose key was not marked yet.
 
-ghost use Rattle.std.specs.Prelude.{◌≡◌, true, false, ◌<◌, length};
-ghost use Rattle.ephemerons.specs.Notes.{no_notes, note_at, noted, overflowed};
+ghost use Rattle.std.specs.Prelude.{◌≡◌, true, false, ◌<◌, ◌≤◌, length};
+ghost use Rattle.mark_worklist.specs.Lists.{last_count};
+ghost use Rattle.ephemerons.specs.Notes.{no_notes, note_at, noted, overflowed, cleared};
 
 use key_index::Index;
 use page_words::{MutatorSeat, Reading, Words};
@@ -24,16 +25,25 @@ pub struct Note {
 pub struct Pairs {
     notes: Vec<Note>,
     overflow: bool,
+    refused: u64,
     index: Index,
     indexed: usize,
 }
 
 impl Model for Pairs {
+    ghost use Rattle.std.specs.Prelude.{◌≤◌};
+    ghost use Rattle.mark_worklist.specs.Lists.{last_count};
     ghost use Rattle.ephemerons.specs.Notes.{NotesState};
 
     ghost Value = { NotesState };
 
-    ghost view = { λ p. record { notes = p.notes.items; overflow = p.overflow } };
+    ghost view = { λ p. record {
+      notes = p.notes.items;
+      overflow = p.overflow;
+      refused = p.refused;
+    } };
+
+    ghost invariant = { λ p. p.refused ≤ last_count };
 }
 
 impl Pairs {
@@ -44,6 +54,7 @@ impl Pairs {
         Pairs {
             notes: Vec::new(alloc),
             overflow: false,
+            refused: 0,
             index: Index::new(alloc),
             indexed: 0,
         }
@@ -53,28 +64,38 @@ impl Pairs {
     pub fn note(&mut self, holder: u32, word: u32) -> bool
         ensures noted { result ≡ true → self.new ≡ noted self.old holder word }
         ensures refused { result ≡ false → self.new ≡ overflowed self.old }
+        ensures fits { self.old.refused ≤ last_count }
     {
         let count = self.notes.len();
         let done = self.index.make_room(count) && self.notes.push(Note { holder, word }).is_ok();
         if !done {
             self.overflow = true;
+            self.refused = self.refused.saturating_add(1);
         }
         done
     }
 
-    /// Forgets all notes, and that one was refused. The room stays.
+    /// Forgets all notes, and that one was refused. The room stays, and so does the count of refused
+    /// notes.
     pub fn clear(&mut self)
-        ensures { self.new ≡ no_notes }
+        ensures { self.new ≡ cleared self.old }
     {
         self.notes.clear();
         self.overflow = false;
     }
 
-    /// Whether a note was refused.
+    /// Whether a note was refused since the notes were cleared.
     pub fn overflow(&self) -> bool
         ensures { result ≡ self.now.overflow }
     {
         self.overflow
+    }
+
+    /// How many notes were refused. It stays at its last value once it is there.
+    pub fn refused(&self) -> u64
+        ensures { result ≡ self.now.refused }
+    {
+        self.refused
     }
 
     pub(crate) fn count(&self) -> usize

@@ -2,6 +2,8 @@
 // pair is noted.
 
 ghost use Rattle.std.specs.Prelude.{◌≡◌, true, false, None, Contains, MatchOption, IfSome, IfNone};
+ghost use Rattle.std.specs.Prelude.{[], ◌∷◌, ◌++◌};
+ghost use Rattle.type_table.specs.declared.traced.TracedWord.TheVariants.{PairAt};
 ghost use Rattle.object_headers.specs.Offsets.{reference_to};
 ghost use Rattle.marker_core.specs.Bodies.{holds};
 ghost use Rattle.marker_core.specs.declared.states.Body.{Body};
@@ -10,6 +12,7 @@ ghost use Rattle.ephemerons.specs.BodyGraph.{pair_offsets, word_at};
 ghost use Rattle.ephemerons.specs.Marking.{GrowsWithin, heap_and_marks};
 ghost use Rattle.ephemerons.specs.Notes.{NotesGrow, HasPairNoted};
 ghost use Rattle.ephemerons.specs.InHand.{IsTracing, IsAt, moved_on};
+ghost use Rattle.ephemerons.specs.Traces.{Traces, noted_unless};
 ghost use Rattle.ephemerons.specs.Fixpoint.{ListsMarks};
 
 use crate::marks::{has_mark, list_held};
@@ -38,6 +41,7 @@ pub(crate) fn trace_pair(
     ensures notes { NotesGrow seat.old.types seat.old.bodies notes.old notes.new }
     ensures pair { notes.new.overflow ≡ false
         → HasPairNoted seat.old.types seat.new holder offset (Contains notes.new.notes) }
+    ensures told { Traces seat.old notes.old seat.new notes.new holder (PairAt offset ∷ []) }
     ensures hand { seat.new.hand ≡ moved_on seat.old }
 {
     seat.bodies_lie_apart();
@@ -65,6 +69,7 @@ fn read_key(words: &Words, seat: &mut MutatorSeat, holder: u32, offset: u32) -> 
     ensures passed { IfNone result (seat.new.hand ≡ moved_on seat.old) }
     ensures next { IfSome result (λ key. moved_on seat.new ≡ moved_on seat.old) }
     ensures view { heap_and_marks seat.new ≡ heap_and_marks seat.old }
+    ensures noted { seat.new.noted ≡ seat.old.noted }
     ensures pending { seat.new.pending ≡ None }
 {
     seat.bodies_lie_apart();
@@ -83,6 +88,7 @@ fn key_is_marked(words: &Words, seat: &mut MutatorSeat, holder: u32, offset: u32
     ensures passed { result ≡ false → seat.new.hand ≡ moved_on seat.old }
     ensures next { result ≡ true → moved_on seat.new ≡ moved_on seat.old }
     ensures view { heap_and_marks seat.new ≡ heap_and_marks seat.old }
+    ensures noted { seat.new.noted ≡ seat.old.noted ++ noted_unless result holder offset }
     ensures pending { seat.new.pending ≡ None }
 {
     let _ = (holder, offset);

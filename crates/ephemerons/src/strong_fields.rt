@@ -99,6 +99,10 @@ pub(crate) fn trace_strong_word(
     ensures marks { (m : Marking) → ListsMarks seat.old m seat.new (with_held result m) }
     ensures within { GrowsWithin seat.old.types seat.old seat.new }
     ensures named { HasTargetMarked seat.new holder offset }
+    ensures only { (b : Body) (p : ℕ) → Contains seat.old.bodies b → b.place ≡ holder
+        → holds seat.new.marked p ≡ true
+        → (holds seat.old.marked p ≡ true) ⊎ (word_at b offset ≡ reference_to p) }
+    ensures noted { seat.new.noted ≡ seat.old.noted }
     ensures hand { seat.new.hand ≡ moved_on seat.old }
 {
     seat.bodies_lie_apart();
@@ -122,6 +126,7 @@ pub(crate) fn trace_target(
     ensures only { (b : Body) (p : ℕ) → Contains seat.old.bodies b → b.place ≡ holder
         → holds seat.new.marked p ≡ true
         → (holds seat.old.marked p ≡ true) ⊎ (word_at b offset ≡ reference_to p) }
+    ensures noted { seat.new.noted ≡ seat.old.noted }
     ensures hand { seat.new.hand ≡ moved_on seat.old }
 {
     seat.bodies_lie_apart();

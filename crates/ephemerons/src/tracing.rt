@@ -2,7 +2,10 @@
 // whose key is marked. It is the machine's hand that goes from word to word.
 
 ghost use Rattle.std.specs.Prelude.{◌≡◌, ℕ, true, false, Contains, Some, None, IfSome, IfNone};
+ghost use Rattle.std.specs.Prelude.{[], ◌∷◌};
 ghost use Rattle.std.specs.Option.{is_some};
+ghost use Rattle.type_table.specs.Types.{kinds_of};
+ghost use Rattle.type_table.specs.TracedWords.{traced_words_of};
 ghost use Rattle.marker_core.specs.Bodies.{IsPlace, holds};
 ghost use Rattle.page_words.specs.Seat.{IsAlone, is_grey_at};
 ghost use Rattle.page_space.specs.Space.{IsSeatOf};
@@ -11,6 +14,7 @@ ghost use Rattle.ephemerons.specs.Marking.{GrowsWithin, HasStrongMarked};
 ghost use Rattle.ephemerons.specs.Notes.{NotesGrow, HasPairsNoted};
 ghost use Rattle.ephemerons.specs.InHand.{IsTracing, IsPast, IsAtWord, IsWordTraced};
 ghost use Rattle.ephemerons.specs.InHand.{Claims, OnlyLooks, moved_on};
+ghost use Rattle.ephemerons.specs.Traces.{Traces};
 ghost use Rattle.ephemerons.specs.Fixpoint.{ListsMarks, with_held};
 ghost use Rattle.ephemerons.specs.Fixpoint.{IsGround, Looks, Works, stage};
 
@@ -47,6 +51,9 @@ pub fn trace(
     ensures notes { NotesGrow types.now seat.old.bodies notes.old notes.new }
     ensures pairs { notes.new.overflow ≡ false
         → HasPairsNoted types.now seat.new place (Contains notes.new.notes) }
+    ensures told { (ty : ℕ) → HasType seat.old.bodies place ty
+        → Traces seat.old notes.old seat.new notes.new place
+        (traced_words_of (kinds_of types.now ty)) }
     ensures hand { seat.new.hand ≡ None }
 {
     seat.bodies_lie_apart();
@@ -76,6 +83,8 @@ pub(crate) fn trace_fields(
     ensures notes { NotesGrow types.now seat.old.bodies notes.old notes.new }
     ensures pairs { notes.new.overflow ≡ false
         → HasPairsNoted types.now seat.new place (Contains notes.new.notes) }
+    ensures told { Traces seat.old notes.old seat.new notes.new place
+        (traced_words_of (kinds_of types.now ty)) }
     ensures hand { seat.new.hand ≡ None }
 {
     seat.bodies_lie_apart();
@@ -102,6 +111,7 @@ fn trace_word(
     ensures within { GrowsWithin seat.old.types seat.old seat.new }
     ensures notes { NotesGrow seat.old.types seat.old.bodies notes.old notes.new }
     ensures done { IsWordTraced seat.old.types seat.new place notes.new word }
+    ensures told { Traces seat.old notes.old seat.new notes.new place (word ∷ []) }
     ensures hand { seat.new.hand ≡ moved_on seat.old }
 {
     match word {

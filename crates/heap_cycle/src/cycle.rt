@@ -1,7 +1,7 @@
 // The collection cycle: its phase, its registered prefinalizers, and what it keeps of marking.
 
 ghost use Rattle.std.specs.Prelude.{◌≡◌, ◌-◌, ◌≤◌, false};
-ghost use Rattle.std.specs.Prelude.{[], ◌++◌, OnOk, OnErr, length, map, take};
+ghost use Rattle.std.specs.Prelude.{[], ◌++◌, IfOk, OnOk, OnErr, length, map, take};
 ghost use Rattle.gc_graph.specs.declared.phase.Phase.TheVariants.{Idle};
 ghost use Rattle.gc_graph.specs.State.{empty_state};
 ghost use Rattle.gc_graph.specs.Outcomes.{answered};
@@ -47,23 +47,23 @@ impl Model for Cycle {
 }
 
 impl Cycle {
-    /// The cycle of a heap of so many pages that has done nothing.
-    pub fn new(alloc: Global, pages: u32) -> Cycle
-        ensures { result ≡ record {
+    /// The cycle of a heap of so many pages that has done nothing. Want of memory is free.
+    pub fn new(alloc: Global, pages: u32) -> Result<Cycle, NoMemory>
+        ensures { IfOk result (λ cycle. cycle ≡ record {
           phase = Idle;
           sweep = record { pages = pages; cursor = pages };
           registered = [];
           ran = [];
           rest = empty_state;
-        } }
+        }) }
     {
-        Cycle {
+        Ok(Cycle {
             phase: Phase::Idle,
             sweep: Sweep::idle(pages),
-            grey: Grey::new(alloc),
+            grey: Grey::new(alloc)?,
             registry: Registry::new(alloc),
             rest: states::empty(),
-        }
+        })
     }
 
     /// The phase.

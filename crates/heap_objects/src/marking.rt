@@ -32,16 +32,17 @@ impl Model for Grey {
 }
 
 impl Grey {
-    /// A list and notes without room.
-    pub fn new(alloc: Global) -> Grey {
-        Grey {
+    /// A list and notes without room, for the owner alone. Want of memory is free.
+    pub fn new(alloc: Global) -> Result<Grey, NoMemory> {
+        let (list, _) = Worklist::new(alloc, 0)?;
+        Ok(Grey {
             marking: Marking {
                 on: false,
                 overflow: false,
-                list: Worklist::new(alloc),
+                list,
             },
             notes: [Pairs::new(alloc)],
-        }
+        })
     }
 
     /// Takes room for a list of an ordinary length. Want of memory is free.

@@ -1,4 +1,5 @@
 pub mod Lists
 pub mod Refusals
 -- Lemmas that the crates above cite too, since a crate's proofs/ can't be cited from another.
+pub mod OneMore
 pub mod Told

@@ -1,8 +1,8 @@
--- A marking list and what a push makes of it.
-use Rattle.std.specs.Prelude.{ℕ, ◌+◌, ◌-◌, ◌^◌, Bool, false, List, [], ◌∷◌, ◌++◌, min}
+-- A marking list and what a push and a pop make of it.
+use Rattle.std.specs.Prelude.{◌≡◌, ℕ, ◌+◌, ◌-◌, ◌^◌, Bool, false, List, [], ◌∷◌, ◌++◌, min}
 
--- the addresses in the order in which they were pushed, how many pushes were refused, and whether the last pop found
--- nothing with no accepted push since
+-- the addresses, of whose order nothing is said, how many pushes were refused, and whether the last pop found nothing with no
+-- accepted push since
 pub record ListState : Type 0 where
   pub items : List ℕ
   pub refused : ℕ
@@ -12,14 +12,27 @@ pub record ListState : Type 0 where
 abbrev pub no_items : ListState
 no_items = record { items = []; refused = 0; idle = false }
 
--- the address stands at the end
-abbrev pub pushed : ListState → ℕ → ListState
-pushed l a = record l { items = l.items ++ a ∷ []; idle = false }
+-- the longer list has the address once more than the shorter one, and each other as often
+pub record IsOneMore (short : List ℕ) (a : ℕ) (long : List ℕ) : Type 0 where
+  pub before : List ℕ
+  pub after : List ℕ
+  pub others : short ≡ before ++ after
+  pub all : long ≡ before ++ a ∷ after
 
--- the last value of the count of refused pushes
+-- the address was put on the list, and nothing was refused
+pub record IsPushed (old : ListState) (a : ℕ) (new : ListState) : Type 0 where
+  pub items : IsOneMore old.items a new.items
+  pub awake : new.idle ≡ false
+  pub refused : new.refused ≡ old.refused
+
+-- the last value of a count of what was refused
 abbrev pub last_count : ℕ
 last_count = 2 ^ 64 - 1
 
--- one more push was refused, and nothing else changed; at its last value the count stays
+-- the count after one more; at its last value it stays
+abbrev pub one_counted : ℕ → ℕ
+one_counted count = min (count + 1) last_count
+
+-- one more push was refused, and nothing else changed
 abbrev pub refused_once : ListState → ListState
-refused_once l = record l { refused = min (l.refused + 1) last_count }
+refused_once l = record l { refused = one_counted l.refused }

@@ -1,14 +1,14 @@
--- Whether pushes were refused, as the marking state tells it and as the list counts them.
+-- Whether pushes or notes were refused: a flag tells it, and a count is its cause.
 use Rattle.std.specs.Prelude.{◌≡◌, ◌⊎◌, ◌<◌, ◌≤◌, ℕ, Bool, true}
 use Rattle.mark_worklist.specs.Lists.{last_count}
 use Rattle.mark_worklist.specs.declared.marking.Marking.{Marking}
 
--- whether a push was refused since marking began, and how many were since the list was made
+-- whether something was refused since marking began, and how often that was since the beginning
 pub record Refusals : Type 0 where
   pub told : Bool
   pub count : ℕ
 
--- those of a marking state
+-- the refused pushes, as the marking state tells of them and the list counts them
 abbrev pub refusals_of : Marking → Refusals
 refusals_of m = record { told = m.overflow; count = m.list.refused }
 

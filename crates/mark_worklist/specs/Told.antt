@@ -1,10 +1,16 @@
 -- What tells of refused pushes, from state to state.
-use Rattle.std.proofs.Common.{◌≡◌, ℕ, inl, inr, arith}
+use Rattle.std.proofs.Common.{rules, ◌≡◌, ◌≤◌, ℕ, Bool, true, refl, inl, inr, arith}
 use Rattle.std.proofs.lemmas.Bool.{cases_lt}
+use Rattle.mark_worklist.specs.Lists.{last_count, one_counted}
 use Rattle.mark_worklist.specs.Refusals.{Refusals, TellsRefused}
 
 pub told_same : (a : Refusals) → TellsRefused a a
 told_same a = record { kept = λ h. h; no_fewer = omega arith; counted = λ more. absurd (omega (arith, more)); only = λ h. inl h }
+
+-- one more was refused
+pub told_once : (told : Bool) (count : ℕ) → count ≤ last_count
+    → TellsRefused (record { told = told; count = count }) (record { told = true; count = one_counted count })
+told_once told count fits = record { kept = λ h. refl; no_fewer = search rules; counted = λ more. refl; only = λ h. inr (search rules) }
 
 pub told_then : (a b c : Refusals) → TellsRefused a b → TellsRefused b c → TellsRefused a c
 told_then a b c x y = record {

@@ -4,19 +4,20 @@
 //! of a heap keeps them, with the rest of the owner's marking state. It knows nothing of a heap's
 //! words.
 //!
-//! The parts: `Worklist` (a list that grows as it can), `Refused` (what a push hands back where
-//! memory is wanting), `Marking` (whether marking goes on, whether a push was refused, the list).
+//! The parts: `Worklist` (a list that grows as it can), `Share` (a marker's part of it, of which
+//! there is none yet), `Refused` (what a push hands back where memory is wanting), `Marking` (whether
+//! marking goes on, whether a push was refused, the list).
 //!
-//! What is proved: a push puts its address at the end, or hands it back, counts that, and leaves the
-//! list as it was; a pop takes the last address, and answers that there is none exactly where the
-//! list is empty; the list is idle exactly where the last pop found nothing and nothing was pushed
-//! since; its length is how many addresses it has.
+//! What is proved: a push puts its address on the list, or hands it back, counts that, and leaves the
+//! list as it was; a pop takes one of the addresses and leaves the others, and answers that there is
+//! none exactly where the list is empty; the list is idle exactly where the last pop found nothing
+//! and nothing was pushed since; its length is how many addresses it has.
 //!
-//! What is only tested or not said: that memory suffices for a push.
+//! What is only tested or not said: that memory suffices for a push; which address a pop takes.
 #![tactic(auto)]
 
 mod marking;
 mod worklist;
 
 pub use marking::Marking;
-pub use worklist::{Refused, Worklist};
+pub use worklist::{Refused, Share, Worklist};

@@ -1,8 +1,9 @@
 // A marking list (`src/heap/base/worklist.h`, of which this is the owner's view alone).
 
-ghost use Rattle.std.specs.Prelude.{◌≡◌, ◌≤◌, [], ◌∷◌, ◌++◌, true, false, length};
-ghost use Rattle.std.specs.Prelude.{IfErr, OnOk, MatchOption, MatchResult};
-ghost use Rattle.mark_worklist.specs.Lists.{no_items, pushed, refused_once, last_count};
+ghost use Rattle.std.specs.Prelude.{◌≡◌, ◌≤◌, [], true, false, length};
+ghost use Rattle.std.specs.Prelude.{IfErr, IfOk, OnOk, MatchOption, MatchResult};
+ghost use Rattle.mark_worklist.specs.Lists.{no_items, IsPushed, IsOneMore};
+ghost use Rattle.mark_worklist.specs.Lists.{refused_once, last_count};
 
 use gc_graph::NoMemory;
 use std::alloc::Global;
@@ -12,8 +13,13 @@ use std::marker::Model;
 #[derive(Debug, Drop, PartialEq)]
 pub struct Refused(pub u32);
 
-/// A list of addresses, of which the last one pushed is the first one popped. It takes memory as it
-/// grows, and keeps it.
+/// A marker's share of a list. Nobody can make one so far: the owner alone marks.
+#[derive(Drop)]
+pub enum Share {}
+
+/// A list of addresses. It takes memory as it grows, and keeps it. The order in which addresses are
+/// popped is free: here the last one is the first, and a list from which others take addresses too
+/// keeps another order.
 #[derive(Drop)]
 pub struct Worklist {
     items: Vec<u32>,
@@ -33,15 +39,20 @@ impl Model for Worklist {
 }
 
 impl Worklist {
-    /// An empty list without room.
-    pub fn new(alloc: Global) -> Worklist
-        ensures { result ≡ no_items }
+    /// An empty list without room, and a share of it for each marker that is to come. Want of memory
+    /// is free.
+    pub fn new(alloc: Global, shares: u32) -> Result<(Worklist, Vec<Share>), NoMemory>
+        requires none { shares ≡ 0 }
+        ensures list { IfOk result (λ made. made.0 ≡ no_items) }
+        ensures shares { IfOk result (λ made. length made.1.items ≡ shares) }
     {
-        Worklist {
+        let _ = shares;
+        let list = Worklist {
             items: Vec::new(alloc),
             refused: 0,
             idle: false,
-        }
+        };
+        Ok((list, Vec::new(alloc)))
     }
 
     /// Takes room for so many more addresses. Want of memory is free.
@@ -52,9 +63,9 @@ impl Worklist {
         Ok(())
     }
 
-    /// Puts an address at the end of the list. Want of memory is free: the address is handed back.
+    /// Puts an address on the list. Want of memory is free: the address is handed back.
     pub fn push(&mut self, a: u32) -> Result<(), Refused>
-        ensures done { OnOk result (self.new ≡ pushed self.old a) }
+        ensures done { OnOk result (IsPushed self.old a self.new) }
         ensures refused { IfErr result (λ back.
             (back.0 ≡ a) × (self.new ≡ refused_once self.old)) }
         ensures fits { self.old.refused ≤ last_count }
@@ -67,10 +78,10 @@ impl Worklist {
         Ok(())
     }
 
-    /// Takes the last address from the list. None where there is none.
+    /// Takes an address from the list. None where there is none.
     pub fn pop(&mut self) -> Option<u32>
         ensures items { MatchOption result ((self.old.items ≡ []) × (self.new.items ≡ []))
-            (λ a. self.old.items ≡ self.new.items ++ a ∷ []) }
+            (λ a. IsOneMore self.new.items a self.old.items) }
         ensures idle { MatchOption result (self.new.idle ≡ true) (λ a. self.new.idle ≡ false) }
         ensures refused { self.new.refused ≡ self.old.refused }
     {

@@ -1,5 +1,5 @@
 -- What a seat may rely on is true of it in every state.
-use Rattle.std.proofs.Common.{◌≡◌, ℕ, ◌-◌, ◌%◌, ◌<◌, List, get_or, true, false, not, cond, ltb, Some, sym, ap, ◌∙◌, subst, inl, arith}
+use Rattle.std.proofs.Common.{◌≡◌, ℕ, ◌-◌, ◌%◌, ◌<◌, List, get_or, true, false, not, cond, ltb, None, Some, sym, ap, ◌∙◌, subst, inl, inr, arith}
 use Rattle.std.proofs.lemmas.Bool.{false_from_ne_true}
 use Rattle.object_headers.specs.Layout.{header_word}
 use Rattle.marker_core.specs.declared.states.Body.{Body}
@@ -7,18 +7,19 @@ use Rattle.marker_core.specs.declared.states.Hand.{Hand}
 use Rattle.marker_core.specs.declared.states.MarkerView.{MarkerView}
 use Rattle.marker_core.specs.declared.states.Part.{Part}
 use Rattle.marker_core.specs.Layout.{bit_is_set, is_marked, is_traced}
-use Rattle.marker_core.specs.Bodies.{is_place, holds}
+use Rattle.marker_core.specs.Bodies.{word_in, is_place, holds}
 use Rattle.marker_core.specs.Hands.{role_at_hand}
 use Rattle.marker_core.specs.Views.{times, marks_at, traces_at}
-use Rattle.marker_core.specs.Tracing.{PartFits}
+use Rattle.marker_core.specs.Tracing.{IsCovered, PartFits}
 use Rattle.marker_core.specs.Seats.{SeatSide, core_of}
 use Rattle.marker_core.specs.Core.{IsCoreOk}
-use Rattle.marker_core.specs.SeatFacts.{IsHeaderAt, MayBeFound, WordsMayBeFound, IsHandOf, IsViewOk, ViewsAreOk}
+use Rattle.marker_core.specs.SeatFacts.{IsHeaderAt, MayBeFound, WordsMayBeFound, IsHandOf, TracedTargetsMarked, IsViewOk, ViewsAreOk}
 use Rattle.marker_core.proofs.Apart.{body_of_place, place_of_body}
 use Rattle.marker_core.proofs.Counts.{some_is_true, true_is_some}
 use Rattle.marker_core.proofs.Headers.{mark_tells, traced_tells}
-use Rattle.marker_core.proofs.Quiet.{none_in}
+use Rattle.marker_core.proofs.Quiet.{none_in, no_hands}
 use Rattle.marker_core.proofs.SeatEnds.{some_times, marked_same, traced_same}
+use Rattle.marker_core.proofs.Stops.{all_spent}
 
 module _ (v : SeatSide) (words : List ℕ) (markers : List MarkerView) (ok : IsCoreOk (core_of v words markers)) where
   abbrev bodies : List Body
@@ -98,6 +99,25 @@ module _ (v : SeatSide) (words : List ℕ) (markers : List MarkerView) (ok : IsC
         key = λ k e. (subst (λ (part : Part). PartFits bodies marks v.mutator.pending v.mutator.may role fits.body (h.next - 2) part) e fits.part).0;
       }
 
+  covered_is_marked : v.mutator.lent ≡ 0 → v.mutator.pending ≡ None → (w : ℕ) → 0 < w → IsCovered marks v.mutator.pending w
+      → holds v.mutator.marked (w - 1) ≡ true
+  covered_is_marked lent no_pending w some covered = elim covered [
+    | inl null ↦ absurd (omega (arith, null))
+    | inr other ↦ elim other [
+      | inl marked ↦
+          (let place = ok.marks_counted_once.are_bodies (w - 1) marked in
+          sym (marked_same v words markers ok lent (w - 1) place) ∙ marked_tells (w - 1) place ∙ some_is_true (marks (w - 1)) marked)
+      | inr waits ↦ (let none : None ≡ Some (w - 1) = sym no_pending ∙ waits in cc)
+    ]
+  ]
+
+  strong_targets : v.mutator.on ≡ true → v.mutator.lent ≡ 0 → v.mutator.hand ≡ None → v.mutator.pending ≡ None → TracedTargetsMarked v
+  strong_targets on lent no_hand no_pending b i there traced role some =
+      elim (ok.strong_targets_accounted on b i there (own_is_traced b.place traced) role) [
+        | inl covered ↦ covered_is_marked lent no_pending (word_in b i) some covered
+        | inr held ↦ absurd (no_hands (core_of v words markers) ok (all_spent (core_of v words markers) ok lent) no_hand held.0 held.1)
+      ]
+
   none_lent : v.mutator.on ≡ false → v.mutator.lent ≡ 0
   none_lent off =
       ok.quiet_while_off.lent_views
@@ -135,6 +155,7 @@ module _ (v : SeatSide) (words : List ℕ) (markers : List MarkerView) (ok : IsC
           marked_in = λ a own. may.marked_in a (own_is_marked a own);
           hand = hand_found on;
           pending_in = may.pending_in;
+          traced_targets = strong_targets on;
         };
     at_rest = λ off. record {
       no_pending = ok.quiet_while_off.no_pending off;

@@ -6,8 +6,9 @@ use Rattle.marker_core.specs.declared.states.Body.{Body}
 use Rattle.marker_core.specs.declared.states.Hand.{Hand}
 use Rattle.marker_core.specs.declared.states.MarkerView.{MarkerView}
 use Rattle.marker_core.specs.declared.states.Part.TheVariants.{Mark, Key}
+use Rattle.marker_core.specs.declared.states.Role.TheVariants.{StrongWord}
 use Rattle.marker_core.specs.Layout.{bitmap_at, bit_is_set, has_mark, has_traced}
-use Rattle.marker_core.specs.Bodies.{word_in, is_place, in_body, holds}
+use Rattle.marker_core.specs.Bodies.{word_in, role_in, is_place, in_body, holds, place_named}
 use Rattle.marker_core.specs.Closed.{IsClosedOver}
 use Rattle.marker_core.specs.Seats.{SeatSide, core_of}
 use Rattle.marker_core.specs.Matching.{AreTypes, AreWhole, LieApart, SerialsDiffer, ReferencesNameBodies}
@@ -51,8 +52,15 @@ pub record IsHandOf (v : SeatSide) (h : Hand) : Type 0 where
   pub target : (t : ℕ) → h.part ≡ Mark t → (is_place v.bodies t ≡ true) × (holds v.may t ≡ true)
   pub key : (k : ℕ) → h.part ≡ Key k → is_place v.bodies k ≡ true
 
+-- what the strong words of traced bodies name is marked
+abbrev pub TracedTargetsMarked : SeatSide → Type 0
+TracedTargetsMarked v =
+    (b : Body) (i : ℕ) → Contains v.bodies b → holds v.traced b.place ≡ true → role_in v.types b i ≡ StrongWord → 0 < word_in b i
+    → holds v.marked (place_named (word_in b i)) ≡ true
+
 -- while marking goes on nothing is dead, what may be kept are bodies, it is closed and has what is marked, and what is in hand
--- or waits for its mark is an object that may be kept
+-- or waits for its mark is an object that may be kept; where there is none and no view is lent, the strong targets of traced
+-- bodies are marked
 pub record IsMarking (v : SeatSide) : Type 0 where
   pub no_dead : v.dead ≡ []
   pub are_places : (a : ℕ) → holds v.may a ≡ true → is_place v.bodies a ≡ true
@@ -60,6 +68,7 @@ pub record IsMarking (v : SeatSide) : Type 0 where
   pub marked_in : (a : ℕ) → holds v.marked a ≡ true → holds v.may a ≡ true
   pub hand : (h : Hand) → v.hand ≡ Some h → IsHandOf v h
   pub pending_in : (t : ℕ) → v.pending ≡ Some t → holds v.may t ≡ true
+  pub traced_targets : v.lent ≡ 0 → v.hand ≡ None → v.pending ≡ None → TracedTargetsMarked v
 
 -- while no marking goes on nothing waits for its mark, nothing is in hand, and no view is lent
 pub record IsAtRest (v : SeatSide) : Type 0 where

@@ -3,15 +3,22 @@
 use mark_worklist::Worklist;
 use std::alloc::Global;
 
-/// Whether two places are taken and come back, the last one first, and leave an idle list.
-fn pops_last_first(alloc: Global) -> bool {
-    let mut list = Worklist::new(alloc);
+/// Whether two places are taken and each comes back once, in either order, which leaves an idle
+/// list.
+fn pops_each_once(alloc: Global) -> bool {
+    let Ok((mut list, shares)) = Worklist::new(alloc, 0) else {
+        return false;
+    };
     let taken = list.reserve(1).is_ok() & list.push(7).is_ok() & list.push(3).is_ok();
-    let last_first = (list.pop() == Some(3)) & (list.pop() == Some(7)) & list.pop().is_none();
-    taken & last_first & list.idle() & (list.len() == 0) & (list.refused() == 0)
+    let both = match (list.pop(), list.pop()) {
+        (Some(3), Some(7)) | (Some(7), Some(3)) => true,
+        _ => false,
+    };
+    let done = list.pop().is_none() & list.idle() & (list.len() == 0);
+    taken & both & done & (list.refused() == 0) & shares.is_empty()
 }
 
 #[test]
-fn last_push_is_popped_first(rt: HostRuntime) {
-    assert!(rt; pops_last_first(rt.alloc()));
+fn each_push_is_popped_once(rt: HostRuntime) {
+    assert!(rt; pops_each_once(rt.alloc()));
 }

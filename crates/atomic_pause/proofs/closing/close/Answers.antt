@@ -1,14 +1,20 @@
-use Rattle.std.proofs.Common.{◌≡◌, refl, sym, ◌∙◌, subst}
+use Rattle.std.proofs.Common.{◌≡◌, refl, sym, ◌∙◌, subst, arith}
 use Rattle.marker_core.specs.Bodies.{holds}
 use Rattle.marker_core.specs.Closed.{IsClosedOver}
 use Rattle.page_words.specs.Seat.{ended}
 use Rattle.page_words.specs.Roles.{kind_lists}
 use Rattle.ephemerons.specs.Marking.{IsOver}
-use Rattle.atomic_pause.proofs.MarkEnds.{walked_or_listed, kept_are_counted, marks_reachable}
+use Rattle.atomic_pause.proofs.MarkEnds.{none_noted, walked_or_listed, kept_are_counted, marks_reachable}
 use Rattle.atomic_pause.proofs.closing.close.Goals as goal
 
 pub fixpoint-traced-requires-clause-listed : goal.fixpoint-traced-requires-clause-listed
 fixpoint-traced-requires-clause-listed c = c.requires.listed.places
+
+pub fixpoint-traced-requires-clause-noted : goal.fixpoint-traced-requires-clause-noted
+fixpoint-traced-requires-clause-noted c note noted = absurd (none_noted c.args.notes.now c.requires.unnoted note noted)
+
+pub fixpoint-traced-requires-clause-own : goal.fixpoint-traced-requires-clause-own
+fixpoint-traced-requires-clause-own c = omega (arith, c.requires.unnoted.one)
 
 over : (c : goal.After-marking-1) → IsOver c.args.types.now c.fixpoint-traced.new.seat
 over c =
@@ -25,7 +31,7 @@ set_stop-requires c =
       λ on alone. record {
         alone = c.fixpoint-traced.ensures.alone;
         traced = over.no_grey;
-        closed = subst (λ ts. IsClosedOver (kind_lists ts) v.bodies (holds v.marked)) (c.requires.types ∙ sym kept.types) over.over_words;
+        closed = subst (λ ts. IsClosedOver (kind_lists ts) v.bodies (holds v.marked)) (c.requires.types ∙ sym kept.types) over.closed;
       },
     )
 

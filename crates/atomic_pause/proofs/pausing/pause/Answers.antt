@@ -1,6 +1,6 @@
 use Rattle.std.proofs.Common.{true, inl, inr, ◌≡◌, ℕ, Bool, List, length, get_or, refl, sym, ap, ◌∙◌, subst}
 use Rattle.std.specs.List.{All}
-use Rattle.gc_graph.specs.State.{Setup, Node}
+use Rattle.gc_graph.specs.State.{Node}
 use Rattle.gc_graph.specs.declared.kind.Kind.TheVariants.{Weak, Pair}
 use Rattle.gc_graph.specs.ActionLaw.{HaveStayed}
 use Rattle.gc_graph.specs.Pause.{live_count}
@@ -12,14 +12,14 @@ use Rattle.marker_core.specs.Bodies.{IsPlace, holds}
 use Rattle.marker_core.specs.declared.states.Body.{Body}
 use Rattle.page_words.specs.Seat.{SeatView}
 use Rattle.page_space.specs.Space.{extents_of_bodies}
-use Rattle.ephemerons.specs.BodyGraph.{AreReferences, PlacesDiffer}
+use Rattle.ephemerons.specs.BodyGraph.{PlacesDiffer}
 use Rattle.ephemerons.specs.ListedMarks.{ListsMarks-then}
 use Rattle.prefinalizer_effects.specs.Prepared.{setup_of, IsPrepared}
 use Rattle.nodes_in_words.specs.Places.{kept_of}
 use Rattle.nodes_in_words.specs.Judgement.{nodes_after}
 use Rattle.nodes_in_words.specs.NodePlaces.{places_differ}
 use Rattle.atomic_pause.specs.Marking.{IsRootPlace, IsScanned, MarksReachable}
-use Rattle.atomic_pause.proofs.BodyReferences.{alive_unjudged, alive_marked, references_hold, marked_references}
+use Rattle.atomic_pause.proofs.BodyReferences.{alive_marked, marked_references}
 use Rattle.atomic_pause.proofs.MarkEnds.{listed_from}
 use Rattle.atomic_pause.proofs.PausedNodes.{roots_marked, prepared, paused_is, registered_after, kept_count, dead_left}
 use Rattle.atomic_pause.proofs.ReachedNodes.{has_marked, all_roots, keeps_reached}
@@ -54,15 +54,6 @@ close-traced-requires-clause-types g c =
     sym
     (ap (λ (z : SeatView). z.types) c.scan_stack.ensures.marks.view ∙ ap (λ (z : SeatView). z.types) c.visit_slots.ensures.marks.view
     ∙ c.requires.types)
-
-pub close-traced-requires-clause-references : goal.close-traced-requires-clause-references
-close-traced-requires-clause-references g c =
-    let setup : Setup = setup_of c.args.parts.space.now c.args.parts.types.now (kinds_of c.args.parts.callbacks.now) in
-    let v : SeatView = c.args.parts.seat.now in
-    subst (AreReferences setup.types)
-    (sym (ap (λ (z : SeatView). z.bodies) c.scan_stack.ensures.marks.view ∙ ap (λ (z : SeatView). z.bodies) c.visit_slots.ensures.marks.view))
-    (references_hold setup c.args.parts.nodes.now.value v c.fields_stand_apart.ensures
-    (alive_unjudged setup c.args.parts.nodes.now.value v c.requires.valid c.requires.held c.requires.begun.none_dead))
 
 pub close-traced-requires-clause-differ : goal.close-traced-requires-clause-differ
 close-traced-requires-clause-differ g c =

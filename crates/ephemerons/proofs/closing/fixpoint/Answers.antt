@@ -1,9 +1,10 @@
 use Rattle.std.proofs.Common.{arith, subst, sym, List}
-use Rattle.mark_worklist.specs.Refusals.{refusals_of}
-use Rattle.ephemerons.specs.Notes.{NotesState}
+use Rattle.mark_worklist.specs.Refusals.{TellsRefused, refusals_of}
+use Rattle.ephemerons.specs.Notes.{NotesState, group_at, refusals_in}
 use Rattle.ephemerons.specs.Fixpoint.{IsGround, stage}
 use Rattle.ephemerons.proofs.Ends.{few_untraced}
 use Rattle.ephemerons.proofs.Graph.{GrowsWithin-then}
+use Rattle.ephemerons.proofs.TrueOfViews.{are_references, traced_name_marked}
 use Rattle.mark_worklist.specs.Told.{told_then}
 use Rattle.ephemerons.proofs.closing.fixpoint.Goals as goal
 
@@ -13,8 +14,9 @@ settle_all-requires-clause-ground c =
       on = c.requires.on;
       known = sym c.requires.types;
       alone = c.requires.alone;
-      references = c.requires.references;
-      traced_name_marked = c.requires.traced;
+      references = are_references c.args.seat.now c.bodies_lie_apart.ensures c.requires.on c.args.types.now (sym c.requires.types);
+      traced_name_marked =
+          traced_name_marked c.args.seat.now c.bodies_lie_apart.ensures c.requires.on c.args.types.now (sym c.requires.types) c.requires.alone;
       listed = c.requires.listed;
       noted = c.requires.noted;
       own = c.requires.own;
@@ -24,9 +26,15 @@ settle_all-requires-clause-ground c =
 pub returns-then-walk-clause-within : goal.returns-then-walk-clause-within
 returns-then-walk-clause-within c =
     GrowsWithin-then c.args.types.now c.args.seat.now c.settle_all.new.seat c.walk_heap.new.seat c.settle_all.ensures.works.kept.bodies
-    c.settle_all.ensures.works.kept.count c.settle_all.ensures.works.within c.walk_heap.ensures.works.within
+    c.settle_all.ensures.works.within c.walk_heap.ensures.works.within
 
 pub returns-then-walk-clause-told : goal.returns-then-walk-clause-told
 returns-then-walk-clause-told c =
     told_then (refusals_of c.args.marking.now) (refusals_of c.settle_all.new.marking) (refusals_of c.walk_heap.new.marking)
     c.settle_all.ensures.works.told c.walk_heap.ensures.works.told
+
+pub returns-then-walk-clause-notes_told : goal.returns-then-walk-clause-notes_told
+returns-then-walk-clause-notes_told c i =
+    subst (λ (gs : List NotesState). TellsRefused (refusals_in (group_at gs i)) (refusals_in (group_at c.walk_heap.new.groups i))) c.begin_indexes.ensures
+    (told_then (refusals_in (group_at c.begin_indexes.new.groups i)) (refusals_in (group_at c.settle_all.new.groups i))
+    (refusals_in (group_at c.walk_heap.new.groups i)) (c.settle_all.ensures.works.notes_told i) (c.walk_heap.ensures.works.notes_told i))

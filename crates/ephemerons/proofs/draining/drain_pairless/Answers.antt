@@ -1,15 +1,14 @@
-use Rattle.std.proofs.Common.{◌≡◌, ◌<◌, Option, None, ℕ, sym, subst, arith}
-use Rattle.ephemerons.specs.Fixpoint.{Stage, IsGround, Works, stage, weight, with_held}
+use Rattle.std.proofs.Common.{◌<◌, Option, None, ℕ, sym, subst, arith}
+use Rattle.ephemerons.specs.Fixpoint.{IsGround, Works, stage, weight, with_held}
 use Rattle.ephemerons.proofs.Stages.{Works-same, Works-then}
-use Rattle.ephemerons.proofs.Holding.{still_stage, held_works, held_ground, held_place, held_heavier}
+use Rattle.ephemerons.proofs.Holding.{still_ground, still_works, still_weighs, held_works, held_ground, held_place, held_heavier}
 use Rattle.ephemerons.proofs.draining.drain_pairless.Goals as goal
 use Rattle.ephemerons.proofs.draining.drain_pairless.Goals.{After-next_listed-next-in-Some}
 
 pub loop-next-init : goal.loop-next-init
 loop-next-init c = record {
-  ground = subst (IsGround c.args.types.now)
-      (sym (still_stage c.args.marking.now c.next_listed-next.new.marking None c.next_listed-next.result c.next_listed-next.ensures.next c.args.seat.now
-      c.args.groups.now c.args.traced.now)) c.requires.ground;
+  ground = still_ground c.args.marking.now c.next_listed-next.new.marking None c.next_listed-next.result c.next_listed-next.ensures.next c.args.seat.now
+      c.args.groups.now c.args.traced.now c.args.types.now c.requires.ground;
   works = Works-same c.args.types.now _;
 }
 
@@ -25,15 +24,7 @@ trace_pairless-held-requires-clause-place c =
     (subst (λ (next : Option ℕ). IsGround c.args.types.now (stage c.loop-next.seat (with_held next c.loop-next.marking) c.args.groups.now c.loop-next.traced))
     c.in-Some.is c.loop-next.invariant.ground)
 
-goes_on : (c : After-next_listed-next-in-Some)
-    → stage c.trace_pairless-held.new.seat (with_held c.next_listed-next-in-Some.result c.next_listed-next-in-Some.new.marking) c.args.groups.now
-    c.trace_pairless-held.new.traced
-    ≡ stage c.trace_pairless-held.new.seat (with_held c.trace_pairless-held.result c.trace_pairless-held.new.marking) c.args.groups.now
-    c.trace_pairless-held.new.traced
-goes_on c =
-    still_stage c.trace_pairless-held.new.marking c.next_listed-next-in-Some.new.marking c.trace_pairless-held.result c.next_listed-next-in-Some.result
-    c.next_listed-next-in-Some.ensures.next c.trace_pairless-held.new.seat c.args.groups.now c.trace_pairless-held.new.traced
-
+-- one turn of the loop, up to what is held back then
 works : (c : After-next_listed-next-in-Some)
     → Works c.args.types.now None (stage c.loop-next.seat (with_held c.loop-next.next c.loop-next.marking) c.args.groups.now c.loop-next.traced)
     (stage c.trace_pairless-held.new.seat (with_held c.trace_pairless-held.result c.trace_pairless-held.new.marking) c.args.groups.now
@@ -48,25 +39,28 @@ works c =
 
 pub loop-next-smaller : goal.loop-next-smaller
 loop-next-smaller c =
-    subst (λ (s : Stage). weight s < weight (stage c.loop-next.seat (with_held c.loop-next.next c.loop-next.marking) c.args.groups.now c.loop-next.traced))
-    (sym (goes_on c))
-    (subst
-    (λ (next : Option ℕ). weight (stage c.trace_pairless-held.new.seat (with_held c.trace_pairless-held.result c.trace_pairless-held.new.marking)
+    subst
+    (λ (next : Option ℕ). weight (stage c.trace_pairless-held.new.seat (with_held c.next_listed-next-in-Some.result c.next_listed-next-in-Some.new.marking)
     c.args.groups.now c.trace_pairless-held.new.traced)
     < weight (stage c.loop-next.seat (with_held next c.loop-next.marking) c.args.groups.now c.loop-next.traced)) (sym c.in-Some.is)
     (omega (
       arith,
+      still_weighs c.trace_pairless-held.new.marking c.next_listed-next-in-Some.new.marking c.trace_pairless-held.result c.next_listed-next-in-Some.result
+          c.next_listed-next-in-Some.ensures.next c.trace_pairless-held.new.seat c.args.groups.now c.trace_pairless-held.new.traced,
       c.trace_pairless-held.ensures.works.lighter,
       held_heavier c.loop-next.seat c.loop-next.marking c.args.groups.now c.loop-next.traced c.in-Some.place,
-    )))
+    ))
 
 pub loop-next-preserved : goal.loop-next-preserved
 loop-next-preserved c = record {
-  ground = subst (IsGround c.args.types.now) (sym (goes_on c)) c.trace_pairless-held.ensures.ground;
+  ground = still_ground c.trace_pairless-held.new.marking c.next_listed-next-in-Some.new.marking c.trace_pairless-held.result
+      c.next_listed-next-in-Some.result c.next_listed-next-in-Some.ensures.next c.trace_pairless-held.new.seat c.args.groups.now
+      c.trace_pairless-held.new.traced c.args.types.now c.trace_pairless-held.ensures.ground;
   works =
       Works-then c.args.types.now None _ _ _ c.loop-next.invariant.works
-      (subst (Works c.args.types.now None (stage c.loop-next.seat (with_held c.loop-next.next c.loop-next.marking) c.args.groups.now c.loop-next.traced))
-      (sym (goes_on c)) (works c));
+      (Works-then c.args.types.now None _ _ _ (works c)
+      (still_works c.trace_pairless-held.new.marking c.next_listed-next-in-Some.new.marking c.trace_pairless-held.result c.next_listed-next-in-Some.result
+      c.next_listed-next-in-Some.ensures.next c.trace_pairless-held.new.seat c.args.groups.now c.trace_pairless-held.new.traced c.args.types.now));
 }
 
 pub returns-clause-ground : goal.returns-clause-ground
@@ -76,9 +70,9 @@ returns-clause-ground c =
 
 pub returns-clause-works : goal.returns-clause-works
 returns-clause-works c =
-    subst (λ (s : Stage). Works c.args.types.now None s (stage c.loop-next.seat c.loop-next.marking c.args.groups.now c.loop-next.traced))
-    (still_stage c.args.marking.now c.next_listed-next.new.marking None c.next_listed-next.result c.next_listed-next.ensures.next c.args.seat.now
-    c.args.groups.now c.args.traced.now)
+    Works-then c.args.types.now None _ _ _
+    (still_works c.args.marking.now c.next_listed-next.new.marking None c.next_listed-next.result c.next_listed-next.ensures.next c.args.seat.now
+    c.args.groups.now c.args.traced.now c.args.types.now)
     (subst
     (λ (next : Option ℕ). Works c.args.types.now None
     (stage c.args.seat.now (with_held c.next_listed-next.result c.next_listed-next.new.marking) c.args.groups.now c.args.traced.now)

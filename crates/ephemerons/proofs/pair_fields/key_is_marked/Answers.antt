@@ -1,6 +1,7 @@
-use Rattle.std.proofs.Common.{◌∙◌, sym, arith}
+use Rattle.std.proofs.Common.{◌++◌, ◌∙◌, sym, ap, arith}
+use Rattle.ephemerons.specs.Traces.{noted_unless}
 use Rattle.page_words.specs.BodyPlaces.{place_below}
-use Rattle.ephemerons.proofs.HandKeys.{key_place, key_marked}
+use Rattle.ephemerons.proofs.HandKeys.{key_place, key_marked, key_noted}
 use Rattle.ephemerons.proofs.pair_fields.key_is_marked.Goals as goal
 
 pub load-requires-clause-address : goal.load-requires-clause-address
@@ -22,3 +23,8 @@ pub returns-clause-hand : goal.returns-clause-hand
 returns-clause-hand c told =
     key_marked c.args.seat.now c.load.new.seat c.args.holder c.args.offset c.args.key c.load.result c.requires.hand c.load.ensures.view
     (sym c.has_mark.ensures ∙ told)
+
+pub returns-clause-noted : goal.returns-clause-noted
+returns-clause-noted c =
+    key_noted c.args.seat.now c.load.new.seat c.args.holder c.args.offset c.args.key c.load.result c.requires.hand c.load.ensures.view
+    ∙ ap (λ b. c.args.seat.now.noted ++ noted_unless b c.args.holder c.args.offset) (sym c.has_mark.ensures)

@@ -5,7 +5,7 @@ use Rattle.marker_core.specs.declared.states.Part.TheVariants.{Read}
 use Rattle.page_words.specs.BodyPlaces.{place_below}
 use Rattle.page_words.specs.Seat.{SeatView}
 use Rattle.ephemerons.proofs.FieldWords.{key_there, word_below, read_word, pair_in_hand}
-use Rattle.ephemerons.proofs.HandKeys.{key_place, key_read, key_told}
+use Rattle.ephemerons.proofs.HandKeys.{key_place, key_read, key_told, key_notes_none}
 use Rattle.ephemerons.proofs.HandLoads.{read_marks}
 use Rattle.ephemerons.proofs.pair_fields.read_key.Goals as goal
 
@@ -56,3 +56,7 @@ pub returns-clause-hand : goal.returns-clause-hand
 returns-clause-hand c =
     key_told c.args.seat.now c.load-reference.new.seat c.args.holder c.args.offset c.load-reference.result c.place_in.result c.requires.hand
     c.load-reference.ensures.view c.place_in.ensures
+
+pub returns-clause-noted : goal.returns-clause-noted
+returns-clause-noted c =
+    key_notes_none c.args.seat.now c.load-reference.new.seat c.args.holder c.args.offset c.load-reference.result c.requires.hand c.load-reference.ensures.view

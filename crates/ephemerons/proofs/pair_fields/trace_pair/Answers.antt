@@ -1,16 +1,19 @@
-use Rattle.std.proofs.Common.{rules, ◌≡◌, ◌+◌, ◌<◌, ◌^◌, true, sym, ap, ◌∙◌, subst, inl, inr, arith}
+use Rattle.std.proofs.Common.{rules, ◌≡◌, ◌+◌, ◌<◌, ◌^◌, ◌++◌, [], ◌∷◌, true, sym, ap, ◌∙◌, subst, inl, inr, arith}
 use Rattle.std.specs.List.{Contains}
+use Rattle.std.proofs.lemmas.List.{append-nil}
 use Rattle.marker_core.specs.Bodies.{holds}
 use Rattle.marker_core.specs.declared.states.Part.TheVariants.{Read}
 use Rattle.page_words.specs.Seat.{SeatView}
 use Rattle.ephemerons.specs.Marking.{heap_and_marks}
 use Rattle.ephemerons.specs.Fixpoint.{HasWord}
+use Rattle.ephemerons.specs.Traces.{noted_unless}
 use Rattle.ephemerons.specs.ListedMarks.{ListsMarks-then}
 use Rattle.ephemerons.proofs.FieldWords.{value_there, word_below, pair_in_hand, at_value}
 use Rattle.ephemerons.proofs.Graph.{pair_within}
 use Rattle.ephemerons.proofs.Holding.{fresh_listed}
 use Rattle.ephemerons.proofs.MarkSteps.{looks_list}
-use Rattle.ephemerons.proofs.NoteSteps.{asked}
+use Rattle.ephemerons.proofs.NoteSteps.{Asked, asked}
+use Rattle.ephemerons.proofs.Traced.{null_traces, kept_traces, waiting_traces}
 use Rattle.ephemerons.proofs.pair_fields.trace_pair.Goals as goal
 
 pub overflow_add-offset : goal.overflow_add-offset
@@ -50,7 +53,7 @@ returns-then-key_is_marked-clause-within c =
     let same : heap_and_marks u ≡ heap_and_marks v = c.key_is_marked.ensures.view ∙ c.read_key.ensures.view in
     let key_marked : holds v.marked c.in-Some.key ≡ true =
     sym (ap (λ (x : SeatView). holds x.marked c.in-Some.key) c.read_key.ensures.view) ∙ sym c.key_is_marked.ensures.mark ∙ c.if-key_is_marked.true in
-    pair_within v.types v c.trace_target-fresh.new.seat at.body c.args.offset c.in-Some.key c.bodies_lie_apart.ensures at.there
+    pair_within v.types v c.trace_target-fresh.new.seat at.body c.args.offset c.in-Some.key at.there
     (subst (λ p. holds v.marked p ≡ true) (sym at.place_is) c.requires.marked) at.among (c.in-Some.ensures.key at.body at.there at.place_is) key_marked
     (λ p marked. elim (c.trace_target-fresh.ensures.only at.body p (subst (λ bs. Contains bs at.body) (sym (ap (λ (x : SeatView). x.bodies) same)) at.there)
     at.place_is marked) [
@@ -58,14 +61,53 @@ returns-then-key_is_marked-clause-within c =
       | inr is ↦ inr is
     ])
 
-pub returns-else-key_is_marked-clause-notes : goal.returns-else-key_is_marked-clause-notes
-returns-else-key_is_marked-clause-notes c =
+pub returns-then-key_is_marked-clause-told : goal.returns-then-key_is_marked-clause-told
+returns-then-key_is_marked-clause-told c =
+    let v = c.args.seat.now in
+    let u = c.key_is_marked.new.seat in
+    let w = c.trace_target-fresh.new.seat in
+    let same : heap_and_marks u ≡ heap_and_marks v = c.key_is_marked.ensures.view ∙ c.read_key.ensures.view in
+    let marks = c.trace_target-fresh.ensures.marks c.args.marking.now in
+    let noted : w.noted ≡ v.noted =
+    c.trace_target-fresh.ensures.noted ∙ c.key_is_marked.ensures.noted
+    ∙ ap (λ b. c.read_key.new.seat.noted ++ noted_unless b c.args.holder c.args.offset) c.if-key_is_marked.true ∙ append-nil c.read_key.new.seat.noted
+    ∙ c.read_key.ensures.noted in
+    let key_marked : holds u.marked c.in-Some.key ≡ true =
+    ap (λ (x : SeatView). holds x.marked c.in-Some.key) c.key_is_marked.ensures.view ∙ sym c.key_is_marked.ensures.mark ∙ c.if-key_is_marked.true in
+    kept_traces v w c.args.notes.now c.args.notes.now c.args.holder c.args.offset c.in-Some.key
+    (ap (λ (x : SeatView). x.bodies) marks.view ∙ ap (λ (x : SeatView). x.bodies) same) noted c.in-Some.ensures.key
+    (marks.marked c.in-Some.key key_marked) c.trace_target-fresh.ensures.named
+    (λ b q there at marked. elim (c.trace_target-fresh.ensures.only b q (subst (λ bs. Contains bs b) (sym (ap (λ (x : SeatView). x.bodies) same)) there) at marked) [
+      | inl old ↦ inl (subst (λ l. holds l q ≡ true) (ap (λ (x : SeatView). x.marked) same) old)
+      | inr is ↦ inr is
+    ])
+
+-- the note that was asked for
+note_asked : (c : goal.After-note)
+    → Asked c.args.seat.now.types c.args.seat.now.bodies c.args.notes.now c.note.new.self c.args.holder c.args.offset
+note_asked c =
     let at = c.requires.hand in
-    (asked c.args.seat.now.types c.args.seat.now.bodies c.args.notes.now c.note.new.self c.args.holder c.args.offset c.note.result c.note.ensures.noted
-    c.note.ensures.refused (at.body, at.there, at.place_is, at.among)).0
+    asked c.args.seat.now.types c.args.seat.now.bodies c.args.notes.now c.note.new.self c.args.holder c.args.offset c.note.result c.note.ensures.noted
+    c.note.ensures.refused c.note.ensures.fits (at.body, at.there, at.place_is, at.among)
+
+pub returns-else-key_is_marked-clause-notes : goal.returns-else-key_is_marked-clause-notes
+returns-else-key_is_marked-clause-notes c = (note_asked c).grow
 
 pub returns-else-key_is_marked-clause-pair : goal.returns-else-key_is_marked-clause-pair
-returns-else-key_is_marked-clause-pair c fine b k w there where_it_is pair key value =
-    let at = c.requires.hand in
-    inr ((asked c.args.seat.now.types c.args.seat.now.bodies c.args.notes.now c.note.new.self c.args.holder c.args.offset c.note.result c.note.ensures.noted
-    c.note.ensures.refused (at.body, at.there, at.place_is, at.among)).1 fine)
+returns-else-key_is_marked-clause-pair c fine b k w there where_it_is pair key value = inr ((note_asked c).there fine)
+
+pub returns-else-key_is_marked-clause-told : goal.returns-else-key_is_marked-clause-told
+returns-else-key_is_marked-clause-told c =
+    let v = c.args.seat.now in
+    let u = c.key_is_marked.new.seat in
+    waiting_traces v u c.args.notes.now c.note.new.self c.args.holder c.args.offset c.in-Some.key (c.key_is_marked.ensures.view ∙ c.read_key.ensures.view)
+    (c.key_is_marked.ensures.noted
+    ∙ ap (λ b. c.read_key.new.seat.noted ++ noted_unless b c.args.holder c.args.offset) c.if-key_is_marked.false
+    ∙ ap (λ l. l ++ (c.args.holder, c.args.offset) ∷ []) c.read_key.ensures.noted) c.in-Some.ensures.key
+    (ap (λ (x : SeatView). holds x.marked c.in-Some.key) (sym c.read_key.ensures.view) ∙ sym c.key_is_marked.ensures.mark ∙ c.if-key_is_marked.false)
+    (note_asked c).follow
+
+pub returns-in-None-clause-told : goal.returns-in-None-clause-told
+returns-in-None-clause-told c =
+    null_traces c.args.seat.now c.read_key.new.seat c.args.notes.now c.args.notes.now c.args.holder c.args.offset c.read_key.ensures.view
+    c.read_key.ensures.noted c.in-None.ensures.key

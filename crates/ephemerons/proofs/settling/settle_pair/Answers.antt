@@ -86,7 +86,7 @@ returns-clause-looks c =
     (key_reference c.args.types.now c.args.seat.now.bodies c.args.holder c.args.word c.word_of-key.result c.requires.ground.references has is_key)
     (rw (c.word_of-key.ensures.view, c.is_marked.ensures.view) at c.names_marked.ensures.named) c.names_marked.ensures.null c.if-not-names_marked.false in
     let within : GrowsWithin c.args.types.now c.args.seat.now c.mark_reference.new.seat =
-    pair_within c.args.types.now c.args.seat.now c.mark_reference.new.seat has.0 c.args.word key.0 c.bodies_lie_apart.ensures has.1
+    pair_within c.args.types.now c.args.seat.now c.mark_reference.new.seat has.0 c.args.word key.0 has.1
     (subst (λ p. holds c.args.seat.now.marked p ≡ true) (sym has.2) (sym c.is_marked.ensures.mark ∙ c.if-not-is_marked.false)) has.3 (sym is_key ∙ key.1) key.2
     (λ p marked. elim (c.mark_reference.ensures.only p marked) [ inl old ↦ inl (rw same at old) | inr is ↦ inr (sym is_value ∙ is) ]) in
     record {

@@ -16,6 +16,6 @@ trace_target-requires-clause-hand c = at_strong c.args.seat.now c.args.holder c.
 pub returns-clause-within : goal.returns-clause-within
 returns-clause-within c =
     let at = c.requires.hand in
-    strong_within c.args.seat.now.types c.args.seat.now c.args.seat.now c.trace_target.new.seat at.body c.args.offset c.bodies_lie_apart.ensures at.there
+    strong_within c.args.seat.now.types c.args.seat.now c.args.seat.now c.trace_target.new.seat at.body c.args.offset at.there
     (subst (λ p. holds c.args.seat.now.marked p ≡ true) (sym at.place_is) c.requires.marked) at.among (λ test closed held p marked. held p marked)
     (λ p marked. c.trace_target.ensures.only at.body p at.there at.place_is marked)

@@ -6,7 +6,7 @@ use Rattle.ephemerons.specs.Marking.{heap_and_marks}
 use Rattle.ephemerons.specs.Fixpoint.{with_held}
 use Rattle.ephemerons.specs.ListedMarks.{ListsMarks-then}
 use Rattle.ephemerons.proofs.FieldWords.{read_word}
-use Rattle.ephemerons.proofs.HandLoads.{read_marks, read_lists, target_may, target_moves}
+use Rattle.ephemerons.proofs.HandLoads.{read_marks, read_lists, target_may, target_moves, target_notes_none}
 use Rattle.ephemerons.proofs.Holding.{no_marking}
 use Rattle.ephemerons.proofs.MarkSteps.{same_bodies}
 use Rattle.ephemerons.proofs.strong_fields.trace_target.Goals as goal
@@ -45,3 +45,9 @@ pub returns-clause-hand : goal.returns-clause-hand
 returns-clause-hand c =
     target_moves c.args.seat.now c.load-reference.new.seat c.mark_named.new.seat (c.args.holder + c.args.offset) c.load-reference.result c.requires.hand
     c.load-reference.ensures.view c.mark_named.ensures.null c.mark_named.ensures.hand
+
+pub returns-clause-noted : goal.returns-clause-noted
+returns-clause-noted c =
+    c.mark_named.ensures.noted
+    ∙ target_notes_none c.args.seat.now c.load-reference.new.seat (c.args.holder + c.args.offset) c.load-reference.result c.requires.hand
+    c.load-reference.ensures.view

@@ -1,4 +1,10 @@
-use Rattle.std.proofs.Common.{subst}
+use Rattle.std.proofs.Common.{◌≡◌, sym, ap, ◌∙◌, subst}
+use Rattle.type_table.specs.Types.{kinds_of}
+use Rattle.type_table.specs.TracedWords.{traced_words_of}
+use Rattle.marker_core.specs.declared.states.Body.{Body}
+use Rattle.page_words.specs.BodyPlaces.{same_body}
+use Rattle.ephemerons.specs.BodyGraph.{HasType}
+use Rattle.ephemerons.specs.Traces.{Traces}
 use Rattle.page_words.specs.Seat.{SeatView}
 use Rattle.ephemerons.specs.Marking.{GrowsWithin}
 use Rattle.ephemerons.proofs.tracing.trace.Goals as goal
@@ -6,3 +12,13 @@ use Rattle.ephemerons.proofs.tracing.trace.Goals as goal
 pub returns-clause-within : goal.returns-clause-within
 returns-clause-within c =
     subst (λ (v : SeatView). GrowsWithin c.args.types.now v c.trace_fields.new.seat) c.type_of-ty.ensures.view c.trace_fields.ensures.within
+
+pub returns-clause-told : goal.returns-clause-told
+returns-clause-told c ty has =
+    let known : HasType c.args.seat.now.bodies c.args.place c.type_of-ty.result = c.type_of-ty.ensures.body in
+    let one : known.0 ≡ has.0 = same_body c.args.seat.now known.0 has.0 c.bodies_lie_apart.ensures known.1 has.1 (known.2 ∙ sym has.2) in
+    let same : c.type_of-ty.result ≡ ty = sym known.3 ∙ ap (λ (b : Body). b.ty) one ∙ has.3 in
+    subst (λ t. Traces c.args.seat.now c.args.notes.now c.trace_fields.new.seat c.trace_fields.new.notes c.args.place (traced_words_of (kinds_of c.args.types.now t)))
+    same
+    (subst (λ (v : SeatView). Traces v c.args.notes.now c.trace_fields.new.seat c.trace_fields.new.notes c.args.place
+    (traced_words_of (kinds_of c.args.types.now c.type_of-ty.result))) c.type_of-ty.ensures.view c.trace_fields.ensures.told)

@@ -1,6 +1,6 @@
-use Rattle.std.proofs.Common.{◌≡◌, ℕ, List, get_or, ap, ◌∙◌, sym, subst, inl, inr, refl, arith}
+use Rattle.std.proofs.Common.{◌≡◌, ℕ, List, [], ◌∷◌, get_or, take, ap, ◌∙◌, sym, subst, inl, inr, refl, arith}
 use Rattle.std.specs.List.{Contains}
-use Rattle.std.proofs.lemmas.List.{take_all}
+use Rattle.std.proofs.lemmas.List.{take_all, take_more}
 use Rattle.gc_graph.specs.Members.{Contains-take_more_cases}
 use Rattle.gc_graph.specs.State.{ObjectType}
 use Rattle.type_table.specs.declared.traced.TracedWord.{TracedWord}
@@ -10,14 +10,16 @@ use Rattle.type_table.specs.TracedWords.{traced_words_of}
 use Rattle.ephemerons.specs.Marking.{GrowsWithin, HasStrongMarked}
 use Rattle.ephemerons.specs.Notes.{NotesGrow, HasPairsNoted}
 use Rattle.ephemerons.specs.InHand.{IsWordTraced, traced_in}
+use Rattle.ephemerons.specs.Traces.{Traces}
 use Rattle.ephemerons.specs.ListedMarks.{ListsMarks-then}
 use Rattle.ephemerons.proofs.HandPath.{hand_at_first, hand_at_next, hand_at_end}
 use Rattle.ephemerons.proofs.Holding.{ListsMarks-same}
 use Rattle.ephemerons.proofs.MarkSteps.{same_bodies, same_types}
 use Rattle.ephemerons.proofs.NoPairs.{nothing_noted}
 use Rattle.ephemerons.proofs.NoteSteps.{NotesGrow-then}
+use Rattle.ephemerons.proofs.Traced.{Traces-none, Traces-then}
 use Rattle.ephemerons.proofs.StrongWords.{within_then}
-use Rattle.ephemerons.proofs.TracedFields.{told_length, at_each_word, word_stays, strong_done, pairs_done}
+use Rattle.ephemerons.proofs.TracedFields.{told_length, told_apart, at_each_word, word_stays, strong_done, pairs_done}
 use Rattle.ephemerons.proofs.tracing.trace_fields.Goals as goal
 
 pub loop-word-init : goal.loop-word-init
@@ -26,6 +28,7 @@ loop-word-init c = record {
   within = λ test closed held p marked. held p marked;
   notes = nothing_noted c.args.seat.now.types c.args.seat.now.bodies c.args.notes.now;
   done = λ word there. absurd (omega (arith, there.1));
+  told = Traces-none c.args.seat.now c.args.notes.now c.args.place;
   hand = hand_at_first c.args.seat.now.types c.args.seat.now c.args.place c.args.ty refl c.requires.hand;
 }
 
@@ -64,6 +67,10 @@ loop-word-preserved c =
         | inr here ↦ subst (IsWordTraced u.types w c.args.place c.trace_word.new.notes) here
             (subst (λ (ts : List ObjectType). IsWordTraced ts w c.args.place c.trace_word.new.notes (get_or told i (StrongAt 0))) types c.trace_word.ensures.done)
       ];
+      told = subst (Traces u c.args.notes.now w c.trace_word.new.notes c.args.place) (sym (take_more told i (StrongAt 0) c.loop-word-test.true))
+          (Traces-then u v w c.args.notes.now c.loop-word.notes c.trace_word.new.notes c.args.place (take i told) (get_or told i (StrongAt 0) ∷ []) bodies
+          marks.marked c.trace_word.ensures.marks.marked grow.overflow (told_apart u.types c.args.ty told is i c.loop-word-test.true) c.loop-word.invariant.told
+          c.trace_word.ensures.told);
       hand = hand_at_next u.types v w c.args.place c.args.ty i types (omega (arith, c.loop-word-test.true, told_length u.types c.args.ty told is))
           c.loop-word.invariant.hand c.trace_word.ensures.hand;
     }
@@ -93,6 +100,12 @@ returns-clause-pairs c fine =
     (c.traced_words-traced.ensures ∙ ap (λ (ts : List ObjectType). traced_words_of (kinds_of ts c.args.ty)) (sym c.requires.types))
     (same_bodies u w c.args.marking.now c.loop-word.marking c.loop-word.invariant.marks)
     (λ word there. c.loop-word.invariant.done word (subst (λ l. Contains l word) (sym (take_all c.loop-word.word-index told (omega arith))) there)) fine)
+
+pub returns-clause-told : goal.returns-clause-told
+returns-clause-told c =
+    let told : List TracedWord = c.traced_words-traced.result.now in
+    subst (Traces c.args.seat.now c.args.notes.now c.loop-word.seat c.loop-word.notes c.args.place)
+    (take_all c.loop-word.word-index told (omega arith) ∙ c.traced_words-traced.ensures) c.loop-word.invariant.told
 
 pub returns-clause-hand : goal.returns-clause-hand
 returns-clause-hand c =

@@ -6,4 +6,5 @@ invariant-loop-i l = record {
   view : l.seat ≡ l.initial.seat;
   notes : l.self-inside.notes ≡ l.initial.self-inside.notes;
   overflow : l.self-inside.overflow ≡ l.initial.self-inside.overflow;
+  refused : l.self-inside.refused ≡ l.initial.self-inside.refused;
 }

@@ -9,7 +9,7 @@ use Rattle.gc_graph.specs.Graph.{pair_targets}
 use Rattle.gc_graph.specs.Fields.{words_of_kind}
 use Rattle.ephemerons.specs.BodyGraph.{values_in}
 use Rattle.gc_graph.specs.Members.{Contains-cons_cases, Contains-cons, Contains-head}
-use Rattle.ephemerons.proofs.Fields.{first_of, IsFieldOf, later_field, tail_field, other_field, word_after_one, word_after_two, two_more}
+use Rattle.ephemerons.specs.Fields.{first_of, IsFieldOf, later_field, tail_field, other_field, word_after_one, word_after_two, two_more}
 
 -- a pair whose words name k and q
 pub record PairsIn (kinds : List Kind) (words : List ℕ) (k q : ℕ) : Type 0 where
