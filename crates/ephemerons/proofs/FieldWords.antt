@@ -1,5 +1,5 @@
 -- The words of strong fields and of pairs: they lie among the fields, are read as they are, and what they are to the hand.
-use Rattle.std.proofs.Common.{◌≡◌, ℕ, ◌+◌, ◌-◌, ◌<◌, ◌≤◌, length, refl, sym, ap, ◌∙◌, arith}
+use Rattle.std.proofs.Common.{◌≡◌, ℕ, ◌+◌, ◌-◌, ◌<◌, ◌≤◌, length, refl, sym, ap, ◌∙◌, subst, arith}
 use Rattle.std.specs.List.{Contains}
 use Rattle.std.proofs.lemmas.Bool.{eq-eqb}
 use Rattle.gc_graph.specs.declared.kind.Kind.{Kind}
@@ -9,9 +9,9 @@ use Rattle.type_table.specs.Types.{kinds_of as kinds_in, offsets_of_kind}
 use Rattle.marker_core.specs.declared.states.Body.{Body}
 use Rattle.marker_core.specs.declared.states.Part.{Part}
 use Rattle.marker_core.specs.declared.states.Part.TheVariants.{Read, Value}
-use Rattle.marker_core.specs.Bodies.{word_count}
+use Rattle.marker_core.specs.Bodies.{word_count, IsPlace}
 use Rattle.marker_core.specs.Hands.{part_found}
-use Rattle.page_words.specs.BodyPlaces.{whole_body, same_body}
+use Rattle.page_words.specs.BodyPlaces.{whole_body, same_body, no_place_within}
 use Rattle.page_words.specs.Roles.{kinds_fit, word_count_is}
 use Rattle.page_words.specs.Seat.{SeatView, IsView, IsWordAt}
 use Rattle.ephemerons.specs.BodyGraph.{HasStrong, HasPair, strong_offsets, pair_offsets, word_at}
@@ -35,6 +35,14 @@ pub word_below : (v : SeatView) (holder offset : ℕ) → IsView v → HasWord v
 word_below v holder offset view has =
     let whole = whole_body v view has.0 has.1 in
     omega (arith, has.2, has.3, has.4, whole.fields, whole.inside)
+
+-- a field word is no header
+pub word_is_no_place : (v : SeatView) (holder offset : ℕ) → IsView v → HasWord v.bodies holder offset → IsPlace v.bodies (holder + offset) → ⊥
+word_is_no_place v holder offset view has at =
+    let b : Body = has.0 in
+    let whole = whole_body v view b has.1 in
+    no_place_within v b offset view has.1 (omega (arith, has.3)) (omega (arith, whole.fields, has.3, has.4))
+    (subst (λ p. IsPlace v.bodies (p + offset)) (sym has.2) at)
 
 -- a field word is read as it is
 pub read_word : (v : SeatView) (holder offset w : ℕ) → IsView v → HasWord v.bodies holder offset → IsWordAt v (holder + offset) w → (b : Body)

@@ -11,6 +11,7 @@ pub mod NoteSteps
 pub mod Traced
 pub mod Stages
 pub mod Looks
+pub mod OnlyLooks
 pub mod MarkStages
 pub mod GroupSteps
 pub mod GreySteps

@@ -10,7 +10,7 @@ use Rattle.type_table.specs.declared.traced.TracedWord.{TracedWord}
 use Rattle.type_table.specs.declared.traced.TracedWord.TheVariants.{StrongAt, PairAt}
 use Rattle.marker_core.specs.Bodies.{holds}
 use Rattle.marker_core.specs.declared.states.Body.{Body}
-use Rattle.page_words.specs.Seat.{SeatView}
+use Rattle.page_words.specs.Seat.{SeatView, OnlyLooked}
 use Rattle.ephemerons.specs.BodyGraph.{word_at}
 use Rattle.ephemerons.specs.Marking.{heap_and_marks, HasTargetMarked}
 use Rattle.ephemerons.specs.Notes.{NotesState}
@@ -228,3 +228,30 @@ module _ (u v w : SeatView) (r s t : NotesState) (place : ℕ) (first later : Li
     kept = kept;
     only = only;
   }
+
+-- ---- headers were looked at before
+
+waits_from : (u v : SeatView) → OnlyLooked u v → (b : Body) (words : List TracedWord) (pair : ℕ × ℕ) → IsWaiting v b words pair → IsWaiting u b words pair
+waits_from u v same b words pair x = record {
+  holder = x.holder;
+  word = x.word;
+  key = x.key;
+  named = x.named;
+  unmarked = ap (λ (z : SeatView). holds z.marked x.key) (sym same) ∙ x.unmarked;
+}
+
+pub traces_from : (u v : SeatView) → OnlyLooked u v → (old : NotesState) (w : SeatView) (new : NotesState) (place : ℕ) (words : List TracedWord)
+    → Traces v old w new place words → Traces u old w new place words
+traces_from u v same old w new place words x =
+    let body : (b : Body) → Contains u.bodies b → Contains v.bodies b = λ b there. subst (λ bs. Contains bs b) (ap (λ (z : SeatView). z.bodies) (sym same)) there in
+    record {
+      pairs = x.pairs;
+      noted = x.noted ∙ ap (λ (z : SeatView). z.noted ++ x.pairs) same;
+      notes = x.notes;
+      waiting = λ b pair there at among. waits_from u v same b words pair (x.waiting b pair (body b there) at among);
+      kept = λ b offset key there at among named. x.kept b offset key (body b there) at among named;
+      only = λ b q there at marked. elim (x.only b q (body b there) at marked) [
+        | inl before ↦ inl (ap (λ (z : SeatView). holds z.marked q) (sym same) ∙ before)
+        | inr new_one ↦ inr new_one
+      ];
+    }

@@ -8,8 +8,8 @@ ghost use Rattle.marker_core.specs.Bodies.{IsPlace, IsReference};
 ghost use Rattle.marker_core.specs.declared.states.Body.{Body};
 ghost use Rattle.marker_core.specs.Bodies.{holds};
 ghost use Rattle.marker_core.specs.Hands.{hand_after_mark, each_hand};
-ghost use Rattle.marker_core.specs.Layout as layout;
 ghost use Rattle.page_words.specs.Roles.{kind_lists};
+ghost use Rattle.page_words.specs.Seat.{OnlyLooked};
 ghost use Rattle.page_space.specs.Space.{IsSeatOf};
 ghost use Rattle.ephemerons.specs.BodyGraph.{HasType, word_at};
 ghost use Rattle.ephemerons.specs.Marking.{heap_and_marks};
@@ -18,9 +18,9 @@ ghost use Rattle.ephemerons.specs.Fixpoint.{ListsMarks, IsListed, HasWord, weigh
 ghost use Rattle.ephemerons.specs.Fixpoint.{IsStillHeld, with_held};
 
 use mark_worklist::Marking;
-use object_headers::{Header, place_in, with_mark};
+use object_headers::{Header, place_in};
 use page_space::Space;
-use page_words::{MutatorSeat, Reading, Words};
+use page_words::{MutatorSeat, Reading, Words, has_mark};
 
 /// Whether the object that a reference names is marked. Null names none.
 pub(crate) fn names_marked(space: &Space, seat: &mut MutatorSeat, reference: u64) -> bool
@@ -29,7 +29,7 @@ pub(crate) fn names_marked(space: &Space, seat: &mut MutatorSeat, reference: u64
     requires reference { IsReference seat.old.bodies reference }
     ensures named { (p : ℕ) → reference ≡ reference_to p → result ≡ holds seat.old.marked p }
     ensures null { reference ≡ 0 → result ≡ false }
-    ensures view { seat.new ≡ seat.old }
+    ensures view { OnlyLooked seat.old seat.new }
 {
     seat.bodies_lie_apart();
     reference != 0 && is_marked(space.words(), seat, (reference - 1) as u32)
@@ -41,17 +41,10 @@ pub(crate) fn is_marked(words: &Words, seat: &mut MutatorSeat, place: u32) -> bo
     requires alone { seat.old.lent ≡ 0 }
     requires place { IsPlace seat.old.bodies place }
     ensures mark { result ≡ holds seat.old.marked place }
-    ensures view { seat.new ≡ seat.old }
+    ensures view { OnlyLooked seat.old seat.new }
 {
     seat.bodies_lie_apart();
     has_mark(words.load::<Reading>(seat, place))
-}
-
-/// Whether the mark is set in the word of a header.
-pub(crate) fn has_mark(header: u64) -> bool
-    ensures { result ≡ layout.has_mark header }
-{
-    header == with_mark(header, true)
 }
 
 /// The type of the object at a place.
@@ -59,7 +52,7 @@ pub(crate) fn type_of(words: &Words, seat: &mut MutatorSeat, place: u32) -> u32
     requires heap { seat.old.count ≡ words.now }
     requires place { IsPlace seat.old.bodies place }
     ensures body { HasType seat.old.bodies place result }
-    ensures view { seat.new ≡ seat.old }
+    ensures view { OnlyLooked seat.old seat.new }
 {
     seat.bodies_lie_apart();
     Header::type_in(words.load::<Reading>(seat, place))

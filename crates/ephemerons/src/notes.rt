@@ -2,6 +2,7 @@
 
 ghost use Rattle.std.specs.Prelude.{◌≡◌, true, false, ◌<◌, ◌≤◌, length};
 ghost use Rattle.mark_worklist.specs.Lists.{last_count};
+ghost use Rattle.page_words.specs.Seat.{OnlyLooked};
 ghost use Rattle.ephemerons.specs.Notes.{no_notes, note_at, noted, overflowed, cleared};
 
 use key_index::Index;
@@ -122,7 +123,7 @@ impl Pairs {
     /// Brings the notes that were made since the last call into the index.
     pub(crate) fn index_notes(&mut self, words: &Words, seat: &mut MutatorSeat)
         requires heap { seat.old.count ≡ words.now }
-        ensures view { seat.new ≡ seat.old }
+        ensures view { OnlyLooked seat.old seat.new }
         ensures notes { self.new ≡ self.old }
     {
         for i in self.indexed..self.notes.len() {

@@ -15,12 +15,12 @@ ghost use Rattle.ephemerons.specs.InHand.{IsTracing, IsAt, moved_on};
 ghost use Rattle.ephemerons.specs.Traces.{Traces, noted_unless};
 ghost use Rattle.ephemerons.specs.Fixpoint.{ListsMarks};
 
-use crate::marks::{has_mark, list_held};
+use crate::marks::list_held;
 use crate::notes::Pairs;
 use crate::strong_fields::trace_target;
 use mark_worklist::Marking;
 use object_headers::place_in;
-use page_words::{MutatorSeat, Tracing, Words};
+use page_words::{MutatorSeat, Tracing, Words, has_mark};
 
 /// Marks and lists the value of the pair in hand where the key is marked, and notes the pair
 /// otherwise. A pair without a key asks for nothing.

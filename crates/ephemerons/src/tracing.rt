@@ -23,9 +23,9 @@ use crate::notes::Pairs;
 use crate::pair_fields::trace_pair;
 use crate::strong_fields::{trace_strong, trace_strong_word};
 use mark_worklist::Marking;
-use object_headers::{Header, with_mark, with_traced};
+use object_headers::{Header, with_traced};
 use page_space::Space;
-use page_words::{MutatorSeat, Reading, Words};
+use page_words::{MutatorSeat, Reading, Words, has_mark};
 use type_table::{TracedWord, TypeTable};
 
 /// Traces an object that this seat claimed, and that is in hand as the claim left it: marks and
@@ -201,11 +201,7 @@ fn claim(words: &Words, seat: &mut MutatorSeat, place: u32) -> Option<u32>
 {
     seat.bodies_lie_apart();
     let word = words.load::<Reading>(seat, place);
-    // Two tests, of a bit each: the compiler makes one of them.
-    if word != with_mark(word, true) {
-        return None;
-    }
-    if word != with_traced(word, false) {
+    if !has_mark(word) || word != with_traced(word, false) {
         return None;
     }
     if !words.claim(seat, place, word) {

@@ -1,14 +1,18 @@
-use Rattle.std.proofs.Common.{rules, ◌≡◌, ◌+◌, ◌<◌, ◌^◌, true, List, sym, ap, ◌∙◌, subst, inl, inr, arith}
+use Rattle.std.proofs.Common.{rules, ◌≡◌, ◌+◌, ◌<◌, ◌^◌, true, false, List, None, sym, ap, ◌∙◌, subst, inl, inr, arith}
 use Rattle.std.specs.List.{Contains}
 use Rattle.std.proofs.lemmas.Bool.{true≢false}
 use Rattle.gc_graph.specs.State.{ObjectType}
 use Rattle.marker_core.specs.Bodies.{holds}
-use Rattle.page_words.specs.Seat.{SeatView}
+use Rattle.page_words.specs.Seat.{SeatView, OnlyLooked, unlooked}
 use Rattle.ephemerons.specs.BodyGraph.{HasPair, pair_offsets, word_at}
 use Rattle.ephemerons.specs.Marking.{GrowsWithin}
 use Rattle.ephemerons.proofs.FieldWords.{key_there, value_there, word_below}
 use Rattle.ephemerons.proofs.Graph.{pair_within}
 use Rattle.ephemerons.proofs.MarkSteps.{same_bodies}
+use Rattle.ephemerons.specs.Fixpoint.{stage}
+use Rattle.ephemerons.specs.Notes.{note_of}
+use Rattle.ephemerons.proofs.Looks.{Looks-then, settled_stays}
+use Rattle.ephemerons.proofs.OnlyLooks.{grows_from, ground_looked, looks_none, stage_looked}
 use Rattle.ephemerons.proofs.PairWords.{key_reference, marked_key, value_may, pair_settled}
 use Rattle.ephemerons.proofs.MarkStages.{marks_work, marks_ground, marks_lighter, marks_still}
 use Rattle.ephemerons.proofs.settling.settle_pair.Goals as goal
@@ -16,23 +20,52 @@ use Rattle.ephemerons.proofs.settling.settle_pair.Goals as goal
 pub word_of-key-requires-clause-field : goal.word_of-key-requires-clause-field
 word_of-key-requires-clause-field c =
     let v = c.args.seat.now in
-    rw c.is_marked.ensures.view (key_there v c.args.holder c.args.word c.bodies_lie_apart.ensures
+    rw (ap (λ (u : SeatView). u.bodies) c.is_marked.ensures.view) (key_there v c.args.holder c.args.word c.bodies_lie_apart.ensures
     (subst (λ (ts : List ObjectType). HasPair ts v.bodies c.args.holder c.args.word) (sym c.requires.ground.known) c.requires.pair))
 
 pub names_marked-requires-clause-reference : goal.names_marked-requires-clause-reference
 names_marked-requires-clause-reference c =
     let has : HasPair c.args.types.now c.args.seat.now.bodies c.args.holder c.args.word = c.requires.pair in
-    rw (c.word_of-key.ensures.view, c.is_marked.ensures.view)
+    rw (c.word_of-key.ensures.view, ap (λ (u : SeatView). u.bodies) c.is_marked.ensures.view)
     (key_reference c.args.types.now c.args.seat.now.bodies c.args.holder c.args.word c.word_of-key.result c.requires.ground.references has
-    (c.word_of-key.ensures.word has.0 (rw c.is_marked.ensures.view has.1) has.2))
+    (c.word_of-key.ensures.word has.0 (rw (ap (λ (u : SeatView). u.bodies) c.is_marked.ensures.view) has.1) has.2))
+
+-- what was looked at before the value is loaded
+looked : (v first key second value : SeatView) → OnlyLooked v first → key ≡ first → OnlyLooked key second → value ≡ second → OnlyLooked v value
+looked v first key second value one two three four = ap unlooked four ∙ three ∙ ap unlooked two ∙ one
+
+pub returns-then-not-is_marked-clause-ground : goal.returns-then-not-is_marked-clause-ground
+returns-then-not-is_marked-clause-ground c =
+    ground_looked c.args.seat.now c.is_marked.new.seat c.is_marked.ensures.view c.args.types.now c.args.marking.now c.args.groups.now c.args.traced
+    c.requires.ground
+
+pub returns-then-not-is_marked-clause-looks : goal.returns-then-not-is_marked-clause-looks
+returns-then-not-is_marked-clause-looks c =
+    looks_none c.args.seat.now c.is_marked.new.seat c.is_marked.ensures.view c.args.types.now c.args.marking.now c.args.groups.now c.args.traced
+
+pub returns-then-not-names_marked-clause-ground : goal.returns-then-not-names_marked-clause-ground
+returns-then-not-names_marked-clause-ground c =
+    ground_looked c.args.seat.now c.names_marked.new.seat
+    (c.names_marked.ensures.view ∙ ap unlooked c.word_of-key.ensures.view ∙ c.is_marked.ensures.view) c.args.types.now c.args.marking.now c.args.groups.now
+    c.args.traced c.requires.ground
+
+pub returns-then-not-names_marked-clause-looks : goal.returns-then-not-names_marked-clause-looks
+returns-then-not-names_marked-clause-looks c =
+    looks_none c.args.seat.now c.names_marked.new.seat
+    (c.names_marked.ensures.view ∙ ap unlooked c.word_of-key.ensures.view ∙ c.is_marked.ensures.view) c.args.types.now c.args.marking.now c.args.groups.now
+    c.args.traced
 
 pub returns-then-not-names_marked-clause-settled : goal.returns-then-not-names_marked-clause-settled
 returns-then-not-names_marked-clause-settled c told =
-    let same : c.names_marked.new.seat ≡ c.args.seat.now = c.names_marked.ensures.view ∙ c.word_of-key.ensures.view ∙ c.is_marked.ensures.view in
-    rw same (pair_settled c.args.types.now c.args.seat.now c.args.holder c.args.word c.requires.pair (λ b k w there at key value holder_marked key_marked.
-    (let is_key : c.word_of-key.result ≡ word_at b c.args.word = c.word_of-key.ensures.word b (rw c.is_marked.ensures.view there) at in
+    let same : OnlyLooked c.args.seat.now c.names_marked.new.seat =
+    c.names_marked.ensures.view ∙ ap unlooked c.word_of-key.ensures.view ∙ c.is_marked.ensures.view in
+    settled_stays c.args.types.now (stage c.args.seat.now c.args.marking.now c.args.groups.now c.args.traced)
+    (stage c.names_marked.new.seat c.args.marking.now c.args.groups.now c.args.traced)
+    (stage_looked c.args.seat.now c.names_marked.new.seat same c.args.types.now c.args.marking.now c.args.groups.now c.args.traced) (note_of c.args.holder c.args.word)
+    (pair_settled c.args.types.now c.args.seat.now c.args.holder c.args.word c.requires.pair (λ b k w there at key value holder_marked key_marked.
+    (let is_key : c.word_of-key.result ≡ word_at b c.args.word = c.word_of-key.ensures.word b (rw (ap (λ (u : SeatView). u.bodies) c.is_marked.ensures.view) there) at in
     let yes_marked : c.names_marked.result ≡ true =
-    c.names_marked.ensures.named k (is_key ∙ key) ∙ rw (c.word_of-key.ensures.view, c.is_marked.ensures.view) key_marked in
+    c.names_marked.ensures.named k (is_key ∙ key) ∙ rw (c.word_of-key.ensures.view, ap (λ (u : SeatView). u.marked) c.is_marked.ensures.view) key_marked in
     absurd (true≢false (sym yes_marked ∙ c.if-not-names_marked.true)))))
 
 pub overflow_add-word : goal.overflow_add-word
@@ -47,7 +80,7 @@ overflow_add-word c =
 pub word_of-value-requires-clause-field : goal.word_of-value-requires-clause-field
 word_of-value-requires-clause-field c =
     let v = c.args.seat.now in
-    rw (c.names_marked.ensures.view, c.word_of-key.ensures.view, c.is_marked.ensures.view)
+    rw (ap (λ (u : SeatView). u.bodies) c.names_marked.ensures.view, c.word_of-key.ensures.view, ap (λ (u : SeatView). u.bodies) c.is_marked.ensures.view)
     (value_there v c.args.holder c.args.word c.bodies_lie_apart.ensures
     (subst (λ (ts : List ObjectType). HasPair ts v.bodies c.args.holder c.args.word) (sym c.requires.ground.known) c.requires.pair))
 
@@ -55,13 +88,14 @@ pub mark_reference-requires-clause-may : goal.mark_reference-requires-clause-may
 mark_reference-requires-clause-may c p names =
     let v = c.args.seat.now in
     let has : HasPair c.args.types.now v.bodies c.args.holder c.args.word = c.requires.pair in
-    let is_key : c.word_of-key.result ≡ word_at has.0 c.args.word = c.word_of-key.ensures.word has.0 (rw c.is_marked.ensures.view has.1) has.2 in
+    let is_key : c.word_of-key.result ≡ word_at has.0 c.args.word = c.word_of-key.ensures.word has.0 (rw (ap (λ (u : SeatView). u.bodies) c.is_marked.ensures.view) has.1) has.2 in
     let is_value : c.word_of-value.result ≡ word_at has.0 (c.args.word + 1) = c.word_of-value.ensures.word has.0
-    (rw (c.names_marked.ensures.view, c.word_of-key.ensures.view, c.is_marked.ensures.view) has.1) has.2 in
+    (rw (ap (λ (u : SeatView). u.bodies) c.names_marked.ensures.view, c.word_of-key.ensures.view, ap (λ (u : SeatView). u.bodies) c.is_marked.ensures.view) has.1) has.2 in
     let key = marked_key v c.word_of-key.result c.names_marked.result
     (key_reference c.args.types.now v.bodies c.args.holder c.args.word c.word_of-key.result c.requires.ground.references has is_key)
-    (rw (c.word_of-key.ensures.view, c.is_marked.ensures.view) at c.names_marked.ensures.named) c.names_marked.ensures.null c.if-not-names_marked.false in
-    rw (c.word_of-value.ensures.view, c.names_marked.ensures.view, c.word_of-key.ensures.view, c.is_marked.ensures.view)
+    (rw (c.word_of-key.ensures.view, ap (λ (u : SeatView). u.marked) c.is_marked.ensures.view) at c.names_marked.ensures.named) c.names_marked.ensures.null c.if-not-names_marked.false in
+    subst (λ (u : SeatView). holds u.may p ≡ true) (sym (looked c.args.seat.now c.is_marked.new.seat c.word_of-key.new.seat c.names_marked.new.seat c.word_of-value.new.seat c.is_marked.ensures.view
+    c.word_of-key.ensures.view c.names_marked.ensures.view c.word_of-value.ensures.view))
     (value_may v has.0 c.args.word key.0 p c.bodies_lie_apart.ensures c.requires.ground.on has.1
     (subst (λ (ts : List ObjectType). Contains (pair_offsets ts has.0) c.args.word) (sym c.requires.ground.known) has.3)
     (subst (λ q. holds v.marked q ≡ true) (sym has.2) (sym c.is_marked.ensures.mark ∙ c.if-not-is_marked.false)) (sym is_key ∙ key.1) key.2
@@ -69,46 +103,51 @@ mark_reference-requires-clause-may c p names =
 
 pub returns-clause-ground : goal.returns-clause-ground
 returns-clause-ground c =
-    let same : c.word_of-value.new.seat ≡ c.args.seat.now =
-    c.word_of-value.ensures.view ∙ c.names_marked.ensures.view ∙ c.word_of-key.ensures.view ∙ c.is_marked.ensures.view in
-    marks_ground c.args.types.now c.args.seat.now c.mark_reference.new.seat c.args.marking.now c.mark_reference.new.marking c.args.groups.now c.args.traced
-    (rw same at c.mark_reference.ensures.marks) c.requires.ground
+    marks_ground c.args.types.now c.word_of-value.new.seat c.mark_reference.new.seat c.args.marking.now c.mark_reference.new.marking c.args.groups.now c.args.traced
+    c.mark_reference.ensures.marks
+    (ground_looked c.args.seat.now c.word_of-value.new.seat (looked c.args.seat.now c.is_marked.new.seat c.word_of-key.new.seat c.names_marked.new.seat c.word_of-value.new.seat c.is_marked.ensures.view
+    c.word_of-key.ensures.view c.names_marked.ensures.view c.word_of-value.ensures.view) c.args.types.now c.args.marking.now c.args.groups.now c.args.traced c.requires.ground)
 
 pub returns-clause-looks : goal.returns-clause-looks
 returns-clause-looks c =
-    let same : c.word_of-value.new.seat ≡ c.args.seat.now =
-    c.word_of-value.ensures.view ∙ c.names_marked.ensures.view ∙ c.word_of-key.ensures.view ∙ c.is_marked.ensures.view in
+    let same : OnlyLooked c.args.seat.now c.word_of-value.new.seat = looked c.args.seat.now c.is_marked.new.seat c.word_of-key.new.seat c.names_marked.new.seat c.word_of-value.new.seat c.is_marked.ensures.view
+    c.word_of-key.ensures.view c.names_marked.ensures.view c.word_of-value.ensures.view in
     let has : HasPair c.args.types.now c.args.seat.now.bodies c.args.holder c.args.word = c.requires.pair in
-    let is_key : c.word_of-key.result ≡ word_at has.0 c.args.word = c.word_of-key.ensures.word has.0 (rw c.is_marked.ensures.view has.1) has.2 in
+    let is_key : c.word_of-key.result ≡ word_at has.0 c.args.word = c.word_of-key.ensures.word has.0 (rw (ap (λ (u : SeatView). u.bodies) c.is_marked.ensures.view) has.1) has.2 in
     let is_value : c.word_of-value.result ≡ word_at has.0 (c.args.word + 1) = c.word_of-value.ensures.word has.0
-    (rw (c.names_marked.ensures.view, c.word_of-key.ensures.view, c.is_marked.ensures.view) has.1) has.2 in
+    (rw (ap (λ (u : SeatView). u.bodies) c.names_marked.ensures.view, c.word_of-key.ensures.view, ap (λ (u : SeatView). u.bodies) c.is_marked.ensures.view) has.1) has.2 in
     let key = marked_key c.args.seat.now c.word_of-key.result c.names_marked.result
     (key_reference c.args.types.now c.args.seat.now.bodies c.args.holder c.args.word c.word_of-key.result c.requires.ground.references has is_key)
-    (rw (c.word_of-key.ensures.view, c.is_marked.ensures.view) at c.names_marked.ensures.named) c.names_marked.ensures.null c.if-not-names_marked.false in
+    (rw (c.word_of-key.ensures.view, ap (λ (u : SeatView). u.marked) c.is_marked.ensures.view) at c.names_marked.ensures.named) c.names_marked.ensures.null c.if-not-names_marked.false in
     let within : GrowsWithin c.args.types.now c.args.seat.now c.mark_reference.new.seat =
     pair_within c.args.types.now c.args.seat.now c.mark_reference.new.seat has.0 c.args.word key.0 has.1
     (subst (λ p. holds c.args.seat.now.marked p ≡ true) (sym has.2) (sym c.is_marked.ensures.mark ∙ c.if-not-is_marked.false)) has.3 (sym is_key ∙ key.1) key.2
-    (λ p marked. elim (c.mark_reference.ensures.only p marked) [ inl old ↦ inl (rw same at old) | inr is ↦ inr (sym is_value ∙ is) ]) in
-    record {
-      works = marks_work c.args.types.now c.args.seat.now c.mark_reference.new.seat c.args.marking.now c.mark_reference.new.marking c.args.groups.now c.args.traced
-          (rw same at c.mark_reference.ensures.marks) within;
-      lighter = λ found. marks_lighter c.args.seat.now c.mark_reference.new.seat c.args.marking.now c.mark_reference.new.marking c.args.groups.now c.args.traced
-          (rw same at c.mark_reference.ensures.marks) (rw same at c.mark_reference.ensures.found found);
-      still = λ none. marks_still c.args.seat.now c.mark_reference.new.seat c.args.marking.now c.mark_reference.new.marking c.args.groups.now c.args.traced
-          (rw same at c.mark_reference.ensures.still none);
-    }
+    (λ p marked. elim (c.mark_reference.ensures.only p marked) [
+      | inl old ↦ inl (ap (λ (u : SeatView). holds u.marked p) (sym same) ∙ old)
+      | inr is ↦ inr (sym is_value ∙ is)
+    ]) in
+    let here = c.word_of-value.new.seat in
+    Looks-then c.args.types.now None _ (stage here c.args.marking.now c.args.groups.now c.args.traced) _ false c.mark_reference.result
+    (looks_none c.args.seat.now here same c.args.types.now c.args.marking.now c.args.groups.now c.args.traced)
+    (record {
+      works = marks_work c.args.types.now here c.mark_reference.new.seat c.args.marking.now c.mark_reference.new.marking c.args.groups.now c.args.traced
+          c.mark_reference.ensures.marks (grows_from here c.args.seat.now (sym same) c.args.types.now c.mark_reference.new.seat within);
+      lighter = λ found. marks_lighter here c.mark_reference.new.seat c.args.marking.now c.mark_reference.new.marking c.args.groups.now c.args.traced
+          c.mark_reference.ensures.marks (c.mark_reference.ensures.found found);
+      still = λ none. marks_still here c.mark_reference.new.seat c.args.marking.now c.mark_reference.new.marking c.args.groups.now c.args.traced
+          (c.mark_reference.ensures.still none);
+    })
 
 pub returns-clause-settled : goal.returns-clause-settled
 returns-clause-settled c told =
-    let same : c.word_of-value.new.seat ≡ c.args.seat.now =
-    c.word_of-value.ensures.view ∙ c.names_marked.ensures.view ∙ c.word_of-key.ensures.view ∙ c.is_marked.ensures.view in
     let bodies : c.mark_reference.new.seat.bodies ≡ c.args.seat.now.bodies =
     same_bodies c.word_of-value.new.seat c.mark_reference.new.seat c.args.marking.now c.mark_reference.new.marking c.mark_reference.ensures.marks
-    ∙ ap (λ (v : SeatView). v.bodies) same in
+    ∙ ap (λ (v : SeatView). v.bodies) (looked c.args.seat.now c.is_marked.new.seat c.word_of-key.new.seat c.names_marked.new.seat c.word_of-value.new.seat c.is_marked.ensures.view
+    c.word_of-key.ensures.view c.names_marked.ensures.view c.word_of-value.ensures.view) in
     pair_settled c.args.types.now c.mark_reference.new.seat c.args.holder c.args.word
     (subst (λ bs. HasPair c.args.types.now bs c.args.holder c.args.word) (sym bodies) c.requires.pair)
     (λ b k w there at key value holder_marked key_marked.
     (let before : Contains c.args.seat.now.bodies b = subst (λ bs. Contains bs b) bodies there in
     let is_value : c.word_of-value.result ≡ word_at b (c.args.word + 1) = c.word_of-value.ensures.word b
-    (rw (c.names_marked.ensures.view, c.word_of-key.ensures.view, c.is_marked.ensures.view) before) at in
+    (rw (ap (λ (u : SeatView). u.bodies) c.names_marked.ensures.view, c.word_of-key.ensures.view, ap (λ (u : SeatView). u.bodies) c.is_marked.ensures.view) before) at in
     c.mark_reference.ensures.target w (is_value ∙ value)))

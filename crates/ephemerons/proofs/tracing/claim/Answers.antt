@@ -1,5 +1,6 @@
-use Rattle.std.proofs.Common.{true, false, sym, ◌∙◌, subst}
+use Rattle.std.proofs.Common.{◌≡◌, true, false, refl, sym, ap, ◌∙◌, subst}
 use Rattle.std.specs.List.{Contains}
+use Rattle.object_headers.specs.Layout.{header_word}
 use Rattle.marker_core.specs.Bodies.{holds}
 use Rattle.page_words.specs.BodyPlaces.{small_type}
 use Rattle.page_words.specs.Seat.{SeatView}
@@ -8,10 +9,13 @@ use Rattle.ephemerons.proofs.tracing.claim.Goals as goal
 pub claim-requires-clause-header : goal.claim-requires-clause-header
 claim-requires-clause-header c b there at =
     let v : SeatView = c.args.seat.now in
-    let here : Contains v.bodies b = subst (λ (x : SeatView). Contains x.bodies b) c.load-word.ensures.view there in
+    let here : Contains v.bodies b = subst (λ (x : SeatView). Contains x.bodies b) (c.load-word.ensures.read refl) there in
     let read = c.load-word.ensures.word.alone c.requires.alone.none_lent b here at in
     let untraced = c.if-word-with_traced.false ∙ c.with_traced.ensures.header true (holds v.marked b.place) (holds v.traced b.place) b.ty b.size read in
-    c.if-word-with_mark.false ∙ c.with_mark.ensures.header true (holds v.marked b.place) false b.ty b.size untraced
+    let told = c.load-word.ensures.word.header b here at in
+    let marked : holds v.marked b.place ≡ true =
+    ap (holds v.marked) at ∙ sym (told.mark.alone c.requires.alone.none_lent) ∙ sym c.has_mark.ensures ∙ c.if-not-has_mark.false in
+    untraced ∙ ap (λ mark. header_word true mark false b.ty b.size) marked
 
 pub returns-clause-body : goal.returns-clause-body
 returns-clause-body c =

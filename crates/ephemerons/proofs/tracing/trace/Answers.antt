@@ -5,13 +5,19 @@ use Rattle.marker_core.specs.declared.states.Body.{Body}
 use Rattle.page_words.specs.BodyPlaces.{same_body}
 use Rattle.ephemerons.specs.BodyGraph.{HasType}
 use Rattle.ephemerons.specs.Traces.{Traces}
-use Rattle.page_words.specs.Seat.{SeatView}
-use Rattle.ephemerons.specs.Marking.{GrowsWithin}
+use Rattle.ephemerons.specs.ListedMarks.{ListsMarks-then}
+use Rattle.ephemerons.proofs.OnlyLooks.{grows_from, lists_looked}
+use Rattle.ephemerons.proofs.Traced.{traces_from}
 use Rattle.ephemerons.proofs.tracing.trace.Goals as goal
 
 pub returns-clause-within : goal.returns-clause-within
 returns-clause-within c =
-    subst (λ (v : SeatView). GrowsWithin c.args.types.now v c.trace_fields.new.seat) c.type_of-ty.ensures.view c.trace_fields.ensures.within
+    grows_from c.args.seat.now c.type_of-ty.new.seat c.type_of-ty.ensures.view c.args.types.now c.trace_fields.new.seat c.trace_fields.ensures.within
+
+pub returns-clause-marks : goal.returns-clause-marks
+returns-clause-marks c =
+    ListsMarks-then c.args.seat.now c.type_of-ty.new.seat c.trace_fields.new.seat c.args.marking.now c.args.marking.now c.trace_fields.new.marking
+    (lists_looked c.args.seat.now c.type_of-ty.new.seat c.type_of-ty.ensures.view c.args.marking.now) c.trace_fields.ensures.marks
 
 pub returns-clause-told : goal.returns-clause-told
 returns-clause-told c ty has =
@@ -20,5 +26,5 @@ returns-clause-told c ty has =
     let same : c.type_of-ty.result ≡ ty = sym known.3 ∙ ap (λ (b : Body). b.ty) one ∙ has.3 in
     subst (λ t. Traces c.args.seat.now c.args.notes.now c.trace_fields.new.seat c.trace_fields.new.notes c.args.place (traced_words_of (kinds_of c.args.types.now t)))
     same
-    (subst (λ (v : SeatView). Traces v c.args.notes.now c.trace_fields.new.seat c.trace_fields.new.notes c.args.place
-    (traced_words_of (kinds_of c.args.types.now c.type_of-ty.result))) c.type_of-ty.ensures.view c.trace_fields.ensures.told)
+    (traces_from c.args.seat.now c.type_of-ty.new.seat c.type_of-ty.ensures.view c.args.notes.now c.trace_fields.new.seat c.trace_fields.new.notes c.args.place
+    (traced_words_of (kinds_of c.args.types.now c.type_of-ty.result)) c.trace_fields.ensures.told)

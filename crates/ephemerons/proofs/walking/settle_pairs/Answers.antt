@@ -8,6 +8,7 @@ use Rattle.page_words.specs.BodyPlaces.{same_body}
 use Rattle.ephemerons.specs.BodyGraph.{HasType}
 use Rattle.ephemerons.specs.Notes.{note_of}
 use Rattle.ephemerons.specs.Fixpoint.{Stage, stage, IsSettled}
+use Rattle.ephemerons.proofs.OnlyLooks.{ground_looked, looks_none}
 use Rattle.ephemerons.proofs.PairWords.{told_pair}
 use Rattle.ephemerons.proofs.Looks.{joined, settled_stays, Looks-then, looks_more}
 use Rattle.ephemerons.proofs.walking.settle_pairs.Goals.{then-found, else-found}
@@ -18,9 +19,18 @@ pair_words-pairs-requires c =
     let has : HasType c.args.seat.now.bodies c.args.a c.type_of-ty.result = c.type_of-ty.ensures.body in
     omega (arith, c.requires.ground.references.typed has.0 has.1, has.3)
 
+pub loop-word-init : goal.loop-word-init
+loop-word-init c = record {
+  ground =
+      ground_looked c.args.seat.now c.type_of-ty.new.seat c.type_of-ty.ensures.view c.args.types.now c.args.marking.now c.args.groups.now c.args.traced
+      c.requires.ground;
+  looks = looks_none c.args.seat.now c.type_of-ty.new.seat c.type_of-ty.ensures.view c.args.types.now c.args.marking.now c.args.groups.now c.args.traced;
+  settled = λ none k low. absurd (omega arith);
+}
+
 pub settle_pair-more-requires-clause-pair : goal.settle_pair-more-requires-clause-pair
 settle_pair-more-requires-clause-pair c =
-    rw (c.loop-word.invariant.looks.works.kept.bodies, c.type_of-ty.ensures.view)
+    rw c.loop-word.invariant.looks.works.kept.bodies
     (told_pair c.args.types.now c.args.seat.now.bodies c.args.a c.type_of-ty.result c.loop-word.word-index c.pair_words-pairs.result.now
     c.type_of-ty.ensures.body c.pair_words-pairs.ensures c.loop-word-test.true)
 
@@ -42,7 +52,7 @@ loop-word-preserved c =
 pub returns-clause-settled : goal.returns-clause-settled
 returns-clause-settled c none offset has =
     let told : List ℕ = c.pair_words-pairs.result.now in
-    let first : Contains c.args.seat.now.bodies has.0 = rw (c.loop-word.invariant.looks.works.kept.bodies, c.type_of-ty.ensures.view) at has.1 in
+    let first : Contains c.args.seat.now.bodies has.0 = rw c.loop-word.invariant.looks.works.kept.bodies at has.1 in
     let known : HasType c.args.seat.now.bodies c.args.a c.type_of-ty.result = c.type_of-ty.ensures.body in
     let one : known.0 ≡ has.0 = same_body c.args.seat.now known.0 has.0 c.bodies_lie_apart.ensures known.1 first (known.2 ∙ sym has.2) in
     let ty : c.type_of-ty.result ≡ has.0.ty = sym known.3 ∙ ap (λ (b : Body). b.ty) one in
