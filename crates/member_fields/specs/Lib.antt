@@ -1,1 +1,4 @@
 pub mod Words
+pub mod Barrier
+-- What is asked of a private call.
+pub mod Keys
