@@ -43,7 +43,7 @@ pub fn collect(
     }
     // Room for a list of an ordinary length, so that a walk of the heap is rare. From here on
     // nothing can be refused.
-    if parts.cycle.reserve().is_err() {
+    if parts.objects.reserve().is_err() {
         return Line::Memory;
     }
     end_sweep(parts, &mut outcome.finalised);
@@ -51,13 +51,9 @@ pub fn collect(
     gc_graph::reach_is_least();
     let cycle = &mut parts.cycle;
     cycle.rest = rest;
-    let result = parts.handles.pause(
-        &mut parts.objects,
-        &mut cycle.grey,
-        &mut cycle.registry,
-        callbacks,
-        want,
-    );
+    let result = parts
+        .handles
+        .pause(&mut parts.objects, &mut cycle.registry, callbacks, want);
     outcome.prefinalise(cycle.registry.ran());
     cycle.phase = Phase::Sweeping;
     cycle.sweep.begin();

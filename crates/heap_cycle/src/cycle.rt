@@ -1,7 +1,7 @@
-// The collection cycle: its phase, its registered prefinalizers, and what it keeps of marking.
+// The collection cycle: its phase and its registered prefinalizers.
 
 ghost use Rattle.std.specs.Prelude.{◌≡◌, ◌-◌, ◌≤◌, false};
-ghost use Rattle.std.specs.Prelude.{[], ◌++◌, IfOk, OnOk, OnErr, length, map, take};
+ghost use Rattle.std.specs.Prelude.{[], ◌++◌, OnOk, OnErr, length, map, take};
 ghost use Rattle.gc_graph.specs.declared.phase.Phase.TheVariants.{Idle};
 ghost use Rattle.gc_graph.specs.State.{empty_state};
 ghost use Rattle.gc_graph.specs.Outcomes.{answered};
@@ -13,18 +13,15 @@ use crate::states::{self, States};
 use callback_table::Registry;
 use gc_graph::{NoMemory, Phase};
 use ghost_values::GhostValue;
-use heap_objects::Grey;
 use std::alloc::Global;
 use std::marker::Model;
 use sweeper::Sweep;
 
-/// The phase of the cycle, how far its sweep has come, the registered prefinalizers, and what is kept
-/// of marking.
+/// The phase of the cycle, how far its sweep has come, and the registered prefinalizers.
 #[derive(Drop)]
 pub struct Cycle {
     pub(crate) phase: Phase,
     pub(crate) sweep: Sweep,
-    pub(crate) grey: Grey,
     pub(crate) registry: Registry,
     /// What no other part holds of the state.
     pub(crate) rest: GhostValue<States>,
@@ -47,23 +44,22 @@ impl Model for Cycle {
 }
 
 impl Cycle {
-    /// The cycle of a heap of so many pages that has done nothing. Want of memory is free.
-    pub fn new(alloc: Global, pages: u32) -> Result<Cycle, NoMemory>
-        ensures { IfOk result (λ cycle. cycle ≡ record {
+    /// The cycle of a heap of so many pages that has done nothing.
+    pub fn new(alloc: Global, pages: u32) -> Cycle
+        ensures { result ≡ record {
           phase = Idle;
           sweep = record { pages = pages; cursor = pages };
           registered = [];
           ran = [];
           rest = empty_state;
-        }) }
+        } }
     {
-        Ok(Cycle {
+        Cycle {
             phase: Phase::Idle,
             sweep: Sweep::idle(pages),
-            grey: Grey::new(alloc)?,
             registry: Registry::new(alloc),
             rest: states::empty(),
-        })
+        }
     }
 
     /// The phase.
@@ -124,13 +120,6 @@ impl Cycle {
         } }
     {
         self.registry.unregister_last(count);
-    }
-
-    /// Takes room for marking. Want of memory is free.
-    pub fn reserve(&mut self) -> Result<(), NoMemory>
-        ensures { self.new ≡ self.old }
-    {
-        self.grey.reserve()
     }
 
     /// The number of the object and that of the callback of each prefinalizer that the last pause

@@ -82,7 +82,7 @@ impl Core {
         let objects = Objects::new(alloc, config.pages, config.page_words, types, callbacks)?;
         let outcome = Outcome::new(alloc, objects.word_count() as usize / 2 + 1)?;
         let handles = Handles::new(alloc)?;
-        let cycle = Cycle::new(alloc, config.pages)?;
+        let cycle = Cycle::new(alloc, config.pages);
         Ok(Core {
             parts: Parts {
                 objects,

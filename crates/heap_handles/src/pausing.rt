@@ -19,7 +19,7 @@ use crate::slot_lists;
 use atomic_pause::PauseResult;
 use callback_table::{CallbackTable, Registry};
 use gc_graph::Want;
-use heap_objects::{Grey, Objects};
+use heap_objects::Objects;
 
 impl Handles {
     /// The pause: what the strong slots and, unless it is precise, the words of the stack reach is
@@ -28,7 +28,6 @@ impl Handles {
     pub fn pause(
         &mut self,
         objects: &mut Objects,
-        grey: &mut Grey,
         registry: &mut Registry,
         callbacks: &CallbackTable,
         want: Want,
@@ -64,7 +63,6 @@ impl Handles {
             &mut self.weak,
             self.stack.addresses(),
             is_precise(want),
-            grey,
             registry,
             callbacks,
         );

@@ -10,6 +10,7 @@ use Rattle.sweeper.specs.Sweeping.{SweepView, cursor_at, MaySweep, Sweeps}
 use Rattle.nodes_in_words.specs.Nodes.{IsHeld, AreOfValid}
 use Rattle.nodes_in_words.specs.NodePlaces.{serials_fit}
 use Rattle.nodes_in_words.specs.DeadUnnamed.{dead_unnamed}
+use Rattle.heap_objects.specs.declared.marking.Grey.{Grey}
 use Rattle.heap_objects.specs.Finalising.{IsSweptTo, FinalisesBelow}
 use Rattle.heap_objects.specs.Objects.{ObjectsView, setup_of_objects, AreObjects}
 use Rattle.heap_objects.proofs.NodesSwept.{held_below, finalises_below}
@@ -19,10 +20,10 @@ abbrev view_of : SpaceView → SeatView → List ObjectType → List ActionKind 
 view_of space v types callbacks nodes = record { shape = space.shape; types = types; callbacks = callbacks; nodes = nodes; seat = v }
 
 -- the objects may be swept from the cursor on where all is swept below it
-pub may_sweep : (space : SpaceView) (v : SeatView) (types : List ObjectType) (callbacks : List ActionKind) (made : ℕ) (nodes : List Node) (sweep : SweepView)
-    → AreObjects space v types callbacks made nodes → sweep.pages ≡ space.shape.pages → IsSweptTo (cursor_at space.shape sweep) v → length nodes ≤ 1000000
+pub may_sweep : (space : SpaceView) (v : SeatView) (types : List ObjectType) (callbacks : List ActionKind) (made : ℕ) (grey : Grey) (nodes : List Node) (sweep : SweepView)
+    → AreObjects space v types callbacks made nodes grey → sweep.pages ≡ space.shape.pages → IsSweptTo (cursor_at space.shape sweep) v → length nodes ≤ 1000000
     → AreOfValid (setup_of_objects (view_of space v types callbacks nodes)) nodes → MaySweep sweep space v
-may_sweep space v types callbacks made nodes sweep is pages marks few valid = record {
+may_sweep space v types callbacks made grey nodes sweep is pages marks few valid = record {
   laid = is.laid;
   pages = pages;
   off = is.off;
@@ -32,14 +33,14 @@ may_sweep space v types callbacks made nodes sweep is pages marks few valid = re
 }
 
 -- once they are swept from one cursor up to another
-module _ (space left : SpaceView) (v w : SeatView) (types : List ObjectType) (callbacks : List ActionKind) (made : ℕ) (nodes new : List Node) (sweep after : SweepView) (before told : List ℕ)
-    (is : AreObjects space v types callbacks made nodes) (marks : IsSweptTo (cursor_at space.shape sweep) v)
+module _ (space left : SpaceView) (v w : SeatView) (types : List ObjectType) (callbacks : List ActionKind) (made : ℕ) (grey : Grey) (nodes new : List Node) (sweep after : SweepView) (before told : List ℕ)
+    (is : AreObjects space v types callbacks made nodes grey) (marks : IsSweptTo (cursor_at space.shape sweep) v)
     (swept : Sweeps (cursor_at space.shape sweep) (cursor_at space.shape after) v before w told) (shape : left.shape ≡ space.shape)
     (nodes_are : new ≡ map (finalise (cursor_at left.shape after)) nodes) where
   nodes_left : new ≡ map (finalise (cursor_at space.shape after)) nodes
   nodes_left = nodes_are ∙ ap (λ (s : Shape). map (finalise (cursor_at s after)) nodes) shape
 
-  pub swept_objects : MaySweep after left w → AreObjects left w types callbacks made new
+  pub swept_objects : MaySweep after left w → AreObjects left w types callbacks made new grey
   swept_objects may = record {
     called = is.called;
     few = is.few;
@@ -49,6 +50,7 @@ module _ (space left : SpaceView) (v w : SeatView) (types : List ObjectType) (ca
     held = subst (λ (ns : List Node). IsHeld ns w) (sym nodes_left)
         (held_below nodes v w (cursor_at space.shape sweep) (cursor_at space.shape after) before told is.held marks.clear swept);
     numbers_are = is.numbers_are ∙ sym (length-map nodes (finalise (cursor_at space.shape after))) ∙ sym (ap length nodes_left);
+    clear = is.clear;
   }
 
   pub finalised_nodes : FinalisesBelow (cursor_at space.shape after) nodes before told new

@@ -7,7 +7,9 @@ use Rattle.gc_graph.specs.Fields.{word_of_field, with_value, target_of, new_node
 use Rattle.page_words.specs.Seat.{SeatView}
 use Rattle.page_space.specs.Space.{SpaceView, IsSpaceOf}
 use Rattle.nodes_in_words.specs.Nodes.{place_of, word_of, IsHeld}
+use Rattle.heap_objects.specs.declared.marking.Grey.{Grey}
 use Rattle.heap_objects.specs.Fields.{IsLiveReference}
+use Rattle.heap_objects.specs.Marking.{IsClear}
 
 -- the objects: the heap's shape and types, the kinds of its callbacks, the nodes, and what is known of the words
 pub record ObjectsView : Type 0 where
@@ -26,9 +28,11 @@ pub record HaveCallbacks (callbacks : ℕ) (types : List ObjectType) : Type 0 wh
   pub few : All (λ type. length type.prefinalizers ≤ 16) types
   pub known : All (λ type. All (λ number. number < callbacks) type.prefinalizers) types
 
--- the words hold the nodes, and the next number is the one that no node has; a header can name each type
+-- the words hold the nodes, and the next number is the one that no node has; a header can name each type; no marking goes on,
+-- and nothing is left of it
 pub record AreObjects
-    (space : SpaceView) (v : SeatView) (types : List ObjectType) (callbacks : List ActionKind) (made : ℕ) (nodes : List Node) : Type 0 where
+    (space : SpaceView) (v : SeatView) (types : List ObjectType) (callbacks : List ActionKind) (made : ℕ) (nodes : List Node) (grey : Grey)
+    : Type 0 where
   pub called : HaveCallbacks (length callbacks) types
   pub few : length types < 16384
   pub known : v.types ≡ types
@@ -36,6 +40,7 @@ pub record AreObjects
   pub off : v.on ≡ false
   pub held : IsHeld nodes v
   pub numbers_are : made ≡ length nodes
+  pub clear : IsClear grey.marking grey.notes
 
 -- ---- reading
 

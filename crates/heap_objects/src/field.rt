@@ -11,6 +11,7 @@ ghost use Rattle.member_fields.specs.Words.{HasWord};
 ghost use Rattle.heap_objects.specs.Fields.{allows, TakesWord};
 
 use gc_graph::{Kind, Refusal};
+use mark_worklist::Marking;
 use member_fields::{put_word, set, set_weak};
 use page_space::Space;
 use page_words::MutatorSeat;
@@ -87,15 +88,24 @@ pub fn wanted_field(
 
 /// Writes the word of a field that is no pair, as fields of its kind are written, while no marking
 /// goes on.
-pub fn write_field(space: &Space, seat: &mut MutatorSeat, field: Field, w: u64)
+pub fn write_field(
+    space: &Space,
+    seat: &mut MutatorSeat,
+    marking: &mut Marking,
+    field: Field,
+    w: u64,
+)
     requires heap { IsSeatOf space.now seat.old }
     requires off { seat.old.on ≡ false }
+    requires still { marking.old.on ≡ false }
     requires field { HasWord (is_kind field.kind) seat.old field.holder field.word }
     requires word { TakesWord field.kind seat.old.bodies w }
-    ensures { seat.new ≡ rewritten seat.old (field.holder + field.word) w }
+    ensures word { seat.new ≡ rewritten seat.old (field.holder + field.word) w }
+    ensures marking { marking.new ≡ marking.old }
 {
+    seat.bodies_lie_apart();
     match field.kind {
-        Kind::Strong => set(space, seat, field.holder, field.word, w),
+        Kind::Strong => set(space, seat, marking, field.holder, field.word, w),
         Kind::Weak => set_weak(space, seat, field.holder, field.word, w),
         Kind::Plain => put_word(space, seat, field.holder, field.word, w),
         Kind::Pair => unreachable!(),

@@ -6,9 +6,10 @@
 //! The parts: `Objects`, with what is done to it in `finding` (where a new object goes, and how it is
 //! made), `object_fields` and `pair_fields` (fields are found, read and written), `object_sweeps`
 //! (pages are swept) and `pausing` (the pause of a collection, where marking begins and ends); `Field`,
-//! `Part` and `Wanted` (fields), `Content` and `PairContent` (what goes into one), `Grey` (what is kept
-//! of marking between collections). For contracts alone: `Names`, `nodes` and `kinds`. Next down are
-//! `atomic_pause`, `member_fields`, `sweeper` and `page_space`.
+//! `Part` and `Wanted` (fields), `Content` and `PairContent` (what goes into one). Inside, `Grey` is the
+//! marking state, which a write is lent for its barrier and the pause for its marking. For contracts
+//! alone: `Names`, `nodes` and `kinds`. Next down are `atomic_pause`, `member_fields`, `sweeper` and
+//! `page_space`.
 //!
 //! What is proved: each node that is not finalised is the object with its number, type, size, place,
 //! field words and extra words, whatever call is made. What is told of an object is what the node has,
@@ -32,7 +33,6 @@ mod pausing;
 
 pub use content::{Content, Values};
 pub use field::{Field, Part, Wanted};
-pub use marking::Grey;
 pub use names::Names;
 pub use objects::Objects;
 pub use pair_fields::PairContent;

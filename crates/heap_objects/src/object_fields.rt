@@ -104,7 +104,13 @@ impl Objects {
         self.seat.bodies_lie_apart();
         type_table::fields_stand_apart();
         self.space.lasts_while_objects_stay();
-        write_field(&self.space, &mut self.seat, field, content.word);
+        write_field(
+            &self.space,
+            &mut self.seat,
+            &mut self.grey.marking,
+            field,
+            content.word,
+        );
         self.nodes = nodes::written(&self.nodes, named, f, content);
     }
 }

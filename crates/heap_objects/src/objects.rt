@@ -12,6 +12,7 @@ ghost use Rattle.heap_objects.specs.Objects.{HaveCallbacks, IsLiveAt};
 ghost use Rattle.heap_objects.specs.Objects.{setup_of_objects};
 
 use crate::kinds::{self, Kinds};
+use crate::marking::Grey;
 use callback_table::CallbackTable;
 use gc_graph::NoMemory;
 use ghost_values::GhostValue;
@@ -33,6 +34,8 @@ pub struct Objects {
     /// How many numbers were given out.
     pub(crate) made: u32,
     pub(crate) nodes: GhostValue<NodeLists>,
+    /// What is kept of marking.
+    pub(crate) grey: Grey,
 }
 
 impl Model for Objects {
@@ -50,7 +53,7 @@ impl Model for Objects {
     } };
 
     ghost invariant = { λ o. AreObjects o.space o.seat o.types o.kinds.value o.made
-        o.nodes.value };
+        o.nodes.value o.grey };
 }
 
 impl Objects {
@@ -81,7 +84,15 @@ impl Objects {
             kinds: kinds::of(callbacks),
             made: 0,
             nodes: nodes_in_words::none(),
+            grey: Grey::new(alloc)?,
         })
+    }
+
+    /// Takes room for marking. Want of memory is free.
+    pub fn reserve(&mut self) -> Result<(), NoMemory>
+        ensures { self.new ≡ self.old }
+    {
+        self.grey.reserve()
     }
 
     /// The shape is one that a heap can have. Whoever calls this has the law.

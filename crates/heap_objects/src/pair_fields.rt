@@ -76,7 +76,16 @@ impl Objects {
         self.space.lasts_while_objects_stay();
         let Field { holder, word, .. } = field;
         let (key, value) = (pair.key.word, pair.value.word);
-        set_pair(&self.space, &mut self.seat, holder, word, key, value);
+        let marking = &mut self.grey.marking;
+        set_pair(
+            &self.space,
+            &mut self.seat,
+            marking,
+            holder,
+            word,
+            key,
+            value,
+        );
         self.nodes = nodes::paired(&self.nodes, named, f, pair);
     }
 }

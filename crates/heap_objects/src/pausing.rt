@@ -15,7 +15,7 @@ ghost use Rattle.atomic_pause.specs.Marking.{RootsMayBeKept, root_places};
 ghost use Rattle.atomic_pause.specs.Pausing.{IsPaused, NamePlaces, hits_in};
 ghost use Rattle.heap_objects.specs.Objects.{setup_of_objects};
 
-use crate::marking::{Grey, clear};
+use crate::marking::clear;
 use crate::objects::Objects;
 use atomic_pause::{Parts, PauseResult, pause};
 use callback_table::{CallbackTable, Registry};
@@ -26,15 +26,14 @@ impl Objects {
     /// The pause: what the strong slots and, unless it is precise, the words of the stack reach is
     /// kept, the other objects are condemned, what is weak and names one of these becomes null, and
     /// their prefinalizers run.
-    pub fn pause(
+    pub fn pause<'a>(
         &mut self,
-        strong: &Slots,
+        strong: &'a Slots,
         weak: &mut Slots,
         stack: &[u64],
         precise: bool,
-        grey: &mut Grey,
         registry: &mut Registry,
-        callbacks: &CallbackTable,
+        callbacks: &'a CallbackTable,
     ) -> PauseResult
         requires valid { AreOfValid (setup_of_objects self.old) self.old.nodes }
         requires quiet { IsQuiet self.old.seat }
@@ -61,13 +60,13 @@ impl Objects {
     {
         self.seat.bodies_lie_apart();
         begin(self.space.words(), &mut self.seat, strong, stack, precise);
-        grey.marking.on = true;
+        self.grey.marking.on = true;
         let result = pause(
             Parts {
                 seat: &mut self.seat,
                 nodes: &mut self.nodes,
-                marking: &mut grey.marking,
-                notes: &mut grey.notes,
+                marking: &mut self.grey.marking,
+                notes: &mut self.grey.notes,
                 weak,
                 registry,
                 space: &self.space,
@@ -78,7 +77,7 @@ impl Objects {
             stack,
             precise,
         );
-        clear(&mut grey.marking, &mut grey.notes);
+        clear(&mut self.grey);
         result
     }
 }

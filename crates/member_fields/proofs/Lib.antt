@@ -1,3 +1,10 @@
 pub mod Offsets
 pub mod Writes
 pub mod PairWords
+pub mod Roles
+pub mod Allowed
+pub mod Fields
+pub mod Stored
+pub mod Barriers
+pub mod PairStores
+pub mod Marked

@@ -1,22 +1,28 @@
 -- The two words of a pair.
-use Rattle.std.proofs.Common.{◌≡◌, ℕ, ◌+◌, ◌-◌, ◌<◌, length, get_or, refl, sym, ap, ◌∙◌, subst, inl, inr, arith, Contains, Fits, w32}
-use mathlib.Core.Logic.{◌⊎◌}
+use Rattle.std.proofs.Common.{◌≡◌, ℕ, ◌+◌, ◌-◌, ◌<◌, get_or, refl, sym, ap, ◌∙◌, subst, inl, inr, arith, Fits, w32}
 use Rattle.std.specs.Prelude.{◌↔◌}
 use Rattle.std.proofs.lemmas.List.{get_or-map, length-map}
 use Rattle.gc_graph.specs.declared.kind.Kind.TheVariants.{Pair}
 use Rattle.object_headers.specs.Offsets.{reference_to}
 use Rattle.type_table.specs.Types.{is_kind}
-use Rattle.marker_core.specs.Bodies.{IsReference, fields_at}
+use Rattle.type_table.specs.FieldLaw.{FieldsStandApart}
+use Rattle.marker_core.specs.Bodies.{IsReference}
 use Rattle.marker_core.specs.declared.states.Body.{Body}
-use Rattle.page_words.specs.Bodies.{IsPlainWord, IsKeyWord, SuitsItsPair, MayHold, kind_in}
-use Rattle.page_words.specs.Seat.{SeatView, IsView}
-use Rattle.member_fields.specs.Words.{HasWord, HasLoneWord, HasPair, IsWordIn, with_word_in, written}
+use Rattle.page_words.specs.Bodies.{IsKeyWord, kind_in}
+use Rattle.page_words.specs.Roles.{kind_of_role}
+use Rattle.page_words.specs.Seat.{SeatView, IsView, stored}
+use Rattle.member_fields.specs.Words.{HasWord, HasWordOfSomeKind, HasPair, IsWordIn, with_word_in, written}
 use Rattle.page_words.specs.BodyPlaces.{whole_body, same_body}
-use Rattle.member_fields.proofs.Writes.{by_place}
+use Rattle.member_fields.proofs.Roles.{kind_told, key_role, value_role}
+use Rattle.member_fields.proofs.Writes.{by_place, rewritten_word}
 
 -- both words of each pair are of the kind of pairs
 abbrev pub KindsOfPairs : SeatView → Type 0
 KindsOfPairs v = (b : Body) (i : ℕ) → IsKeyWord v.types b i → (kind_in v.types b i ≡ Pair) × (kind_in v.types b (i + 1) ≡ Pair)
+
+pub kinds_of_pairs : FieldsStandApart → (v : SeatView) → KindsOfPairs v
+kinds_of_pairs law v b i key =
+    (kind_told v b i ∙ ap kind_of_role (key_role law v b i key), kind_told v b (i + 1) ∙ ap kind_of_role (value_role law v b i key))
 
 pub key_word : (v : SeatView) (holder word : ℕ) → KindsOfPairs v → HasPair v holder word → HasWord (is_kind Pair) v holder word
 key_word v holder word kinds has = record {
@@ -43,34 +49,6 @@ value_word v holder word kinds has =
 pub next_fits : (v : SeatView) (holder word : ℕ) → IsView v → HasPair v holder word → Fits w32 (word + 1)
 next_fits v holder word is has = let whole = whole_body v is has.body has.there in omega (arith, has.last, whole.size)
 
--- what the address of a word may hold, for the sake of its pair
-abbrev pub SuitsAt : SeatView → Body → ℕ → ℕ → Type 0
-SuitsAt v b i w = SuitsItsPair v.types v.bodies (fields_at b + i) w
-
-pub holds_value : (v : SeatView) (holder word value : ℕ) → IsView v → (has : HasPair v holder word)
-    → ((b : Body) (i w : ℕ) → Contains v.bodies b → i + 1 < length b.fields → IsKeyWord v.types b i → SuitsAt v b (i + 1) w)
-    → IsReference v.bodies value → MayHold v.types v.bodies (holder + (word + 1)) value
-holds_value v holder word value is has suits reference =
-    let whole = whole_body v is has.body has.there in
-    let at : fields_at has.body + (word - 2 + 1) ≡ holder + (word + 1) = omega (arith, has.place, has.first) in
-    record {
-      kind = inr reference;
-      pair = subst (λ a. SuitsItsPair v.types v.bodies a value) at
-          (suits has.body (word - 2) value has.there (omega (arith, has.first, has.last, whole.fields)) has.key);
-    }
-
-pub holds_lone : (v : SeatView) (holder word w : ℕ) → IsView v → HasLoneWord v holder word
-    → ((b : Body) (i w : ℕ) → Contains v.bodies b → i < length b.fields → (kind_in v.types b i ≡ Pair → ⊥) → SuitsAt v b i w)
-    → IsPlainWord v.types v.bodies (holder + word) ⊎ IsReference v.bodies w → MayHold v.types v.bodies (holder + word) w
-holds_lone v holder word w is (is_so, apart, has) suits kind =
-    let whole = whole_body v is has.body has.there in
-    let at : fields_at has.body + (word - 2) ≡ holder + word = omega (arith, has.place, has.first) in
-    record {
-      kind = kind;
-      pair = subst (λ a. SuitsItsPair v.types v.bodies a w) at
-          (suits has.body (word - 2) w has.there (omega (arith, has.first, has.last, whole.fields)) (λ pair. apart (ap is_so (sym pair) ∙ has.kind)));
-    }
-
 -- the value of the pair, as the words tell it
 pub told_value : (v : SeatView) (holder word : ℕ) → IsView v → (has : HasPair v holder word)
     → IsWordIn v holder (word + 1) (get_or has.body.fields (word - 2 + 1) 0)
@@ -78,20 +56,6 @@ told_value v holder word is has b there place =
     let same : has.body ≡ b = same_body v has.body b is has.there there (has.place ∙ sym place) in
     let next : word - 2 + 1 ≡ word + 1 - 2 = omega (arith, has.first) in
     ap (λ (c : Body). get_or c.fields (word - 2 + 1) 0) same ∙ ap (λ i. get_or b.fields i 0) next
-
-pub holds_key : (v : SeatView) (holder word key : ℕ) → IsView v → (has : HasPair v holder word)
-    → ((b : Body) (i w : ℕ) → Contains v.bodies b → i + 1 < length b.fields → (w ≡ 0) ↔ (get_or b.fields (i + 1) 0 ≡ 0) → SuitsAt v b i w)
-    → IsReference v.bodies key → ((value : ℕ) → IsWordIn v holder (word + 1) value → (key ≡ 0) ↔ (value ≡ 0))
-    → MayHold v.types v.bodies (holder + word) key
-holds_key v holder word key is has suits reference both =
-    let whole = whole_body v is has.body has.there in
-    let at : fields_at has.body + (word - 2) ≡ holder + word = omega (arith, has.place, has.first) in
-    record {
-      kind = inr reference;
-      pair = subst (λ a. SuitsItsPair v.types v.bodies a key) at
-          (suits has.body (word - 2) key has.there (omega (arith, has.first, has.last, whole.fields))
-          (both (get_or has.body.fields (word - 2 + 1) 0) (told_value v holder word is has)));
-    }
 
 -- a write leaves the pairs
 pub pair_kept : (v : SeatView) (holder word place offset w : ℕ) → HasPair v holder word → HasPair (written v place offset w) holder word
@@ -128,3 +92,9 @@ pub one_value : (v : SeatView) (holder word key value told : ℕ) → HasPair v 
 one_value v holder word key value told has is also both =
     let same : value ≡ told = is has.body has.there has.place ∙ sym (also has.body has.there has.place) in
     subst (λ w. (key ≡ 0) ↔ (w ≡ 0)) same both
+
+-- references to bodies stay such under a store
+pub stored_reference : (v : SeatView) (holder word w reference : ℕ) → IsView v → HasWordOfSomeKind v holder word → IsReference v.bodies reference
+    → IsReference (stored v (holder + word) w).bodies reference
+stored_reference v holder word w reference is has names =
+    subst (λ (u : SeatView). IsReference u.bodies reference) (sym (rewritten_word v holder word w is has)) (reference_kept v holder word w reference names)

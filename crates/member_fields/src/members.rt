@@ -8,8 +8,10 @@ ghost use Rattle.marker_core.specs.Bodies.{IsReference};
 ghost use Rattle.page_words.specs.Seat.{rewritten};
 ghost use Rattle.page_space.specs.Space.{IsSeatOf};
 ghost use Rattle.member_fields.specs.Words.{HasWord, IsWordIn, written};
+ghost use Rattle.member_fields.specs.Barrier.{IsReadyToStore, MayKeep, MayKeepNamed, HasBarrier};
 
-use crate::words;
+use crate::{barrier, words};
+use mark_worklist::Marking;
 use page_space::Space;
 use page_words::MutatorSeat;
 
@@ -23,14 +25,47 @@ pub fn get(space: &Space, seat: &mut MutatorSeat, holder: u32, word: u32) -> u64
     words::read(space, seat, holder, word)
 }
 
-/// Makes a strong field refer to an object, or to none: `target` is a reference, or 0.
-pub fn set(space: &Space, seat: &mut MutatorSeat, holder: u32, word: u32, target: u64)
+/// Makes a strong field refer to an object, or to none: `target` is a reference, or 0. While marking
+/// goes on the object is marked, and its place goes to the list where it had no mark.
+pub fn set(
+    space: &Space,
+    seat: &mut MutatorSeat,
+    marking: &mut Marking,
+    holder: u32,
+    word: u32,
+    target: u64,
+)
     requires heap { IsSeatOf space.now seat.old }
-    requires off { seat.old.on ≡ false }
+    requires on { marking.old.on ≡ seat.old.on }
+    requires ready { IsReadyToStore seat.old }
     requires field { HasWord (is_kind Strong) seat.old holder word }
+    requires holder { MayKeep seat.old holder }
     requires target { IsReference seat.old.bodies target }
-    ensures word { seat.new ≡ written seat.old holder word target }
-    ensures address { seat.new ≡ rewritten seat.old (holder + word) target }
+    requires kept { MayKeepNamed seat.old target }
+    ensures word { seat.new.bodies ≡ (written seat.old holder word target).bodies }
+    ensures address { written seat.old holder word target
+        ≡ rewritten seat.old (holder + word) target }
+    ensures barrier { HasBarrier target (written seat.old holder word target)
+        marking.old seat.new marking.new }
+    ensures off { seat.old.on ≡ false
+        → (seat.new ≡ written seat.old holder word target) × (marking.new ≡ marking.old) }
+    ensures ready { IsReadyToStore seat.new }
 {
+    seat.bodies_lie_apart();
     words::write(space, seat, holder, word, target);
+    // The word goes in first: a marker that traces the holder from here on finds the target itself.
+    barrier::keep(space.words(), seat, marking, target);
+}
+
+/// Makes a strong field null. What it named stays what it was, and null asks for no mark.
+pub fn clear(space: &Space, seat: &mut MutatorSeat, holder: u32, word: u32)
+    requires heap { IsSeatOf space.now seat.old }
+    requires ready { IsReadyToStore seat.old }
+    requires field { HasWord (is_kind Strong) seat.old holder word }
+    requires holder { MayKeep seat.old holder }
+    ensures word { seat.new ≡ written seat.old holder word 0 }
+    ensures address { seat.new ≡ rewritten seat.old (holder + word) 0 }
+{
+    seat.bodies_lie_apart();
+    words::write(space, seat, holder, word, 0);
 }

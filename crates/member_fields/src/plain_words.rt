@@ -1,11 +1,12 @@
 // Plain fields, and the extra words of an object, which are plain too
 // (`include/cppgc/allocation.h`, `AdditionalBytes`).
 
-ghost use Rattle.std.specs.Prelude.{◌≡◌, ◌+◌, false};
+ghost use Rattle.std.specs.Prelude.{◌≡◌, ◌+◌};
 ghost use Rattle.gc_graph.specs.Fields.{is_plain};
 ghost use Rattle.page_words.specs.Seat.{rewritten};
 ghost use Rattle.page_space.specs.Space.{IsSeatOf};
 ghost use Rattle.member_fields.specs.Words.{HasWord, IsWordIn, written};
+ghost use Rattle.member_fields.specs.Barrier.{IsReadyToStore, MayKeep};
 
 use crate::words;
 use page_space::Space;
@@ -24,10 +25,12 @@ pub fn get_word(space: &Space, seat: &mut MutatorSeat, holder: u32, word: u32) -
 /// Puts a number into a plain word. No collection takes it for a reference.
 pub fn put_word(space: &Space, seat: &mut MutatorSeat, holder: u32, word: u32, n: u64)
     requires heap { IsSeatOf space.now seat.old }
-    requires off { seat.old.on ≡ false }
+    requires ready { IsReadyToStore seat.old }
     requires field { HasWord is_plain seat.old holder word }
+    requires holder { MayKeep seat.old holder }
     ensures word { seat.new ≡ written seat.old holder word n }
     ensures address { seat.new ≡ rewritten seat.old (holder + word) n }
 {
+    seat.bodies_lie_apart();
     words::write(space, seat, holder, word, n);
 }

@@ -1,17 +1,20 @@
 // A word by its object's place and its offset.
 
-ghost use Rattle.std.specs.Prelude.{◌≡◌, ◌↔◌, ◌⊎◌, ℕ, ◌+◌, ◌≤◌, Bool, true, false};
+ghost use Rattle.std.specs.Prelude.{◌≡◌, ◌⊎◌, ℕ, ◌+◌, ◌≤◌, Bool, true};
 ghost use Rattle.gc_graph.specs.declared.kind.Kind.{Kind};
 ghost use Rattle.object_headers.specs.Offsets.{first_field};
 ghost use Rattle.marker_core.specs.Bodies.{IsReference};
 ghost use Rattle.page_words.specs.Bodies.{IsPlainWord};
-ghost use Rattle.page_words.specs.Seat.{rewritten};
+ghost use Rattle.page_words.specs.Seat.{stored, rewritten};
 ghost use Rattle.page_space.specs.Space.{IsSeatOf};
 ghost use Rattle.member_fields.specs.Words.{HasWord, HasWordOfSomeKind, HasLoneWord, HasPair};
 ghost use Rattle.member_fields.specs.Words.{IsWordIn, written};
+ghost use Rattle.member_fields.specs.Barrier.{IsReadyToStore, MayKeep, MayKeepNamed};
+ghost use Rattle.member_fields.specs.Keys.{TakesKey};
 
 use page_space::Space;
 use page_words::{MutatorSeat, Reading};
+use type_table::fields_stand_apart;
 
 /// A word has one kind, and keeps it under each write, and a pair stays one. Whoever calls this has the law. It reads
 /// nothing.
@@ -54,50 +57,40 @@ pub fn read(space: &Space, seat: &mut MutatorSeat, holder: u32, word: u32) -> u6
 /// Writes a field word that belongs to no pair.
 pub fn write(space: &Space, seat: &mut MutatorSeat, holder: u32, word: u32, w: u64)
     requires heap { IsSeatOf space.now seat.old }
-    requires off { seat.old.on ≡ false }
+    requires ready { IsReadyToStore seat.old }
     requires field { HasLoneWord seat.old holder word }
+    requires holder { MayKeep seat.old holder }
     requires word { IsPlainWord seat.old.types seat.old.bodies (holder + word)
-        ⊎ IsReference seat.old.bodies w }
-    ensures word { seat.new ≡ written seat.old holder word w }
-    ensures address { seat.new ≡ rewritten seat.old (holder + word) w }
+        ⊎ (IsReference seat.old.bodies w × MayKeepNamed seat.old w) }
+    ensures view { seat.new ≡ stored seat.old (holder + word) w }
+    ensures address { written seat.old holder word w ≡ rewritten seat.old (holder + word) w }
 {
     seat.bodies_lie_apart();
-    seat.values_come_before_keys();
-    seat.fields_take_what_fits();
     space.words().store(seat, holder + word, w);
 }
 
 /// Writes the value of the pair whose key is at an offset.
 pub fn write_value(space: &Space, seat: &mut MutatorSeat, holder: u32, word: u32, value: u64)
     requires heap { IsSeatOf space.now seat.old }
-    requires off { seat.old.on ≡ false }
+    requires ready { IsReadyToStore seat.old }
     requires pair { HasPair seat.old holder word }
+    requires holder { MayKeep seat.old holder }
     requires value { IsReference seat.old.bodies value }
-    ensures word { seat.new ≡ written seat.old holder (word + 1) value }
-    ensures address { seat.new ≡ rewritten seat.old (holder + (word + 1)) value }
-    ensures pair { HasPair seat.new holder word }
-    ensures value { IsWordIn seat.new holder (word + 1) value }
-    ensures references { (w : ℕ) → IsReference seat.old.bodies w → IsReference seat.new.bodies w }
+    requires kept { MayKeepNamed seat.old value }
+    ensures view { seat.new ≡ stored seat.old (holder + (word + 1)) value }
 {
+    fields_stand_apart();
     seat.bodies_lie_apart();
-    seat.values_come_before_keys();
-    seat.fields_take_what_fits();
     space.words().store(seat, holder + (word + 1), value);
 }
 
-/// Writes the key of the pair at an offset, which is null exactly where the value is.
+/// Writes the key of the pair at an offset, whose value stands already.
 pub fn write_key(space: &Space, seat: &mut MutatorSeat, holder: u32, word: u32, key: u64)
     requires heap { IsSeatOf space.now seat.old }
-    requires off { seat.old.on ≡ false }
-    requires pair { HasPair seat.old holder word }
-    requires key { IsReference seat.old.bodies key }
-    requires both { (value : ℕ) → IsWordIn seat.old holder (word + 1) value
-        → (key ≡ 0) ↔ (value ≡ 0) }
+    requires takes { TakesKey seat.old holder word key }
     ensures word { seat.new ≡ written seat.old holder word key }
-    ensures address { seat.new ≡ rewritten seat.old (holder + word) key }
 {
+    fields_stand_apart();
     seat.bodies_lie_apart();
-    seat.values_come_before_keys();
-    seat.fields_take_what_fits();
     space.words().store(seat, holder + word, key);
 }

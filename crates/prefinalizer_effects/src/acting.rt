@@ -10,7 +10,7 @@ ghost use Rattle.prefinalizer_effects.specs.Acting.{changed_at, cleared_at, adde
 
 use crate::fields::{field_in, linked_from};
 use gc_graph::{Action, Kind};
-use member_fields::{get_word, put_word, set, set_pair, set_weak};
+use member_fields::{clear_pair, get_word, put_word, set_weak};
 use page_space::Space;
 use page_words::MutatorSeat;
 use type_table::{TypeTable, fields_stand_apart};
@@ -57,10 +57,11 @@ fn clear(space: &Space, types: &TypeTable, seat: &mut MutatorSeat, place: u32, f
     requires place { IsPlace seat.old.bodies place }
     ensures { seat.new ≡ changed_at seat.old place (cleared_at seat.old.types field) }
 {
+    seat.bodies_lie_apart();
     match field_in(space, types, seat, place, field) {
-        Some((Kind::Strong, word)) => set(space, seat, place, word, 0),
+        Some((Kind::Strong, word)) => member_fields::clear(space, seat, place, word),
         Some((Kind::Weak, word)) => set_weak(space, seat, place, word, 0),
-        Some((Kind::Pair, word)) => set_pair(space, seat, place, word, 0, 0),
+        Some((Kind::Pair, word)) => clear_pair(space, seat, place, word),
         Some((Kind::Plain, _)) => {}
         None => {}
     }
@@ -82,6 +83,7 @@ fn add(
     requires place { IsPlace seat.old.bodies place }
     ensures { seat.new ≡ changed_at seat.old place (added_at seat.old.types field amount) }
 {
+    seat.bodies_lie_apart();
     match field_in(space, types, seat, place, field) {
         Some((Kind::Plain, word)) => {
             let before = get_word(space, seat, place, word);

@@ -1,6 +1,6 @@
 // The words of a dying object as its prefinalizers are shown them (`include/cppgc/prefinalizer.h`).
 
-ghost use Rattle.std.specs.Prelude.{◌≡◌, ◌≤◌, Contains, take};
+ghost use Rattle.std.specs.Prelude.{◌≡◌, ℕ, ◌≤◌, Contains, take, slice_index};
 ghost use Rattle.marker_core.specs.Bodies.{IsPlace};
 ghost use Rattle.marker_core.specs.declared.states.Body.{Body};
 ghost use Rattle.page_space.specs.Space.{IsSeatOf};
@@ -14,7 +14,7 @@ use page_words::{MutatorSeat, Reading};
 use type_table::{TypeTable, fields_stand_apart};
 
 /// Writes the shown words of the object at a place to the front of `into`, and answers how many
-/// these are: one for each word of the declared fields, at most 64.
+/// these are: one for each word of the declared fields, at most 64. The rest of `into` stays.
 pub fn shown_words(
     space: &Space,
     types: &TypeTable,
@@ -29,6 +29,7 @@ pub fn shown_words(
     ensures few { result ≤ 64 }
     ensures words { (b : Body) → Contains seat.old.bodies b → b.place ≡ place
         → take result into.new ≡ spec.shown_words seat.old.types b }
+    ensures rest { (i : ℕ) → result ≤ i → slice_index into.new i ≡ slice_index into.old i }
     ensures view { seat.new ≡ seat.old }
 {
     fields_stand_apart();

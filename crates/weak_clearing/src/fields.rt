@@ -34,6 +34,7 @@ pub(crate) fn clear_field(space: &Space, seat: &mut MutatorSeat, holder: u32, wo
     requires field { HasHandle Fields seat.old holder word }
     ensures { OnlyLooked (handle_cleared Fields seat.old holder word) seat.new }
 {
+    seat.bodies_lie_apart();
     let target = get(space, seat, holder, word);
     if is_to_unmarked(space, seat, target) {
         set_weak(space, seat, holder, word, 0);

@@ -10,7 +10,7 @@
 //! What is proved: exactly the weak fields of marked objects whose target is not marked become
 //! null, both words of exactly their pairs whose key is not marked, and exactly the slots whose
 //! object is not marked. No other word changes, of objects that are not marked none at all, and no
-//! mark. A pair is cleared by `member_fields::set_pair`, which stores the value first.
+//! mark. A pair is cleared by `member_fields::clear_pair`, which stores the value first.
 //!
 //! What is only tested or not said: how long it takes. A type without weak fields, or without
 //! pairs, costs a look at the header of each of its objects.

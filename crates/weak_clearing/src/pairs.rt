@@ -12,7 +12,7 @@ ghost use Rattle.weak_clearing.specs.Steps.{HasHandle, handle_cleared};
 use crate::marks::is_to_unmarked;
 use crate::walk::clear_handles;
 use crate::weak_handles::WeakHandles;
-use member_fields::{read_pair, set_pair};
+use member_fields::read_pair;
 use page_space::Space;
 use page_words::MutatorSeat;
 use type_table::TypeTable;
@@ -36,8 +36,9 @@ pub(crate) fn clear_pair(space: &Space, seat: &mut MutatorSeat, holder: u32, wor
     requires pair { HasHandle Pairs seat.old holder word }
     ensures { OnlyLooked (handle_cleared Pairs seat.old holder word) seat.new }
 {
+    seat.bodies_lie_apart();
     let (key, _value) = read_pair(space, seat, holder, word);
     if is_to_unmarked(space, seat, key) {
-        set_pair(space, seat, holder, word, 0, 0);
+        member_fields::clear_pair(space, seat, holder, word);
     }
 }

@@ -50,7 +50,7 @@ collects d c = record {
   others = c.end_sweep.ensures.others;
   ready = c.end_sweep.ensures.ready;
   allowed = ap (λ (x : StackView). is_stack_refused c.args.want x.words) (sym c.stack.ensures) ∙ sym c.refuses.ensures ∙ c.if-refuses.false;
-  setup = c.end_sweep.ensures.setup;
+  setup = rw c.reserve.ensures at c.end_sweep.ensures.setup;
   same_setup = c.pause-result.ensures.setup;
   paused = subst (λ (r : RegistryView). IsPaused c.end_sweep.new.parts.objects.callbacks
       (slot_targets c.end_sweep.new.parts.handles.slots ++ hits_in (is_precise c.args.want) c.end_sweep.new.parts.objects.nodes c.end_sweep.new.parts.handles.stack.addresses)
@@ -62,7 +62,7 @@ collects d c = record {
   phase = refl;
   sweep = c.begin.ensures ∙ ap (λ (k : CycleView). record k.sweep { cursor = 0 }) c.cycle.view_is;
   rest = c.collected-rest.ensures;
-  ordinal = rw c.reserve.ensures at c.end_sweep.ensures.ordinal;
+  ordinal = c.end_sweep.ensures.ordinal;
 }
 
 pub returns-clause-step : goal.returns-clause-step

@@ -7,7 +7,7 @@ use Rattle.prefinalizer_effects.proofs.acting.clear.Goals as goal
 
 pub returns-in-Some-Strong-default : goal.returns-in-Some-Strong-default
 returns-in-Some-Strong-default c =
-    c.set.ensures.word ∙ ap (λ (v : SeatView). written v c.args.place c.in-Some-Strong-default.word 0) c.field_in.ensures.view
+    c.clear.ensures.word ∙ ap (λ (v : SeatView). written v c.args.place c.in-Some-Strong-default.word 0) c.field_in.ensures.view
     ∙ strong_cleared c.args.seat.now c.args.place c.args.field c.in-Some-Strong-default.word
     (subst (λ k. FoundAs c.args.seat.now c.args.place c.args.field k c.in-Some-Strong-default.word) c.in-Some-Strong-default.field-0-0-is c.in-Some-Strong-default.ensures.found)
 
@@ -19,7 +19,7 @@ returns-in-Some-Weak-default c =
 
 pub returns-in-Some-Pair-default : goal.returns-in-Some-Pair-default
 returns-in-Some-Pair-default c =
-    c.set_pair.ensures.words ∙ ap (λ (v : SeatView). pair_written v c.args.place c.in-Some-Pair-default.word 0 0) c.field_in.ensures.view
+    c.clear_pair.ensures.words ∙ ap (λ (v : SeatView). pair_written v c.args.place c.in-Some-Pair-default.word 0 0) c.field_in.ensures.view
     ∙ pair_cleared c.args.seat.now c.args.place c.args.field c.in-Some-Pair-default.word
     (subst (λ k. FoundAs c.args.seat.now c.args.place c.args.field k c.in-Some-Pair-default.word) c.in-Some-Pair-default.field-0-0-is c.in-Some-Pair-default.ensures.found)
 

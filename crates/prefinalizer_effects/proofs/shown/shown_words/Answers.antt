@@ -1,6 +1,6 @@
-use Rattle.std.proofs.Common.{◌≡◌, ℕ, ◌+◌, ◌<◌, ◌≤◌, List, length, take, get_or, sym, ap, ◌∙◌, subst, inl, inr, arith}
+use Rattle.std.proofs.Common.{◌≡◌, ℕ, ◌+◌, ◌<◌, ◌≤◌, List, length, take, get_or, refl, rules, sym, ap, ◌∙◌, subst, inl, inr, arith}
 use Rattle.std.proofs.lemmas.Bool.{cases_lt, le-leb}
-use Rattle.std.proofs.lemmas.List.{length-set}
+use Rattle.std.proofs.lemmas.List.{length-set, get_or-set_other}
 use Rattle.gc_graph.specs.declared.kind.Kind.{Kind}
 use Rattle.gc_graph.specs.Fields.{field_words}
 use Rattle.type_table.specs.Types.{kinds_of, kind_of, IsWordOf}
@@ -32,10 +32,15 @@ load-w-requires-clause-address c =
 pub load-w-requires-clause-allowed : goal.load-w-requires-clause-allowed
 load-w-requires-clause-allowed c = le-leb (c.args.place + (2 + c.loop-i.i)) (stop_at c.loop-i.seat.count) (load-w-requires-clause-address c)
 
+pub loop-i-init : goal.loop-i-init
+loop-i-init c = record { view = search rules; long = search rules; rest = λ k past. refl; front = λ b there at. refl }
+
 pub loop-i-preserved : goal.loop-i-preserved
 loop-i-preserved c = record {
   view = c.load-w.ensures.view ∙ c.loop-i.invariant.view;
   long = length-set c.loop-i.into c.loop-i.i c.shown.result ∙ c.loop-i.invariant.long;
+  rest = λ k past.
+      get_or-set_other c.loop-i.into c.loop-i.i k c.shown.result 0 (λ e. omega (arith, e, past)) ∙ c.loop-i.invariant.rest k (omega (arith, past));
   front = λ b there at.
       let v : SeatView = c.args.seat.now in
       let i : ℕ = c.loop-i.i in

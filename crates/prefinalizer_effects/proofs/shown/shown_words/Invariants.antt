@@ -1,4 +1,4 @@
-use Rattle.std.proofs.Common.{◌≡◌, length, take}
+use Rattle.std.proofs.Common.{◌≡◌, ℕ, ◌≤◌, length, take, get_or}
 use Rattle.std.specs.List.{Contains}
 use Rattle.type_table.specs.Types.{kinds_of}
 use Rattle.type_table.specs.Layouts.{kinds_of_words}
@@ -10,6 +10,7 @@ abbrev pub invariant-loop-i : goal.invariant-loop-i
 invariant-loop-i l = record {
   view : l.seat ≡ l.fn.seat;
   long : length l.into ≡ 64;
+  rest : (k : ℕ) → l.i ≤ k → get_or l.into k 0 ≡ get_or l.fn.into k 0;
   front : (b : Body) → Contains l.fn.seat.bodies b → b.place ≡ l.place
       → take l.i l.into ≡ take l.i (shown_of_kinds (kinds_of_words (kinds_of l.fn.seat.types b.ty)) b.fields);
 }

@@ -16,8 +16,8 @@ is_to_unmarked-requires-clause-reference c =
     subst (λ (v : SeatView). IsReference v.bodies c.read_pair-key.result.0) (sym c.read_pair-key.ensures.view)
     (reads_reference Pairs c.args.seat.now c.args.holder c.args.word c.read_pair-key.result.0 c.requires.pair c.read_pair-key.ensures.key)
 
-pub set_pair-requires-clause-pair : goal.set_pair-requires-clause-pair
-set_pair-requires-clause-pair c =
+pub clear_pair-requires-clause-pair : goal.clear_pair-requires-clause-pair
+clear_pair-requires-clause-pair c =
     pair_looked c.args.seat.now c.is_to_unmarked.new.seat c.args.holder c.args.word (c.is_to_unmarked.ensures.view ∙ ap unlooked c.read_pair-key.ensures.view)
     (whole_pair c.args.seat.now c.args.holder c.args.word c.requires.pair)
 
@@ -25,7 +25,7 @@ pub returns-then-is_to_unmarked : goal.returns-then-is_to_unmarked
 returns-then-is_to_unmarked c =
     let named : names_unmarked c.args.seat.now.marked c.read_pair-key.result.0 ≡ true =
     ap (λ (v : SeatView). names_unmarked v.marked c.read_pair-key.result.0) (sym c.read_pair-key.ensures.view) ∙ sym c.is_to_unmarked.ensures.names ∙ c.if-is_to_unmarked.true in
-    ap unlooked c.set_pair.ensures.words
+    ap unlooked c.clear_pair.ensures.words
     ∙ ap (λ (v : SeatView). pair_written v c.args.holder c.args.word 0 0) (c.is_to_unmarked.ensures.view ∙ ap unlooked c.read_pair-key.ensures.view)
     ∙ ap unlooked (pair_nulled c.args.seat.now c.args.holder c.args.word c.read_pair-key.result.0 c.read_pair-key.ensures.key c.requires.pair.first named)
 

@@ -54,6 +54,7 @@ invariant_of-self c =
           (held_made setup nodes c.self.inside.seat c.occupy.new.seat c.args.t c.args.extra c.args.place
           (known_nodes setup nodes (rw (← c.self.view_is) at c.requires.valid)) (rw (← c.self.view_is) at c.requires.alive) c.self.invariant.held occupies);
       numbers_are = omega (arith, c.self.invariant.numbers_are, ap length new, length_push nodes (new_node setup c.args.t c.args.extra c.args.place));
+      clear = c.self.invariant.clear;
     }
 
 pub returns-clause-marks : goal.returns-clause-marks

@@ -38,20 +38,20 @@ begin-requires g c =
 pub pause-result-requires-clause-begun : goal.pause-result-requires-clause-begun
 pause-result-requires-clause-begun g c =
     let v : SeatView = c.self.inside.seat in
-    let marking : Marking = record { on = true; overflow = c.grey.inside.marking.overflow; list = c.grey.inside.marking.list } in
+    let marking : Marking = record { on = true; overflow = c.self.inside.grey.marking.overflow; list = c.self.inside.grey.marking.list } in
     let roots : List ℕ = root_places c.args.strong.now c.args.precise v.bodies c.args.stack.now in
     let quiet : IsQuiet v = rw (← c.self.view_is) at c.requires.quiet in
     let rest = c.bodies_lie_apart.ensures.at_rest c.self.invariant.off in
-    let began : HasBegun (begun v roots) marking c.grey.inside.notes = record {
+    let began : HasBegun (begun v roots) marking c.self.inside.grey.notes = record {
       on = refl;
       alone = record { no_hand = rest.no_hand; no_pending = rest.no_pending; none_lent = rest.none_lent };
       unmarked = quiet.marked;
       untraced = quiet.traced;
       none_dead = quiet.dead;
-      none_listed = c.grey.invariant.none_listed;
-      none_noted = c.grey.invariant.none_noted;
+      none_listed = c.self.invariant.clear.none_listed;
+      none_noted = c.self.invariant.clear.none_noted;
     } in
-    subst (λ (u : SeatView). HasBegun u marking c.grey.inside.notes) (sym c.begin.ensures.view) began
+    subst (λ (u : SeatView). HasBegun u marking c.self.inside.grey.notes) (sym c.begin.ensures.view) began
 
 pub pause-result-requires-clause-strong : goal.pause-result-requires-clause-strong
 pause-result-requires-clause-strong g c =
@@ -82,6 +82,7 @@ invariant_of-self g c =
       off = c.pause-result.ensures.ready.off;
       held = c.pause-result.ensures.ready.held;
       numbers_are = c.self.invariant.numbers_are ∙ sym (paused.stayed.count ∙ length-after paused.kept nodes);
+      clear = c.clear.ensures;
     }
 
 pub returns-clause-sizes : goal.returns-clause-sizes

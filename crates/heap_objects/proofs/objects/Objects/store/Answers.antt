@@ -7,6 +7,8 @@ use Rattle.page_words.specs.Seat.{SeatView, rewritten}
 use Rattle.page_space.specs.Space.{IsSpaceOf}
 use Rattle.heap_objects.specs.declared.field.Field.{Field}
 use Rattle.nodes_in_words.specs.Nodes.{place_of, word_of, IsHeld}
+use Rattle.mark_worklist.specs.declared.marking.Marking.{Marking}
+use Rattle.heap_objects.specs.Marking.{IsClear}
 use Rattle.heap_objects.specs.Fields.{TakesWord}
 use Rattle.heap_objects.specs.Objects.{written_in}
 use Rattle.heap_objects.specs.Finalising.{HasMarks}
@@ -43,20 +45,21 @@ invariant_of-self c =
     let index : ℕ = word_of_field (node_at nodes is.0).object c.args.f in
     let at : a ≡ place_of nodes is.0 + 2 + index =
     omega (arith, ap (λ (y : Field). y.holder) is.2.is, ap (λ (y : Field). y.word) is.2.is) in
-    let seat : rewritten c.self.inside.seat a (word_of (place_of nodes) x) ≡ c.write_field.new.seat = sym (c.write_field.ensures ∙ ap (rewritten c.self.inside.seat a) word) in
+    let seat : rewritten c.self.inside.seat a (word_of (place_of nodes) x) ≡ c.write_field.new.seat = sym (c.write_field.ensures.word ∙ ap (rewritten c.self.inside.seat a) word) in
     let new : with_field nodes is.0 index x ≡ c.written.result.value = sym (c.written.ensures ∙ ap (λ slot. written_in nodes slot c.args.f x) is.1) in
     record {
       called = c.self.invariant.called;
       few = c.self.invariant.few;
-      known = ap (λ (v : SeatView). v.types) c.write_field.ensures ∙ c.self.invariant.known;
-      laid = subst (IsSpaceOf c.self.inside.space) (sym c.write_field.ensures) (c.lasts_while_objects_stay.ensures.store c.self.inside.seat a c.args.content.now.word c.self.invariant.laid);
-      off = ap (λ (v : SeatView). v.on) c.write_field.ensures ∙ c.self.invariant.off;
+      known = ap (λ (v : SeatView). v.types) c.write_field.ensures.word ∙ c.self.invariant.known;
+      laid = subst (IsSpaceOf c.self.inside.space) (sym c.write_field.ensures.word) (c.lasts_while_objects_stay.ensures.store c.self.inside.seat a c.args.content.now.word c.self.invariant.laid);
+      off = ap (λ (v : SeatView). v.on) c.write_field.ensures.word ∙ c.self.invariant.off;
       held = subst (λ (ns : List Node). IsHeld ns c.write_field.new.seat) new (subst (IsHeld (with_field nodes is.0 index x)) seat
           (held_stored nodes c.self.inside.seat a is.0 index x c.bodies_lie_apart.ensures c.self.invariant.held (live_is_there nodes is.0 is.2.live) at
           (word_low setup nodes is.0 c.args.f c.args.field (rw (← c.self.view_is) at c.requires.valid) is.2)));
       numbers_are = c.self.invariant.numbers_are ∙ sym (length-field nodes is.0 index x) ∙ ap length new;
+      clear = subst (λ (m : Marking). IsClear m c.self.inside.grey.notes) (sym c.write_field.ensures.marking) c.self.invariant.clear;
     }
 
 pub returns-clause-marks : goal.returns-clause-marks
 returns-clause-marks c = rw (← c.self.view_is) (λ phase limit marks.
-    subst (HasMarks phase limit) (sym c.write_field.ensures) (marks_stored phase limit c.self.inside.seat (c.args.field.holder + c.args.field.word) c.args.content.now.word marks))
+    subst (HasMarks phase limit) (sym c.write_field.ensures.word) (marks_stored phase limit c.self.inside.seat (c.args.field.holder + c.args.field.word) c.args.content.now.word marks))

@@ -7,6 +7,8 @@ use Rattle.page_words.specs.Seat.{SeatView, rewritten}
 use Rattle.page_space.specs.Space.{IsSpaceOf}
 use Rattle.heap_objects.specs.declared.field.Field.{Field}
 use Rattle.nodes_in_words.specs.Nodes.{place_of, word_of, IsHeld}
+use Rattle.mark_worklist.specs.declared.marking.Marking.{Marking}
+use Rattle.heap_objects.specs.Marking.{IsClear}
 use Rattle.heap_objects.specs.Objects.{paired_in}
 use Rattle.heap_objects.specs.Finalising.{HasMarks}
 use Rattle.nodes_in_words.specs.NodePlaces.{live_is_there}
@@ -67,24 +69,25 @@ invariant_of-self c =
     let at : holder + word ≡ place_of nodes is.0 + 2 + index = omega (arith, ap (λ (y : Field). y.holder) is.2.is, ap (λ (y : Field). y.word) is.2.is) in
     let next : holder + (word + 1) ≡ place_of nodes is.0 + 2 + (index + 1) = omega arith in
     let seat : after v holder word (word_of (place_of nodes) k) (word_of (place_of nodes) x) ≡ c.set_pair.new.seat =
-    sym (c.set_pair.ensures.addresses ∙ ap (λ w. after v holder word w c.args.pair.now.value.word) key ∙ ap (after v holder word (word_of (place_of nodes) k)) value) in
+    sym ((c.set_pair.ensures.off c.self.invariant.off).0 ∙ c.set_pair.ensures.addresses ∙ ap (λ w. after v holder word w c.args.pair.now.value.word) key ∙ ap (after v holder word (word_of (place_of nodes) k)) value) in
     let new : with_pair nodes is.0 index k x ≡ c.paired.result.value = sym (c.paired.ensures ∙ ap (λ slot. paired_in nodes slot c.args.f k x) is.1) in
     record {
       called = c.self.invariant.called;
       few = c.self.invariant.few;
-      known = ap (λ (u : SeatView). u.types) c.set_pair.ensures.addresses ∙ c.self.invariant.known;
-      laid = subst (IsSpaceOf c.self.inside.space) (sym c.set_pair.ensures.addresses)
+      known = ap (λ (u : SeatView). u.types) ((c.set_pair.ensures.off c.self.invariant.off).0 ∙ c.set_pair.ensures.addresses) ∙ c.self.invariant.known;
+      laid = subst (IsSpaceOf c.self.inside.space) (sym ((c.set_pair.ensures.off c.self.invariant.off).0 ∙ c.set_pair.ensures.addresses))
           (c.lasts_while_objects_stay.ensures.store (rewritten v (holder + (word + 1)) c.args.pair.now.value.word) (holder + word) c.args.pair.now.key.word
           (c.lasts_while_objects_stay.ensures.store v (holder + (word + 1)) c.args.pair.now.value.word c.self.invariant.laid));
-      off = ap (λ (u : SeatView). u.on) c.set_pair.ensures.addresses ∙ c.self.invariant.off;
+      off = ap (λ (u : SeatView). u.on) ((c.set_pair.ensures.off c.self.invariant.off).0 ∙ c.set_pair.ensures.addresses) ∙ c.self.invariant.off;
       held = subst (λ (ns : List Node). IsHeld ns c.set_pair.new.seat) new (subst (IsHeld (with_pair nodes is.0 index k x)) seat
           (held_paired nodes v (holder + word) (holder + (word + 1)) is.0 index k x c.bodies_lie_apart.ensures c.self.invariant.held (live_is_there nodes is.0 is.2.live) at next
           (pair_low setup nodes is.0 c.args.f (rw (← c.self.view_is) at c.requires.valid) is.2.live (pair_is nodes is.0 c.args.f c.args.field is.2 c.requires.kind))));
       numbers_are = c.self.invariant.numbers_are ∙ sym (length-pair nodes is.0 index k x) ∙ ap length new;
+      clear = subst (λ (m : Marking). IsClear m c.self.inside.grey.notes) (sym (c.set_pair.ensures.off c.self.invariant.off).1) c.self.invariant.clear;
     }
 
 pub returns-clause-marks : goal.returns-clause-marks
 returns-clause-marks c = rw (← c.self.view_is) (λ phase limit marks.
-    subst (HasMarks phase limit) (sym c.set_pair.ensures.addresses)
+    subst (HasMarks phase limit) (sym ((c.set_pair.ensures.off c.self.invariant.off).0 ∙ c.set_pair.ensures.addresses))
     (marks_stored phase limit (rewritten c.self.inside.seat (c.args.field.holder + (c.args.field.word + 1)) c.args.pair.now.value.word) (c.args.field.holder + c.args.field.word) c.args.pair.now.key.word
     (marks_stored phase limit c.self.inside.seat (c.args.field.holder + (c.args.field.word + 1)) c.args.pair.now.value.word marks)))

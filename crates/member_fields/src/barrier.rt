@@ -1,0 +1,41 @@
+// The barrier of a store (`src/heap/cppgc/write-barrier.h`): while marking goes on, what a strong
+// field or a pair's value comes to name is marked.
+
+ghost use Rattle.std.specs.Prelude.{◌≡◌};
+ghost use Rattle.mark_worklist.specs.Refusals.{TellsRefused, refusals_of};
+ghost use Rattle.marker_core.specs.Bodies.{IsReference};
+ghost use Rattle.member_fields.specs.Barrier.{MayKeepNamed, HasBarrier, IsPushed};
+
+use mark_worklist::Marking;
+use object_headers::place_in;
+use page_words::{MutatorSeat, Words};
+
+/// Marks what a stored word names while marking goes on, whether it has the mark or not: a header
+/// that has it must be seen too before a key may be stored beside the word.
+pub fn keep(words: &Words, seat: &mut MutatorSeat, marking: &mut Marking, target: u64)
+    requires heap { seat.old.count ≡ words.now }
+    requires on { marking.old.on ≡ seat.old.on }
+    requires target { IsReference seat.old.bodies target }
+    requires kept { MayKeepNamed seat.old target }
+    ensures { HasBarrier target seat.old marking.old seat.new marking.new }
+{
+    seat.bodies_lie_apart();
+    if !marking.on {
+        return;
+    }
+    if let Some(place) = place_in(target) {
+        if words.mark(seat, place) {
+            list(marking, place);
+        }
+    }
+}
+
+/// Lists a place, or raises `overflow` where the push is refused.
+fn list(marking: &mut Marking, place: u32)
+    ensures listed { IsPushed marking.old marking.new place }
+    ensures told { TellsRefused (refusals_of marking.old) (refusals_of marking.new) }
+{
+    if marking.list.push(place).is_err() {
+        marking.overflow = true;
+    }
+}
