@@ -1,6 +1,6 @@
 -- What is asked of the view for a store while marking may go on, and what the barrier of a store does.
 use Rattle.std.specs.Prelude.{◌≡◌, ◌⊎◌, ℕ, ◌==◌, ◌&&◌, not, Bool, true, false, None, if◌then◌else◌}
-use Rattle.mark_worklist.specs.Lists.{pushed, refused_once}
+use Rattle.mark_worklist.specs.Lists.{IsPushed, refused_once}
 use Rattle.mark_worklist.specs.Refusals.{TellsRefused, refusals_of}
 use Rattle.mark_worklist.specs.declared.marking.Marking.{Marking}
 use Rattle.marker_core.specs.Bodies.{holds, place_named}
@@ -31,10 +31,10 @@ wants_mark v w = v.on && not (w == 0)
 abbrev pub target_marked : SeatView → ℕ → Bool → SeatView
 target_marked v w was = if wants_mark v w then marked_at v (place_named w) was else v
 
--- the place was put at the end of the list, or the push was refused, which is told
-abbrev pub IsPushed : Marking → Marking → ℕ → Type 0
-IsPushed before after a =
-    (after ≡ record before { list = pushed before.list a })
+-- the place was put on the list, or the push was refused, which is told
+abbrev pub PushesOrTells : Marking → Marking → ℕ → Type 0
+PushesOrTells before after a =
+    (IsPushed before.list a after.list × (after ≡ record before { list = after.list }))
     ⊎ (after ≡ record before { overflow = true; list = refused_once before.list })
 
 -- after a store, what the word names is marked where it has to be, and no other object; it is pushed where the mark is fresh,
@@ -44,6 +44,6 @@ pub record HasBarrier (target : ℕ) (old : SeatView) (before : Marking) (new : 
   pub wanted : fresh ≡ true → wants_mark old target ≡ true
   pub alone : old.lent ≡ 0 → fresh ≡ (wants_mark old target && not (holds old.marked (place_named target)))
   pub marked : new ≡ target_marked old target (not fresh)
-  pub listed : fresh ≡ true → IsPushed before after (place_named target)
+  pub listed : fresh ≡ true → PushesOrTells before after (place_named target)
   pub unlisted : fresh ≡ false → after ≡ before
   pub told : TellsRefused (refusals_of before) (refusals_of after)

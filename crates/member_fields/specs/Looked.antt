@@ -5,7 +5,7 @@ use Rattle.std.specs.List.{Contains}
 use Rattle.gc_graph.specs.declared.kind.Kind.{Kind}
 use Rattle.page_words.specs.Bodies.{IsKeyWord, kind_in}
 use Rattle.page_words.specs.Seat.{SeatView, OnlyLooked}
-use Rattle.member_fields.specs.Words.{HasWord, HasPair}
+use Rattle.member_fields.specs.Words.{HasWord, HasPair, IsWordIn}
 
 pub word_looked : (is_so : Kind → Bool) (v w : SeatView) (holder word : ℕ) → OnlyLooked v w → HasWord is_so v holder word → HasWord is_so w holder word
 word_looked is_so v w holder word same has = record {
@@ -26,3 +26,7 @@ pair_looked v w holder word same has = record {
   last = has.last;
   key = subst (λ ts. IsKeyWord ts has.body (word - 2)) (ap (λ (x : SeatView). x.types) (sym same)) has.key;
 }
+
+-- what a word holds it held
+pub word_from : (v w : SeatView) (holder word x : ℕ) → OnlyLooked v w → IsWordIn w holder word x → IsWordIn v holder word x
+word_from v w holder word x same is = subst (λ (z : SeatView). IsWordIn z holder word x) same is

@@ -4,7 +4,7 @@
 ghost use Rattle.std.specs.Prelude.{◌≡◌};
 ghost use Rattle.mark_worklist.specs.Refusals.{TellsRefused, refusals_of};
 ghost use Rattle.marker_core.specs.Bodies.{IsReference};
-ghost use Rattle.member_fields.specs.Barrier.{MayKeepNamed, HasBarrier, IsPushed};
+ghost use Rattle.member_fields.specs.Barrier.{MayKeepNamed, HasBarrier, PushesOrTells};
 
 use mark_worklist::Marking;
 use object_headers::place_in;
@@ -32,7 +32,7 @@ pub fn keep(words: &Words, seat: &mut MutatorSeat, marking: &mut Marking, target
 
 /// Lists a place, or raises `overflow` where the push is refused.
 fn list(marking: &mut Marking, place: u32)
-    ensures listed { IsPushed marking.old marking.new place }
+    ensures listed { PushesOrTells marking.old marking.new place }
     ensures told { TellsRefused (refusals_of marking.old) (refusals_of marking.new) }
 {
     if marking.list.push(place).is_err() {

@@ -16,3 +16,4 @@ pub mod ReferenceWords
 pub mod DeadUnnamed
 pub mod WholePairs
 pub mod ChangedBodies
+pub mod LookedNodes

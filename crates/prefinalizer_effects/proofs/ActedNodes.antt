@@ -16,7 +16,7 @@ use Rattle.gc_graph.specs.Actions.{cleared_field, cleared_at, added, added_field
 use Rattle.gc_graph.specs.ActionLaw.{HaveStayed}
 use Rattle.gc_graph.specs.State.{ObjectType}
 use Rattle.marker_core.specs.declared.states.Body.{Body}
-use Rattle.page_words.specs.Seat.{SeatView}
+use Rattle.page_words.specs.Seat.{SeatView, OnlyLooked}
 use Rattle.page_space.specs.Space.{extents_of_bodies}
 use Rattle.prefinalizer_effects.specs.Acting as words
 use Rattle.nodes_in_words.specs.Nodes.{IsThere}
@@ -150,6 +150,16 @@ pub record StayPut (old new : SeatView) : Type 0 where
   pub on : new.on ≡ old.on
   pub extents : extents_of_bodies new.bodies ≡ extents_of_bodies old.bodies
   pub judged : IsJudged old → IsJudged new
+
+-- headers were looked at
+pub put_looked : (v w x : SeatView) → OnlyLooked w x → StayPut v w → StayPut v x
+put_looked v w x same put = record {
+  count = ap (λ (z : SeatView). z.count) same ∙ put.count;
+  types = ap (λ (z : SeatView). z.types) same ∙ put.types;
+  on = ap (λ (z : SeatView). z.on) same ∙ put.on;
+  extents = ap (λ (z : SeatView). extents_of_bodies z.bodies) same ∙ put.extents;
+  judged = λ is. subst IsJudged (sym same) (put.judged is);
+}
 
 linked_put : (v : SeatView) (target : Option ℕ) (change : Body → Body) → KeepsExtents change → StayPut v (words.change_linked v target change)
 linked_put v None change keeps = record { count = refl; types = refl; on = refl; extents = refl; judged = λ is. is }

@@ -4,6 +4,7 @@
 ghost use Rattle.std.specs.Prelude.{◌≡◌, false, Contains};
 ghost use Rattle.marker_core.specs.Bodies.{IsPlace};
 ghost use Rattle.marker_core.specs.declared.states.Body.{Body};
+ghost use Rattle.page_words.specs.Seat.{OnlyLooked};
 ghost use Rattle.page_space.specs.Space.{IsSeatOf};
 ghost use Rattle.prefinalizer_effects.specs.Acting.{AreTyped, AreLinked, acted};
 ghost use Rattle.prefinalizer_effects.specs.Acting.{changed_at, cleared_at, added_at};
@@ -24,7 +25,7 @@ pub fn apply(space: &Space, types: &TypeTable, seat: &mut MutatorSeat, place: u3
     requires links { AreLinked seat.old }
     requires place { IsPlace seat.old.bodies place }
     ensures acted { (b : Body) → Contains seat.old.bodies b → b.place ≡ place
-        → seat.new ≡ acted seat.old b action }
+        → OnlyLooked (acted seat.old b action) seat.new }
     ensures typed { AreTyped seat.new }
     ensures links { AreLinked seat.new }
 {
@@ -55,7 +56,7 @@ fn clear(space: &Space, types: &TypeTable, seat: &mut MutatorSeat, place: u32, f
     requires types { types.now ≡ seat.old.types }
     requires typed { AreTyped seat.old }
     requires place { IsPlace seat.old.bodies place }
-    ensures { seat.new ≡ changed_at seat.old place (cleared_at seat.old.types field) }
+    ensures { OnlyLooked (changed_at seat.old place (cleared_at seat.old.types field)) seat.new }
 {
     seat.bodies_lie_apart();
     match field_in(space, types, seat, place, field) {
@@ -81,7 +82,7 @@ fn add(
     requires types { types.now ≡ seat.old.types }
     requires typed { AreTyped seat.old }
     requires place { IsPlace seat.old.bodies place }
-    ensures { seat.new ≡ changed_at seat.old place (added_at seat.old.types field amount) }
+    ensures { OnlyLooked (changed_at seat.old place (added_at seat.old.types field amount)) seat.new }
 {
     seat.bodies_lie_apart();
     match field_in(space, types, seat, place, field) {

@@ -3,6 +3,7 @@
 ghost use Rattle.std.specs.Prelude.{◌≡◌, Contains, IfSome};
 ghost use Rattle.marker_core.specs.Bodies.{IsPlace};
 ghost use Rattle.marker_core.specs.declared.states.Body.{Body};
+ghost use Rattle.page_words.specs.Seat.{OnlyLooked};
 ghost use Rattle.page_space.specs.Space.{IsSeatOf};
 ghost use Rattle.prefinalizer_effects.specs.Acting.{AreTyped, AreLinked, linked};
 ghost use Rattle.prefinalizer_effects.specs.Places.{IsFound, HasFoundWord, HasFoundPair};
@@ -30,7 +31,7 @@ pub fn field_in(
     ensures found { IsFound seat.old place field result }
     ensures word { HasFoundWord seat.old place result }
     ensures pair { HasFoundPair seat.old place result }
-    ensures view { seat.new ≡ seat.old }
+    ensures view { OnlyLooked seat.old seat.new }
 {
     fields_stand_apart();
     seat.bodies_lie_apart();
@@ -56,7 +57,7 @@ pub fn linked_from(
     ensures linked { (b : Body) → Contains seat.old.bodies b → b.place ≡ place
         → result ≡ linked seat.old.types b link }
     ensures place { IfSome result (IsPlace seat.old.bodies) }
-    ensures view { seat.new ≡ seat.old }
+    ensures view { OnlyLooked seat.old seat.new }
 {
     seat.bodies_lie_apart();
     match field_in(space, types, seat, place, link) {

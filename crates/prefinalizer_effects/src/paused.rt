@@ -7,6 +7,7 @@ ghost use Rattle.gc_graph.specs.ActionLaw.{HaveStayed};
 ghost use Rattle.gc_graph.specs.Pause.{is_dead_at};
 ghost use Rattle.gc_graph.specs.State.{node_at};
 ghost use Rattle.callback_table.specs.Bodies.{IsNodePlace, StandsAt};
+ghost use Rattle.page_words.specs.Seat.{OnlyLooked};
 ghost use Rattle.page_space.specs.Space.{extents_of_bodies};
 ghost use Rattle.prefinalizer_effects.specs.Prepared.{IsPrepared};
 
@@ -86,7 +87,7 @@ fn is_marked(
     requires place { IsNodePlace nodes.now.value place }
     ensures mark { (n : ℕ) → StandsAt nodes.now.value place n
         → result ≡ not (is_dead_at nodes.now.value n) }
-    ensures same { seat.new ≡ seat.old }
+    ensures view { OnlyLooked seat.old seat.new }
 {
     let _ = types;
     let _ = nodes;
@@ -108,7 +109,7 @@ fn show_words(
     ensures few { result ≤ 64 }
     ensures words { (n : ℕ) → StandsAt nodes.now.value place n
         → take result into.new ≡ shown_words (node_at nodes.now.value n) }
-    ensures same { seat.new ≡ seat.old }
+    ensures view { OnlyLooked seat.old seat.new }
 {
     let _ = nodes;
     type_table::fields_stand_apart();

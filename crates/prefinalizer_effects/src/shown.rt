@@ -3,6 +3,7 @@
 ghost use Rattle.std.specs.Prelude.{◌≡◌, ℕ, ◌≤◌, Contains, take, slice_index};
 ghost use Rattle.marker_core.specs.Bodies.{IsPlace};
 ghost use Rattle.marker_core.specs.declared.states.Body.{Body};
+ghost use Rattle.page_words.specs.Seat.{OnlyLooked};
 ghost use Rattle.page_space.specs.Space.{IsSeatOf};
 ghost use Rattle.prefinalizer_effects.specs.Shown as spec;
 ghost use Rattle.prefinalizer_effects.specs.Acting.{AreTyped};
@@ -30,7 +31,7 @@ pub fn shown_words(
     ensures words { (b : Body) → Contains seat.old.bodies b → b.place ≡ place
         → take result into.new ≡ spec.shown_words seat.old.types b }
     ensures rest { (i : ℕ) → result ≤ i → slice_index into.new i ≡ slice_index into.old i }
-    ensures view { seat.new ≡ seat.old }
+    ensures view { OnlyLooked seat.old seat.new }
 {
     fields_stand_apart();
     seat.bodies_lie_apart();

@@ -2,45 +2,57 @@ use Rattle.std.proofs.Common.{◌+◌, ◌%◌, ◌^◌, ap, sym, ◌∙◌, sub
 use Rattle.std.proofs.lemmas.Bool.{true≢false}
 use Rattle.gc_graph.specs.declared.kind.Kind.TheVariants.{Strong, Weak, Pair}
 use Rattle.gc_graph.specs.Fields.{is_plain}
-use Rattle.page_words.specs.Seat.{SeatView}
+use Rattle.page_words.specs.Seat.{SeatView, unlooked}
 use Rattle.prefinalizer_effects.specs.Acting.{added_at}
-use Rattle.member_fields.specs.Words.{IsWordIn, written}
+use Rattle.member_fields.specs.Words.{written}
+use Rattle.member_fields.specs.Looked.{word_looked, word_from}
 use Rattle.prefinalizer_effects.proofs.BodiesChanged.{FoundAs, plain_added, added_past, other_kept, changed_none}
 use Rattle.prefinalizer_effects.proofs.acting.add.Goals as goal
 
+pub get_word-before-requires-clause-field : goal.get_word-before-requires-clause-field
+get_word-before-requires-clause-field c =
+    word_looked is_plain c.args.seat.now c.field_in.new.seat c.args.place c.in-Some-Plain-default.word c.field_in.ensures.view
+    (c.in-Some-Plain-default.ensures.word is_plain (ap is_plain c.in-Some-Plain-default.field-0-0-is))
+
+pub put_word-requires-clause-field : goal.put_word-requires-clause-field
+put_word-requires-clause-field c =
+    word_looked is_plain c.args.seat.now c.get_word-before.new.seat c.args.place c.in-Some-Plain-default.word
+    (ap unlooked c.get_word-before.ensures.view ∙ c.field_in.ensures.view)
+    (c.in-Some-Plain-default.ensures.word is_plain (ap is_plain c.in-Some-Plain-default.field-0-0-is))
+
 pub returns-in-Some-Plain-default : goal.returns-in-Some-Plain-default
 returns-in-Some-Plain-default c =
-    c.put_word.ensures.word
+    ap unlooked c.put_word.ensures.word
     ∙ ap (λ (v : SeatView). written v c.args.place c.in-Some-Plain-default.word ((c.get_word-before.result + c.args.amount) % 2 ^ 64))
-    (c.get_word-before.ensures.view ∙ c.field_in.ensures.view)
-    ∙ plain_added c.args.seat.now c.args.place c.args.field c.in-Some-Plain-default.word c.get_word-before.result c.args.amount
-    (subst (λ (v : SeatView). IsWordIn v c.args.place c.in-Some-Plain-default.word c.get_word-before.result) c.field_in.ensures.view c.get_word-before.ensures.word)
+    (ap unlooked c.get_word-before.ensures.view ∙ c.field_in.ensures.view)
+    ∙ ap unlooked (plain_added c.args.seat.now c.args.place c.args.field c.in-Some-Plain-default.word c.get_word-before.result c.args.amount
+    (word_from c.args.seat.now c.field_in.new.seat c.args.place c.in-Some-Plain-default.word c.get_word-before.result c.field_in.ensures.view c.get_word-before.ensures.word)
     (subst (λ k. FoundAs c.args.seat.now c.args.place c.args.field k c.in-Some-Plain-default.word) c.in-Some-Plain-default.field-0-0-is
-    c.in-Some-Plain-default.ensures.found)
+    c.in-Some-Plain-default.ensures.found))
 
 pub returns-in-Some-Strong-default : goal.returns-in-Some-Strong-default
 returns-in-Some-Strong-default c =
     c.field_in.ensures.view
-    ∙ other_kept c.args.seat.now c.args.place c.args.field Strong c.in-Some-Strong-default.field-0-1 c.args.amount (λ plain. true≢false (sym (ap is_plain plain)))
+    ∙ ap unlooked (other_kept c.args.seat.now c.args.place c.args.field Strong c.in-Some-Strong-default.field-0-1 c.args.amount (λ plain. true≢false (sym (ap is_plain plain)))
     (subst (λ k. FoundAs c.args.seat.now c.args.place c.args.field k c.in-Some-Strong-default.field-0-1) c.in-Some-Strong-default.field-0-0-is
-    c.in-Some-Strong-default.ensures.found)
+    c.in-Some-Strong-default.ensures.found))
 
 pub returns-in-Some-Weak-default : goal.returns-in-Some-Weak-default
 returns-in-Some-Weak-default c =
     c.field_in.ensures.view
-    ∙ other_kept c.args.seat.now c.args.place c.args.field Weak c.in-Some-Weak-default.field-0-1 c.args.amount (λ plain. true≢false (sym (ap is_plain plain)))
+    ∙ ap unlooked (other_kept c.args.seat.now c.args.place c.args.field Weak c.in-Some-Weak-default.field-0-1 c.args.amount (λ plain. true≢false (sym (ap is_plain plain)))
     (subst (λ k. FoundAs c.args.seat.now c.args.place c.args.field k c.in-Some-Weak-default.field-0-1) c.in-Some-Weak-default.field-0-0-is
-    c.in-Some-Weak-default.ensures.found)
+    c.in-Some-Weak-default.ensures.found))
 
 pub returns-in-Some-Pair-default : goal.returns-in-Some-Pair-default
 returns-in-Some-Pair-default c =
     c.field_in.ensures.view
-    ∙ other_kept c.args.seat.now c.args.place c.args.field Pair c.in-Some-Pair-default.field-0-1 c.args.amount (λ plain. true≢false (sym (ap is_plain plain)))
+    ∙ ap unlooked (other_kept c.args.seat.now c.args.place c.args.field Pair c.in-Some-Pair-default.field-0-1 c.args.amount (λ plain. true≢false (sym (ap is_plain plain)))
     (subst (λ k. FoundAs c.args.seat.now c.args.place c.args.field k c.in-Some-Pair-default.field-0-1) c.in-Some-Pair-default.field-0-0-is
-    c.in-Some-Pair-default.ensures.found)
+    c.in-Some-Pair-default.ensures.found))
 
 pub returns-in-None : goal.returns-in-None
 returns-in-None c =
     c.field_in.ensures.view
-    ∙ changed_none c.args.seat.now c.args.place (added_at c.args.seat.now.types c.args.field c.args.amount)
-    (λ b there at. added_past c.args.seat.now.types c.args.field b c.args.amount (c.in-None.ensures.found b there at))
+    ∙ ap unlooked (changed_none c.args.seat.now c.args.place (added_at c.args.seat.now.types c.args.field c.args.amount)
+    (λ b there at. added_past c.args.seat.now.types c.args.field b c.args.amount (c.in-None.ensures.found b there at)))

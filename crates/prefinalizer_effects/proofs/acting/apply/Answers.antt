@@ -1,5 +1,5 @@
 use Rattle.std.proofs.Common.{◌≡◌, ap, sym, ◌∙◌, subst}
-use Rattle.page_words.specs.Seat.{SeatView}
+use Rattle.page_words.specs.Seat.{SeatView, OnlyLooked}
 use Rattle.prefinalizer_effects.specs.Acting.{AreTyped, AreLinked, cleared_at, added_at, changed_at}
 use Rattle.prefinalizer_effects.proofs.BodiesKept.{clearing_keeps, adding_keeps, typed_kept, links_kept}
 use Rattle.prefinalizer_effects.proofs.acting.apply.Goals as goal
@@ -10,11 +10,12 @@ clear-requires-clause-typed c = subst AreTyped (sym c.linked_from.ensures.view) 
 pub add-requires-clause-typed : goal.add-requires-clause-typed
 add-requires-clause-typed c = subst AreTyped (sym c.linked_from-in-Add.ensures.view) c.requires.typed
 
-is_cleared : (c : goal.After-clear) → c.clear.new.seat ≡ changed_at c.args.seat.now c.in-Some.named (cleared_at c.args.seat.now.types c.in-Clear.field)
+is_cleared : (c : goal.After-clear)
+    → OnlyLooked (changed_at c.args.seat.now c.in-Some.named (cleared_at c.args.seat.now.types c.in-Clear.field)) c.clear.new.seat
 is_cleared c = c.clear.ensures ∙ ap (λ (v : SeatView). changed_at v c.in-Some.named (cleared_at v.types c.in-Clear.field)) c.linked_from.ensures.view
 
 is_added : (c : goal.After-add)
-    → c.add.new.seat ≡ changed_at c.args.seat.now c.in-Some-linked_from.named (added_at c.args.seat.now.types c.in-Add.field c.in-Add.amount)
+    → OnlyLooked (changed_at c.args.seat.now c.in-Some-linked_from.named (added_at c.args.seat.now.types c.in-Add.field c.in-Add.amount)) c.add.new.seat
 is_added c =
     c.add.ensures
     ∙ ap (λ (v : SeatView). changed_at v c.in-Some-linked_from.named (added_at v.types c.in-Add.field c.in-Add.amount)) c.linked_from-in-Add.ensures.view

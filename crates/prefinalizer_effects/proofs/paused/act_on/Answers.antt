@@ -7,12 +7,13 @@ use Rattle.gc_graph.specs.Actions.{acted}
 use Rattle.gc_graph.specs.Valid.{IsTyped}
 use Rattle.callback_table.specs.Bodies.{StandsAt}
 use Rattle.marker_core.specs.declared.states.Body.{Body}
-use Rattle.page_words.specs.Seat.{SeatView}
+use Rattle.page_words.specs.Seat.{SeatView, OnlyLooked, unlooked}
 use Rattle.prefinalizer_effects.specs.Acting as words
 use Rattle.nodes_in_words.specs.Nodes.{IsThere, place_of, body_of, IsHeld}
 use Rattle.prefinalizer_effects.specs.Prepared.{setup_of, AllNameThere}
-use Rattle.prefinalizer_effects.proofs.ActedNodes.{StayPut, acted_put, named_acted, linked_there}
+use Rattle.prefinalizer_effects.proofs.ActedNodes.{StayPut, acted_put, put_looked, named_acted, linked_there}
 use Rattle.nodes_in_words.specs.NodePlaces.{node_body, serials_fit}
+use Rattle.nodes_in_words.specs.LookedNodes.{held_looked}
 use Rattle.gc_graph.specs.NodeNumbers.{there_below}
 use Rattle.prefinalizer_effects.proofs.PrefinalizerBodies.{held_acted}
 use Rattle.prefinalizer_effects.proofs.PreparedBodies.{bodies_typed, bodies_linked}
@@ -57,13 +58,13 @@ nodes_left c n stands = sym (c.acted.ensures ∙ ap (λ m. acted c.args.nodes.no
 
 -- and of the words
 words_left : (c : goal.After-drop-nodes) (n : ℕ) → StandsAt c.args.nodes.now.value c.args.place n
-    → c.apply.new.seat ≡ words.acted c.args.seat.now (body_of (place_of c.args.nodes.now.value) n (node_at c.args.nodes.now.value n)) c.args.action
+    → OnlyLooked (words.acted c.args.seat.now (body_of (place_of c.args.nodes.now.value) n (node_at c.args.nodes.now.value n)) c.args.action) c.apply.new.seat
 words_left c n stands =
     let nodes : List Node = c.args.nodes.now.value in
     let b : Body = body_of (place_of nodes) n (node_at nodes n) in
     let there : Contains c.args.seat.now.bodies b = node_body nodes c.args.seat.now n c.requires.ready.held.bodies (stands_there nodes c.args.place n stands) in
     c.apply.ensures.acted b (subst (λ (v : SeatView). Contains v.bodies b) (sym c.serial_at-number.ensures.view) there) stands.place_is
-    ∙ ap (λ (v : SeatView). words.acted v b c.args.action) c.serial_at-number.ensures.view
+    ∙ ap (λ (v : SeatView). unlooked (words.acted v b c.args.action)) c.serial_at-number.ensures.view
 
 -- the action leaves each node where it was, with the fields of its type
 law_holds : (c : goal.After-drop-nodes) (n : ℕ)
@@ -77,7 +78,8 @@ law_holds c n =
 put : (c : goal.After-drop-nodes) (n : ℕ) → StandsAt c.args.nodes.now.value c.args.place n → StayPut c.args.seat.now c.apply.new.seat
 put c n stands =
     let nodes : List Node = c.args.nodes.now.value in
-    subst (StayPut c.args.seat.now) (sym (words_left c n stands)) (acted_put c.args.seat.now (body_of (place_of nodes) n (node_at nodes n)) c.args.action)
+    put_looked c.args.seat.now (words.acted c.args.seat.now (body_of (place_of nodes) n (node_at nodes n)) c.args.action) c.apply.new.seat (words_left c n stands)
+    (acted_put c.args.seat.now (body_of (place_of nodes) n (node_at nodes n)) c.args.action)
 
 pub returns-clause-extents : goal.returns-clause-extents
 returns-clause-extents c = (put c c.requires.place.0 c.requires.place.1).extents
@@ -106,7 +108,8 @@ returns-clause-ready c =
       known = stays.types ∙ ready.known;
       laid = c.lasts_while_objects_stay.ensures.objects v c.apply.new.seat stays.count stays.extents ready.laid;
       off = stays.on ∙ ready.off;
-      held = subst (λ (ns : List Node). IsHeld ns c.apply.new.seat) left (subst (IsHeld (acted nodes n c.args.action)) (sym (words_left c n stands)) held);
+      held = subst (λ (ns : List Node). IsHeld ns c.apply.new.seat) left (held_looked (acted nodes n c.args.action)
+      (words.acted v (body_of (place_of nodes) n (node_at nodes n)) c.args.action) c.apply.new.seat (words_left c n stands) held);
       few = omega (arith, ready.few, count, ap length left);
       typed = subst (AreTyped setup) left law.1;
       named = subst AllNameThere left (named_acted nodes n c.args.action law.0 ready.named);

@@ -1,4 +1,5 @@
 use Rattle.std.proofs.Common.{◌≡◌, ℕ, ◌+◌, ◌<◌, ◌≤◌, List, length, take, get_or, refl, rules, sym, ap, ◌∙◌, subst, inl, inr, arith}
+use Rattle.std.specs.List.{Contains}
 use Rattle.std.proofs.lemmas.Bool.{cases_lt, le-leb}
 use Rattle.std.proofs.lemmas.List.{length-set, get_or-set_other}
 use Rattle.gc_graph.specs.declared.kind.Kind.{Kind}
@@ -6,7 +7,7 @@ use Rattle.gc_graph.specs.Fields.{field_words}
 use Rattle.type_table.specs.Types.{kinds_of, kind_of, IsWordOf}
 use Rattle.type_table.specs.Layouts.{kinds_of_words}
 use Rattle.marker_core.specs.Layout.{stop_at}
-use Rattle.page_words.specs.Seat.{SeatView, IsWordAt}
+use Rattle.page_words.specs.Seat.{SeatView}
 use Rattle.prefinalizer_effects.specs.Shown.{shown_of_kinds}
 use Rattle.prefinalizer_effects.proofs.FieldWords.{type_known, kinds_told, size_told, long_fields, fields_inside}
 use Rattle.prefinalizer_effects.proofs.WordsShown.{shown_length, word_shown, one_more_shown, first_words}
@@ -33,11 +34,11 @@ pub load-w-requires-clause-allowed : goal.load-w-requires-clause-allowed
 load-w-requires-clause-allowed c = le-leb (c.args.place + (2 + c.loop-i.i)) (stop_at c.loop-i.seat.count) (load-w-requires-clause-address c)
 
 pub loop-i-init : goal.loop-i-init
-loop-i-init c = record { view = search rules; long = search rules; rest = λ k past. refl; front = λ b there at. refl }
+loop-i-init c = record { view = c.header_at-ty.ensures.view; long = search rules; rest = λ k past. refl; front = λ b there at. refl }
 
 pub loop-i-preserved : goal.loop-i-preserved
 loop-i-preserved c = record {
-  view = c.load-w.ensures.view ∙ c.loop-i.invariant.view;
+  view = c.load-w.ensures.read refl ∙ c.loop-i.invariant.view;
   long = length-set c.loop-i.into c.loop-i.i c.shown.result ∙ c.loop-i.invariant.long;
   rest = λ k past.
       get_or-set_other c.loop-i.into c.loop-i.i k c.shown.result 0 (λ e. omega (arith, e, past)) ∙ c.loop-i.invariant.rest k (omega (arith, past));
@@ -50,9 +51,8 @@ loop-i-preserved c = record {
       let size = size_told v c.args.types.now b c.header_at-ty.result c.size_of.result c.requires.types is_head c.size_of.ensures.size in
       let long = long_fields v b c.bodies_lie_apart.ensures there (c.requires.typed b there) in
       let low : i < field_words kinds = omega (arith, c.loop-i-test.true, c.min-count.ensures, size) in
-      let word : IsWordAt v (c.args.place + (2 + i)) c.load-w.result =
-      subst (λ (x : SeatView). IsWordAt x (c.args.place + (2 + i)) c.load-w.result) c.loop-i.invariant.view c.load-w.ensures.word in
-      let is : c.load-w.result ≡ get_or b.fields i 0 = word.field b i there (omega (arith, low, long)) (omega (arith, at)) in
+      let now : Contains c.loop-i.seat.bodies b = subst (λ bs. Contains bs b) (ap (λ (x : SeatView). x.bodies) (sym c.loop-i.invariant.view)) there in
+      let is : c.load-w.result ≡ get_or b.fields i 0 = c.load-w.ensures.word.field b i now (omega (arith, low, long)) (omega (arith, at)) in
       let tells : (field : ℕ) → IsWordOf kinds field (2 + i) → c.kind_at.result ≡ kind_of kinds field =
       subst (λ (ks : List Kind). (field : ℕ) → IsWordOf ks field (2 + i) → c.kind_at.result ≡ kind_of ks field) same c.kind_at.ensures in
       one_more_shown c.loop-i.into (shown_of_kinds (kinds_of_words kinds) b.fields) i c.shown.result (omega (arith, c.loop-i.invariant.long, c.loop-i-test.true, c.min-count.ensures))
