@@ -9,7 +9,10 @@ use Rattle.mark_worklist.specs.Lists.{last_count}
 use Rattle.mark_worklist.specs.Told.{told_same, told_once, told_then}
 use Rattle.marker_core.specs.declared.states.Body.{Body}
 use Rattle.ephemerons.specs.declared.notes.Note.{Note}
-use Rattle.ephemerons.specs.BodyGraph.{HasPair}
+use Rattle.marker_core.specs.declared.states.Part.TheVariants.{Read}
+use Rattle.page_words.specs.Seat.{SeatView}
+use Rattle.ephemerons.specs.BodyGraph.{HasPair, pair_offsets}
+use Rattle.ephemerons.specs.InHand.{IsAt}
 use Rattle.ephemerons.specs.Notes.{NotesState, NotesGrow, refusals_in, note_of, noted, overflowed}
 use Rattle.ephemerons.specs.Traces.{FollowPairs, note_from}
 
@@ -78,9 +81,16 @@ was_refused types bodies old holder word fits = record {
   };
 }
 
-pub asked : (types : List ObjectType) (bodies : List Body) (old new : NotesState) (holder word : ℕ) (done : Bool) → (done ≡ true → new ≡ noted old holder word)
+asked : (types : List ObjectType) (bodies : List Body) (old new : NotesState) (holder word : ℕ) (done : Bool) → (done ≡ true → new ≡ noted old holder word)
     → (done ≡ false → new ≡ overflowed old) → old.refused ≤ last_count → HasPair types bodies holder word → Asked types bodies old new holder word
 asked types bodies old new holder word done made refused fits pair = elim (cases_Bool done) [
   | inl so ↦ subst (λ (s : NotesState). Asked types bodies old s holder word) (sym (made so)) (was_noted types bodies old holder word pair)
   | inr not_so ↦ subst (λ (s : NotesState). Asked types bodies old s holder word) (sym (refused not_so)) (was_refused types bodies old holder word fits)
 ]
+
+-- it was asked for the pair in hand
+pub pair_asked : (v : SeatView) (old new : NotesState) (holder offset : ℕ) (done : Bool) → IsAt pair_offsets v holder offset Read
+    → (done ≡ true → new ≡ noted old holder offset) → (done ≡ false → new ≡ overflowed old) → old.refused ≤ last_count
+    → Asked v.types v.bodies old new holder offset
+pair_asked v old new holder offset done at made refused fits =
+    asked v.types v.bodies old new holder offset done made refused fits (at.body, at.there, at.place_is, at.among)

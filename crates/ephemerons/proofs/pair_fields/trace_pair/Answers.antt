@@ -12,7 +12,7 @@ use Rattle.ephemerons.proofs.FieldWords.{value_there, word_below, pair_in_hand, 
 use Rattle.ephemerons.proofs.Graph.{pair_within}
 use Rattle.ephemerons.proofs.Holding.{fresh_listed}
 use Rattle.ephemerons.proofs.MarkSteps.{looks_list}
-use Rattle.ephemerons.proofs.NoteSteps.{Asked, asked}
+use Rattle.ephemerons.proofs.NoteSteps.{pair_asked}
 use Rattle.ephemerons.proofs.Traced.{null_traces, kept_traces, waiting_traces}
 use Rattle.ephemerons.proofs.pair_fields.trace_pair.Goals as goal
 
@@ -82,19 +82,15 @@ returns-then-key_is_marked-clause-told c =
       | inr is ↦ inr is
     ])
 
--- the note that was asked for
-note_asked : (c : goal.After-note)
-    → Asked c.args.seat.now.types c.args.seat.now.bodies c.args.notes.now c.note.new.self c.args.holder c.args.offset
-note_asked c =
-    let at = c.requires.hand in
-    asked c.args.seat.now.types c.args.seat.now.bodies c.args.notes.now c.note.new.self c.args.holder c.args.offset c.note.result c.note.ensures.noted
-    c.note.ensures.refused c.note.ensures.fits (at.body, at.there, at.place_is, at.among)
-
 pub returns-else-key_is_marked-clause-notes : goal.returns-else-key_is_marked-clause-notes
-returns-else-key_is_marked-clause-notes c = (note_asked c).grow
+returns-else-key_is_marked-clause-notes c =
+    (pair_asked c.args.seat.now c.args.notes.now c.note.new.self c.args.holder c.args.offset c.note.result c.requires.hand c.note.ensures.noted
+    c.note.ensures.refused c.note.ensures.fits).grow
 
 pub returns-else-key_is_marked-clause-pair : goal.returns-else-key_is_marked-clause-pair
-returns-else-key_is_marked-clause-pair c fine b k w there where_it_is pair key value = inr ((note_asked c).there fine)
+returns-else-key_is_marked-clause-pair c fine b k w there where_it_is pair key value =
+    inr ((pair_asked c.args.seat.now c.args.notes.now c.note.new.self c.args.holder c.args.offset c.note.result c.requires.hand c.note.ensures.noted
+    c.note.ensures.refused c.note.ensures.fits).there fine)
 
 pub returns-else-key_is_marked-clause-told : goal.returns-else-key_is_marked-clause-told
 returns-else-key_is_marked-clause-told c =
@@ -105,7 +101,8 @@ returns-else-key_is_marked-clause-told c =
     ∙ ap (λ b. c.read_key.new.seat.noted ++ noted_unless b c.args.holder c.args.offset) c.if-key_is_marked.false
     ∙ ap (λ l. l ++ (c.args.holder, c.args.offset) ∷ []) c.read_key.ensures.noted) c.in-Some.ensures.key
     (ap (λ (x : SeatView). holds x.marked c.in-Some.key) (sym c.read_key.ensures.view) ∙ sym c.key_is_marked.ensures.mark ∙ c.if-key_is_marked.false)
-    (note_asked c).follow
+    (pair_asked v c.args.notes.now c.note.new.self c.args.holder c.args.offset c.note.result c.requires.hand c.note.ensures.noted c.note.ensures.refused
+    c.note.ensures.fits).follow
 
 pub returns-in-None-clause-told : goal.returns-in-None-clause-told
 returns-in-None-clause-told c =
