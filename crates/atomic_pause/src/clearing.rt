@@ -6,6 +6,7 @@ ghost use Rattle.gc_graph.specs.Pause.{clear_slot};
 ghost use Rattle.gc_graph.specs.declared.kind.Kind.TheVariants.{Pair};
 ghost use Rattle.marker_core.specs.Bodies.{IsPlace};
 ghost use Rattle.marker_core.specs.Bodies.{holds};
+ghost use Rattle.page_words.specs.Seat.{OnlyLooked};
 ghost use Rattle.page_space.specs.Space.{IsSeatOf};
 ghost use Rattle.persistent_slots.specs.Clearing.{taken};
 ghost use Rattle.weak_clearing.specs.Clearing.{MarkedHaveWeakReferences, with_weak_cleared};
@@ -27,7 +28,7 @@ pub fn clear_weak(space: &Space, types: &TypeTable, seat: &mut MutatorSeat, weak
     requires pairs { MarkedHaveReferencesOf Pair seat.old }
     requires places { All (IsPlace seat.old.bodies) (taken weak.old) }
     ensures slots { weak.new ≡ map (clear_slot (λ a. not (holds seat.old.marked a))) weak.old }
-    ensures fields { seat.new ≡ with_pairs_cleared (with_weak_cleared seat.old) }
+    ensures fields { OnlyLooked (with_pairs_cleared (with_weak_cleared seat.old)) seat.new }
 {
     clear_slots(space, seat, weak);
     // Weak fields first: a pair's words are then still as they were.

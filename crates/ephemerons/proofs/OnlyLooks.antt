@@ -1,15 +1,12 @@
 -- Headers were looked at, and nothing else has changed.
-use Rattle.std.proofs.Common.{◌≡◌, ℕ, List, Bool, true, false, Option, None, refl, sym, ap, ◌∙◌, subst, inl, arith}
+use Rattle.std.proofs.Common.{◌≡◌, ℕ, List, true, false, None, sym, ap, ◌∙◌, subst}
 use Rattle.std.proofs.lemmas.Bool.{true≢false}
 use Rattle.gc_graph.specs.State.{ObjectType}
-use Rattle.mark_worklist.specs.Refusals.{refusals_of}
-use Rattle.mark_worklist.specs.Told.{told_same}
 use Rattle.mark_worklist.specs.declared.marking.Marking.{Marking}
-use Rattle.marker_core.specs.Bodies.{holds}
 use Rattle.page_words.specs.Seat.{SeatView, IsAlone, OnlyLooked}
-use Rattle.ephemerons.specs.Marking.{heap_alone, GrowsWithin}
+use Rattle.ephemerons.specs.Marking.{GrowsWithin}
 use Rattle.ephemerons.specs.Notes.{NotesState}
-use Rattle.ephemerons.specs.Fixpoint.{IsGround, ListsMarks, Looks, stage, weight_of, without_looks}
+use Rattle.ephemerons.specs.Fixpoint.{IsGround, Looks, stage, without_looks}
 use Rattle.ephemerons.proofs.Looks.{looked_ground, looked_works}
 use Rattle.ephemerons.proofs.Stages.{Works-same}
 
@@ -19,23 +16,6 @@ module _ (u v : SeatView) (same : OnlyLooked u v) where
     no_hand = ap (λ (x : SeatView). x.hand) same ∙ alone.no_hand;
     no_pending = ap (λ (x : SeatView). x.pending) same ∙ alone.no_pending;
     none_lent = ap (λ (x : SeatView). x.lent) same ∙ alone.none_lent;
-  }
-
-  -- nothing was marked or listed
-  pub lists_looked : (l : Marking) → ListsMarks u l v l
-  lists_looked l = record {
-    view = ap heap_alone same;
-    traced = ap (λ (x : SeatView). x.traced) same;
-    no_hand = λ none. ap (λ (x : SeatView). x.hand) same ∙ none;
-    no_pending = λ none. ap (λ (x : SeatView). x.pending) same ∙ none;
-    marked = λ p h. ap (λ (x : SeatView). holds x.marked p) same ∙ h;
-    on = refl;
-    overflow = λ h. h;
-    told = told_same (refusals_of l);
-    kept = λ p h. h;
-    listed = λ p h. inl h;
-    fresh = λ fine p h. inl (ap (λ (x : SeatView). holds x.marked p) (sym same) ∙ h);
-    lighter = omega (arith, ap (λ (x : SeatView). weight_of x l) same);
   }
 
   -- what grows from the one grows from the other

@@ -1,12 +1,13 @@
--- What was marked and listed in two goes was in one; and whoever was alone still is.
-use Rattle.std.proofs.Common.{ℕ, ap, ◌∙◌, sym, subst, inl, inr, arith}
+-- What was marked and listed in two goes was in one; whoever was alone still is; and looks mark and list nothing.
+use Rattle.std.proofs.Common.{ℕ, refl, ap, ◌∙◌, sym, subst, inl, inr, arith}
 use Rattle.std.proofs.lemmas.Bool.{true≢false, false_from_ne_true}
 use Rattle.mark_worklist.specs.Refusals.{refusals_of}
-use Rattle.mark_worklist.specs.Told.{told_then}
+use Rattle.mark_worklist.specs.Told.{told_same, told_then}
 use Rattle.mark_worklist.specs.declared.marking.Marking.{Marking}
 use Rattle.marker_core.specs.Bodies.{IsPlace, holds}
-use Rattle.page_words.specs.Seat.{SeatView, IsAlone}
-use Rattle.ephemerons.specs.Fixpoint.{ListsMarks, IsFresh}
+use Rattle.page_words.specs.Seat.{SeatView, IsAlone, OnlyLooked}
+use Rattle.ephemerons.specs.Fixpoint.{ListsMarks, IsFresh, weight_of}
+use Rattle.ephemerons.specs.Marking.{heap_alone}
 
 fresh_after : (u v w : SeatView) (m n : Marking) (p : ℕ) → ListsMarks v m w n → IsFresh u v p → IsFresh u w p
 fresh_after u v w m n p y fresh = record { place = fresh.place; unmarked = fresh.unmarked; marked = y.marked p fresh.marked }
@@ -45,4 +46,21 @@ alone_still u v l m x alone = record {
   no_hand = x.no_hand alone.no_hand;
   no_pending = x.no_pending alone.no_pending;
   none_lent = ap (λ (z : SeatView). z.lent) x.view ∙ alone.none_lent;
+}
+
+-- headers were looked at
+pub lists_looked : (u v : SeatView) (l : Marking) → OnlyLooked u v → ListsMarks u l v l
+lists_looked u v l same = record {
+  view = ap heap_alone same;
+  traced = ap (λ (x : SeatView). x.traced) same;
+  no_hand = λ none. ap (λ (x : SeatView). x.hand) same ∙ none;
+  no_pending = λ none. ap (λ (x : SeatView). x.pending) same ∙ none;
+  marked = λ p h. ap (λ (x : SeatView). holds x.marked p) same ∙ h;
+  on = refl;
+  overflow = λ h. h;
+  told = told_same (refusals_of l);
+  kept = λ p h. h;
+  listed = λ p h. inl h;
+  fresh = λ fine p h. inl (ap (λ (x : SeatView). holds x.marked p) (sym same) ∙ h);
+  lighter = omega (arith, ap (λ (x : SeatView). weight_of x l) same);
 }

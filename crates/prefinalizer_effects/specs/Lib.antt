@@ -3,3 +3,4 @@ pub mod Acting
 pub mod Places
 pub mod Prepared
 pub mod Lending
+pub mod LookedObjects

@@ -1,8 +1,24 @@
-use Rattle.std.proofs.Common.{◌∙◌, ap}
-use Rattle.weak_clearing.specs.Clearing.{with_weak_cleared}
+use Rattle.std.proofs.Common.{refl, sym, ap, ◌∙◌, subst}
+use Rattle.gc_graph.specs.declared.kind.Kind.TheVariants.{Pair}
+use Rattle.page_words.specs.Seat.{SeatView, OnlyLooked}
+use Rattle.weak_clearing.specs.Clearing.{MarkedHaveReferencesOf, MarkedHaveWeakReferences, with_weak_cleared, with_pairs_cleared}
 use Rattle.atomic_pause.proofs.PairReferences.{pairs_still_refer}
 use Rattle.atomic_pause.proofs.clearing.clear_weak.Goals as goal
 
+-- the weak fields are cleared, and headers were looked at
+fields_cleared : (v slots fields : SeatView) → OnlyLooked v slots → OnlyLooked (with_weak_cleared slots) fields → OnlyLooked (with_weak_cleared v) fields
+fields_cleared v slots fields looked cleared = cleared ∙ ap with_weak_cleared looked
+
+pub clear_fields-requires-clause-references : goal.clear_fields-requires-clause-references
+clear_fields-requires-clause-references c = subst MarkedHaveWeakReferences (sym c.clear_slots.ensures.view) c.requires.references
+
 pub clear_pairs-requires-clause-references : goal.clear_pairs-requires-clause-references
 clear_pairs-requires-clause-references c =
-    pairs_still_refer c.args.seat.now c.clear_fields.new.seat (c.clear_fields.ensures.cleared ∙ ap with_weak_cleared c.clear_slots.ensures.view) c.requires.pairs
+    subst (MarkedHaveReferencesOf Pair)
+    (sym (fields_cleared c.args.seat.now c.clear_slots.new.seat c.clear_fields.new.seat c.clear_slots.ensures.view c.clear_fields.ensures.cleared))
+    (pairs_still_refer c.args.seat.now (with_weak_cleared c.args.seat.now) refl c.requires.pairs)
+
+pub returns-clause-fields : goal.returns-clause-fields
+returns-clause-fields c =
+    c.clear_pairs.ensures.cleared
+    ∙ ap with_pairs_cleared (fields_cleared c.args.seat.now c.clear_slots.new.seat c.clear_fields.new.seat c.clear_slots.ensures.view c.clear_fields.ensures.cleared)

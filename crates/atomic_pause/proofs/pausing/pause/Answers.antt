@@ -15,6 +15,7 @@ use Rattle.page_space.specs.Space.{extents_of_bodies}
 use Rattle.ephemerons.specs.BodyGraph.{PlacesDiffer}
 use Rattle.ephemerons.specs.ListedMarks.{ListsMarks-then}
 use Rattle.prefinalizer_effects.specs.Prepared.{setup_of, IsPrepared}
+use Rattle.prefinalizer_effects.specs.LookedObjects.{prepared_looked}
 use Rattle.nodes_in_words.specs.Places.{kept_of}
 use Rattle.nodes_in_words.specs.Judgement.{nodes_after}
 use Rattle.nodes_in_words.specs.NodePlaces.{places_differ}
@@ -105,8 +106,8 @@ prefinalise-requires-clause-ready g c =
     prepared c.args.parts.space.now c.args.parts.types.now (kinds_of c.args.parts.callbacks.now) nodes (IsRootPlace c.args.parts.strong.now c.args.precise c.args.parts.seat.now.bodies c.args.stack.now)
     c.args.parts.seat.now y c.requires.valid c.requires.types c.requires.heap c.requires.begun.none_dead c.requires.held c.requires.few marks in
     subst (IsPrepared c.args.parts.space.now c.args.parts.types.now c.clear_weak.new.seat) (sym judged_is)
-    (subst (λ (u : SeatView). IsPrepared c.args.parts.space.now c.args.parts.types.now u (nodes_after (kept_of (holds y.marked) nodes) nodes))
-    (sym c.clear_weak.ensures.fields) ready)
+    (prepared_looked c.args.parts.space.now c.args.parts.types.now (both_cleared y) c.clear_weak.new.seat (nodes_after (kept_of (holds y.marked) nodes) nodes)
+    c.clear_weak.ensures.fields ready)
 
 pub prefinalise-requires-clause-registered : goal.prefinalise-requires-clause-registered
 prefinalise-requires-clause-registered g c = λ k d low.

@@ -3,6 +3,7 @@ use Rattle.marker_core.specs.declared.states.Body.{Body}
 use Rattle.marker_core.specs.Bodies.{holds}
 use Rattle.page_words.specs.Seat.{SeatView, IsView}
 use Rattle.page_space.specs.Space.{HoldsAddress}
+use Rattle.ephemerons.specs.ListedMarks.{ListsMarks-then, lists_looked}
 use Rattle.atomic_pause.proofs.roots.scan_word.Goals as goal
 
 -- one body alone has the word
@@ -10,6 +11,14 @@ one_place : (v : SeatView) (address p q : ℕ) → IsView v → HoldsAddress v.b
 one_place v address p q view (b, b_there, b_at, b_low, b_high) (d, d_there, d_at, d_low, d_high) =
     let same : b ≡ d = view.apart b d address b_there d_there (omega (arith, b_at, b_low)) b_high (omega (arith, d_at, d_low)) d_high in
     sym b_at ∙ ap (λ (x : Body). x.place) same ∙ d_at
+
+pub returns-in-Some-clause-marks : goal.returns-in-Some-clause-marks
+returns-in-Some-clause-marks c =
+    ListsMarks-then c.args.seat.now c.start_of.new.seat c.mark.new.seat c.args.marking.now c.args.marking.now c.mark.new.marking
+    (lists_looked c.args.seat.now c.start_of.new.seat c.args.marking.now c.start_of.ensures.view) c.mark.ensures.marks
+
+pub returns-in_default-clause-marks : goal.returns-in_default-clause-marks
+returns-in_default-clause-marks c = lists_looked c.args.seat.now c.start_of.new.seat c.args.marking.now c.start_of.ensures.view
 
 pub returns-in-Some-clause-root : goal.returns-in-Some-clause-root
 returns-in-Some-clause-root c = λ p hit.

@@ -5,8 +5,8 @@ use Rattle.marker_core.specs.declared.states.Body.{Body}
 use Rattle.page_words.specs.BodyPlaces.{same_body}
 use Rattle.ephemerons.specs.BodyGraph.{HasType}
 use Rattle.ephemerons.specs.Traces.{Traces}
-use Rattle.ephemerons.specs.ListedMarks.{ListsMarks-then}
-use Rattle.ephemerons.proofs.OnlyLooks.{grows_from, lists_looked}
+use Rattle.ephemerons.specs.ListedMarks.{ListsMarks-then, lists_looked}
+use Rattle.ephemerons.proofs.OnlyLooks.{grows_from}
 use Rattle.ephemerons.proofs.Traced.{traces_from}
 use Rattle.ephemerons.proofs.tracing.trace.Goals as goal
 
@@ -17,7 +17,7 @@ returns-clause-within c =
 pub returns-clause-marks : goal.returns-clause-marks
 returns-clause-marks c =
     ListsMarks-then c.args.seat.now c.type_of-ty.new.seat c.trace_fields.new.seat c.args.marking.now c.args.marking.now c.trace_fields.new.marking
-    (lists_looked c.args.seat.now c.type_of-ty.new.seat c.type_of-ty.ensures.view c.args.marking.now) c.trace_fields.ensures.marks
+    (lists_looked c.args.seat.now c.type_of-ty.new.seat c.args.marking.now c.type_of-ty.ensures.view) c.trace_fields.ensures.marks
 
 pub returns-clause-told : goal.returns-clause-told
 returns-clause-told c ty has =
