@@ -4,3 +4,4 @@ pub mod PairBodies
 pub mod NodesSwept
 pub mod SweptObjects
 pub mod PausedSizes
+pub mod Unlooked

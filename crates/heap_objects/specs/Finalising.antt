@@ -6,7 +6,7 @@ use Rattle.gc_graph.specs.State.{Shape, Node}
 use Rattle.gc_graph.specs.Sweep.{finalise, AreDeadInOrder}
 use Rattle.page_words.specs.Seat.{SeatView, IsQuiet}
 use Rattle.page_space.specs.Pages.{word_count}
-use Rattle.sweeper.specs.Sweeping.{IsClearBelow, IsJudgedFrom, dead_from}
+use Rattle.sweeper.specs.Sweeping.{IsClearBelow, IsJudgedFrom, dead_between}
 
 -- nothing below the address is marked or dead, and from there on each object is one of the two
 pub record IsSweptTo (limit : ℕ) (v : SeatView) : Type 0 where
@@ -29,4 +29,4 @@ pub record FinalisesBelow (limit : ℕ) (old : List Node) (before after : List �
 
 -- the numbers that were told, with those that a sweep from the address on will tell, are at most one for every second word
 abbrev pub AreFewTold : Shape → ℕ → SeatView → List ℕ → Type 0
-AreFewTold shape from v numbers = 2 * (length numbers + dead_from from v) ≤ word_count shape
+AreFewTold shape from v numbers = 2 * (length numbers + dead_between from (word_count shape) v) ≤ word_count shape

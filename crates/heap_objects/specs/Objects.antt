@@ -11,7 +11,8 @@ use Rattle.heap_objects.specs.declared.marking.Grey.{Grey}
 use Rattle.heap_objects.specs.Fields.{IsLiveReference}
 use Rattle.heap_objects.specs.Marking.{IsClear}
 
--- the objects: the heap's shape and types, the kinds of its callbacks, the nodes, and what is known of the words
+-- the objects: the heap's shape and types, the kinds of its callbacks, the nodes, and what is known of the words but for the
+-- headers that were looked at
 pub record ObjectsView : Type 0 where
   pub shape : Shape
   pub types : List ObjectType

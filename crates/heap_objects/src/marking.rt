@@ -1,6 +1,6 @@
 // What a heap keeps of marking between collections: the room of its list, and no more.
 
-ghost use Rattle.std.specs.Prelude.{◌≡◌, [], false};
+ghost use Rattle.std.specs.Prelude.{◌≡◌, [], false, IfOk};
 ghost use Rattle.heap_objects.specs.Marking.{IsClear};
 
 use ephemerons::Pairs;

@@ -3,7 +3,7 @@
 ghost use Rattle.std.specs.Prelude.{◌≡◌, ℕ, ◌+◌, ◌*◌, ◌<◌, ◌≤◌, length, vec_capacity};
 ghost use Rattle.page_words.specs.Seat.{IsQuiet};
 ghost use Rattle.page_space.specs.Pages.{word_count};
-ghost use Rattle.sweeper.specs.Sweeping.{cursor_at, dead_from};
+ghost use Rattle.sweeper.specs.Sweeping.{cursor_at, dead_between};
 ghost use Rattle.nodes_in_words.specs.Nodes.{AreOfValid};
 ghost use Rattle.heap_objects.specs.Finalising.{IsSweptTo, FinalisesBelow, AreFewTold};
 ghost use Rattle.heap_objects.specs.Objects.{setup_of_objects};
@@ -36,6 +36,7 @@ impl Objects {
         ensures setup { setup_of_objects self.new ≡ setup_of_objects self.old }
     {
         self.seat.bodies_lie_apart();
+        sweeper::dead_are_few(&self.space, &self.seat);
         let swept = sweep.page(&mut self.space, &mut self.seat, finalised);
         self.nodes = nodes::finalised(&self.nodes, &self.space, sweep);
         swept.finalised
@@ -68,7 +69,8 @@ impl Objects {
 
     /// At most half as many objects are dead as there are words. Whoever calls this has the law.
     pub fn dead_are_few(&self)
-        ensures { (from : ℕ) → 2 * dead_from from self.now.seat ≤ word_count self.now.shape }
+        ensures { (from until : ℕ)
+            → 2 * dead_between from until self.now.seat ≤ word_count self.now.shape }
     {
         sweeper::dead_are_few(&self.space, &self.seat);
     }

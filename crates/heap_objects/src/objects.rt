@@ -41,6 +41,7 @@ pub struct Objects {
 impl Model for Objects {
     ghost use Rattle.heap_objects.specs.Objects.{AreObjects};
     ghost use Rattle.heap_objects.specs.Objects.{ObjectsView};
+    ghost use Rattle.page_words.specs.Seat.{unlooked};
 
     ghost Value = { ObjectsView };
 
@@ -49,7 +50,7 @@ impl Model for Objects {
       types = o.types;
       callbacks = o.kinds.value;
       nodes = o.nodes.value;
-      seat = o.seat;
+      seat = unlooked o.seat;
     } };
 
     ghost invariant = { λ o. AreObjects o.space o.seat o.types o.kinds.value o.made

@@ -128,11 +128,13 @@ impl Sweep {
     }
 }
 
-/// At most half as many objects are dead as there are words, wherever these are. Whoever calls this
-/// has the law. It reads nothing.
+/// At most half as many objects are dead as there are words, wherever these are, and a part of the
+/// words has no more of them. Whoever calls this has the laws. It reads nothing.
 pub fn dead_are_few(space: &Space, seat: &MutatorSeat)
-    ensures { (from until : ℕ) → IsSpaceOf space.now seat.now
+    ensures few { (from until : ℕ) → IsSpaceOf space.now seat.now
         → 2 * dead_between from until seat.now ≤ word_count space.now.shape }
+    ensures part { (from mid until end : ℕ) → from ≤ mid → until ≤ end
+        → dead_between mid until seat.now ≤ dead_between from end seat.now }
 {
     let _ = space;
     let _ = seat;

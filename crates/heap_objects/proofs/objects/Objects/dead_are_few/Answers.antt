@@ -1,4 +1,4 @@
 use Rattle.heap_objects.proofs.objects.Objects.dead_are_few.Goals as goal
 
 pub returns : goal.returns
-returns c = λ from. rw (← c.self.view_is) (c.dead_are_few.ensures from c.self.invariant.laid)
+returns c = λ from until. rw (← c.self.view_is) (c.dead_are_few.ensures.few from until c.self.invariant.laid)

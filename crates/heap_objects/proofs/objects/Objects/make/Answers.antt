@@ -9,6 +9,7 @@ use Rattle.nodes_in_words.specs.Nodes.{IsHeld}
 use Rattle.heap_objects.specs.Objects.{with_made}
 use Rattle.nodes_in_words.specs.TypedNodes.{known_nodes}
 use Rattle.heap_objects.proofs.HeldNodes.{room_for_fields, next_is_new, held_made, marks_made, extents_held}
+use Rattle.heap_objects.proofs.Unlooked.{marks_are, marks_told}
 use Rattle.heap_objects.proofs.objects.Objects.make.Goals as goal
 
 pub occupy-requires-clause-place : goal.occupy-requires-clause-place
@@ -59,4 +60,6 @@ invariant_of-self c =
 
 pub returns-clause-marks : goal.returns-clause-marks
 returns-clause-marks c = rw (← c.self.view_is) (λ phase limit low marks.
-    marks_made phase limit c.self.inside.seat c.occupy.new.seat (new_body c.args.place c.args.t c.args.size c.self.inside.made) c.occupy.ensures.occupied low marks)
+    marks_told phase limit c.occupy.new.seat
+    (marks_made phase limit c.self.inside.seat c.occupy.new.seat (new_body c.args.place c.args.t c.args.size c.self.inside.made) c.occupy.ensures.occupied low
+    (marks_are phase limit c.self.inside.seat marks)))

@@ -13,6 +13,7 @@ use Rattle.nodes_in_words.specs.WholePairs.{pairs_whole}
 use Rattle.page_space.specs.Space.{extents_of_bodies}
 use Rattle.atomic_pause.specs.Marking.{HasBegun, root_places}
 use Rattle.heap_objects.proofs.PausedSizes.{sizes_stay}
+use Rattle.heap_objects.proofs.Unlooked.{quiet_is}
 use Rattle.heap_objects.proofs.objects.Objects.pause.Goals as goal
 
 pub begin-requires : goal.begin-requires
@@ -25,7 +26,7 @@ begin-requires g c =
       (
         search rules,
         (
-          rw (← c.self.view_is) at c.requires.quiet,
+          quiet_is v (rw (← c.self.view_is) at c.requires.quiet),
           (
             pairs_whole _ nodes v valid c.self.invariant.held c.self.invariant.known,
             subst (λ l. All (λ slot. ForSome slot (IsPlace v.bodies)) l) (sym named.1.places_are)
@@ -40,7 +41,7 @@ pause-result-requires-clause-begun g c =
     let v : SeatView = c.self.inside.seat in
     let marking : Marking = record { on = true; overflow = c.self.inside.grey.marking.overflow; list = c.self.inside.grey.marking.list } in
     let roots : List ℕ = root_places c.args.strong.now c.args.precise v.bodies c.args.stack.now in
-    let quiet : IsQuiet v = rw (← c.self.view_is) at c.requires.quiet in
+    let quiet : IsQuiet v = quiet_is v (rw (← c.self.view_is) at c.requires.quiet) in
     let rest = c.bodies_lie_apart.ensures.at_rest c.self.invariant.off in
     let began : HasBegun (begun v roots) marking c.self.inside.grey.notes = record {
       on = refl;

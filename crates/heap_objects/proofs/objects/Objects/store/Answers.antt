@@ -17,6 +17,7 @@ use Rattle.heap_objects.specs.FieldNodes.{with_field, length-field}
 use Rattle.heap_objects.specs.FieldPlaces.{has_word, word_low}
 use Rattle.heap_objects.specs.FieldReads.{takes_word}
 use Rattle.heap_objects.proofs.HeldNodes.{marks_stored, held_stored}
+use Rattle.heap_objects.proofs.Unlooked.{marks_are, marks_told}
 use Rattle.heap_objects.proofs.objects.Objects.store.Goals as goal
 use Rattle.type_table.specs.KindLaws.{kind_itself}
 
@@ -62,4 +63,5 @@ invariant_of-self c =
 
 pub returns-clause-marks : goal.returns-clause-marks
 returns-clause-marks c = rw (← c.self.view_is) (λ phase limit marks.
-    subst (HasMarks phase limit) (sym c.write_field.ensures.word) (marks_stored phase limit c.self.inside.seat (c.args.field.holder + c.args.field.word) c.args.content.now.word marks))
+    marks_told phase limit c.write_field.new.seat (subst (HasMarks phase limit) (sym c.write_field.ensures.word)
+    (marks_stored phase limit c.self.inside.seat (c.args.field.holder + c.args.field.word) c.args.content.now.word (marks_are phase limit c.self.inside.seat marks))))

@@ -17,6 +17,7 @@ use Rattle.heap_objects.proofs.HeldNodes.{marks_stored}
 use Rattle.heap_objects.specs.FieldNodes.{with_pair, length-pair}
 use Rattle.heap_objects.proofs.PairBodies.{held_paired}
 use Rattle.heap_objects.specs.PairFields.{has_pair, pair_is, pair_low, null_together}
+use Rattle.heap_objects.proofs.Unlooked.{marks_are, marks_told}
 use Rattle.heap_objects.proofs.objects.Objects.store_pair.Goals as goal
 
 -- the words of the two, and the pair as it was written
@@ -88,6 +89,7 @@ invariant_of-self c =
 
 pub returns-clause-marks : goal.returns-clause-marks
 returns-clause-marks c = rw (← c.self.view_is) (λ phase limit marks.
-    subst (HasMarks phase limit) (sym ((c.set_pair.ensures.off c.self.invariant.off).0 ∙ c.set_pair.ensures.addresses))
+    marks_told phase limit c.set_pair.new.seat (subst (HasMarks phase limit) (sym ((c.set_pair.ensures.off c.self.invariant.off).0 ∙ c.set_pair.ensures.addresses))
     (marks_stored phase limit (rewritten c.self.inside.seat (c.args.field.holder + (c.args.field.word + 1)) c.args.pair.now.value.word) (c.args.field.holder + c.args.field.word) c.args.pair.now.key.word
-    (marks_stored phase limit c.self.inside.seat (c.args.field.holder + (c.args.field.word + 1)) c.args.pair.now.value.word marks)))
+    (marks_stored phase limit c.self.inside.seat (c.args.field.holder + (c.args.field.word + 1)) c.args.pair.now.value.word
+    (marks_are phase limit c.self.inside.seat marks)))))
