@@ -1,4 +1,5 @@
 use Rattle.std.proofs.Common.{◌≡◌, [], length, ap, ◌∙◌, arith}
+use Rattle.page_space.specs.Pages.{word_count}
 use Rattle.sweeper.specs.Sweeping.{cursor_at}
 use Rattle.heap_cycle.specs.declared.parts.Parts.{Parts}
 use Rattle.heap_objects.specs.Finalising.{AreFewTold}
@@ -30,7 +31,7 @@ pub sweep_until_found-requires-clause-told : goal.sweep_until_found-requires-cla
 sweep_until_found-requires-clause-told c =
     let s : Parts = c.args.parts.now in
     let told : AreFewTold s.objects.shape (cursor_at s.objects.shape s.cycle.sweep) s.objects.seat c.outcome.inside.finalised.items =
-    omega (arith, ap length (none_told c), c.dead_are_few.ensures (cursor_at s.objects.shape s.cycle.sweep)) in
+    omega (arith, ap length (none_told c), c.dead_are_few.ensures (cursor_at s.objects.shape s.cycle.sweep) (word_count s.objects.shape)) in
     rw c.find.ensures.same told
 
 pub sweep_until_found-requires-clause-nowhere : goal.sweep_until_found-requires-clause-nowhere

@@ -1,6 +1,7 @@
 use Rattle.std.proofs.Common.{◌≡◌, ℕ, List, ◌++◌, length, sym, ap, ◌∙◌, subst, arith}
 use Rattle.gc_graph.specs.declared.phase.Phase.TheVariants.{Sweeping}
 use Rattle.gc_graph.specs.Sweep.{SweepsTo}
+use Rattle.page_space.specs.Pages.{word_count}
 use Rattle.sweeper.specs.Sweeping.{cursor_at}
 use Rattle.heap_cycle.specs.declared.parts.Parts.{Parts}
 use Rattle.heap_cycle.specs.Parts.{state_of}
@@ -10,7 +11,7 @@ use Rattle.heap_cycle.proofs.sweeps.end_sweep.Goals as goal
 
 pub finish-requires-clause-told : goal.finish-requires-clause-told
 finish-requires-clause-told c =
-    omega (arith, ap length c.requires.empty, c.dead_are_few.ensures (cursor_at c.args.parts.now.objects.shape c.args.parts.now.cycle.sweep))
+    omega (arith, ap length c.requires.empty, c.dead_are_few.ensures (cursor_at c.args.parts.now.objects.shape c.args.parts.now.cycle.sweep) (word_count c.args.parts.now.objects.shape))
 
 pub finish-requires-clause-valid : goal.finish-requires-clause-valid
 finish-requires-clause-valid c = valid_nodes c.args.parts.now c.requires.ready

@@ -4,6 +4,7 @@ use Rattle.gc_graph.specs.declared.phase.Phase.TheVariants.{Sweeping}
 use Rattle.gc_graph.specs.Shapes.{IsShape}
 use Rattle.gc_graph.specs.State.{Setup, State, Shape}
 use Rattle.gc_graph.specs.Sweep.{SweepsTo}
+use Rattle.page_space.specs.Pages.{word_count}
 use Rattle.sweeper.specs.Sweeping.{SweepView, cursor_at}
 use Rattle.heap_cycle.specs.declared.parts.Parts.{Parts}
 use Rattle.heap_cycle.specs.Finalising.{SweepsOn}
@@ -27,7 +28,7 @@ loop-page-init c =
       ready = c.requires.ready;
       goes = nothing_swept s c.args.finalised.now.items c.requires.ready c.requires.empty;
       cursor = omega arith;
-      told = omega (arith, ap length c.requires.empty, c.dead_are_few.ensures (cursor_at s.objects.shape s.cycle.sweep));
+      told = omega (arith, ap length c.requires.empty, c.dead_are_few.ensures (cursor_at s.objects.shape s.cycle.sweep) (word_count s.objects.shape));
       setup = refl;
       ordinal = refl;
       room = refl;
