@@ -73,28 +73,43 @@ fn is_gap(byte: u8) -> bool
     byte == b' ' || byte == b'\n'
 }
 
-/// The next word, however many spaces stand before it.
+// The next word, however many spaces stand before it.
 #[inline(never)]
-pub(crate) fn number_after_spaces(bytes: &[u8], from: usize) -> Numeral
+fn number_after_spaces(bytes: &[u8], from: usize) -> Numeral
     requires { from ≤ length bytes.now }
     ensures word { IsNextWord bytes.now from result.start result.end }
     ensures value { result.value ≡ number_from bytes.now result.start result.end }
 {
+    match few_digits(bytes, from) {
+        Some(word) => word,
+        None => long_number(bytes, past_spaces(bytes, from)),
+    }
+}
+
+/// The next word, however many spaces stand before it, where it ends with its first digits. It is
+/// compiled where it is called, so that nothing is kept in memory for it.
+#[inline(always)]
+pub(crate) fn few_digits(bytes: &[u8], from: usize) -> Option<Numeral>
+    requires { from ≤ length bytes.now }
+    ensures word { IfSome result (λ word. IsNextWord bytes.now from word.start word.end) }
+    ensures value { IfSome result (λ word. word.value
+        ≡ number_from bytes.now word.start word.end) }
+{
     let start = past_spaces(bytes, from);
     let (place, value) = digits(bytes, start);
-    if is_end(bytes, place) {
-        let value = if is_plain(bytes, start, place) {
-            Some(u64::from(value))
-        } else {
-            None
-        };
-        return Numeral {
-            start,
-            end: place,
-            value,
-        };
+    if !is_end(bytes, place) {
+        return None;
     }
-    long_number(bytes, start)
+    let value = if is_plain(bytes, start, place) {
+        Some(u64::from(value))
+    } else {
+        None
+    };
+    Some(Numeral {
+        start,
+        end: place,
+        value,
+    })
 }
 
 // A word that doesn't end with its first digits.

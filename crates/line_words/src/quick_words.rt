@@ -6,7 +6,7 @@ ghost use Rattle.line_words.specs.Cursor.{is_word_byte};
 ghost use Rattle.line_words.specs.QuickWords.{IsFirstWord, IsSmall, IsAny, IsEndOfWords};
 
 use super::cursor::past_spaces;
-use super::numerals::{next_number, number_after_spaces, short_number};
+use super::numerals::{few_digits, next_number, short_number};
 
 /// A number of a line, and the place after it.
 #[derive(Clone, Copy)]
@@ -45,7 +45,7 @@ pub fn next_small(bytes: &[u8], from: usize, limit: u32) -> Option<Small>
     if let Some((end, value)) = short_number(bytes, from) {
         return below(value, end, limit);
     }
-    let word = number_after_spaces(bytes, from);
+    let word = few_digits(bytes, from)?;
     below(word.value?, word.end, limit)
 }
 

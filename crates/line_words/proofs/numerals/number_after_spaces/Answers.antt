@@ -1,17 +1,6 @@
 use Rattle.line_words.proofs.WordPlaces.{word_found}
-use Rattle.line_words.proofs.ShortNumbers.{digits_end}
 use Rattle.line_words.proofs.numerals.number_after_spaces.Goals as goal
 
-pub returns-then-is_plain-clause-word : goal.returns-then-is_plain-clause-word
-returns-then-is_plain-clause-word c =
-    word_found _ _ _ _ c.past_spaces-start.ensures
-    (digits_end _ _ _ _ _ c.digits-place.ensures c.is_end.ensures c.if-is_end.true)
-
-pub returns-else-is_plain-clause-word : goal.returns-else-is_plain-clause-word
-returns-else-is_plain-clause-word c =
-    word_found _ _ _ _ c.past_spaces-start.ensures
-    (digits_end _ _ _ _ _ c.digits-place.ensures c.is_end.ensures c.if-is_end.true)
-
-pub returns-clause-word : goal.returns-clause-word
-returns-clause-word c =
-    rw c.long_number.ensures.start (word_found _ _ _ _ c.past_spaces-start.ensures c.long_number.ensures.end)
+pub returns-in-None-clause-word : goal.returns-in-None-clause-word
+returns-in-None-clause-word c =
+    rw c.long_number.ensures.start (word_found _ _ _ _ c.past_spaces.ensures c.long_number.ensures.end)
