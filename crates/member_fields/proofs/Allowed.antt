@@ -18,13 +18,6 @@ use Rattle.member_fields.specs.Barrier.{IsReadyToStore, MayKeep, MayKeepNamed}
 pub is_field : (b : Body) (a : ℕ) → fields_at b ≤ a → a < end_of b → has_field a b ≡ true
 is_field b a low high = and_from (leb (b.place + 2) a) (ltb a (end_of b)) (le-leb (b.place + 2) a low) (lt-ltb a (end_of b) high)
 
-pub names : (v : SeatView) (w : ℕ) → IsReference v.bodies w → names_body v.bodies w ≡ true
-names v w is = elim is [
-  | inl null ↦ or_left (eqb w 0) (is_place v.bodies (w - 1)) (eq-eqb w 0 null)
-  | inr at ↦ (let place : at.0.place ≡ w - 1 = omega (arith, at.2) in
-      or_right (eqb w 0) (is_place v.bodies (w - 1)) (test_of_place v.bodies (w - 1) (at.0, at.1, place)))
-]
-
 -- holder and target are kept
 keeps_both : (on : Bool) (may : List ℕ) (holder : ℕ) (role : Role) (w : ℕ) → (on ≡ true → holds may holder ≡ true)
     → (refers role ≡ true → on ≡ true → (w ≡ 0) ⊎ (holds may (place_named w) ≡ true)) → may_store on may holder role w ≡ true
@@ -72,7 +65,10 @@ pub store_allowed : (v : SeatView) (b : Body) (a w : ℕ) → IsReadyToStore v �
 store_allowed v b a w ready holder is =
     let role : Role = role_in (kind_lists v.types) b (field_number a b) in
     let named : (not (refers role) || names_body v.bodies w) ≡ true = elim (cases_Bool (refers role)) [
-      | inl refer ↦ or_right (not (refers role)) (names_body v.bodies w) (names v w (is.reference refer).0)
+      | inl refer ↦ or_right (not (refers role)) (names_body v.bodies w) (elim (is.reference refer).0 [
+        | inl null ↦ or_left (eqb w 0) (is_place v.bodies (w - 1)) (eq-eqb w 0 null)
+        | inr at ↦ or_right (eqb w 0) (is_place v.bodies (w - 1)) (test_of_place v.bodies (w - 1) (at.0, at.1, omega (arith, at.2)))
+      ])
       | inr plain ↦ or_left (not (refers role)) (names_body v.bodies w) (ap not plain)
     ] in
     let kept : may_store v.on v.may b.place role w ≡ true = keeps_both v.on v.may b.place role w holder (λ refer. (is.reference refer).1) in

@@ -3,19 +3,20 @@ use Rattle.std.proofs.Common.{◌≡◌, ℕ, ◌+◌, ◌-◌, ◌<◌, ◌≤�
 use mathlib.Core.Logic.{◌⊎◌}
 use Rattle.std.proofs.lemmas.Bool.{true≢false}
 use Rattle.gc_graph.specs.declared.kind.Kind.TheVariants.{Pair}
+use Rattle.type_table.specs.Types.{kinds_of}
 use Rattle.type_table.specs.FieldLaw.{FieldsStandApart}
 use Rattle.marker_core.specs.declared.states.Body.{Body}
 use Rattle.marker_core.specs.declared.states.Role.{Role}
 use Rattle.marker_core.specs.declared.states.Role.TheVariants.{KeyWord, ValueWord}
-use Rattle.marker_core.specs.Bodies.{IsReference, fields_at, end_of, role_in, word_in}
+use Rattle.marker_core.specs.Bodies.{IsReference, fields_at, end_of, role_at, role_in, refers, word_in}
 use Rattle.marker_core.specs.SeatSteps.{seat_can_store, key_fits}
 use Rattle.page_words.specs.Bodies.{IsPlainWord, is_reference_word}
-use Rattle.page_words.specs.Roles.{kind_lists, kind_of_role}
+use Rattle.page_words.specs.Roles.{kind_lists, kinds_fit, kind_of_role, refers_by_kind}
 use Rattle.page_words.specs.Seat.{SeatView, IsView, side}
 use Rattle.member_fields.specs.Words.{HasLoneWord, HasPair}
 use Rattle.member_fields.specs.Barrier.{IsReadyToStore, MayKeep, MayKeepNamed}
 use Rattle.member_fields.specs.Keys.{TakesKey}
-use Rattle.member_fields.proofs.Roles.{kind_told, role_refers, key_role, value_role}
+use Rattle.member_fields.proofs.Roles.{kind_told, key_role, value_role}
 use Rattle.member_fields.proofs.Allowed.{store_allowed, no_key_fits, some_key_fits}
 use Rattle.member_fields.proofs.PairWords.{told_value}
 
@@ -38,7 +39,8 @@ lone_allowed v holder word w is ready (is_so, apart, has) own fits =
       reference = λ refer. elim fits [
         | inl plain ↦
             (let one : plain.0 ≡ b = is.apart plain.0 b a plain.1 has.there (omega (arith, plain.2)) plain.3 (omega (arith, low)) high in
-            absurd (true≢false (sym refer ∙ role_refers v b (a - fields_at b)
+            absurd (true≢false (sym refer ∙ ap (λ kinds. refers (role_at kinds (a - fields_at b))) (kinds_fit v.types b.ty)
+            ∙ refers_by_kind (kinds_of v.types b.ty) (a - fields_at b)
             ∙ subst (λ (c : Body). is_reference_word v.types c (a - fields_at c) ≡ false) one plain.4)))
         | inr both ↦ both
       ];

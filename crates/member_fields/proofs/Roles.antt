@@ -1,27 +1,22 @@
 -- What the step machine takes the words of each kind for.
-use Rattle.std.proofs.Common.{◌≡◌, ℕ, zero, suc, ◌+◌, true, false, List, [], ◌∷◌, refl, sym, ap, ◌∙◌, arith}
-use Rattle.std.proofs.lemmas.Bool.{true≢false}
+use Rattle.std.proofs.Common.{◌≡◌, ℕ, zero, suc, ◌+◌, false, List, [], ◌∷◌, refl, sym, ap, ◌∙◌, arith}
 use Rattle.gc_graph.specs.declared.kind.Kind.{Kind}
 use Rattle.gc_graph.specs.declared.kind.Kind.TheVariants.{Strong, Weak, Pair, Plain}
 use Rattle.type_table.specs.Types.{kinds_of, is_kind}
+use Rattle.type_table.specs.KindLaws.{same_kind}
 use Rattle.type_table.specs.FieldLaw.{FieldsStandApart, BeginsAt}
 use Rattle.marker_core.specs.declared.states.Body.{Body}
 use Rattle.marker_core.specs.declared.states.Role.{Role}
 use Rattle.marker_core.specs.declared.states.Role.TheVariants.{StrongWord, WeakWord, KeyWord, ValueWord, PlainWord}
-use Rattle.marker_core.specs.Bodies.{role_at, role_in, refers, keeps}
-use Rattle.page_words.specs.Bodies.{IsKeyWord, kind_in, is_reference_word}
-use Rattle.page_words.specs.Roles.{kind_lists, kinds_fit, kind_of_role, kind_is_role, refers_by_kind, role_of_field, first_role, words_before}
+use Rattle.marker_core.specs.Bodies.{role_at, role_in, keeps}
+use Rattle.page_words.specs.Bodies.{IsKeyWord, kind_in}
+use Rattle.page_words.specs.Roles.{kind_lists, kinds_fit, kind_of_role, kind_is_role, role_of_field, first_role, words_before}
 use Rattle.page_words.specs.Seat.{SeatView}
 
 -- the kind of a word is that of its role
 pub kind_told : (v : SeatView) (b : Body) (i : ℕ) → kind_in v.types b i ≡ kind_of_role (role_in (kind_lists v.types) b i)
 kind_told v b i =
     kind_is_role (kinds_of v.types b.ty) i ∙ ap (λ kinds. kind_of_role (role_at kinds i)) (sym (kinds_fit v.types b.ty))
-
--- a word refers exactly where its kind isn't plain
-pub role_refers : (v : SeatView) (b : Body) (i : ℕ) → refers (role_in (kind_lists v.types) b i) ≡ is_reference_word v.types b i
-role_refers v b i =
-    ap (λ kinds. refers (role_at kinds i)) (kinds_fit v.types b.ty) ∙ refers_by_kind (kinds_of v.types b.ty) i
 
 -- what keeps what it names is a strong word or one of a pair
 pub keeps_none : (role : Role) → (kind_of_role role ≡ Strong → ⊥) → (kind_of_role role ≡ Pair → ⊥) → keeps role ≡ false
@@ -33,12 +28,6 @@ keeps_none PlainWord strong pair = refl
 
 -- ---- pairs
 
-is_pair_kind : (kind : Kind) → is_kind Pair kind ≡ true → kind ≡ Pair
-is_pair_kind Pair is = refl
-is_pair_kind Strong is = absurd (true≢false (sym is))
-is_pair_kind Weak is = absurd (true≢false (sym is))
-is_pair_kind Plain is = absurd (true≢false (sym is))
-
 pub key_role : FieldsStandApart → (v : SeatView) (b : Body) (i : ℕ) → IsKeyWord v.types b i → role_in (kind_lists v.types) b i ≡ KeyWord
 key_role law v b i key =
     let kinds : List Kind = kinds_of v.types b.ty in
@@ -48,7 +37,7 @@ key_role law v b i key =
     ap (λ ks. role_at ks i) (kinds_fit v.types b.ty)
     ∙ ap (role_at kinds) at
     ∙ role_of_field kinds found.0 first.declared
-    ∙ ap first_role (is_pair_kind _ first.kind)
+    ∙ ap first_role (same_kind Pair _ first.kind)
 
 next_role : (kinds : List Kind) (i : ℕ) → role_at kinds i ≡ KeyWord → role_at kinds (suc i) ≡ ValueWord
 next_role [] i key = cc

@@ -16,8 +16,8 @@ use page_space::Space;
 use page_words::{MutatorSeat, Reading};
 use type_table::fields_stand_apart;
 
-/// A word has one kind, and keeps it under each write, and a pair stays one. Whoever calls this has the law. It reads
-/// nothing.
+/// A word has one kind, and keeps it under each write, and a pair stays one. Whoever calls this has
+/// the law. It reads nothing.
 pub fn words_keep_their_kind(seat: &MutatorSeat)
     ensures one { (is_so is_other : Kind → Bool) (holder word : ℕ)
         → ((kind : Kind) → is_so kind ≡ true → is_other kind ≡ true → ⊥)

@@ -1,4 +1,4 @@
-use Rattle.std.proofs.Common.{◌≡◌, Bool, not, sym, ap, ◌∙◌}
+use Rattle.std.proofs.Common.{Bool, not, sym, ap, ◌∙◌}
 use Rattle.page_words.specs.Seat.{marked_at}
 use Rattle.member_fields.proofs.Marked.{fresh_barrier}
 use Rattle.member_fields.proofs.barrier.keep.Goals as goal
