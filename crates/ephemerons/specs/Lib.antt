@@ -8,4 +8,5 @@ pub mod Fixpoint
 pub mod Fields
 pub mod PairFields
 pub mod BodyLeads
+pub mod SmallHeap
 pub mod ListedMarks
