@@ -8,5 +8,6 @@ pub mod Fixpoint
 pub mod Fields
 pub mod PairFields
 pub mod BodyLeads
-pub mod SmallHeap
 pub mod ListedMarks
+-- The heap on which tracing is tried, for the tests alone.
+pub mod SmallHeap

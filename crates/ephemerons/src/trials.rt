@@ -1,11 +1,14 @@
 // One object, traced on a heap of two that were made by hand.
 
-ghost use Rattle.std.specs.Prelude.{◌≡◌, ◌↔◌, true, false, IfOk, IfSome};
+ghost use Rattle.std.specs.Prelude.{◌≡◌, ◌↔◌, ℕ, true, false, Contains, IfOk, IfSome};
 ghost use Rattle.page_space.specs.Space.{IsSeatOf, IsSpaceOf};
 ghost use Rattle.page_space.specs.Occupying.{IsNewNumber, Occupies, new_body};
-ghost use Rattle.ephemerons.specs.SmallHeap.{pair_then_strong, IsEither, IsSmall};
+ghost use Rattle.ephemerons.specs.declared.notes.Note.{Note};
+ghost use Rattle.ephemerons.specs.SmallHeap.{pair_then_strong, IsEither, IsSmall, IsTraced};
+ghost use Rattle.ephemerons.specs.SmallHeap.{IsEitherPlace, IsEitherPair};
 
-use crate::marks::{is_marked, mark};
+use crate::closing::fixpoint;
+use crate::marks::{is_marked, list_held};
 use crate::notes::Pairs;
 use crate::tracing::{claim, trace};
 use gc_graph::{Kind, NoMemory};
@@ -22,7 +25,7 @@ const OTHER: u32 = 256;
 
 /// How many places are listed and how many pairs noted, and whether the other object is marked.
 #[derive(Clone, Copy, Debug, PartialEq)]
-struct Left {
+struct Counts {
     listed: usize,
     noted: usize,
     marked: bool,
@@ -100,12 +103,29 @@ fn write(words: &Words, seat: &mut MutatorSeat, key: u64, value: u64, strong: u6
     words.store(seat, HOLDER + 4, strong);
 }
 
-/// What is left once the first object was marked, claimed and traced.
-fn traced(alloc: Global, key: u64, value: u64, strong: u64) -> Option<Left>
+/// A heap in which the first object was traced.
+#[derive(Drop)]
+struct Trial {
+    space: Space,
+    types: TypeTable,
+    seat: MutatorSeat,
+    marking: Marking,
+    notes: Pairs,
+}
+
+/// Marks, claims and traces the first object, which has these words.
+fn traced(alloc: Global, key: u64, value: u64, strong: u64) -> Option<Trial>
     requires key { IsEither key }
     requires value { IsEither value }
     requires strong { IsEither strong }
     requires pair { (key ≡ 0) ↔ (value ≡ 0) }
+    ensures heap { IfSome result (λ t. IsSeatOf t.space t.seat) }
+    ensures types { IfSome result (λ t. t.types ≡ pair_then_strong) }
+    ensures traced { IfSome result (λ t. IsTraced t.seat key value strong) }
+    ensures listed { IfSome result (λ t.
+        (p : ℕ) → Contains t.marking.list.items p → IsEitherPlace p) }
+    ensures noted { IfSome result (λ t.
+        (note : Note) → Contains t.notes.notes note → IsEitherPair note) }
 {
     let Ok(types) = one_type(alloc) else {
         return None;
@@ -123,47 +143,108 @@ fn traced(alloc: Global, key: u64, value: u64, strong: u64) -> Option<Left>
     let mut notes = Pairs::new(alloc);
     seat.bodies_lie_apart();
     space.words().set_stop(&mut seat, false);
-    mark(space.words(), &mut seat, &mut marking, HOLDER);
-    marking.list.pop();
+    space.words().mark(&mut seat, HOLDER);
     claim(space.words(), &mut seat, HOLDER)?;
     trace(&space, &types, &mut seat, &mut marking, &mut notes, HOLDER);
-    Some(Left {
-        listed: marking.list.len(),
-        noted: notes.count(),
-        marked: is_marked(space.words(), &mut seat, OTHER),
+    Some(Trial {
+        space,
+        types,
+        seat,
+        marking,
+        notes,
     })
 }
 
-/// Whether tracing leaves so many places listed and pairs noted, and the other object marked or not.
-fn leaves(left: Option<Left>, listed: usize, noted: usize, marked: bool) -> bool {
-    left == Some(Left {
-        listed,
-        noted,
-        marked,
+/// What is left of it.
+fn left(alloc: Global, key: u64, value: u64, strong: u64) -> Option<Counts>
+    requires key { IsEither key }
+    requires value { IsEither value }
+    requires strong { IsEither strong }
+    requires pair { (key ≡ 0) ↔ (value ≡ 0) }
+{
+    let mut t = traced(alloc, key, value, strong)?;
+    Some(Counts {
+        listed: t.marking.list.len(),
+        noted: t.notes.count(),
+        marked: is_marked(t.space.words(), &mut t.seat, OTHER),
     })
+}
+
+/// How many objects the fixpoint traces, and whether the other one is marked then, where null was
+/// written over a noted pair.
+fn null_over_a_noted_pair(alloc: Global) -> Option<(u32, bool)> {
+    let Trial {
+        space,
+        types,
+        mut seat,
+        mut marking,
+        notes,
+    } = traced(alloc, 257, 1, 0)?;
+    space.words().store(&mut seat, HOLDER + 3, 0);
+    space.words().store(&mut seat, HOLDER + 2, 0);
+    let mut groups = [notes];
+    let count = fixpoint(&space, &types, &mut seat, &mut marking, &mut groups, false);
+    Some((count, is_marked(space.words(), &mut seat, OTHER)))
+}
+
+/// The same where its value was overwritten by another, the key itself: the write marks and lists it.
+fn another_over_a_noted_pair(alloc: Global) -> Option<(u32, bool)> {
+    let Trial {
+        space,
+        types,
+        mut seat,
+        mut marking,
+        notes,
+    } = traced(alloc, 257, 1, 0)?;
+    space.words().store(&mut seat, HOLDER + 3, 257);
+    space.words().mark(&mut seat, OTHER);
+    list_held(&mut marking, Some(OTHER));
+    let mut groups = [notes];
+    let count = fixpoint(&space, &types, &mut seat, &mut marking, &mut groups, false);
+    Some((count, is_marked(space.words(), &mut seat, OTHER)))
+}
+
+/// Whether tracing leaves so many places listed and pairs noted, and the other object marked or not.
+fn leaves(found: Option<Counts>, listed: usize, noted: usize, marked: bool) -> bool {
+    found
+        == Some(Counts {
+            listed,
+            noted,
+            marked,
+        })
 }
 
 #[test]
 fn null_fields_ask_for_nothing(rt: HostRuntime) {
-    assert!(rt; leaves(traced(rt.alloc(), 0, 0, 0), 0, 0, false));
+    assert!(rt; leaves(left(rt.alloc(), 0, 0, 0), 0, 0, false));
 }
 
 #[test]
 fn strong_target_is_marked_and_listed(rt: HostRuntime) {
-    assert!(rt; leaves(traced(rt.alloc(), 0, 0, 257), 1, 0, true));
+    assert!(rt; leaves(left(rt.alloc(), 0, 0, 257), 1, 0, true));
 }
 
 #[test]
 fn value_is_marked_where_the_key_is(rt: HostRuntime) {
-    assert!(rt; leaves(traced(rt.alloc(), 1, 257, 0), 1, 0, true));
+    assert!(rt; leaves(left(rt.alloc(), 1, 257, 0), 1, 0, true));
 }
 
 #[test]
 fn pair_is_noted_where_the_key_is_not_marked(rt: HostRuntime) {
-    assert!(rt; leaves(traced(rt.alloc(), 257, 1, 0), 0, 1, false));
+    assert!(rt; leaves(left(rt.alloc(), 257, 1, 0), 0, 1, false));
 }
 
 #[test]
 fn pair_is_looked_at_before_the_strong_field_that_names_its_key(rt: HostRuntime) {
-    assert!(rt; leaves(traced(rt.alloc(), 257, 257, 257), 1, 1, true));
+    assert!(rt; leaves(left(rt.alloc(), 257, 257, 257), 1, 1, true));
+}
+
+#[test]
+fn noted_pair_may_be_overwritten_by_null(rt: HostRuntime) {
+    assert!(rt; null_over_a_noted_pair(rt.alloc()) == Some((0, false)));
+}
+
+#[test]
+fn value_of_a_noted_pair_may_be_overwritten(rt: HostRuntime) {
+    assert!(rt; another_over_a_noted_pair(rt.alloc()) == Some((1, true)));
 }
