@@ -19,5 +19,6 @@ pub mod Ends
 pub mod NoPairs
 pub mod Holding
 pub mod TrueOfViews
+pub mod SmallHeap
 pub mod StrongWords
 pub mod TracedFields

@@ -9,3 +9,5 @@ pub mod Fields
 pub mod PairFields
 pub mod BodyLeads
 pub mod ListedMarks
+-- The heap on which tracing is tried, for the tests alone.
+pub mod SmallHeap

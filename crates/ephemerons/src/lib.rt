@@ -31,6 +31,8 @@ mod pair_fields;
 mod settling;
 mod strong_fields;
 mod tracing;
+#[cfg(test)]
+mod trials;
 mod walking;
 
 pub use closing::fixpoint;

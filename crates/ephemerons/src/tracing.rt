@@ -189,7 +189,7 @@ pub(crate) fn trace_pairless(
 
 /// Claims an object. Its type where it was marked and not yet traced: one look at the header serves
 /// both.
-fn claim(words: &Words, seat: &mut MutatorSeat, place: u32) -> Option<u32>
+pub(crate) fn claim(words: &Words, seat: &mut MutatorSeat, place: u32) -> Option<u32>
     requires heap { seat.old.count ≡ words.now }
     requires on { seat.old.on ≡ true }
     requires alone { IsAlone seat.old }
