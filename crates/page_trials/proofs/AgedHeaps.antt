@@ -4,7 +4,7 @@ use Rattle.std.specs.List.{Contains}
 use Rattle.std.proofs.lemmas.List.{map_push, append_assoc}
 use Rattle.std.proofs.lemmas.List.Elements.{Contains-push_cases}
 use Rattle.marker_core.specs.declared.states.Body.{Body}
-use Rattle.page_words.specs.Seat.{SeatView}
+use Rattle.page_words.specs.Seat.{SeatView, OnlyLooked}
 use Rattle.page_space.specs.Space.{SpaceView, IsSpaceOf}
 use Rattle.page_space.specs.Occupying.{Occupies, new_body}
 use Rattle.page_trials.proofs.NoFields.{two_types}
@@ -15,8 +15,8 @@ IsAged space v dead young next =
     × (map (λ (b : Body). b.place) v.bodies ≡ dead ++ young) × (v.types ≡ two_types)
     × ((b : Body) → Contains v.bodies b → b.serial < next)
 
--- nothing of the objects has changed
-pub aged_still : (space now : SpaceView) (v w : SeatView) (dead young : List ℕ) (next : ℕ) → w ≡ v → IsSpaceOf now w → IsAged space v dead young next
+-- headers were looked at, and nothing of the objects has changed
+pub aged_still : (space now : SpaceView) (v w : SeatView) (dead young : List ℕ) (next : ℕ) → OnlyLooked v w → IsSpaceOf now w → IsAged space v dead young next
     → IsAged now w dead young next
 aged_still space now v w dead young next same laid aged =
     let there = subst (λ (u : SeatView). IsAged space u dead young next) (sym same) aged in

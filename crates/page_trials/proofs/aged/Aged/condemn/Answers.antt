@@ -1,8 +1,9 @@
-use Rattle.std.proofs.Common.{◌≡◌, ℕ, not, true, List, [], ◌∷◌, ◌++◌, refl, ap, sym, ◌∙◌, subst, map, filter, append-nil, arith, rules, Contains, ◌<◌}
+use Rattle.std.proofs.Common.{◌≡◌, ℕ, ◌+◌, ◌/◌, not, true, List, [], ◌∷◌, ◌++◌, refl, ap, sym, ◌∙◌, subst, map, filter, append-nil, arith, rules, Contains, ◌<◌}
 use Rattle.std.proofs.lemmas.Grind.{common_steps}
 use Rattle.marker_core.specs.declared.states.Body.{Body}
-use Rattle.marker_core.specs.Bodies.{holds}
-use Rattle.page_words.specs.Seat.{SeatView, MaySetStop, begun, ended}
+use Rattle.marker_core.specs.Bodies.{IsPlace, holds}
+use Rattle.page_words.specs.Seat.{SeatView, IsView, MaySetStop, begun, ended}
+use Rattle.page_words.specs.BodyPlaces.{no_place_beyond}
 use Rattle.page_space.specs.Space.{IsSpaceOf}
 use Rattle.page_trials.proofs.NoFields.{no_pairs, marked_out}
 use Rattle.page_trials.proofs.aged.Aged.condemn.Goals as goal
@@ -26,17 +27,24 @@ set_stop-requires c =
       ),
     )
 
+-- the stop word is no header
+stop_beyond : (v w : SeatView) (count : ℕ) → IsView v → v.count ≡ count → w ≡ begun v [] → IsPlace w.bodies (count + count / 64) → ⊥
+stop_beyond v w count is same began at =
+    no_place_beyond v (count + count / 64) is (omega (arith, same)) (subst (λ (u : SeatView). IsPlace u.bodies (count + count / 64)) began at)
+
 pub set_stop-requires-2 : goal.set_stop-requires-2
 set_stop-requires-2 c = (
   search rules,
-  subst (λ (v : SeatView). MaySetStop v true) (sym (c.load-stop.ensures.view ∙ c.set_stop.ensures.view))
+  subst (λ (v : SeatView). MaySetStop v true) (sym (c.load-stop.ensures.beside refl (stop_beyond c.self.inside.seat c.set_stop.new.seat c.word_count-count.result c.bodies_lie_apart.ensures
+      (c.self.invariant.0.seat ∙ sym c.word_count-count.ensures) c.set_stop.ensures.view) ∙ c.set_stop.ensures.view))
       (λ on alone. marked_out c.self.inside.seat (c.bodies_lie_apart.ensures.at_rest c.self.invariant.1) c.self.invariant.2),
 )
 
 pub invariant_of-self : goal.invariant_of-self
 invariant_of-self c =
     let v : SeatView = c.self.inside.seat in
-    let began : c.load-stop.new.seat ≡ begun v [] = c.load-stop.ensures.view ∙ c.set_stop.ensures.view in
+    let began : c.load-stop.new.seat ≡ begun v [] = c.load-stop.ensures.beside refl (stop_beyond c.self.inside.seat c.set_stop.new.seat c.word_count-count.result c.bodies_lie_apart.ensures
+    (c.self.invariant.0.seat ∙ sym c.word_count-count.ensures) c.set_stop.ensures.view) ∙ c.set_stop.ensures.view in
     let over : c.set_stop-2.new.seat ≡ ended (begun v []) =
     c.set_stop-2.ensures.ended refl (ap (λ (u : SeatView). u.on) began)
     (ap (λ (u : SeatView). u.lent) began ∙ (c.bodies_lie_apart.ensures.at_rest c.self.invariant.1).none_lent) ∙ ap ended began in

@@ -4,7 +4,7 @@ use Rattle.std.proofs.lemmas.List.Elements.{filter-append}
 use Rattle.std.specs.List.{Contains}
 use Rattle.marker_core.specs.declared.states.Body.{Body}
 use Rattle.marker_core.specs.Bodies.{holds, without}
-use Rattle.page_words.specs.Seat.{SeatView, retracted}
+use Rattle.page_words.specs.Seat.{SeatView, OnlyLooked, retracted}
 use Rattle.gc_graph.specs.Members.{was_in}
 use Rattle.page_trials.proofs.NoFields.{nothing_named}
 use Rattle.page_trials.proofs.aged.Aged.free.Goals as goal
@@ -36,7 +36,7 @@ free-requires-clause-unnamed c =
 pub invariant_of-self : goal.invariant_of-self
 invariant_of-self c =
     let a = c.index-place.result.now in
-    let freed : c.free.new.seat ≡ retracted c.self.inside.seat a = c.free.ensures.freed ∙ ap (λ v. retracted v a) c.header_at-size.ensures.view in (
+    let freed : OnlyLooked (retracted c.self.inside.seat a) c.free.new.seat = c.free.ensures.freed ∙ ap (λ v. retracted v a) c.header_at-size.ensures.view in (
       c.free.ensures.space,
       ap (λ (v : SeatView). v.on) freed ∙ c.self.invariant.1,
       ap (λ (v : SeatView). v.marked) freed ∙ c.self.invariant.2,

@@ -1,6 +1,6 @@
 use Rattle.std.proofs.Common.{◌≡◌, ◌+◌, ℕ, List, sym, ap, ◌∙◌, subst, arith}
 use Rattle.std.specs.List.{Contains}
-use Rattle.page_words.specs.Seat.{SeatView}
+use Rattle.page_words.specs.Seat.{SeatView, OnlyLooked, unlooked}
 use Rattle.page_space.specs.Space.{SpaceView, IsSpaceOf}
 use Rattle.page_trials.proofs.AgedHeaps.{IsAged, aged_still, aged_made}
 use Rattle.page_trials.proofs.aged.Aged.put.Goals as goal
@@ -8,7 +8,7 @@ use Rattle.page_trials.proofs.aged.Aged.put.Goals.{in-Some, in-None+in_ok-place-
 
 pub invariant_of-self-in_err-place-in-None : goal.invariant_of-self-in_err-place-in-None
 invariant_of-self-in_err-place-in-None c =
-    let same : c.find_empty.new.seat ≡ c.self.inside.seat = c.find_empty.ensures.view ∙ c.find.ensures.view in
+    let same : OnlyLooked c.self.inside.seat c.find_empty.new.seat = ap unlooked c.find_empty.ensures.view ∙ c.find.ensures.view in
     let laid : IsSpaceOf c.find_empty.new.self c.find_empty.new.seat =
     subst (λ (s : SpaceView). IsSpaceOf s c.find_empty.new.seat) (sym c.find_empty.ensures.same)
     (subst (λ (v : SeatView). IsSpaceOf c.find.new.self v) (sym c.find_empty.ensures.view) c.find.ensures.space)
@@ -20,9 +20,9 @@ invariant_of-self-in_err-place-in-None c =
 
 pub occupy-requires-clause-number : goal.occupy-requires-clause-number
 occupy-requires-clause-number c = λ b there same.
-    let seat : c.match-find.self-inside.seat ≡ c.self.inside.seat = elim c.match-find.branch [
-      | in-Some w ↦ ap (λ s. s.seat) w.self-inside-is ∙ c.find.ensures.view
-      | in-None+in_ok-place-in-None w ↦ ap (λ s. s.seat) w.self-inside-is ∙ w.find_empty.ensures.view ∙ c.find.ensures.view
+    let seat : OnlyLooked c.self.inside.seat c.match-find.self-inside.seat = elim c.match-find.branch [
+      | in-Some w ↦ ap (λ s. unlooked s.seat) w.self-inside-is ∙ c.find.ensures.view
+      | in-None+in_ok-place-in-None w ↦ ap (λ s. unlooked s.seat) w.self-inside-is ∙ ap unlooked w.find_empty.ensures.view ∙ c.find.ensures.view
     ] in
     let next : c.match-find.self-inside.next ≡ c.self.inside.next = elim c.match-find.branch [
       | in-Some w ↦ ap (λ s. s.next) w.self-inside-is
@@ -33,9 +33,9 @@ occupy-requires-clause-number c = λ b there same.
 
 pub invariant_of-self-2 : goal.invariant_of-self-2
 invariant_of-self-2 c =
-    let seat : c.match-find.self-inside.seat ≡ c.self.inside.seat = elim c.match-find.branch [
-      | in-Some w ↦ ap (λ s. s.seat) w.self-inside-is ∙ c.find.ensures.view
-      | in-None+in_ok-place-in-None w ↦ ap (λ s. s.seat) w.self-inside-is ∙ w.find_empty.ensures.view ∙ c.find.ensures.view
+    let seat : OnlyLooked c.self.inside.seat c.match-find.self-inside.seat = elim c.match-find.branch [
+      | in-Some w ↦ ap (λ s. unlooked s.seat) w.self-inside-is ∙ c.find.ensures.view
+      | in-None+in_ok-place-in-None w ↦ ap (λ s. unlooked s.seat) w.self-inside-is ∙ ap unlooked w.find_empty.ensures.view ∙ c.find.ensures.view
     ] in
     let next : c.match-find.self-inside.next ≡ c.self.inside.next = elim c.match-find.branch [
       | in-Some w ↦ ap (λ s. s.next) w.self-inside-is
