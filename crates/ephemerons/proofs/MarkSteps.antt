@@ -23,7 +23,7 @@ use Rattle.page_words.specs.PlaceTests.{place_of_test}
 pub may_place : (v : SeatView) (p : ℕ) → IsView v → v.on ≡ true → holds v.may p ≡ true → IsPlace v.bodies p
 may_place v p view on may = place_of_test v.bodies p ((view.marking on).are_places p may)
 
-pub may_small : (v : SeatView) (w : ℕ) → IsView v → v.on ≡ true → MayMark v w → w ≤ 2 ^ 32
+pub may_small : (v : SeatView) (w : ℕ) → IsView v → v.on ≡ true → MayMark v w → w < 2 ^ 32
 may_small v w view on may = elim (cases_eq w 0) [
   | inl null ↦ omega (arith, null)
   | inr some ↦

@@ -1,6 +1,6 @@
 // Marks of objects, and the words of their fields.
 
-ghost use Rattle.std.specs.Prelude.{◌≡◌, ◌⊎◌, ℕ, ◌<◌, true, false};
+ghost use Rattle.std.specs.Prelude.{◌≡◌, ◌⊎◌, ℕ, ◌^◌, ◌<◌, true, false};
 ghost use Rattle.std.specs.Prelude.{Contains, MatchOption, Some, IfSome, IfNone};
 ghost use Rattle.mark_worklist.specs.declared.marking.Marking.{Marking};
 ghost use Rattle.object_headers.specs.Offsets.{reference_to};
@@ -18,7 +18,7 @@ ghost use Rattle.ephemerons.specs.Fixpoint.{ListsMarks, IsListed, HasWord, weigh
 ghost use Rattle.ephemerons.specs.Fixpoint.{IsStillHeld, with_held};
 
 use mark_worklist::Marking;
-use object_headers::{Header, place_in};
+use object_headers::Header;
 use page_space::Space;
 use page_words::{MutatorSeat, Reading, Words, has_mark};
 
@@ -145,10 +145,21 @@ pub(crate) fn mark_named(words: &Words, seat: &mut MutatorSeat, reference: u64) 
         → seat.new.hand ≡ each_hand (hand_after_mark (kind_lists seat.old.types) p) seat.old.hand }
 {
     seat.bodies_lie_apart();
-    match place_in(reference) {
-        Some(place) => mark_unlisted(words, seat, place),
-        None => None,
+    if reference == 0 {
+        return None;
     }
+    mark_unlisted(words, seat, place_named(reference))
+}
+
+/// The place that a reference names, which isn't null. It is counted in the 32 bits of a place, which
+/// then are an index as they stand.
+#[inline(always)]
+fn place_named(reference: u64) -> u32
+    requires some { 0 < reference }
+    requires small { reference < 2 ^ 32 }
+    ensures { reference ≡ reference_to result }
+{
+    reference as u32 - 1
 }
 
 /// Marks an object. Its place where it was not marked.
