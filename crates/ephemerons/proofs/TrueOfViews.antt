@@ -10,6 +10,7 @@ use Rattle.type_table.specs.Types.{kinds_of as kinds_in}
 use Rattle.marker_core.specs.declared.states.Body.{Body}
 use Rattle.marker_core.specs.declared.states.Role.TheVariants.{KeyWord, ValueWord}
 use Rattle.marker_core.specs.Bodies.{IsReference, holds, names_body, is_place, refers, role_at, role_in, kinds_of, word_count, word_in}
+use Rattle.marker_core.specs.RoleOrder.{value_after_key}
 use Rattle.page_words.specs.BodyPlaces.{known_type, whole_body}
 use Rattle.page_words.specs.PlaceTests.{place_of_test}
 use Rattle.page_words.specs.Roles.{kind_lists, kinds_fit, word_count_is}
@@ -18,24 +19,6 @@ use Rattle.ephemerons.specs.BodyGraph.{AreReferences, pair_offsets, word_at}
 use Rattle.ephemerons.specs.Marking.{TracedNameMarked}
 use Rattle.ephemerons.specs.Fields.{field_at_offset}
 use Rattle.ephemerons.specs.BodyLeads.{role_of_offset}
-
--- a key is followed by its value
-value_after_key : (kinds : List Kind) (i : ℕ) → role_at kinds i ≡ KeyWord → role_at kinds (i + 1) ≡ ValueWord
-value_after_key kinds i key = ap (role_at kinds) next ∙ after kinds i key where
-  next : i + 1 ≡ suc i
-  next = omega arith
-
-  after : (kinds : List Kind) (i : ℕ) → role_at kinds i ≡ KeyWord → role_at kinds (suc i) ≡ ValueWord
-  after [] i key = cc
-  after (Strong ∷ kinds) zero key = cc
-  after (Strong ∷ kinds) (suc i) key = after kinds i key
-  after (Weak ∷ kinds) zero key = cc
-  after (Weak ∷ kinds) (suc i) key = after kinds i key
-  after (Pair ∷ kinds) zero key = refl
-  after (Pair ∷ kinds) (suc zero) key = cc
-  after (Pair ∷ kinds) (suc (suc i)) key = after kinds i key
-  after (Plain ∷ kinds) zero key = cc
-  after (Plain ∷ kinds) (suc i) key = after kinds i key
 
 -- a reference that names a body, as a word of the body
 named_reference : (bodies : List Body) (w : ℕ) → names_body bodies w ≡ true → IsReference bodies w

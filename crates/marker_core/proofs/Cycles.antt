@@ -23,7 +23,7 @@ use Rattle.marker_core.proofs.Members.{all_member}
 use Rattle.gc_graph.specs.Members.{pushed_is_held, holds_from, Contains-map, stays_in, below_ranged}
 use Rattle.marker_core.proofs.Apart.{body_of_place, place_of_body, named}
 use Rattle.marker_core.proofs.Counts.{some_is_true, true_is_some, none_is_false}
-use Rattle.marker_core.proofs.Edges.{value_after_key}
+use Rattle.marker_core.specs.RoleOrder.{value_after_key}
 use Rattle.marker_core.proofs.Headers.{mark_tells, traced_tells}
 use Rattle.marker_core.proofs.Reached.{reach_over_law}
 use Rattle.marker_core.proofs.Turns.{all_name_bodies, within_fields}

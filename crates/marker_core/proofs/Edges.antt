@@ -119,21 +119,6 @@ edge_pair test (Pair ∷ kinds) (suc k ∷ zero ∷ ws) (suc (suc i)) n role key
 edge_pair test (Pair ∷ kinds) (suc k ∷ suc v ∷ ws) (suc (suc i)) n role key passes value to =
     or_right (test k && eqb v n) (pair_to test kinds ws n) (edge_pair test kinds ws i n role key passes value to)
 
--- a pair's value comes after its key
-pub value_after_key : (kinds : List Kind) (i : ℕ) → role_at kinds i ≡ KeyWord → role_at kinds (i + 1) ≡ ValueWord
-value_after_key kinds i h = ap (role_at kinds) (add-one i) ∙ after kinds i h where
-  after : (kinds : List Kind) (i : ℕ) → role_at kinds i ≡ KeyWord → role_at kinds (suc i) ≡ ValueWord
-  after [] i h = cc
-  after (Strong ∷ kinds) zero h = cc
-  after (Strong ∷ kinds) (suc i) h = after kinds i h
-  after (Weak ∷ kinds) zero h = cc
-  after (Weak ∷ kinds) (suc i) h = after kinds i h
-  after (Plain ∷ kinds) zero h = cc
-  after (Plain ∷ kinds) (suc i) h = after kinds i h
-  after (Pair ∷ kinds) zero h = refl
-  after (Pair ∷ kinds) (suc zero) h = cc
-  after (Pair ∷ kinds) (suc (suc i)) h = after kinds i h
-
 -- a reference is a word of the declared fields
 pub refers_within : (kinds : List Kind) (i : ℕ) → refers (role_at kinds i) ≡ true → i < word_count kinds
 refers_within [] i h = absurd (false≢true h)

@@ -21,7 +21,7 @@ use Rattle.marker_core.proofs.Members.{none_from, holds_more, holds_push_cases}
 use Rattle.gc_graph.specs.Members.{any_from, was_in, has_passed, pushed_is_held}
 use Rattle.marker_core.proofs.Apart.{place_of_body, named}
 use Rattle.marker_core.proofs.Counts.{none_is_false}
-use Rattle.marker_core.proofs.Edges.{value_after_key}
+use Rattle.marker_core.specs.RoleOrder.{value_after_key}
 use Rattle.marker_core.proofs.Turns.{all_name_bodies}
 use Rattle.marker_core.proofs.Tricolour.{fits_among_more}
 use Rattle.marker_core.proofs.StartBits.{Besides, bitmap_written, start_is_set, other_start_set}

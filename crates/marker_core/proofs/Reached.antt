@@ -16,7 +16,8 @@ use Rattle.marker_core.specs.Matching.{AreWhole, LieApart}
 use Rattle.marker_core.specs.Laws.{IsLeastOver, AllNameBodies, ReachOverIsLeast}
 use Rattle.gc_graph.specs.Members.{Contains-cons, Contains-head, was_in, has_passed, stays_in, Contains-map_some, Contains-map, holds_from, in_from_holds}
 use Rattle.marker_core.proofs.Apart.{same_place, body_of_place, place_of_body, place_below, named}
-use Rattle.marker_core.proofs.Edges.{strong_edge, edge_strong, pair_edge, edge_pair, value_after_key}
+use Rattle.marker_core.specs.RoleOrder.{value_after_key}
+use Rattle.marker_core.proofs.Edges.{strong_edge, edge_strong, pair_edge, edge_pair}
 
 -- ---- the body at a place is found
 

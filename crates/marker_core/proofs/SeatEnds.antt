@@ -22,7 +22,7 @@ use Rattle.marker_core.specs.Core.{IsCoreOk}
 use Rattle.marker_core.specs.SeatLaws.{seat_ends, StopsAreSteps}
 use Rattle.marker_core.proofs.Apart.{body_of_place, place_of_body}
 use Rattle.marker_core.proofs.Counts.{times_cons}
-use Rattle.marker_core.proofs.Edges.{value_after_key}
+use Rattle.marker_core.specs.RoleOrder.{value_after_key}
 use Rattle.marker_core.proofs.Headers.{mark_tells, traced_tells}
 use Rattle.marker_core.proofs.Quiet.{no_marks, no_traces}
 use Rattle.marker_core.proofs.Stops.{all_spent}

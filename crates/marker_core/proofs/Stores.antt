@@ -22,7 +22,7 @@ use Rattle.marker_core.specs.Views.{marks_at, traces_at, IsHand, IsNoted, IsDone
 use Rattle.marker_core.specs.Tracing.{IsCovered, IsInHand, StrongAccounted, PairsAccounted, marking_word, PartFits, HandsAreBodies, MayIsClosed}
 use Rattle.marker_core.specs.Core.{IsCoreOk}
 use Rattle.gc_graph.specs.Members.{any_member, any_from, Contains-map}
-use Rattle.marker_core.proofs.Edges.{value_after_key}
+use Rattle.marker_core.specs.RoleOrder.{value_after_key}
 use Rattle.marker_core.proofs.Tricolour.{Covers, cover_more}
 use Rattle.marker_core.proofs.Claims.{is_none_tells}
 use Rattle.marker_core.proofs.Quiet.{hands_of_none}

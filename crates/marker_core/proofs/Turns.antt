@@ -18,7 +18,8 @@ use Rattle.marker_core.specs.Core.{IsCoreOk}
 use Rattle.marker_core.specs.Laws.{AllNameBodies}
 use Rattle.marker_core.proofs.Apart.{same_place, body_of_place, named}
 use Rattle.marker_core.proofs.Counts.{true_is_some}
-use Rattle.marker_core.proofs.Edges.{value_after_key, refers_within, traced_cases, traced_refers}
+use Rattle.marker_core.specs.RoleOrder.{value_after_key}
+use Rattle.marker_core.proofs.Edges.{refers_within, traced_cases, traced_refers}
 use Rattle.marker_core.proofs.Headers.{mark_tells}
 use Rattle.marker_core.proofs.Tricolour.{HandTurn}
 

@@ -18,3 +18,4 @@ pub mod SeatLaws
 pub mod SeatFacts
 pub mod Faults
 pub mod Looking
+pub mod RoleOrder

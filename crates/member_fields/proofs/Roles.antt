@@ -8,7 +8,8 @@ use Rattle.type_table.specs.FieldLaw.{FieldsStandApart, BeginsAt}
 use Rattle.marker_core.specs.declared.states.Body.{Body}
 use Rattle.marker_core.specs.declared.states.Role.{Role}
 use Rattle.marker_core.specs.declared.states.Role.TheVariants.{StrongWord, WeakWord, KeyWord, ValueWord, PlainWord}
-use Rattle.marker_core.specs.Bodies.{role_at, role_in, keeps}
+use Rattle.marker_core.specs.Bodies.{role_at, role_in, keeps, kinds_of as kinds_of_body}
+use Rattle.marker_core.specs.RoleOrder.{value_after_key}
 use Rattle.page_words.specs.Bodies.{IsKeyWord, kind_in}
 use Rattle.page_words.specs.Roles.{kind_lists, kinds_fit, kind_of_role, kind_is_role, role_of_field, first_role, words_before}
 use Rattle.page_words.specs.Seat.{SeatView}
@@ -39,19 +40,6 @@ key_role law v b i key =
     ∙ role_of_field kinds found.0 first.declared
     ∙ ap first_role (same_kind Pair _ first.kind)
 
-next_role : (kinds : List Kind) (i : ℕ) → role_at kinds i ≡ KeyWord → role_at kinds (suc i) ≡ ValueWord
-next_role [] i key = cc
-next_role (Strong ∷ kinds) zero key = cc
-next_role (Strong ∷ kinds) (suc i) key = next_role kinds i key
-next_role (Weak ∷ kinds) zero key = cc
-next_role (Weak ∷ kinds) (suc i) key = next_role kinds i key
-next_role (Plain ∷ kinds) zero key = cc
-next_role (Plain ∷ kinds) (suc i) key = next_role kinds i key
-next_role (Pair ∷ kinds) zero key = refl
-next_role (Pair ∷ kinds) (suc zero) key = cc
-next_role (Pair ∷ kinds) (suc (suc i)) key = next_role kinds i key
-
 pub value_role : FieldsStandApart → (v : SeatView) (b : Body) (i : ℕ) → IsKeyWord v.types b i → role_in (kind_lists v.types) b (i + 1) ≡ ValueWord
 value_role law v b i key =
-    let next : i + 1 ≡ suc i = omega arith in
-    ap (role_in (kind_lists v.types) b) next ∙ next_role _ i (key_role law v b i key)
+    value_after_key (kinds_of_body (kind_lists v.types) b.ty) i (key_role law v b i key)

@@ -15,11 +15,10 @@
 //! | after these | the stop word: 0 at first and from when marking begins, 1 from when it ends |
 //!
 //! What is proved: each call answers the word that the view tells, and changes the view as a step of
-//! the machine does. After each call words and
-//! view are a state of the machine of which all is true that is true of every state (`IsCoreOk`):
-//! headers, serial numbers, fields, filled words and start bits match; bodies lie apart, each with
-//! room for the fields of its type, and no two have one serial number; while marking goes on every
-//! traced object is accounted for.
+//! the machine does. After each call words and view are a state of the machine of which all is true
+//! that is true of every state (`IsCoreOk`): headers, serial numbers, fields, filled words and start
+//! bits match; bodies lie apart, each with room for the fields of its type, and no two have one serial
+//! number; while marking goes on every traced object is accounted for.
 //!
 //! What is only tested or not said: that `Words::new` succeeds where there is memory, and where the
 //! stop word is, is tested in `page_trials`. A word that belongs to no object and was not filled may

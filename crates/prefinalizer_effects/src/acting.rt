@@ -82,7 +82,8 @@ fn add(
     requires types { types.now ≡ seat.old.types }
     requires typed { AreTyped seat.old }
     requires place { IsPlace seat.old.bodies place }
-    ensures { OnlyLooked (changed_at seat.old place (added_at seat.old.types field amount)) seat.new }
+    ensures { OnlyLooked
+        (changed_at seat.old place (added_at seat.old.types field amount)) seat.new }
 {
     seat.bodies_lie_apart();
     match field_in(space, types, seat, place, field) {

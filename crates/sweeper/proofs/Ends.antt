@@ -13,10 +13,7 @@ use Rattle.sweeper.proofs.Filters.{filter_same}
 use Rattle.sweeper.proofs.Places.{between, outside_none}
 use Rattle.sweeper.proofs.Sweeping.{changed_same, unmarked_without_body, untraced_without_body, undead_without_body}
 use Rattle.sweeper.proofs.Counts.{count_half}
-use Rattle.page_words.specs.BodyPlaces.{body_below, place_below}
-
-no_place_behind : (v : SeatView) (a : ℕ) → IsView v → v.count ≤ a → IsPlace v.bodies a → ⊥
-no_place_behind v a view high at = omega (arith, place_below v a view at)
+use Rattle.page_words.specs.BodyPlaces.{body_below, place_below, no_place_beyond}
 
 -- a list that holds no place is empty
 holds_nothing : (places : List ℕ) → ((x : ℕ) → holds places x ≡ false) → places ≡ []
@@ -26,7 +23,7 @@ holds_nothing (p ∷ places) none = absurd (true≢false (sym (or_left (eqb p p)
 -- a heap is quiet where nothing below its end is marked, traced or dead
 pub quiet_end : (v : SeatView) → IsView v → v.on ≡ false → IsClearBelow v.count v → IsQuiet v
 quiet_end v view off clear =
-    let none_behind : (x : ℕ) → v.count ≤ x → IsPlace v.bodies x → ⊥ = λ x high. no_place_behind v x view high in
+    let none_behind : (x : ℕ) → v.count ≤ x → IsPlace v.bodies x → ⊥ = λ x high. no_place_beyond v x view high in
     record {
       off = off;
       marked = holds_nothing v.marked (λ x. elim (cases_lt x v.count) [

@@ -109,7 +109,7 @@ returns-clause-ready c =
       laid = c.lasts_while_objects_stay.ensures.objects v c.apply.new.seat stays.count stays.extents ready.laid;
       off = stays.on ∙ ready.off;
       held = subst (λ (ns : List Node). IsHeld ns c.apply.new.seat) left (held_looked (acted nodes n c.args.action)
-      (words.acted v (body_of (place_of nodes) n (node_at nodes n)) c.args.action) c.apply.new.seat (words_left c n stands) held);
+          (words.acted v (body_of (place_of nodes) n (node_at nodes n)) c.args.action) c.apply.new.seat (words_left c n stands) held);
       few = omega (arith, ready.few, count, ap length left);
       typed = subst (AreTyped setup) left law.1;
       named = subst AllNameThere left (named_acted nodes n c.args.action law.0 ready.named);
