@@ -14,7 +14,7 @@ use Rattle.page_words.specs.Bodies.{kind_in}
 use Rattle.page_words.specs.Seat.{SeatView, marked_at}
 use Rattle.page_space.specs.Space.{SpaceView}
 use Rattle.member_fields.specs.Words.{HasWord, HasPair, with_word_in, written}
-use Rattle.member_fields.specs.Barrier.{IsReadyToStore, MayKeepNamed, HasBarrier, wants_mark}
+use Rattle.member_fields.specs.Barrier.{IsReadyToStore, MayKeepNamed, HasBarrier, asks_for_mark}
 use Rattle.field_trials.specs.Trials.{IsUnderWay, one_type}
 
 kinds_told : (space : SpaceView) (v : SeatView) (told : Bool) → IsUnderWay space v told → (b : Body) → Contains v.bodies b
@@ -98,7 +98,7 @@ pub barrier_goes : (space : SpaceView) (w : ℕ) (v : SeatView) (m : Marking) (s
 barrier_goes space w v m s n is ready h =
     subst (λ told. IsUnderWay space s told) (sym (still_told w v m s n h))
     (subst (λ (u : SeatView). IsUnderWay space u m.on) (sym h.marked)
-    (marked_goes space v m.on (w - 1) _ (wants_mark v w) is (subst IsReadyToStore h.marked ready)))
+    (marked_goes space v m.on (w - 1) _ (asks_for_mark v w) is (subst IsReadyToStore h.marked ready)))
 
 pub reference_is : (v : SeatView) (p w : ℕ) → IsPlace v.bodies p → w ≡ reference_to p → IsReference v.bodies w
 reference_is v p w at e = inr (at.0, at.1, e ∙ ap reference_to (sym at.2))

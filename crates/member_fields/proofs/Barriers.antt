@@ -7,17 +7,17 @@ use Rattle.marker_core.specs.SeatSteps.{settled}
 use Rattle.page_words.specs.Roles.{kind_lists}
 use Rattle.page_words.specs.Seat.{SeatView, IsView, stored, marked_at}
 use Rattle.member_fields.specs.Words.{HasWordOfSomeKind, written}
-use Rattle.member_fields.specs.Barrier.{IsReadyToStore, HasBarrier, wants_mark}
+use Rattle.member_fields.specs.Barrier.{IsReadyToStore, HasBarrier, asks_for_mark}
 use Rattle.member_fields.proofs.Stored.{barrier_over}
 
-pub unwanted_off : (v : SeatView) (w : ℕ) → v.on ≡ false → wants_mark v w ≡ false
+pub unwanted_off : (v : SeatView) (w : ℕ) → v.on ≡ false → asks_for_mark v w ≡ false
 unwanted_off v w off = ap (λ on. on && not (eqb w 0)) off
 
 -- ---- what it leaves
 
 pub off_stays : (w : ℕ) (v : SeatView) (m : Marking) (s : SeatView) (n : Marking) → v.on ≡ false → HasBarrier w v m s n → (s ≡ v) × (n ≡ m)
 off_stays w v m s n off h =
-    let none : wants_mark v w ≡ false = unwanted_off v w off in
+    let none : asks_for_mark v w ≡ false = unwanted_off v w off in
     let stale : h.fresh ≡ false = elim (cases_Bool h.fresh) [ inl is ↦ absurd (true≢false (sym (h.wanted is) ∙ none)) | inr is ↦ is ] in
     (h.marked ∙ ap (λ b. cond b (marked_at v (w - 1) (not h.fresh)) v) none, h.unlisted stale)
 
@@ -29,21 +29,21 @@ ready_marked v a was true ready = record {
 }
 
 pub ready_after : (w : ℕ) (v : SeatView) (m : Marking) (s : SeatView) (n : Marking) → IsReadyToStore v → HasBarrier w v m s n → IsReadyToStore s
-ready_after w v m s n ready h = subst IsReadyToStore (sym h.marked) (ready_marked v (w - 1) (not h.fresh) (wants_mark v w) ready)
+ready_after w v m s n ready h = subst IsReadyToStore (sym h.marked) (ready_marked v (w - 1) (not h.fresh) (asks_for_mark v w) ready)
 
 bodies_marked : (v : SeatView) (a : ℕ) (was wanted : Bool) → (cond wanted (marked_at v a was) v).bodies ≡ v.bodies
 bodies_marked v a was false = refl
 bodies_marked v a was true = refl
 
 pub bodies_after : (w : ℕ) (v : SeatView) (m : Marking) (s : SeatView) (n : Marking) → HasBarrier w v m s n → s.bodies ≡ v.bodies
-bodies_after w v m s n h = ap (λ (u : SeatView). u.bodies) h.marked ∙ bodies_marked v (w - 1) (not h.fresh) (wants_mark v w)
+bodies_after w v m s n h = ap (λ (u : SeatView). u.bodies) h.marked ∙ bodies_marked v (w - 1) (not h.fresh) (asks_for_mark v w)
 
 count_marked : (v : SeatView) (a : ℕ) (was wanted : Bool) → (cond wanted (marked_at v a was) v).count ≡ v.count
 count_marked v a was false = refl
 count_marked v a was true = refl
 
 pub count_after : (w : ℕ) (v : SeatView) (m : Marking) (s : SeatView) (n : Marking) → HasBarrier w v m s n → s.count ≡ v.count
-count_after w v m s n h = ap (λ (u : SeatView). u.count) h.marked ∙ count_marked v (w - 1) (not h.fresh) (wants_mark v w)
+count_after w v m s n h = ap (λ (u : SeatView). u.count) h.marked ∙ count_marked v (w - 1) (not h.fresh) (asks_for_mark v w)
 
 -- ---- over the view in which the words were written
 
@@ -74,7 +74,7 @@ key_after value v m s n holder word key t h e = record {
   marked =
       e
       ∙ ap (λ (u : SeatView). written u holder word key) h.marked
-      ∙ written_marked v (value - 1) (not h.fresh) (wants_mark v value) holder word key;
+      ∙ written_marked v (value - 1) (not h.fresh) (asks_for_mark v value) holder word key;
   listed = h.listed;
   unlisted = h.unlisted;
   told = h.told;

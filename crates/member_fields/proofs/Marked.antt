@@ -5,13 +5,17 @@ use Rattle.mark_worklist.specs.Refusals.{TellsRefused, refusals_of}
 use Rattle.mark_worklist.specs.declared.marking.Marking.{Marking}
 use Rattle.marker_core.specs.Bodies.{holds}
 use Rattle.page_words.specs.Seat.{SeatView, marked_at}
+<<<<<<< ours
 use Rattle.member_fields.specs.Barrier.{HasBarrier, PushesOrTells, wants_mark}
+=======
+use Rattle.member_fields.specs.Barrier.{HasBarrier, IsPushed, asks_for_mark}
+>>>>>>> theirs
 
 pub fresh_barrier : (v s : SeatView) (m n : Marking) (w a : ℕ) → v.on ≡ true → w ≡ a + 1 → s ≡ marked_at v a false
     → (v.lent ≡ 0 → true ≡ not (holds v.marked a)) → PushesOrTells m n a → TellsRefused (refusals_of m) (refusals_of n) → HasBarrier w v m s n
 fresh_barrier v s m n w a on names view alone listed told =
     let at : a ≡ w - 1 = omega (arith, names) in
-    let wanted : wants_mark v w ≡ true = ap (λ b. b && not (eqb w 0)) on ∙ ap not (ne_eqb w 0 (λ null. omega (arith, null, names))) in
+    let wanted : asks_for_mark v w ≡ true = ap (λ b. b && not (eqb w 0)) on ∙ ap not (ne_eqb w 0 (λ null. omega (arith, null, names))) in
     record {
       fresh = true;
       wanted = λ _. wanted;

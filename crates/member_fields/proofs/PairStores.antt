@@ -12,7 +12,7 @@ use Rattle.marker_core.specs.declared.states.Body.{Body}
 use Rattle.marker_core.specs.Bodies.{IsReference, holds, with_word}
 use Rattle.page_words.specs.Seat.{SeatView, IsView, stored, rewritten, marked_at, with_bodies}
 use Rattle.member_fields.specs.Words.{HasWordOfSomeKind, HasPair, IsWordIn, with_word_in, written, pair_written}
-use Rattle.member_fields.specs.Barrier.{IsReadyToStore, MayKeep, MayKeepNamed, HasBarrier, wants_mark}
+use Rattle.member_fields.specs.Barrier.{IsReadyToStore, MayKeep, MayKeepNamed, HasBarrier, asks_for_mark}
 use Rattle.member_fields.specs.Keys.{TakesKey}
 use Rattle.member_fields.proofs.PairWords.{one_value, key_word, value_word, kinds_of_pairs, pair_kept, reference_kept}
 use Rattle.member_fields.proofs.Writes.{rewritten_word, word_written}
@@ -21,7 +21,7 @@ use Rattle.member_fields.proofs.Barriers.{over_written, ready_marked}
 
 -- ---- a key after its value
 
-seen_marked : (v : SeatView) (value : ℕ) (was wanted : Bool) → wants_mark v value ≡ wanted → v.on ≡ true
+seen_marked : (v : SeatView) (value : ℕ) (was wanted : Bool) → asks_for_mark v value ≡ wanted → v.on ≡ true
     → (value ≡ 0) ⊎ (holds (cond wanted (marked_at v (value - 1) was) v).seen (value - 1) ≡ true)
 seen_marked v value was true is on = inr (pushed_is_held v.seen (value - 1))
 seen_marked v value was false is on = elim (cases_eq value 0) [
@@ -60,8 +60,8 @@ pub takes_key : (value : ℕ) (v : SeatView) (m : Marking) (s : SeatView) (n : M
     → (key ≡ 0) ↔ (value ≡ 0) → TakesKey s holder word key
 takes_key value v m s n holder word key h ready pair own reference kept is both =
     subst (λ (u : SeatView). TakesKey u holder word key) (sym h.marked)
-    (takes_marked v holder word key value (value - 1) (not h.fresh) (wants_mark v value) ready pair own reference kept is both
-    (seen_marked v value (not h.fresh) (wants_mark v value) refl))
+    (takes_marked v holder word key value (value - 1) (not h.fresh) (asks_for_mark v value) ready pair own reference kept is both
+    (seen_marked v value (not h.fresh) (asks_for_mark v value) refl))
 
 -- ---- the parts of the call on pairs
 

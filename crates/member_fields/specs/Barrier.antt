@@ -24,12 +24,12 @@ MayKeepNamed v w = v.on ≡ true → (w ≡ 0) ⊎ (holds v.may (place_named w) 
 -- ---- what the barrier does
 
 -- the reference names an object while marking goes on: so that has to be marked
-abbrev pub wants_mark : SeatView → ℕ → Bool
-wants_mark v w = v.on && not (w == 0)
+abbrev pub asks_for_mark : SeatView → ℕ → Bool
+asks_for_mark v w = v.on && not (w == 0)
 
 -- the object that the reference names is marked where it has to be, which had the mark already or not
 abbrev pub target_marked : SeatView → ℕ → Bool → SeatView
-target_marked v w was = if wants_mark v w then marked_at v (place_named w) was else v
+target_marked v w was = if asks_for_mark v w then marked_at v (place_named w) was else v
 
 -- the place was put on the list, or the push was refused, which is told
 abbrev pub PushesOrTells : Marking → Marking → ℕ → Type 0
@@ -41,8 +41,8 @@ PushesOrTells before after a =
 -- set by this call, and nothing else is; a refused push is told
 pub record HasBarrier (target : ℕ) (old : SeatView) (before : Marking) (new : SeatView) (after : Marking) : Type 0 where
   pub fresh : Bool
-  pub wanted : fresh ≡ true → wants_mark old target ≡ true
-  pub alone : old.lent ≡ 0 → fresh ≡ (wants_mark old target && not (holds old.marked (place_named target)))
+  pub wanted : fresh ≡ true → asks_for_mark old target ≡ true
+  pub alone : old.lent ≡ 0 → fresh ≡ (asks_for_mark old target && not (holds old.marked (place_named target)))
   pub marked : new ≡ target_marked old target (not fresh)
   pub listed : fresh ≡ true → PushesOrTells before after (place_named target)
   pub unlisted : fresh ≡ false → after ≡ before
