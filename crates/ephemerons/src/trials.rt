@@ -170,8 +170,7 @@ fn left(alloc: Global, key: u64, value: u64, strong: u64) -> Option<Counts>
     })
 }
 
-/// How many objects the fixpoint traces, and whether the other one is marked then, where null was
-/// written over a noted pair.
+/// What the fixpoint traces, and whether the other object is marked then, where null is written over.
 fn null_over_a_noted_pair(alloc: Global) -> Option<(u32, bool)> {
     let Trial {
         space,

@@ -5,11 +5,7 @@ use Rattle.mark_worklist.specs.Refusals.{TellsRefused, refusals_of}
 use Rattle.mark_worklist.specs.declared.marking.Marking.{Marking}
 use Rattle.marker_core.specs.Bodies.{holds}
 use Rattle.page_words.specs.Seat.{SeatView, marked_at}
-<<<<<<< ours
-use Rattle.member_fields.specs.Barrier.{HasBarrier, PushesOrTells, wants_mark}
-=======
-use Rattle.member_fields.specs.Barrier.{HasBarrier, IsPushed, asks_for_mark}
->>>>>>> theirs
+use Rattle.member_fields.specs.Barrier.{HasBarrier, PushesOrTells, asks_for_mark}
 
 pub fresh_barrier : (v s : SeatView) (m n : Marking) (w a : ℕ) → v.on ≡ true → w ≡ a + 1 → s ≡ marked_at v a false
     → (v.lent ≡ 0 → true ≡ not (holds v.marked a)) → PushesOrTells m n a → TellsRefused (refusals_of m) (refusals_of n) → HasBarrier w v m s n
