@@ -78,6 +78,7 @@ pub fn write_value(space: &Space, seat: &mut MutatorSeat, holder: u32, word: u32
     requires value { IsReference seat.old.bodies value }
     requires kept { MayKeepNamed seat.old value }
     ensures view { seat.new ≡ stored seat.old (holder + (word + 1)) value }
+    ensures named { IsReference seat.new.bodies value }
 {
     fields_stand_apart();
     seat.bodies_lie_apart();

@@ -1,19 +1,10 @@
-use Rattle.std.proofs.Common.{◌+◌, sym, ◌∙◌, subst}
-use Rattle.marker_core.specs.Bodies.{IsReference}
-use Rattle.page_words.specs.Seat.{SeatView}
+use Rattle.std.proofs.Common.{◌∙◌}
 use Rattle.member_fields.specs.Words.{pair_written}
 use Rattle.member_fields.specs.Barrier.{HasBarrier}
 use Rattle.member_fields.proofs.Barriers.{off_stays, ready_after, bodies_after, count_after, key_after}
-use Rattle.member_fields.proofs.PairStores.{value_written, has_value, value_barrier, pair_takes, pair_addresses}
-use Rattle.member_fields.proofs.PairWords.{stored_reference}
+use Rattle.member_fields.proofs.PairStores.{value_written, value_barrier, pair_takes, pair_addresses}
 use Rattle.member_fields.proofs.pairs.set_pair.Goals as goal
 use Rattle.member_fields.proofs.pairs.set_pair.Goals.{After-write_key}
-
-pub keep-requires-clause-target : goal.keep-requires-clause-target
-keep-requires-clause-target c =
-    subst (λ (v : SeatView). IsReference v.bodies c.args.value) (sym c.write_value.ensures.view)
-    (stored_reference c.args.seat.now c.args.holder (c.args.word + 1) c.args.value c.args.value c.bodies_lie_apart.ensures
-    (has_value c.fields_stand_apart.ensures c.args.seat.now c.args.holder c.args.word c.requires.pair) c.requires.value)
 
 pub write_key-requires-clause-heap : goal.write_key-requires-clause-heap
 write_key-requires-clause-heap c =
