@@ -11,7 +11,7 @@ use Rattle.object_headers.specs.Offsets.{reference_to}
 use Rattle.marker_core.specs.declared.states.Body.{Body}
 use Rattle.marker_core.specs.Bodies.{IsPlace, IsReference, holds}
 use Rattle.page_words.specs.Bodies.{kind_in}
-use Rattle.page_words.specs.Seat.{SeatView, marked_at}
+use Rattle.page_words.specs.Seat.{SeatView, OnlyLooked, marked_at}
 use Rattle.page_space.specs.Space.{SpaceView}
 use Rattle.member_fields.specs.Words.{HasWord, HasPair, with_word_in, written}
 use Rattle.member_fields.specs.Barrier.{IsReadyToStore, MayKeepNamed, HasBarrier, asks_for_mark}
@@ -89,7 +89,7 @@ marked_goes space v told a was true is ready =
 
 still_told : (w : ℕ) (v : SeatView) (m : Marking) (s : SeatView) (n : Marking) → HasBarrier w v m s n → n.on ≡ m.on
 still_told w v m s n h = elim (cases_Bool h.fresh) [
-  | inl fresh ↦ elim (h.listed fresh) [ inl pushed ↦ ap (λ (k : Marking). k.on) pushed | inr refused ↦ ap (λ (k : Marking). k.on) refused ]
+  | inl fresh ↦ elim (h.listed fresh) [ inl pushed ↦ ap (λ (k : Marking). k.on) pushed.1 | inr refused ↦ ap (λ (k : Marking). k.on) refused ]
   | inr stale ↦ ap (λ (k : Marking). k.on) (h.unlisted stale)
 ]
 
@@ -102,3 +102,17 @@ barrier_goes space w v m s n is ready h =
 
 pub reference_is : (v : SeatView) (p w : ℕ) → IsPlace v.bodies p → w ≡ reference_to p → IsReference v.bodies w
 reference_is v p w at e = inr (at.0, at.1, e ∙ ap reference_to (sym at.2))
+
+-- headers were looked at
+pub looked_goes : (space : SpaceView) (v w : SeatView) (told : Bool) → OnlyLooked v w → IsUnderWay space v told → IsUnderWay space w told
+looked_goes space v w told same is = record {
+  heap = ap (λ (x : SeatView). x.count) same ∙ is.heap;
+  on = ap (λ (x : SeatView). x.on) same ∙ is.on;
+  same = is.same;
+  ready = record {
+    no_hand = ap (λ (x : SeatView). x.hand) same ∙ is.ready.no_hand;
+    no_pending = ap (λ (x : SeatView). x.pending) same ∙ is.ready.no_pending;
+  };
+  types = ap (λ (x : SeatView). x.types) same ∙ is.types;
+  bodies = subst (λ (x : SeatView). (b : Body) → Contains x.bodies b → (b.ty ≡ 0) × (b.size ≡ 5) × (holds x.may b.place ≡ true)) (sym same) is.bodies;
+}

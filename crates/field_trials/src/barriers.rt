@@ -95,7 +95,8 @@ fn pair(
 fn is_marked(space: &Space, seat: &mut MutatorSeat, place: u32) -> bool
     requires goes { IsUnderWay space.now seat.old true }
     requires place { IsPlace seat.old.bodies place }
-    ensures view { seat.new ≡ seat.old }
+    ensures goes { IsUnderWay space.now seat.new true }
+    ensures places { (p : ℕ) → IsPlace seat.old.bodies p → IsPlace seat.new.bodies p }
 {
     space.header_at(seat, place).mark
 }
@@ -116,10 +117,11 @@ fn told(alloc: Global) -> Result<Option<([usize; 4], [bool; 3])>, NoMemory> {
         return Ok(None);
     };
     begin(&space, &mut seat, 4);
+    let (list, _) = Worklist::new(alloc, 0)?;
     let mut marking = Marking {
         on: true,
         overflow: false,
-        list: Worklist::new(alloc),
+        list,
     };
     write(&space, &mut seat, &mut marking, a, reference_to(b));
     let first = marking.list.len();

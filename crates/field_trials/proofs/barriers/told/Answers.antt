@@ -1,6 +1,3 @@
-use Rattle.std.proofs.Common.{◌∙◌, sym, subst}
-use Rattle.marker_core.specs.Bodies.{IsPlace}
-use Rattle.page_words.specs.Seat.{SeatView}
 use Rattle.field_trials.proofs.UnderWay.{reference_is}
 use Rattle.field_trials.proofs.barriers.told.Goals as goal
 
@@ -42,8 +39,8 @@ is_marked-requires-clause-place c =
 
 pub is_marked-requires-2-clause-place : goal.is_marked-requires-2-clause-place
 is_marked-requires-2-clause-place c =
-    subst (λ (v : SeatView). IsPlace v.bodies c.in-Some-make.b) (sym c.is_marked.ensures.view) (c.pair.ensures.places c.in-Some-make.b (c.write-3.ensures.places c.in-Some-make.b (c.write-2.ensures.places c.in-Some-make.b (c.write.ensures.places c.in-Some-make.b (c.begin.ensures.places c.in-Some-make.b (c.make-3.ensures.kept c.in-Some-make.b c.in-Some-make.ensures.made))))))
+    c.is_marked.ensures.places c.in-Some-make.b (c.pair.ensures.places c.in-Some-make.b (c.write-3.ensures.places c.in-Some-make.b (c.write-2.ensures.places c.in-Some-make.b (c.write.ensures.places c.in-Some-make.b (c.begin.ensures.places c.in-Some-make.b (c.make-3.ensures.kept c.in-Some-make.b c.in-Some-make.ensures.made))))))
 
 pub is_marked-requires-3-clause-place : goal.is_marked-requires-3-clause-place
 is_marked-requires-3-clause-place c =
-    subst (λ (v : SeatView). IsPlace v.bodies c.in-Some-make-2.c) (sym (c.is_marked-2.ensures.view ∙ c.is_marked.ensures.view)) (c.pair.ensures.places c.in-Some-make-2.c (c.write-3.ensures.places c.in-Some-make-2.c (c.write-2.ensures.places c.in-Some-make-2.c (c.write.ensures.places c.in-Some-make-2.c (c.begin.ensures.places c.in-Some-make-2.c c.in-Some-make-2.ensures.made)))))
+    c.is_marked-2.ensures.places c.in-Some-make-2.c (c.is_marked.ensures.places c.in-Some-make-2.c (c.pair.ensures.places c.in-Some-make-2.c (c.write-3.ensures.places c.in-Some-make-2.c (c.write-2.ensures.places c.in-Some-make-2.c (c.write.ensures.places c.in-Some-make-2.c (c.begin.ensures.places c.in-Some-make-2.c c.in-Some-make-2.ensures.made))))))
