@@ -1,15 +1,14 @@
 -- What is true of every view while marking goes on: references name objects, and what traced objects name is marked.
-use Rattle.std.proofs.Common.{◌≡◌, ℕ, zero, suc, ◌+◌, ◌-◌, ◌≤◌, true, List, [], ◌∷◌, length, eqb, refl, sym, ap, ◌∙◌, subst, inl, inr, arith}
+use Rattle.std.proofs.Common.{◌≡◌, ℕ, ◌+◌, ◌-◌, ◌≤◌, true, List, length, eqb, sym, ap, subst, inl, inr, arith}
 use Rattle.std.specs.List.{Contains}
 use Rattle.std.proofs.lemmas.Bool.{or_cases, eqb-true, cases_eq}
-use Rattle.gc_graph.specs.declared.kind.Kind.{Kind}
-use Rattle.gc_graph.specs.declared.kind.Kind.TheVariants.{Strong, Weak, Pair, Plain}
+use Rattle.gc_graph.specs.declared.kind.Kind.TheVariants.{Strong, Pair}
 use Rattle.gc_graph.specs.Fields.{field_words}
 use Rattle.gc_graph.specs.State.{ObjectType}
 use Rattle.type_table.specs.Types.{kinds_of as kinds_in}
 use Rattle.marker_core.specs.declared.states.Body.{Body}
-use Rattle.marker_core.specs.declared.states.Role.TheVariants.{KeyWord, ValueWord}
-use Rattle.marker_core.specs.Bodies.{IsReference, holds, names_body, is_place, refers, role_at, role_in, kinds_of, word_count, word_in}
+use Rattle.marker_core.specs.declared.states.Role.TheVariants.{ValueWord}
+use Rattle.marker_core.specs.Bodies.{IsReference, holds, names_body, is_place, refers, role_in, kinds_of, word_count, word_in}
 use Rattle.marker_core.specs.RoleOrder.{value_after_key}
 use Rattle.page_words.specs.BodyPlaces.{known_type, whole_body}
 use Rattle.page_words.specs.PlaceTests.{place_of_test}

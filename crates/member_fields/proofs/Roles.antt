@@ -1,7 +1,7 @@
 -- What the step machine takes the words of each kind for.
-use Rattle.std.proofs.Common.{◌≡◌, ℕ, zero, suc, ◌+◌, false, List, [], ◌∷◌, refl, sym, ap, ◌∙◌, arith}
+use Rattle.std.proofs.Common.{◌≡◌, ℕ, ◌+◌, false, List, refl, sym, ap, ◌∙◌, arith}
 use Rattle.gc_graph.specs.declared.kind.Kind.{Kind}
-use Rattle.gc_graph.specs.declared.kind.Kind.TheVariants.{Strong, Weak, Pair, Plain}
+use Rattle.gc_graph.specs.declared.kind.Kind.TheVariants.{Strong, Pair}
 use Rattle.type_table.specs.Types.{kinds_of, is_kind}
 use Rattle.type_table.specs.KindLaws.{same_kind}
 use Rattle.type_table.specs.FieldLaw.{FieldsStandApart, BeginsAt}

@@ -1,6 +1,6 @@
 -- A word stays one where headers were looked at. Lemmas that the crates above cite too, since a crate's proofs/ can't be cited
 -- from another.
-use Rattle.std.proofs.Common.{◌≡◌, ℕ, ◌-◌, Bool, true, ap, ◌∙◌, sym, subst}
+use Rattle.std.proofs.Common.{ℕ, ◌-◌, Bool, ap, ◌∙◌, sym, subst}
 use Rattle.std.specs.List.{Contains}
 use Rattle.gc_graph.specs.declared.kind.Kind.{Kind}
 use Rattle.page_words.specs.Bodies.{IsKeyWord, kind_in}

@@ -21,8 +21,8 @@ pub fn read_pair(space: &Space, seat: &mut MutatorSeat, holder: u32, word: u32) 
     ensures value { IsWordIn seat.old holder (word + 1) result.1 }
     ensures view { seat.new ≡ seat.old }
 {
+    fields_stand_apart();
     seat.bodies_lie_apart();
-    seat.values_come_before_keys();
     let key = words::read(space, seat, holder, word);
     let value = words::read(space, seat, holder, word + 1);
     (key, value)

@@ -2,10 +2,7 @@ pub mod Elements
 pub mod Allowed
 pub mod Bits
 pub mod Steps
-pub mod Stores
 pub mod ViewFacts
-pub mod Pairs
-pub mod WordKinds
 pub mod StopWord
 pub mod NewWords
 pub mod Found

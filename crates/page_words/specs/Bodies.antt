@@ -1,5 +1,5 @@
--- What the words of an object are, by its type, and what may be stored in them.
-use Rattle.std.specs.Prelude.{◌≡◌, ◌⊎◌, ◌↔◌, ℕ, ◌+◌, ◌-◌, ◌<◌, ◌≤◌, Bool, false, not, List, slice_index, slice_index_or, Contains}
+-- What the words of an object are, by its type.
+use Rattle.std.specs.Prelude.{◌≡◌, ℕ, ◌+◌, ◌-◌, ◌<◌, ◌≤◌, Bool, false, not, List, slice_index_or, Contains}
 use Rattle.gc_graph.specs.declared.kind.Kind.{Kind}
 use Rattle.gc_graph.specs.declared.kind.Kind.TheVariants.{Pair, Plain}
 use Rattle.gc_graph.specs.State.{ObjectType}
@@ -8,7 +8,7 @@ use Rattle.object_headers.specs.Offsets.{first_field}
 use Rattle.type_table.specs.Types.{kinds_of, offsets_of_kind}
 use Rattle.type_table.specs.Layouts.{kinds_of_words}
 use Rattle.marker_core.specs.declared.states.Body.{Body}
-use Rattle.marker_core.specs.Bodies.{end_of, fields_at, IsReference}
+use Rattle.marker_core.specs.Bodies.{end_of, fields_at}
 
 -- the kind of the field to which the body's field word with the number i belongs; what comes after the declared fields is plain
 abbrev pub kind_in : List ObjectType → Body → ℕ → Kind
@@ -26,14 +26,3 @@ IsPlainWord types bodies a =
 -- the body's field word with the number i is the key of a pair; the pair's value is in the word after it
 abbrev pub IsKeyWord : List ObjectType → Body → ℕ → Type 0
 IsKeyWord types b i = Contains (offsets_of_kind Pair (kinds_of types b.ty)) (i + first_field)
-
--- where the word at a is the key of a pair, w is null exactly where the pair's value is: so the value is stored first
-abbrev pub SuitsItsPair : List ObjectType → List Body → ℕ → ℕ → Type 0
-SuitsItsPair types bodies a w =
-    (b : Body) → Contains bodies b → fields_at b ≤ a → a < end_of b → IsKeyWord types b (a - fields_at b)
-    → (w ≡ 0) ↔ (slice_index b.fields (a - fields_at b + 1) ≡ 0)
-
--- w may be stored at a: a plain word takes any number, and any other a reference; a pair is whole once its key is stored
-pub record MayHold (types : List ObjectType) (bodies : List Body) (a w : ℕ) : Type 0 where
-  pub kind : IsPlainWord types bodies a ⊎ IsReference bodies w
-  pub pair : SuitsItsPair types bodies a w

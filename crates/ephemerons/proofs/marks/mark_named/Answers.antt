@@ -1,4 +1,3 @@
-use Rattle.std.proofs.Common.{sym, ◌∙◌}
 use Rattle.ephemerons.proofs.MarkSteps.{may_place, may_small}
 use Rattle.ephemerons.proofs.marks.mark_named.Goals as goal
 

@@ -3,12 +3,12 @@ use Rattle.gc_graph.specs.declared.kind.Kind.TheVariants.{Pair}
 use Rattle.type_table.specs.Types.{is_kind}
 use Rattle.page_words.specs.Seat.{SeatView}
 use Rattle.member_fields.specs.Words.{HasWordOfSomeKind}
-use Rattle.member_fields.proofs.PairWords.{key_word, value_word, next_fits}
+use Rattle.member_fields.proofs.PairWords.{key_word, value_word, kinds_of_pairs, next_fits}
 use Rattle.member_fields.proofs.pairs.read_pair.Goals as goal
 
 pub read-key-requires-clause-field : goal.read-key-requires-clause-field
 read-key-requires-clause-field c =
-    (is_kind Pair, key_word c.args.seat.now c.args.holder c.args.word c.values_come_before_keys.ensures.kind c.requires.pair)
+    (is_kind Pair, key_word c.args.seat.now c.args.holder c.args.word (kinds_of_pairs c.fields_stand_apart.ensures c.args.seat.now) c.requires.pair)
 
 pub overflow_add-word : goal.overflow_add-word
 overflow_add-word c = next_fits c.args.seat.now c.args.holder c.args.word c.bodies_lie_apart.ensures c.requires.pair
@@ -16,4 +16,4 @@ overflow_add-word c = next_fits c.args.seat.now c.args.holder c.args.word c.bodi
 pub read-value-requires-clause-field : goal.read-value-requires-clause-field
 read-value-requires-clause-field c =
     subst (λ (v : SeatView). HasWordOfSomeKind v c.args.holder (c.args.word + 1)) (sym c.read-key.ensures.view)
-    (is_kind Pair, value_word c.args.seat.now c.args.holder c.args.word c.values_come_before_keys.ensures.kind c.requires.pair)
+    (is_kind Pair, value_word c.args.seat.now c.args.holder c.args.word (kinds_of_pairs c.fields_stand_apart.ensures c.args.seat.now) c.requires.pair)

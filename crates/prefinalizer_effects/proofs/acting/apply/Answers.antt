@@ -1,4 +1,4 @@
-use Rattle.std.proofs.Common.{◌≡◌, ap, sym, ◌∙◌, subst}
+use Rattle.std.proofs.Common.{ap, sym, ◌∙◌, subst}
 use Rattle.page_words.specs.Seat.{SeatView, OnlyLooked}
 use Rattle.prefinalizer_effects.specs.Acting.{AreTyped, AreLinked, cleared_at, added_at, changed_at}
 use Rattle.prefinalizer_effects.proofs.BodiesKept.{clearing_keeps, adding_keeps, typed_kept, links_kept}

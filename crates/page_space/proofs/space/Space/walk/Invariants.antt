@@ -1,4 +1,4 @@
-use Rattle.std.proofs.Common.{◌≡◌, ℕ, ◌+◌, ◌-◌, ◌*◌, ◌<◌, ◌≤◌}
+use Rattle.std.proofs.Common.{ℕ, ◌+◌, ◌-◌, ◌*◌, ◌<◌, ◌≤◌}
 use Rattle.page_words.specs.Seat.{OnlyLooked}
 use Rattle.page_space.specs.Space.{extents_of_bodies}
 use Rattle.gap_bounds.specs.Gaps.{IsGap}

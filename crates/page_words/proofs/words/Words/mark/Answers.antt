@@ -1,7 +1,7 @@
-use Rattle.std.proofs.Common.{◌≡◌, ℕ, true, get_or, sym, subst, set}
+use Rattle.std.proofs.Common.{◌≡◌, ℕ, true, sym, subst, set}
 use Rattle.marker_core.specs.Layout.{has_mark}
 use Rattle.marker_core.specs.SeatSteps.{seat_can_mark}
-use Rattle.page_words.specs.Seat.{SeatView, IsWordAt, side, marked_at}
+use Rattle.page_words.specs.Seat.{SeatView, side, marked_at}
 use Rattle.page_words.specs.Heaps.{IsHeap}
 use Rattle.page_words.proofs.Allowed.{mark_allowed}
 use Rattle.page_words.proofs.Found.{word_found, told_by_view}
