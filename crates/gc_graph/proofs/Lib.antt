@@ -53,6 +53,7 @@ mod ReportsReadBack
 mod SmallWords
 mod Few
 mod StepNumbers
+mod CycleLaws
 mod CycleNumbers
 mod ThreadNumbers
 mod RunNumbers

@@ -60,6 +60,18 @@ same_sets s t e into back =
       | inr fewer ↦ elim (same_or_fewer t s (sym e) back) [ inl same ↦ sym same | inr more ↦ absurd (omega arith) ]
     ]
 
+-- what a pause has to keep is the least closed set that holds the roots and the hits
+pub least_law : (setup : Setup) (s : State) (want : Want) → IsValid setup s → s.phase ≡ Marking
+    → IsLeastClosed (graph_of s.nodes) (roots_of s ++ hits_for want s) (Reach (graph_of s.nodes) (roots_of s ++ hits_for want s))
+least_law setup s want valid on =
+    let may : IsMay s = may_of s.phase s on valid.may_kept in
+    let g : List Object = graph_of s.nodes in
+    let long : length g ≡ length s.nodes = length-map s.nodes (λ (x : Node). x.object) in
+    reach_law g (roots_of s ++ hits_for want s) (refers_within setup s.nodes valid.typed)
+    (λ k. either_list (roots_of s) (hits_for want s) k (k < length g)
+    (λ i. (let l = in_below s.may k (may.roots k i) in let w = may.whole in omega arith))
+    (λ i. (let l = hits_below want s k i in omega arith)))
+
 pub bounds_meet : (setup : Setup) (s : State) (want : Want) → IsValid setup s → s.phase ≡ Marking → BoundsMeet s want
 bounds_meet setup s want valid on =
     let may : IsMay s = may_of s.phase s on valid.may_kept in
@@ -69,10 +81,9 @@ bounds_meet setup s want valid on =
     let refers : RefersWithin g = refers_within setup s.nodes valid.typed in
     let in_may : (k : ℕ) → IsIn s.may k → k < length g = λ k i. (let l = in_below s.may k i in let w = may.whole in omega arith) in
     let hit : (k : ℕ) → list_any (λ r. r == k) hits ≡ true → k < length g = λ k i. (let l = hits_below want s k i in omega arith) in
-    let below : AreNodes g (roots_of s ++ hits) = λ k. either_list (roots_of s) hits k (k < length g) (λ i. in_may k (may.roots k i)) (hit k) in
     let above : AreNodes g (members s.may ++ hits) =
     λ k. either_list (members s.may) hits k (k < length g) (λ i. in_may k (found (IsIn s.may) (members s.may) (members_in s.may) k i)) (hit k) in
-    let lower : IsLeastClosed g (roots_of s ++ hits) (Reach g (roots_of s ++ hits)) = reach_law g (roots_of s ++ hits) refers below in
+    let lower : IsLeastClosed g (roots_of s ++ hits) (Reach g (roots_of s ++ hits)) = least_law setup s want valid on in
     let upper : IsLeastClosed g (members s.may ++ hits) (Reach g (members s.may ++ hits)) = reach_law g (members s.may ++ hits) refers above in
     record {
       may = may;

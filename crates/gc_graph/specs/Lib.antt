@@ -30,6 +30,7 @@ pub mod ValidLaw
 pub mod ActionLaw
 pub mod MayLaw
 pub mod CollectionLaw
+pub mod CycleLaw
 pub mod RefusalLaw
 pub mod PlacementLaw
 pub mod SweepLaw

@@ -11,8 +11,8 @@
 //! `Graph` and `reach_check`, by which a program checks a set of nodes; `laws`. The definitions
 //! stand in `specs/`, to be read in the order of `specs/Lib.antt`.
 //!
-//! What is proved: the laws of `reach`, `laws`, `laws_of_lives`, `laws_of_marking`,
-//! `laws_of_reports` and `laws_of_sweeping`, each the contract of a function that does nothing, and
+//! What is proved: the laws of `reach`, `laws`, `laws_of_cycles`, `laws_of_lives`,
+//! `laws_of_marking`, `laws_of_reports` and `laws_of_sweeping`, each the contract of a function that does nothing, and
 //! that `reach_check` is true exactly where a set holds the roots and is closed. The laws of steps
 //! and runs ask for a heap that has a page.
 //!
@@ -26,6 +26,7 @@ mod command;
 mod graphs;
 mod kind;
 mod laws;
+mod laws_of_cycles;
 mod laws_of_lives;
 mod laws_of_marking;
 mod laws_of_reports;
@@ -47,6 +48,10 @@ pub use laws::{
     memory_leaves_all, pages_have_one_bucket, pause_bounds_meet, placement_is_free,
     refused_leaves_all, replies_are_of_one_thread, report_reads_back, runs_are_replayed,
     scripts_are_in_ranges, step_keeps_valid, sweeps_finalise_dead, texts_are_judged,
+};
+pub use laws_of_cycles::{
+    cycles_go_in_order, hits_are_kept, last_registered_runs_first, live_holders_are_cleared,
+    pauses_count_once, steps_tell_what_is_left,
 };
 pub use laws_of_lives::lives_end_once;
 pub use laws_of_marking::{kept_is_accounted_for, precise_collection_is_exact};
