@@ -9,7 +9,7 @@ use Rattle.std.proofs.lemmas.List.Elements.{Contains-append_left, Contains-push,
 use Rattle.gc_graph.specs.State.{ObjectType}
 use Rattle.mark_worklist.specs.Lists.{no_items, IsOneMore}
 use Rattle.mark_worklist.specs.OneMore.{at_the_end, one_longer, is_there, still_there, was_there}
-use Rattle.mark_worklist.specs.Refusals.{Refusals, TellsRefused, refusals_of}
+use Rattle.mark_worklist.specs.Refusals.{Refusals, PushesOrTells, TellsRefused, refusals_of}
 use Rattle.mark_worklist.specs.declared.marking.Marking.{Marking}
 use Rattle.marker_core.specs.Bodies.{IsPlace}
 use Rattle.page_words.specs.Seat.{SeatView}
@@ -48,6 +48,37 @@ held_back m a = record {
   there = λ fine. Contains-push m.list.items a;
   length = omega (arith, length_push m.list.items a);
 }
+
+-- a push lists the place, or is refused
+listed_by_push : (m n : Marking) (a : ℕ) → PushesOrTells m n a → TellsRefused (refusals_of m) (refusals_of n) → IsListed m n a
+listed_by_push m n a pushed told = elim pushed [
+  | inl done ↦ record {
+    on = ap (λ (x : Marking). x.on) done.1;
+    overflow = λ fine. sym (ap (λ (x : Marking). x.overflow) done.1) ∙ fine;
+    told = told;
+    kept = still_there m.list.items n.list.items a done.0.items;
+    listed = was_there m.list.items n.list.items a done.0.items;
+    there = λ fine. is_there m.list.items n.list.items a done.0.items;
+    length = omega (arith, one_longer m.list.items n.list.items a done.0.items);
+  }
+  | inr refused ↦
+      let same : n.list.items ≡ m.list.items = ap (λ (x : Marking). x.list.items) refused in
+      let raised : n.overflow ≡ true = ap (λ (x : Marking). x.overflow) refused in
+      record {
+        on = ap (λ (x : Marking). x.on) refused;
+        overflow = λ fine. absurd (true≢false (sym raised ∙ fine));
+        told = told;
+        kept = λ p h. subst (λ items. Contains items p) (sym same) h;
+        listed = λ p h. inl (subst (λ items. Contains items p) same h);
+        there = λ fine. absurd (true≢false (sym raised ∙ fine));
+        length = omega (arith, ap length same);
+      }
+]
+
+-- what was held back is listed by its push
+pub held_listed : (m n : Marking) (held : Option ℕ) (a : ℕ) → held ≡ Some a → PushesOrTells m n a → TellsRefused (refusals_of m) (refusals_of n)
+    → MatchOption held (n ≡ m) (IsListed m n)
+held_listed m n held a is pushed told = subst (λ h. MatchOption h (n ≡ m) (IsListed m n)) (sym is) (listed_by_push m n a pushed told)
 
 -- an object was marked, or none, and what was held back is listed
 pub fresh_listed : (v w : SeatView) (m n : Marking) (fresh : Option ℕ) → ((k : Marking) → ListsMarks v k w (with_held fresh k))

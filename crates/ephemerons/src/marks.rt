@@ -117,15 +117,6 @@ pub fn mark(words: &Words, seat: &mut MutatorSeat, marking: &mut Marking, place:
     fresh.is_some()
 }
 
-/// Lists a place, or raises `overflow` where the push is refused.
-fn list(marking: &mut Marking, place: u32)
-    ensures { IsListed marking.old marking.new place }
-{
-    if let Err(_) = marking.list.push(place) {
-        marking.overflow = true;
-    }
-}
-
 /// Marks what a field word names. Its place where it was not marked: the caller lists or traces it.
 pub(crate) fn mark_named(words: &Words, seat: &mut MutatorSeat, reference: u64) -> Option<u32>
     requires heap { seat.old.count ≡ words.now }
@@ -194,7 +185,7 @@ pub(crate) fn list_held(marking: &mut Marking, held: Option<u32>)
         (IsListed marking.old marking.new) }
 {
     if let Some(place) = held {
-        list(marking, place);
+        marking.push(place);
     }
 }
 

@@ -11,7 +11,8 @@
 //! What is proved: a push puts its address on the list, or hands it back, counts that, and leaves the
 //! list as it was; a pop takes one of the addresses and leaves the others, and answers that there is
 //! none exactly where the list is empty; the list is idle exactly where the last pop found nothing
-//! and nothing was pushed since; its length is how many addresses it has.
+//! and nothing was pushed since; its length is how many addresses it has. A push that is refused
+//! while marking goes on is told.
 //!
 //! What is only tested or not said: that memory suffices for a push; which address a pop takes.
 #![tactic(auto)]

@@ -1,11 +1,11 @@
 -- The mark that a barrier sets.
 use Rattle.std.proofs.Common.{◌≡◌, ℕ, ◌+◌, ◌-◌, true, false, not, cond, ◌&&◌, eqb, sym, ap, ◌∙◌, subst, true≢false, arith}
 use Rattle.std.proofs.lemmas.Bool.{ne_eqb}
-use Rattle.mark_worklist.specs.Refusals.{TellsRefused, refusals_of}
+use Rattle.mark_worklist.specs.Refusals.{PushesOrTells, TellsRefused, refusals_of}
 use Rattle.mark_worklist.specs.declared.marking.Marking.{Marking}
 use Rattle.marker_core.specs.Bodies.{holds}
 use Rattle.page_words.specs.Seat.{SeatView, marked_at}
-use Rattle.member_fields.specs.Barrier.{HasBarrier, PushesOrTells, asks_for_mark}
+use Rattle.member_fields.specs.Barrier.{HasBarrier, asks_for_mark}
 
 pub fresh_barrier : (v s : SeatView) (m n : Marking) (w a : ℕ) → v.on ≡ true → w ≡ a + 1 → s ≡ marked_at v a false
     → (v.lent ≡ 0 → true ≡ not (holds v.marked a)) → PushesOrTells m n a → TellsRefused (refusals_of m) (refusals_of n) → HasBarrier w v m s n

@@ -1,7 +1,6 @@
 -- What is asked of the view for a store while marking may go on, and what the barrier of a store does.
 use Rattle.std.specs.Prelude.{◌≡◌, ◌⊎◌, ℕ, ◌==◌, ◌&&◌, not, Bool, true, false, None, if◌then◌else◌}
-use Rattle.mark_worklist.specs.Lists.{IsPushed, refused_once}
-use Rattle.mark_worklist.specs.Refusals.{TellsRefused, refusals_of}
+use Rattle.mark_worklist.specs.Refusals.{PushesOrTells, TellsRefused, refusals_of}
 use Rattle.mark_worklist.specs.declared.marking.Marking.{Marking}
 use Rattle.marker_core.specs.Bodies.{holds, place_named}
 use Rattle.page_words.specs.Seat.{SeatView, marked_at}
@@ -30,12 +29,6 @@ asks_for_mark v w = v.on && not (w == 0)
 -- the object that the reference names is marked where it has to be, which had the mark already or not
 abbrev pub target_marked : SeatView → ℕ → Bool → SeatView
 target_marked v w was = if asks_for_mark v w then marked_at v (place_named w) was else v
-
--- the place was put on the list, or the push was refused, which is told
-abbrev pub PushesOrTells : Marking → Marking → ℕ → Type 0
-PushesOrTells before after a =
-    (IsPushed before.list a after.list × (after ≡ record before { list = after.list }))
-    ⊎ (after ≡ record before { overflow = true; list = refused_once before.list })
 
 -- after a store, what the word names is marked where it has to be, and no other object; it is pushed where the mark is fresh,
 -- set by this call, and nothing else is; a refused push is told

@@ -2,9 +2,8 @@
 // field or a pair's value comes to name is marked.
 
 ghost use Rattle.std.specs.Prelude.{◌≡◌};
-ghost use Rattle.mark_worklist.specs.Refusals.{TellsRefused, refusals_of};
 ghost use Rattle.marker_core.specs.Bodies.{IsReference};
-ghost use Rattle.member_fields.specs.Barrier.{MayKeepNamed, HasBarrier, PushesOrTells};
+ghost use Rattle.member_fields.specs.Barrier.{MayKeepNamed, HasBarrier};
 
 use mark_worklist::Marking;
 use object_headers::place_in;
@@ -25,17 +24,7 @@ pub fn keep(words: &Words, seat: &mut MutatorSeat, marking: &mut Marking, target
     }
     if let Some(place) = place_in(target) {
         if words.mark(seat, place) {
-            list(marking, place);
+            marking.push(place);
         }
-    }
-}
-
-/// Lists a place, or raises `overflow` where the push is refused.
-fn list(marking: &mut Marking, place: u32)
-    ensures listed { PushesOrTells marking.old marking.new place }
-    ensures told { TellsRefused (refusals_of marking.old) (refusals_of marking.new) }
-{
-    if marking.list.push(place).is_err() {
-        marking.overflow = true;
     }
 }
