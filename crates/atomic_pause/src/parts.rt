@@ -31,7 +31,7 @@ pub struct Parts<'a> {
     pub seat: &'a mut MutatorSeat,
     pub nodes: &'a mut GhostValue<NodeLists>,
     pub marking: &'a mut Marking,
-    pub notes: &'a mut [Pairs],
+    pub notes: &'a mut [Pairs; 1],
     pub weak: &'a mut Slots,
     pub registry: &'a mut Registry,
     pub space: &'a Space,

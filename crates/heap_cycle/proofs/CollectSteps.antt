@@ -35,7 +35,9 @@ use Rattle.heap_objects.specs.Objects.{ObjectsView, setup_of_objects, StaysAt}
 use Rattle.heap_handles.specs.Handles.{HandlesView}
 use Rattle.heap_cycle.specs.Views.{CycleView, IsPlaced, IsSweepOf, IsAtRest}
 use Rattle.heap_objects.specs.Finalising.{HasMarks}
+use Rattle.heap_objects.specs.Refused.{IsToldTruly}
 use Rattle.heap_cycle.specs.Parts.{setup_of, state_of, counted, IsReady, IsFrame}
+use Rattle.heap_cycle.specs.Walks.{IsWalkTold}
 use Rattle.nodes_in_words.specs.Nodes.{place_of}
 use Rattle.nodes_in_words.specs.WeakNodes.{life-after, place-after, length-after, live-after, dead-after, count-stays}
 use Rattle.nodes_in_words.specs.KeptNodes.{refers_within}
@@ -219,6 +221,7 @@ pub record Collects (want : Want) (s mid : Parts) (new : ObjectsView) (left : Ha
   pub sweep : after.sweep ≡ record mid.cycle.sweep { cursor = 0 }
   pub rest : after.rest ≡ collected_from (state_of mid)
   pub ordinal : mid.cycle.rest.ordinal ≡ s.cycle.rest.ordinal
+  pub refused : mid.objects.refused ≡ s.objects.refused
 
 module _ (want : Want) (s mid : Parts) (new : ObjectsView) (left : HandlesView) (after : CycleView) (numbers : List ℕ)
     (is : Collects want s mid new left after numbers) where
@@ -292,8 +295,9 @@ module _ (want : Want) (s mid : Parts) (new : ObjectsView) (left : HandlesView) 
       (All-filter (λ e. not (dies judged_nodes (registration_of e))) (IsPlaced new.nodes (length new.callbacks)) mid.cycle.registered
       (placed_still mid.objects new mid.cycle.registered places (ap (λ (st : Setup). st.callbacks) is.same_setup) is.ready.tied.registered))
 
-  pub collection_frame : IsFrame s (counted collected)
-  collection_frame =
+  pub collection_frame : (alive dead traced : ℕ) (walked : Bool) (told : Line) → told ≡ L.Pause alive dead 0 traced walked → IsToldTruly mid.objects.refused new.refused walked
+      → IsFrame s (counted collected) told
+  collection_frame alive dead traced walked told told_is truly =
       let h : HandlesView = mid.handles in
       let ordinal : after.rest.ordinal ≡ s.cycle.rest.ordinal = ap (λ (st : State). st.ordinal) is.rest ∙ is.ordinal in
       record {
@@ -313,6 +317,7 @@ module _ (want : Want) (s mid : Parts) (new : ObjectsView) (left : HandlesView) 
           marks = began_marks new after mid.cycle.sweep is.phase is.sweep is.judged_marks;
           made = omega (arith, is.ready.tied.made, ordinal, is.ordinal, is.paused.stayed.count, length-after kept old_nodes);
         };
+        refused = subst (IsWalkTold s.objects.refused new.refused) (sym told_is) (subst (λ old. IsToldTruly old new.refused walked) is.refused truly);
       }
 
 -- ---- a collection that refuses the stack

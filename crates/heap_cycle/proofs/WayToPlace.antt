@@ -41,6 +41,7 @@ left_out s new after count pages before told is = record {
   ran = is.ran;
   rest = is.rest;
   marks = is.marks;
+  refused = is.refused;
 }
 
 -- ---- before a page is swept

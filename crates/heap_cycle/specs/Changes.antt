@@ -33,6 +33,7 @@ pub record SweepsParts (o new : ObjectsView) (c after : CycleView) (pages : ℕ)
   pub ran : after.ran ≡ c.ran
   pub rest : after.rest ≡ swept_to pages (length nodes.numbers) c.rest
   pub marks : HasMarks after.phase (pages * o.shape.page_words) new.seat
+  pub refused : new.refused ≡ o.refused
 
 -- a collection was started from this state, and its pause is over
 abbrev pub collected_from : State → State

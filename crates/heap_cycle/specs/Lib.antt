@@ -2,6 +2,7 @@ pub mod Finalising
 pub mod Entries
 pub mod Printed
 pub mod Views
+pub mod Walks
 pub mod Parts
 pub mod Changes
 pub mod Registrations

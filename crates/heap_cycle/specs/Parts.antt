@@ -1,5 +1,6 @@
 -- The parts of a heap together: the state that they are, and what is true of them between commands.
 use Rattle.std.specs.Prelude.{◌≡◌, ℕ, ◌+◌, ◌-◌, ◌*◌, ◌≤◌, ◌++◌, length, map, take, All}
+use Rattle.gc_graph.specs.declared.line.Line.{Line}
 use Rattle.gc_graph.specs.State.{Setup, State, type_at}
 use Rattle.gc_graph.specs.Valid.{IsValid}
 use Rattle.gc_graph.specs.Outcomes.{answered}
@@ -10,6 +11,7 @@ use Rattle.heap_cycle.specs.declared.parts.Parts.{Parts}
 use Rattle.heap_objects.specs.Objects.{HaveCallbacks, setup_of_objects}
 use Rattle.heap_handles.specs.Stack.{HoldsWords}
 use Rattle.heap_cycle.specs.Views.{IsSweepOf, IsPlaced}
+use Rattle.heap_cycle.specs.Walks.{IsWalkTold}
 use Rattle.heap_objects.specs.Finalising.{HasMarks}
 
 -- what was set up
@@ -66,8 +68,9 @@ pub record IsReady (s : Parts) : Type 0 where
   pub tied : AreTied s
   pub most : s.cycle.rest.ordinal ≤ 1000000
 
--- what a command leaves as it was, from the old parts to the new ones, which belong together
-pub record IsFrame (old new : Parts) : Type 0 where
+-- what a command that answers this line leaves as it was, from the old parts to the new ones, which belong together
+pub record IsFrame (old new : Parts) (line : Line) : Type 0 where
   pub setup : setup_of new ≡ setup_of old
   pub ordinal : new.cycle.rest.ordinal ≡ old.cycle.rest.ordinal + 1
   pub tied : AreTied new
+  pub refused : IsWalkTold old.objects.refused new.objects.refused line

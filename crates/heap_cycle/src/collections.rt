@@ -32,7 +32,7 @@ pub fn collect(
     requires room { word_count parts.old.objects.shape ≤ 2 * outcome.old.room }
     ensures step { StepGcNow (setup_of parts.old) want (state_of parts.old) outcome.new.piece
         (lines_with outcome.new parts.new.cycle.ran result) (answered (state_of parts.new)) }
-    ensures frame { IsFrame parts.old (counted parts.new) }
+    ensures frame { IsFrame parts.old (counted parts.new) result }
     ensures ran { TellsThoseThatRan outcome.new parts.new.cycle.ran }
     ensures room { outcome.new.room ≡ outcome.old.room }
     ensures history { outcome.new.history ≡ outcome.old.history }

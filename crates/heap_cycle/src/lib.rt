@@ -12,7 +12,8 @@
 //! What is proved: the state of the graph is put together from what each part holds of it. A collection
 //! and a sweep are lawful steps of that state, and leave the parts tied to each other: slots, stack and
 //! registrations hold the places of their nodes, and the marks are those of the phase. A place for a new
-//! object is the one that the graph's placement says.
+//! object is the one that the graph's placement says. A pause line tells truly whether the heap was walked,
+//! and no other command refuses a push or a note.
 //!
 //! What is only tested or not said: that memory suffices, and how long a command takes.
 #![tactic(auto)]

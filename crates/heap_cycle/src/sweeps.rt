@@ -22,7 +22,7 @@ pub fn sweep_some(parts: &mut Parts, outcome: &mut Outcome, n: u32) -> Line
     requires room { word_count parts.old.objects.shape ≤ 2 * outcome.old.room }
     ensures step { StepSweep (setup_of parts.old) (state_of parts.old) n
         (lines_with outcome.new parts.new.cycle.ran result) (answered (state_of parts.new)) }
-    ensures frame { IsFrame parts.old (counted parts.new) }
+    ensures frame { IsFrame parts.old (counted parts.new) result }
     ensures calm { outcome.new.prefinalises ≡ false }
     ensures piece { outcome.new.piece ≡ outcome.old.piece }
     ensures room { outcome.new.room ≡ outcome.old.room }
@@ -47,7 +47,7 @@ pub fn sweep_all(parts: &mut Parts, outcome: &mut Outcome) -> Line
     requires room { word_count parts.old.objects.shape ≤ 2 * outcome.old.room }
     ensures step { StepSweepAll (setup_of parts.old) (state_of parts.old)
         (lines_with outcome.new parts.new.cycle.ran result) (answered (state_of parts.new)) }
-    ensures frame { IsFrame parts.old (counted parts.new) }
+    ensures frame { IsFrame parts.old (counted parts.new) result }
     ensures calm { outcome.new.prefinalises ≡ false }
     ensures piece { outcome.new.piece ≡ outcome.old.piece }
     ensures room { outcome.new.room ≡ outcome.old.room }
@@ -77,6 +77,7 @@ fn sweep_pages(parts: &mut Parts, finalised: &mut Vec<u32>, n: u32)
         ≡ min (parts.old.cycle.rest.cursor + n) parts.old.objects.shape.pages }
     ensures ready { IsReady parts.new }
     ensures setup { setup_of parts.new ≡ setup_of parts.old }
+    ensures refused { parts.new.objects.refused ≡ parts.old.objects.refused }
     ensures ordinal { parts.new.cycle.rest.ordinal ≡ parts.old.cycle.rest.ordinal }
     ensures many { length finalised.new.items ≤ 2 ^ 24 }
     ensures room { vec_capacity finalised.new ≡ vec_capacity finalised.old }
@@ -100,6 +101,7 @@ pub fn end_sweep(parts: &mut Parts, finalised: &mut Vec<u32>)
     ensures ready { IsReady parts.new }
     ensures idle { parts.new.cycle.phase ≡ Idle }
     ensures setup { setup_of parts.new ≡ setup_of parts.old }
+    ensures refused { parts.new.objects.refused ≡ parts.old.objects.refused }
     ensures ordinal { parts.new.cycle.rest.ordinal ≡ parts.old.cycle.rest.ordinal }
     ensures others { parts.new ≡ record parts.old {
       objects = parts.new.objects;

@@ -28,6 +28,8 @@ use Rattle.heap_objects.specs.Objects.{target_in, written_in, ObjectsView}
 use Rattle.heap_handles.specs.Handles.{slot_word, put_in, HandlesView}
 use Rattle.heap_cycle.specs.declared.parts.Parts.{Parts}
 use Rattle.heap_cycle.specs.Parts.{setup_of, state_of, counted, AreTied, IsReady, IsFrame}
+use Rattle.heap_cycle.specs.Walks.{IsWalkTold}
+use Rattle.heap_objects.specs.Refused.{RefusedCounts}
 use Rattle.heap_objects.specs.FieldReads.{holds_reference}
 use Rattle.heap_cycle.specs.Ties.{valid_nodes, slot_live, tied_slot}
 
@@ -163,15 +165,22 @@ step_get s new p f q field target line ready calm is read told after =
     (λ m. IsRead (is_weak (kind_of_field (node_at st.nodes m).object f)) st (value_in st.nodes m f) q (line ∷ []) (answered (state_of (record s { handles = new })))) _ _ is.slot is.is.there
     is.kind (subst (λ (t : State). IsRead weak st x q (line ∷ []) t) to done)
 
+-- a line that tells a target tells of no refusal
+read_calm : (counts : RefusedCounts) (target : Option (ℕ × ℕ)) (told : Line) → MatchOption target (told ≡ L.Null) (λ (t : ℕ × ℕ). told ≡ L.Node t.1) → IsWalkTold counts counts told
+read_calm counts None told is = subst (IsWalkTold counts counts) (sym is) refl
+read_calm counts (Some t) told is = subst (IsWalkTold counts counts) (sym is) refl
+
 -- a slot got what was read, and no more
 pub read_frame : (s : Parts) (new : HandlesView) (q : ℕ) (target : Option (ℕ × ℕ)) (content : Option ℕ) → AreTied s
-    → target ≡ option_map (λ (m : ℕ). (place_of s.objects.nodes m, m)) content → new ≡ put_in s.handles q target → IsFrame s (counted (record s { handles = new }))
-read_frame s new q target content tied read after = record {
+    → target ≡ option_map (λ (m : ℕ). (place_of s.objects.nodes m, m)) content → new ≡ put_in s.handles q target
+    → (told : Line) → MatchOption target (told ≡ L.Null) (λ (t : ℕ × ℕ). told ≡ L.Node t.1) → IsFrame s (counted (record s { handles = new })) told
+read_frame s new q target content tied read after told is = record {
   setup = refl;
   ordinal = refl;
   tied = subst (λ (k : HandlesView). AreTied (counted (record s { handles = k }))) (sym after)
       (tied_slot s q target
       (subst (λ t. option_map (λ (x : ℕ × ℕ). x.0) t ≡ option_map (place_of s.objects.nodes) (option_map (λ (x : ℕ × ℕ). x.1) t)) (sym read) (target_places s.objects.nodes content)) tied);
+  refused = read_calm s.objects.refused target told is;
 }
 
 pub content_live : (nodes : List Node) (slot : Option ℕ) → ForSome slot (IsLive nodes) → IsLiveReference nodes (content_of slot)

@@ -7,6 +7,7 @@ use Rattle.gc_graph.specs.ValidLaw.{EmptyIsValid}
 use Rattle.page_words.specs.Seat.{empty_view}
 use Rattle.nodes_in_words.specs.Places.{places_of}
 use Rattle.heap_objects.specs.Objects.{HaveCallbacks, ObjectsView}
+use Rattle.heap_objects.specs.Refused.{none_refused}
 use Rattle.heap_handles.specs.Stack.{empty_stack}
 use Rattle.heap_cycle.specs.declared.parts.Parts.{Parts}
 use Rattle.heap_handles.specs.Handles.{HandlesView}
@@ -20,7 +21,7 @@ null_places (suc n) = ap (λ l. None ∷ l) (null_places n)
 -- the parts of an empty heap
 abbrev pub empty_parts : Shape → List ObjectType → List ActionKind → Parts
 empty_parts shape types callbacks = record {
-  objects = record { shape = shape; types = types; callbacks = callbacks; nodes = []; seat = empty_view (shape.pages * shape.page_words) types };
+  objects = record { shape = shape; types = types; callbacks = callbacks; nodes = []; seat = empty_view (shape.pages * shape.page_words) types; refused = none_refused };
   handles = record { places = replicate 256 None; slots = replicate 256 None; weak_places = replicate 64 None; weak = replicate 64 None; stack = empty_stack };
   cycle = record { phase = Idle; sweep = record { pages = shape.pages; cursor = shape.pages }; registered = []; ran = []; rest = empty_state };
 }

@@ -14,6 +14,7 @@ view_of h = record {
   history = h.outcome.history;
   lines = outcome_lines h.outcome h.parts.cycle.ran;
   piece = h.outcome.piece;
+  refused = h.parts.objects.refused;
   closed = h.closed;
 }
 

@@ -27,7 +27,7 @@ pub fn new_object(parts: &mut Parts, outcome: &mut Outcome, p: u32, t: u32, extr
     requires room { word_count parts.old.objects.shape ≤ 2 * outcome.old.room }
     ensures step { StepNew (setup_of parts.old) (state_of parts.old) p t extra
         (lines_with outcome.new parts.new.cycle.ran result) (answered (state_of parts.new)) }
-    ensures frame { IsFrame parts.old (counted parts.new) }
+    ensures frame { IsFrame parts.old (counted parts.new) result }
     ensures calm { outcome.new.prefinalises ≡ false }
     ensures piece { outcome.new.piece ≡ outcome.old.piece }
     ensures room { outcome.new.room ≡ outcome.old.room }

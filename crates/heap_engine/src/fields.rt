@@ -25,7 +25,7 @@ pub fn set(parts: &mut Parts, p: u32, f: u32, q: u32) -> Line
     ensures step { StepSet (state_of parts.old) p f
         (content_of (slot_at (state_of parts.old) q)) (result ∷ [])
         (answered (state_of parts.new)) }
-    ensures frame { IsFrame parts.old (counted parts.new) }
+    ensures frame { IsFrame parts.old (counted parts.new) result }
 {
     let content = parts.handles.content(q);
     write(parts, p, f, Wanted::References, &content)
@@ -37,7 +37,7 @@ pub fn set_null(parts: &mut Parts, p: u32, f: u32) -> Line
     requires slot { p < 256 }
     ensures step { StepSet (state_of parts.old) p f Null (result ∷ [])
         (answered (state_of parts.new)) }
-    ensures frame { IsFrame parts.old (counted parts.new) }
+    ensures frame { IsFrame parts.old (counted parts.new) result }
 {
     let content = Content::null();
     write(parts, p, f, Wanted::References, &content)
@@ -49,7 +49,7 @@ pub fn put(parts: &mut Parts, p: u32, f: u32, n: u64) -> Line
     requires slot { p < 256 }
     ensures step { StepPut (state_of parts.old) p f n (result ∷ [])
         (answered (state_of parts.new)) }
-    ensures frame { IsFrame parts.old (counted parts.new) }
+    ensures frame { IsFrame parts.old (counted parts.new) result }
 {
     let content = Content::number(n);
     write(parts, p, f, Wanted::Numbers, &content)
@@ -64,7 +64,7 @@ fn write(parts: &mut Parts, p: u32, f: u32, wanted: Wanted, content: &Content) -
         ≡ word_of (place_of parts.old.objects.nodes) content.now.value.value }
     ensures step { StepWrite wanted (state_of parts.old) p f content.now.value.value (result ∷ [])
         (answered (state_of parts.new)) }
-    ensures frame { IsFrame parts.old (counted parts.new) }
+    ensures frame { IsFrame parts.old (counted parts.new) result }
 {
     match field_of(parts, p, f, wanted) {
         Ok(field) => {
@@ -84,7 +84,7 @@ pub fn get(parts: &mut Parts, p: u32, f: u32, q: u32) -> Line
     requires into { q < 256 }
     ensures step { StepGet (state_of parts.old) p f q (result ∷ [])
         (answered (state_of parts.new)) }
-    ensures frame { IsFrame parts.old (counted parts.new) }
+    ensures frame { IsFrame parts.old (counted parts.new) result }
 {
     match field_of(parts, p, f, Wanted::References) {
         Ok(field) => {
@@ -103,7 +103,7 @@ pub fn word(parts: &mut Parts, p: u32, f: u32) -> Line
     requires ready { IsReady parts.old }
     requires slot { p < 256 }
     ensures step { StepWord (state_of parts.old) p f (result ∷ []) (answered (state_of parts.new)) }
-    ensures frame { IsFrame parts.old (counted parts.new) }
+    ensures frame { IsFrame parts.old (counted parts.new) result }
 {
     match field_of(parts, p, f, Wanted::Numbers) {
         Ok(field) => Line::Word {

@@ -12,6 +12,7 @@ ghost use Rattle.gc_graph.specs.Shapes.{IsShape};
 ghost use Rattle.callback_table.specs.Table.{kinds_of};
 ghost use Rattle.heap_engine.specs.Acted.{IsActed};
 ghost use Rattle.heap_objects.specs.Objects.{HaveCallbacks};
+ghost use Rattle.heap_objects.specs.Refused.{none_refused};
 ghost use Rattle.heap_cycle.specs.Printed.{finalised_in, TellsNode};
 
 use crate::heap_core::Core;
@@ -56,6 +57,7 @@ impl<'a> Heap<'a> {
         ensures history { IfOk result (λ h. h.core.history ≡ []) }
         ensures lines { IfOk result (λ h. h.core.lines ≡ []) }
         ensures closed { IfOk result (λ h. h.core.closed ≡ false) }
+        ensures refused { IfOk result (λ h. h.core.refused ≡ none_refused) }
     {
         let core = Core::new(alloc, config, types, callbacks)?;
         Ok(Heap { callbacks, core })

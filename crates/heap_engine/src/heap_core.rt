@@ -15,6 +15,7 @@ ghost use Rattle.page_space.specs.Pages.{word_count};
 ghost use Rattle.callback_table.specs.Table.{kinds_of};
 ghost use Rattle.heap_engine.specs.Acted.{IsActed};
 ghost use Rattle.heap_objects.specs.Objects.{HaveCallbacks};
+ghost use Rattle.heap_objects.specs.Refused.{none_refused};
 ghost use Rattle.heap_cycle.specs.Parts.{setup_of, state_of, counted, IsReady, IsFrame};
 ghost use Rattle.heap_cycle.specs.Printed.{lines_with, finalised_in};
 ghost use Rattle.heap_cycle.specs.Printed.{TellsNode, TellsThoseThatRan};
@@ -75,6 +76,7 @@ impl Core {
         ensures history { IfOk result (λ h. h.history ≡ []) }
         ensures lines { IfOk result (λ h. h.lines ≡ []) }
         ensures closed { IfOk result (λ h. h.closed ≡ false) }
+        ensures refused { IfOk result (λ h. h.refused ≡ none_refused) }
     {
         gc_graph::empty_is_valid();
         // A header can name each type.
@@ -162,7 +164,7 @@ fn run(
     requires built { is_built command.now ≡ true }
     ensures step { Step (setup_of parts.old) (state_of parts.old) command.now outcome.new.piece
         (lines_with outcome.new parts.new.cycle.ran result) (answered (state_of parts.new)) }
-    ensures frame { IsFrame parts.old (counted parts.new) }
+    ensures frame { IsFrame parts.old (counted parts.new) result }
     ensures ran { TellsThoseThatRan outcome.new parts.new.cycle.ran }
     ensures room { outcome.new.room ≡ outcome.old.room }
     ensures history { outcome.new.history ≡ outcome.old.history }

@@ -14,7 +14,8 @@
 //! the pieces that the commands took are the heap's history of the region. Each node that is not
 //! finalised is the object with its number, type, size, place, field words and extra words.
 //! Refusals and a full heap are answered exactly where the step says so; collections and
-//! prefinalizers alone may want memory, and then nothing has changed.
+//! prefinalizers alone may want memory, and then nothing has changed. A pause line tells truly whether
+//! the heap was walked.
 //!
 //! What is only tested or not said: that memory suffices, and how long a command takes.
 #![tactic(auto)]

@@ -22,7 +22,7 @@ pub fn pair(parts: &mut Parts, p: u32, f: u32, k: u32, v: u32) -> Line
     requires value { v < 256 }
     ensures step { StepPair (state_of parts.old) p f (slot_at (state_of parts.old) k)
         (slot_at (state_of parts.old) v) (result ∷ []) (answered (state_of parts.new)) }
-    ensures frame { IsFrame parts.old (counted parts.new) }
+    ensures frame { IsFrame parts.old (counted parts.new) result }
 {
     let pair = PairContent {
         key: parts.handles.part(k, v),
@@ -37,7 +37,7 @@ pub fn pair_null(parts: &mut Parts, p: u32, f: u32) -> Line
     requires slot { p < 256 }
     ensures step { StepPair (state_of parts.old) p f None None (result ∷ [])
         (answered (state_of parts.new)) }
-    ensures frame { IsFrame parts.old (counted parts.new) }
+    ensures frame { IsFrame parts.old (counted parts.new) result }
 {
     let pair = PairContent {
         key: Content::null(),
@@ -53,7 +53,7 @@ pub fn key(parts: &mut Parts, p: u32, f: u32, q: u32) -> Line
     requires into { q < 256 }
     ensures step { StepKey (state_of parts.old) p f q (result ∷ [])
         (answered (state_of parts.new)) }
-    ensures frame { IsFrame parts.old (counted parts.new) }
+    ensures frame { IsFrame parts.old (counted parts.new) result }
 {
     read_part(parts, p, f, q, Part::Key)
 }
@@ -65,7 +65,7 @@ pub fn value(parts: &mut Parts, p: u32, f: u32, q: u32) -> Line
     requires into { q < 256 }
     ensures step { StepVal (state_of parts.old) p f q (result ∷ [])
         (answered (state_of parts.new)) }
-    ensures frame { IsFrame parts.old (counted parts.new) }
+    ensures frame { IsFrame parts.old (counted parts.new) result }
 {
     read_part(parts, p, f, q, Part::Value)
 }
@@ -83,7 +83,7 @@ fn write_pair(parts: &mut Parts, p: u32, f: u32, pair: &PairContent) -> Line
     ensures step { StepWholePair (state_of parts.old) p f
         pair.now.key.value.value pair.now.value.value.value (result ∷ [])
         (answered (state_of parts.new)) }
-    ensures frame { IsFrame parts.old (counted parts.new) }
+    ensures frame { IsFrame parts.old (counted parts.new) result }
 {
     match field_of(parts, p, f, Wanted::Pairs) {
         Ok(field) => {
@@ -103,7 +103,7 @@ fn read_part(parts: &mut Parts, p: u32, f: u32, q: u32, part: Part) -> Line
     requires into { q < 256 }
     ensures step { StepPart part (state_of parts.old) p f q (result ∷ [])
         (answered (state_of parts.new)) }
-    ensures frame { IsFrame parts.old (counted parts.new) }
+    ensures frame { IsFrame parts.old (counted parts.new) result }
 {
     match field_of(parts, p, f, Wanted::Pairs) {
         Ok(field) => {

@@ -17,7 +17,7 @@ pub fn copy(parts: &mut Parts, p: u32, q: u32) -> Line
     requires from { p < 256 }
     requires into { q < 256 }
     ensures step { StepCopy (state_of parts.old) p q (result ∷ []) (answered (state_of parts.new)) }
-    ensures frame { IsFrame parts.old (counted parts.new) }
+    ensures frame { IsFrame parts.old (counted parts.new) result }
 {
     parts.handles.copy(p, q);
     Line::Fine
@@ -29,7 +29,7 @@ pub fn weaken(parts: &mut Parts, w: u32, p: u32) -> Line
     requires into { w < 64 }
     requires from { p < 256 }
     ensures step { StepWeak (state_of parts.old) w p (result ∷ []) (answered (state_of parts.new)) }
-    ensures frame { IsFrame parts.old (counted parts.new) }
+    ensures frame { IsFrame parts.old (counted parts.new) result }
 {
     parts.handles.weaken(w, p);
     Line::Fine
@@ -41,7 +41,7 @@ pub fn read(parts: &mut Parts, w: u32, p: u32) -> Line
     requires from { w < 64 }
     requires into { p < 256 }
     ensures step { StepRead (state_of parts.old) w p (result ∷ []) (answered (state_of parts.new)) }
-    ensures frame { IsFrame parts.old (counted parts.new) }
+    ensures frame { IsFrame parts.old (counted parts.new) result }
 {
     // No marking goes on between commands, so that the read keeps nothing.
     parts.cycle.rests();
@@ -69,7 +69,7 @@ pub fn drop_slot(parts: &mut Parts, p: u32) -> Line
     requires ready { IsReady parts.old }
     requires slot { p < 256 }
     ensures step { StepDrop (state_of parts.old) p (result ∷ []) (answered (state_of parts.new)) }
-    ensures frame { IsFrame parts.old (counted parts.new) }
+    ensures frame { IsFrame parts.old (counted parts.new) result }
 {
     parts.handles.put(p, None);
     Line::Fine

@@ -18,7 +18,7 @@ pub fn push(parts: &mut Parts, p: u32, offset: u32) -> Line
     requires slot { p < 256 }
     ensures step { StepPush (state_of parts.old) p offset (result ∷ [])
         (answered (state_of parts.new)) }
-    ensures frame { IsFrame parts.old (counted parts.new) }
+    ensures frame { IsFrame parts.old (counted parts.new) result }
 {
     match parts.handles.place(p) {
         Some(place) => {
@@ -38,7 +38,7 @@ pub fn push_plain(parts: &mut Parts, n: u64) -> Line
     requires ready { IsReady parts.old }
     ensures step { StepPushPlain (state_of parts.old) n (result ∷ [])
         (answered (state_of parts.new)) }
-    ensures frame { IsFrame parts.old (counted parts.new) }
+    ensures frame { IsFrame parts.old (counted parts.new) result }
 {
     push_word(parts, Pushed::number(n))
 }
@@ -51,7 +51,7 @@ fn push_word(parts: &mut Parts, pushed: Pushed) -> Line
     requires inside { PointsInside parts.old.objects.nodes pushed.word.value }
     ensures step { IsPushed (state_of parts.old) pushed.word.value
         (result ∷ []) (answered (state_of parts.new)) }
-    ensures frame { IsFrame parts.old (counted parts.new) }
+    ensures frame { IsFrame parts.old (counted parts.new) result }
 {
     if parts.handles.stack().has_room() {
         parts.handles.push(pushed);
@@ -65,7 +65,7 @@ fn push_word(parts: &mut Parts, pushed: Pushed) -> Line
 pub fn pop(parts: &mut Parts) -> Line
     requires ready { IsReady parts.old }
     ensures step { StepPop (state_of parts.old) (result ∷ []) (answered (state_of parts.new)) }
-    ensures frame { IsFrame parts.old (counted parts.new) }
+    ensures frame { IsFrame parts.old (counted parts.new) result }
 {
     if parts.handles.stack().has_words() {
         parts.handles.pop();
@@ -80,7 +80,7 @@ pub fn peek(parts: &mut Parts, i: u32, q: u32) -> Line
     requires ready { IsReady parts.old }
     requires into { q < 256 }
     ensures step { StepPeek (state_of parts.old) i q (result ∷ []) (answered (state_of parts.new)) }
-    ensures frame { IsFrame parts.old (counted parts.new) }
+    ensures frame { IsFrame parts.old (counted parts.new) result }
 {
     match parts.handles.stack().place(i) {
         Some(Some(place)) => {

@@ -13,7 +13,7 @@ pub fn stat(parts: &Parts) -> Line
     requires ready { IsReady parts.now }
     ensures step { StepStat (setup_of parts.now) (state_of parts.now) (result ∷ [])
         (answered (state_of parts.now)) }
-    ensures frame { IsFrame parts.now (counted parts.now) }
+    ensures frame { IsFrame parts.now (counted parts.now) result }
 {
     let (n, u, g) = parts.objects.totals();
     Line::Objects { n, u, g }

@@ -12,6 +12,7 @@ ghost use Rattle.nodes_in_words.specs.Nodes.{AreOfValid};
 ghost use Rattle.nodes_in_words.specs.Places.{places_of, IsJudged};
 ghost use Rattle.atomic_pause.specs.Pausing.{IsPaused, hits_in};
 ghost use Rattle.heap_objects.specs.Objects.{setup_of_objects};
+ghost use Rattle.heap_objects.specs.Refused.{IsToldTruly};
 ghost use Rattle.heap_handles.specs.Stack as spec;
 
 use crate::handles::Handles;
@@ -56,6 +57,7 @@ impl Handles {
         ensures kept { result.kept ≡ live_count objects.new.nodes }
         ensures dead { result.dead ≡ dead_count objects.new.nodes }
         ensures traced { result.traced ≡ result.kept }
+        ensures walked { IsToldTruly objects.old.refused objects.new.refused result.walked }
         ensures setup { setup_of_objects objects.new ≡ setup_of_objects objects.old }
     {
         let result = objects.pause(

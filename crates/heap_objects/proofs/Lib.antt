@@ -4,4 +4,5 @@ pub mod PairBodies
 pub mod NodesSwept
 pub mod SweptObjects
 pub mod PausedSizes
+pub mod ToldTruly
 pub mod Unlooked

@@ -2,7 +2,7 @@
 use Rattle.std.proofs.Common.{◌≡◌, ℕ, ◌≤◌, List, length, map, sym, ap, ◌∙◌, subst}
 use Rattle.std.proofs.lemmas.List.{length-map}
 use Rattle.gc_graph.specs.declared.action.ActionKind.{ActionKind}
-use Rattle.gc_graph.specs.State.{Shape, ObjectType, Node}
+use Rattle.gc_graph.specs.State.{Shape, Setup, ObjectType, Node}
 use Rattle.gc_graph.specs.Sweep.{finalise}
 use Rattle.page_words.specs.Seat.{SeatView}
 use Rattle.page_space.specs.Space.{SpaceView}
@@ -12,23 +12,23 @@ use Rattle.nodes_in_words.specs.NodePlaces.{serials_fit}
 use Rattle.nodes_in_words.specs.DeadUnnamed.{dead_unnamed}
 use Rattle.heap_objects.specs.declared.marking.Grey.{Grey}
 use Rattle.heap_objects.specs.Finalising.{IsSweptTo, FinalisesBelow}
-use Rattle.heap_objects.specs.Objects.{ObjectsView, setup_of_objects, AreObjects}
+use Rattle.heap_objects.specs.Objects.{AreObjects}
 use Rattle.heap_objects.proofs.NodesSwept.{held_below, finalises_below}
 
--- what contracts see of the objects
-abbrev view_of : SpaceView → SeatView → List ObjectType → List ActionKind → List Node → ObjectsView
-view_of space v types callbacks nodes = record { shape = space.shape; types = types; callbacks = callbacks; nodes = nodes; seat = v }
+-- what was set up
+abbrev setup_in : SpaceView → List ObjectType → List ActionKind → Setup
+setup_in space types callbacks = record { shape = space.shape; markers = 0; types = types; callbacks = callbacks }
 
 -- the objects may be swept from the cursor on where all is swept below it
 pub may_sweep : (space : SpaceView) (v : SeatView) (types : List ObjectType) (callbacks : List ActionKind) (made : ℕ) (grey : Grey) (nodes : List Node) (sweep : SweepView)
     → AreObjects space v types callbacks made nodes grey → sweep.pages ≡ space.shape.pages → IsSweptTo (cursor_at space.shape sweep) v → length nodes ≤ 1000000
-    → AreOfValid (setup_of_objects (view_of space v types callbacks nodes)) nodes → MaySweep sweep space v
+    → AreOfValid (setup_in space types callbacks) nodes → MaySweep sweep space v
 may_sweep space v types callbacks made grey nodes sweep is pages marks few valid = record {
   laid = is.laid;
   pages = pages;
   off = is.off;
   judged = marks.judged;
-  unnamed = dead_unnamed (setup_of_objects (view_of space v types callbacks nodes)) nodes v valid is.held is.known;
+  unnamed = dead_unnamed (setup_in space types callbacks) nodes v valid is.held is.known;
   serials = serials_fit nodes v is.held.bodies few;
 }
 

@@ -1,4 +1,5 @@
 pub mod Marking
+pub mod Refused
 pub mod Fields
 pub mod Objects
 pub mod Finalising

@@ -10,15 +10,17 @@ use Rattle.nodes_in_words.specs.Nodes.{place_of, word_of, IsHeld}
 use Rattle.heap_objects.specs.declared.marking.Grey.{Grey}
 use Rattle.heap_objects.specs.Fields.{IsLiveReference}
 use Rattle.heap_objects.specs.Marking.{IsClear}
+use Rattle.heap_objects.specs.Refused.{RefusedCounts}
 
--- the objects: the heap's shape and types, the kinds of its callbacks, the nodes, and what is known of the words but for the
--- headers that were looked at
+-- the objects: the heap's shape and types, the kinds of its callbacks, the nodes, what is known of the words but for the
+-- headers that were looked at, and how much was refused
 pub record ObjectsView : Type 0 where
   pub shape : Shape
   pub types : List ObjectType
   pub callbacks : List ActionKind
   pub nodes : List Node
   pub seat : SeatView
+  pub refused : RefusedCounts
 
 -- what was set up
 abbrev pub setup_of_objects : ObjectsView → Setup

@@ -73,6 +73,7 @@ impl Objects {
         ensures marks { (phase : Phase) (limit : ℕ) → place < limit
             → HasMarks phase limit self.old.seat → HasMarks phase limit self.new.seat }
         ensures setup { setup_of_objects self.new ≡ setup_of_objects self.old }
+        ensures refused { self.new.refused ≡ self.old.refused }
     {
         self.space.occupy(&mut self.seat, place, t, size, self.made);
         self.made += 1;

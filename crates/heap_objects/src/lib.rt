@@ -13,7 +13,8 @@
 //!
 //! What is proved: each node that is not finalised is the object with its number, type, size, place,
 //! field words and extra words, whatever call is made. What is told of an object is what the node has,
-//! and what is written into it changes that node and no other.
+//! and what is written into it changes that node and no other. A pause tells truly whether it walked:
+//! where a push or a note was refused, and nowhere else, as far as the counts of these show it.
 //!
 //! What is only tested or not said: how long a call takes.
 #![tactic(auto)]

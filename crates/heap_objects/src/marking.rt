@@ -1,7 +1,8 @@
 // What a heap keeps of marking between collections: the room of its list, and no more.
 
-ghost use Rattle.std.specs.Prelude.{◌≡◌, [], false, IfOk};
+ghost use Rattle.std.specs.Prelude.{◌≡◌, [], false, length, IfOk};
 ghost use Rattle.heap_objects.specs.Marking.{IsClear};
+ghost use Rattle.heap_objects.specs.Refused.{refused_counts, none_refused};
 
 use ephemerons::Pairs;
 use gc_graph::NoMemory;
@@ -21,7 +22,9 @@ pub struct Grey {
 impl Grey {
     /// A list and notes without room, for the owner alone. Want of memory is free.
     pub fn new(alloc: Global) -> Result<Grey, NoMemory>
-        ensures { IfOk result (λ grey. IsClear grey.marking grey.notes) }
+        ensures clear { IfOk result (λ grey. IsClear grey.marking grey.notes) }
+        ensures counts { IfOk result (λ grey.
+            refused_counts grey.marking grey.notes ≡ none_refused) }
     {
         let (list, _) = Worklist::new(alloc, 0)?;
         Ok(Grey {
@@ -43,11 +46,14 @@ impl Grey {
     }
 }
 
-/// Forgets what was noted and refused in a collection that is over.
+/// Forgets what was noted and that something was refused in a collection that is over.
 pub fn clear(grey: &mut Grey)
     requires list { grey.old.marking.list.items ≡ [] }
     requires off { grey.old.marking.on ≡ false }
-    ensures { IsClear grey.new.marking grey.new.notes }
+    ensures clear { IsClear grey.new.marking grey.new.notes }
+    ensures counts { refused_counts grey.new.marking grey.new.notes
+        ≡ refused_counts grey.old.marking grey.old.notes }
+    ensures groups { length grey.new.notes ≡ length grey.old.notes }
 {
     grey.marking.overflow = false;
     grey.notes[0].clear();

@@ -100,6 +100,7 @@ impl Objects {
         ensures marks { (phase : Phase) (limit : ℕ) → HasMarks phase limit self.old.seat
             → HasMarks phase limit self.new.seat }
         ensures setup { setup_of_objects self.new ≡ setup_of_objects self.old }
+        ensures refused { self.new.refused ≡ self.old.refused }
     {
         self.seat.bodies_lie_apart();
         type_table::fields_stand_apart();

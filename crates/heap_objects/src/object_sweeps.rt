@@ -34,6 +34,7 @@ impl Objects {
             self.new.seat finalised.new.items }
         ensures room { vec_capacity finalised.new ≡ vec_capacity finalised.old }
         ensures setup { setup_of_objects self.new ≡ setup_of_objects self.old }
+        ensures refused { self.new.refused ≡ self.old.refused }
     {
         self.seat.bodies_lie_apart();
         sweeper::dead_are_few(&self.space, &self.seat);
@@ -60,6 +61,7 @@ impl Objects {
         ensures told { 2 * length finalised.new.items ≤ word_count self.old.shape }
         ensures room { vec_capacity finalised.new ≡ vec_capacity finalised.old }
         ensures setup { setup_of_objects self.new ≡ setup_of_objects self.old }
+        ensures refused { self.new.refused ≡ self.old.refused }
     {
         self.seat.bodies_lie_apart();
         let count = sweep.finish(&mut self.space, &mut self.seat, finalised);

@@ -14,6 +14,7 @@ ghost use Rattle.nodes_in_words.specs.Places.{places_of, IsJudged};
 ghost use Rattle.atomic_pause.specs.Marking.{RootsMayBeKept, root_places};
 ghost use Rattle.atomic_pause.specs.Pausing.{IsPaused, NamePlaces, hits_in};
 ghost use Rattle.heap_objects.specs.Objects.{setup_of_objects};
+ghost use Rattle.heap_objects.specs.Refused.{IsToldTruly};
 
 use crate::marking::clear;
 use crate::objects::Objects;
@@ -56,6 +57,7 @@ impl Objects {
         ensures kept { result.kept ≡ live_count self.new.nodes }
         ensures dead { result.dead ≡ dead_count self.new.nodes }
         ensures traced { result.traced ≡ result.kept }
+        ensures walked { IsToldTruly self.old.refused self.new.refused result.walked }
         ensures setup { setup_of_objects self.new ≡ setup_of_objects self.old }
     {
         self.seat.bodies_lie_apart();

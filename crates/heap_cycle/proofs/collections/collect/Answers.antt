@@ -63,13 +63,14 @@ collects d c = record {
   sweep = c.begin.ensures ∙ ap (λ (k : CycleView). record k.sweep { cursor = 0 }) c.cycle.view_is;
   rest = c.collected-rest.ensures;
   ordinal = c.end_sweep.ensures.ordinal;
+  refused = rw c.reserve.ensures at c.end_sweep.ensures.refused;
 }
 
 pub returns-clause-step : goal.returns-clause-step
 returns-clause-step d c =
-    let line : c.line_of.result ≡ pause_line c.pause-result.new.objects.nodes c.pause-result.result.walked =
+    let line : c.line_of.result ≡ pause_line c.pause-result.new.objects.nodes _ =
     c.line_of.ensures
-    ∙ pause_counts c.pause-result.new.objects.nodes c.pause-result.result.kept c.pause-result.result.dead c.pause-result.result.traced c.pause-result.result.walked
+    ∙ pause_counts c.pause-result.new.objects.nodes c.pause-result.result.kept c.pause-result.result.dead c.pause-result.result.traced _
     c.pause-result.ensures.kept c.pause-result.ensures.dead c.pause-result.ensures.traced in
     let told : (let printed : Printed = record {
       numbers = c.outcome-2.inside.finalised.items;
@@ -84,7 +85,7 @@ returns-clause-step d c =
     let runs : c.outcome-2.inside.prefinalises ≡ not (length ran == 0) =
     ap (λ (o : Printed). o.prefinalises) (told ∙ c.prefinalise.ensures) ∙ ap (λ (rs : List (ℕ × ℕ)). not (length rs == 0)) c.ran.ensures in
     collection_steps c.args.want c.args.parts.now c.end_sweep.new.parts c.pause-result.new.objects c.pause-result.new.self _
-    c.end_sweep.new.finalised.items (collects d c) c.pause-result.result.walked c.of_collection.result.value
+    c.end_sweep.new.finalised.items (collects d c) _ c.of_collection.result.value
     (finalise_lines c.outcome-2.inside.finalised.items ++ c.line_of.result ∷ ran_lines c.outcome-2.inside.prefinalises ran) c.line_of.result
     c.reach_is_least.ensures c.of_collection.ensures line
     (ap (λ ns. finalise_lines ns ++ c.line_of.result ∷ ran_lines c.outcome-2.inside.prefinalises ran) numbers
@@ -94,3 +95,4 @@ returns-clause-step d c =
 pub returns-clause-frame : goal.returns-clause-frame
 returns-clause-frame d c =
     collection_frame c.args.want c.args.parts.now c.end_sweep.new.parts c.pause-result.new.objects c.pause-result.new.self _ c.end_sweep.new.finalised.items (collects d c)
+    _ _ _ _ c.line_of.result c.line_of.ensures c.pause-result.ensures.walked

@@ -16,6 +16,7 @@ loop-page-init c = record {
   way = begins (unregistered c.args.count c.args.parts.now) c.args.size c.args.finalised.now.items c.sweeps_go_by_pages.ensures.one c.requires.ready c.requires.empty c.requires.told
       c.requires.nowhere;
   cursor = sym c.swept_pages-page.ensures;
+  refused = refl;
   registered = refl;
   room = refl;
 }
@@ -74,6 +75,7 @@ loop-page-preserved c =
           c.sweep_page.new.finalised.items c.loop-page.invariant.way c.loop-page.invariant.cursor (omega (arith, c.loop-page-test.true, c.pages-page-end.ensures)) c.sweep_page.ensures.swept
           c.step_keeps_valid.ensures c.sweeps_go_by_pages.ensures.join c.sweeps_go_by_pages.ensures.one c.shape_is_valid.ensures c.sweep_page.ensures.told c.in_default.ensures.none);
       cursor = omega (arith, cursor, c.loop-page.invariant.cursor);
+      refused = ap (λ (o : ObjectsView). o.refused) c.find.ensures.same ∙ c.sweep_page.ensures.swept.refused ∙ c.loop-page.invariant.refused;
       registered = c.sweep_page.ensures.swept.registered ∙ c.loop-page.invariant.registered;
       room = c.sweep_page.ensures.room ∙ c.loop-page.invariant.room;
     }

@@ -68,4 +68,5 @@ returns-clause-frame c =
           (subst (λ (st : Setup). c.args.t < length st.types) (sym (setup_found c)) c.requires.ty)
           (c.make.ensures.marks mid.cycle.phase (cursor_at mid.objects.shape mid.cycle.sweep) c.in-Some.ensures.swept c.place_for.ensures.ready.tied.marks)
           c.make.ensures.setup (c.made-number.ensures ∙ sym (made_found c)) refl c.make.ensures.nodes (registers c) c.put.ensures;
+      refused = c.make.ensures.refused ∙ c.place_for.ensures.refused ∙ ap (λ (x : Parts). x.objects.refused) c.in-Ok.ensures.registered;
     }

@@ -42,4 +42,4 @@ returns-in-Ok-clause-frame c =
     (rw c.in-Ok.ensures.same at c.target_at-target.ensures.target) is.node c.args.f is.is in
     rw (same, c.in-Ok.ensures.same)
     (read_frame s c.put.new.self c.args.q c.target_at-target.result (target_of (value_in s.objects.nodes is.node c.args.f)) c.requires.ready.tied read
-    (rw c.in-Ok.ensures.same at c.put.ensures))
+    (rw c.in-Ok.ensures.same at c.put.ensures) c.line_of.result c.line_of.ensures)

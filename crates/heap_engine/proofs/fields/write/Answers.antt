@@ -47,4 +47,5 @@ returns-in-Ok-clause-frame c =
           (rw c.in-Ok.ensures.same at c.store.ensures.setup)
           (c.store.ensures.marks s.cycle.phase (cursor_at s.objects.shape s.cycle.sweep) (rw c.in-Ok.ensures.same c.requires.ready.tied.marks))
           (ap length nodes ∙ length-written old (get_or s.handles.slots c.args.p None) c.args.f c.args.content.now.value.value);
+      refused = rw c.in-Ok.ensures.same at c.store.ensures.refused;
     })

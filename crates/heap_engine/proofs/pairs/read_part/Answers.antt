@@ -43,4 +43,4 @@ returns-in-Ok-clause-frame c =
     (rw c.in-Ok.ensures.same at c.part_at-target.ensures.target) is.node c.args.f is.is in
     rw (same, c.in-Ok.ensures.same)
     (read_frame s c.put.new.self c.args.q c.part_at-target.result (target_of (part_in c.args.part s.objects.nodes is.node c.args.f)) c.requires.ready.tied read
-    (rw c.in-Ok.ensures.same at c.put.ensures))
+    (rw c.in-Ok.ensures.same at c.put.ensures) c.line_of.result c.line_of.ensures)

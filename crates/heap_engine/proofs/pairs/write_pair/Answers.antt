@@ -58,4 +58,5 @@ returns-in-Ok-clause-frame c =
           (rw c.in-Ok.ensures.same at c.store_pair.ensures.setup)
           (c.store_pair.ensures.marks s.cycle.phase (cursor_at s.objects.shape s.cycle.sweep) (rw c.in-Ok.ensures.same c.requires.ready.tied.marks))
           (ap length nodes ∙ length-paired old slot c.args.f key value);
+      refused = rw c.in-Ok.ensures.same at c.store_pair.ensures.refused;
     })

@@ -13,4 +13,4 @@ pub returns-clause-frame : goal.returns-clause-frame
 returns-clause-frame c =
     rw c.weak_target-target.ensures.same
     (read_frame c.args.parts.now c.put.new.self c.args.p c.weak_target-target.result (get_or c.args.parts.now.handles.weak c.args.w None) c.requires.ready.tied
-    c.weak_target-target.ensures.target (rw c.weak_target-target.ensures.same at c.put.ensures))
+    c.weak_target-target.ensures.target (rw c.weak_target-target.ensures.same at c.put.ensures) c.line_of.result c.line_of.ensures)

@@ -38,5 +38,5 @@ returns-clause-swept c =
     let is : SweepsParts o c.finalise_page-count.new.self before after next c.args.finalised.now.items c.finalise_page-count.new.finalised.items =
     parts_swept o c.finalise_page-count.new.self before after next c.finalise_page-count.result (cursor_at o.shape w) c.args.finalised.now.items c.finalise_page-count.new.finalised.items
     c.finalise_page-count.ensures.setup c.finalise_page-count.ensures.nodes (ap (cursor_at o.shape) c.finalise_page-count.ensures.cursor) c.finalise_page-count.ensures.count phase
-    c.finalise_page-count.ensures.cursor refl refl (c.swept.ensures ∙ ap (λ n. swept_to n c.finalise_page-count.result c.self.inside.rest.value) (c.cursor.ensures.cursor ∙ cursor)) marks in
+    c.finalise_page-count.ensures.cursor refl refl (c.swept.ensures ∙ ap (λ n. swept_to n c.finalise_page-count.result c.self.inside.rest.value) (c.cursor.ensures.cursor ∙ cursor)) marks c.finalise_page-count.ensures.refused in
     rw (← c.self.view_is) is

@@ -1,9 +1,11 @@
-use Rattle.std.proofs.Common.{◌<◌, Option, IfSome, length, sym, ap, ◌∙◌, subst, arith, rules}
+use Rattle.std.proofs.Common.{◌≡◌, ℕ, ◌<◌, List, Option, IfSome, length, sym, ap, ◌∙◌, subst, arith, rules}
 use Rattle.gc_graph.specs.declared.line.Line.{Line}
 use Rattle.gc_graph.specs.Outcomes.{answered}
 use Rattle.heap_cycle.specs.Parts.{setup_of, state_of}
-use Rattle.heap_cycle.specs.Printed.{Printed, TellsNode, IsOutcome}
+use Rattle.heap_cycle.specs.Printed.{Printed, TellsNode, IsOutcome, lines_with, outcome_lines}
 use Rattle.heap_cycle.specs.Views.{CycleView}
+use Rattle.heap_cycle.specs.Walks.{IsWalkToldIn}
+use Rattle.heap_engine.proofs.OutcomeLines.{walk_in_lines}
 use Rattle.heap_engine.proofs.StepLines.{last_plain}
 use Rattle.heap_engine.proofs.heap_core.Core.act.Given as given
 use Rattle.heap_engine.proofs.heap_core.Core.act.Goals as goal
@@ -36,3 +38,28 @@ told d c = record {
 
 pub invariant_of-self : goal.invariant_of-self
 invariant_of-self d c = record { ready = search rules; told = told d c; room = search rules }
+
+-- the lines tell of refusals what the command's line tells
+walks : (d : given.Over) (c : goal.After-count d)
+    → IsWalkToldIn c.self.inside.parts.objects.refused c.run-line.new.parts.objects.refused (outcome_lines c.end.new.self c.count_command.new.self.ran)
+walks d c =
+    let ran : List (ℕ × ℕ) = c.run-line.new.parts.cycle.ran in
+    let lines : lines_with c.run-line.new.outcome ran c.run-line.result ≡ outcome_lines c.end.new.self c.count_command.new.self.ran =
+    ap (λ (o : Printed). outcome_lines o ran) (sym c.end.ensures) ∙ ap (λ (k : CycleView). outcome_lines c.end.new.self k.ran) (sym c.count_command.ensures) in
+    subst (IsWalkToldIn c.self.inside.parts.objects.refused c.run-line.new.parts.objects.refused) lines
+    (walk_in_lines c.self.inside.parts.objects.refused c.run-line.new.parts.objects.refused c.run-line.new.outcome ran c.run-line.result c.run-line.ensures.frame.refused)
+
+pub returns : goal.returns
+returns d c = record {
+  acted = record {
+    step = search rules;
+    count = search rules;
+    calm = search rules;
+    alone = search rules;
+    ordinal = search rules;
+    history = search rules;
+    setup = search rules;
+    closed = search rules;
+    walked = rw (← c.self.view_is) (walks d c);
+  };
+}

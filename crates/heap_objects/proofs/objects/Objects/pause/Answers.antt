@@ -1,4 +1,4 @@
-use Rattle.std.proofs.Common.{rules, ◌≡◌, List, ℕ, true, refl, sym, ap, ◌∙◌, subst}
+use Rattle.std.proofs.Common.{rules, ◌≡◌, List, ℕ, true, length, refl, sym, ap, ◌∙◌, subst}
 use Rattle.std.specs.List.{All}
 use Rattle.std.specs.Option.{ForSome}
 use Rattle.gc_graph.specs.State.{Node}
@@ -11,8 +11,11 @@ use Rattle.nodes_in_words.specs.KeptNodes.{slots_live, named_places, weak_are_pl
 use Rattle.nodes_in_words.specs.WeakNodes.{length-after}
 use Rattle.nodes_in_words.specs.WholePairs.{pairs_whole}
 use Rattle.page_space.specs.Space.{extents_of_bodies}
+use Rattle.ephemerons.specs.Notes.{NotesState}
 use Rattle.atomic_pause.specs.Marking.{HasBegun, root_places}
+use Rattle.heap_objects.specs.Refused.{refused_counts, RefusedCounts, IsToldTruly}
 use Rattle.heap_objects.proofs.PausedSizes.{sizes_stay}
+use Rattle.heap_objects.proofs.ToldTruly.{told_truly}
 use Rattle.heap_objects.proofs.Unlooked.{quiet_is}
 use Rattle.heap_objects.proofs.objects.Objects.pause.Goals as goal
 
@@ -83,7 +86,7 @@ invariant_of-self g c =
       off = c.pause-result.ensures.ready.off;
       held = c.pause-result.ensures.ready.held;
       numbers_are = c.self.invariant.numbers_are ∙ sym (paused.stayed.count ∙ length-after paused.kept nodes);
-      clear = c.clear.ensures;
+      clear = c.clear.ensures.clear;
     }
 
 pub returns-clause-sizes : goal.returns-clause-sizes
@@ -97,3 +100,16 @@ returns-clause-sizes g c = λ n live.
     rw (← c.self.view_is)
     (sizes_stay paused.kept nodes c.pause-result.new.parts.1.0.value c.self.inside.seat v c.bodies_lie_apart.ensures c.self.invariant.held.bodies c.pause-result.ensures.ready.held.bodies extents
     paused.stayed n (rw (← c.self.view_is) at live))
+
+pub returns-clause-walked : goal.returns-clause-walked
+returns-clause-walked g c =
+    let before : Marking = record { on = true; overflow = c.self.inside.grey.marking.overflow; list = c.self.inside.grey.marking.list } in
+    let notes : List NotesState = c.self.inside.grey.notes in
+    let old : RefusedCounts = refused_counts before notes in
+    let left : List NotesState = c.pause-result.new.parts.1.1.1.0 in
+    let one : length left ≡ 1 = sym c.clear.ensures.groups ∙ c.clear.ensures.clear.none_noted.one in
+    rw (← c.self.view_is)
+    (subst (λ counts. IsToldTruly old counts c.pause-result.result.walked) (sym c.clear.ensures.counts)
+    (told_truly before c.pause-result.new.parts.1.1.0 notes left c.pause-result.result.walked
+    c.self.invariant.clear.unrefused c.self.invariant.clear.none_noted one
+    c.pause-result.ensures.told c.pause-result.ensures.notes_told c.pause-result.ensures.walked c.pause-result.ensures.whole))

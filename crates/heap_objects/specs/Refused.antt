@@ -1,0 +1,29 @@
+-- How many pushes and notes were refused, and what a pause tells of it.
+use Rattle.std.specs.Prelude.{◌≡◌, ◌⊎◌, ◌<◌, ◌≤◌, ℕ, Bool, true, List}
+use Rattle.mark_worklist.specs.Lists.{last_count}
+use Rattle.mark_worklist.specs.declared.marking.Marking.{Marking}
+use Rattle.ephemerons.specs.Notes.{NotesState, group_at}
+
+-- how many pushes on the marking list and how many notes were refused since the objects were none; a count stays at its last value
+pub record RefusedCounts : Type 0 where
+  pub pushes : ℕ
+  pub notes : ℕ
+
+-- nothing was refused
+abbrev pub none_refused : RefusedCounts
+none_refused = record { pushes = 0; notes = 0 }
+
+-- the counts that the owner's list and notes hold
+abbrev pub refused_counts : Marking → List NotesState → RefusedCounts
+refused_counts marking notes = record { pushes = marking.list.refused; notes = (group_at notes 0).refused }
+
+-- more were refused; or the count stands at its last value, where one more can't be seen
+abbrev pub MayHaveRisen : ℕ → ℕ → Type 0
+MayHaveRisen old new = (old < new) ⊎ (last_count ≤ new)
+
+-- a pause told that it walked exactly where a push or a note was refused in it, as far as the counts show it
+pub record IsToldTruly (old new : RefusedCounts) (walked : Bool) : Type 0 where
+  pub no_fewer_pushes : old.pushes ≤ new.pushes
+  pub no_fewer_notes : old.notes ≤ new.notes
+  pub told : (old.pushes < new.pushes) ⊎ (old.notes < new.notes) → walked ≡ true
+  pub only : walked ≡ true → MayHaveRisen old.pushes new.pushes ⊎ MayHaveRisen old.notes new.notes
