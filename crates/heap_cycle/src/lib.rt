@@ -13,7 +13,7 @@
 //! and a sweep are lawful steps of that state, and leave the parts tied to each other: slots, stack and
 //! registrations hold the places of their nodes, and the marks are those of the phase. A place for a new
 //! object is the one that the graph's placement says. A pause line tells truly whether the heap was walked,
-//! and no other command refuses a push or a note.
+//! and no other command changes the counts of refusals.
 //!
 //! What is only tested or not said: that memory suffices, and how long a command takes.
 #![tactic(auto)]

@@ -4,7 +4,7 @@ use Rattle.mark_worklist.specs.Lists.{last_count}
 use Rattle.mark_worklist.specs.declared.marking.Marking.{Marking}
 use Rattle.ephemerons.specs.Notes.{NotesState, group_at}
 
--- how many pushes on the marking list and how many notes were refused since the objects were none; a count stays at its last value
+-- how many pushes on the marking list and how many notes were refused since the heap was made; a count stays at its last value
 pub record RefusedCounts : Type 0 where
   pub pushes : ℕ
   pub notes : ℕ
