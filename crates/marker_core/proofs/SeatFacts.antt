@@ -1,5 +1,5 @@
 -- What a seat may rely on is true of it in every state.
-use Rattle.std.proofs.Common.{◌≡◌, ℕ, ◌-◌, ◌%◌, ◌<◌, List, get_or, true, false, not, cond, ltb, None, Some, sym, ap, ◌∙◌, subst, inl, inr, arith}
+use Rattle.std.proofs.Common.{Contains, ◌≡◌, ℕ, ◌+◌, ◌-◌, ◌%◌, ◌<◌, List, get_or, true, false, not, cond, ltb, None, Some, sym, ap, ◌∙◌, subst, inl, inr, arith}
 use Rattle.std.proofs.lemmas.Bool.{false_from_ne_true}
 use Rattle.object_headers.specs.Layout.{header_word}
 use Rattle.marker_core.specs.declared.states.Body.{Body}
@@ -9,11 +9,11 @@ use Rattle.marker_core.specs.declared.states.Part.{Part}
 use Rattle.marker_core.specs.Layout.{bit_is_set, is_marked, is_traced}
 use Rattle.marker_core.specs.Bodies.{word_in, is_place, holds}
 use Rattle.marker_core.specs.Hands.{role_at_hand}
-use Rattle.marker_core.specs.Views.{times, marks_at, traces_at}
+use Rattle.marker_core.specs.Views.{times, marks_at, traces_at, IsNoted}
 use Rattle.marker_core.specs.Tracing.{IsCovered, PartFits}
 use Rattle.marker_core.specs.Seats.{SeatSide, core_of}
 use Rattle.marker_core.specs.Core.{IsCoreOk}
-use Rattle.marker_core.specs.SeatFacts.{IsHeaderAt, MayBeFound, WordsMayBeFound, IsHandOf, TracedTargetsMarked, IsViewOk, ViewsAreOk}
+use Rattle.marker_core.specs.SeatFacts.{IsHeaderAt, MayBeFound, WordsMayBeFound, IsHandOf, TracedTargetsMarked, TracedPairsNoted, IsViewOk, ViewsAreOk}
 use Rattle.marker_core.proofs.Apart.{body_of_place, place_of_body}
 use Rattle.marker_core.proofs.Counts.{some_is_true, true_is_some}
 use Rattle.marker_core.proofs.Headers.{mark_tells, traced_tells}
@@ -118,6 +118,28 @@ module _ (v : SeatSide) (words : List ℕ) (markers : List MarkerView) (ok : IsC
         | inr held ↦ absurd (no_hands (core_of v words markers) ok (all_spent (core_of v words markers) ok lent) no_hand held.0 held.1)
       ]
 
+  -- where no view is lent, what was noted the mutator noted
+  own_note : v.mutator.lent ≡ 0 → (p offset : ℕ) → IsNoted v.mutator markers p offset → Contains v.mutator.noted (p, offset)
+  own_note lent p offset noted = elim noted [
+    | inl own ↦ own
+    | inr other ↦
+        (let emptied = ok.quiet_while_off.spent_views other.0 other.1 (all_spent (core_of v words markers) ok lent other.0 other.1) in
+        absurd (omega (arith, (subst (λ l. Contains l (p, offset)) emptied.noted other.2).1)))
+  ]
+
+  pairs_noted : v.mutator.on ≡ true → v.mutator.lent ≡ 0 → v.mutator.hand ≡ None → v.mutator.pending ≡ None → TracedPairsNoted v
+  pairs_noted on lent no_hand no_pending b i there traced role key value =
+      elim (ok.pairs_accounted on b i there (own_is_traced b.place traced) role) [
+        | inl null ↦ absurd (omega (arith, null, key))
+        | inr other ↦ elim other [
+          | inl covered ↦ inl (covered_is_marked lent no_pending (word_in b (i + 1)) value covered)
+          | inr noted ↦ elim noted [
+            | inl told ↦ inr (own_note lent b.place (i + 2) told)
+            | inr held ↦ absurd (no_hands (core_of v words markers) ok (all_spent (core_of v words markers) ok lent) no_hand held.0 held.1)
+          ]
+        ]
+      ]
+
   none_lent : v.mutator.on ≡ false → v.mutator.lent ≡ 0
   none_lent off =
       ok.quiet_while_off.lent_views
@@ -156,6 +178,7 @@ module _ (v : SeatSide) (words : List ℕ) (markers : List MarkerView) (ok : IsC
           hand = hand_found on;
           pending_in = may.pending_in;
           traced_targets = strong_targets on;
+          traced_pairs = pairs_noted on;
         };
     at_rest = λ off. record {
       no_pending = ok.quiet_while_off.no_pending off;

@@ -1,12 +1,12 @@
 -- What a seat of the mutator may rely on, whatever the markers do: what a word that it finds tells, and what is true of its view.
-use Rattle.std.specs.Prelude.{◌≡◌, ℕ, ◌+◌, ◌%◌, ◌<◌, Bool, true, false, List, [], length, Some, None, slice_index, Contains}
+use Rattle.std.specs.Prelude.{◌≡◌, ◌⊎◌, ℕ, ◌+◌, ◌%◌, ◌<◌, Bool, true, false, List, [], length, Some, None, slice_index, Contains}
 use Rattle.object_headers.specs.Offsets.{serial_offset, first_field}
 use Rattle.object_headers.specs.Layout.{header_word}
 use Rattle.marker_core.specs.declared.states.Body.{Body}
 use Rattle.marker_core.specs.declared.states.Hand.{Hand}
 use Rattle.marker_core.specs.declared.states.MarkerView.{MarkerView}
 use Rattle.marker_core.specs.declared.states.Part.TheVariants.{Mark, Key}
-use Rattle.marker_core.specs.declared.states.Role.TheVariants.{StrongWord}
+use Rattle.marker_core.specs.declared.states.Role.TheVariants.{StrongWord, KeyWord}
 use Rattle.marker_core.specs.Layout.{bitmap_at, bit_is_set, has_mark, has_traced}
 use Rattle.marker_core.specs.Bodies.{word_in, role_in, is_place, in_body, holds, place_named}
 use Rattle.marker_core.specs.Closed.{IsClosedOver}
@@ -58,9 +58,15 @@ TracedTargetsMarked v =
     (b : Body) (i : ℕ) → Contains v.bodies b → holds v.traced b.place ≡ true → role_in v.types b i ≡ StrongWord → 0 < word_in b i
     → holds v.marked (place_named (word_in b i)) ≡ true
 
+-- each pair of a traced body has a null key, or a value that is null or marked, or was noted
+abbrev pub TracedPairsNoted : SeatSide → Type 0
+TracedPairsNoted v =
+    (b : Body) (i : ℕ) → Contains v.bodies b → holds v.traced b.place ≡ true → role_in v.types b i ≡ KeyWord → 0 < word_in b i
+    → 0 < word_in b (i + 1) → (holds v.marked (place_named (word_in b (i + 1))) ≡ true) ⊎ Contains v.noted (b.place, i + first_field)
+
 -- while marking goes on nothing is dead, what may be kept are bodies, it is closed and has what is marked, and what is in hand
 -- or waits for its mark is an object that may be kept; where there is none and no view is lent, the strong targets of traced
--- bodies are marked
+-- bodies are marked, and their pairs accounted for
 pub record IsMarking (v : SeatSide) : Type 0 where
   pub no_dead : v.dead ≡ []
   pub are_places : (a : ℕ) → holds v.may a ≡ true → is_place v.bodies a ≡ true
@@ -69,6 +75,7 @@ pub record IsMarking (v : SeatSide) : Type 0 where
   pub hand : (h : Hand) → v.hand ≡ Some h → IsHandOf v h
   pub pending_in : (t : ℕ) → v.pending ≡ Some t → holds v.may t ≡ true
   pub traced_targets : v.lent ≡ 0 → v.hand ≡ None → v.pending ≡ None → TracedTargetsMarked v
+  pub traced_pairs : v.lent ≡ 0 → v.hand ≡ None → v.pending ≡ None → TracedPairsNoted v
 
 -- while no marking goes on nothing waits for its mark, nothing is in hand, and no view is lent
 pub record IsAtRest (v : SeatSide) : Type 0 where

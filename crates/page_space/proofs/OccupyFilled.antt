@@ -114,6 +114,11 @@ head_occupies old new b a header serial at least is = record {
   marked = ap (λ (v : SeatView). v.marked) is;
   traced = ap (λ (v : SeatView). v.traced) is;
   dead = ap (λ (v : SeatView). v.dead) is;
+  may = ap (λ (v : SeatView). v.may) is;
+  noted = ap (λ (v : SeatView). v.noted) is;
+  hand = ap (λ (v : SeatView). v.hand) is;
+  pending = ap (λ (v : SeatView). v.pending) is;
+  lent = ap (λ (v : SeatView). v.lent) is;
 }
 
 -- what is filled in a body before it joins the others is nothing to it
@@ -128,6 +133,11 @@ occupies_before old mid new fs b rest inside joins = record {
   marked = joins.marked ∙ ap (λ (v : SeatView). v.marked) rest;
   traced = joins.traced ∙ ap (λ (v : SeatView). v.traced) rest;
   dead = joins.dead ∙ ap (λ (v : SeatView). v.dead) rest;
+  may = joins.may ∙ ap (λ (v : SeatView). (published v b).may) rest;
+  noted = joins.noted ∙ ap (λ (v : SeatView). v.noted) rest;
+  hand = joins.hand ∙ ap (λ (v : SeatView). v.hand) rest;
+  pending = joins.pending ∙ ap (λ (v : SeatView). v.pending) rest;
+  lent = joins.lent ∙ ap (λ (v : SeatView). v.lent) rest;
 }
 
 -- ---- ready

@@ -32,7 +32,8 @@ unfoldable pub nulled : SeatView → ℕ → ℕ → SeatView
 nulled v a zero = v
 nulled v a (suc n) = filled_with (nulled v a n) (a + n) 0
 
--- the body joined the others, words that were filled in it are no longer filled ones, and marks are as before
+-- the body joined the others, words that were filled in it are no longer filled ones, and marks are as before; while marking goes on
+-- it may be kept
 pub record Occupies (old new : SeatView) (b : Body) : Type 0 where
   pub count : new.count ≡ old.count
   pub types : new.types ≡ old.types
@@ -42,3 +43,8 @@ pub record Occupies (old new : SeatView) (b : Body) : Type 0 where
   pub marked : new.marked ≡ old.marked
   pub traced : new.traced ≡ old.traced
   pub dead : new.dead ≡ old.dead
+  pub may : new.may ≡ (published old b).may
+  pub noted : new.noted ≡ old.noted
+  pub hand : new.hand ≡ old.hand
+  pub pending : new.pending ≡ old.pending
+  pub lent : new.lent ≡ old.lent

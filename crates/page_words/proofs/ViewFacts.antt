@@ -59,6 +59,7 @@ view_is law words v heap =
       dead_are_unmarked = λ a h. (place_of_test v.bodies a (ok.dead_are_unmarked a h).0, (ok.dead_are_unmarked a h).1);
       marking = ok.marking;
       at_rest = ok.at_rest;
+      none_noted = heap.none_noted;
     }
 
 -- where no view is lent the bits are those that the view tells

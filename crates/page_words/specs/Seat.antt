@@ -180,3 +180,4 @@ pub record IsView (v : SeatView) : Type 0 where
   pub dead_are_unmarked : (a : ℕ) → holds v.dead a ≡ true → IsPlace v.bodies a × (holds v.marked a ≡ false)
   pub marking : v.on ≡ true → IsMarking (side v)
   pub at_rest : v.on ≡ false → IsAtRest (side v)
+  pub none_noted : v.on ≡ false → v.noted ≡ []

@@ -6,7 +6,9 @@ ghost use Rattle.object_headers.specs.Layout.{header_word};
 ghost use Rattle.marker_core.specs.declared.states.Body.{Body};
 ghost use Rattle.marker_core.specs.Bodies.{IsPlace, holds};
 ghost use Rattle.marker_core.specs.Layout as layout;
+ghost use Rattle.marker_core.specs.Laws.{IsLeastOver};
 ghost use Rattle.marker_core.specs.SeatSteps.{is_grey};
+ghost use Rattle.page_words.specs.Roles.{kind_lists};
 ghost use Rattle.page_words.specs.Seat.{IsWordAt, marked_at, is_grey_at, claimed_at, unmarked_at};
 ghost use Rattle.page_words.specs.Seat.{MaySetStop, ended, stop_set};
 
@@ -107,8 +109,8 @@ impl Words {
         ensures view { seat.new ≡ stop_set seat.old roots on }
         ensures ended { on ≡ true → seat.old.on ≡ true → seat.old.lent ≡ 0
             → seat.new ≡ ended seat.old }
-        ensures may { (p : ℕ) → on ≡ false → IsPlace seat.old.bodies p → holds roots p ≡ true
-            → holds seat.new.may p ≡ true }
+        ensures may { on ≡ false → IsLeastOver (kind_lists seat.old.types) seat.old.bodies roots
+            seat.new.may }
     {
         reach_over_is_least();
         begins_are_steps();

@@ -1,13 +1,15 @@
 // The words, and the calls on words and seat that don't mark. Each reads or writes one word, or sets
 // or clears a bit of one.
 
-ghost use Rattle.std.specs.Prelude.{◌≡◌, ◌≤◌, ◌<◌, true, false, IfOk};
+ghost use Rattle.std.specs.Prelude.{◌≡◌, ◌≤◌, ◌<◌, ◌++◌, ◌∷◌, [], true, false, IfOk};
 ghost use Rattle.marker_core.specs.declared.states.Body.{Body};
 ghost use Rattle.marker_core.specs.Bodies.{IsInBody, IsPlace, holds};
-ghost use Rattle.marker_core.specs.declared.states.Why.TheVariants.{Read};
+ghost use Rattle.marker_core.specs.declared.states.Why.TheVariants.{Read, Weak};
 ghost use Rattle.marker_core.specs.Layout.{stop_at};
+ghost use Rattle.marker_core.specs.Laws.{IsLeastOver};
 ghost use Rattle.marker_core.specs.SeatLaws.{IsReady};
 ghost use Rattle.marker_core.specs.SeatSteps.{seat_can_load, seat_can_store};
+ghost use Rattle.page_words.specs.Roles.{kind_lists};
 ghost use Rattle.page_words.specs.Seat.{side, IsWordAt, empty_view, loaded, OnlyLooked, filled_with};
 ghost use Rattle.page_words.specs.Seat.{stored, rewritten, published, IsUnnamed, retracted};
 ghost use Rattle.page_words.specs.Heaps.{IsCount};
@@ -19,7 +21,7 @@ use gc_graph::NoMemory;
 use ghost_values::GhostValue;
 use marker_core::{
     every_step_keeps, fills_are_steps, idle_is_ok, loads_are_steps, publishes_are_steps,
-    retracts_are_steps, stores_are_steps, words_may_be_found,
+    reach_over_is_least, retracts_are_steps, stores_are_steps, words_may_be_found,
 };
 use std::alloc::Global;
 use std::marker::Model;
@@ -85,7 +87,10 @@ impl Words {
         ensures view { seat.new ≡ loaded seat.old a W.why result }
         ensures read { W.why ≡ Read → OnlyLooked seat.old seat.new }
         ensures beside { W.why ≡ Read → (IsPlace seat.old.bodies a → ⊥) → seat.new ≡ seat.old }
+        ensures weak { W.why ≡ Weak → seat.old.on ≡ true → IsLeastOver (kind_lists seat.old.types)
+            seat.old.bodies (seat.old.may ++ a ∷ []) seat.new.may }
     {
+        reach_over_is_least();
         words_may_be_found();
         loads_are_steps();
         every_step_keeps();

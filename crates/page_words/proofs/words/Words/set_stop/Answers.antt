@@ -1,8 +1,9 @@
-use Rattle.std.proofs.Common.{rules, ◌≡◌, ◌+◌, ◌/◌, true, set, ap, ◌∙◌, sym, subst}
-use Rattle.marker_core.specs.Bodies.{IsPlace, holds}
+use Rattle.std.proofs.Common.{rules, ◌+◌, ◌/◌, set, ap, ◌∙◌, sym, subst}
+use Rattle.marker_core.specs.Laws.{IsLeastOver}
+use Rattle.page_words.specs.Roles.{kind_lists}
 use Rattle.page_words.specs.Seat.{SeatView, IsView, MaySetStop, stop_set}
 use Rattle.page_words.specs.Heaps.{IsHeap}
-use Rattle.page_words.proofs.StopWord.{stops, roots_may_be_kept, ends_marking}
+use Rattle.page_words.proofs.StopWord.{stops, reach_may_be_kept, ends_marking}
 use Rattle.page_words.proofs.words.Words.set_stop.Goals as goal
 
 pub invariant_of-seat : goal.invariant_of-seat
@@ -14,12 +15,12 @@ invariant_of-seat g c =
     (subst (λ (s : SeatView). MaySetStop s c.args.on) (sym c.seat.view_is) may) (search rules) (search rules))
 
 pub returns-clause-may : goal.returns-clause-may
-returns-clause-may g c p off place root =
+returns-clause-may g c off =
     let may : MaySetStop c.args.seat.now c.args.on = search rules in
     let here : MaySetStop c.seat.inside.view.value c.args.on = subst (λ (s : SeatView). MaySetStop s c.args.on) (sym c.seat.view_is) may in
-    let at : IsPlace c.seat.inside.view.value.bodies p = subst (λ (s : SeatView). IsPlace s.bodies p) (sym c.seat.view_is) place in
-    subst (λ (s : SeatView). holds s.may p ≡ true) (sym c.chosen.ensures)
-    (roots_may_be_kept c.reach_over_is_least.ensures c.seat.inside.words.items c.seat.inside.view.value g.roots c.args.on c.seat.invariant here p off at root)
+    subst (λ (s : SeatView). IsLeastOver (kind_lists c.args.seat.now.types) c.args.seat.now.bodies g.roots s.may) (sym c.chosen.ensures)
+    (subst (λ (s : SeatView). IsLeastOver (kind_lists s.types) s.bodies g.roots (stop_set c.seat.inside.view.value g.roots c.args.on).may) c.seat.view_is
+    (reach_may_be_kept c.reach_over_is_least.ensures c.seat.inside.words.items c.seat.inside.view.value g.roots c.args.on c.seat.invariant here off))
 
 pub returns-clause-ended : goal.returns-clause-ended
 returns-clause-ended g c is on alone =
