@@ -113,6 +113,7 @@ module _ (types : List ObjectType) (v u w : SeatView) (m n : Marking) (groups : 
       let bodies = bodies_are r in
       record {
         on = on_is r ∙ ground.on;
+        told = r.marks.on ∙ ground.told;
         known = types_are r ∙ ground.known;
         alone = record { no_hand = r.no_hand; no_pending = r.no_pending; none_lent = lent_is r ∙ ground.alone.none_lent };
         references = subst (AreReferences types) (sym bodies) ground.references;

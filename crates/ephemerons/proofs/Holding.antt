@@ -160,6 +160,12 @@ pub popped_held : (m n : Marking) (popped : Option ℕ) → n.on ≡ m.on → re
 popped_held m n None on refusals none = none_held m n on refusals none.0 none.1
 popped_held m n (Some a) on refusals one = one_held m n a on refusals one
 
+-- and where it gave nothing, nothing is listed
+pub popped_none : (m n : Marking) (popped : Option ℕ)
+    → MatchOption popped ((m.list.items ≡ []) × (n.list.items ≡ [])) (λ a. IsOneMore n.list.items a m.list.items) → IfNone popped (n.list.items ≡ [])
+popped_none m n None none = none.1
+popped_none m n (Some a) one = tt
+
 module _ (m n : Marking) (old new : Option ℕ) (x : IsStillHeld m old n new) (v : SeatView) (groups : List NotesState) (t : ℕ) where
   pub still_weighs : weight (stage v (with_held new n) groups t) ≡ weight (stage v (with_held old m) groups t)
   still_weighs = omega (arith, x.items.long)
@@ -167,6 +173,7 @@ module _ (m n : Marking) (old new : Option ℕ) (x : IsStillHeld m old n new) (v
   pub still_ground : (types : List ObjectType) → IsGround types (stage v (with_held old m) groups t) → IsGround types (stage v (with_held new n) groups t)
   still_ground types ground = record {
     on = ground.on;
+    told = x.on ∙ ground.told;
     known = ground.known;
     alone = ground.alone;
     references = ground.references;
@@ -210,6 +217,7 @@ pub held_ground : (types : List ObjectType) (v : SeatView) (m : Marking) (groups
     → IsGround types (stage v (with_held (Some a) m) groups t) → IsGround types (stage v m groups t)
 held_ground types v m groups t a x = record {
   on = x.on;
+  told = x.told;
   known = x.known;
   alone = x.alone;
   references = x.references;

@@ -19,6 +19,7 @@ pub mod Ends
 pub mod NoPairs
 pub mod Holding
 pub mod TrueOfViews
+pub mod UnderWaySteps
 pub mod SmallHeap
 pub mod StrongWords
 pub mod TracedFields

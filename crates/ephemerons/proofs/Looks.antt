@@ -87,6 +87,7 @@ pub looked_ground : (types : List ObjectType) (s t : Stage) → without_looks t 
 looked_ground types s t same alone ground =
     let first : IsGround types (without_looks s) = record {
       on = ground.on;
+      told = ground.told;
       known = ground.known;
       alone = record { no_hand = refl; no_pending = refl; none_lent = ground.alone.none_lent };
       references = ground.references;
@@ -99,6 +100,7 @@ looked_ground types s t same alone ground =
     let last : IsGround types (without_looks t) = subst (IsGround types) (sym same) first in
     record {
       on = last.on;
+      told = last.told;
       known = last.known;
       alone = alone;
       references = last.references;

@@ -78,6 +78,7 @@ marks_ground types v w m n groups t x ground =
     let bodies : w.bodies ≡ v.bodies = ap (λ (z : SeatView). z.bodies) x.view in
     record {
       on = ap (λ (z : SeatView). z.on) x.view ∙ ground.on;
+      told = x.on ∙ ground.told;
       known = ap (λ (z : SeatView). z.types) x.view ∙ ground.known;
       alone = alone_still v w m n x ground.alone;
       references = subst (AreReferences types) (sym bodies) ground.references;

@@ -106,6 +106,7 @@ pub ground_popped : (types : List ObjectType) (s : Stage) (list : List ℕ) (a :
 ground_popped types s list a refusals one ground = (
   record {
     on = ground.on;
+    told = ground.told;
     known = ground.known;
     alone = ground.alone;
     references = ground.references;

@@ -51,6 +51,7 @@ pub record IsUnrefused (overflow : Bool) (groups : List NotesState) : Type 0 whe
 -- what holds at each stage
 pub record IsGround (types : List ObjectType) (s : Stage) : Type 0 where
   pub on : s.view.on ≡ true
+  pub told : s.on ≡ true
   pub known : s.view.types ≡ types
   pub alone : IsAlone s.view
   pub references : AreReferences types s.view.bodies

@@ -41,11 +41,13 @@ pub record Claims (old new : SeatView) (place ty : ℕ) : Type 0 where
   pub marks : heap_and_marks new ≡ heap_and_marks (with_trace old place)
   pub hand : IsPast new place ty 1
   pub no_pending : new.pending ≡ None
+  pub noted : new.noted ≡ old.noted
 
 -- the object was only looked at
 pub record OnlyLooks (old new : SeatView) : Type 0 where
   pub marks : heap_and_marks new ≡ heap_and_marks old
   pub alone : IsAlone new
+  pub noted : new.noted ≡ old.noted
 
 -- ---- its words are traced
 

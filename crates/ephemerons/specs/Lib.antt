@@ -3,11 +3,14 @@ pub mod Marking
 pub mod Notes
 pub mod InHand
 pub mod Traces
+pub mod UnderWay
 pub mod Fixpoint
 -- Lemmas that the crates above cite too, since a crate's proofs/ can't be cited from another.
 pub mod Fields
 pub mod PairFields
 pub mod BodyLeads
 pub mod ListedMarks
+pub mod Accounted
+pub mod UnderWayStays
 -- The heap on which tracing is tried, for the tests alone.
 pub mod SmallHeap

@@ -24,12 +24,6 @@ no_notes = record { notes = []; overflow = false; refused = 0 }
 abbrev pub cleared : NotesState → NotesState
 cleared s = record s { notes = []; overflow = false }
 
--- there is one group, without notes, and none was refused since it was cleared
-pub record IsUnnoted (groups : List NotesState) : Type 0 where
-  pub one : length groups ≡ 1
-  pub empty : (slice_index_or groups 0 no_notes).notes ≡ []
-  pub unrefused : (slice_index_or groups 0 no_notes).overflow ≡ false
-
 -- whether notes were refused, and how many
 abbrev pub refusals_in : NotesState → Refusals
 refusals_in s = record { told = s.overflow; count = s.refused }

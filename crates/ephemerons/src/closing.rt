@@ -36,6 +36,7 @@ pub fn fixpoint(
 ) -> u32
     requires heap { IsSeatOf space.now seat.old }
     requires on { seat.old.on ≡ true }
+    requires marking { marking.old.on ≡ seat.old.on }
     requires types { types.now ≡ seat.old.types }
     requires alone { IsAlone seat.old }
     requires listed { (p : ℕ) → Contains marking.old.list.items p → IsPlace seat.old.bodies p }

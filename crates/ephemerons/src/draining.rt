@@ -174,7 +174,7 @@ fn drain_pairless(
 }
 
 /// Whether a type has a pair.
-fn has_pairs(types: &TypeTable) -> bool
+pub(crate) fn has_pairs(types: &TypeTable) -> bool
     ensures { result ≡ false → HaveNoPairs types.now }
 {
     for ty in 0..types.count() {

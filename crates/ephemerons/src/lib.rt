@@ -5,19 +5,22 @@
 //!
 //! The parts: `Pairs` (notes of pairs whose key was not marked yet, and of objects that may still
 //! have to be traced), `mark` (one object, as a root does it), `trace` (one object that was
-//! claimed), `fixpoint` (all that is marked, until nothing asks for more). Below is `page_words`.
+//! claimed), `trace_listed` (so many objects of the list), `fixpoint` (all that is marked, until
+//! nothing asks for more). Below is `page_words`.
 //!
 //! An object is claimed, and traced to its end before the next one is. Meanwhile it is in the step
 //! machine's hand: its strong fields and pairs are read in the order of their offsets, and what a
 //! strong field or a value names is marked by a call each time, marked before or not.
 //!
 //! What is proved: `trace` marks just what strong fields name and the values of pairs whose key is
-//! marked, and notes just the other pairs with a key, in their order. `fixpoint` ends with a closed
-//! marked set in which nothing is grey, and marks nothing but what each closed set holds that holds
-//! what was marked before; its answer is how many objects it traced. Neither needs memory: where a
-//! push or a note is refused, the heap is walked, and a count tells of it. It asks that no view is
-//! lent, nothing is in hand and nothing waits for its mark, and leaves that so. What is marked is
-//! something that the cycle may keep.
+//! marked, and notes just the other pairs with a key, in their order. `trace_listed` keeps marking
+//! under way: its list and its notes account for all that is left to do, unless one tells that it
+//! was refused something. `fixpoint` ends with a closed marked set in which nothing is grey, and
+//! marks nothing but what each closed set holds that holds what was marked before. Both answer how
+//! many objects they traced. None needs memory: where a push or a note was refused, the fixpoint
+//! walks the heap, and a count tells of it. It asks that no view is lent, nothing is in hand and
+//! nothing waits for its mark, and leaves that so. What is marked is something that the cycle may
+//! keep.
 //!
 //! What is only tested or not said: how long it takes. That the tree over keys tells all notes of a
 //! key is tested in `part_tests`.
@@ -29,6 +32,7 @@ mod marks;
 mod notes;
 mod pair_fields;
 mod settling;
+mod stepping;
 mod strong_fields;
 mod tracing;
 #[cfg(test)]
@@ -38,4 +42,5 @@ mod walking;
 pub use closing::fixpoint;
 pub use marks::mark;
 pub use notes::{Note, Pairs};
+pub use stepping::trace_listed;
 pub use tracing::trace;

@@ -1,7 +1,7 @@
 // Marks of objects, and the words of their fields.
 
 ghost use Rattle.std.specs.Prelude.{◌≡◌, ◌⊎◌, ℕ, ◌^◌, ◌<◌, true, false};
-ghost use Rattle.std.specs.Prelude.{Contains, MatchOption, Some, IfSome, IfNone};
+ghost use Rattle.std.specs.Prelude.{Contains, MatchOption, Some, IfSome, IfNone, []};
 ghost use Rattle.mark_worklist.specs.declared.marking.Marking.{Marking};
 ghost use Rattle.object_headers.specs.Offsets.{reference_to};
 ghost use Rattle.marker_core.specs.Bodies.{IsPlace, IsReference};
@@ -79,6 +79,7 @@ pub(crate) fn mark_reference(
 ) -> bool
     requires heap { seat.old.count ≡ words.now }
     requires on { seat.old.on ≡ true }
+    requires marking { marking.old.on ≡ seat.old.on }
     requires alone { seat.old.lent ≡ 0 }
     requires may { MayMark seat.old reference }
     ensures marks { ListsMarks seat.old marking.old seat.new marking.new }
@@ -100,6 +101,7 @@ pub(crate) fn mark_reference(
 pub fn mark(words: &Words, seat: &mut MutatorSeat, marking: &mut Marking, place: u32) -> bool
     requires heap { seat.old.count ≡ words.now }
     requires on { seat.old.on ≡ true }
+    requires marking { marking.old.on ≡ seat.old.on }
     requires alone { seat.old.lent ≡ 0 }
     requires place { IsPlace seat.old.bodies place }
     requires may { holds seat.old.may place ≡ true }
@@ -107,6 +109,7 @@ pub fn mark(words: &Words, seat: &mut MutatorSeat, marking: &mut Marking, place:
     ensures target { holds seat.new.marked place ≡ true }
     ensures only { (p : ℕ) → holds seat.new.marked p ≡ true
         → (holds seat.old.marked p ≡ true) ⊎ (place ≡ p) }
+    ensures noted { seat.new.noted ≡ seat.old.noted }
     ensures found { result ≡ true
         → weight_of seat.new marking.new < weight_of seat.old marking.old }
     ensures still { result ≡ false → (heap_and_marks seat.new ≡ heap_and_marks seat.old)
@@ -118,6 +121,7 @@ pub fn mark(words: &Words, seat: &mut MutatorSeat, marking: &mut Marking, place:
 }
 
 /// Marks what a field word names. Its place where it was not marked: the caller lists or traces it.
+#[inline(always)]
 pub(crate) fn mark_named(words: &Words, seat: &mut MutatorSeat, reference: u64) -> Option<u32>
     requires heap { seat.old.count ≡ words.now }
     requires on { seat.old.on ≡ true }
@@ -154,6 +158,7 @@ fn place_named(reference: u64) -> u32
 }
 
 /// Marks an object. Its place where it was not marked.
+#[inline(always)]
 fn mark_unlisted(words: &Words, seat: &mut MutatorSeat, place: u32) -> Option<u32>
     requires heap { seat.old.count ≡ words.now }
     requires on { seat.old.on ≡ true }
@@ -190,8 +195,10 @@ pub(crate) fn list_held(marking: &mut Marking, held: Option<u32>)
 }
 
 /// The object that was held back, or else one that was listed.
+#[inline(always)]
 pub(crate) fn next_listed(marking: &mut Marking, held: Option<u32>) -> Option<u32>
     ensures next { IsStillHeld marking.old held marking.new result }
+    ensures none { IfNone result (marking.new.list.items ≡ []) }
 {
     match held {
         Some(place) => Some(place),

@@ -33,6 +33,7 @@ pub(crate) fn trace_pair(
     offset: u32,
 )
     requires heap { seat.old.count ≡ words.now }
+    requires marking { marking.old.on ≡ seat.old.on }
     requires tracing { IsTracing seat.old }
     requires marked { holds seat.old.marked holder ≡ true }
     requires hand { IsAt pair_offsets seat.old holder offset Read }

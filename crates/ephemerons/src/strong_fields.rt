@@ -22,6 +22,7 @@ use type_table::TypeTable;
 /// Traces an object in hand, of a type without pairs: marks what its strong fields name. All of it
 /// is listed but what the last one names: that is the answer, if it was not marked. So a chain is
 /// traced without the list.
+#[inline(always)]
 pub(crate) fn trace_strong(
     words: &Words,
     types: &TypeTable,
@@ -31,6 +32,7 @@ pub(crate) fn trace_strong(
     ty: u32,
 ) -> Option<u32>
     requires heap { seat.old.count ≡ words.now }
+    requires marking { marking.old.on ≡ seat.old.on }
     requires types { seat.old.types ≡ types.now }
     requires tracing { IsTracing seat.old }
     requires pairless { HaveNoPairs types.now }
@@ -40,6 +42,7 @@ pub(crate) fn trace_strong(
     ensures marks { ListsMarks seat.old marking.old seat.new (with_held result marking.new) }
     ensures within { GrowsWithin types.now seat.old seat.new }
     ensures strong { HasStrongMarked types.now seat.new place }
+    ensures noted { seat.new.noted ≡ seat.old.noted }
     ensures hand { seat.new.hand ≡ None }
 {
     seat.bodies_lie_apart();
@@ -54,6 +57,7 @@ pub(crate) fn trace_strong(
 }
 
 /// Marks and lists what the first words that the hand comes to name, which are strong fields.
+#[inline(always)]
 fn trace_words(
     words: &Words,
     seat: &mut MutatorSeat,
@@ -63,6 +67,7 @@ fn trace_words(
     offsets: &[u32],
 )
     requires heap { seat.old.count ≡ words.now }
+    requires marking { marking.old.on ≡ seat.old.on }
     requires tracing { IsTracing seat.old }
     requires body { HasType seat.old.bodies place ty }
     requires strong { (offset : ℕ) → Contains offsets.now offset
@@ -74,6 +79,7 @@ fn trace_words(
     ensures within { GrowsWithin seat.old.types seat.old seat.new }
     ensures named { (offset : ℕ) → Contains offsets.now offset
         → HasTargetMarked seat.new place offset }
+    ensures noted { seat.new.noted ≡ seat.old.noted }
     ensures hand { seat.new.hand
         ≡ hand_over place ty (drop (length offsets.now) (traced_in seat.old.types ty)) }
 {
@@ -86,6 +92,7 @@ fn trace_words(
 
 /// Marks what the strong field in hand names. Its place where it was not marked: the caller lists or
 /// traces it.
+#[inline(always)]
 pub(crate) fn trace_strong_word(
     words: &Words,
     seat: &mut MutatorSeat,
@@ -111,6 +118,7 @@ pub(crate) fn trace_strong_word(
 
 /// Reads the word that the hand wants, and marks what it names: then the hand moves on. Its place
 /// where it was not marked.
+#[inline(always)]
 pub(crate) fn trace_target(
     words: &Words,
     seat: &mut MutatorSeat,

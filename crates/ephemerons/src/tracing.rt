@@ -41,6 +41,7 @@ pub fn trace(
     place: u32,
 )
     requires heap { IsSeatOf space.now seat.old }
+    requires marking { marking.old.on ≡ seat.old.on }
     requires types { seat.old.types ≡ types.now }
     requires tracing { IsTracing seat.old }
     requires claimed { holds seat.old.traced place ≡ true }
@@ -72,6 +73,7 @@ pub(crate) fn trace_fields(
     ty: u32,
 )
     requires heap { seat.old.count ≡ words.now }
+    requires marking { marking.old.on ≡ seat.old.on }
     requires types { seat.old.types ≡ types.now }
     requires tracing { IsTracing seat.old }
     requires body { HasType seat.old.bodies place ty }
@@ -104,6 +106,7 @@ fn trace_word(
     word: TracedWord,
 )
     requires heap { seat.old.count ≡ words.now }
+    requires marking { marking.old.on ≡ seat.old.on }
     requires tracing { IsTracing seat.old }
     requires marked { holds seat.old.marked place ≡ true }
     requires hand { IsAtWord seat.old place word }
@@ -157,6 +160,7 @@ pub(crate) fn trace_grey(
 
 /// The same where no type has a pair: the strong fields are all that there is to trace. Of what was
 /// marked the answer has one object, which is held back, and the others are listed.
+#[inline(always)]
 pub(crate) fn trace_pairless(
     space: &Space,
     types: &TypeTable,
@@ -189,6 +193,7 @@ pub(crate) fn trace_pairless(
 
 /// Claims an object. Its type where it was marked and not yet traced: one look at the header serves
 /// both.
+#[inline(always)]
 pub(crate) fn claim(words: &Words, seat: &mut MutatorSeat, place: u32) -> Option<u32>
     requires heap { seat.old.count ≡ words.now }
     requires on { seat.old.on ≡ true }

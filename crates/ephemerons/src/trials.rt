@@ -124,6 +124,7 @@ fn traced(alloc: Global, key: u64, value: u64, strong: u64) -> Option<Trial>
     ensures traced { IfSome result (λ t. IsTraced t.seat key value strong) }
     ensures listed { IfSome result (λ t.
         (p : ℕ) → Contains t.marking.list.items p → IsEitherPlace p) }
+    ensures told { IfSome result (λ t. t.marking.on ≡ true) }
     ensures noted { IfSome result (λ t.
         (note : Note) → Contains t.notes.notes note → IsEitherPair note) }
 {

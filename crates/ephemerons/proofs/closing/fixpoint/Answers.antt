@@ -1,4 +1,4 @@
-use Rattle.std.proofs.Common.{arith, subst, sym, List}
+use Rattle.std.proofs.Common.{arith, subst, sym, List, ◌∙◌}
 use Rattle.mark_worklist.specs.Refusals.{TellsRefused, refusals_of}
 use Rattle.ephemerons.specs.Notes.{NotesState, group_at, refusals_in}
 use Rattle.ephemerons.specs.Fixpoint.{IsGround, stage}
@@ -12,6 +12,7 @@ pub settle_all-requires-clause-ground : goal.settle_all-requires-clause-ground
 settle_all-requires-clause-ground c =
     subst (λ (gs : List NotesState). IsGround c.args.types.now (stage c.args.seat.now c.args.marking.now gs 0)) (sym c.begin_indexes.ensures) (record {
       on = c.requires.on;
+      told = c.requires.marking ∙ c.requires.on;
       known = sym c.requires.types;
       alone = c.requires.alone;
       references = are_references c.args.seat.now c.bodies_lie_apart.ensures c.requires.on c.args.types.now (sym c.requires.types);

@@ -52,6 +52,7 @@ loop-offset-preserved c =
         | inl earlier ↦ target_stays v w c.loop-offset.marking c.list_held.new.marking c.args.place o marks (c.loop-offset.invariant.named o earlier)
         | inr here ↦ subst (HasTargetMarked w c.args.place) here c.trace_strong_word-fresh.ensures.named
       ];
+      noted = c.trace_strong_word-fresh.ensures.noted ∙ c.loop-offset.invariant.noted;
       hand = hand_at_next u.types v w c.args.place c.args.ty c.loop-offset.offset-index types within c.loop-offset.invariant.hand
           c.trace_strong_word-fresh.ensures.hand;
     }

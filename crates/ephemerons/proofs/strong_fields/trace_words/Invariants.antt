@@ -10,5 +10,6 @@ invariant-loop-offset l = record {
   marks : ListsMarks l.initial.seat l.initial.marking l.seat l.marking;
   within : GrowsWithin l.initial.seat.types l.initial.seat l.seat;
   named : (offset : ℕ) → Contains (take l.offset-index l.offsets) offset → HasTargetMarked l.seat l.place offset;
+  noted : l.seat.noted ≡ l.initial.seat.noted;
   hand : l.seat.hand ≡ hand_over l.place l.ty (drop l.offset-index (traced_in l.initial.seat.types l.ty));
 }

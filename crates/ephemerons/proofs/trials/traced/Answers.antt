@@ -1,12 +1,12 @@
-use Rattle.std.proofs.Common.{List, length, refl, not, sym, ap, ◌∙◌, subst, inl, inr, arith}
+use Rattle.std.proofs.Common.{◌≡◌, true, List, length, refl, not, sym, ap, ◌∙◌, subst, inl, inr, arith}
 use Rattle.gc_graph.specs.State.{ObjectType}
 use Rattle.mark_worklist.specs.Lists.{ListState}
 use Rattle.ephemerons.specs.BodyGraph.{HasPair}
 use Rattle.ephemerons.specs.Notes.{NotesState}
 use Rattle.ephemerons.specs.SmallHeap.{two_bodies}
-use Rattle.marker_core.specs.Bodies.{IsPlace}
+use Rattle.marker_core.specs.Bodies.{IsPlace, is_place}
 use Rattle.page_words.specs.Seat.{SeatView}
-use Rattle.ephemerons.proofs.SmallHeap.{holder_there, other_there, place_either, pair_either, small_traced}
+use Rattle.ephemerons.proofs.SmallHeap.{holder_there, place_either, pair_either, small_traced}
 use Rattle.ephemerons.proofs.trials.traced.Goals as goal
 
 pub mark-requires-clause-place : goal.mark-requires-clause-place
@@ -16,8 +16,7 @@ mark-requires-clause-place c =
 
 pub mark-requires-clause-may : goal.mark-requires-clause-may
 mark-requires-clause-may c =
-    c.set_stop.ensures.may 0 refl
-    (subst (λ bs. IsPlace bs 0) (sym c.write.ensures.small.bodies) (holder_there c.args.key c.args.value c.args.strong)) refl
+    (c.set_stop.ensures.may refl).roots_in 0 refl (subst (λ bs. is_place bs 0 ≡ true) (sym c.write.ensures.small.bodies) refl)
 
 pub claim-requires-clause-place : goal.claim-requires-clause-place
 claim-requires-clause-place c =
@@ -30,10 +29,8 @@ returns-clause-traced c =
     small_traced c.write.new.seat c.set_stop.new.seat c.mark.new.seat c.claim.new.seat c.trace.new.seat (not c.mark.result) c.args.key c.args.value c.args.strong
     c.in_ok-claim.field-0 _ _ c.write.ensures.small (c.bodies_lie_apart.ensures.at_rest c.write.ensures.small.quiet.off).none_lent c.set_stop.ensures.view
     c.mark.ensures.view c.in_ok-claim.ensures.claimed c.trace.ensures.marks c.trace.ensures.hand
-    (c.set_stop.ensures.may 0 refl
-    (subst (λ bs. IsPlace bs 0) (sym c.write.ensures.small.bodies) (holder_there c.args.key c.args.value c.args.strong)) refl)
-    (c.set_stop.ensures.may 256 refl
-    (subst (λ bs. IsPlace bs 256) (sym c.write.ensures.small.bodies) (other_there c.args.key c.args.value c.args.strong)) refl)
+    ((c.set_stop.ensures.may refl).roots_in 0 refl (subst (λ bs. is_place bs 0 ≡ true) (sym c.write.ensures.small.bodies) refl))
+    ((c.set_stop.ensures.may refl).roots_in 256 refl (subst (λ bs. is_place bs 256 ≡ true) (sym c.write.ensures.small.bodies) refl))
 
 pub returns-clause-listed : goal.returns-clause-listed
 returns-clause-listed c p there = elim (c.trace.ensures.marks.listed p there) [

@@ -1,0 +1,40 @@
+-- While marking is under way and nothing was refused, the list and the notes account for all that is left to do.
+use Rattle.std.proofs.Common.{◌≡◌, ℕ, ◌+◌, ◌-◌, true, false, List, [], ◌∷◌, None, sym, ap, ◌∙◌, subst, inl, inr, arith}
+use Rattle.std.specs.List.{Contains}
+use Rattle.gc_graph.specs.State.{ObjectType}
+use Rattle.gc_graph.specs.declared.kind.Kind.TheVariants.{Pair}
+use Rattle.type_table.specs.Types.{kinds_of as kinds_in}
+use Rattle.mark_worklist.specs.declared.marking.Marking.{Marking}
+use Rattle.marker_core.specs.Bodies.{holds, word_in}
+use Rattle.page_words.specs.Seat.{SeatView, IsView}
+use Rattle.ephemerons.specs.Notes.{NotesState, HasPairsNoted, IsNotedIn, note_of}
+use Rattle.ephemerons.specs.UnderWay.{IsUnderWay}
+use Rattle.ephemerons.specs.Fixpoint.{IsAccounted, IsUnrefused}
+use Rattle.ephemerons.specs.Fields.{field_at_offset}
+use Rattle.ephemerons.specs.BodyLeads.{role_of_offset}
+
+module _ (v : SeatView) (m : Marking) (x : NotesState) (view : IsView v) (h : IsUnderWay v m x) where
+  -- the pairs of traced objects
+  pairs_noted : x.overflow ≡ false → (p : ℕ) → holds v.traced p ≡ true → HasPairsNoted v.types v p (IsNotedIn (x ∷ []))
+  pairs_noted fine p traced offset b k q there at pair key value =
+      let field = field_at_offset Pair (kinds_in v.types b.ty) offset pair in
+      let next : offset + 1 - 2 ≡ offset - 2 + 1 = omega (arith, field.2) in
+      let back : offset - 2 + 2 ≡ offset = omega (arith, field.2) in
+      let at_value : word_in b (offset - 2 + 1) ≡ q + 1 = ap (word_in b) (sym next) ∙ value in
+      let target : word_in b (offset - 2 + 1) - 1 ≡ q = omega (arith, at_value) in
+      elim ((view.marking h.on).traced_pairs h.alone.none_lent h.alone.no_hand h.alone.no_pending b (offset - 2) there
+      (subst (λ a. holds v.traced a ≡ true) (sym at) traced) (role_of_offset v.types b Pair offset pair) (omega (arith, key)) (omega (arith, at_value))) [
+        | inl marked ↦ inl (subst (λ a. holds v.marked a ≡ true) target marked)
+        | inr noted ↦ inr (
+          0,
+          omega arith,
+          subst (λ o. Contains x.notes (note_of p o)) back
+              (subst (λ a. Contains x.notes (note_of a (offset - 2 + 2))) at (h.recorded fine (b.place, offset - 2 + 2) noted)),
+        )
+      ]
+
+  pub under_way_is_accounted : (types : List ObjectType) → v.types ≡ types → IsUnrefused m.overflow (x ∷ []) → IsAccounted types None v m.list.items (x ∷ [])
+  under_way_is_accounted types known fine = record {
+    grey = λ p marked white. inr (inl (h.grey fine.pushes p marked white));
+    pairs = λ p traced. subst (λ (ts : List ObjectType). HasPairsNoted ts v p (IsNotedIn (x ∷ []))) known (pairs_noted (fine.notes 0 (omega arith)) p traced);
+  }
