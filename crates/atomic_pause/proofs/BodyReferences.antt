@@ -38,9 +38,9 @@ pub record AreAlive (setup : Setup) (nodes : List Node) (v : SeatView) : Type 0 
   pub alive : (n : ℕ) → IsDead nodes n → ⊥
 
 -- marking moves no object, and no node dies before it is over
-pub alive_marked : (setup : Setup) (nodes : List Node) (root : ℕ → Type 0) (v new : SeatView) → AreOfValid setup nodes → IsHeld nodes v → v.dead ≡ []
-    → MarksReachable setup.types root v new → AreAlive setup nodes new
-alive_marked setup nodes root v new valid held none marks = record {
+pub alive_marked : (setup : Setup) (nodes : List Node) (root may : ℕ → Type 0) (v new : SeatView) → AreOfValid setup nodes → IsHeld nodes v → v.dead ≡ []
+    → MarksReachable setup.types root may v new → AreAlive setup nodes new
+alive_marked setup nodes root may v new valid held none marks = record {
   known = known_nodes setup nodes valid;
   held = marks.bodies ∙ held.bodies;
   alive = none_dead nodes v held none;

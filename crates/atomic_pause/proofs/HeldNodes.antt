@@ -29,12 +29,12 @@ dead_if_unmarked v b is there =
       and-true true = refl
       and-true false = refl
 
-pub judged_after : (types : List ObjectType) (root : ℕ → Type 0) (v new : SeatView) → MarksReachable types root v new → IsJudged new
-judged_after types root v new marks b there = dead_if_unmarked new b marks.dead there
+pub judged_after : (types : List ObjectType) (root may : ℕ → Type 0) (v new : SeatView) → MarksReachable types root may v new → IsJudged new
+judged_after types root may v new marks b there = dead_if_unmarked new b marks.dead there
 
-pub held_judged : (nodes : List Node) (types : List ObjectType) (root : ℕ → Type 0) (v new : SeatView) → v.dead ≡ [] → IsHeld nodes v → MarksReachable types root v new
+pub held_judged : (nodes : List Node) (types : List ObjectType) (root may : ℕ → Type 0) (v new : SeatView) → v.dead ≡ [] → IsHeld nodes v → MarksReachable types root may v new
     → IsHeld (condemn (kept_of (holds new.marked) nodes) nodes) new
-held_judged nodes types root v new none held marks =
+held_judged nodes types root may v new none held marks =
     let kept : List Bool = kept_of (holds new.marked) nodes in
     let after : List Node = condemn kept nodes in
     let same : bodies_of after ≡ bodies_of nodes =

@@ -7,3 +7,4 @@ pub mod WeakBodies
 pub mod WeakJudged
 pub mod PreparedNodes
 pub mod PausedNodes
+pub mod MayMarks

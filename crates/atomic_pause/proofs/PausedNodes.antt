@@ -1,12 +1,13 @@
 -- The nodes through a pause.
-use Rattle.std.proofs.Common.{◌≡◌, ℕ, ◌-◌, ◌<◌, ◌≤◌, Bool, true, false, List, [], length, Option, Some, get_or, map, reverse, not, refl, sym, ap, ◌∙◌, subst, inl, inr, arith}
+use Rattle.std.proofs.Common.{◌≡◌, ℕ, ◌-◌, ◌^◌, ◌<◌, ◌≤◌, Bool, true, false, List, [], length, Option, Some, get_or, map, reverse, not, refl, sym, ap, ◌∙◌, subst, inl, inr, arith}
 use mathlib.Core.Logic.{◌⊎◌}
 use Rattle.std.specs.List.{Contains, count_by}
 use Rattle.std.proofs.lemmas.List.Elements.{All-weaker, filter_agree}
+use Rattle.std.proofs.lemmas.List.Sums.{count_by-le-length}
 use Rattle.gc_graph.specs.declared.action.ActionKind.{ActionKind}
 use Rattle.gc_graph.specs.declared.kind.Kind.{Kind}
 use Rattle.gc_graph.specs.Graph.{has}
-use Rattle.gc_graph.specs.State.{Setup, ObjectType, no_type, Node, Life, node_at, Registration, is_live, is_dead, objects_of}
+use Rattle.gc_graph.specs.State.{Setup, ObjectType, no_type, Node, Life, node_at, Registration, is_there, is_live, is_dead, objects_of}
 use Rattle.gc_graph.specs.State.Life.{Live, Dead, Gone}
 use Rattle.gc_graph.specs.Valid.{IsTyped}
 use Rattle.gc_graph.specs.Pause.{judged, condemn, live_count, dead_count, dies, run_order, prefinalised}
@@ -16,46 +17,59 @@ use Rattle.callback_table.specs.Registry.{IsRegistered, RegistryView, registrati
 use Rattle.mark_worklist.specs.declared.marking.Marking.{Marking}
 use Rattle.marker_core.specs.declared.states.Body.{Body}
 use Rattle.marker_core.specs.Bodies.{holds}
-use Rattle.page_words.specs.Seat.{SeatView}
+use Rattle.page_words.specs.Seat.{SeatView, IsView}
 use Rattle.page_space.specs.Space.{SpaceView, IsSpaceOf}
 use Rattle.ephemerons.specs.Fixpoint.{ListsMarks}
-use Rattle.ephemerons.specs.ListedMarks.{ListsMarks-then}
+use Rattle.ephemerons.specs.Marking.{traced_count}
 use Rattle.prefinalizer_effects.specs.Prepared.{setup_of, IsPrepared}
 use Rattle.nodes_in_words.specs.Nodes.{place_of, bodies_of, IsHeld, AreOfValid}
 use Rattle.nodes_in_words.specs.Places.{kept_of}
-use Rattle.nodes_in_words.specs.Judgement.{nodes_after, IsReached}
+use Rattle.nodes_in_words.specs.Judgement.{nodes_after}
 use Rattle.nodes_in_words.specs.NodeBodies.{length-bodies}
 use Rattle.nodes_in_words.specs.NodeLives.{life-condemn, live-condemn, live_and_dead, none_dead}
 use Rattle.nodes_in_words.specs.WeakNodes.{life-after, place-after, length-after, live-after, count-stays}
-use Rattle.atomic_pause.specs.Marking.{IsScanned, IsRootPlace, MarksReachable, marked_count}
-use Rattle.atomic_pause.specs.Pausing.{IsPaused}
-use Rattle.atomic_pause.proofs.MarkEnds.{IsMarkedIn, roots_reach}
+use Rattle.atomic_pause.specs.Marking.{IsScanned, IsRootPlace, IsMayOrScanned, IsMarkedIn, MarksReachable, marked_count, with_may}
+use Rattle.atomic_pause.specs.Pausing.{IsKeptBetween, IsPaused}
 use Rattle.atomic_pause.proofs.HeldNodes.{judged_after}
 use Rattle.atomic_pause.proofs.PreparedNodes.{typed_after, all_named}
 use Rattle.atomic_pause.proofs.WeakJudged.{IsMarked, both_cleared, marked_is, held_after, space_marked, space_cleared, judged_cleared}
 
 -- ---- the roots are marked
 
--- marking began with nothing marked (v); first what the slots name was marked (u), then what the stack hits (w), and marking
--- came to its end (y)
+-- marking was under way (v); first what the slots name was marked (u), then what the stack hits (w), and marking came to its
+-- end (y)
 pub roots_marked : (types : List ObjectType) (slots : List (Option ℕ)) (precise : Bool) (stack : List ℕ) (v u w y : SeatView) (l m n : Marking)
-    → v.marked ≡ [] → ListsMarks v l u m → ((p : ℕ) → Contains slots (Some p) → holds u.marked p ≡ true)
-    → ((p : ℕ) → holds u.marked p ≡ true → (holds v.marked p ≡ true) ⊎ Contains slots (Some p)) → ListsMarks u m w n
+    → IsView v → v.on ≡ true → ((p : ℕ) → Contains slots (Some p) → holds v.may p ≡ true) → ListsMarks v l u m
+    → ((p : ℕ) → Contains slots (Some p) → holds u.marked p ≡ true)
+    → ((p : ℕ) → holds u.marked p ≡ true → (holds v.marked p ≡ true) ⊎ Contains slots (Some p)) → ListsMarks (with_may u w.may) m w n
     → ((p : ℕ) → IsScanned precise u.bodies stack p → holds w.marked p ≡ true)
-    → ((p : ℕ) → holds w.marked p ≡ true → (holds u.marked p ≡ true) ⊎ IsScanned precise u.bodies stack p) → MarksReachable types (IsMarkedIn w) w y
-    → MarksReachable types (IsRootPlace slots precise v.bodies stack) v y
-roots_marked types slots precise stack v u w y l m n none visit slots_in only_slots scan hits_in only_hits ends =
+    → ((p : ℕ) → holds w.marked p ≡ true → (holds u.marked p ≡ true) ⊎ IsScanned precise u.bodies stack p)
+    → MarksReachable types (IsMarkedIn w) (IsMarkedIn w) w y
+    → MarksReachable types (IsRootPlace slots precise v.bodies stack) (IsMayOrScanned precise v stack) v y
+roots_marked types slots precise stack v u w y l m n view on slots_may visit slots_in only_slots scan hits_in only_hits ends =
     let same : u.bodies ≡ v.bodies = ap (λ (z : SeatView). z.bodies) visit.view in
-    roots_reach types (IsRootPlace slots precise v.bodies stack) v w y l n none (ListsMarks-then v u w l m n visit scan)
-    (λ p root. elim root [
-      | inl slot ↦ scan.marked p (slots_in p slot)
-      | inr hit ↦ hits_in p (subst (λ bs. IsScanned precise bs stack p) (sym same) hit)
-    ])
-    (λ p marked. elim (only_hits p marked) [
-      | inl before ↦ elim (only_slots p before) [ inl first ↦ inl first | inr slot ↦ inr (inl slot) ]
-      | inr hit ↦ inr (inr (subst (λ bs. IsScanned precise bs stack p) same hit))
-    ])
-    ends
+    record {
+      count = ends.count ∙ ap (λ (z : SeatView). z.count) scan.view ∙ ap (λ (z : SeatView). z.count) visit.view;
+      known = ends.known ∙ ap (λ (z : SeatView). z.types) scan.view ∙ ap (λ (z : SeatView). z.types) visit.view;
+      off = ends.off;
+      bodies = ends.bodies ∙ ap (λ (z : SeatView). z.bodies) scan.view ∙ same;
+      roots = λ p root. ends.roots p (elim root [
+        | inl slot ↦ scan.marked p (slots_in p slot)
+        | inr hit ↦ hits_in p (subst (λ bs. IsScanned precise bs stack p) (sym same) hit)
+      ]);
+      closed = ends.closed;
+      least = λ test closed held p marked. ends.least test closed (λ q early. held q (elim (only_hits q early) [
+        | inl before ↦ inl (elim (only_slots q before) [ inl first ↦ (view.marking on).marked_in q first | inr slot ↦ slots_may q slot ])
+        | inr hit ↦ inr (subst (λ bs. IsScanned precise bs stack q) same hit)
+      ])) p marked;
+      dead = ends.dead;
+    }
+
+-- and nothing was traced meanwhile
+pub traced_so_far : (v u w : SeatView) (l m n : Marking) → ListsMarks v l u m → ListsMarks (with_may u w.may) m w n → traced_count w ≡ traced_count v
+traced_so_far v u w l m n visit scan =
+    ap (count_by (λ (b : Body). holds w.traced b.place)) (ap (λ (z : SeatView). z.bodies) scan.view ∙ ap (λ (z : SeatView). z.bodies) visit.view)
+    ∙ ap (λ ts. count_by (λ (b : Body). holds ts b.place) v.bodies) (scan.traced ∙ visit.traced)
 
 -- ---- after weak clearing prefinalizers can run
 
@@ -72,22 +86,22 @@ types_alone setup other nodes same typed =
       kinds_at : List ObjectType → ℕ → List Kind
       kinds_at ts ty = (get_or ts ty no_type).kinds
 
-pub prepared : (space : SpaceView) (types : List ObjectType) (callbacks : List ActionKind) (nodes : List Node) (root : ℕ → Type 0) (v y : SeatView)
+pub prepared : (space : SpaceView) (types : List ObjectType) (callbacks : List ActionKind) (nodes : List Node) (root may : ℕ → Type 0) (v y : SeatView)
     → AreOfValid (setup_of space types callbacks) nodes → v.types ≡ types → IsSpaceOf space v → v.dead ≡ [] → IsHeld nodes v → length nodes ≤ 1000000
-    → MarksReachable types root v y → IsPrepared space types (both_cleared y) (nodes_after (kept_of (holds y.marked) nodes) nodes)
-prepared space types callbacks nodes root v y valid known laid none held few marks =
+    → MarksReachable types root may v y → IsPrepared space types (both_cleared y) (nodes_after (kept_of (holds y.marked) nodes) nodes)
+prepared space types callbacks nodes root may v y valid known laid none held few marks =
     let setup : Setup = setup_of space types callbacks in
     let kept : List Bool = kept_of (holds y.marked) nodes in
-    let is : IsMarked setup nodes y = marked_is setup nodes root v y valid known none held marks in
+    let is : IsMarked setup nodes y = marked_is setup nodes root may v y valid known none held marks in
     record {
       known = marks.known ∙ known;
-      laid = space_cleared space y (space_marked space types root v y marks laid);
+      laid = space_cleared space y (space_marked space types root may v y marks laid);
       off = marks.off;
       held = held_after setup nodes y is;
       few = omega (arith, few, length-after kept nodes);
       typed = types_alone setup (setup_of space types []) (nodes_after kept nodes) refl (typed_after setup kept nodes is.known.typed);
       named = all_named setup kept nodes is.known (none_dead nodes v held none);
-      judged = judged_cleared y (judged_after types root v y marks);
+      judged = judged_cleared y (judged_after types root may v y marks);
     }
 
 stands_on : (flag : Bool) (l : Life) → (l ≡ Gone → ⊥) → judged flag l ≡ Gone → ⊥
@@ -110,10 +124,23 @@ registered_after kept nodes callbacks e is = record {
 
 -- ---- the counts
 
+-- few enough to count
+pub few_kept : (nodes : List Node) (v y : SeatView) (count : ℕ) → IsHeld nodes v → y.bodies ≡ v.bodies → length nodes ≤ 1000000 → count ≡ marked_count y → count < 2 ^ 32
+few_kept nodes v y count held same few marked =
+    let bodies : length y.bodies ≡ objects_of nodes = ap length (same ∙ held.bodies) ∙ length-bodies (place_of nodes) 0 nodes in
+    omega (
+      arith,
+      marked,
+      count_by-le-length (λ (b : Body). holds y.marked b.place) y.bodies,
+      bodies,
+      count_by-le-length (λ (x : Node). is_there x.life) nodes,
+      few,
+    )
+
 -- as many nodes live after the pause as bodies were marked
-pub kept_count : (nodes new : List Node) (root : ℕ → Type 0) (types : List ObjectType) (v y : SeatView) → IsHeld nodes v → v.dead ≡ []
-    → MarksReachable types root v y → HaveStayed (nodes_after (kept_of (holds y.marked) nodes) nodes) new → marked_count y ≡ live_count new
-kept_count nodes new root types v y held none marks stayed =
+pub kept_count : (nodes new : List Node) (root may : ℕ → Type 0) (types : List ObjectType) (v y : SeatView) → IsHeld nodes v → v.dead ≡ []
+    → MarksReachable types root may v y → HaveStayed (nodes_after (kept_of (holds y.marked) nodes) nodes) new → marked_count y ≡ live_count new
+kept_count nodes new root may types v y held none marks stayed =
     let kept : List Bool = kept_of (holds y.marked) nodes in
     ap (count_by (λ (b : Body). holds y.marked b.place)) (marks.bodies ∙ held.bodies)
     ∙ sym (live-condemn (place_of nodes) 0 (holds y.marked) nodes (none_dead nodes v held none)) ∙ sym (live-after kept nodes)
@@ -138,17 +165,17 @@ same_left kept nodes entries =
     (λ e. ap not (same_deaths kept nodes (registration_of e))) entries
 
 -- what was kept, and what prefinalizers made of it
-pub paused_is : (callbacks : List ActionKind) (roots : List ℕ) (kept : List Bool) (old judged_nodes new : List Node) (before after : RegistryView)
-    → IsReached old roots kept → judged_nodes ≡ nodes_after kept old
+pub paused_is : (callbacks : List ActionKind) (least most : List ℕ) (kept : List Bool) (old judged_nodes new : List Node) (before after : RegistryView)
+    → IsKeptBetween old least most kept → judged_nodes ≡ nodes_after kept old
     → new ≡ prefinalised callbacks (run_order judged_nodes (registrations_of before.entries)) judged_nodes → HaveStayed judged_nodes new
     → after.entries ≡ entries_left judged_nodes before.entries → after.ran ≡ pairs_run judged_nodes before.entries
-    → IsPaused callbacks roots old new before after
-paused_is callbacks roots kept old judged_nodes new before after reached is nodes stayed left ran =
+    → IsPaused callbacks least most old new before after
+paused_is callbacks least most kept old judged_nodes new before after between is nodes stayed left ran =
     let order : (ns : List Node) → ns ≡ nodes_after kept old → run_order ns (registrations_of before.entries) ≡ run_order (condemn kept old) (registrations_of before.entries) =
     λ ns same. ap (λ (ms : List Node). run_order ms (registrations_of before.entries)) same ∙ same_order kept old (registrations_of before.entries) in
     record {
       kept = kept;
-      reached = reached;
+      between = between;
       nodes_are = nodes ∙ ap (λ rs. prefinalised callbacks rs judged_nodes) (order judged_nodes is)
           ∙ ap (prefinalised callbacks (run_order (condemn kept old) (registrations_of before.entries))) is;
       stayed = subst (λ (ns : List Node). HaveStayed ns new) is stayed;

@@ -39,13 +39,13 @@ pub record IsMarked (setup : Setup) (nodes : List Node) (v : SeatView) : Type 0 
   pub alive : (n : ℕ) → IsDead nodes n → ⊥
   pub held : IsHeld (condemn (kept_of (holds v.marked) nodes) nodes) v
 
-pub marked_is : (setup : Setup) (nodes : List Node) (root : ℕ → Type 0) (v new : SeatView) → AreOfValid setup nodes → v.types ≡ setup.types → v.dead ≡ []
-    → IsHeld nodes v → MarksReachable setup.types root v new → IsMarked setup nodes new
-marked_is setup nodes root v new valid types none held marks = record {
+pub marked_is : (setup : Setup) (nodes : List Node) (root may : ℕ → Type 0) (v new : SeatView) → AreOfValid setup nodes → v.types ≡ setup.types → v.dead ≡ []
+    → IsHeld nodes v → MarksReachable setup.types root may v new → IsMarked setup nodes new
+marked_is setup nodes root may v new valid types none held marks = record {
   known = known_nodes setup nodes valid;
   types = marks.known ∙ types;
   alive = none_dead nodes v held none;
-  held = held_judged nodes setup.types root v new none held marks;
+  held = held_judged nodes setup.types root may v new none held marks;
 }
 
 -- ---- which nodes are dead
@@ -158,8 +158,8 @@ space_cleared space v is =
     subst (IsSpaceOver space v.count) (sym (extents_cleared v)) is
 
 -- marking leaves the space's objects where they are
-pub space_marked : (space : SpaceView) (types : List ObjectType) (root : ℕ → Type 0) (v new : SeatView) → MarksReachable types root v new → IsSpaceOf space v → IsSpaceOf space new
-space_marked space types root v new marks is =
+pub space_marked : (space : SpaceView) (types : List ObjectType) (root may : ℕ → Type 0) (v new : SeatView) → MarksReachable types root may v new → IsSpaceOf space v → IsSpaceOf space new
+space_marked space types root may v new marks is =
     subst (λ count. IsSpaceOver space count (extents_of_bodies new.bodies)) (sym marks.count)
     (subst (λ bodies. IsSpaceOver space v.count (extents_of_bodies bodies)) (sym marks.bodies) is)
 

@@ -1,15 +1,20 @@
 -- What a pause does to the nodes: which it keeps, which it condemns, and what their prefinalizers do.
-use Rattle.std.specs.Prelude.{◌≡◌, ℕ, Bool, true, false, List, [], length, filter, Option}
+use Rattle.std.specs.Prelude.{◌≡◌, ℕ, ◌<◌, Bool, true, false, List, [], length, filter, Option}
 use Rattle.std.specs.List.{list_any, range_with_len}
 use Rattle.gc_graph.specs.declared.action.ActionKind.{ActionKind}
-use Rattle.gc_graph.specs.State.{Node, node_at, slot_targets}
+use Rattle.gc_graph.specs.Graph.{has, IsClosed, IsWithin}
+use Rattle.gc_graph.specs.Reach.{Reach}
+use Rattle.gc_graph.specs.State.{Node, node_at, graph_of, slot_targets, IsLive}
 use Rattle.gc_graph.specs.May.{has_word}
 use Rattle.gc_graph.specs.Valid.{AreLive}
 use Rattle.gc_graph.specs.Pause.{condemn, run_order, prefinalised}
 use Rattle.gc_graph.specs.ActionLaw.{HaveStayed}
 use Rattle.callback_table.specs.Registry.{registrations_of, pairs_run, entries_left, RegistryView}
+use Rattle.marker_core.specs.Bodies.{holds}
+use Rattle.page_words.specs.Seat.{SeatView}
+use Rattle.nodes_in_words.specs.Nodes.{place_of}
 use Rattle.nodes_in_words.specs.Places.{places_of}
-use Rattle.nodes_in_words.specs.Judgement.{nodes_after, IsReached}
+use Rattle.nodes_in_words.specs.Judgement.{nodes_after}
 
 -- the slots name live nodes, and these are the places of what they name
 pub record NamePlaces (nodes : List Node) (slots places : List (Option ℕ)) : Type 0 where
@@ -25,11 +30,23 @@ abbrev pub hits_in : Bool → List Node → List ℕ → List ℕ
 hits_in true nodes stack = []
 hits_in false nodes stack = hits_at nodes stack
 
--- exactly what these roots reach was kept, the other nodes were condemned, what is weak and named one of these is null, and
--- the prefinalizers of these ran, the last that was registered first, and are gone
-pub record IsPaused (callbacks : List ActionKind) (roots : List ℕ) (old new : List Node) (before after : RegistryView) : Type 0 where
+-- what the words may keep lies in the set, which has a flag for each node
+pub record IsMayWithin (nodes : List Node) (v : SeatView) (may : List Bool) : Type 0 where
+  pub whole : length may ≡ length nodes
+  pub within : (n : ℕ) → IsLive nodes n → holds v.may (place_of nodes n) ≡ true → has may n ≡ true
+
+-- a closed set was kept, which holds what the first roots reach, and lies in what the others reach
+pub record IsKeptBetween (nodes : List Node) (least most : List ℕ) (kept : List Bool) : Type 0 where
+  pub closed : IsClosed (graph_of nodes) kept
+  pub reached : IsWithin (Reach (graph_of nodes) least) kept
+  pub bounded : IsWithin kept (Reach (graph_of nodes) most)
+  pub low : (n : ℕ) → has kept n ≡ true → n < length nodes
+
+-- a set between these bounds was kept, the other nodes were condemned, what is weak and named one of these is null, and the
+-- prefinalizers of these ran, the last that was registered first, and are gone
+pub record IsPaused (callbacks : List ActionKind) (least most : List ℕ) (old new : List Node) (before after : RegistryView) : Type 0 where
   pub kept : List Bool
-  pub reached : IsReached old roots kept
+  pub between : IsKeptBetween old least most kept
   pub nodes_are : new ≡ prefinalised callbacks (run_order (condemn kept old) (registrations_of before.entries)) (nodes_after kept old)
   pub stayed : HaveStayed (nodes_after kept old) new
   pub left : after.entries ≡ entries_left (condemn kept old) before.entries

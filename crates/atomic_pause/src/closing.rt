@@ -1,16 +1,15 @@
 // Marking comes to its end: what is listed is traced and what is noted is settled, until nothing
 // asks for more.
 
-ghost use Rattle.std.specs.Prelude.{◌≡◌, ◌<◌, ℕ, true, false, [], Contains, length};
+ghost use Rattle.std.specs.Prelude.{◌≡◌, ◌<◌, ◌+◌, ℕ, true, false, [], length};
 ghost use Rattle.mark_worklist.specs.Refusals.{TellsRefused, refusals_of};
-ghost use Rattle.marker_core.specs.Bodies.{IsPlace};
-ghost use Rattle.marker_core.specs.Bodies.{holds};
-ghost use Rattle.page_words.specs.Seat.{IsAlone};
 ghost use Rattle.page_space.specs.Space.{IsSeatOf};
 ghost use Rattle.ephemerons.specs.BodyGraph.{PlacesDiffer};
+ghost use Rattle.ephemerons.specs.Marking.{traced_count};
 ghost use Rattle.ephemerons.specs.Fixpoint.{IsUnrefused};
-ghost use Rattle.ephemerons.specs.Notes.{IsUnnoted, group_at, refusals_in};
-ghost use Rattle.atomic_pause.specs.Marking.{ListsMarked, MarksReachable, marked_count};
+ghost use Rattle.ephemerons.specs.Notes.{group_at, refusals_in};
+ghost use Rattle.ephemerons.specs.UnderWay.{IsUnderWay};
+ghost use Rattle.atomic_pause.specs.Marking.{IsMarkedIn, MarksReachable, marked_count};
 
 use ephemerons::{Pairs, fixpoint};
 use mark_worklist::Marking;
@@ -29,24 +28,22 @@ pub fn close(
     notes: &mut [Pairs],
 ) -> u32
     requires heap { IsSeatOf space.now seat.old }
-    requires on { seat.old.on ≡ true }
-    requires alone { IsAlone seat.old }
     requires types { types.now ≡ seat.old.types }
     requires differ { PlacesDiffer seat.old.bodies }
-    requires untraced { seat.old.traced ≡ [] }
-    requires listed { ListsMarked seat.old marking.old }
-    requires unnoted { IsUnnoted notes.old }
-    ensures over { MarksReachable types.now (λ p. holds seat.old.marked p ≡ true)
+    requires one { length notes.old ≡ 1 }
+    requires under_way { IsUnderWay seat.old marking.old (group_at notes.old 0) }
+    ensures over { MarksReachable types.now (IsMarkedIn seat.old) (IsMarkedIn seat.old)
         seat.old seat.new }
-    ensures traced { result ≡ marked_count seat.new }
+    ensures traced { traced_count seat.old + result ≡ marked_count seat.new }
     ensures list { marking.new.list.items ≡ [] }
     ensures off { marking.new.on ≡ false }
     ensures told { TellsRefused (refusals_of marking.old) (refusals_of marking.new) }
     ensures notes_told { (i : ℕ) → TellsRefused
         (refusals_in (group_at notes.old i)) (refusals_in (group_at notes.new i)) }
 {
-    // An object that is marked and not listed can be found by a walk alone.
-    let walk = marking.overflow;
+    seat.bodies_lie_apart();
+    // What was refused a place on the list, or a note, can be found by a walk alone.
+    let walk = is_refused(marking, notes);
     let traced = fixpoint(space, types, seat, marking, notes, walk);
     seat.bodies_lie_apart();
     space.words().set_stop(seat, true);

@@ -4,15 +4,17 @@
 //! other objects are condemned, what is weak and names one of them becomes null, and their
 //! prefinalizers run.
 //!
-//! The parts: `pause`, which works on `Parts` that their owners lend and answers a `PauseResult`.
-//! It calls, in this order, `visit_slots` and `scan_stack` (the roots), `close` (the marking list is
-//! drained and pairs come to their fixpoint), `clear_weak` and `prefinalise`. The next level down is
+//! The parts: `visit_slots`, which marks what the strong slots name, at the start of a cycle too;
+//! `pause`, which works on `Parts` that their owners lend and answers a `PauseResult`. It calls, in
+//! this order, `visit_slots` and `scan_stack` (the roots), `close` (the marking list is drained and
+//! pairs come to their fixpoint), `clear_weak` and `prefinalise`. The next level down is
 //! `ephemerons`, `weak_clearing` and `callback_table`.
 //!
-//! What is proved: `pause` keeps exactly the nodes that the roots reach, by strong fields and by
-//! pairs whose key is kept; exactly the weak handles of kept objects to condemned ones become null;
-//! the prefinalizers of condemned nodes run, the last that was registered first, and nothing comes
-//! to life again. A precise pause doesn't look at the stack. It needs no memory and can't fail.
+//! What is proved: `pause` keeps what the roots reach, by strong fields and by pairs whose key is
+//! kept, and nothing but what the cycle may keep and the stack hits, with all that these reach;
+//! exactly the weak handles of kept objects to condemned ones become null; the prefinalizers of
+//! condemned nodes run, the last that was registered first, and nothing comes to life again. A
+//! precise pause doesn't look at the stack. It needs no memory and can't fail.
 //!
 //! What is only tested or not said: how long it takes.
 #![tactic(auto)]
@@ -27,3 +29,4 @@ mod roots;
 
 pub use parts::{Parts, PauseResult};
 pub use pausing::pause;
+pub use roots::visit_slots;

@@ -27,6 +27,10 @@ use type_table::TypeTable;
 /// | `types` | the types of the objects |
 /// | `strong` | strong slots |
 /// | `callbacks` | what prefinalizers do |
+///
+/// | told | what it is |
+/// |---|---|
+/// | `traced` | how many objects the cycle traced before the pause |
 pub struct Parts<'a> {
     pub seat: &'a mut MutatorSeat,
     pub nodes: &'a mut GhostValue<NodeLists>,
@@ -38,10 +42,11 @@ pub struct Parts<'a> {
     pub types: &'a TypeTable,
     pub strong: &'a Slots,
     pub callbacks: &'a CallbackTable,
+    pub traced: u32,
 }
 
-/// How many objects a pause kept, how many it condemned, how many it traced, and whether it walked
-/// the heap, because a push or a note was refused.
+/// How many objects a pause kept, how many it condemned, how many it traced itself, and whether it
+/// walked the heap, because a push or a note was refused.
 #[derive(Clone, Copy, Debug, PartialEq, Eq, Drop)]
 pub struct PauseResult {
     pub kept: u32,

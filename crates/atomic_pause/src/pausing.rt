@@ -1,23 +1,25 @@
 // The pause.
 
-ghost use Rattle.std.specs.Prelude.{◌≡◌, ◌≤◌, ℕ, List, Option, All, length, map, true, false};
-ghost use Rattle.std.specs.Prelude.{◌++◌, []};
+ghost use Rattle.std.specs.Prelude.{◌≡◌, ◌≤◌, ◌+◌, ℕ, Bool, List, Option, Some, All, length, map};
+ghost use Rattle.std.specs.Prelude.{◌++◌, [], true, false, Contains};
 ghost use Rattle.std.specs.Option.{ForSome};
-ghost use Rattle.gc_graph.specs.State.{slot_targets, objects_of};
+ghost use Rattle.gc_graph.specs.State.{slot_targets};
+ghost use Rattle.gc_graph.specs.May.{members};
 ghost use Rattle.gc_graph.specs.Pause.{live_count, dead_count, is_dead_at, clear_slot};
 ghost use Rattle.callback_table.specs.Registry.{IsRegistered};
 ghost use Rattle.callback_table.specs.Table.{kinds_of};
 ghost use Rattle.mark_worklist.specs.Refusals.{TellsRefused, refusals_of};
-ghost use Rattle.marker_core.specs.Bodies.{IsPlace};
+ghost use Rattle.marker_core.specs.Bodies.{IsPlace, holds};
 ghost use Rattle.page_space.specs.Space.{IsSpaceOf, extents_of_bodies};
 ghost use Rattle.persistent_slots.specs.Clearing.{taken};
+ghost use Rattle.ephemerons.specs.Marking.{traced_count};
+ghost use Rattle.ephemerons.specs.UnderWay.{IsUnderWay};
 ghost use Rattle.ephemerons.specs.Fixpoint.{IsUnrefused};
 ghost use Rattle.ephemerons.specs.Notes.{group_at, refusals_in};
 ghost use Rattle.nodes_in_words.specs.Nodes.{AreOfValid, IsHeld};
 ghost use Rattle.nodes_in_words.specs.Places.{places_of};
 ghost use Rattle.prefinalizer_effects.specs.Prepared.{setup_of, IsPrepared};
-ghost use Rattle.atomic_pause.specs.Marking.{HasBegun, RootsMayBeKept};
-ghost use Rattle.atomic_pause.specs.Pausing.{NamePlaces, hits_in, IsPaused};
+ghost use Rattle.atomic_pause.specs.Pausing.{NamePlaces, IsMayWithin, hits_in, IsPaused};
 ghost use Rattle.atomic_pause.specs.Left.{seat_left, nodes_left, marking_left, notes_left};
 ghost use Rattle.atomic_pause.specs.Left.{weak_left, registry_left};
 
@@ -30,9 +32,9 @@ use crate::roots::{scan_stack, visit_slots};
 
 /// Keeps what the roots reach and condemns the other objects. The roots are what the strong slots
 /// name and, unless the pause is precise, the objects with a word at an address of the stack
-/// (`include/cppgc/README.md`, precise and conservative garbage collection). It is called once
-/// marking was begun, by the thread that owns the heap. Refusals of memory stay told in the marking
-/// state and the notes, until their owner clears these.
+/// (`include/cppgc/README.md`, precise and conservative garbage collection). It is called while
+/// marking is under way, by the thread that owns the heap; what was marked before it keeps too.
+/// Refusals of memory stay told in the marking state and the notes, until their owner clears these.
 pub fn pause(parts: Parts, stack: &[u64], precise: bool) -> PauseResult
     requires heap { IsSpaceOf parts.space.now parts.seat.now }
     requires types { parts.seat.now.types ≡ parts.types.now }
@@ -41,16 +43,21 @@ pub fn pause(parts: Parts, stack: &[u64], precise: bool) -> PauseResult
         parts.nodes.now.value }
     requires held { IsHeld parts.nodes.now.value parts.seat.now }
     requires few { length parts.nodes.now.value ≤ 1000000 }
-    requires begun { HasBegun parts.seat.now parts.marking.now parts.notes.now }
-    requires may { RootsMayBeKept parts.strong.now precise stack.now parts.seat.now }
+    requires under_way { IsUnderWay parts.seat.now parts.marking.now
+        (group_at parts.notes.now 0) }
+    requires may { (p : ℕ) → Contains parts.strong.now (Some p)
+        → holds parts.seat.now.may p ≡ true }
+    requires traced { traced_count parts.seat.now ≡ parts.traced }
     requires strong { All (λ slot. ForSome slot (IsPlace parts.seat.now.bodies)) parts.strong.now }
     requires weak { All (IsPlace parts.seat.now.bodies) (taken parts.weak.now) }
     requires registered { All (IsRegistered parts.nodes.now.value
         (length (kinds_of parts.callbacks.now))) parts.registry.now.entries }
-    ensures paused { (slots : List (Option ℕ)) →
+    ensures paused { (slots : List (Option ℕ)) (may : List Bool) →
         NamePlaces parts.entry.nodes.now.value slots parts.entry.strong.now →
+        IsMayWithin parts.entry.nodes.now.value parts.entry.seat.now may →
         IsPaused (kinds_of parts.entry.callbacks.now)
         (slot_targets slots ++ hits_in precise parts.entry.nodes.now.value stack.now)
+        (members may ++ hits_in precise parts.entry.nodes.now.value stack.now)
         parts.entry.nodes.now.value (nodes_left parts.exit).now.value
         parts.entry.registry.now (registry_left parts.exit).now }
     ensures weak { (slots : List (Option ℕ)) →
@@ -63,7 +70,7 @@ pub fn pause(parts: Parts, stack: &[u64], precise: bool) -> PauseResult
         ≡ extents_of_bodies parts.entry.seat.now.bodies }
     ensures kept { result.kept ≡ live_count (nodes_left parts.exit).now.value }
     ensures dead { result.dead ≡ dead_count (nodes_left parts.exit).now.value }
-    ensures traced { result.traced ≡ result.kept }
+    ensures traced { parts.entry.traced + result.traced ≡ result.kept }
     ensures list { (marking_left parts.exit).now.list.items ≡ [] }
     ensures off { (marking_left parts.exit).now.on ≡ false }
     ensures walked { result.walked ≡ true →
@@ -87,19 +94,21 @@ pub fn pause(parts: Parts, stack: &[u64], precise: bool) -> PauseResult
         types,
         strong,
         callbacks,
+        traced,
     } = parts;
     gc_graph::reach_is_least();
     seat.bodies_lie_apart();
     visit_slots(space.words(), seat, marking, strong);
     scan_stack(space, seat, marking, stack, precise);
-    let traced = close(space, types, seat, marking, notes);
+    let more = close(space, types, seat, marking, notes);
     clear_weak(space, types, seat, weak);
     *nodes = judged(nodes, seat);
     prefinalise(registry, callbacks, space, types, seat, nodes);
+    let kept = traced + more;
     PauseResult {
-        kept: traced,
-        dead: space.objects() - traced,
-        traced,
+        kept,
+        dead: space.objects() - kept,
+        traced: more,
         walked: is_refused(marking, notes),
     }
 }

@@ -5,19 +5,21 @@ ghost use Rattle.std.specs.Option.{ForSome};
 ghost use Rattle.marker_core.specs.Bodies.{IsPlace};
 ghost use Rattle.marker_core.specs.Bodies.{holds};
 ghost use Rattle.page_space.specs.Space.{IsSpaceOf, HoldsAddress};
+ghost use Rattle.page_words.specs.Seat.{OnlyLooked};
 ghost use Rattle.ephemerons.specs.Fixpoint.{ListsMarks};
-ghost use Rattle.atomic_pause.specs.Marking.{IsHitPlace, IsScanned};
+ghost use Rattle.atomic_pause.specs.Marking.{IsHitPlace, IsScanned, with_may};
 
 use ephemerons::mark;
 use mark_worklist::Marking;
 use page_space::Space;
-use page_words::{MutatorSeat, Words};
+use page_words::{MutatorSeat, WeakRead, Words};
 use persistent_slots::Slots;
 
 /// Marks and lists the targets of the slots.
 pub fn visit_slots(words: &Words, seat: &mut MutatorSeat, marking: &mut Marking, slots: &Slots)
     requires heap { seat.old.count ≡ words.now }
     requires on { seat.old.on ≡ true }
+    requires marking { marking.old.on ≡ seat.old.on }
     requires alone { seat.old.lent ≡ 0 }
     requires slots { All (λ slot. ForSome slot (IsPlace seat.old.bodies)) slots.now }
     requires may { (p : ℕ) → Contains slots.now (Some p) → holds seat.old.may p ≡ true }
@@ -25,6 +27,7 @@ pub fn visit_slots(words: &Words, seat: &mut MutatorSeat, marking: &mut Marking,
     ensures roots { (p : ℕ) → Contains slots.now (Some p) → holds seat.new.marked p ≡ true }
     ensures only { (p : ℕ) → holds seat.new.marked p ≡ true
         → (holds seat.old.marked p ≡ true) ⊎ Contains slots.now (Some p) }
+    ensures noted { seat.new.noted ≡ seat.old.noted }
 {
     for i in 0..slots.len() {
         visit_slot(words, seat, marking, slots.get(i));
@@ -34,6 +37,7 @@ pub fn visit_slots(words: &Words, seat: &mut MutatorSeat, marking: &mut Marking,
 fn visit_slot(words: &Words, seat: &mut MutatorSeat, marking: &mut Marking, slot: Option<u32>)
     requires heap { seat.old.count ≡ words.now }
     requires on { seat.old.on ≡ true }
+    requires marking { marking.old.on ≡ seat.old.on }
     requires alone { seat.old.lent ≡ 0 }
     requires slot { ForSome slot (IsPlace seat.old.bodies) }
     requires may { (p : ℕ) → slot ≡ Some p → holds seat.old.may p ≡ true }
@@ -41,6 +45,7 @@ fn visit_slot(words: &Words, seat: &mut MutatorSeat, marking: &mut Marking, slot
     ensures root { (p : ℕ) → slot ≡ Some p → holds seat.new.marked p ≡ true }
     ensures only { (p : ℕ) → holds seat.new.marked p ≡ true
         → (holds seat.old.marked p ≡ true) ⊎ (slot ≡ Some p) }
+    ensures noted { seat.new.noted ≡ seat.old.noted }
 {
     if let Some(place) = slot {
         mark(words, seat, marking, place);
@@ -48,7 +53,7 @@ fn visit_slot(words: &Words, seat: &mut MutatorSeat, marking: &mut Marking, slot
 }
 
 /// Marks and lists the objects that have a word at an address of the stack, unless the pause is
-/// precise.
+/// precise. From now on they may be kept, with all that they reach.
 pub fn scan_stack(
     space: &Space,
     seat: &mut MutatorSeat,
@@ -58,14 +63,15 @@ pub fn scan_stack(
 )
     requires space { IsSpaceOf space.now seat.old }
     requires on { seat.old.on ≡ true }
+    requires marking { marking.old.on ≡ seat.old.on }
     requires alone { seat.old.lent ≡ 0 }
-    requires may { (p : ℕ) → IsScanned precise seat.old.bodies stack.now p
-        → holds seat.old.may p ≡ true }
-    ensures marks { ListsMarks seat.old marking.old seat.new marking.new }
+    ensures marks { ListsMarks (with_may seat.old seat.new.may) marking.old
+        seat.new marking.new }
     ensures roots { (p : ℕ) → IsScanned precise seat.old.bodies stack.now p
         → holds seat.new.marked p ≡ true }
     ensures only { (p : ℕ) → holds seat.new.marked p ≡ true
         → (holds seat.old.marked p ≡ true) ⊎ IsScanned precise seat.old.bodies stack.now p }
+    ensures noted { seat.new.noted ≡ seat.old.noted }
 {
     if !precise {
         scan_words(space, seat, marking, stack);
@@ -75,13 +81,15 @@ pub fn scan_stack(
 fn scan_words(space: &Space, seat: &mut MutatorSeat, marking: &mut Marking, stack: &[u64])
     requires space { IsSpaceOf space.now seat.old }
     requires on { seat.old.on ≡ true }
+    requires marking { marking.old.on ≡ seat.old.on }
     requires alone { seat.old.lent ≡ 0 }
-    requires may { (p : ℕ) → IsHitPlace seat.old.bodies stack.now p → holds seat.old.may p ≡ true }
-    ensures marks { ListsMarks seat.old marking.old seat.new marking.new }
+    ensures marks { ListsMarks (with_may seat.old seat.new.may) marking.old
+        seat.new marking.new }
     ensures roots { (p : ℕ) → IsHitPlace seat.old.bodies stack.now p
         → holds seat.new.marked p ≡ true }
     ensures only { (p : ℕ) → holds seat.new.marked p ≡ true
         → (holds seat.old.marked p ≡ true) ⊎ IsHitPlace seat.old.bodies stack.now p }
+    ensures noted { seat.new.noted ≡ seat.old.noted }
 {
     for i in 0..stack.len() {
         scan_word(space, seat, marking, stack[i]);
@@ -91,15 +99,30 @@ fn scan_words(space: &Space, seat: &mut MutatorSeat, marking: &mut Marking, stac
 fn scan_word(space: &Space, seat: &mut MutatorSeat, marking: &mut Marking, word: u64)
     requires space { IsSpaceOf space.now seat.old }
     requires on { seat.old.on ≡ true }
+    requires marking { marking.old.on ≡ seat.old.on }
     requires alone { seat.old.lent ≡ 0 }
-    requires may { (p : ℕ) → HoldsAddress seat.old.bodies word p → holds seat.old.may p ≡ true }
-    ensures marks { ListsMarks seat.old marking.old seat.new marking.new }
+    ensures marks { ListsMarks (with_may seat.old seat.new.may) marking.old
+        seat.new marking.new }
     ensures root { (p : ℕ) → HoldsAddress seat.old.bodies word p → holds seat.new.marked p ≡ true }
     ensures only { (p : ℕ) → holds seat.new.marked p ≡ true
         → (holds seat.old.marked p ≡ true) ⊎ HoldsAddress seat.old.bodies word p }
+    ensures noted { seat.new.noted ≡ seat.old.noted }
 {
     seat.bodies_lie_apart();
     if let Some(place) = space.start_of(seat, word) {
+        read_weakly(space.words(), seat, place);
         mark(space.words(), seat, marking, place);
     }
+}
+
+/// Reads an object's header weakly: the cycle may keep the object from now on.
+fn read_weakly(words: &Words, seat: &mut MutatorSeat, place: u32)
+    requires heap { seat.old.count ≡ words.now }
+    requires on { seat.old.on ≡ true }
+    requires place { IsPlace seat.old.bodies place }
+    ensures may { holds seat.new.may place ≡ true }
+    ensures view { OnlyLooked (with_may seat.old seat.new.may) seat.new }
+{
+    seat.bodies_lie_apart();
+    words.load::<WeakRead>(seat, place);
 }

@@ -12,6 +12,7 @@ pub mod BodyGraph
 pub mod NodeGraph
 pub mod WeakNodes
 pub mod KeptNodes
+pub mod ClosedPlaces
 pub mod ReferenceWords
 pub mod DeadUnnamed
 pub mod WholePairs

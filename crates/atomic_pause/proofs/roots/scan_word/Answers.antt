@@ -1,9 +1,11 @@
 use Rattle.std.proofs.Common.{◌≡◌, ℕ, true, sym, ap, ◌∙◌, subst, arith}
 use Rattle.marker_core.specs.declared.states.Body.{Body}
 use Rattle.marker_core.specs.Bodies.{holds}
-use Rattle.page_words.specs.Seat.{SeatView, IsView}
+use Rattle.page_words.specs.Seat.{SeatView, IsView, OnlyLooked}
 use Rattle.page_space.specs.Space.{HoldsAddress}
+use Rattle.ephemerons.specs.Fixpoint.{ListsMarks}
 use Rattle.ephemerons.specs.ListedMarks.{ListsMarks-then, lists_looked}
+use Rattle.atomic_pause.specs.Marking.{with_may}
 use Rattle.atomic_pause.proofs.roots.scan_word.Goals as goal
 
 -- one body alone has the word
@@ -14,11 +16,19 @@ one_place v address p q view (b, b_there, b_at, b_low, b_high) (d, d_there, d_at
 
 pub returns-in-Some-clause-marks : goal.returns-in-Some-clause-marks
 returns-in-Some-clause-marks c =
-    ListsMarks-then c.args.seat.now c.start_of.new.seat c.mark.new.seat c.args.marking.now c.args.marking.now c.mark.new.marking
-    (lists_looked c.args.seat.now c.start_of.new.seat c.args.marking.now c.start_of.ensures.view) c.mark.ensures.marks
+    let a : SeatView = c.args.seat.now in
+    let r : SeatView = c.read_weakly.new.seat in
+    let same : OnlyLooked (with_may a r.may) r =
+    c.read_weakly.ensures.view ∙ ap (λ (z : SeatView). with_may z r.may) c.start_of.ensures.view in
+    subst (λ ms. ListsMarks (with_may a ms) c.args.marking.now c.mark.new.seat c.mark.new.marking) (sym (ap (λ (z : SeatView). z.may) c.mark.ensures.marks.view))
+    (ListsMarks-then (with_may a r.may) r c.mark.new.seat c.args.marking.now c.args.marking.now c.mark.new.marking
+    (lists_looked (with_may a r.may) r c.args.marking.now same) c.mark.ensures.marks)
 
 pub returns-in_default-clause-marks : goal.returns-in_default-clause-marks
-returns-in_default-clause-marks c = lists_looked c.args.seat.now c.start_of.new.seat c.args.marking.now c.start_of.ensures.view
+returns-in_default-clause-marks c =
+    let a : SeatView = c.args.seat.now in
+    subst (λ ms. ListsMarks (with_may a ms) c.args.marking.now c.start_of.new.seat c.args.marking.now) (sym (ap (λ (z : SeatView). z.may) c.start_of.ensures.view))
+    (lists_looked a c.start_of.new.seat c.args.marking.now c.start_of.ensures.view)
 
 pub returns-in-Some-clause-root : goal.returns-in-Some-clause-root
 returns-in-Some-clause-root c = λ p hit.

@@ -1,11 +1,9 @@
-use Rattle.std.proofs.Common.{◌≡◌, true, ◌<◌, ℕ, List, length, get_or, inl, inr, refl, sym, ap, ◌∙◌, subst, arith}
-use Rattle.std.proofs.lemmas.List.Elements.{Contains-get_or}
+use Rattle.std.proofs.Common.{◌≡◌, ◌<◌, ℕ, List, length, get_or, inl, inr, refl, sym, ap, ◌∙◌, subst, arith}
 use Rattle.gc_graph.specs.Members.{Contains-take_more_cases, Contains-take_more_old, Contains-take_more_new}
 use Rattle.marker_core.specs.declared.states.Body.{Body}
-use Rattle.marker_core.specs.Bodies.{holds}
 use Rattle.page_words.specs.Seat.{SeatView}
 use Rattle.page_space.specs.Space.{HoldsAddress, IsSpaceOver, extents_of_bodies}
-use Rattle.ephemerons.specs.ListedMarks.{ListsMarks-then}
+use Rattle.atomic_pause.proofs.MayMarks.{scans_then, scans_none}
 use Rattle.atomic_pause.proofs.roots.scan_words.Goals as goal
 
 bodies : (c : goal.After-scan_word) → c.loop-i.seat.bodies ≡ c.args.seat.now.bodies
@@ -22,23 +20,25 @@ scan_word-requires-clause-on c = ap (λ (v : SeatView). v.on) c.loop-i.invariant
 pub scan_word-requires-clause-alone : goal.scan_word-requires-clause-alone
 scan_word-requires-clause-alone c = ap (λ (v : SeatView). v.lent) c.loop-i.invariant.marks.view ∙ c.requires.alone
 
-pub scan_word-requires-clause-may : goal.scan_word-requires-clause-may
-scan_word-requires-clause-may c p hit =
-    let low : c.loop-i.i < length c.args.stack.now = omega arith in
-    let a : ℕ = get_or c.args.stack.now c.loop-i.i 0 in
-    subst (λ places. holds places p ≡ true) (sym (ap (λ (v : SeatView). v.may) c.loop-i.invariant.marks.view))
-    (c.requires.may p (
-      a,
-      Contains-get_or c.args.stack.now c.loop-i.i 0 low,
-      subst (λ bs. HoldsAddress bs a p) (ap (λ (v : SeatView). v.bodies) c.loop-i.invariant.marks.view) hit,
-    ))
+pub scan_word-requires-clause-marking : goal.scan_word-requires-clause-marking
+scan_word-requires-clause-marking c =
+    c.loop-i.invariant.marks.on ∙ c.requires.marking ∙ sym (ap (λ (v : SeatView). v.on) c.loop-i.invariant.marks.view)
+
+pub loop-i-init : goal.loop-i-init
+loop-i-init c = record {
+  marks = scans_none c.args.seat.now c.args.marking.now;
+  noted = refl;
+  roots = λ p hit. absurd (omega (arith, hit.1.1));
+  only = λ p marked. inl marked;
+}
 
 pub loop-i-preserved : goal.loop-i-preserved
 loop-i-preserved c =
     let low : c.loop-i.i < length c.args.stack.now = omega arith in
     record {
-      marks = ListsMarks-then c.args.seat.now c.loop-i.seat c.scan_word.new.seat c.args.marking.now c.loop-i.marking c.scan_word.new.marking c.loop-i.invariant.marks
+      marks = scans_then c.args.seat.now c.loop-i.seat c.scan_word.new.seat c.args.marking.now c.loop-i.marking c.scan_word.new.marking c.loop-i.invariant.marks
           c.scan_word.ensures.marks;
+      noted = c.scan_word.ensures.noted ∙ c.loop-i.invariant.noted;
       roots = λ p hit. elim (Contains-take_more_cases c.args.stack.now c.loop-i.i 0 hit.0 low hit.1) [
         | inl earlier ↦ c.scan_word.ensures.marks.marked p (c.loop-i.invariant.roots p (hit.0, earlier, hit.2))
         | inr here ↦ c.scan_word.ensures.root p

@@ -21,6 +21,10 @@ visit_slot-requires-clause-slot c =
     (subst (λ slot. ForSome slot (IsPlace c.args.seat.now.bodies)) (sym c.get.ensures)
     (All-get_or (λ slot. ForSome slot (IsPlace c.args.seat.now.bodies)) c.args.slots.now c.loop-i.i None low c.requires.slots))
 
+pub visit_slot-requires-clause-marking : goal.visit_slot-requires-clause-marking
+visit_slot-requires-clause-marking c =
+    c.loop-i.invariant.marks.on ∙ c.requires.marking ∙ sym (ap (λ (v : SeatView). v.on) c.loop-i.invariant.marks.view)
+
 pub visit_slot-requires-clause-alone : goal.visit_slot-requires-clause-alone
 visit_slot-requires-clause-alone c = ap (λ (v : SeatView). v.lent) c.loop-i.invariant.marks.view ∙ c.requires.alone
 
@@ -36,6 +40,7 @@ loop-i-preserved c =
     record {
       marks = ListsMarks-then c.args.seat.now c.loop-i.seat c.visit_slot.new.seat c.args.marking.now c.loop-i.marking c.visit_slot.new.marking c.loop-i.invariant.marks
           c.visit_slot.ensures.marks;
+      noted = c.visit_slot.ensures.noted ∙ c.loop-i.invariant.noted;
       roots = λ p among. elim (Contains-take_more_cases c.args.slots.now c.loop-i.i None (Some p) low among) [
         | inl earlier ↦ c.visit_slot.ensures.marks.marked p (c.loop-i.invariant.roots p earlier)
         | inr here ↦ c.visit_slot.ensures.root p (c.get.ensures ∙ here)

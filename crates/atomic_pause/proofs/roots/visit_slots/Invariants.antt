@@ -8,6 +8,7 @@ use Rattle.atomic_pause.proofs.roots.visit_slots.Given as goal
 abbrev pub invariant-loop-i : goal.invariant-loop-i
 invariant-loop-i l = record {
   marks : ListsMarks l.initial.seat l.initial.marking l.seat l.marking;
+  noted : l.seat.noted ≡ l.initial.seat.noted;
   roots : (p : ℕ) → Contains (take l.i l.slots) (Some p) → holds l.seat.marked p ≡ true;
   only : (p : ℕ) → holds l.seat.marked p ≡ true → (holds l.initial.seat.marked p ≡ true) ⊎ Contains (take l.i l.slots) (Some p);
 }
