@@ -1,17 +1,22 @@
-// The handles of a heap in the pause of a collection.
+// The handles of a heap in a collection: marking begins with what they name, and ends with the pause.
 
-ghost use Rattle.std.specs.Prelude.{◌≡◌, ℕ, ◌*◌, ◌^◌, ◌<◌, ◌++◌};
-ghost use Rattle.std.specs.Prelude.{◌≤◌, [], length, map, All};
-ghost use Rattle.gc_graph.specs.State.{node_at, size_of, IsLive, slot_targets};
+ghost use Rattle.std.specs.Prelude.{◌≡◌, ℕ, List, Bool, Some, true, ◌+◌, ◌++◌};
+ghost use Rattle.std.specs.Prelude.{◌≤◌, length, map, All, Contains};
+ghost use Rattle.gc_graph.specs.May.{members};
+ghost use Rattle.gc_graph.specs.Reach.{Reach};
+ghost use Rattle.gc_graph.specs.State.{node_at, size_of, graph_of, IsLive};
+ghost use Rattle.gc_graph.specs.State.{slot_targets, stack_targets};
 ghost use Rattle.gc_graph.specs.Pause.{live_count, dead_count, is_dead_at, clear_slot};
 ghost use Rattle.gc_graph.specs.Valid.{AreLive};
 ghost use Rattle.callback_table.specs.Registry.{IsRegistered};
 ghost use Rattle.callback_table.specs.Table.{kinds_of};
+ghost use Rattle.marker_core.specs.Bodies.{holds};
 ghost use Rattle.page_words.specs.Seat.{IsQuiet};
 ghost use Rattle.nodes_in_words.specs.Nodes.{AreOfValid};
 ghost use Rattle.nodes_in_words.specs.Places.{places_of, IsJudged};
 ghost use Rattle.atomic_pause.specs.Pausing.{IsPaused, hits_in};
-ghost use Rattle.heap_objects.specs.Objects.{setup_of_objects};
+ghost use Rattle.heap_objects.specs.Marks.{IsAtRest, HasMarking};
+ghost use Rattle.heap_objects.specs.Objects.{setup_of_objects, refused_of};
 ghost use Rattle.heap_objects.specs.Refused.{IsToldTruly};
 ghost use Rattle.heap_handles.specs.Stack as spec;
 
@@ -23,10 +28,35 @@ use gc_graph::Want;
 use heap_objects::Objects;
 
 impl Handles {
-    /// The pause: what the strong slots and, unless it is precise, the words of the stack reach is
-    /// kept, the other objects are condemned, what is weak and names one of these becomes null, and
-    /// their prefinalizers run.
-    pub fn pause(
+    /// Begins marking: from now on what the strong slots and the pointers on the stack reach may be
+    /// kept, and what the strong slots name is marked. Contracts alone see the roots.
+    pub fn begin(&self, objects: &mut Objects)
+        ghost roots: { List ℕ }
+        requires roots { roots
+            ≡ slot_targets self.now.slots ++ stack_targets self.now.stack.words }
+        requires valid { AreOfValid (setup_of_objects objects.old) objects.old.nodes }
+        requires rest { IsAtRest objects.old }
+        requires quiet { IsQuiet objects.old.seat }
+        requires slots { self.now.places ≡ places_of objects.old.nodes self.now.slots }
+        requires live { AreLive objects.old.nodes (slot_targets self.now.slots) }
+        requires stack_live { AreLive objects.old.nodes (stack_targets self.now.stack.words) }
+        ensures marks { HasMarking (Reach (graph_of objects.old.nodes)
+            (slot_targets self.now.slots ++ stack_targets self.now.stack.words)) objects.new }
+        ensures slots { (p : ℕ) → Contains self.now.places (Some p)
+            → holds objects.new.seat.marked p ≡ true }
+        ensures traced { objects.new.grey.traced ≡ 0 }
+        ensures since { objects.new.grey.since ≡ refused_of objects.old }
+        ensures nodes { objects.new.nodes ≡ objects.old.nodes }
+        ensures setup { setup_of_objects objects.new ≡ setup_of_objects objects.old }
+    {
+        objects.begin(&self.strong);
+    }
+
+    /// Finishes marking, with the pause: what the strong slots and, unless it is precise, the words of
+    /// the stack reach is kept, what couldn't be kept before is condemned unless the stack's words
+    /// reach it, what is weak and names a condemned object becomes null, and the prefinalizers of
+    /// these run.
+    pub fn finish(
         &mut self,
         objects: &mut Objects,
         registry: &mut Registry,
@@ -34,17 +64,22 @@ impl Handles {
         want: Want,
     ) -> PauseResult
         requires valid { AreOfValid (setup_of_objects objects.old) objects.old.nodes }
-        requires quiet { IsQuiet objects.old.seat }
+        requires marks { (may : List Bool) × HasMarking may objects.old }
         requires few { length objects.old.nodes ≤ 1000000 }
         requires kinds { kinds_of callbacks.now ≡ objects.old.callbacks }
         requires slots { self.old.places ≡ places_of objects.old.nodes self.old.slots }
         requires weak { self.old.weak_places ≡ places_of objects.old.nodes self.old.weak }
         requires live { AreLive objects.old.nodes (slot_targets self.old.slots) }
+        requires kept { (p : ℕ) → Contains self.old.places (Some p)
+            → holds objects.old.seat.may p ≡ true }
         requires weak_live { AreLive objects.old.nodes (slot_targets self.old.weak) }
         requires registered { All (IsRegistered objects.old.nodes (length objects.old.callbacks))
             registry.old.entries }
-        ensures paused { IsPaused objects.old.callbacks
+        ensures paused { (may : List Bool) → HasMarking may objects.old
+            → IsPaused objects.old.callbacks
             (slot_targets self.old.slots
+            ++ hits_in (spec.is_precise want) objects.old.nodes self.old.stack.addresses)
+            (members may
             ++ hits_in (spec.is_precise want) objects.old.nodes self.old.stack.addresses)
             objects.old.nodes objects.new.nodes registry.old registry.new }
         ensures sizes { (n : ℕ) → IsLive objects.old.nodes n
@@ -53,14 +88,17 @@ impl Handles {
           weak_places = places_of objects.new.nodes self.new.weak;
           weak = map (clear_slot (is_dead_at objects.new.nodes)) self.old.weak;
         } }
+        ensures rest { IsAtRest objects.new }
         ensures judged { IsJudged objects.new.seat }
         ensures kept { result.kept ≡ live_count objects.new.nodes }
         ensures dead { result.dead ≡ dead_count objects.new.nodes }
-        ensures traced { result.traced ≡ result.kept }
-        ensures walked { IsToldTruly objects.old.refused objects.new.refused result.walked }
+        ensures traced { objects.old.grey.traced + result.traced ≡ result.kept }
+        ensures kept_traced { objects.new.grey.traced ≡ objects.old.grey.traced }
+        ensures walked { IsToldTruly objects.old.grey.since (refused_of objects.new)
+            result.walked }
         ensures setup { setup_of_objects objects.new ≡ setup_of_objects objects.old }
     {
-        let result = objects.pause(
+        let result = objects.finish(
             &self.strong,
             &mut self.weak,
             self.stack.addresses(),

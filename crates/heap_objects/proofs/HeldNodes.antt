@@ -1,18 +1,16 @@
 -- The words hold the nodes after each change: a node made, a field written, a sweep, a pause.
-use Rattle.std.proofs.Common.{◌≡◌, ℕ, ◌+◌, ◌-◌, ◌<◌, ◌≤◌, false, not, List, [], ◌∷◌, ◌++◌, length, map, replicate, refl, sym, ap, ◌∙◌, subst, inl, inr, arith}
-use Rattle.std.specs.List.{All, Contains}
+use Rattle.std.proofs.Common.{◌≡◌, ℕ, ◌+◌, ◌-◌, ◌<◌, ◌≤◌, false, List, [], ◌∷◌, ◌++◌, length, map, replicate, refl, sym, ap, ◌∙◌, inl, inr, arith}
+use Rattle.std.specs.List.{All}
 use Rattle.std.proofs.lemmas.Bool.{cases_lt}
 use Rattle.std.proofs.lemmas.List.{length_push, length-map, length-replicate}
-use Rattle.std.proofs.lemmas.List.Elements.{All-weaker, Contains-push_cases}
-use Rattle.gc_graph.specs.declared.phase.Phase.{Phase}
-use Rattle.gc_graph.specs.declared.phase.Phase.TheVariants.{Idle, Marking, Sweeping}
+use Rattle.std.proofs.lemmas.List.Elements.{All-weaker}
 use Rattle.gc_graph.specs.declared.kind.Kind.{Kind}
 use Rattle.gc_graph.specs.declared.kind.Value.{Value}
 use Rattle.gc_graph.specs.declared.kind.Value.TheVariants.{Null, Ref, Word}
 use Rattle.gc_graph.specs.State.{Setup, ObjectType, Node, type_at, node_at, is_there, is_dead, size_of}
 use Rattle.gc_graph.specs.Fields.{field_words, new_node, size_of_type}
 use Rattle.type_table.specs.Types.{kinds_of}
-use Rattle.marker_core.specs.Bodies.{kinds_of as step_kinds, with_word, holds, word_count}
+use Rattle.marker_core.specs.Bodies.{kinds_of as step_kinds, holds, word_count}
 use Rattle.marker_core.specs.declared.states.Body.{Body}
 use Rattle.page_words.specs.Roles.{kind_lists, kinds_fit, word_count_is}
 use Rattle.page_words.specs.Seat.{SeatView, IsView, rewritten}
@@ -20,7 +18,6 @@ use Rattle.gc_graph.specs.Placement.{extents_of}
 use Rattle.page_space.specs.Occupying.{Occupies, IsNewNumber, least_size, new_body}
 use Rattle.page_space.specs.Space.{extents_of_bodies}
 use Rattle.nodes_in_words.specs.Nodes.{place_of, word_of, body_of, bodies_of, IsThere, IsHeld}
-use Rattle.heap_objects.specs.Finalising.{HasMarks}
 use Rattle.nodes_in_words.specs.TypedNodes.{AreKnown, NamesBelow, new_words}
 use Rattle.nodes_in_words.specs.NodePlaces.{body_node}
 use Rattle.nodes_in_words.specs.NodeBodies.{bodies-push, extents-bodies}
@@ -28,8 +25,6 @@ use Rattle.nodes_in_words.specs.NodeChanges.{AgreeOn, AgreeIn, bodies-places, bo
 use Rattle.heap_objects.specs.FieldNodes.{with_field, place-field, life-field}
 use Rattle.heap_objects.proofs.FieldBodies.{bodies_stored}
 use Rattle.heap_objects.specs.NewNodes.{node-old, node-new, place-old}
-use Rattle.page_words.specs.WrittenBodies.{same_place}
-use Rattle.gc_graph.specs.Members.{Contains-map_some}
 use Rattle.gc_graph.specs.NodeNumbers.{there_below}
 
 -- ---- a new node
@@ -91,48 +86,11 @@ held_made setup nodes v new t extra place known alive held occupies =
       ];
     }
 
--- marks are as before, where the place lies below the address up to which all is swept
-pub marks_made : (phase : Phase) (limit : ℕ) (v new : SeatView) (b : Body) → Occupies v new b → b.place < limit → HasMarks phase limit v → HasMarks phase limit new
-marks_made Idle limit v new b is low quiet = record {
-  off = is.on ∙ quiet.off;
-  marked = is.marked ∙ quiet.marked;
-  traced = is.traced ∙ quiet.traced;
-  dead = is.dead ∙ quiet.dead;
-}
-marks_made Marking limit v new b is low quiet = record {
-  off = is.on ∙ quiet.off;
-  marked = is.marked ∙ quiet.marked;
-  traced = is.traced ∙ quiet.traced;
-  dead = is.dead ∙ quiet.dead;
-}
-marks_made Sweeping limit v new b is low swept = record {
-  clear = record {
-    marked = λ a below. ap (λ l. holds l a) is.marked ∙ swept.clear.marked a below;
-    traced = λ a below. ap (λ l. holds l a) is.traced ∙ swept.clear.traced a below;
-    dead = λ a below. ap (λ l. holds l a) is.dead ∙ swept.clear.dead a below;
-  };
-  judged = λ c there high. elim (Contains-push_cases v.bodies b c (subst (λ bs. Contains bs c) is.bodies there)) [
-    | inl old ↦ ap (λ l. holds l c.place) is.dead ∙ swept.judged c old high ∙ sym (ap (λ l. not (holds l c.place)) is.marked)
-    | inr this ↦ absurd (omega (arith, low, high, ap (λ (d : Body). d.place) this))
-  ];
-}
-
 -- the words that objects have are those of the nodes
 pub extents_held : (nodes : List Node) (v : SeatView) → IsHeld nodes v → extents_of_bodies v.bodies ≡ extents_of nodes
 extents_held nodes v held = ap extents_of_bodies held.bodies ∙ extents-bodies (place_of nodes) 0 nodes
 
 -- ---- a field
-
-pub marks_stored : (phase : Phase) (limit : ℕ) (v : SeatView) (a w : ℕ) → HasMarks phase limit v → HasMarks phase limit (rewritten v a w)
-marks_stored Idle limit v a w quiet = record { off = quiet.off; marked = quiet.marked; traced = quiet.traced; dead = quiet.dead }
-marks_stored Marking limit v a w quiet = record { off = quiet.off; marked = quiet.marked; traced = quiet.traced; dead = quiet.dead }
-marks_stored Sweeping limit v a w swept = record {
-  clear = record { marked = swept.clear.marked; traced = swept.clear.traced; dead = swept.clear.dead };
-  judged = λ b there high.
-      let from = Contains-map_some (with_word a w) v.bodies b there in
-      let place : from.0.place ≡ b.place = sym (same_place a w from.0) ∙ ap (λ (c : Body). c.place) from.2 in
-      subst (λ p. holds v.dead p ≡ not (holds v.marked p)) place (swept.judged from.0 from.1 (omega (arith, high, place)));
-}
 
 pub held_stored : (nodes : List Node) (v : SeatView) (a n f : ℕ) (x : Value) → IsView v → IsHeld nodes v → IsThere nodes n
     → a ≡ place_of nodes n + 2 + f → f < length (node_at nodes n).object.values → IsHeld (with_field nodes n f x) (rewritten v a (word_of (place_of nodes) x))

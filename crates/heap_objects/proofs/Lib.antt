@@ -6,3 +6,12 @@ pub mod SweptObjects
 pub mod PausedSizes
 pub mod ToldTruly
 pub mod Unlooked
+pub mod WayChanges
+pub mod MarksKept
+pub mod PlacesReached
+pub mod MarksStored
+pub mod MarksMade
+pub mod WeakMay
+pub mod MarksRead
+pub mod MarkingBegun
+pub mod MarksStepped

@@ -1,5 +1,5 @@
 -- The objects after a sweep up to an address.
-use Rattle.std.proofs.Common.{◌≡◌, ℕ, ◌≤◌, List, length, map, sym, ap, ◌∙◌, subst}
+use Rattle.std.proofs.Common.{◌≡◌, ℕ, ◌≤◌, false, List, length, map, sym, ap, ◌∙◌, subst}
 use Rattle.std.proofs.lemmas.List.{length-map}
 use Rattle.gc_graph.specs.declared.action.ActionKind.{ActionKind}
 use Rattle.gc_graph.specs.State.{Shape, Setup, ObjectType, Node}
@@ -21,12 +21,12 @@ setup_in space types callbacks = record { shape = space.shape; markers = 0; type
 
 -- the objects may be swept from the cursor on where all is swept below it
 pub may_sweep : (space : SpaceView) (v : SeatView) (types : List ObjectType) (callbacks : List ActionKind) (made : ℕ) (grey : Grey) (nodes : List Node) (sweep : SweepView)
-    → AreObjects space v types callbacks made nodes grey → sweep.pages ≡ space.shape.pages → IsSweptTo (cursor_at space.shape sweep) v → length nodes ≤ 1000000
+    → AreObjects space v types callbacks made nodes grey → v.on ≡ false → sweep.pages ≡ space.shape.pages → IsSweptTo (cursor_at space.shape sweep) v → length nodes ≤ 1000000
     → AreOfValid (setup_in space types callbacks) nodes → MaySweep sweep space v
-may_sweep space v types callbacks made grey nodes sweep is pages marks few valid = record {
+may_sweep space v types callbacks made grey nodes sweep is off pages marks few valid = record {
   laid = is.laid;
   pages = pages;
-  off = is.off;
+  off = off;
   judged = marks.judged;
   unnamed = dead_unnamed (setup_in space types callbacks) nodes v valid is.held is.known;
   serials = serials_fit nodes v is.held.bodies few;
@@ -34,7 +34,7 @@ may_sweep space v types callbacks made grey nodes sweep is pages marks few valid
 
 -- once they are swept from one cursor up to another
 module _ (space left : SpaceView) (v w : SeatView) (types : List ObjectType) (callbacks : List ActionKind) (made : ℕ) (grey : Grey) (nodes new : List Node) (sweep after : SweepView) (before told : List ℕ)
-    (is : AreObjects space v types callbacks made nodes grey) (marks : IsSweptTo (cursor_at space.shape sweep) v)
+    (is : AreObjects space v types callbacks made nodes grey) (off : v.on ≡ false) (marks : IsSweptTo (cursor_at space.shape sweep) v)
     (swept : Sweeps (cursor_at space.shape sweep) (cursor_at space.shape after) v before w told) (shape : left.shape ≡ space.shape)
     (nodes_are : new ≡ map (finalise (cursor_at left.shape after)) nodes) where
   nodes_left : new ≡ map (finalise (cursor_at space.shape after)) nodes
@@ -46,11 +46,16 @@ module _ (space left : SpaceView) (v w : SeatView) (types : List ObjectType) (ca
     few = is.few;
     known = ap (λ (u : SeatView). u.types) swept.view ∙ is.known;
     laid = may.laid;
-    off = may.off;
+    alone = record {
+      no_hand = ap (λ (u : SeatView). u.hand) swept.view ∙ is.alone.no_hand;
+      no_pending = ap (λ (u : SeatView). u.pending) swept.view ∙ is.alone.no_pending;
+      none_lent = ap (λ (u : SeatView). u.lent) swept.view ∙ is.alone.none_lent;
+    };
     held = subst (λ (ns : List Node). IsHeld ns w) (sym nodes_left)
         (held_below nodes v w (cursor_at space.shape sweep) (cursor_at space.shape after) before told is.held marks.clear swept);
     numbers_are = is.numbers_are ∙ sym (length-map nodes (finalise (cursor_at space.shape after))) ∙ sym (ap length nodes_left);
-    clear = is.clear;
+    told = is.told ∙ off ∙ sym may.off;
+    one = is.one;
   }
 
   pub finalised_nodes : FinalisesBelow (cursor_at space.shape after) nodes before told new

@@ -1,10 +1,14 @@
 -- What is told of the words but for the headers that were looked at is true of the words.
-use Rattle.std.proofs.Common.{ℕ}
-use Rattle.gc_graph.specs.declared.phase.Phase.{Phase}
-use Rattle.gc_graph.specs.declared.phase.Phase.TheVariants.{Idle, Marking, Sweeping}
-use Rattle.page_words.specs.Seat.{SeatView, IsQuiet, unlooked}
+use Rattle.std.proofs.Common.{ℕ, List, Bool}
+use Rattle.gc_graph.specs.State.{Node}
+use Rattle.mark_worklist.specs.declared.marking.Marking.{Marking}
+use Rattle.page_words.specs.Seat.{SeatView, IsAlone, IsQuiet, unlooked}
+use Rattle.ephemerons.specs.declared.notes.Note.{Note}
+use Rattle.ephemerons.specs.Notes.{NotesState}
+use Rattle.ephemerons.specs.UnderWay.{IsNotedPair, IsUnderWay}
 use Rattle.sweeper.specs.Sweeping.{IsClearBelow}
-use Rattle.heap_objects.specs.Finalising.{IsSweptTo, HasMarks}
+use Rattle.heap_objects.specs.Finalising.{IsSweptTo}
+use Rattle.heap_objects.specs.Marks.{IsMayOf}
 
 pub quiet_is : (v : SeatView) → IsQuiet (unlooked v) → IsQuiet v
 quiet_is v x = record { off = x.off; marked = x.marked; traced = x.traced; dead = x.dead }
@@ -24,12 +28,42 @@ swept_is limit v x = record { clear = clear_is limit v x.clear; judged = x.judge
 pub swept_told : (limit : ℕ) (v : SeatView) → IsSweptTo limit v → IsSweptTo limit (unlooked v)
 swept_told limit v x = record { clear = clear_told limit v x.clear; judged = x.judged }
 
-pub marks_are : (phase : Phase) (limit : ℕ) (v : SeatView) → HasMarks phase limit (unlooked v) → HasMarks phase limit v
-marks_are Idle limit v x = quiet_is v x
-marks_are Marking limit v x = quiet_is v x
-marks_are Sweeping limit v x = swept_is limit v x
+alone_is : (v : SeatView) → IsAlone (unlooked v) → IsAlone v
+alone_is v x = record { no_hand = x.no_hand; no_pending = x.no_pending; none_lent = x.none_lent }
 
-pub marks_told : (phase : Phase) (limit : ℕ) (v : SeatView) → HasMarks phase limit v → HasMarks phase limit (unlooked v)
-marks_told Idle limit v x = quiet_told v x
-marks_told Marking limit v x = quiet_told v x
-marks_told Sweeping limit v x = swept_told limit v x
+alone_told : (v : SeatView) → IsAlone v → IsAlone (unlooked v)
+alone_told v x = record { no_hand = x.no_hand; no_pending = x.no_pending; none_lent = x.none_lent }
+
+noted_is : (v : SeatView) (note : Note) → IsNotedPair (unlooked v) note → IsNotedPair v note
+noted_is v note x = record { pair = x.pair; marked = x.marked }
+
+noted_told : (v : SeatView) (note : Note) → IsNotedPair v note → IsNotedPair (unlooked v) note
+noted_told v note x = record { pair = x.pair; marked = x.marked }
+
+pub way_is : (v : SeatView) (m : Marking) (notes : NotesState) → IsUnderWay (unlooked v) m notes → IsUnderWay v m notes
+way_is v m notes x = record {
+  on = x.on;
+  told = x.told;
+  alone = alone_is v x.alone;
+  listed = x.listed;
+  grey = x.grey;
+  noted = λ note there. noted_is v note (x.noted note there);
+  recorded = x.recorded;
+}
+
+pub way_told : (v : SeatView) (m : Marking) (notes : NotesState) → IsUnderWay v m notes → IsUnderWay (unlooked v) m notes
+way_told v m notes x = record {
+  on = x.on;
+  told = x.told;
+  alone = alone_told v x.alone;
+  listed = x.listed;
+  grey = x.grey;
+  noted = λ note there. noted_told v note (x.noted note there);
+  recorded = x.recorded;
+}
+
+pub may_is : (nodes : List Node) (v : SeatView) (may : List Bool) → IsMayOf nodes (unlooked v) may → IsMayOf nodes v may
+may_is nodes v may x = record { whole = x.whole; live = x.live; same = x.same }
+
+pub may_told : (nodes : List Node) (v : SeatView) (may : List Bool) → IsMayOf nodes v may → IsMayOf nodes (unlooked v) may
+may_told nodes v may x = record { whole = x.whole; live = x.live; same = x.same }

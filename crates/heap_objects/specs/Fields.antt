@@ -89,6 +89,13 @@ TakesWord Weak bodies w = IsReference bodies w
 TakesWord Pair bodies w = ⊥
 TakesWord Plain bodies w = ⊤
 
+-- the word whose target is marked when it is stored in a field of the kind, while marking goes on: only a strong field's
+abbrev pub kept_word : Kind → ℕ → ℕ
+kept_word Strong w = w
+kept_word Weak w = 0
+kept_word Pair w = 0
+kept_word Plain w = 0
+
 -- the two may go into a pair as its key and its value: each is null or names a live node, and both are null or neither
 pub record ArePartsOf (nodes : List Node) (key value : Value) : Type 0 where
   pub key_names : IsLiveReference nodes key

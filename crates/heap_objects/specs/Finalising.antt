@@ -1,10 +1,8 @@
 -- Sweeping up to an address, over words and nodes.
 use Rattle.std.specs.Prelude.{◌≡◌, ℕ, ◌+◌, ◌*◌, ◌≤◌, List, ◌++◌, length, map}
-use Rattle.gc_graph.specs.declared.phase.Phase.{Phase}
-use Rattle.gc_graph.specs.declared.phase.Phase.TheVariants.{Idle, Marking, Sweeping}
 use Rattle.gc_graph.specs.State.{Shape, Node}
 use Rattle.gc_graph.specs.Sweep.{finalise, AreDeadInOrder}
-use Rattle.page_words.specs.Seat.{SeatView, IsQuiet}
+use Rattle.page_words.specs.Seat.{SeatView}
 use Rattle.page_space.specs.Pages.{word_count}
 use Rattle.sweeper.specs.Sweeping.{IsClearBelow, IsJudgedFrom, dead_between}
 
@@ -12,13 +10,6 @@ use Rattle.sweeper.specs.Sweeping.{IsClearBelow, IsJudgedFrom, dead_between}
 pub record IsSweptTo (limit : ℕ) (v : SeatView) : Type 0 where
   pub clear : IsClearBelow limit v
   pub judged : IsJudgedFrom limit v
-
--- nothing is marked while the heap is idle; in an open sweep nothing is marked below the address up to which all is swept, and
--- from there on each object is marked or dead; marking never goes on between commands
-abbrev pub HasMarks : Phase → ℕ → SeatView → Type 0
-HasMarks Idle limit v = IsQuiet v
-HasMarks Marking limit v = IsQuiet v
-HasMarks Sweeping limit v = IsSweptTo limit v
 
 -- the dead nodes whose places lie below the address were finalised, and their numbers follow those that were told before
 pub record FinalisesBelow (limit : ℕ) (old : List Node) (before after : List ℕ) (new : List Node) : Type 0 where

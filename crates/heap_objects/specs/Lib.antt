@@ -1,8 +1,9 @@
-pub mod Marking
 pub mod Refused
+pub mod Marking
 pub mod Fields
 pub mod Objects
 pub mod Finalising
+pub mod Marks
 pub mod FieldNodes
 pub mod NewNodes
 pub mod SweptNodes

@@ -1,8 +1,8 @@
 -- How many pushes and notes were refused, and what a pause tells of it.
-use Rattle.std.specs.Prelude.{◌≡◌, ◌⊎◌, ◌<◌, ◌≤◌, ℕ, Bool, true, List}
+use Rattle.std.specs.Prelude.{◌≡◌, ◌⊎◌, ◌<◌, ◌≤◌, ℕ, Bool, true}
 use Rattle.mark_worklist.specs.Lists.{last_count}
 use Rattle.mark_worklist.specs.declared.marking.Marking.{Marking}
-use Rattle.ephemerons.specs.Notes.{NotesState, group_at}
+use Rattle.ephemerons.specs.Notes.{NotesState}
 
 -- how many pushes on the marking list and how many notes were refused since the heap was made; a count stays at its last value
 pub record RefusedCounts : Type 0 where
@@ -14,14 +14,19 @@ abbrev pub none_refused : RefusedCounts
 none_refused = record { pushes = 0; notes = 0 }
 
 -- the counts that the owner's list and notes hold
-abbrev pub refused_counts : Marking → List NotesState → RefusedCounts
-refused_counts marking notes = record { pushes = marking.list.refused; notes = (group_at notes 0).refused }
+abbrev pub refused_counts : Marking → NotesState → RefusedCounts
+refused_counts marking notes = record { pushes = marking.list.refused; notes = notes.refused }
+
+-- what is told of refusals: how much was refused until now, and until marking began
+pub record RefusalsTold : Type 0 where
+  pub now : RefusedCounts
+  pub since : RefusedCounts
 
 -- more were refused; or the count stands at its last value, where one more can't be seen
 abbrev pub MayHaveRisen : ℕ → ℕ → Type 0
 MayHaveRisen old new = (old < new) ⊎ (last_count ≤ new)
 
--- a pause told that it walked exactly where a push or a note was refused in it, as far as the counts show it
+-- a flag tells exactly where a push or a note was refused between the two, as far as the counts show it
 pub record IsToldTruly (old new : RefusedCounts) (walked : Bool) : Type 0 where
   pub no_fewer_pushes : old.pushes ≤ new.pushes
   pub no_fewer_notes : old.notes ≤ new.notes

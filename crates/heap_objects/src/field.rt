@@ -1,14 +1,16 @@
 // A field of an object, and how its word is written (`include/cppgc/member.h`).
 
-ghost use Rattle.std.specs.Prelude.{◌≡◌, ◌+◌, false};
+ghost use Rattle.std.specs.Prelude.{◌≡◌, ◌+◌, true, false};
 ghost use Rattle.std.specs.Prelude.{Some, None, Ok, Err};
 ghost use Rattle.std.specs.Prelude.{MatchOption, MatchBool};
 ghost use Rattle.gc_graph.specs.declared.line.Refusal.TheVariants as R;
+ghost use Rattle.gc_graph.specs.Fields.{is_reference};
 ghost use Rattle.type_table.specs.Types.{is_kind};
 ghost use Rattle.page_words.specs.Seat.{rewritten};
 ghost use Rattle.page_space.specs.Space.{IsSeatOf};
 ghost use Rattle.member_fields.specs.Words.{HasWord};
-ghost use Rattle.heap_objects.specs.Fields.{allows, TakesWord};
+ghost use Rattle.member_fields.specs.Barrier.{IsReadyToStore, MayKeep, MayKeepNamed, HasBarrier};
+ghost use Rattle.heap_objects.specs.Fields.{allows, TakesWord, kept_word};
 
 use gc_graph::{Kind, Refusal};
 use mark_worklist::Marking;
@@ -86,8 +88,7 @@ pub fn wanted_field(
     }
 }
 
-/// Writes the word of a field that is no pair, as fields of its kind are written, while no marking
-/// goes on.
+/// Writes the word of a field that is no pair, as fields of its kind are written.
 pub fn write_field(
     space: &Space,
     seat: &mut MutatorSeat,
@@ -96,12 +97,18 @@ pub fn write_field(
     w: u64,
 )
     requires heap { IsSeatOf space.now seat.old }
-    requires off { seat.old.on ≡ false }
-    requires still { marking.old.on ≡ false }
+    requires on { marking.old.on ≡ seat.old.on }
+    requires ready { IsReadyToStore seat.old }
     requires field { HasWord (is_kind field.kind) seat.old field.holder field.word }
     requires word { TakesWord field.kind seat.old.bodies w }
-    ensures word { seat.new ≡ rewritten seat.old (field.holder + field.word) w }
-    ensures marking { marking.new ≡ marking.old }
+    requires holder { MayKeep seat.old field.holder }
+    requires kept { is_reference field.kind ≡ true → MayKeepNamed seat.old w }
+    ensures barrier { HasBarrier (kept_word field.kind w)
+        (rewritten seat.old (field.holder + field.word) w) marking.old seat.new marking.new }
+    ensures off { seat.old.on ≡ false
+        → (seat.new ≡ rewritten seat.old (field.holder + field.word) w)
+        × (marking.new ≡ marking.old) }
+    ensures ready { IsReadyToStore seat.new }
 {
     seat.bodies_lie_apart();
     match field.kind {

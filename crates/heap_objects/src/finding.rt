@@ -1,15 +1,17 @@
 // Where a new object goes among the objects, and how it is made there.
 
-ghost use Rattle.std.specs.Prelude.{◌≡◌, ℕ, ◌^◌, ◌<◌, ◌≤◌, false, length, Some, IfSome, IfNone};
+ghost use Rattle.std.specs.Prelude.{◌≡◌, ℕ, ◌^◌, ◌<◌, ◌≤◌, Bool, List, false, length};
+ghost use Rattle.std.specs.Prelude.{Some, IfSome, IfNone};
 ghost use Rattle.gc_graph.specs.declared.phase.Phase.{Phase};
 ghost use Rattle.gc_graph.specs.Fields.{size_of_type};
+ghost use Rattle.gc_graph.specs.May.{may_with_new};
 ghost use Rattle.gc_graph.specs.Placement.{IsLowest, IsNowhere, StartsEmptyRun, extents_of};
 ghost use Rattle.marker_core.specs.Bodies.{holds};
 ghost use Rattle.page_space.specs.Space.{FitsBetween, IsFreePlace};
 ghost use Rattle.nodes_in_words.specs.Nodes.{AreOfValid};
 ghost use Rattle.heap_objects.specs.Objects.{with_made};
 ghost use Rattle.heap_objects.specs.Objects.{setup_of_objects};
-ghost use Rattle.heap_objects.specs.Finalising.{HasMarks};
+ghost use Rattle.heap_objects.specs.Marks.{HasMarks};
 
 use crate::nodes;
 use crate::objects::Objects;
@@ -67,15 +69,18 @@ impl Objects {
         requires some { 2 ≤ size }
         requires most { size < 2 ^ 26 }
         requires place { IsFreePlace self.old.shape (extents_of self.old.nodes) size place }
-        requires alive { holds self.old.seat.dead place ≡ false }
+        requires alive { self.old.seat.on ≡ false → holds self.old.seat.dead place ≡ false }
         ensures nodes { self.new.nodes
             ≡ with_made (setup_of_objects self.old) self.old.nodes t extra (Some place) }
-        ensures marks { (phase : Phase) (limit : ℕ) → place < limit
-            → HasMarks phase limit self.old.seat → HasMarks phase limit self.new.seat }
+        ensures marks { (phase : Phase) (limit : ℕ) (may : List Bool) → place < limit
+            → HasMarks phase limit may self.old
+            → HasMarks phase limit (may_with_new phase may) self.new }
         ensures setup { setup_of_objects self.new ≡ setup_of_objects self.old }
-        ensures refused { self.new.refused ≡ self.old.refused }
+        ensures grey { self.new.grey ≡ self.old.grey }
     {
+        self.seat.bodies_lie_apart();
         self.space.occupy(&mut self.seat, place, t, size, self.made);
+        self.seat.bodies_lie_apart();
         self.made += 1;
         self.nodes = nodes::made(&self.nodes, &self.space, &self.types, t, extra, place);
     }

@@ -1,17 +1,20 @@
 // Reading and writing the fields of a heap's objects.
 
-ghost use Rattle.std.specs.Prelude.{◌≡◌, ℕ, ◌≤◌, true, length};
+ghost use Rattle.std.specs.Prelude.{◌≡◌, ℕ, ◌≤◌, Bool, List, true, false, length};
 ghost use Rattle.std.specs.Prelude.{Some};
 ghost use Rattle.gc_graph.specs.declared.kind.Value.{Value};
 ghost use Rattle.gc_graph.specs.declared.kind.Value.TheVariants.{Word};
 ghost use Rattle.gc_graph.specs.declared.phase.Phase.{Phase};
 ghost use Rattle.gc_graph.specs.Fields.{is_reference, is_plain};
+ghost use Rattle.gc_graph.specs.May.{may_with_read};
+ghost use Rattle.gc_graph.specs.State.{graph_of};
+ghost use Rattle.member_fields.specs.Barrier.{MayKeep, MayKeepNamed};
 ghost use Rattle.heap_objects.specs.Fields.{allows, IsFieldAt, IsFieldOf, value_in, TakesValue};
 ghost use Rattle.heap_objects.specs.Objects.{IsLiveAt};
 ghost use Rattle.nodes_in_words.specs.Nodes.{AreOfValid, word_of, place_of};
 ghost use Rattle.heap_objects.specs.Objects.{IsReferenceTo, target_in, written_in};
 ghost use Rattle.heap_objects.specs.Objects.{setup_of_objects};
-ghost use Rattle.heap_objects.specs.Finalising.{HasMarks};
+ghost use Rattle.heap_objects.specs.Marks.{HasMarks, IsTellingOn};
 
 use crate::content::Content;
 use crate::field::{Field, Wanted, wanted_field, write_field};
@@ -22,7 +25,7 @@ use gc_graph::Refusal;
 use ghost_values::GhostValue;
 use member_fields::{get, get_word};
 use object_headers::{SERIAL, place_in};
-use page_words::Reading;
+use page_words::{Reading, WeakRead};
 
 impl Objects {
     /// Field f of the object at a place, where it is one of those wanted. A missing field is told
@@ -87,6 +90,22 @@ impl Objects {
         get_word(&self.space, &mut self.seat, field.holder, field.word)
     }
 
+    /// The object at a place was read weakly: while marking goes on it may be kept, with all that it
+    /// reaches.
+    pub fn read_weakly(&mut self, place: u32)
+        requires valid { AreOfValid (setup_of_objects self.old) self.old.nodes }
+        requires place { (n : ℕ) × IsLiveAt self.old.nodes n place }
+        ensures same { self.old.seat.on ≡ false → self.new ≡ self.old }
+        ensures others { self.new ≡ record self.old { seat = self.new.seat } }
+        ensures marks { (phase : Phase) (limit : ℕ) (may : List Bool) (n : ℕ)
+            → IsLiveAt self.old.nodes n place → HasMarks phase limit may self.old → HasMarks phase
+            limit (may_with_read phase (graph_of self.old.nodes) may n) self.new }
+    {
+        gc_graph::reach_is_least();
+        self.seat.bodies_lie_apart();
+        self.space.words().load::<WeakRead>(&mut self.seat, place);
+    }
+
     /// Writes the content into the field, which is field f of the named object.
     pub fn store(&mut self, named: &GhostValue<Names>, f: u32, field: Field, content: &Content)
         requires valid { AreOfValid (setup_of_objects self.old) self.old.nodes }
@@ -95,12 +114,16 @@ impl Objects {
         requires value { TakesValue field.kind self.old.nodes content.now.value.value }
         requires content { content.now.word
             ≡ word_of (place_of self.old.nodes) content.now.value.value }
+        requires holder { MayKeep self.old.seat field.holder }
+        requires kept { is_reference field.kind ≡ true
+            → MayKeepNamed self.old.seat content.now.word }
         ensures nodes { self.new.nodes ≡ written_in self.old.nodes
             named.now.value f content.now.value.value }
-        ensures marks { (phase : Phase) (limit : ℕ) → HasMarks phase limit self.old.seat
-            → HasMarks phase limit self.new.seat }
+        ensures marks { (phase : Phase) (limit : ℕ) (may : List Bool)
+            → HasMarks phase limit may self.old → HasMarks phase limit may self.new }
         ensures setup { setup_of_objects self.new ≡ setup_of_objects self.old }
-        ensures refused { self.new.refused ≡ self.old.refused }
+        ensures refused { IsTellingOn self.old self.new }
+        ensures traced { self.new.grey.traced ≡ self.old.grey.traced }
     {
         self.seat.bodies_lie_apart();
         type_table::fields_stand_apart();

@@ -6,6 +6,7 @@ ghost use Rattle.page_space.specs.Pages.{word_count};
 ghost use Rattle.sweeper.specs.Sweeping.{cursor_at, dead_between};
 ghost use Rattle.nodes_in_words.specs.Nodes.{AreOfValid};
 ghost use Rattle.heap_objects.specs.Finalising.{IsSweptTo, FinalisesBelow, AreFewTold};
+ghost use Rattle.heap_objects.specs.Marks.{IsAtRest};
 ghost use Rattle.heap_objects.specs.Objects.{setup_of_objects};
 
 use crate::nodes;
@@ -18,6 +19,7 @@ impl Objects {
     pub fn finalise_page(&mut self, sweep: &mut Sweep, finalised: &mut Vec<u32>) -> u32
         requires pages { sweep.old.pages ≡ self.old.shape.pages }
         requires open { sweep.old.cursor < sweep.old.pages }
+        requires rest { IsAtRest self.old }
         requires marks { IsSweptTo (cursor_at self.old.shape sweep.old) self.old.seat }
         requires valid { AreOfValid (setup_of_objects self.old) self.old.nodes }
         requires few { length self.old.nodes ≤ 1000000 }
@@ -34,7 +36,8 @@ impl Objects {
             self.new.seat finalised.new.items }
         ensures room { vec_capacity finalised.new ≡ vec_capacity finalised.old }
         ensures setup { setup_of_objects self.new ≡ setup_of_objects self.old }
-        ensures refused { self.new.refused ≡ self.old.refused }
+        ensures rest { IsAtRest self.new }
+        ensures grey { self.new.grey ≡ self.old.grey }
     {
         self.seat.bodies_lie_apart();
         sweeper::dead_are_few(&self.space, &self.seat);
@@ -47,6 +50,7 @@ impl Objects {
     /// that are in `finalised`. Answers how many these are.
     pub fn finalise_rest(&mut self, sweep: &mut Sweep, finalised: &mut Vec<u32>) -> u32
         requires pages { sweep.old.pages ≡ self.old.shape.pages }
+        requires rest { IsAtRest self.old }
         requires marks { IsSweptTo (cursor_at self.old.shape sweep.old) self.old.seat }
         requires valid { AreOfValid (setup_of_objects self.old) self.old.nodes }
         requires few { length self.old.nodes ≤ 1000000 }
@@ -61,7 +65,8 @@ impl Objects {
         ensures told { 2 * length finalised.new.items ≤ word_count self.old.shape }
         ensures room { vec_capacity finalised.new ≡ vec_capacity finalised.old }
         ensures setup { setup_of_objects self.new ≡ setup_of_objects self.old }
-        ensures refused { self.new.refused ≡ self.old.refused }
+        ensures rest { IsAtRest self.new }
+        ensures grey { self.new.grey ≡ self.old.grey }
     {
         self.seat.bodies_lie_apart();
         let count = sweep.finish(&mut self.space, &mut self.seat, finalised);

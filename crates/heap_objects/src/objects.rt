@@ -10,7 +10,7 @@ ghost use Rattle.page_space.specs.Pages.{word_count};
 ghost use Rattle.callback_table.specs.Table.{kinds_of};
 ghost use Rattle.heap_objects.specs.Objects.{HaveCallbacks, IsLiveAt};
 ghost use Rattle.heap_objects.specs.Objects.{setup_of_objects};
-ghost use Rattle.heap_objects.specs.Refused.{none_refused};
+ghost use Rattle.heap_objects.specs.Marking.{no_grey};
 
 use crate::kinds::{self, Kinds};
 use crate::marking::Grey;
@@ -42,7 +42,7 @@ pub struct Objects {
 impl Model for Objects {
     ghost use Rattle.heap_objects.specs.Objects.{AreObjects};
     ghost use Rattle.heap_objects.specs.Objects.{ObjectsView};
-    ghost use Rattle.heap_objects.specs.Refused.{refused_counts};
+    ghost use Rattle.heap_objects.specs.Marking.{grey_of};
     ghost use Rattle.page_words.specs.Seat.{unlooked};
 
     ghost Value = { ObjectsView };
@@ -53,7 +53,7 @@ impl Model for Objects {
       callbacks = o.kinds.value;
       nodes = o.nodes.value;
       seat = unlooked o.seat;
-      refused = refused_counts o.grey.marking o.grey.notes;
+      grey = grey_of o.grey;
     } };
 
     ghost invariant = { λ o. AreObjects o.space o.seat o.types o.kinds.value o.made
@@ -78,7 +78,7 @@ impl Objects {
           callbacks = kinds_of callbacks.now;
           nodes = [];
           seat = empty_view (pages * page_words) types;
-          refused = none_refused;
+          grey = no_grey;
         }) }
     {
         let (space, seat) = Space::new(alloc, pages, page_words, &types)?;

@@ -1,7 +1,7 @@
 // The ephemeron pairs of objects: how both words are written, and how one is read
 // (`include/cppgc/ephemeron-pair.h`).
 
-ghost use Rattle.std.specs.Prelude.{◌≡◌, ℕ, ◌≤◌, true, length};
+ghost use Rattle.std.specs.Prelude.{◌≡◌, ℕ, ◌≤◌, Bool, List, true, length};
 ghost use Rattle.std.specs.Prelude.{Some};
 ghost use Rattle.gc_graph.specs.declared.phase.Phase.{Phase};
 ghost use Rattle.gc_graph.specs.Fields.{is_pair};
@@ -9,7 +9,8 @@ ghost use Rattle.heap_objects.specs.Fields.{IsFieldOf, part_in, ArePartsOf};
 ghost use Rattle.heap_objects.specs.Objects.{target_in, paired_in};
 ghost use Rattle.nodes_in_words.specs.Nodes.{AreOfValid, word_of, place_of};
 ghost use Rattle.heap_objects.specs.Objects.{setup_of_objects};
-ghost use Rattle.heap_objects.specs.Finalising.{HasMarks};
+ghost use Rattle.heap_objects.specs.Marks.{HasMarks, IsTellingOn};
+ghost use Rattle.member_fields.specs.Barrier.{MayKeep, MayKeepNamed};
 
 use crate::content::Content;
 use crate::field::{Field, Part};
@@ -64,13 +65,17 @@ impl Objects {
             ≡ word_of (place_of self.old.nodes) pair.now.key.value.value }
         requires value { pair.now.value.word
             ≡ word_of (place_of self.old.nodes) pair.now.value.value.value }
+        requires holder { MayKeep self.old.seat field.holder }
+        requires key_kept { MayKeepNamed self.old.seat pair.now.key.word }
+        requires value_kept { MayKeepNamed self.old.seat pair.now.value.word }
         ensures nodes { self.new.nodes
             ≡ paired_in self.old.nodes named.now.value f
             pair.now.key.value.value pair.now.value.value.value }
-        ensures marks { (phase : Phase) (limit : ℕ) → HasMarks phase limit self.old.seat
-            → HasMarks phase limit self.new.seat }
+        ensures marks { (phase : Phase) (limit : ℕ) (may : List Bool)
+            → HasMarks phase limit may self.old → HasMarks phase limit may self.new }
         ensures setup { setup_of_objects self.new ≡ setup_of_objects self.old }
-        ensures refused { self.new.refused ≡ self.old.refused }
+        ensures refused { IsTellingOn self.old self.new }
+        ensures traced { self.new.grey.traced ≡ self.old.grey.traced }
     {
         fields_stand_apart();
         self.seat.bodies_lie_apart();

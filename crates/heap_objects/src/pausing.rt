@@ -1,33 +1,104 @@
-// What a collection does to the objects: the pause.
+// What a collection does to the objects: marking begins, goes on in steps, and ends with the pause.
 
-ghost use Rattle.std.specs.Prelude.{◌≡◌, ℕ, List, Option, ◌*◌, ◌^◌, ◌<◌, ◌++◌};
-ghost use Rattle.std.specs.Prelude.{◌≤◌, [], length, map, All};
-ghost use Rattle.std.specs.Option.{ForSome};
-ghost use Rattle.gc_graph.specs.State.{node_at, size_of, IsLive, slot_targets};
+ghost use Rattle.std.specs.Prelude.{◌≡◌, ℕ, List, Option, ◌+◌, ◌<◌, ◌++◌};
+ghost use Rattle.std.specs.Prelude.{◌≤◌, Bool, true, false, length, map, Some, All, Contains};
+ghost use Rattle.gc_graph.specs.May.{members};
+ghost use Rattle.gc_graph.specs.Reach.{Reach};
+ghost use Rattle.gc_graph.specs.State.{node_at, size_of, graph_of, IsLive, slot_targets};
 ghost use Rattle.gc_graph.specs.Pause.{live_count, dead_count, is_dead_at, clear_slot};
+ghost use Rattle.gc_graph.specs.Valid.{AreLive};
 ghost use Rattle.callback_table.specs.Registry.{IsRegistered};
 ghost use Rattle.callback_table.specs.Table.{kinds_of};
-ghost use Rattle.marker_core.specs.Bodies.{IsPlace};
+ghost use Rattle.marker_core.specs.Bodies.{holds};
+ghost use Rattle.marker_core.specs.Laws.{IsLeastOver};
+ghost use Rattle.page_words.specs.Roles.{kind_lists};
 ghost use Rattle.page_words.specs.Seat.{IsQuiet, PairsAreWhole, begun};
 ghost use Rattle.nodes_in_words.specs.Nodes.{AreOfValid};
 ghost use Rattle.nodes_in_words.specs.Places.{places_of, IsJudged};
-ghost use Rattle.atomic_pause.specs.Marking.{RootsMayBeKept, root_places};
 ghost use Rattle.atomic_pause.specs.Pausing.{IsPaused, NamePlaces, hits_in};
-ghost use Rattle.heap_objects.specs.Objects.{setup_of_objects};
+ghost use Rattle.heap_objects.specs.Marks.{IsAtRest, HasMarking, NameRoots};
+ghost use Rattle.heap_objects.specs.Objects.{setup_of_objects, refused_of};
 ghost use Rattle.heap_objects.specs.Refused.{IsToldTruly};
 
-use crate::marking::clear;
+use crate::marking::{clear, refused};
 use crate::objects::Objects;
-use atomic_pause::{Parts, PauseResult, pause};
+use atomic_pause::{Parts, PauseResult, pause, visit_slots};
 use callback_table::{CallbackTable, Registry};
+use ephemerons::trace_listed;
+use ghost_values::GhostValue;
+use nodes_in_words::NodeLists;
 use page_words::{MutatorSeat, Words};
 use persistent_slots::Slots;
 
 impl Objects {
-    /// The pause: what the strong slots and, unless it is precise, the words of the stack reach is
-    /// kept, the other objects are condemned, what is weak and names one of these becomes null, and
-    /// their prefinalizers run.
-    pub fn pause<'a>(
+    /// Begins marking: from now on what the roots reach may be kept, and what the strong slots name
+    /// is marked. Contracts alone see the roots, among which are the targets of these slots.
+    #[inline(never)]
+    pub fn begin(&mut self, strong: &Slots)
+        ghost roots: { List ℕ }
+        requires valid { AreOfValid (setup_of_objects self.old) self.old.nodes }
+        requires rest { IsAtRest self.old }
+        requires quiet { IsQuiet self.old.seat }
+        requires roots { AreLive self.old.nodes roots }
+        requires slots { NameRoots self.old.nodes roots strong.now }
+        ensures marks { HasMarking (Reach (graph_of self.old.nodes) roots) self.new }
+        ensures slots { (p : ℕ) → Contains strong.now (Some p)
+            → holds self.new.seat.marked p ≡ true }
+        ensures traced { self.new.grey.traced ≡ 0 }
+        ensures since { self.new.grey.since ≡ refused_of self.old }
+        ensures nodes { self.new.nodes ≡ self.old.nodes }
+        ensures setup { setup_of_objects self.new ≡ setup_of_objects self.old }
+    {
+        gc_graph::reach_is_least();
+        self.seat.bodies_lie_apart();
+        self.space.lasts_while_objects_stay();
+        self.grey.since = refused(&self.grey.marking, &self.grey.notes);
+        self.grey.traced = 0;
+        let words = self.space.words();
+        let marking = &mut self.grey.marking;
+        keep_reached(words, &mut self.seat, &self.nodes);
+        marking.on = true;
+        self.seat.bodies_lie_apart();
+        visit_slots(words, &mut self.seat, marking, strong);
+    }
+
+    /// Traces marked objects, at most so many. Answers how many: fewer only where no object is grey,
+    /// unless a push was refused.
+    #[inline(never)]
+    pub fn step(&mut self, most: u32) -> u32
+        requires marks { (may : List Bool) × HasMarking may self.old }
+        ensures marks { (may : List Bool) → HasMarking may self.old → HasMarking may self.new }
+        ensures most { result ≤ most }
+        ensures counted { self.new.grey.traced ≡ self.old.grey.traced + result }
+        ensures done { result < most → self.new.grey.marking.overflow ≡ false → (p : ℕ)
+            → holds self.new.seat.marked p ≡ true → holds self.new.seat.traced p ≡ true }
+        ensures since { self.new.grey.since ≡ self.old.grey.since }
+        ensures nodes { self.new.nodes ≡ self.old.nodes }
+        ensures setup { setup_of_objects self.new ≡ setup_of_objects self.old }
+    {
+        self.seat.bodies_lie_apart();
+        self.space.lasts_while_objects_stay();
+        // The count of objects fits its type, and so does that of traced ones.
+        let _objects = self.space.objects();
+        let [notes] = &mut self.grey.notes;
+        let traced = trace_listed(
+            &self.space,
+            &self.types,
+            &mut self.seat,
+            &mut self.grey.marking,
+            notes,
+            most,
+        );
+        self.grey.traced += traced;
+        traced
+    }
+
+    /// Finishes marking, with the pause: what the strong slots and, unless it is precise, the words of
+    /// the stack reach is kept, what couldn't be kept before is condemned unless the stack's words
+    /// reach it, what is weak and names a condemned object becomes null, and the prefinalizers of
+    /// these run.
+    #[inline(never)]
+    pub fn finish<'a>(
         &mut self,
         strong: &'a Slots,
         weak: &mut Slots,
@@ -37,32 +108,36 @@ impl Objects {
         callbacks: &'a CallbackTable,
     ) -> PauseResult
         requires valid { AreOfValid (setup_of_objects self.old) self.old.nodes }
-        requires quiet { IsQuiet self.old.seat }
+        requires marks { (may : List Bool) × HasMarking may self.old }
         requires few { length self.old.nodes ≤ 1000000 }
         requires kinds { kinds_of callbacks.now ≡ self.old.callbacks }
         requires slots { (slots : List (Option ℕ)) × NamePlaces self.old.nodes slots strong.now }
+        requires kept { (p : ℕ) → Contains strong.now (Some p)
+            → holds self.old.seat.may p ≡ true }
         requires weak { (slots : List (Option ℕ)) × NamePlaces self.old.nodes slots weak.old }
         requires registered { All (IsRegistered self.old.nodes (length self.old.callbacks))
             registry.old.entries }
-        ensures paused { (slots : List (Option ℕ)) → NamePlaces self.old.nodes slots strong.now →
-            IsPaused self.old.callbacks
+        ensures paused { (slots : List (Option ℕ)) (may : List Bool)
+            → NamePlaces self.old.nodes slots strong.now → HasMarking may self.old
+            → IsPaused self.old.callbacks
             (slot_targets slots ++ hits_in precise self.old.nodes stack.now)
+            (members may ++ hits_in precise self.old.nodes stack.now)
             self.old.nodes self.new.nodes registry.old registry.new }
         ensures sizes { (n : ℕ) → IsLive self.old.nodes n
             → size_of (node_at self.new.nodes n) ≡ size_of (node_at self.old.nodes n) }
         ensures weak { (slots : List (Option ℕ)) → NamePlaces self.old.nodes slots weak.old →
             weak.new ≡ places_of self.new.nodes
             (map (clear_slot (is_dead_at self.new.nodes)) slots) }
+        ensures rest { IsAtRest self.new }
         ensures judged { IsJudged self.new.seat }
         ensures kept { result.kept ≡ live_count self.new.nodes }
         ensures dead { result.dead ≡ dead_count self.new.nodes }
-        ensures traced { result.traced ≡ result.kept }
-        ensures walked { IsToldTruly self.old.refused self.new.refused result.walked }
+        ensures traced { self.old.grey.traced + result.traced ≡ result.kept }
+        ensures kept_traced { self.new.grey.traced ≡ self.old.grey.traced }
+        ensures walked { IsToldTruly self.old.grey.since (refused_of self.new) result.walked }
         ensures setup { setup_of_objects self.new ≡ setup_of_objects self.old }
     {
         self.seat.bodies_lie_apart();
-        begin(self.space.words(), &mut self.seat, strong, stack, precise);
-        self.grey.marking.on = true;
         let result = pause(
             Parts {
                 seat: &mut self.seat,
@@ -75,29 +150,27 @@ impl Objects {
                 types: &self.types,
                 strong,
                 callbacks,
+                traced: self.grey.traced,
             },
             stack,
             precise,
         );
         clear(&mut self.grey);
+        self.seat.bodies_lie_apart();
         result
     }
 }
 
-/// Begins marking: from now on what the roots reach may be kept. Contracts alone see `roots`: the
-/// places of what the strong slots name and, unless the pause is precise, of what the stack hits.
-fn begin(words: &Words, seat: &mut MutatorSeat, strong: &Slots, stack: &[u64], precise: bool)
+/// Begins marking: from now on what the roots reach may be kept. Contracts alone see the nodes, and
+/// the roots, which are places.
+fn keep_reached(words: &Words, seat: &mut MutatorSeat, nodes: &GhostValue<NodeLists>)
     ghost roots: { List ℕ }
-    requires roots { roots ≡ root_places strong.now precise seat.old.bodies stack.now }
     requires heap { seat.old.count ≡ words.now }
     requires quiet { IsQuiet seat.old }
     requires pairs { PairsAreWhole seat.old }
-    requires slots { All (λ slot. ForSome slot (IsPlace seat.old.bodies)) strong.now }
     ensures view { seat.new ≡ begun seat.old roots }
-    ensures may { RootsMayBeKept strong.now precise stack.now seat.new }
+    ensures may { IsLeastOver (kind_lists seat.old.types) seat.old.bodies roots seat.new.may }
 {
-    let _ = strong;
-    let _ = stack;
-    let _ = precise;
+    let _ = nodes;
     words.set_stop(seat, false);
 }

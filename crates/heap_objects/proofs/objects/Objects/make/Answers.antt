@@ -1,4 +1,7 @@
-use Rattle.std.proofs.Common.{◌≡◌, ◌<◌, ◌≤◌, ℕ, List, Some, length, sym, ap, ◌∙◌, subst, arith}
+use Rattle.std.proofs.lemmas.Bool.{cases_Bool}
+use Rattle.marker_core.specs.Bodies.{holds}
+use Rattle.page_words.specs.Seat.{SeatView, IsView}
+use Rattle.std.proofs.Common.{◌≡◌, ◌<◌, ◌≤◌, ℕ, List, [], ◌∷◌, ◌++◌, Some, length, refl, sym, ap, ◌∙◌, subst, arith, inl, inr, false}
 use Rattle.std.proofs.lemmas.List.{length_push}
 use Rattle.gc_graph.specs.State.{Setup, ObjectType, Node}
 use Rattle.gc_graph.specs.Fields.{new_node, size_of_type}
@@ -8,8 +11,12 @@ use Rattle.page_space.specs.Space.{IsFreePlace}
 use Rattle.nodes_in_words.specs.Nodes.{IsHeld}
 use Rattle.heap_objects.specs.Objects.{with_made}
 use Rattle.nodes_in_words.specs.TypedNodes.{known_nodes}
-use Rattle.heap_objects.proofs.HeldNodes.{room_for_fields, next_is_new, held_made, marks_made, extents_held}
-use Rattle.heap_objects.proofs.Unlooked.{marks_are, marks_told}
+use Rattle.heap_objects.proofs.HeldNodes.{room_for_fields, next_is_new, held_made, extents_held}
+use Rattle.heap_objects.proofs.MarksMade.{marks_made}
+use Rattle.heap_objects.proofs.MarksStored.{view_in}
+use Rattle.gc_graph.specs.May.{may_with_new}
+use Rattle.heap_objects.specs.Marking.{grey_of}
+use Rattle.heap_objects.specs.Marks.{HasMarks}
 use Rattle.heap_objects.proofs.objects.Objects.make.Goals as goal
 
 pub occupy-requires-clause-place : goal.occupy-requires-clause-place
@@ -33,6 +40,10 @@ occupy-requires-clause-number c =
     subst (IsNewNumber c.self.inside.seat) (sym c.self.invariant.numbers_are)
     (next_is_new c.self.inside.nodes.value c.self.inside.seat c.self.invariant.held.bodies)
 
+-- while marking goes on nothing is dead
+not_dead : (v : SeatView) (place : ℕ) → IsView v → (v.on ≡ false → holds v.dead place ≡ false) → holds v.dead place ≡ false
+not_dead v place view off_alive = elim (cases_Bool v.on) [ inl on ↦ ap (λ places. holds places place) (view.marking on).no_dead | inr off ↦ off_alive off ]
+
 pub invariant_of-self : goal.invariant_of-self
 invariant_of-self c =
     let nodes : List Node = c.self.inside.nodes.value in
@@ -50,16 +61,31 @@ invariant_of-self c =
       few = c.self.invariant.few;
       known = occupies.types ∙ c.self.invariant.known;
       laid = c.occupy.ensures.space;
-      off = occupies.on ∙ c.self.invariant.off;
+      alone = record {
+        no_hand = occupies.hand ∙ c.self.invariant.alone.no_hand;
+        no_pending = occupies.pending ∙ c.self.invariant.alone.no_pending;
+        none_lent = occupies.lent ∙ c.self.invariant.alone.none_lent;
+      };
       held = subst (λ (ns : List Node). IsHeld ns c.occupy.new.seat) new
           (held_made setup nodes c.self.inside.seat c.occupy.new.seat c.args.t c.args.extra c.args.place
-          (known_nodes setup nodes (rw (← c.self.view_is) at c.requires.valid)) (rw (← c.self.view_is) at c.requires.alive) c.self.invariant.held occupies);
+          (known_nodes setup nodes (rw (← c.self.view_is) at c.requires.valid)) (not_dead c.self.inside.seat c.args.place c.bodies_lie_apart.ensures (rw (← c.self.view_is) at c.requires.alive)) c.self.invariant.held occupies);
       numbers_are = omega (arith, c.self.invariant.numbers_are, ap length new, length_push nodes (new_node setup c.args.t c.args.extra c.args.place));
-      clear = c.self.invariant.clear;
+      told = c.self.invariant.told ∙ sym occupies.on;
+      one = c.self.invariant.one;
     }
 
 pub returns-clause-marks : goal.returns-clause-marks
-returns-clause-marks c = rw (← c.self.view_is) (λ phase limit low marks.
-    marks_told phase limit c.occupy.new.seat
-    (marks_made phase limit c.self.inside.seat c.occupy.new.seat (new_body c.args.place c.args.t c.args.size c.self.inside.made) c.occupy.ensures.occupied low
-    (marks_are phase limit c.self.inside.seat marks)))
+returns-clause-marks c =
+    let nodes : List Node = c.self.inside.nodes.value in
+    let setup : Setup = record { shape = c.self.inside.space.shape; markers = 0; types = c.self.inside.types; callbacks = c.self.inside.kinds.value } in
+    let new : nodes ++ new_node setup c.args.t c.args.extra c.args.place ∷ [] ≡ c.made.result.value =
+    sym (c.made.ensures
+    ∙ ap (λ sh. with_made (record { shape = sh; markers = 0; types = c.self.inside.types; callbacks = c.self.inside.kinds.value }) nodes c.args.t c.args.extra (Some c.args.place)) c.occupy.ensures.shape) in
+    let fresh : IsNewNumber c.self.inside.seat c.self.inside.made =
+    subst (IsNewNumber c.self.inside.seat) (sym c.self.invariant.numbers_are) (next_is_new nodes c.self.inside.seat c.self.invariant.held.bodies) in
+    rw (← c.self.view_is) (λ phase limit may low.
+    subst (λ (ns : List Node). HasMarks phase limit may (view_in c.self.inside.space.shape c.self.inside.types c.self.inside.kinds.value nodes c.self.inside.seat (grey_of c.self.inside.grey))
+    → HasMarks phase limit (may_with_new phase may) (view_in c.occupy.new.self.shape c.self.inside.types c.self.inside.kinds.value ns c.occupy.new.seat (grey_of c.self.inside.grey))) new
+    (marks_made c.self.inside.space.shape c.occupy.new.self.shape c.self.inside.types c.self.inside.kinds.value nodes (new_node setup c.args.t c.args.extra c.args.place)
+    c.self.inside.seat c.occupy.new.seat (new_body c.args.place c.args.t c.args.size c.self.inside.made) (grey_of c.self.inside.grey)
+    c.bodies_lie_apart.ensures c.bodies_lie_apart-2.ensures c.occupy.ensures.occupied refl refl c.self.invariant.held.bodies fresh phase limit may low))

@@ -1,9 +1,9 @@
 use Rattle.std.proofs.Common.{ap, ◌∙◌}
 use Rattle.heap_handles.specs.Handles.{HandlesView}
-use Rattle.heap_handles.proofs.handles.Handles.pause.Goals as goal
+use Rattle.heap_handles.proofs.handles.Handles.finish.Goals as goal
 
-pub pause-result-requires-clause-slots : goal.pause-result-requires-clause-slots
-pause-result-requires-clause-slots g c = (
+pub finish-result-requires-clause-slots : goal.finish-result-requires-clause-slots
+finish-result-requires-clause-slots g c = (
   c.args.self.now.slots,
   record {
     live = c.requires.live;
@@ -11,8 +11,8 @@ pause-result-requires-clause-slots g c = (
   },
 )
 
-pub pause-result-requires-clause-weak : goal.pause-result-requires-clause-weak
-pause-result-requires-clause-weak g c = (
+pub finish-result-requires-clause-weak : goal.finish-result-requires-clause-weak
+finish-result-requires-clause-weak g c = (
   c.args.self.now.weak,
   record {
     live = c.requires.weak_live;
