@@ -5,4 +5,6 @@ pub mod SweepSteps
 pub mod WayToPlace
 pub mod PauseKeeps
 pub mod CollectSteps
+mod PauseSteps
+mod StartSteps
 pub mod OutcomeLines

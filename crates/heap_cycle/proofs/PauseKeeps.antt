@@ -1,57 +1,28 @@
 -- What a pause keeps is lawful: all that the roots and the stack reach, and nothing but what may be kept.
 use Rattle.std.proofs.Common.{◌≡◌, ℕ, zero, suc, ◌+◌, ◌<◌, ◌||◌, Bool, true, false, All, List, [], ◌∷◌, ◌++◌, length, replicate, map, reverse, refl, sym, ap, ◌∙◌, subst, inl, inr, arith, eqb, ltb}
 use Rattle.std.specs.List.{list_any, range_with_len}
-use Rattle.std.proofs.lemmas.Bool.{true≢false, or_cases, or_left, or_right, eqb-true, eq-eqb, and_parts, and_from, le-leb, lt-ltb, ltb-false}
+use Rattle.std.proofs.lemmas.Bool.{true≢false, or_cases, or_left, or_right, eqb-true, and_parts, and_from, le-leb, lt-ltb, ltb-false}
 use Rattle.std.proofs.lemmas.List.{length-map, reverse-append}
 use Rattle.std.proofs.lemmas.List.Elements.{All-head, All-tail, filter_agree}
 use Rattle.std.proofs.lemmas.List.Folds.{list_any-append}
 use Rattle.gc_graph.specs.declared.command.Want.{Want}
 use Rattle.gc_graph.specs.declared.command.Want.TheVariants.{Precise, Conservative}
-use Rattle.gc_graph.specs.declared.phase.Phase.{Phase}
-use Rattle.gc_graph.specs.Graph.{Object, IsIn, IsWithin}
+use Rattle.gc_graph.specs.Graph.{Object}
 use Rattle.gc_graph.specs.Reach.{Reach, AreNodes, IsLeastClosed, RefersWithin, ReachIsLeast}
 use Rattle.gc_graph.specs.State.{State, Node, StackWord, node_at, size_of, is_there, IsLive, graph_of, roots_of, slot_targets, stack_targets, strong_region_targets}
 use Rattle.gc_graph.specs.State.StackWord.{Pointer, Number}
 use Rattle.gc_graph.specs.State.RegionSlot.{Vacant}
 use Rattle.gc_graph.specs.CycleSteps.{is_stack_refused}
-use Rattle.gc_graph.specs.May.{members, members_from, marking, address_of, has_word, is_hit, hits_of, hits_for}
-use Rattle.gc_graph.specs.Outcomes.{took}
+use Rattle.gc_graph.specs.May.{members, address_of, has_word, is_hit, hits_of, hits_for}
 use Rattle.gc_graph.specs.Pause.{IsKept}
 use Rattle.gc_graph.specs.Valid.{AreLive, IsThere}
-use Rattle.atomic_pause.specs.Pausing.{hits_at, hits_in}
+use Rattle.atomic_pause.specs.Pausing.{IsKeptBetween, hits_at, hits_in}
 use Rattle.nodes_in_words.specs.AmongNodes.{IsAmong, among_cases, among_left, among_right, filter_holds, filter_passes}
-use Rattle.nodes_in_words.specs.Judgement.{IsReached}
 use Rattle.nodes_in_words.specs.NodePlaces.{live_is_there}
-use Rattle.heap_cycle.specs.Views.{IsAtRest}
+use Rattle.heap_cycle.specs.Views.{IsOwnersAlone}
 use Rattle.heap_handles.specs.Stack.{StackView, PointsInside, HoldsWords, is_precise}
-use Rattle.heap_cycle.specs.Entries.{start_entry}
 use Rattle.gc_graph.specs.Members.{below_ranged, any_member}
 use Rattle.gc_graph.specs.NodeNumbers.{there_below}
-
--- the state in which a collection that was just started pauses
-abbrev pub started_state : State → State
-started_state s = marking (took s (start_entry ∷ []))
-
--- ---- the members of a set
-
-in_members : (k : ℕ) (set : List Bool) (n : ℕ) → IsIn set n → list_any (λ r. eqb r (k + n)) (members_from k set) ≡ true
-in_members k [] n is = absurd (true≢false (sym is))
-in_members k (true ∷ set) zero is = or_left _ _ (eq-eqb k (k + 0) (omega arith))
-in_members k (true ∷ set) (suc n) is =
-    or_right (eqb k (k + suc n)) _
-    (subst (λ m. list_any (λ r. eqb r m) (members_from (suc k) set) ≡ true) (let e : suc k + n ≡ k + suc n = omega arith in e) (in_members (suc k) set n is))
-in_members k (false ∷ set) zero is = absurd (true≢false (sym is))
-in_members k (false ∷ set) (suc n) is =
-    subst (λ m. list_any (λ r. eqb r m) (members_from (suc k) set) ≡ true) (let e : suc k + n ≡ k + suc n = omega arith in e) (in_members (suc k) set n is)
-
-member_in : (k : ℕ) (set : List Bool) (m : ℕ) → list_any (λ r. eqb r m) (members_from k set) ≡ true → (n : ℕ) × (m ≡ k + n) × IsIn set n
-member_in k [] m h = absurd (true≢false (sym h))
-member_in k (true ∷ set) m h =
-    elim (or_cases (eqb k m) (list_any (λ r. eqb r m) (members_from (suc k) set)) h) [
-      | inl here ↦ (let e : m ≡ k + 0 = omega (arith, eqb-true k m here) in (0, e, refl))
-      | inr later ↦ (let w = member_in (suc k) set m later in (suc w.0, omega (arith, w.1), w.2))
-    ]
-member_in k (false ∷ set) m h = (let w = member_in (suc k) set m h in (suc w.0, omega (arith, w.1), w.2))
 
 -- ---- the hits of the stack
 
@@ -116,7 +87,7 @@ among_live nodes (m ∷ targets) n live is =
 
 -- beside what the strong slots name, these are the roots of a pause: what the stack hits, each pointer's node with it
 pub record HasRoots (want : Want) (s : State) (hits : List ℕ) : Type 0 where
-  pub same : hits ≡ hits_for want (took (started_state s) [])
+  pub same : hits ≡ hits_for want s
   pub covered : (n : ℕ) → IsAmong (stack_targets s.stack) n → IsAmong hits n
   pub there : (n : ℕ) → IsAmong hits n → IsThere s.nodes n
 
@@ -144,56 +115,41 @@ has_roots Conservative s stack words empty live held =
       there = λ n is. hit_there s.nodes s.stack n (subst (λ hs. IsAmong hs n) hits is);
     }
 
-no_region_targets : (n : ℕ) → strong_region_targets (replicate n Vacant) ≡ []
+pub no_region_targets : (n : ℕ) → strong_region_targets (replicate n Vacant) ≡ []
 no_region_targets zero = refl
 no_region_targets (suc n) = no_region_targets n
 
 -- the state's roots are among those of the pause
-roots_within : (ph : Phase) (want : Want) (s : State) (hits : List ℕ) (n : ℕ) → IsAtRest ph s → HasRoots want s hits → IsAmong (roots_of s) n
+roots_within : (want : Want) (s : State) (hits : List ℕ) (n : ℕ) → IsOwnersAlone s → HasRoots want s hits → IsAmong (roots_of s) n
     → IsAmong (slot_targets s.slots ++ hits) n
-roots_within ph want s hits n rest has is =
+roots_within want s hits n alone has is =
     elim (among_cases (slot_targets s.slots ++ stack_targets s.stack) (strong_region_targets s.region) n is) [
       | inl owned ↦ elim (among_cases (slot_targets s.slots) (stack_targets s.stack) n owned) [
         | inl slot ↦ among_left (slot_targets s.slots) hits n slot
         | inr word ↦ among_right (slot_targets s.slots) hits n (has.covered n word)
       ]
-      | inr region ↦ absurd (true≢false (sym region ∙ ap (list_any (λ r. eqb r n)) (ap strong_region_targets rest.region_null ∙ no_region_targets 32)))
+      | inr region ↦ absurd (true≢false (sym region ∙ ap (list_any (λ r. eqb r n)) (ap strong_region_targets alone.region_null ∙ no_region_targets 32)))
     ]
 
-pub pause_keeps : (ph : Phase) (want : Want) (s : State) (hits : List ℕ) (kept : List Bool) → ReachIsLeast → RefersWithin (graph_of s.nodes) → IsAtRest ph s → AreLive s.nodes (slot_targets s.slots)
-    → HasRoots want s hits → IsReached s.nodes (slot_targets s.slots ++ hits) kept → IsKept (took (started_state s) []) (hits_for want (took (started_state s) [])) kept
-pause_keeps ph want s hits kept law refers rest live has keeps =
+pub pause_keeps : (want : Want) (s : State) (hits : List ℕ) (kept : List Bool) → ReachIsLeast → RefersWithin (graph_of s.nodes) → IsOwnersAlone s → AreLive s.nodes (slot_targets s.slots)
+    → HasRoots want s hits → IsKeptBetween s.nodes (slot_targets s.slots ++ hits) (members s.may ++ hits) kept → IsKept s (hits_for want s) kept
+pause_keeps want s hits kept law refers alone live has keeps =
     let g : List Object = graph_of s.nodes in
     let slots : List ℕ = slot_targets s.slots in
-    let may : List Bool = Reach g (roots_of s) in
     let count : length g ≡ length s.nodes = length-map s.nodes (λ (x : Node). x.object) in
-    let within : (n : ℕ) → IsAmong (roots_of s) n → IsAmong (slots ++ hits) n = λ n is. roots_within ph want s hits n rest has is in
     let nodes : AreNodes g (slots ++ hits) = λ n is. elim (among_cases slots hits n is) [
       | inl slot ↦ omega (arith, count, there_below s.nodes n (live_is_there s.nodes n (among_live s.nodes slots n live slot)))
       | inr hit ↦ omega (arith, count, there_below s.nodes n (has.there n hit))
     ] in
-    let whole : IsLeastClosed g (slots ++ hits) (Reach g (slots ++ hits)) = law g (slots ++ hits) refers nodes in
-    let rooted : IsLeastClosed g (roots_of s) may = law g (roots_of s) refers (λ n is. nodes n (within n is)) in
-    let may_kept : IsWithin may kept = λ n is. keeps.reached n (rooted.least (Reach g (slots ++ hits)) whole.closed (λ m root. whole.roots_in m (within m root)) n is) in
-    let least_within : (n : ℕ) → IsAmong (roots_of s ++ hits) n → IsAmong (slots ++ hits) n = λ n is. elim (among_cases (roots_of s) hits n is) [
-      | inl root ↦ within n root
+    let within : (n : ℕ) → IsAmong (roots_of s ++ hits) n → IsAmong (slots ++ hits) n = λ n is. elim (among_cases (roots_of s) hits n is) [
+      | inl root ↦ roots_within want s hits n alone has root
       | inr hit ↦ among_right slots hits n hit
     ] in
-    let lower : IsLeastClosed g (roots_of s ++ hits) (Reach g (roots_of s ++ hits)) = law g (roots_of s ++ hits) refers (λ n is. nodes n (least_within n is)) in
-    let most : List ℕ = members may ++ hits in
-    let upper : IsLeastClosed g most (Reach g most) = law g most refers (λ n is. elim (among_cases (members may) hits n is) [
-      | inl member ↦ (let w = member_in 0 may n member in omega (arith, keeps.low w.0 (may_kept w.0 w.2), w.1, count))
-      | inr hit ↦ nodes n (among_right slots hits n hit)
-    ]) in
-    let done : IsKept (took (started_state s) []) hits kept = record {
+    let whole : IsLeastClosed g (slots ++ hits) (Reach g (slots ++ hits)) = law g (slots ++ hits) refers nodes in
+    let lower : IsLeastClosed g (roots_of s ++ hits) (Reach g (roots_of s ++ hits)) = law g (roots_of s ++ hits) refers (λ n is. nodes n (within n is)) in
+    let done : IsKept s hits kept = record {
       closed = keeps.closed;
-      reached = λ n is. keeps.reached n (lower.least (Reach g (slots ++ hits)) whole.closed (λ m root. whole.roots_in m (least_within m root)) n is);
-      bounded = λ n is. whole.least (Reach g most) upper.closed
-          (λ m root. elim (among_cases slots hits m root) [
-            | inl slot ↦ upper.roots_in m (among_left (members may) hits m
-                (subst (IsAmong (members may)) (let e : 0 + m ≡ m = omega arith in e)
-                (in_members 0 may m (rooted.roots_in m (among_left (slots ++ stack_targets s.stack) (strong_region_targets s.region) m (among_left slots (stack_targets s.stack) m slot))))))
-            | inr hit ↦ upper.roots_in m (among_right (members may) hits m hit)
-          ]) n (keeps.bounded n is);
+      reached = λ n is. keeps.reached n (lower.least (Reach g (slots ++ hits)) whole.closed (λ m root. whole.roots_in m (within m root)) n is);
+      bounded = keeps.bounded;
     } in
-    subst (λ hs. IsKept (took (started_state s) []) hs kept) has.same done
+    subst (λ hs. IsKept s hs kept) has.same done

@@ -1,5 +1,5 @@
 -- An open sweep that goes on is a step of the graph, and leaves the parts ready.
-use Rattle.std.proofs.Common.{◌≡◌, ℕ, ◌+◌, ◌-◌, ◌*◌, ◌<◌, ◌≤◌, false, List, [], ◌∷◌, ◌++◌, length, map, refl, sym, ap, ◌∙◌, subst, inl, inr, arith, cond, eqb}
+use Rattle.std.proofs.Common.{◌≡◌, ℕ, ◌+◌, ◌-◌, ◌*◌, ◌<◌, ◌≤◌, List, [], ◌∷◌, ◌++◌, length, map, refl, sym, ap, ◌∙◌, subst, inl, inr, arith, cond, eqb}
 use Rattle.std.specs.Prelude.{MatchBool, min}
 use Rattle.std.proofs.lemmas.Bool.{cases_Bool, eqb-true}
 use Rattle.std.proofs.lemmas.List.{length-map}
@@ -12,7 +12,7 @@ use Rattle.gc_graph.specs.declared.phase.Phase.{Phase}
 use Rattle.gc_graph.specs.declared.phase.Phase.TheVariants.{Idle, Marking, Sweeping}
 use Rattle.gc_graph.specs.Shapes.{IsShape}
 use Rattle.gc_graph.specs.State.{Shape, Setup, State, Node}
-use Rattle.gc_graph.specs.CycleSteps.{is_sweeping, is_marking, HasSwept, StepSweep}
+use Rattle.gc_graph.specs.CycleSteps.{is_sweeping, HasSwept, StepSweep}
 use Rattle.gc_graph.specs.Outcomes.{answered, finalise_lines, IsRefused}
 use Rattle.gc_graph.specs.Sweep.{finalise, pages_swept_in, phase_at, SweepsInPhase, SweepsTo}
 use Rattle.gc_graph.specs.SweepLaw.{SweepsJoin}
@@ -22,7 +22,9 @@ use Rattle.callback_table.specs.declared.registry.Registered.{Registered}
 use Rattle.callback_table.specs.Registry.{registrations_of}
 use Rattle.sweeper.specs.Sweeping.{SweepView, cursor_at}
 use Rattle.heap_cycle.specs.Changes.{SweepsParts}
-use Rattle.heap_objects.specs.Finalising.{IsSweptTo, HasMarks}
+use Rattle.heap_objects.specs.Finalising.{IsSweptTo}
+use Rattle.heap_objects.specs.Marking.{GreyView}
+use Rattle.heap_objects.specs.Marks.{IsAtRest, HasMarks}
 use Rattle.heap_cycle.specs.Finalising.{SweepsOn}
 use Rattle.heap_objects.specs.Objects.{HaveCallbacks, ObjectsView, StaysAt}
 use Rattle.heap_cycle.specs.declared.parts.Parts.{Parts}
@@ -50,14 +52,14 @@ parts_sweep s new after pages before told sweeping is =
 
 -- ---- the state stays valid
 
-no_may : (phase : Phase) (s : State) → is_marking phase ≡ false → HasMay phase s
-no_may Idle s calm = tt
-no_may Marking s calm = cc
-no_may Sweeping s calm = tt
+same_may : (phase : Phase) (s : State) → HasMay phase (answered s) → HasMay phase s
+same_may Idle s may = tt
+same_may Marking s may = record { closed = may.closed; roots = may.roots; live = may.live; whole = may.whole }
+same_may Sweeping s may = tt
 
--- the count of commands has no part in validity, where no marking goes on
-uncounted : (setup : Setup) (s : State) → is_marking s.phase ≡ false → IsValid setup (answered s) → IsValid setup s
-uncounted setup s calm valid = record {
+-- the count of commands has no part in validity
+pub uncounted : (setup : Setup) (s : State) → IsValid setup (answered s) → IsValid setup s
+uncounted setup s valid = record {
   typed = valid.typed;
   named = valid.named;
   apart = valid.apart;
@@ -69,20 +71,13 @@ uncounted setup s calm valid = record {
   region = valid.region;
   registered = valid.registered;
   settled = valid.settled;
-  may_kept = no_may s.phase s calm;
+  may_kept = same_may s.phase s valid.may_kept;
 }
-
-pub not_marking : (shape : Shape) (pages : ℕ) → is_marking (phase_at shape pages) ≡ false
-not_marking shape pages =
-    elim (cases_Bool (eqb pages shape.pages)) [
-      | inl all ↦ ap (λ b. is_marking (cond b Idle Sweeping)) all
-      | inr some ↦ ap (λ b. is_marking (cond b Idle Sweeping)) some
-    ]
 
 -- where a sweep comes further, from the cursor to so many pages
 valid_swept : (setup : Setup) (s t : State) (pages : ℕ) (numbers : List ℕ) → StepKeepsValid → IsShape setup.shape → IsValid setup s → s.phase ≡ Sweeping
-    → s.cursor < pages → pages ≤ setup.shape.pages → SweepsTo setup.shape s pages numbers t → is_marking t.phase ≡ false → IsValid setup t
-valid_swept setup s t pages numbers law shape valid sweeping further within goes calm =
+    → s.cursor < pages → pages ≤ setup.shape.pages → SweepsTo setup.shape s pages numbers t → IsValid setup t
+valid_swept setup s t pages numbers law shape valid sweeping further within goes =
     let n : ℕ = pages - s.cursor in
     let lines : List Line = finalise_lines numbers ++ L.Swept pages ∷ [] in
     let swept : HasSwept setup s pages lines (answered t) = record { numbers = numbers; swept = t; goes = goes; lines_are = refl; after = refl } in
@@ -91,7 +86,7 @@ valid_swept setup s t pages numbers law shape valid sweeping further within goes
     let step : StepSweep setup s n lines (answered t) =
     subst (λ ph. MatchBool (is_sweeping ph) (HasSwept setup s (min (s.cursor + n) setup.shape.pages) lines (answered t)) (IsRefused R.Phase s lines (answered t))) (sym sweeping)
     (subst (λ k. HasSwept setup s k lines (answered t)) target swept) in
-    uncounted setup t calm
+    uncounted setup t
     (law setup s (answered t) (C.Sweep n) [] lines (omega (arith, shape.some)) (omega (arith, further), omega (arith, within, shape.most)) valid (refl, step))
 
 -- ---- the parts stay ready
@@ -113,10 +108,10 @@ sweep_after o new c after pages before told is all =
     (subst (IsSweepOf o.shape (phase_at o.shape pages) pages) (sym is.sweep) build)))
 
 marks_after : (o new : ObjectsView) (c after : CycleView) (pages : ℕ) (before told : List ℕ) → SweepsParts o new c after pages before told
-    → HasMarks after.phase (cursor_at new.shape after.sweep) new.seat
+    → HasMarks after.phase (cursor_at new.shape after.sweep) after.rest.may new
 marks_after o new c after pages before told is =
-    subst (λ (st : Setup). HasMarks after.phase (cursor_at st.shape after.sweep) new.seat) (sym is.setup)
-    (subst (λ (w : SweepView). HasMarks after.phase (cursor_at o.shape w) new.seat) (sym is.sweep) is.marks)
+    subst (λ (st : Setup). HasMarks after.phase (cursor_at st.shape after.sweep) after.rest.may new) (sym is.setup)
+    (subst (λ (w : SweepView). HasMarks after.phase (cursor_at o.shape w) after.rest.may new) (sym is.sweep) is.marks)
 
 -- an open sweep has pages left, and where pages are left a sweep is open
 pub cursor_open : (s : Parts) → IsReady s → s.cycle.phase ≡ Sweeping → s.cycle.sweep.cursor < s.objects.shape.pages
@@ -132,8 +127,9 @@ open_phase Sweeping pages cursor at is low = refl
 pub still_open : (s : Parts) → IsReady s → s.cycle.sweep.cursor < s.objects.shape.pages → s.cycle.phase ≡ Sweeping
 still_open s ready low = open_phase s.cycle.phase s.objects.shape.pages s.cycle.rest.cursor s.cycle.sweep.cursor ready.tied.sweep.cursor_is low
 
-pub marks_open : (s : Parts) → IsReady s → s.cycle.phase ≡ Sweeping → IsSweptTo (cursor_at s.objects.shape s.cycle.sweep) s.objects.seat
-marks_open s ready sweeping = subst (λ ph. HasMarks ph (cursor_at s.objects.shape s.cycle.sweep) s.objects.seat) sweeping ready.tied.marks
+-- in an open sweep no marking goes on, and all is swept up to the cursor
+pub marks_open : (s : Parts) → IsReady s → s.cycle.phase ≡ Sweeping → IsAtRest s.objects × IsSweptTo (cursor_at s.objects.shape s.cycle.sweep) s.objects.seat
+marks_open s ready sweeping = subst (λ ph. HasMarks ph (cursor_at s.objects.shape s.cycle.sweep) s.cycle.rest.may s.objects) sweeping ready.tied.marks
 
 -- a sweep that hasn't gone on yet
 pub nothing_swept : (s : Parts) (told : List ℕ) → IsReady s → told ≡ [] → SweepsOn s.objects.shape (state_of s) s.cycle.sweep.cursor [] told (state_of s)
@@ -168,11 +164,11 @@ parts_ready s new after pages before told law shape ready sweeping further withi
     let ordinal : after.rest.ordinal ≡ y.rest.ordinal = ap (λ (st : State). st.ordinal) is.rest in
     record {
       valid = subst (λ (st : Setup). IsValid st t) (sym is.setup)
-          (valid_swept (setup_of s) (state_of s) t pages is.nodes.numbers law shape ready.valid sweeping (omega (arith, further, cursor)) within goes
-          (ap is_marking is.phase ∙ not_marking o.shape pages));
+          (valid_swept (setup_of s) (state_of s) t pages is.nodes.numbers law shape ready.valid sweeping (omega (arith, further, cursor)) within goes);
       called = subst (λ (st : Setup). HaveCallbacks (length st.callbacks) st.types) (sym is.setup) ready.called;
       tied = tied_nodes s new after ready.tied (λ n. stays_swept limit o.nodes new.nodes n is.nodes.nodes) is.setup is.registered is.ran (omega (arith, ordinal))
           (sweep_after o new y after pages before told is ready.tied.sweep.pages) (marks_after o new y after pages before told is)
+          (ap (λ (g : GreyView). g.traced) is.grey ∙ ready.tied.traced ∙ sym (ap (λ (st : State). st.traced) is.rest))
           (omega (arith, ready.tied.made, ordinal, ap length is.nodes.nodes, length-map o.nodes (finalise limit)));
       most = omega (arith, ready.most, ordinal);
     }

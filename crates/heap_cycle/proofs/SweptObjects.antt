@@ -1,13 +1,14 @@
 -- What the cycle knows of its parts after a sweep up to an address.
-use Rattle.std.proofs.Common.{◌≡◌, ℕ, ◌+◌, ◌*◌, List, length, map, sym, ap, ◌∙◌, subst, inl, inr, arith, cond, eqb}
+use Rattle.std.proofs.Common.{Bool, ◌≡◌, ℕ, ◌+◌, ◌*◌, List, length, map, sym, ap, ◌∙◌, subst, inl, inr, arith, cond, eqb}
 use Rattle.std.proofs.lemmas.Bool.{cases_Bool, eqb-true, eq-eqb}
 use Rattle.std.proofs.lemmas.List.{length-append}
 use Rattle.gc_graph.specs.declared.phase.Phase.TheVariants.{Idle, Sweeping}
 use Rattle.gc_graph.specs.State.{Shape}
 use Rattle.gc_graph.specs.Sweep.{finalise, phase_at, AreDeadInOrder}
-use Rattle.page_words.specs.Seat.{SeatView, IsQuiet}
+use Rattle.page_words.specs.Seat.{IsQuiet}
 use Rattle.heap_cycle.specs.Changes.{swept_to, SweepsParts}
-use Rattle.heap_objects.specs.Finalising.{IsSweptTo, FinalisesBelow, HasMarks}
+use Rattle.heap_objects.specs.Finalising.{IsSweptTo, FinalisesBelow}
+use Rattle.heap_objects.specs.Marks.{IsAtRest, HasMarks}
 use Rattle.heap_objects.specs.Objects.{ObjectsView, setup_of_objects}
 use Rattle.heap_cycle.specs.Views.{CycleView}
 
@@ -17,11 +18,12 @@ pub over_at : (shape : Shape) (pages : ℕ) → pages ≡ shape.pages → Idle �
 over_at shape pages all = sym (ap (λ b. cond b Idle Sweeping) (eq-eqb pages shape.pages all))
 
 -- nothing is marked once all pages are swept, and else all is swept up to the address
-pub marks_at : (shape : Shape) (pages limit : ℕ) (v : SeatView) → IsSweptTo limit v → (pages ≡ shape.pages → IsQuiet v) → HasMarks (phase_at shape pages) limit v
-marks_at shape pages limit v swept quiet =
+pub marks_at : (shape : Shape) (pages limit : ℕ) (may : List Bool) (o : ObjectsView) → IsAtRest o → IsSweptTo limit o.seat → (pages ≡ shape.pages → IsQuiet o.seat)
+    → HasMarks (phase_at shape pages) limit may o
+marks_at shape pages limit may o rest swept quiet =
     elim (cases_Bool (eqb pages shape.pages)) [
-      | inl all ↦ subst (λ b. HasMarks (cond b Idle Sweeping) limit v) (sym all) (quiet (eqb-true pages shape.pages all))
-      | inr some ↦ subst (λ b. HasMarks (cond b Idle Sweeping) limit v) (sym some) swept
+      | inl all ↦ subst (λ b. HasMarks (cond b Idle Sweeping) limit may o) (sym all) (rest, quiet (eqb-true pages shape.pages all))
+      | inr some ↦ subst (λ b. HasMarks (cond b Idle Sweeping) limit may o) (sym some) (rest, swept)
     ]
 
 -- ---- the parts
@@ -29,8 +31,8 @@ marks_at shape pages limit v swept quiet =
 pub parts_swept : (o new : ObjectsView) (c after : CycleView) (pages count limit : ℕ) (before told : List ℕ) → setup_of_objects new ≡ setup_of_objects o
     → FinalisesBelow limit o.nodes before told new.nodes → limit ≡ pages * o.shape.page_words → length told ≡ length before + count → after.phase ≡ phase_at o.shape pages
     → after.sweep ≡ record c.sweep { cursor = pages } → after.registered ≡ c.registered → after.ran ≡ c.ran → after.rest ≡ swept_to pages count c.rest
-    → HasMarks after.phase limit new.seat → new.refused ≡ o.refused → SweepsParts o new c after pages before told
-parts_swept o new c after pages count limit before told setup is at counted phase sweep registered ran rest marks refused =
+    → HasMarks after.phase limit after.rest.may new → new.grey ≡ o.grey → SweepsParts o new c after pages before told
+parts_swept o new c after pages count limit before told setup is at counted phase sweep registered ran rest marks grey =
     let many : count ≡ length is.numbers = omega (arith, counted, ap length is.follow, length-append before is.numbers) in
     record {
       setup = setup;
@@ -45,6 +47,6 @@ parts_swept o new c after pages count limit before told setup is at counted phas
       registered = registered;
       ran = ran;
       rest = rest ∙ ap (λ n. swept_to pages n c.rest) many;
-      marks = subst (λ l. HasMarks after.phase l new.seat) at marks;
-      refused = refused;
+      marks = subst (λ l. HasMarks after.phase l after.rest.may new) at marks;
+      grey = grey;
     }

@@ -41,7 +41,7 @@ left_out s new after count pages before told is = record {
   ran = is.ran;
   rest = is.rest;
   marks = is.marks;
-  refused = is.refused;
+  grey = is.grey;
 }
 
 -- ---- before a page is swept

@@ -1,12 +1,15 @@
 -- How the handles and the cycle change.
 use Rattle.std.specs.Prelude.{◌≡◌, ◌*◌, ℕ, ◌+◌, ◌-◌, [], ◌∷◌, ◌++◌, List, length, map, take, drop}
+use Rattle.gc_graph.specs.declared.phase.Phase.{Phase}
+use Rattle.gc_graph.specs.May.{may_with_new}
 use Rattle.gc_graph.specs.Reach.{Reach}
 use Rattle.gc_graph.specs.Sweep.{phase_at}
 use Rattle.gc_graph.specs.State.{State, graph_of, roots_of}
 use Rattle.callback_table.specs.declared.registry.Registered.{Registered}
 use Rattle.callback_table.specs.Registry.{placed_at}
 use Rattle.heap_cycle.specs.Entries.{start_entry, pause_entry}
-use Rattle.heap_objects.specs.Finalising.{FinalisesBelow, HasMarks}
+use Rattle.heap_objects.specs.Finalising.{FinalisesBelow}
+use Rattle.heap_objects.specs.Marks.{HasMarks}
 use Rattle.heap_objects.specs.Objects.{ObjectsView, setup_of_objects}
 use Rattle.heap_cycle.specs.Views.{CycleView}
 
@@ -32,15 +35,21 @@ pub record SweepsParts (o new : ObjectsView) (c after : CycleView) (pages : ℕ)
   pub registered : after.registered ≡ c.registered
   pub ran : after.ran ≡ c.ran
   pub rest : after.rest ≡ swept_to pages (length nodes.numbers) c.rest
-  pub marks : HasMarks after.phase (pages * o.shape.page_words) new.seat
-  pub refused : new.refused ≡ o.refused
+  pub marks : HasMarks after.phase (pages * o.shape.page_words) after.rest.may new
+  pub grey : new.grey ≡ o.grey
 
--- a collection was started from this state, and its pause is over
-abbrev pub collected_from : State → State
-collected_from s = record s {
-  cursor = 0;
-  may = Reach (graph_of s.nodes) (roots_of s);
-  traced = 0;
-  unprinted = (s.unprinted ++ start_entry ∷ []) ++ pause_entry ∷ [];
-  pauses = s.pauses + 1;
-}
+-- marking began in this state
+abbrev pub begun_from : State → State
+begun_from s = record s { may = Reach (graph_of s.nodes) (roots_of s); traced = 0; unprinted = s.unprinted ++ start_entry ∷ [] }
+
+-- a new node may be kept, where marking goes on
+abbrev pub with_new : Phase → State → State
+with_new phase s = record s { may = may_with_new phase s.may }
+
+-- its steps traced so many objects more
+abbrev pub traced_more : ℕ → State → State
+traced_more count s = record s { traced = s.traced + count }
+
+-- and its pause is over
+abbrev pub paused_from : State → State
+paused_from s = record s { cursor = 0; unprinted = s.unprinted ++ pause_entry ∷ []; pauses = s.pauses + 1 }

@@ -5,5 +5,7 @@ pub mod Views
 pub mod Walks
 pub mod Parts
 pub mod Changes
+pub mod Cycles
 pub mod Registrations
 pub mod Ties
+pub mod KeptRoots

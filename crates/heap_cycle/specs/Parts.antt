@@ -12,7 +12,8 @@ use Rattle.heap_objects.specs.Objects.{HaveCallbacks, setup_of_objects}
 use Rattle.heap_handles.specs.Stack.{HoldsWords}
 use Rattle.heap_cycle.specs.Views.{IsSweepOf, IsPlaced}
 use Rattle.heap_cycle.specs.Walks.{IsWalkTold}
-use Rattle.heap_objects.specs.Finalising.{HasMarks}
+use Rattle.heap_objects.specs.Marks.{HasMarks}
+use Rattle.heap_objects.specs.Objects.{told_of}
 
 -- what was set up
 abbrev pub setup_of : Parts → Setup
@@ -49,8 +50,8 @@ unregistered count s = record s { cycle = record s.cycle { registered = take (le
 -- ---- what the engine needs besides a valid state
 
 -- the parts belong together: slots, strong and weak, hold the places of what they name, and so do registrations; the stack holds
--- its words; the sweep and the marks are those of the phase, and no more nodes were made than commands were answered, and at most 16
--- registrations for each
+-- its words; the sweep and the marks are those of the phase, with what may be kept and how many objects were traced; and no more
+-- nodes were made than commands were answered, and at most 16 registrations for each
 pub record AreTied (s : Parts) : Type 0 where
   pub slots : s.handles.places ≡ places_of s.objects.nodes s.handles.slots
   pub weak : s.handles.weak_places ≡ places_of s.objects.nodes s.handles.weak
@@ -58,7 +59,8 @@ pub record AreTied (s : Parts) : Type 0 where
   pub registered : All (IsPlaced s.objects.nodes (length s.objects.callbacks)) s.cycle.registered
   pub few : length s.cycle.registered + length s.cycle.ran ≤ 16 * s.cycle.rest.ordinal
   pub sweep : IsSweepOf s.objects.shape s.cycle.phase s.cycle.rest.cursor s.cycle.sweep
-  pub marks : HasMarks s.cycle.phase (cursor_at s.objects.shape s.cycle.sweep) s.objects.seat
+  pub marks : HasMarks s.cycle.phase (cursor_at s.objects.shape s.cycle.sweep) s.cycle.rest.may s.objects
+  pub traced : s.objects.grey.traced ≡ s.cycle.rest.traced
   pub made : length s.objects.nodes ≤ s.cycle.rest.ordinal
 
 -- the parts are ready for a command: their state is valid, and they belong together
@@ -73,4 +75,4 @@ pub record IsFrame (old new : Parts) (line : Line) : Type 0 where
   pub setup : setup_of new ≡ setup_of old
   pub ordinal : new.cycle.rest.ordinal ≡ old.cycle.rest.ordinal + 1
   pub tied : AreTied new
-  pub refused : IsWalkTold old.objects.refused new.objects.refused line
+  pub refused : IsWalkTold old.cycle.phase (told_of old.objects) (told_of new.objects) line

@@ -13,7 +13,7 @@ use Rattle.nodes_in_words.specs.Places.{places_of}
 use Rattle.heap_objects.specs.Objects.{IsLiveAt, ObjectsView, setup_of_objects, StaysAt}
 use Rattle.heap_cycle.specs.declared.parts.Parts.{Parts}
 use Rattle.heap_cycle.specs.Views.{CycleView, IsPlaced, IsSweepOf}
-use Rattle.heap_objects.specs.Finalising.{HasMarks}
+use Rattle.heap_objects.specs.Marks.{HasMarks}
 use Rattle.heap_cycle.specs.Parts.{setup_of, state_of, counted, AreTied, IsReady}
 use Rattle.heap_handles.specs.Handles.{put_in, copied_in, weakened_in, popped_in}
 use Rattle.nodes_in_words.specs.KeptNodes.{slots_live}
@@ -82,6 +82,7 @@ tied_slot s p target is tied = record {
   few = omega (arith, tied.few);
   sweep = tied.sweep;
   marks = tied.marks;
+  traced = tied.traced;
   made = omega (arith, tied.made);
 }
 
@@ -96,6 +97,7 @@ tied_copy s p q tied = record {
   few = omega (arith, tied.few);
   sweep = tied.sweep;
   marks = tied.marks;
+  traced = tied.traced;
   made = omega (arith, tied.made);
 }
 
@@ -110,6 +112,7 @@ tied_weak s w p tied = record {
   few = omega (arith, tied.few);
   sweep = tied.sweep;
   marks = tied.marks;
+  traced = tied.traced;
   made = omega (arith, tied.made);
 }
 
@@ -123,6 +126,7 @@ tied_pop s tied = record {
   few = omega (arith, tied.few);
   sweep = tied.sweep;
   marks = tied.marks;
+  traced = tied.traced;
   made = omega (arith, tied.made);
 }
 
@@ -141,9 +145,9 @@ placed_still o new entries same callbacks placed =
 -- the nodes change, but their places and sizes stay, and no prefinalizer is registered or run
 pub tied_nodes : (s : Parts) (new : ObjectsView) (after : CycleView) → AreTied s → ((n : ℕ) → StaysAt s.objects.nodes new.nodes n)
     → setup_of_objects new ≡ setup_of s → after.registered ≡ s.cycle.registered → after.ran ≡ s.cycle.ran → s.cycle.rest.ordinal ≤ after.rest.ordinal
-    → IsSweepOf new.shape after.phase after.rest.cursor after.sweep → HasMarks after.phase (cursor_at new.shape after.sweep) new.seat
-    → length new.nodes ≤ after.rest.ordinal → AreTied (record s { objects = new; cycle = after })
-tied_nodes s new after tied same setup registered ran later sweep marks made = record {
+    → IsSweepOf new.shape after.phase after.rest.cursor after.sweep → HasMarks after.phase (cursor_at new.shape after.sweep) after.rest.may new
+    → new.grey.traced ≡ after.rest.traced → length new.nodes ≤ after.rest.ordinal → AreTied (record s { objects = new; cycle = after })
+tied_nodes s new after tied same setup registered ran later sweep marks traced made = record {
   slots = tied.slots ∙ sym (places-same (place_of new.nodes) (place_of s.objects.nodes) s.handles.slots (λ n. (same n).0));
   weak = tied.weak ∙ sym (places-same (place_of new.nodes) (place_of s.objects.nodes) s.handles.weak (λ n. (same n).0));
   stack = words_held s.objects.nodes new.nodes s.handles.stack (λ k d low. same _) tied.stack;
@@ -152,12 +156,15 @@ tied_nodes s new after tied same setup registered ran later sweep marks made = r
   few = omega (arith, tied.few, ap length registered, ap length ran, later);
   sweep = sweep;
   marks = marks;
+  traced = traced;
   made = made;
 }
 
 -- and no more than fields change: the sweep and the marks stay
 pub tied_fields : (s : Parts) (new : ObjectsView) → AreTied s → ((n : ℕ) → StaysAt s.objects.nodes new.nodes n) → setup_of_objects new ≡ setup_of s
-    → HasMarks s.cycle.phase (cursor_at s.objects.shape s.cycle.sweep) new.seat → length new.nodes ≡ length s.objects.nodes → AreTied (counted (record s { objects = new }))
-tied_fields s new tied same setup marks made =
+    → HasMarks s.cycle.phase (cursor_at s.objects.shape s.cycle.sweep) s.cycle.rest.may new → new.grey.traced ≡ s.objects.grey.traced
+    → length new.nodes ≡ length s.objects.nodes → AreTied (counted (record s { objects = new }))
+tied_fields s new tied same setup marks traced made =
     tied_nodes s new (counted s).cycle tied same setup refl refl (omega arith) (subst (λ (st : Setup). IsSweepOf st.shape s.cycle.phase s.cycle.rest.cursor s.cycle.sweep) (sym setup) tied.sweep)
-    (subst (λ (st : Setup). HasMarks s.cycle.phase (cursor_at st.shape s.cycle.sweep) new.seat) (sym setup) marks) (omega (arith, tied.made, made))
+    (subst (λ (st : Setup). HasMarks s.cycle.phase (cursor_at st.shape s.cycle.sweep) s.cycle.rest.may new) (sym setup) marks) (traced ∙ tied.traced)
+    (omega (arith, tied.made, made))

@@ -1,9 +1,8 @@
 -- The parts of a heap as commands see them, one by one.
-use Rattle.std.specs.Prelude.{◌≡◌, ℕ, ◌<◌, false, List, [], replicate}
+use Rattle.std.specs.Prelude.{◌≡◌, ℕ, ◌<◌, List, [], replicate}
 use Rattle.gc_graph.specs.declared.phase.Phase.{Phase}
 use Rattle.gc_graph.specs.State.{Shape, State, Node}
 use Rattle.gc_graph.specs.State.RegionSlot.{Vacant}
-use Rattle.gc_graph.specs.CycleSteps.{is_marking}
 use Rattle.gc_graph.specs.Sweep.{pages_swept_in}
 use Rattle.callback_table.specs.declared.registry.Registered.{Registered}
 use Rattle.sweeper.specs.Sweeping.{SweepView}
@@ -26,9 +25,8 @@ pub record IsSweepOf (shape : Shape) (phase : Phase) (cursor : ℕ) (sweep : Swe
   pub pages : sweep.pages ≡ shape.pages
   pub cursor_is : sweep.cursor ≡ pages_swept_in phase shape.pages cursor
 
--- no marking goes on, region slots are null, and no thread runs
-pub record IsAtRest (phase : Phase) (s : State) : Type 0 where
-  pub calm : is_marking phase ≡ false
+-- region slots are null, and no thread runs
+pub record IsOwnersAlone (s : State) : Type 0 where
   pub region_null : s.region ≡ replicate 32 Vacant
   pub none_running : s.running ≡ []
 

@@ -1,13 +1,14 @@
-// The collection cycle: its phase and its registered prefinalizers.
+// The collection cycle: its phase, which is one of three stages, and its registered prefinalizers.
 
 ghost use Rattle.std.specs.Prelude.{◌≡◌, ◌-◌, ◌≤◌, false};
 ghost use Rattle.std.specs.Prelude.{[], ◌++◌, OnOk, OnErr, length, map, take};
-ghost use Rattle.gc_graph.specs.declared.phase.Phase.TheVariants.{Idle};
+ghost use Rattle.gc_graph.specs.declared.phase.Phase.TheVariants.{Idle, Marking};
 ghost use Rattle.gc_graph.specs.State.{empty_state};
 ghost use Rattle.gc_graph.specs.Outcomes.{answered};
 ghost use Rattle.gc_graph.specs.CycleSteps.{is_marking};
 ghost use Rattle.callback_table.specs.Registry.{registered};
-ghost use Rattle.heap_cycle.specs.Changes.{filled, placed_last};
+ghost use Rattle.heap_cycle.specs.Changes.{filled, placed_last, with_new};
+ghost use Rattle.heap_cycle.specs.Views.{IsOwnersAlone};
 
 use crate::states::{self, States};
 use callback_table::Registry;
@@ -28,7 +29,7 @@ pub struct Cycle {
 }
 
 impl Model for Cycle {
-    ghost use Rattle.heap_cycle.specs.Views.{CycleView, IsAtRest};
+    ghost use Rattle.heap_cycle.specs.Views.{CycleView, IsOwnersAlone};
 
     ghost Value = { CycleView };
 
@@ -40,7 +41,7 @@ impl Model for Cycle {
       rest = c.rest.value;
     } };
 
-    ghost invariant = { λ c. IsAtRest c.phase c.rest.value };
+    ghost invariant = { λ c. IsOwnersAlone c.rest.value };
 }
 
 impl Cycle {
@@ -69,12 +70,34 @@ impl Cycle {
         self.phase
     }
 
-    /// Between commands no marking goes on, and no thread runs.
-    pub fn rests(&self)
-        ensures calm { is_marking self.now.phase ≡ false }
-        ensures alone { self.now.rest.running ≡ [] }
+    /// Whether marking goes on.
+    pub fn is_marking(&self) -> bool
+        ensures { result ≡ is_marking self.now.phase }
+    {
+        matches!(self.phase, Phase::Marking)
+    }
+
+    /// Region slots are null, and no thread runs. Whoever calls this has the law.
+    pub fn is_owners_alone(&self)
+        ensures { IsOwnersAlone self.now.rest }
     {
         let _ = &self.rest;
+    }
+
+    /// Marking has begun, and this is what no other part holds of the state.
+    pub(crate) fn begin(&mut self, rest: GhostValue<States>)
+        requires { IsOwnersAlone rest.value }
+        ensures { self.new ≡ record self.old { phase = Marking; rest = rest.value } }
+    {
+        self.rest = rest;
+        self.phase = Phase::Marking;
+    }
+
+    /// A new object may be kept, where marking goes on.
+    pub fn keep_new(&mut self)
+        ensures { self.new ≡ record self.old { rest = with_new self.old.phase self.old.rest } }
+    {
+        self.rest = states::with_new(self.phase, &self.rest);
     }
 
     /// Counts a command that was answered.

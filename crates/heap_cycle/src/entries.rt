@@ -1,7 +1,7 @@
 // Entries of the region's history. All of it is for contracts alone.
 
-ghost use Rattle.std.specs.Prelude.{◌≡◌, ◌++◌, []};
-ghost use Rattle.heap_cycle.specs.Entries.{collection_entries};
+ghost use Rattle.std.specs.Prelude.{◌≡◌, ◌++◌, [], ◌∷◌};
+ghost use Rattle.heap_cycle.specs.Entries.{start_entry, pause_entry, collection_entries};
 
 use ghost_values::GhostValue;
 use std::marker::Model;
@@ -34,7 +34,21 @@ pub fn none() -> GhostValue<Entries>
     GhostValue::chosen(&0u8)
 }
 
-/// What a collection takes.
+/// What the start of a cycle takes.
+pub fn of_start() -> GhostValue<Entries>
+    ensures { result.value ≡ start_entry ∷ [] }
+{
+    GhostValue::chosen(&0u8)
+}
+
+/// What its pause takes.
+pub fn of_pause() -> GhostValue<Entries>
+    ensures { result.value ≡ pause_entry ∷ [] }
+{
+    GhostValue::chosen(&0u8)
+}
+
+/// What a whole collection takes.
 pub fn of_collection() -> GhostValue<Entries>
     ensures { result.value ≡ collection_entries }
 {

@@ -32,7 +32,7 @@ pub fn place_for(parts: &mut Parts, count: u32, size: u32, outcome: &mut Outcome
         (λ a. a < cursor_at parts.new.objects.shape parts.new.cycle.sweep) }
     ensures registered { parts.new.cycle.registered ≡ parts.old.cycle.registered }
     ensures setup { setup_of parts.new ≡ setup_of parts.old }
-    ensures refused { parts.new.objects.refused ≡ parts.old.objects.refused }
+    ensures grey { parts.new.objects.grey ≡ parts.old.objects.grey }
     ensures made { length parts.new.objects.nodes ≡ length parts.old.objects.nodes }
     ensures ordinal { parts.new.cycle.rest.ordinal ≡ parts.old.cycle.rest.ordinal }
     ensures outcome { outcome.new ≡ record outcome.old { numbers = outcome.new.numbers } }
@@ -81,7 +81,7 @@ fn sweep_until_found(
         (λ a. a < cursor_at parts.new.objects.shape parts.new.cycle.sweep) }
     ensures registered { parts.new.cycle.registered ≡ parts.old.cycle.registered }
     ensures setup { setup_of parts.new ≡ setup_of parts.old }
-    ensures refused { parts.new.objects.refused ≡ parts.old.objects.refused }
+    ensures grey { parts.new.objects.grey ≡ parts.old.objects.grey }
     ensures made { length parts.new.objects.nodes ≡ length parts.old.objects.nodes }
     ensures ordinal { parts.new.cycle.rest.ordinal ≡ parts.old.cycle.rest.ordinal }
     ensures told { AreFewTold parts.new.objects.shape

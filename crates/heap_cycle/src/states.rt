@@ -3,11 +3,13 @@
 
 ghost use Rattle.std.specs.Prelude.{◌≡◌};
 ghost use Rattle.gc_graph.specs.State.{empty_state};
+ghost use Rattle.gc_graph.specs.May.{weakly_read};
 ghost use Rattle.gc_graph.specs.Outcomes.{answered};
 ghost use Rattle.heap_cycle.specs.Parts.{state_of};
-ghost use Rattle.heap_cycle.specs.Changes.{filled, swept_to, collected_from};
+ghost use Rattle.heap_cycle.specs.Changes.{filled, swept_to, begun_from, with_new, paused_from, traced_more};
 
 use crate::parts::Parts;
+use gc_graph::Phase;
 use ghost_values::GhostValue;
 use std::marker::Model;
 
@@ -60,9 +62,58 @@ pub fn swept(rest: &GhostValue<States>, pages: u32, count: u32) -> GhostValue<St
     GhostValue::chosen(&AboutSweep { rest, pages, count })
 }
 
-/// A collection was started from this state, and its pause is over.
-pub fn collected(parts: &Parts) -> GhostValue<States>
-    ensures { result.value ≡ collected_from (state_of parts.now) }
+/// Marking began in this state.
+pub fn begun(parts: &Parts) -> GhostValue<States>
+    ensures { result.value ≡ begun_from (state_of parts.now) }
 {
     GhostValue::chosen(parts)
+}
+
+/// The pause of a cycle is over.
+pub fn paused(rest: &GhostValue<States>) -> GhostValue<States>
+    ensures { result.value ≡ paused_from rest.now.value }
+{
+    GhostValue::chosen(rest)
+}
+
+/// What a new object looks at.
+#[derive(Drop)]
+struct AboutNew<'a> {
+    phase: Phase,
+    rest: &'a GhostValue<States>,
+}
+
+/// A new node may be kept, where marking goes on.
+pub fn with_new(phase: Phase, rest: &GhostValue<States>) -> GhostValue<States>
+    ensures { result.value ≡ with_new phase rest.now.value }
+{
+    GhostValue::chosen(&AboutNew { phase, rest })
+}
+
+/// What a step looks at.
+#[derive(Drop)]
+struct AboutStep<'a> {
+    rest: &'a GhostValue<States>,
+    count: u32,
+}
+
+/// A step traced so many objects.
+pub fn traced(rest: &GhostValue<States>, count: u32) -> GhostValue<States>
+    ensures { result.value ≡ traced_more count rest.now.value }
+{
+    GhostValue::chosen(&AboutStep { rest, count })
+}
+
+/// What a weak read looks at.
+#[derive(Drop)]
+struct AboutRead<'a> {
+    parts: &'a Parts,
+    number: u32,
+}
+
+/// The node with this number was read weakly.
+pub fn read(parts: &Parts, number: u32) -> GhostValue<States>
+    ensures { result.value ≡ weakly_read (state_of parts.now) number }
+{
+    GhostValue::chosen(&AboutRead { parts, number })
 }

@@ -4,7 +4,7 @@ ghost use Rattle.std.specs.Prelude.{◌≡◌, ◌+◌, ◌*◌, ◌^◌, ◌≤
 ghost use Rattle.std.specs.Prelude.{min, vec_capacity};
 ghost use Rattle.gc_graph.specs.declared.phase.Phase.TheVariants.{Idle, Sweeping};
 ghost use Rattle.gc_graph.specs.Outcomes.{answered};
-ghost use Rattle.gc_graph.specs.CycleSteps.{StepSweep, StepSweepAll};
+ghost use Rattle.gc_graph.specs.CycleSteps.{StepSweep, StepSweepAll, is_marking};
 ghost use Rattle.gc_graph.specs.Sweep.{SweepsTo, SweepsToEnd};
 ghost use Rattle.page_space.specs.Pages.{word_count};
 ghost use Rattle.heap_cycle.specs.Parts.{setup_of, state_of, counted, IsReady, IsFrame};
@@ -77,7 +77,7 @@ fn sweep_pages(parts: &mut Parts, finalised: &mut Vec<u32>, n: u32)
         ≡ min (parts.old.cycle.rest.cursor + n) parts.old.objects.shape.pages }
     ensures ready { IsReady parts.new }
     ensures setup { setup_of parts.new ≡ setup_of parts.old }
-    ensures refused { parts.new.objects.refused ≡ parts.old.objects.refused }
+    ensures grey { parts.new.objects.grey ≡ parts.old.objects.grey }
     ensures ordinal { parts.new.cycle.rest.ordinal ≡ parts.old.cycle.rest.ordinal }
     ensures many { length finalised.new.items ≤ 2 ^ 24 }
     ensures room { vec_capacity finalised.new ≡ vec_capacity finalised.old }
@@ -91,9 +91,10 @@ fn sweep_pages(parts: &mut Parts, finalised: &mut Vec<u32>, n: u32)
     }
 }
 
-/// Ends an open sweep. The state stays valid.
+/// Ends an open sweep, while no marking goes on. The state stays valid.
 pub fn end_sweep(parts: &mut Parts, finalised: &mut Vec<u32>)
     requires ready { IsReady parts.old }
+    requires calm { is_marking parts.old.cycle.phase ≡ false }
     requires empty { finalised.old.items ≡ [] }
     requires room { word_count parts.old.objects.shape ≤ 2 * vec_capacity finalised.old }
     ensures swept { SweepsToEnd parts.old.objects.shape (state_of parts.old)
@@ -101,7 +102,7 @@ pub fn end_sweep(parts: &mut Parts, finalised: &mut Vec<u32>)
     ensures ready { IsReady parts.new }
     ensures idle { parts.new.cycle.phase ≡ Idle }
     ensures setup { setup_of parts.new ≡ setup_of parts.old }
-    ensures refused { parts.new.objects.refused ≡ parts.old.objects.refused }
+    ensures grey { parts.new.objects.grey ≡ parts.old.objects.grey }
     ensures ordinal { parts.new.cycle.rest.ordinal ≡ parts.old.cycle.rest.ordinal }
     ensures others { parts.new ≡ record parts.old {
       objects = parts.new.objects;
@@ -110,7 +111,6 @@ pub fn end_sweep(parts: &mut Parts, finalised: &mut Vec<u32>)
     ensures many { length finalised.new.items ≤ 2 ^ 24 }
     ensures room { vec_capacity finalised.new ≡ vec_capacity finalised.old }
 {
-    parts.cycle.rests();
     match parts.cycle.phase() {
         Phase::Idle | Phase::Marking => {}
         Phase::Sweeping => {

@@ -16,17 +16,24 @@ loop-page-init c = record {
   way = begins (unregistered c.args.count c.args.parts.now) c.args.size c.args.finalised.now.items c.sweeps_go_by_pages.ensures.one c.requires.ready c.requires.empty c.requires.told
       c.requires.nowhere;
   cursor = sym c.swept_pages-page.ensures;
-  refused = refl;
+  grey = refl;
   registered = refl;
   room = refl;
 }
+
+pub sweep_page-requires-clause-rest : goal.sweep_page-requires-clause-rest
+sweep_page-requires-clause-rest c =
+    let mid : Parts = c.loop-page.parts in
+    let pages : mid.objects.shape.pages ≡ c.args.parts.now.objects.shape.pages = ap (λ (st : Setup). st.shape.pages) c.loop-page.invariant.way.setup in
+    let left : mid.cycle.sweep.cursor < mid.objects.shape.pages = omega (arith, pages, c.loop-page.invariant.cursor, c.loop-page-test.true, c.pages-page-end.ensures) in
+    (marks_open (unregistered c.args.count mid) c.loop-page.invariant.way.ready (still_open (unregistered c.args.count mid) c.loop-page.invariant.way.ready left)).0
 
 pub sweep_page-requires-clause-marks : goal.sweep_page-requires-clause-marks
 sweep_page-requires-clause-marks c =
     let mid : Parts = c.loop-page.parts in
     let pages : mid.objects.shape.pages ≡ c.args.parts.now.objects.shape.pages = ap (λ (st : Setup). st.shape.pages) c.loop-page.invariant.way.setup in
     let left : mid.cycle.sweep.cursor < mid.objects.shape.pages = omega (arith, pages, c.loop-page.invariant.cursor, c.loop-page-test.true, c.pages-page-end.ensures) in
-    marks_open (unregistered c.args.count mid) c.loop-page.invariant.way.ready (still_open (unregistered c.args.count mid) c.loop-page.invariant.way.ready left)
+    (marks_open (unregistered c.args.count mid) c.loop-page.invariant.way.ready (still_open (unregistered c.args.count mid) c.loop-page.invariant.way.ready left)).1
 
 pub sweep_page-requires-clause-valid : goal.sweep_page-requires-clause-valid
 sweep_page-requires-clause-valid c = valid_nodes (unregistered c.args.count c.loop-page.parts) c.loop-page.invariant.way.ready
@@ -75,7 +82,7 @@ loop-page-preserved c =
           c.sweep_page.new.finalised.items c.loop-page.invariant.way c.loop-page.invariant.cursor (omega (arith, c.loop-page-test.true, c.pages-page-end.ensures)) c.sweep_page.ensures.swept
           c.step_keeps_valid.ensures c.sweeps_go_by_pages.ensures.join c.sweeps_go_by_pages.ensures.one c.shape_is_valid.ensures c.sweep_page.ensures.told c.in_default.ensures.none);
       cursor = omega (arith, cursor, c.loop-page.invariant.cursor);
-      refused = ap (λ (o : ObjectsView). o.refused) c.find.ensures.same ∙ c.sweep_page.ensures.swept.refused ∙ c.loop-page.invariant.refused;
+      grey = ap (λ (o : ObjectsView). o.grey) c.find.ensures.same ∙ c.sweep_page.ensures.swept.grey ∙ c.loop-page.invariant.grey;
       registered = c.sweep_page.ensures.swept.registered ∙ c.loop-page.invariant.registered;
       room = c.sweep_page.ensures.room ∙ c.loop-page.invariant.room;
     }

@@ -7,7 +7,7 @@ abbrev pub invariant-loop-page : goal.invariant-loop-page
 invariant-loop-page l = record {
   way : IsOnTheWay (unregistered l.count l.initial.parts) (unregistered l.count l.parts) l.size l.finalised.items;
   cursor : l.parts.cycle.sweep.cursor ≡ l.page;
-  refused : l.parts.objects.refused ≡ l.initial.parts.objects.refused;
+  grey : l.parts.objects.grey ≡ l.initial.parts.objects.grey;
   registered : l.parts.cycle.registered ≡ l.initial.parts.cycle.registered;
   room : vec_capacity l.finalised ≡ vec_capacity l.initial.finalised;
 }

@@ -29,7 +29,7 @@ loop-page-init c =
       goes = nothing_swept s c.args.finalised.now.items c.requires.ready c.requires.empty;
       cursor = omega arith;
       told = omega (arith, ap length c.requires.empty, c.dead_are_few.ensures (cursor_at s.objects.shape s.cycle.sweep) (word_count s.objects.shape));
-      refused = refl;
+      grey = refl;
       setup = refl;
       ordinal = refl;
       room = refl;
@@ -60,7 +60,7 @@ loop-page-preserved c =
           c.sweeps_go_by_pages.ensures.join c.loop-page.invariant.goes (omega arith) (omega (arith, left, ap (λ (sh : Shape). sh.pages) shape)) goes is.nodes.follow);
       cursor = omega (arith, cursor, c.loop-page.invariant.cursor);
       told = subst (λ (st : Setup). AreFewTold st.shape (cursor_at st.shape t.cycle.sweep) t.objects.seat c.sweep_page.new.finalised.items) (sym is.setup) c.sweep_page.ensures.told;
-      refused = is.refused ∙ c.loop-page.invariant.refused;
+      grey = is.grey ∙ c.loop-page.invariant.grey;
       setup = is.setup ∙ c.loop-page.invariant.setup;
       ordinal = ap (λ (st : State). st.ordinal) is.rest ∙ c.loop-page.invariant.ordinal;
       room = c.sweep_page.ensures.room ∙ c.loop-page.invariant.room;

@@ -11,7 +11,7 @@ invariant-loop-page l = record {
   goes : SweepsOn l.initial.parts.objects.shape (state_of l.initial.parts) l.parts.cycle.sweep.cursor [] l.finalised.items (state_of l.parts);
   cursor : l.parts.cycle.sweep.cursor ≡ l.initial.parts.cycle.sweep.cursor + l._page;
   told : AreFewTold l.parts.objects.shape (cursor_at l.parts.objects.shape l.parts.cycle.sweep) l.parts.objects.seat l.finalised.items;
-  refused : l.parts.objects.refused ≡ l.initial.parts.objects.refused;
+  grey : l.parts.objects.grey ≡ l.initial.parts.objects.grey;
   setup : setup_of l.parts ≡ setup_of l.initial.parts;
   ordinal : l.parts.cycle.rest.ordinal ≡ l.initial.parts.cycle.rest.ordinal;
   room : vec_capacity l.finalised ≡ vec_capacity l.initial.finalised;

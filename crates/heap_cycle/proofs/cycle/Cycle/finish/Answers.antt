@@ -21,5 +21,5 @@ returns-clause-swept c =
     parts_swept o new before after o.shape.pages c.finalise_rest-count.result (cursor_at o.shape c.finalise_rest-count.new.sweep) c.args.finalised.now.items
     c.finalise_rest-count.new.finalised.items c.finalise_rest-count.ensures.setup c.finalise_rest-count.ensures.nodes (ap (cursor_at o.shape) sweep) c.finalise_rest-count.ensures.count
     (over_at o.shape o.shape.pages refl) sweep refl refl (c.swept.ensures ∙ ap (λ n. swept_to n c.finalise_rest-count.result c.self.inside.rest.value) cursor)
-    c.finalise_rest-count.ensures.quiet c.finalise_rest-count.ensures.refused in
+    (c.finalise_rest-count.ensures.rest, c.finalise_rest-count.ensures.quiet) c.finalise_rest-count.ensures.grey in
     rw (← c.self.view_is) is

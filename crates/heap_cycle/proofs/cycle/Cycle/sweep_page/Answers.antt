@@ -1,25 +1,19 @@
 use Rattle.std.proofs.Common.{◌≡◌, ℕ, ◌+◌, refl, sym, ap, ◌∙◌, subst}
-use Rattle.gc_graph.specs.State.{Setup, Shape}
+use Rattle.gc_graph.specs.State.{Setup}
 use Rattle.gc_graph.specs.Sweep.{phase_at}
 use Rattle.sweeper.specs.Sweeping.{SweepView, cursor_at}
 use Rattle.heap_cycle.specs.Changes.{swept_to, SweepsParts}
 use Rattle.heap_objects.specs.Objects.{ObjectsView}
-use Rattle.heap_cycle.specs.Views.{CycleView, IsAtRest}
-use Rattle.heap_objects.specs.Finalising.{HasMarks}
-use Rattle.heap_cycle.proofs.SweepSteps.{not_marking}
+use Rattle.heap_cycle.specs.Views.{CycleView, IsOwnersAlone}
+use Rattle.heap_objects.specs.Marks.{HasMarks}
 use Rattle.heap_cycle.proofs.SweptObjects.{marks_at, parts_swept}
 use Rattle.heap_cycle.proofs.cycle.Cycle.sweep_page.Goals as goal
 
 pub invariant_of-self : goal.invariant_of-self
 invariant_of-self c =
-    let shape : Shape = c.finalise_page-count.new.self.shape in
-    let is : IsAtRest (phase_at shape c.cursor-2.result) (swept_to c.cursor.result c.finalise_page-count.result c.self.inside.rest.value) = record {
-      calm = not_marking shape c.cursor-2.result;
-      region_null = c.self.invariant.region_null;
-      none_running = c.self.invariant.none_running;
-    } in
-    subst (λ ph. IsAtRest ph c.swept.result.value) (sym (c.phase_after-self-inside.ensures shape (sym c.pages.ensures)))
-    (subst (IsAtRest (phase_at shape c.cursor-2.result)) (sym c.swept.ensures) is)
+    let is : IsOwnersAlone (swept_to c.cursor.result c.finalise_page-count.result c.self.inside.rest.value) =
+    record { region_null = c.self.invariant.region_null; none_running = c.self.invariant.none_running } in
+    subst IsOwnersAlone (sym c.swept.ensures) is
 
 pub returns-clause-swept : goal.returns-clause-swept
 returns-clause-swept c =
@@ -32,11 +26,11 @@ returns-clause-swept c =
     let shape : o.shape.pages ≡ c.pages.result = sym (c.pages.ensures ∙ ap (λ (st : Setup). st.shape.pages) c.finalise_page-count.ensures.setup) in
     let phase : c.phase_after-self-inside.result ≡ phase_at o.shape next = c.phase_after-self-inside.ensures o.shape shape ∙ ap (phase_at o.shape) (c.cursor-2.ensures.cursor ∙ cursor) in
     let all : w.pages ≡ o.shape.pages = ap (λ (s : SweepView). s.pages) c.finalise_page-count.ensures.cursor ∙ (rw (← c.self.view_is) at c.requires.pages) in
-    let marks : HasMarks c.phase_after-self-inside.result (cursor_at o.shape w) c.finalise_page-count.new.self.seat =
-    subst (λ ph. HasMarks ph (cursor_at o.shape w) c.finalise_page-count.new.self.seat) (sym phase)
-    (marks_at o.shape next (cursor_at o.shape w) c.finalise_page-count.new.self.seat c.finalise_page-count.ensures.marks (λ last. c.finalise_page-count.ensures.quiet (cursor ∙ last ∙ sym all))) in
+    let marks : HasMarks c.phase_after-self-inside.result (cursor_at o.shape w) c.swept.result.value.may c.finalise_page-count.new.self =
+    subst (λ ph. HasMarks ph (cursor_at o.shape w) c.swept.result.value.may c.finalise_page-count.new.self) (sym phase)
+    (marks_at o.shape next (cursor_at o.shape w) _ c.finalise_page-count.new.self c.finalise_page-count.ensures.rest c.finalise_page-count.ensures.marks (λ last. c.finalise_page-count.ensures.quiet (cursor ∙ last ∙ sym all))) in
     let is : SweepsParts o c.finalise_page-count.new.self before after next c.args.finalised.now.items c.finalise_page-count.new.finalised.items =
     parts_swept o c.finalise_page-count.new.self before after next c.finalise_page-count.result (cursor_at o.shape w) c.args.finalised.now.items c.finalise_page-count.new.finalised.items
     c.finalise_page-count.ensures.setup c.finalise_page-count.ensures.nodes (ap (cursor_at o.shape) c.finalise_page-count.ensures.cursor) c.finalise_page-count.ensures.count phase
-    c.finalise_page-count.ensures.cursor refl refl (c.swept.ensures ∙ ap (λ n. swept_to n c.finalise_page-count.result c.self.inside.rest.value) (c.cursor.ensures.cursor ∙ cursor)) marks c.finalise_page-count.ensures.refused in
+    c.finalise_page-count.ensures.cursor refl refl (c.swept.ensures ∙ ap (λ n. swept_to n c.finalise_page-count.result c.self.inside.rest.value) (c.cursor.ensures.cursor ∙ cursor)) marks c.finalise_page-count.ensures.grey in
     rw (← c.self.view_is) is

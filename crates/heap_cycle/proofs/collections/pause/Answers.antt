@@ -1,0 +1,56 @@
+use Rattle.std.proofs.Common.{All, ◌++◌, length, refl, sym, ap, ◌∙◌, subst}
+use Rattle.gc_graph.specs.State.{slot_targets}
+use Rattle.gc_graph.specs.May.{members}
+use Rattle.gc_graph.specs.declared.phase.Phase.TheVariants.{Sweeping}
+use Rattle.callback_table.specs.Registry.{RegistryView, IsRegistered}
+use Rattle.atomic_pause.specs.Pausing.{IsPaused, hits_in}
+use Rattle.heap_handles.specs.Stack.{is_precise}
+use Rattle.heap_cycle.specs.declared.parts.Parts.{Parts}
+use Rattle.heap_cycle.specs.Changes.{paused_from}
+use Rattle.heap_cycle.specs.KeptRoots.{marking_of, slots_kept}
+use Rattle.heap_cycle.specs.Views.{CycleView, IsOwnersAlone}
+use Rattle.heap_cycle.proofs.PauseSteps.{Pauses, registry_of, has_paused}
+use Rattle.heap_cycle.proofs.RegisteredNodes.{registered_placed}
+use Rattle.heap_cycle.proofs.collections.pause.Goals as goal
+
+pub finish-result-requires-clause-kept : goal.finish-result-requires-clause-kept
+finish-result-requires-clause-kept g c p there = slots_kept c.args.parts.now p c.requires.ready c.requires.marking there
+
+pub finish-result-requires-clause-registered : goal.finish-result-requires-clause-registered
+finish-result-requires-clause-registered g c =
+    subst (λ (k : CycleView). All (IsRegistered c.args.parts.now.objects.nodes (length c.args.parts.now.objects.callbacks)) k.registered) (sym c.cycle.view_is)
+    (registered_placed c.args.parts.now c.requires.ready)
+
+pub returns : goal.returns
+returns g c =
+    let s : Parts = c.args.parts.now in
+    let after : CycleView = record {
+      phase = Sweeping;
+      sweep = c.begin.new.self;
+      registered = c.finish-result.new.registry.entries;
+      ran = c.finish-result.new.registry.ran;
+      rest = c.paused.result.value;
+    } in
+    let is : Pauses c.args.want s c.finish-result.new.objects c.finish-result.new.self after c.finish-result.result = record {
+      alone = subst (λ (k : CycleView). IsOwnersAlone k.rest) c.cycle.view_is c.cycle.invariant;
+      ready = c.requires.ready;
+      allowed = c.requires.allowed;
+      setup = c.finish-result.ensures.setup;
+      paused = subst (λ (r : RegistryView). IsPaused s.objects.callbacks (slot_targets s.handles.slots ++ hits_in (is_precise c.args.want) s.objects.nodes s.handles.stack.addresses)
+          (members s.cycle.rest.may ++ hits_in (is_precise c.args.want) s.objects.nodes s.handles.stack.addresses) s.objects.nodes c.finish-result.new.objects.nodes r
+          c.finish-result.new.registry) (ap registry_of c.cycle.view_is)
+          (c.finish-result.ensures.paused s.cycle.rest.may (marking_of s c.requires.ready c.requires.marking));
+      sizes = c.finish-result.ensures.sizes;
+      handles_left = c.finish-result.ensures.handles;
+      rests = c.finish-result.ensures.rest;
+      judged_marks = c.finish-result.ensures.judged;
+      phase = refl;
+      sweep = c.begin.ensures ∙ ap (λ (k : CycleView). record k.sweep { cursor = 0 }) c.cycle.view_is;
+      rest = c.paused.ensures ∙ ap (λ (k : CycleView). paused_from k.rest) c.cycle.view_is;
+      kept_is = c.finish-result.ensures.kept;
+      dead_is = c.finish-result.ensures.dead;
+      traced_is = c.finish-result.ensures.traced;
+      kept_traced = c.finish-result.ensures.kept_traced;
+      walked = c.finish-result.ensures.walked;
+    } in
+    record { paused = has_paused c.args.want s c.finish-result.new.objects c.finish-result.new.self after c.finish-result.result is c.reach_is_least.ensures }

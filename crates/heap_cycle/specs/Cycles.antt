@@ -1,0 +1,64 @@
+-- A cycle from its start to its pause, over the parts of a heap.
+use Rattle.std.specs.Prelude.{◌≡◌, ◌<◌, ℕ, true, false, List, [], ◌∷◌, Contains, Some}
+use Rattle.gc_graph.specs.declared.command.Want.{Want}
+use Rattle.gc_graph.specs.declared.line.Line.{Line}
+use Rattle.gc_graph.specs.declared.line.Line.TheVariants as L
+use Rattle.gc_graph.specs.declared.phase.Phase.TheVariants.{Marking}
+use Rattle.gc_graph.specs.State.{State}
+use Rattle.gc_graph.specs.Sweep.{SweepsToEnd}
+use Rattle.gc_graph.specs.May.{marking}
+use Rattle.gc_graph.specs.Outcomes.{took}
+use Rattle.gc_graph.specs.CycleSteps.{IsPause}
+use Rattle.mark_worklist.specs.Lists.{last_count}
+use Rattle.marker_core.specs.Bodies.{holds}
+use Rattle.atomic_pause.specs.declared.parts.PauseResult.{PauseResult}
+use Rattle.heap_objects.specs.Refused.{RefusalsTold, IsToldTruly}
+use Rattle.heap_objects.specs.Objects.{refused_of}
+use Rattle.heap_cycle.specs.declared.parts.Parts.{Parts}
+use Rattle.heap_cycle.specs.Entries.{start_entry, pause_entry}
+use Rattle.heap_cycle.specs.Parts.{setup_of, state_of, AreTied, IsReady}
+use Rattle.heap_cycle.specs.Printed.{ran_lines}
+
+-- the state in which marking has just begun
+abbrev pub started_state : State → State
+started_state s = marking (took s (start_entry ∷ []))
+
+-- what the strong slots name is marked
+abbrev pub AreSlotsMarked : Parts → Type 0
+AreSlotsMarked s = (p : ℕ) → Contains s.handles.places (Some p) → holds s.objects.seat.marked p ≡ true
+
+-- no push was refused since the cycle began, as far as the count shows it
+pub record HasNoRefusedPush (told : RefusalsTold) : Type 0 where
+  pub same : told.now.pushes ≡ told.since.pushes
+  pub seen : told.now.pushes < last_count
+
+-- the open sweep was ended, in which these nodes were finalised, and then marking began
+pub record HasBegun (old : Parts) (numbers : List ℕ) (new : Parts) : Type 0 where
+  pub swept : State
+  pub ended : SweepsToEnd old.objects.shape (state_of old) numbers swept
+  pub state : state_of new ≡ started_state swept
+  pub ready : IsReady new
+  pub marking : new.cycle.phase ≡ Marking
+  pub marked : AreSlotsMarked new
+  pub setup : setup_of new ≡ setup_of old
+  pub since : new.objects.grey.since ≡ refused_of old.objects
+  pub ordinal : new.cycle.rest.ordinal ≡ old.cycle.rest.ordinal
+  pub handles : new.handles ≡ old.handles
+
+-- nothing is grey, unless a push was refused
+abbrev pub IsNoneGrey : Parts → Type 0
+IsNoneGrey s =
+    s.objects.grey.marking.overflow ≡ false → (p : ℕ) → holds s.objects.seat.marked p ≡ true → holds s.objects.seat.traced p ≡ true
+
+-- the line of a pause without a crew
+abbrev pub pause_line : PauseResult → Line
+pause_line result = L.Pause result.kept result.dead 0 result.traced result.walked
+
+-- the pause of a cycle is a step of the graph, of which it tells, and leaves the parts tied
+pub record HasPaused (want : Want) (old new : Parts) (result : PauseResult) : Type 0 where
+  pub pause :
+      IsPause (setup_of old) 0 want (state_of old) (pause_entry ∷ []) (pause_line result ∷ ran_lines true new.cycle.ran) (state_of new)
+  pub setup : setup_of new ≡ setup_of old
+  pub ordinal : new.cycle.rest.ordinal ≡ old.cycle.rest.ordinal
+  pub tied : AreTied new
+  pub walked : IsToldTruly old.objects.grey.since (refused_of new.objects) result.walked
