@@ -3,7 +3,7 @@ use Rattle.std.specs.Prelude.{◌≡◌, ℕ, Bool, true, false, List, Some, sli
 use Rattle.gc_graph.specs.declared.command.Command.{Command}
 use Rattle.gc_graph.specs.declared.command.Command.TheVariants as C
 
--- objects, their fields, slots, the stack, whole collections, and totals
+-- objects, their fields, slots, the stack, collections, and totals
 abbrev pub is_built : Command → Bool
 is_built (C.New p t e) = true
 is_built (C.Set p f q) = true
@@ -23,13 +23,13 @@ is_built (C.Push p o) = true
 is_built (C.PushPlain n) = true
 is_built C.Pop = true
 is_built (C.Peek i q) = true
+is_built C.GcStart = true
+is_built (C.GcStep n) = true
+is_built (C.GcFinish want) = true
 is_built (C.GcNow want) = true
 is_built (C.Sweep n) = true
 is_built C.SweepAll = true
 is_built C.Stat = true
-is_built C.GcStart = false
-is_built (C.GcStep n) = false
-is_built (C.GcFinish want) = false
 is_built (C.Export p x) = false
 is_built (C.Import x p) = false
 is_built (C.At j order) = false

@@ -28,6 +28,9 @@ pub fn is_built(command: &Command) -> bool
         | Command::PushPlain { .. }
         | Command::Pop
         | Command::Peek { .. }
+        | Command::GcStart
+        | Command::GcStep { .. }
+        | Command::GcFinish { .. }
         | Command::GcNow { .. }
         | Command::Sweep { .. }
         | Command::SweepAll

@@ -1,37 +1,31 @@
 -- The steps of the commands on fields.
-use Rattle.std.proofs.Common.{◌≡◌, ℕ, ◌<◌, Bool, true, false, List, [], ◌∷◌, get_or, Option, option_map, Some, None, Ok, Err, Result, refl, sym, ap, ◌∙◌, subst, inl, inr, ltb}
+use Rattle.std.proofs.Common.{◌≡◌, ℕ, ◌<◌, Bool, true, List, [], ◌∷◌, get_or, Option, option_map, Some, None, Ok, Err, Result, refl, sym, ap, ◌∙◌, subst, inl, inr, ltb}
 use Rattle.std.specs.Prelude.{MatchOption, MatchBool}
 use Rattle.std.specs.Option.{ForSome}
-use Rattle.std.proofs.lemmas.Bool.{cases_Bool, ltb-true, lt-ltb, true≢false}
+use Rattle.std.proofs.lemmas.Bool.{cases_Bool, ltb-true, lt-ltb}
 use Rattle.gc_graph.specs.declared.kind.Kind.{Kind}
 use Rattle.gc_graph.specs.declared.kind.Value.{Value}
-use Rattle.gc_graph.specs.declared.kind.Value.TheVariants.{Null, Ref, Word}
+use Rattle.gc_graph.specs.declared.kind.Value.TheVariants.{Word}
 use Rattle.gc_graph.specs.declared.line.Line.{Line}
 use Rattle.gc_graph.specs.declared.line.Line.TheVariants as L
 use Rattle.gc_graph.specs.declared.line.Refusal.{Refusal}
 use Rattle.gc_graph.specs.declared.line.Refusal.TheVariants as R
-use Rattle.gc_graph.specs.declared.phase.Phase.{Phase}
-use Rattle.gc_graph.specs.declared.phase.Phase.TheVariants.{Idle, Marking, Sweeping}
-use Rattle.gc_graph.specs.Graph.{Object}
-use Rattle.gc_graph.specs.State.{State, Node, node_at, graph_of, IsLive}
-use Rattle.gc_graph.specs.Fields.{content_of, field_count, kind_of_field, with_value, target_of, is_reference, is_weak, is_plain}
-use Rattle.gc_graph.specs.May.{may_with_read, read_node}
-use Rattle.gc_graph.specs.CycleSteps.{is_marking}
-use Rattle.gc_graph.specs.Outcomes.{answered, with_slot, slot_at}
+use Rattle.gc_graph.specs.State.{State, Node, node_at, IsLive}
+use Rattle.gc_graph.specs.Fields.{content_of, field_count, kind_of_field, with_value, is_reference, is_weak, is_plain}
+use Rattle.gc_graph.specs.Outcomes.{answered, slot_at}
 use Rattle.gc_graph.specs.ObjectSteps.{StepGet, StepWord, IsChanged, IsNumber, IsRead, first_word}
 use Rattle.heap_objects.specs.declared.field.Field.{Field}
 use Rattle.heap_objects.specs.declared.field.Wanted.{Wanted}
 use Rattle.nodes_in_words.specs.Nodes.{place_of, word_of}
 use Rattle.heap_objects.specs.Fields.{allows, field_of, IsFieldOf, IsFieldAt, value_in, IsLiveReference}
-use Rattle.heap_engine.specs.FieldSteps.{StepWrite}
+use Rattle.heap_engine.specs.FieldSteps.{StepWrite, HasRead}
+use Rattle.heap_engine.proofs.SlotReads.{live_names, slot_read}
 use Rattle.heap_objects.specs.Objects.{target_in, written_in, ObjectsView}
 use Rattle.heap_handles.specs.Handles.{slot_word, put_in, HandlesView}
 use Rattle.heap_cycle.specs.declared.parts.Parts.{Parts}
-use Rattle.heap_cycle.specs.Parts.{setup_of, state_of, counted, AreTied, IsReady, IsFrame}
-use Rattle.heap_cycle.specs.Walks.{IsWalkTold}
-use Rattle.heap_objects.specs.Refused.{RefusedCounts}
+use Rattle.heap_cycle.specs.Parts.{setup_of, state_of, IsReady}
 use Rattle.heap_objects.specs.FieldReads.{holds_reference}
-use Rattle.heap_cycle.specs.Ties.{valid_nodes, slot_live, tied_slot}
+use Rattle.heap_cycle.specs.Ties.{valid_nodes, slot_live}
 
 -- the field that was asked for: the slot's node has it, and its kind passes the test
 pub record Found (allowed : Kind → Bool) (s : Parts) (p f : ℕ) (field : Field) : Type 0 where
@@ -117,71 +111,22 @@ step_word s t p f w field is told unchanged =
     asked is_plain st.nodes (slot_at st p) f is.node _ (λ m. IsNumber st (value_in st.nodes m f) lines (answered (state_of t))) _ _ is.slot is.is.there is.kind
     (subst (λ x. IsNumber st x lines (answered (state_of t))) (sym told) number)
 
--- ---- reads of references
+-- a reference field names a live node or none
+pub read_live : (s : Parts) (p f : ℕ) (field : Field) → IsReady s → (is : Found is_reference s p f field) → IsLiveReference s.objects.nodes (value_in s.objects.nodes is.node f)
+read_live s p f field ready is =
+    holds_reference (setup_of s) s.objects.nodes is.node f field (valid_nodes s ready) is.is (field_kind is_reference s p f field is)
 
-may_stays : (phase : Phase) (graph : List Object) (may : List Bool) (n : ℕ) → is_marking phase ≡ false → may_with_read phase graph may n ≡ may
-may_stays Idle graph may n calm = refl
-may_stays Marking graph may n calm = absurd (true≢false calm)
-may_stays Sweeping graph may n calm = refl
-
--- while no marking goes on, a weak read keeps nothing
-calm_read : (weak : Bool) (s : State) (n : ℕ) → is_marking s.phase ≡ false → read_node weak s n ≡ s
-calm_read false s n calm = refl
-calm_read true s n calm = ap (λ may. record s { may = may }) (may_stays s.phase (graph_of s.nodes) s.may n calm)
-
-pub read_value : (weak : Bool) (s : State) (x : Value) (q : ℕ) (line : Line) → is_marking s.phase ≡ false → IsLiveReference s.nodes x
-    → MatchOption (target_in s.nodes x) (line ≡ L.Null) (λ t. line ≡ L.Node t.1) → IsRead weak s x q (line ∷ []) (answered (with_slot s q (target_of x)))
-read_value weak s Null q said calm names told = (ap (λ l. l ∷ []) told, refl)
-read_value weak s (Ref n) q said calm names told =
-    (ap (λ l. l ∷ []) told, ap (λ (t : State). answered (with_slot t q (Some n))) (sym (calm_read weak s n calm)))
-read_value weak s (Word w) q said calm names told = absurd names
-
-pub target_numbers : (nodes : List Node) (content : Option ℕ) → option_map (λ (t : ℕ × ℕ). t.1) (option_map (λ (m : ℕ). (place_of nodes m, m)) content) ≡ content
-target_numbers nodes None = refl
-target_numbers nodes (Some m) = refl
-
-pub target_places : (nodes : List Node) (content : Option ℕ)
-    → option_map (λ (t : ℕ × ℕ). t.0) (option_map (λ (m : ℕ). (place_of nodes m, m)) content)
-    ≡ option_map (place_of nodes) (option_map (λ (t : ℕ × ℕ). t.1) (option_map (λ (m : ℕ). (place_of nodes m, m)) content))
-target_places nodes None = refl
-target_places nodes (Some m) = refl
-
-pub step_get : (s : Parts) (new : HandlesView) (p f q : ℕ) (field : Field) (target : Option (ℕ × ℕ)) (line : Line) → IsReady s → is_marking s.cycle.phase ≡ false
-    → (is : Found is_reference s p f field) → target ≡ target_in s.objects.nodes (value_in s.objects.nodes is.node f) → MatchOption target (line ≡ L.Null) (λ t. line ≡ L.Node t.1)
-    → new ≡ put_in s.handles q target → StepGet (state_of s) p f q (line ∷ []) (answered (state_of (record s { handles = new })))
-step_get s new p f q field target line ready calm is read told after =
+pub step_get : (s mid : Parts) (after : HandlesView) (p f q : ℕ) (field : Field) (target : Option (ℕ × ℕ)) (told : Line) → IsReady s → (is : Found is_reference s p f field)
+    → target ≡ target_in s.objects.nodes (value_in s.objects.nodes is.node f) → MatchOption target (told ≡ L.Null) (λ (t : ℕ × ℕ). told ≡ L.Node t.1)
+    → HasRead (is_weak field.kind) s mid target → after ≡ put_in mid.handles q target → StepGet (state_of s) p f q (told ∷ []) (answered (state_of (record mid { handles = after })))
+step_get s mid after p f q field target told ready is read line has put =
     let st : State = state_of s in
     let n : ℕ = is.node in
-    let x : Value = value_in st.nodes n f in
-    let weak : Bool = is_weak (kind_of_field (node_at st.nodes n).object f) in
-    let names : IsLiveReference st.nodes x =
-    holds_reference (setup_of s) st.nodes n f field (valid_nodes s ready) is.is (field_kind is_reference s p f field is) in
-    let done : IsRead weak st x q (line ∷ []) (answered (with_slot st q (target_of x))) =
-    read_value weak st x q line calm names (subst (λ t. MatchOption t (line ≡ L.Null) (λ (w : ℕ × ℕ). line ≡ L.Node w.1)) read told) in
-    let to : answered (with_slot st q (target_of x)) ≡ answered (state_of (record s { handles = new })) =
-    ap (λ content. answered (with_slot st q content)) (sym (ap (option_map (λ (t : ℕ × ℕ). t.1)) read ∙ target_numbers st.nodes (target_of x)))
-    ∙ ap (λ (k : HandlesView). answered (state_of (record s { handles = k }))) (sym after) in
-    asked is_reference st.nodes (slot_at st p) f n _
-    (λ m. IsRead (is_weak (kind_of_field (node_at st.nodes m).object f)) st (value_in st.nodes m f) q (line ∷ []) (answered (state_of (record s { handles = new })))) _ _ is.slot is.is.there
-    is.kind (subst (λ (t : State). IsRead weak st x q (line ∷ []) t) to done)
-
--- a line that tells a target tells of no refusal
-read_calm : (counts : RefusedCounts) (target : Option (ℕ × ℕ)) (told : Line) → MatchOption target (told ≡ L.Null) (λ (t : ℕ × ℕ). told ≡ L.Node t.1) → IsWalkTold counts counts told
-read_calm counts None told is = subst (IsWalkTold counts counts) (sym is) refl
-read_calm counts (Some t) told is = subst (IsWalkTold counts counts) (sym is) refl
-
--- a slot got what was read, and no more
-pub read_frame : (s : Parts) (new : HandlesView) (q : ℕ) (target : Option (ℕ × ℕ)) (content : Option ℕ) → AreTied s
-    → target ≡ option_map (λ (m : ℕ). (place_of s.objects.nodes m, m)) content → new ≡ put_in s.handles q target
-    → (told : Line) → MatchOption target (told ≡ L.Null) (λ (t : ℕ × ℕ). told ≡ L.Node t.1) → IsFrame s (counted (record s { handles = new })) told
-read_frame s new q target content tied read after told is = record {
-  setup = refl;
-  ordinal = refl;
-  tied = subst (λ (k : HandlesView). AreTied (counted (record s { handles = k }))) (sym after)
-      (tied_slot s q target
-      (subst (λ t. option_map (λ (x : ℕ × ℕ). x.0) t ≡ option_map (place_of s.objects.nodes) (option_map (λ (x : ℕ × ℕ). x.1) t)) (sym read) (target_places s.objects.nodes content)) tied);
-  refused = read_calm s.objects.refused target told is;
-}
+    let new : State = answered (state_of (record mid { handles = after })) in
+    let done : IsRead (is_weak field.kind) st (value_in st.nodes n f) q (told ∷ []) new =
+    slot_read (is_weak field.kind) s mid after q (value_in st.nodes n f) target told (live_names st.nodes (value_in st.nodes n f) (read_live s p f field ready is)) read line has put in
+    asked is_reference st.nodes (slot_at st p) f n _ (λ m. IsRead (is_weak (kind_of_field (node_at st.nodes m).object f)) st (value_in st.nodes m f) q (told ∷ []) new) _ _ is.slot
+    is.is.there is.kind (subst (λ (x : Field). IsRead (is_weak x.kind) st (value_in st.nodes n f) q (told ∷ []) new) is.is.is done)
 
 pub content_live : (nodes : List Node) (slot : Option ℕ) → ForSome slot (IsLive nodes) → IsLiveReference nodes (content_of slot)
 content_live nodes None live = tt

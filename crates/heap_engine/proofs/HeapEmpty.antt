@@ -7,7 +7,7 @@ use Rattle.gc_graph.specs.ValidLaw.{EmptyIsValid}
 use Rattle.page_words.specs.Seat.{empty_view}
 use Rattle.nodes_in_words.specs.Places.{places_of}
 use Rattle.heap_objects.specs.Objects.{HaveCallbacks, ObjectsView}
-use Rattle.heap_objects.specs.Refused.{none_refused}
+use Rattle.heap_objects.specs.Marking.{no_grey}
 use Rattle.heap_handles.specs.Stack.{empty_stack}
 use Rattle.heap_cycle.specs.declared.parts.Parts.{Parts}
 use Rattle.heap_handles.specs.Handles.{HandlesView}
@@ -21,7 +21,7 @@ null_places (suc n) = ap (λ l. None ∷ l) (null_places n)
 -- the parts of an empty heap
 abbrev pub empty_parts : Shape → List ObjectType → List ActionKind → Parts
 empty_parts shape types callbacks = record {
-  objects = record { shape = shape; types = types; callbacks = callbacks; nodes = []; seat = empty_view (shape.pages * shape.page_words) types; refused = none_refused };
+  objects = record { shape = shape; types = types; callbacks = callbacks; nodes = []; seat = empty_view (shape.pages * shape.page_words) types; grey = no_grey };
   handles = record { places = replicate 256 None; slots = replicate 256 None; weak_places = replicate 64 None; weak = replicate 64 None; stack = empty_stack };
   cycle = record { phase = Idle; sweep = record { pages = shape.pages; cursor = shape.pages }; registered = []; ran = []; rest = empty_state };
 }
@@ -48,7 +48,11 @@ ready_empty s shape types callbacks law called is =
         registered = λ k d low. absurd (omega arith);
         few = omega arith;
         sweep = record { pages = refl; cursor_is = refl };
-        marks = record { off = refl; marked = refl; traced = refl; dead = refl };
+        marks = (
+          record { off = refl; clear = record { off = refl; unrefused = refl; none_listed = refl; none_noted = refl; notes_unrefused = refl } },
+          record { off = refl; marked = refl; traced = refl; dead = refl },
+        );
+        traced = refl;
         made = omega arith;
       };
       most = omega arith;

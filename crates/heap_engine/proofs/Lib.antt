@@ -1,6 +1,10 @@
 pub mod StackSteps
 pub mod OutcomeLines
 pub mod StepLines
+pub mod MarksTold
+pub mod Tellings
+pub mod KeptSlots
+pub mod SlotReads
 pub mod SlotSteps
 pub mod FieldAnswers
 pub mod PairAnswers

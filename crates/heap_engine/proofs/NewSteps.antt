@@ -1,18 +1,15 @@
 -- The step of a new object.
-use Rattle.std.proofs.Common.{◌≡◌, ℕ, ◌+◌, ◌*◌, ◌<◌, ◌≤◌, false, List, [], ◌∷◌, ◌++◌, length, map, set, Bool, Option, Some, None, option_map, refl, sym, ap, ◌∙◌, subst, inr, arith}
+use Rattle.std.proofs.Common.{◌≡◌, ℕ, ◌+◌, ◌*◌, ◌<◌, ◌≤◌, List, [], ◌∷◌, ◌++◌, length, map, set, Bool, Option, Some, None, option_map, refl, sym, ap, ◌∙◌, subst, inr, arith}
 use Rattle.std.specs.List.{All}
 use Rattle.std.specs.Option.{ForSome}
 use Rattle.std.proofs.lemmas.List.{length_push, map-set, length-append, length-map}
 use Rattle.std.proofs.lemmas.List.Elements.{All-get_or, All-head, All-tail, All-append, All-map, All-weaker}
 use Rattle.gc_graph.specs.declared.line.Line.{Line}
 use Rattle.gc_graph.specs.declared.line.Line.TheVariants as L
-use Rattle.gc_graph.specs.declared.phase.Phase.{Phase}
-use Rattle.gc_graph.specs.declared.phase.Phase.TheVariants.{Idle, Marking, Sweeping}
 use Rattle.gc_graph.specs.State.{Setup, State, ObjectType, Node, Registration, type_at, no_type, IsLive, stack_targets}
 use Rattle.gc_graph.specs.Placement.{IsPlacement}
 use Rattle.gc_graph.specs.Fields.{new_node, size_of_type}
 use Rattle.gc_graph.specs.May.{may_with_new}
-use Rattle.gc_graph.specs.CycleSteps.{is_marking}
 use Rattle.gc_graph.specs.Outcomes.{answered, finalise_lines, with_slot}
 use Rattle.gc_graph.specs.ObjectSteps.{StepNew, with_new, registrations_for}
 use Rattle.callback_table.specs.declared.registry.Registered.{Registered}
@@ -25,7 +22,8 @@ use Rattle.heap_objects.specs.Objects.{with_made, ObjectsView, setup_of_objects,
 use Rattle.heap_handles.specs.Handles.{put_in, HandlesView}
 use Rattle.heap_cycle.specs.declared.parts.Parts.{Parts}
 use Rattle.heap_cycle.specs.Views.{CycleView, IsPlaced, IsSweepOf}
-use Rattle.heap_objects.specs.Finalising.{HasMarks}
+use Rattle.heap_objects.specs.Marking.{GreyView}
+use Rattle.heap_objects.specs.Marks.{HasMarks}
 use Rattle.heap_cycle.specs.Parts.{setup_of, state_of, counted, AreTied, IsReady, registered_in}
 use Rattle.nodes_in_words.specs.KeptNodes.{slots_live}
 use Rattle.heap_cycle.specs.Registrations.{registrations_join, live_entries}
@@ -34,31 +32,27 @@ use Rattle.nodes_in_words.specs.NodePlaces.{live_is_there}
 use Rattle.heap_handles.specs.StackWords.{words_held}
 use Rattle.gc_graph.specs.NodeNumbers.{there_below}
 
--- while no marking goes on, nothing is told of what may be kept
-same_may : (phase : Phase) (may : List Bool) → is_marking phase ≡ false → may_with_new phase may ≡ may
-same_may Idle may calm = refl
-same_may Marking may calm = cc
-same_may Sweeping may calm = refl
+-- the cycle once the new node is registered, and may be kept where marking goes on
+abbrev pub made_cycle : Parts → ℕ → ℕ → CycleView
+made_cycle s t place = record (registered_in s t place).cycle { rest = record s.cycle.rest { may = may_with_new s.cycle.phase s.cycle.rest.may } }
 
 -- the new node joins the others, and its prefinalizers those that are registered
-joins : (setup : Setup) (s : State) (p t extra place : ℕ) (rs : List Registration) → is_marking s.phase ≡ false → rs ≡ s.registrations ++ registrations_for setup t (length s.nodes)
-    → answered (with_slot (record s { nodes = s.nodes ++ new_node setup t extra place ∷ []; registrations = rs }) p (Some (length s.nodes)))
+joins : (setup : Setup) (s : State) (p t extra place : ℕ) (rs : List Registration) → rs ≡ s.registrations ++ registrations_for setup t (length s.nodes)
+    → answered (with_slot (record s { nodes = s.nodes ++ new_node setup t extra place ∷ []; registrations = rs; may = may_with_new s.phase s.may }) p (Some (length s.nodes)))
     ≡ answered (with_slot (with_new setup s t extra place) p (Some (length s.nodes)))
-joins setup s p t extra place rs calm registered =
-    let build : List Registration → List Bool → State = λ registrations may.
-    answered (with_slot (record s { nodes = s.nodes ++ new_node setup t extra place ∷ []; registrations = registrations; may = may }) p (Some (length s.nodes))) in
-    ap (λ r. build r s.may) registered ∙ ap (build (s.registrations ++ registrations_for setup t (length s.nodes))) (sym (same_may s.phase s.may calm))
+joins setup s p t extra place rs registered =
+    ap (λ r. answered (with_slot (record s { nodes = s.nodes ++ new_node setup t extra place ∷ []; registrations = r; may = may_with_new s.phase s.may }) p (Some (length s.nodes)))) registered
 
 -- from the old parts, through those after the pages that were swept on the way, to a new object at a place
 pub step_made : (s mid : Parts) (new : ObjectsView) (after : HandlesView) (left : CycleView) (p t extra place number : ℕ) (numbers : List ℕ) (lines : List Line)
-    → setup_of mid ≡ setup_of s → is_marking mid.cycle.phase ≡ false
-    → IsPlacement s.objects.shape (state_of s) (size_of_type (setup_of s) t extra) numbers (state_of mid) (Some place) → number ≡ length mid.objects.nodes
-    → new.nodes ≡ with_made (setup_of mid) mid.objects.nodes t extra (Some place) → left ≡ (registered_in mid t place).cycle → after ≡ put_in mid.handles p (Some (place, number))
-    → lines ≡ finalise_lines numbers ++ L.Placed number place ∷ []
+    → setup_of mid ≡ setup_of s → IsPlacement s.objects.shape (state_of s) (size_of_type (setup_of s) t extra) numbers (state_of mid) (Some place)
+    → number ≡ length mid.objects.nodes → new.nodes ≡ with_made (setup_of mid) mid.objects.nodes t extra (Some place) → left ≡ made_cycle mid t place
+    → after ≡ put_in mid.handles p (Some (place, number)) → lines ≡ finalise_lines numbers ++ L.Placed number place ∷ []
     → StepNew (setup_of s) (state_of s) p t extra lines (answered (state_of (record mid { objects = new; handles = after; cycle = left })))
-step_made s mid new after left p t extra place number numbers lines same calm found counts nodes registers put told =
+step_made s mid new after left p t extra place number numbers lines same found counts nodes registers put told =
     let setup : Setup = setup_of mid in
     let st : State = state_of mid in
+    let may : List Bool = may_with_new st.phase st.may in
     let entries : List Registered = (registered_in mid t place).cycle.registered in
     let slots : HandlesView = put_in mid.handles p (Some (place, number)) in
     let placed : IsPlacement setup.shape (state_of s) (size_of_type setup t extra) numbers st (Some place) =
@@ -72,9 +66,9 @@ step_made s mid new after left p t extra place number numbers lines same calm fo
         lines_are = told ∙ ap (λ k. finalise_lines numbers ++ L.Placed k place ∷ []) counts;
         after = ap (λ (x : HandlesView). answered (state_of (record mid { objects = new; handles = x; cycle = left }))) put
             ∙ ap (λ (x : CycleView). answered (state_of (record mid { objects = new; handles = slots; cycle = x }))) registers
-            ∙ ap (λ (ns : List Node). answered (with_slot (record st { nodes = ns; registrations = registrations_of entries }) p (Some number))) nodes
-            ∙ ap (λ k. answered (with_slot (record st { nodes = st.nodes ++ new_node setup t extra place ∷ []; registrations = registrations_of entries }) p (Some k))) counts
-            ∙ joins setup st p t extra place (registrations_of entries) calm (registrations_join (length st.nodes) place mid.cycle.registered (type_at setup t).prefinalizers);
+            ∙ ap (λ (ns : List Node). answered (with_slot (record st { nodes = ns; registrations = registrations_of entries; may = may }) p (Some number))) nodes
+            ∙ ap (λ k. answered (with_slot (record st { nodes = st.nodes ++ new_node setup t extra place ∷ []; registrations = registrations_of entries; may = may }) p (Some k))) counts
+            ∙ joins setup st p t extra place (registrations_of entries) (registrations_join (length st.nodes) place mid.cycle.registered (type_at setup t).prefinalizers);
       };
     }))
 
@@ -123,10 +117,10 @@ few_made s t place ready low =
 
 -- the places of the slots, strong and weak, are as before, and slot p's is that of the new node
 pub tied_made : (s : Parts) (new : ObjectsView) (after : HandlesView) (left : CycleView) (p t place number : ℕ) (x : Node) → IsReady s → t < length s.objects.types
-    → HasMarks s.cycle.phase (cursor_at s.objects.shape s.cycle.sweep) new.seat → setup_of_objects new ≡ setup_of s → number ≡ length s.objects.nodes → x.place ≡ place
-    → new.nodes ≡ s.objects.nodes ++ x ∷ [] → left ≡ (registered_in s t place).cycle → after ≡ put_in s.handles p (Some (place, number))
+    → HasMarks s.cycle.phase (cursor_at s.objects.shape s.cycle.sweep) (may_with_new s.cycle.phase s.cycle.rest.may) new → new.grey ≡ s.objects.grey
+    → setup_of_objects new ≡ setup_of s → number ≡ length s.objects.nodes → x.place ≡ place → new.nodes ≡ s.objects.nodes ++ x ∷ [] → left ≡ made_cycle s t place → after ≡ put_in s.handles p (Some (place, number))
     → AreTied (counted (record s { objects = new; handles = after; cycle = left }))
-tied_made s new after left p t place number x ready low marks setup counts at nodes registers put =
+tied_made s new after left p t place number x ready low marks grey setup counts at nodes registers put =
     let old : List Node = s.objects.nodes in
     let now : List Node = old ++ x ∷ [] in
     let h : HandlesView = s.handles in
@@ -135,7 +129,7 @@ tied_made s new after left p t place number x ready low marks setup counts at no
     let here : place_of now number ≡ place = ap (place_of now) counts ∙ ap (λ (z : Node). z.place) (node-new old x) ∙ at in
     let slots : List (Option ℕ) = set h.slots p (Some number) in
     let callbacks : new.callbacks ≡ s.objects.callbacks = ap (λ (st : Setup). st.callbacks) setup in
-    let is : AreTied (counted (record s { objects = new; handles = after; cycle = (registered_in s t place).cycle })) = record {
+    let is : AreTied (counted (record s { objects = new; handles = after; cycle = made_cycle s t place })) = record {
       slots = ap (λ (k : HandlesView). k.places) put
           ∙ ap (λ l. set l p (Some place)) (tied.slots ∙ sym (places_on old x h.slots (slots_live old h.slots ready.valid.slots)))
           ∙ ap (λ a. set (places_of now h.slots) p (Some a)) (sym here)
@@ -151,7 +145,8 @@ tied_made s new after left p t place number x ready low marks setup counts at no
       registered = registered_made s new t place x ready low at nodes callbacks;
       few = few_made s t place ready low;
       sweep = subst (λ (st : Setup). IsSweepOf st.shape y.phase y.rest.cursor y.sweep) (sym setup) tied.sweep;
-      marks = subst (λ (st : Setup). HasMarks y.phase (cursor_at st.shape y.sweep) new.seat) (sym setup) marks;
+      marks = subst (λ (st : Setup). HasMarks y.phase (cursor_at st.shape y.sweep) (may_with_new y.phase y.rest.may) new) (sym setup) marks;
+      traced = ap (λ (g : GreyView). g.traced) grey ∙ tied.traced;
       made = omega (arith, tied.made, ap length nodes, length_push old x);
     } in
     subst (λ (k : CycleView). AreTied (counted (record s { objects = new; handles = after; cycle = k }))) (sym registers) is

@@ -1,12 +1,13 @@
 -- The lines of an outcome: those of a command that finalises nothing and runs no prefinalizer, and those that tell a finalised node.
-use Rattle.std.proofs.Common.{◌≡◌, ℕ, Bool, true, false, List, [], ◌∷◌, ◌++◌, Option, Some, None, IfSome, IfNone, refl, sym, ap, ◌∙◌, subst}
+use Rattle.std.proofs.Common.{◌≡◌, ℕ, Bool, true, false, List, [], ◌∷◌, ◌++◌, Option, Some, None, IfSome, IfNone, refl, sym, ap, ◌∙◌}
 use Rattle.std.specs.Option.{option_to_list}
 use Rattle.std.proofs.lemmas.List.{append-nil}
 use Rattle.gc_graph.specs.declared.line.Line.{Line}
 use Rattle.gc_graph.specs.declared.line.Line.TheVariants as L
+use Rattle.gc_graph.specs.declared.phase.Phase.{Phase}
 use Rattle.gc_graph.specs.Outcomes.{finalise_lines}
-use Rattle.heap_objects.specs.Refused.{RefusedCounts}
-use Rattle.heap_cycle.specs.Walks.{IsWalkTold, IsWalkToldIn}
+use Rattle.heap_objects.specs.Refused.{RefusalsTold}
+use Rattle.heap_cycle.specs.Walks.{GoesOnTelling, IsWalkTold, IsWalkToldIn}
 use Rattle.heap_cycle.specs.Printed.{Printed, ran_lines, lines_with, later_lines, outcome_lines, finalised_in, TellsNode, TellsThoseThatRan}
 
 -- it tells its line alone
@@ -41,24 +42,29 @@ all_finalised o ran plain =
 -- ---- what lines tell of refusals
 
 -- lines of prefinalizers tell of none
-ran_calm : (counts : RefusedCounts) (runs : Bool) (ran : List (ℕ × ℕ)) → IsWalkToldIn counts counts (ran_lines runs ran)
-ran_calm counts false ran = refl
-ran_calm counts true [] = refl
-ran_calm counts true (r ∷ ran) = ran_calm counts true ran
+ran_calm : (phase : Phase) (old new : RefusalsTold) (runs : Bool) (ran : List (ℕ × ℕ)) → GoesOnTelling phase old new → IsWalkToldIn phase old new (ran_lines runs ran)
+ran_calm phase old new false ran told = told
+ran_calm phase old new true [] told = told
+ran_calm phase old new true (r ∷ ran) told = ran_calm phase old new true ran told
 
 -- and before them it is the line that tells of some
-line_first : (old new : RefusedCounts) (line : Line) (runs : Bool) (ran : List (ℕ × ℕ)) → IsWalkTold old new line → IsWalkToldIn old new (line ∷ ran_lines runs ran)
-line_first old new (L.Pause kept dead crew traced walked) runs ran told = told
-line_first old new _ runs ran told = subst (λ counts. IsWalkToldIn old counts (ran_lines runs ran)) (sym told) (ran_calm old runs ran)
+line_first : (phase : Phase) (old new : RefusalsTold) (line : Line) (runs : Bool) (ran : List (ℕ × ℕ)) → IsWalkTold phase old new line
+    → IsWalkToldIn phase old new (line ∷ ran_lines runs ran)
+line_first phase old new (L.Pause kept dead crew traced walked) runs ran told = told
+line_first phase old new L.Started runs ran told = told
+line_first phase old new _ runs ran told = ran_calm phase old new runs ran told
 
 -- lines of finalised nodes tell of none
-walk_told : (old new : RefusedCounts) (numbers : List ℕ) (lines : List Line) → IsWalkToldIn old new lines → IsWalkToldIn old new (finalise_lines numbers ++ lines)
-walk_told old new [] lines told = told
-walk_told old new (n ∷ numbers) lines told = walk_told old new numbers lines told
+walk_told : (phase : Phase) (old new : RefusalsTold) (numbers : List ℕ) (lines : List Line) → IsWalkToldIn phase old new lines
+    → IsWalkToldIn phase old new (finalise_lines numbers ++ lines)
+walk_told phase old new [] lines told = told
+walk_told phase old new (n ∷ numbers) lines told = walk_told phase old new numbers lines told
 
 -- the lines of a command tell of refusals what its line tells
-pub walk_in_lines : (old new : RefusedCounts) (o : Printed) (ran : List (ℕ × ℕ)) (line : Line) → IsWalkTold old new line → IsWalkToldIn old new (lines_with o ran line)
-walk_in_lines old new o ran line told = walk_told old new o.numbers (line ∷ ran_lines o.prefinalises ran) (line_first old new line o.prefinalises ran told)
+pub walk_in_lines : (phase : Phase) (old new : RefusalsTold) (o : Printed) (ran : List (ℕ × ℕ)) (line : Line) → IsWalkTold phase old new line
+    → IsWalkToldIn phase old new (lines_with o ran line)
+walk_in_lines phase old new o ran line told =
+    walk_told phase old new o.numbers (line ∷ ran_lines o.prefinalises ran) (line_first phase old new line o.prefinalises ran told)
 
 -- ---- what holds of every list of prefinalizers holds of those that ran
 

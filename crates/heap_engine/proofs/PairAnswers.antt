@@ -1,25 +1,25 @@
 -- The steps of the commands on pairs.
-use Rattle.std.proofs.Common.{◌≡◌, ℕ, ◌+◌, true, false, List, [], ◌∷◌, get_or, Option, option_map, Some, None, refl, sym, ap, ◌∙◌, subst}
+use Rattle.std.proofs.Common.{◌≡◌, ℕ, ◌+◌, true, List, [], ◌∷◌, get_or, Option, option_map, Some, None, refl, ap, ◌∙◌}
 use Rattle.std.specs.Prelude.{MatchOption}
 use Rattle.std.specs.Option.{ForSome}
 use Rattle.gc_graph.specs.declared.kind.Value.{Value}
 use Rattle.gc_graph.specs.declared.line.Line.{Line}
 use Rattle.gc_graph.specs.declared.line.Line.TheVariants as L
 use Rattle.gc_graph.specs.State.{State, Node, node_at, IsLive}
-use Rattle.gc_graph.specs.Fields.{with_value, target_of, is_pair}
-use Rattle.gc_graph.specs.CycleSteps.{is_marking}
-use Rattle.gc_graph.specs.Outcomes.{answered, with_slot, slot_at}
+use Rattle.gc_graph.specs.Fields.{with_value, is_pair}
+use Rattle.gc_graph.specs.Outcomes.{answered, slot_at}
 use Rattle.gc_graph.specs.ObjectSteps.{IsChanged, IsRead, first_word, part_of}
 use Rattle.nodes_in_words.specs.Nodes.{place_of, word_of}
 use Rattle.heap_objects.specs.declared.field.Field.{Field}
 use Rattle.heap_objects.specs.declared.field.Part.{Part}
 use Rattle.heap_objects.specs.Fields.{part_in, IsLiveReference, ArePartsOf}
-use Rattle.heap_engine.specs.FieldSteps.{StepPart, StepWholePair}
+use Rattle.heap_engine.specs.FieldSteps.{StepPart, StepWholePair, HasRead}
+use Rattle.heap_engine.proofs.SlotReads.{live_names, slot_read}
 use Rattle.heap_objects.specs.Objects.{target_in, paired_in, ObjectsView}
 use Rattle.heap_handles.specs.Handles.{put_in, HandlesView, slot_part}
 use Rattle.heap_cycle.specs.declared.parts.Parts.{Parts}
 use Rattle.heap_cycle.specs.Parts.{setup_of, state_of, IsReady}
-use Rattle.heap_engine.proofs.FieldAnswers.{Found, field_kind, asked, read_value, target_numbers}
+use Rattle.heap_engine.proofs.FieldAnswers.{Found, field_kind, asked}
 use Rattle.heap_objects.specs.PairFields.{pair_is, holds_part}
 use Rattle.heap_cycle.specs.Ties.{valid_nodes}
 
@@ -39,22 +39,19 @@ step_pair s new p f field key value is nodes =
     ) in
     asked is_pair st.nodes (slot_at st p) f is.node _ (λ m. IsChanged st m (paired st m f key value) (L.Fine ∷ []) after) _ _ is.slot is.is.there is.kind changed
 
-pub step_part : (s : Parts) (new : HandlesView) (p f q : ℕ) (part : Part) (field : Field) (target : Option (ℕ × ℕ)) (line : Line) → IsReady s
-    → is_marking s.cycle.phase ≡ false → (is : Found is_pair s p f field) → target ≡ target_in s.objects.nodes (part_in part s.objects.nodes is.node f)
-    → MatchOption target (line ≡ L.Null) (λ t. line ≡ L.Node t.1) → new ≡ put_in s.handles q target
-    → StepPart part (state_of s) p f q (line ∷ []) (answered (state_of (record s { handles = new })))
-step_part s new p f q part field target line ready calm is read told after =
+-- a part of a pair names a live node or none
+pub part_live : (s : Parts) (p f : ℕ) (part : Part) (field : Field) → IsReady s → (is : Found is_pair s p f field) → IsLiveReference s.objects.nodes (part_in part s.objects.nodes is.node f)
+part_live s p f part field ready is =
+    holds_part (setup_of s) s.objects.nodes is.node f part (valid_nodes s ready) is.is.live (pair_is s.objects.nodes is.node f field is.is (field_kind is_pair s p f field is))
+
+pub step_part : (s mid : Parts) (after : HandlesView) (p f q : ℕ) (part : Part) (field : Field) (target : Option (ℕ × ℕ)) (told : Line) → IsReady s → (is : Found is_pair s p f field)
+    → target ≡ target_in s.objects.nodes (part_in part s.objects.nodes is.node f) → MatchOption target (told ≡ L.Null) (λ (t : ℕ × ℕ). told ≡ L.Node t.1) → HasRead true s mid target
+    → after ≡ put_in mid.handles q target → StepPart part (state_of s) p f q (told ∷ []) (answered (state_of (record mid { handles = after })))
+step_part s mid after p f q part field target told ready is read line has put =
     let st : State = state_of s in
-    let x : Value = part_in part st.nodes is.node f in
-    let names : IsLiveReference st.nodes x =
-    holds_part (setup_of s) st.nodes is.node f part (valid_nodes s ready) is.is.live (pair_is st.nodes is.node f field is.is (field_kind is_pair s p f field is)) in
-    let done : IsRead true st x q (line ∷ []) (answered (with_slot st q (target_of x))) =
-    read_value true st x q line calm names (subst (λ t. MatchOption t (line ≡ L.Null) (λ (w : ℕ × ℕ). line ≡ L.Node w.1)) read told) in
-    let to : answered (with_slot st q (target_of x)) ≡ answered (state_of (record s { handles = new })) =
-    ap (λ content. answered (with_slot st q content)) (sym (ap (option_map (λ (t : ℕ × ℕ). t.1)) read ∙ target_numbers st.nodes (target_of x)))
-    ∙ ap (λ (k : HandlesView). answered (state_of (record s { handles = k }))) (sym after) in
-    asked is_pair st.nodes (slot_at st p) f is.node _ (λ m. IsRead true st (part_in part st.nodes m f) q (line ∷ []) (answered (state_of (record s { handles = new })))) _ _ is.slot is.is.there
-    is.kind (subst (λ (t : State). IsRead true st x q (line ∷ []) t) to done)
+    let new : State = answered (state_of (record mid { handles = after })) in
+    asked is_pair st.nodes (slot_at st p) f is.node _ (λ m. IsRead true st (part_in part st.nodes m f) q (told ∷ []) new) _ _ is.slot is.is.there is.kind
+    (slot_read true s mid after q (part_in part st.nodes is.node f) target told (live_names st.nodes (part_in part st.nodes is.node f) (part_live s p f part field ready is)) read line has put)
 
 -- ---- what two slots hold
 

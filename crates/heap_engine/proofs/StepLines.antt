@@ -1,7 +1,7 @@
 -- The lines of a command that the heap does: those of finalised nodes come first, and the next one tells no node.
-use Rattle.std.proofs.Common.{◌≡◌, ℕ, ◌+◌, nat_lt, Bool, true, false, List, [], ◌∷◌, ◌++◌, length, Option, Some, None, ap, ◌∙◌, subst, inl, inr}
+use Rattle.std.proofs.Common.{◌≡◌, ℕ, ◌+◌, nat_lt, Bool, true, false, List, [], ◌∷◌, ◌++◌, length, Option, Some, None, refl, sym, ap, ◌∙◌, subst, inl, inr}
 use mathlib.Core.Logic.{◌⊎◌}
-use Rattle.std.specs.Prelude.{MatchBool, MatchOption}
+use Rattle.std.specs.Prelude.{MatchBool, MatchOption, ⊤}
 use Rattle.std.specs.List.{slice_get}
 use Rattle.gc_graph.specs.declared.command.Command.{Command}
 use Rattle.gc_graph.specs.declared.command.Command.TheVariants as C
@@ -12,6 +12,7 @@ use Rattle.gc_graph.specs.declared.kind.Value.TheVariants.{Null, Ref, Word}
 use Rattle.gc_graph.specs.declared.line.Line.{Line}
 use Rattle.gc_graph.specs.declared.line.Line.TheVariants as L
 use Rattle.gc_graph.specs.declared.line.Refusal.{Refusal}
+use Rattle.gc_graph.specs.declared.line.Refusal.TheVariants as R
 use Rattle.gc_graph.specs.declared.region.Entry.{Entry}
 use Rattle.gc_graph.specs.State.{Setup, State, Node, StackWord, node_at, size_of, objects_of, used_of}
 use Rattle.gc_graph.specs.State.StackWord.{Pointer, Number}
@@ -19,24 +20,56 @@ use Rattle.gc_graph.specs.Fields.{field_count, kind_of_field, content_of, value_
 use Rattle.gc_graph.specs.Outcomes.{IsRefused, finalise_lines, slot_at, weak_slot_at, took}
 use Rattle.gc_graph.specs.ObjectSteps.{AtField, IsChanged, IsRead, IsNumber, StepNew, StepSet, StepPair, first_word, part_of}
 use Rattle.gc_graph.specs.HandleSteps.{IsPushed, IsPeeked}
-use Rattle.gc_graph.specs.CycleSteps.{StepGcNow, StepSweepTo, WantsMemory, IsCollection, is_marking, is_sweeping, is_stack_refused}
+use Rattle.gc_graph.specs.CycleSteps.{StepGcStart, StepGcStep, StepGcFinish, StepGcNow, StepSweepTo, WantsMemory, IsBegun, IsPause, IsCollection, is_marking, is_sweeping, is_stack_refused}
 use Rattle.gc_graph.specs.Pause.{condemn, live_count, dead_count, run_order, prefinalise_lines}
 use Rattle.gc_graph.specs.Step.{Step}
 use Rattle.built_forms.specs.Built.{is_built}
 use Rattle.heap_cycle.specs.Printed.{Printed, ran_lines, lines_with, TellsNode}
 
--- finalised nodes, a line that tells no node, and others
-record HasPlain (lines : List Line) : Type 0 where
+-- ---- what a command doesn't answer
+
+-- the line tells a finalised node, a prefinalizer, or the start or a step of a cycle
+abbrev TellsOther : Line → Type 0
+TellsOther (L.Finalise k) = ⊤
+TellsOther (L.Prefinalise k c) = ⊤
+TellsOther L.Started = ⊤
+TellsOther (L.Step t done) = ⊤
+TellsOther _ = ⊥
+
+-- all of these but a start
+abbrev TellsNoStart : Line → Type 0
+TellsNoStart L.Started = ⊥
+TellsNoStart line = TellsOther line
+
+-- all of these but a step
+abbrev TellsNoStep : Line → Type 0
+TellsNoStep (L.Step t done) = ⊥
+TellsNoStep line = TellsOther line
+
+-- the line isn't the one that the command answers: only `gc start` tells a start, and only `gc step` a step
+abbrev IsNoAnswer : Command → Line → Type 0
+IsNoAnswer C.GcStart = TellsNoStart
+IsNoAnswer (C.GcStep n) = TellsNoStep
+IsNoAnswer _ = TellsOther
+
+-- finalised nodes, a line that is none of these, and others
+record HasLine (Other : Line → Type 0) (lines : List Line) : Type 0 where
   numbers : List ℕ
   line : Line
   others : List Line
   lines_are : lines ≡ finalise_lines numbers ++ line ∷ others
-  plain : TellsNode line → ⊥
+  plain : Other line → ⊥
 
-alone : (line : Line) (lines : List Line) → lines ≡ line ∷ [] → (TellsNode line → ⊥) → HasPlain lines
-alone line lines is plain = record { numbers = []; line = line; others = []; lines_are = is; plain = plain }
+abbrev HasPlain : List Line → Type 0
+HasPlain lines = HasLine TellsOther lines
 
-after_numbers : (numbers : List ℕ) (line : Line) (lines : List Line) → lines ≡ finalise_lines numbers ++ line ∷ [] → (TellsNode line → ⊥) → HasPlain lines
+only : (Other : Line → Type 0) (line : Line) (lines : List Line) → lines ≡ line ∷ [] → (Other line → ⊥) → HasLine Other lines
+only Other line lines is plain = record { numbers = []; line = line; others = []; lines_are = is; plain = plain }
+
+alone : (line : Line) (lines : List Line) → lines ≡ line ∷ [] → (TellsOther line → ⊥) → HasPlain lines
+alone line lines is plain = only TellsOther line lines is plain
+
+after_numbers : (numbers : List ℕ) (line : Line) (lines : List Line) → lines ≡ finalise_lines numbers ++ line ∷ [] → (TellsOther line → ⊥) → HasPlain lines
 after_numbers numbers line lines is plain = record { numbers = numbers; line = line; others = []; lines_are = is; plain = plain }
 
 refused : (why : Refusal) (old : State) (lines : List Line) (new : State) → IsRefused why old lines new → HasPlain lines
@@ -44,23 +77,22 @@ refused why old lines new is = alone (L.Refused why) lines is.0 (λ node. node)
 
 -- ---- choices
 
-where_true : (b : Bool) (Yes No : Type 0) (lines : List Line) → MatchBool b Yes No → (Yes → HasPlain lines) → (No → HasPlain lines) → HasPlain lines
-where_true true Yes No lines is held failed = held is
-where_true false Yes No lines is held failed = failed is
+where_true : {Goal : Type 0} (b : Bool) (Yes No : Type 0) → MatchBool b Yes No → (Yes → Goal) → (No → Goal) → Goal
+where_true true Yes No is held failed = held is
+where_true false Yes No is held failed = failed is
 
-where_some : {A : Type 0} (o : Option A) (Nothing : Type 0) (Something : A → Type 0) (lines : List Line) → MatchOption o Nothing Something
-    → (Nothing → HasPlain lines) → ((a : A) → Something a → HasPlain lines) → HasPlain lines
-where_some None Nothing Something lines is nothing something = nothing is
-where_some (Some a) Nothing Something lines is nothing something = something a is
+where_some : {A Goal : Type 0} (o : Option A) (Nothing : Type 0) (Something : A → Type 0) → MatchOption o Nothing Something → (Nothing → Goal) → ((a : A) → Something a → Goal) → Goal
+where_some None Nothing Something is nothing something = nothing is
+where_some (Some a) Nothing Something is nothing something = something a is
 
 -- ---- fields
 
 at_field : (allowed : Kind → Bool) (old : State) (p f : ℕ) (lines : List Line) (new : State) (Done : ℕ → Type 0) → AtField allowed old p f lines new Done
     → ((n : ℕ) → Done n → HasPlain lines) → HasPlain lines
 at_field allowed old p f lines new Done is done =
-    where_some (slot_at old p) _ _ lines is (refused _ old lines new)
-    (λ n there. where_true (nat_lt f (field_count (node_at old.nodes n))) _ _ lines there
-    (λ kind. where_true (allowed (kind_of_field (node_at old.nodes n).object f)) _ _ lines kind (done n) (refused _ old lines new)) (refused _ old lines new))
+    where_some (slot_at old p) _ _ is (refused _ old lines new)
+    (λ n there. where_true (nat_lt f (field_count (node_at old.nodes n))) _ _ there
+    (λ kind. where_true (allowed (kind_of_field (node_at old.nodes n).object f)) _ _ kind (done n) (refused _ old lines new)) (refused _ old lines new))
 
 reads : (weak : Bool) (old : State) (value : Value) (q : ℕ) (lines : List Line) (new : State) → IsRead weak old value q lines new → HasPlain lines
 reads weak old Null q lines new is = alone L.Null lines is.0 (λ node. node)
@@ -94,7 +126,7 @@ sets_pair old p f key value lines new is =
 
 pushes : (old : State) (word : StackWord) (lines : List Line) (new : State) → IsPushed old word lines new → HasPlain lines
 pushes old word lines new is =
-    where_true (nat_lt (length old.stack) 1024) _ _ lines is (λ done. alone L.Fine lines done.0 (λ node. node)) (refused _ old lines new)
+    where_true (nat_lt (length old.stack) 1024) _ _ is (λ done. alone L.Fine lines done.0 (λ node. node)) (refused _ old lines new)
 
 peeks : (old : State) (word : StackWord) (q : ℕ) (lines : List Line) (new : State) → IsPeeked old word q lines new → HasPlain lines
 peeks old (Pointer n offset) q lines new is = alone (L.Node n) lines is.0 (λ node. node)
@@ -105,12 +137,12 @@ peeks old (Number w) q lines new is = refused _ old lines new is
 makes : (setup : Setup) (old : State) (p t extra : ℕ) (lines : List Line) (new : State) → StepNew setup old p t extra lines new → HasPlain lines
 makes setup old p t extra lines new (inl memory) = alone L.Memory lines memory.1.0 (λ node. node)
 makes setup old p t extra lines new (inr is) =
-    where_some is.place _ _ lines is.done (λ full. after_numbers is.numbers L.Full lines full.lines_are (λ node. node))
+    where_some is.place _ _ is.done (λ full. after_numbers is.numbers L.Full lines full.lines_are (λ node. node))
     (λ place made. after_numbers is.numbers (L.Placed (length is.mid.nodes) place) lines made.lines_are (λ node. node))
 
 sweeps : (setup : Setup) (old : State) (pages : ℕ) (lines : List Line) (new : State) → StepSweepTo setup old pages lines new → HasPlain lines
 sweeps setup old pages lines new is =
-    where_true (is_sweeping old.phase) _ _ lines is (λ swept. after_numbers swept.numbers (L.Swept pages) lines swept.lines_are (λ node. node)) (refused _ old lines new)
+    where_true (is_sweeping old.phase) _ _ is (λ swept. after_numbers swept.numbers (L.Swept pages) lines swept.lines_are (λ node. node)) (refused _ old lines new)
 
 collected : (setup : Setup) (want : Want) (old : State) (piece : List Entry) (lines : List Line) (new : State) → WantsMemory old piece lines new ⊎ IsCollection setup want old piece lines new
     → HasPlain lines
@@ -126,13 +158,42 @@ collected setup want old piece lines new (inr is) = record {
 
 collects : (setup : Setup) (want : Want) (old : State) (piece : List Entry) (lines : List Line) (new : State) → StepGcNow setup want old piece lines new → HasPlain lines
 collects setup want old piece lines new is =
-    where_true (is_marking old.phase) _ _ lines is (λ why. refused _ old lines new why.1)
-    (λ calm. where_true (is_stack_refused want old.stack) _ _ lines calm (λ why. refused _ old lines new why.1) (collected setup want old piece lines new))
+    where_true (is_marking old.phase) _ _ is (λ why. refused _ old lines new why.1)
+    (λ calm. where_true (is_stack_refused want old.stack) _ _ calm (λ why. refused _ old lines new why.1) (collected setup want old piece lines new))
+
+begun : (setup : Setup) (old : State) (piece : List Entry) (lines : List Line) (new : State) → WantsMemory old piece lines new ⊎ IsBegun setup old piece lines new → HasLine TellsNoStart lines
+begun setup old piece lines new (inl memory) = only TellsNoStart L.Memory lines memory.1.0 (λ other. other)
+begun setup old piece lines new (inr is) = record { numbers = is.numbers; line = L.Started; others = []; lines_are = is.lines_are; plain = λ other. other }
+
+starts : (setup : Setup) (old : State) (piece : List Entry) (lines : List Line) (new : State) → StepGcStart setup old piece lines new → HasLine TellsNoStart lines
+starts setup old piece lines new is =
+    where_true (is_marking old.phase) _ _ is (λ why. only TellsNoStart (L.Refused R.Phase) lines why.1.0 (λ other. other)) (begun setup old piece lines new)
+
+steps : (old : State) (n : ℕ) (lines : List Line) (new : State) → StepGcStep old n lines new → HasLine TellsNoStep lines
+steps old n lines new is =
+    where_true (is_marking old.phase) _ _ is (λ traced. only TellsNoStep (L.Step traced.count (nat_lt traced.count n)) lines traced.lines_are (λ other. other))
+    (λ why. only TellsNoStep (L.Refused R.Phase) lines why.0 (λ other. other))
+
+pauses : (setup : Setup) (markers : ℕ) (want : Want) (old : State) (piece : List Entry) (lines : List Line) (new : State) → IsPause setup markers want old piece lines new → HasPlain lines
+pauses setup markers want old piece lines new is = record {
+  numbers = [];
+  line = L.Pause (live_count (condemn is.kept (took old is.before).nodes)) (dead_count (condemn is.kept (took old is.before).nodes)) is.done.crew is.done.traced is.done.walked;
+  others = prefinalise_lines (run_order (condemn is.kept (took old is.before).nodes) (took old is.before).registrations);
+  lines_are = is.done.lines_are;
+  plain = λ other. other;
+}
+
+finishes : (setup : Setup) (want : Want) (old : State) (piece : List Entry) (lines : List Line) (new : State) → StepGcFinish setup want old piece lines new → HasPlain lines
+finishes setup want old piece lines new is =
+    where_true (is_marking old.phase) _ _ is
+    (λ goes. where_true (is_stack_refused want old.stack) _ _ goes (λ why. refused _ old lines new why.1)
+    (λ done. pauses setup setup.markers want old piece lines done.0 done.1))
+    (λ why. refused _ old lines new why.1)
 
 -- ---- every command
 
 step_has : (setup : Setup) (old : State) (command : Command) (piece : List Entry) (lines : List Line) (new : State) → is_built command ≡ true → Step setup old command piece lines new
-    → HasPlain lines
+    → HasLine (IsNoAnswer command) lines
 step_has setup old (C.New p t e) piece lines new built is = makes setup old p t e lines new is.1
 step_has setup old (C.Set p f q) piece lines new built is = sets old p f (content_of (slot_at old q)) lines new is.1
 step_has setup old (C.SetNull p f) piece lines new built is = sets old p f Null lines new is.1
@@ -153,20 +214,20 @@ step_has setup old (C.Drop p) piece lines new built is = alone L.Fine lines is.1
 step_has setup old (C.Weak w p) piece lines new built is = alone L.Fine lines is.1.0 (λ node. node)
 step_has setup old (C.Read w p) piece lines new built is = reads true old (content_of (weak_slot_at old w)) p lines new is.1
 step_has setup old (C.Push p o) piece lines new built is =
-    where_some (slot_at old p) _ _ lines is.1 (refused _ old lines new)
-    (λ n there. where_true (nat_lt o (size_of (node_at old.nodes n))) _ _ lines there (pushes old (Pointer n o) lines new) (refused _ old lines new))
+    where_some (slot_at old p) _ _ is.1 (refused _ old lines new)
+    (λ n there. where_true (nat_lt o (size_of (node_at old.nodes n))) _ _ there (pushes old (Pointer n o) lines new) (refused _ old lines new))
 step_has setup old (C.PushPlain n) piece lines new built is = pushes old (Number n) lines new is.1
 step_has setup old C.Pop piece lines new built is =
-    where_true (nat_lt 0 (length old.stack)) _ _ lines is.1 (λ done. alone L.Fine lines done.0 (λ node. node)) (refused _ old lines new)
+    where_true (nat_lt 0 (length old.stack)) _ _ is.1 (λ done. alone L.Fine lines done.0 (λ node. node)) (refused _ old lines new)
 step_has setup old (C.Peek i q) piece lines new built is =
-    where_some (slice_get old.stack i) _ _ lines is.1 (refused _ old lines new) (λ word done. peeks old word q lines new done)
+    where_some (slice_get old.stack i) _ _ is.1 (refused _ old lines new) (λ word done. peeks old word q lines new done)
 step_has setup old (C.GcNow want) piece lines new built is = collects setup want old piece lines new is
 step_has setup old (C.Sweep n) piece lines new built is = sweeps setup old _ lines new is.1
 step_has setup old C.SweepAll piece lines new built is = sweeps setup old _ lines new is.1
 step_has setup old C.Stat piece lines new built is = alone (L.Objects (objects_of old.nodes) (used_of old.nodes) is.1.0) lines is.1.2 (λ node. node)
-step_has setup old C.GcStart piece lines new built is = cc
-step_has setup old (C.GcStep n) piece lines new built is = cc
-step_has setup old (C.GcFinish want) piece lines new built is = cc
+step_has setup old C.GcStart piece lines new built is = starts setup old piece lines new is
+step_has setup old (C.GcStep n) piece lines new built is = steps old n lines new is.1
+step_has setup old (C.GcFinish want) piece lines new built is = finishes setup want old piece lines new is
 step_has setup old (C.Export p x) piece lines new built is = cc
 step_has setup old (C.Import x p) piece lines new built is = cc
 step_has setup old (C.At j order) piece lines new built is = cc
@@ -175,30 +236,81 @@ step_has setup old C.ThreadsJoin piece lines new built is = cc
 
 -- ---- which line that is
 
--- no prefinalizer's line is another that tells no node
-among_ran : (numbers : List ℕ) (x : Line) (others : List Line) (runs : Bool) (ran : List (ℕ × ℕ)) → ran_lines runs ran ≡ finalise_lines numbers ++ x ∷ others
-    → (TellsNode x → ⊥) → ⊥
-among_ran [] x others false ran is plain = cc
-among_ran [] x others true [] is plain = cc
-among_ran [] x others true (r ∷ ran) is plain = (let first : L.Prefinalise r.0 r.1 ≡ x = cc in plain (subst TellsNode first tt))
-among_ran (n ∷ numbers) x others false ran is plain = cc
-among_ran (n ∷ numbers) x others true [] is plain = cc
-among_ran (n ∷ numbers) x others true (r ∷ ran) is plain = cc
+wider_other : (line : Line) → TellsNode line → TellsOther line
+wider_other (L.Finalise k) node = tt
+wider_other (L.Prefinalise k c) node = tt
+wider_other _ node = absurd node
 
--- after the finalised nodes comes the line that tells no node
-first_plain : (told numbers : List ℕ) (last x : Line) (others : List Line) (runs : Bool) (ran : List (ℕ × ℕ))
-    → finalise_lines told ++ last ∷ ran_lines runs ran ≡ finalise_lines numbers ++ x ∷ others → (TellsNode x → ⊥) → TellsNode last → ⊥
-first_plain [] [] last x others runs ran is plain = (let same : last ≡ x = cc in λ node. plain (subst TellsNode same node))
-first_plain [] (n ∷ numbers) last x others runs ran is plain =
-    (let rest : ran_lines runs ran ≡ finalise_lines numbers ++ x ∷ others = cc in λ node. among_ran numbers x others runs ran rest plain)
-first_plain (m ∷ told) [] last x others runs ran is plain = (let same : L.Finalise m ≡ x = cc in λ node. plain (subst TellsNode same tt))
-first_plain (m ∷ told) (n ∷ numbers) last x others runs ran is plain =
-    (let rest : finalise_lines told ++ last ∷ ran_lines runs ran ≡ finalise_lines numbers ++ x ∷ others = cc in
-    first_plain told numbers last x others runs ran rest plain)
+wider_start : (line : Line) → TellsNode line → TellsNoStart line
+wider_start (L.Finalise k) node = tt
+wider_start (L.Prefinalise k c) node = tt
+wider_start _ node = absurd node
 
--- the line of a command's outcome after those of the finalised nodes tells no node
-pub last_plain : (setup : Setup) (old : State) (command : Command) (piece : List Entry) (o : Printed) (ran : List (ℕ × ℕ)) (last : Line) (new : State) → is_built command ≡ true
-    → Step setup old command piece (lines_with o ran last) new → TellsNode last → ⊥
-last_plain setup old command piece o ran last new built is =
-    let has : HasPlain (lines_with o ran last) = step_has setup old command piece (lines_with o ran last) new built is in
-    first_plain o.numbers has.numbers last has.line has.others o.prefinalises ran has.lines_are has.plain
+wider_step : (line : Line) → TellsNode line → TellsNoStep line
+wider_step (L.Finalise k) node = tt
+wider_step (L.Prefinalise k c) node = tt
+wider_step _ node = absurd node
+
+-- no command answers a line that tells a node
+wider : (command : Command) (line : Line) → TellsNode line → IsNoAnswer command line
+wider C.GcStart = wider_start
+wider (C.GcStep n) = wider_step
+wider _ = wider_other
+
+module _ (Other : Line → Type 0) (wide : (line : Line) → TellsNode line → Other line) where
+  -- no prefinalizer's line is another that tells no node
+  among_ran : (numbers : List ℕ) (x : Line) (others : List Line) (runs : Bool) (ran : List (ℕ × ℕ)) → ran_lines runs ran ≡ finalise_lines numbers ++ x ∷ others → (Other x → ⊥) → ⊥
+  among_ran [] x others false ran is plain = cc
+  among_ran [] x others true [] is plain = cc
+  among_ran [] x others true (r ∷ ran) is plain = (let first : L.Prefinalise r.0 r.1 ≡ x = cc in plain (wide x (subst TellsNode first tt)))
+  among_ran (n ∷ numbers) x others false ran is plain = cc
+  among_ran (n ∷ numbers) x others true [] is plain = cc
+  among_ran (n ∷ numbers) x others true (r ∷ ran) is plain = cc
+
+  -- after the finalised nodes comes the line that tells no node
+  first_plain : (told numbers : List ℕ) (last x : Line) (others : List Line) (runs : Bool) (ran : List (ℕ × ℕ))
+      → finalise_lines told ++ last ∷ ran_lines runs ran ≡ finalise_lines numbers ++ x ∷ others → (Other x → ⊥) → Other last → ⊥
+  first_plain [] [] last x others runs ran is plain = (let same : last ≡ x = cc in λ other. plain (subst Other same other))
+  first_plain [] (n ∷ numbers) last x others runs ran is plain =
+      (let rest : ran_lines runs ran ≡ finalise_lines numbers ++ x ∷ others = cc in λ other. among_ran numbers x others runs ran rest plain)
+  first_plain (m ∷ told) [] last x others runs ran is plain = (let same : L.Finalise m ≡ x = cc in λ other. plain (wide x (subst TellsNode same tt)))
+  first_plain (m ∷ told) (n ∷ numbers) last x others runs ran is plain =
+      (let rest : finalise_lines told ++ last ∷ ran_lines runs ran ≡ finalise_lines numbers ++ x ∷ others = cc in
+      first_plain told numbers last x others runs ran rest plain)
+
+answers : (command : Command) → (command ≡ C.GcStart) ⊎ (((n : ℕ) × (command ≡ C.GcStep n)) ⊎ ((line : Line) → TellsOther line → IsNoAnswer command line))
+answers C.GcStart = inl refl
+answers (C.GcStep n) = inr (inl (n, refl))
+answers _ = inr (inr (λ line other. other))
+
+module _
+    (setup : Setup) (old : State) (command : Command) (piece : List Entry) (o : Printed) (ran : List (ℕ × ℕ)) (last : Line) (new : State)
+    (built : is_built command ≡ true) (is : Step setup old command piece (lines_with o ran last) new) where
+  last_answers : IsNoAnswer command last → ⊥
+  last_answers =
+      (let has : HasLine (IsNoAnswer command) (lines_with o ran last) = step_has setup old command piece (lines_with o ran last) new built is in
+      first_plain (IsNoAnswer command) (wider command) o.numbers has.numbers last has.line has.others o.prefinalises ran has.lines_are has.plain)
+
+  -- the line of a command's outcome after those of the finalised nodes tells no node
+  pub last_plain : TellsNode last → ⊥
+  last_plain node = last_answers (wider command last node)
+
+  -- only a start tells that a cycle was started
+  pub started_by : last ≡ L.Started → command ≡ C.GcStart
+  started_by told = elim (answers command) [
+    | inl start ↦ start
+    | inr other ↦ elim other [
+      | inl step ↦ absurd (last_answers (subst (IsNoAnswer command) (sym told) (subst (λ (c : Command). IsNoAnswer c L.Started) (sym step.1) tt)))
+      | inr none ↦ absurd (last_answers (none last (subst TellsOther (sym told) tt)))
+    ]
+  ]
+
+  -- and only a step how many objects it traced
+  pub stepped_by : (t : ℕ) (done : Bool) → last ≡ L.Step t done → (n : ℕ) × (command ≡ C.GcStep n)
+  stepped_by t done told = elim (answers command) [
+    | inl start ↦ absurd (last_answers (subst (IsNoAnswer command) (sym told) (subst (λ (c : Command). IsNoAnswer c (L.Step t done)) (sym start) tt)))
+    | inr other ↦ elim other [
+      | inl step ↦ step
+      | inr none ↦ absurd (last_answers (none last (subst TellsOther (sym told) tt)))
+    ]
+  ]

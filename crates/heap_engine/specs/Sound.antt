@@ -1,6 +1,9 @@
 -- How a heap's fields are seen, and what is true of them.
 use Rattle.std.specs.Prelude.{◌*◌, ◌≤◌}
+use Rattle.marker_core.specs.Bodies.{holds}
 use Rattle.page_space.specs.Pages.{word_count}
+use Rattle.nodes_in_words.specs.Places.{kept_of}
+use Rattle.heap_objects.specs.Objects.{told_of}
 use Rattle.heap_engine.specs.declared.heap_core.Core.TheInside.{Inside}
 use Rattle.heap_engine.specs.View.{View}
 use Rattle.heap_cycle.specs.Printed.{outcome_lines, IsOutcome}
@@ -11,10 +14,12 @@ abbrev pub view_of : Inside → View
 view_of h = record {
   setup = setup_of h.parts;
   state = state_of h.parts;
+  marked = kept_of (holds h.parts.objects.seat.marked) h.parts.objects.nodes;
+  traced = kept_of (holds h.parts.objects.seat.traced) h.parts.objects.nodes;
   history = h.outcome.history;
   lines = outcome_lines h.outcome h.parts.cycle.ran;
   piece = h.outcome.piece;
-  refused = h.parts.objects.refused;
+  refusals = told_of h.parts.objects;
   closed = h.closed;
 }
 

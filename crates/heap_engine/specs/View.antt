@@ -1,17 +1,24 @@
--- A heap as its callers see it, and how slots and marks tell nodes.
+-- A heap as its callers see it.
 use Rattle.std.specs.Prelude.{Bool, List}
 use Rattle.gc_graph.specs.declared.line.Line.{Line}
 use Rattle.gc_graph.specs.declared.region.Entry.{Entry}
 use Rattle.gc_graph.specs.State.{Setup, State}
-use Rattle.heap_objects.specs.Refused.{RefusedCounts}
+use Rattle.heap_objects.specs.Refused.{RefusalsTold, none_refused}
 
--- what was set up, the state of the graph, the region's history as far as it was taken, the lines of the last outcome and
--- the piece of the history that it took, how many pushes and notes were refused, and whether the heap was closed
+-- what was set up, the state of the graph, whether each node is marked and whether it is traced, the region's history as far as
+-- it was taken, the lines of the last outcome and the piece of the history that it took, how many pushes and notes were refused
+-- until now and until marking began, and whether the heap was closed
 pub record View : Type 0 where
   pub setup : Setup
   pub state : State
+  pub marked : List Bool
+  pub traced : List Bool
   pub history : List Entry
   pub lines : List Line
   pub piece : List Entry
-  pub refused : RefusedCounts
+  pub refusals : RefusalsTold
   pub closed : Bool
+
+-- what a new heap tells of refusals: there were none
+abbrev pub no_refusals : RefusalsTold
+no_refusals = record { now = none_refused; since = none_refused }

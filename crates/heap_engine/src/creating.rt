@@ -16,7 +16,8 @@ use heap_cycle::{Outcome, Parts, place_for};
 
 /// Makes an object of a type with so many extra words, and puts it into slot p. Its prefinalizers
 /// are registered first, and taken away again where the heap is full. Memory can be wanting for
-/// them alone. While a sweep is open, pages are swept on the way to a place.
+/// them alone. While a sweep is open, pages are swept on the way to a place, and while marking goes
+/// on, the new object may be kept.
 pub fn new_object(parts: &mut Parts, outcome: &mut Outcome, p: u32, t: u32, extra: u32) -> Line
     requires ready { IsReady parts.old }
     requires slot { p < 256 }
@@ -43,9 +44,9 @@ pub fn new_object(parts: &mut Parts, outcome: &mut Outcome, p: u32, t: u32, extr
         parts.cycle.count_full();
         return Line::Full;
     };
-    parts.cycle.rests();
     parts.objects.make(t, extra, size, place);
     parts.cycle.place_last(count, place);
+    parts.cycle.keep_new();
     parts.handles.put(p, Some((place, number)));
     Line::Placed {
         k: number,

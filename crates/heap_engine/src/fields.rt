@@ -1,20 +1,21 @@
 // Reads and writes of fields (`include/cppgc/member.h`).
 
 ghost use Rattle.std.specs.Prelude.{◌≡◌, ◌<◌, [], ◌∷◌, None};
-ghost use Rattle.std.specs.Prelude.{MatchOption, slice_index_or};
+ghost use Rattle.std.specs.Prelude.{MatchOption, IfSome, slice_index_or};
 ghost use Rattle.gc_graph.specs.declared.kind.Value.TheVariants.{Null};
 ghost use Rattle.gc_graph.specs.declared.line.Line.TheVariants as L;
 ghost use Rattle.gc_graph.specs.declared.line.Refusal.TheVariants as R;
-ghost use Rattle.gc_graph.specs.Fields.{content_of};
+ghost use Rattle.gc_graph.specs.Fields.{content_of, is_weak};
 ghost use Rattle.gc_graph.specs.Outcomes.{answered, slot_at};
 ghost use Rattle.gc_graph.specs.ObjectSteps.{StepSet, StepGet, StepPut, StepWord};
 ghost use Rattle.nodes_in_words.specs.Nodes.{place_of, word_of};
 ghost use Rattle.heap_objects.specs.Fields.{allows, IsFieldAt, Suits};
-ghost use Rattle.heap_engine.specs.FieldSteps.{StepWrite};
+ghost use Rattle.heap_objects.specs.Objects.{IsLiveAt};
+ghost use Rattle.heap_engine.specs.FieldSteps.{StepWrite, IsKeptIn, HasRead};
 ghost use Rattle.heap_cycle.specs.Parts.{state_of, counted, IsReady, IsFrame};
 
-use gc_graph::{Line, Refusal};
-use heap_cycle::Parts;
+use gc_graph::{Kind, Line, Refusal};
+use heap_cycle::{Parts, read_weakly};
 use heap_objects::{Content, Field, Wanted};
 
 /// Field f of slot p's object gets what slot q holds. The field is a strong or a weak one.
@@ -62,6 +63,7 @@ fn write(parts: &mut Parts, p: u32, f: u32, wanted: Wanted, content: &Content) -
     requires value { Suits wanted parts.old.objects.nodes content.now.value.value }
     requires word { content.now.word
         ≡ word_of (place_of parts.old.objects.nodes) content.now.value.value }
+    requires kept { IsKeptIn wanted parts.old.objects.seat content.now.word }
     ensures step { StepWrite wanted (state_of parts.old) p f content.now.value.value (result ∷ [])
         (answered (state_of parts.new)) }
     ensures frame { IsFrame parts.old (counted parts.new) result }
@@ -88,13 +90,24 @@ pub fn get(parts: &mut Parts, p: u32, f: u32, q: u32) -> Line
 {
     match field_of(parts, p, f, Wanted::References) {
         Ok(field) => {
-            // No marking goes on, so that a weak read keeps nothing.
-            parts.cycle.rests();
             let target = parts.objects.target_at(field);
+            keep_read(parts, field.kind, target);
             parts.handles.put(q, target);
             line_of(target)
         }
         Err(why) => Line::Refused(why),
+    }
+}
+
+/// A field of this kind was read, and gave the target: through a weak one the read is a weak one.
+fn keep_read(parts: &mut Parts, kind: Kind, target: Option<(u32, u32)>)
+    requires ready { IsReady parts.old }
+    requires target { IfSome target (λ t. IsLiveAt parts.old.objects.nodes t.1 t.0) }
+    ensures { HasRead (is_weak kind) parts.old parts.new target }
+{
+    match kind {
+        Kind::Weak => read_weakly(parts, target),
+        Kind::Strong | Kind::Pair | Kind::Plain => {}
     }
 }
 

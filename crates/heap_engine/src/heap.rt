@@ -12,7 +12,7 @@ ghost use Rattle.gc_graph.specs.Shapes.{IsShape};
 ghost use Rattle.callback_table.specs.Table.{kinds_of};
 ghost use Rattle.heap_engine.specs.Acted.{IsActed};
 ghost use Rattle.heap_objects.specs.Objects.{HaveCallbacks};
-ghost use Rattle.heap_objects.specs.Refused.{none_refused};
+ghost use Rattle.heap_engine.specs.View.{no_refusals};
 ghost use Rattle.heap_cycle.specs.Printed.{finalised_in, TellsNode};
 
 use crate::heap_core::Core;
@@ -57,7 +57,9 @@ impl<'a> Heap<'a> {
         ensures history { IfOk result (λ h. h.core.history ≡ []) }
         ensures lines { IfOk result (λ h. h.core.lines ≡ []) }
         ensures closed { IfOk result (λ h. h.core.closed ≡ false) }
-        ensures refused { IfOk result (λ h. h.core.refused ≡ none_refused) }
+        ensures marked { IfOk result (λ h. h.core.marked ≡ []) }
+        ensures traced { IfOk result (λ h. h.core.traced ≡ []) }
+        ensures refusals { IfOk result (λ h. h.core.refusals ≡ no_refusals) }
     {
         let core = Core::new(alloc, config, types, callbacks)?;
         Ok(Heap { callbacks, core })

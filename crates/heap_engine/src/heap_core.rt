@@ -1,10 +1,12 @@
 // The parts of a heap, and its commands. Each command is one step of the graph; the files beside this
 // one do them.
 
-ghost use Rattle.std.specs.Prelude.{◌≡◌, ◌*◌, ◌<◌, ◌≤◌};
+ghost use Rattle.std.specs.Prelude.{◌≡◌, ℕ, ◌*◌, ◌<◌, ◌≤◌};
 ghost use Rattle.std.specs.Prelude.{true, false, [], ◌∷◌, length, take, Some};
 ghost use Rattle.std.specs.Prelude.{IfOk, IfSome, IfNone, slice_get};
+ghost use Rattle.gc_graph.specs.declared.command.Command.TheVariants as C;
 ghost use Rattle.gc_graph.specs.declared.line.Line.{Line};
+ghost use Rattle.gc_graph.specs.declared.line.Line.TheVariants as L;
 ghost use Rattle.gc_graph.specs.State.{empty_state};
 ghost use Rattle.built_forms.specs.Built.{is_built};
 ghost use Rattle.gc_graph.specs.Outcomes.{answered, finalise_lines};
@@ -15,7 +17,8 @@ ghost use Rattle.page_space.specs.Pages.{word_count};
 ghost use Rattle.callback_table.specs.Table.{kinds_of};
 ghost use Rattle.heap_engine.specs.Acted.{IsActed};
 ghost use Rattle.heap_objects.specs.Objects.{HaveCallbacks};
-ghost use Rattle.heap_objects.specs.Refused.{none_refused};
+ghost use Rattle.heap_engine.specs.View.{no_refusals};
+ghost use Rattle.heap_cycle.specs.Cycles.{AreSlotsMarked, IsNoneGrey};
 ghost use Rattle.heap_cycle.specs.Parts.{setup_of, state_of, counted, IsReady, IsFrame};
 ghost use Rattle.heap_cycle.specs.Printed.{lines_with, finalised_in};
 ghost use Rattle.heap_cycle.specs.Printed.{TellsNode, TellsThoseThatRan};
@@ -29,7 +32,7 @@ use crate::stacking::{peek, pop, push, push_plain};
 use crate::totals::stat;
 use callback_table::CallbackTable;
 use gc_graph::{Command, Line, NoMemory};
-use heap_cycle::{Cycle, Outcome, Parts, collect, sweep_all, sweep_some};
+use heap_cycle::{Cycle, Outcome, Parts, collect, finish, start, step, sweep_all, sweep_some};
 use heap_handles::Handles;
 use heap_objects::Objects;
 use std::alloc::Global;
@@ -76,7 +79,9 @@ impl Core {
         ensures history { IfOk result (λ h. h.history ≡ []) }
         ensures lines { IfOk result (λ h. h.lines ≡ []) }
         ensures closed { IfOk result (λ h. h.closed ≡ false) }
-        ensures refused { IfOk result (λ h. h.refused ≡ none_refused) }
+        ensures marked { IfOk result (λ h. h.marked ≡ []) }
+        ensures traced { IfOk result (λ h. h.traced ≡ []) }
+        ensures refusals { IfOk result (λ h. h.refusals ≡ no_refusals) }
     {
         gc_graph::empty_is_valid();
         // A header can name each type.
@@ -110,7 +115,7 @@ impl Core {
         let line = run(&mut self.parts, &mut self.outcome, callbacks, command);
         self.outcome.end(line);
         self.parts.cycle.count_command();
-        self.parts.cycle.rests();
+        self.parts.cycle.is_owners_alone();
         self.outcome.count(self.parts.cycle.ran())
     }
 
@@ -166,6 +171,9 @@ fn run(
         (lines_with outcome.new parts.new.cycle.ran result) (answered (state_of parts.new)) }
     ensures frame { IsFrame parts.old (counted parts.new) result }
     ensures ran { TellsThoseThatRan outcome.new parts.new.cycle.ran }
+    ensures marked { command.now ≡ C.GcStart → result ≡ L.Started → AreSlotsMarked parts.new }
+    ensures done { (n t : ℕ) → command.now ≡ C.GcStep n → result ≡ L.Step t true
+        → IsNoneGrey parts.new }
     ensures room { outcome.new.room ≡ outcome.old.room }
     ensures history { outcome.new.history ≡ outcome.old.history }
 {
@@ -192,10 +200,10 @@ fn run(
         Command::PushPlain { n } => push_plain(parts, n),
         Command::Pop => pop(parts),
         Command::Peek { i, q } => peek(parts, i, q),
-        Command::GcStart
-        | Command::GcStep { .. }
-        | Command::GcFinish { .. }
-        | Command::Export { .. }
+        Command::GcStart => start(parts, outcome),
+        Command::GcStep { n } => step(parts, n),
+        Command::GcFinish { want } => finish(parts, outcome, callbacks, want),
+        Command::Export { .. }
         | Command::Import { .. }
         | Command::At { .. }
         | Command::ThreadsGo

@@ -15,7 +15,8 @@
 //! finalised is the object with its number, type, size, place, field words and extra words.
 //! Refusals and a full heap are answered exactly where the step says so; collections and
 //! prefinalizers alone may want memory, and then nothing has changed. A pause line tells truly whether
-//! the heap was walked.
+//! the heap was walked. After a start each target of a strong slot is marked, and after a step that
+//! tells that it is done no node is marked and untraced, unless a push was refused in the cycle.
 //!
 //! What is only tested or not said: that memory suffices, and how long a command takes.
 #![tactic(auto)]

@@ -3,6 +3,7 @@
 ghost use Rattle.std.specs.Prelude.{◌≡◌, ◌<◌, [], ◌∷◌, None};
 ghost use Rattle.gc_graph.specs.Outcomes.{answered, slot_at};
 ghost use Rattle.gc_graph.specs.ObjectSteps.{StepPair, StepKey, StepVal};
+ghost use Rattle.member_fields.specs.Barrier.{MayKeepNamed};
 ghost use Rattle.nodes_in_words.specs.Nodes.{place_of, word_of};
 ghost use Rattle.heap_objects.specs.Fields.{ArePartsOf};
 ghost use Rattle.heap_engine.specs.FieldSteps.{StepPart, StepWholePair};
@@ -10,7 +11,7 @@ ghost use Rattle.heap_cycle.specs.Parts.{state_of, counted, IsReady, IsFrame};
 
 use crate::fields::{field_of, line_of};
 use gc_graph::Line;
-use heap_cycle::Parts;
+use heap_cycle::{Parts, read_weakly};
 use heap_objects::{Content, PairContent, Part, Wanted};
 
 /// The pair that is field f of slot p's object gets what slot k holds as its key and what slot v
@@ -46,7 +47,7 @@ pub fn pair_null(parts: &mut Parts, p: u32, f: u32) -> Line
     write_pair(parts, p, f, &pair)
 }
 
-/// Slot q gets the key of the pair that is field f of slot p's object.
+/// Slot q gets the key of the pair that is field f of slot p's object, by a weak read.
 pub fn key(parts: &mut Parts, p: u32, f: u32, q: u32) -> Line
     requires ready { IsReady parts.old }
     requires slot { p < 256 }
@@ -58,7 +59,7 @@ pub fn key(parts: &mut Parts, p: u32, f: u32, q: u32) -> Line
     read_part(parts, p, f, q, Part::Key)
 }
 
-/// Slot q gets the value of the pair that is field f of slot p's object.
+/// Slot q gets the value of the pair that is field f of slot p's object, by a weak read.
 pub fn value(parts: &mut Parts, p: u32, f: u32, q: u32) -> Line
     requires ready { IsReady parts.old }
     requires slot { p < 256 }
@@ -80,6 +81,8 @@ fn write_pair(parts: &mut Parts, p: u32, f: u32, pair: &PairContent) -> Line
         ≡ word_of (place_of parts.old.objects.nodes) pair.now.key.value.value }
     requires value { pair.now.value.word
         ≡ word_of (place_of parts.old.objects.nodes) pair.now.value.value.value }
+    requires key_kept { MayKeepNamed parts.old.objects.seat pair.now.key.word }
+    requires value_kept { MayKeepNamed parts.old.objects.seat pair.now.value.word }
     ensures step { StepWholePair (state_of parts.old) p f
         pair.now.key.value.value pair.now.value.value.value (result ∷ [])
         (answered (state_of parts.new)) }
@@ -107,9 +110,8 @@ fn read_part(parts: &mut Parts, p: u32, f: u32, q: u32, part: Part) -> Line
 {
     match field_of(parts, p, f, Wanted::Pairs) {
         Ok(field) => {
-            // No marking goes on, so that a weak read keeps nothing.
-            parts.cycle.rests();
             let target = parts.objects.part_at(field, part);
+            read_weakly(parts, target);
             parts.handles.put(q, target);
             line_of(target)
         }

@@ -3,13 +3,15 @@ use Rattle.gc_graph.specs.declared.line.Line.TheVariants as L
 use Rattle.gc_graph.specs.Placement.{IsPlacement}
 use Rattle.gc_graph.specs.State.{Setup, Shape}
 use Rattle.gc_graph.specs.Fields.{new_node, size_of_type}
+use Rattle.gc_graph.specs.May.{may_with_new}
 use Rattle.gc_graph.specs.Outcomes.{finalise_lines}
 use Rattle.sweeper.specs.Sweeping.{cursor_at}
 use Rattle.heap_cycle.specs.declared.parts.Parts.{Parts}
-use Rattle.heap_cycle.specs.Parts.{setup_of, state_of, registered_in, unregistered}
+use Rattle.heap_cycle.specs.Parts.{setup_of, state_of, unregistered}
 use Rattle.heap_cycle.specs.Printed.{Printed, ran_lines}
 use Rattle.heap_cycle.specs.Views.{CycleView}
-use Rattle.heap_engine.proofs.NewSteps.{step_made, tied_made}
+use Rattle.heap_engine.proofs.NewSteps.{made_cycle, step_made, tied_made}
+use Rattle.heap_engine.proofs.Tellings.{tells_kept}
 use Rattle.heap_cycle.specs.Registrations.{left_out_before, joined_after}
 use Rattle.heap_engine.proofs.creating.new_object.Goals as goal
 
@@ -23,12 +25,14 @@ setup_found c = c.place_for.ensures.setup ∙ ap setup_of c.in-Ok.ensures.regist
 made_found : (c : goal.After-put) → length c.place_for.new.parts.objects.nodes ≡ length c.args.parts.now.objects.nodes
 made_found c = c.place_for.ensures.made ∙ ap (λ (x : Parts). length x.objects.nodes) c.in-Ok.ensures.registered
 
--- the new object's prefinalizers are registered with its place
-registers : (c : goal.After-put) → c.place_last.new.self ≡ (registered_in (found_parts c) c.args.t c.in-Some.place).cycle
+-- the new object's prefinalizers are registered with its place, and it may be kept where marking goes on
+registers : (c : goal.After-put) → c.keep_new.new.self ≡ made_cycle (found_parts c) c.args.t c.in-Some.place
 registers c =
-    c.place_last.ensures
+    c.keep_new.ensures
+    ∙ ap (λ (k : CycleView). record k { rest = record k.rest { may = may_with_new k.phase k.rest.may } })
+    (c.place_last.ensures
     ∙ joined_after c.args.parts.now c.register.new.parts c.place_for.new.parts c.args.t c.in-Some.place c.in-Ok.count c.in-Ok.ensures.registered c.in-Ok.ensures.count
-    c.place_for.ensures.registered (setup_found c) (made_found c)
+    c.place_for.ensures.registered (setup_found c) (made_found c))
 
 -- the place was found from the state before, in which nothing was registered for it
 placed : (c : goal.After-put) → IsPlacement c.args.parts.now.objects.shape (state_of c.args.parts.now) (size_of_type (setup_of c.args.parts.now) c.args.t c.args.extra)
@@ -50,10 +54,10 @@ make-requires-clause-size c =
 pub returns-clause-step : goal.returns-clause-step
 returns-clause-step c =
     let calm : c.place_for.new.outcome.prefinalises ≡ false = ap (λ (o : Printed). o.prefinalises) c.place_for.ensures.outcome ∙ c.requires.calm in
-    step_made c.args.parts.now (found_parts c) c.make.new.self c.put.new.self c.place_last.new.self c.args.p c.args.t c.args.extra c.in-Some.place
-    c.made-number.result c.place_for.new.outcome.numbers _ (setup_found c) c.rests.ensures.calm (placed c) (c.made-number.ensures ∙ sym (made_found c))
+    step_made c.args.parts.now (found_parts c) c.make.new.self c.put.new.self c.keep_new.new.self c.args.p c.args.t c.args.extra c.in-Some.place
+    c.made-number.result c.place_for.new.outcome.numbers _ (setup_found c) (placed c) (c.made-number.ensures ∙ sym (made_found c))
     c.make.ensures.nodes (registers c) c.put.ensures
-    (ap (λ b. finalise_lines c.place_for.new.outcome.numbers ++ L.Placed c.made-number.result c.in-Some.place ∷ ran_lines b c.place_last.new.self.ran) calm)
+    (ap (λ b. finalise_lines c.place_for.new.outcome.numbers ++ L.Placed c.made-number.result c.in-Some.place ∷ ran_lines b c.keep_new.new.self.ran) calm)
 
 pub returns-clause-frame : goal.returns-clause-frame
 returns-clause-frame c =
@@ -63,10 +67,11 @@ returns-clause-frame c =
     record {
       setup = c.make.ensures.setup ∙ setup_found c;
       ordinal = ap (λ (k : CycleView). k.rest.ordinal + 1) (registers c) ∙ ap (λ n. n + 1) ordinal;
-      tied = tied_made mid c.make.new.self c.put.new.self c.place_last.new.self c.args.p c.args.t c.in-Some.place c.made-number.result
+      tied = tied_made mid c.make.new.self c.put.new.self c.keep_new.new.self c.args.p c.args.t c.in-Some.place c.made-number.result
           (new_node (setup_of mid) c.args.t c.args.extra c.in-Some.place) c.place_for.ensures.ready
           (subst (λ (st : Setup). c.args.t < length st.types) (sym (setup_found c)) c.requires.ty)
-          (c.make.ensures.marks mid.cycle.phase (cursor_at mid.objects.shape mid.cycle.sweep) c.in-Some.ensures.swept c.place_for.ensures.ready.tied.marks)
-          c.make.ensures.setup (c.made-number.ensures ∙ sym (made_found c)) refl c.make.ensures.nodes (registers c) c.put.ensures;
-      refused = c.make.ensures.refused ∙ c.place_for.ensures.refused ∙ ap (λ (x : Parts). x.objects.refused) c.in-Ok.ensures.registered;
+          (c.make.ensures.marks mid.cycle.phase (cursor_at mid.objects.shape mid.cycle.sweep) mid.cycle.rest.may c.in-Some.ensures.swept c.place_for.ensures.ready.tied.marks)
+          c.make.ensures.grey c.make.ensures.setup (c.made-number.ensures ∙ sym (made_found c)) refl c.make.ensures.nodes (registers c) c.put.ensures;
+      refused = tells_kept c.args.parts.now.cycle.phase c.args.parts.now.objects c.make.new.self
+          (c.make.ensures.grey ∙ c.place_for.ensures.grey ∙ ap (λ (x : Parts). x.objects.grey) c.in-Ok.ensures.registered);
     }

@@ -16,7 +16,17 @@ returns-in-SweepAll-clause-step d c = rw c.in-SweepAll.is (c.sweep_all.ensures.p
 pub returns-in-GcNow-clause-step : goal.returns-in-GcNow-clause-step
 returns-in-GcNow-clause-step d c = rw c.in-GcNow.is c.collect.ensures.step
 
+pub returns-in-GcStart-clause-step : goal.returns-in-GcStart-clause-step
+returns-in-GcStart-clause-step d c = rw c.in-GcStart.is c.start.ensures.step
+
+pub returns-in-GcFinish-clause-step : goal.returns-in-GcFinish-clause-step
+returns-in-GcFinish-clause-step d c = rw c.in-GcFinish.is c.finish.ensures.step
+
 -- the others tell their line alone
+
+pub returns-in-GcStep-clause-step : goal.returns-in-GcStep-clause-step
+returns-in-GcStep-clause-step d c =
+    rw (c.in-GcStep.is, line_alone c.args.outcome.now c.step.new.parts.cycle.ran c.step.result c.requires.numbers c.requires.calm) (c.requires.piece, c.step.ensures.step)
 
 pub returns-in-Set-clause-step : goal.returns-in-Set-clause-step
 returns-in-Set-clause-step d c =

@@ -8,6 +8,7 @@ use Rattle.heap_cycle.specs.declared.parts.Parts.{Parts}
 use Rattle.heap_cycle.specs.Parts.{IsReady}
 use Rattle.heap_cycle.specs.Ties.{slot_place, slot_live}
 use Rattle.heap_engine.proofs.PairAnswers.{slots_are_parts, slot_part_word}
+use Rattle.heap_engine.proofs.KeptSlots.{part_kept}
 use Rattle.heap_engine.proofs.pairs.pair.Goals as goal
 
 pub write_pair-requires-clause-both : goal.write_pair-requires-clause-both
@@ -35,3 +36,9 @@ pub write_pair-requires-clause-value : goal.write_pair-requires-clause-value
 write_pair-requires-clause-value c =
     part_word_is c.args.parts.now c.args.v c.args.k c.part-2.result.word c.part-2.result.value.value c.requires.ready c.part-2.ensures.word
     c.part-2.ensures.value
+
+pub write_pair-requires-clause-key_kept : goal.write_pair-requires-clause-key_kept
+write_pair-requires-clause-key_kept c = part_kept c.args.parts.now c.args.k c.args.v c.part.result.word c.requires.ready c.part.ensures.word
+
+pub write_pair-requires-clause-value_kept : goal.write_pair-requires-clause-value_kept
+write_pair-requires-clause-value_kept c = part_kept c.args.parts.now c.args.v c.args.k c.part-2.result.word c.requires.ready c.part-2.ensures.word

@@ -4,9 +4,13 @@ use Rattle.gc_graph.specs.State.{Node}
 use Rattle.gc_graph.specs.Fields.{is_pair}
 use Rattle.sweeper.specs.Sweeping.{cursor_at}
 use Rattle.heap_cycle.specs.declared.parts.Parts.{Parts}
+use Rattle.member_fields.specs.Barrier.{MayKeep}
+use Rattle.heap_objects.specs.declared.field.Field.{Field}
 use Rattle.heap_objects.specs.Objects.{paired_in, ObjectsView, StaysAt}
 use Rattle.heap_engine.proofs.FieldAnswers.{Found, found, field_kind}
 use Rattle.heap_engine.proofs.PairAnswers.{step_pair}
+use Rattle.heap_engine.proofs.KeptSlots.{slot_kept}
+use Rattle.heap_engine.proofs.Tellings.{tells_on}
 use Rattle.heap_objects.specs.FieldNodes.{stays-paired, length-paired}
 use Rattle.heap_cycle.specs.Ties.{valid_nodes, tied_fields}
 use Rattle.heap_engine.proofs.pairs.write_pair.Goals as goal
@@ -30,6 +34,19 @@ store_pair-requires-clause-key c = rw c.in-Ok.ensures.same c.requires.key
 
 pub store_pair-requires-clause-value : goal.store_pair-requires-clause-value
 store_pair-requires-clause-value c = rw c.in-Ok.ensures.same c.requires.value
+
+-- the slot's object may be kept, and so may what is written
+pub store_pair-requires-clause-holder : goal.store_pair-requires-clause-holder
+store_pair-requires-clause-holder c =
+    let s : Parts = c.args.parts.now in
+    let is : Found is_pair s c.args.p c.args.f c.in-Ok.field = found is_pair s c.args.p c.args.f c.in-Ok.field c.requires.ready c.in-Ok.ensures.field in
+    rw c.in-Ok.ensures.same (subst (λ (x : Field). MayKeep s.objects.seat x.holder) (sym is.is.is) (slot_kept s c.args.p is.node c.requires.ready is.slot))
+
+pub store_pair-requires-clause-key_kept : goal.store_pair-requires-clause-key_kept
+store_pair-requires-clause-key_kept c = rw c.in-Ok.ensures.same c.requires.key_kept
+
+pub store_pair-requires-clause-value_kept : goal.store_pair-requires-clause-value_kept
+store_pair-requires-clause-value_kept c = rw c.in-Ok.ensures.same c.requires.value_kept
 
 pub returns-in-Ok-clause-step : goal.returns-in-Ok-clause-step
 returns-in-Ok-clause-step c =
@@ -56,7 +73,8 @@ returns-in-Ok-clause-frame c =
       tied = tied_fields s new c.requires.ready.tied
           (λ n. subst (λ (ns : List Node). StaysAt old ns n) (sym nodes) (stays-paired old slot c.args.f key value n))
           (rw c.in-Ok.ensures.same at c.store_pair.ensures.setup)
-          (c.store_pair.ensures.marks s.cycle.phase (cursor_at s.objects.shape s.cycle.sweep) (rw c.in-Ok.ensures.same c.requires.ready.tied.marks))
+          (c.store_pair.ensures.marks s.cycle.phase (cursor_at s.objects.shape s.cycle.sweep) s.cycle.rest.may (rw c.in-Ok.ensures.same c.requires.ready.tied.marks))
+          (rw c.in-Ok.ensures.same at c.store_pair.ensures.traced)
           (ap length nodes ∙ length-paired old slot c.args.f key value);
-      refused = rw c.in-Ok.ensures.same at c.store_pair.ensures.refused;
+      refused = tells_on s new c.requires.ready.tied (rw c.in-Ok.ensures.same at c.store_pair.ensures.refused);
     })

@@ -1,4 +1,4 @@
-use Rattle.std.proofs.Common.{ℕ, ◌≡◌, None, get_or, Some, option_map, sym, ap, ◌∙◌}
+use Rattle.std.proofs.Common.{ℕ, ◌≡◌, None, get_or, Some, option_map, sym, ap, ◌∙◌, subst}
 use Rattle.nodes_in_words.specs.Nodes.{place_of}
 use Rattle.heap_objects.specs.Objects.{IsLiveAt}
 use Rattle.heap_cycle.specs.Ties.{weak_slot_names}
@@ -17,3 +17,10 @@ returns-in-Some-clause-target c =
     let number : c.number_at.result ≡ is.0 = c.number_at.ensures.number is.0 is.2 in
     ap (λ n. Some (c.in-Some.place, n)) number ∙ ap (λ a. Some (a, is.0)) (sym is.2.1)
     ∙ sym (ap (option_map (λ n. (place_of c.args.parts.now.objects.nodes n, n))) is.1)
+
+-- the node at that place is there
+pub returns-in-Some-clause-live : goal.returns-in-Some-clause-live
+returns-in-Some-clause-live c =
+    let is = weak_slot_names c.args.parts.now c.args.w c.in-Some.place c.requires.ready (sym c.weak_place.ensures ∙ c.in-Some.is) in
+    let number : c.number_at.result ≡ is.0 = c.number_at.ensures.number is.0 is.2 in
+    subst (λ n. IsLiveAt c.args.parts.now.objects.nodes n c.in-Some.place) (sym number) is.2

@@ -1,0 +1,102 @@
+-- What the lines of a cycle's start and of its last step tell of marks.
+use Rattle.std.proofs.Common.{◌≡◌, ℕ, Bool, true, false, List, [], ◌∷◌, ◌++◌, Option, Some, option_map, refl, sym, ap, ◌∙◌, subst, inl, inr, arith}
+use Rattle.std.specs.Prelude.{MatchBool}
+use Rattle.std.specs.List.{Contains}
+use Rattle.std.proofs.lemmas.Bool.{cases_Bool, true≢false}
+use Rattle.gc_graph.specs.declared.line.Line.{Line}
+use Rattle.gc_graph.specs.declared.line.Line.TheVariants as L
+use Rattle.gc_graph.specs.declared.phase.Phase.{Phase}
+use Rattle.gc_graph.specs.declared.phase.Phase.TheVariants.{Idle, Marking, Sweeping}
+use Rattle.gc_graph.specs.CycleSteps.{StepGcStep, is_marking}
+use Rattle.gc_graph.specs.Graph.{IsWithin}
+use Rattle.gc_graph.specs.Members.{Contains-cons_cases, Contains-map}
+use Rattle.gc_graph.specs.Outcomes.{finalise_lines}
+use Rattle.gc_graph.specs.Reach.{HoldsAll}
+use Rattle.gc_graph.specs.State.{State, Node, slot_targets}
+use Rattle.gc_graph.specs.Valid.{AreLive}
+use Rattle.marker_core.specs.Bodies.{holds}
+use Rattle.sweeper.specs.Sweeping.{cursor_at}
+use Rattle.nodes_in_words.specs.KeptNodes.{slot_of_root, slot_live, kept_parts, kept_from}
+use Rattle.nodes_in_words.specs.Nodes.{place_of}
+use Rattle.nodes_in_words.specs.Places.{kept_of}
+use Rattle.heap_objects.specs.Marks.{HasMarks, HasMarking}
+use Rattle.heap_objects.specs.Objects.{told_of}
+use Rattle.heap_cycle.specs.declared.parts.Parts.{Parts}
+use Rattle.heap_cycle.specs.Cycles.{AreSlotsMarked, IsNoneGrey, HasNoRefusedPush}
+use Rattle.heap_cycle.specs.Parts.{AreTied}
+use Rattle.heap_cycle.specs.Printed.{Printed, ran_lines, lines_with}
+
+-- ---- which line tells it
+
+none_started : (runs : Bool) (ran : List (ℕ × ℕ)) → Contains (ran_lines runs ran) L.Started → ⊥
+none_started false ran there = omega (arith, there.1)
+none_started true [] there = omega (arith, there.1)
+none_started true (r ∷ ran) there = elim (Contains-cons_cases (L.Prefinalise r.0 r.1) (ran_lines true ran) L.Started there) [
+  | inl here ↦ cc
+  | inr later ↦ none_started true ran later
+]
+
+started_after : (numbers : List ℕ) (line : Line) (others : List Line) → (Contains others L.Started → ⊥) → Contains (finalise_lines numbers ++ line ∷ others) L.Started → line ≡ L.Started
+started_after [] line others none there = elim (Contains-cons_cases line others L.Started there) [ inl here ↦ here | inr later ↦ absurd (none later) ]
+started_after (n ∷ numbers) line others none there =
+    elim (Contains-cons_cases (L.Finalise n) (finalise_lines numbers ++ line ∷ others) L.Started there) [
+      | inl here ↦ cc
+      | inr later ↦ started_after numbers line others none later
+    ]
+
+-- the line of a command is the start that its lines tell
+pub started_last : (o : Printed) (ran : List (ℕ × ℕ)) (line : Line) → Contains (lines_with o ran line) L.Started → line ≡ L.Started
+started_last o ran line there = started_after o.numbers line (ran_lines o.prefinalises ran) (none_started o.prefinalises ran) there
+
+stepped_after : (numbers : List ℕ) (last : Line) (others : List Line) (t : ℕ) (done : Bool) → finalise_lines numbers ++ last ∷ others ≡ L.Step t done ∷ [] → last ≡ L.Step t done
+stepped_after [] last others t done is = cc
+stepped_after (n ∷ numbers) last others t done is = cc
+
+-- and the step
+pub stepped_last : (o : Printed) (ran : List (ℕ × ℕ)) (line : Line) (t : ℕ) (done : Bool) → lines_with o ran line ≡ L.Step t done ∷ [] → line ≡ L.Step t done
+stepped_last o ran line t done is = stepped_after o.numbers line (ran_lines o.prefinalises ran) t done is
+
+-- ---- a start
+
+-- what the strong slots name is marked, as the heap's callers see it
+pub slots_marked : (s : Parts) → AreTied s → AreLive s.objects.nodes (slot_targets s.handles.slots) → AreSlotsMarked s
+    → HoldsAll (kept_of (holds s.objects.seat.marked) s.objects.nodes) (slot_targets s.handles.slots)
+slots_marked s tied live marked n root =
+    let nodes : List Node = s.objects.nodes in
+    let slot : Contains s.handles.slots (Some n) = slot_of_root s.handles.slots n root in
+    let place : Contains s.handles.places (Some (place_of nodes n)) =
+    subst (λ places. Contains places (Some (place_of nodes n))) (sym tied.slots)
+    (Contains-map (λ (x : Option ℕ). option_map (place_of nodes) x) s.handles.slots (Some n) slot) in
+    kept_from (holds s.objects.seat.marked) nodes n (slot_live nodes s.handles.slots n live slot) (marked (place_of nodes n) place)
+
+-- ---- a step
+
+open_at : (phase : Phase) (Refused Traced : Type 0) → MatchBool (is_marking phase) Traced Refused → (Refused → ⊥) → (phase ≡ Marking) × Traced
+open_at Idle Refused Traced is never = absurd (never is)
+open_at Marking Refused Traced is never = (refl, is)
+open_at Sweeping Refused Traced is never = absurd (never is)
+
+-- after it marking goes on
+pub still_marking : (old : State) (n t : ℕ) (done : Bool) (new : State) → StepGcStep old n (L.Step t done ∷ []) new → new.phase ≡ Marking
+still_marking old n t done new is =
+    let goes = open_at old.phase _ _ is (λ why. (let never : L.Step t done ∷ [] ≡ L.Refused _ ∷ [] = why.0 in cc)) in
+    ap (λ (s : State). s.phase) goes.1.after ∙ goes.0
+
+unrefused : (s : Parts) → AreTied s → s.cycle.phase ≡ Marking → HasNoRefusedPush (told_of s.objects) → s.objects.grey.marking.overflow ≡ false
+unrefused s tied on none =
+    let has : HasMarking s.cycle.rest.may s.objects =
+    subst (λ (phase : Phase). HasMarks phase (cursor_at s.objects.shape s.cycle.sweep) s.cycle.rest.may s.objects) on tied.marks in
+    elim (cases_Bool s.objects.grey.marking.overflow) [
+      | inl told ↦ elim (has.pushes_told.only told) [
+        | inl before ↦ absurd (true≢false (sym before))
+        | inr count ↦ elim count [ inl more ↦ absurd (omega (arith, more, none.same)) | inr last ↦ absurd (omega (arith, last, none.seen)) ]
+      ]
+      | inr calm ↦ calm
+    ]
+
+-- where no push was refused, each marked node is traced once a step tells that it is done
+pub all_traced : (s : Parts) → AreTied s → s.cycle.phase ≡ Marking → IsNoneGrey s → HasNoRefusedPush (told_of s.objects)
+    → IsWithin (kept_of (holds s.objects.seat.marked) s.objects.nodes) (kept_of (holds s.objects.seat.traced) s.objects.nodes)
+all_traced s tied on grey none n marked =
+    let is = kept_parts (holds s.objects.seat.marked) s.objects.nodes n marked in
+    kept_from (holds s.objects.seat.traced) s.objects.nodes n is.0 (grey (unrefused s tied on none) (place_of s.objects.nodes n) is.1)
