@@ -7,6 +7,8 @@ from typing import Dict, List, NamedTuple
 PAGE_WORDS = 16_384
 COLLECTION = "gc now precise"
 STACK_COLLECTION = "gc now conservative"
+START = "gc start"
+PAUSE = "gc finish precise"
 SWEEP = "sweep all"
 
 # For mixed objects: how many fields a table has, and the slots of a new leaf and of the table in use.
@@ -59,11 +61,18 @@ def filling(count, room):
     return Load(["S"], ["new 0 0"] * count, {"node": count, "full": 0}, pages_for(room, 3))
 
 
-def with_words(line, count):
+def with_words(line, count, *before):
     """One object with a strong field and a plain one in slot 0, the same in slot 1, and weak slot 0 on it; then
-    the same line, so many times."""
-    lines = ["new 0 0", "copy 0 1", "weak 0 0"] + [line] * count
+    the lines that come before, and the same line, so many times."""
+    lines = ["new 0 0", "copy 0 1", "weak 0 0", *before] + [line] * count
     return Load(["SP"], lines, {"full": 0, "refused": 0}, 1)
+
+
+def written(count, room, *before):
+    """New objects of 3 words, each of them written into the field of one that was made before these lines, on a
+    heap that `room` of them fill."""
+    lines = ["new 0 0", *before] + ["new 1 0", "set 0 0 1"] * count
+    return Load(["S"], lines, {"node": 1 + count, "full": 0, "refused": 0}, pages_for(1 + room, 3))
 
 
 def linked(count):
@@ -79,6 +88,18 @@ def live_list(count, room, collections):
     """A list, and collections of it. Each but the first ends the sweep before it."""
     tells = {f"pause kept {count} dead 0 ": collections, "full": 0}
     return Load(["S"], linked(count) + [COLLECTION] * collections, tells, pages_for(room, 3))
+
+
+def in_steps(count, most):
+    """A collection of so many objects, in steps of `most` at most."""
+    return [START] + [f"gc step {most}"] * math.ceil(count / most) + [PAUSE]
+
+
+def listed_in_steps(count, room, most):
+    """A list, a collection with its sweep, and a collection in steps, of which the pause traces nothing."""
+    load = live_list(count, room, 1).then(SWEEP, *in_steps(count, most))
+    tells = {f"pause kept {count} dead 0 crew 0 traced 0 walked 0": 1, "step": math.ceil(count / most)}
+    return load._replace(tells={**tells, "started": 1, "full": 0, "refused": 0})
 
 
 def leaf_size(number):
@@ -405,3 +426,51 @@ def live_objects(count):
         lines.insert(2000 * (number + 1), "new 2 0")
     tells = {f"pause kept {count} dead {made} ": 1, "full": 0}
     return Load(["S"], lines + ["drop 2", COLLECTION], tells, pages_for(count + made, 3))
+
+
+def remainders(seed, count):
+    """What decides each turn of `generated`: numbers by a rule, modulo 3."""
+    number, found = seed % 65_537, []
+    for _ in range(count):
+        number = (number * 75 + 74) % 65_537
+        found.append(number % 3)
+    return found
+
+
+def element_turn(turn, parent):
+    """An element of a document: it goes before the first child of what slot `parent` names, has a weak field to
+    the root, and is the newest element, in slot 2."""
+    lines = ["new 1 0", f"put 1 3 {turn}", "set 1 2 0", f"get {parent} 0 3", "set 1 1 3", f"set {parent} 0 1"]
+    return lines + ["copy 1 2", "drop 1", "drop 3"]
+
+
+def table_turn(turn):
+    """An entry of a side table, which is a list that slot 5 names: its pair's key and its value, which names the
+    key, are elements that nothing else names, but for a weak slot, so that both die."""
+    lines = ["new 1 0", "new 4 1", "set 4 0 5", "copy 4 5", "new 6 0", "set 6 0 1", "pair 4 1 1 6"]
+    return lines + [f"weak {turn % 64} 1", "drop 1", "drop 4", "drop 6"]
+
+
+def is_collected(turn):
+    return turn >= 4 and turn & (turn - 1) == 0
+
+
+def generated(seed, count):
+    """A document with weak observers and a side table of pairs: so many turns, of which each keeps one object.
+    Each turn whose number is a power of two, from 4 on, is done while marking goes on, and two collections end
+    with it."""
+    lines, found = ["new 0 0", "copy 0 2"], remainders(seed, count)
+    for turn, remainder in enumerate(found, start=1):
+        if is_collected(turn):
+            lines += [START, "gc step 2"]
+        lines += table_turn(turn) if remainder == 2 else element_turn(turn, 2 * remainder)
+        if is_collected(turn):
+            lines += [PAUSE, COLLECTION, SWEEP]
+    entries = found.count(2)
+    tells = {
+        f"end objects {count + 1} used {6 * (count + 1) - entries} ": 1,
+        "finalise": 2 * entries,
+        "pause": 2 * sum(is_collected(turn) for turn in range(1, count + 1)) + 1,
+        "full": 0, "refused": 0, "memory": 0,
+    }
+    return Load(["SSWP", "SE"], lines + [COLLECTION, SWEEP], tells, 64)

@@ -25,6 +25,9 @@ PROGRAM = os.path.join(ROOT, "crates", "cppgc_main", "out", "cppgc_main")
 KEPT = os.path.join(ROOT, "bench", "out")
 TRIES = 15
 
+# The seed of `generated`.
+SEED = 1
+
 # How many rounds of `mixed` come before those that are measured.
 STANDING_ROUNDS = 2
 
@@ -44,6 +47,9 @@ FINALISED_BAR = 200
 PREFINALISED_BAR = 500
 STACK_WORD_BAR = 250
 LAZY_NEW_BAR = 1000
+STEP = 1000
+STEPS_BAR = 1.15
+MARKING_SET_BAR = 60
 # For a line of each kind, read, run and told.
 LINE_BARS = {
     "drop 0": 330, "set 0 0 0": 430, "get 0 0 2": 430, "put 0 1 5": 430, "word 0 1": 430, "copy 0 2": 430,
@@ -236,6 +242,46 @@ class Bench:
         more = self.instructions(self.tree(1)) - self.instructions(loads.tree(self.count))
         self.figures.tell("tree_instructions_per_live_object", more / self.count, TREE_BAR)
 
+    def steps(self):
+        """What a collection in steps costs over one at once."""
+        swept = self.live_list(1, 1).then(SWEEP)
+        in_steps = loads.listed_in_steps(self.count, 2 * self.count, STEP)
+        Script(self.folder, in_steps).check()
+        start, once = self.instructions(swept), self.instructions(swept.then(COLLECTION))
+        steps = self.instructions(in_steps)
+        self.figures.tell("steps_instructions_per_live_object", (steps - start) / self.count)
+        self.figures.tell("steps_instructions_ratio", (steps - start) / (once - start), STEPS_BAR)
+
+    def sets_while_marking(self):
+        """What a line `set` costs more while marking goes on: with an object that is marked, and with new ones,
+        each of which it marks and lists."""
+        def marked(count, *before):
+            return loads.with_words("set 0 0 0", count, *before)
+
+        def new(count, *before):
+            return loads.written(count, 2 * self.count, *before)
+
+        for name, load in (("marked", marked), ("new", new)):
+            costs = []
+            for before in ([], [loads.START]):
+                scripts = [Script(self.folder, load(n * self.count, *before)) for n in (1, 2)]
+                for script in scripts:
+                    script.check()
+                some, twice = (script.instructions() for script in scripts)
+                costs.append((twice - some) / self.count)
+            at_rest, marking = costs
+            self.figures.tell(f"set_{name}_while_marking_more_instructions", marking - at_rest, MARKING_SET_BAR)
+
+    def generated(self):
+        """What a line costs of a document that grows, with collections in steps; twice the turns for the ratio."""
+        half = max(4, self.count // 2)
+        scripts = [Script(self.folder, loads.generated(SEED, turns)) for turns in (half, 2 * half)]
+        for script in scripts:
+            script.check()
+        some, twice = (script.instructions() for script in scripts)
+        self.figures.tell("generated_instructions_per_line", twice / len(scripts[1].load.lines))
+        self.figures.tell("generated_instructions_ratio", twice / some, RATIO_BAR)
+
     def weak_fields(self):
         """What a collection costs for each live object, where each has two weak fields to be looked at."""
         count = 2 * self.count
@@ -324,6 +370,9 @@ def main():
             bench.news()
             bench.thousands()
             bench.collections()
+            bench.steps()
+            bench.sets_while_marking()
+            bench.generated()
             bench.weak_fields()
             bench.pairs()
             bench.prefinalizers()
