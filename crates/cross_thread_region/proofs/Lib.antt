@@ -1,0 +1,6 @@
+mod Appended
+mod Filling
+mod Emptying
+mod Asked
+mod Seen
+mod Places

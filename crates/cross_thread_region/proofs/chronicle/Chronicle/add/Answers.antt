@@ -1,0 +1,14 @@
+use Rattle.std.proofs.Common.{rules, ◌+◌, ◌<◌, length, vec_capacity}
+use Rattle.cross_thread_region.proofs.Appended.{call_kept}
+use Rattle.cross_thread_region.proofs.chronicle.Chronicle.add.Goals as goal
+
+pub invariant_of-self-2 : goal.invariant_of-self-2
+invariant_of-self-2 c =
+    let room : length c.self.inside.history.items + 1 < vec_capacity c.push_reserved.new.self = search rules in (
+      call_kept _ _ c.self.inside.history.items _ _ c.args.thread c.args.place c.args.op c.reply_of-reply.result _ _ _ c.self.invariant.0 c.requires.within
+          c.requires.small c.reply_of-reply.ensures room c.change.ensures.slots c.change.ensures.places (search rules),
+      c.self.invariant.1,
+    )
+
+pub returns-clause-legal : goal.returns-clause-legal
+returns-clause-legal c = (invariant_of-self-2 c).0.legal

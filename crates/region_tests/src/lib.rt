@@ -1,0 +1,19 @@
+//! # The tests of the region
+//!
+//! What it is: tests alone, of the region of one thread. They stand apart from its crate, since a
+//! crate with tests is proved a second time with them.
+//!
+//! The parts, each named for what it tries: `slots` (each call on a null, a strong and a weak slot),
+//! `pauses` (a start, what a pause visits and clears, its answer), `passes` (what passes see).
+//!
+//! What is proved: that the tests are safe and call only what they may.
+//!
+//! What is only tested or not said: each expected value was worked out by hand.
+#![tactic(auto)]
+
+#[cfg(test)]
+mod passes;
+#[cfg(test)]
+mod pauses;
+#[cfg(test)]
+mod slots;
