@@ -53,17 +53,17 @@ pub fn quick_line(bytes: &[u8], at: usize, bounds: Bounds) -> Option<QuickLine>
     if begins(bytes, at, PUT.name) {
         return line_of::<4>(bytes, at, &PUT, bounds);
     }
-    if begins(bytes, at, COPY.name) {
-        return line_of::<5>(bytes, at, &COPY, bounds);
-    }
     if begins(bytes, at, WORD.name) {
-        return line_of::<6>(bytes, at, &WORD, bounds);
+        return line_of::<5>(bytes, at, &WORD, bounds);
     }
     if begins(bytes, at, WEAK.name) {
-        return line_of::<7>(bytes, at, &WEAK, bounds);
+        return line_of::<6>(bytes, at, &WEAK, bounds);
     }
     if begins(bytes, at, READ.name) {
-        return line_of::<8>(bytes, at, &READ, bounds);
+        return line_of::<7>(bytes, at, &READ, bounds);
+    }
+    if begins(bytes, at, COPY.name) {
+        return line_of::<8>(bytes, at, &COPY, bounds);
     }
     None
 }
