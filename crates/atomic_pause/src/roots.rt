@@ -30,25 +30,9 @@ pub fn visit_slots(words: &Words, seat: &mut MutatorSeat, marking: &mut Marking,
     ensures noted { seat.new.noted ≡ seat.old.noted }
 {
     for i in 0..slots.len() {
-        visit_slot(words, seat, marking, slots.get(i));
-    }
-}
-
-fn visit_slot(words: &Words, seat: &mut MutatorSeat, marking: &mut Marking, slot: Option<u32>)
-    requires heap { seat.old.count ≡ words.now }
-    requires on { seat.old.on ≡ true }
-    requires marking { marking.old.on ≡ seat.old.on }
-    requires alone { seat.old.lent ≡ 0 }
-    requires slot { ForSome slot (IsPlace seat.old.bodies) }
-    requires may { (p : ℕ) → slot ≡ Some p → holds seat.old.may p ≡ true }
-    ensures marks { ListsMarks seat.old marking.old seat.new marking.new }
-    ensures root { (p : ℕ) → slot ≡ Some p → holds seat.new.marked p ≡ true }
-    ensures only { (p : ℕ) → holds seat.new.marked p ≡ true
-        → (holds seat.old.marked p ≡ true) ⊎ (slot ≡ Some p) }
-    ensures noted { seat.new.noted ≡ seat.old.noted }
-{
-    if let Some(place) = slot {
-        mark(words, seat, marking, place);
+        if let Some(place) = slots.get(i) {
+            mark(words, seat, marking, place);
+        }
     }
 }
 

@@ -1,51 +1,50 @@
-use Rattle.std.proofs.Common.{◌≡◌, true, ◌<◌, length, None, Some, inl, inr, sym, ap, ◌∙◌, subst, arith}
+use Rattle.std.proofs.Common.{◌≡◌, ℕ, true, ◌<◌, length, Option, None, Some, inl, inr, refl, sym, ap, ◌∙◌, subst, arith, take}
+use mathlib.Core.Logic.{◌⊎◌}
+use Rattle.std.proofs.lemmas.List.{take_all}
 use Rattle.std.specs.List.{Contains}
-use Rattle.std.specs.Option.{ForSome}
-use Rattle.std.proofs.lemmas.List.Elements.{All-get_or, Contains-get_or}
 use Rattle.gc_graph.specs.Members.{Contains-take_more_cases, Contains-take_more_old, Contains-take_more_new}
-use Rattle.marker_core.specs.Bodies.{IsPlace, holds}
+use Rattle.marker_core.specs.Bodies.{holds}
 use Rattle.page_words.specs.Seat.{SeatView}
-use Rattle.ephemerons.specs.ListedMarks.{ListsMarks-then}
+use Rattle.ephemerons.specs.Fixpoint.{ListsMarks}
+use Rattle.ephemerons.specs.ListedMarks.{ListsMarks-then, lists_looked}
 use Rattle.atomic_pause.proofs.roots.visit_slots.Goals as goal
+use Rattle.atomic_pause.proofs.roots.visit_slots.Goals.{in-Some, in_default}
 
-pub visit_slot-requires-clause-heap : goal.visit_slot-requires-clause-heap
-visit_slot-requires-clause-heap c = ap (λ (v : SeatView). v.count) c.loop-i.invariant.marks.view ∙ c.requires.heap
-
-pub visit_slot-requires-clause-on : goal.visit_slot-requires-clause-on
-visit_slot-requires-clause-on c = ap (λ (v : SeatView). v.on) c.loop-i.invariant.marks.view ∙ c.requires.on
-
-pub visit_slot-requires-clause-slot : goal.visit_slot-requires-clause-slot
-visit_slot-requires-clause-slot c =
-    let low : c.loop-i.i < length c.args.slots.now = omega arith in
-    subst (λ bs. ForSome c.get.result (IsPlace bs)) (sym (ap (λ (v : SeatView). v.bodies) c.loop-i.invariant.marks.view))
-    (subst (λ slot. ForSome slot (IsPlace c.args.seat.now.bodies)) (sym c.get.ensures)
-    (All-get_or (λ slot. ForSome slot (IsPlace c.args.seat.now.bodies)) c.args.slots.now c.loop-i.i None low c.requires.slots))
-
-pub visit_slot-requires-clause-marking : goal.visit_slot-requires-clause-marking
-visit_slot-requires-clause-marking c =
-    c.loop-i.invariant.marks.on ∙ c.requires.marking ∙ sym (ap (λ (v : SeatView). v.on) c.loop-i.invariant.marks.view)
-
-pub visit_slot-requires-clause-alone : goal.visit_slot-requires-clause-alone
-visit_slot-requires-clause-alone c = ap (λ (v : SeatView). v.lent) c.loop-i.invariant.marks.view ∙ c.requires.alone
-
-pub visit_slot-requires-clause-may : goal.visit_slot-requires-clause-may
-visit_slot-requires-clause-may c p is =
-    let low : c.loop-i.i < length c.args.slots.now = omega arith in
-    subst (λ places. holds places p ≡ true) (sym (ap (λ (v : SeatView). v.may) c.loop-i.invariant.marks.view))
-    (c.requires.may p (subst (Contains c.args.slots.now) (sym c.get.ensures ∙ is) (Contains-get_or c.args.slots.now c.loop-i.i None low)))
+named : Option ℕ → ℕ
+named None = 0
+named (Some p) = p
 
 pub loop-i-preserved : goal.loop-i-preserved
+unfolding named
 loop-i-preserved c =
     let low : c.loop-i.i < length c.args.slots.now = omega arith in
+    let visited : ListsMarks c.loop-i.seat c.loop-i.marking c.match-get.seat c.match-get.marking = elim c.match-get.branch [
+      | in-Some w ↦ subst (λ s. ListsMarks c.loop-i.seat c.loop-i.marking s c.match-get.marking) (sym w.seat-is)
+          (subst (λ m. ListsMarks c.loop-i.seat c.loop-i.marking w.mark.new.seat m) (sym w.marking-is) w.mark.ensures.marks)
+      | in_default w ↦ subst (λ s. ListsMarks c.loop-i.seat c.loop-i.marking s c.match-get.marking) (sym w.seat-is)
+          (subst (λ m. ListsMarks c.loop-i.seat c.loop-i.marking c.loop-i.seat m) (sym w.marking-is) (lists_looked c.loop-i.seat c.loop-i.seat c.loop-i.marking refl))
+    ] in
+    let same : c.match-get.seat.noted ≡ c.loop-i.seat.noted = elim c.match-get.branch [
+      | in-Some w ↦ ap (λ (v : SeatView). v.noted) w.seat-is ∙ w.mark.ensures.noted
+      | in_default w ↦ ap (λ (v : SeatView). v.noted) w.seat-is
+    ] in
+    let root : (p : ℕ) → c.get.result ≡ Some p → holds c.match-get.seat.marked p ≡ true = λ p is. elim c.match-get.branch [
+      | in-Some w ↦ subst (λ s. holds s.marked p ≡ true) (sym w.seat-is)
+          (subst (λ q. holds w.mark.new.seat.marked q ≡ true) (ap named (sym w.in-Some.is ∙ is)) w.mark.ensures.target)
+      | in_default w ↦ absurd (w.in_default.not-Some p is)
+    ] in
+    let only : (p : ℕ) → holds c.match-get.seat.marked p ≡ true → (holds c.loop-i.seat.marked p ≡ true) ⊎ (c.get.result ≡ Some p) = λ p marked. elim c.match-get.branch [
+      | in-Some w ↦ elim (w.mark.ensures.only p (subst (λ s. holds s.marked p ≡ true) w.seat-is marked)) [ inl before ↦ inl before | inr here ↦ inr (w.in-Some.is ∙ ap Some here) ]
+      | in_default w ↦ inl (subst (λ s. holds s.marked p ≡ true) w.seat-is marked)
+    ] in
     record {
-      marks = ListsMarks-then c.args.seat.now c.loop-i.seat c.visit_slot.new.seat c.args.marking.now c.loop-i.marking c.visit_slot.new.marking c.loop-i.invariant.marks
-          c.visit_slot.ensures.marks;
-      noted = c.visit_slot.ensures.noted ∙ c.loop-i.invariant.noted;
+      marks = ListsMarks-then c.args.seat.now c.loop-i.seat c.match-get.seat c.args.marking.now c.loop-i.marking c.match-get.marking c.loop-i.invariant.marks visited;
+      noted = same ∙ c.loop-i.invariant.noted;
       roots = λ p among. elim (Contains-take_more_cases c.args.slots.now c.loop-i.i None (Some p) low among) [
-        | inl earlier ↦ c.visit_slot.ensures.marks.marked p (c.loop-i.invariant.roots p earlier)
-        | inr here ↦ c.visit_slot.ensures.root p (c.get.ensures ∙ here)
+        | inl earlier ↦ visited.marked p (c.loop-i.invariant.roots p earlier)
+        | inr here ↦ root p (c.get.ensures ∙ here)
       ];
-      only = λ p marked. elim (c.visit_slot.ensures.only p marked) [
+      only = λ p marked. elim (only p marked) [
         | inl before ↦ elim (c.loop-i.invariant.only p before) [
           | inl first ↦ inl first
           | inr earlier ↦ inr (Contains-take_more_old c.args.slots.now c.loop-i.i None (Some p) low earlier)
@@ -53,3 +52,13 @@ loop-i-preserved c =
         | inr here ↦ inr (Contains-take_more_new c.args.slots.now c.loop-i.i None (Some p) low (sym c.get.ensures ∙ here))
       ];
     }
+
+pub returns-clause-roots : goal.returns-clause-roots
+returns-clause-roots c =
+    let all : take c.loop-i.i c.args.slots.now ≡ c.args.slots.now = take_all c.loop-i.i c.args.slots.now (omega (arith, c.loop-i-test.false)) in
+    λ p among. c.loop-i.invariant.roots p (subst (λ ss. Contains ss (Some p)) (sym all) among)
+
+pub returns-clause-only : goal.returns-clause-only
+returns-clause-only c =
+    let all : take c.loop-i.i c.args.slots.now ≡ c.args.slots.now = take_all c.loop-i.i c.args.slots.now (omega (arith, c.loop-i-test.false)) in
+    λ p marked. subst (λ ss. (holds c.args.seat.now.marked p ≡ true) ⊎ Contains ss (Some p)) all (c.loop-i.invariant.only p marked)
