@@ -1,12 +1,11 @@
 -- What an action leaves of the nodes: places, lives and types.
-use Rattle.std.proofs.Common.{◌≡◌, ℕ, List, length, set, All, Option, Some, None, refl, sym, subst, inl, inr}
+use Rattle.std.proofs.Common.{ℕ, List, length, set, All, Option, Some, None, refl, sym, subst, inl, inr}
 use Rattle.std.proofs.lemmas.Bool.{cases_lt}
 use Rattle.std.proofs.lemmas.List.{set_past, length-set}
 use Rattle.std.proofs.lemmas.List.Elements.{All-set}
-use Rattle.gc_graph.specs.declared.action.Action.{Action}
 use Rattle.gc_graph.specs.declared.action.Action.TheVariants as A
 use Rattle.gc_graph.specs.State.{Setup, Node, no_node, node_at}
-use Rattle.gc_graph.specs.Actions.{cleared_at, added_at, linked, change_linked, acted}
+use Rattle.gc_graph.specs.Actions.{cleared_at, added_at, linked, change_linked}
 use Rattle.gc_graph.specs.ActionLaw.{HaveStayed, AreTyped, ActionsLeaveNodes}
 use Rattle.gc_graph.specs.Valid.{IsTyped}
 use Rattle.gc_graph.proofs.NodeWrites.{LookSame, look_written}

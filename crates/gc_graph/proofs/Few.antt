@@ -1,10 +1,10 @@
 -- How much a state can count, and that its numbers have 64 bits.
-use Rattle.std.proofs.Common.{◌≡◌, ℕ, zero, suc, ◌+◌, ◌-◌, ◌*◌, ◌/◌, ◌^◌, ◌<◌, ◌≤◌, Bool, List, [], ◌∷◌, ◌++◌, length, get_or, All, refl, sym, ap, ◌∙◌, subst, inl, inr, arith}
+use Rattle.std.proofs.Common.{◌≡◌, ℕ, zero, suc, ◌+◌, ◌-◌, ◌*◌, ◌^◌, ◌<◌, ◌≤◌, Bool, List, [], ◌∷◌, ◌++◌, length, get_or, All, refl, sym, ap, ◌∙◌, subst, inl, inr, arith}
 use mathlib.Core.Logic.{◌⊎◌}
 use Rattle.std.specs.List.{Contains, slice_index}
 use Rattle.std.proofs.lemmas.Bool.{cases_lt}
 use Rattle.std.proofs.lemmas.Nat.{mul-le}
-use Rattle.std.proofs.lemmas.List.{length-set, length-map, get_or_past}
+use Rattle.std.proofs.lemmas.List.{length-map, get_or_past}
 use Rattle.std.proofs.lemmas.List.Elements.{All-nil, All-cons, All-tail, All-append, All-push, All-map, All-weaker, All-replicate}
 use Rattle.gc_graph.specs.declared.command.Order.{Order}
 use Rattle.gc_graph.specs.declared.line.Line.TheVariants as L
@@ -17,13 +17,14 @@ use Rattle.gc_graph.specs.State.{Setup, State, Node, no_node, RegionSlot, Regist
 use Rattle.gc_graph.specs.State.Life.{Dead, Gone}
 use Rattle.gc_graph.specs.State.RegionSlot.{Vacant, StrongTo, WeakTo}
 use Rattle.gc_graph.specs.Sweep.{SweepsInPhase, AreDeadInOrder, finalise}
-use Rattle.gc_graph.specs.History.{region_slot, node_of, region_after, cleared_by, reply_with, reply_of, IsLegalFrom}
+use Rattle.gc_graph.specs.History.{region_slot, node_of, reply_with, reply_of, IsLegalFrom}
 use Rattle.gc_graph.specs.Outcomes.{with_entry, took, AreOthers, IsThreadOp, owner_entry, finalise_lines}
 use Rattle.gc_graph.specs.Lawful.{IsAllowedOrder}
 use Rattle.gc_graph.specs.ReadBack.{numbers_of_op, numbers_of_reply, IsOf64Bits}
 use Rattle.gc_graph.specs.NumbersLaw.{IsWithinLimits}
 use Rattle.gc_graph.proofs.Sound.{IsSound}
 use Rattle.gc_graph.specs.NodeNumbers.{live_below}
+use Rattle.gc_graph.specs.Replays.{region_after_length}
 use Rattle.gc_graph.proofs.ValidRegion.{Shares, shared_at, entry_sound, thread_may, took_own}
 use Rattle.gc_graph.proofs.SmallWords.{HasSmall, finalised_small}
 
@@ -108,20 +109,6 @@ empty_few = record {
 
 -- ---- entries
 
-length-cleared_by : (mask : ℕ) (region : List RegionSlot) → length (cleared_by mask region) ≡ length region
-length-cleared_by mask [] = refl
-length-cleared_by mask (slot ∷ region) = ap suc (length-cleared_by (mask / 2) region)
-
-length-region_after : (region : List RegionSlot) (op : Op) → length (region_after region op) ≡ length region
-length-region_after region (O.Export x n) = length-set region x _
-length-region_after region (O.Import x) = refl
-length-region_after region O.Start = refl
-length-region_after region (O.Pause cleared) = length-cleared_by cleared region
-length-region_after region (O.Copy x y) = length-set region y _
-length-region_after region (O.Clear x) = length-set region x _
-length-region_after region (O.Weaken x) = length-set region x _
-length-region_after region (O.Upgrade x y) = length-set region y _
-
 module _ (setup : Setup) (a b c : ℕ) (small : a ≤ 1000001) where
   pub live_small : (s : State) (n : ℕ) → IsFew a b c s → IsLive s.nodes n → Small n
   live_small s n h live = (let l = live_below s.nodes n live in let m = h.nodes_few in omega arith)
@@ -149,7 +136,7 @@ module _ (setup : Setup) (a b c : ℕ) (small : a ≤ 1000001) where
     words = h.words;
     callbacks = h.callbacks;
     shared = record {
-      slots = length-region_after s.region entry.op ∙ h.shared.slots;
+      slots = region_after_length s.region entry.op ∙ h.shared.slots;
       orders = h.shared.orders;
       threads_few = h.shared.threads_few;
       threads = h.shared.threads;

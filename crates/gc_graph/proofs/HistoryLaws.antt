@@ -7,15 +7,12 @@ use Rattle.gc_graph.specs.declared.region.Op.{Op}
 use Rattle.gc_graph.specs.declared.region.Op.TheVariants as O
 use Rattle.gc_graph.specs.declared.phase.Phase.{Phase}
 use Rattle.gc_graph.specs.declared.phase.Phase.TheVariants.{Idle, Marking, Sweeping}
-use Rattle.gc_graph.specs.State.{Shape, State, RegionSlot}
+use Rattle.gc_graph.specs.State.{Shape, State}
 use Rattle.gc_graph.specs.Sweep.{SweepsInPhase}
-use Rattle.gc_graph.specs.History.{IsLegalFrom, replayed, region_after, started_after}
+use Rattle.gc_graph.specs.History.{IsLegalFrom, replayed, started_after, started_through}
 use Rattle.gc_graph.specs.Outcomes.{with_entry, took, IsThreadOp, AreOthers}
 use Rattle.gc_graph.specs.CycleSteps.{is_marking}
-
-pub started_through : Bool → List Entry → Bool
-started_through started [] = started
-started_through started (entry ∷ history) = started_through (started_after started entry.op) history
+use Rattle.gc_graph.specs.Replays.{replayed-append, started-append, legal-append}
 
 -- the piece is legal, and leads to the slots and to the phase
 pub record Follows (old : State) (piece : List Entry) (new : State) : Type 0 where
@@ -25,25 +22,9 @@ pub record Follows (old : State) (piece : List Entry) (new : State) : Type 0 whe
 
 pub quiet : (old new : State) (piece : List Entry) → piece ≡ [] → new.region ≡ old.region → is_marking new.phase ≡ is_marking old.phase
     → Follows old piece new
-unfolding started_through
 quiet old new piece e r p = subst (λ es. Follows old es new) (sym e) (record { legal = tt; slots = r; started = p })
 
 -- ---- two pieces, one after the other
-
-pub replayed-append : (region : List RegionSlot) (xs ys : List Entry) → replayed region (xs ++ ys) ≡ replayed (replayed region xs) ys
-replayed-append region [] ys = refl
-replayed-append region (x ∷ xs) ys = replayed-append (region_after region x.op) xs ys
-
-pub started-append : (started : Bool) (xs ys : List Entry) → started_through started (xs ++ ys) ≡ started_through (started_through started xs) ys
-unfolding started_through
-started-append started [] ys = refl
-started-append started (x ∷ xs) ys = started-append (started_after started x.op) xs ys
-
-pub legal-append : (region : List RegionSlot) (started : Bool) (xs ys : List Entry) → IsLegalFrom region started xs
-    → IsLegalFrom (replayed region xs) (started_through started xs) ys → IsLegalFrom region started (xs ++ ys)
-unfolding started_through
-legal-append region started [] ys a b = b
-legal-append region started (x ∷ xs) ys a b = (a.0, a.1, legal-append (region_after region x.op) (started_after started x.op) xs ys a.2 b)
 
 pub follows-append : (old mid new : State) (xs ys : List Entry) → Follows old xs mid → Follows mid ys new → Follows old (xs ++ ys) new
 follows-append old mid new xs ys a b = record {
@@ -76,7 +57,6 @@ thread_op_keeps started (O.Upgrade x y) t = refl
 
 -- entries of threads start nothing and end nothing
 others_keep : (started : Bool) (entries : List Entry) → All (λ (e : Entry). IsThreadOp e.op) entries → started_through started entries ≡ started
-unfolding started_through
 others_keep started [] a = refl
 others_keep started (e ∷ es) a =
     ap (λ b. started_through b es) (thread_op_keeps started e.op (All-head (λ (x : Entry). IsThreadOp x.op) e es a))
@@ -88,7 +68,6 @@ others_start_nothing s started entries a = others_keep started entries (λ k d l
 -- entries of threads, and then one of the owner
 pub owned : (s : State) (started : Bool) (before : List Entry) (own : Entry) → AreOthers s before
     → started_through started (before ++ own ∷ []) ≡ started_after started own.op
-unfolding started_through
 owned s started before own a =
     started-append started before (own ∷ []) ∙ ap (λ b. started_after b own.op) (others_start_nothing s started before a)
 

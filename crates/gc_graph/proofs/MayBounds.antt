@@ -15,7 +15,8 @@ use Rattle.gc_graph.specs.May.{members, is_hit, hits_for}
 use Rattle.gc_graph.specs.Valid.{IsMay, HasMay, IsValid}
 use Rattle.gc_graph.specs.MayLaw.{BoundsMeet}
 use Rattle.gc_graph.proofs.Sets.{same_or_fewer}
-use Rattle.gc_graph.proofs.Reaching.{reach_law, reach_length}
+use Rattle.gc_graph.specs.ReachLength.{reach_length}
+use Rattle.gc_graph.proofs.Reaching.{reach_law}
 use Rattle.gc_graph.proofs.Sound.{found}
 use Rattle.gc_graph.proofs.WeakReads.{refers_within, members_in, member_found, in_below}
 

@@ -8,23 +8,17 @@ use Rattle.std.proofs.lemmas.List.FromFn.{length-map-range_with_len}
 use Rattle.gc_graph.specs.Graph.{Object, object_at, has, IsIn, IsWithin, IsClosed, leads_to}
 use Rattle.gc_graph.specs.Reach.{set_of, any_below, closing, closed_times, Reach, RefersWithin, ReachIsLeast}
 use Rattle.gc_graph.specs.AnyBelow.{any_below-from, any_below-some}
+use Rattle.gc_graph.specs.ReachLength.{length-closing, length-closed_times}
 use Rattle.gc_graph.proofs.Sets.{count_of, count_of-length, same_or_fewer, has-set_of, set_of-below}
 
 -- what a step of closing makes of a number
 abbrev pulled : List Object → List Bool → ℕ → Bool
 pulled g s k = has s k || any_below (λ i. has s i && leads_to s (object_at g i) k) (length g)
 
-length-closing : (g : List Object) (s : List Bool) → length (closing g s) ≡ length g
-length-closing g s = length-map-range_with_len (pulled g s) 0 (length g)
-
 closing-keeps : (g : List Object) (s : List Bool) → length s ≡ length g → IsWithin s (closing g s)
 closing-keeps g s e k h =
     let below : k < length g = elim (cases_lt k (length g)) [ inl l ↦ l | inr p ↦ absurd (true≢false (sym h ∙ get_or_past s k false (rw e p))) ] in
     has-set_of (pulled g s) (length g) k below ∙ or_left (has s k) _ h
-
-length-closed_times : (n : ℕ) (g : List Object) (s : List Bool) → length s ≡ length g → length (closed_times n g s) ≡ length g
-length-closed_times zero g s e = e
-length-closed_times (suc n) g s e = length-closing g (closed_times n g s)
 
 -- after n rounds the set is closed, or has at least n members
 rounds : (n : ℕ) (g : List Object) (s : List Bool) → length s ≡ length g
@@ -88,12 +82,6 @@ closed_times-within (suc n) g s t c w = closing-within g (closed_times n g s) t 
 closed_times-keeps : (n : ℕ) (g : List Object) (s : List Bool) → length s ≡ length g → IsWithin s (closed_times n g s)
 closed_times-keeps zero g s e k h = h
 closed_times-keeps (suc n) g s e k h = closing-keeps g (closed_times n g s) (length-closed_times n g s e) k (closed_times-keeps n g s e k h)
-
-pub reach_length : (g : List Object) (roots : List ℕ) → length (Reach g roots) ≡ length g
-unfolding Reach
-reach_length g roots =
-    length-closed_times (length g) g (set_of (λ k. list_any (λ r. eqb r k) roots) (length g))
-    (length-map-range_with_len (λ k. list_any (λ r. eqb r k) roots) 0 (length g))
 
 pub reach_law : ReachIsLeast
 unfolding Reach

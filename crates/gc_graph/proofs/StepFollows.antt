@@ -19,7 +19,7 @@ use Rattle.gc_graph.specs.Fields.{kind_of_field, value_at, with_value, content_o
 use Rattle.gc_graph.specs.State.StackWord.{Pointer, Number}
 use Rattle.gc_graph.specs.May.{read_node}
 use Rattle.gc_graph.specs.Sweep.{SweepsTo}
-use Rattle.gc_graph.specs.History.{IsLegalFrom, replayed, started_after}
+use Rattle.gc_graph.specs.History.{IsLegalFrom, replayed, started_after, started_through}
 use Rattle.gc_graph.specs.Outcomes.{answered, IsRefused, IsMemory, took, slot_at, weak_slot_at}
 use Rattle.gc_graph.specs.ObjectSteps.{AtField, first_word, part_of, with_node, IsChanged, StepNew, StepWord, IsNumber, IsRead}
 use Rattle.gc_graph.specs.HandleSteps.{IsDone, pushed, IsPushed, IsPeeked}
@@ -28,7 +28,7 @@ use Rattle.gc_graph.specs.RegionSteps.{TakesOwn, StepExport, StepImport, StepThr
 use Rattle.gc_graph.specs.Step.{Step}
 use Rattle.gc_graph.proofs.ValidRegion.{took_own}
 use Rattle.gc_graph.proofs.StepCases.{match_option, match_bool, at_field}
-use Rattle.gc_graph.proofs.HistoryLaws.{Follows, quiet, follows-append, started_through, owned, took-region, took-phase, others_start_nothing, sweep_follows}
+use Rattle.gc_graph.proofs.HistoryLaws.{Follows, quiet, follows-append, owned, took-region, took-phase, others_start_nothing, sweep_follows}
 
 -- the new state is one with the same slots and phase
 from_state : (old new x : State) (piece : List Entry) → piece ≡ [] → new ≡ x → x.region ≡ old.region → x.phase ≡ old.phase → Follows old piece new

@@ -17,7 +17,8 @@ use Rattle.gc_graph.specs.Sweep.{SweepsTo}
 use Rattle.gc_graph.specs.Valid.{IsSettled}
 use Rattle.gc_graph.specs.Outcomes.{answered, took, with_entry, owner_entry}
 use Rattle.gc_graph.specs.CycleSteps.{IsStart, IsBegun, is_marking, is_stack_refused, WantsMemory, StepGcStart, StepGcStep, IsPause, StepGcFinish, IsCollection, StepGcNow, StepStat}
-use Rattle.gc_graph.proofs.Reaching.{reach_law, reach_length}
+use Rattle.gc_graph.specs.ReachLength.{reach_length}
+use Rattle.gc_graph.proofs.Reaching.{reach_law}
 use Rattle.gc_graph.proofs.Follows.{follow_from}
 use Rattle.gc_graph.proofs.Sound.{RegionNames, slots_from, words_from, found, held_to, all_left, all_right, kinds_at, IsRoot, IsSound}
 use Rattle.gc_graph.proofs.WeakReads.{refers_within, reached_live}

@@ -19,7 +19,8 @@ use Rattle.gc_graph.specs.May.{members, members_from, may_with_read, weakly_read
 use Rattle.gc_graph.specs.Valid.{HaveKinds, IsTyped, NamesLive}
 use Rattle.gc_graph.specs.NodeNumbers.{object_of_node, live_below}
 use Rattle.gc_graph.proofs.Sets.{has-set_of, set_of-below}
-use Rattle.gc_graph.proofs.Reaching.{reach_law, reach_length}
+use Rattle.gc_graph.specs.ReachLength.{reach_length}
+use Rattle.gc_graph.proofs.Reaching.{reach_law}
 use Rattle.gc_graph.proofs.Follows.{AnyStrong, AnyPair, Held, Carries, Follows, closed_from, follow_from}
 use Rattle.gc_graph.proofs.Sound.{slot_weaker, word_weaker, region_weaker, MayHas, IsRoot, IsHeap, MayFollows, IsSound, found, kinds_at}
 

@@ -103,6 +103,11 @@ started_after started O.Start = true
 started_after started (O.Pause cleared) = false
 started_after started op = started
 
+-- whether a start has no pause after it, once these entries have followed
+abbrev pub started_through : Bool → List Entry → Bool
+started_through started [] = started
+started_through started (entry ∷ history) = started_through (started_after started entry.op) history
+
 -- the entries may follow where the slots are these: each reply is the one that a region of one thread gives
 abbrev pub IsLegalFrom : List RegionSlot → Bool → List Entry → Type 0
 IsLegalFrom region started [] = ⊤

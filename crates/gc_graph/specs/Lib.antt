@@ -43,6 +43,8 @@ pub mod Checking
 -- Lemmas that the crates above cite too, since a crate's proofs/ can't be cited from another.
 pub mod Members
 pub mod AnyBelow
+pub mod ReachLength
+pub mod Replays
 pub mod Leading
 pub mod NodeNumbers
 pub mod PageNumbers
