@@ -8,8 +8,8 @@ use Rattle.gc_graph.specs.State.{Setup, State, RegionSlot, empty_state}
 use Rattle.gc_graph.specs.State.RegionSlot.{Vacant}
 use Rattle.gc_graph.specs.History.{IsLegalFrom, replayed, reply_of, region_after, started_after}
 use Rattle.gc_graph.specs.Lawful.{Outcome, Run, last_state, history_of}
-use Rattle.gc_graph.specs.HistoryLaw.{RepliesAreOfOneThread, RunsAreReplayed}
-use Rattle.gc_graph.proofs.HistoryLaws.{Follows, quiet, follows-append}
+use Rattle.gc_graph.specs.HistoryLaw.{Follows, RepliesAreOfOneThread, RunsAreReplayed}
+use Rattle.gc_graph.proofs.HistoryLaws.{quiet, follows-append}
 use Rattle.gc_graph.proofs.StepFollows.{step_follows}
 
 reply_at : (region : List RegionSlot) (started : Bool) (history : List Entry) (i : ℕ) (entry : Entry) → IsLegalFrom region started history

@@ -12,13 +12,8 @@ use Rattle.gc_graph.specs.Sweep.{SweepsInPhase}
 use Rattle.gc_graph.specs.History.{IsLegalFrom, replayed, started_after, started_through}
 use Rattle.gc_graph.specs.Outcomes.{with_entry, took, IsThreadOp, AreOthers}
 use Rattle.gc_graph.specs.CycleSteps.{is_marking}
+use Rattle.gc_graph.specs.HistoryLaw.{Follows}
 use Rattle.gc_graph.specs.Replays.{replayed-append, started-append, legal-append}
-
--- the piece is legal, and leads to the slots and to the phase
-pub record Follows (old : State) (piece : List Entry) (new : State) : Type 0 where
-  pub legal : IsLegalFrom old.region (is_marking old.phase) piece
-  pub slots : new.region ≡ replayed old.region piece
-  pub started : is_marking new.phase ≡ started_through (is_marking old.phase) piece
 
 pub quiet : (old new : State) (piece : List Entry) → piece ≡ [] → new.region ≡ old.region → is_marking new.phase ≡ is_marking old.phase
     → Follows old piece new

@@ -1,4 +1,4 @@
--- Over a whole run each number is placed and finalised once.
+-- Over a whole run each number is placed and finalised once, and stays at its place.
 use Rattle.std.proofs.Common.{◌≡◌, ℕ, zero, suc, ◌+◌, ◌<◌, ◌≤◌, true, List, [], ◌∷◌, ◌++◌, length, take, All, Contains, Some, None, refl, sym, ◌∙◌, subst, inl, inr, arith}
 use mathlib.Core.Logic.{◌⊎◌}
 use Rattle.std.specs.List.{slice_get}
@@ -12,7 +12,7 @@ use Rattle.gc_graph.specs.State.Life.{Live, Dead, Gone}
 use Rattle.gc_graph.specs.Placement.{HasWord, extent_of}
 use Rattle.gc_graph.specs.Valid.{IsValid, AreApart}
 use Rattle.gc_graph.specs.Lawful.{Outcome, Run, last_state, state_after, IsAllowed}
-use Rattle.gc_graph.specs.OnceLaw.{all_lines, AreOnce, TellsPause, Once}
+use Rattle.gc_graph.specs.OnceLaw.{all_lines, AreOnce, TellsPause, Once, NodesStayPut}
 use Rattle.gc_graph.proofs.Sound.{sound_from}
 use Rattle.gc_graph.proofs.NodeWrites.{look_same}
 use Rattle.gc_graph.proofs.ValidSteps.{step_keeps_valid, empty_is_valid}
@@ -257,3 +257,15 @@ once setup commands outcomes some allowed run =
             };
       },
     )
+
+-- ---- one step
+
+pub nodes_stay_put : NodesStayPut
+nodes_stay_put setup old command piece lines new some allowed valid step =
+    let after : IsValid setup new = step_keeps_valid setup old new command piece lines some allowed valid step in
+    let tells : StepTells old.nodes lines new.nodes =
+    step_tells setup old new command piece lines (sound_from setup old valid) (sound_from setup new after) step in
+    record {
+      none_lost = told_grows old.nodes new.nodes lines tells.told;
+      places = λ n l. (told_put old.nodes new.nodes lines n l tells.told).place;
+    }

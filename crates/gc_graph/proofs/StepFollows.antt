@@ -28,7 +28,8 @@ use Rattle.gc_graph.specs.RegionSteps.{TakesOwn, StepExport, StepImport, StepThr
 use Rattle.gc_graph.specs.Step.{Step}
 use Rattle.gc_graph.proofs.ValidRegion.{took_own}
 use Rattle.gc_graph.proofs.StepCases.{match_option, match_bool, at_field}
-use Rattle.gc_graph.proofs.HistoryLaws.{Follows, quiet, follows-append, owned, took-region, took-phase, others_start_nothing, sweep_follows}
+use Rattle.gc_graph.specs.HistoryLaw.{Follows, StepsFollow}
+use Rattle.gc_graph.proofs.HistoryLaws.{quiet, follows-append, owned, took-region, took-phase, others_start_nothing, sweep_follows}
 
 -- the new state is one with the same slots and phase
 from_state : (old new x : State) (piece : List Entry) → piece ≡ [] → new ≡ x → x.region ≡ old.region → x.phase ≡ old.phase → Follows old piece new
@@ -285,3 +286,6 @@ step_follows setup old new (C.At j order) piece lines h =
 step_follows setup old new C.ThreadsGo piece lines h =
     elim h.1 [ inl d ↦ from_state old new _ piece h.0 d.1 refl refl | inr d ↦ from_state old new _ piece h.0 d.1 refl refl ]
 step_follows setup old new C.ThreadsJoin piece lines h = join_follows old new piece lines h
+
+pub steps_follow : StepsFollow
+steps_follow setup old command piece lines new h = step_follows setup old new command piece lines h

@@ -1,12 +1,15 @@
--- The law of a node's life: it is placed once, condemned by a pause, finalised once, and then gone.
+-- The laws of a node's life: it is placed once and stays where it is, is condemned by a pause, finalised once, and then gone.
 use Rattle.std.specs.Prelude.{◌≡◌, ℕ, ◌+◌, ◌<◌, ◌≤◌, Bool, List, ◌∷◌, ◌++◌, length, Some, slice_get, Contains, All}
 use Rattle.std.specs.List.{flat_map}
 use Rattle.gc_graph.specs.declared.command.Command.{Command}
 use Rattle.gc_graph.specs.declared.line.Line.{Line}
 use Rattle.gc_graph.specs.declared.line.Line.TheVariants as L
-use Rattle.gc_graph.specs.State.{Setup, Node, node_at, IsLive, IsDead, empty_state}
+use Rattle.gc_graph.specs.declared.region.Entry.{Entry}
+use Rattle.gc_graph.specs.State.{Setup, State, Node, node_at, IsLive, IsDead, empty_state}
 use Rattle.gc_graph.specs.State.Life.{Gone}
 use Rattle.gc_graph.specs.Placement.{HasWord, extent_of}
+use Rattle.gc_graph.specs.Step.{Step}
+use Rattle.gc_graph.specs.Valid.{IsValid}
 use Rattle.gc_graph.specs.Lawful.{Outcome, Run, last_state, state_after, IsAllowed}
 
 -- the lines of a run, in order
@@ -57,3 +60,14 @@ Once =
     (setup : Setup) (commands : List Command) (outcomes : List Outcome) → 0 < setup.shape.pages
     → All (IsAllowed (length setup.types)) commands → Run setup empty_state commands outcomes
     → AreOnce (all_lines outcomes) (last_state empty_state outcomes).nodes × LivesEnd outcomes
+
+-- no node is lost, and each has the place that it had
+pub record StayPut (old new : List Node) : Type 0 where
+  pub none_lost : length old ≤ length new
+  pub places : (n : ℕ) → n < length old → (node_at new n).place ≡ (node_at old n).place
+
+-- so it is with the nodes of a step
+abbrev pub NodesStayPut : Type 0
+NodesStayPut =
+    (setup : Setup) (old : State) (command : Command) (piece : List Entry) (lines : List Line) (new : State) → 0 < setup.shape.pages
+    → IsAllowed (length setup.types) command → IsValid setup old → Step setup old command piece lines new → StayPut old.nodes new.nodes

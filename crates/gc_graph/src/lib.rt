@@ -12,9 +12,9 @@
 //! stand in `specs/`, to be read in the order of `specs/Lib.antt`.
 //!
 //! What is proved: the laws of `reach`, `laws`, `laws_of_cycles`, `laws_of_lives`,
-//! `laws_of_marking`, `laws_of_reports` and `laws_of_sweeping`, each the contract of a function that does nothing, and
-//! that `reach_check` is true exactly where a set holds the roots and is closed. The laws of steps
-//! and runs ask for a heap that has a page.
+//! `laws_of_marking`, `laws_of_regions`, `laws_of_reports` and `laws_of_sweeping`, each the contract
+//! of a function that does nothing, and that `reach_check` is true exactly where a set holds the
+//! roots and is closed. The laws of steps and runs ask for a heap that has a page.
 //!
 //! What is only tested or not said: the definitions are what a reader has to believe. The tests
 //! of the program compare them with reports that were written by hand.
@@ -29,6 +29,7 @@ mod laws;
 mod laws_of_cycles;
 mod laws_of_lives;
 mod laws_of_marking;
+mod laws_of_regions;
 mod laws_of_reports;
 mod laws_of_sweeping;
 mod line;
@@ -53,8 +54,9 @@ pub use laws_of_cycles::{
     cycles_go_in_order, hits_are_kept, last_registered_runs_first, live_holders_are_cleared,
     pauses_count_once, steps_tell_what_is_left,
 };
-pub use laws_of_lives::lives_end_once;
+pub use laws_of_lives::{lives_end_once, nodes_stay_put};
 pub use laws_of_marking::{kept_is_accounted_for, precise_collection_is_exact};
+pub use laws_of_regions::steps_follow_the_history;
 pub use laws_of_reports::{lines_have_numbers, run_reads_back};
 pub use laws_of_sweeping::{placed_in_last_page, placement_is_one, sweeps_go_by_pages};
 pub use line::{Line, Refusal};
