@@ -4,6 +4,7 @@ mod StepCases
 mod HistoryLaws
 mod StepFollows
 mod Histories
+mod RegionLaws
 mod Refusals
 mod FullHeaps
 mod Sweeps

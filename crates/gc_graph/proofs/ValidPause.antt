@@ -1,9 +1,8 @@
 -- A pause keeps a state sound.
-use Rattle.std.proofs.Common.{◌≡◌, ℕ, ◌+◌, ◌*◌, ◌/◌, ◌%◌, ◌<◌, ◌==◌, not, Bool, true, false, true≢false, List, [], ◌∷◌, ◌++◌, length, map, All, Option, Some, None, refl, sym, subst, inl, inr, arith, if◌then◌else◌}
-use Rattle.std.proofs.lemmas.Bool.{eqb-false}
+use Rattle.std.proofs.Common.{◌≡◌, ℕ, ◌+◌, ◌*◌, ◌/◌, ◌%◌, ◌<◌, ◌==◌, not, Bool, true, false, List, [], ◌∷◌, ◌++◌, length, map, All, Option, Some, None, refl, sym, subst, arith, if◌then◌else◌}
 use Rattle.std.specs.Prelude.{⊤}
 use Rattle.std.specs.List.{range_with_len}
-use Rattle.std.proofs.lemmas.Bool.{cond_both, cases_Bool}
+use Rattle.std.proofs.lemmas.Bool.{cond_both}
 use Rattle.std.proofs.lemmas.List.{length-map}
 use Rattle.std.proofs.lemmas.List.FromFn.{get_or-range_with_len, length-range_with_len}
 use Rattle.std.proofs.lemmas.List.Elements.{All-nil, All-cons, All-head, All-tail, All-map, All-append, All-filter, filter_passes}
@@ -19,6 +18,7 @@ use Rattle.gc_graph.specs.May.{is_hit, hits_for}
 use Rattle.gc_graph.specs.History.{weak_target, cleared_by}
 use Rattle.gc_graph.specs.Pause.{IsKept, condemn, is_dead_at, clear_slot, names_dead_node, mask_of, dies, run_order, prefinalised, clear_fields, paused}
 use Rattle.gc_graph.proofs.Reaching.{reach_law}
+use Rattle.gc_graph.proofs.RegionLaws.{lowest_flag, other_flags}
 use Rattle.gc_graph.proofs.Follows.{AllFollow, follow_from}
 use Rattle.gc_graph.proofs.Sound.{SlotNames, WordNames, RegionNames, slots_from, slots_to, words_from, words_to, strong_to, found, held_to, all_left, all_right, kinds_at, IsRoot, IsSound}
 use Rattle.gc_graph.proofs.WeakReads.{refers_within}
@@ -62,14 +62,6 @@ roots_kept setup s want kept g keeps =
 
 -- ---- the slots of the region
 
-odd_from : (flag : Bool) (rest : ℕ) → flag ≡ true → ((if flag then 1 else 0) + 2 * rest) % 2 ≡ 1
-odd_from true rest e = omega arith
-odd_from false rest e = absurd (true≢false (sym e))
-
-halved : (flag : Bool) (rest : ℕ) → ((if flag then 1 else 0) + 2 * rest) / 2 ≡ rest
-halved true rest = omega arith
-halved false rest = omega arith
-
 module _ (flag_of : RegionSlot → Bool) (P Q : RegionSlot → Type 0) (vacant : Q Vacant) (stay : (slot : RegionSlot) → flag_of slot ≡ false → P slot → Q slot) where
   pub cleared_slots : (region : List RegionSlot) → All P region → All Q (cleared_by (mask_of (map flag_of region)) region)
   cleared_slots [] h = All-nil Q
@@ -77,11 +69,9 @@ module _ (flag_of : RegionSlot → Bool) (P Q : RegionSlot → Type 0) (vacant :
       let rest : ℕ = mask_of (map flag_of region) in
       let mask : ℕ = (if flag_of slot then 1 else 0) + 2 * rest in
       All-cons Q (if mask % 2 == 1 then Vacant else slot) (cleared_by (mask / 2) region)
-      (elim (cases_Bool (flag_of slot)) [
-        | inl flagged ↦ cond_both (mask % 2 == 1) Vacant slot Q (λ e. vacant) (λ e. absurd (eqb-false (mask % 2) 1 e (odd_from (flag_of slot) rest flagged)))
-        | inr unflagged ↦ cond_both (mask % 2 == 1) Vacant slot Q (λ e. vacant) (λ e. stay slot unflagged (All-head P slot region h))
-      ])
-      (subst (λ m. All Q (cleared_by m region)) (sym (halved (flag_of slot) rest)) (cleared_slots region (All-tail P slot region h)))
+      (subst (λ flag. Q (if flag then Vacant else slot)) (sym (lowest_flag (flag_of slot) rest))
+      (cond_both (flag_of slot) Vacant slot Q (λ e. vacant) (λ e. stay slot e (All-head P slot region h))))
+      (subst (λ m. All Q (cleared_by m region)) (sym (other_flags (flag_of slot) rest)) (cleared_slots region (All-tail P slot region h)))
 
 abbrev pub Anyone : ℕ → Type 0
 Anyone n = ⊤

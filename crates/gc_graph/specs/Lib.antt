@@ -36,6 +36,7 @@ pub mod PlacementLaw
 pub mod SweepLaw
 pub mod OnceLaw
 pub mod HistoryLaw
+pub mod RegionLaw
 pub mod NumbersLaw
 pub mod ScriptLaw
 -- What the crate's own code cites.
