@@ -65,6 +65,10 @@ entry_of pass history op place = record {
   place = place;
 }
 
+-- the history with the next entry of the first pass
+abbrev pub with_own : List PlacedEntry → Op → ℕ → List PlacedEntry
+with_own history op place = history ++ entry_of first_pass history op place ∷ []
+
 -- memory was wanting, and nothing changed
 pub record IsRefused (old : RegionView) (pass : PassView) (reply : Reply) (new : RegionView) (passed : PassView) : Type 0 where
   pub reply_is : reply ≡ R.NoMemory

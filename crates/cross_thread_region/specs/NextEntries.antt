@@ -1,33 +1,14 @@
 -- For crates above: what one more entry at the end of a history does.
-use Rattle.std.specs.Prelude.{◌≡◌, ℕ, Bool, true, false, List, [], ◌∷◌, ◌++◌, length, replicate, ◌/◌, refl}
+use Rattle.std.specs.Prelude.{◌≡◌, ℕ, Bool, true, false, List, [], ◌∷◌, ◌++◌, length, replicate, refl}
 use Rattle.std.specs.Prelude.{slice_index_or, nat_lt, if◌then◌else◌, take, drop}
-use Rattle.std.proofs.Common.{arith, suc, sym, ap, ◌∙◌, subst}
-use Rattle.std.proofs.lemmas.List.{map-append, length-set}
-use Rattle.gc_graph.specs.declared.region.Entry.{Entry}
-use Rattle.gc_graph.specs.declared.region.Op.{Op}
-use Rattle.gc_graph.specs.declared.region.Op.TheVariants as O
-use Rattle.gc_graph.specs.State.{RegionSlot}
+use Rattle.std.proofs.Common.{arith, sym, ap, ◌∙◌, subst}
+use Rattle.std.proofs.lemmas.List.{map-append}
 use Rattle.gc_graph.specs.State.RegionSlot.{Vacant}
-use Rattle.gc_graph.specs.History.{region_after, cleared_by, replayed, reply_of, started_after, MayPause, IsLegalFrom, IsLegal}
+use Rattle.gc_graph.specs.History.{region_after, replayed, reply_of, started_after, started_through, MayPause, IsLegal}
+use Rattle.gc_graph.specs.Replays.{replayed-append, started-append, legal-append, replayed_length}
 use Rattle.cross_thread_region.specs.declared.chronicle.PlacedEntry.{PlacedEntry}
 use Rattle.cross_thread_region.specs.Calls.{Begins, longer}
-use Rattle.cross_thread_region.specs.Histories.{entries_of, slots_of, places_of, places_with, places_through, started_through, is_started}
-
-replayed_on : (region : List RegionSlot) (history : List Entry) (entry : Entry)
-    → replayed region (history ++ entry ∷ []) ≡ region_after (replayed region history) entry.op
-replayed_on region [] entry = refl
-replayed_on region (x ∷ xs) entry = replayed_on (region_after region x.op) xs entry
-
-started_on : (started : Bool) (history : List Entry) (entry : Entry)
-    → started_through started (history ++ entry ∷ []) ≡ started_after (started_through started history) entry.op
-started_on started [] entry = refl
-started_on started (x ∷ xs) entry = started_on (started_after started x.op) xs entry
-
-legal_on : (region : List RegionSlot) (started : Bool) (history : List Entry) (entry : Entry) → IsLegalFrom region started history
-    → entry.reply ≡ reply_of (replayed region history) entry.op → MayPause (replayed region history) (started_through started history) entry.op
-    → IsLegalFrom region started (history ++ entry ∷ [])
-legal_on region started [] entry l reply may = (reply, may, tt)
-legal_on region started (x ∷ xs) entry l reply may = (l.0, l.1, legal_on (region_after region x.op) (started_after started x.op) xs entry l.2 reply may)
+use Rattle.cross_thread_region.specs.Histories.{entries_of, slots_of, places_of, places_with, places_through, is_started}
 
 places_on : (places : List ℕ) (history : List PlacedEntry) (placed : PlacedEntry)
     → places_through places (history ++ placed ∷ []) ≡ places_with (places_through places history) placed.entry.op placed.place
@@ -39,7 +20,7 @@ entries_on history placed = map-append (λ (p : PlacedEntry). p.entry) history (
 
 -- the slots after the next entry
 pub slots_next : (history : List PlacedEntry) (placed : PlacedEntry) → slots_of (history ++ placed ∷ []) ≡ region_after (slots_of history) placed.entry.op
-slots_next history placed = ap (replayed (replicate 32 Vacant)) (entries_on history placed) ∙ replayed_on (replicate 32 Vacant) (entries_of history) placed.entry
+slots_next history placed = ap (replayed (replicate 32 Vacant)) (entries_on history placed) ∙ replayed-append (replicate 32 Vacant) (entries_of history) (placed.entry ∷ [])
 
 -- the places after the next entry
 pub places_next : (history : List PlacedEntry) (placed : PlacedEntry)
@@ -48,36 +29,17 @@ places_next history placed = places_on (replicate 32 0) history placed
 
 -- the next entry starts a collection, ends one, or neither
 pub started_next : (history : List PlacedEntry) (placed : PlacedEntry) → is_started (history ++ placed ∷ []) ≡ started_after (is_started history) placed.entry.op
-started_next history placed = ap (started_through false) (entries_on history placed) ∙ started_on false (entries_of history) placed.entry
+started_next history placed = ap (started_through false) (entries_on history placed) ∙ started-append false (entries_of history) (placed.entry ∷ [])
 
 -- a history with a next entry is legal where that entry's reply is right, and it may be a pause if it is one
 pub legal_next : (history : List PlacedEntry) (placed : PlacedEntry) → IsLegal (entries_of history) → placed.entry.reply ≡ reply_of (slots_of history) placed.entry.op
     → MayPause (slots_of history) (is_started history) placed.entry.op → IsLegal (entries_of (history ++ placed ∷ []))
 legal_next history placed l reply may =
-    subst IsLegal (sym (entries_on history placed)) (legal_on (replicate 32 Vacant) false (entries_of history) placed.entry l reply may)
-
-cleared_len : (mask : ℕ) (region : List RegionSlot) → length (cleared_by mask region) ≡ length region
-cleared_len mask [] = refl
-cleared_len mask (slot ∷ region) = ap suc (cleared_len (mask / 2) region)
-
--- there are as many slots after an operation as before
-pub after_len : (region : List RegionSlot) (op : Op) → length (region_after region op) ≡ length region
-after_len region (O.Export x n) = length-set region x _
-after_len region (O.Import x) = refl
-after_len region O.Start = refl
-after_len region (O.Pause cleared) = cleared_len cleared region
-after_len region (O.Copy x y) = length-set region y _
-after_len region (O.Clear x) = length-set region x _
-after_len region (O.Weaken x) = length-set region x _
-after_len region (O.Upgrade x y) = length-set region y _
-
-replayed_len : (region : List RegionSlot) (history : List Entry) → length (replayed region history) ≡ length region
-replayed_len region [] = refl
-replayed_len region (entry ∷ history) = replayed_len (region_after region entry.op) history ∙ after_len region entry.op
+    subst IsLegal (sym (entries_on history placed)) (legal-append (replicate 32 Vacant) false (entries_of history) (placed.entry ∷ []) l (reply, may, tt))
 
 -- a region has 32 slots after each history
 pub slots_len : (history : List PlacedEntry) → length (slots_of history) ≡ 32
-slots_len history = replayed_len (replicate 32 Vacant) (entries_of history)
+slots_len history = replayed_length (replicate 32 Vacant) (entries_of history)
 
 -- ---- what passes have seen
 

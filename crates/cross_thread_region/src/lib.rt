@@ -6,7 +6,8 @@
 //!
 //! The parts: `Region`; `Pass`, with which a thread calls it; `HeldRegion`, which a pause holds
 //! between its beginning and its end; `PlacedEntry`, of which contracts make the history; `laws`. Inside:
-//! `chronicle` (the history and the slots after it), `contents` and `slot`.
+//! `pausing` (a collection's start and its pause), `chronicle` (the history and the slots after it),
+//! `contents` and `slot`.
 //!
 //! What is proved: the history is legal, and what the slots hold is what replaying it gives. A call
 //! makes the next entry, which names its pass's number, and its reply is the one that a region of
@@ -25,11 +26,12 @@ mod contents;
 mod held;
 mod laws;
 mod pass;
+mod pausing;
 mod region;
 mod slot;
 
 pub use chronicle::PlacedEntry;
 pub use held::HeldRegion;
 pub use laws::places_come_from_exports;
-pub use pass::Pass;
+pub use pass::{Histories, Pass};
 pub use region::Region;

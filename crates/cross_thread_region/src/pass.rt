@@ -7,7 +7,7 @@ use crate::chronicle::Chronicle;
 use ghost_values::GhostValue;
 use std::marker::Model;
 
-/// The entries that a pass has seen. It is never made.
+/// A history, or what a pass has seen of it. It is never made.
 #[derive(Drop)]
 pub struct Histories {
     none: u8,
