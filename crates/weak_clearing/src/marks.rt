@@ -25,7 +25,7 @@ pub(crate) fn is_to_unmarked(space: &Space, seat: &mut MutatorSeat, reference: u
 }
 
 /// Whether the object at a place is marked. No more of its header is looked at.
-pub(crate) fn is_marked(space: &Space, seat: &mut MutatorSeat, place: u32) -> bool
+pub fn is_marked(space: &Space, seat: &mut MutatorSeat, place: u32) -> bool
     requires heap { IsSeatOf space.now seat.old }
     requires off { seat.old.on ≡ false }
     requires place { IsPlace seat.old.bodies place }
