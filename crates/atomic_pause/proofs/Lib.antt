@@ -8,3 +8,4 @@ pub mod WeakJudged
 pub mod PreparedNodes
 pub mod PausedNodes
 pub mod MayMarks
+pub mod RegionPaused

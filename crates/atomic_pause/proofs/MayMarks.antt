@@ -1,5 +1,5 @@
 -- Objects were marked and listed while more came to be kept.
-use Rattle.std.proofs.Common.{◌≡◌, ℕ, List, refl, ap, inl, inr}
+use Rattle.std.proofs.Common.{◌≡◌, ℕ, List, refl, ap, ◌∙◌, inl, inr}
 use Rattle.mark_worklist.specs.declared.marking.Marking.{Marking}
 use Rattle.page_words.specs.Seat.{SeatView, IsAlone}
 use Rattle.ephemerons.specs.Notes.{NotesState}
@@ -39,11 +39,11 @@ pub scans_none : (u : SeatView) (l : Marking) → ListsMarks (with_may u u.may) 
 scans_none u l = lists_looked u u l refl
 
 -- marking stays under way where the roots of a pause are marked
-pub roots_under_way : (v u w : SeatView) (l m n : Marking) (x : NotesState) → ListsMarks v l u m → u.noted ≡ v.noted → ListsMarks (with_may u w.may) m w n
-    → w.noted ≡ u.noted → IsUnderWay v l x → IsUnderWay w n x
-roots_under_way v u w l m n x visit visit_noted scan scan_noted h =
+pub roots_under_way : (v u r w : SeatView) (l m o n : Marking) (x : NotesState) → ListsMarks v l u m → u.noted ≡ v.noted → ListsMarks (with_may u r.may) m r o
+    → r.noted ≡ u.noted → ListsMarks (with_may r w.may) o w n → w.noted ≡ r.noted → IsUnderWay v l x → IsUnderWay w n x
+roots_under_way v u r w l m o n x visit visit_noted share share_noted scan scan_noted h =
     let between : IsUnderWay u m x = under_way_marked v u l m x visit visit_noted h in
-    under_way_marked (with_may u w.may) w m n x scan scan_noted
+    under_way_marked (with_may u w.may) w m n x (scans_then u r w m o n share scan) (scan_noted ∙ share_noted)
     (under_way_same u (with_may u w.may) m x
     (record { on = refl; alone = alone_same between.alone; types = refl; bodies = refl; marked = refl; traced = refl; noted = refl }) between) where
       alone_same : IsAlone u → IsAlone (with_may u w.may)

@@ -28,7 +28,9 @@ use Rattle.nodes_in_words.specs.Judgement.{nodes_after}
 use Rattle.nodes_in_words.specs.NodeBodies.{length-bodies}
 use Rattle.nodes_in_words.specs.NodeLives.{life-condemn, live-condemn, live_and_dead, none_dead}
 use Rattle.nodes_in_words.specs.WeakNodes.{life-after, place-after, length-after, live-after, count-stays}
-use Rattle.atomic_pause.specs.Marking.{IsScanned, IsRootPlace, IsMayOrScanned, IsMarkedIn, MarksReachable, marked_count, with_may}
+use Rattle.cross_thread_region.specs.declared.chronicle.PlacedEntry.{PlacedEntry}
+use Rattle.cross_thread_region.specs.Histories.{strong_place}
+use Rattle.atomic_pause.specs.Marking.{IsScanned, IsSharedPlace, IsRootPlace, IsMayOrRoot, IsMarkedIn, MarksReachable, marked_count, with_may}
 use Rattle.atomic_pause.specs.Pausing.{IsKeptBetween, IsPaused}
 use Rattle.atomic_pause.proofs.HeldNodes.{judged_after}
 use Rattle.atomic_pause.proofs.PreparedNodes.{typed_after, all_named}
@@ -36,40 +38,50 @@ use Rattle.atomic_pause.proofs.WeakJudged.{IsMarked, both_cleared, marked_is, he
 
 -- ---- the roots are marked
 
--- marking was under way (v); first what the slots name was marked (u), then what the stack hits (w), and marking came to its
--- end (y)
-pub roots_marked : (types : List ObjectType) (slots : List (Option ℕ)) (precise : Bool) (stack : List ℕ) (v u w y : SeatView) (l m n : Marking)
-    → IsView v → v.on ≡ true → ((p : ℕ) → Contains slots (Some p) → holds v.may p ≡ true) → ListsMarks v l u m
+-- marking was under way (v); first what the slots name was marked (u), then what the region's strong slots name (r), then what
+-- the stack hits (w), and marking came to its end (y)
+pub roots_marked : (types : List ObjectType) (slots : List (Option ℕ)) (history : List PlacedEntry) (precise : Bool) (stack : List ℕ) (v u r w y : SeatView)
+    (l m o n : Marking) → IsView v → v.on ≡ true → ((p : ℕ) → Contains slots (Some p) → holds v.may p ≡ true) → ListsMarks v l u m
     → ((p : ℕ) → Contains slots (Some p) → holds u.marked p ≡ true)
-    → ((p : ℕ) → holds u.marked p ≡ true → (holds v.marked p ≡ true) ⊎ Contains slots (Some p)) → ListsMarks (with_may u w.may) m w n
-    → ((p : ℕ) → IsScanned precise u.bodies stack p → holds w.marked p ≡ true)
-    → ((p : ℕ) → holds w.marked p ≡ true → (holds u.marked p ≡ true) ⊎ IsScanned precise u.bodies stack p)
+    → ((p : ℕ) → holds u.marked p ≡ true → (holds v.marked p ≡ true) ⊎ Contains slots (Some p)) → ListsMarks (with_may u r.may) m r o
+    → ((x p : ℕ) → strong_place history x ≡ Some p → holds r.marked p ≡ true)
+    → ((p : ℕ) → holds r.marked p ≡ true → (holds u.marked p ≡ true) ⊎ IsSharedPlace history p) → ListsMarks (with_may r w.may) o w n
+    → ((p : ℕ) → IsScanned precise r.bodies stack p → holds w.marked p ≡ true)
+    → ((p : ℕ) → holds w.marked p ≡ true → (holds r.marked p ≡ true) ⊎ IsScanned precise r.bodies stack p)
     → MarksReachable types (IsMarkedIn w) (IsMarkedIn w) w y
-    → MarksReachable types (IsRootPlace slots precise v.bodies stack) (IsMayOrScanned precise v stack) v y
-roots_marked types slots precise stack v u w y l m n view on slots_may visit slots_in only_slots scan hits_in only_hits ends =
-    let same : u.bodies ≡ v.bodies = ap (λ (z : SeatView). z.bodies) visit.view in
+    → MarksReachable types (IsRootPlace slots history precise v.bodies stack) (IsMayOrRoot history precise v stack) v y
+roots_marked types slots history precise stack v u r w y l m o n view on slots_may visit slots_in only_slots share shared_in only_shared scan hits_in only_hits ends =
+    let same : r.bodies ≡ v.bodies = ap (λ (z : SeatView). z.bodies) share.view ∙ ap (λ (z : SeatView). z.bodies) visit.view in
     record {
-      count = ends.count ∙ ap (λ (z : SeatView). z.count) scan.view ∙ ap (λ (z : SeatView). z.count) visit.view;
-      known = ends.known ∙ ap (λ (z : SeatView). z.types) scan.view ∙ ap (λ (z : SeatView). z.types) visit.view;
+      count = ends.count ∙ ap (λ (z : SeatView). z.count) scan.view ∙ ap (λ (z : SeatView). z.count) share.view ∙ ap (λ (z : SeatView). z.count) visit.view;
+      known = ends.known ∙ ap (λ (z : SeatView). z.types) scan.view ∙ ap (λ (z : SeatView). z.types) share.view ∙ ap (λ (z : SeatView). z.types) visit.view;
       off = ends.off;
       bodies = ends.bodies ∙ ap (λ (z : SeatView). z.bodies) scan.view ∙ same;
       roots = λ p root. ends.roots p (elim root [
-        | inl slot ↦ scan.marked p (slots_in p slot)
-        | inr hit ↦ hits_in p (subst (λ bs. IsScanned precise bs stack p) (sym same) hit)
+        | inl slot ↦ scan.marked p (share.marked p (slots_in p slot))
+        | inr other ↦ elim other [
+          | inl shared ↦ scan.marked p (shared_in shared.0 p shared.1)
+          | inr hit ↦ hits_in p (subst (λ bs. IsScanned precise bs stack p) (sym same) hit)
+        ]
       ]);
       closed = ends.closed;
       least = λ test closed held p marked. ends.least test closed (λ q early. held q (elim (only_hits q early) [
-        | inl before ↦ inl (elim (only_slots q before) [ inl first ↦ (view.marking on).marked_in q first | inr slot ↦ slots_may q slot ])
-        | inr hit ↦ inr (subst (λ bs. IsScanned precise bs stack q) same hit)
+        | inl before ↦ elim (only_shared q before) [
+          | inl earlier ↦ inl (elim (only_slots q earlier) [ inl first ↦ (view.marking on).marked_in q first | inr slot ↦ slots_may q slot ])
+          | inr shared ↦ inr (inl shared)
+        ]
+        | inr hit ↦ inr (inr (subst (λ bs. IsScanned precise bs stack q) same hit))
       ])) p marked;
       dead = ends.dead;
     }
 
 -- and nothing was traced meanwhile
-pub traced_so_far : (v u w : SeatView) (l m n : Marking) → ListsMarks v l u m → ListsMarks (with_may u w.may) m w n → traced_count w ≡ traced_count v
-traced_so_far v u w l m n visit scan =
-    ap (count_by (λ (b : Body). holds w.traced b.place)) (ap (λ (z : SeatView). z.bodies) scan.view ∙ ap (λ (z : SeatView). z.bodies) visit.view)
-    ∙ ap (λ ts. count_by (λ (b : Body). holds ts b.place) v.bodies) (scan.traced ∙ visit.traced)
+pub traced_so_far : (v u r w : SeatView) (l m o n : Marking) → ListsMarks v l u m → ListsMarks (with_may u r.may) m r o → ListsMarks (with_may r w.may) o w n
+    → traced_count w ≡ traced_count v
+traced_so_far v u r w l m o n visit share scan =
+    ap (count_by (λ (b : Body). holds w.traced b.place))
+    (ap (λ (z : SeatView). z.bodies) scan.view ∙ ap (λ (z : SeatView). z.bodies) share.view ∙ ap (λ (z : SeatView). z.bodies) visit.view)
+    ∙ ap (λ ts. count_by (λ (b : Body). holds ts b.place) v.bodies) (scan.traced ∙ share.traced ∙ visit.traced)
 
 -- ---- after weak clearing prefinalizers can run
 
@@ -136,6 +148,11 @@ few_kept nodes v y count held same few marked =
       count_by-le-length (λ (x : Node). is_there x.life) nodes,
       few,
     )
+
+-- no more than there are objects
+pub none_missing : (v y : SeatView) (objects count : ℕ) → y.bodies ≡ v.bodies → count ≡ marked_count y → objects ≡ length v.bodies → count ≤ objects
+none_missing v y objects count same marked all =
+    omega (arith, marked, all, count_by-le-length (λ (b : Body). holds y.marked b.place) y.bodies, ap length same)
 
 -- as many nodes live after the pause as bodies were marked
 pub kept_count : (nodes new : List Node) (root may : ℕ → Type 0) (types : List ObjectType) (v y : SeatView) → IsHeld nodes v → v.dead ≡ []

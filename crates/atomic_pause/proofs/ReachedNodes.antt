@@ -1,14 +1,21 @@
 -- What marking kept, over the nodes: what the roots reach, and nothing but what those reach that may be kept.
-use Rattle.std.proofs.Common.{◌≡◌, ℕ, ◌+◌, ◌<◌, ◌≤◌, Bool, true, false, List, ◌++◌, length, Option, Some, refl, sym, ap, ◌∙◌, subst, inl, inr, arith, leb, ltb}
+use Rattle.std.proofs.Common.{◌≡◌, ℕ, ◌+◌, ◌<◌, ◌≤◌, Bool, true, false, List, [], ◌++◌, length, Option, Some, refl, sym, ap, ◌∙◌, subst, inl, inr, arith, leb, ltb}
 use Rattle.std.specs.List.{Contains, list_any, range_with_len}
 use Rattle.std.proofs.lemmas.Bool.{true≢false, and_parts, and_from, leb-true, ltb-true, le-leb, lt-ltb}
-use Rattle.std.proofs.lemmas.List.{length-map}
+use Rattle.std.proofs.lemmas.List.{length-map, append_assoc}
+use Rattle.std.proofs.lemmas.List.Elements.{All-contains}
+use mathlib.Core.Logic.{◌⊎◌}
 use Rattle.gc_graph.specs.Graph.{Object, IsIn, IsClosed}
 use Rattle.gc_graph.specs.Reach.{Reach, IsLeastClosed, ReachIsLeast}
-use Rattle.gc_graph.specs.State.{Setup, Node, node_at, size_of, graph_of, slot_targets, is_there, IsLive, IsDead}
+use Rattle.gc_graph.specs.State.{Setup, Node, node_at, size_of, graph_of, slot_targets, is_there, IsLive}
 use Rattle.gc_graph.specs.May.{members, has_word}
 use Rattle.gc_graph.specs.NodeNumbers.{there_below}
-use Rattle.gc_graph.specs.Members.{any_member, any_from, below_ranged}
+use Rattle.gc_graph.specs.Members.{any_member, any_from, below_ranged, holds_from, in_from_holds}
+use Rattle.gc_graph.specs.Valid.{region_targets}
+use Rattle.cross_thread_region.specs.declared.chronicle.PlacedEntry.{PlacedEntry}
+use Rattle.cross_thread_region.specs.Calls.{RegionView, PassView, history_of}
+use Rattle.cross_thread_region.specs.Histories.{slots_of}
+use Rattle.cross_thread_region.specs.PlacedNodes.{strong_target_is_target, strong_target_placed, strong_place_named}
 use Rattle.marker_core.specs.declared.states.Body.{Body}
 use Rattle.marker_core.specs.Bodies.{holds}
 use Rattle.marker_core.specs.Closed.{IsClosedOver}
@@ -22,8 +29,8 @@ use Rattle.nodes_in_words.specs.NodePlaces.{live_is_there, node_body, body_node,
 use Rattle.nodes_in_words.specs.NodeLives.{live_if_there, none_dead}
 use Rattle.nodes_in_words.specs.ClosedPlaces.{reached_place, reached_from, reached_some, kept_closed, places_closed}
 use Rattle.nodes_in_words.specs.KeptNodes.{kept_parts, kept_from, kept_low, slot_of_root, slot_place, slot_live, refers_within}
-use Rattle.atomic_pause.specs.Marking.{HoldsRoots, IsHitPlace, IsScanned, IsRootPlace, IsMayOrScanned, MarksReachable}
-use Rattle.atomic_pause.specs.Pausing.{NamePlaces, IsMayWithin, IsKeptBetween, hits_at, hits_in}
+use Rattle.atomic_pause.specs.Marking.{HoldsRoots, IsHitPlace, IsScanned, IsSharedPlace, IsOtherRoot, MarksReachable}
+use Rattle.atomic_pause.specs.Pausing.{NamePlaces, IsMayWithin, IsKeptBetween, IsPausable, hits_at, hits_in, shared_roots}
 use Rattle.atomic_pause.specs.MembersOf.{member_among, among_member, member_below}
 
 -- ---- the roots
@@ -53,13 +60,18 @@ body_word : (nodes : List Node) (n a : ℕ) → IsThere nodes n → place_of nod
 body_word nodes n a there low high =
     and_from _ _ there (and_from _ _ (le-leb (place_of nodes n) a low) (lt-ltb a (place_of nodes n + size_of (node_at nodes n)) high))
 
--- the nodes that the slots name and those that the stack hits
-abbrev pub all_roots : List Node → List (Option ℕ) → Bool → List ℕ → List ℕ
-all_roots nodes slots precise stack = slot_targets slots ++ hits_in precise nodes stack
+-- the nodes that strong slots of the region name and those that the stack hits
+abbrev pub other_roots : List Node → RegionView → Bool → List ℕ → List ℕ
+other_roots nodes region precise stack = shared_roots region ++ hits_in precise nodes stack
 
--- the nodes of the set and those that the stack hits
-abbrev pub most_roots : List Node → List Bool → Bool → List ℕ → List ℕ
-most_roots nodes may precise stack = members may ++ hits_in precise nodes stack
+-- the first roots, the nodes that strong slots of the region name and those that the stack hits
+abbrev pub roots_with : List ℕ → List Node → RegionView → Bool → List ℕ → List ℕ
+roots_with first nodes region precise stack = first ++ shared_roots region ++ hits_in precise nodes stack
+
+-- they are the first ones and the others
+pub roots_with_others : (first : List ℕ) (nodes : List Node) (region : RegionView) (precise : Bool) (stack : List ℕ)
+    → first ++ other_roots nodes region precise stack ≡ roots_with first nodes region precise stack
+roots_with_others first nodes region precise stack = sym (append_assoc first (shared_roots region) (hits_in precise nodes stack))
 
 -- ---- what was marked
 
@@ -90,27 +102,78 @@ hit_named nodes v stack p held (a, there, (b, b_there, at, low, high)) =
     let size : b.size ≡ size_of (node_at nodes n) = ap (λ (c : Body). c.size) node.3 in
     (n, hit_among nodes stack n a node.1 there (body_word nodes n a node.2 (omega (arith, place, at, low)) (omega (arith, place, size, high))), sym place ∙ at)
 
--- with the slots and the stack for roots
-pub has_marked : (setup : Setup) (nodes : List Node) (slots places : List (Option ℕ)) (may : List Bool) (precise : Bool) (stack : List ℕ) (v new : SeatView)
-    → IsView v → v.on ≡ true → AreOfValid setup nodes → IsHeld nodes v → NamePlaces nodes slots places → IsMayWithin nodes v may
-    → MarksReachable setup.types (IsRootPlace places precise v.bodies stack) (IsMayOrScanned precise v stack) v new
-    → HasMarked setup nodes (all_roots nodes slots precise stack) (most_roots nodes may precise stack) (IsRootPlace places precise v.bodies stack)
-    (IsMayOrScanned precise v stack) v new
-has_marked setup nodes slots places may precise stack v new view on valid held names within marks = record {
+-- the roots at these places are the nodes of the list, which live
+pub record AreRootsAt (nodes : List Node) (roots : List ℕ) (root : ℕ → Type 0) : Type 0 where
+  pub live : (n : ℕ) → IsAmong roots n → IsLive nodes n
+  pub placed : (n : ℕ) → IsAmong roots n → root (place_of nodes n)
+  pub named : (p : ℕ) → root p → (n : ℕ) × IsAmong roots n × (place_of nodes n ≡ p)
+
+either_at : (nodes : List Node) (xs ys : List ℕ) (x y : ℕ → Type 0) → AreRootsAt nodes xs x → AreRootsAt nodes ys y → AreRootsAt nodes (xs ++ ys) (λ p. x p ⊎ y p)
+either_at nodes xs ys x y first second = record {
+  live = λ n is. elim (among_cases xs ys n is) [ inl a ↦ first.live n a | inr b ↦ second.live n b ];
+  placed = λ n is. elim (among_cases xs ys n is) [ inl a ↦ inl (first.placed n a) | inr b ↦ inr (second.placed n b) ];
+  named = λ p is. elim is [
+    | inl a ↦ (let w = first.named p a in (w.0, among_left xs ys w.0 w.1, w.2))
+    | inr b ↦ (let w = second.named p b in (w.0, among_right xs ys w.0 w.1, w.2))
+  ];
+}
+
+-- what the region's strong slots name
+shared_at : (nodes : List Node) (region : RegionView) (pass : PassView) → IsPausable nodes region pass → AreRootsAt nodes (shared_roots region) (IsSharedPlace (history_of region))
+shared_at nodes region pass may = record {
+  live = λ n is. All-contains (IsLive nodes) (region_targets (slots_of (history_of region))) n may.live
+      (strong_target_is_target (slots_of (history_of region)) n (in_from_holds (shared_roots region) n is));
+  placed = λ n is. strong_target_placed (place_of nodes) (history_of region) n may.placed (in_from_holds (shared_roots region) n is);
+  named = λ p is.
+      let w = strong_place_named (place_of nodes) (history_of region) is.0 p may.placed is.1 in
+      (w.0, holds_from (shared_roots region) w.0 w.1, w.2);
+}
+
+-- what the stack hits
+scanned_at : (nodes : List Node) (precise : Bool) (stack : List ℕ) (v : SeatView) → v.bodies ≡ bodies_of nodes → v.dead ≡ [] → IsHeld nodes v
+    → AreRootsAt nodes (hits_in precise nodes stack) (IsScanned precise v.bodies stack)
+scanned_at nodes true stack v same none held = record {
+  live = λ n is. absurd (true≢false (sym is));
+  placed = λ n is. absurd (true≢false (sym is));
+  named = λ p is. absurd (true≢false is.0);
+}
+scanned_at nodes false stack v same none held = record {
+  live = λ n is.
+      let w = among_hit nodes stack n is in
+      live_if_there (node_at nodes n).life (word_body nodes n w.0 w.2).0 (none_dead nodes v held none n);
+  placed = λ n is. (let w = among_hit nodes stack n is in (refl, hit_body nodes v stack n w.0 same w.1 w.2));
+  named = λ p is. hit_named nodes v stack p same is.1;
+}
+
+-- what the pause finds beside what the owner's slots name; a pause holds the history
+pub others_at : (nodes : List Node) (region : RegionView) (pass : PassView) (history : List PlacedEntry) (precise : Bool) (stack : List ℕ) (v : SeatView)
+    → IsPausable nodes region pass → history ≡ history_of region → v.dead ≡ [] → IsHeld nodes v
+    → AreRootsAt nodes (other_roots nodes region precise stack) (IsOtherRoot history precise v.bodies stack)
+others_at nodes region pass history precise stack v may same none held =
+    subst (λ h. AreRootsAt nodes (other_roots nodes region precise stack) (IsOtherRoot h precise v.bodies stack)) (sym same)
+    (either_at nodes (shared_roots region) (hits_in precise nodes stack) (IsSharedPlace (history_of region)) (IsScanned precise v.bodies stack)
+    (shared_at nodes region pass may) (scanned_at nodes precise stack v held.bodies none held))
+
+-- with the slots and the others for roots
+pub has_marked : (setup : Setup) (nodes : List Node) (slots places : List (Option ℕ)) (may : List Bool) (others : List ℕ) (other : ℕ → Type 0) (v new : SeatView)
+    → IsView v → v.on ≡ true → AreOfValid setup nodes → IsHeld nodes v → NamePlaces nodes slots places → IsMayWithin nodes v may → AreRootsAt nodes others other
+    → MarksReachable setup.types (λ p. Contains places (Some p) ⊎ other p) (λ p. (holds v.may p ≡ true) ⊎ other p) v new
+    → HasMarked setup nodes (slot_targets slots ++ others) (members may ++ others) (λ p. Contains places (Some p) ⊎ other p) (λ p. (holds v.may p ≡ true) ⊎ other p) v new
+has_marked setup nodes slots places may others other v new view on valid held names within are marks = record {
   view = view;
   valid = valid;
   held = held.bodies;
-  live = λ n is. elim (among_cases (slot_targets slots) (hits_in precise nodes stack) n is) [
+  live = λ n is. elim (among_cases (slot_targets slots) others n is) [
     | inl slot ↦ slot_live nodes slots n names.live (slot_of_root slots n slot)
-    | inr hit ↦ live precise n hit
+    | inr found ↦ are.live n found
   ];
-  placed = λ n is. elim (among_cases (slot_targets slots) (hits_in precise nodes stack) n is) [
+  placed = λ n is. elim (among_cases (slot_targets slots) others n is) [
     | inl slot ↦ inl (subst (λ l. Contains l (Some (place_of nodes n))) (sym names.places_are) (slot_place nodes slots n (slot_of_root slots n slot)))
-    | inr hit ↦ inr (placed precise n hit)
+    | inr found ↦ inr (are.placed n found)
   ];
-  low = λ n is. elim (among_cases (members may) (hits_in precise nodes stack) n is) [
+  low = λ n is. elim (among_cases (members may) others n is) [
     | inl member ↦ omega (arith, member_below may n (among_member may n member), within.whole)
-    | inr hit ↦ there_below nodes n (live_is_there nodes n (live precise n hit))
+    | inr found ↦ there_below nodes n (live_is_there nodes n (are.live n found))
   ];
   named = λ p is. elim is [
     | inl kept ↦
@@ -118,36 +181,16 @@ has_marked setup nodes slots places may precise stack v new view on valid held n
         let node = body_node nodes v at.0 held.bodies at.1 in
         let n : ℕ = node.0 in
         let place : place_of nodes n ≡ p = sym (ap (λ (c : Body). c.place) node.3) ∙ at.2 in
-        let alive : IsLive nodes n = live_if_there (node_at nodes n).life node.2 (dead_none n) in (
+        let alive : IsLive nodes n = live_if_there (node_at nodes n).life node.2 (none_dead nodes v held (view.marking on).no_dead n) in (
           n,
           alive,
-          among_left (members may) (hits_in precise nodes stack) n
-              (member_among may n (within.within n alive (subst (λ q. holds v.may q ≡ true) (sym place) kept))),
+          among_left (members may) others n (member_among may n (within.within n alive (subst (λ q. holds v.may q ≡ true) (sym place) kept))),
           place,
         ))
-    | inr hit ↦ named p hit
+    | inr found ↦ (let w = are.named p found in (w.0, are.live w.0 w.1, among_right (members may) others w.0 w.1, w.2))
   ];
   marks = marks;
-} where
-  dead_none : (n : ℕ) → IsDead nodes n → ⊥
-  dead_none = none_dead nodes v held (view.marking on).no_dead
-
-  live : (flag : Bool) (n : ℕ) → IsAmong (hits_in flag nodes stack) n → IsLive nodes n
-  live true n is = absurd (true≢false (sym is))
-  live false n is =
-      (let w = among_hit nodes stack n is in
-      live_if_there (node_at nodes n).life (word_body nodes n w.0 w.2).0 (dead_none n))
-
-  placed : (flag : Bool) (n : ℕ) → IsAmong (hits_in flag nodes stack) n → IsScanned flag v.bodies stack (place_of nodes n)
-  placed true n is = absurd (true≢false (sym is))
-  placed false n is = (let w = among_hit nodes stack n is in (refl, hit_body nodes v stack n w.0 held.bodies w.1 w.2))
-
-  named : (p : ℕ) → IsScanned precise v.bodies stack p
-      → (n : ℕ) × IsLive nodes n × IsAmong (most_roots nodes may precise stack) n × (place_of nodes n ≡ p)
-  named p (loose, hit) =
-      (let w = hit_named nodes v stack p held.bodies hit in
-      let is : IsAmong (hits_in precise nodes stack) w.0 = subst (λ flag. IsAmong (hits_in flag nodes stack) w.0) (sym loose) w.1 in
-      (w.0, live precise w.0 is, among_right (members may) (hits_in precise nodes stack) w.0 is, w.2))
+}
 
 -- ---- the law of reach, applied
 

@@ -12,11 +12,12 @@ use Rattle.gc_graph.specs.Valid.{IsTyped, AreLive}
 use Rattle.gc_graph.specs.ActionLaw.{HaveStayed}
 use Rattle.gc_graph.specs.Pause.{judged, condemn, is_dead_at, clear_slot, cleared_values}
 use Rattle.gc_graph.specs.Condemning.{length-condemn}
+use Rattle.gc_graph.specs.Members.{Contains-map}
 use Rattle.type_table.specs.Types.{kinds_of}
 use Rattle.type_table.specs.Layouts.{kinds_of_words}
 use Rattle.marker_core.specs.declared.states.Body.{Body}
-use Rattle.marker_core.specs.Bodies.{holds}
-use Rattle.page_words.specs.Seat.{SeatView}
+use Rattle.marker_core.specs.Bodies.{IsPlace, holds}
+use Rattle.page_words.specs.Seat.{SeatView, OnlyLooked}
 use Rattle.page_space.specs.Space.{SpaceView, IsSpaceOf, IsSpaceOver, extents_of_bodies}
 use Rattle.weak_clearing.specs.Clearing.{clear_words, clear_body, with_weak_cleared, clear_pair_words, clear_pairs_of, with_pairs_cleared}
 use Rattle.nodes_in_words.specs.Nodes.{AreOfValid, place_of, word_of, IsHeld}
@@ -57,7 +58,7 @@ life_is : (marked : ℕ → Bool) (nodes : List Node) (n : ℕ) → IsLive nodes
 life_is marked nodes n live =
     life-condemn (kept_of marked nodes) nodes n ∙ ap (λ b. judged b (node_at nodes n).life) (flag_is marked nodes n live) ∙ ap (judged (marked (place_of nodes n))) live
 
-tells_unmarked : (nodes : List Node) (v : SeatView) → TellsUnmarked nodes v.marked (place_of nodes) (is_dead_at (condemn (kept_of (holds v.marked) nodes) nodes))
+pub tells_unmarked : (nodes : List Node) (v : SeatView) → TellsUnmarked nodes v.marked (place_of nodes) (is_dead_at (condemn (kept_of (holds v.marked) nodes) nodes))
 tells_unmarked nodes v n live = ap is_dead (life_is (holds v.marked) nodes n live) ∙ dead_judged (holds v.marked (place_of nodes n))
 
 live_judged : (flag : Bool) → is_live (judged flag Live) ≡ flag
@@ -151,6 +152,17 @@ pub extents_cleared : (v : SeatView) → extents_of_bodies (both_cleared v).bodi
 extents_cleared v =
     same_extents (clear_pairs_of v.types v.marked) (pairs_keep v.types v.marked) (map (clear_body v.types v.marked) v.bodies)
     ∙ same_extents (clear_body v.types v.marked) (weak_keeps v.types v.marked) v.bodies
+
+-- and so a place stays one
+pub place_cleared : (v w : SeatView) (p : ℕ) → OnlyLooked (both_cleared v) w → IsPlace v.bodies p → IsPlace w.bodies p
+place_cleared v w p looked (b, there, at) =
+    let weak : Body = clear_body v.types v.marked b in
+    let both : Body = clear_pairs_of v.types v.marked weak in
+    subst (λ bs. IsPlace bs p) (sym (ap (λ (u : SeatView). u.bodies) looked)) (
+      both,
+      Contains-map (clear_pairs_of v.types v.marked) (map (clear_body v.types v.marked) v.bodies) weak (Contains-map (clear_body v.types v.marked) v.bodies b there),
+      (pairs_keep v.types v.marked weak).0 ∙ (weak_keeps v.types v.marked b).0 ∙ at,
+    )
 
 -- and so leaves the space's objects where they are
 pub space_cleared : (space : SpaceView) (v : SeatView) → IsSpaceOf space v → IsSpaceOf space (both_cleared v)

@@ -23,3 +23,11 @@ weak_left x = x.1.1.1.1.0
 -- the registered prefinalizers
 abbrev pub registry_left : {A B C D E F G : Type 0} → A × (B × (C × (D × (E × (F × G))))) → F
 registry_left x = x.1.1.1.1.1.0
+
+-- the region
+abbrev pub region_left : {A B C D E F G H : Type 0} → A × (B × (C × (D × (E × (F × (G × H)))))) → G
+region_left x = x.1.1.1.1.1.1.0
+
+-- the owner's pass
+abbrev pub pass_left : {A B C D E F G H I : Type 0} → A × (B × (C × (D × (E × (F × (G × (H × I))))))) → H
+pass_left x = x.1.1.1.1.1.1.1.0

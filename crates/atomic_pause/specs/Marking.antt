@@ -1,6 +1,8 @@
 -- How a pause marks the words: what its roots are, what it may mark, and what it ends with.
 use Rattle.std.specs.Prelude.{◌≡◌, ◌⊎◌, ℕ, Bool, true, false, List, Option, Some, count_by, Contains}
 use Rattle.gc_graph.specs.State.{ObjectType}
+use Rattle.cross_thread_region.specs.declared.chronicle.PlacedEntry.{PlacedEntry}
+use Rattle.cross_thread_region.specs.Histories.{strong_place}
 use Rattle.marker_core.specs.Bodies.{holds}
 use Rattle.marker_core.specs.declared.states.Body.{Body}
 use Rattle.marker_core.specs.Closed.{IsClosedOver}
@@ -17,13 +19,21 @@ IsHitPlace bodies stack place = (a : ℕ) × Contains stack a × HoldsAddress bo
 abbrev pub IsScanned : Bool → List Body → List ℕ → ℕ → Type 0
 IsScanned precise bodies stack place = (precise ≡ false) × IsHitPlace bodies stack place
 
--- a slot holds the place, or the stack is looked at and hits the body there
-abbrev pub IsRootPlace : List (Option ℕ) → Bool → List Body → List ℕ → ℕ → Type 0
-IsRootPlace slots precise bodies stack place = Contains slots (Some place) ⊎ IsScanned precise bodies stack place
+-- a strong slot of the region has the place
+abbrev pub IsSharedPlace : List PlacedEntry → ℕ → Type 0
+IsSharedPlace history place = (x : ℕ) × (strong_place history x ≡ Some place)
 
--- the object at the place may be kept, or the stack is looked at and hits it
-abbrev pub IsMayOrScanned : Bool → SeatView → List ℕ → ℕ → Type 0
-IsMayOrScanned precise v stack place = (holds v.may place ≡ true) ⊎ IsScanned precise v.bodies stack place
+-- a strong slot of the region has the place, or the stack is looked at and hits the body there
+abbrev pub IsOtherRoot : List PlacedEntry → Bool → List Body → List ℕ → ℕ → Type 0
+IsOtherRoot history precise bodies stack place = IsSharedPlace history place ⊎ IsScanned precise bodies stack place
+
+-- a slot holds the place, or another root is there
+abbrev pub IsRootPlace : List (Option ℕ) → List PlacedEntry → Bool → List Body → List ℕ → ℕ → Type 0
+IsRootPlace slots history precise bodies stack place = Contains slots (Some place) ⊎ IsOtherRoot history precise bodies stack place
+
+-- the object at the place may be kept, or another root is there
+abbrev pub IsMayOrRoot : List PlacedEntry → Bool → SeatView → List ℕ → ℕ → Type 0
+IsMayOrRoot history precise v stack place = (holds v.may place ≡ true) ⊎ IsOtherRoot history precise v.bodies stack place
 
 -- the test holds of each root
 abbrev pub HoldsRoots : (ℕ → Bool) → (ℕ → Type 0) → Type 0

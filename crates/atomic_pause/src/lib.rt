@@ -4,17 +4,20 @@
 //! other objects are condemned, what is weak and names one of them becomes null, and their
 //! prefinalizers run.
 //!
-//! The parts: `visit_slots`, which marks what the strong slots name, at the start of a cycle too;
-//! `pause`, which works on `Parts` that their owners lend and answers a `PauseResult`. It calls, in
-//! this order, `visit_slots` and `scan_stack` (the roots), `close` (the marking list is drained and
-//! pairs come to their fixpoint), `clear_weak` and `prefinalise`. The next level down is
-//! `ephemerons`, `weak_clearing` and `callback_table`.
+//! The parts: `visit_slots`, which marks what the strong slots name, at the start of a cycle too, and
+//! `visit_told`, which does so there for the region's; `pause`, which works on `Parts` that their
+//! owners lend and answers a `PauseResult`. It calls, in this order, `visit_slots`, `visit_region` and
+//! `scan_stack` (the roots), `close` (the marking list is drained and pairs come to their fixpoint),
+//! `clear_weak`, `clear_region` and `prefinalise`, and holds the region from the roots until its weak
+//! slots are cleared. The next level down is `ephemerons`, `weak_clearing`, `cross_thread_region` and
+//! `callback_table`.
 //!
 //! What is proved: `pause` keeps what the roots reach, by strong fields and by pairs whose key is
-//! kept, and nothing but what the cycle may keep and the stack hits, with all that these reach;
-//! exactly the weak handles of kept objects to condemned ones become null; the prefinalizers of
-//! condemned nodes run, the last that was registered first, and nothing comes to life again. A
-//! precise pause doesn't look at the stack. It needs no memory and can't fail.
+//! kept, and nothing but what the cycle may keep, the region's strong slots name and the stack hits,
+//! with all that these reach; exactly the weak handles of kept objects to condemned ones become null,
+//! and exactly the weak slots, those of the region too, that name one; the prefinalizers of condemned
+//! nodes run, the last that was registered first, and nothing comes to life again. A precise pause
+//! doesn't look at the stack. It needs no memory and can't fail.
 //!
 //! What is only tested or not said: how long it takes.
 #![tactic(auto)]
@@ -25,8 +28,9 @@ mod judging;
 mod parts;
 mod pausing;
 mod prefinalizing;
+mod region_clearing;
 mod roots;
 
 pub use parts::{Parts, PauseResult};
 pub use pausing::pause;
-pub use roots::visit_slots;
+pub use roots::{visit_slots, visit_told};

@@ -1,6 +1,7 @@
 // What a pause works on, and what it answers.
 
 use callback_table::{CallbackTable, Registry};
+use cross_thread_region::{Pass, Region};
 use ephemerons::Pairs;
 use ghost_values::GhostValue;
 use mark_worklist::Marking;
@@ -20,6 +21,8 @@ use type_table::TypeTable;
 /// | `notes` | the pairs that wait for their keys |
 /// | `weak` | weak slots |
 /// | `registry` | the registered prefinalizers |
+/// | `region` | the slots that threads share |
+/// | `pass` | the owner's pass of the region |
 ///
 /// | lent to be read | what it is |
 /// |---|---|
@@ -38,6 +41,8 @@ pub struct Parts<'a> {
     pub notes: &'a mut [Pairs; 1],
     pub weak: &'a mut Slots,
     pub registry: &'a mut Registry,
+    pub region: &'a mut Region,
+    pub pass: &'a mut Pass,
     pub space: &'a Space,
     pub types: &'a TypeTable,
     pub strong: &'a Slots,

@@ -20,20 +20,23 @@ ghost use Rattle.nodes_in_words.specs.Nodes.{AreOfValid, IsHeld};
 ghost use Rattle.nodes_in_words.specs.Places.{places_of};
 ghost use Rattle.prefinalizer_effects.specs.Prepared.{setup_of, IsPrepared};
 ghost use Rattle.atomic_pause.specs.Pausing.{NamePlaces, IsMayWithin, hits_in, IsPaused};
+ghost use Rattle.atomic_pause.specs.Pausing.{IsPausable, IsPausedRegion, shared_roots};
 ghost use Rattle.atomic_pause.specs.Left.{seat_left, nodes_left, marking_left, notes_left};
-ghost use Rattle.atomic_pause.specs.Left.{weak_left, registry_left};
+ghost use Rattle.atomic_pause.specs.Left.{weak_left, registry_left, region_left, pass_left};
 
 use crate::clearing::clear_weak;
 use crate::closing::{close, is_refused};
 use crate::judging::judged;
 use crate::parts::{Parts, PauseResult};
 use crate::prefinalizing::prefinalise;
-use crate::roots::{scan_stack, visit_slots};
+use crate::region_clearing::clear_region;
+use crate::roots::{scan_stack, visit_region, visit_slots};
 
 /// Keeps what the roots reach and condemns the other objects. The roots are what the strong slots
-/// name and, unless the pause is precise, the objects with a word at an address of the stack
-/// (`include/cppgc/README.md`, precise and conservative garbage collection). It is called while
-/// marking is under way, by the thread that owns the heap; what was marked before it keeps too.
+/// name, those of the region too, and, unless the pause is precise, the objects with a word at an
+/// address of the stack (`include/cppgc/README.md`, precise and conservative garbage collection). It
+/// is called while marking is under way, by the thread that owns the heap; what was marked before it
+/// keeps too.
 /// Refusals of memory stay told in the marking state and the notes, until their owner clears these.
 pub fn pause(parts: Parts, stack: &[u64], precise: bool) -> PauseResult
     requires heap { IsSpaceOf parts.space.now parts.seat.now }
@@ -52,18 +55,24 @@ pub fn pause(parts: Parts, stack: &[u64], precise: bool) -> PauseResult
     requires weak { All (IsPlace parts.seat.now.bodies) (taken parts.weak.now) }
     requires registered { All (IsRegistered parts.nodes.now.value
         (length (kinds_of parts.callbacks.now))) parts.registry.now.entries }
+    requires shared { IsPausable parts.nodes.now.value parts.region.now parts.pass.now }
     ensures paused { (slots : List (Option ℕ)) (may : List Bool) →
         NamePlaces parts.entry.nodes.now.value slots parts.entry.strong.now →
         IsMayWithin parts.entry.nodes.now.value parts.entry.seat.now may →
         IsPaused (kinds_of parts.entry.callbacks.now)
-        (slot_targets slots ++ hits_in precise parts.entry.nodes.now.value stack.now)
-        (members may ++ hits_in precise parts.entry.nodes.now.value stack.now)
+        (slot_targets slots ++ shared_roots parts.entry.region.now
+        ++ hits_in precise parts.entry.nodes.now.value stack.now)
+        (members may ++ shared_roots parts.entry.region.now
+        ++ hits_in precise parts.entry.nodes.now.value stack.now)
         parts.entry.nodes.now.value (nodes_left parts.exit).now.value
         parts.entry.registry.now (registry_left parts.exit).now }
     ensures weak { (slots : List (Option ℕ)) →
         NamePlaces parts.entry.nodes.now.value slots parts.entry.weak.now →
         (weak_left parts.exit).now ≡ places_of (nodes_left parts.exit).now.value
         (map (clear_slot (is_dead_at (nodes_left parts.exit).now.value)) slots) }
+    ensures region { IsPausedRegion (nodes_left parts.exit).now.value
+        parts.entry.region.now parts.entry.pass.now
+        (region_left parts.exit).now (pass_left parts.exit).now }
     ensures ready { IsPrepared parts.entry.space.now parts.entry.types.now
         (seat_left parts.exit).now (nodes_left parts.exit).now.value }
     ensures extents { extents_of_bodies (seat_left parts.exit).now.bodies
@@ -90,6 +99,8 @@ pub fn pause(parts: Parts, stack: &[u64], precise: bool) -> PauseResult
         notes,
         weak,
         registry,
+        region,
+        pass,
         space,
         types,
         strong,
@@ -98,10 +109,13 @@ pub fn pause(parts: Parts, stack: &[u64], precise: bool) -> PauseResult
     } = parts;
     gc_graph::reach_is_least();
     seat.bodies_lie_apart();
+    let held = region.pause_begin(pass);
     visit_slots(space.words(), seat, marking, strong);
+    visit_region(space.words(), seat, marking, &held);
     scan_stack(space, seat, marking, stack, precise);
     let more = close(space, types, seat, marking, notes);
     clear_weak(space, types, seat, weak);
+    clear_region(space, seat, region, pass, held);
     *nodes = judged(nodes, seat);
     prefinalise(registry, callbacks, space, types, seat, nodes);
     let kept = traced + more;

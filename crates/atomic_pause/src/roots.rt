@@ -1,19 +1,25 @@
-// The roots of a pause: what the strong slots name, and what the words of a stack hit.
+// The roots of a pause: what the strong slots name, those of the region too, and what the words of a
+// stack hit.
 
-ghost use Rattle.std.specs.Prelude.{◌≡◌, ◌⊎◌, ℕ, true, Contains, All, Some};
+ghost use Rattle.std.specs.Prelude.{◌≡◌, ◌⊎◌, ◌+◌, ℕ, true, Contains, All, Some};
 ghost use Rattle.std.specs.Option.{ForSome};
 ghost use Rattle.marker_core.specs.Bodies.{IsPlace};
 ghost use Rattle.marker_core.specs.Bodies.{holds};
 ghost use Rattle.page_space.specs.Space.{IsSpaceOf, HoldsAddress};
 ghost use Rattle.page_words.specs.Seat.{OnlyLooked};
 ghost use Rattle.ephemerons.specs.Fixpoint.{ListsMarks};
-ghost use Rattle.atomic_pause.specs.Marking.{IsHitPlace, IsScanned, with_may};
+ghost use Rattle.cross_thread_region.specs.Histories.{strong_place};
+ghost use Rattle.atomic_pause.specs.Marking.{IsHitPlace, IsScanned, IsSharedPlace, with_may};
 
+use cross_thread_region::HeldRegion;
 use ephemerons::mark;
 use mark_worklist::Marking;
 use page_space::Space;
 use page_words::{MutatorSeat, WeakRead, Words};
 use persistent_slots::Slots;
+
+/// How many slots a region has.
+pub(crate) const SHARED: u32 = 32;
 
 /// Marks and lists the targets of the slots.
 pub fn visit_slots(words: &Words, seat: &mut MutatorSeat, marking: &mut Marking, slots: &Slots)
@@ -32,6 +38,51 @@ pub fn visit_slots(words: &Words, seat: &mut MutatorSeat, marking: &mut Marking,
     for i in 0..slots.len() {
         if let Some(place) = slots.get(i) {
             mark(words, seat, marking, place);
+        }
+    }
+}
+
+/// Marks and lists the targets of the slots of the region that a start told as strong: of each the
+/// place and 1, and 0 of the others.
+pub fn visit_told(words: &Words, seat: &mut MutatorSeat, marking: &mut Marking, told: &[u32])
+    requires heap { seat.old.count ≡ words.now }
+    requires on { seat.old.on ≡ true }
+    requires marking { marking.old.on ≡ seat.old.on }
+    requires alone { seat.old.lent ≡ 0 }
+    requires places { (p : ℕ) → Contains told.now (p + 1) → IsPlace seat.old.bodies p }
+    requires may { (p : ℕ) → Contains told.now (p + 1) → holds seat.old.may p ≡ true }
+    ensures marks { ListsMarks seat.old marking.old seat.new marking.new }
+    ensures roots { (p : ℕ) → Contains told.now (p + 1) → holds seat.new.marked p ≡ true }
+    ensures only { (p : ℕ) → holds seat.new.marked p ≡ true
+        → (holds seat.old.marked p ≡ true) ⊎ Contains told.now (p + 1) }
+    ensures noted { seat.new.noted ≡ seat.old.noted }
+{
+    for i in 0..told.len() {
+        if told[i] != 0 {
+            mark(words, seat, marking, told[i] - 1);
+        }
+    }
+}
+
+/// Marks and lists the targets of the region's strong slots. From now on they may be kept, with all
+/// that they reach.
+pub fn visit_region(words: &Words, seat: &mut MutatorSeat, marking: &mut Marking, held: &HeldRegion)
+    requires heap { seat.old.count ≡ words.now }
+    requires on { seat.old.on ≡ true }
+    requires marking { marking.old.on ≡ seat.old.on }
+    requires alone { seat.old.lent ≡ 0 }
+    requires places { (x p : ℕ) → strong_place held.now x ≡ Some p → IsPlace seat.old.bodies p }
+    ensures marks { ListsMarks (with_may seat.old seat.new.may) marking.old
+        seat.new marking.new }
+    ensures roots { (x p : ℕ) → strong_place held.now x ≡ Some p
+        → holds seat.new.marked p ≡ true }
+    ensures only { (p : ℕ) → holds seat.new.marked p ≡ true
+        → (holds seat.old.marked p ≡ true) ⊎ IsSharedPlace held.now p }
+    ensures noted { seat.new.noted ≡ seat.old.noted }
+{
+    for i in 0..SHARED {
+        if let Some(place) = held.strong(i) {
+            keep(words, seat, marking, place);
         }
     }
 }
@@ -94,9 +145,26 @@ fn scan_word(space: &Space, seat: &mut MutatorSeat, marking: &mut Marking, word:
 {
     seat.bodies_lie_apart();
     if let Some(place) = space.start_of(seat, word) {
-        read_weakly(space.words(), seat, place);
-        mark(space.words(), seat, marking, place);
+        keep(space.words(), seat, marking, place);
     }
+}
+
+/// Marks and lists an object. From now on it may be kept, with all that it reaches.
+fn keep(words: &Words, seat: &mut MutatorSeat, marking: &mut Marking, place: u32)
+    requires heap { seat.old.count ≡ words.now }
+    requires on { seat.old.on ≡ true }
+    requires marking { marking.old.on ≡ seat.old.on }
+    requires alone { seat.old.lent ≡ 0 }
+    requires place { IsPlace seat.old.bodies place }
+    ensures marks { ListsMarks (with_may seat.old seat.new.may) marking.old
+        seat.new marking.new }
+    ensures root { holds seat.new.marked place ≡ true }
+    ensures only { (p : ℕ) → holds seat.new.marked p ≡ true
+        → (holds seat.old.marked p ≡ true) ⊎ (place ≡ p) }
+    ensures noted { seat.new.noted ≡ seat.old.noted }
+{
+    read_weakly(words, seat, place);
+    mark(words, seat, marking, place);
 }
 
 /// Reads an object's header weakly: the cycle may keep the object from now on.

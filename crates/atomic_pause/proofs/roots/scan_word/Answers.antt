@@ -1,7 +1,7 @@
 use Rattle.std.proofs.Common.{◌≡◌, ℕ, true, sym, ap, ◌∙◌, subst, arith}
 use Rattle.marker_core.specs.declared.states.Body.{Body}
 use Rattle.marker_core.specs.Bodies.{holds}
-use Rattle.page_words.specs.Seat.{SeatView, IsView, OnlyLooked}
+use Rattle.page_words.specs.Seat.{SeatView, IsView}
 use Rattle.page_space.specs.Space.{HoldsAddress}
 use Rattle.ephemerons.specs.Fixpoint.{ListsMarks}
 use Rattle.ephemerons.specs.ListedMarks.{ListsMarks-then, lists_looked}
@@ -17,12 +17,10 @@ one_place v address p q view (b, b_there, b_at, b_low, b_high) (d, d_there, d_at
 pub returns-in-Some-clause-marks : goal.returns-in-Some-clause-marks
 returns-in-Some-clause-marks c =
     let a : SeatView = c.args.seat.now in
-    let r : SeatView = c.read_weakly.new.seat in
-    let same : OnlyLooked (with_may a r.may) r =
-    c.read_weakly.ensures.view ∙ ap (λ (z : SeatView). with_may z r.may) c.start_of.ensures.view in
-    subst (λ ms. ListsMarks (with_may a ms) c.args.marking.now c.mark.new.seat c.mark.new.marking) (sym (ap (λ (z : SeatView). z.may) c.mark.ensures.marks.view))
-    (ListsMarks-then (with_may a r.may) r c.mark.new.seat c.args.marking.now c.args.marking.now c.mark.new.marking
-    (lists_looked (with_may a r.may) r c.args.marking.now same) c.mark.ensures.marks)
+    let s : SeatView = c.start_of.new.seat in
+    let k : SeatView = c.keep.new.seat in
+    ListsMarks-then (with_may a k.may) (with_may s k.may) k c.args.marking.now c.args.marking.now c.keep.new.marking
+    (lists_looked (with_may a k.may) (with_may s k.may) c.args.marking.now (ap (λ (z : SeatView). with_may z k.may) c.start_of.ensures.view)) c.keep.ensures.marks
 
 pub returns-in_default-clause-marks : goal.returns-in_default-clause-marks
 returns-in_default-clause-marks c =
@@ -32,8 +30,8 @@ returns-in_default-clause-marks c =
 
 pub returns-in-Some-clause-root : goal.returns-in-Some-clause-root
 returns-in-Some-clause-root c = λ p hit.
-    subst (λ q. holds c.mark.new.seat.marked q ≡ true)
-    (one_place c.args.seat.now c.args.word c.in-Some.place p c.bodies_lie_apart.ensures c.in-Some.ensures.found hit) c.mark.ensures.target
+    subst (λ q. holds c.keep.new.seat.marked q ≡ true)
+    (one_place c.args.seat.now c.args.word c.in-Some.place p c.bodies_lie_apart.ensures c.in-Some.ensures.found hit) c.keep.ensures.root
 
 pub returns-in_default-clause-root : goal.returns-in_default-clause-root
 returns-in_default-clause-root c = λ p hit. absurd (c.in_default.ensures.none p hit)

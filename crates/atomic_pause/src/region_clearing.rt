@@ -1,0 +1,97 @@
+// Weak clearing of the region: its weak slots that name an object that was not marked become null,
+// with the pause's entry.
+
+ghost use Rattle.std.specs.Prelude.{◌≡◌, ◌<◌, ◌+◌, ◌==◌, ℕ, true, false, not, Some, None, Contains};
+ghost use Rattle.std.specs.List.{list_any};
+ghost use Rattle.std.specs.Option.{ForSome};
+ghost use Rattle.gc_graph.specs.History.{NamesWeakSlots};
+ghost use Rattle.gc_graph.specs.Pause.{clear_slot};
+ghost use Rattle.marker_core.specs.Bodies.{IsPlace, holds};
+ghost use Rattle.page_words.specs.Seat.{OnlyLooked};
+ghost use Rattle.page_space.specs.Space.{IsSeatOf};
+ghost use Rattle.cross_thread_region.specs.Histories.{slots_of, told, weak_place};
+ghost use Rattle.cross_thread_region.specs.Calls.{Begins, IsReady, given_back, history_of};
+ghost use Rattle.cross_thread_region.specs.Pauses.{paused, dying_of};
+
+use crate::roots::SHARED;
+use cross_thread_region::{HeldRegion, Pass, Region};
+use page_space::Space;
+use page_words::MutatorSeat;
+use weak_clearing::is_marked;
+
+/// Sets to null the weak slots of the region whose object is not marked, and gives the region its
+/// history back.
+pub fn clear_region(
+    space: &Space,
+    seat: &mut MutatorSeat,
+    region: &mut Region,
+    pass: &mut Pass,
+    held: HeldRegion,
+)
+    requires heap { IsSeatOf space.now seat.old }
+    requires off { seat.old.on ≡ false }
+    requires held { region.old.inside ≡ None }
+    requires pass { Begins pass.old.seen held }
+    requires first { pass.old.number ≡ 0 }
+    requires places { (x p : ℕ) → weak_place held x ≡ Some p → IsPlace seat.old.bodies p }
+    ensures region { region.new ≡ given_back region.old
+        (paused pass.old held (dying_of (λ a. not (holds seat.old.marked a)) held)) }
+    ensures seen { pass.new ≡ record pass.old { seen = history_of region.new } }
+    ensures ready { IsReady region.new pass.new }
+    ensures weak { NamesWeakSlots (dying_of (λ a. not (holds seat.old.marked a)) held)
+        (slots_of held) }
+    ensures view { OnlyLooked seat.old seat.new }
+{
+    // The marks first: what the test of `pause_end` could change would be unknown after the call.
+    let dead = dead_places(space, seat, &held);
+    region.pause_end(
+        pass,
+        held,
+        |place: u32| -> bool
+            ensures { result ≡ list_any (λ w. w == place + 1) dead }
+        { is_told(&dead, place) },
+    );
+}
+
+/// Of each weak slot whose object is not marked the place and 1, and 0 of the others.
+fn dead_places(space: &Space, seat: &mut MutatorSeat, held: &HeldRegion) -> [u32; 32]
+    requires heap { IsSeatOf space.now seat.old }
+    requires off { seat.old.on ≡ false }
+    requires places { (x p : ℕ) → weak_place held.now x ≡ Some p → IsPlace seat.old.bodies p }
+    ensures dead { (x p : ℕ) → weak_place held.now x ≡ Some p → holds seat.old.marked p ≡ false
+        → Contains result (p + 1) }
+    ensures only { (p : ℕ) → Contains result (p + 1) → holds seat.old.marked p ≡ false }
+    ensures view { OnlyLooked seat.old seat.new }
+{
+    let mut dead = [0; 32];
+    for i in 0..SHARED {
+        dead[i as usize] = dead_place(space, seat, held, i);
+    }
+    dead
+}
+
+fn dead_place(space: &Space, seat: &mut MutatorSeat, held: &HeldRegion, i: u32) -> u32
+    requires heap { IsSeatOf space.now seat.old }
+    requires off { seat.old.on ≡ false }
+    requires slot { i < 32 }
+    requires place { ForSome (weak_place held.now i) (IsPlace seat.old.bodies) }
+    ensures dead { result ≡ told (clear_slot (holds seat.old.marked) (weak_place held.now i)) }
+    ensures view { OnlyLooked seat.old seat.new }
+{
+    seat.bodies_lie_apart();
+    match held.weak(i) {
+        Some(place) if !is_marked(space, seat, place) => place + 1,
+        _ => 0,
+    }
+}
+
+fn is_told(dead: &[u32], place: u32) -> bool
+    ensures { result ≡ list_any (λ w. w == place + 1) dead.now }
+{
+    for word in dead {
+        if *word != 0 && *word - 1 == place {
+            return true;
+        }
+    }
+    false
+}
