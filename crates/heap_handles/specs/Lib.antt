@@ -1,3 +1,4 @@
 pub mod Stack
 pub mod Handles
+pub mod Region
 pub mod StackWords

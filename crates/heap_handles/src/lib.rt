@@ -5,13 +5,15 @@
 //! conservative garbage collection in `include/cppgc/README.md`).
 //!
 //! The parts: `Handles`, with the slots in `handles`, the stack as a part of it in `handle_stack`, and
-//! the beginning and the end of marking in `pausing`; `Stack` and `Pushed`. For contracts alone:
-//! `slot_lists` and `stack_words`.
+//! the beginning and the end of marking in `pausing`; `Stack` and `Pushed`; `RegionHandles`, the slots
+//! that threads share, as the heap's owner has them. For contracts alone: `slot_lists` and
+//! `stack_words`.
 //!
 //! What is proved: each slot holds the place that was put into it, and the word of the stack that is
-//! told is the one that was pushed. Marking begins with what the strong slots and the pointers on the
-//! stack reach. A pause leaves all but the weak slots as they were, and of these exactly those that
-//! name a condemned object become null.
+//! told is the one that was pushed. Marking begins with what the strong slots, those of the region and
+//! the pointers on the stack reach. A pause leaves all but the weak slots as they were, and of these
+//! exactly those that name a condemned object become null, in the region too. A call on the region
+//! makes the next entry of its history, or memory was wanting and nothing changed.
 //!
 //! What is only tested or not said: which node a slot names is known to contracts alone.
 #![tactic(auto)]
@@ -19,9 +21,11 @@
 mod handle_stack;
 mod handles;
 mod pausing;
+mod region;
 mod slot_lists;
 mod stack;
 mod stack_words;
 
 pub use handles::Handles;
+pub use region::RegionHandles;
 pub use stack::{Pushed, Stack};

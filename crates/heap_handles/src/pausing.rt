@@ -5,9 +5,11 @@ ghost use Rattle.std.specs.Prelude.{◌≤◌, length, map, All, Contains};
 ghost use Rattle.gc_graph.specs.May.{members};
 ghost use Rattle.gc_graph.specs.Reach.{Reach};
 ghost use Rattle.gc_graph.specs.State.{node_at, size_of, graph_of, IsLive};
-ghost use Rattle.gc_graph.specs.State.{slot_targets, stack_targets};
+ghost use Rattle.gc_graph.specs.State.{slot_targets, stack_targets, strong_region_targets};
 ghost use Rattle.gc_graph.specs.Pause.{live_count, dead_count, is_dead_at, clear_slot};
 ghost use Rattle.gc_graph.specs.Valid.{AreLive};
+ghost use Rattle.cross_thread_region.specs.Histories.{slots_of, strong_place};
+ghost use Rattle.cross_thread_region.specs.Histories.{strong_told, is_started};
 ghost use Rattle.callback_table.specs.Registry.{IsRegistered};
 ghost use Rattle.callback_table.specs.Table.{kinds_of};
 ghost use Rattle.marker_core.specs.Bodies.{holds};
@@ -18,9 +20,11 @@ ghost use Rattle.atomic_pause.specs.Pausing.{IsPaused, hits_in};
 ghost use Rattle.heap_objects.specs.Marks.{IsAtRest, HasMarking};
 ghost use Rattle.heap_objects.specs.Objects.{setup_of_objects, refused_of};
 ghost use Rattle.heap_objects.specs.Refused.{IsToldTruly};
+ghost use Rattle.heap_handles.specs.Region.{IsHandled, HasPauseEntry, roots_in};
 ghost use Rattle.heap_handles.specs.Stack as spec;
 
 use crate::handles::Handles;
+use crate::region::RegionHandles;
 use crate::slot_lists;
 use atomic_pause::PauseResult;
 use callback_table::{CallbackTable, Registry};
@@ -28,12 +32,14 @@ use gc_graph::Want;
 use heap_objects::Objects;
 
 impl Handles {
-    /// Begins marking: from now on what the strong slots and the pointers on the stack reach may be
-    /// kept, and what the strong slots name is marked. Contracts alone see the roots.
-    pub fn begin(&self, objects: &mut Objects)
+    /// Begins marking: from now on what the strong slots, those of the region and the pointers on the
+    /// stack reach may be kept, and what the strong slots name is marked, and what the region's strong
+    /// slots named at the start entry. Contracts alone see the roots.
+    pub fn begin(&self, region: &RegionHandles, told: &[u32], objects: &mut Objects)
         ghost roots: { List ℕ }
-        requires roots { roots
-            ≡ slot_targets self.now.slots ++ stack_targets self.now.stack.words }
+        requires roots { roots ≡ roots_in self.now region.now }
+        requires told { told.now ≡ strong_told region.now 32 }
+        requires shared { IsHandled objects.old.nodes region.now }
         requires valid { AreOfValid (setup_of_objects objects.old) objects.old.nodes }
         requires rest { IsAtRest objects.old }
         requires quiet { IsQuiet objects.old.seat }
@@ -41,23 +47,27 @@ impl Handles {
         requires live { AreLive objects.old.nodes (slot_targets self.now.slots) }
         requires stack_live { AreLive objects.old.nodes (stack_targets self.now.stack.words) }
         ensures marks { HasMarking (Reach (graph_of objects.old.nodes)
-            (slot_targets self.now.slots ++ stack_targets self.now.stack.words)) objects.new }
+            (roots_in self.now region.now)) objects.new }
         ensures slots { (p : ℕ) → Contains self.now.places (Some p)
+            → holds objects.new.seat.marked p ≡ true }
+        ensures shared { (x p : ℕ) → strong_place region.now x ≡ Some p
             → holds objects.new.seat.marked p ≡ true }
         ensures traced { objects.new.grey.traced ≡ 0 }
         ensures since { objects.new.grey.since ≡ refused_of objects.old }
         ensures nodes { objects.new.nodes ≡ objects.old.nodes }
         ensures setup { setup_of_objects objects.new ≡ setup_of_objects objects.old }
     {
-        objects.begin(&self.strong);
+        let _ = region;
+        objects.begin(&self.strong, told);
     }
 
-    /// Finishes marking, with the pause: what the strong slots and, unless it is precise, the words of
-    /// the stack reach is kept, what couldn't be kept before is condemned unless the stack's words
-    /// reach it, what is weak and names a condemned object becomes null, and the prefinalizers of
-    /// these run.
+    /// Finishes marking, with the pause: what the strong slots, the region's among them, and, unless it
+    /// is precise, the words of the stack reach is kept, what couldn't be kept before is condemned
+    /// unless the region's slots or the stack's words reach it, what is weak and names a condemned
+    /// object becomes null, and the prefinalizers of these run.
     pub fn finish(
         &mut self,
+        region: &mut RegionHandles,
         objects: &mut Objects,
         registry: &mut Registry,
         callbacks: &CallbackTable,
@@ -75,11 +85,13 @@ impl Handles {
         requires weak_live { AreLive objects.old.nodes (slot_targets self.old.weak) }
         requires registered { All (IsRegistered objects.old.nodes (length objects.old.callbacks))
             registry.old.entries }
+        requires shared { IsHandled objects.old.nodes region.old }
+        requires started { is_started region.old ≡ true }
         ensures paused { (may : List Bool) → HasMarking may objects.old
             → IsPaused objects.old.callbacks
-            (slot_targets self.old.slots
+            (slot_targets self.old.slots ++ strong_region_targets (slots_of region.old)
             ++ hits_in (spec.is_precise want) objects.old.nodes self.old.stack.addresses)
-            (members may
+            (members may ++ strong_region_targets (slots_of region.old)
             ++ hits_in (spec.is_precise want) objects.old.nodes self.old.stack.addresses)
             objects.old.nodes objects.new.nodes registry.old registry.new }
         ensures sizes { (n : ℕ) → IsLive objects.old.nodes n
@@ -88,6 +100,7 @@ impl Handles {
           weak_places = places_of objects.new.nodes self.new.weak;
           weak = map (clear_slot (is_dead_at objects.new.nodes)) self.old.weak;
         } }
+        ensures region { HasPauseEntry objects.new.nodes region.old region.new }
         ensures rest { IsAtRest objects.new }
         ensures judged { IsJudged objects.new.seat }
         ensures kept { result.kept ≡ live_count objects.new.nodes }
@@ -101,6 +114,8 @@ impl Handles {
         let result = objects.finish(
             &self.strong,
             &mut self.weak,
+            &mut region.region,
+            &mut region.pass,
             self.stack.addresses(),
             is_precise(want),
             registry,

@@ -14,4 +14,5 @@ pub mod MarksMade
 pub mod WeakMay
 pub mod MarksRead
 pub mod MarkingBegun
+pub mod ToldRoots
 pub mod MarksStepped

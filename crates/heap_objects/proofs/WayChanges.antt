@@ -15,7 +15,7 @@ use Rattle.marker_core.specs.Hands.{each_hand, hand_after_mark}
 use Rattle.marker_core.specs.SeatSteps.{settled}
 use Rattle.page_words.specs.Roles.{kind_lists}
 use Rattle.page_words.specs.Seat.{SeatView, IsAlone, rewritten, marked_at}
-use Rattle.page_words.specs.WrittenBodies.{by_word}
+use Rattle.page_words.specs.WrittenBodies.{by_word, same_place}
 use Rattle.page_space.specs.Occupying.{Occupies}
 use Rattle.ephemerons.specs.BodyGraph.{HasPair, pair_offsets}
 use Rattle.ephemerons.specs.Notes.{NotesState}
@@ -81,9 +81,6 @@ way_on old new m n x leaves lists way = record {
 same_type : (a w : ℕ) (b : Body) → (with_word a w b).ty ≡ b.ty
 same_type a w b = by_word (λ (c : Body). c.ty ≡ b.ty) a w b (λ has. refl) (λ none. refl)
 
-same_at : (a w : ℕ) (b : Body) → (with_word a w b).place ≡ b.place
-same_at a w b = by_word (λ (c : Body). c.place ≡ b.place) a w b (λ has. refl) (λ none. refl)
-
 pub rewritten_leaves : (v : SeatView) (a w : ℕ) → Leaves v (rewritten v a w)
 rewritten_leaves v a w = record {
   on = refl;
@@ -91,7 +88,7 @@ rewritten_leaves v a w = record {
   pairs = λ p offset (b, there, at, pair). (
     with_word a w b,
     Contains-map (with_word a w) v.bodies b there,
-    same_at a w b ∙ at,
+    same_place a w b ∙ at,
     subst (λ ty. Contains (pair_offsets v.types (record b { ty = ty })) offset) (sym (same_type a w b)) pair,
   );
   marked = λ p h. h;

@@ -1,13 +1,12 @@
 -- What may be kept once marking has begun, and after a weak read, as nodes.
-use Rattle.std.proofs.Common.{◌≡◌, ℕ, zero, suc, Bool, true, List, [], ◌∷◌, ◌++◌, length, map, refl, sym, ap, ◌∙◌, subst, inl, inr, arith, eqb}
+use Rattle.std.proofs.Common.{◌≡◌, ℕ, Bool, true, List, [], ◌∷◌, ◌++◌, map, refl, sym, ap, ◌∙◌, subst, inl, inr, arith}
 use mathlib.Core.Logic.{◌⊎◌}
-use Rattle.std.specs.List.{list_any}
 use Rattle.std.proofs.lemmas.List.{length-map}
-use Rattle.std.proofs.lemmas.List.FromFn.{length-map-range_with_len}
 use Rattle.gc_graph.specs.Graph.{Object, has, IsClosed}
 use Rattle.gc_graph.specs.May.{members}
 use Rattle.gc_graph.specs.Members.{Contains-map, Contains-map_some, pushed_is_held, holds_from, in_from_holds}
-use Rattle.gc_graph.specs.Reach.{Reach, ReachIsLeast, IsLeastClosed, AreNodes, set_of, closed_times}
+use Rattle.gc_graph.specs.Reach.{Reach, ReachIsLeast, IsLeastClosed, AreNodes}
+use Rattle.gc_graph.specs.ReachLength.{reach_length}
 use Rattle.gc_graph.specs.State.{Setup, Node, graph_of, IsLive}
 use Rattle.gc_graph.specs.NodeNumbers.{there_below}
 use Rattle.marker_core.specs.declared.states.Body.{Body}
@@ -28,16 +27,7 @@ use Rattle.heap_objects.specs.Marks.{IsMayOf}
 use Rattle.heap_objects.proofs.PlacesReached.{HaveSameRoots, place_reached}
 use Rattle.heap_objects.proofs.WayChanges.{held_push, push_holds}
 
--- ---- a reach has a flag for each node, and live nodes alone
-
-closed_long : (k : ℕ) (g : List Object) (s : List Bool) → length s ≡ length g → length (closed_times k g s) ≡ length g
-closed_long zero g s e = e
-closed_long (suc k) g s e = length-map-range_with_len _ 0 (length g)
-
-reach_long : (g : List Object) (roots : List ℕ) → length (Reach g roots) ≡ length g
-unfolding Reach
-reach_long g roots =
-    closed_long (length g) g (set_of (λ n. list_any (λ r. eqb r n) roots) (length g)) (length-map-range_with_len (λ n. list_any (λ r. eqb r n) roots) 0 (length g))
+-- ---- a reach has live nodes alone
 
 module _ (setup : Setup) (nodes : List Node) (v : SeatView) (view : IsView v) (valid : AreOfValid setup nodes) (held : IsHeld nodes v) (none : v.dead ≡ []) (law : ReachIsLeast) where
   reach_live : (roots : List ℕ) → ((n : ℕ) → IsAmong roots n → IsLive nodes n) → (n : ℕ) → has (Reach (graph_of nodes) roots) n ≡ true → IsLive nodes n
@@ -62,7 +52,7 @@ module _ (setup : Setup) (nodes : List Node) (v : SeatView) (view : IsView v) (v
   pub reached_is_may : (w : SeatView) (roots from : List ℕ) → HaveSameRoots setup nodes v view valid held.bodies roots from
       → IsLeastOver (kind_lists setup.types) v.bodies from w.may → IsMayOf nodes w (Reach (graph_of nodes) roots)
   reached_is_may w roots from same over = record {
-    whole = reach_long (graph_of nodes) roots ∙ length-map nodes (λ (x : Node). x.object);
+    whole = reach_length (graph_of nodes) roots ∙ length-map nodes (λ (x : Node). x.object);
     live = reach_live roots same.live;
     same = place_reached setup nodes v view valid held.bodies roots from w.may law same over;
   }

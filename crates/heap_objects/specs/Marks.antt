@@ -1,5 +1,5 @@
 -- The marks of each phase, and what is kept of marking.
-use Rattle.std.specs.Prelude.{◌≡◌, ℕ, Bool, true, false, List, length, Option}
+use Rattle.std.specs.Prelude.{◌≡◌, ℕ, ◌+◌, Bool, true, false, List, length, Option, Contains}
 use Rattle.gc_graph.specs.declared.phase.Phase.{Phase}
 use Rattle.gc_graph.specs.declared.phase.Phase.TheVariants.{Idle, Marking, Sweeping}
 use Rattle.gc_graph.specs.Graph.{has}
@@ -15,7 +15,7 @@ use Rattle.nodes_in_words.specs.Nodes.{place_of}
 use Rattle.atomic_pause.specs.Pausing.{NamePlaces}
 use Rattle.heap_objects.specs.Finalising.{IsSweptTo}
 use Rattle.heap_objects.specs.Marking.{IsClear}
-use Rattle.heap_objects.specs.Objects.{ObjectsView, refused_of}
+use Rattle.heap_objects.specs.Objects.{ObjectsView, refused_of, IsLiveAt}
 
 -- no marking goes on, and nothing is left of it
 pub record IsAtRest (o : ObjectsView) : Type 0 where
@@ -54,3 +54,7 @@ pub record NameRoots (nodes : List Node) (roots : List ℕ) (places : List (Opti
   pub slots : List (Option ℕ)
   pub named : NamePlaces nodes slots places
   pub among : (n : ℕ) → IsAmong (slot_targets slots) n → IsAmong roots n
+
+-- each place that is told, with 1, is that of a live node that is among the roots
+abbrev pub TellsRoots : List Node → List ℕ → List ℕ → Type 0
+TellsRoots nodes roots told = (p : ℕ) → Contains told (p + 1) → (n : ℕ) × IsAmong roots n × IsLiveAt nodes n p

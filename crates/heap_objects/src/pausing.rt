@@ -16,14 +16,16 @@ ghost use Rattle.page_words.specs.Seat.{IsQuiet, PairsAreWhole, begun};
 ghost use Rattle.nodes_in_words.specs.Nodes.{AreOfValid};
 ghost use Rattle.nodes_in_words.specs.Places.{places_of, IsJudged};
 ghost use Rattle.atomic_pause.specs.Pausing.{IsPaused, NamePlaces, hits_in};
-ghost use Rattle.heap_objects.specs.Marks.{IsAtRest, HasMarking, NameRoots};
+ghost use Rattle.atomic_pause.specs.Pausing.{IsPausable, IsPausedRegion, shared_roots};
+ghost use Rattle.heap_objects.specs.Marks.{IsAtRest, HasMarking, NameRoots, TellsRoots};
 ghost use Rattle.heap_objects.specs.Objects.{setup_of_objects, refused_of};
 ghost use Rattle.heap_objects.specs.Refused.{IsToldTruly};
 
 use crate::marking::{clear, refused};
 use crate::objects::Objects;
-use atomic_pause::{Parts, PauseResult, pause, visit_slots};
+use atomic_pause::{Parts, PauseResult, pause, visit_slots, visit_told};
 use callback_table::{CallbackTable, Registry};
+use cross_thread_region::{Pass, Region};
 use ephemerons::trace_listed;
 use ghost_values::GhostValue;
 use nodes_in_words::NodeLists;
@@ -32,17 +34,22 @@ use persistent_slots::Slots;
 
 impl Objects {
     /// Begins marking: from now on what the roots reach may be kept, and what the strong slots name
-    /// is marked. Contracts alone see the roots, among which are the targets of these slots.
+    /// is marked, and what the region's strong slots named at the start entry, which told of each of
+    /// them the place and 1, and 0 of the others. Contracts alone see the roots, among which are the
+    /// targets of all these slots.
     #[inline(never)]
-    pub fn begin(&mut self, strong: &Slots)
+    pub fn begin(&mut self, strong: &Slots, told: &[u32])
         ghost roots: { List ℕ }
         requires valid { AreOfValid (setup_of_objects self.old) self.old.nodes }
         requires rest { IsAtRest self.old }
         requires quiet { IsQuiet self.old.seat }
         requires roots { AreLive self.old.nodes roots }
         requires slots { NameRoots self.old.nodes roots strong.now }
+        requires told { TellsRoots self.old.nodes roots told.now }
         ensures marks { HasMarking (Reach (graph_of self.old.nodes) roots) self.new }
         ensures slots { (p : ℕ) → Contains strong.now (Some p)
+            → holds self.new.seat.marked p ≡ true }
+        ensures told { (p : ℕ) → Contains told.now (p + 1)
             → holds self.new.seat.marked p ≡ true }
         ensures traced { self.new.grey.traced ≡ 0 }
         ensures since { self.new.grey.since ≡ refused_of self.old }
@@ -60,6 +67,7 @@ impl Objects {
         marking.on = true;
         self.seat.bodies_lie_apart();
         visit_slots(words, &mut self.seat, marking, strong);
+        visit_told(words, &mut self.seat, marking, told);
     }
 
     /// Traces marked objects, at most so many. Answers how many: fewer only where no object is grey,
@@ -93,15 +101,17 @@ impl Objects {
         traced
     }
 
-    /// Finishes marking, with the pause: what the strong slots and, unless it is precise, the words of
-    /// the stack reach is kept, what couldn't be kept before is condemned unless the stack's words
-    /// reach it, what is weak and names a condemned object becomes null, and the prefinalizers of
-    /// these run.
+    /// Finishes marking, with the pause: what the strong slots, the region's among them, and, unless it
+    /// is precise, the words of the stack reach is kept, what couldn't be kept before is condemned
+    /// unless the region's slots or the stack's words reach it, what is weak and names a condemned
+    /// object becomes null, and the prefinalizers of these run.
     #[inline(never)]
     pub fn finish<'a>(
         &mut self,
         strong: &'a Slots,
         weak: &mut Slots,
+        region: &mut Region,
+        pass: &mut Pass,
         stack: &[u64],
         precise: bool,
         registry: &mut Registry,
@@ -117,17 +127,21 @@ impl Objects {
         requires weak { (slots : List (Option ℕ)) × NamePlaces self.old.nodes slots weak.old }
         requires registered { All (IsRegistered self.old.nodes (length self.old.callbacks))
             registry.old.entries }
+        requires shared { IsPausable self.old.nodes region.old pass.old }
         ensures paused { (slots : List (Option ℕ)) (may : List Bool)
             → NamePlaces self.old.nodes slots strong.now → HasMarking may self.old
             → IsPaused self.old.callbacks
-            (slot_targets slots ++ hits_in precise self.old.nodes stack.now)
-            (members may ++ hits_in precise self.old.nodes stack.now)
+            (slot_targets slots ++ shared_roots region.old
+            ++ hits_in precise self.old.nodes stack.now)
+            (members may ++ shared_roots region.old
+            ++ hits_in precise self.old.nodes stack.now)
             self.old.nodes self.new.nodes registry.old registry.new }
         ensures sizes { (n : ℕ) → IsLive self.old.nodes n
             → size_of (node_at self.new.nodes n) ≡ size_of (node_at self.old.nodes n) }
         ensures weak { (slots : List (Option ℕ)) → NamePlaces self.old.nodes slots weak.old →
             weak.new ≡ places_of self.new.nodes
             (map (clear_slot (is_dead_at self.new.nodes)) slots) }
+        ensures region { IsPausedRegion self.new.nodes region.old pass.old region.new pass.new }
         ensures rest { IsAtRest self.new }
         ensures judged { IsJudged self.new.seat }
         ensures kept { result.kept ≡ live_count self.new.nodes }
@@ -146,6 +160,8 @@ impl Objects {
                 notes: &mut self.grey.notes,
                 weak,
                 registry,
+                region,
+                pass,
                 space: &self.space,
                 types: &self.types,
                 strong,

@@ -19,3 +19,14 @@ finish-result-requires-clause-weak g c = (
     places_are = ap (λ (h : HandlesView). h.weak_places) c.self.view_is ∙ c.requires.weak;
   },
 )
+
+pub finish-result-requires-clause-shared : goal.finish-result-requires-clause-shared
+finish-result-requires-clause-shared g c =
+    let shared = rw (← c.region.view_is) at c.requires.shared in
+    record {
+      ready = c.region.invariant.ready;
+      first = c.region.invariant.first;
+      started = rw (← c.region.view_is) at c.requires.started;
+      live = shared.live;
+      placed = shared.placed;
+    }

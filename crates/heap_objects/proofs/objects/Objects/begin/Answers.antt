@@ -11,8 +11,10 @@ use Rattle.nodes_in_words.specs.AmongNodes.{IsAmong}
 use Rattle.nodes_in_words.specs.KeptNodes.{slots_live, named_places, place_slot, root_of_slot}
 use Rattle.nodes_in_words.specs.Nodes.{place_of, bodies_of}
 use Rattle.nodes_in_words.specs.WholePairs.{pairs_whole}
+use Rattle.ephemerons.specs.ListedMarks.{ListsMarks-then}
 use Rattle.heap_objects.specs.Marking.{grey_of}
-use Rattle.heap_objects.proofs.MarkingBegun.{has_begun}
+use Rattle.heap_objects.proofs.MarkingBegun.{raised, has_begun}
+use Rattle.heap_objects.proofs.ToldRoots.{told_place, told_root}
 use Rattle.heap_objects.proofs.Unlooked.{quiet_is}
 use Rattle.heap_objects.proofs.objects.Objects.begin.Goals as goal
 
@@ -32,7 +34,7 @@ pub visit_slots-requires-clause-slots : goal.visit_slots-requires-clause-slots
 visit_slots-requires-clause-slots g c =
     let nodes : List Node = c.self.inside.nodes.value in
     let u : SeatView = c.keep_reached.new.seat in
-    let named = rw (← c.self.view_is) at c.requires.1.1.1.1 in
+    let named = rw (← c.self.view_is) at c.requires.1.1.1.1.0 in
     let held : u.bodies ≡ bodies_of nodes = ap (λ (x : SeatView). x.bodies) c.keep_reached.ensures.view ∙ c.self.invariant.held.bodies in
     subst (λ l. All (λ slot. ForSome slot (IsPlace u.bodies)) l) (sym named.named.places_are)
     (named_places nodes u named.slots held (slots_live nodes named.slots named.named.live))
@@ -41,7 +43,7 @@ pub visit_slots-requires-clause-may : goal.visit_slots-requires-clause-may
 visit_slots-requires-clause-may g c p there =
     let v : SeatView = c.self.inside.seat in
     let nodes : List Node = c.self.inside.nodes.value in
-    let named = rw (← c.self.view_is) at c.requires.1.1.1.1 in
+    let named = rw (← c.self.view_is) at c.requires.1.1.1.1.0 in
     let places : All (λ slot. ForSome slot (IsPlace v.bodies)) c.args.strong.now =
     subst (λ l. All (λ slot. ForSome slot (IsPlace v.bodies)) l) (sym named.named.places_are)
     (named_places nodes v named.slots c.self.invariant.held.bodies (slots_live nodes named.slots named.named.live)) in
@@ -53,16 +55,34 @@ visit_slots-requires-clause-may g c p there =
     c.keep_reached.ensures.may.roots_in p told
     (test_of_place v.bodies p (All-contains (λ s. ForSome s (IsPlace v.bodies)) c.args.strong.now (Some p) places there p refl))
 
+pub visit_told-requires-clause-places : goal.visit_told-requires-clause-places
+visit_told-requires-clause-places g c p there =
+    let nodes : List Node = c.self.inside.nodes.value in
+    let w : SeatView = c.visit_slots.new.seat in
+    let held : w.bodies ≡ bodies_of nodes =
+    ap (λ (x : SeatView). x.bodies) c.visit_slots.ensures.marks.view ∙ ap (λ (x : SeatView). x.bodies) c.keep_reached.ensures.view ∙ c.self.invariant.held.bodies in
+    told_place nodes w g.roots c.args.told.now held (rw (← c.self.view_is) at c.requires.1.1.1.1.1) p there
+
+pub visit_told-requires-clause-may : goal.visit_told-requires-clause-may
+visit_told-requires-clause-may g c p there =
+    let v : SeatView = c.self.inside.seat in
+    let nodes : List Node = c.self.inside.nodes.value in
+    let tells = rw (← c.self.view_is) at c.requires.1.1.1.1.1 in
+    let place = test_of_place v.bodies p (told_place nodes v g.roots c.args.told.now c.self.invariant.held.bodies tells p there) in
+    ap (λ (x : SeatView). holds x.may p) c.visit_slots.ensures.marks.view
+    ∙ c.keep_reached.ensures.may.roots_in p (told_root nodes g.roots c.args.told.now tells p there) place
+
 pub returns-clause-marks : goal.returns-clause-marks
 returns-clause-marks g c =
     let v : SeatView = c.self.inside.seat in
     let nodes : List Node = c.self.inside.nodes.value in
+    let u : SeatView = c.keep_reached.new.seat in
     let setup : Setup = record { shape = c.self.inside.space.shape; markers = 0; types = c.self.inside.types; callbacks = c.self.inside.kinds.value } in
     let quiet : IsQuiet v = quiet_is v (rw (← c.self.view_is) at c.requires.1.1.0) in
     let rest = rw (← c.self.view_is) at c.requires.1.0 in
     let roots : All (IsLive nodes) g.roots = rw (← c.self.view_is) at c.requires.1.1.1.0 in
     let live : (n : ℕ) → IsAmong g.roots n → IsLive nodes n = λ n is. All-contains (IsLive nodes) g.roots n roots (in_from_holds g.roots n is) in
     rw (← c.self.view_is, c.refused.ensures)
-    (has_begun setup nodes v c.keep_reached.new.seat c.visit_slots.new.seat (grey_of c.self.inside.grey) c.visit_slots.new.marking g.roots c.bodies_lie_apart.ensures
+    (has_begun setup nodes v u c.visit_told.new.seat (grey_of c.self.inside.grey) c.visit_told.new.marking g.roots c.bodies_lie_apart.ensures
     (rw (← c.self.view_is) at c.requires.0) c.self.invariant.held c.self.invariant.known c.reach_is_least.ensures quiet c.self.invariant.alone rest.clear live
-    c.keep_reached.ensures.view c.keep_reached.ensures.may c.visit_slots.ensures.marks c.visit_slots.ensures.noted c.self.inside.kinds.value)
+    c.keep_reached.ensures.view c.keep_reached.ensures.may (ListsMarks-then u c.visit_slots.new.seat c.visit_told.new.seat (raised (grey_of c.self.inside.grey).marking) c.visit_slots.new.marking c.visit_told.new.marking c.visit_slots.ensures.marks c.visit_told.ensures.marks) (c.visit_told.ensures.noted ∙ c.visit_slots.ensures.noted) c.self.inside.kinds.value)

@@ -14,7 +14,7 @@ use Rattle.ephemerons.specs.Fixpoint.{IsUnrefused}
 use Rattle.ephemerons.specs.Notes.{NotesState, group_at, refusals_in}
 use Rattle.callback_table.specs.Table.{kinds_of}
 use Rattle.gc_graph.specs.May.{members}
-use Rattle.atomic_pause.specs.Pausing.{IsMayWithin, IsPaused, hits_in}
+use Rattle.atomic_pause.specs.Pausing.{IsMayWithin, IsPaused, hits_in, shared_roots}
 use Rattle.heap_objects.specs.Marks.{IsMayOf}
 use Rattle.heap_objects.specs.Refused.{RefusedCounts, IsToldTruly}
 use Rattle.heap_objects.proofs.PausedSizes.{sizes_stay}
@@ -78,8 +78,8 @@ pub returns-clause-paused : goal.returns-clause-paused
 returns-clause-paused g c =
     let kinds : kinds_of c.args.callbacks.now ≡ c.self.inside.kinds.value = rw (← c.self.view_is) at c.requires.kinds in
     rw (← c.self.view_is) (λ slots may named marks.
-    subst (λ ks. IsPaused ks (slot_targets slots ++ hits_in c.args.precise c.self.inside.nodes.value c.args.stack.now)
-    (members may ++ hits_in c.args.precise c.self.inside.nodes.value c.args.stack.now) c.self.inside.nodes.value c.pause-result.new.parts.1.0.value c.args.registry.now c.pause-result.new.parts.1.1.1.1.1.0)
+    subst (λ ks. IsPaused ks (slot_targets slots ++ shared_roots c.args.region.now ++ hits_in c.args.precise c.self.inside.nodes.value c.args.stack.now)
+    (members may ++ shared_roots c.args.region.now ++ hits_in c.args.precise c.self.inside.nodes.value c.args.stack.now) c.self.inside.nodes.value c.pause-result.new.parts.1.0.value c.args.registry.now c.pause-result.new.parts.1.1.1.1.1.0)
     kinds (c.pause-result.ensures.paused slots may named (may_within c.self.inside.nodes.value c.self.inside.seat may marks.may_is)))
 
 pub returns-clause-sizes : goal.returns-clause-sizes
