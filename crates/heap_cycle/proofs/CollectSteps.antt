@@ -1,29 +1,29 @@
 -- The commands of a cycle are steps of the graph.
-use Rattle.std.proofs.Common.{◌≡◌, ℕ, true, false, List, [], ◌∷◌, ◌++◌, inr}
+use Rattle.std.proofs.Common.{◌≡◌, ℕ, true, false, List, [], ◌∷◌, ◌++◌, inr, sym, subst}
 use Rattle.gc_graph.specs.declared.command.Want.{Want}
 use Rattle.gc_graph.specs.declared.line.Line.{Line}
 use Rattle.gc_graph.specs.declared.region.Entry.{Entry}
+use Rattle.gc_graph.specs.declared.region.Op.TheVariants as O
 use Rattle.gc_graph.specs.State.{Setup, State}
-use Rattle.gc_graph.specs.CycleSteps.{IsPause, IsFinished, IsCollection, StepGcFinish, StepGcNow, is_marking, is_stack_refused}
-use Rattle.gc_graph.specs.Outcomes.{answered, finalise_lines}
+use Rattle.gc_graph.specs.CycleSteps.{IsStart, IsPause, IsFinished, IsCollection, StepGcFinish, StepGcNow, is_marking, is_stack_refused}
+use Rattle.gc_graph.specs.Outcomes.{answered, finalise_lines, owner_entry}
 use Rattle.gc_graph.specs.Sweep.{SweepsToEnd}
 use Rattle.heap_cycle.specs.Cycles.{started_state}
-use Rattle.heap_cycle.specs.Entries.{start_entry, pause_entry}
 use Rattle.heap_cycle.proofs.StartSteps.{on_false, on_true, starts}
 
 -- where marking doesn't go on and the stack isn't refused, gc now ends the open sweep, and then come start and pause
-pub step_collected : (setup : Setup) (want : Want) (s t u new : State) (numbers : List ℕ) (piece : List Entry) (lines pause_lines : List Line) → is_marking s.phase ≡ false
-    → is_stack_refused want s.stack ≡ false → SweepsToEnd setup.shape s numbers t → IsPause setup 0 want (started_state t) (pause_entry ∷ []) pause_lines u
-    → piece ≡ start_entry ∷ pause_entry ∷ [] → lines ≡ finalise_lines numbers ++ pause_lines → new ≡ answered u → StepGcNow setup want s piece lines new
-step_collected setup want s t u new numbers piece lines pause_lines calm allowed ended pause taken printed after =
+pub step_collected : (setup : Setup) (want : Want) (s t u new : State) (numbers : List ℕ) (piece first second : List Entry) (lines pause_lines : List Line) → is_marking s.phase ≡ false
+    → is_stack_refused want s.stack ≡ false → SweepsToEnd setup.shape s numbers t → first ≡ owner_entry t O.Start ∷ []
+    → IsPause setup 0 want (started_state t) second pause_lines u → piece ≡ first ++ second → lines ≡ finalise_lines numbers ++ pause_lines → new ≡ answered u → StepGcNow setup want s piece lines new
+step_collected setup want s t u new numbers piece first second lines pause_lines calm allowed ended entry pause taken printed after =
     let collects : IsCollection setup want s piece lines new = record {
       numbers = numbers;
       swept = t;
       ended = ended;
-      first = start_entry ∷ [];
+      first = first;
       started = started_state t;
-      start = starts setup t;
-      second = pause_entry ∷ [];
+      start = subst (λ es. IsStart setup t es (started_state t)) (sym entry) (starts setup t);
+      second = second;
       pause_lines = pause_lines;
       paused = u;
       pause = pause;

@@ -3,8 +3,10 @@ pub mod SweptObjects
 pub mod PlacementSteps
 pub mod SweepSteps
 pub mod WayToPlace
+pub mod SharedSteps
 pub mod PauseKeeps
 pub mod CollectSteps
 mod PauseSteps
 mod StartSteps
+mod TakenSteps
 pub mod OutcomeLines

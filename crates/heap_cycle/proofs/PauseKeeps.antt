@@ -1,5 +1,5 @@
 -- What a pause keeps is lawful: all that the roots and the stack reach, and nothing but what may be kept.
-use Rattle.std.proofs.Common.{◌≡◌, ℕ, zero, suc, ◌+◌, ◌<◌, ◌||◌, Bool, true, false, All, List, [], ◌∷◌, ◌++◌, length, replicate, map, reverse, refl, sym, ap, ◌∙◌, subst, inl, inr, arith, eqb, ltb}
+use Rattle.std.proofs.Common.{◌≡◌, ℕ, ◌+◌, ◌<◌, ◌||◌, Bool, true, false, All, List, [], ◌∷◌, ◌++◌, length, map, reverse, refl, sym, ap, ◌∙◌, subst, inl, inr, arith, eqb, ltb}
 use Rattle.std.specs.List.{list_any, range_with_len}
 use Rattle.std.proofs.lemmas.Bool.{true≢false, or_cases, or_left, or_right, eqb-true, and_parts, and_from, le-leb, lt-ltb, ltb-false}
 use Rattle.std.proofs.lemmas.List.{length-map, reverse-append}
@@ -7,19 +7,18 @@ use Rattle.std.proofs.lemmas.List.Elements.{All-head, All-tail, filter_agree}
 use Rattle.std.proofs.lemmas.List.Folds.{list_any-append}
 use Rattle.gc_graph.specs.declared.command.Want.{Want}
 use Rattle.gc_graph.specs.declared.command.Want.TheVariants.{Precise, Conservative}
-use Rattle.gc_graph.specs.Graph.{Object}
+use Rattle.gc_graph.specs.Graph.{Object, IsIn, IsWithin}
 use Rattle.gc_graph.specs.Reach.{Reach, AreNodes, IsLeastClosed, RefersWithin, ReachIsLeast}
 use Rattle.gc_graph.specs.State.{State, Node, StackWord, node_at, size_of, is_there, IsLive, graph_of, roots_of, slot_targets, stack_targets, strong_region_targets}
 use Rattle.gc_graph.specs.State.StackWord.{Pointer, Number}
-use Rattle.gc_graph.specs.State.RegionSlot.{Vacant}
 use Rattle.gc_graph.specs.CycleSteps.{is_stack_refused}
 use Rattle.gc_graph.specs.May.{members, address_of, has_word, is_hit, hits_of, hits_for}
 use Rattle.gc_graph.specs.Pause.{IsKept}
-use Rattle.gc_graph.specs.Valid.{AreLive, IsThere}
+use Rattle.gc_graph.specs.Valid.{AreLive, IsThere, IsMay}
+use Rattle.atomic_pause.specs.MembersOf.{member_among, among_member}
 use Rattle.atomic_pause.specs.Pausing.{IsKeptBetween, hits_at, hits_in}
 use Rattle.nodes_in_words.specs.AmongNodes.{IsAmong, among_cases, among_left, among_right, filter_holds, filter_passes}
 use Rattle.nodes_in_words.specs.NodePlaces.{live_is_there}
-use Rattle.heap_cycle.specs.Views.{IsOwnersAlone}
 use Rattle.heap_handles.specs.Stack.{StackView, PointsInside, HoldsWords, is_precise}
 use Rattle.gc_graph.specs.Members.{below_ranged, any_member}
 use Rattle.gc_graph.specs.NodeNumbers.{there_below}
@@ -115,41 +114,76 @@ has_roots Conservative s stack words empty live held =
       there = λ n is. hit_there s.nodes s.stack n (subst (λ hs. IsAmong hs n) hits is);
     }
 
-pub no_region_targets : (n : ℕ) → strong_region_targets (replicate n Vacant) ≡ []
-no_region_targets zero = refl
-no_region_targets (suc n) = no_region_targets n
-
 -- the state's roots are among those of the pause
-roots_within : (want : Want) (s : State) (hits : List ℕ) (n : ℕ) → IsOwnersAlone s → HasRoots want s hits → IsAmong (roots_of s) n
-    → IsAmong (slot_targets s.slots ++ hits) n
-roots_within want s hits n alone has is =
-    elim (among_cases (slot_targets s.slots ++ stack_targets s.stack) (strong_region_targets s.region) n is) [
-      | inl owned ↦ elim (among_cases (slot_targets s.slots) (stack_targets s.stack) n owned) [
-        | inl slot ↦ among_left (slot_targets s.slots) hits n slot
-        | inr word ↦ among_right (slot_targets s.slots) hits n (has.covered n word)
+roots_within : (want : Want) (s : State) (hits : List ℕ) (n : ℕ) → HasRoots want s hits → IsAmong (roots_of s) n
+    → IsAmong (slot_targets s.slots ++ strong_region_targets s.region ++ hits) n
+roots_within want s hits n has is =
+    let slots : List ℕ = slot_targets s.slots in
+    let shared : List ℕ = strong_region_targets s.region in
+    elim (among_cases (slots ++ stack_targets s.stack) shared n is) [
+      | inl owned ↦ elim (among_cases slots (stack_targets s.stack) n owned) [
+        | inl slot ↦ among_left (slots ++ shared) hits n (among_left slots shared n slot)
+        | inr word ↦ among_right (slots ++ shared) hits n (has.covered n word)
       ]
-      | inr region ↦ absurd (true≢false (sym region ∙ ap (list_any (λ r. eqb r n)) (ap strong_region_targets alone.region_null ∙ no_region_targets 32)))
+      | inr region ↦ among_left (slots ++ shared) hits n (among_right slots shared n region)
     ]
 
-pub pause_keeps : (want : Want) (s : State) (hits : List ℕ) (kept : List Bool) → ReachIsLeast → RefersWithin (graph_of s.nodes) → IsOwnersAlone s → AreLive s.nodes (slot_targets s.slots)
-    → HasRoots want s hits → IsKeptBetween s.nodes (slot_targets s.slots ++ hits) (members s.may ++ hits) kept → IsKept s (hits_for want s) kept
-pause_keeps want s hits kept law refers alone live has keeps =
+-- what the region's strong slots name may be kept
+shared_may : (s : State) (n : ℕ) → IsMay s → IsAmong (strong_region_targets s.region) n → IsIn s.may n
+shared_may s n may is = may.roots n (among_right (slot_targets s.slots ++ stack_targets s.stack) (strong_region_targets s.region) n is)
+
+-- what may be kept, with what the region's strong slots name, reaches no more than it does alone
+bounded_most : (s : State) (hits : List ℕ) → ReachIsLeast → RefersWithin (graph_of s.nodes) → IsMay s → ((n : ℕ) → IsAmong hits n → n < length (graph_of s.nodes))
+    → IsWithin (Reach (graph_of s.nodes) (members s.may ++ strong_region_targets s.region ++ hits)) (Reach (graph_of s.nodes) (members s.may ++ hits))
+bounded_most s hits law refers may low =
+    let g : List Object = graph_of s.nodes in
+    let own : List ℕ = members s.may in
+    let shared : List ℕ = strong_region_targets s.region in
+    let count : length g ≡ length s.nodes = length-map s.nodes (λ (x : Node). x.object) in
+    let below : (n : ℕ) → IsIn s.may n → n < length g = λ n is. omega (arith, count, there_below s.nodes n (live_is_there s.nodes n (may.live n is))) in
+    let nodes : AreNodes g (own ++ hits) = λ n is. elim (among_cases own hits n is) [
+      | inl member ↦ below n (among_member s.may n member)
+      | inr hit ↦ low n hit
+    ] in
+    let within : (n : ℕ) → IsAmong (own ++ shared ++ hits) n → IsAmong (own ++ hits) n = λ n is. elim (among_cases (own ++ shared) hits n is) [
+      | inl left ↦ elim (among_cases own shared n left) [
+        | inl member ↦ among_left own hits n member
+        | inr root ↦ among_left own hits n (member_among s.may n (shared_may s n may root))
+      ]
+      | inr hit ↦ among_right own hits n hit
+    ] in
+    let most : IsLeastClosed g (own ++ hits) (Reach g (own ++ hits)) = law g (own ++ hits) refers nodes in
+    let more : IsLeastClosed g (own ++ shared ++ hits) (Reach g (own ++ shared ++ hits)) =
+    law g (own ++ shared ++ hits) refers (λ n is. nodes n (within n is)) in
+    λ n is. more.least (Reach g (own ++ hits)) most.closed (λ m root. most.roots_in m (within m root)) n is
+
+pub pause_keeps : (want : Want) (s : State) (hits : List ℕ) (kept : List Bool) → ReachIsLeast → RefersWithin (graph_of s.nodes) → IsMay s
+    → AreLive s.nodes (slot_targets s.slots) → HasRoots want s hits
+    → IsKeptBetween s.nodes (slot_targets s.slots ++ strong_region_targets s.region ++ hits) (members s.may ++ strong_region_targets s.region ++ hits) kept
+    → IsKept s (hits_for want s) kept
+pause_keeps want s hits kept law refers may live has keeps =
     let g : List Object = graph_of s.nodes in
     let slots : List ℕ = slot_targets s.slots in
+    let shared : List ℕ = strong_region_targets s.region in
     let count : length g ≡ length s.nodes = length-map s.nodes (λ (x : Node). x.object) in
-    let nodes : AreNodes g (slots ++ hits) = λ n is. elim (among_cases slots hits n is) [
-      | inl slot ↦ omega (arith, count, there_below s.nodes n (live_is_there s.nodes n (among_live s.nodes slots n live slot)))
-      | inr hit ↦ omega (arith, count, there_below s.nodes n (has.there n hit))
+    let low : (n : ℕ) → IsLive s.nodes n → n < length g = λ n lives. omega (arith, count, there_below s.nodes n (live_is_there s.nodes n lives)) in
+    let hit_low : (n : ℕ) → IsAmong hits n → n < length g = λ n hit. omega (arith, count, there_below s.nodes n (has.there n hit)) in
+    let nodes : AreNodes g (slots ++ shared ++ hits) = λ n is. elim (among_cases (slots ++ shared) hits n is) [
+      | inl left ↦ elim (among_cases slots shared n left) [
+        | inl slot ↦ low n (among_live s.nodes slots n live slot)
+        | inr root ↦ low n (may.live n (shared_may s n may root))
+      ]
+      | inr hit ↦ hit_low n hit
     ] in
-    let within : (n : ℕ) → IsAmong (roots_of s ++ hits) n → IsAmong (slots ++ hits) n = λ n is. elim (among_cases (roots_of s) hits n is) [
-      | inl root ↦ roots_within want s hits n alone has root
-      | inr hit ↦ among_right slots hits n hit
+    let within : (n : ℕ) → IsAmong (roots_of s ++ hits) n → IsAmong (slots ++ shared ++ hits) n = λ n is. elim (among_cases (roots_of s) hits n is) [
+      | inl root ↦ roots_within want s hits n has root
+      | inr hit ↦ among_right (slots ++ shared) hits n hit
     ] in
-    let whole : IsLeastClosed g (slots ++ hits) (Reach g (slots ++ hits)) = law g (slots ++ hits) refers nodes in
+    let whole : IsLeastClosed g (slots ++ shared ++ hits) (Reach g (slots ++ shared ++ hits)) = law g (slots ++ shared ++ hits) refers nodes in
     let lower : IsLeastClosed g (roots_of s ++ hits) (Reach g (roots_of s ++ hits)) = law g (roots_of s ++ hits) refers (λ n is. nodes n (within n is)) in
     let done : IsKept s hits kept = record {
       closed = keeps.closed;
-      reached = λ n is. keeps.reached n (lower.least (Reach g (slots ++ hits)) whole.closed (λ m root. whole.roots_in m (within m root)) n is);
-      bounded = keeps.bounded;
+      reached = λ n is. keeps.reached n (lower.least (Reach g (slots ++ shared ++ hits)) whole.closed (λ m root. whole.roots_in m (within m root)) n is);
+      bounded = λ n is. bounded_most s hits law refers may hit_low n (keeps.bounded n is);
     } in
     subst (λ hs. IsKept s hs kept) has.same done

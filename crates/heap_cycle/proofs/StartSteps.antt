@@ -2,18 +2,18 @@
 use Rattle.std.proofs.Common.{◌≡◌, ℕ, true, false, List, [], ◌∷◌, ◌++◌, Bool, length, refl, sym, ap, ◌∙◌, subst, inr, arith}
 use mathlib.Core.Logic.{◌⊎◌}
 use Rattle.std.specs.Prelude.{MatchBool}
-use Rattle.std.proofs.lemmas.List.{append-nil}
 use Rattle.gc_graph.specs.declared.command.Command.TheVariants as C
 use Rattle.gc_graph.specs.declared.line.Line.{Line}
 use Rattle.gc_graph.specs.declared.line.Line.TheVariants as L
 use Rattle.gc_graph.specs.declared.line.Refusal.TheVariants as R
 use Rattle.gc_graph.specs.declared.phase.Phase.TheVariants.{Idle, Marking}
 use Rattle.gc_graph.specs.declared.region.Entry.{Entry}
+use Rattle.gc_graph.specs.declared.region.Op.TheVariants as O
 use Rattle.gc_graph.specs.Reach.{Reach}
 use Rattle.gc_graph.specs.Shapes.{IsShape}
-use Rattle.gc_graph.specs.State.{Setup, State, Node, graph_of, roots_of, slot_targets, stack_targets, strong_region_targets}
+use Rattle.gc_graph.specs.State.{Setup, State, Node, graph_of, roots_of}
 use Rattle.gc_graph.specs.CycleSteps.{IsStart, IsBegun, StepGcStart, WantsMemory, is_marking}
-use Rattle.gc_graph.specs.Outcomes.{answered, finalise_lines, IsRefused}
+use Rattle.gc_graph.specs.Outcomes.{answered, finalise_lines, owner_entry, IsRefused}
 use Rattle.gc_graph.specs.Sweep.{SweepsInPhase, SweepsToEnd}
 use Rattle.gc_graph.specs.Valid.{IsValid}
 use Rattle.gc_graph.specs.ValidLaw.{StepKeepsValid}
@@ -23,11 +23,9 @@ use Rattle.heap_objects.specs.Objects.{ObjectsView, HaveCallbacks, setup_of_obje
 use Rattle.heap_cycle.specs.declared.parts.Parts.{Parts}
 use Rattle.heap_cycle.specs.Changes.{begun_from}
 use Rattle.heap_cycle.specs.Cycles.{started_state}
-use Rattle.heap_cycle.specs.Entries.{start_entry}
 use Rattle.heap_cycle.specs.Parts.{setup_of, state_of, IsReady}
 use Rattle.heap_cycle.specs.Ties.{tied_nodes}
-use Rattle.heap_cycle.specs.Views.{CycleView, IsOwnersAlone, IsSweepOf}
-use Rattle.heap_cycle.proofs.PauseKeeps.{no_region_targets}
+use Rattle.heap_cycle.specs.Views.{CycleView, IsSweepOf}
 use Rattle.heap_cycle.proofs.SweepSteps.{uncounted}
 
 pub on_false : (b : Bool) (P Q : Type 0) → b ≡ false → Q → MatchBool b P Q
@@ -36,12 +34,12 @@ on_false b P Q is q = subst (λ x. MatchBool x P Q) (sym is) q
 pub on_true : (b : Bool) (P Q : Type 0) → b ≡ true → P → MatchBool b P Q
 on_true b P Q is p = subst (λ x. MatchBool x P Q) (sym is) p
 
-pub starts : (setup : Setup) (s : State) → IsStart setup s (start_entry ∷ []) (started_state s)
+pub starts : (setup : Setup) (s : State) → IsStart setup s (owner_entry s O.Start ∷ []) (started_state s)
 starts setup s = record { before = []; others = λ k d low. absurd (omega arith); piece_is = refl; legal = (refl, tt, tt); after = refl }
 
 -- where marking doesn't go on, gc start ends the open sweep and starts
 pub step_started : (setup : Setup) (s t new : State) (numbers : List ℕ) (piece : List Entry) (lines : List Line) → is_marking s.phase ≡ false
-    → SweepsToEnd setup.shape s numbers t → piece ≡ start_entry ∷ [] → lines ≡ finalise_lines numbers ++ L.Started ∷ [] → new ≡ answered (started_state t)
+    → SweepsToEnd setup.shape s numbers t → piece ≡ owner_entry t O.Start ∷ [] → lines ≡ finalise_lines numbers ++ L.Started ∷ [] → new ≡ answered (started_state t)
     → StepGcStart setup s piece lines new
 step_started setup s t new numbers piece lines calm ended taken printed after =
     on_false (is_marking s.phase) ((piece ≡ []) × IsRefused R.Phase s lines new) (WantsMemory s piece lines new ⊎ IsBegun setup s piece lines new) calm
@@ -62,17 +60,16 @@ ends_at_once setup s idle = subst (λ ph. SweepsInPhase ph setup.shape s setup.s
 valid_started : (setup : Setup) (s : State) → StepKeepsValid → IsShape setup.shape → IsValid setup s → s.phase ≡ Idle → IsValid setup (started_state s)
 valid_started setup s law shape valid idle =
     uncounted setup (started_state s)
-    (law setup s (answered (started_state s)) C.GcStart (start_entry ∷ []) (L.Started ∷ []) (omega (arith, shape.some)) tt valid
-    (step_started setup s s (answered (started_state s)) [] (start_entry ∷ []) (L.Started ∷ []) (ap is_marking idle) (ends_at_once setup s idle) refl refl refl))
+    (law setup s (answered (started_state s)) C.GcStart (owner_entry s O.Start ∷ []) (L.Started ∷ []) (omega (arith, shape.some)) tt valid
+    (step_started setup s s (answered (started_state s)) [] (owner_entry s O.Start ∷ []) (L.Started ∷ []) (ap is_marking idle) (ends_at_once setup s idle) refl refl refl))
 
 -- from idle parts to those after marking has begun
 pub record Begins (s : Parts) (new : ObjectsView) (after : CycleView) : Type 0 where
   pub ready : IsReady s
   pub idle : s.cycle.phase ≡ Idle
-  pub alone : IsOwnersAlone s.cycle.rest
   pub nodes : new.nodes ≡ s.objects.nodes
   pub setup : setup_of_objects new ≡ setup_of s
-  pub marks : HasMarking (Reach (graph_of s.objects.nodes) (slot_targets s.handles.slots ++ stack_targets s.handles.stack.words)) new
+  pub marks : HasMarking (Reach (graph_of s.objects.nodes) (roots_of (state_of s))) new
   pub traced : new.grey.traced ≡ 0
   pub cycle : after ≡ record s.cycle { phase = Marking; rest = begun_from (state_of s) }
 
@@ -85,16 +82,9 @@ module _ (s : Parts) (new : ObjectsView) (after : CycleView) (is : Begins s new 
       ap (λ (c : CycleView). state_of (record s { objects = new; cycle = c })) is.cycle
       ∙ ap (λ (ns : List Node). record (started_state (state_of s)) { nodes = ns }) is.nodes
 
-  -- the roots are what the strong slots and the stack name, since the region's slots are null
-  roots_are : roots_of (state_of s) ≡ slot_targets s.handles.slots ++ stack_targets s.handles.stack.words
-  roots_are =
-      let owned : List ℕ = slot_targets s.handles.slots ++ stack_targets s.handles.stack.words in
-      ap (λ region. owned ++ strong_region_targets region) is.alone.region_null ∙ ap (λ more. owned ++ more) (no_region_targets 32) ∙ append-nil owned
-
   begun_marks : HasMarks after.phase (cursor_at new.shape after.sweep) after.rest.may new
   begun_marks =
-      subst (λ (c : CycleView). HasMarks c.phase (cursor_at new.shape c.sweep) c.rest.may new) (sym is.cycle)
-      (subst (λ roots. HasMarking (Reach (graph_of s.objects.nodes) roots) new) (sym roots_are) is.marks)
+      subst (λ (c : CycleView). HasMarks c.phase (cursor_at new.shape c.sweep) c.rest.may new) (sym is.cycle) is.marks
 
   begun_sweep : IsSweepOf new.shape after.phase after.rest.cursor after.sweep
   begun_sweep =

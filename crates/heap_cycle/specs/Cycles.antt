@@ -1,5 +1,5 @@
 -- A cycle from its start to its pause, over the parts of a heap.
-use Rattle.std.specs.Prelude.{◌≡◌, ◌<◌, ℕ, true, false, List, [], ◌∷◌, Contains, Some}
+use Rattle.std.specs.Prelude.{◌≡◌, ◌<◌, ℕ, true, false, List, ◌∷◌, Contains, Some}
 use Rattle.gc_graph.specs.declared.command.Want.{Want}
 use Rattle.gc_graph.specs.declared.line.Line.{Line}
 use Rattle.gc_graph.specs.declared.line.Line.TheVariants as L
@@ -7,39 +7,47 @@ use Rattle.gc_graph.specs.declared.phase.Phase.TheVariants.{Marking}
 use Rattle.gc_graph.specs.State.{State}
 use Rattle.gc_graph.specs.Sweep.{SweepsToEnd}
 use Rattle.gc_graph.specs.May.{marking}
-use Rattle.gc_graph.specs.Outcomes.{took}
+use Rattle.gc_graph.specs.declared.region.Op.TheVariants as O
+use Rattle.cross_thread_region.specs.declared.chronicle.PlacedEntry.{PlacedEntry}
+use Rattle.cross_thread_region.specs.Calls.{with_own}
+use Rattle.cross_thread_region.specs.Histories.{strong_place}
 use Rattle.gc_graph.specs.CycleSteps.{IsPause}
 use Rattle.mark_worklist.specs.Lists.{last_count}
 use Rattle.marker_core.specs.Bodies.{holds}
 use Rattle.atomic_pause.specs.declared.parts.PauseResult.{PauseResult}
+use Rattle.heap_handles.specs.Region.{HasPauseEntry}
 use Rattle.heap_objects.specs.Refused.{RefusalsTold, IsToldTruly}
 use Rattle.heap_objects.specs.Objects.{refused_of}
 use Rattle.heap_cycle.specs.declared.parts.Parts.{Parts}
-use Rattle.heap_cycle.specs.Entries.{start_entry, pause_entry}
+use Rattle.heap_cycle.specs.Changes.{taken_own}
+use Rattle.heap_cycle.specs.Region.{HasRegion, made}
 use Rattle.heap_cycle.specs.Parts.{setup_of, state_of, AreTied, IsReady}
 use Rattle.heap_cycle.specs.Printed.{ran_lines}
 
 -- the state in which marking has just begun
 abbrev pub started_state : State → State
-started_state s = marking (took s (start_entry ∷ []))
+started_state s = marking (taken_own s O.Start)
 
--- what the strong slots name is marked
-abbrev pub AreSlotsMarked : Parts → Type 0
-AreSlotsMarked s = (p : ℕ) → Contains s.handles.places (Some p) → holds s.objects.seat.marked p ≡ true
+-- what the strong slots name is marked, and what the strong slots of the region with this history name
+pub record AreSlotsMarked (s : Parts) (history : List PlacedEntry) : Type 0 where
+  pub slots : (p : ℕ) → Contains s.handles.places (Some p) → holds s.objects.seat.marked p ≡ true
+  pub shared : (x p : ℕ) → strong_place history x ≡ Some p → holds s.objects.seat.marked p ≡ true
 
 -- no push was refused since the cycle began, as far as the count shows it
 pub record HasNoRefusedPush (told : RefusalsTold) : Type 0 where
   pub same : told.now.pushes ≡ told.since.pushes
   pub seen : told.now.pushes < last_count
 
--- the open sweep was ended, in which these nodes were finalised, and then marking began
-pub record HasBegun (old : Parts) (numbers : List ℕ) (new : Parts) : Type 0 where
+-- the region got the start entry; the open sweep was ended, in which these nodes were finalised, and then marking began
+pub record HasBegun (old : Parts) (before : List PlacedEntry) (numbers : List ℕ) (new : Parts) (after : List PlacedEntry) : Type 0 where
   pub swept : State
   pub ended : SweepsToEnd old.objects.shape (state_of old) numbers swept
   pub state : state_of new ≡ started_state swept
   pub ready : IsReady new
   pub marking : new.cycle.phase ≡ Marking
-  pub marked : AreSlotsMarked new
+  pub entry : after ≡ with_own before O.Start 0
+  pub shared : HasRegion new after
+  pub marked : AreSlotsMarked new after
   pub setup : setup_of new ≡ setup_of old
   pub since : new.objects.grey.since ≡ refused_of old.objects
   pub ordinal : new.cycle.rest.ordinal ≡ old.cycle.rest.ordinal
@@ -54,11 +62,13 @@ IsNoneGrey s =
 abbrev pub pause_line : PauseResult → Line
 pause_line result = L.Pause result.kept result.dead 0 result.traced result.walked
 
--- the pause of a cycle is a step of the graph, of which it tells, and leaves the parts tied
-pub record HasPaused (want : Want) (old new : Parts) (result : PauseResult) : Type 0 where
+-- the pause of a cycle is a step of the graph, of which it tells, and leaves the parts tied, with the region
+pub record HasPaused (want : Want) (old : Parts) (before : List PlacedEntry) (new : Parts) (after : List PlacedEntry) (result : PauseResult) : Type 0 where
   pub pause :
-      IsPause (setup_of old) 0 want (state_of old) (pause_entry ∷ []) (pause_line result ∷ ran_lines true new.cycle.ran) (state_of new)
+      IsPause (setup_of old) 0 want (state_of old) (made before after) (pause_line result ∷ ran_lines true new.cycle.ran) (state_of new)
   pub setup : setup_of new ≡ setup_of old
   pub ordinal : new.cycle.rest.ordinal ≡ old.cycle.rest.ordinal
   pub tied : AreTied new
+  pub entry : HasPauseEntry new.objects.nodes before after
+  pub shared : HasRegion new after
   pub walked : IsToldTruly old.objects.grey.since (refused_of new.objects) result.walked

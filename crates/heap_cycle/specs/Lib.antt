@@ -1,9 +1,9 @@
 pub mod Finalising
-pub mod Entries
 pub mod Printed
 pub mod Views
 pub mod Walks
 pub mod Parts
+pub mod Region
 pub mod Changes
 pub mod Cycles
 pub mod Registrations

@@ -3,17 +3,14 @@ use Rattle.std.specs.Prelude.{◌≡◌, ℕ, ◌<◌, Bool, true, false, List, 
 use Rattle.std.specs.Option.{option_to_list}
 use Rattle.gc_graph.specs.declared.line.Line.{Line}
 use Rattle.gc_graph.specs.declared.line.Line.TheVariants as L
-use Rattle.gc_graph.specs.declared.region.Entry.{Entry}
 use Rattle.gc_graph.specs.Outcomes.{finalise_lines}
 
--- the finalised nodes, then at most one more line, and then the prefinalizers where the command ran some; what it took of the
--- region's history, and the history before it; and for how many nodes there is room
+-- the finalised nodes, then at most one more line, and then the prefinalizers where the command ran some; and for how many nodes
+-- there is room
 pub record Printed : Type 0 where
   pub numbers : List ℕ
   pub last : Option Line
   pub prefinalises : Bool
-  pub piece : List Entry
-  pub history : List Entry
   pub room : ℕ
 
 -- a line for each of these prefinalizers, where the command ran them: the number of the object and that of the callback

@@ -1,8 +1,7 @@
 -- The parts of a heap as commands see them, one by one.
-use Rattle.std.specs.Prelude.{◌≡◌, ℕ, ◌<◌, List, [], replicate}
+use Rattle.std.specs.Prelude.{◌≡◌, ℕ, ◌<◌, List, []}
 use Rattle.gc_graph.specs.declared.phase.Phase.{Phase}
 use Rattle.gc_graph.specs.State.{Shape, State, Node}
-use Rattle.gc_graph.specs.State.RegionSlot.{Vacant}
 use Rattle.gc_graph.specs.Sweep.{pages_swept_in}
 use Rattle.callback_table.specs.declared.registry.Registered.{Registered}
 use Rattle.sweeper.specs.Sweeping.{SweepView}
@@ -25,10 +24,9 @@ pub record IsSweepOf (shape : Shape) (phase : Phase) (cursor : ℕ) (sweep : Swe
   pub pages : sweep.pages ≡ shape.pages
   pub cursor_is : sweep.cursor ≡ pages_swept_in phase shape.pages cursor
 
--- region slots are null, and no thread runs
-pub record IsOwnersAlone (s : State) : Type 0 where
-  pub region_null : s.region ≡ replicate 32 Vacant
-  pub none_running : s.running ≡ []
+-- no thread runs
+abbrev pub IsOwnersAlone : State → Type 0
+IsOwnersAlone s = s.running ≡ []
 
 -- the callback is registered with the place of its node, and there are so many callbacks that it is one
 pub record IsPlaced (nodes : List Node) (callbacks : ℕ) (entry : Registered) : Type 0 where

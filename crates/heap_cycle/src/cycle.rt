@@ -77,7 +77,7 @@ impl Cycle {
         matches!(self.phase, Phase::Marking)
     }
 
-    /// Region slots are null, and no thread runs. Whoever calls this has the law.
+    /// No thread runs. Whoever calls this has the law.
     pub fn is_owners_alone(&self)
         ensures { IsOwnersAlone self.now.rest }
     {
@@ -91,6 +91,14 @@ impl Cycle {
     {
         self.rest = rest;
         self.phase = Phase::Marking;
+    }
+
+    /// This is now what no other part holds of the state, in the same phase.
+    pub(crate) fn take(&mut self, rest: GhostValue<States>)
+        requires { IsOwnersAlone rest.value }
+        ensures { self.new ≡ record self.old { rest = rest.value } }
+    {
+        self.rest = rest;
     }
 
     /// A new object may be kept, where marking goes on.

@@ -3,31 +3,34 @@
 //! What it is: all parts of a heap as one value, and what concerns several of them at once:
 //! collections, sweeps, and where a new object goes while a sweep is open.
 //!
-//! The parts: `Parts` (`objects`, `handles` and `cycle`; a further part is one more field, and one line
-//! in `state_of`), `Cycle` (phase, registered prefinalizers, how far the sweep has come), `collections`
-//! (`start`, `step` and `finish` of a cycle, and `collect`, which is the whole of one), `reads` (weak
-//! reads), `sweeps` and `cycle_sweeps`, `placement`, and `Outcome` (the lines of the last command, and the
-//! region's history). For contracts alone: `states` and `entries`. Next down are `heap_handles` and
-//! `heap_objects`.
+//! The parts: `Parts` (`objects`, `handles` and `cycle`; a further part is one more field, and one
+//! line in `state_of`), `Cycle` (phase, registered prefinalizers, how far the sweep has come),
+//! `collections` (`start`, `step` and `finish` of a cycle, and `collect`, which is the whole of one)
+//! over `beginning`, `reads` (weak reads), `region` (`export` and `import`; the region stands beside
+//! the parts, since threads are to share it), `sweeps` and `cycle_sweeps`, `placement`, and
+//! `Outcome` (the lines of the last command). For contracts alone: `states`. Next down are
+//! `heap_handles` and `heap_objects`.
 //!
-//! What is proved: the state of the graph is put together from what each part holds of it. Start, step
-//! and pause of a cycle, a whole collection, a weak read and a sweep are lawful steps of that state, and
-//! leave the parts tied to each other: slots, stack and registrations hold the places of their nodes,
-//! and the marks are those of the phase. A start marks what the strong slots name, and a step that is
-//! done leaves nothing grey unless a push was refused. A place for a new object is the one that the
-//! graph's placement says. A pause line tells truly whether the heap was walked.
+//! What is proved: the state of the graph is put together from what each part holds of it. Start,
+//! step and pause of a cycle, a whole collection, a weak read, a call on the region and a sweep are
+//! lawful steps of that state, and leave the parts tied to each other and to the region: slots,
+//! stack and registrations hold the places of their nodes, and the marks are those of the phase. A
+//! start marks what the strong slots name, those of the region too, and a step that is done leaves
+//! nothing grey unless a push was refused. A place for a new object is the one that the graph's
+//! placement says. A pause line tells truly whether the heap was walked.
 //!
 //! What is only tested or not said: that memory suffices, and how long a command takes.
 #![tactic(auto)]
 
+mod beginning;
 mod collections;
 mod cycle;
 mod cycle_sweeps;
-mod entries;
 mod outcome;
 mod parts;
 mod placement;
 mod reads;
+mod region;
 mod states;
 mod sweeps;
 
@@ -37,4 +40,5 @@ pub use outcome::Outcome;
 pub use parts::Parts;
 pub use placement::place_for;
 pub use reads::read_weakly;
+pub use region::{export, import};
 pub use sweeps::{sweep_all, sweep_some};

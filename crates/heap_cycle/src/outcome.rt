@@ -8,13 +8,11 @@ ghost use Rattle.gc_graph.specs.declared.line.Line.TheVariants as L;
 ghost use Rattle.heap_cycle.specs.Printed.{later_lines, outcome_lines};
 ghost use Rattle.heap_cycle.specs.Printed.{TellsNode, TellsThoseThatRan};
 
-use crate::entries::{self, Entries};
 use gc_graph::{Line, NoMemory};
-use ghost_values::GhostValue;
 use std::alloc::Global;
 use std::marker::Model;
 
-/// The lines of the last command, and the region's history as far as the commands took it.
+/// The lines of the last command.
 #[derive(Drop)]
 pub struct Outcome {
     /// The numbers of finalised nodes, which a sweep fills.
@@ -22,9 +20,6 @@ pub struct Outcome {
     last: Option<Line>,
     /// Whether the last command ran some prefinalizers, which the cycle holds.
     prefinalises: bool,
-    /// What the last command took of the history.
-    pub(crate) piece: GhostValue<Entries>,
-    history: GhostValue<Entries>,
 }
 
 impl Model for Outcome {
@@ -37,8 +32,6 @@ impl Model for Outcome {
       numbers = o.finalised.items;
       last = o.last;
       prefinalises = o.prefinalises;
-      piece = o.piece.value;
-      history = o.history.value;
       room = vec_capacity o.finalised;
     } };
 
@@ -53,8 +46,6 @@ impl Outcome {
               numbers = [];
               last = None;
               prefinalises = false;
-              piece = [];
-              history = [];
               room = room;
             }) }
     {
@@ -63,19 +54,15 @@ impl Outcome {
             finalised,
             last: None,
             prefinalises: false,
-            piece: entries::none(),
-            history: entries::none(),
         })
     }
 
     /// Forgets the finalised nodes; the last line stays until another takes its place.
     pub fn begin(&mut self)
-        ensures { self.new
-            ≡ record self.old { numbers = []; prefinalises = false; piece = [] } }
+        ensures { self.new ≡ record self.old { numbers = []; prefinalises = false } }
     {
         self.finalised.clear();
         self.prefinalises = false;
-        self.piece = entries::none();
     }
 
     /// The lines of these prefinalizers, which the pause ran, follow the last line. That it ran none
@@ -86,15 +73,11 @@ impl Outcome {
         self.prefinalises = !ran.is_empty();
     }
 
-    /// Adds the last line, and to the history what the command took of it.
+    /// Adds the last line.
     pub fn end(&mut self, line: Line)
-        ensures { self.new ≡ record self.old {
-          last = Some line;
-          history = self.old.history ++ self.old.piece;
-        } }
+        ensures { self.new ≡ record self.old { last = Some line } }
     {
         self.last = Some(line);
-        self.history = entries::grown(&self.history, &self.piece);
     }
 
     /// How many lines there are, where the last pause ran these prefinalizers.

@@ -6,11 +6,13 @@ ghost use Rattle.gc_graph.specs.State.{empty_state};
 ghost use Rattle.gc_graph.specs.May.{weakly_read};
 ghost use Rattle.gc_graph.specs.Outcomes.{answered};
 ghost use Rattle.heap_cycle.specs.Parts.{state_of};
-ghost use Rattle.heap_cycle.specs.Changes.{filled, swept_to, begun_from, with_new, paused_from, traced_more};
+ghost use Rattle.heap_cycle.specs.Changes.{filled, swept_to, taken_own, begun_from};
+ghost use Rattle.heap_cycle.specs.Changes.{with_new, paused_from, traced_more};
 
 use crate::parts::Parts;
-use gc_graph::Phase;
+use gc_graph::{Op, Phase};
 use ghost_values::GhostValue;
+use heap_objects::Objects;
 use std::marker::Model;
 
 /// A state of the graph. It is never made.
@@ -62,6 +64,20 @@ pub fn swept(rest: &GhostValue<States>, pages: u32, count: u32) -> GhostValue<St
     GhostValue::chosen(&AboutSweep { rest, pages, count })
 }
 
+/// What an entry looks at.
+#[derive(Drop)]
+struct AboutEntry<'a> {
+    parts: &'a Parts,
+    op: Op,
+}
+
+/// The owner made this entry, and took it.
+pub fn took(parts: &Parts, op: Op) -> GhostValue<States>
+    ensures { result.value ≡ taken_own (state_of parts.now) op }
+{
+    GhostValue::chosen(&AboutEntry { parts, op })
+}
+
 /// Marking began in this state.
 pub fn begun(parts: &Parts) -> GhostValue<States>
     ensures { result.value ≡ begun_from (state_of parts.now) }
@@ -69,11 +85,18 @@ pub fn begun(parts: &Parts) -> GhostValue<States>
     GhostValue::chosen(parts)
 }
 
-/// The pause of a cycle is over.
-pub fn paused(rest: &GhostValue<States>) -> GhostValue<States>
-    ensures { result.value ≡ paused_from rest.now.value }
+/// What the end of a pause looks at.
+#[derive(Drop)]
+struct AboutPause<'a> {
+    objects: &'a Objects,
+    rest: &'a GhostValue<States>,
+}
+
+/// The pause of a cycle is over, which left these objects.
+pub fn paused(objects: &Objects, rest: &GhostValue<States>) -> GhostValue<States>
+    ensures { result.value ≡ paused_from objects.now.nodes rest.now.value }
 {
-    GhostValue::chosen(rest)
+    GhostValue::chosen(&AboutPause { objects, rest })
 }
 
 /// What a new object looks at.

@@ -24,9 +24,7 @@ pub fn sweep_some(parts: &mut Parts, outcome: &mut Outcome, n: u32) -> Line
         (lines_with outcome.new parts.new.cycle.ran result) (answered (state_of parts.new)) }
     ensures frame { IsFrame parts.old (counted parts.new) result }
     ensures calm { outcome.new.prefinalises ≡ false }
-    ensures piece { outcome.new.piece ≡ outcome.old.piece }
     ensures room { outcome.new.room ≡ outcome.old.room }
-    ensures history { outcome.new.history ≡ outcome.old.history }
 {
     match parts.cycle.phase() {
         Phase::Idle | Phase::Marking => Line::Refused(Refusal::Phase),
@@ -49,9 +47,7 @@ pub fn sweep_all(parts: &mut Parts, outcome: &mut Outcome) -> Line
         (lines_with outcome.new parts.new.cycle.ran result) (answered (state_of parts.new)) }
     ensures frame { IsFrame parts.old (counted parts.new) result }
     ensures calm { outcome.new.prefinalises ≡ false }
-    ensures piece { outcome.new.piece ≡ outcome.old.piece }
     ensures room { outcome.new.room ≡ outcome.old.room }
-    ensures history { outcome.new.history ≡ outcome.old.history }
 {
     match parts.cycle.phase() {
         Phase::Idle | Phase::Marking => Line::Refused(Refusal::Phase),

@@ -12,7 +12,7 @@ use Rattle.heap_cycle.proofs.cycle.Cycle.sweep_page.Goals as goal
 pub invariant_of-self : goal.invariant_of-self
 invariant_of-self c =
     let is : IsOwnersAlone (swept_to c.cursor.result c.finalise_page-count.result c.self.inside.rest.value) =
-    record { region_null = c.self.invariant.region_null; none_running = c.self.invariant.none_running } in
+    c.self.invariant in
     subst IsOwnersAlone (sym c.swept.ensures) is
 
 pub returns-clause-swept : goal.returns-clause-swept
