@@ -4,6 +4,9 @@ use Rattle.gc_graph.specs.declared.action.ActionKind.{ActionKind}
 use Rattle.gc_graph.specs.declared.phase.Phase.TheVariants.{Idle}
 use Rattle.gc_graph.specs.State.{ObjectType, Shape, empty_state}
 use Rattle.gc_graph.specs.ValidLaw.{EmptyIsValid}
+use Rattle.cross_thread_region.specs.declared.chronicle.PlacedEntry.{PlacedEntry}
+use Rattle.cross_thread_region.specs.Histories.{slots_of}
+use Rattle.cross_thread_region.specs.PlacedNodes.{named_is_target}
 use Rattle.page_words.specs.Seat.{empty_view}
 use Rattle.nodes_in_words.specs.Places.{places_of}
 use Rattle.heap_objects.specs.Objects.{HaveCallbacks, ObjectsView}
@@ -13,6 +16,7 @@ use Rattle.heap_cycle.specs.declared.parts.Parts.{Parts}
 use Rattle.heap_handles.specs.Handles.{HandlesView}
 use Rattle.heap_cycle.specs.Views.{CycleView}
 use Rattle.heap_cycle.specs.Parts.{setup_of, IsReady}
+use Rattle.heap_cycle.specs.Region.{HasRegion}
 
 null_places : (n : ℕ) → replicate n None ≡ places_of [] (replicate n None)
 null_places zero = refl
@@ -58,3 +62,11 @@ ready_empty s shape types callbacks law called is =
       most = omega arith;
     } in
     subst IsReady (sym is) ready
+
+-- a region without entries is an empty heap's
+pub region_empty : (s : Parts) (shape : Shape) (types : List ObjectType) (callbacks : List ActionKind) (history : List PlacedEntry) → s ≡ empty_parts shape types callbacks → history ≡ []
+    → HasRegion s history
+region_empty s shape types callbacks history is none =
+    let new : HasRegion (empty_parts shape types callbacks) [] =
+    record { slots = refl; placed = λ x n named. absurd (omega (arith, (named_is_target (slots_of []) x n named).1)); started = refl } in
+    subst (λ (h : List PlacedEntry). HasRegion s h) (sym none) (subst (λ (p : Parts). HasRegion p []) (sym is) new)

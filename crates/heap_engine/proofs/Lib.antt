@@ -6,6 +6,8 @@ pub mod Tellings
 pub mod KeptSlots
 pub mod SlotReads
 pub mod SlotSteps
+pub mod RegionAlone
+pub mod SharedSteps
 pub mod FieldAnswers
 pub mod PairAnswers
 pub mod NewSteps

@@ -3,19 +3,23 @@ use Rattle.std.proofs.Common.{◌≡◌, ℕ, Bool, true, false, List, [], ◌�
 use Rattle.std.specs.Prelude.{MatchBool}
 use Rattle.std.specs.List.{Contains}
 use Rattle.std.proofs.lemmas.Bool.{cases_Bool, true≢false}
+use Rattle.std.proofs.lemmas.List.Elements.{All-contains}
 use Rattle.gc_graph.specs.declared.line.Line.{Line}
 use Rattle.gc_graph.specs.declared.line.Line.TheVariants as L
 use Rattle.gc_graph.specs.declared.phase.Phase.{Phase}
 use Rattle.gc_graph.specs.declared.phase.Phase.TheVariants.{Idle, Marking, Sweeping}
 use Rattle.gc_graph.specs.CycleSteps.{StepGcStep, is_marking}
 use Rattle.gc_graph.specs.Graph.{IsWithin}
-use Rattle.gc_graph.specs.Members.{Contains-cons_cases, Contains-map}
+use Rattle.gc_graph.specs.Members.{Contains-cons_cases, Contains-map, in_from_holds}
 use Rattle.gc_graph.specs.Outcomes.{finalise_lines}
 use Rattle.gc_graph.specs.Reach.{HoldsAll}
-use Rattle.gc_graph.specs.State.{State, Node, slot_targets}
-use Rattle.gc_graph.specs.Valid.{AreLive}
+use Rattle.gc_graph.specs.State.{State, Node, IsLive, slot_targets, strong_region_targets}
+use Rattle.gc_graph.specs.Valid.{AreLive, IsValid, region_targets}
+use Rattle.cross_thread_region.specs.declared.chronicle.PlacedEntry.{PlacedEntry}
+use Rattle.cross_thread_region.specs.PlacedNodes.{strong_target_placed, strong_target_is_target}
 use Rattle.marker_core.specs.Bodies.{holds}
 use Rattle.sweeper.specs.Sweeping.{cursor_at}
+use Rattle.nodes_in_words.specs.AmongNodes.{among_cases}
 use Rattle.nodes_in_words.specs.KeptNodes.{slot_of_root, slot_live, kept_parts, kept_from}
 use Rattle.nodes_in_words.specs.Nodes.{place_of}
 use Rattle.nodes_in_words.specs.Places.{kept_of}
@@ -23,8 +27,9 @@ use Rattle.heap_objects.specs.Marks.{HasMarks, HasMarking}
 use Rattle.heap_objects.specs.Objects.{told_of}
 use Rattle.heap_cycle.specs.declared.parts.Parts.{Parts}
 use Rattle.heap_cycle.specs.Cycles.{AreSlotsMarked, IsNoneGrey, HasNoRefusedPush}
-use Rattle.heap_cycle.specs.Parts.{AreTied}
+use Rattle.heap_cycle.specs.Parts.{setup_of, state_of, AreTied}
 use Rattle.heap_cycle.specs.Printed.{Printed, ran_lines, lines_with}
+use Rattle.heap_cycle.specs.Region.{HasRegion}
 
 -- ---- which line tells it
 
@@ -59,15 +64,33 @@ stepped_last o ran line t done is = stepped_after o.numbers line (ran_lines o.pr
 -- ---- a start
 
 -- what the strong slots name is marked, as the heap's callers see it
-pub slots_marked : (s : Parts) → AreTied s → AreLive s.objects.nodes (slot_targets s.handles.slots) → AreSlotsMarked s
+slots_marked : (s : Parts) (history : List PlacedEntry) → AreTied s → AreLive s.objects.nodes (slot_targets s.handles.slots) → AreSlotsMarked s history
     → HoldsAll (kept_of (holds s.objects.seat.marked) s.objects.nodes) (slot_targets s.handles.slots)
-slots_marked s tied live marked n root =
+slots_marked s history tied live marked n root =
     let nodes : List Node = s.objects.nodes in
     let slot : Contains s.handles.slots (Some n) = slot_of_root s.handles.slots n root in
     let place : Contains s.handles.places (Some (place_of nodes n)) =
     subst (λ places. Contains places (Some (place_of nodes n))) (sym tied.slots)
     (Contains-map (λ (x : Option ℕ). option_map (place_of nodes) x) s.handles.slots (Some n) slot) in
-    kept_from (holds s.objects.seat.marked) nodes n (slot_live nodes s.handles.slots n live slot) (marked (place_of nodes n) place)
+    kept_from (holds s.objects.seat.marked) nodes n (slot_live nodes s.handles.slots n live slot) (marked.slots (place_of nodes n) place)
+
+-- and so is what the region's do
+shared_marked : (s : Parts) (history : List PlacedEntry) → HasRegion s history → AreLive s.objects.nodes (region_targets s.cycle.rest.region) → AreSlotsMarked s history
+    → HoldsAll (kept_of (holds s.objects.seat.marked) s.objects.nodes) (strong_region_targets s.cycle.rest.region)
+shared_marked s history region live marked n root =
+    let nodes : List Node = s.objects.nodes in
+    let strong : Contains (strong_region_targets s.cycle.rest.region) n = in_from_holds (strong_region_targets s.cycle.rest.region) n root in
+    let slot = strong_target_placed (place_of nodes) history n region.placed (subst (λ slots. Contains (strong_region_targets slots) n) region.slots strong) in
+    kept_from (holds s.objects.seat.marked) nodes n
+    (All-contains (IsLive nodes) (region_targets s.cycle.rest.region) n live (strong_target_is_target s.cycle.rest.region n strong)) (marked.shared slot.0 (place_of nodes n) slot.1)
+
+pub roots_marked : (s : Parts) (history : List PlacedEntry) → AreTied s → IsValid (setup_of s) (state_of s) → HasRegion s history → AreSlotsMarked s history
+    → HoldsAll (kept_of (holds s.objects.seat.marked) s.objects.nodes) (slot_targets s.handles.slots ++ strong_region_targets s.cycle.rest.region)
+roots_marked s history tied valid region marked n root =
+    elim (among_cases (slot_targets s.handles.slots) (strong_region_targets s.cycle.rest.region) n root) [
+      | inl slot ↦ slots_marked s history tied valid.slots marked n slot
+      | inr shared ↦ shared_marked s history region valid.region marked n shared
+    ]
 
 -- ---- a step
 

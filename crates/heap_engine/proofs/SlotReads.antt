@@ -110,19 +110,26 @@ told_same : (phase : Phase) (old new : RefusalsTold) (target : Option (ℕ × �
 told_same phase old new None told same is = subst (IsWalkTold phase old new) (sym is) (tells_same phase old new same)
 told_same phase old new (Some t) told same is = subst (IsWalkTold phase old new) (sym is) (tells_same phase old new same)
 
+-- where a slot then gets the target, no more changes
+pub put_frame : (s mid : Parts) (after : HandlesView) (q : ℕ) (target : Option (ℕ × ℕ)) (content : Option ℕ) (told : Line) → mid.objects.nodes ≡ s.objects.nodes → setup_of mid ≡ setup_of s
+    → told_of mid.objects ≡ told_of s.objects → mid.cycle.rest.ordinal ≡ s.cycle.rest.ordinal → AreTied mid
+    → target ≡ option_map (λ (m : ℕ). (place_of s.objects.nodes m, m)) content → after ≡ put_in mid.handles q target
+    → MatchOption target (told ≡ L.Null) (λ (t : ℕ × ℕ). told ≡ L.Node t.1) → IsFrame s (counted (record mid { handles = after })) told
+put_frame s mid after q target content told nodes setup refused ordinal tied is put line =
+    let at : target ≡ option_map (λ (m : ℕ). (place_of mid.objects.nodes m, m)) content =
+    is ∙ ap (λ (ns : List Node). option_map (λ (m : ℕ). (place_of ns m, m)) content) (sym nodes) in
+    record {
+      setup = setup;
+      ordinal = ap (λ k. k + 1) ordinal;
+      tied = subst (λ (k : HandlesView). AreTied (counted (record mid { handles = k }))) (sym put)
+          (tied_slot mid q target
+          (subst (λ (t : Option (ℕ × ℕ)). option_map (λ (x : ℕ × ℕ). x.0) t ≡ option_map (place_of mid.objects.nodes) (option_map (λ (x : ℕ × ℕ). x.1) t)) (sym at)
+          (target_places mid.objects.nodes content)) tied);
+      refused = told_same s.cycle.phase (told_of s.objects) (told_of mid.objects) target told refused line;
+    }
+
 -- a slot got what was read, and no more
 pub read_frame : (weak : Bool) (s mid : Parts) (after : HandlesView) (q : ℕ) (target : Option (ℕ × ℕ)) (content : Option ℕ) (told : Line) → HasRead weak s mid target
     → target ≡ option_map (λ (m : ℕ). (place_of s.objects.nodes m, m)) content → after ≡ put_in mid.handles q target
     → MatchOption target (told ≡ L.Null) (λ (t : ℕ × ℕ). told ≡ L.Node t.1) → IsFrame s (counted (record mid { handles = after })) told
-read_frame weak s mid after q target content told has is put line =
-    let at : target ≡ option_map (λ (m : ℕ). (place_of mid.objects.nodes m, m)) content =
-    is ∙ ap (λ (ns : List Node). option_map (λ (m : ℕ). (place_of ns m, m)) content) (sym has.nodes) in
-    record {
-      setup = has.setup;
-      ordinal = ap (λ k. k + 1) has.ordinal;
-      tied = subst (λ (k : HandlesView). AreTied (counted (record mid { handles = k }))) (sym put)
-          (tied_slot mid q target
-          (subst (λ (t : Option (ℕ × ℕ)). option_map (λ (x : ℕ × ℕ). x.0) t ≡ option_map (place_of mid.objects.nodes) (option_map (λ (x : ℕ × ℕ). x.1) t)) (sym at)
-          (target_places mid.objects.nodes content)) has.tied);
-      refused = told_same s.cycle.phase (told_of s.objects) (told_of mid.objects) target told has.told line;
-    }
+read_frame weak s mid after q target content told has is put line = put_frame s mid after q target content told has.nodes has.setup has.told has.ordinal has.tied is put line

@@ -21,6 +21,8 @@ use Rattle.gc_graph.specs.Outcomes.{IsRefused, finalise_lines, slot_at, weak_slo
 use Rattle.gc_graph.specs.ObjectSteps.{AtField, IsChanged, IsRead, IsNumber, StepNew, StepSet, StepPair, first_word, part_of}
 use Rattle.gc_graph.specs.HandleSteps.{IsPushed, IsPeeked}
 use Rattle.gc_graph.specs.CycleSteps.{StepGcStart, StepGcStep, StepGcFinish, StepGcNow, StepSweepTo, WantsMemory, IsBegun, IsPause, IsCollection, is_marking, is_sweeping, is_stack_refused}
+use Rattle.gc_graph.specs.History.{node_of, region_slot}
+use Rattle.gc_graph.specs.RegionSteps.{StepExport, StepImport, line_of_content}
 use Rattle.gc_graph.specs.Pause.{condemn, live_count, dead_count, run_order, prefinalise_lines}
 use Rattle.gc_graph.specs.Step.{Step}
 use Rattle.built_forms.specs.Built.{is_built}
@@ -190,6 +192,21 @@ finishes setup want old piece lines new is =
     (λ done. pauses setup setup.markers want old piece lines done.0 done.1))
     (λ why. refused _ old lines new why.1)
 
+-- ---- the region
+
+exports : (old : State) (p x : ℕ) (piece : List Entry) (lines : List Line) (new : State) → StepExport old p x piece lines new → HasPlain lines
+exports old p x piece lines new is =
+    where_some (slot_at old p) _ _ is (λ why. refused _ old lines new why.1)
+    (λ n done. elim done [ inl memory ↦ alone L.Memory lines memory.1.0 (λ node. node) | inr made ↦ alone L.Fine lines made.lines_are (λ node. node) ])
+
+tells_content : (content : Option ℕ) (lines : List Line) → lines ≡ line_of_content content ∷ [] → HasPlain lines
+tells_content None lines is = alone L.Null lines is (λ node. node)
+tells_content (Some n) lines is = alone (L.Node n) lines is (λ node. node)
+
+imports : (old : State) (x p : ℕ) (piece : List Entry) (lines : List Line) (new : State) → StepImport old x p piece lines new → HasPlain lines
+imports old x p piece lines new (inl memory) = alone L.Memory lines memory.1.0 (λ node. node)
+imports old x p piece lines new (inr made) = tells_content (node_of (region_slot (took old made.before).region x)) lines made.lines_are
+
 -- ---- every command
 
 step_has : (setup : Setup) (old : State) (command : Command) (piece : List Entry) (lines : List Line) (new : State) → is_built command ≡ true → Step setup old command piece lines new
@@ -228,8 +245,8 @@ step_has setup old C.Stat piece lines new built is = alone (L.Objects (objects_o
 step_has setup old C.GcStart piece lines new built is = starts setup old piece lines new is
 step_has setup old (C.GcStep n) piece lines new built is = steps old n lines new is.1
 step_has setup old (C.GcFinish want) piece lines new built is = finishes setup want old piece lines new is
-step_has setup old (C.Export p x) piece lines new built is = cc
-step_has setup old (C.Import x p) piece lines new built is = cc
+step_has setup old (C.Export p x) piece lines new built is = exports old p x piece lines new is
+step_has setup old (C.Import x p) piece lines new built is = imports old x p piece lines new is
 step_has setup old (C.At j order) piece lines new built is = cc
 step_has setup old C.ThreadsGo piece lines new built is = cc
 step_has setup old C.ThreadsJoin piece lines new built is = cc

@@ -4,7 +4,7 @@ use Rattle.gc_graph.specs.declared.command.Command.{Command}
 use Rattle.gc_graph.specs.declared.line.Line.TheVariants as L
 use Rattle.gc_graph.specs.Graph.{IsWithin}
 use Rattle.gc_graph.specs.Reach.{HoldsAll}
-use Rattle.gc_graph.specs.State.{slot_targets}
+use Rattle.gc_graph.specs.State.{slot_targets, strong_region_targets}
 use Rattle.gc_graph.specs.Step.{Step}
 use Rattle.heap_cycle.specs.Cycles.{HasNoRefusedPush}
 use Rattle.heap_cycle.specs.Walks.{IsWalkToldIn}
@@ -12,8 +12,8 @@ use Rattle.heap_engine.specs.View.{View}
 
 -- the command is a step to the new state, which takes this piece of the region's history and tells these lines, so many; after it no
 -- thread runs, one command more is counted, the piece follows the history, and the heap isn't closed; a pause line tells truly
--- whether the heap was walked; where a cycle was started, what the strong slots name is marked; and where its step tells that it is
--- done, each marked node is traced, unless a push was refused in the cycle
+-- whether the heap was walked; where a cycle was started, what the strong slots name is marked, those of the region among them; and
+-- where its step tells that it is done, each marked node is traced, unless a push was refused in the cycle
 pub record IsActed (old new : View) (command : Command) (lines : ℕ) : Type 0 where
   pub step : Step old.setup old.state command new.piece new.lines new.state
   pub count : lines ≡ length new.lines
@@ -23,5 +23,6 @@ pub record IsActed (old new : View) (command : Command) (lines : ℕ) : Type 0 w
   pub setup : new.setup ≡ old.setup
   pub closed : new.closed ≡ false
   pub walked : IsWalkToldIn old.state.phase old.refusals new.refusals new.lines
-  pub started : Contains new.lines L.Started → HoldsAll new.marked (slot_targets new.state.slots)
+  pub started :
+      Contains new.lines L.Started → HoldsAll new.marked (slot_targets new.state.slots ++ strong_region_targets new.state.region)
   pub done : (t : ℕ) → new.lines ≡ L.Step t true ∷ [] → HasNoRefusedPush new.refusals → IsWithin new.marked new.traced

@@ -1,4 +1,5 @@
 pub mod View
 pub mod FieldSteps
+pub mod Alone
 pub mod Sound
 pub mod Acted

@@ -5,9 +5,9 @@ use Rattle.gc_graph.specs.declared.region.Entry.{Entry}
 use Rattle.gc_graph.specs.State.{Setup, State}
 use Rattle.heap_objects.specs.Refused.{RefusalsTold, none_refused}
 
--- what was set up, the state of the graph, whether each node is marked and whether it is traced, the region's history as far as
--- it was taken, the lines of the last outcome and the piece of the history that it took, how many pushes and notes were refused
--- until now and until marking began, and whether the heap was closed
+-- what was set up, the state of the graph, whether each node is marked and whether it is traced, the region's history, the
+-- lines of the last outcome and the piece of the history that it took, how many pushes and notes were refused until now and until
+-- marking began, and whether the heap was closed
 pub record View : Type 0 where
   pub setup : Setup
   pub state : State

@@ -30,9 +30,7 @@ pub fn new_object(parts: &mut Parts, outcome: &mut Outcome, p: u32, t: u32, extr
         (lines_with outcome.new parts.new.cycle.ran result) (answered (state_of parts.new)) }
     ensures frame { IsFrame parts.old (counted parts.new) result }
     ensures calm { outcome.new.prefinalises ≡ false }
-    ensures piece { outcome.new.piece ≡ outcome.old.piece }
     ensures room { outcome.new.room ≡ outcome.old.room }
-    ensures history { outcome.new.history ≡ outcome.old.history }
 {
     let number = parts.objects.made();
     let Ok(count) = register(parts, t) else {

@@ -38,7 +38,7 @@ pub struct Heap<'a> {
 
 impl<'a> Heap<'a> {
     /// An empty heap for objects of these types, which takes all the memory that its commands need
-    /// but for collections and prefinalizers. Want of memory is free.
+    /// but for collections, prefinalizers and the owner's calls on the region. Want of memory is free.
     pub fn new(
         alloc: Global,
         config: Config,

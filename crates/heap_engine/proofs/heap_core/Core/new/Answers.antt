@@ -7,7 +7,7 @@ use Rattle.heap_objects.specs.Objects.{told_of}
 use Rattle.heap_cycle.specs.declared.parts.Parts.{Parts}
 use Rattle.heap_cycle.specs.Parts.{state_of}
 use Rattle.heap_cycle.specs.Printed.{Printed, IsOutcome}
-use Rattle.heap_engine.proofs.HeapEmpty.{empty_parts, parts_empty, ready_empty}
+use Rattle.heap_engine.proofs.HeapEmpty.{empty_parts, parts_empty, ready_empty, region_empty}
 use Rattle.heap_engine.proofs.heap_core.Core.new.Given as given
 use Rattle.heap_engine.proofs.heap_core.Core.new.Goals as goal
 
@@ -18,12 +18,14 @@ invariant_of-result d c =
     record {
       ready = ready_empty parts shape c.args.types (kinds_of c.args.callbacks.now) c.empty_is_valid.ensures c.requires.called
           (parts_empty parts shape c.args.types (kinds_of c.args.callbacks.now) c.in_ok-objects.ensures.view c.in_ok-handles.ensures c.new-cycle.ensures);
+      shared = region_empty parts shape c.args.types (kinds_of c.args.callbacks.now) c.in_ok-region.region
+          (parts_empty parts shape c.args.types (kinds_of c.args.callbacks.now) c.in_ok-objects.ensures.view c.in_ok-handles.ensures c.new-cycle.ensures) c.in_ok-region.ensures;
       told = subst (λ (o : Printed). IsOutcome o c.new-cycle.result.ran) (sym c.in_ok-outcome.ensures) (record { ran_some = λ runs. cc; last_plain = tt });
       room = omega (arith, ap (λ (o : Printed). o.room) c.in_ok-outcome.ensures, c.word_count.ensures);
     }
 
 -- the parts are those of an empty heap
-are_empty : (d : given.Over) (c : goal.After-new-cycle d)
+are_empty : (d : given.Over) (c : goal.After-history d)
     → (let parts : Parts = record { objects = c.in_ok-objects.objects; handles = c.in_ok-handles.handles; cycle = c.new-cycle.result } in
     parts ≡ empty_parts (record { pages = c.args.config.pages; page_words = c.args.config.page_words }) c.args.types (kinds_of c.args.callbacks.now))
 are_empty d c =
