@@ -3,7 +3,7 @@ use Rattle.std.specs.Prelude.{◌≡◌, ℕ, Bool, true, false, List, Some, sli
 use Rattle.gc_graph.specs.declared.command.Command.{Command}
 use Rattle.gc_graph.specs.declared.command.Command.TheVariants as C
 
--- objects, their fields, slots, the stack, collections, and totals
+-- objects, their fields, slots, the stack, collections, totals, and what the owner does to the region
 abbrev pub is_built : Command → Bool
 is_built (C.New p t e) = true
 is_built (C.Set p f q) = true
@@ -30,8 +30,8 @@ is_built (C.GcNow want) = true
 is_built (C.Sweep n) = true
 is_built C.SweepAll = true
 is_built C.Stat = true
-is_built (C.Export p x) = false
-is_built (C.Import x p) = false
+is_built (C.Export p x) = true
+is_built (C.Import x p) = true
 is_built (C.At j order) = false
 is_built C.ThreadsGo = false
 is_built C.ThreadsJoin = false

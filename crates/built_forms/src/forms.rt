@@ -34,7 +34,9 @@ pub fn is_built(command: &Command) -> bool
         | Command::GcNow { .. }
         | Command::Sweep { .. }
         | Command::SweepAll
-        | Command::Stat => true,
+        | Command::Stat
+        | Command::Export { .. }
+        | Command::Import { .. } => true,
         _ => false,
     }
 }
