@@ -71,7 +71,7 @@ pub(crate) fn run(
 }
 
 /// Does a command that leaves the region as it is.
-#[inline]
+#[inline(always)]
 fn run_alone(parts: &mut Parts, outcome: &mut Outcome, command: &Command) -> Line
     requires ready { IsReady parts.old }
     requires numbers { outcome.old.numbers ≡ [] }

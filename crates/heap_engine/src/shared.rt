@@ -14,6 +14,7 @@ use heap_cycle::Parts;
 use heap_handles::RegionHandles;
 
 /// Slot x of the region becomes strong for what slot p names. Want of memory is free.
+#[inline(never)]
 pub fn export(parts: &mut Parts, region: &mut RegionHandles, p: u32, x: u32) -> Line
     requires ready { IsReady parts.old }
     requires shared { HasRegion parts.old region.old }
@@ -37,6 +38,7 @@ pub fn export(parts: &mut Parts, region: &mut RegionHandles, p: u32, x: u32) -> 
 
 /// Slot p gets what slot x of the region names; from a weak slot it is a weak read. Want of memory
 /// is free.
+#[inline(never)]
 pub fn import(parts: &mut Parts, region: &mut RegionHandles, x: u32, p: u32) -> Line
     requires ready { IsReady parts.old }
     requires shared { HasRegion parts.old region.old }
