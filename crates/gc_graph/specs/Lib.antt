@@ -17,6 +17,7 @@ pub mod CycleSteps
 pub mod RegionSteps
 pub mod Step
 pub mod Lawful
+pub mod Sections
 pub mod Words
 pub mod Forms
 pub mod Reasons
@@ -37,6 +38,7 @@ pub mod SweepLaw
 pub mod OnceLaw
 pub mod HistoryLaw
 pub mod RegionLaw
+pub mod ThreadLaw
 pub mod NumbersLaw
 pub mod ScriptLaw
 -- What the crate's own code cites.
