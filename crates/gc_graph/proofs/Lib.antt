@@ -40,6 +40,10 @@ mod SweepOrders
 mod SweepLaws
 mod Lives
 mod StepLives
+mod NodeCounts
+mod StepMoves
+mod CycleMoves
+mod ThreadLaws
 mod CommandLives
 mod OnceLaws
 mod MayRuns

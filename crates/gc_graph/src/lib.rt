@@ -12,9 +12,10 @@
 //! stand in `specs/`, to be read in the order of `specs/Lib.antt`.
 //!
 //! What is proved: the laws of `reach`, `laws`, `laws_of_cycles`, `laws_of_lives`,
-//! `laws_of_marking`, `laws_of_regions`, `laws_of_reports` and `laws_of_sweeping`, each the contract
-//! of a function that does nothing, and that `reach_check` is true exactly where a set holds the
-//! roots and is closed. The laws of steps and runs ask for a heap that has a page.
+//! `laws_of_marking`, `laws_of_regions`, `laws_of_reports`, `laws_of_sweeping` and
+//! `laws_of_threads`, each the contract of a function that does nothing, and that `reach_check` is
+//! true exactly where a set holds the roots and is closed. The laws of steps and runs ask for a heap
+//! that has a page.
 //!
 //! What is only tested or not said: the definitions are what a reader has to believe. The tests
 //! of the program compare them with reports that were written by hand.
@@ -32,6 +33,7 @@ mod laws_of_marking;
 mod laws_of_regions;
 mod laws_of_reports;
 mod laws_of_sweeping;
+mod laws_of_threads;
 mod line;
 mod members;
 mod memory;
@@ -59,6 +61,7 @@ pub use laws_of_marking::{kept_is_accounted_for, precise_collection_is_exact};
 pub use laws_of_regions::{calls_change_their_slot, steps_follow_the_history};
 pub use laws_of_reports::{lines_have_numbers, run_reads_back};
 pub use laws_of_sweeping::{placed_in_last_page, placement_is_one, sweeps_go_by_pages};
+pub use laws_of_threads::{steps_count, steps_leave_threads};
 pub use line::{Line, Refusal};
 pub use memory::NoMemory;
 pub use phase::Phase;
