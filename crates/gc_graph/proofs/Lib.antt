@@ -66,4 +66,7 @@ mod Scripts
 mod SaidNumbers
 mod AllowedForms
 mod SaidWords
+mod OwnForms
+mod SaidThreads
+mod ScriptSections
 mod ScriptRanges

@@ -19,6 +19,7 @@ use Rattle.gc_graph.proofs.AllowedForms.{IsAllowedForm, form_allowed}
 
 -- the words have none of the faults that words have by themselves
 pub record AreFaultless (bounds : Bounds) (words : List (List ℕ)) : Type 0 where
+  pub known : has_unknown_word (form_of words) words ≡ false
   pub good : has_bad_number (form_of words) words ≡ false
   pub count : has_other_count (form_of words) words ≡ false
   pub inside : has_outside bounds (form_of words) words ≡ false
@@ -35,7 +36,7 @@ faultless bounds words none =
     let count = if_none (has_other_count (form_of words) words) Count _ good.1 in
     let inside = if_none (has_outside bounds (form_of words) words || has_too_many bounds words) Range None count.1 in
     let parts = or_parts (has_outside bounds (form_of words) words) (has_too_many bounds words) inside.0 in
-    record { good = good.0; count = count.0; inside = parts.0; few = parts.1 }
+    record { known = known.0; good = good.0; count = count.0; inside = parts.0; few = parts.1 }
 
 -- ---- a command
 

@@ -15,8 +15,10 @@ use Rattle.gc_graph.specs.Words.{lines_of, words_of, is_text, is_blank}
 use Rattle.gc_graph.specs.Reasons.{Reason, first_is, reason_of_words, command_of_words, type_of_words}
 use Rattle.gc_graph.specs.Reasons.Reason.{Header}
 use Rattle.gc_graph.specs.Script.{is_header, is_type, bounds_after, reason_by_order, reason_at, Script}
+use Rattle.gc_graph.specs.Sections.{AreInSections}
 use Rattle.gc_graph.specs.ScriptLaw.{IsInRanges, ScriptsAreInRanges}
 use Rattle.gc_graph.proofs.SaidWords.{AreFaultless, faultless, command_allowed, IsGoodType, type_is_good, type_lines_say, room_for_type}
+use Rattle.gc_graph.proofs.ScriptSections.{lines_in_sections}
 
 -- ---- lists
 
@@ -130,10 +132,10 @@ few_types callbacks lines fine (suc k) low =
 -- ---- a script
 
 -- what a script says, its lines being the header and others
-said : (callbacks : ℕ) (header : List ℕ) (rest : List (List ℕ)) (script : Script) → is_header header ≡ true → AreFine callbacks rest
+said : (callbacks : ℕ) (header : List ℕ) (rest : List (List ℕ)) (script : Script) → is_header header ≡ true → AreFine callbacks rest → AreInSections false (filter_map (λ line. command_of_words (words_of line)) rest)
     → length (header ∷ rest) ≤ 1000000 → script.types ≡ filter_map (λ line. type_of_words (words_of line)) (header ∷ rest)
     → script.commands ≡ filter_map (λ line. command_of_words (words_of line)) (header ∷ rest) → IsInRanges callbacks script
-said callbacks header rest script head fine short types commands =
+said callbacks header rest script head fine sections short types commands =
     let none = header_says_nothing header head in
     let types_are : script.types ≡ filter_map (λ line. type_of_words (words_of line)) rest = rw none.1 at types in
     let commands_are : script.commands ≡ filter_map (λ line. command_of_words (words_of line)) rest = rw none.0 at commands in
@@ -155,6 +157,7 @@ said callbacks header rest script head fine short types commands =
           (λ i low c is. command_is_allowed callbacks (length script.types) (take i rest) (get_or rest i []) c (fine i low) is
           (omega (arith, counted, sum_by-take-le (λ line. cond (is_type line) 1 0) rest i))));
       few = omega (arith, short, ap length commands_are, kept_few (λ line. command_of_words (words_of line)) rest);
+      sections = subst (AreInSections false) (sym commands_are) sections;
     }
 
 by_lines : (callbacks : ℕ) (lines : List (List ℕ)) (script : Script) → reason_at callbacks lines 0 ≡ None
@@ -165,7 +168,7 @@ by_lines callbacks [] script header each short types commands = absurd (none-som
 by_lines callbacks (line ∷ rest) script header each short types commands =
     said callbacks line rest script (header_stands (is_header line) header)
     (λ i low. line_is_fine callbacks (take i rest) (get_or rest i []) (list_all is_blank (drop (suc i + 1) (line ∷ rest))) (is_blank (get_or rest i [])) refl
-    (each (suc i) (omega arith))) short types commands
+    (each (suc i) (omega arith))) (lines_in_sections callbacks line rest each) short types commands
 
 pub scripts_are_in_ranges : ScriptsAreInRanges
 scripts_are_in_ranges callbacks bytes script is =

@@ -1,6 +1,7 @@
 -- The law of the grammar.
-use Rattle.std.specs.Prelude.{◌≡◌, ◌⊎◌, ℕ, ◌<◌, ◌≤◌, List, length, All}
+use Rattle.std.specs.Prelude.{◌≡◌, ◌⊎◌, ℕ, ◌<◌, ◌≤◌, false, List, length, All}
 use Rattle.gc_graph.specs.Lawful.{IsAllowed}
+use Rattle.gc_graph.specs.Sections.{AreInSections}
 use Rattle.gc_graph.specs.Script.{Script, IsScript, IsFault}
 
 -- the bytes are a script, or some line of them is faulty
@@ -24,7 +25,8 @@ TextsAreJudged = (callbacks : ℕ) (bytes : List ℕ) → IsJudged callbacks byt
 
 -- ---- what a script says is never too much for a heap
 
--- few types of few fields, whose few prefinalizers are callbacks, and few commands, whose numbers are in their ranges
+-- few types of few fields, whose few prefinalizers are callbacks, and few commands, whose numbers are in their ranges;
+-- orders and starts of threads stand where no join is awaited, joins where one is, and none is awaited at the end
 pub record IsInRanges (callbacks : ℕ) (script : Script) : Type 0 where
   pub sorts : length script.types ≤ 16383
   pub narrow : All (λ type. length type.kinds ≤ 64) script.types
@@ -32,6 +34,7 @@ pub record IsInRanges (callbacks : ℕ) (script : Script) : Type 0 where
   pub known : All (λ type. All (λ number. number < callbacks) type.prefinalizers) script.types
   pub allowed : All (IsAllowed (length script.types)) script.commands
   pub few : length script.commands ≤ 1000000
+  pub sections : AreInSections false script.commands
 
 -- so it is for each script
 abbrev pub ScriptsAreInRanges : Type 0
