@@ -44,6 +44,8 @@ mod NodeCounts
 mod StepMoves
 mod CycleMoves
 mod ThreadLaws
+mod JoinLines
+mod JoinLaws
 mod CommandLives
 mod OnceLaws
 mod MayRuns

@@ -15,6 +15,7 @@ use Rattle.gc_graph.specs.May.{read_node}
 use Rattle.gc_graph.specs.Outcomes.{answered, IsRefused, IsMemory, with_entry, took}
 use Rattle.gc_graph.specs.ObjectSteps.{AtField, first_word, with_node, IsChanged, StepWord, IsNumber, IsRead}
 use Rattle.gc_graph.specs.HandleSteps.{IsDone, pushed, IsPushed, IsPeeked}
+use Rattle.gc_graph.specs.JoinLaw.{entries_in}
 use Rattle.gc_graph.proofs.StepCases.{match_bool, at_field}
 use Rattle.gc_graph.proofs.NodeCounts.{weights, SameCount, same_count, weights_written}
 
@@ -33,11 +34,12 @@ pub record Moves (most : ℕ) (old : State) (piece : List Entry) (new : State) :
   pub full : new.full ≤ old.full + most
   pub balance : IsBalanced old → IsBalanced new
 
--- and then the command was answered
-pub record Answers (old : State) (piece : List Entry) (new : State) : Type 0 where
+-- and then the command was answered, by lines that tell no entry
+pub record Answers (old : State) (piece : List Entry) (lines : List Line) (new : State) : Type 0 where
   pub before : State
   pub moves : Moves 1 old piece before
   pub after : new ≡ answered before
+  pub quiet : entries_in lines ≡ []
 
 -- ---- one move after another
 
@@ -123,14 +125,14 @@ took_moves s (entry ∷ entries) =
 -- ---- steps that take nothing of the history
 
 -- the new state is one that is alike, with the answer counted
-alike : (old new x : State) (piece : List Entry) → piece ≡ [] → new ≡ answered x → IsAlike old x → weights x.nodes ≡ weights old.nodes → Answers old piece new
-alike old new x piece p e a w = record { before = x; moves = pieced 1 old x [] piece p (alike_moves 1 old x a w); after = e }
+alike : (old new x : State) (piece : List Entry) (lines : List Line) → entries_in lines ≡ [] → piece ≡ [] → new ≡ answered x → IsAlike old x → weights x.nodes ≡ weights old.nodes → Answers old piece lines new
+alike old new x piece lines q p e a w = record { before = x; moves = pieced 1 old x [] piece p (alike_moves 1 old x a w); after = e; quiet = q }
 
-pub refused_answers : (old new : State) (piece : List Entry) (lines : List Line) (why : Refusal) → piece ≡ [] → IsRefused why old lines new → Answers old piece new
-refused_answers old new piece lines why p h = alike old new old piece p h.1 refl refl
+pub refused_answers : (old new : State) (piece : List Entry) (lines : List Line) (why : Refusal) → piece ≡ [] → IsRefused why old lines new → Answers old piece lines new
+refused_answers old new piece lines why p h = alike old new old piece lines (ap entries_in h.0) p h.1 refl refl
 
-pub memory_answers : (old new : State) (piece : List Entry) (lines : List Line) → piece ≡ [] → IsMemory old lines new → Answers old piece new
-memory_answers old new piece lines p h = alike old new old piece p h.1 refl refl
+pub memory_answers : (old new : State) (piece : List Entry) (lines : List Line) → piece ≡ [] → IsMemory old lines new → Answers old piece lines new
+memory_answers old new piece lines p h = alike old new old piece lines (ap entries_in h.0) p h.1 refl refl
 
 read_alike : (weak : Bool) (s : State) (n : ℕ) → IsAlike s (read_node weak s n)
 read_alike true s n = refl
@@ -144,55 +146,55 @@ slotted_alike : (old s : State) (slots : List (Option ℕ)) → IsAlike old s �
 slotted_alike old s slots e = ap (λ (x : State). record x { slots = slots }) e
 
 pub read_answers : (weak : Bool) (old new : State) (piece : List Entry) (value : Value) (q : ℕ) (lines : List Line) → piece ≡ []
-    → IsRead weak old value q lines new → Answers old piece new
-read_answers weak old new piece Null q lines p h = alike old new _ piece p h.1 refl refl
+    → IsRead weak old value q lines new → Answers old piece lines new
+read_answers weak old new piece Null q lines p h = alike old new _ piece lines (ap entries_in h.0) p h.1 refl refl
 read_answers weak old new piece (Ref n) q lines p h =
-    alike old new _ piece p h.1 (slotted_alike old (read_node weak old n) _ (read_alike weak old n)) (read_weights weak old n)
+    alike old new _ piece lines (ap entries_in h.0) p h.1 (slotted_alike old (read_node weak old n) _ (read_alike weak old n)) (read_weights weak old n)
 read_answers weak old new piece (Word w) q lines p h = absurd h
 
-number_answers : (old new : State) (piece : List Entry) (value : Value) (lines : List Line) → piece ≡ [] → IsNumber old value lines new → Answers old piece new
+number_answers : (old new : State) (piece : List Entry) (value : Value) (lines : List Line) → piece ≡ [] → IsNumber old value lines new → Answers old piece lines new
 number_answers old new piece Null lines p h = absurd h
 number_answers old new piece (Ref n) lines p h = absurd h
-number_answers old new piece (Word w) lines p h = alike old new old piece p h.1 refl refl
+number_answers old new piece (Word w) lines p h = alike old new old piece lines (ap entries_in h.0) p h.1 refl refl
 
 -- a write to a field, and a read of one
 pub write_answers : (allowed : Kind → Bool) (old new : State) (p f : ℕ) (piece : List Entry) (lines : List Line) (node : ℕ → Node) → piece ≡ []
     → ((n : ℕ) → (node n).life ≡ (node_at old.nodes n).life)
-    → AtField allowed old p f lines new (λ n. IsChanged old n (node n) lines new) → Answers old piece new
+    → AtField allowed old p f lines new (λ n. IsChanged old n (node n) lines new) → Answers old piece lines new
 write_answers allowed old new p f piece lines node none life h =
-    at_field allowed old new p f lines (λ n. IsChanged old n (node n) lines new) (Answers old piece new)
-    (λ n d. alike old new (with_node old n (node n)) piece none d.1 refl (weights_written old.nodes n (node n) (life n)))
+    at_field allowed old new p f lines (λ n. IsChanged old n (node n) lines new) (Answers old piece lines new)
+    (λ n d. alike old new (with_node old n (node n)) piece lines (ap entries_in d.0) none d.1 refl (weights_written old.nodes n (node n) (life n)))
     (λ why r. refused_answers old new piece lines why none r) h
 
 pub fetch_answers : (allowed : Kind → Bool) (old new : State) (p f q : ℕ) (piece : List Entry) (lines : List Line) (weak : ℕ → Bool) (value : ℕ → Value)
-    → piece ≡ [] → AtField allowed old p f lines new (λ n. IsRead (weak n) old (value n) q lines new) → Answers old piece new
+    → piece ≡ [] → AtField allowed old p f lines new (λ n. IsRead (weak n) old (value n) q lines new) → Answers old piece lines new
 fetch_answers allowed old new p f q piece lines weak value none h =
-    at_field allowed old new p f lines (λ n. IsRead (weak n) old (value n) q lines new) (Answers old piece new)
+    at_field allowed old new p f lines (λ n. IsRead (weak n) old (value n) q lines new) (Answers old piece lines new)
     (λ n d. read_answers (weak n) old new piece (value n) q lines none d) (λ why r. refused_answers old new piece lines why none r) h
 
-pub word_answers : (old new : State) (p f : ℕ) (piece : List Entry) (lines : List Line) → piece ≡ [] → StepWord old p f lines new → Answers old piece new
+pub word_answers : (old new : State) (p f : ℕ) (piece : List Entry) (lines : List Line) → piece ≡ [] → StepWord old p f lines new → Answers old piece lines new
 word_answers old new p f piece lines none h =
-    at_field is_plain old new p f lines (λ n. IsNumber old (value_at (node_at old.nodes n) (first_word old n f)) lines new) (Answers old piece new)
+    at_field is_plain old new p f lines (λ n. IsNumber old (value_at (node_at old.nodes n) (first_word old n f)) lines new) (Answers old piece lines new)
     (λ n d. number_answers old new piece (value_at (node_at old.nodes n) (first_word old n f)) lines none d)
     (λ why r. refused_answers old new piece lines why none r) h
 
 pub done_answers : (old new x : State) (piece : List Entry) (lines : List Line) → piece ≡ [] → IsAlike old x → weights x.nodes ≡ weights old.nodes
-    → IsDone x lines new → Answers old piece new
-done_answers old new x piece lines p a w h = alike old new x piece p h.1 a w
+    → IsDone x lines new → Answers old piece lines new
+done_answers old new x piece lines p a w h = alike old new x piece lines (ap entries_in h.0) p h.1 a w
 
-pub pushed_answers : (old new : State) (piece : List Entry) (word : StackWord) (lines : List Line) → piece ≡ [] → IsPushed old word lines new → Answers old piece new
+pub pushed_answers : (old new : State) (piece : List Entry) (word : StackWord) (lines : List Line) → piece ≡ [] → IsPushed old word lines new → Answers old piece lines new
 pushed_answers old new piece word lines p h =
-    match_bool (nat_lt (length old.stack) 1024) (IsDone (pushed old word) lines new) (IsRefused R.Stack old lines new) (Answers old piece new)
+    match_bool (nat_lt (length old.stack) 1024) (IsDone (pushed old word) lines new) (IsRefused R.Stack old lines new) (Answers old piece lines new)
     (λ d. done_answers old new (pushed old word) piece lines p refl refl d) (refused_answers old new piece lines R.Stack p) h
 
 pub peeked_answers : (old new : State) (piece : List Entry) (word : StackWord) (q : ℕ) (lines : List Line) → piece ≡ [] → IsPeeked old word q lines new
-    → Answers old piece new
-peeked_answers old new piece (Pointer n o) q lines p h = alike old new _ piece p h.1 refl refl
+    → Answers old piece lines new
+peeked_answers old new piece (Pointer n o) q lines p h = alike old new _ piece lines (ap entries_in h.0) p h.1 refl refl
 peeked_answers old new piece (Number w) q lines p h = refused_answers old new piece lines R.Kind p h
 
-pub stat_answers : (old new : State) (piece : List Entry) → piece ≡ [] → new ≡ answered old → Answers old piece new
-stat_answers old new piece none e = alike old new old piece none e refl refl
+pub stat_answers : (old new : State) (piece : List Entry) (lines : List Line) → entries_in lines ≡ [] → piece ≡ [] → new ≡ answered old → Answers old piece lines new
+stat_answers old new piece lines quiet none e = alike old new old piece lines quiet none e refl refl
 
-pub traced_answers : (old new : State) (piece : List Entry) (count : ℕ) → piece ≡ [] → new ≡ answered (record old { traced = old.traced + count })
-    → Answers old piece new
-traced_answers old new piece count none e = alike old new (record old { traced = old.traced + count }) piece none e refl refl
+pub traced_answers : (old new : State) (piece : List Entry) (lines : List Line) (count : ℕ) → entries_in lines ≡ [] → piece ≡ []
+    → new ≡ answered (record old { traced = old.traced + count }) → Answers old piece lines new
+traced_answers old new piece lines count quiet none e = alike old new (record old { traced = old.traced + count }) piece lines quiet none e refl refl

@@ -18,6 +18,7 @@ use Rattle.gc_graph.specs.CycleSteps.{is_marking}
 use Rattle.gc_graph.specs.Sections.{awaiting_after}
 use Rattle.gc_graph.specs.Step.{Step}
 use Rattle.gc_graph.specs.ThreadLaw.{is_of_threads, LeavesThreads, StepsLeaveThreads, IsCounted, StepsCount}
+use Rattle.gc_graph.specs.JoinLaw.{entries_in}
 use Rattle.gc_graph.proofs.StepCases.{match_option, match_bool}
 use Rattle.gc_graph.proofs.StepMoves.{IsBalanced, Moves, Answers, took_moves, refused_answers, read_answers, write_answers, fetch_answers, word_answers, done_answers, pushed_answers, peeked_answers, stat_answers, traced_answers}
 use Rattle.gc_graph.proofs.CycleMoves.{sweep_to_answers, new_answers, gc_start_answers, gc_finish_answers, gc_now_answers, export_answers, import_answers}
@@ -25,77 +26,77 @@ use Rattle.gc_graph.proofs.CycleMoves.{sweep_to_answers, new_answers, gc_start_a
 -- ---- the commands that are none of threads
 
 -- no join is awaited after the command where none was before
-abbrev IsOwners : Command → Type 0
+abbrev pub IsOwners : Command → Type 0
 IsOwners command = (is_of_threads command ≡ false) × ((awaiting : Bool) → awaiting_after awaiting command ≡ awaiting)
 
-abbrev Way : State → Command → List Entry → State → Type 0
-Way old command piece new = (IsOwners command × Answers old piece new) ⊎ (is_of_threads command ≡ true)
+abbrev pub Way : State → Command → List Entry → List Line → State → Type 0
+Way old command piece lines new = (IsOwners command × Answers old piece lines new) ⊎ (is_of_threads command ≡ true)
 
-owners : (old new : State) (command : Command) (piece : List Entry) → is_of_threads command ≡ false
-    → ((awaiting : Bool) → awaiting_after awaiting command ≡ awaiting) → Answers old piece new → Way old command piece new
-owners old new command piece none same answers = inl ((none, same), answers)
+owners : (old new : State) (command : Command) (piece : List Entry) (lines : List Line) → is_of_threads command ≡ false
+    → ((awaiting : Bool) → awaiting_after awaiting command ≡ awaiting) → Answers old piece lines new → Way old command piece lines new
+owners old new command piece lines none same answers = inl ((none, same), answers)
 
-step_way : (setup : Setup) (old new : State) (command : Command) (piece : List Entry) (lines : List Line) → Step setup old command piece lines new
-    → Way old command piece new
-step_way setup old new (C.New p t e) piece lines h = owners old new (C.New p t e) piece refl (λ b. refl) (new_answers setup old new p t e piece lines h.0 h.1)
+pub step_way : (setup : Setup) (old new : State) (command : Command) (piece : List Entry) (lines : List Line) → Step setup old command piece lines new
+    → Way old command piece lines new
+step_way setup old new (C.New p t e) piece lines h = owners old new (C.New p t e) piece lines refl (λ b. refl) (new_answers setup old new p t e piece lines h.0 h.1)
 step_way setup old new (C.Set p f q) piece lines h =
-    owners old new (C.Set p f q) piece refl (λ b. refl)
+    owners old new (C.Set p f q) piece lines refl (λ b. refl)
     (write_answers is_reference old new p f piece lines (λ n. with_value (node_at old.nodes n) (first_word old n f) (content_of (slot_at old q))) h.0 (λ n. refl) h.1)
 step_way setup old new (C.SetNull p f) piece lines h =
-    owners old new (C.SetNull p f) piece refl (λ b. refl)
+    owners old new (C.SetNull p f) piece lines refl (λ b. refl)
     (write_answers is_reference old new p f piece lines (λ n. with_value (node_at old.nodes n) (first_word old n f) Null) h.0 (λ n. refl) h.1)
 step_way setup old new (C.Pair p f k v) piece lines h =
-    owners old new (C.Pair p f k v) piece refl (λ b. refl)
+    owners old new (C.Pair p f k v) piece lines refl (λ b. refl)
     (write_answers is_pair old new p f piece lines
     (λ n. with_value (with_value (node_at old.nodes n) (first_word old n f) (part_of (slot_at old k) (slot_at old v))) (first_word old n f + 1) (part_of (slot_at old v) (slot_at old k)))
     h.0 (λ n. refl) h.1)
 step_way setup old new (C.PairNull p f) piece lines h =
-    owners old new (C.PairNull p f) piece refl (λ b. refl)
+    owners old new (C.PairNull p f) piece lines refl (λ b. refl)
     (write_answers is_pair old new p f piece lines (λ n. with_value (with_value (node_at old.nodes n) (first_word old n f) Null) (first_word old n f + 1) Null) h.0
     (λ n. refl) h.1)
 step_way setup old new (C.Put p f w) piece lines h =
-    owners old new (C.Put p f w) piece refl (λ b. refl)
+    owners old new (C.Put p f w) piece lines refl (λ b. refl)
     (write_answers is_plain old new p f piece lines (λ n. with_value (node_at old.nodes n) (first_word old n f) (Word w)) h.0 (λ n. refl) h.1)
-step_way setup old new (C.Word p f) piece lines h = owners old new (C.Word p f) piece refl (λ b. refl) (word_answers old new p f piece lines h.0 h.1)
+step_way setup old new (C.Word p f) piece lines h = owners old new (C.Word p f) piece lines refl (λ b. refl) (word_answers old new p f piece lines h.0 h.1)
 step_way setup old new (C.Get p f q) piece lines h =
-    owners old new (C.Get p f q) piece refl (λ b. refl)
+    owners old new (C.Get p f q) piece lines refl (λ b. refl)
     (fetch_answers is_reference old new p f q piece lines (λ n. is_weak (kind_of_field (node_at old.nodes n).object f)) (λ n. value_at (node_at old.nodes n) (first_word old n f))
     h.0 h.1)
 step_way setup old new (C.Key p f q) piece lines h =
-    owners old new (C.Key p f q) piece refl (λ b. refl)
+    owners old new (C.Key p f q) piece lines refl (λ b. refl)
     (fetch_answers is_pair old new p f q piece lines (λ n. true) (λ n. value_at (node_at old.nodes n) (first_word old n f)) h.0 h.1)
 step_way setup old new (C.Val p f q) piece lines h =
-    owners old new (C.Val p f q) piece refl (λ b. refl)
+    owners old new (C.Val p f q) piece lines refl (λ b. refl)
     (fetch_answers is_pair old new p f q piece lines (λ n. true) (λ n. value_at (node_at old.nodes n) (first_word old n f + 1)) h.0 h.1)
-step_way setup old new (C.Copy p q) piece lines h = owners old new (C.Copy p q) piece refl (λ b. refl) (done_answers old new _ piece lines h.0 refl refl h.1)
-step_way setup old new (C.Drop p) piece lines h = owners old new (C.Drop p) piece refl (λ b. refl) (done_answers old new _ piece lines h.0 refl refl h.1)
-step_way setup old new (C.Weak w p) piece lines h = owners old new (C.Weak w p) piece refl (λ b. refl) (done_answers old new _ piece lines h.0 refl refl h.1)
+step_way setup old new (C.Copy p q) piece lines h = owners old new (C.Copy p q) piece lines refl (λ b. refl) (done_answers old new _ piece lines h.0 refl refl h.1)
+step_way setup old new (C.Drop p) piece lines h = owners old new (C.Drop p) piece lines refl (λ b. refl) (done_answers old new _ piece lines h.0 refl refl h.1)
+step_way setup old new (C.Weak w p) piece lines h = owners old new (C.Weak w p) piece lines refl (λ b. refl) (done_answers old new _ piece lines h.0 refl refl h.1)
 step_way setup old new (C.Read w p) piece lines h =
-    owners old new (C.Read w p) piece refl (λ b. refl) (read_answers true old new piece (content_of (weak_slot_at old w)) p lines h.0 h.1)
+    owners old new (C.Read w p) piece lines refl (λ b. refl) (read_answers true old new piece (content_of (weak_slot_at old w)) p lines h.0 h.1)
 step_way setup old new (C.Push p o) piece lines h =
-    owners old new (C.Push p o) piece refl (λ b. refl)
+    owners old new (C.Push p o) piece lines refl (λ b. refl)
     (match_option (slot_at old p) _ _ _ (λ r. refused_answers old new piece lines R.Null h.0 r)
     (λ n m. match_bool (nat_lt o (size_of (node_at old.nodes n))) _ _ _
     (λ d. pushed_answers old new piece (Pointer n o) lines h.0 d) (λ r. refused_answers old new piece lines R.Field h.0 r) m) h.1)
 step_way setup old new (C.PushPlain n) piece lines h =
-    owners old new (C.PushPlain n) piece refl (λ b. refl) (pushed_answers old new piece (Number n) lines h.0 h.1)
+    owners old new (C.PushPlain n) piece lines refl (λ b. refl) (pushed_answers old new piece (Number n) lines h.0 h.1)
 step_way setup old new C.Pop piece lines h =
-    owners old new C.Pop piece refl (λ b. refl)
+    owners old new C.Pop piece lines refl (λ b. refl)
     (match_bool (nat_lt 0 (length old.stack)) _ _ _ (λ d. done_answers old new _ piece lines h.0 refl refl d) (refused_answers old new piece lines R.Empty h.0) h.1)
 step_way setup old new (C.Peek i q) piece lines h =
-    owners old new (C.Peek i q) piece refl (λ b. refl)
+    owners old new (C.Peek i q) piece lines refl (λ b. refl)
     (match_option (slice_get old.stack i) _ _ _ (refused_answers old new piece lines R.Empty h.0) (λ word m. peeked_answers old new piece word q lines h.0 m) h.1)
-step_way setup old new C.GcStart piece lines h = owners old new C.GcStart piece refl (λ b. refl) (gc_start_answers setup old new piece lines h)
+step_way setup old new C.GcStart piece lines h = owners old new C.GcStart piece lines refl (λ b. refl) (gc_start_answers setup old new piece lines h)
 step_way setup old new (C.GcStep n) piece lines h =
-    owners old new (C.GcStep n) piece refl (λ b. refl)
-    (match_bool (is_marking old.phase) _ _ _ (λ t. traced_answers old new piece t.count h.0 t.after) (refused_answers old new piece lines R.Phase h.0) h.1)
-step_way setup old new (C.GcFinish want) piece lines h = owners old new (C.GcFinish want) piece refl (λ b. refl) (gc_finish_answers setup want old new piece lines h)
-step_way setup old new (C.GcNow want) piece lines h = owners old new (C.GcNow want) piece refl (λ b. refl) (gc_now_answers setup want old new piece lines h)
-step_way setup old new (C.Sweep n) piece lines h = owners old new (C.Sweep n) piece refl (λ b. refl) (sweep_to_answers setup old new _ piece lines h.0 h.1)
-step_way setup old new C.SweepAll piece lines h = owners old new C.SweepAll piece refl (λ b. refl) (sweep_to_answers setup old new _ piece lines h.0 h.1)
-step_way setup old new C.Stat piece lines h = owners old new C.Stat piece refl (λ b. refl) (stat_answers old new piece h.0 h.1.3)
-step_way setup old new (C.Export p x) piece lines h = owners old new (C.Export p x) piece refl (λ b. refl) (export_answers old new p x piece lines h)
-step_way setup old new (C.Import x p) piece lines h = owners old new (C.Import x p) piece refl (λ b. refl) (import_answers old new x p piece lines h)
+    owners old new (C.GcStep n) piece lines refl (λ b. refl)
+    (match_bool (is_marking old.phase) _ _ _ (λ t. traced_answers old new piece lines t.count (ap entries_in t.lines_are) h.0 t.after) (refused_answers old new piece lines R.Phase h.0) h.1)
+step_way setup old new (C.GcFinish want) piece lines h = owners old new (C.GcFinish want) piece lines refl (λ b. refl) (gc_finish_answers setup want old new piece lines h)
+step_way setup old new (C.GcNow want) piece lines h = owners old new (C.GcNow want) piece lines refl (λ b. refl) (gc_now_answers setup want old new piece lines h)
+step_way setup old new (C.Sweep n) piece lines h = owners old new (C.Sweep n) piece lines refl (λ b. refl) (sweep_to_answers setup old new _ piece lines h.0 h.1)
+step_way setup old new C.SweepAll piece lines h = owners old new C.SweepAll piece lines refl (λ b. refl) (sweep_to_answers setup old new _ piece lines h.0 h.1)
+step_way setup old new C.Stat piece lines h = owners old new C.Stat piece lines refl (λ b. refl) (stat_answers old new piece lines (ap entries_in h.1.2) h.0 h.1.3)
+step_way setup old new (C.Export p x) piece lines h = owners old new (C.Export p x) piece lines refl (λ b. refl) (export_answers old new p x piece lines h)
+step_way setup old new (C.Import x p) piece lines h = owners old new (C.Import x p) piece lines refl (λ b. refl) (import_answers old new x p piece lines h)
 step_way setup old new (C.At j order) piece lines h = inr refl
 step_way setup old new C.ThreadsGo piece lines h = inr refl
 step_way setup old new C.ThreadsJoin piece lines h = inr refl
@@ -105,8 +106,8 @@ step_way setup old new C.ThreadsJoin piece lines h = inr refl
 nothing_more : (old new : State) (piece : List Entry) → piece ≡ [] → new.unprinted ≡ old.unprinted → new.unprinted ≡ old.unprinted ++ piece
 nothing_more old new piece none e = e ∙ sym (append-nil old.unprinted) ∙ ap (λ es. old.unprinted ++ es) (sym none)
 
-own_leave : (old new : State) (command : Command) (piece : List Entry) → IsOwners command → Answers old piece new → LeavesThreads old command piece new
-own_leave old new command piece own a = record {
+own_leave : (old new : State) (command : Command) (piece : List Entry) (lines : List Line) → IsOwners command → Answers old piece lines new → LeavesThreads old command piece new
+own_leave old new command piece lines own a = record {
   awaiting = ap (λ (s : State). s.awaiting) a.after ∙ a.moves.awaiting ∙ sym (own.1 old.awaiting);
   queues = λ none. ap (λ (s : State). s.queues) a.after ∙ a.moves.queues;
   running = λ none. ap (λ (s : State). s.running) a.after ∙ a.moves.running;
@@ -140,7 +141,7 @@ thread_leave setup old new command piece lines its h = cc
 pub steps_leave_threads : StepsLeaveThreads
 steps_leave_threads setup old command piece lines new h =
     elim (step_way setup old new command piece lines h) [
-      | inl own ↦ own_leave old new command piece own.0 own.1
+      | inl own ↦ own_leave old new command piece lines own.0 own.1
       | inr its ↦ thread_leave setup old new command piece lines its h
     ]
 

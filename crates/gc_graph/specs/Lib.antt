@@ -39,6 +39,7 @@ pub mod OnceLaw
 pub mod HistoryLaw
 pub mod RegionLaw
 pub mod ThreadLaw
+pub mod JoinLaw
 pub mod NumbersLaw
 pub mod ScriptLaw
 -- What the crate's own code cites.

@@ -1,5 +1,11 @@
 // The laws of the script's threads, and of what commands count, as in laws.rt.
 
+ghost use Rattle.gc_graph.specs.JoinLaw.{
+  EntriesAreToldOnce,
+  JoinsTellAll,
+  OrdersWaitInOrder,
+  ThreadsWithOrdersGo,
+};
 ghost use Rattle.gc_graph.specs.ThreadLaw.{StepsCount, StepsLeaveThreads};
 
 /// Threads run from a start of them to the next join. No other command than those on threads changes
@@ -11,4 +17,21 @@ pub fn steps_leave_threads()
 /// No more pauses and full outcomes come than commands, and each node is there or was finalised.
 pub fn steps_count()
     ensures { StepsCount }
+{}
+
+/// An order waits behind the others of its thread, and just the threads that have orders are started.
+pub fn orders_wait_for_their_thread()
+    ensures orders { OrdersWaitInOrder }
+    ensures starts { ThreadsWithOrdersGo }
+{}
+
+/// A join tells one answer for each order, by threads and in the order of their queues, then the
+/// entries, and last how many threads there were; it leaves none of these orders and entries.
+pub fn joins_tell_all()
+    ensures { JoinsTellAll }
+{}
+
+/// The entries that a run has told and those that it has yet to tell are its history, in order.
+pub fn entries_are_told_once()
+    ensures { EntriesAreToldOnce }
 {}
