@@ -64,6 +64,7 @@ mod CycleLaws
 mod CycleNumbers
 mod ThreadNumbers
 mod RunNumbers
+mod SummaryNumbers
 mod Scripts
 mod SaidNumbers
 mod AllowedForms

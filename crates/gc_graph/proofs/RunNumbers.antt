@@ -44,7 +44,7 @@ content_names s (Some n) h = h
 
 module _ (setup : Setup) (limits : IsWithinLimits setup) (k : ℕ) (low : k < 1000000) (old new : State) (piece : List Entry) (lines : List Line)
     (h : IsCounted k old) (g : IsSound setup old) where
-  step_numbers : (command : Command) → IsAllowed (length setup.types) command → Step setup old command piece lines new → IsGood k command old lines new
+  pub step_numbers : (command : Command) → IsAllowed (length setup.types) command → Step setup old command piece lines new → IsGood k command old lines new
   step_numbers (C.New p t e) a s = new_good setup limits k low old new (C.New p t e) lines h g p t e a.1 s.1
   step_numbers (C.Set p f q) a s =
       set_good setup limits k low old new (C.Set p f q) lines h g p f (content_of (slot_at old q)) (content_small (slot_at old q)) s.1

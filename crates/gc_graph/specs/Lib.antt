@@ -41,6 +41,7 @@ pub mod RegionLaw
 pub mod ThreadLaw
 pub mod JoinLaw
 pub mod NumbersLaw
+pub mod SummaryLaw
 pub mod ScriptLaw
 -- What the crate's own code cites.
 pub mod Checking
