@@ -29,6 +29,14 @@ impl Model for Script {
 }
 
 impl Script {
+    /// A script that says this, read from no bytes. Tests no range.
+    pub fn from_parts(types: Vec<TypeDecl>, commands: Vec<Command>) -> Script
+        ensures types { result.types ≡ types.items }
+        ensures commands { result.commands ≡ commands.items }
+    {
+        Script { types, commands }
+    }
+
     /// The types in the order of their lines.
     pub fn types(&self) -> &[TypeDecl]
         ensures { result.now ≡ self.now.types }
