@@ -1,0 +1,3 @@
+mod MoreTurns
+mod Powers
+mod Ranges
