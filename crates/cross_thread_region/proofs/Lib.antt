@@ -1,4 +1,5 @@
 mod Appended
+mod Noted
 mod Filling
 mod Emptying
 mod Asked

@@ -9,10 +9,11 @@ ghost use Rattle.persistent_slots.specs.Clearing.{MayBeAsked, AnswersBy, ClearsI
 ghost use Rattle.cross_thread_region.specs.Histories.{entries_of, slots_of, is_started};
 ghost use Rattle.cross_thread_region.specs.Histories.{place_at, strong_place, weak_places};
 ghost use Rattle.cross_thread_region.specs.Histories.{strong_told, told};
+ghost use Rattle.cross_thread_region.specs.WeakReads.{weak_read_at};
 ghost use Rattle.cross_thread_region.specs.Pauses.{dying_of};
 ghost use Rattle.cross_thread_region.specs.Contents.{MayAdd, IsCallWithin, placed_entry};
 
-use crate::contents::{change, clear_emptied, fill_weak, no_places, null_slots, reply_of};
+use crate::contents::{change, clear_emptied, fill_weak, no_places, null_slots, reply_of, weak_read};
 use crate::slot::Slot;
 use gc_graph::{Entry, NoMemory, Op, Reply};
 use persistent_slots::Slots;
@@ -29,18 +30,20 @@ pub struct PlacedEntry {
     pub place: u32,
 }
 
-/// The history, what the 32 slots hold after it, and room for the places that a pause asks of.
+/// The history, what each entry read from a weak slot, what the 32 slots hold after it, and room for
+/// the places that a pause asks of.
 #[derive(Drop)]
 pub(crate) struct Chronicle {
     slots: Vec<Slot>,
     places: Vec<u32>,
     history: Vec<PlacedEntry>,
+    reads: Vec<Option<u32>>,
     asked: Slots,
 }
 
 impl Model for Chronicle {
     ghost use Rattle.std.specs.Prelude.{◌≡◌, length, vec_capacity};
-    ghost use Rattle.cross_thread_region.specs.Contents.{ChronicleView, IsKept};
+    ghost use Rattle.cross_thread_region.specs.Contents.{ChronicleView, IsKept, AreNoted};
 
     ghost Value = { ChronicleView };
 
@@ -48,7 +51,8 @@ impl Model for Chronicle {
 
     ghost invariant = { λ c.
         IsKept c.slots.items c.places.items c.history.items (vec_capacity c.history)
-        × (length c.asked ≡ 32) };
+        × (length c.asked ≡ 32)
+        × AreNoted c.reads.items c.history.items (vec_capacity c.reads) };
 }
 
 impl Chronicle {
@@ -60,6 +64,7 @@ impl Chronicle {
             slots: null_slots(alloc, SLOTS)?,
             places: no_places(alloc, SLOTS)?,
             history: Vec::new(alloc),
+            reads: Vec::new(alloc),
             asked: Slots::new(alloc, SLOTS)?,
         })
     }
@@ -77,6 +82,14 @@ impl Chronicle {
         ensures { slice_get (entries_of self.now.history) i ≡ Some result }
     {
         self.history[i as usize].entry
+    }
+
+    /// The place that entry i read from a weak slot.
+    pub fn read_place(&self, i: u64) -> Option<u32>
+        requires { i < length self.now.history }
+        ensures { result ≡ weak_read_at self.now.history i }
+    {
+        self.reads[i as usize]
     }
 
     /// The place of a slot that isn't null.
@@ -124,13 +137,15 @@ impl Chronicle {
         ensures legal { IsLegal (entries_of self.new.history) }
     {
         // The second one is a pause's, which may come next.
-        if self.history.reserve(2).is_err() {
+        if self.history.reserve(2).is_err() || self.reads.reserve(2).is_err() {
             return Reply::NoMemory;
         }
         let reply = reply_of(&self.slots, op);
+        let read = weak_read(&self.slots, &self.places, op);
         change(&mut self.slots, &mut self.places, op, place);
         let entry = Entry { thread, op, reply };
         self.history.push_reserved(PlacedEntry { entry, place });
+        self.reads.push_reserved(read);
         reply
     }
 
@@ -173,6 +188,7 @@ impl Chronicle {
             reply: Reply::Done,
         };
         self.history.push_reserved(PlacedEntry { entry, place: 0 });
+        self.reads.push_reserved(None);
         cleared
     }
 }

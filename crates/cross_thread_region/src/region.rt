@@ -5,6 +5,7 @@ ghost use Rattle.std.specs.Prelude.{◌≡◌, ◌+◌, ◌<◌, ◌≤◌, ◌^
 ghost use Rattle.std.specs.Prelude.{IfOk, IsSome, Contains, length, slice_get};
 ghost use Rattle.gc_graph.specs.declared.region.Op.TheVariants as O;
 ghost use Rattle.cross_thread_region.specs.Histories.{entries_of, place_told};
+ghost use Rattle.cross_thread_region.specs.WeakReads.{weak_read_at};
 ghost use Rattle.cross_thread_region.specs.Calls.{new_region, first_pass, history_of, IsReady, IsAnswered, StaysReady};
 ghost use Rattle.cross_thread_region.specs.Calls.{held_by_pause, split_off, joined_with};
 ghost use Rattle.cross_thread_region.specs.Contents.{IsCallWithin};
@@ -144,6 +145,18 @@ impl Region {
     {
         let _ = pass;
         self.inside().entry(i)
+    }
+
+    /// The place that entry i read from a weak slot, of the entries that the pass has seen: none where
+    /// it read a null or a strong slot, or nothing.
+    pub fn read_place(&self, pass: &mut Pass, i: u64) -> Option<u32>
+        requires ready { IsReady self.now pass.old }
+        requires seen { i < length pass.old.seen }
+        ensures place { result ≡ weak_read_at pass.old.seen i }
+        ensures pass { pass.new ≡ pass.old }
+    {
+        let _ = pass;
+        self.inside().read_place(i)
     }
 
     /// A pass with this number, which has seen what the first one has.

@@ -2,6 +2,7 @@ use Rattle.std.proofs.Common.{◌≡◌, ◌∙◌, true, ap, sym, subst}
 use Rattle.cross_thread_region.specs.Contents.{ChronicleView}
 use Rattle.cross_thread_region.specs.Histories.{weak_places, is_started}
 use Rattle.cross_thread_region.proofs.Appended.{pause_kept}
+use Rattle.cross_thread_region.proofs.Noted.{pause_noted}
 use Rattle.cross_thread_region.proofs.Asked.{left_len, asked_after, dying_after}
 use Rattle.cross_thread_region.specs.contracts.chronicle.Chronicle.end_pause.F-FnMut as calls
 use Rattle.cross_thread_region.proofs.chronicle.Chronicle.end_pause.Goals as goal
@@ -15,6 +16,8 @@ invariant_of-self g c = (
       (subst (λ (v : ChronicleView). is_started v.history ≡ true) (sym c.self.view_is) c.requires.started) c.clear_emptied-cleared.ensures.weak
       c.clear_emptied-cleared.ensures.slots c.push_reserved.ensures.items,
   left_len _ _ _ _ c.clear_dead.ensures.cleared ∙ c.self.invariant.1,
+  pause_noted c.self.inside.history.items _ _ c.args.thread c.clear_emptied-cleared.result c.self.inside.reads.items _ _ c.self.invariant.2
+      c.push_reserved-2.ensures.items c.push_reserved.ensures.items,
 )
 
 pub returns-clause-legal : goal.returns-clause-legal
