@@ -4,7 +4,8 @@
 //! crate with tests is proved a second time with them.
 //!
 //! The parts, each named for what it tries: `slots` (each call on a null, a strong and a weak slot),
-//! `pauses` (a start, what a pause visits and clears, its answer), `passes` (what passes see).
+//! `pauses` (a start, what a pause visits and clears, its answer), `passes` (what passes see), `reads`
+//! (what entries read from weak slots).
 //!
 //! What is proved: that the tests are safe and call only what they may.
 //!
@@ -15,5 +16,7 @@
 mod passes;
 #[cfg(test)]
 mod pauses;
+#[cfg(test)]
+mod reads;
 #[cfg(test)]
 mod slots;
