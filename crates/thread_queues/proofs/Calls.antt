@@ -1,0 +1,111 @@
+-- One order done by a call on the region.
+use Rattle.std.proofs.Common.{◌≡◌, ℕ, List, [], ◌∷◌, Option, Some, None, refl, sym, ap, ◌∙◌, subst, inl, inr}
+use Rattle.std.proofs.lemmas.List.Elements.{All-nil, All-cons}
+use Rattle.gc_graph.specs.declared.command.Order.{Order}
+use Rattle.gc_graph.specs.declared.command.Order.TheVariants as Q
+use Rattle.gc_graph.specs.declared.line.Line.TheVariants as L
+use Rattle.gc_graph.specs.declared.region.Entry.{Entry}
+use Rattle.gc_graph.specs.declared.region.Op.{Op}
+use Rattle.gc_graph.specs.declared.region.Op.TheVariants as O
+use Rattle.gc_graph.specs.declared.region.Reply.{Reply}
+use Rattle.gc_graph.specs.declared.region.Reply.TheVariants as P
+use Rattle.gc_graph.specs.State.{RegionSlot}
+use Rattle.gc_graph.specs.History.{IsLegal, node_of, region_slot, reply_of, reply_with}
+use Rattle.gc_graph.specs.Outcomes.{IsThreadOp}
+use Rattle.gc_graph.specs.RegionSteps as S
+use Rattle.gc_graph.specs.RegionSteps.{AnswersOrder, op_of}
+use Rattle.gc_graph.specs.RegionSteps.Answer.{Replied, Told}
+use Rattle.cross_thread_region.specs.declared.chronicle.PlacedEntry.{PlacedEntry}
+use Rattle.cross_thread_region.specs.Histories.{entries_of, slots_of}
+use Rattle.cross_thread_region.specs.Calls.{RegionView, PassView, IsAnswered, StaysReady, entry_of, history_of}
+use Rattle.thread_queues.specs.declared.totals.Totals.{Totals}
+use Rattle.thread_queues.specs.Going.{HasSeenAll}
+use Rattle.thread_queues.specs.Orders.{OrderDone, HasMade}
+use Rattle.thread_queues.proofs.Entries.{none_made}
+
+-- a call is answered by its entry, where memory isn't wanting
+abbrev pub MakesEntry : ℕ → Op → Type 0
+MakesEntry j op =
+    (region : List RegionSlot) → S.entry_of j (Some op) (Replied (reply_of region op)) ≡ record { thread = j; op = op; reply = reply_of region op } ∷ []
+
+read_entry : (j : ℕ) (op : Op) (read : Option ℕ)
+    → S.entry_of j (Some op) (Replied (reply_with read)) ≡ record { thread = j; op = op; reply = reply_with read } ∷ []
+read_entry j op None = refl
+read_entry j op (Some n) = refl
+
+pub copy_entry : (j x y : ℕ) → MakesEntry j (O.Copy x y)
+copy_entry j x y region = refl
+
+pub clear_entry : (j x : ℕ) → MakesEntry j (O.Clear x)
+clear_entry j x region = refl
+
+pub weaken_entry : (j x : ℕ) → MakesEntry j (O.Weaken x)
+weaken_entry j x region = refl
+
+pub upgrade_entry : (j x y : ℕ) → MakesEntry j (O.Upgrade x y)
+upgrade_entry j x y region = read_entry j (O.Upgrade x y) (node_of (region_slot region x))
+
+-- after a call its pass has still seen the whole history
+pub called_seen : (j : ℕ) (op : Op) (old : RegionView) (pass : PassView) (reply : Reply) (new : RegionView) (passed : PassView) → HasSeenAll old pass j
+    → IsAnswered old pass op 0 reply new passed → StaysReady old pass new passed → HasSeenAll new passed j
+called_seen j op old pass reply new passed s call stays = record {
+  ready = stays.ready;
+  slots = stays.slots ∙ s.slots;
+  number_is = stays.number ∙ s.number_is;
+  none_out = stays.out ∙ s.none_out;
+  seen_all = elim call [
+    | inl r ↦ ap (λ (p : PassView). p.seen) r.pass_stays ∙ s.seen_all ∙ sym (ap (λ (v : RegionView). history_of v) r.region)
+    | inr e ↦ ap (λ (p : PassView). p.seen) e.seen
+  ];
+}
+
+entered : (j : ℕ) (op : Op) (old : RegionView) (pass : PassView) → pass.number ≡ j → IsThreadOp op
+    → (after : List PlacedEntry) → after ≡ history_of old ++ entry_of pass (history_of old) op 0 ∷ [] → IsLegal (entries_of after)
+    → HasMade j (history_of old) (entry_of pass (history_of old) op 0 ∷ []) after
+entered j op old pass number thread_op after grown legal = record {
+  grown = grown;
+  legal = λ l. legal;
+  own =
+      All-cons (λ (entry : Entry). (entry.thread ≡ j) × IsThreadOp entry.op) (entry_of pass (history_of old) op 0).entry [] (number, thread_op)
+      (All-nil (λ (entry : Entry). (entry.thread ≡ j) × IsThreadOp entry.op));
+}
+
+-- an order was done by its call
+pub order_called : (j : ℕ) (order : Order) (totals : Totals) (op : Op) (old : RegionView) (pass : PassView) (reply : Reply) (new : RegionView) (passed : PassView)
+    → op_of order ≡ Some op → IsThreadOp op → MakesEntry j op → HasSeenAll old pass j → IsAnswered old pass op 0 reply new passed
+    → OrderDone j order totals (history_of old) (history_of new) (L.Reply j reply)
+order_called j order totals op old pass reply new passed is thread_op makes s call = elim call [
+  | inl r ↦ record {
+    made = [];
+    has_made = subst (HasMade j (history_of old) []) (sym (ap (λ (v : RegionView). history_of v) r.region)) (none_made j (history_of old));
+    answer = Replied reply;
+    answers_order = subst (λ o. AnswersOrder o (Replied reply)) (sym is) tt;
+    entries = sym (ap (λ o. S.entry_of j o (Replied reply)) is ∙ ap (λ a. S.entry_of j (Some op) (Replied a)) r.reply_is);
+    line_is = refl;
+    told = tt;
+  }
+  | inr e ↦ record {
+    made = entry_of pass (history_of old) op 0 ∷ [];
+    has_made = entered j op old pass s.number_is thread_op (history_of new) (ap (λ (v : RegionView). history_of v) e.region) e.legal;
+    answer = Replied reply;
+    answers_order = subst (λ o. AnswersOrder o (Replied reply)) (sym is) tt;
+    entries =
+        ap (λ n. record { thread = n; op = op; reply = reply_of (slots_of (history_of old)) op } ∷ []) s.number_is
+        ∙ sym (ap (λ o. S.entry_of j o (Replied reply)) is ∙ ap (λ a. S.entry_of j (Some op) (Replied a)) e.reply_is ∙ makes (slots_of (history_of old)));
+    line_is = refl;
+    told = tt;
+  }
+]
+
+-- an order for totals was done by telling them
+pub totals_told : (j : ℕ) (totals : Totals) (history : List PlacedEntry)
+    → OrderDone j Q.Totals totals history history (L.ReplyTotals j totals.ordinal totals.objects totals.used totals.finalised)
+totals_told j totals history = record {
+  made = [];
+  has_made = none_made j history;
+  answer = Told totals.ordinal totals.objects totals.used totals.finalised;
+  answers_order = tt;
+  entries = refl;
+  line_is = refl;
+  told = (refl, refl, refl, refl);
+}

@@ -1,0 +1,67 @@
+-- The orders of one thread, one after the other.
+use Rattle.std.proofs.Common.{◌≡◌, ℕ, List, [], ◌∷◌, ◌++◌, map, refl, sym, ap, ◌∙◌, subst}
+use Rattle.std.specs.List.{All}
+use Rattle.std.proofs.lemmas.List.{append-nil, append_assoc, map-append}
+use Rattle.std.proofs.lemmas.List.Elements.{All-push}
+use Rattle.gc_graph.specs.declared.command.Order.{Order}
+use Rattle.gc_graph.specs.declared.line.Line.{Line}
+use Rattle.gc_graph.specs.declared.region.Entry.{Entry}
+use Rattle.gc_graph.specs.RegionSteps.{Answer, AnswersOrder, HasDone, entry_of, op_of, reply_line}
+use Rattle.cross_thread_region.specs.declared.chronicle.PlacedEntry.{PlacedEntry}
+use Rattle.cross_thread_region.specs.Histories.{entries_of}
+use Rattle.thread_queues.specs.declared.totals.Totals.{Totals}
+use Rattle.thread_queues.specs.Orders.{OrderDone, ThreadDone, TellsTotals}
+use Rattle.thread_queues.proofs.Entries.{entries_append, none_made, made_on}
+
+done_next : (j : ℕ) (orders : List Order) (answers : List Answer) (entries : List Entry) (order : Order) (answer : Answer) → HasDone j orders answers entries
+    → AnswersOrder (op_of order) answer → HasDone j (orders ++ order ∷ []) (answers ++ answer ∷ []) (entries ++ entry_of j (op_of order) answer)
+done_next j [] [] entries order answer h a =
+    ([], a, ap (λ l. l ++ entry_of j (op_of order) answer) h ∙ sym (append-nil (entry_of j (op_of order) answer)), refl)
+done_next j (o ∷ orders) (b ∷ answers) entries order answer h a = (
+  h.0 ++ entry_of j (op_of order) answer,
+  h.1,
+  ap (λ l. l ++ entry_of j (op_of order) answer) h.2 ∙ append_assoc (entry_of j (op_of o) b) h.0 (entry_of j (op_of order) answer),
+  done_next j orders answers h.0 order answer h.3 a,
+)
+done_next j [] (b ∷ answers) entries order answer h a = absurd h
+done_next j (o ∷ orders) [] entries order answer h a = absurd h
+
+-- where there are no orders there are no answers
+pub none_answered : (j : ℕ) (answers : List Answer) (entries : List Entry) → HasDone j [] answers entries → answers ≡ []
+none_answered j [] entries h = refl
+none_answered j (answer ∷ answers) entries h = absurd h
+
+-- and no entries
+pub none_entered : (j : ℕ) (answers : List Answer) (entries : List Entry) → HasDone j [] answers entries → entries ≡ []
+none_entered j [] entries h = h
+none_entered j (answer ∷ answers) entries h = absurd h
+
+-- a thread has not begun
+pub thread_none : (j : ℕ) (totals : Totals) (history : List PlacedEntry) (replies : List Line) → ThreadDone j [] totals history history replies replies
+thread_none j totals history replies = record {
+  made = [];
+  has_made = none_made j history;
+  answers = [];
+  done = refl;
+  replies = sym (append-nil replies);
+  told = λ t. t;
+}
+
+-- a thread has done one more order
+pub thread_next : (j : ℕ) (orders : List Order) (order : Order) (totals : Totals) (a b c : List PlacedEntry) (old mid new : List Line) (line : Line)
+    → ThreadDone j orders totals a b old mid → OrderDone j order totals b c line → new ≡ mid ++ line ∷ []
+    → ThreadDone j (orders ++ order ∷ []) totals a c old new
+thread_next j orders order totals a b c old mid new line t o e = record {
+  made = t.made ++ o.made;
+  has_made = made_on j a b c t.made o.made t.has_made o.has_made;
+  answers = t.answers ++ o.answer ∷ [];
+  done =
+      subst (HasDone j (orders ++ order ∷ []) (t.answers ++ o.answer ∷ []))
+      (sym (entries_append t.made o.made ∙ ap (λ l. entries_of t.made ++ l) o.entries))
+      (done_next j orders t.answers (entries_of t.made) order o.answer t.done o.answers_order);
+  replies =
+      e ∙ ap (λ l. mid ++ l ∷ []) o.line_is ∙ ap (λ l. l ++ reply_line j o.answer ∷ []) t.replies
+      ∙ append_assoc old (map (reply_line j) t.answers) (reply_line j o.answer ∷ [])
+      ∙ ap (λ l. old ++ l) (sym (map-append (reply_line j) t.answers (o.answer ∷ [])));
+  told = λ all. subst (All (TellsTotals totals)) (sym e) (All-push (TellsTotals totals) mid line (t.told all) o.told);
+}

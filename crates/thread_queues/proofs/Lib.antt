@@ -1,0 +1,6 @@
+mod Threads
+mod Entries
+mod Calls
+mod Done
+mod Passes
+mod Through

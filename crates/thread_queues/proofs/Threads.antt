@@ -1,0 +1,80 @@
+-- The threads whose queues aren't empty, up to one of them.
+use Rattle.std.proofs.Common.{◌≡◌, ℕ, zero, suc, ◌+◌, ◌-◌, ◌<◌, Bool, true, false, List, [], ◌∷◌, ◌++◌, length, get_or, map, refl, sym, ap, ◌∙◌, inl, inr, arith, cond, ltb}
+use Rattle.std.specs.List.{filter, flat_map, range_with_len}
+use Rattle.std.proofs.lemmas.Bool.{cases_Bool, ltb-true, ltb-false, lt-ltb, le-ltb}
+use Rattle.std.proofs.lemmas.List.{append-nil, length-append}
+use Rattle.std.proofs.lemmas.List.Concat.{flat_map-append}
+use Rattle.std.proofs.lemmas.List.Elements.{filter-append}
+use Rattle.gc_graph.specs.declared.command.Order.{Order}
+use Rattle.gc_graph.specs.declared.line.Line.{Line}
+use Rattle.gc_graph.specs.Members.{Contains-head, Contains-cons, was_in, in_range}
+use Rattle.thread_queues.specs.Queues.{queue_in, threads_in}
+
+-- whether the queue of thread j isn't empty
+abbrev pub has_orders : List (List Order) → ℕ → Bool
+has_orders queues j = ltb 0 (length (queue_in queues j))
+
+-- of the first i threads those whose queues aren't empty
+abbrev pub threads_to : List (List Order) → ℕ → List ℕ
+threads_to queues i = filter (has_orders queues) (range_with_len 1 i)
+
+range_more : (a n : ℕ) → range_with_len a (n + 1) ≡ range_with_len a n ++ (a + n) ∷ []
+range_more a zero = let e : a ≡ a + 0 = omega arith in ap (λ x. x ∷ []) e
+range_more a (suc n) =
+    let last : a + 1 + n ≡ a + suc n = omega arith in
+    ap (λ xs. a ∷ xs) (range_more (a + 1) n ∙ ap (λ x. range_with_len (a + 1) n ++ x ∷ []) last)
+
+-- the next thread is one of them, or not
+pub threads_next : (queues : List (List Order)) (i : ℕ)
+    → threads_to queues (i + 1) ≡ threads_to queues i ++ filter (has_orders queues) ((i + 1) ∷ [])
+threads_next queues i =
+    let last : 1 + i ≡ i + 1 = omega arith in
+    ap (filter (has_orders queues)) (range_more 1 i ∙ ap (λ x. range_with_len 1 i ++ x ∷ []) last)
+    ∙ filter-append (has_orders queues) (range_with_len 1 i) ((i + 1) ∷ [])
+
+-- one more thread where the next queue isn't empty
+pub one_more : (queues : List (List Order)) (i : ℕ) → has_orders queues (i + 1) ≡ true → length (threads_to queues (i + 1)) ≡ length (threads_to queues i) + 1
+one_more queues i has =
+    ap length (threads_next queues i) ∙ length-append (threads_to queues i) (filter (has_orders queues) ((i + 1) ∷ []))
+    ∙ ap (λ b. length (threads_to queues i) + length (cond b ((i + 1) ∷ []) [])) has
+
+-- and none where it is
+pub none_more : (queues : List (List Order)) (i : ℕ) → has_orders queues (i + 1) ≡ false → length (threads_to queues (i + 1)) ≡ length (threads_to queues i)
+none_more queues i has =
+    let none : length (threads_to queues i) + 0 ≡ length (threads_to queues i) = omega arith in
+    ap length (threads_next queues i) ∙ length-append (threads_to queues i) (filter (has_orders queues) ((i + 1) ∷ []))
+    ∙ ap (λ b. length (threads_to queues i) + length (cond b ((i + 1) ∷ []) [])) has ∙ none
+
+-- the queue of the next thread
+pub next_queue : (queues : List (List Order)) (i : ℕ) → queue_in queues (i + 1) ≡ get_or queues i []
+next_queue queues i = let e : i + 1 - 1 ≡ i = omega arith in ap (λ k. get_or queues k []) e
+
+-- the queue of the next thread, of which its length is known, isn't empty
+pub next_has : (queues : List (List Order)) (i : ℕ) → 0 < length (get_or queues i []) → has_orders queues (i + 1) ≡ true
+next_has queues i l = ap (λ q. ltb 0 (length q)) (next_queue queues i) ∙ lt-ltb 0 _ l
+
+-- or is
+pub next_none : (queues : List (List Order)) (i : ℕ) → length (get_or queues i []) ≡ 0 → has_orders queues (i + 1) ≡ false
+next_none queues i l = ap (λ q. ltb 0 (length q)) (next_queue queues i) ∙ le-ltb 0 _ (omega (arith, l))
+
+-- ---- what is told of each of them
+
+flat_same : (f g : ℕ → List Line) (xs : List ℕ) → ((x : ℕ) → Contains xs x → f x ≡ g x) → flat_map f xs ≡ flat_map g xs
+flat_same f g [] same = refl
+flat_same f g (x ∷ xs) same =
+    ap (λ l. l ++ flat_map f xs) (same x (Contains-head x xs)) ∙ ap (λ l. g x ++ l) (flat_same f g xs (λ y c. same y (Contains-cons x xs y c)))
+
+flat_one : (p : ℕ → Bool) (g : ℕ → List Line) (j : ℕ) → (p j ≡ false → g j ≡ []) → flat_map g (filter p (j ∷ [])) ≡ g j
+flat_one p g j none = elim (cases_Bool (p j)) [
+  | inl is ↦ ap (λ b. flat_map g (cond b (j ∷ []) [])) is ∙ append-nil (g j)
+  | inr not ↦ ap (λ b. flat_map g (cond b (j ∷ []) [])) not ∙ sym (none not)
+]
+
+-- what is told of the next one comes last
+pub flat_next : (queues : List (List Order)) (f g : ℕ → List Line) (i : ℕ) → ((k : ℕ) → k < i + 1 → g k ≡ f k)
+    → (has_orders queues (i + 1) ≡ false → g (i + 1) ≡ []) → flat_map g (threads_to queues (i + 1)) ≡ flat_map f (threads_to queues i) ++ g (i + 1)
+flat_next queues f g i same none =
+    ap (flat_map g) (threads_next queues i) ∙ flat_map-append g (threads_to queues i) (filter (has_orders queues) ((i + 1) ∷ []))
+    ∙ ap (λ l. l ++ flat_map g (filter (has_orders queues) ((i + 1) ∷ [])))
+    (flat_same g f (threads_to queues i) (λ x c. same x (omega (arith, (in_range 1 i x (was_in (has_orders queues) (range_with_len 1 i) x c)).1))))
+    ∙ ap (λ l. flat_map f (threads_to queues i) ++ l) (flat_one (has_orders queues) g (i + 1) none)

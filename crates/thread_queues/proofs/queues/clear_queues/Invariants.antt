@@ -1,0 +1,9 @@
+use Rattle.std.proofs.Common.{◌≡◌, [], length, replicate, take}
+use Rattle.thread_queues.proofs.queues.clear_queues.Given as goal
+
+abbrev pub invariant-loop-i : goal.invariant-loop-i
+invariant-loop-i l = record {
+  cleared : take l.i l.queues.items ≡ replicate l.i [];
+  eight : length l.queues.items ≡ 8;
+  end : l.i-end ≡ 8;
+}
