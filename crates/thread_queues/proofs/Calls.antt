@@ -1,14 +1,14 @@
 -- One order done by a call on the region.
-use Rattle.std.proofs.Common.{◌≡◌, ℕ, List, [], ◌∷◌, Option, Some, None, refl, sym, ap, ◌∙◌, subst, inl, inr}
+use Rattle.std.proofs.Common.{◌≡◌, ℕ, List, [], ◌∷◌, ◌++◌, Option, Some, None, refl, sym, ap, ◌∙◌, subst, inl, inr}
 use Rattle.std.proofs.lemmas.List.Elements.{All-nil, All-cons}
 use Rattle.gc_graph.specs.declared.command.Order.{Order}
 use Rattle.gc_graph.specs.declared.command.Order.TheVariants as Q
+use Rattle.gc_graph.specs.declared.line.Line.{Line}
 use Rattle.gc_graph.specs.declared.line.Line.TheVariants as L
 use Rattle.gc_graph.specs.declared.region.Entry.{Entry}
 use Rattle.gc_graph.specs.declared.region.Op.{Op}
 use Rattle.gc_graph.specs.declared.region.Op.TheVariants as O
 use Rattle.gc_graph.specs.declared.region.Reply.{Reply}
-use Rattle.gc_graph.specs.declared.region.Reply.TheVariants as P
 use Rattle.gc_graph.specs.State.{RegionSlot}
 use Rattle.gc_graph.specs.History.{IsLegal, node_of, region_slot, reply_of, reply_with}
 use Rattle.gc_graph.specs.Outcomes.{IsThreadOp}
@@ -20,7 +20,7 @@ use Rattle.cross_thread_region.specs.Histories.{entries_of, slots_of}
 use Rattle.cross_thread_region.specs.Calls.{RegionView, PassView, IsAnswered, StaysReady, entry_of, history_of}
 use Rattle.thread_queues.specs.declared.totals.Totals.{Totals}
 use Rattle.thread_queues.specs.Going.{HasSeenAll}
-use Rattle.thread_queues.specs.Orders.{OrderDone, HasMade}
+use Rattle.thread_queues.specs.Orders.{OrderDone, HasMade, TellsTotals}
 use Rattle.thread_queues.proofs.Entries.{none_made}
 
 -- a call is answered by its entry, where memory isn't wanting
@@ -71,18 +71,18 @@ entered j op old pass number thread_op after grown legal = record {
 }
 
 -- an order was done by its call
-pub order_called : (j : ℕ) (order : Order) (totals : Totals) (op : Op) (old : RegionView) (pass : PassView) (reply : Reply) (new : RegionView) (passed : PassView)
-    → op_of order ≡ Some op → IsThreadOp op → MakesEntry j op → HasSeenAll old pass j → IsAnswered old pass op 0 reply new passed
-    → OrderDone j order totals (history_of old) (history_of new) (L.Reply j reply)
-order_called j order totals op old pass reply new passed is thread_op makes s call = elim call [
+pub order_called : (j : ℕ) (order : Order) (totals : Totals) (op : Op) (old : RegionView) (pass : PassView) (reply : Reply) (new : RegionView) (passed : PassView) (line : Line)
+    → op_of order ≡ Some op → IsThreadOp op → MakesEntry j op → HasSeenAll old pass j → IsAnswered old pass op 0 reply new passed → line ≡ L.Reply j reply
+    → OrderDone j order totals (history_of old) (history_of new) line
+order_called j order totals op old pass reply new passed text is thread_op makes s call tells = elim call [
   | inl r ↦ record {
     made = [];
     has_made = subst (HasMade j (history_of old) []) (sym (ap (λ (v : RegionView). history_of v) r.region)) (none_made j (history_of old));
     answer = Replied reply;
     answers_order = subst (λ o. AnswersOrder o (Replied reply)) (sym is) tt;
     entries = sym (ap (λ o. S.entry_of j o (Replied reply)) is ∙ ap (λ a. S.entry_of j (Some op) (Replied a)) r.reply_is);
-    line_is = refl;
-    told = tt;
+    line_is = tells;
+    told = subst (TellsTotals totals) (sym tells) tt;
   }
   | inr e ↦ record {
     made = entry_of pass (history_of old) op 0 ∷ [];
@@ -92,20 +92,20 @@ order_called j order totals op old pass reply new passed is thread_op makes s ca
     entries =
         ap (λ n. record { thread = n; op = op; reply = reply_of (slots_of (history_of old)) op } ∷ []) s.number_is
         ∙ sym (ap (λ o. S.entry_of j o (Replied reply)) is ∙ ap (λ a. S.entry_of j (Some op) (Replied a)) e.reply_is ∙ makes (slots_of (history_of old)));
-    line_is = refl;
-    told = tt;
+    line_is = tells;
+    told = subst (TellsTotals totals) (sym tells) tt;
   }
 ]
 
 -- an order for totals was done by telling them
-pub totals_told : (j : ℕ) (totals : Totals) (history : List PlacedEntry)
-    → OrderDone j Q.Totals totals history history (L.ReplyTotals j totals.ordinal totals.objects totals.used totals.finalised)
-totals_told j totals history = record {
+pub totals_told : (j : ℕ) (order : Order) (totals : Totals) (history : List PlacedEntry) → order ≡ Q.Totals
+    → OrderDone j order totals history history (L.ReplyTotals j totals.ordinal totals.objects totals.used totals.finalised)
+totals_told j order totals history is = let op : op_of order ≡ None = ap op_of is in record {
   made = [];
   has_made = none_made j history;
   answer = Told totals.ordinal totals.objects totals.used totals.finalised;
-  answers_order = tt;
-  entries = refl;
+  answers_order = subst (λ o. AnswersOrder o (Told totals.ordinal totals.objects totals.used totals.finalised)) (sym op) tt;
+  entries = sym (ap (λ o. S.entry_of j o (Told totals.ordinal totals.objects totals.used totals.finalised)) op);
   line_is = refl;
   told = (refl, refl, refl, refl);
 }

@@ -4,3 +4,4 @@ mod Calls
 mod Done
 mod Passes
 mod Through
+mod Left

@@ -1,9 +1,10 @@
 -- The pass of a thread, from its split to its join.
-use Rattle.std.proofs.Common.{◌≡◌, ℕ, ◌+◌, Bool, true, false, List, [], ◌∷◌, ◌++◌, length, refl, sym, ap, ◌∙◌, subst, inl, inr, arith, cond, ltb, eqb, not}
+use Rattle.std.proofs.Common.{◌≡◌, ℕ, List, [], ◌∷◌, ◌++◌, length, sym, ap, ◌∙◌, subst, inl, inr, arith, cond, ltb, eqb, not, Contains, IsSome}
 use Rattle.std.specs.List.{filter}
 use Rattle.std.proofs.lemmas.Bool.{cases_Bool, ltb-false, eq-eqb}
 use Rattle.std.proofs.lemmas.List.{append-nil, length-append, nil_from_length}
 use Rattle.std.proofs.Math.Seq.{take-append_seam}
+use Rattle.gc_graph.specs.Members.{Contains-head}
 use Rattle.cross_thread_region.specs.declared.chronicle.PlacedEntry.{PlacedEntry}
 use Rattle.cross_thread_region.specs.Calls.{RegionView, PassView, IsReady, Begins, split_off, joined_with, history_of, longer}
 use Rattle.thread_queues.specs.Going.{HasSeenAll}
@@ -27,6 +28,11 @@ still_ready old new pass split made s same grown free = record {
       subst (λ seen. Begins seen (history_of new)) (sym (same ∙ s.seen_all))
       (subst (Begins (history_of old)) (sym grown) (take-append_seam (history_of old) made));
 }
+
+-- the number of the pass that was split off is out
+pub out_again : (j : ℕ) (pass split own : PassView) → split ≡ record pass { out = j ∷ pass.out } → own.number ≡ j → Contains split.out own.number
+out_again j pass split own e n =
+    subst (λ numbers. Contains numbers own.number) (sym (ap (λ (p : PassView). p.out) e)) (subst (Contains (j ∷ pass.out)) (sym n) (Contains-head j pass.out))
 
 longer_is : (seen made : List PlacedEntry) → longer seen (seen ++ made) ≡ seen ++ made
 longer_is seen made = elim (cases_Bool (ltb (length seen) (length (seen ++ made)))) [

@@ -1,8 +1,9 @@
 -- The threads one after the other.
-use Rattle.std.proofs.Common.{◌≡◌, ◌≢◌, ◌⊎◌, ℕ, ◌+◌, ◌<◌, ◌≤◌, Bool, true, false, List, [], ◌∷◌, ◌++◌, length, map, refl, sym, ap, ◌∙◌, subst, inl, inr, arith, cond, eqb}
-use Rattle.std.specs.List.{All, Contains, flat_map, range_with_len}
+use Rattle.std.proofs.Common.{◌≡◌, ◌≢◌, ℕ, ◌+◌, ◌<◌, ◌≤◌, false, List, [], ◌++◌, length, get_or, drop, map, refl, sym, ap, ◌∙◌, subst, inl, inr, arith, cond, eqb}
+use Rattle.std.specs.List.{All, Contains, flat_map, range_with_len, sum_by}
 use Rattle.std.proofs.lemmas.Bool.{cases_Bool, cases_eq, ltb-false, eq-eqb, ne_eqb}
-use Rattle.std.proofs.lemmas.List.{append-nil, append_assoc, nil_from_length}
+use Rattle.std.proofs.lemmas.List.{append-nil, append_assoc, drop_more, nil_from_length}
+use Rattle.std.proofs.lemmas.List.Sums.{sum_by-cons}
 use Rattle.std.proofs.lemmas.List.Elements.{All-nil, All-weaker, All-contains}
 use Rattle.gc_graph.specs.declared.command.Order.{Order}
 use Rattle.gc_graph.specs.declared.line.Line.{Line}
@@ -38,6 +39,11 @@ pub record HaveGoneTo (queues : List (List Order)) (i : ℕ) (totals : Totals) (
   pub replies_are : replies ≡ flat_map (λ j. map (reply_line j) (answers j)) (threads_to queues i)
   pub told : All (TellsTotals totals) replies
 
+-- the room that is left for the replies of a thread and of those after it
+pub room_next : (queues : List (List Order)) (i : ℕ) → i < length queues
+    → sum_by length (drop i queues) ≡ length (get_or queues i []) + sum_by length (drop (i + 1) queues)
+room_next queues i l = ap (sum_by length) (drop_more queues i [] l) ∙ sum_by-cons length (get_or queues i []) (drop (i + 1) queues)
+
 -- no thread has begun
 pub gone_none : (queues : List (List Order)) (totals : Totals) (history : List PlacedEntry) (replies : List Line) → replies ≡ []
     → HaveGoneTo queues 0 totals history history replies
@@ -56,7 +62,7 @@ gone_none queues totals history replies e = record {
 module _ (queues : List (List Order)) (i : ℕ) (totals : Totals) (a b c : List PlacedEntry) (mid new : List Line) (inside : i < 8)
     (g : HaveGoneTo queues i totals a b mid) (t : ThreadDone (i + 1) (queue_in queues (i + 1)) totals b c mid new) where
   -- the answers to each thread, with the next one's
-  next_answers : ℕ → List Answer
+  abbrev next_answers : ℕ → List Answer
   next_answers k = cond (eqb k (i + 1)) t.answers (g.answers k)
 
   answers_here : next_answers (i + 1) ≡ t.answers
@@ -66,10 +72,10 @@ module _ (queues : List (List Order)) (i : ℕ) (totals : Totals) (a b c : List 
   answers_before k l = ap (λ d. cond d t.answers (g.answers k)) (ne_eqb k (i + 1) (λ e. omega (arith, l, e)))
 
   queue_none : has_orders queues (i + 1) ≡ false → queue_in queues (i + 1) ≡ []
-  queue_none no = nil_from_length (queue_in queues (i + 1)) (omega (arith, ltb-false 0 (length (queue_in queues (i + 1))) no))
+  queue_none empty = nil_from_length (queue_in queues (i + 1)) (omega (arith, ltb-false 0 (length (queue_in queues (i + 1))) empty))
 
   done_none : has_orders queues (i + 1) ≡ false → HasDone (i + 1) [] t.answers (entries_of t.made)
-  done_none no = subst (λ orders. HasDone (i + 1) orders t.answers (entries_of t.made)) (queue_none no) t.done
+  done_none empty = subst (λ orders. HasDone (i + 1) orders t.answers (entries_of t.made)) (queue_none empty) t.done
 
   next_others : All (IsOther queues) (entries_of t.made)
   next_others = elim (cases_Bool (has_orders queues (i + 1))) [
@@ -81,7 +87,7 @@ module _ (queues : List (List Order)) (i : ℕ) (totals : Totals) (a b c : List 
           own.1,
         ))
         (entries_of t.made) t.has_made.own
-    | inr no ↦ subst (All (IsOther queues)) (sym (none_entered (i + 1) t.answers (entries_of t.made) (done_none no))) (All-nil (IsOther queues))
+    | inr empty ↦ subst (All (IsOther queues)) (sym (none_entered (i + 1) t.answers (entries_of t.made) (done_none empty))) (All-nil (IsOther queues))
   ]
 
   next_done : (j : ℕ) → 1 ≤ j → j ≤ i + 1 → HasDone j (queue_in queues j) (next_answers j) (entries_by j (entries_of (g.made ++ t.made)))
@@ -109,7 +115,7 @@ module _ (queues : List (List Order)) (i : ℕ) (totals : Totals) (a b c : List 
       ∙ ap (λ l. flat_map (λ j. map (reply_line j) (g.answers j)) (threads_to queues i) ++ map (reply_line (i + 1)) l) (sym answers_here)
       ∙ sym (flat_next queues (λ j. map (reply_line j) (g.answers j)) (λ j. map (reply_line j) (next_answers j)) i
       (λ k l. ap (map (reply_line k)) (answers_before k l))
-      (λ no. ap (map (reply_line (i + 1))) (answers_here ∙ none_answered (i + 1) t.answers (entries_of t.made) (done_none no))))
+      (λ empty. ap (map (reply_line (i + 1))) (answers_here ∙ none_answered (i + 1) t.answers (entries_of t.made) (done_none empty))))
 
   -- the next thread has done the orders of its queue too
   pub gone_next : HaveGoneTo queues (i + 1) totals a c new

@@ -31,10 +31,14 @@ pub(crate) fn go_all(
     ensures room { vec_capacity replies.new ≡ vec_capacity replies.old }
 {
     for i in 0..queues.len() {
-        let orders = queues[i].orders();
-        if !orders.is_empty() {
-            go(i as u32 + 1, orders, region, pass, totals, replies);
-        }
+        go(
+            i as u32 + 1,
+            queues[i].orders(),
+            region,
+            pass,
+            totals,
+            replies,
+        );
     }
 }
 
