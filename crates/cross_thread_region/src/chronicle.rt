@@ -13,7 +13,9 @@ ghost use Rattle.cross_thread_region.specs.WeakReads.{weak_read_at};
 ghost use Rattle.cross_thread_region.specs.Pauses.{dying_of};
 ghost use Rattle.cross_thread_region.specs.Contents.{MayAdd, IsCallWithin, placed_entry};
 
-use crate::contents::{change, clear_emptied, fill_weak, no_places, null_slots, reply_of, weak_read};
+use crate::contents::{
+    change, clear_emptied, fill_weak, no_places, null_slots, reply_of, weak_read,
+};
 use crate::slot::Slot;
 use gc_graph::{Entry, NoMemory, Op, Reply};
 use persistent_slots::Slots;
