@@ -94,6 +94,13 @@ impl Chronicle {
         self.reads[i as usize]
     }
 
+    /// The history is legal.
+    pub fn is_legal(&self)
+        ensures { IsLegal (entries_of self.now.history) }
+    {
+        let _ = &self.history;
+    }
+
     /// The place of a slot that isn't null.
     pub fn place(&self, slot: u32) -> u32
         requires { slot < 32 }

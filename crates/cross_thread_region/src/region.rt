@@ -9,6 +9,7 @@ ghost use Rattle.cross_thread_region.specs.WeakReads.{weak_read_at};
 ghost use Rattle.cross_thread_region.specs.Calls.{new_region, first_pass, history_of, IsReady, IsAnswered, StaysReady};
 ghost use Rattle.cross_thread_region.specs.Calls.{held_by_pause, split_off, joined_with};
 ghost use Rattle.cross_thread_region.specs.Contents.{IsCallWithin};
+ghost use Rattle.gc_graph.specs.History.{IsLegal};
 
 use crate::chronicle::Chronicle;
 use crate::pass::Pass;
@@ -157,6 +158,14 @@ impl Region {
     {
         let _ = pass;
         self.inside().read_place(i)
+    }
+
+    /// The history is legal. Whoever calls this has the law.
+    pub fn is_legal(&self)
+        requires { IsSome self.now.inside }
+        ensures { IsLegal (entries_of (history_of self.now)) }
+    {
+        self.inside().is_legal();
     }
 
     /// A pass with this number, which has seen what the first one has.
