@@ -1,9 +1,7 @@
 -- Two settings.
-use Rattle.std.proofs.Common.{◌≡◌, ℕ, Bool, true, false, ◌||◌, Option, Some, None, refl, arith}
-use Rattle.std.specs.Prelude.{is_some}
+use Rattle.std.proofs.Common.{◌≡◌, false, ◌||◌, arith}
 use Rattle.command_line.specs.declared.asked.Asked.{Asked}
 use Rattle.command_line.specs.declared.settings.Setting.{Setting}
-use Rattle.command_line.specs.declared.settings.Setting.TheVariants.{Pages, PageWords, Markers, Summary, Seed, Count}
 use Rattle.command_line.specs.Options.{same_option, with_setting}
 use Rattle.command_line.specs.Asking.{is_asked}
 

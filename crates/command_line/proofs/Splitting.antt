@@ -1,9 +1,8 @@
 -- Words with `=`.
-use Rattle.std.proofs.Common.{suc, true≢false, rules, ◌-◌, ◌<◌, ◌≤◌, ◌≡◌, ℕ, ◌+◌, Bool, true, false, not, ◌||◌, List, [], ◌∷◌, ◌++◌, Option, Some, None, length, take, drop, cond, ltb, refl, sym, ap, ap₂, ◌∙◌, arith}
+use Rattle.std.proofs.Common.{suc, true≢false, ◌-◌, ◌≡◌, ℕ, ◌+◌, Bool, true, false, List, [], ◌∷◌, Some, None, length, take, drop, cond, ltb, refl, sym, ap, ◌∙◌, arith}
 use Rattle.std.specs.Prelude.{unwrap_or, is_some}
-use Rattle.std.specs.List.{list_any, position, position_or_len, before_first, after_first}
+use Rattle.std.specs.List.{list_any, position, position_or_len}
 use Rattle.std.proofs.lemmas.List.{take_all, length-drop}
-use Rattle.command_line.specs.declared.settings.Setting.{Setting}
 use Rattle.command_line.specs.Settings.{is_equals, setting_alone, setting_named}
 
 less_more : (a b : ℕ) → ltb a b ≡ ltb (1 + a) (suc b)
@@ -28,8 +27,8 @@ module _ {X : Type 0} (p : X → Bool) where
 
   pub found : (xs : List X) (i : ℕ) → position p xs ≡ Some i → (list_any p xs ≡ true) × (position_or_len p xs ≡ i)
   found xs i e =
-    let at = found_as (ltb (position_or_len p xs) (length xs)) (position_or_len p xs) i e in
-    (any_before_end xs ∙ at.0, at.1)
+      let at = found_as (ltb (position_or_len p xs) (length xs)) (position_or_len p xs) i e in
+      (any_before_end xs ∙ at.0, at.1)
 
 -- a word with `=` is a name and a value
 pub alone_with_equals : (word : List ℕ) (i : ℕ) → position is_equals word ≡ Some i
@@ -41,4 +40,3 @@ alone_with_equals word i e =
 -- the rest of a word is as long as it is
 pub rest_of : (word : List ℕ) (n : ℕ) → take (length word - n) (drop n word) ≡ drop n word
 rest_of word n = take_all (length word - n) (drop n word) (omega (arith, length-drop n word))
-

@@ -1,12 +1,14 @@
 -- What the words of the command line ask for.
-use Rattle.std.specs.Prelude.{ℕ, ◌&&◌, not, Bool, true, false, List, [], ◌∷◌, fold, Option, Some, None, option_map, option_and_then, unwrap_or, if◌then◌else◌}
+use Rattle.std.specs.Prelude.{ℕ, ◌≤◌, IfSome, ◌&&◌, not, Bool, true, false, List, [], ◌∷◌, fold, Option, Some, None, option_map, option_and_then, unwrap_or, if◌then◌else◌}
 use Rattle.std.specs.List.{list_any}
+use Rattle.gc_graph.specs.State.{Shape}
+use Rattle.gc_graph.specs.Shapes.{IsShape}
 use Rattle.command_line.specs.declared.asked.Asked.{Asked}
 use Rattle.command_line.specs.declared.options.Generated.{Generated}
 use Rattle.command_line.specs.declared.options.Options.{Options}
 use Rattle.command_line.specs.declared.settings.Setting.{Setting}
 use Rattle.command_line.specs.declared.settings.Setting.TheVariants.{Pages, PageWords, Markers, Summary, Seed, Count}
-use Rattle.command_line.specs.Settings.{settings_of}
+use Rattle.command_line.specs.Settings.{most_markers, settings_of}
 
 -- two settings are of the same option
 abbrev pub same_option : Setting → Setting → Bool
@@ -72,3 +74,13 @@ options_set settings =
 -- the options that words ask for
 abbrev pub options_asked : List (List ℕ) → Option Options
 options_asked words = option_and_then options_set (settings_of words)
+
+-- the shape of the heap that the options ask for
+abbrev pub shape_asked : Options → Shape
+shape_asked options = record { pages = options.pages; page_words = options.page_words }
+
+-- a heap can have the shape, and each number is one that its option may have
+pub record AreInRanges (options : Options) : Type 0 where
+  pub shape : IsShape (shape_asked options)
+  pub markers : options.markers ≤ most_markers
+  pub generated : IfSome options.generated (λ script. (1 ≤ script.count) × (script.count ≤ 50000))

@@ -1,8 +1,8 @@
 // What settings ask of each option.
 
-ghost use Rattle.std.specs.Prelude.{◌≡◌};
-ghost use Rattle.command_line.specs.Options.{nothing_asked, with_setting, options_from};
-ghost use Rattle.command_line.specs.Asking.{is_asked};
+ghost use Rattle.std.specs.Prelude.{◌≡◌, IfSome};
+ghost use Rattle.command_line.specs.Options.{nothing_asked, with_setting, options_from, AreInRanges};
+ghost use Rattle.command_line.specs.Asking.{is_asked, IsInRange, IsAskedInRange};
 
 use super::options::{Generated, Options};
 use super::settings::Setting;
@@ -29,7 +29,8 @@ const NOTHING: Asked = Asked {
 
 impl Asked {
     pub(crate) fn nothing() -> Asked
-        ensures { result ≡ nothing_asked }
+        ensures asked { result ≡ nothing_asked }
+        ensures range { IsAskedInRange result }
     {
         NOTHING
     }
@@ -49,7 +50,10 @@ impl Asked {
     }
 
     pub(crate) fn take(&mut self, setting: Setting)
-        ensures { self.new ≡ with_setting self.old setting }
+        requires setting { IsInRange setting }
+        requires earlier { IsAskedInRange self.old }
+        ensures asked { self.new ≡ with_setting self.old setting }
+        ensures range { IsAskedInRange self.new }
     {
         match setting {
             Setting::Pages(pages) => self.pages = Some(pages),
@@ -63,7 +67,9 @@ impl Asked {
 
     /// The defaults with what was asked for.
     pub(crate) fn options(&self) -> Option<Options>
-        ensures { result ≡ options_from self.now }
+        requires { IsAskedInRange self.now }
+        ensures options { result ≡ options_from self.now }
+        ensures ranges { IfSome result AreInRanges }
     {
         let generated = match (self.seed, self.count) {
             (None, None) => None,

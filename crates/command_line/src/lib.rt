@@ -11,7 +11,7 @@
 //! but for what the words set. The order of settings means nothing, and `--name=value` says what
 //! `--name value` says.
 //!
-//! What is only tested or not said: the names themselves, by a table of words.
+//! What is only tested or not said: that the definitions are those of the formats, by a table of words.
 #![tactic(auto)]
 
 mod asked;
@@ -22,3 +22,6 @@ mod settings;
 
 pub use laws::{equals_sign_joins, order_means_nothing};
 pub use options::{Generated, Options, options_of};
+
+#[cfg(test)]
+mod tests;

@@ -1,7 +1,7 @@
 // The options of the program.
 
-ghost use Rattle.std.specs.Prelude.{◌≡◌, map, string_bytes};
-ghost use Rattle.command_line.specs.Options.{options_asked};
+ghost use Rattle.std.specs.Prelude.{◌≡◌, map, string_bytes, IfSome};
+ghost use Rattle.command_line.specs.Options.{options_asked, AreInRanges};
 
 use super::asked::Asked;
 use super::settings::first_setting;
@@ -33,7 +33,8 @@ pub struct Generated {
 
 /// The options that the words ask for.
 pub fn options_of(words: &[String]) -> Option<Options>
-    ensures { result ≡ options_asked (map string_bytes words.now) }
+    ensures asked { result ≡ options_asked (map string_bytes words.now) }
+    ensures ranges { IfSome result AreInRanges }
 {
     let mut asked = Asked::nothing();
     let mut rest = words;
