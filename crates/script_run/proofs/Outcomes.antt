@@ -5,7 +5,8 @@ use Rattle.text_devices.specs.Devices.{IsReadFrom}
 use Rattle.heap_engine.specs.View.{View}
 use Rattle.script_run.specs.declared.status.Status.{Status}
 use Rattle.script_run.specs.declared.status.Status.TheVariants as S
-use Rattle.script_run.specs.Options.{shape_asked}
+use Rattle.command_line.specs.declared.options.Options.{Options}
+use Rattle.command_line.specs.Options.{options_asked, shape_asked}
 use Rattle.script_run.specs.Headline.{RunsBytes, RunsScript, IsDone, IsStopped, IsUnbuiltInput}
 use Rattle.script_run.proofs.Inputs.{read_whole_of}
 use Rattle.gc_graph.specs.declared.action.ActionKind.{ActionKind}
@@ -30,27 +31,27 @@ pub record Answers (kinds : List ActionKind) (shape : Shape) (lo ln w z : Option
   pub read : IsReadFrom lo ln 16777216 bytes
   pub answer : RunsBytes kinds shape bytes w z kept status
 
-done_of : (kinds : List ActionKind) (words : List (List ℕ)) (shape : Shape) → shape_asked words ≡ Some shape → (lo ln w z : Option (List ℕ)) (kept : Option View) (bytes : List ℕ) → IsReadFrom lo ln 16777216 bytes
-    → RunsBytes kinds shape bytes w z kept S.Done → MatchOption kept ⊥ (λ heap. IsDone kinds words lo ln w z heap)
-done_of kinds words shape asked lo ln w z None bytes read answer = answer.2
-done_of kinds words shape asked lo ln w z (Some heap) bytes read answer = record {
-  shape = shape;
+done_of : (kinds : List ActionKind) (words : List (List ℕ)) (options : Options) → options_asked words ≡ Some options → (lo ln w z : Option (List ℕ)) (kept : Option View) (bytes : List ℕ) → IsReadFrom lo ln 16777216 bytes
+    → RunsBytes kinds (shape_asked options) bytes w z kept S.Done → MatchOption kept ⊥ (λ heap. IsDone kinds words lo ln w z heap)
+done_of kinds words options asked lo ln w z None bytes read answer = answer.2
+done_of kinds words options asked lo ln w z (Some heap) bytes read answer = record {
+  options = options;
   asked = asked;
   script = answer.0;
   input = record { bytes = bytes; whole = read_whole_of lo ln bytes read answer.1.whole.limits; grammar = answer.1 };
   run = answer.2;
 }
 
-pub answers_done : (kinds : List ActionKind) (words : List (List ℕ)) (shape : Shape) → shape_asked words ≡ Some shape → (lo ln w z : Option (List ℕ)) (kept : Option View) (status : Status) → Answers kinds shape lo ln w z kept status → status ≡ S.Done
+pub answers_done : (kinds : List ActionKind) (words : List (List ℕ)) (options : Options) → options_asked words ≡ Some options → (lo ln w z : Option (List ℕ)) (kept : Option View) (status : Status) → Answers kinds (shape_asked options) lo ln w z kept status → status ≡ S.Done
     → MatchOption kept ⊥ (λ heap. IsDone kinds words lo ln w z heap)
-answers_done kinds words shape asked lo ln w z kept status a is = done_of kinds words shape asked lo ln w z kept a.bytes a.read (subst (RunsBytes kinds shape a.bytes w z kept) is a.answer)
+answers_done kinds words options asked lo ln w z kept status a is = done_of kinds words options asked lo ln w z kept a.bytes a.read (subst (RunsBytes kinds (shape_asked options) a.bytes w z kept) is a.answer)
 
-pub answers_stopped : (kinds : List ActionKind) (words : List (List ℕ)) (shape : Shape) → shape_asked words ≡ Some shape → (lo ln w z : Option (List ℕ)) (kept : Option View) (status : Status) → Answers kinds shape lo ln w z kept status → status ≡ S.WriteFault
+pub answers_stopped : (kinds : List ActionKind) (words : List (List ℕ)) (options : Options) → options_asked words ≡ Some options → (lo ln w z : Option (List ℕ)) (kept : Option View) (status : Status) → Answers kinds (shape_asked options) lo ln w z kept status → status ≡ S.WriteFault
     → IsStopped kinds words lo ln w z
-answers_stopped kinds words shape asked lo ln w z kept status a is =
-    let answer = subst (RunsBytes kinds shape a.bytes w z kept) is a.answer in
+answers_stopped kinds words options asked lo ln w z kept status a is =
+    let answer = subst (RunsBytes kinds (shape_asked options) a.bytes w z kept) is a.answer in
     record {
-      shape = shape;
+      options = options;
       asked = asked;
       script = answer.0;
       input = record { bytes = a.bytes; whole = read_whole_of lo ln a.bytes a.read answer.1.whole.limits; grammar = answer.1 };

@@ -13,7 +13,8 @@ use Rattle.heap_script.specs.declared.script.ScriptFault.{ScriptFault}
 use Rattle.heap_engine.specs.View.{View}
 use Rattle.script_run.specs.declared.status.Status.{Status}
 use Rattle.script_run.specs.declared.status.Status.TheVariants as S
-use Rattle.script_run.specs.Options.{shape_asked}
+use Rattle.command_line.specs.declared.options.Options.{Options}
+use Rattle.command_line.specs.Options.{options_asked, shape_asked}
 use Rattle.script_run.specs.Setting.{setup_of}
 use Rattle.script_run.specs.Printed.{IsEnding, printed_lines}
 
@@ -59,21 +60,21 @@ pub record IsScriptInput (callbacks : ℕ) (old new : Option (List ℕ)) (script
   pub whole : IsReadWhole old new bytes
   pub grammar : IsBuiltScript callbacks bytes script
 
--- the words asked for a shape and the input was a script; it was run, and this heap and the report came of it
+-- the words asked for options and the input was a script; it was run, and this heap and the report came of it
 pub record IsDone (kinds : List ActionKind) (words : List (List ℕ)) (left_before left_after before after : Option (List ℕ)) (heap : View) : Type 0 where
-  pub shape : Shape
-  pub asked : shape_asked words ≡ Some shape
+  pub options : Options
+  pub asked : options_asked words ≡ Some options
   pub script : Script
   pub input : IsScriptInput (length kinds) left_before left_after script
-  pub run : IsWholeRun kinds shape script before after heap
+  pub run : IsWholeRun kinds (shape_asked options) script before after heap
 
--- the words asked for a shape and the input was a script, and of its report only a beginning was written
+-- the words asked for options and the input was a script, and of its report only a beginning was written
 pub record IsStopped (kinds : List ActionKind) (words : List (List ℕ)) (left_before left_after before after : Option (List ℕ)) : Type 0 where
-  pub shape : Shape
-  pub asked : shape_asked words ≡ Some shape
+  pub options : Options
+  pub asked : options_asked words ≡ Some options
   pub script : Script
   pub input : IsScriptInput (length kinds) left_before left_after script
-  pub run : IsCutShort kinds shape script before after
+  pub run : IsCutShort kinds (shape_asked options) script before after
 
 -- the input, read up to the first byte past the limit, has too many bytes or lines
 pub record IsTooLongInput (old new : Option (List ℕ)) : Type 0 where

@@ -8,10 +8,6 @@ use Rattle.gc_graph.specs.ScriptLaw.{IsInRanges}
 use Rattle.built_forms.specs.Built.{AreBuiltCommands}
 use Rattle.heap_engine.specs.declared.heap.Config.{Config}
 
--- 64 pages of 16,384 words
-abbrev pub default_shape : Shape
-default_shape = record { pages = 64; page_words = 16384 }
-
 -- the shape of a heap that was configured so
 abbrev pub shape_of : Config → Shape
 shape_of config = record { pages = config.pages; page_words = config.page_words }

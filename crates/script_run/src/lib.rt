@@ -5,8 +5,8 @@
 //!
 //! The parts: `run` in `one_run` (from the bytes of a script to its report), `report` (each command's
 //! outcome is printed before the next command, and the text goes out in large pieces), `callbacks`
-//! (the five of the program), `options` (what the words ask for), `adapters` (devices over the
-//! standard streams), `status` (how a run ends, and what is told of it).
+//! (the five of the program), `built_options` (the words' options, where all is built), `adapters` (devices
+//! over the standard streams), `status` (how a run ends, and what is told of it).
 //!
 //! What is proved, at `run`: after Done the input was read to its end, it is a script within the
 //! limits, and what was written is the report of a lawful run of it, whose state and history the
@@ -22,9 +22,9 @@
 #![tactic(auto)]
 
 mod adapters;
+mod built_options;
 mod callbacks;
 mod one_run;
-mod options;
 mod report;
 mod status;
 

@@ -8,14 +8,14 @@ ghost use Rattle.text_devices.specs.Causes.{Rose};
 ghost use Rattle.text_devices.specs.Devices.{Grew};
 ghost use Rattle.gc_graph.specs.Shapes.{IsShape};
 ghost use Rattle.type_table.specs.Faults.{AreGoodTypes};
-ghost use Rattle.script_run.specs.Options.{shape_asked};
+ghost use Rattle.script_run.specs.BuiltOptions.{built_asked};
 ghost use Rattle.gc_graph.specs.State.{empty_state};
 ghost use Rattle.report_text.specs.Pieces.{no_pieces};
 ghost use Rattle.script_run.specs.Setting.{shape_of, IsRunnable, script_on, setup_of};
 ghost use Rattle.script_run.specs.Headline.{RunsScript, RunsBytes, status_of_fault, IsUntouched};
 ghost use Rattle.script_run.specs.Headline.{IsDone, IsStopped, IsTooLongInput, IsUnbuiltInput};
 
-use super::options::config_asked;
+use super::built_options::built_options;
 use super::report::print_report;
 use super::status::Status;
 use callback_table::CallbackTable;
@@ -55,7 +55,7 @@ pub fn run<'a, S: Source, K: Sink>(
     ensures script { (line reason : ℕ) → result ≡ Status.Script line reason →
         (reason ≡ 9) × IsUnbuiltInput (length (kinds_of callbacks.now))
         (S.left source.old) (S.left source.new) line }
-    ensures usage { (result ≡ Status.Usage) ↔ (shape_asked (map string_bytes words.now) ≡ None) }
+    ensures usage { (result ≡ Status.Usage) ↔ (built_asked (map string_bytes words.now) ≡ None) }
     ensures source_untouched { result ≡ Status.Usage → IsUntouched
         (S.left source.old) (S.left source.new) (S.faults source.old) (S.faults source.new) }
     ensures sink_untouched { result ≡ Status.Usage → IsUntouched
@@ -74,9 +74,13 @@ pub fn run<'a, S: Source, K: Sink>(
         Grew (K.written sink.old) (K.written sink.new) [] }
     ensures kept { ¬ (result ≡ Status.Done) → kept.new ≡ None }
 {
-    let config = match config_asked(words) {
-        Some(config) => config,
+    let options = match built_options(words) {
+        Some(options) => options,
         None => return Status::Usage,
+    };
+    let config = Config {
+        pages: options.pages,
+        page_words: options.page_words,
     };
     match read_whole(alloc, source, MOST_BYTES) {
         Ok(bytes) => run_bytes(alloc, config, &bytes, sink, callbacks, kept),

@@ -1,18 +1,17 @@
 use Rattle.std.proofs.Common.{◌≡◌, map, string_bytes, Some, option_map, ap, sym, ◌∙◌, refl, rules}
-use Rattle.script_run.specs.Options.{shape_asked}
-use Rattle.script_run.specs.Setting.{shape_of}
+use Rattle.command_line.specs.Options.{options_asked}
 use Rattle.script_run.proofs.Outcomes.{answers_done, answers_stopped, answers_script, of_kept}
 use Rattle.script_run.proofs.one_run.run.Goals as goal
 
 pub returns-in-Ok-clause-done : goal.returns-in-Ok-clause-done
 returns-in-Ok-clause-done g c =
-    let asked : shape_asked (map string_bytes c.args.words.now) ≡ Some (shape_of c.in-Some.config) = search rules in
+    let asked : options_asked (map string_bytes c.args.words.now) ≡ Some c.in-Some.options = search rules in
     λ is. of_kept (λ heap. heap.core) _ c.run_bytes.new.kept (answers_done _ _ _ asked _ _ _ _ _ _
     (record { bytes = c.deref.result.now; read = rw c.deref.ensures.value c.in-Ok.ensures.bytes; answer = c.run_bytes.ensures.answer }) is)
 
 pub returns-in-Ok-clause-stopped : goal.returns-in-Ok-clause-stopped
 returns-in-Ok-clause-stopped g c =
-    let asked : shape_asked (map string_bytes c.args.words.now) ≡ Some (shape_of c.in-Some.config) = search rules in
+    let asked : options_asked (map string_bytes c.args.words.now) ≡ Some c.in-Some.options = search rules in
     answers_stopped _ _ _ asked _ _ _ _ (option_map (λ heap. heap.core) c.run_bytes.new.kept) _ (record { bytes = c.deref.result.now; read = rw c.deref.ensures.value c.in-Ok.ensures.bytes; answer = c.run_bytes.ensures.answer })
 
 pub returns-in-Ok-clause-script : goal.returns-in-Ok-clause-script
@@ -21,7 +20,7 @@ returns-in-Ok-clause-script g c =
     (record { bytes = c.deref.result.now; read = rw c.deref.ensures.value c.in-Ok.ensures.bytes; answer = c.run_bytes.ensures.answer })
 
 pub returns-in-None-clause-usage : goal.returns-in-None-clause-usage
-returns-in-None-clause-usage g c = ((λ is. sym c.config_asked.ensures.shape ∙ ap (option_map shape_of) c.in-None.is), λ none. refl)
+returns-in-None-clause-usage g c = ((λ is. sym c.built_options.ensures.built ∙ c.in-None.is), λ none. refl)
 
 pub returns-in-None-clause-source_untouched : goal.returns-in-None-clause-source_untouched
 returns-in-None-clause-source_untouched g c = λ is. record { told = refl; faults = refl }
