@@ -24,7 +24,7 @@ pub struct Options {
     pub generated: Option<Generated>,
 }
 
-/// A script that is generated from a seed, of so many commands.
+/// A script that is generated from a seed, in so many turns.
 #[derive(Clone, Copy, Debug, PartialEq, Eq, Drop)]
 pub struct Generated {
     pub seed: u64,

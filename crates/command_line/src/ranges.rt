@@ -34,7 +34,7 @@ pub(crate) fn markers_of(word: &[u8]) -> Option<u32>
     number_within(0, MOST_MARKERS, word)
 }
 
-/// The number of commands that a word is.
+/// The number of turns that a word is.
 pub(crate) fn count_of(word: &[u8]) -> Option<u32>
     ensures number { result ≡ within 1 50000 word.now }
     ensures range { IfSome result (λ n. (1 ≤ n) × (n ≤ 50000)) }
