@@ -4,7 +4,6 @@ use Rattle.gc_graph.specs.declared.action.ActionKind.{ActionKind}
 use Rattle.gc_graph.specs.declared.phase.Phase.TheVariants.{Idle}
 use Rattle.gc_graph.specs.State.{ObjectType, Shape, empty_state}
 use Rattle.gc_graph.specs.ValidLaw.{EmptyIsValid}
-use Rattle.cross_thread_region.specs.declared.chronicle.PlacedEntry.{PlacedEntry}
 use Rattle.cross_thread_region.specs.Histories.{slots_of}
 use Rattle.cross_thread_region.specs.PlacedNodes.{named_is_target}
 use Rattle.page_words.specs.Seat.{empty_view}
@@ -17,6 +16,8 @@ use Rattle.heap_handles.specs.Handles.{HandlesView}
 use Rattle.heap_cycle.specs.Views.{CycleView}
 use Rattle.heap_cycle.specs.Parts.{setup_of, IsReady}
 use Rattle.heap_cycle.specs.Region.{HasRegion}
+use Rattle.heap_cycle.specs.Shared.{HasShared, no_shared}
+use Rattle.heap_cycle.specs.declared.shared.Shared.{Shared}
 
 null_places : (n : ℕ) → replicate n None ≡ places_of [] (replicate n None)
 null_places zero = refl
@@ -63,10 +64,27 @@ ready_empty s shape types callbacks law called is =
     } in
     subst IsReady (sym is) ready
 
--- a region without entries is an empty heap's
-pub region_empty : (s : Parts) (shape : Shape) (types : List ObjectType) (callbacks : List ActionKind) (history : List PlacedEntry) → s ≡ empty_parts shape types callbacks → history ≡ []
-    → HasRegion s history
-region_empty s shape types callbacks history is none =
-    let new : HasRegion (empty_parts shape types callbacks) [] =
+-- a region without entries is an empty heap's, with threads that have no orders
+pub shared_empty : (s : Parts) (shape : Shape) (types : List ObjectType) (callbacks : List ActionKind) (h : Shared) → s ≡ empty_parts shape types callbacks → h ≡ no_shared
+    → HasShared s h
+shared_empty s shape types callbacks h is none =
+    let region : HasRegion (empty_parts shape types callbacks) [] =
     record { slots = refl; placed = λ x n named. absurd (omega (arith, (named_is_target (slots_of []) x n named).1)); started = refl } in
-    subst (λ (h : List PlacedEntry). HasRegion s h) (sym none) (subst (λ (p : Parts). HasRegion p []) (sym is) new)
+    let new : HasShared (empty_parts shape types callbacks) no_shared = record {
+      region = region;
+      ahead = record { others = λ k d low. absurd (omega arith); legal = tt };
+      threads = record {
+        queues = refl;
+        running = refl;
+        awaiting = refl;
+        unprinted = refl;
+        printed = omega arith;
+        taken = omega arith;
+        owners = λ still k d low. absurd (omega arith);
+        calm = λ still. refl;
+        answered = λ awaits. cc;
+        few = omega arith;
+        few_replies = omega arith;
+      };
+    } in
+    subst (λ (x : Shared). HasShared s x) (sym none) (subst (λ (p : Parts). HasShared p no_shared) (sym is) new)

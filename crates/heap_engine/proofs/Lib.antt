@@ -12,3 +12,4 @@ pub mod FieldAnswers
 pub mod PairAnswers
 pub mod NewSteps
 pub mod HeapEmpty
+mod ThreadsKept

@@ -10,21 +10,23 @@ use Rattle.gc_graph.specs.CycleSteps.{WantsMemory}
 use Rattle.gc_graph.specs.Outcomes.{answered, IsRefused}
 use Rattle.gc_graph.specs.RegionSteps.{IsExported, StepExport}
 use Rattle.gc_graph.specs.State.{State}
-use Rattle.cross_thread_region.specs.declared.chronicle.PlacedEntry.{PlacedEntry}
+use Rattle.cross_thread_region.specs.Histories.{entries_of}
 use Rattle.heap_cycle.specs.declared.parts.Parts.{Parts}
 use Rattle.heap_cycle.specs.Parts.{state_of}
-use Rattle.heap_cycle.specs.Region.{HasTaken, made}
+use Rattle.heap_cycle.specs.Region.{made}
+use Rattle.heap_cycle.specs.Shared.{HasTaken, ahead_of, taken_of}
+use Rattle.heap_cycle.specs.declared.shared.Shared.{Shared}
 
 -- the slot's node was exported
-pub step_exported : (s new : Parts) (before after : List PlacedEntry) (p x n : ℕ) → get_or s.handles.slots p None ≡ Some n → HasTaken (O.Export x n) s before new after
-    → StepExport (state_of s) p x (made before after) (L.Fine ∷ []) (answered (state_of new))
+pub step_exported : (s new : Parts) (before after : Shared) (p x n : ℕ) → get_or s.handles.slots p None ≡ Some n → HasTaken (O.Export x n) s before new after
+    → StepExport (state_of s) p x (made (taken_of before) (taken_of after)) (L.Fine ∷ []) (answered (state_of new))
 step_exported s new before after p x n slot has =
     let st : State = state_of s in
-    let piece : List Entry = made before after in
+    let piece : List Entry = made (taken_of before) (taken_of after) in
     let done : IsExported st n x piece (L.Fine ∷ []) (answered (state_of new)) =
     record {
-      before = [];
-      takes = record { others = λ k d low. absurd (omega (arith, low)); piece_is = has.piece; legal = has.legal };
+      before = entries_of (ahead_of before);
+      takes = has.takes;
       lines_are = refl;
       after = ap answered has.state;
     } in

@@ -22,10 +22,9 @@ use Rattle.gc_graph.specs.ObjectSteps.{AtField, IsChanged, IsRead, IsNumber, Ste
 use Rattle.gc_graph.specs.HandleSteps.{IsPushed, IsPeeked}
 use Rattle.gc_graph.specs.CycleSteps.{StepGcStart, StepGcStep, StepGcFinish, StepGcNow, StepSweepTo, WantsMemory, IsBegun, IsPause, IsCollection, is_marking, is_sweeping, is_stack_refused}
 use Rattle.gc_graph.specs.History.{node_of, region_slot}
-use Rattle.gc_graph.specs.RegionSteps.{StepExport, StepImport, line_of_content}
+use Rattle.gc_graph.specs.RegionSteps.{StepExport, StepImport, line_of_content, threads_with_orders}
 use Rattle.gc_graph.specs.Pause.{condemn, live_count, dead_count, run_order, prefinalise_lines}
 use Rattle.gc_graph.specs.Step.{Step}
-use Rattle.built_forms.specs.Built.{is_built}
 use Rattle.heap_cycle.specs.Printed.{Printed, ran_lines, lines_with, TellsNode}
 
 -- ---- what a command doesn't answer
@@ -209,7 +208,7 @@ imports old x p piece lines new (inr made) = tells_content (node_of (region_slot
 
 -- ---- every command
 
-step_has : (setup : Setup) (old : State) (command : Command) (piece : List Entry) (lines : List Line) (new : State) → is_built command ≡ true → Step setup old command piece lines new
+step_has : (setup : Setup) (old : State) (command : Command) (piece : List Entry) (lines : List Line) (new : State) → (command ≡ C.ThreadsJoin → ⊥) → Step setup old command piece lines new
     → HasLine (IsNoAnswer command) lines
 step_has setup old (C.New p t e) piece lines new built is = makes setup old p t e lines new is.1
 step_has setup old (C.Set p f q) piece lines new built is = sets old p f (content_of (slot_at old q)) lines new is.1
@@ -247,9 +246,10 @@ step_has setup old (C.GcStep n) piece lines new built is = steps old n lines new
 step_has setup old (C.GcFinish want) piece lines new built is = finishes setup want old piece lines new is
 step_has setup old (C.Export p x) piece lines new built is = exports old p x piece lines new is
 step_has setup old (C.Import x p) piece lines new built is = imports old x p piece lines new is
-step_has setup old (C.At j order) piece lines new built is = cc
-step_has setup old C.ThreadsGo piece lines new built is = cc
-step_has setup old C.ThreadsJoin piece lines new built is = cc
+step_has setup old (C.At j order) piece lines new built is = elim is.1 [ inl memory ↦ alone L.Memory lines memory.0 (λ node. node) | inr done ↦ alone L.Queued lines done.0 (λ node. node) ]
+step_has setup old C.ThreadsGo piece lines new built is =
+    elim is.1 [ inl memory ↦ alone L.Memory lines memory.0 (λ node. node) | inr done ↦ alone (L.Going (length (threads_with_orders old))) lines done.0 (λ node. node) ]
+step_has setup old C.ThreadsJoin piece lines new built is = absurd (built refl)
 
 -- ---- which line that is
 
@@ -302,7 +302,7 @@ answers _ = inr (inr (λ line other. other))
 
 module _
     (setup : Setup) (old : State) (command : Command) (piece : List Entry) (o : Printed) (ran : List (ℕ × ℕ)) (last : Line) (new : State)
-    (built : is_built command ≡ true) (is : Step setup old command piece (lines_with o ran last) new) where
+    (built : command ≡ C.ThreadsJoin → ⊥) (is : Step setup old command piece (lines_with o ran last) new) where
   last_answers : IsNoAnswer command last → ⊥
   last_answers =
       (let has : HasLine (IsNoAnswer command) (lines_with o ran last) = step_has setup old command piece (lines_with o ran last) new built is in

@@ -27,12 +27,14 @@
 mod commands;
 mod creating;
 mod fields;
+mod going;
 mod heap;
 mod heap_core;
 mod pairs;
 mod shared;
 mod slots;
 mod stacking;
+mod threads;
 mod totals;
 
 pub use heap::{Config, Heap};
