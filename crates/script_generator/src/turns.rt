@@ -51,7 +51,8 @@ fn add_end(commands: &mut Vec<Command>, i: u32) -> Result<(), NoMemory>
 
 /// Appends a collection whose sweep is ended.
 pub(crate) fn add_collection(commands: &mut Vec<Command>) -> Result<(), NoMemory>
-    ensures { IfOk result (λ _. commands.new.items ≡ commands.old.items ++ spec.collection_commands) }
+    ensures { IfOk result (λ _.
+        commands.new.items ≡ commands.old.items ++ spec.collection_commands) }
 {
     let collection = [
         Command::GcNow {

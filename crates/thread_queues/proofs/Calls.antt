@@ -17,7 +17,7 @@ use Rattle.gc_graph.specs.RegionSteps.{AnswersOrder, op_of}
 use Rattle.gc_graph.specs.RegionSteps.Answer.{Replied, Told}
 use Rattle.cross_thread_region.specs.declared.chronicle.PlacedEntry.{PlacedEntry}
 use Rattle.cross_thread_region.specs.Histories.{entries_of, slots_of}
-use Rattle.cross_thread_region.specs.Calls.{RegionView, PassView, IsAnswered, StaysReady, entry_of, history_of}
+use Rattle.cross_thread_region.specs.Calls.{RegionView, PassView, IsAnswered, entry_of, history_of}
 use Rattle.thread_queues.specs.declared.totals.Totals.{Totals}
 use Rattle.thread_queues.specs.Going.{HasSeenAll}
 use Rattle.thread_queues.specs.Orders.{OrderDone, HasMade, TellsTotals}
@@ -44,20 +44,6 @@ weaken_entry j x region = refl
 
 pub upgrade_entry : (j x y : ℕ) → MakesEntry j (O.Upgrade x y)
 upgrade_entry j x y region = read_entry j (O.Upgrade x y) (node_of (region_slot region x))
-
--- after a call its pass has still seen the whole history
-pub called_seen : (j : ℕ) (op : Op) (old : RegionView) (pass : PassView) (reply : Reply) (new : RegionView) (passed : PassView) → HasSeenAll old pass j
-    → IsAnswered old pass op 0 reply new passed → StaysReady old pass new passed → HasSeenAll new passed j
-called_seen j op old pass reply new passed s call stays = record {
-  ready = stays.ready;
-  slots = stays.slots ∙ s.slots;
-  number_is = stays.number ∙ s.number_is;
-  none_out = stays.out ∙ s.none_out;
-  seen_all = elim call [
-    | inl r ↦ ap (λ (p : PassView). p.seen) r.pass_stays ∙ s.seen_all ∙ sym (ap (λ (v : RegionView). history_of v) r.region)
-    | inr e ↦ ap (λ (p : PassView). p.seen) e.seen
-  ];
-}
 
 entered : (j : ℕ) (op : Op) (old : RegionView) (pass : PassView) → pass.number ≡ j → IsThreadOp op
     → (after : List PlacedEntry) → after ≡ history_of old ++ entry_of pass (history_of old) op 0 ∷ [] → IsLegal (entries_of after)
