@@ -1,10 +1,10 @@
 -- The threads whose queues aren't empty, up to one of them.
-use Rattle.std.proofs.Common.{◌≡◌, ℕ, zero, suc, ◌+◌, ◌-◌, ◌<◌, Bool, true, false, List, [], ◌∷◌, ◌++◌, length, get_or, refl, sym, ap, ◌∙◌, inl, inr, arith, cond, ltb, Contains}
+use Rattle.std.proofs.Common.{◌≡◌, ℕ, ◌+◌, ◌-◌, ◌<◌, Bool, true, false, List, [], ◌∷◌, ◌++◌, length, get_or, refl, sym, ap, ◌∙◌, inl, inr, arith, cond, ltb, Contains}
 use Rattle.std.specs.List.{filter, flat_map, range_with_len}
 use Rattle.std.proofs.lemmas.Bool.{cases_Bool, lt-ltb, le-ltb}
-use Rattle.std.proofs.lemmas.List.{append-nil, length-append}
+use Rattle.std.proofs.lemmas.List.{append-nil, length-append, map-id}
+use Rattle.std.proofs.lemmas.List.FromFn.{filter_of_map_range_with_len_more}
 use Rattle.std.proofs.lemmas.List.Concat.{flat_map-append}
-use Rattle.std.proofs.lemmas.List.Elements.{filter-append}
 use Rattle.gc_graph.specs.declared.command.Order.{Order}
 use Rattle.gc_graph.specs.declared.line.Line.{Line}
 use Rattle.gc_graph.specs.Members.{Contains-head, Contains-cons, was_in, in_range}
@@ -18,21 +18,14 @@ has_orders queues j = ltb 0 (length (queue_in queues j))
 abbrev pub threads_to : List (List Order) → ℕ → List ℕ
 threads_to queues i = filter (has_orders queues) (range_with_len 1 i)
 
-range_more : (a n : ℕ) → range_with_len a (n + 1) ≡ range_with_len a n ++ (a + n) ∷ []
-range_more a zero = let e : a ≡ a + 0 = omega arith in ap (λ x. x ∷ []) e
-range_more a (suc n) =
-    let longer : suc n + 1 ≡ suc (n + 1) = omega arith in
-    let last : a + 1 + n ≡ a + suc n = omega arith in
-    ap (λ m. range_with_len a m) longer
-    ∙ ap (λ xs. a ∷ xs) (range_more (a + 1) n ∙ ap (λ x. range_with_len (a + 1) n ++ x ∷ []) last)
-
 -- the next thread is one of them, or not
 pub threads_next : (queues : List (List Order)) (i : ℕ)
     → threads_to queues (i + 1) ≡ threads_to queues i ++ filter (has_orders queues) ((i + 1) ∷ [])
 threads_next queues i =
     let last : 1 + i ≡ i + 1 = omega arith in
-    ap (filter (has_orders queues)) (range_more 1 i ∙ ap (λ x. range_with_len 1 i ++ x ∷ []) last)
-    ∙ filter-append (has_orders queues) (range_with_len 1 i) ((i + 1) ∷ [])
+    ap (filter (has_orders queues)) (sym (map-id (range_with_len 1 (i + 1))))
+    ∙ filter_of_map_range_with_len_more (has_orders queues) (λ (j : ℕ). j) 1 i (i + 1) last
+    ∙ ap (λ xs. filter (has_orders queues) xs ++ filter (has_orders queues) ((i + 1) ∷ [])) (map-id (range_with_len 1 i))
 
 -- one more thread where the next queue isn't empty
 pub one_more : (queues : List (List Order)) (i : ℕ) → has_orders queues (i + 1) ≡ true → length (threads_to queues (i + 1)) ≡ length (threads_to queues i) + 1
