@@ -10,3 +10,13 @@ mod PauseSteps
 mod StartSteps
 mod TakenSteps
 pub mod OutcomeLines
+mod Prefixes
+mod OthersTaken
+mod LookedAgain
+mod Orders
+mod TakenReady
+mod SweptShared
+mod CycleTakes
+mod OwnCalls
+mod ToldEntries
+mod ThreadSteps

@@ -13,7 +13,10 @@ use Rattle.gc_graph.specs.Reach.{Reach}
 use Rattle.gc_graph.specs.Shapes.{IsShape}
 use Rattle.gc_graph.specs.State.{Setup, State, Node, graph_of, roots_of}
 use Rattle.gc_graph.specs.CycleSteps.{IsStart, IsBegun, StepGcStart, WantsMemory, is_marking}
-use Rattle.gc_graph.specs.Outcomes.{answered, finalise_lines, owner_entry, IsRefused}
+use Rattle.gc_graph.specs.History.{IsLegalFrom, reply_of}
+use Rattle.gc_graph.specs.May.{marking}
+use Rattle.gc_graph.specs.Outcomes.{answered, finalise_lines, owner_entry, took, AreOthers, IsRefused}
+use Rattle.gc_graph.specs.Replays.{legal-append}
 use Rattle.gc_graph.specs.Sweep.{SweepsInPhase, SweepsToEnd}
 use Rattle.gc_graph.specs.Valid.{IsValid}
 use Rattle.gc_graph.specs.ValidLaw.{StepKeepsValid}
@@ -25,6 +28,7 @@ use Rattle.heap_cycle.specs.Changes.{begun_from}
 use Rattle.heap_cycle.specs.Cycles.{started_state}
 use Rattle.heap_cycle.specs.Parts.{setup_of, state_of, IsReady}
 use Rattle.heap_cycle.specs.Ties.{tied_nodes}
+use Rattle.heap_cycle.specs.Took.{took_append, took_is}
 use Rattle.heap_cycle.specs.Views.{CycleView, IsSweepOf}
 use Rattle.heap_cycle.proofs.SweepSteps.{uncounted}
 
@@ -38,17 +42,17 @@ pub starts : (setup : Setup) (s : State) → IsStart setup s (owner_entry s O.St
 starts setup s = record { before = []; others = λ k d low. absurd (omega arith); piece_is = refl; legal = (refl, tt, tt); after = refl }
 
 -- where marking doesn't go on, gc start ends the open sweep and starts
-pub step_started : (setup : Setup) (s t new : State) (numbers : List ℕ) (piece : List Entry) (lines : List Line) → is_marking s.phase ≡ false
-    → SweepsToEnd setup.shape s numbers t → piece ≡ owner_entry t O.Start ∷ [] → lines ≡ finalise_lines numbers ++ L.Started ∷ [] → new ≡ answered (started_state t)
+pub step_started : (setup : Setup) (s t started new : State) (numbers : List ℕ) (piece : List Entry) (lines : List Line) → is_marking s.phase ≡ false
+    → SweepsToEnd setup.shape s numbers t → IsStart setup t piece started → lines ≡ finalise_lines numbers ++ L.Started ∷ [] → new ≡ answered started
     → StepGcStart setup s piece lines new
-step_started setup s t new numbers piece lines calm ended taken printed after =
+step_started setup s t started new numbers piece lines calm ended start printed after =
     on_false (is_marking s.phase) ((piece ≡ []) × IsRefused R.Phase s lines new) (WantsMemory s piece lines new ⊎ IsBegun setup s piece lines new) calm
     (inr (record {
       numbers = numbers;
       swept = t;
       ended = ended;
-      started = started_state t;
-      start = subst (λ taken_piece. IsStart setup t taken_piece (started_state t)) (sym taken) (starts setup t);
+      started = started;
+      start = start;
       lines_are = printed;
       after = after;
     }))
@@ -61,7 +65,8 @@ valid_started : (setup : Setup) (s : State) → StepKeepsValid → IsShape setup
 valid_started setup s law shape valid idle =
     uncounted setup (started_state s)
     (law setup s (answered (started_state s)) C.GcStart (owner_entry s O.Start ∷ []) (L.Started ∷ []) (omega (arith, shape.some)) tt valid
-    (step_started setup s s (answered (started_state s)) [] (owner_entry s O.Start ∷ []) (L.Started ∷ []) (ap is_marking idle) (ends_at_once setup s idle) refl refl refl))
+    (step_started setup s s (started_state s) (answered (started_state s)) [] (owner_entry s O.Start ∷ []) (L.Started ∷ []) (ap is_marking idle) (ends_at_once setup s idle)
+    (starts setup s) refl refl))
 
 -- from idle parts to those after marking has begun
 pub record Begins (s : Parts) (new : ObjectsView) (after : CycleView) : Type 0 where
@@ -108,3 +113,20 @@ module _ (s : Parts) (new : ObjectsView) (after : CycleView) (is : Begins s new 
             (omega (arith, is.ready.tied.made, ordinal, ap length is.nodes));
         most = omega (arith, is.ready.most, ordinal);
       }
+
+-- ---- the start after what threads have done
+
+-- they have made their entries before the start entry
+pub starts_after : (setup : Setup) (swept mid new : State) (es piece : List Entry) → AreOthers swept es → IsLegalFrom swept.region false es
+    → mid ≡ took swept es → new ≡ started_state mid → piece ≡ es ++ owner_entry mid O.Start ∷ [] → IsStart setup swept piece new
+starts_after setup swept mid new es piece others legal taken started is =
+    let own : owner_entry mid O.Start ∷ [] ≡ owner_entry (took swept es) O.Start ∷ [] = ap (λ (t : State). owner_entry t O.Start ∷ []) taken in
+    let whole : piece ≡ es ++ owner_entry (took swept es) O.Start ∷ [] = is ∙ ap (λ l. es ++ l) own in
+    record {
+      before = es;
+      others = others;
+      piece_is = whole;
+      legal = subst (IsLegalFrom swept.region false) (sym whole) (legal-append swept.region false es (owner_entry (took swept es) O.Start ∷ []) legal
+          (ap (λ r. reply_of r O.Start) (ap (λ (t : State). t.region) (took_is swept es)), tt, tt));
+      after = started ∙ ap started_state taken ∙ ap marking (sym (took_append swept es (owner_entry (took swept es) O.Start ∷ [])) ∙ ap (took swept) (sym whole));
+    }

@@ -1,27 +1,30 @@
 -- A call of the owner on the region: its entry is made and taken, and the parts stay tied.
-use Rattle.std.proofs.Common.{◌≡◌, ℕ, Bool, false, List, [], ◌∷◌, ◌++◌, length, Option, Some, None, refl, sym, ap, ◌∙◌, subst, inl, inr, arith, eqb}
+use Rattle.std.proofs.Common.{◌≡◌, ℕ, ◌≤◌, All, Bool, false, List, [], ◌∷◌, ◌++◌, drop, length, take, Option, Some, None, refl, sym, ap, ◌∙◌, subst, inl, inr, arith, eqb}
+use Rattle.std.proofs.Math.Seq.{take-length}
 use Rattle.std.specs.Prelude.{IfSome, option_map}
 use Rattle.std.proofs.lemmas.Bool.{cases_Bool, true≢false, or_cases, eqb-true}
-use Rattle.std.proofs.lemmas.List.{length-map}
-use Rattle.std.proofs.lemmas.List.Elements.{All-contains}
+use Rattle.std.proofs.lemmas.List.{drop-append-le, drop_at, length-map, length-take-le, map-append}
+use Rattle.std.proofs.lemmas.List.Elements.{All-cons, All-contains, All-nil}
 use Rattle.gc_graph.specs.declared.phase.Phase.{Phase}
 use Rattle.gc_graph.specs.declared.phase.Phase.TheVariants.{Idle, Marking, Sweeping}
 use Rattle.gc_graph.specs.declared.region.Op.{Op}
 use Rattle.gc_graph.specs.declared.region.Op.TheVariants as O
 use Rattle.gc_graph.specs.CycleSteps.{is_marking}
 use Rattle.gc_graph.specs.Graph.{Object, IsIn, has}
-use Rattle.gc_graph.specs.History.{node_of, read_by, region_slot, started_after, weak_target, IsLegalFrom, MayPause}
+use Rattle.gc_graph.specs.History.{node_of, read_by, region_slot, replayed, started_after, started_through, weak_target, IsLegalFrom, MayPause}
 use Rattle.gc_graph.specs.May.{members, may_with_read}
+use Rattle.gc_graph.specs.declared.region.Entry.{Entry}
 use Rattle.gc_graph.specs.Members.{holds_from}
 use Rattle.gc_graph.specs.NodeNumbers.{there_below}
 use Rattle.gc_graph.specs.Outcomes.{may_with_entry, owner_entry, took}
+use Rattle.gc_graph.specs.Replays.{legal-append}
 use Rattle.gc_graph.specs.Reach.{Reach, AreNodes, IsLeastClosed, ReachIsLeast}
 use Rattle.gc_graph.specs.State.{Node, RegionSlot, State, IsLive, graph_of, slot_targets, stack_targets, strong_region_targets}
 use Rattle.gc_graph.specs.State.RegionSlot.{Vacant, StrongTo, WeakTo}
 use Rattle.gc_graph.specs.Valid.{IsMay, region_targets}
 use Rattle.cross_thread_region.specs.declared.chronicle.PlacedEntry.{PlacedEntry}
-use Rattle.cross_thread_region.specs.Calls.{with_own}
-use Rattle.cross_thread_region.specs.Histories.{slots_of, place_at, target_of}
+use Rattle.cross_thread_region.specs.Calls.{entry_of, first_pass, with_own}
+use Rattle.cross_thread_region.specs.Histories.{entries_of, slots_of, place_at, target_of}
 use Rattle.cross_thread_region.specs.PlacedNodes.{named_is_target, strong_is_target}
 use Rattle.page_words.specs.Seat.{SeatView}
 use Rattle.sweeper.specs.Sweeping.{cursor_at}
@@ -31,17 +34,33 @@ use Rattle.nodes_in_words.specs.NodePlaces.{live_is_there}
 use Rattle.nodes_in_words.specs.Nodes.{place_of}
 use Rattle.atomic_pause.specs.MembersOf.{member_among, among_member}
 use Rattle.heap_objects.specs.Marks.{HasMarking, HasMarks, IsMayOf}
-use Rattle.heap_objects.specs.Objects.{ObjectsView, IsLiveAt}
+use Rattle.heap_objects.specs.Objects.{ObjectsView, IsLiveAt, told_of}
 use Rattle.heap_cycle.specs.declared.parts.Parts.{Parts}
 use Rattle.heap_cycle.specs.Changes.{taken_own}
 use Rattle.heap_cycle.specs.KeptRoots.{may_of, marking_of}
-use Rattle.heap_cycle.specs.Parts.{setup_of, state_of, IsReady}
-use Rattle.heap_cycle.specs.Region.{HasRegion, HasTaken, made}
+use Rattle.heap_cycle.specs.Parts.{setup_of, state_of, AreTied, IsReady}
+use Rattle.heap_cycle.specs.Region.{HasRegion, made}
+use Rattle.heap_cycle.specs.Shared.{HasShared, HasTaken, IsOwners, TakesAhead, ahead_of, taken_of}
+use Rattle.heap_cycle.specs.declared.shared.Shared.{Shared}
+use Rattle.heap_cycle.specs.Took.{others_start_nothing, took_append, took_is}
 use Rattle.heap_cycle.specs.Ties.{tied_nodes, valid_nodes}
 use Rattle.heap_cycle.specs.Views.{CycleView}
-use Rattle.heap_cycle.proofs.SharedSteps.{own_made, own_begins, own_region}
+use Rattle.heap_cycle.proofs.SharedSteps.{own_made, own_region}
 
 -- ---- the parts after an entry
+
+-- the owner made its entry where nothing was ahead, and took it
+pub record HasOwn (op : Op) (old : Parts) (before : List PlacedEntry) (new : Parts) (after : List PlacedEntry) : Type 0 where
+  pub piece : made before after ≡ owner_entry (state_of old) op ∷ []
+  pub legal : IsLegalFrom (state_of old).region (is_marking old.cycle.phase) (made before after)
+  pub state : state_of new ≡ took (state_of old) (made before after)
+  pub shared : HasRegion new after
+  pub tied : AreTied new
+  pub nodes : new.objects.nodes ≡ old.objects.nodes
+  pub setup : setup_of new ≡ setup_of old
+  pub told : told_of new.objects ≡ told_of old.objects
+  pub handles : new.handles ≡ old.handles
+  pub ordinal : new.cycle.rest.ordinal ≡ old.cycle.rest.ordinal
 
 module _ (s : Parts) (history : List PlacedEntry) (op : Op) (place : ℕ) (seat : SeatView) where
   -- the entry was taken, and the objects were at most looked at
@@ -52,12 +71,11 @@ module _ (s : Parts) (history : List PlacedEntry) (op : Op) (place : ℕ) (seat 
       → started_after (is_marking s.cycle.phase) op ≡ is_marking s.cycle.phase
       → ((x n : ℕ) → op ≡ O.Export x n → place ≡ place_of s.objects.nodes n)
       → HasMarks s.cycle.phase (cursor_at s.objects.shape s.cycle.sweep) (may_with_entry (state_of s) (read_by s.cycle.rest.region op)) (record s.objects { seat = seat })
-      → HasTaken op s history taken_parts (with_own history op place)
+      → HasOwn op s history taken_parts (with_own history op place)
   has_taken ready shared may calm given marks =
       let piece : made history (with_own history op place) ≡ owner_entry (state_of s) op ∷ [] = own_made (state_of s) history op place shared.slots in
       record {
         piece = piece;
-        grown = own_begins history op place;
         legal = subst (IsLegalFrom s.cycle.rest.region (is_marking s.cycle.phase)) (sym piece) (refl, may, tt);
         state = ap (took (state_of s)) (sym piece);
         shared = own_region s taken_parts history op place shared refl (λ n. refl) given (sym calm);
@@ -216,10 +234,78 @@ targets_live s history x (Some t) ready has is = target_live s history x t ready
 -- the parts as a call left them
 pub taken_by : (s : Parts) (history after : List PlacedEntry) (op : Op) (place : ℕ) (o : ObjectsView) (cycle : CycleView) (rest : State)
     → o ≡ record s.objects { seat = o.seat } → cycle ≡ record s.cycle { rest = rest } → rest ≡ taken_own (state_of s) op → after ≡ with_own history op place
-    → HasTaken op s history (taken_parts s history op place o.seat) (with_own history op place)
-    → HasTaken op s history (record s { objects = o; cycle = cycle }) after
+    → HasOwn op s history (taken_parts s history op place o.seat) (with_own history op place)
+    → HasOwn op s history (record s { objects = o; cycle = cycle }) after
 taken_by s history after op place o cycle rest others changed own made_is is =
     let whole : cycle ≡ record s.cycle { rest = taken_own (state_of s) op } = changed ∙ ap (λ (r : State). record s.cycle { rest = r }) own in
-    subst (HasTaken op s history (record s { objects = o; cycle = cycle })) (sym made_is)
-    (subst (λ (k : CycleView). HasTaken op s history (record s { objects = o; cycle = k }) (with_own history op place)) (sym whole)
-    (subst (λ (v : ObjectsView). HasTaken op s history (record s { objects = v; cycle = record s.cycle { rest = taken_own (state_of s) op } }) (with_own history op place)) (sym others) is))
+    subst (HasOwn op s history (record s { objects = o; cycle = cycle })) (sym made_is)
+    (subst (λ (k : CycleView). HasOwn op s history (record s { objects = o; cycle = k }) (with_own history op place)) (sym whole)
+    (subst (λ (v : ObjectsView). HasOwn op s history (record s { objects = v; cycle = record s.cycle { rest = taken_own (state_of s) op } }) (with_own history op place)) (sym others) is))
+
+-- ---- after what was ahead
+
+-- the history with entries of the owner behind it, all of which were taken
+pub record IsTakenWith (own : List PlacedEntry) (before after : Shared) : Type 0 where
+  pub region : after.region ≡ before.region ++ own
+  pub all : after.taken ≡ length after.region
+  pub others : after ≡ record before { region = after.region; taken = after.taken }
+
+module _ (own : List PlacedEntry) (h after : Shared) (low : h.taken ≤ length h.region) (is : IsTakenWith own h after) where
+  -- what was taken then is all
+  pub taken_all : taken_of after ≡ h.region ++ own
+  taken_all = ap (λ n. take n after.region) is.all ∙ take-length after.region ∙ is.region
+
+  -- of which what was ahead and the owner's entries are new
+  pub piece_is : made (taken_of h) (taken_of after) ≡ entries_of (ahead_of h) ++ entries_of own
+  piece_is =
+      ap (made (taken_of h)) taken_all ∙ ap (λ n. entries_of (drop n (h.region ++ own))) (length-take-le h.taken h.region low)
+      ∙ ap entries_of (drop-append-le h.taken h.region own low) ∙ map-append (λ (p : PlacedEntry). p.entry) (ahead_of h) own
+
+  pub takes_ahead : All IsOwners (entries_of own) → length own ≤ 2 → TakesAhead h after
+  takes_ahead owners few = record { own = own; owners = owners; few = few; region = is.region; all = is.all; others = is.others }
+
+-- the owner's entry is legal behind those of threads
+pub legal_after : (s mid : Parts) (h : Shared) (piece : List Entry) → HasShared s h → state_of mid ≡ took (state_of s) (entries_of (ahead_of h))
+    → IsLegalFrom (state_of mid).region (is_marking mid.cycle.phase) piece
+    → IsLegalFrom (state_of s).region (is_marking s.cycle.phase) (entries_of (ahead_of h) ++ piece)
+legal_after s mid h piece shared state legal =
+    let es : List Entry = entries_of (ahead_of h) in
+    let region : (state_of mid).region ≡ replayed (state_of s).region es = ap (λ (t : State). t.region) (state ∙ took_is (state_of s) es) in
+    let phase : is_marking mid.cycle.phase ≡ started_through (is_marking s.cycle.phase) es =
+    ap (λ (t : State). is_marking t.phase) (state ∙ took_is (state_of s) es) ∙ sym (others_start_nothing (state_of s) (is_marking s.cycle.phase) es shared.ahead.others) in
+    legal-append (state_of s).region (is_marking s.cycle.phase) es piece shared.ahead.legal
+    (subst (λ started. IsLegalFrom (replayed (state_of s).region es) started piece) phase
+    (subst (λ r. IsLegalFrom r (is_marking mid.cycle.phase) piece) region legal))
+
+-- a call of the owner took what was ahead, and then its own entry
+pub taken_after : (op : Op) (place : ℕ) (s mid new : Parts) (h after : Shared) → HasShared s h → state_of mid ≡ took (state_of s) (entries_of (ahead_of h))
+    → mid.objects.nodes ≡ s.objects.nodes → setup_of mid ≡ setup_of s → told_of mid.objects ≡ told_of s.objects → mid.handles ≡ s.handles
+    → mid.cycle.rest.ordinal ≡ s.cycle.rest.ordinal → HasOwn op mid h.region new (with_own h.region op place)
+    → IsTakenWith (entry_of first_pass h.region op place ∷ []) h after → HasTaken op s h new after
+taken_after op place s mid new h after shared state nodes setup told handles ordinal own is =
+    let es : List Entry = entries_of (ahead_of h) in
+    let x : PlacedEntry = entry_of first_pass h.region op place in
+    let low : h.taken ≤ length h.region = shared.threads.taken in
+    let piece : made (taken_of h) (taken_of after) ≡ es ++ x.entry ∷ [] = piece_is (x ∷ []) h after low is in
+    let entry : x.entry ∷ [] ≡ owner_entry (took (state_of s) es) op ∷ [] =
+    sym (ap entries_of (drop_at h.region (x ∷ []) (length h.region) refl)) ∙ own.piece ∙ ap (λ (t : State). owner_entry t op ∷ []) state in
+    let whole : made (taken_of h) (taken_of after) ≡ es ++ owner_entry (took (state_of s) es) op ∷ [] = piece ∙ ap (λ l. es ++ l) entry in
+    let made_own : made h.region (with_own h.region op place) ≡ x.entry ∷ [] = ap entries_of (drop_at h.region (x ∷ []) (length h.region) refl) in
+    record {
+      takes = record {
+        others = shared.ahead.others;
+        piece_is = whole;
+        legal = subst (IsLegalFrom (state_of s).region (is_marking s.cycle.phase)) (sym piece)
+            (legal_after s mid h (x.entry ∷ []) shared state (subst (IsLegalFrom (state_of mid).region (is_marking mid.cycle.phase)) made_own own.legal));
+      };
+      state = own.state ∙ ap (λ (t : State). took t (made h.region (with_own h.region op place))) state ∙ ap (took (took (state_of s) es)) made_own
+          ∙ sym (took_append (state_of s) es (x.entry ∷ [])) ∙ ap (took (state_of s)) (sym piece);
+      grown = takes_ahead (x ∷ []) h after low is (All-cons IsOwners x.entry [] refl (All-nil IsOwners)) (omega arith);
+      region = subst (HasRegion new) (sym (taken_all (x ∷ []) h after low is)) own.shared;
+      tied = own.tied;
+      nodes = own.nodes ∙ nodes;
+      setup = own.setup ∙ setup;
+      told = own.told ∙ told;
+      handles = own.handles ∙ handles;
+      ordinal = own.ordinal ∙ ordinal;
+    }

@@ -1,5 +1,5 @@
 -- How the handles and the cycle change.
-use Rattle.std.specs.Prelude.{◌≡◌, ◌*◌, ℕ, ◌+◌, ◌-◌, [], ◌∷◌, ◌++◌, List, length, map, take, drop}
+use Rattle.std.specs.Prelude.{◌≡◌, ◌*◌, ℕ, ◌+◌, ◌-◌, true, [], ◌∷◌, ◌++◌, List, length, map, take, drop}
 use Rattle.gc_graph.specs.declared.phase.Phase.{Phase}
 use Rattle.gc_graph.specs.May.{may_with_new}
 use Rattle.gc_graph.specs.Reach.{Reach}
@@ -8,6 +8,7 @@ use Rattle.gc_graph.specs.declared.region.Op.{Op}
 use Rattle.gc_graph.specs.declared.region.Op.TheVariants as O
 use Rattle.gc_graph.specs.Outcomes.{owner_entry, took}
 use Rattle.gc_graph.specs.Pause.{dying_slots}
+use Rattle.gc_graph.specs.RegionSteps.{threads_with_orders}
 use Rattle.gc_graph.specs.State.{State, Node, graph_of, roots_of}
 use Rattle.callback_table.specs.declared.registry.Registered.{Registered}
 use Rattle.callback_table.specs.Registry.{placed_at}
@@ -44,6 +45,10 @@ pub record SweepsParts (o new : ObjectsView) (c after : CycleView) (pages : ℕ)
 -- the owner made this entry, and took it
 abbrev pub taken_own : State → Op → State
 taken_own s op = took s (owner_entry s op ∷ [])
+
+-- the threads that have orders went, and their join is awaited
+abbrev pub going : State → State
+going s = record s { running = threads_with_orders s; awaiting = true }
 
 -- marking began in this state
 abbrev pub begun_from : State → State

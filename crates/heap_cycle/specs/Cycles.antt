@@ -1,5 +1,5 @@
 -- A cycle from its start to its pause, over the parts of a heap.
-use Rattle.std.specs.Prelude.{◌≡◌, ◌<◌, ℕ, true, false, List, ◌∷◌, Contains, Some}
+use Rattle.std.specs.Prelude.{◌≡◌, ◌+◌, ◌<◌, ℕ, true, false, length, List, ◌∷◌, Contains, Some}
 use Rattle.gc_graph.specs.declared.command.Want.{Want}
 use Rattle.gc_graph.specs.declared.line.Line.{Line}
 use Rattle.gc_graph.specs.declared.line.Line.TheVariants as L
@@ -9,9 +9,8 @@ use Rattle.gc_graph.specs.Sweep.{SweepsToEnd}
 use Rattle.gc_graph.specs.May.{marking}
 use Rattle.gc_graph.specs.declared.region.Op.TheVariants as O
 use Rattle.cross_thread_region.specs.declared.chronicle.PlacedEntry.{PlacedEntry}
-use Rattle.cross_thread_region.specs.Calls.{with_own}
 use Rattle.cross_thread_region.specs.Histories.{strong_place}
-use Rattle.gc_graph.specs.CycleSteps.{IsPause}
+use Rattle.gc_graph.specs.CycleSteps.{IsPause, IsStart}
 use Rattle.mark_worklist.specs.Lists.{last_count}
 use Rattle.marker_core.specs.Bodies.{holds}
 use Rattle.atomic_pause.specs.declared.parts.PauseResult.{PauseResult}
@@ -21,6 +20,8 @@ use Rattle.heap_objects.specs.Objects.{refused_of}
 use Rattle.heap_cycle.specs.declared.parts.Parts.{Parts}
 use Rattle.heap_cycle.specs.Changes.{taken_own}
 use Rattle.heap_cycle.specs.Region.{HasRegion, made}
+use Rattle.heap_cycle.specs.Shared.{TakesAhead, taken_of}
+use Rattle.heap_cycle.specs.declared.shared.Shared.{Shared}
 use Rattle.heap_cycle.specs.Parts.{setup_of, state_of, AreTied, IsReady}
 use Rattle.heap_cycle.specs.Printed.{ran_lines}
 
@@ -38,16 +39,18 @@ pub record HasNoRefusedPush (told : RefusalsTold) : Type 0 where
   pub same : told.now.pushes ≡ told.since.pushes
   pub seen : told.now.pushes < last_count
 
--- the region got the start entry; the open sweep was ended, in which these nodes were finalised, and then marking began
-pub record HasBegun (old : Parts) (before : List PlacedEntry) (numbers : List ℕ) (new : Parts) (after : List PlacedEntry) : Type 0 where
+-- the open sweep was ended, in which these nodes were finalised; what threads have done was taken, and the start entry, and then
+-- marking began
+pub record HasBegun (old : Parts) (before : Shared) (numbers : List ℕ) (new : Parts) (after : Shared) : Type 0 where
   pub swept : State
   pub ended : SweepsToEnd old.objects.shape (state_of old) numbers swept
-  pub state : state_of new ≡ started_state swept
+  pub start : IsStart (setup_of old) swept (made (taken_of before) (taken_of after)) (state_of new)
   pub ready : IsReady new
   pub marking : new.cycle.phase ≡ Marking
-  pub entry : after ≡ with_own before O.Start 0
-  pub shared : HasRegion new after
-  pub marked : AreSlotsMarked new after
+  pub grown : TakesAhead before after
+  pub one : length after.region ≡ length before.region + 1
+  pub region : HasRegion new after.region
+  pub marked : AreSlotsMarked new (taken_of after)
   pub setup : setup_of new ≡ setup_of old
   pub since : new.objects.grey.since ≡ refused_of old.objects
   pub ordinal : new.cycle.rest.ordinal ≡ old.cycle.rest.ordinal

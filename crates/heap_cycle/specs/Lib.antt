@@ -1,11 +1,16 @@
 pub mod Finalising
 pub mod Printed
+pub mod Counts
 pub mod Views
 pub mod Walks
 pub mod Parts
 pub mod Region
+pub mod Taking
+pub mod Shared
 pub mod Changes
 pub mod Cycles
 pub mod Registrations
 pub mod Ties
 pub mod KeptRoots
+pub mod Took
+pub mod ThreadEntries

@@ -1,5 +1,5 @@
 -- The parts of a heap as commands see them, one by one.
-use Rattle.std.specs.Prelude.{◌≡◌, ℕ, ◌<◌, List, []}
+use Rattle.std.specs.Prelude.{◌≡◌, ℕ, ◌<◌, List}
 use Rattle.gc_graph.specs.declared.phase.Phase.{Phase}
 use Rattle.gc_graph.specs.State.{Shape, State, Node}
 use Rattle.gc_graph.specs.Sweep.{pages_swept_in}
@@ -23,10 +23,6 @@ pub record CycleView : Type 0 where
 pub record IsSweepOf (shape : Shape) (phase : Phase) (cursor : ℕ) (sweep : SweepView) : Type 0 where
   pub pages : sweep.pages ≡ shape.pages
   pub cursor_is : sweep.cursor ≡ pages_swept_in phase shape.pages cursor
-
--- no thread runs
-abbrev pub IsOwnersAlone : State → Type 0
-IsOwnersAlone s = s.running ≡ []
 
 -- the callback is registered with the place of its node, and there are so many callbacks that it is one
 pub record IsPlaced (nodes : List Node) (callbacks : ℕ) (entry : Registered) : Type 0 where

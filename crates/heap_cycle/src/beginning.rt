@@ -13,40 +13,48 @@ ghost use Rattle.heap_objects.specs.Objects.{refused_of};
 ghost use Rattle.heap_cycle.specs.Cycles.{started_state, HasBegun, AreSlotsMarked};
 ghost use Rattle.heap_cycle.specs.Parts.{setup_of, state_of, IsReady};
 ghost use Rattle.heap_cycle.specs.Region.{HasRegion};
+ghost use Rattle.heap_cycle.specs.Shared.{HasShared};
 
 use crate::parts::Parts;
+use crate::shared::Shared;
 use crate::states;
 use crate::sweeps::end_sweep;
+use crate::taking::take_others;
 use gc_graph::NoMemory;
 use heap_handles::RegionHandles;
 
-/// Begins a cycle: takes room for marking, makes the start entry, ends an open sweep, and then
-/// marking begins. Want of memory is free.
+/// Begins a cycle: takes room for marking, makes the start entry, ends an open sweep, takes what
+/// threads have done, and then marking begins. Want of memory is free.
 pub(crate) fn begin(
     parts: &mut Parts,
-    region: &mut RegionHandles,
+    shared: &mut Shared,
     finalised: &mut Vec<u32>,
 ) -> Result<(), NoMemory>
     requires ready { IsReady parts.old }
-    requires shared { HasRegion parts.old region.old }
+    requires shared { HasShared parts.old shared.old }
     requires calm { is_marking parts.old.cycle.phase ≡ false }
     requires empty { finalised.old.items ≡ [] }
     requires room { word_count parts.old.objects.shape ≤ 2 * vec_capacity finalised.old }
-    ensures begun { OnOk result (HasBegun parts.old region.old finalised.new.items
-        parts.new region.new) }
+    ensures begun { OnOk result (HasBegun parts.old shared.old finalised.new.items
+        parts.new shared.new) }
     ensures same { OnErr result (parts.new ≡ parts.old) }
-    ensures region { OnErr result (region.new ≡ region.old) }
+    ensures shared { OnErr result (shared.new ≡ shared.old) }
     ensures none { OnErr result (finalised.new.items ≡ []) }
     ensures many { length finalised.new.items ≤ 2 ^ 24 }
     ensures room { vec_capacity finalised.new ≡ vec_capacity finalised.old }
 {
+    gc_graph::step_keeps_valid();
+    parts.objects.shape_is_valid();
     // Room for a list of an ordinary length, so that a walk of the heap is rare.
     parts.objects.reserve()?;
     let mut told = [0; 32];
+    let made = shared.region.len();
     // Once the start entry is made nothing can be refused.
-    region.start(&mut told)?;
+    shared.region.start(&mut told)?;
     end_sweep(parts, finalised);
-    mark_roots(parts, region, &told);
+    take_others(parts, &mut shared.region, shared.taken, made);
+    mark_roots(parts, &shared.region, &told);
+    shared.taken = made + 1;
     Ok(())
 }
 
@@ -71,7 +79,6 @@ fn mark_roots(parts: &mut Parts, region: &RegionHandles, told: &[u32])
     } }
 {
     parts.objects.shape_is_valid();
-    parts.cycle.is_owners_alone();
     gc_graph::step_keeps_valid();
     let rest = states::begun(parts);
     parts.handles.begin(region, told, &mut parts.objects);

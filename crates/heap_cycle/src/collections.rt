@@ -7,18 +7,20 @@ ghost use Rattle.gc_graph.specs.declared.phase.Phase.TheVariants.{Marking};
 ghost use Rattle.gc_graph.specs.Outcomes.{answered};
 ghost use Rattle.gc_graph.specs.CycleSteps.{StepGcStart, StepGcStep, StepGcFinish, StepGcNow};
 ghost use Rattle.gc_graph.specs.CycleSteps.{is_marking, is_stack_refused};
-ghost use Rattle.cross_thread_region.specs.Calls.{Begins};
 ghost use Rattle.page_space.specs.Pages.{word_count};
 ghost use Rattle.callback_table.specs.Table.{kinds_of};
 ghost use Rattle.heap_cycle.specs.Cycles.{HasPaused, AreSlotsMarked, IsNoneGrey};
 ghost use Rattle.heap_cycle.specs.Parts.{setup_of, state_of, counted, IsReady, IsFrame};
-ghost use Rattle.heap_cycle.specs.Region.{HasRegion, made};
+ghost use Rattle.heap_cycle.specs.Region.{HasRegion};
+ghost use Rattle.heap_cycle.specs.Shared.{piece_of, taken_of, HasShared, MayTake};
 ghost use Rattle.heap_cycle.specs.Printed.{lines_with, TellsThoseThatRan};
 
 use crate::beginning::begin;
 use crate::outcome::Outcome;
 use crate::parts::Parts;
+use crate::shared::Shared;
 use crate::states;
+use crate::taking::take_others;
 use atomic_pause::PauseResult;
 use callback_table::CallbackTable;
 use gc_graph::{Line, Phase, Refusal, Want};
@@ -28,19 +30,19 @@ use heap_handles::RegionHandles;
 /// begins. What the strong slots name, those of the region too, is marked then. Want of memory is
 /// free.
 #[inline(never)]
-pub fn start(parts: &mut Parts, region: &mut RegionHandles, outcome: &mut Outcome) -> Line
+pub fn start(parts: &mut Parts, shared: &mut Shared, outcome: &mut Outcome) -> Line
     requires ready { IsReady parts.old }
-    requires shared { HasRegion parts.old region.old }
+    requires shared { HasShared parts.old shared.old }
     requires numbers { outcome.old.numbers ≡ [] }
     requires calm { outcome.old.prefinalises ≡ false }
     requires room { word_count parts.old.objects.shape ≤ 2 * outcome.old.room }
     ensures step { StepGcStart (setup_of parts.old) (state_of parts.old)
-        (made region.old region.new) (lines_with outcome.new parts.new.cycle.ran result)
+        (piece_of shared.old shared.new) (lines_with outcome.new parts.new.cycle.ran result)
         (answered (state_of parts.new)) }
     ensures frame { IsFrame parts.old (counted parts.new) result }
-    ensures shared { HasRegion parts.new region.new }
-    ensures grown { Begins region.old region.new }
-    ensures marked { result ≡ L.Started → AreSlotsMarked parts.new region.new }
+    ensures shared { HasRegion parts.new (taken_of shared.new) }
+    ensures grown { MayTake shared.old shared.new }
+    ensures marked { result ≡ L.Started → AreSlotsMarked parts.new (taken_of shared.new) }
     ensures calm { outcome.new.prefinalises ≡ false }
     ensures room { outcome.new.room ≡ outcome.old.room }
 {
@@ -48,7 +50,7 @@ pub fn start(parts: &mut Parts, region: &mut RegionHandles, outcome: &mut Outcom
     if open {
         return Line::Refused(Refusal::Phase);
     }
-    let Ok(()) = begin(parts, region, &mut outcome.finalised) else {
+    let Ok(()) = begin(parts, shared, &mut outcome.finalised) else {
         return Line::Memory;
     };
     Line::Started
@@ -67,7 +69,8 @@ pub fn step(parts: &mut Parts, n: u32) -> Line
         return Line::Refused(Refusal::Phase);
     }
     let count = parts.objects.step(n);
-    parts.cycle.rest = states::traced(&parts.cycle.rest, count);
+    let rest = states::traced(&parts.cycle.rest, count);
+    parts.cycle.take(rest);
     Line::Step {
         t: count,
         done: count < n,
@@ -79,22 +82,22 @@ pub fn step(parts: &mut Parts, n: u32) -> Line
 #[inline(never)]
 pub fn finish(
     parts: &mut Parts,
-    region: &mut RegionHandles,
+    shared: &mut Shared,
     outcome: &mut Outcome,
     callbacks: &CallbackTable,
     want: Want,
 ) -> Line
     requires ready { IsReady parts.old }
-    requires shared { HasRegion parts.old region.old }
+    requires shared { HasShared parts.old shared.old }
     requires kinds { kinds_of callbacks.now ≡ parts.old.objects.callbacks }
     requires numbers { outcome.old.numbers ≡ [] }
     requires calm { outcome.old.prefinalises ≡ false }
     ensures step { StepGcFinish (setup_of parts.old) want (state_of parts.old)
-        (made region.old region.new) (lines_with outcome.new parts.new.cycle.ran result)
+        (piece_of shared.old shared.new) (lines_with outcome.new parts.new.cycle.ran result)
         (answered (state_of parts.new)) }
     ensures frame { IsFrame parts.old (counted parts.new) result }
-    ensures shared { HasRegion parts.new region.new }
-    ensures grown { Begins region.old region.new }
+    ensures shared { HasRegion parts.new (taken_of shared.new) }
+    ensures grown { MayTake shared.old shared.new }
     ensures ran { TellsThoseThatRan outcome.new parts.new.cycle.ran }
     ensures room { outcome.new.room ≡ outcome.old.room }
 {
@@ -104,7 +107,12 @@ pub fn finish(
     if parts.handles.stack().refuses(want) {
         return Line::Refused(Refusal::Stack);
     }
-    let result = pause(parts, region, callbacks, want);
+    gc_graph::step_keeps_valid();
+    parts.objects.shape_is_valid();
+    let made = shared.region.len();
+    take_others(parts, &mut shared.region, shared.taken, made);
+    let result = pause(parts, &mut shared.region, callbacks, want);
+    shared.taken = made + 1;
     outcome.prefinalise(parts.cycle.ran());
     line_of(result)
 }
@@ -114,23 +122,23 @@ pub fn finish(
 #[inline(never)]
 pub fn collect(
     parts: &mut Parts,
-    region: &mut RegionHandles,
+    shared: &mut Shared,
     outcome: &mut Outcome,
     callbacks: &CallbackTable,
     want: Want,
 ) -> Line
     requires ready { IsReady parts.old }
-    requires shared { HasRegion parts.old region.old }
+    requires shared { HasShared parts.old shared.old }
     requires kinds { kinds_of callbacks.now ≡ parts.old.objects.callbacks }
     requires numbers { outcome.old.numbers ≡ [] }
     requires calm { outcome.old.prefinalises ≡ false }
     requires room { word_count parts.old.objects.shape ≤ 2 * outcome.old.room }
     ensures step { StepGcNow (setup_of parts.old) want (state_of parts.old)
-        (made region.old region.new) (lines_with outcome.new parts.new.cycle.ran result)
+        (piece_of shared.old shared.new) (lines_with outcome.new parts.new.cycle.ran result)
         (answered (state_of parts.new)) }
     ensures frame { IsFrame parts.old (counted parts.new) result }
-    ensures shared { HasRegion parts.new region.new }
-    ensures grown { Begins region.old region.new }
+    ensures shared { HasRegion parts.new (taken_of shared.new) }
+    ensures grown { MayTake shared.old shared.new }
     ensures ran { TellsThoseThatRan outcome.new parts.new.cycle.ran }
     ensures room { outcome.new.room ≡ outcome.old.room }
 {
@@ -141,10 +149,11 @@ pub fn collect(
     if parts.handles.stack().refuses(want) {
         return Line::Refused(Refusal::Stack);
     }
-    let Ok(()) = begin(parts, region, &mut outcome.finalised) else {
+    let Ok(()) = begin(parts, shared, &mut outcome.finalised) else {
         return Line::Memory;
     };
-    let result = pause(parts, region, callbacks, want);
+    let result = pause(parts, &mut shared.region, callbacks, want);
+    shared.taken = shared.region.len();
     outcome.prefinalise(parts.cycle.ran());
     line_of(result)
 }
@@ -172,6 +181,7 @@ fn pause(
         callbacks,
         want,
     );
+    cycle.counts.pauses = cycle.counts.pauses.saturating_add(1);
     cycle.rest = states::paused(&parts.objects, &cycle.rest);
     cycle.phase = Phase::Sweeping;
     cycle.sweep.begin();

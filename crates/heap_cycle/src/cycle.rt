@@ -8,7 +8,7 @@ ghost use Rattle.gc_graph.specs.Outcomes.{answered};
 ghost use Rattle.gc_graph.specs.CycleSteps.{is_marking};
 ghost use Rattle.callback_table.specs.Registry.{registered};
 ghost use Rattle.heap_cycle.specs.Changes.{filled, placed_last, with_new};
-ghost use Rattle.heap_cycle.specs.Views.{IsOwnersAlone};
+ghost use Rattle.heap_cycle.specs.Counts.{counts_of};
 
 use crate::states::{self, States};
 use callback_table::Registry;
@@ -18,18 +18,32 @@ use std::alloc::Global;
 use std::marker::Model;
 use sweeper::Sweep;
 
-/// The phase of the cycle, how far its sweep has come, and the registered prefinalizers.
+/// How many commands were answered, how many pauses there were, how many objects were finalised, and
+/// how many outcomes were full. A count that comes to its type's last value stays there.
+#[derive(Clone, Copy, Drop)]
+pub struct Counts {
+    pub ordinal: u64,
+    pub pauses: u64,
+    pub finalised: u64,
+    pub full: u64,
+}
+
+/// The phase of the cycle, how far its sweep has come, the registered prefinalizers, and what is
+/// counted.
 #[derive(Drop)]
 pub struct Cycle {
     pub(crate) phase: Phase,
     pub(crate) sweep: Sweep,
     pub(crate) registry: Registry,
+    pub(crate) counts: Counts,
     /// What no other part holds of the state.
     pub(crate) rest: GhostValue<States>,
 }
 
 impl Model for Cycle {
-    ghost use Rattle.heap_cycle.specs.Views.{CycleView, IsOwnersAlone};
+    ghost use Rattle.heap_cycle.specs.Views.{CycleView};
+    ghost use Rattle.heap_cycle.specs.Counts.{counts_of};
+    ghost use Rattle.std.specs.Prelude.{◌≡◌};
 
     ghost Value = { CycleView };
 
@@ -41,7 +55,7 @@ impl Model for Cycle {
       rest = c.rest.value;
     } };
 
-    ghost invariant = { λ c. IsOwnersAlone c.rest.value };
+    ghost invariant = { λ c. c.counts ≡ counts_of c.rest.value };
 }
 
 impl Cycle {
@@ -59,6 +73,12 @@ impl Cycle {
             phase: Phase::Idle,
             sweep: Sweep::idle(pages),
             registry: Registry::new(alloc),
+            counts: Counts {
+                ordinal: 0,
+                pauses: 0,
+                finalised: 0,
+                full: 0,
+            },
             rest: states::empty(),
         }
     }
@@ -77,16 +97,16 @@ impl Cycle {
         matches!(self.phase, Phase::Marking)
     }
 
-    /// No thread runs. Whoever calls this has the law.
-    pub fn is_owners_alone(&self)
-        ensures { IsOwnersAlone self.now.rest }
+    /// What is counted.
+    pub fn counts(&self) -> Counts
+        ensures { result ≡ counts_of self.now.rest }
     {
-        let _ = &self.rest;
+        self.counts
     }
 
     /// Marking has begun, and this is what no other part holds of the state.
     pub(crate) fn begin(&mut self, rest: GhostValue<States>)
-        requires { IsOwnersAlone rest.value }
+        requires { counts_of rest.value ≡ counts_of self.old.rest }
         ensures { self.new ≡ record self.old { phase = Marking; rest = rest.value } }
     {
         self.rest = rest;
@@ -95,7 +115,7 @@ impl Cycle {
 
     /// This is now what no other part holds of the state, in the same phase.
     pub(crate) fn take(&mut self, rest: GhostValue<States>)
-        requires { IsOwnersAlone rest.value }
+        requires { counts_of rest.value ≡ counts_of self.old.rest }
         ensures { self.new ≡ record self.old { rest = rest.value } }
     {
         self.rest = rest;
@@ -112,6 +132,7 @@ impl Cycle {
     pub fn count_command(&mut self)
         ensures { self.new ≡ record self.old { rest = answered self.old.rest } }
     {
+        self.counts.ordinal = self.counts.ordinal.saturating_add(1);
         self.rest = states::answered(&self.rest);
     }
 
@@ -119,6 +140,7 @@ impl Cycle {
     pub fn count_full(&mut self)
         ensures { self.new ≡ record self.old { rest = filled self.old.rest } }
     {
+        self.counts.full = self.counts.full.saturating_add(1);
         self.rest = states::filled(&self.rest);
     }
 

@@ -44,6 +44,7 @@ impl Cycle {
         ensures room { vec_capacity finalised.new ≡ vec_capacity finalised.old }
     {
         let count = objects.finalise_page(&mut self.sweep, finalised);
+        self.counts.finalised = self.counts.finalised.saturating_add(u64::from(count));
         self.rest = states::swept(&self.rest, self.sweep.cursor(), count);
         self.phase = phase_after(self.sweep.cursor(), objects.pages());
     }
@@ -65,6 +66,7 @@ impl Cycle {
         ensures room { vec_capacity finalised.new ≡ vec_capacity finalised.old }
     {
         let count = objects.finalise_rest(&mut self.sweep, finalised);
+        self.counts.finalised = self.counts.finalised.saturating_add(u64::from(count));
         self.rest = states::swept(&self.rest, self.sweep.cursor(), count);
         self.phase = Phase::Idle;
     }

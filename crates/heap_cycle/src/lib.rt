@@ -6,10 +6,10 @@
 //! The parts: `Parts` (`objects`, `handles` and `cycle`; a further part is one more field, and one
 //! line in `state_of`), `Cycle` (phase, registered prefinalizers, how far the sweep has come),
 //! `collections` (`start`, `step` and `finish` of a cycle, and `collect`, which is the whole of one)
-//! over `beginning`, `reads` (weak reads), `region` (`export` and `import`; the region stands beside
-//! the parts, since threads are to share it), `sweeps` and `cycle_sweeps`, `placement`, and
-//! `Outcome` (the lines of the last command). For contracts alone: `states`. Next down are
-//! `heap_handles` and `heap_objects`.
+//! over `beginning`, `reads` (weak reads), `Shared` (the region, which stands beside the parts since
+//! threads share it), `region` (`export`, `import`), `threads` and `taking` (what they did),
+//! `sweeps` and `cycle_sweeps`, `placement`, and `Outcome` (the lines of the last command). For
+//! contracts alone: `states`. Next down are `heap_handles` and `heap_objects`.
 //!
 //! What is proved: the state of the graph is put together from what each part holds of it. Start,
 //! step and pause of a cycle, a whole collection, a weak read, a call on the region and a sweep are
@@ -31,14 +31,20 @@ mod parts;
 mod placement;
 mod reads;
 mod region;
+mod shared;
 mod states;
 mod sweeps;
+mod taking;
+mod threads;
 
 pub use collections::{collect, finish, start, step};
-pub use cycle::Cycle;
+pub use cycle::{Counts, Cycle};
 pub use outcome::Outcome;
 pub use parts::Parts;
 pub use placement::place_for;
 pub use reads::read_weakly;
 pub use region::{export, import};
+pub use shared::Shared;
+pub use states::{States, empty as empty_state};
 pub use sweeps::{sweep_all, sweep_some};
+pub use threads::{go, join, queue};

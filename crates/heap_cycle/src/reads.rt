@@ -27,9 +27,8 @@ pub fn read_weakly(parts: &mut Parts, target: Option<(u32, u32)>)
     ensures ordinal { parts.new.cycle.rest.ordinal ≡ parts.old.cycle.rest.ordinal }
 {
     if let Some((place, number)) = target {
-        parts.cycle.is_owners_alone();
         let rest = states::read(parts, number);
         parts.objects.read_weakly(place);
-        parts.cycle.rest = rest;
+        parts.cycle.take(rest);
     }
 }

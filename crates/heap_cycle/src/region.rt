@@ -1,5 +1,5 @@
 // Calls of the owner on the region (`include/cppgc/cross-thread-persistent.h`), each of which makes an
-// entry that the command takes.
+// entry. The command takes what threads have done before, and then its own entry.
 
 ghost use Rattle.std.specs.Prelude.{◌≡◌, ◌<◌, ℕ, Bool, List, Some, None};
 ghost use Rattle.std.specs.Prelude.{OnOk, OnErr, IfOk, IfSome, option_map};
@@ -7,70 +7,83 @@ ghost use Rattle.gc_graph.specs.declared.phase.Phase.{Phase};
 ghost use Rattle.gc_graph.specs.declared.region.Op.TheVariants as O;
 ghost use Rattle.gc_graph.specs.History.{node_of, region_slot};
 ghost use Rattle.gc_graph.specs.May.{may_with_read};
+ghost use Rattle.gc_graph.specs.Outcomes.{took};
 ghost use Rattle.gc_graph.specs.State.{graph_of};
+ghost use Rattle.cross_thread_region.specs.Histories.{entries_of};
 ghost use Rattle.nodes_in_words.specs.Nodes.{place_of, AreOfValid};
 ghost use Rattle.heap_objects.specs.Marks.{HasMarks};
 ghost use Rattle.heap_objects.specs.Objects.{IsLiveAt, setup_of_objects};
-ghost use Rattle.heap_cycle.specs.Parts.{IsReady};
-ghost use Rattle.heap_cycle.specs.Region.{HasRegion, HasTaken};
+ghost use Rattle.heap_cycle.specs.Parts.{state_of, IsReady};
+ghost use Rattle.heap_cycle.specs.Shared.{ahead_of, HasShared, HasTaken};
 
 use crate::parts::Parts;
+use crate::shared::Shared;
 use crate::states;
+use crate::taking::take_others;
 use gc_graph::{NoMemory, Op};
-use heap_handles::RegionHandles;
 use heap_objects::Objects;
 
 /// A slot of the region becomes strong for the node with this number, which has this place. Want of
 /// memory is free.
 pub fn export(
     parts: &mut Parts,
-    region: &mut RegionHandles,
+    shared: &mut Shared,
     slot: u32,
     number: u32,
     place: u32,
 ) -> Result<(), NoMemory>
     requires ready { IsReady parts.old }
-    requires shared { HasRegion parts.old region.old }
+    requires shared { HasShared parts.old shared.old }
     requires slot { slot < 32 }
     requires node { IsLiveAt parts.old.objects.nodes number place }
-    ensures made { OnOk result (HasTaken (O.Export slot number) parts.old region.old
-        parts.new region.new) }
+    ensures made { OnOk result (HasTaken (O.Export slot number) parts.old shared.old
+        parts.new shared.new) }
     ensures parts { OnErr result (parts.new ≡ parts.old) }
-    ensures region { OnErr result (region.new ≡ region.old) }
+    ensures shared { OnErr result (shared.new ≡ shared.old) }
 {
+    gc_graph::step_keeps_valid();
+    parts.objects.shape_is_valid();
     // A place is that of a word, and the number of words fits its type.
     let _words = parts.objects.word_count();
-    parts.cycle.is_owners_alone();
+    let made = shared.region.len();
+    shared.region.export(slot, number, place)?;
+    take_others(parts, &mut shared.region, shared.taken, made);
     let rest = states::took(parts, Op::Export { slot, node: number });
-    region.export(slot, number, place)?;
     parts.cycle.take(rest);
+    shared.taken = made + 1;
     Ok(())
 }
 
-/// The place and the number of what a slot of the region names. The object is read weakly, which
-/// keeps nothing more where the slot is strong. Want of memory is free.
+/// The place and the number of what a slot of the region names, once the threads have done their
+/// orders. The object is read weakly, which keeps nothing more where the slot is strong. Want of
+/// memory is free.
 pub fn import(
     parts: &mut Parts,
-    region: &mut RegionHandles,
+    shared: &mut Shared,
     slot: u32,
 ) -> Result<Option<(u32, u32)>, NoMemory>
     requires ready { IsReady parts.old }
-    requires shared { HasRegion parts.old region.old }
+    requires shared { HasShared parts.old shared.old }
     requires slot { slot < 32 }
     ensures target { IfOk result (λ target. target
         ≡ option_map (λ n. (place_of parts.old.objects.nodes n, n))
-        (node_of (region_slot parts.old.cycle.rest.region slot))) }
-    ensures made { OnOk result (HasTaken (O.Import slot) parts.old region.old
-        parts.new region.new) }
+        (node_of (region_slot (took (state_of parts.old)
+        (entries_of (ahead_of shared.old))).region slot))) }
+    ensures made { OnOk result (HasTaken (O.Import slot) parts.old shared.old
+        parts.new shared.new) }
     ensures parts { OnErr result (parts.new ≡ parts.old) }
-    ensures region { OnErr result (region.new ≡ region.old) }
+    ensures shared { OnErr result (shared.new ≡ shared.old) }
 {
     gc_graph::reach_is_least();
-    parts.cycle.is_owners_alone();
+    gc_graph::step_keeps_valid();
+    parts.objects.shape_is_valid();
+    let made = shared.region.len();
+    let target = shared.region.import(slot)?;
+    take_others(parts, &mut shared.region, shared.taken, made);
     let rest = states::took(parts, Op::Import { slot });
-    let target = region.import(slot)?;
     look(&mut parts.objects, target);
     parts.cycle.take(rest);
+    shared.taken = made + 1;
     Ok(target)
 }
 

@@ -4,14 +4,17 @@
 ghost use Rattle.std.specs.Prelude.{◌≡◌};
 ghost use Rattle.gc_graph.specs.State.{empty_state};
 ghost use Rattle.gc_graph.specs.May.{weakly_read};
-ghost use Rattle.gc_graph.specs.Outcomes.{answered};
+ghost use Rattle.gc_graph.specs.Outcomes.{answered, took};
+ghost use Rattle.gc_graph.specs.RegionSteps.{queued, joined};
 ghost use Rattle.heap_cycle.specs.Parts.{state_of};
 ghost use Rattle.heap_cycle.specs.Changes.{filled, swept_to, taken_own, begun_from};
-ghost use Rattle.heap_cycle.specs.Changes.{with_new, paused_from, traced_more};
+ghost use Rattle.heap_cycle.specs.Changes.{with_new, paused_from, traced_more, going};
+ghost use Rattle.heap_cycle.specs.Taking.{entries_between};
 
 use crate::parts::Parts;
-use gc_graph::{Op, Phase};
+use gc_graph::{Op, Order, Phase};
 use ghost_values::GhostValue;
+use heap_handles::RegionHandles;
 use heap_objects::Objects;
 use std::marker::Model;
 
@@ -76,6 +79,61 @@ pub fn took(parts: &Parts, op: Op) -> GhostValue<States>
     ensures { result.value ≡ taken_own (state_of parts.now) op }
 {
     GhostValue::chosen(&AboutEntry { parts, op })
+}
+
+/// What entries of threads look at.
+#[derive(Drop)]
+struct AboutOthers<'a> {
+    parts: &'a Parts,
+    region: &'a RegionHandles,
+    from: u64,
+    to: u64,
+}
+
+/// These entries of the history were taken.
+pub fn took_others(parts: &Parts, region: &RegionHandles, from: u64, to: u64) -> GhostValue<States>
+    ensures { result.value
+        ≡ took (state_of parts.now) (entries_between from to region.now) }
+{
+    GhostValue::chosen(&AboutOthers {
+        parts,
+        region,
+        from,
+        to,
+    })
+}
+
+/// What an order looks at.
+#[derive(Drop)]
+struct AboutOrder<'a> {
+    parts: &'a Parts,
+    thread: u32,
+    order: Order,
+}
+
+/// The order waits for its thread.
+pub fn queued(parts: &Parts, thread: u32, order: Order) -> GhostValue<States>
+    ensures { result.value ≡ queued (state_of parts.now) thread order }
+{
+    GhostValue::chosen(&AboutOrder {
+        parts,
+        thread,
+        order,
+    })
+}
+
+/// The threads that have orders went.
+pub fn going(parts: &Parts) -> GhostValue<States>
+    ensures { result.value ≡ going (state_of parts.now) }
+{
+    GhostValue::chosen(parts)
+}
+
+/// The threads that went were joined.
+pub fn joined(parts: &Parts) -> GhostValue<States>
+    ensures { result.value ≡ joined (state_of parts.now) }
+{
+    GhostValue::chosen(parts)
 }
 
 /// Marking began in this state.

@@ -1,5 +1,5 @@
 -- The region as its owner has it, and what a collection makes of it.
-use Rattle.std.specs.Prelude.{◌≡◌, ℕ, List, ◌++◌}
+use Rattle.std.specs.Prelude.{◌≡◌, ℕ, List, [], ◌++◌}
 use Rattle.gc_graph.specs.declared.region.Op.TheVariants as O
 use Rattle.gc_graph.specs.History.{NamesWeakSlots}
 use Rattle.gc_graph.specs.Pause.{dying_slots}
@@ -11,12 +11,13 @@ use Rattle.cross_thread_region.specs.Histories.{slots_of, IsPlacedBy}
 use Rattle.nodes_in_words.specs.Nodes.{place_of}
 use Rattle.heap_handles.specs.Handles.{HandlesView}
 
--- the region has 32 slots, and the pass is its first one, which has seen all of the history
+-- the region has 32 slots, and the pass is its first one, which has seen all of the history, and none that was split off it is out
 pub record IsOwned (region : RegionView) (pass : PassView) : Type 0 where
   pub ready : IsReady region pass
   pub first : pass.number ≡ 0
   pub slots : region.slots ≡ 32
   pub whole : pass.seen ≡ history_of region
+  pub none_out : pass.out ≡ []
 
 -- each slot that isn't null names a live node, and has its place
 pub record IsHandled (nodes : List Node) (history : List PlacedEntry) : Type 0 where

@@ -1,15 +1,21 @@
 // The region as its owner has it, with the first pass (`include/cppgc/cross-thread-persistent.h`).
 
-ghost use Rattle.std.specs.Prelude.{◌≡◌, ◌<◌, ◌+◌, ◌^◌, [], IfOk, OnOk, OnErr, length};
+ghost use Rattle.std.specs.Prelude.{◌≡◌, ◌<◌, ◌+◌, ◌^◌, [], Some, true, false, IfOk, OnOk, OnErr, length};
+ghost use Rattle.std.specs.Prelude.{slice_get};
 ghost use Rattle.gc_graph.specs.declared.region.Op.TheVariants as O;
+ghost use Rattle.gc_graph.specs.History.{IsLegal};
 ghost use Rattle.cross_thread_region.specs.Calls.{with_own};
-ghost use Rattle.cross_thread_region.specs.Histories.{strong_told, target_of};
+ghost use Rattle.cross_thread_region.specs.Histories.{entries_of, strong_told, target_of};
+ghost use Rattle.cross_thread_region.specs.WeakReads.{weak_read_at};
+ghost use Rattle.thread_queues.specs.Going.{HaveGone};
+ghost use Rattle.thread_queues.specs.Queues.{threads_in};
 
 use cross_thread_region::{Histories, Pass, Region};
-use gc_graph::{NoMemory, Reply};
+use gc_graph::{Entry, NoMemory, Reply};
 use ghost_values::GhostValue;
 use std::alloc::Global;
 use std::marker::Model;
+use thread_queues::{ThreadQueues, Totals};
 
 /// How many slots there are.
 const SLOTS: u32 = 32;
@@ -92,5 +98,50 @@ impl RegionHandles {
             Reply::NoMemory => Err(NoMemory),
             _ => Ok(()),
         }
+    }
+
+    /// How many entries the history has.
+    pub fn len(&mut self) -> u64
+        ensures count { result ≡ length self.old }
+        ensures same { self.new ≡ self.old }
+    {
+        self.region.entries(&mut self.pass)
+    }
+
+    /// Entry i of the history.
+    pub fn entry(&mut self, i: u64) -> Entry
+        requires { i < length self.old }
+        ensures entry { slice_get (entries_of self.old) i ≡ Some result }
+        ensures same { self.new ≡ self.old }
+    {
+        self.region.entry(&mut self.pass, i)
+    }
+
+    /// The place that entry i read from a weak slot, and none where it read none.
+    pub fn read_place(&mut self, i: u64) -> Option<u32>
+        requires { i < length self.old }
+        ensures place { result ≡ weak_read_at self.old i }
+        ensures same { self.new ≡ self.old }
+    {
+        self.region.read_place(&mut self.pass, i)
+    }
+
+    /// The threads do the orders of their queues. Answers how many threads these are.
+    pub fn go(&mut self, threads: &mut ThreadQueues, totals: Totals) -> u32
+        requires joined { threads.old.awaiting ≡ false }
+        ensures queues { threads.new.queues ≡ threads.old.queues }
+        ensures running { threads.new.running ≡ threads_in threads.old.queues }
+        ensures awaiting { threads.new.awaiting ≡ true }
+        ensures count { result ≡ length threads.new.running }
+        ensures went { HaveGone threads.old.queues totals self.old self.new threads.new.replies }
+    {
+        threads.go(&mut self.region, &mut self.pass, totals)
+    }
+
+    /// The history is legal. Whoever calls this has the law.
+    pub fn is_legal(&self)
+        ensures { IsLegal (entries_of self.now) }
+    {
+        self.region.is_legal();
     }
 }

@@ -1,21 +1,25 @@
-use Rattle.std.proofs.Common.{◌≡◌, ℕ, ◌==◌, not, true, List, ◌∷◌, ◌++◌, length, refl, sym, ap, ◌∙◌, subst}
+use Rattle.std.proofs.Common.{◌≡◌, ℕ, ◌==◌, not, true, List, ◌∷◌, ◌++◌, length, inr, refl, sym, ap, ◌∙◌, subst}
 use Rattle.gc_graph.specs.declared.line.Line.{Line}
 use Rattle.gc_graph.specs.declared.region.Entry.{Entry}
+use Rattle.gc_graph.specs.declared.region.Op.{Op}
 use Rattle.gc_graph.specs.declared.region.Op.TheVariants as O
 use Rattle.gc_graph.specs.CycleSteps.{IsPause, is_stack_refused}
 use Rattle.gc_graph.specs.Outcomes.{answered, finalise_lines}
 use Rattle.gc_graph.specs.Pause.{dying_slots}
-use Rattle.gc_graph.specs.State.{Setup, State}
+use Rattle.gc_graph.specs.State.{Setup}
+use Rattle.cross_thread_region.specs.declared.chronicle.PlacedEntry.{PlacedEntry}
 use Rattle.cross_thread_region.specs.Histories.{slots_of}
 use Rattle.heap_handles.specs.Stack.{StackView}
 use Rattle.heap_cycle.specs.declared.parts.Parts.{Parts}
+use Rattle.heap_cycle.specs.declared.shared.Shared.{Shared}
 use Rattle.heap_cycle.specs.Cycles.{pause_line}
 use Rattle.heap_cycle.specs.Parts.{setup_of, state_of}
 use Rattle.heap_cycle.specs.Printed.{Printed, lines_with, ran_lines}
-use Rattle.heap_cycle.specs.Region.{made}
+use Rattle.heap_cycle.specs.Region.{HasRegion, made}
+use Rattle.heap_cycle.specs.Shared.{taken_of}
 use Rattle.heap_cycle.proofs.CollectSteps.{step_collected}
+use Rattle.heap_cycle.proofs.CycleTakes.{both_ahead, both_pieces, both_region}
 use Rattle.heap_cycle.proofs.OutcomeLines.{all_told}
-use Rattle.heap_cycle.proofs.SharedSteps.{both_begin, both_made, start_made}
 use Rattle.heap_cycle.proofs.collections.collect.Goals as goal
 
 pub returns-clause-step : goal.returns-clause-step
@@ -35,22 +39,42 @@ returns-clause-step g c =
     ∙ ap (λ l. finalise_lines c.begin.new.finalised.items ++ l ∷ ran_lines true ran) c.line_of.ensures in
     let begun = c.in-Ok.ensures.begun in
     let paused = c.pause-result.ensures.paused in
-    let first : List Entry = made c.args.region.now c.begin.new.region in
-    let second : List Entry = made c.begin.new.region c.pause-result.new.region in
+    let h : Shared = c.args.shared.now in
+    let mid : Shared = c.begin.new.shared in
+    let after : Shared = record mid { region = c.len-shared.new.self; taken = c.len-shared.result } in
+    let first : List Entry = made (taken_of h) (taken_of mid) in
+    let second : List Entry = made mid.region after.region in
+    let op : Op = O.Pause (dying_slots new.objects.nodes (slots_of mid.region)) in
     let pause : IsPause (setup_of s) 0 c.args.want (state_of c.begin.new.parts) second pause_lines (state_of new) =
-    subst (λ (st : Setup). IsPause st 0 c.args.want (state_of c.begin.new.parts) second pause_lines (state_of new)) begun.setup paused.pause in
-    step_collected (setup_of s) c.args.want (state_of s) begun.swept (state_of new) (answered (state_of new)) c.begin.new.finalised.items
-    (made c.args.region.now c.pause-result.new.region) first second (lines_with out ran c.line_of.result) pause_lines
+    subst (λ (st : Setup). IsPause st 0 c.args.want (state_of c.begin.new.parts) second pause_lines (state_of new)) begun.setup
+    (subst (λ (xs : List PlacedEntry). IsPause (setup_of c.begin.new.parts) 0 c.args.want (state_of c.begin.new.parts) (made mid.region xs) pause_lines (state_of new))
+    (sym c.len-shared.ensures.same) paused.pause) in
+    step_collected (setup_of s) c.args.want (state_of s) begun.swept (state_of c.begin.new.parts) (state_of new) (answered (state_of new)) c.begin.new.finalised.items
+    (made (taken_of h) (taken_of after)) first second (lines_with out ran c.line_of.result) pause_lines
     (sym c.is_marking-marks.ensures ∙ c.if-marks.false)
     (ap (λ (x : StackView). is_stack_refused c.args.want x.words) (sym c.stack.ensures) ∙ sym c.refuses.ensures ∙ c.if-refuses.false)
-    begun.ended (start_made begun.swept c.args.region.now c.begin.new.region begun.entry)
-    (subst (λ (st : State). IsPause (setup_of s) 0 c.args.want st second pause_lines (state_of new)) begun.state pause)
-    (both_made c.args.region.now c.begin.new.region c.pause-result.new.region O.Start
-    (O.Pause (dying_slots new.objects.nodes (slots_of c.begin.new.region))) 0 0 begun.entry paused.entry.entry)
+    begun.ended begun.start pause
+    (both_pieces h mid after op 0 c.requires.shared.threads.taken begun.grown begun.one (c.len-shared.ensures.same ∙ paused.entry.entry)
+    (c.len-shared.ensures.count ∙ ap length (sym c.len-shared.ensures.same)) refl)
     lines refl
+
+pub returns-clause-shared : goal.returns-clause-shared
+returns-clause-shared g c =
+    let new : Parts = c.pause-result.new.parts in
+    let begun = c.in-Ok.ensures.begun in
+    let paused = c.pause-result.ensures.paused in
+    let mid : Shared = c.begin.new.shared in
+    let after : Shared = record mid { region = c.len-shared.new.self; taken = c.len-shared.result } in
+    let op : Op = O.Pause (dying_slots new.objects.nodes (slots_of mid.region)) in
+    both_region c.args.shared.now mid after op 0 c.requires.shared.threads.taken begun.grown begun.one (c.len-shared.ensures.same ∙ paused.entry.entry)
+    (c.len-shared.ensures.count ∙ ap length (sym c.len-shared.ensures.same)) refl new (subst (HasRegion new) (sym c.len-shared.ensures.same) paused.shared)
 
 pub returns-clause-grown : goal.returns-clause-grown
 returns-clause-grown g c =
-    both_begin c.args.region.now c.begin.new.region c.pause-result.new.region O.Start
-    (O.Pause (dying_slots c.pause-result.new.parts.objects.nodes (slots_of c.begin.new.region))) 0 0
-    c.in-Ok.ensures.begun.entry c.pause-result.ensures.paused.entry.entry
+    let begun = c.in-Ok.ensures.begun in
+    let paused = c.pause-result.ensures.paused in
+    let mid : Shared = c.begin.new.shared in
+    let after : Shared = record mid { region = c.len-shared.new.self; taken = c.len-shared.result } in
+    let op : Op = O.Pause (dying_slots c.pause-result.new.parts.objects.nodes (slots_of mid.region)) in
+    inr (both_ahead c.args.shared.now mid after op 0 c.requires.shared.threads.taken begun.grown begun.one (c.len-shared.ensures.same ∙ paused.entry.entry)
+    (c.len-shared.ensures.count ∙ ap length (sym c.len-shared.ensures.same)) refl)

@@ -4,16 +4,10 @@ use Rattle.gc_graph.specs.Sweep.{phase_at}
 use Rattle.sweeper.specs.Sweeping.{SweepView, cursor_at}
 use Rattle.heap_cycle.specs.Changes.{swept_to, SweepsParts}
 use Rattle.heap_objects.specs.Objects.{ObjectsView}
-use Rattle.heap_cycle.specs.Views.{CycleView, IsOwnersAlone}
+use Rattle.heap_cycle.specs.Views.{CycleView}
 use Rattle.heap_objects.specs.Marks.{HasMarks}
 use Rattle.heap_cycle.proofs.SweptObjects.{marks_at, parts_swept}
 use Rattle.heap_cycle.proofs.cycle.Cycle.sweep_page.Goals as goal
-
-pub invariant_of-self : goal.invariant_of-self
-invariant_of-self c =
-    let is : IsOwnersAlone (swept_to c.cursor.result c.finalise_page-count.result c.self.inside.rest.value) =
-    c.self.invariant in
-    subst IsOwnersAlone (sym c.swept.ensures) is
 
 pub returns-clause-swept : goal.returns-clause-swept
 returns-clause-swept c =
