@@ -2,9 +2,9 @@
 use Rattle.std.proofs.Common.{◌≡◌, ℕ, zero, suc, ◌*◌, List, [], ◌∷◌, length, replicate, None, refl, sym, ap, ◌∙◌, subst, arith}
 use Rattle.gc_graph.specs.declared.action.ActionKind.{ActionKind}
 use Rattle.gc_graph.specs.declared.phase.Phase.TheVariants.{Idle}
-use Rattle.gc_graph.specs.State.{ObjectType, Shape, empty_state}
+use Rattle.gc_graph.specs.State.{ObjectType, Shape, State, empty_state}
+use Rattle.gc_graph.specs.ThreadLaw.{IsCounted}
 use Rattle.gc_graph.specs.ValidLaw.{EmptyIsValid}
-use Rattle.cross_thread_region.specs.declared.chronicle.PlacedEntry.{PlacedEntry}
 use Rattle.cross_thread_region.specs.Histories.{slots_of}
 use Rattle.cross_thread_region.specs.PlacedNodes.{named_is_target}
 use Rattle.page_words.specs.Seat.{empty_view}
@@ -15,8 +15,11 @@ use Rattle.heap_handles.specs.Stack.{empty_stack}
 use Rattle.heap_cycle.specs.declared.parts.Parts.{Parts}
 use Rattle.heap_handles.specs.Handles.{HandlesView}
 use Rattle.heap_cycle.specs.Views.{CycleView}
-use Rattle.heap_cycle.specs.Parts.{setup_of, IsReady}
+use Rattle.heap_cycle.specs.Parts.{setup_of, state_of, IsReady}
 use Rattle.heap_cycle.specs.Region.{HasRegion}
+use Rattle.heap_cycle.specs.Shared.{HasShared, no_shared}
+use Rattle.heap_cycle.specs.declared.shared.Shared.{Shared}
+use Rattle.heap_engine.specs.Going.{AreTotalsOf, HasTold}
 
 null_places : (n : ℕ) → replicate n None ≡ places_of [] (replicate n None)
 null_places zero = refl
@@ -63,10 +66,45 @@ ready_empty s shape types callbacks law called is =
     } in
     subst IsReady (sym is) ready
 
--- a region without entries is an empty heap's
-pub region_empty : (s : Parts) (shape : Shape) (types : List ObjectType) (callbacks : List ActionKind) (history : List PlacedEntry) → s ≡ empty_parts shape types callbacks → history ≡ []
-    → HasRegion s history
-region_empty s shape types callbacks history is none =
-    let new : HasRegion (empty_parts shape types callbacks) [] =
+-- a region without entries is an empty heap's, with threads that have no orders
+pub shared_empty : (s : Parts) (shape : Shape) (types : List ObjectType) (callbacks : List ActionKind) (h : Shared) → s ≡ empty_parts shape types callbacks → h ≡ no_shared
+    → HasShared s h
+shared_empty s shape types callbacks h is none =
+    let region : HasRegion (empty_parts shape types callbacks) [] =
     record { slots = refl; placed = λ x n named. absurd (omega (arith, (named_is_target (slots_of []) x n named).1)); started = refl } in
-    subst (λ (h : List PlacedEntry). HasRegion s h) (sym none) (subst (λ (p : Parts). HasRegion p []) (sym is) new)
+    let new : HasShared (empty_parts shape types callbacks) no_shared = record {
+      region = region;
+      ahead = record { others = λ k d low. absurd (omega arith); legal = tt };
+      threads = record {
+        queues = refl;
+        running = refl;
+        awaiting = refl;
+        unprinted = refl;
+        printed = omega arith;
+        taken = omega arith;
+        owners = λ still k d low. absurd (omega arith);
+        calm = λ still. refl;
+        idle = λ still. refl;
+        answered = λ awaits. cc;
+        few = omega arith;
+        few_replies = omega arith;
+      };
+    } in
+    subst (λ (x : Shared). HasShared s x) (sym none) (subst (λ (p : Parts). HasShared p no_shared) (sym is) new)
+
+-- its threads were told nothing
+pub told_empty : (h : Shared) → h ≡ no_shared → HasTold h
+told_empty h none =
+    let calm : HasTold no_shared = record { replies = λ k d low. absurd (omega (arith, low)); shown = omega arith } in
+    subst HasTold (sym none) calm
+
+pub no_totals : (s : State) (h : Shared) → h ≡ no_shared → AreTotalsOf s h.threads.replies
+no_totals s h none =
+    let calm : AreTotalsOf s [] = λ j o n u f there. absurd (omega (arith, there.1)) in
+    subst (λ (x : Shared). AreTotalsOf s x.threads.replies) (sym none) calm
+
+-- nothing is counted
+pub counted_empty : (s : Parts) (shape : Shape) (types : List ObjectType) (callbacks : List ActionKind) → s ≡ empty_parts shape types callbacks → IsCounted (state_of s)
+counted_empty s shape types callbacks is =
+    let none : IsCounted (state_of (empty_parts shape types callbacks)) = record { pauses = omega arith; full = omega arith; finalised = refl } in
+    subst (λ (p : Parts). IsCounted (state_of p)) (sym is) none

@@ -12,3 +12,6 @@ pub mod FieldAnswers
 pub mod PairAnswers
 pub mod NewSteps
 pub mod HeapEmpty
+pub mod ThreadsKept
+pub mod ThreadsTold
+pub mod Joined

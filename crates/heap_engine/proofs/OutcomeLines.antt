@@ -78,3 +78,11 @@ pub none_at_ran : {A : Type 0} (found : Option A) (o : Printed) (ran : List (ℕ
     → TellsThoseThatRan o ran → IfNone found ((l : Line) → outcome_lines o ran ≡ l ∷ [] → TellsNode l)
 none_at_ran None o ran all some = λ l is. all ran l some is
 none_at_ran (Some a) o ran all some = tt
+
+-- ---- one line alone
+
+-- an outcome that finalises nothing and runs no prefinalizer has its last line
+pub last_alone : (o : Printed) (ran : List (ℕ × ℕ)) (line : Line) → o.numbers ≡ [] → o.prefinalises ≡ false → o.last ≡ Some line → outcome_lines o ran ≡ line ∷ []
+last_alone o ran line numbers calm last =
+    ap (λ ns. finalise_lines ns ++ later_lines o ran) numbers ∙ ap (λ (l : Option Line). option_to_list l ++ ran_lines o.prefinalises ran) last
+    ∙ ap (λ b. line ∷ ran_lines b ran) calm

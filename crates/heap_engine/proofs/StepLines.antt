@@ -22,10 +22,9 @@ use Rattle.gc_graph.specs.ObjectSteps.{AtField, IsChanged, IsRead, IsNumber, Ste
 use Rattle.gc_graph.specs.HandleSteps.{IsPushed, IsPeeked}
 use Rattle.gc_graph.specs.CycleSteps.{StepGcStart, StepGcStep, StepGcFinish, StepGcNow, StepSweepTo, WantsMemory, IsBegun, IsPause, IsCollection, is_marking, is_sweeping, is_stack_refused}
 use Rattle.gc_graph.specs.History.{node_of, region_slot}
-use Rattle.gc_graph.specs.RegionSteps.{StepExport, StepImport, line_of_content}
+use Rattle.gc_graph.specs.RegionSteps.{StepExport, StepImport, line_of_content, threads_with_orders}
 use Rattle.gc_graph.specs.Pause.{condemn, live_count, dead_count, run_order, prefinalise_lines}
 use Rattle.gc_graph.specs.Step.{Step}
-use Rattle.built_forms.specs.Built.{is_built}
 use Rattle.heap_cycle.specs.Printed.{Printed, ran_lines, lines_with, TellsNode}
 
 -- ---- what a command doesn't answer
@@ -209,47 +208,48 @@ imports old x p piece lines new (inr made) = tells_content (node_of (region_slot
 
 -- ---- every command
 
-step_has : (setup : Setup) (old : State) (command : Command) (piece : List Entry) (lines : List Line) (new : State) → is_built command ≡ true → Step setup old command piece lines new
+step_has : (setup : Setup) (old : State) (command : Command) (piece : List Entry) (lines : List Line) (new : State) → (command ≡ C.ThreadsJoin → ⊥) → Step setup old command piece lines new
     → HasLine (IsNoAnswer command) lines
-step_has setup old (C.New p t e) piece lines new built is = makes setup old p t e lines new is.1
-step_has setup old (C.Set p f q) piece lines new built is = sets old p f (content_of (slot_at old q)) lines new is.1
-step_has setup old (C.SetNull p f) piece lines new built is = sets old p f Null lines new is.1
-step_has setup old (C.Pair p f k v) piece lines new built is = sets_pair old p f (slot_at old k) (slot_at old v) lines new is.1
-step_has setup old (C.PairNull p f) piece lines new built is = sets_pair old p f None None lines new is.1
-step_has setup old (C.Put p f n) piece lines new built is =
+step_has setup old (C.New p t e) piece lines new other is = makes setup old p t e lines new is.1
+step_has setup old (C.Set p f q) piece lines new other is = sets old p f (content_of (slot_at old q)) lines new is.1
+step_has setup old (C.SetNull p f) piece lines new other is = sets old p f Null lines new is.1
+step_has setup old (C.Pair p f k v) piece lines new other is = sets_pair old p f (slot_at old k) (slot_at old v) lines new is.1
+step_has setup old (C.PairNull p f) piece lines new other is = sets_pair old p f None None lines new is.1
+step_has setup old (C.Put p f n) piece lines new other is =
     writes is_plain old p f (λ m. with_value (node_at old.nodes m) (first_word old m f) (Word n)) lines new is.1
-step_has setup old (C.Word p f) piece lines new built is =
+step_has setup old (C.Word p f) piece lines new other is =
     at_field is_plain old p f lines new (λ n. IsNumber old (value_at (node_at old.nodes n) (first_word old n f)) lines new) is.1 (λ n done. tells_number old _ lines new done)
-step_has setup old (C.Get p f q) piece lines new built is =
+step_has setup old (C.Get p f q) piece lines new other is =
     reads_field is_reference old p f (λ n. is_weak (kind_of_field (node_at old.nodes n).object f)) (λ n. value_at (node_at old.nodes n) (first_word old n f)) q lines new is.1
-step_has setup old (C.Key p f q) piece lines new built is =
+step_has setup old (C.Key p f q) piece lines new other is =
     reads_field is_pair old p f (λ n. true) (λ n. value_at (node_at old.nodes n) (first_word old n f)) q lines new is.1
-step_has setup old (C.Val p f q) piece lines new built is =
+step_has setup old (C.Val p f q) piece lines new other is =
     reads_field is_pair old p f (λ n. true) (λ n. value_at (node_at old.nodes n) (first_word old n f + 1)) q lines new is.1
-step_has setup old (C.Copy p q) piece lines new built is = alone L.Fine lines is.1.0 (λ node. node)
-step_has setup old (C.Drop p) piece lines new built is = alone L.Fine lines is.1.0 (λ node. node)
-step_has setup old (C.Weak w p) piece lines new built is = alone L.Fine lines is.1.0 (λ node. node)
-step_has setup old (C.Read w p) piece lines new built is = reads true old (content_of (weak_slot_at old w)) p lines new is.1
-step_has setup old (C.Push p o) piece lines new built is =
+step_has setup old (C.Copy p q) piece lines new other is = alone L.Fine lines is.1.0 (λ node. node)
+step_has setup old (C.Drop p) piece lines new other is = alone L.Fine lines is.1.0 (λ node. node)
+step_has setup old (C.Weak w p) piece lines new other is = alone L.Fine lines is.1.0 (λ node. node)
+step_has setup old (C.Read w p) piece lines new other is = reads true old (content_of (weak_slot_at old w)) p lines new is.1
+step_has setup old (C.Push p o) piece lines new other is =
     where_some (slot_at old p) _ _ is.1 (refused _ old lines new)
     (λ n there. where_true (nat_lt o (size_of (node_at old.nodes n))) _ _ there (pushes old (Pointer n o) lines new) (refused _ old lines new))
-step_has setup old (C.PushPlain n) piece lines new built is = pushes old (Number n) lines new is.1
-step_has setup old C.Pop piece lines new built is =
+step_has setup old (C.PushPlain n) piece lines new other is = pushes old (Number n) lines new is.1
+step_has setup old C.Pop piece lines new other is =
     where_true (nat_lt 0 (length old.stack)) _ _ is.1 (λ done. alone L.Fine lines done.0 (λ node. node)) (refused _ old lines new)
-step_has setup old (C.Peek i q) piece lines new built is =
+step_has setup old (C.Peek i q) piece lines new other is =
     where_some (slice_get old.stack i) _ _ is.1 (refused _ old lines new) (λ word done. peeks old word q lines new done)
-step_has setup old (C.GcNow want) piece lines new built is = collects setup want old piece lines new is
-step_has setup old (C.Sweep n) piece lines new built is = sweeps setup old _ lines new is.1
-step_has setup old C.SweepAll piece lines new built is = sweeps setup old _ lines new is.1
-step_has setup old C.Stat piece lines new built is = alone (L.Objects (objects_of old.nodes) (used_of old.nodes) is.1.0) lines is.1.2 (λ node. node)
-step_has setup old C.GcStart piece lines new built is = starts setup old piece lines new is
-step_has setup old (C.GcStep n) piece lines new built is = steps old n lines new is.1
-step_has setup old (C.GcFinish want) piece lines new built is = finishes setup want old piece lines new is
-step_has setup old (C.Export p x) piece lines new built is = exports old p x piece lines new is
-step_has setup old (C.Import x p) piece lines new built is = imports old x p piece lines new is
-step_has setup old (C.At j order) piece lines new built is = cc
-step_has setup old C.ThreadsGo piece lines new built is = cc
-step_has setup old C.ThreadsJoin piece lines new built is = cc
+step_has setup old (C.GcNow want) piece lines new other is = collects setup want old piece lines new is
+step_has setup old (C.Sweep n) piece lines new other is = sweeps setup old _ lines new is.1
+step_has setup old C.SweepAll piece lines new other is = sweeps setup old _ lines new is.1
+step_has setup old C.Stat piece lines new other is = alone (L.Objects (objects_of old.nodes) (used_of old.nodes) is.1.0) lines is.1.2 (λ node. node)
+step_has setup old C.GcStart piece lines new other is = starts setup old piece lines new is
+step_has setup old (C.GcStep n) piece lines new other is = steps old n lines new is.1
+step_has setup old (C.GcFinish want) piece lines new other is = finishes setup want old piece lines new is
+step_has setup old (C.Export p x) piece lines new other is = exports old p x piece lines new is
+step_has setup old (C.Import x p) piece lines new other is = imports old x p piece lines new is
+step_has setup old (C.At j order) piece lines new other is = elim is.1 [ inl memory ↦ alone L.Memory lines memory.0 (λ node. node) | inr done ↦ alone L.Queued lines done.0 (λ node. node) ]
+step_has setup old C.ThreadsGo piece lines new other is =
+    elim is.1 [ inl memory ↦ alone L.Memory lines memory.0 (λ node. node) | inr done ↦ alone (L.Going (length (threads_with_orders old))) lines done.0 (λ node. node) ]
+step_has setup old C.ThreadsJoin piece lines new other is = absurd (other refl)
 
 -- ---- which line that is
 
@@ -302,10 +302,10 @@ answers _ = inr (inr (λ line other. other))
 
 module _
     (setup : Setup) (old : State) (command : Command) (piece : List Entry) (o : Printed) (ran : List (ℕ × ℕ)) (last : Line) (new : State)
-    (built : is_built command ≡ true) (is : Step setup old command piece (lines_with o ran last) new) where
+    (other : command ≡ C.ThreadsJoin → ⊥) (is : Step setup old command piece (lines_with o ran last) new) where
   last_answers : IsNoAnswer command last → ⊥
   last_answers =
-      (let has : HasLine (IsNoAnswer command) (lines_with o ran last) = step_has setup old command piece (lines_with o ran last) new built is in
+      (let has : HasLine (IsNoAnswer command) (lines_with o ran last) = step_has setup old command piece (lines_with o ran last) new other is in
       first_plain (IsNoAnswer command) (wider command) o.numbers has.numbers last has.line has.others o.prefinalises ran has.lines_are has.plain)
 
   -- the line of a command's outcome after those of the finalised nodes tells no node

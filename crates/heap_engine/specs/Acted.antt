@@ -1,25 +1,32 @@
 -- What a command does to a heap.
 use Rattle.std.specs.Prelude.{◌≡◌, ℕ, ◌+◌, ◌++◌, true, false, [], ◌∷◌, length, Contains}
 use Rattle.gc_graph.specs.declared.command.Command.{Command}
+use Rattle.gc_graph.specs.declared.command.Command.TheVariants as C
 use Rattle.gc_graph.specs.declared.line.Line.TheVariants as L
 use Rattle.gc_graph.specs.Graph.{IsWithin}
 use Rattle.gc_graph.specs.Reach.{HoldsAll}
+use Rattle.gc_graph.specs.RegionSteps.{HasDoneFirst}
 use Rattle.gc_graph.specs.State.{slot_targets, strong_region_targets}
 use Rattle.gc_graph.specs.Step.{Step}
 use Rattle.heap_cycle.specs.Cycles.{HasNoRefusedPush}
 use Rattle.heap_cycle.specs.Walks.{IsWalkToldIn}
-use Rattle.heap_engine.specs.View.{View}
+use Rattle.heap_engine.specs.Going.{AreTotalsOf}
+use Rattle.heap_engine.specs.View.{View, going_after}
 
--- the command is a step to the new state, which takes this piece of the region's history and tells these lines, so many; after it no
--- thread runs, one command more is counted, the piece follows the history, and the heap isn't closed; a pause line tells truly
+-- the command is a step to the new state, which takes this piece of the region's history and tells these lines, so many; one command
+-- more is counted, the piece follows the history, and the heap isn't closed; nothing is ahead where no join is awaited; a thread that
+-- runs has done the first of its orders, and the totals that a join tells are those just before the threads went; a pause line tells truly
 -- whether the heap was walked; where a cycle was started, what the strong slots name is marked, those of the region among them; and
 -- where its step tells that it is done, each marked node is traced, unless a push was refused in the cycle
 pub record IsActed (old new : View) (command : Command) (lines : ℕ) : Type 0 where
   pub step : Step old.setup old.state command new.piece new.lines new.state
   pub count : lines ≡ length new.lines
-  pub alone : new.state.running ≡ []
   pub ordinal : new.state.ordinal ≡ old.state.ordinal + 1
   pub history : new.history ≡ old.history ++ new.piece
+  pub ahead : new.state.awaiting ≡ false → new.ahead ≡ []
+  pub unjoined : (j : ℕ) → Contains new.state.running j → HasDoneFirst new.state new.state.unprinted j
+  pub going : new.going ≡ going_after command old.state old.going
+  pub totals : command ≡ C.ThreadsJoin → AreTotalsOf old.going new.lines
   pub setup : new.setup ≡ old.setup
   pub closed : new.closed ≡ false
   pub walked : IsWalkToldIn old.state.phase old.refusals new.refusals new.lines

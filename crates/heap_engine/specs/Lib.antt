@@ -1,5 +1,6 @@
 pub mod View
 pub mod FieldSteps
+pub mod Going
 pub mod Alone
 pub mod Sound
 pub mod Acted

@@ -1,5 +1,7 @@
 -- How a heap's fields are seen, and what is true of them.
-use Rattle.std.specs.Prelude.{◌*◌, ◌≤◌}
+use Rattle.std.specs.Prelude.{◌≡◌, ◌*◌, ◌≤◌, true, [], ◌++◌, Some}
+use Rattle.gc_graph.specs.declared.line.Line.{Line}
+use Rattle.gc_graph.specs.ThreadLaw.{IsCounted}
 use Rattle.marker_core.specs.Bodies.{holds}
 use Rattle.page_space.specs.Pages.{word_count}
 use Rattle.cross_thread_region.specs.Histories.{entries_of}
@@ -7,9 +9,11 @@ use Rattle.nodes_in_words.specs.Places.{kept_of}
 use Rattle.heap_objects.specs.Objects.{told_of}
 use Rattle.heap_engine.specs.declared.heap_core.Core.TheInside.{Inside}
 use Rattle.heap_engine.specs.View.{View}
-use Rattle.heap_cycle.specs.Printed.{outcome_lines, IsOutcome}
+use Rattle.heap_cycle.specs.Printed.{Printed, outcome_lines, IsOutcome}
 use Rattle.heap_cycle.specs.Parts.{setup_of, state_of, IsReady}
-use Rattle.heap_cycle.specs.Region.{HasRegion, made}
+use Rattle.heap_cycle.specs.Region.{made}
+use Rattle.heap_cycle.specs.Shared.{HasShared, ahead_of, taken_of, told_lines}
+use Rattle.heap_engine.specs.Going.{AreTotalsOf, HasTold}
 
 -- a heap as its callers see it
 abbrev pub view_of : Inside → View
@@ -18,16 +22,29 @@ view_of h = record {
   state = state_of h.parts;
   marked = kept_of (holds h.parts.objects.seat.marked) h.parts.objects.nodes;
   traced = kept_of (holds h.parts.objects.seat.traced) h.parts.objects.nodes;
-  history = entries_of h.region;
-  lines = outcome_lines h.outcome h.parts.cycle.ran;
-  piece = made h.before.value h.region;
+  history = entries_of (taken_of h.shared);
+  ahead = entries_of (ahead_of h.shared);
+  going = h.going.value;
+  lines = told_lines h.shared ++ outcome_lines h.outcome h.parts.cycle.ran;
+  piece = made h.before.value (taken_of h.shared);
   refusals = told_of h.parts.objects;
   closed = h.closed;
 }
 
--- the parts are ready, the region is theirs, the outcome is one of a command, and it has room for all nodes that a sweep can finalise
+-- the outcome of a join: no node was finalised, and it has its last line
+pub record IsOfJoin (o : Printed) : Type 0 where
+  pub line : Line
+  pub last : o.last ≡ Some line
+  pub numbers : o.numbers ≡ []
+
+-- the parts are ready, the region is theirs, with its threads, whose replies tell the totals just before they went; the outcome is one
+-- of a command, and has room for all nodes that a sweep can finalise; and what is counted stays within bounds
 pub record IsSound (h : Inside) : Type 0 where
   pub ready : IsReady h.parts
-  pub shared : HasRegion h.parts h.region
+  pub shared : HasShared h.parts h.shared
+  pub replies : HasTold h.shared
+  pub totals : AreTotalsOf h.going.value h.shared.threads.replies
+  pub joined : h.shared.telling ≡ true → IsOfJoin h.outcome
+  pub counted : IsCounted (state_of h.parts)
   pub told : IsOutcome h.outcome h.parts.cycle.ran
   pub room : word_count h.parts.objects.shape ≤ 2 * h.outcome.room

@@ -1,19 +1,24 @@
 -- A heap as its callers see it.
 use Rattle.std.specs.Prelude.{Bool, List}
+use Rattle.gc_graph.specs.declared.command.Command.{Command}
+use Rattle.gc_graph.specs.declared.command.Command.TheVariants as C
 use Rattle.gc_graph.specs.declared.line.Line.{Line}
 use Rattle.gc_graph.specs.declared.region.Entry.{Entry}
 use Rattle.gc_graph.specs.State.{Setup, State}
 use Rattle.heap_objects.specs.Refused.{RefusalsTold, none_refused}
 
--- what was set up, the state of the graph, whether each node is marked and whether it is traced, the region's history, the
--- lines of the last outcome and the piece of the history that it took, how many pushes and notes were refused until now and until
--- marking began, and whether the heap was closed
+-- what was set up, the state of the graph, whether each node is marked and whether it is traced, the region's history as far as
+-- commands have taken it, the entries that threads made after that, the state just before threads went last, the lines of the last
+-- outcome and the piece of the history that it took, how many pushes and notes were refused until now and until marking began, and
+-- whether the heap was closed
 pub record View : Type 0 where
   pub setup : Setup
   pub state : State
   pub marked : List Bool
   pub traced : List Bool
   pub history : List Entry
+  pub ahead : List Entry
+  pub going : State
   pub lines : List Line
   pub piece : List Entry
   pub refusals : RefusalsTold
@@ -22,3 +27,8 @@ pub record View : Type 0 where
 -- what a new heap tells of refusals: there were none
 abbrev pub no_refusals : RefusalsTold
 no_refusals = record { now = none_refused; since = none_refused }
+
+-- the state just before threads went last, after a command
+abbrev pub going_after : Command → State → State → State
+going_after C.ThreadsGo before going = before
+going_after _ before going = going

@@ -6,7 +6,7 @@ ghost use Rattle.std.specs.Prelude.{IfOk, IfSome, IfNone, slice_get};
 ghost use Rattle.gc_graph.specs.declared.line.Line.{Line};
 ghost use Rattle.gc_graph.specs.State.{empty_state};
 ghost use Rattle.gc_graph.specs.Outcomes.{finalise_lines};
-ghost use Rattle.built_forms.specs.Built.{is_built};
+ghost use Rattle.gc_graph.specs.Sections.{IsInSection};
 ghost use Rattle.gc_graph.specs.Lawful.{IsAllowed, IsEndLine};
 ghost use Rattle.gc_graph.specs.Shapes.{IsShape};
 ghost use Rattle.callback_table.specs.Table.{kinds_of};
@@ -38,7 +38,8 @@ pub struct Heap<'a> {
 
 impl<'a> Heap<'a> {
     /// An empty heap for objects of these types, which takes all the memory that its commands need
-    /// but for collections, prefinalizers and the owner's calls on the region. Want of memory is free.
+    /// but for collections, prefinalizers, calls on the region and orders of threads. Want of memory
+    /// is free.
     pub fn new(
         alloc: Global,
         config: Config,
@@ -55,6 +56,7 @@ impl<'a> Heap<'a> {
         }) }
         ensures state { IfOk result (λ h. h.core.state ≡ empty_state) }
         ensures history { IfOk result (λ h. h.core.history ≡ []) }
+        ensures ahead { IfOk result (λ h. h.core.ahead ≡ []) }
         ensures lines { IfOk result (λ h. h.core.lines ≡ []) }
         ensures closed { IfOk result (λ h. h.core.closed ≡ false) }
         ensures marked { IfOk result (λ h. h.core.marked ≡ []) }
@@ -70,7 +72,7 @@ impl<'a> Heap<'a> {
         requires few { self.old.core.state.ordinal < 1000000 }
         requires opened { self.old.core.closed ≡ false }
         requires allowed { IsAllowed (length self.old.core.setup.types) command.now }
-        requires built { is_built command.now ≡ true }
+        requires section { IsInSection self.old.core.state.awaiting command.now }
         ensures acted { IsActed self.old.core self.new.core command.now result }
     {
         self.core.act(command, self.callbacks)

@@ -1,12 +1,13 @@
-// The parts of a heap, with the region beside them. Each command is one step of the graph; `commands`
-// and the files below it do them.
+// The parts of a heap, with the region and the script's threads beside them. Each command is one step of
+// the graph; `commands` and the files below it do them.
 
 ghost use Rattle.std.specs.Prelude.{◌≡◌, ◌<◌};
 ghost use Rattle.std.specs.Prelude.{true, false, [], ◌∷◌, length, take, Some};
 ghost use Rattle.std.specs.Prelude.{◌≤◌, IfOk, IfSome, IfNone, slice_get};
 ghost use Rattle.gc_graph.specs.declared.line.Line.{Line};
 ghost use Rattle.gc_graph.specs.State.{empty_state};
-ghost use Rattle.built_forms.specs.Built.{is_built};
+ghost use Rattle.gc_graph.specs.Sections.{IsInSection};
+ghost use Rattle.gc_graph.specs.declared.command.Command.TheVariants as C;
 ghost use Rattle.gc_graph.specs.Outcomes.{finalise_lines};
 ghost use Rattle.gc_graph.specs.Lawful.{IsAllowed, IsEndLine};
 ghost use Rattle.gc_graph.specs.Shapes.{IsShape};
@@ -17,13 +18,14 @@ ghost use Rattle.heap_engine.specs.View.{no_refusals};
 ghost use Rattle.heap_cycle.specs.Printed.{finalised_in, TellsNode};
 
 use crate::commands::run;
+use crate::going::after;
 use crate::heap::Config;
 use callback_table::CallbackTable;
 use cross_thread_region::Histories;
 use gc_graph::{Command, Line, NoMemory};
 use ghost_values::GhostValue;
-use heap_cycle::{Cycle, Outcome, Parts};
-use heap_handles::{Handles, RegionHandles};
+use heap_cycle::{Cycle, Outcome, Parts, Shared, States};
+use heap_handles::Handles;
 use heap_objects::Objects;
 use std::alloc::Global;
 use std::marker::Model;
@@ -33,9 +35,11 @@ use type_table::TypeTable;
 #[derive(Drop)]
 pub struct Core {
     parts: Parts,
-    region: RegionHandles,
-    /// The region's history just before the last command.
+    shared: Shared,
+    /// What commands had taken of the region's history just before the last one.
     before: GhostValue<Histories>,
+    /// The state just before threads went last.
+    going: GhostValue<States>,
     outcome: Outcome,
     closed: bool,
 }
@@ -70,6 +74,7 @@ impl Core {
         }) }
         ensures state { IfOk result (λ h. h.state ≡ empty_state) }
         ensures history { IfOk result (λ h. h.history ≡ []) }
+        ensures ahead { IfOk result (λ h. h.ahead ≡ []) }
         ensures lines { IfOk result (λ h. h.lines ≡ []) }
         ensures closed { IfOk result (λ h. h.closed ≡ false) }
         ensures marked { IfOk result (λ h. h.marked ≡ []) }
@@ -82,7 +87,7 @@ impl Core {
         let objects = Objects::new(alloc, config.pages, config.page_words, types, callbacks)?;
         let outcome = Outcome::new(alloc, objects.word_count() as usize / 2 + 1)?;
         let handles = Handles::new(alloc)?;
-        let region = RegionHandles::new(alloc)?;
+        let shared = Shared::new(alloc)?;
         let cycle = Cycle::new(alloc, config.pages);
         Ok(Core {
             parts: Parts {
@@ -90,8 +95,9 @@ impl Core {
                 handles,
                 cycle,
             },
-            before: region.history(),
-            region,
+            before: shared.history(),
+            shared,
+            going: heap_cycle::empty_state(),
             outcome,
             closed: false,
         })
@@ -101,25 +107,61 @@ impl Core {
         requires few { self.old.state.ordinal < 1000000 }
         requires opened { self.old.closed ≡ false }
         requires allowed { IsAllowed (length self.old.setup.types) command.now }
-        requires built { is_built command.now ≡ true }
+        requires section { IsInSection self.old.state.awaiting command.now }
+        requires kinds { kinds_of callbacks.now ≡ self.old.setup.callbacks }
+        ensures acted { IsActed self.old self.new command.now result }
+    {
+        match command {
+            Command::ThreadsJoin => self.join(),
+            _ => self.run(command, callbacks),
+        }
+    }
+
+    /// Does a command that is no join.
+    fn run(&mut self, command: &Command, callbacks: &CallbackTable) -> u32
+        requires few { self.old.state.ordinal < 1000000 }
+        requires opened { self.old.closed ≡ false }
+        requires allowed { IsAllowed (length self.old.setup.types) command.now }
+        requires section { IsInSection self.old.state.awaiting command.now }
+        requires other { ¬ (command.now ≡ C.ThreadsJoin) }
         requires kinds { kinds_of callbacks.now ≡ self.old.setup.callbacks }
         ensures acted { IsActed self.old self.new command.now result }
     {
         self.parts.objects.shape_is_valid();
         gc_graph::step_keeps_valid();
-        self.before = self.region.history();
+        gc_graph::steps_count();
+        self.before = self.shared.history();
+        self.going = after(&self.going, &self.parts, command);
         self.outcome.begin();
+        self.shared.begin();
         let line = run(
             &mut self.parts,
-            &mut self.region,
+            &mut self.shared,
             &mut self.outcome,
             callbacks,
             command,
         );
         self.outcome.end(line);
         self.parts.cycle.count_command();
-        self.parts.cycle.is_owners_alone();
         self.outcome.count(self.parts.cycle.ran())
+    }
+
+    /// Joins the threads: their replies are told, and the entries that were not printed.
+    fn join(&mut self) -> u32
+        requires few { self.old.state.ordinal < 1000000 }
+        requires opened { self.old.closed ≡ false }
+        requires awaited { self.old.state.awaiting ≡ true }
+        ensures acted { IsActed self.old self.new C.ThreadsJoin result }
+    {
+        gc_graph::step_keeps_valid();
+        gc_graph::steps_count();
+        self.parts.objects.shape_is_valid();
+        self.before = self.shared.history();
+        self.outcome.begin();
+        let count = heap_cycle::join(&mut self.parts, &mut self.shared);
+        self.outcome.end(Line::Joined { m: count });
+        self.parts.cycle.count_command();
+        self.shared.told_count() + 1
     }
 
     pub fn line(&mut self, index: u32) -> Line
@@ -127,13 +169,20 @@ impl Core {
         ensures line { slice_get self.old.lines index ≡ Some result }
         ensures same { self.new ≡ self.old }
     {
-        self.outcome.line(index, self.parts.cycle.ran())
+        let told = self.shared.told_count();
+        if index < told {
+            return self.shared.told_line(index);
+        }
+        self.outcome.line(index - told, self.parts.cycle.ran())
     }
 
     pub fn only_line(&self) -> Option<&Line>
         ensures line { IfSome result (λ line. self.now.lines ≡ line.now ∷ []) }
         ensures none { IfNone result ((line : Line) → self.now.lines ≡ line ∷ [] → TellsNode line) }
     {
+        if self.shared.told_count() > 0 {
+            return None;
+        }
         self.outcome.only_line()
     }
 

@@ -4,33 +4,32 @@
 ghost use Rattle.std.specs.Prelude.{◌≡◌, ◌<◌, [], ◌∷◌};
 ghost use Rattle.gc_graph.specs.Outcomes.{answered};
 ghost use Rattle.gc_graph.specs.RegionSteps.{StepExport, StepImport};
-ghost use Rattle.cross_thread_region.specs.Calls.{Begins};
 ghost use Rattle.heap_cycle.specs.Parts.{state_of, counted, IsReady, IsFrame};
-ghost use Rattle.heap_cycle.specs.Region.{HasRegion, made};
+ghost use Rattle.heap_cycle.specs.Region.{HasRegion};
+ghost use Rattle.heap_cycle.specs.Shared.{piece_of, taken_of, HasShared, MayTake};
 
 use crate::fields::line_of;
 use gc_graph::{Line, NoMemory, Refusal};
-use heap_cycle::Parts;
-use heap_handles::RegionHandles;
+use heap_cycle::{Parts, Shared};
 
 /// Slot x of the region becomes strong for what slot p names. Want of memory is free.
 #[inline(never)]
-pub fn export(parts: &mut Parts, region: &mut RegionHandles, p: u32, x: u32) -> Line
+pub fn export(parts: &mut Parts, shared: &mut Shared, p: u32, x: u32) -> Line
     requires ready { IsReady parts.old }
-    requires shared { HasRegion parts.old region.old }
+    requires shared { HasShared parts.old shared.old }
     requires from { p < 256 }
     requires into { x < 32 }
-    ensures step { StepExport (state_of parts.old) p x (made region.old region.new)
+    ensures step { StepExport (state_of parts.old) p x (piece_of shared.old shared.new)
         (result ∷ []) (answered (state_of parts.new)) }
     ensures frame { IsFrame parts.old (counted parts.new) result }
-    ensures shared { HasRegion parts.new region.new }
-    ensures grown { Begins region.old region.new }
+    ensures shared { HasRegion parts.new (taken_of shared.new) }
+    ensures grown { MayTake shared.old shared.new }
 {
     let Some(place) = parts.handles.place(p) else {
         return Line::Refused(Refusal::Null);
     };
     let number = parts.objects.number_at(place);
-    match heap_cycle::export(parts, region, x, number, place) {
+    match heap_cycle::export(parts, shared, x, number, place) {
         Ok(()) => Line::Fine,
         Err(NoMemory) => Line::Memory,
     }
@@ -39,18 +38,18 @@ pub fn export(parts: &mut Parts, region: &mut RegionHandles, p: u32, x: u32) -> 
 /// Slot p gets what slot x of the region names; from a weak slot it is a weak read. Want of memory
 /// is free.
 #[inline(never)]
-pub fn import(parts: &mut Parts, region: &mut RegionHandles, x: u32, p: u32) -> Line
+pub fn import(parts: &mut Parts, shared: &mut Shared, x: u32, p: u32) -> Line
     requires ready { IsReady parts.old }
-    requires shared { HasRegion parts.old region.old }
+    requires shared { HasShared parts.old shared.old }
     requires from { x < 32 }
     requires into { p < 256 }
-    ensures step { StepImport (state_of parts.old) x p (made region.old region.new)
+    ensures step { StepImport (state_of parts.old) x p (piece_of shared.old shared.new)
         (result ∷ []) (answered (state_of parts.new)) }
     ensures frame { IsFrame parts.old (counted parts.new) result }
-    ensures shared { HasRegion parts.new region.new }
-    ensures grown { Begins region.old region.new }
+    ensures shared { HasRegion parts.new (taken_of shared.new) }
+    ensures grown { MayTake shared.old shared.new }
 {
-    match heap_cycle::import(parts, region, x) {
+    match heap_cycle::import(parts, shared, x) {
         Ok(target) => {
             parts.handles.put(p, target);
             line_of(target)

@@ -2,7 +2,7 @@ use Rattle.std.proofs.Common.{◌≡◌, ℕ, get_or, None, Some, sym, ◌∙◌
 use Rattle.gc_graph.specs.declared.region.Op.TheVariants as O
 use Rattle.heap_objects.specs.Objects.{IsLiveAt}
 use Rattle.heap_cycle.specs.declared.parts.Parts.{Parts}
-use Rattle.heap_cycle.specs.Region.{HasTaken}
+use Rattle.heap_cycle.specs.Shared.{HasTaken}
 use Rattle.heap_cycle.specs.Ties.{slot_names}
 use Rattle.heap_engine.proofs.SharedSteps.{step_exported}
 use Rattle.heap_engine.proofs.shared.export.Goals as goal
@@ -24,6 +24,6 @@ pub returns-in-Ok-clause-step : goal.returns-in-Ok-clause-step
 returns-in-Ok-clause-step c =
     let s : Parts = c.args.parts.now in
     let is = slot_names s c.args.p c.in-Some.place c.requires.ready (sym c.place.ensures ∙ c.in-Some.is) in
-    step_exported s c.export.new.parts c.args.region.now c.export.new.region c.args.p c.args.x is.0 is.1
-    (subst (λ n. HasTaken (O.Export c.args.x n) s c.args.region.now c.export.new.parts c.export.new.region) (c.number_at-number.ensures.number is.0 is.2)
+    step_exported s c.export.new.parts c.args.shared.now c.export.new.shared c.args.p c.args.x is.0 is.1
+    (subst (λ n. HasTaken (O.Export c.args.x n) s c.args.shared.now c.export.new.parts c.export.new.shared) (c.number_at-number.ensures.number is.0 is.2)
     (rw (← c.number_at-number.ensures.same) c.in-Ok.ensures.made))

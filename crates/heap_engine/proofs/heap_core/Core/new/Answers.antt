@@ -1,37 +1,43 @@
-use Rattle.std.proofs.Common.{◌≡◌, sym, ap, subst, arith}
+use Rattle.std.proofs.Common.{◌≡◌, ◌++◌, sym, ap, ◌∙◌, subst, arith}
+use Rattle.std.proofs.lemmas.Bool.{true≢false}
 use Rattle.gc_graph.specs.State.{Shape}
 use Rattle.callback_table.specs.Table.{kinds_of}
 use Rattle.marker_core.specs.Bodies.{holds}
+use Rattle.cross_thread_region.specs.Histories.{entries_of}
 use Rattle.nodes_in_words.specs.Places.{kept_of}
 use Rattle.heap_objects.specs.Objects.{told_of}
 use Rattle.heap_cycle.specs.declared.parts.Parts.{Parts}
+use Rattle.heap_cycle.specs.declared.shared.Shared.{Shared}
 use Rattle.heap_cycle.specs.Parts.{state_of}
-use Rattle.heap_cycle.specs.Printed.{Printed, IsOutcome}
-use Rattle.heap_engine.proofs.HeapEmpty.{empty_parts, parts_empty, ready_empty, region_empty}
+use Rattle.heap_cycle.specs.Printed.{Printed, IsOutcome, outcome_lines}
+use Rattle.heap_cycle.specs.Shared.{ahead_of, taken_of, told_lines}
+use Rattle.heap_engine.proofs.HeapEmpty.{counted_empty, empty_parts, no_totals, parts_empty, ready_empty, shared_empty, told_empty}
 use Rattle.heap_engine.proofs.heap_core.Core.new.Given as given
 use Rattle.heap_engine.proofs.heap_core.Core.new.Goals as goal
 
-pub invariant_of-result : goal.invariant_of-result
-invariant_of-result d c =
-    let shape : Shape = record { pages = c.args.config.pages; page_words = c.args.config.page_words } in
-    let parts : Parts = record { objects = c.in_ok-objects.objects; handles = c.in_ok-handles.handles; cycle = c.new-cycle.result } in
-    record {
-      ready = ready_empty parts shape c.args.types (kinds_of c.args.callbacks.now) c.empty_is_valid.ensures c.requires.called
-          (parts_empty parts shape c.args.types (kinds_of c.args.callbacks.now) c.in_ok-objects.ensures.view c.in_ok-handles.ensures c.new-cycle.ensures);
-      shared = region_empty parts shape c.args.types (kinds_of c.args.callbacks.now) c.in_ok-region.region
-          (parts_empty parts shape c.args.types (kinds_of c.args.callbacks.now) c.in_ok-objects.ensures.view c.in_ok-handles.ensures c.new-cycle.ensures) c.in_ok-region.ensures;
-      told = subst (λ (o : Printed). IsOutcome o c.new-cycle.result.ran) (sym c.in_ok-outcome.ensures) (record { ran_some = λ runs. cc; last_plain = tt });
-      room = omega (arith, ap (λ (o : Printed). o.room) c.in_ok-outcome.ensures, c.word_count.ensures);
-    }
-
 -- the parts are those of an empty heap
-are_empty : (d : given.Over) (c : goal.After-history d)
+are_empty : (d : given.Over) (c : goal.After-empty d)
     → (let parts : Parts = record { objects = c.in_ok-objects.objects; handles = c.in_ok-handles.handles; cycle = c.new-cycle.result } in
     parts ≡ empty_parts (record { pages = c.args.config.pages; page_words = c.args.config.page_words }) c.args.types (kinds_of c.args.callbacks.now))
 are_empty d c =
     parts_empty (record { objects = c.in_ok-objects.objects; handles = c.in_ok-handles.handles; cycle = c.new-cycle.result })
     (record { pages = c.args.config.pages; page_words = c.args.config.page_words }) c.args.types (kinds_of c.args.callbacks.now) c.in_ok-objects.ensures.view c.in_ok-handles.ensures
     c.new-cycle.ensures
+
+pub invariant_of-result : goal.invariant_of-result
+invariant_of-result d c =
+    let shape : Shape = record { pages = c.args.config.pages; page_words = c.args.config.page_words } in
+    let parts : Parts = record { objects = c.in_ok-objects.objects; handles = c.in_ok-handles.handles; cycle = c.new-cycle.result } in
+    record {
+      ready = ready_empty parts shape c.args.types (kinds_of c.args.callbacks.now) c.empty_is_valid.ensures c.requires.called (are_empty d c);
+      shared = shared_empty parts shape c.args.types (kinds_of c.args.callbacks.now) c.in_ok-shared.shared (are_empty d c) c.in_ok-shared.ensures;
+      replies = told_empty c.in_ok-shared.shared c.in_ok-shared.ensures;
+      totals = no_totals c.empty.result.value c.in_ok-shared.shared c.in_ok-shared.ensures;
+      joined = λ telling. absurd (true≢false (sym telling ∙ ap (λ (h : Shared). h.telling) c.in_ok-shared.ensures));
+      counted = counted_empty parts shape c.args.types (kinds_of c.args.callbacks.now) (are_empty d c);
+      told = subst (λ (o : Printed). IsOutcome o c.new-cycle.result.ran) (sym c.in_ok-outcome.ensures) (record { ran_some = λ runs. cc; last_plain = tt });
+      room = omega (arith, ap (λ (o : Printed). o.room) c.in_ok-outcome.ensures, c.word_count.ensures);
+    }
 
 -- they hold what an empty state has
 pub returns-clause-state : goal.returns-clause-state
@@ -45,3 +51,14 @@ returns-clause-traced d c = ap (λ (s : Parts). kept_of (holds s.objects.seat.tr
 
 pub returns-clause-refusals : goal.returns-clause-refusals
 returns-clause-refusals d c = ap (λ (s : Parts). told_of s.objects) (are_empty d c)
+
+pub returns-clause-history : goal.returns-clause-history
+returns-clause-history d c = ap (λ (h : Shared). entries_of (taken_of h)) c.in_ok-shared.ensures
+
+pub returns-clause-ahead : goal.returns-clause-ahead
+returns-clause-ahead d c = ap (λ (h : Shared). entries_of (ahead_of h)) c.in_ok-shared.ensures
+
+pub returns-clause-lines : goal.returns-clause-lines
+returns-clause-lines d c =
+    ap (λ (h : Shared). told_lines h ++ outcome_lines c.in_ok-outcome.outcome c.new-cycle.result.ran) c.in_ok-shared.ensures
+    ∙ ap (λ (o : Printed). outcome_lines o c.new-cycle.result.ran) c.in_ok-outcome.ensures

@@ -1,13 +1,13 @@
-use Rattle.std.proofs.Common.{◌≡◌, [], ◌∷◌}
-use Rattle.heap_cycle.specs.Printed.{outcome_lines}
-use Rattle.heap_engine.proofs.OutcomeLines.{at_ran, none_at_ran}
+use Rattle.std.proofs.Common.{arith}
+use Rattle.heap_cycle.specs.Parts.{state_of}
+use Rattle.heap_engine.proofs.ThreadsTold.{is_told_by, joined_long}
 use Rattle.heap_engine.proofs.heap_core.Core.only_line.Goals as goal
 
-pub returns-clause-line : goal.returns-clause-line
-returns-clause-line c =
-    rw (← c.self.view_is)
-    (at_ran c.only_line.result (λ line ran. outcome_lines c.self.inside.outcome ran ≡ line.now ∷ []) c.self.inside.parts.cycle.ran c.only_line.ensures.line)
+pub told_count-requires : goal.told_count-requires
+told_count-requires c =
+    is_told_by (state_of c.self.inside.parts) c.self.inside.shared c.self.invariant.shared.threads c.self.invariant.replies c.self.invariant.ready.most
 
-pub returns-clause-none : goal.returns-clause-none
-returns-clause-none c =
-    rw (← c.self.view_is) (none_at_ran c.only_line.result c.self.inside.outcome c.self.inside.parts.cycle.ran c.only_line.ensures.none c.self.invariant.told.ran_some)
+pub returns-then-told_count-gt0-clause-none : goal.returns-then-told_count-gt0-clause-none
+returns-then-told_count-gt0-clause-none c =
+    rw (← c.self.view_is)
+    (joined_long c.self.inside.shared c.self.inside.outcome c.self.inside.parts.cycle.ran (omega (arith, c.if-told_count-gt0.true, c.told_count.ensures)) c.self.invariant.joined)

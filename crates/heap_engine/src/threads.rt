@@ -1,0 +1,62 @@
+// The commands on the threads of a script, but for their join (`include/cppgc/cross-thread-persistent.h`).
+
+ghost use Rattle.std.specs.Prelude.{◌≡◌, ◌≤◌, [], ◌∷◌, false};
+ghost use Rattle.gc_graph.specs.Lawful.{IsAllowedOrder};
+ghost use Rattle.gc_graph.specs.Outcomes.{answered};
+ghost use Rattle.gc_graph.specs.RegionSteps.{StepAt, StepThreadsGo};
+ghost use Rattle.gc_graph.specs.ThreadLaw.{IsCounted};
+ghost use Rattle.heap_cycle.specs.Parts.{state_of, counted, IsReady, IsFrame};
+ghost use Rattle.heap_cycle.specs.Shared.{taken_of, HasShared};
+ghost use Rattle.heap_engine.specs.Going.{HasTold, AreTotalsOf};
+
+use gc_graph::{Line, NoMemory, Order};
+use heap_cycle::{Parts, Shared};
+
+/// The order waits for its thread. Want of memory is free.
+#[inline(never)]
+pub fn at(parts: &mut Parts, shared: &mut Shared, j: u32, order: Order) -> Line
+    requires ready { IsReady parts.old }
+    requires shared { HasShared parts.old shared.old }
+    requires told { HasTold shared.old }
+    requires quiet { shared.old.telling ≡ false }
+    requires joined { parts.old.cycle.rest.awaiting ≡ false }
+    requires first { 1 ≤ j }
+    requires last { j ≤ 8 }
+    requires allowed { IsAllowedOrder order }
+    ensures step { StepAt (state_of parts.old) j order (result ∷ [])
+        (answered (state_of parts.new)) }
+    ensures frame { IsFrame parts.old (counted parts.new) result }
+    ensures shared { HasShared (counted parts.new) shared.new }
+    ensures taken { taken_of shared.new ≡ taken_of shared.old }
+    ensures told { HasTold shared.new }
+    ensures quiet { shared.new.telling ≡ false }
+    ensures replies { shared.new.threads.replies ≡ shared.old.threads.replies }
+{
+    match heap_cycle::queue(parts, shared, j, order) {
+        Ok(()) => Line::Queued,
+        Err(NoMemory) => Line::Memory,
+    }
+}
+
+/// The threads that have orders do them.
+#[inline(never)]
+pub fn go(parts: &mut Parts, shared: &mut Shared) -> Line
+    requires ready { IsReady parts.old }
+    requires shared { HasShared parts.old shared.old }
+    requires told { HasTold shared.old }
+    requires quiet { shared.old.telling ≡ false }
+    requires joined { parts.old.cycle.rest.awaiting ≡ false }
+    requires counted { IsCounted (state_of parts.old) }
+    ensures step { StepThreadsGo (state_of parts.old) (result ∷ [])
+        (answered (state_of parts.new)) }
+    ensures frame { IsFrame parts.old (counted parts.new) result }
+    ensures shared { HasShared (counted parts.new) shared.new }
+    ensures taken { taken_of shared.new ≡ taken_of shared.old }
+    ensures told { HasTold shared.new }
+    ensures quiet { shared.new.telling ≡ false }
+    ensures totals { AreTotalsOf (state_of parts.old) shared.new.threads.replies }
+{
+    Line::Going {
+        m: heap_cycle::go(parts, shared),
+    }
+}
