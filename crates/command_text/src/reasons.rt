@@ -26,8 +26,5 @@ pub const SECTION: u32 = 7;
 /// There are too many bytes or lines.
 pub const TOO_LONG: u32 = 8;
 
-/// The line has a fault, or says what isn't built.
-pub const NOT_BUILT: u32 = 9;
-
 /// The rank of words that give no reason.
 pub const FAULTLESS: u32 = 9;

@@ -1,4 +1,3 @@
-pub mod BuiltScripts
 pub mod HeaderLine
 pub mod LineReasons
 pub mod LinesInTurn

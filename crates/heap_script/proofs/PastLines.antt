@@ -9,14 +9,12 @@ use Rattle.std.proofs.lemmas.List.Folds.{list_any_more}
 use Rattle.std.proofs.lemmas.List.Sums.{fold_more, count_by_more_yes, count_by_more_no}
 use Rattle.gc_graph.specs.declared.command.Command.{Command}
 use Rattle.gc_graph.specs.State.{ObjectType}
-use Rattle.built_forms.specs.Built.{is_built}
 use Rattle.std.specs.Cmp.Lexicographic.{bytes_decides}
 use Rattle.gc_graph.specs.Words.{words_of, is_text, is_blank}
 use Rattle.gc_graph.specs.Reasons.{Reason, first_is, reason_of_words, command_of_words, type_of_words}
 use Rattle.gc_graph.specs.Reasons.Reason.{Order, Section}
 use Rattle.gc_graph.specs.Script.{Threads, is_type, is_command, threads_of, threads_after, breaks_section, reason_by_order, bounds_after}
 use Rattle.gc_graph.specs.Script.Threads.{AtRest}
-use Rattle.heap_script.specs.Scripts.{holds_built_command, says_built}
 use Rattle.heap_script.specs.declared.past.Past.{Past}
 use Rattle.heap_script.specs.declared.script_lines.Kept.{Kept}
 use Rattle.heap_script.specs.Past.{threads_in, past_header, with_blank, bounds_in, reason_with, reason_after, IsTypeKept, IsCommandKept}
@@ -175,11 +173,3 @@ judged_is callbacks before words line past types commands read some are =
     ∙ ap (λ (ws : List (List ℕ)). reason_by_order before ws false (reason_of_words (bounds_after callbacks before) ws)) are
     ∙ ap (λ n. reason_by_order before words false (reason_of_words (record { types = n; callbacks = callbacks }) words)) read.counted
     ∙ by_past before words past (reason_of_words (bounds_in callbacks past) words) read.bare read.threads
-
--- ---- what the next line says
-
-pub type_says : (words : List (List ℕ)) → first_is (codes "type") words ≡ true → says_built words ≡ true
-type_says words plain = ap holds_built_command (no_command words plain)
-
-pub command_says : (words : List (List ℕ)) (command : Command) → command_of_words words ≡ Some command → says_built words ≡ is_built command
-command_says words command says = ap holds_built_command says

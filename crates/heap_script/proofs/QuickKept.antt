@@ -11,18 +11,18 @@ use Rattle.heap_script.specs.declared.script_lines.Kept.{Kept}
 use Rattle.heap_script.specs.Past.{bounds_in, IsCommandAdded, IsLineRead, IsPlain}
 use Rattle.heap_script.proofs.LineReasons.{command_fine}
 
--- a frequent command is built, and no thread's order
+-- a frequent command is no thread's order
 pub frequent_plain : (command : Command) → is_frequent command ≡ true → IsPlain command
-frequent_plain (C.New p t e) is = record { built = refl; timely = λ stage. refl; stays = λ stage. refl }
-frequent_plain (C.SetNull p f) is = record { built = refl; timely = λ stage. refl; stays = λ stage. refl }
-frequent_plain (C.Set p f q) is = record { built = refl; timely = λ stage. refl; stays = λ stage. refl }
-frequent_plain (C.Put p f n) is = record { built = refl; timely = λ stage. refl; stays = λ stage. refl }
-frequent_plain (C.Word p f) is = record { built = refl; timely = λ stage. refl; stays = λ stage. refl }
-frequent_plain (C.Get p f q) is = record { built = refl; timely = λ stage. refl; stays = λ stage. refl }
-frequent_plain (C.Copy p q) is = record { built = refl; timely = λ stage. refl; stays = λ stage. refl }
-frequent_plain (C.Drop p) is = record { built = refl; timely = λ stage. refl; stays = λ stage. refl }
-frequent_plain (C.Weak w p) is = record { built = refl; timely = λ stage. refl; stays = λ stage. refl }
-frequent_plain (C.Read w p) is = record { built = refl; timely = λ stage. refl; stays = λ stage. refl }
+frequent_plain (C.New p t e) is = record { timely = λ stage. refl; stays = λ stage. refl }
+frequent_plain (C.SetNull p f) is = record { timely = λ stage. refl; stays = λ stage. refl }
+frequent_plain (C.Set p f q) is = record { timely = λ stage. refl; stays = λ stage. refl }
+frequent_plain (C.Put p f n) is = record { timely = λ stage. refl; stays = λ stage. refl }
+frequent_plain (C.Word p f) is = record { timely = λ stage. refl; stays = λ stage. refl }
+frequent_plain (C.Get p f q) is = record { timely = λ stage. refl; stays = λ stage. refl }
+frequent_plain (C.Copy p q) is = record { timely = λ stage. refl; stays = λ stage. refl }
+frequent_plain (C.Drop p) is = record { timely = λ stage. refl; stays = λ stage. refl }
+frequent_plain (C.Weak w p) is = record { timely = λ stage. refl; stays = λ stage. refl }
+frequent_plain (C.Read w p) is = record { timely = λ stage. refl; stays = λ stage. refl }
 frequent_plain command is = absurd (true≢false (sym is))
 
 some_words : (words : List (List ℕ)) (command : Command) → command_of_words words ≡ Some command → (length words == 0) ≡ false

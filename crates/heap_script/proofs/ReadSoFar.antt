@@ -1,36 +1,22 @@
 -- The lines that were read so far, with one more.
-use Rattle.std.proofs.Common.{◌≡◌, ℕ, ◌+◌, ◌<◌, ◌≤◌, ◌==◌, ◌&&◌, Bool, true, false, not, None, List, [], ◌∷◌, length, get_or, take, drop, refl, sym, ap, ◌∙◌, subst, inl, inr, ◌⊎◌, arith, below_more}
-use Rattle.std.proofs.lemmas.Bool.{cases_Bool, cond-true, cond-false, and_from, and_left, and_right, eq-eqb, ne_eqb}
+use Rattle.std.proofs.Common.{◌≡◌, ℕ, ◌+◌, ◌<◌, ◌≤◌, ◌==◌, true, false, None, List, [], ◌∷◌, length, get_or, take, drop, refl, sym, ap, ◌∙◌, subst, inl, inr, ◌⊎◌, arith, below_more}
+use Rattle.std.proofs.lemmas.Bool.{cond-true}
 use Rattle.std.proofs.lemmas.List.{drop_more, length-drop}
 use Rattle.gc_graph.specs.declared.command.Command.{Command}
 use Rattle.gc_graph.specs.State.{ObjectType}
-use Rattle.built_forms.specs.Built.{is_built}
 use Rattle.gc_graph.specs.Words.{words_of, is_blank}
 use Rattle.gc_graph.specs.Script.{threads_of, threads_after}
 use Rattle.gc_graph.specs.Script.Threads.{AtRest}
-use Rattle.heap_script.specs.Scripts.{says_built}
 use Rattle.heap_script.specs.declared.past.Past.{Past}
 use Rattle.heap_script.specs.declared.script_lines.Kept.{Kept}
-use Rattle.heap_script.specs.Past.{threads_in, past_header, unbuilt_with, with_blank, reason_after, IsLineKept, IsLineRead}
+use Rattle.heap_script.specs.Past.{threads_in, past_header, with_blank, reason_after, IsLineKept, IsLineRead}
 use Rattle.heap_script.proofs.LinesJudged.{judged}
-use Rattle.heap_script.proofs.PastLines.{IsPast, nothing_read, past_blank, past_type, past_command, threads_more, judged_is, type_says, command_says}
-
--- what line j after the header says is built
-abbrev pub says_at : List (List ℕ) → ℕ → Bool
-says_at lines j = says_built (words_of (get_or lines j []))
-
--- the number of the first of n lines after the header that says what isn't built; 0 where none does
-abbrev pub IsUnbuiltIn : List (List ℕ) → ℕ → ℕ → Type 0
-IsUnbuiltIn lines n unbuilt =
-    ((unbuilt ≡ 0) × ((j : ℕ) → j < n → says_at lines j ≡ true))
-    ⊎ ((i : ℕ)
-    × (unbuilt ≡ i + 2) × (i < n) × (says_at lines i ≡ false) × ((j : ℕ) → j < i → says_at lines j ≡ true))
+use Rattle.heap_script.proofs.PastLines.{IsPast, nothing_read, past_blank, past_type, past_command, threads_more, judged_is}
 
 -- the last line with words, and the threads after it
 pub record IsLast (lines : List (List ℕ)) (n : ℕ) (past : Past) : Type 0 where
   pub first : 1 ≤ past.last
   pub within : past.last ≤ n + 1
-  pub unbuilt : past.unbuilt ≤ past.last
   pub blank : (j : ℕ) → j < n → past.last ≤ j + 1 → is_blank (get_or lines j []) ≡ true
   pub ended :
       ((past.last ≡ 1) × (threads_in past.stage ≡ AtRest))
@@ -44,7 +30,6 @@ pub record IsReadTo (callbacks : ℕ) (lines : List (List ℕ)) (n : ℕ) (past 
   pub within : n ≤ length lines
   pub say : IsPast (take n lines) past types commands
   pub fine : (j : ℕ) → j < n → judged callbacks (take j lines) (get_or lines j []) ≡ None
-  pub unbuilt : IsUnbuiltIn lines n past.unbuilt
   pub last : IsLast lines n past
 
 pub begun : (callbacks : ℕ) (lines : List (List ℕ)) → IsReadTo callbacks lines 0 past_header [] []
@@ -53,11 +38,9 @@ begun callbacks lines = record {
   within = omega arith;
   say = nothing_read;
   fine = λ j l. absurd (omega arith);
-  unbuilt = inl (refl, λ j l. absurd (omega arith));
   last = record {
     first = omega arith;
     within = omega arith;
-    unbuilt = omega arith;
     blank = λ j l. absurd (omega arith);
     ended = inl (refl, refl);
   };
@@ -76,38 +59,6 @@ pub rest_is : (lines more : List (List ℕ)) (n : ℕ) (line : List ℕ) → dro
 rest_is lines more n line e =
     ap (λ (xs : List (List ℕ)). drop 1 xs) (sym (drop_more lines n [] (next_there lines more n line e)) ∙ e)
 
--- ---- what isn't built, with one more line
-
-unbuilt_same : (lines : List (List ℕ)) (n unbuilt : ℕ) → IsUnbuiltIn lines n unbuilt → says_at lines n ≡ true → IsUnbuiltIn lines (n + 1) unbuilt
-unbuilt_same lines n unbuilt (inl (none, all)) says = inl (none, below_more (λ j. says_at lines j ≡ true) n all says)
-unbuilt_same lines n unbuilt (inr (i, is, low, at, before)) says = inr (i, is, omega arith, at, before)
-
-unbuilt_new : (lines : List (List ℕ)) (n : ℕ) (past : Past) → past.lines ≡ n + 1 → IsUnbuiltIn lines n past.unbuilt → says_at lines n ≡ false
-    → IsUnbuiltIn lines (n + 1) (unbuilt_with past false)
-unbuilt_new lines n past count (inl (none, all)) says =
-    let is : unbuilt_with past false ≡ past.lines + 1 =
-    cond-true (past.unbuilt == 0 && true) (past.lines + 1) past.unbuilt (and_from (past.unbuilt == 0) true (eq-eqb past.unbuilt 0 none) refl) in
-    inr (n, omega arith, omega arith, says, all)
-unbuilt_new lines n past count (inr (i, is, low, at, before)) says =
-    let same : unbuilt_with past false ≡ past.unbuilt =
-    cond-false (past.unbuilt == 0 && true) (past.lines + 1) past.unbuilt
-    (and_left (past.unbuilt == 0) true (ne_eqb past.unbuilt 0 (λ e. omega (arith, e, is)))) in
-    inr (i, same ∙ is, omega arith, at, before)
-
-unbuilt_more : (lines : List (List ℕ)) (n : ℕ) (past : Past) (built : Bool) → past.lines ≡ n + 1 → IsUnbuiltIn lines n past.unbuilt
-    → says_at lines n ≡ built → IsUnbuiltIn lines (n + 1) (unbuilt_with past built)
-unbuilt_more lines n past true count unbuilt says =
-    let same : unbuilt_with past true ≡ past.unbuilt =
-    cond-false (past.unbuilt == 0 && false) (past.lines + 1) past.unbuilt (and_right (past.unbuilt == 0) false refl) in
-    subst (IsUnbuiltIn lines (n + 1)) (sym same) (unbuilt_same lines n past.unbuilt unbuilt says)
-unbuilt_more lines n past false count unbuilt says = unbuilt_new lines n past count unbuilt says
-
-unbuilt_low : (past : Past) (built : Bool) → past.unbuilt ≤ past.lines + 1 → unbuilt_with past built ≤ past.lines + 1
-unbuilt_low past built low = elim (cases_Bool (past.unbuilt == 0 && not built)) [
-  | inl so ↦ omega (arith, cond-true (past.unbuilt == 0 && not built) (past.lines + 1) past.unbuilt so)
-  | inr off ↦ omega (arith, low, cond-false (past.unbuilt == 0 && not built) (past.lines + 1) past.unbuilt off)
-]
-
 -- ---- one line more
 
 blank_more : (callbacks : ℕ) (lines more : List (List ℕ)) (n : ℕ) (line : List ℕ) (past : Past) (types : List ObjectType) (commands : List Command)
@@ -122,11 +73,9 @@ blank_more callbacks lines more n line past types commands read e none =
       within = omega arith;
       say = past_blank lines n past types commands low read.say blank;
       fine = below_more (λ j. judged callbacks (take j lines) (get_or lines j []) ≡ None) n read.fine (cond-true (is_blank (get_or lines n [])) None _ blank);
-      unbuilt = unbuilt_same lines n past.unbuilt read.unbuilt (ap says_built are);
       last = record {
         first = read.last.first;
         within = omega (arith, read.last.within);
-        unbuilt = read.last.unbuilt;
         blank = below_more (λ j. past.last ≤ j + 1 → is_blank (get_or lines j []) ≡ true) n read.last.blank (λ _. blank);
         ended = elim read.last.ended [
           | inl none ↦ inl none
@@ -137,12 +86,11 @@ blank_more callbacks lines more n line past types commands read e none =
 
 -- a line with words
 words_more : (callbacks : ℕ) (lines more : List (List ℕ)) (n : ℕ) (line : List ℕ) (past next : Past) (types new_types : List ObjectType)
-    (commands new_commands : List Command) (words : List (List ℕ)) (built : Bool) → IsReadTo callbacks lines n past types commands
+    (commands new_commands : List Command) (words : List (List ℕ)) → IsReadTo callbacks lines n past types commands
     → drop n lines ≡ line ∷ more → words_of line ≡ words → is_blank line ≡ false → reason_after callbacks past words ≡ None
     → IsPast (take (n + 1) lines) next new_types new_commands → next.lines ≡ past.lines + 1 → next.last ≡ past.lines + 1
-    → next.unbuilt ≡ unbuilt_with past built → says_at lines n ≡ built
     → IsReadTo callbacks lines (n + 1) next new_types new_commands
-words_more callbacks lines more n line past next types new_types commands new_commands words built read e are some fine say count last unbuilt says =
+words_more callbacks lines more n line past next types new_types commands new_commands words read e are some fine say count last =
     let low : n < length lines = next_there lines more n line e in
     let at : get_or lines n [] ≡ line = next_is lines more n line e in
     let blank : is_blank (get_or lines n []) ≡ false = ap is_blank at ∙ some in
@@ -156,11 +104,9 @@ words_more callbacks lines more n line past next types new_types commands new_co
       within = omega arith;
       say = say;
       fine = below_more (λ j. judged callbacks (take j lines) (get_or lines j []) ≡ None) n read.fine here;
-      unbuilt = subst (IsUnbuiltIn lines (n + 1)) (sym unbuilt) (unbuilt_more lines n past built read.count read.unbuilt says);
       last = record {
         first = omega (arith, last);
         within = omega (arith, last, read.count);
-        unbuilt = omega (arith, last, unbuilt, unbuilt_low past built (omega (arith, read.last.unbuilt, read.last.within, read.count)));
         blank = λ j l h. absurd (omega (arith, last, read.count, h, l));
         ended = inr (n, omega (arith, last, read.count), omega arith, blank, threads);
       };
@@ -174,18 +120,16 @@ line_more callbacks lines more n line old new words read e are some fine (inl ke
     let low : n < length lines = next_there lines more n line e in
     let ws : words_of (get_or lines n []) ≡ words = ap words_of (next_is lines more n line e) ∙ are in
     words_more callbacks lines more n line old.past new.past old.types.items new.types.items old.commands.items new.commands.items words
-    true read e are some fine (past_type lines n old new words low read.say ws kept)
-    (ap (λ (p : Past). p.lines) kept.past) (ap (λ (p : Past). p.last) kept.past) (ap (λ (p : Past). p.unbuilt) kept.past)
-    (ap says_built ws ∙ type_says words kept.plain)
+    read e are some fine (past_type lines n old new words low read.say ws kept)
+    (ap (λ (p : Past). p.lines) kept.past) (ap (λ (p : Past). p.last) kept.past)
 line_more callbacks lines more n line old new words read e are some fine (inr kept) =
     let low : n < length lines = next_there lines more n line e in
     let at : get_or lines n [] ≡ line = next_is lines more n line e in
     let ws : words_of (get_or lines n []) ≡ words = ap words_of at ∙ are in
     words_more callbacks lines more n line old.past new.past old.types.items new.types.items old.commands.items new.commands.items words
-    (is_built kept.command) read e are some fine
+    read e are some fine
     (past_command callbacks lines n old new words low read.say ws (ap is_blank at ∙ some) fine kept)
-    (ap (λ (p : Past). p.lines) kept.past) (ap (λ (p : Past). p.last) kept.past) (ap (λ (p : Past). p.unbuilt) kept.past)
-    (ap says_built ws ∙ command_says words kept.command kept.says)
+    (ap (λ (p : Past). p.lines) kept.past) (ap (λ (p : Past). p.last) kept.past)
 
 kept_lines : (words : List (List ℕ)) (old new : Kept) → IsLineKept words old new → new.past.lines ≡ old.past.lines + 1
 kept_lines words old new (inl kept) = ap (λ (p : Past). p.lines) kept.past

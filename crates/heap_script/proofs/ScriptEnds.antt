@@ -10,16 +10,16 @@ use Rattle.gc_graph.specs.State.{ObjectType}
 use Rattle.gc_graph.specs.Words.{lines_of, words_of, is_text, is_blank}
 use Rattle.gc_graph.specs.Reasons.{Reason, number_of, command_of_words, type_of_words}
 use Rattle.gc_graph.specs.Reasons.Reason.{Header, UnknownWord, BadNumber, Count, Range, Order, Section, TooLong}
-use Rattle.gc_graph.specs.Script.{IsInLimits, is_header, are_at_rest, threads_of, threads_after, reason_at}
-use Rattle.heap_script.specs.Scripts.{says_built}
+use Rattle.gc_graph.specs.Script.{IsInLimits, IsFirstFault, is_header, are_at_rest, threads_of, threads_after, reason_at}
+use Rattle.heap_script.specs.declared.script.ScriptFault.{ScriptFault}
+use Rattle.heap_script.specs.Scripts.{IsFaultOf}
 use Rattle.heap_script.specs.declared.past.Past.{Past}
 use Rattle.heap_script.specs.Past.{threads_in, IsReasonOf, reason_after}
 use Rattle.heap_script.specs.declared.script_lines.Kept.{Kept}
-use Rattle.heap_script.specs.declared.script_reader.Stop.{Stop}
-use Rattle.heap_script.specs.Reading.{says_built_at, AreBuilt, IsUnbuiltOf, IsUnbuiltUpTo, IsWhole, IsFaultyLine, IsStopped, stop_with}
+use Rattle.heap_script.specs.Reading.{IsWhole, fault_with}
 use Rattle.heap_script.proofs.LinesJudged.{judged, blank_fine, as_judged, found_fault, at_rest_fine, last_fault, all_blank, words_follow, at_line}
 use Rattle.heap_script.proofs.PastLines.{types_of, commands_of, judged_is}
-use Rattle.heap_script.proofs.ReadSoFar.{IsReadTo, IsUnbuiltIn, says_at, next_there, next_is}
+use Rattle.heap_script.proofs.ReadSoFar.{IsReadTo, next_there, next_is}
 
 -- ---- the header
 
@@ -49,31 +49,6 @@ no_header_command header head = ap command_of_words (header_words (words_of head
 
 no_header_type : (header : List ℕ) → is_header header ≡ true → type_of_words (words_of header) ≡ None
 no_header_type header head = ap type_of_words (header_words (words_of header) head)
-
--- ---- what isn't built
-
-header_built : (header : List ℕ) (lines : List (List ℕ)) → is_header header ≡ true → says_built_at (header ∷ lines) 0 ≡ true
-header_built header lines head = ap says_built (header_words (words_of header) head)
-
-all_built : (header : List ℕ) (lines : List (List ℕ)) (n : ℕ) → is_header header ≡ true → ((j : ℕ) → j < n → says_at lines j ≡ true)
-    → AreBuilt (header ∷ lines) (n + 1)
-all_built header lines n head all =
-    at_all (λ j. says_built_at (header ∷ lines) j ≡ true) n (header_built header lines head) all
-
-unbuilt_of : (header : List ℕ) (lines : List (List ℕ)) (n unbuilt : ℕ) → is_header header ≡ true → IsUnbuiltIn lines n unbuilt
-    → IsUnbuiltOf (header ∷ lines) (n + 1) unbuilt
-unbuilt_of header lines n unbuilt head (inl (none, all)) = inl (none, all_built header lines n head all)
-unbuilt_of header lines n unbuilt head (inr (i, is, low, at, before)) = inr (
-  suc i,
-  omega (arith, is),
-  omega (arith, low),
-  record { says = at; before = λ j l. all_built header lines i head before j (omega arith) },
-)
-
-unbuilt_up_to : (lines : List (List ℕ)) (n place unbuilt : ℕ) → IsUnbuiltOf lines n unbuilt → place ≤ n → unbuilt ≤ place + 1
-    → IsUnbuiltUpTo lines place unbuilt
-unbuilt_up_to lines n place unbuilt (inl (none, all)) low few = inl (none, λ j l. all j (omega arith))
-unbuilt_up_to lines n place unbuilt (inr (i, is, below, line)) low few = inr (i, is, omega (arith, is, few), line)
 
 -- ---- lines without a fault
 
@@ -120,7 +95,7 @@ in_limits bytes few low (inl big) = absurd (omega (arith, big, few))
 in_limits bytes few low (inr many) = absurd (omega (arith, many, low))
 
 pub too_many : (callbacks : ℕ) (bytes : List ℕ) → 1000000 < length (lines_of bytes)
-    → IsStopped callbacks bytes (record { line = 0; reason = 8; unbuilt = 0 })
+    → IsFaultOf callbacks bytes (record { line = 0; reason = 8 })
 too_many callbacks bytes many = inr (inl (inr many, refl, refl))
 
 number_some : (why : Reason) → 0 < number_of why
@@ -135,45 +110,57 @@ number_some TooLong = omega arith
 
 -- ---- a fault that was found
 
-abbrev stop_on : ℕ → ℕ → ℕ → Stop
-stop_on lines reason unbuilt = record { line = lines + 1; reason = reason; unbuilt = unbuilt }
+abbrev fault_on : ℕ → ℕ → ScriptFault
+fault_on lines reason = record { line = lines + 1; reason = reason }
 
-abbrev stop_long : Stop
-stop_long = record { line = 0; reason = 8; unbuilt = 0 }
+abbrev fault_long : ScriptFault
+fault_long = record { line = 0; reason = 8 }
+
+-- the fault tells the first line that has one, and the lowest reason that it has
+record IsFaultyLine (callbacks : ℕ) (bytes : List ℕ) (fault : ScriptFault) : Type 0 where
+  limits : IsInLimits bytes
+  place : ℕ
+  why : Reason
+  line : fault.line ≡ place + 1
+  reason : fault.reason ≡ number_of why
+  first : IsFirstFault callbacks bytes place why
+
+told : (callbacks : ℕ) (bytes : List ℕ) (fault : ScriptFault) → IsFaultyLine callbacks bytes fault → IsFaultOf callbacks bytes fault
+told callbacks bytes fault h = inr (inr (h.limits, (h.place, h.why, h.line, h.reason, h.first)))
 
 abbrev is_long : ℕ → ℕ → Bool
 is_long total reason = not (reason == 0) && nat_lt 1000000 total
 
 -- the lines are counted before a reason is told
-stopped_by : (callbacks : ℕ) (bytes : List ℕ) (stop : Stop) (lines reason unbuilt : ℕ) (why : Reason)
-    → stop ≡ stop_with (length (lines_of bytes)) lines reason unbuilt → reason ≡ number_of why
-    → (length (lines_of bytes) ≤ 1000000 → IsFaultyLine callbacks bytes (stop_on lines reason unbuilt)) → IsStopped callbacks bytes stop
-stopped_by callbacks bytes stop lines reason unbuilt why is number faulty =
+stopped_by : (callbacks : ℕ) (bytes : List ℕ) (fault : ScriptFault) (lines reason : ℕ) (why : Reason)
+    → fault ≡ fault_with (length (lines_of bytes)) lines reason → reason ≡ number_of why
+    → (length (lines_of bytes) ≤ 1000000 → IsFaultyLine callbacks bytes (fault_on lines reason)) → IsFaultOf callbacks bytes fault
+stopped_by callbacks bytes fault lines reason why is number faulty =
     let total : ℕ = length (lines_of bytes) in
     let some : not (reason == 0) ≡ true = not_from_false (reason == 0) (ne_eqb reason 0 (λ e. omega (arith, number_some why, number, e))) in
     elim (cases_lt 1000000 total) [
-      | inl many ↦ subst (IsStopped callbacks bytes) (sym (is
-          ∙ cond-true (is_long total reason) stop_long (stop_on lines reason unbuilt)
+      | inl many ↦ subst (IsFaultOf callbacks bytes) (sym (is
+          ∙ cond-true (is_long total reason) fault_long (fault_on lines reason)
           (and_from (not (reason == 0)) (nat_lt 1000000 total) some (lt-ltb 1000000 total many))))
           (too_many callbacks bytes many)
-      | inr few ↦ subst (IsStopped callbacks bytes) (sym (is
-          ∙ cond-false (is_long total reason) stop_long (stop_on lines reason unbuilt)
+      | inr few ↦ subst (IsFaultOf callbacks bytes) (sym (is
+          ∙ cond-false (is_long total reason) fault_long (fault_on lines reason)
           (and_right (not (reason == 0)) (nat_lt 1000000 total) (le-ltb 1000000 total few))))
-          (inr (inr (faulty few)))
+          (told callbacks bytes (fault_on lines reason) (faulty few))
     ]
 
-no_memory : (callbacks : ℕ) (bytes : List ℕ) (stop : Stop) (total lines reason unbuilt : ℕ) → stop ≡ stop_with total lines reason unbuilt
-    → reason ≡ 0 → IsStopped callbacks bytes stop
-no_memory callbacks bytes stop total lines reason unbuilt is none =
-    inl (ap (λ (s : Stop). s.reason) (is ∙ cond-false (is_long total reason) stop_long (stop_on lines reason unbuilt)
+no_memory : (callbacks : ℕ) (bytes : List ℕ) (fault : ScriptFault) (total lines reason : ℕ) → fault ≡ fault_with total lines reason
+    → reason ≡ 0 → IsFaultOf callbacks bytes fault
+no_memory callbacks bytes fault total lines reason is none =
+    inl (ap (λ (s : ScriptFault). s.reason) (is ∙ cond-false (is_long total reason) fault_long (fault_on lines reason)
     (and_left (not (reason == 0)) (nat_lt 1000000 total) (not_from_true (reason == 0) (eq-eqb reason 0 none)))) ∙ none)
 
 -- the header is missing
-pub header_stop : (callbacks : ℕ) (bytes : List ℕ) (stop : Stop) → length bytes ≤ 16777216
-    → is_header (get_or (lines_of bytes) 0 []) ≡ false → stop ≡ stop_with (0 + length (lines_of bytes)) 0 1 0 → IsStopped callbacks bytes stop
-header_stop callbacks bytes stop few wrong is =
+pub header_stop : (callbacks : ℕ) (bytes : List ℕ) (fault : ScriptFault) → length bytes ≤ 16777216
+    → is_header (get_or (lines_of bytes) 0 []) ≡ false → fault ≡ fault_with (0 + length (lines_of bytes)) 0 1 → IsFaultOf callbacks bytes fault
+header_stop callbacks bytes fault few wrong is =
     let total : 0 + length (lines_of bytes) ≡ length (lines_of bytes) = omega arith in
-    stopped_by callbacks bytes stop 0 1 0 Header (is ∙ ap (λ n. stop_with n 0 1 0) total) refl (λ low. record {
+    stopped_by callbacks bytes fault 0 1 Header (is ∙ ap (λ n. fault_with n 0 1) total) refl (λ low. record {
       limits = in_limits bytes few low;
       place = 0;
       why = Header;
@@ -183,8 +170,6 @@ header_stop callbacks bytes stop few wrong is =
         faulty = cond-false (is_header (get_or (lines_of bytes) 0 [])) None (Some Header) wrong;
         before = λ j l. absurd (omega arith);
       };
-      there = inl refl;
-      unbuilt = inl (refl, λ j l. absurd (omega arith));
     })
 
 module _ (callbacks : ℕ) (bytes header : List ℕ) (lines : List (List ℕ)) (are : lines_of bytes ≡ header ∷ lines) (head : is_header header ≡ true)
@@ -193,7 +178,7 @@ module _ (callbacks : ℕ) (bytes header : List ℕ) (lines : List (List ℕ)) (
   faulty_line : (more : List (List ℕ)) (n : ℕ) (line : List ℕ) (past : Past) (types : List ObjectType) (commands : List Command)
       (words : List (List ℕ)) (why : Reason) (reason : ℕ) → IsReadTo callbacks lines n past types commands → drop n lines ≡ line ∷ more
       → words_of line ≡ words → is_blank line ≡ false → reason_after callbacks past words ≡ Some why → reason ≡ number_of why
-      → length (lines_of bytes) ≤ 1000000 → IsFaultyLine callbacks bytes (stop_on past.lines reason past.unbuilt)
+      → length (lines_of bytes) ≤ 1000000 → IsFaultyLine callbacks bytes (fault_on past.lines reason)
   faulty_line more n line past types commands words why reason read e ws some told number few =
       let low : n < length lines = next_there lines more n line e in
       let at : get_or lines n [] ≡ line = next_is lines more n line e in
@@ -213,23 +198,19 @@ module _ (callbacks : ℕ) (bytes header : List ℕ) (lines : List (List ℕ)) (
           before = λ j l. ap (λ ls. reason_at callbacks ls j) are
               ∙ fine_before callbacks header lines n n head read.fine (omega arith) low blank j (omega arith);
         };
-        there = inr (subst (λ ls. suc n < length ls) (sym are) (omega (arith, low)));
-        unbuilt = subst (λ ls. IsUnbuiltUpTo ls (suc n) past.unbuilt) (sym are)
-            (unbuilt_up_to (header ∷ lines) (n + 1) (suc n) past.unbuilt (unbuilt_of header lines n past.unbuilt head read.unbuilt)
-            (omega arith) (omega (arith, read.last.unbuilt, read.last.within)));
       }
 
   pub line_stop : (more : List (List ℕ)) (n : ℕ) (line : List ℕ) (past : Past) (types : List ObjectType) (commands : List Command)
-      (words : List (List ℕ)) (reason total : ℕ) (stop : Stop) → IsReadTo callbacks lines n past types commands → drop n lines ≡ line ∷ more
+      (words : List (List ℕ)) (reason total : ℕ) (fault : ScriptFault) → IsReadTo callbacks lines n past types commands → drop n lines ≡ line ∷ more
       → words_of line ≡ words → is_blank line ≡ false → IsReasonOf (reason_after callbacks past words) reason
-      → total ≡ past.lines + length (line ∷ more) → stop ≡ stop_with total past.lines reason past.unbuilt → IsStopped callbacks bytes stop
-  line_stop more n line past types commands words reason total stop read e ws some (inl none) counted is =
-      no_memory callbacks bytes stop total past.lines reason past.unbuilt is none
-  line_stop more n line past types commands words reason total stop read e ws some (inr (why, number, told)) counted is =
+      → total ≡ past.lines + length (line ∷ more) → fault ≡ fault_with total past.lines reason → IsFaultOf callbacks bytes fault
+  line_stop more n line past types commands words reason total fault read e ws some (inl none) counted is =
+      no_memory callbacks bytes fault total past.lines reason is none
+  line_stop more n line past types commands words reason total fault read e ws some (inr (why, number, told)) counted is =
       let whole : total ≡ length (lines_of bytes) =
       omega (arith, counted, read.count, read.within, ap length are, ap length e, length-drop n lines) in
-      stopped_by callbacks bytes stop past.lines reason past.unbuilt why
-      (subst (λ m. stop ≡ stop_with m past.lines reason past.unbuilt) whole is) number
+      stopped_by callbacks bytes fault past.lines reason why
+      (subst (λ m. fault ≡ fault_with m past.lines reason) whole is) number
       (faulty_line more n line past types commands words why reason read e ws some told number)
 
   -- the threads aren't at rest after the last line with words
@@ -237,7 +218,7 @@ module _ (callbacks : ℕ) (bytes header : List ℕ) (lines : List (List ℕ)) (
       → length lines ≤ n → length (lines_of bytes) ≤ 1000000 → are_at_rest (threads_in past.stage) ≡ false
       → (k : ℕ) → past.last ≡ k + 2 → k < n → is_blank (get_or lines k []) ≡ false
       → threads_after (threads_of (take k lines)) (words_of (get_or lines k [])) ≡ threads_in past.stage
-      → IsFaultyLine callbacks bytes (record { line = past.last; reason = 7; unbuilt = past.unbuilt })
+      → IsFaultyLine callbacks bytes (record { line = past.last; reason = 7 })
   section_line n past types commands read end few busy k last low some after =
       let blanks : list_all is_blank (drop (k + 1) lines) ≡ true =
       all_blank (drop (k + 1) lines) (λ j l. ap is_blank (get_or-drop (k + 1) lines j [])
@@ -255,21 +236,17 @@ module _ (callbacks : ℕ) (bytes header : List ℕ) (lines : List (List ℕ)) (
           before = λ j l. ap (λ ls. reason_at callbacks ls j) are
               ∙ fine_before callbacks header lines n k head read.fine (omega arith) (omega (arith, read.within, low)) some j (omega arith);
         };
-        there = inr (subst (λ ls. suc k < length ls) (sym are) (omega (arith, read.within, low)));
-        unbuilt = subst (λ ls. IsUnbuiltUpTo ls (suc k) past.unbuilt) (sym are)
-            (unbuilt_up_to (header ∷ lines) (n + 1) (suc k) past.unbuilt (unbuilt_of header lines n past.unbuilt head read.unbuilt)
-            (omega arith) (omega (arith, read.last.unbuilt, last)));
       }
 
   pub section_stop : (n : ℕ) (past : Past) (types : List ObjectType) (commands : List Command) → IsReadTo callbacks lines n past types commands
       → drop n lines ≡ [] → past.lines ≤ 1000000 → are_at_rest (threads_in past.stage) ≡ false
-      → IsStopped callbacks bytes (record { line = past.last; reason = 7; unbuilt = past.unbuilt })
+      → IsFaultOf callbacks bytes (record { line = past.last; reason = 7 })
   section_stop n past types commands read none few busy =
       let end : length lines ≤ n = omega (arith, length-drop n lines, ap length none) in
       let low : length (lines_of bytes) ≤ 1000000 = omega (arith, ap length are, few, read.count, end) in
       elim read.last.ended [
         | inl rest ↦ absurd (true≢false (sym (ap are_at_rest rest.1) ∙ busy))
-        | inr found ↦ inr (inr (section_line n past types commands read end low busy found.0 found.1 found.2 found.3 found.4))
+        | inr found ↦ told callbacks bytes (record { line = past.last; reason = 7 }) (section_line n past types commands read end low busy found.0 found.1 found.2 found.3 found.4)
       ]
 
   pub all_read : (n : ℕ) (kept : Kept) → IsReadTo callbacks lines n kept.past kept.types.items kept.commands.items
@@ -277,24 +254,18 @@ module _ (callbacks : ℕ) (bytes header : List ℕ) (lines : List (List ℕ)) (
   all_read n kept read none few rest =
       let end : length lines ≤ n = omega (arith, length-drop n lines, ap length none) in
       let low : length (lines_of bytes) ≤ 1000000 = omega (arith, ap length are, few, read.count, end) in
-      let count : n + 1 ≡ length (header ∷ lines) = omega (arith, end, read.within) in
       record {
-        script = record {
-          limits = in_limits bytes small low;
-          header = ap (λ ls. reason_at callbacks ls 0) are ∙ header_fine callbacks header lines head;
-          faultless = λ i l. ap (λ ls. reason_at callbacks ls i) are
-              ∙ at_all (λ j. reason_at callbacks (header ∷ lines) j ≡ None) (length lines) (header_fine callbacks header lines head)
-              (fine_line callbacks header lines n kept.past kept.types.items kept.commands.items head read end rest) i (omega (arith, ap length are, l));
-          types = read.say.types_are
-              ∙ ap types_of (take_all n lines end)
-              ∙ sym (ap (λ (o : Option ObjectType). cons_option o (types_of lines)) (no_header_type header head))
-              ∙ sym (ap types_of are);
-          commands = read.say.commands_are
-              ∙ ap commands_of (take_all n lines end)
-              ∙ sym (ap (λ (o : Option Command). cons_option o (commands_of lines)) (no_header_command header head))
-              ∙ sym (ap commands_of are);
-        };
-        unbuilt = subst (λ ls. IsUnbuiltOf ls (length ls) kept.past.unbuilt) (sym are)
-            (subst (λ m. IsUnbuiltOf (header ∷ lines) m kept.past.unbuilt) count
-            (unbuilt_of header lines n kept.past.unbuilt head read.unbuilt));
+        limits = in_limits bytes small low;
+        header = ap (λ ls. reason_at callbacks ls 0) are ∙ header_fine callbacks header lines head;
+        faultless = λ i l. ap (λ ls. reason_at callbacks ls i) are
+            ∙ at_all (λ j. reason_at callbacks (header ∷ lines) j ≡ None) (length lines) (header_fine callbacks header lines head)
+            (fine_line callbacks header lines n kept.past kept.types.items kept.commands.items head read end rest) i (omega (arith, ap length are, l));
+        types = read.say.types_are
+            ∙ ap types_of (take_all n lines end)
+            ∙ sym (ap (λ (o : Option ObjectType). cons_option o (types_of lines)) (no_header_type header head))
+            ∙ sym (ap types_of are);
+        commands = read.say.commands_are
+            ∙ ap commands_of (take_all n lines end)
+            ∙ sym (ap (λ (o : Option Command). cons_option o (commands_of lines)) (no_header_command header head))
+            ∙ sym (ap commands_of are);
       }

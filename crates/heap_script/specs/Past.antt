@@ -3,7 +3,6 @@ use Rattle.std.specs.Prelude.{◌≡◌, ◌⊎◌, ℕ, ◌+◌, ◌==◌, ◌&
 use Rattle.gc_graph.specs.declared.command.Command.{Command}
 use Rattle.gc_graph.specs.declared.command.Command.TheVariants as C
 use Rattle.gc_graph.specs.State.{ObjectType}
-use Rattle.built_forms.specs.Built.{is_built}
 use Rattle.gc_graph.specs.Reasons.{Reason, number_of, Bounds, first_is, reason_of_words, command_of_words, type_of_words}
 use Rattle.gc_graph.specs.Reasons.Reason.{Order, Section}
 use Rattle.gc_graph.specs.Script.{Threads, breaks_section}
@@ -47,40 +46,33 @@ breaks stage C.ThreadsGo = not (is_waiting stage)
 breaks stage C.ThreadsJoin = not (is_going stage)
 breaks stage command = false
 
--- ---- what is built
-
--- the number of the first line that says what isn't built, with one more line
-abbrev pub unbuilt_with : Past → Bool → ℕ
-unbuilt_with past built = if past.unbuilt == 0 && not built then past.lines + 1 else past.unbuilt
-
 -- ---- one more line
 
 -- only the header stands there
 abbrev pub past_header : Past
-past_header = record { lines = 1; last = 1; types = 0; bare = true; stage = S.AtRest; unbuilt = 0 }
+past_header = record { lines = 1; last = 1; types = 0; bare = true; stage = S.AtRest }
 
 -- a line without words more
 abbrev pub with_blank : Past → Past
 with_blank past = record past { lines = past.lines + 1 }
 
--- a line with words more, where what it says is built or not
-abbrev pub with_words : Past → Bool → Past
-with_words past built = record past { lines = past.lines + 1; last = past.lines + 1; unbuilt = unbuilt_with past built }
+-- a line with words more
+abbrev pub with_words : Past → Past
+with_words past = record past { lines = past.lines + 1; last = past.lines + 1 }
 
--- a type line more; each type is built
+-- a type line more
 abbrev pub with_type : Past → Past
-with_type past = record (with_words past true) { types = past.types + 1 }
+with_type past = record (with_words past) { types = past.types + 1 }
 
 -- a command more
 abbrev pub with_command : Past → Command → Past
-with_command past command = record (with_words past (is_built command)) {
+with_command past command = record (with_words past) {
   bare = false;
   stage = stage_after past.stage command;
 }
 
--- a command that is built, and that no thread's order is, so that the stage lets it be and stays
+-- a command that no thread's order is, so that the stage lets it be and stays
 pub record IsPlain (command : Command) : Type 0 where
-  pub built : is_built command ≡ true
   pub timely : (stage : Stage) → breaks stage command ≡ false
   pub stays : (stage : Stage) → stage_after stage command ≡ stage
 

@@ -1,11 +1,9 @@
 // What the lines before say, and what one more adds.
 
-ghost use Rattle.std.specs.Prelude.{◌≡◌, ◌<◌, ◌≤◌, ◌&&◌, nat_lt};
-ghost use Rattle.built_forms.specs.Built as built;
+ghost use Rattle.std.specs.Prelude.{◌≡◌, ◌<◌};
 ghost use Rattle.gc_graph.specs.Script.{are_at_rest};
 ghost use Rattle.heap_script.specs.Past as spec;
 
-use built_forms::is_built;
 use gc_graph::Command;
 
 /// Of the threads of the script: no order waits and none runs, orders wait, or they run.
@@ -17,8 +15,7 @@ pub(crate) enum Stage {
 }
 
 /// How many lines there are, the header among them, the number of the last one with words, how many
-/// types they declare, whether no command stands among them, the stage of the threads, and the
-/// number of the first line that says what isn't built, or 0.
+/// types they declare, whether no command stands among them, and the stage of the threads.
 #[derive(Clone, Copy, Drop)]
 pub(crate) struct Past {
     pub(crate) lines: u32,
@@ -26,7 +23,6 @@ pub(crate) struct Past {
     pub(crate) types: u32,
     pub(crate) bare: bool,
     pub(crate) stage: Stage,
-    pub(crate) unbuilt: u32,
 }
 
 impl Past {
@@ -39,7 +35,6 @@ impl Past {
             types: 0,
             bare: true,
             stage: Stage::AtRest,
-            unbuilt: 0,
         }
     }
 
@@ -55,7 +50,7 @@ impl Past {
         requires types { self.old.types < 16383 }
         ensures { self.new ≡ spec.with_type self.old }
     {
-        self.note(true);
+        self.note();
         self.types += 1;
     }
 
@@ -63,7 +58,7 @@ impl Past {
         requires { self.old.lines < 1000000 }
         ensures { self.new ≡ spec.with_command self.old command.now }
     {
-        self.note(is_built(command));
+        self.note();
         self.bare = false;
         match *command {
             Command::At { .. } => self.stage = Stage::Waiting,
@@ -73,7 +68,7 @@ impl Past {
         }
     }
 
-    /// The same, for a command that no thread's order is, and that is built.
+    /// The same, for a command that no thread's order is.
     #[inline(always)]
     pub(crate) fn add_plain(&mut self, command: &Command)
         requires lines { self.old.lines < 1000000 }
@@ -81,20 +76,17 @@ impl Past {
         ensures { self.new ≡ spec.with_command self.old command.now }
     {
         let _ = command;
-        self.note(true);
+        self.note();
         self.bare = false;
     }
 
     // One more line with words.
-    fn note(&mut self, built: bool)
+    fn note(&mut self)
         requires { self.old.lines < 1000000 }
-        ensures { self.new ≡ spec.with_words self.old built }
+        ensures { self.new ≡ spec.with_words self.old }
     {
         self.lines += 1;
         self.last = self.lines;
-        if self.unbuilt == 0 && !built {
-            self.unbuilt = self.lines;
-        }
     }
 
     /// Whether a command doesn't stand where it should among the threads' orders.

@@ -2,11 +2,9 @@
 
 ghost use Rattle.std.specs.Prelude.{◌≡◌, IfOk, IfErr};
 ghost use Rattle.gc_graph.specs.Script.{IsScript};
-ghost use Rattle.heap_script.specs.Reading.{fault_with};
-ghost use Rattle.heap_script.specs.Scripts.{IsFaultOf, IsBuiltScript, IsUnbuiltFault};
+ghost use Rattle.heap_script.specs.Scripts.{IsFaultOf};
 
-use super::script_reader::{Stop, read_lines};
-use command_text::reasons::{NO_MEMORY, NOT_BUILT};
+use super::script_reader::read_lines;
 use gc_graph::Command;
 use std::alloc::Global;
 use std::marker::Model;
@@ -73,21 +71,11 @@ impl Script {
 /// | 6 | a type line comes after a command |
 /// | 7 | the threads' orders don't stand between each other as they should |
 /// | 8 | there are over 16,777,216 bytes or over 1,000,000 lines; the line is then 0 |
-/// | 9 | the line has a fault, or says what isn't built (of `read_built` alone) |
 #[derive(Debug, Drop, Error)]
 #[error("line {line}: reason {reason}")]
 pub struct ScriptFault {
     pub line: u32,
     pub reason: u32,
-}
-
-impl ScriptFault {
-    fn at(line: u32, reason: u32) -> ScriptFault
-        ensures line { result.line ≡ line }
-        ensures reason { result.reason ≡ reason }
-    {
-        ScriptFault { line, reason }
-    }
 }
 
 /// The script that the bytes are, with so many callbacks, or the first faulty line with the lowest
@@ -101,39 +89,6 @@ pub fn read_script(alloc: Global, bytes: &[u8], callbacks: u32) -> Result<Script
             types: kept.types,
             commands: kept.commands,
         }),
-        Err(stop) => Err(ScriptFault::at(stop.line, stop.reason)),
+        Err(fault) => Err(fault),
     }
-}
-
-/// The script that the bytes are, where all that it says is built, or the first line that is faulty
-/// or says what isn't. When memory is wanting is free.
-pub fn read_built(alloc: Global, bytes: &[u8], callbacks: u32) -> Result<Script, ScriptFault>
-    ensures script { IfOk result (IsBuiltScript callbacks bytes.now) }
-    ensures fault { IfErr result (IsUnbuiltFault callbacks bytes.now) }
-{
-    match read_lines(alloc, bytes, callbacks) {
-        Ok(kept) => {
-            if kept.past.unbuilt != 0 {
-                return Err(ScriptFault::at(kept.past.unbuilt, NOT_BUILT));
-            }
-            Ok(Script {
-                types: kept.types,
-                commands: kept.commands,
-            })
-        }
-        Err(stop) => Err(unbuilt_fault(&stop)),
-    }
-}
-
-// Where a line has a fault, the first up to it that says what isn't built comes first.
-fn unbuilt_fault(stop: &Stop) -> ScriptFault
-    ensures { result ≡ fault_with stop.now }
-{
-    if stop.reason == NO_MEMORY || stop.line == 0 {
-        return ScriptFault::at(stop.line, stop.reason);
-    }
-    if stop.unbuilt == 0 {
-        return ScriptFault::at(stop.line, NOT_BUILT);
-    }
-    ScriptFault::at(stop.unbuilt, NOT_BUILT)
 }

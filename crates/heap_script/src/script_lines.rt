@@ -58,7 +58,7 @@ pub(crate) fn keep_line(
     keep_words(alloc, bytes, start, end, callbacks, kept)
 }
 
-// Keeps a command that no thread's order is, and that is built.
+// Keeps a command that no thread's order is.
 #[inline(always)]
 fn keep_quick(line: QuickLine, kept: &mut Kept) -> Result<usize, u32>
     requires plain { IsPlain line.command }

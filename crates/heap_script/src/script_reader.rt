@@ -5,10 +5,12 @@ ghost use Rattle.std.specs.Prelude.{IfOk, IfErr};
 ghost use Rattle.gc_graph.specs.Script.{is_header};
 ghost use Rattle.gc_graph.specs.Words.{lines_of};
 ghost use Rattle.line_words.specs.Cursor.{first_line};
-ghost use Rattle.heap_script.specs.Reading.{IsWhole, IsStopped, stop_with};
+ghost use Rattle.heap_script.specs.Reading.{IsWhole, fault_with};
+ghost use Rattle.heap_script.specs.Scripts.{IsFaultOf};
 
 use super::lines::{count_from, header_end, next_line};
 use super::past::Past;
+use super::script::ScriptFault;
 use super::script_lines::{Kept, keep_line};
 use command_text::reasons::{HEADER, NO_MEMORY, SECTION, TOO_LONG};
 use std::alloc::Global;
@@ -17,36 +19,27 @@ const MOST_BYTES: usize = 16_777_216;
 
 const MOST_LINES: u32 = 1_000_000;
 
-/// Why no script was read, and the number of the first line up to that one that says what isn't
-/// built, or 0.
-#[derive(Drop)]
-pub(crate) struct Stop {
-    pub(crate) line: u32,
-    pub(crate) reason: u32,
-    pub(crate) unbuilt: u32,
-}
-
-pub(crate) fn read_lines(alloc: Global, bytes: &[u8], callbacks: u32) -> Result<Kept, Stop>
+pub(crate) fn read_lines(alloc: Global, bytes: &[u8], callbacks: u32) -> Result<Kept, ScriptFault>
     ensures whole { IfOk result (IsWhole callbacks bytes.now) }
-    ensures stop { IfErr result (IsStopped callbacks bytes.now) }
+    ensures fault { IfErr result (IsFaultOf callbacks bytes.now) }
 {
     if bytes.len() > MOST_BYTES {
         return Err(too_long());
     }
     match header_end(bytes) {
         Some(end) => read_after(alloc, bytes, next_line(bytes, end), callbacks),
-        None => Err(stop_at(bytes, 0, 0, HEADER, 0)),
+        None => Err(fault_at(bytes, 0, 0, HEADER)),
     }
 }
 
 // Reads the lines after the header, which begin at `from`.
-fn read_after(alloc: Global, bytes: &[u8], from: usize, callbacks: u32) -> Result<Kept, Stop>
+fn read_after(alloc: Global, bytes: &[u8], from: usize, callbacks: u32) -> Result<Kept, ScriptFault>
     requires few { length bytes.now ≤ 16777216 }
     requires within { from ≤ length bytes.now }
     requires header { is_header (first_line bytes.now) ≡ true }
     requires lines { lines_of bytes.now ≡ first_line bytes.now ∷ lines_of (drop from bytes.now) }
     ensures whole { IfOk result (IsWhole callbacks bytes.now) }
-    ensures stop { IfErr result (IsStopped callbacks bytes.now) }
+    ensures fault { IfErr result (IsFaultOf callbacks bytes.now) }
 {
     let mut kept = Kept {
         past: Past::new(),
@@ -60,37 +53,31 @@ fn read_after(alloc: Global, bytes: &[u8], from: usize, callbacks: u32) -> Resul
         }
         match keep_line(alloc, bytes, at, callbacks, &mut kept) {
             Ok(end) => at = next_line(bytes, end),
-            Err(reason) => {
-                let past = kept.past;
-                return Err(stop_at(bytes, at, past.lines, reason, past.unbuilt));
-            }
+            Err(reason) => return Err(fault_at(bytes, at, kept.past.lines, reason)),
         }
     }
     if kept.past.is_at_rest() {
         return Ok(kept);
     }
-    Err(Stop {
+    Err(ScriptFault {
         line: kept.past.last,
         reason: SECTION,
-        unbuilt: kept.past.unbuilt,
     })
 }
 
 // The fault of the line that begins there, once the lines are known not to be too many.
-fn stop_at(bytes: &[u8], at: usize, lines: u32, reason: u32, unbuilt: u32) -> Stop
+fn fault_at(bytes: &[u8], at: usize, lines: u32, reason: u32) -> ScriptFault
     requires within { at ≤ length bytes.now }
     requires few { length bytes.now ≤ 16777216 }
     requires lines { lines < 1000000 }
-    ensures { result ≡
-        stop_with (lines + length (lines_of (drop at bytes.now))) lines reason unbuilt }
+    ensures { result ≡ fault_with (lines + length (lines_of (drop at bytes.now))) lines reason }
 {
     if reason != NO_MEMORY && is_too_many(lines as usize + count_from(bytes, at)) {
         return too_long();
     }
-    Stop {
+    ScriptFault {
         line: lines + 1,
         reason,
-        unbuilt,
     }
 }
 
@@ -100,12 +87,11 @@ fn is_too_many(lines: usize) -> bool
     lines > MOST_LINES as usize
 }
 
-fn too_long() -> Stop
-    ensures { result ≡ record { line = 0; reason = 8; unbuilt = 0 } }
+fn too_long() -> ScriptFault
+    ensures { result ≡ record { line = 0; reason = 8 } }
 {
-    Stop {
+    ScriptFault {
         line: 0,
         reason: TOO_LONG,
-        unbuilt: 0,
     }
 }

@@ -18,6 +18,7 @@ oilpan 1//   /|none
 oilpan 1/type S/new 0 0/set 0|4 4
 oilpan 1/type S/new 0 0/threads join|4 7
 oilpan 1/at 1 totals/threads go/set 0|4 4
+oilpan 1/at 1 totals/threads go/threads|4 4
 oilpan 1/drop 0/drop 256/drop x/|3 5
 oilpan 1//type -//type S/stat/|none
 oilpan 1/stat/type S/|3 6
@@ -25,6 +26,8 @@ oilpan 1/stat/type X/|3 2
 oilpan 1/stat/type S pre 1/|3 5
 oilpan 1/type S/new 0 1/type S/|3 5
 oilpan 1/type S/at 1 totals/type S/|4 6
+oilpan 1/at 1 totals/threads go/type S/|4 6
+oilpan 1/at 1 totals/threads go/type S x/|4 2
 oilpan 1/type SWEP pre 0/type |W|64||none
 oilpan 1/type SWEP pre 0/type |W|64|P|3 5
 oilpan 1/type SWEP pre 0/type |W|64|P-|3 2
@@ -199,6 +202,17 @@ at 1 totals/threads go/threads go/|4 7
 at 1 totals/threads go/threads join/threads go/|5 7
 at 1 totals/threads go/threads join/threads join/|5 7
 at 1 totals/threads go/threads join/at 2 totals/stat|6 7
+at 1 totals/threads go|3 7
+at 1 totals/threads go/stat/ /stat//|6 7
+at 1 totals/threads go/threads join// /|none
+at 1 totals/at 1 totals/at 8 totals/threads go/threads join/|none
+at 1 totals/threads go/at 9 totals/threads join/|4 5
+at 1 totals/threads go/at x totals/threads join/|4 3
+at 1 totals/threads go/at 1 total/threads join/|4 2
+at 1 totals/threads go/drop 256/threads join/|4 5
+threads go now/|2 4
+threads stay/|2 2
+threads join/foo/|2 7
 at 1 totals/threads go/threads join/|none
 at 8 clear 31/threads go/threads join/|none
 at 8 weaken 31/threads go/threads join/|none

@@ -3,7 +3,7 @@ use Rattle.std.proofs.lemmas.List.{drop_all}
 use Rattle.gc_graph.specs.Words.{lines_of}
 use Rattle.heap_script.specs.declared.past.Past.{Past}
 use Rattle.line_words.specs.Cursor.{first_line, line_words, lines_after}
-use Rattle.heap_script.specs.Reading.{stop_with}
+use Rattle.heap_script.specs.Reading.{fault_with}
 use Rattle.heap_script.proofs.LinesInTurn.{lines_left}
 use Rattle.heap_script.proofs.ReadSoFar.{next_there, rest_is, read_lines, read_more}
 use Rattle.heap_script.proofs.ScriptEnds.{all_read, section_stop, line_stop, too_many}
@@ -27,8 +27,8 @@ loop-at-preserved c =
           c.loop-at.invariant.read here refl c.in-Ok.ensures.kept;
     }
 
-pub returns-then-kept-eq-MOST_LINES-clause-stop : goal.returns-then-kept-eq-MOST_LINES-clause-stop
-returns-then-kept-eq-MOST_LINES-clause-stop c =
+pub returns-then-kept-eq-MOST_LINES-clause-fault : goal.returns-then-kept-eq-MOST_LINES-clause-fault
+returns-then-kept-eq-MOST_LINES-clause-fault c =
     let bytes : List ℕ = c.args.bytes.now in
     let read = c.loop-at.invariant.read in
     let tail : List (List ℕ) = lines_of (drop c.args.from bytes) in
@@ -37,8 +37,8 @@ returns-then-kept-eq-MOST_LINES-clause-stop c =
     (c.loop-at.invariant.left ∙ lines_left bytes c.loop-at.at c.loop-at-test.true) in
     rw c.too_long.ensures (too_many c.args.callbacks bytes (omega (arith, low, read.count, ap length c.requires.lines, c.if-kept-eq-MOST_LINES.true)))
 
-pub returns-in-Err-clause-stop : goal.returns-in-Err-clause-stop
-returns-in-Err-clause-stop c =
+pub returns-in-Err-clause-fault : goal.returns-in-Err-clause-fault
+returns-in-Err-clause-fault c =
     let bytes : List ℕ = c.args.bytes.now in
     let at : ℕ = c.loop-at.at in
     let n : ℕ = c.loop-at.invariant.read_lines in
@@ -49,14 +49,14 @@ returns-in-Err-clause-stop c =
     let past : Past = c.loop-at.kept.past in
     let total : ℕ = past.lines + length (lines_of (drop at bytes)) in
     line_stop c.args.callbacks bytes (first_line bytes) tail c.requires.lines c.requires.header c.requires.few more n line past
-    c.loop-at.kept.types.items c.loop-at.kept.commands.items (line_words (drop at bytes)) c.in-Err.reason total c.stop_at.result c.loop-at.invariant.read here refl
+    c.loop-at.kept.types.items c.loop-at.kept.commands.items (line_words (drop at bytes)) c.in-Err.reason total c.fault_at.result c.loop-at.invariant.read here refl
     c.in-Err.ensures.fault.0 c.in-Err.ensures.fault.1
     (ap (λ (ls : List (List ℕ)). past.lines + length ls) (lines_left bytes at c.loop-at-test.true))
-    (c.stop_at.ensures
-    ∙ ap (λ (p : Past). stop_with (p.lines + length (lines_of (drop at bytes))) p.lines c.in-Err.reason p.unbuilt) c.in-Err.ensures.same)
+    (c.fault_at.ensures
+    ∙ ap (λ (p : Past). fault_with (p.lines + length (lines_of (drop at bytes))) p.lines c.in-Err.reason) c.in-Err.ensures.same)
 
-pub returns-clause-stop : goal.returns-clause-stop
-returns-clause-stop c =
+pub returns-clause-fault : goal.returns-clause-fault
+returns-clause-fault c =
     let bytes : List ℕ = c.args.bytes.now in
     section_stop c.args.callbacks bytes (first_line bytes) (lines_of (drop c.args.from bytes)) c.requires.lines c.requires.header c.requires.few
     c.loop-at.invariant.read_lines c.loop-at.kept.past c.loop-at.kept.types.items c.loop-at.kept.commands.items c.loop-at.invariant.read
