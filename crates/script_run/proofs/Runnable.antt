@@ -1,4 +1,4 @@
--- What a script of which all is built has for the heap.
+-- What a script has for the heap.
 use Rattle.std.proofs.Common.{◌≡◌, ℕ, ◌<◌, ◌&&◌, Bool, false, List, [], ◌∷◌, All, true, true≢false, refl, sym, ◌∙◌, arith}
 use Rattle.std.specs.Prelude.{nat_lt}
 use Rattle.std.specs.List.{list_all}
@@ -6,16 +6,15 @@ use Rattle.std.proofs.lemmas.Bool.{ltb-true, lt-ltb, not-true}
 use Rattle.std.proofs.lemmas.List.Elements.{All-head, All-tail}
 use Rattle.std.proofs.lemmas.List.Quantifiers.{position-Some}
 use Rattle.gc_graph.specs.State.{ObjectType, no_type}
-use Rattle.gc_graph.specs.Script.{Script}
+use Rattle.gc_graph.specs.Script.{Script, IsScript}
 use Rattle.gc_graph.specs.ScriptLaw.{ScriptsAreInRanges}
 use Rattle.type_table.specs.declared.faults.TypeFault.TheVariants.{TooManyFields, NoCallback}
 use Rattle.type_table.specs.Faults.{AreGoodTypes, IsTypeFault, is_too_wide, names_none}
-use Rattle.heap_script.specs.Scripts.{IsBuiltScript}
 use Rattle.heap_objects.specs.Objects.{HaveCallbacks}
 use Rattle.script_run.specs.Setting.{IsRunnable}
 
-pub script_is_runnable : (callbacks : ℕ) (bytes : List ℕ) (script : Script) → ScriptsAreInRanges → IsBuiltScript callbacks bytes script → IsRunnable callbacks script
-script_is_runnable callbacks bytes script law is = record { commands = is.commands; ranges = law callbacks bytes script is.whole }
+pub script_is_runnable : (callbacks : ℕ) (bytes : List ℕ) (script : Script) → ScriptsAreInRanges → IsScript callbacks bytes script → IsRunnable callbacks script
+script_is_runnable callbacks bytes script law is = record { ranges = law callbacks bytes script is }
 
 pub have_callbacks : (callbacks : ℕ) (script : Script) → IsRunnable callbacks script → HaveCallbacks callbacks script.types
 have_callbacks callbacks script runnable = record { few = runnable.ranges.modest; known = runnable.ranges.known }

@@ -1,14 +1,13 @@
 -- What the program answers, and what it has read and written by then.
-use Rattle.std.specs.Prelude.{◌≡◌, ℕ, ◌+◌, ◌≤◌, ◌==◌, if◌then◌else◌, true, List, [], ◌++◌, length, take, Option, Some, None, MatchOption, Result, Ok, Err}
+use Rattle.std.specs.Prelude.{◌≡◌, ℕ, ◌≤◌, ◌==◌, if◌then◌else◌, true, List, [], ◌++◌, length, take, Option, Some, None, MatchOption, Result, Ok, Err}
 use Rattle.gc_graph.specs.declared.action.ActionKind.{ActionKind}
 use Rattle.gc_graph.specs.declared.line.Line.{Line}
 use Rattle.gc_graph.specs.declared.region.Entry.{Entry}
 use Rattle.gc_graph.specs.State.{Shape, empty_state}
 use Rattle.gc_graph.specs.Lawful.{Outcome, IsLawful, IsEndLine, last_state}
 use Rattle.gc_graph.specs.Report.{type_lines, lines_bytes, outcomes_bytes, report_of}
-use Rattle.gc_graph.specs.Script.{Script, IsTooLong, IsInLimits}
+use Rattle.gc_graph.specs.Script.{Script, IsScript, IsTooLong, IsInLimits, IsFault}
 use Rattle.text_devices.specs.Devices.{Grew, GrewByFront, IsReadFrom}
-use Rattle.heap_script.specs.Scripts.{IsBuiltScript, IsFirstUnbuilt}
 use Rattle.heap_script.specs.declared.script.ScriptFault.{ScriptFault}
 use Rattle.heap_engine.specs.View.{View}
 use Rattle.script_run.specs.declared.status.Status.{Status}
@@ -54,11 +53,11 @@ abbrev pub IsReadWhole : Option (List ℕ) → Option (List ℕ) → List ℕ �
 IsReadWhole None new bytes = new ≡ None
 IsReadWhole (Some old) new bytes = (bytes ≡ old) × (new ≡ Some [])
 
--- the input was read to its end, and it is a script of which all is built
+-- the input was read to its end, and it is a script
 pub record IsScriptInput (callbacks : ℕ) (old new : Option (List ℕ)) (script : Script) : Type 0 where
   pub bytes : List ℕ
   pub whole : IsReadWhole old new bytes
-  pub grammar : IsBuiltScript callbacks bytes script
+  pub grammar : IsScript callbacks bytes script
 
 -- the words asked for options and the input was a script; it was run, and this heap and the report came of it
 pub record IsDone (kinds : List ActionKind) (words : List (List ℕ)) (left_before left_after before after : Option (List ℕ)) (heap : View) : Type 0 where
@@ -82,15 +81,13 @@ pub record IsTooLongInput (old new : Option (List ℕ)) : Type 0 where
   pub read : IsReadFrom old new 16777216 bytes
   pub long : IsTooLong bytes
 
--- the input was read to its end and is within the limits; of its lines this is the first that has a fault, or says what
--- isn't built
-pub record IsUnbuiltInput (callbacks : ℕ) (old new : Option (List ℕ)) (line : ℕ) : Type 0 where
+-- the input was read to its end and is within the limits; of its lines this is the first that has a fault, and this the
+-- lowest reason that it has
+pub record IsFaultyInput (callbacks : ℕ) (old new : Option (List ℕ)) (line reason : ℕ) : Type 0 where
   pub bytes : List ℕ
   pub whole : IsReadWhole old new bytes
   pub limits : IsInLimits bytes
-  pub place : ℕ
-  pub line_is : line ≡ place + 1
-  pub unbuilt : IsFirstUnbuilt callbacks bytes place
+  pub fault : IsFault callbacks bytes line reason
 
 -- ---- a device that was let alone
 
@@ -119,17 +116,17 @@ RunsScript kinds shape script before after kept S.Usage = ⊥
 -- what comes of bytes that were read up to the first past the limit
 abbrev pub RunsBytes : List ActionKind → Shape → List ℕ → Option (List ℕ) → Option (List ℕ) → Option View → Status → Type 0
 RunsBytes kinds shape bytes before after kept S.Done =
-    (script : Script) × IsBuiltScript (length kinds) bytes script × MatchOption kept ⊥ (λ heap. IsWholeRun kinds shape script before after heap)
+    (script : Script) × IsScript (length kinds) bytes script × MatchOption kept ⊥ (λ heap. IsWholeRun kinds shape script before after heap)
 RunsBytes kinds shape bytes before after kept S.WriteFault =
-    (script : Script) × IsBuiltScript (length kinds) bytes script × (kept ≡ None) × IsCutShort kinds shape script before after
+    (script : Script) × IsScript (length kinds) bytes script × (kept ≡ None) × IsCutShort kinds shape script before after
 RunsBytes kinds shape bytes before after kept S.NoMemory = (kept ≡ None) × Grew before after []
 RunsBytes kinds shape bytes before after kept S.TooLong = (kept ≡ None) × Grew before after [] × IsTooLong bytes
 RunsBytes kinds shape bytes before after kept (S.Script line reason) =
-    (kept ≡ None) × Grew before after [] × (reason ≡ 9) × IsInLimits bytes × ((i : ℕ) × (line ≡ i + 1) × IsFirstUnbuilt (length kinds) bytes i)
+    (kept ≡ None) × Grew before after [] × IsInLimits bytes × IsFault (length kinds) bytes line reason
 RunsBytes kinds shape bytes before after kept S.ReadFault = ⊥
 RunsBytes kinds shape bytes before after kept S.Usage = ⊥
 
--- want of memory, an input over its limits, or the line that is refused
+-- want of memory, an input over its limits, of which line 0 is told, or the line that is refused
 abbrev pub status_of_fault : ScriptFault → Status
 status_of_fault fault =
-    if fault.reason == 0 then S.NoMemory else if fault.reason == 8 then S.TooLong else S.Script fault.line fault.reason
+    if fault.reason == 0 then S.NoMemory else if fault.line == 0 then S.TooLong else S.Script fault.line fault.reason

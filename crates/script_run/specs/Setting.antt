@@ -5,7 +5,6 @@ use Rattle.gc_graph.specs.declared.command.Command.{Command}
 use Rattle.gc_graph.specs.State.{Setup, Shape, ObjectType}
 use Rattle.gc_graph.specs.Script.{Script}
 use Rattle.gc_graph.specs.ScriptLaw.{IsInRanges}
-use Rattle.built_forms.specs.Built.{AreBuiltCommands}
 use Rattle.heap_engine.specs.declared.heap.Config.{Config}
 
 -- the shape of a heap that was configured so
@@ -20,7 +19,6 @@ setup_of kinds shape types = record { shape = shape; markers = 0; types = types;
 abbrev pub script_on : Setup → List Command → Script
 script_on setup commands = record { types = setup.types; commands = commands }
 
--- what the script says is built, and in the ranges that a heap with so many callbacks wants
+-- what the script says is in the ranges that a heap with so many callbacks wants
 pub record IsRunnable (callbacks : ℕ) (script : Script) : Type 0 where
-  pub commands : AreBuiltCommands script.commands
   pub ranges : IsInRanges callbacks script

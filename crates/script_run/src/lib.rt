@@ -13,9 +13,9 @@
 //! closed heap in `kept` has. After a failed write a beginning of such a report was written, and
 //! after every other answer nothing. Too long, a faulty line and refused words are answered exactly
 //! where they are so, and a device's fault only where its count has risen; with any other answer no
-//! call of that device has failed. What the heap is asked is built, and in the ranges that it wants: a
-//! law of `gc_graph` says so of every script. `run_with`, `run_commands` and `heap_engine`'s `Heap::act`
-//! are the way down.
+//! call of that device has failed. What the heap is asked is in the ranges that it wants: a law of
+//! `gc_graph` says so of every script. `run_with`, `run_commands` and `heap_engine`'s `Heap::act` are
+//! the way down.
 //!
 //! What is only tested or not said: that memory suffices, where a piece of the report ends, and what
 //! the words and the standard streams give and take (the adapters tell no bytes).

@@ -13,7 +13,7 @@ ghost use Rattle.gc_graph.specs.State.{empty_state};
 ghost use Rattle.report_text.specs.Pieces.{no_pieces};
 ghost use Rattle.script_run.specs.Setting.{shape_of, IsRunnable, script_on, setup_of};
 ghost use Rattle.script_run.specs.Headline.{RunsScript, RunsBytes, status_of_fault, IsUntouched};
-ghost use Rattle.script_run.specs.Headline.{IsDone, IsStopped, IsTooLongInput, IsUnbuiltInput};
+ghost use Rattle.script_run.specs.Headline.{IsDone, IsStopped, IsTooLongInput, IsFaultyInput};
 
 use super::built_options::built_options;
 use super::report::print_report;
@@ -22,17 +22,17 @@ use callback_table::CallbackTable;
 use gc_graph::Command;
 use heap_engine::{Config, Heap};
 use heap_script::{
-    NoMemory, Pieces, ReadError, Script, ScriptFault, Sink, Source, read_built, read_whole,
+    NoMemory, Pieces, ReadError, Script, ScriptFault, Sink, Source, read_script, read_whole,
 };
 use std::alloc::Global;
 use type_table::{TypeDecl, TypeFault, TypeTable};
 
 const MOST_BYTES: usize = 16_777_216;
 
-// `ScriptFault` tells these.
+// `ScriptFault` tells the one where memory is wanting, and the other where the input is too long.
 const NO_MEMORY: u32 = 0;
 
-const TOO_LONG: u32 = 8;
+const NO_LINE: u32 = 0;
 
 /// Reads a script, runs it on one heap, and writes its report. When memory is wanting is free.
 pub fn run<'a, S: Source, K: Sink>(
@@ -53,8 +53,8 @@ pub fn run<'a, S: Source, K: Sink>(
     ensures too_long { result ≡ Status.TooLong →
         IsTooLongInput (S.left source.old) (S.left source.new) }
     ensures script { (line reason : ℕ) → result ≡ Status.Script line reason →
-        (reason ≡ 9) × IsUnbuiltInput (length (kinds_of callbacks.now))
-        (S.left source.old) (S.left source.new) line }
+        IsFaultyInput (length (kinds_of callbacks.now))
+        (S.left source.old) (S.left source.new) line reason }
     ensures usage { (result ≡ Status.Usage) ↔ (built_asked (map string_bytes words.now) ≡ None) }
     ensures source_untouched { result ≡ Status.Usage → IsUntouched
         (S.left source.old) (S.left source.new) (S.faults source.old) (S.faults source.new) }
@@ -107,7 +107,7 @@ pub(crate) fn run_bytes<'a, K: Sink>(
     ensures steady { ¬ (result ≡ Status.WriteFault) → K.faults sink.new ≡ K.faults sink.old }
 {
     gc_graph::scripts_are_in_ranges();
-    match read_built(alloc, bytes, callbacks.len()) {
+    match read_script(alloc, bytes, callbacks.len()) {
         Ok(script) => run_script(alloc, config, script, sink, callbacks, kept),
         Err(fault) => status_of(fault),
     }
@@ -116,13 +116,15 @@ pub(crate) fn run_bytes<'a, K: Sink>(
 fn status_of(fault: ScriptFault) -> Status
     ensures { result ≡ status_of_fault fault }
 {
-    match fault.reason {
-        NO_MEMORY => Status::NoMemory,
-        TOO_LONG => Status::TooLong,
-        reason => Status::Script {
-            line: fault.line,
-            reason,
-        },
+    if fault.reason == NO_MEMORY {
+        return Status::NoMemory;
+    }
+    if fault.line == NO_LINE {
+        return Status::TooLong;
+    }
+    Status::Script {
+        line: fault.line,
+        reason: fault.reason,
     }
 }
 

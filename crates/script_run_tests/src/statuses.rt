@@ -8,7 +8,7 @@ use std::alloc::Global;
 const ENDINGS: &str = "\
 0|
 2|cppgc_main: too long/
-2|cppgc_main: script line 3 reason 9/
+2|cppgc_main: script line 3 reason 7/
 3|cppgc_main: read fault/
 4|cppgc_main: write fault/
 5|cppgc_main: no memory/
@@ -20,7 +20,7 @@ fn status_at(place: u32) -> Status {
     match place {
         0 => Status::Done,
         1 => Status::TooLong,
-        2 => Status::Script { line: 3, reason: 9 },
+        2 => Status::Script { line: 3, reason: 7 },
         3 => Status::ReadFault,
         4 => Status::WriteFault,
         5 => Status::NoMemory,
