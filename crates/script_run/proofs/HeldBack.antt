@@ -1,5 +1,5 @@
 -- Text that was held back on its way to the sink.
-use Rattle.std.proofs.Common.{◌≡◌, ℕ, List, ◌++◌, Option, Some, None, refl, sym, ap, ◌∙◌, subst}
+use Rattle.std.proofs.Common.{◌≡◌, ℕ, List, [], ◌++◌, Option, Some, None, refl, sym, ap, ◌∙◌, subst}
 use Rattle.std.specs.Prelude.{Result, Ok, Err, OnOk}
 use Rattle.std.proofs.lemmas.List.{append-nil, append_assoc, append_cancel_left}
 use Rattle.gc_graph.specs.declared.action.ActionKind.{ActionKind}
@@ -9,7 +9,10 @@ use Rattle.text_devices.specs.Devices.{GrewByFront}
 use Rattle.report_text.specs.Pieces.{PiecesState, no_pieces, with_held, TookMore}
 use Rattle.heap_engine.specs.View.{View}
 use Rattle.script_run.specs.Headline.{IsWholeRun, IsCutShort, IsReported}
-use Rattle.script_run.proofs.Writing.{grew}
+use Rattle.script_run.proofs.Writing.{grew_by_none, grew}
+
+pub taken_none : (a : Option (List ℕ)) → TookMore a a
+taken_none a = record { text = []; grew = grew_by_none a }
 
 pub taken_on : (a b c : Option (List ℕ)) → TookMore a b → TookMore b c → TookMore a c
 taken_on a b c x y = record { text = x.text ++ y.text; grew = grew a b c x.text y.text x.grew y.grew }

@@ -1,13 +1,12 @@
 -- Reports that are written part by part: the type lines, the outcomes, and the end line.
-use Rattle.std.proofs.Common.{◌≡◌, ℕ, true, List, [], length, take, Option, ap, refl, sym, ◌∙◌, subst, inl, inr, arith}
+use Rattle.std.proofs.Common.{◌≡◌, ℕ, true, List, [], length, take, Option, refl, sym, ◌∙◌, subst, inl, inr, arith}
 use Rattle.std.specs.Prelude.{Result, Ok, Err}
 use Rattle.std.proofs.lemmas.List.{take_all}
 use Rattle.gc_graph.specs.declared.command.Command.{Command}
 use Rattle.gc_graph.specs.declared.line.Line.{Line}
 use Rattle.gc_graph.specs.declared.action.ActionKind.{ActionKind}
 use Rattle.gc_graph.specs.State.{State, Shape, empty_state}
-use Rattle.gc_graph.specs.HistoryLaw.{RunsAreReplayed}
-use Rattle.gc_graph.specs.Lawful.{IsLawful, IsEndLine, history_of}
+use Rattle.gc_graph.specs.Lawful.{IsLawful, IsEndLine}
 use Rattle.gc_graph.specs.Report.{line_bytes, lines_bytes, type_lines, outcomes_bytes}
 use Rattle.gc_graph.specs.Script.{Script}
 use Rattle.text_devices.specs.Devices.{Grew, GrewByFront, Writes}
@@ -16,36 +15,36 @@ use Rattle.script_run.specs.Setting.{setup_of}
 use Rattle.script_run.specs.Printed.{IsPrintedRun, IsPartRun, printed_lines}
 use Rattle.script_run.specs.Headline.{IsWholeRun, IsCutShort, IsReported}
 use Rattle.script_run.proofs.Writing.{grew, grew_front, longer}
-use Rattle.script_run.proofs.Printing.{printed_none, LetNoneGo, front_lets_none_go, lawful_run}
+use Rattle.script_run.proofs.Printing.{printed_none}
 
 -- the heap that did all the commands of the script
-pub record HasRun (kinds : List ActionKind) (shape : Shape) (script : Script) (x y : Option (List ℕ)) (old mid : View) : Type 0 where
+pub record HasPrinted (kinds : List ActionKind) (shape : Shape) (script : Script) (x y : Option (List ℕ)) (old mid : View) : Type 0 where
   pub setup : old.setup ≡ setup_of kinds shape script.types
   pub same : mid.setup ≡ old.setup
   pub run : IsPrintedRun old.setup script.commands x y mid
 
 -- the same in words of the script alone
-run_of : (kinds : List ActionKind) (shape : Shape) (script : Script) (x y : Option (List ℕ)) (old mid : View) → HasRun kinds shape script x y old mid
+run_of : (kinds : List ActionKind) (shape : Shape) (script : Script) (x y : Option (List ℕ)) (old mid : View) → HasPrinted kinds shape script x y old mid
     → IsPrintedRun (setup_of kinds shape script.types) script.commands x y mid
 run_of kinds shape script x y old mid has = subst (λ s. IsPrintedRun s script.commands x y mid) has.setup has.run
 
-end_of : (kinds : List ActionKind) (shape : Shape) (script : Script) (x y : Option (List ℕ)) (old mid : View) (end : Line) → HasRun kinds shape script x y old mid
+end_of : (kinds : List ActionKind) (shape : Shape) (script : Script) (x y : Option (List ℕ)) (old mid : View) (end : Line) → HasPrinted kinds shape script x y old mid
     → IsEndLine mid.setup mid.state end → IsEndLine (setup_of kinds shape script.types) mid.state end
 end_of kinds shape script x y old mid end has ended = subst (λ s. IsEndLine s mid.state end) (has.same ∙ has.setup) ended
 
-whole_run : (kinds : List ActionKind) (shape : Shape) (script : Script) (law : RunsAreReplayed) (none : LetNoneGo script.commands) (w x y z : Option (List ℕ)) (old mid heap : View) (end : Line)
-    → Grew w x (lines_bytes (type_lines 0 script.types)) → HasRun kinds shape script x y old mid → mid.state.ordinal ≡ length script.commands
+whole_run : (kinds : List ActionKind) (shape : Shape) (script : Script) (w x y z : Option (List ℕ)) (old mid heap : View) (end : Line)
+    → Grew w x (lines_bytes (type_lines 0 script.types)) → HasPrinted kinds shape script x y old mid → mid.state.ordinal ≡ length script.commands
     → IsEndLine mid.setup mid.state end → heap ≡ record mid { closed = true } → Grew y z (line_bytes end)
     → IsWholeRun kinds shape script w z heap
-whole_run kinds shape script law none w x y z old mid heap end types has count ended is last =
+whole_run kinds shape script w x y z old mid heap end types has count ended is last =
     let run = run_of kinds shape script x y old mid has in
     subst (λ (h : View). IsWholeRun kinds shape script w z h) (sym is) (record {
       outcomes = run.outcomes;
-      history = history_of run.outcomes;
+      history = mid.history;
       end = end;
-      lawful = lawful_run (setup_of kinds shape script.types) script.commands run.outcomes law none run.run (ap (λ (s : State). s.running) (sym run.last) ∙ run.alone);
-      state = run.last;
-      taken = run.taken;
+      lawful = run.ran.lawful;
+      state = run.ran.last;
+      taken = refl;
       ended = end_of kinds shape script x y old mid end has ended;
       report = grew w y z _ _ (grew w x y _ _ types run.written) last;
       setup = has.same ∙ has.setup;
@@ -53,67 +52,64 @@ whole_run kinds shape script law none w x y z old mid heap end types has count e
       count = count;
     })
 
-pub cut_in_types : (kinds : List ActionKind) (shape : Shape) (script : Script) (law : RunsAreReplayed) (none : LetNoneGo script.commands) (w x : Option (List ℕ)) (old : View) → old.state ≡ empty_state → old.history ≡ []
+pub cut_in_types : (kinds : List ActionKind) (shape : Shape) (script : Script) (w x : Option (List ℕ)) (old : View) → old.state ≡ empty_state → old.history ≡ []
     → GrewByFront w x (lines_bytes (type_lines 0 script.types)) → IsCutShort kinds shape script w x
-cut_in_types kinds shape script law none w x old start fresh front =
+cut_in_types kinds shape script w x old start fresh front =
     let start_run : IsPrintedRun (setup_of kinds shape script.types) (take 0 script.commands) x x old =
     printed_none (setup_of kinds shape script.types) script.commands x old start fresh in
     record {
       number = 0;
       within = omega arith;
       outcomes = start_run.outcomes;
-      history = history_of start_run.outcomes;
-      lawful = lawful_run (setup_of kinds shape script.types) (take 0 script.commands) start_run.outcomes law (front_lets_none_go 0 script.commands none) start_run.run
-          (ap (λ (s : State). s.running) (sym start_run.last) ∙ start_run.alone);
+      history = old.history;
+      lawful = start_run.ran.lawful;
       ending = [];
       ends = inl refl;
       written = longer w x _ [] (longer w x _ (outcomes_bytes (printed_lines start_run.outcomes)) front);
     }
 
-pub cut_in_outcomes : (kinds : List ActionKind) (shape : Shape) (script : Script) (law : RunsAreReplayed) (none : LetNoneGo script.commands) (w x y : Option (List ℕ)) (old : View) → Grew w x (lines_bytes (type_lines 0 script.types))
+pub cut_in_outcomes : (kinds : List ActionKind) (shape : Shape) (script : Script) (w x y : Option (List ℕ)) (old : View) → Grew w x (lines_bytes (type_lines 0 script.types))
     → old.setup ≡ setup_of kinds shape script.types → IsPartRun old.setup script.commands x y → IsCutShort kinds shape script w y
-cut_in_outcomes kinds shape script law none w x y old types setup part =
+cut_in_outcomes kinds shape script w x y old types setup part =
     let run = subst (λ s. IsPartRun s script.commands x y) setup part in
     record {
       number = run.number;
       within = run.within;
       outcomes = run.outcomes;
-      history = history_of run.outcomes;
-      lawful = lawful_run (setup_of kinds shape script.types) (take run.number script.commands) run.outcomes law (front_lets_none_go run.number script.commands none)
-          run.run run.alone;
+      history = run.history;
+      lawful = run.lawful;
       ending = [];
       ends = inl refl;
       written = longer w y _ [] (grew_front w x y _ _ types run.written);
     }
 
-cut_in_end : (kinds : List ActionKind) (shape : Shape) (script : Script) (law : RunsAreReplayed) (none : LetNoneGo script.commands) (w x y z : Option (List ℕ)) (old mid : View) (end : Line)
-    → Grew w x (lines_bytes (type_lines 0 script.types)) → HasRun kinds shape script x y old mid
+cut_in_end : (kinds : List ActionKind) (shape : Shape) (script : Script) (w x y z : Option (List ℕ)) (old mid : View) (end : Line)
+    → Grew w x (lines_bytes (type_lines 0 script.types)) → HasPrinted kinds shape script x y old mid
     → IsEndLine mid.setup mid.state end → GrewByFront y z (line_bytes end) → IsCutShort kinds shape script w z
-cut_in_end kinds shape script law none w x y z old mid end types has ended last =
+cut_in_end kinds shape script w x y z old mid end types has ended last =
     let run = run_of kinds shape script x y old mid has in
     record {
       number = length script.commands;
       within = omega arith;
       outcomes = run.outcomes;
-      history = history_of run.outcomes;
-      lawful = subst (λ (ks : List Command). IsLawful (setup_of kinds shape script.types) ks run.outcomes (history_of run.outcomes))
-          (sym (take_all (length script.commands) script.commands (omega arith)))
-          (lawful_run (setup_of kinds shape script.types) script.commands run.outcomes law none run.run (ap (λ (s : State). s.running) (sym run.last) ∙ run.alone));
+      history = mid.history;
+      lawful = subst (λ (ks : List Command). IsLawful (setup_of kinds shape script.types) ks run.outcomes mid.history)
+          (sym (take_all (length script.commands) script.commands (omega arith))) run.ran.lawful;
       ending = line_bytes end;
       ends = inr (
         refl,
-        (end, subst (λ (s : State). IsEndLine (setup_of kinds shape script.types) s end) run.last (end_of kinds shape script x y old mid end has ended), refl),
+        (end, subst (λ (s : State). IsEndLine (setup_of kinds shape script.types) s end) run.ran.last (end_of kinds shape script x y old mid end has ended), refl),
       );
       written = grew_front w y z _ _ (grew w x y _ _ types run.written) last;
     }
 
 -- ---- the end line is written or not
 
-pub told_at_end : {T E : Type 0} (kinds : List ActionKind) (shape : Shape) (script : Script) (law : RunsAreReplayed) (none : LetNoneGo script.commands) (w x y z : Option (List ℕ)) (old mid heap : View) (end : Line) (result : Result T E)
-    → Grew w x (lines_bytes (type_lines 0 script.types)) → HasRun kinds shape script x y old mid → mid.state.ordinal ≡ length script.commands
+pub told_at_end : {T E : Type 0} (kinds : List ActionKind) (shape : Shape) (script : Script) (w x y z : Option (List ℕ)) (old mid heap : View) (end : Line) (result : Result T E)
+    → Grew w x (lines_bytes (type_lines 0 script.types)) → HasPrinted kinds shape script x y old mid → mid.state.ordinal ≡ length script.commands
     → IsEndLine mid.setup mid.state end → heap ≡ record mid { closed = true } → Writes y z (line_bytes end) result
     → IsReported kinds shape script w z heap result
-told_at_end kinds shape script law none w x y z old mid heap end (Ok u) types has count ended is last =
-    whole_run kinds shape script law none w x y z old mid heap end types has count ended is last
-told_at_end kinds shape script law none w x y z old mid heap end (Err e) types has count ended is last =
-    cut_in_end kinds shape script law none w x y z old mid end types has ended last
+told_at_end kinds shape script w x y z old mid heap end (Ok u) types has count ended is last =
+    whole_run kinds shape script w x y z old mid heap end types has count ended is last
+told_at_end kinds shape script w x y z old mid heap end (Err e) types has count ended is last =
+    cut_in_end kinds shape script w x y z old mid end types has ended last

@@ -1,16 +1,16 @@
 // The report of a script, printed while its commands are done.
 
-ghost use Rattle.std.specs.Prelude.{◌≡◌, ◌+◌, ◌++◌, ◌<◌, ◌≤◌, true};
+ghost use Rattle.std.specs.Prelude.{◌≡◌, ◌<◌, ◌≤◌};
 ghost use Rattle.std.specs.Prelude.{false, [], length, All, OnOk, OnErr};
 ghost use Rattle.gc_graph.specs.State.{empty_state};
-ghost use Rattle.gc_graph.specs.Step.{Step};
-ghost use Rattle.built_forms.specs.Built.{is_built, AreBuiltCommands};
+ghost use Rattle.gc_graph.specs.Sections.{AreInSections, IsInSection};
 ghost use Rattle.gc_graph.specs.Outcomes.{finalise_lines};
 ghost use Rattle.gc_graph.specs.Lawful.{IsAllowed};
 ghost use Rattle.gc_graph.specs.Report.{line_bytes, lines_bytes};
 ghost use Rattle.text_devices.specs.Causes.{HasCause};
 ghost use Rattle.text_devices.specs.Devices.{Writes};
 ghost use Rattle.report_text.specs.Pieces.{no_pieces, with_held, TookMore};
+ghost use Rattle.heap_engine.specs.Acted.{IsActed};
 ghost use Rattle.script_run.specs.Setting.{IsRunnable, setup_of, script_on};
 ghost use Rattle.script_run.specs.Printed.{IsPrintedRun, IsPartRun, counted_lines};
 ghost use Rattle.script_run.specs.Headline.{IsReported};
@@ -42,7 +42,6 @@ pub(crate) fn print_report<K: Sink>(
         (K.written sink.old) (K.written sink.new) heap.new.core result }
     ensures cause { HasCause (K.faults sink.old) (K.faults sink.new) result }
 {
-    gc_graph::runs_are_replayed();
     match print_types(types, pieces, sink) {
         Ok(()) => {}
         Err(failed) => return Err(failed),
@@ -97,7 +96,7 @@ fn print_all<K: Sink>(
     requires opened { heap.old.core.closed ≡ false }
     requires allowed { All (IsAllowed (length heap.old.core.setup.types)) commands.now }
     requires few { length commands.now ≤ 1000000 }
-    requires built { AreBuiltCommands commands.now }
+    requires sections { AreInSections false commands.now }
     ensures done { OnOk result (IsPrintedRun heap.old.core.setup commands.now
         (with_held (K.written sink.old) pieces.old)
         (with_held (K.written sink.new) pieces.new) heap.new.core) }
@@ -109,6 +108,8 @@ fn print_all<K: Sink>(
     ensures count { OnOk result (heap.new.core.state.ordinal ≡ length commands.now) }
     ensures cause { HasCause (K.faults sink.old) (K.faults sink.new) result }
 {
+    gc_graph::runs_are_replayed();
+    gc_graph::steps_leave_threads();
     for command in commands {
         match print_outcome(heap, command, pieces, sink) {
             Ok(()) => {}
@@ -128,17 +129,11 @@ fn print_outcome<K: Sink>(
     requires few { heap.old.core.state.ordinal < 1000000 }
     requires opened { heap.old.core.closed ≡ false }
     requires allowed { IsAllowed (length heap.old.core.setup.types) command.now }
-    requires built { is_built command.now ≡ true }
-    ensures step { Step heap.old.core.setup heap.old.core.state command.now
-        heap.new.core.piece heap.new.core.lines heap.new.core.state }
-    ensures alone { heap.new.core.state.running ≡ [] }
+    requires section { IsInSection heap.old.core.state.awaiting command.now }
+    ensures acted { IsActed heap.old.core heap.new.core command.now (length heap.new.core.lines) }
     ensures bytes { Writes (with_held (K.written sink.old) pieces.old)
         (with_held (K.written sink.new) pieces.new) (lines_bytes heap.new.core.lines) result }
     ensures taken { TookMore (K.written sink.old) (K.written sink.new) }
-    ensures history { heap.new.core.history ≡ heap.old.core.history ++ heap.new.core.piece }
-    ensures ordinal { heap.new.core.state.ordinal ≡ heap.old.core.state.ordinal + 1 }
-    ensures setup { heap.new.core.setup ≡ heap.old.core.setup }
-    ensures closed { heap.new.core.closed ≡ false }
     ensures cause { HasCause (K.faults sink.old) (K.faults sink.new) result }
 {
     let count = heap.act(command);

@@ -1,4 +1,4 @@
-use Rattle.std.proofs.Common.{◌≡◌, map, string_bytes, Some, option_map, ap, sym, ◌∙◌, refl, rules}
+use Rattle.std.proofs.Common.{◌≡◌, map, string_bytes, Some, option_map, sym, ◌∙◌, refl, rules}
 use Rattle.command_line.specs.Options.{options_asked}
 use Rattle.script_run.proofs.Outcomes.{answers_done, answers_stopped, answers_script, of_kept}
 use Rattle.script_run.proofs.one_run.run.Goals as goal

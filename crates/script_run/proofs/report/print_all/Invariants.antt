@@ -1,4 +1,5 @@
-use Rattle.std.proofs.Common.{◌≡◌, false, take}
+use Rattle.std.proofs.Common.{◌≡◌, false, take, drop}
+use Rattle.gc_graph.specs.Sections.{AreInSections}
 use Rattle.report_text.specs.Pieces.{with_held, TookMore}
 use Rattle.script_run.specs.Printed.{IsPrintedRun}
 use Rattle.script_run.proofs.report.print_all.Given as goal
@@ -6,6 +7,7 @@ use Rattle.script_run.proofs.report.print_all.Given as goal
 abbrev pub invariant-loop-command : goal.invariant-loop-command
 invariant-loop-command g l = record {
   setup : l.heap.core.setup ≡ l.initial.heap.core.setup;
+  sections : AreInSections l.heap.core.state.awaiting (drop l.command-index l.commands);
   ordinal : l.heap.core.state.ordinal ≡ l.command-index;
   opened : l.heap.core.closed ≡ false;
   steady : g.K.Sink.faults l.sink ≡ g.K.Sink.faults l.initial.sink;
