@@ -7,7 +7,7 @@ ghost use Rattle.gc_graph.specs.declared.line.Line.{Line};
 ghost use Rattle.gc_graph.specs.State.{empty_state};
 ghost use Rattle.gc_graph.specs.Outcomes.{finalise_lines};
 ghost use Rattle.gc_graph.specs.Sections.{IsInSection};
-ghost use Rattle.gc_graph.specs.Lawful.{IsAllowed, IsEndLine};
+ghost use Rattle.gc_graph.specs.Lawful.{IsAllowed, IsEndLine, summary_line};
 ghost use Rattle.gc_graph.specs.Shapes.{IsShape};
 ghost use Rattle.callback_table.specs.Table.{kinds_of};
 ghost use Rattle.heap_engine.specs.Acted.{IsActed};
@@ -104,6 +104,14 @@ impl<'a> Heap<'a> {
         ensures all { result.now ≡ finalised_in self.now.core.lines }
     {
         self.core.finalised()
+    }
+
+    /// The line that tells how many commands, pauses, finalised objects and full outcomes there were,
+    /// and what the heap holds.
+    pub fn summary(&self) -> Line
+        ensures { result ≡ summary_line self.now.core.state }
+    {
+        self.core.summary()
     }
 
     /// Ends the heap's run, and answers the line that counts what is not finalised.

@@ -9,7 +9,7 @@ ghost use Rattle.gc_graph.specs.State.{empty_state};
 ghost use Rattle.gc_graph.specs.Sections.{IsInSection};
 ghost use Rattle.gc_graph.specs.declared.command.Command.TheVariants as C;
 ghost use Rattle.gc_graph.specs.Outcomes.{finalise_lines};
-ghost use Rattle.gc_graph.specs.Lawful.{IsAllowed, IsEndLine};
+ghost use Rattle.gc_graph.specs.Lawful.{IsAllowed, IsEndLine, summary_line};
 ghost use Rattle.gc_graph.specs.Shapes.{IsShape};
 ghost use Rattle.callback_table.specs.Table.{kinds_of};
 ghost use Rattle.heap_engine.specs.Acted.{IsActed};
@@ -192,6 +192,21 @@ impl Core {
         ensures all { result.now ≡ finalised_in self.now.lines }
     {
         self.outcome.finalised()
+    }
+
+    pub fn summary(&self) -> Line
+        ensures { result ≡ summary_line self.now.state }
+    {
+        let (objects, used, _pages) = self.parts.objects.totals();
+        let counts = self.parts.cycle.counts();
+        Line::Summary {
+            c: counts.ordinal,
+            y: counts.pauses,
+            n: u64::from(objects),
+            u: u64::from(used),
+            f: counts.finalised,
+            full: counts.full,
+        }
     }
 
     pub fn close(&mut self) -> Line
