@@ -20,7 +20,7 @@ pub(crate) enum Verdict {
     Differs(Place),
     /// The heap of a run that is not done was kept, or that of one that is done was not.
     Heap,
-    /// The words were refused, and yet something was read.
+    /// The words were refused or ask for a generated script, and yet something was read.
     Input,
 }
 
@@ -60,7 +60,14 @@ pub(crate) fn tried(rt: &HostRuntime, name: &str) -> io::Result<Verdict> {
     let length = script.len();
     let trial = trial_of(rt.alloc(), &words, script)?;
     let wanted = wanted_of(rt, name)?;
-    verdict_of(rt.alloc(), &wanted, length, &trial)
+    if trial.left != length && lets_input_alone(&words, trial.ran.status) {
+        return Ok(Verdict::Input);
+    }
+    verdict_of(rt.alloc(), &wanted, &trial)
+}
+
+fn lets_input_alone(words: &[String], status: Status) -> bool {
+    status == Status::Usage || words.iter().any(|word| word.starts_with("--generate"))
 }
 
 /// The file of a case with this ending, where there is one.
@@ -125,7 +132,7 @@ fn run_of(alloc: Global, words: &[String], script: Vec<u8>) -> Result<Trial, NoM
     Ok(Trial { ran, sink, left })
 }
 
-fn verdict_of(alloc: Global, wanted: &Wanted, length: usize, trial: &Trial) -> io::Result<Verdict> {
+fn verdict_of(alloc: Global, wanted: &Wanted, trial: &Trial) -> io::Result<Verdict> {
     let status = trial.ran.status;
     let message = format!(in alloc; "{status}\n")?;
     if message.as_bytes() != wanted.message.as_slice() {
@@ -137,9 +144,6 @@ fn verdict_of(alloc: Global, wanted: &Wanted, length: usize, trial: &Trial) -> i
     }
     if trial.ran.is_kept != (status == Status::Done) {
         return Ok(Verdict::Heap);
-    }
-    if status == Status::Usage && trial.left != length {
-        return Ok(Verdict::Input);
     }
     Ok(Verdict::Same)
 }

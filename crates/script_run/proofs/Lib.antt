@@ -3,6 +3,7 @@ pub mod HeldBack
 pub mod LawfulRuns
 pub mod Printing
 pub mod Reports
+pub mod Summaries
 pub mod Inputs
 pub mod Runnable
 pub mod Outcomes

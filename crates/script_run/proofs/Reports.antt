@@ -1,5 +1,5 @@
 -- Reports that are written part by part: the type lines, the outcomes, and the end line.
-use Rattle.std.proofs.Common.{◌≡◌, ℕ, true, List, [], length, take, Option, refl, sym, ◌∙◌, subst, inl, inr, arith}
+use Rattle.std.proofs.Common.{◌≡◌, ℕ, true, false, List, [], length, take, Option, refl, sym, ◌∙◌, subst, inl, inr, arith}
 use Rattle.std.specs.Prelude.{Result, Ok, Err}
 use Rattle.std.proofs.lemmas.List.{take_all}
 use Rattle.gc_graph.specs.declared.command.Command.{Command}
@@ -7,13 +7,13 @@ use Rattle.gc_graph.specs.declared.line.Line.{Line}
 use Rattle.gc_graph.specs.declared.action.ActionKind.{ActionKind}
 use Rattle.gc_graph.specs.State.{State, Shape, empty_state}
 use Rattle.gc_graph.specs.Lawful.{IsLawful, IsEndLine}
-use Rattle.gc_graph.specs.Report.{line_bytes, lines_bytes, type_lines, outcomes_bytes}
+use Rattle.gc_graph.specs.Report.{line_bytes, lines_bytes, type_lines, outcomes_bytes, report_of}
 use Rattle.gc_graph.specs.Script.{Script}
 use Rattle.text_devices.specs.Devices.{Grew, GrewByFront, Writes}
 use Rattle.heap_engine.specs.View.{View}
 use Rattle.script_run.specs.Setting.{setup_of}
 use Rattle.script_run.specs.Printed.{IsPrintedRun, IsPartRun, printed_lines}
-use Rattle.script_run.specs.Headline.{IsWholeRun, IsCutShort, IsReported}
+use Rattle.script_run.specs.Headline.{IsWholeRun, IsReportCut, IsTold}
 use Rattle.script_run.proofs.Writing.{grew, grew_front, longer}
 use Rattle.script_run.proofs.Printing.{printed_none}
 
@@ -35,25 +35,29 @@ end_of kinds shape script x y old mid end has ended = subst (λ s. IsEndLine s m
 whole_run : (kinds : List ActionKind) (shape : Shape) (script : Script) (w x y z : Option (List ℕ)) (old mid heap : View) (end : Line)
     → Grew w x (lines_bytes (type_lines 0 script.types)) → HasPrinted kinds shape script x y old mid → mid.state.ordinal ≡ length script.commands
     → IsEndLine mid.setup mid.state end → heap ≡ record mid { closed = true } → Grew y z (line_bytes end)
-    → IsWholeRun kinds shape script w z heap
+    → IsWholeRun false kinds shape script w z heap
 whole_run kinds shape script w x y z old mid heap end types has count ended is last =
     let run = run_of kinds shape script x y old mid has in
-    subst (λ (h : View). IsWholeRun kinds shape script w z h) (sym is) (record {
+    subst (λ (h : View). IsWholeRun false kinds shape script w z h) (sym is) (record {
       outcomes = run.outcomes;
       history = mid.history;
-      end = end;
+      text = report_of script.types (printed_lines run.outcomes) end;
       lawful = run.ran.lawful;
       state = run.ran.last;
       taken = refl;
-      ended = end_of kinds shape script x y old mid end has ended;
-      report = grew w y z _ _ (grew w x y _ _ types run.written) last;
+      printed = record {
+        end = end;
+        counted = subst (λ (s : State). IsEndLine (setup_of kinds shape script.types) s end) run.ran.last (end_of kinds shape script x y old mid end has ended);
+        report = refl;
+      };
+      written = grew w y z _ _ (grew w x y _ _ types run.written) last;
       setup = has.same ∙ has.setup;
       closed = refl;
       count = count;
     })
 
 pub cut_in_types : (kinds : List ActionKind) (shape : Shape) (script : Script) (w x : Option (List ℕ)) (old : View) → old.state ≡ empty_state → old.history ≡ []
-    → GrewByFront w x (lines_bytes (type_lines 0 script.types)) → IsCutShort kinds shape script w x
+    → GrewByFront w x (lines_bytes (type_lines 0 script.types)) → IsReportCut kinds shape script w x
 cut_in_types kinds shape script w x old start fresh front =
     let start_run : IsPrintedRun (setup_of kinds shape script.types) (take 0 script.commands) x x old =
     printed_none (setup_of kinds shape script.types) script.commands x old start fresh in
@@ -69,7 +73,7 @@ cut_in_types kinds shape script w x old start fresh front =
     }
 
 pub cut_in_outcomes : (kinds : List ActionKind) (shape : Shape) (script : Script) (w x y : Option (List ℕ)) (old : View) → Grew w x (lines_bytes (type_lines 0 script.types))
-    → old.setup ≡ setup_of kinds shape script.types → IsPartRun old.setup script.commands x y → IsCutShort kinds shape script w y
+    → old.setup ≡ setup_of kinds shape script.types → IsPartRun old.setup script.commands x y → IsReportCut kinds shape script w y
 cut_in_outcomes kinds shape script w x y old types setup part =
     let run = subst (λ s. IsPartRun s script.commands x y) setup part in
     record {
@@ -85,7 +89,7 @@ cut_in_outcomes kinds shape script w x y old types setup part =
 
 cut_in_end : (kinds : List ActionKind) (shape : Shape) (script : Script) (w x y z : Option (List ℕ)) (old mid : View) (end : Line)
     → Grew w x (lines_bytes (type_lines 0 script.types)) → HasPrinted kinds shape script x y old mid
-    → IsEndLine mid.setup mid.state end → GrewByFront y z (line_bytes end) → IsCutShort kinds shape script w z
+    → IsEndLine mid.setup mid.state end → GrewByFront y z (line_bytes end) → IsReportCut kinds shape script w z
 cut_in_end kinds shape script w x y z old mid end types has ended last =
     let run = run_of kinds shape script x y old mid has in
     record {
@@ -108,7 +112,7 @@ cut_in_end kinds shape script w x y z old mid end types has ended last =
 pub told_at_end : {T E : Type 0} (kinds : List ActionKind) (shape : Shape) (script : Script) (w x y z : Option (List ℕ)) (old mid heap : View) (end : Line) (result : Result T E)
     → Grew w x (lines_bytes (type_lines 0 script.types)) → HasPrinted kinds shape script x y old mid → mid.state.ordinal ≡ length script.commands
     → IsEndLine mid.setup mid.state end → heap ≡ record mid { closed = true } → Writes y z (line_bytes end) result
-    → IsReported kinds shape script w z heap result
+    → IsTold false kinds shape script w z heap result
 told_at_end kinds shape script w x y z old mid heap end (Ok u) types has count ended is last =
     whole_run kinds shape script w x y z old mid heap end types has count ended is last
 told_at_end kinds shape script w x y z old mid heap end (Err e) types has count ended is last =

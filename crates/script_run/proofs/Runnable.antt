@@ -1,5 +1,5 @@
 -- What a script has for the heap.
-use Rattle.std.proofs.Common.{◌≡◌, ℕ, ◌<◌, ◌&&◌, Bool, false, List, [], ◌∷◌, All, true, true≢false, refl, sym, ◌∙◌, arith}
+use Rattle.std.proofs.Common.{◌≡◌, ℕ, ◌<◌, ◌≤◌, ◌&&◌, Bool, false, List, [], ◌∷◌, All, true, true≢false, refl, sym, ◌∙◌, arith}
 use Rattle.std.specs.Prelude.{nat_lt}
 use Rattle.std.specs.List.{list_all}
 use Rattle.std.proofs.lemmas.Bool.{ltb-true, lt-ltb, not-true}
@@ -11,10 +11,15 @@ use Rattle.gc_graph.specs.ScriptLaw.{ScriptsAreInRanges}
 use Rattle.type_table.specs.declared.faults.TypeFault.TheVariants.{TooManyFields, NoCallback}
 use Rattle.type_table.specs.Faults.{AreGoodTypes, IsTypeFault, is_too_wide, names_none}
 use Rattle.heap_objects.specs.Objects.{HaveCallbacks}
+use Rattle.script_generator.specs.Generated.{generated}
+use Rattle.script_generator.specs.GeneratedLaw.{GeneratedIsInRanges}
 use Rattle.script_run.specs.Setting.{IsRunnable}
 
 pub script_is_runnable : (callbacks : ℕ) (bytes : List ℕ) (script : Script) → ScriptsAreInRanges → IsScript callbacks bytes script → IsRunnable callbacks script
 script_is_runnable callbacks bytes script law is = record { ranges = law callbacks bytes script is }
+
+pub made_is_runnable : (callbacks seed count : ℕ) → GeneratedIsInRanges → count ≤ 50000 → IsRunnable callbacks (generated seed count)
+made_is_runnable callbacks seed count law few = record { ranges = law callbacks seed count few }
 
 pub have_callbacks : (callbacks : ℕ) (script : Script) → IsRunnable callbacks script → HaveCallbacks callbacks script.types
 have_callbacks callbacks script runnable = record { few = runnable.ranges.modest; known = runnable.ranges.known }

@@ -1,7 +1,6 @@
 -- What has to be believed for the headline, in reading order.
 pub mod Callbacks
 pub mod Setting
-pub mod BuiltOptions
 pub mod Printed
 pub mod Headline
 pub mod Statuses

@@ -26,6 +26,10 @@ pub record HasRun (setup : Setup) (commands : List Command) (outcomes : List Out
   pub last : heap.state ≡ last_state empty_state outcomes
   pub going : (g : ℕ) → IsLastGo commands g → heap.going ≡ state_after outcomes g
 
+-- some lawful run of the commands led to this heap
+abbrev pub HasRunAll : Setup → List Command → View → Type 0
+HasRunAll setup commands heap = (outcomes : List Outcome) × HasRun setup commands outcomes heap
+
 -- a lawful run of the commands led to this heap, and its outcomes were written
 pub record IsPrintedRun (setup : Setup) (commands : List Command) (before after : Option (List ℕ)) (heap : View) : Type 0 where
   pub outcomes : List Outcome

@@ -5,11 +5,6 @@ use Rattle.gc_graph.specs.declared.command.Command.{Command}
 use Rattle.gc_graph.specs.State.{Setup, Shape, ObjectType}
 use Rattle.gc_graph.specs.Script.{Script}
 use Rattle.gc_graph.specs.ScriptLaw.{IsInRanges}
-use Rattle.heap_engine.specs.declared.heap.Config.{Config}
-
--- the shape of a heap that was configured so
-abbrev pub shape_of : Config → Shape
-shape_of config = record { pages = config.pages; page_words = config.page_words }
 
 -- a heap of the shape without markers, with callbacks of these kinds and the types of a script
 abbrev pub setup_of : List ActionKind → Shape → List ObjectType → Setup

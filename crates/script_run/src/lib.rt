@@ -1,29 +1,29 @@
 //! # One run: from the bytes of a script to the bytes of its report
 //!
 //! What it is: all that the program does between its words, its input and its output, over any
-//! devices. `run` reads a heap script, runs its commands on one heap, and writes the report.
+//! devices. `run` reads a heap script or generates one, runs its commands on one heap, and writes the
+//! report of the run, or its summary.
 //!
-//! The parts: `run` in `one_run` (from the bytes of a script to its report), `report` (each command's
-//! outcome is printed before the next command, and the text goes out in large pieces), `callbacks`
-//! (the five of the program), `built_options` (the words' options, where all is built), `adapters`
+//! The parts: `run` in `one_run` (from the words and the bytes of a script to what is printed),
+//! `report` (each command's outcome is printed before the next command, and the text goes out in large
+//! pieces; or one line is printed at the end), `callbacks` (the five of the program), `adapters`
 //! (devices over the standard streams), `status` (how a run ends, and what is told of it).
 //!
-//! What is proved, at `run`: after Done the input was read to its end, it is a script within the
-//! limits, and what was written is the report of a lawful run of it, whose state and history the
-//! closed heap in `kept` has. The totals that threads were told are those just before they went, and
-//! a thread that was not joined has done the first of its orders. After a failed write a beginning of
-//! such a report was written, and after every other answer nothing. Too long, a faulty line and
-//! refused words are answered exactly where they are so, and a device's fault only where its count has
-//! risen; with any other answer no call of that device has failed. What the heap is asked is in the
-//! ranges that it wants: a law of `gc_graph` says so of every script. `run_with`, `run_commands` and
-//! `heap_engine`'s `Heap::act` are the way down.
+//! What is proved, at `run`: after Done the script is the generated one, and the input was let alone,
+//! or the input was read to its end and is a script within the limits. What was written is what is
+//! printed of a lawful run of it, whose state and history the closed heap in `kept` has. The totals
+//! that threads were told are those just before they went, and a thread that was not joined has done
+//! the first of its orders. After a failed write a beginning of such a text was written, and after
+//! every other answer nothing. Too long, a faulty line and refused words are answered exactly where
+//! they are so, and a device's fault only where its count has risen; with any other answer no call of
+//! that device has failed. What the heap is asked is in the ranges that it wants: laws say so of every
+//! script. `run_with`, `run_commands` and `heap_engine`'s `Heap::act` are the way down.
 //!
 //! What is only tested or not said: that memory suffices, where a piece of the report ends, and what
 //! the words and the standard streams give and take (the adapters tell no bytes).
 #![tactic(auto)]
 
 mod adapters;
-mod built_options;
 mod callbacks;
 mod one_run;
 mod report;

@@ -1,6 +1,6 @@
-// The report of a script, printed while its commands are done.
+// What is printed of a script: its report, while its commands are done, or its summary after them.
 
-ghost use Rattle.std.specs.Prelude.{◌≡◌, ◌<◌, ◌≤◌};
+ghost use Rattle.std.specs.Prelude.{◌≡◌, ◌<◌, ◌≤◌, true};
 ghost use Rattle.std.specs.Prelude.{false, [], length, All, OnOk, OnErr};
 ghost use Rattle.gc_graph.specs.State.{empty_state};
 ghost use Rattle.gc_graph.specs.Sections.{AreInSections, IsInSection};
@@ -12,16 +12,45 @@ ghost use Rattle.text_devices.specs.Devices.{Writes};
 ghost use Rattle.report_text.specs.Pieces.{no_pieces, with_held, TookMore};
 ghost use Rattle.heap_engine.specs.Acted.{IsActed};
 ghost use Rattle.script_run.specs.Setting.{IsRunnable, setup_of, script_on};
-ghost use Rattle.script_run.specs.Printed.{IsPrintedRun, IsPartRun, counted_lines};
-ghost use Rattle.script_run.specs.Headline.{IsReported};
+ghost use Rattle.script_run.specs.Printed.{HasRunAll, IsPrintedRun, IsPartRun, counted_lines};
+ghost use Rattle.script_run.specs.Headline.{IsTold};
 
 use gc_graph::{Command, Line};
 use heap_engine::Heap;
 use heap_script::{Failed, Pieces, Sink};
 
-/// Does the commands of a script on a new heap, prints the report, and closes the heap. So many
-/// types has the heap.
-pub(crate) fn print_report<K: Sink>(
+/// Does the commands of a script on a new heap, which has so many types, prints the report or the
+/// summary, and closes the heap.
+pub(crate) fn print_run<K: Sink>(
+    heap: &mut Heap<'_>,
+    summary: bool,
+    types: u32,
+    commands: &[Command],
+    pieces: &mut Pieces,
+    sink: &mut K,
+) -> Result<(), Failed>
+    requires runnable { IsRunnable (length heap.old.core.setup.callbacks)
+        (script_on heap.old.core.setup commands.now) }
+    requires setup { heap.old.core.setup ≡ setup_of heap.old.core.setup.callbacks
+        heap.old.core.setup.shape heap.old.core.setup.types }
+    requires types { types ≡ length heap.old.core.setup.types }
+    requires start { heap.old.core.state ≡ empty_state }
+    requires fresh { heap.old.core.history ≡ [] }
+    requires opened { heap.old.core.closed ≡ false }
+    requires empty { pieces.old ≡ no_pieces }
+    ensures told { IsTold summary heap.old.core.setup.callbacks heap.old.core.setup.shape
+        (script_on heap.old.core.setup commands.now)
+        (K.written sink.old) (K.written sink.new) heap.new.core result }
+    ensures cause { HasCause (K.faults sink.old) (K.faults sink.new) result }
+{
+    if summary {
+        return print_summary(heap, commands, pieces, sink);
+    }
+    print_report(heap, types, commands, pieces, sink)
+}
+
+/// Does the commands and prints the report: the types, each outcome as it comes, and the end line.
+fn print_report<K: Sink>(
     heap: &mut Heap<'_>,
     types: u32,
     commands: &[Command],
@@ -37,7 +66,7 @@ pub(crate) fn print_report<K: Sink>(
     requires fresh { heap.old.core.history ≡ [] }
     requires opened { heap.old.core.closed ≡ false }
     requires empty { pieces.old ≡ no_pieces }
-    ensures told { IsReported heap.old.core.setup.callbacks heap.old.core.setup.shape
+    ensures told { IsTold false heap.old.core.setup.callbacks heap.old.core.setup.shape
         (script_on heap.old.core.setup commands.now)
         (K.written sink.old) (K.written sink.new) heap.new.core result }
     ensures cause { HasCause (K.faults sink.old) (K.faults sink.new) result }
@@ -52,6 +81,51 @@ pub(crate) fn print_report<K: Sink>(
     }
     let end = heap.close();
     print_end(&end, pieces, sink)
+}
+
+/// Does the commands, and prints the one line that counts what came of them.
+fn print_summary<K: Sink>(
+    heap: &mut Heap<'_>,
+    commands: &[Command],
+    pieces: &mut Pieces,
+    sink: &mut K,
+) -> Result<(), Failed>
+    requires runnable { IsRunnable (length heap.old.core.setup.callbacks)
+        (script_on heap.old.core.setup commands.now) }
+    requires setup { heap.old.core.setup ≡ setup_of heap.old.core.setup.callbacks
+        heap.old.core.setup.shape heap.old.core.setup.types }
+    requires start { heap.old.core.state ≡ empty_state }
+    requires fresh { heap.old.core.history ≡ [] }
+    requires opened { heap.old.core.closed ≡ false }
+    requires empty { pieces.old ≡ no_pieces }
+    ensures told { IsTold true heap.old.core.setup.callbacks heap.old.core.setup.shape
+        (script_on heap.old.core.setup commands.now)
+        (K.written sink.old) (K.written sink.new) heap.new.core result }
+    ensures cause { HasCause (K.faults sink.old) (K.faults sink.new) result }
+{
+    do_all(heap, commands);
+    let line = heap.summary();
+    let _end = heap.close();
+    print_end(&line, pieces, sink)
+}
+
+/// Does the commands in order.
+fn do_all(heap: &mut Heap<'_>, commands: &[Command])
+    requires start { heap.old.core.state ≡ empty_state }
+    requires fresh { heap.old.core.history ≡ [] }
+    requires opened { heap.old.core.closed ≡ false }
+    requires allowed { All (IsAllowed (length heap.old.core.setup.types)) commands.now }
+    requires few { length commands.now ≤ 1000000 }
+    requires sections { AreInSections false commands.now }
+    ensures done { HasRunAll heap.old.core.setup commands.now heap.new.core }
+    ensures setup { heap.new.core.setup ≡ heap.old.core.setup }
+    ensures count { heap.new.core.state.ordinal ≡ length commands.now }
+{
+    gc_graph::runs_are_replayed();
+    gc_graph::steps_leave_threads();
+    for command in commands {
+        let _lines = heap.act(command);
+    }
 }
 
 /// Prints the last line, and hands down all that is held.

@@ -5,9 +5,9 @@
 //!
 //! The parts: `trial` (a run over devices in memory, and what comes of it), `rows` (what a row of a
 //! table says), `devices` (devices that fail at each call in turn), `pieces` (the same with reports
-//! of more than one piece), `adapters` (the standard streams' devices, over readers and writers
-//! that move few bytes or fail), `limits` (input at the limits), `statuses` (what standard error is
-//! told), `calls` (how often a callback is called).
+//! of more than one piece), `summaries` (summaries that end early), `adapters` (the standard streams'
+//! devices, over readers and writers that move few bytes or fail), `limits` (input at the limits),
+//! `statuses` (what standard error is told), `calls` (how often a callback is called).
 //!
 //! What is proved: nothing of its own.
 //!
@@ -29,5 +29,7 @@ mod pieces;
 mod rows;
 #[cfg(test)]
 mod statuses;
+#[cfg(test)]
+mod summaries;
 #[cfg(test)]
 mod trial;

@@ -45,7 +45,20 @@ pub(crate) fn expected(status: Status, written: usize) -> Outcome {
 pub(crate) fn outcome_of(alloc: Global, script: &[u8], report: &[u8], devices: Devices) -> Outcome
     requires { 1 ≤ devices.most }
 {
-    match try_on(alloc, script, report, devices) {
+    outcome_with(alloc, &[], script, report, devices)
+}
+
+/// What comes of the script, of which this is printed, with these words.
+pub(crate) fn outcome_with(
+    alloc: Global,
+    words: &[String],
+    script: &[u8],
+    report: &[u8],
+    devices: Devices,
+) -> Outcome
+    requires { 1 ≤ devices.most }
+{
+    match try_on(alloc, words, script, report, devices) {
         Ok(outcome) => outcome,
         Err(_) => Outcome {
             status: Status::NoMemory,
@@ -57,6 +70,7 @@ pub(crate) fn outcome_of(alloc: Global, script: &[u8], report: &[u8], devices: D
 
 fn try_on(
     alloc: Global,
+    words: &[String],
     script: &[u8],
     report: &[u8],
     devices: Devices,
@@ -68,7 +82,7 @@ fn try_on(
     let mut source = ListSource::new(Vec::from_slice(alloc, script)?, devices.most, bad_reads);
     let mut sink = ListSink::new(alloc, devices.most, bad_writes);
     sink.reserve(devices.room)?;
-    let ran = run_program(alloc, &[], &mut source, &mut sink)?;
+    let ran = run_program(alloc, words, &mut source, &mut sink)?;
     Ok(Outcome {
         status: ran.status,
         written: written_of(sink.bytes(), report),

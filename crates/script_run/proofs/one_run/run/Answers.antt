@@ -1,26 +1,67 @@
-use Rattle.std.proofs.Common.{◌≡◌, map, string_bytes, Some, option_map, sym, ◌∙◌, refl, rules}
-use Rattle.command_line.specs.Options.{options_asked}
-use Rattle.script_run.proofs.Outcomes.{answers_done, answers_stopped, answers_script, of_kept}
+use Rattle.std.proofs.Common.{map, string_bytes, option_map, ap, sym, ◌∙◌, refl}
+use Rattle.script_run.specs.Headline.{tells_of_input}
+use Rattle.script_run.proofs.Outcomes.{asks_input, answers_done, answers_stopped, answers_script, made_done, made_stopped, script_tells_no_input, none_of, of_kept}
 use Rattle.script_run.proofs.one_run.run.Goals as goal
+
+-- ---- the input
 
 pub returns-in-Ok-clause-done : goal.returns-in-Ok-clause-done
 returns-in-Ok-clause-done g c =
-    let asked : options_asked (map string_bytes c.args.words.now) ≡ Some c.in-Some.options = search rules in
-    λ is. of_kept (λ heap. heap.core) _ c.run_bytes.new.kept (answers_done _ _ _ asked _ _ _ _ _ _
+    λ is. of_kept (λ heap. heap.core) _ c.run_bytes.new.kept (answers_done _ (map string_bytes c.args.words.now) c.in-Some.options
+    (record { asked = sym c.options_of.ensures.asked ∙ c.in-Some.is; none = none_of c.in-Some.options.generated c.in_default.not-Some }) _ _ _ _ _ _
     (record { bytes = c.deref.result.now; read = rw c.deref.ensures.value c.in-Ok.ensures.bytes; answer = c.run_bytes.ensures.answer }) is)
 
 pub returns-in-Ok-clause-stopped : goal.returns-in-Ok-clause-stopped
 returns-in-Ok-clause-stopped g c =
-    let asked : options_asked (map string_bytes c.args.words.now) ≡ Some c.in-Some.options = search rules in
-    answers_stopped _ _ _ asked _ _ _ _ (option_map (λ heap. heap.core) c.run_bytes.new.kept) _ (record { bytes = c.deref.result.now; read = rw c.deref.ensures.value c.in-Ok.ensures.bytes; answer = c.run_bytes.ensures.answer })
+    answers_stopped _ (map string_bytes c.args.words.now) c.in-Some.options
+    (record { asked = sym c.options_of.ensures.asked ∙ c.in-Some.is; none = none_of c.in-Some.options.generated c.in_default.not-Some }) _ _ _ _ (option_map (λ heap. heap.core) c.run_bytes.new.kept) _
+    (record { bytes = c.deref.result.now; read = rw c.deref.ensures.value c.in-Ok.ensures.bytes; answer = c.run_bytes.ensures.answer })
 
 pub returns-in-Ok-clause-script : goal.returns-in-Ok-clause-script
 returns-in-Ok-clause-script g c =
-    answers_script _ _ _ _ (g.K.Sink.written c.args.sink.now) (g.K.Sink.written c.run_bytes.new.sink) (option_map (λ heap. heap.core) c.run_bytes.new.kept) _
+    answers_script _ c.in-Some.options _ _ (g.K.Sink.written c.args.sink.now) (g.K.Sink.written c.run_bytes.new.sink) (option_map (λ heap. heap.core) c.run_bytes.new.kept) _
     (record { bytes = c.deref.result.now; read = rw c.deref.ensures.value c.in-Ok.ensures.bytes; answer = c.run_bytes.ensures.answer })
 
+pub returns-in-Ok-clause-input : goal.returns-in-Ok-clause-input
+returns-in-Ok-clause-input g c = λ tells. asks_input (map string_bytes c.args.words.now) c.in-Some.options
+    (record { asked = sym c.options_of.ensures.asked ∙ c.in-Some.is; none = none_of c.in-Some.options.generated c.in_default.not-Some })
+
+-- ---- the generated script
+
+pub returns-in-Some-generated-clause-done : goal.returns-in-Some-generated-clause-done
+returns-in-Some-generated-clause-done g c =
+    λ is. of_kept (λ heap. heap.core) _ c.run_generated.new.kept
+    (made_done _ (map string_bytes c.args.words.now) c.in-Some.options c.in-Some-generated.asked
+    (record { asked = sym c.options_of.ensures.asked ∙ c.in-Some.is; some = c.in-Some-generated.is }) _ _ _ _ _ c.run_generated.ensures.answer is)
+
+pub returns-in-Some-generated-clause-stopped : goal.returns-in-Some-generated-clause-stopped
+returns-in-Some-generated-clause-stopped g c =
+    made_stopped _ (map string_bytes c.args.words.now) c.in-Some.options c.in-Some-generated.asked
+    (record { asked = sym c.options_of.ensures.asked ∙ c.in-Some.is; some = c.in-Some-generated.is }) _ _ _ (option_map (λ heap. heap.core) c.run_generated.new.kept) _ c.run_generated.ensures.answer
+
+pub returns-in-Some-generated-clause-input : goal.returns-in-Some-generated-clause-input
+returns-in-Some-generated-clause-input g c =
+    λ tells. absurd (script_tells_no_input _ _ _ _ _ _ (option_map (λ heap. heap.core) c.run_generated.new.kept) _ c.run_generated.ensures.answer tells)
+
+pub returns-in-Some-generated-clause-too_long : goal.returns-in-Some-generated-clause-too_long
+returns-in-Some-generated-clause-too_long g c =
+    λ is. absurd (script_tells_no_input _ _ _ _ _ _ (option_map (λ heap. heap.core) c.run_generated.new.kept) _ c.run_generated.ensures.answer (ap tells_of_input is))
+
+pub returns-in-Some-generated-clause-script : goal.returns-in-Some-generated-clause-script
+returns-in-Some-generated-clause-script g c =
+    λ line reason is. absurd (script_tells_no_input _ _ _ _ _ _ (option_map (λ heap. heap.core) c.run_generated.new.kept) _ c.run_generated.ensures.answer (ap tells_of_input is))
+
+pub returns-in-Some-generated-clause-read_fault : goal.returns-in-Some-generated-clause-read_fault
+returns-in-Some-generated-clause-read_fault g c =
+    λ is. absurd (script_tells_no_input _ _ _ _ _ _ (option_map (λ heap. heap.core) c.run_generated.new.kept) _ c.run_generated.ensures.answer (ap tells_of_input is))
+
+pub returns-in-Some-generated-clause-source_untouched : goal.returns-in-Some-generated-clause-source_untouched
+returns-in-Some-generated-clause-source_untouched g c = λ none. record { told = refl; faults = refl }
+
+-- ---- refused words, and a read that failed
+
 pub returns-in-None-clause-usage : goal.returns-in-None-clause-usage
-returns-in-None-clause-usage g c = ((λ is. sym c.built_options.ensures.built ∙ c.in-None.is), λ none. refl)
+returns-in-None-clause-usage g c = ((λ is. sym c.options_of.ensures.asked ∙ c.in-None.is), λ none. refl)
 
 pub returns-in-None-clause-source_untouched : goal.returns-in-None-clause-source_untouched
 returns-in-None-clause-source_untouched g c = λ is. record { told = refl; faults = refl }

@@ -13,11 +13,11 @@ run_script-requires-clause-runnable g c =
 
 pub returns-in-Ok-clause-answer : goal.returns-in-Ok-clause-answer
 returns-in-Ok-clause-answer g c =
-    bytes_of_script _ _ _ c.in-Ok.script _ _ _ _ (subst (λ n. IsScript n c.args.bytes.now c.in-Ok.script) c.len.ensures c.in-Ok.ensures.script)
+    bytes_of_script _ c.args.options _ c.in-Ok.script _ _ _ _ (subst (λ n. IsScript n c.args.bytes.now c.in-Ok.script) c.len.ensures c.in-Ok.ensures.script)
     c.run_script.ensures.answer
 
 pub returns-in-Err-clause-answer : goal.returns-in-Err-clause-answer
 returns-in-Err-clause-answer g c =
     let fault = subst (λ n. IsFaultOf n c.args.bytes.now c.in-Err.fault) c.len.ensures c.in-Err.ensures.fault in
     rw c.status_of.ensures
-    (bytes_of_fault _ _ _ _ _ _ c.in-Err.fault (ap (option_map (λ heap. heap.core)) c.requires.empty, grew_by_none (g.K.Sink.written c.args.sink.now)) fault)
+    (bytes_of_fault _ c.args.options _ _ _ _ c.in-Err.fault (ap (option_map (λ heap. heap.core)) c.requires.empty, grew_by_none (g.K.Sink.written c.args.sink.now)) fault)

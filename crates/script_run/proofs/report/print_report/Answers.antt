@@ -1,4 +1,4 @@
-use Rattle.std.proofs.Common.{◌≡◌, length, rules}
+use Rattle.std.proofs.Common.{◌≡◌, false, length, rules}
 use Rattle.report_text.specs.Pieces.{with_held, TookMore}
 use Rattle.script_run.specs.Setting.{script_on}
 use Rattle.script_run.proofs.Writing.{counted_are_types}
@@ -8,12 +8,12 @@ use Rattle.script_run.proofs.report.print_report.Goals as goal
 
 pub returns-in-Err-clause-told : goal.returns-in-Err-clause-told
 returns-in-Err-clause-told g c =
-    cut_out _ _ _ _ _ c.args.pieces.now c.print_types.new.pieces c.requires.empty c.print_types.ensures.taken
+    cut_out false _ _ _ _ _ c.args.pieces.now c.print_types.new.pieces c.requires.empty c.print_types.ensures.taken
     (cut_in_types c.args.heap.now.core.setup.callbacks c.args.heap.now.core.setup.shape (script_on c.args.heap.now.core.setup c.args.commands.now) _ _ c.args.heap.now.core c.requires.start c.requires.fresh (rw (counted_are_types c.args.heap.now.core.setup.types c.args.types c.requires.types) at c.in-Err.ensures.bytes))
 
 pub returns-in-Err-print_all-clause-told : goal.returns-in-Err-print_all-clause-told
 returns-in-Err-print_all-clause-told g c =
-    cut_out _ _ _ _ _ c.args.pieces.now c.print_all.new.pieces c.requires.empty (taken_on _ _ _ c.print_types.ensures.taken c.print_all.ensures.taken)
+    cut_out false _ _ _ _ _ c.args.pieces.now c.print_all.new.pieces c.requires.empty (taken_on _ _ _ c.print_types.ensures.taken c.print_all.ensures.taken)
     (cut_in_outcomes c.args.heap.now.core.setup.callbacks c.args.heap.now.core.setup.shape (script_on c.args.heap.now.core.setup c.args.commands.now) _ _ _ c.args.heap.now.core (rw (counted_are_types c.args.heap.now.core.setup.types c.args.types c.requires.types) at c.in-Ok.ensures.bytes) c.requires.setup
     c.in-Err-print_all.ensures.part)
 
@@ -29,6 +29,6 @@ returns-clause-told g c =
     let count : c.print_all.new.heap.core.state.ordinal ≡ length c.args.commands.now = search rules in
     let taken : TookMore (g.K.Sink.written c.args.sink.now) (g.K.Sink.written c.print_end.new.sink) =
     taken_on _ _ _ (taken_on _ _ _ c.print_types.ensures.taken c.print_all.ensures.taken) c.print_end.ensures.taken in
-    told_at_last _ _ _ _ _ c.args.pieces.now c.print_end.new.pieces _ c.print_end.result c.requires.empty c.print_end.ensures.empty taken
+    told_at_last false _ _ _ _ _ c.args.pieces.now c.print_end.new.pieces _ c.print_end.result c.requires.empty c.print_end.ensures.empty taken
     (told_at_end c.args.heap.now.core.setup.callbacks c.args.heap.now.core.setup.shape (script_on c.args.heap.now.core.setup c.args.commands.now) _ _ _ _ c.args.heap.now.core c.print_all.new.heap.core _ c.close-end.result c.print_end.result
     (rw (counted_are_types c.args.heap.now.core.setup.types c.args.types c.requires.types) at c.in-Ok.ensures.bytes) run count c.close-end.ensures.line c.close-end.ensures.same c.print_end.ensures.bytes)
