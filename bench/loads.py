@@ -21,13 +21,15 @@ TABLE_PAIRS = 31
 
 
 class Load(NamedTuple):
-    """A script and its heap. `tells` has how many lines of the report begin with which text."""
+    """A script, its heap, and what else the words ask for. `tells` has how many lines of what is written begin
+    with which text."""
 
     types: List[str]
     lines: List[str]
     tells: Dict[str, int]
     pages: int
     page_words: int = PAGE_WORDS
+    words: List[str] = []
 
     def then(self, *lines):
         return self._replace(lines=self.lines + list(lines))
@@ -37,7 +39,7 @@ class Load(NamedTuple):
         return ("\n".join(["oilpan 1", *types, *self.lines]) + "\n").encode()
 
     def options(self):
-        return ["--pages", str(self.pages), "--page-words", str(self.page_words)]
+        return ["--pages", str(self.pages), "--page-words", str(self.page_words), *self.words]
 
     def heap_words(self):
         return self.pages * self.page_words
@@ -474,3 +476,14 @@ def generated(seed, count):
         "full": 0, "refused": 0, "memory": 0,
     }
     return Load(["SSWP", "SE"], lines + [COLLECTION, SWEEP], tells, 64)
+
+
+def from_seed(seed, count):
+    """That script again, which the program makes itself, with a summary. Of its input nothing is read."""
+    load, entries = generated(seed, count), remainders(seed, count).count(2)
+    summary = (
+        f"summary commands {len(load.lines)} cycles {load.tells['pause']} objects {count + 1} "
+        f"used {6 * (count + 1) - entries} finalised {2 * entries} full 0"
+    )
+    words = ["--generate", str(seed), "--count", str(count), "--summary"]
+    return Load([], [], {summary: 1, "": 1}, 64, words=words)

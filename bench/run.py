@@ -25,8 +25,9 @@ PROGRAM = os.path.join(ROOT, "crates", "cppgc_main", "out", "cppgc_main")
 KEPT = os.path.join(ROOT, "bench", "out")
 TRIES = 15
 
-# The seed of `generated`.
+# The seed of `generated` and `generator`, and the most turns that words may ask for.
 SEED = 1
+MOST_TURNS = 50_000
 
 # How many rounds of `mixed` come before those that are measured.
 STANDING_ROUNDS = 2
@@ -282,6 +283,17 @@ class Bench:
         self.figures.tell("generated_instructions_per_line", twice / len(scripts[1].load.lines))
         self.figures.tell("generated_instructions_ratio", twice / some, RATIO_BAR)
 
+    def generator(self):
+        """What a turn costs of that script where the program makes it, and prints one line; twice the turns for
+        the ratio."""
+        half = min(self.count, MOST_TURNS) // 2
+        scripts = [Script(self.folder, loads.from_seed(SEED, turns)) for turns in (half, 2 * half)]
+        for script in scripts:
+            script.check()
+        some, twice = (script.instructions() for script in scripts)
+        self.figures.tell("generator_instructions_per_turn", (twice - some) / half)
+        self.figures.tell("generator_instructions_ratio", twice / some, RATIO_BAR)
+
     def weak_fields(self):
         """What a collection costs for each live object, where each has two weak fields to be looked at."""
         count = 2 * self.count
@@ -373,6 +385,7 @@ def main():
             bench.steps()
             bench.sets_while_marking()
             bench.generated()
+            bench.generator()
             bench.weak_fields()
             bench.pairs()
             bench.prefinalizers()
