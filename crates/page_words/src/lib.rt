@@ -25,6 +25,7 @@
 //! be anything.
 #![tactic(auto)]
 
+mod accesses;
 mod marking;
 mod mutator;
 mod reasons;
