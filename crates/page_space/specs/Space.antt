@@ -107,10 +107,6 @@ pub record IsHeaderOf (v : SeatView) (b : Body) (header : Header) : Type 0 where
   pub mark : IsTold v.lent (holds v.marked b.place) header.mark
   pub traced : IsTold v.lent (holds v.traced b.place) header.traced
 
--- a is a place, and not below from
-abbrev pub IsPlaceFrom : List Body → ℕ → ℕ → Type 0
-IsPlaceFrom bodies from a = (from ≤ a) × IsPlace bodies a
-
 -- bit i of the word tells whether an object starts at the word i of the block
 abbrev pub AreStartsOf : List Body → ℕ → ℕ → Type 0
 AreStartsOf bodies block bits = (i : ℕ) → i < block_words → (bits / 2 ^ i % 2 ≡ 1) ↔ IsPlace bodies (block_words * block + i)

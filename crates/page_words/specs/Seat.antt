@@ -46,6 +46,10 @@ with_bodies v bodies = record v { mutator = record v.mutator { bodies = bodies }
 abbrev pub block_words : ℕ
 block_words = 64
 
+-- a is a place, and not below from
+abbrev pub IsPlaceFrom : List Body → ℕ → ℕ → Type 0
+IsPlaceFrom bodies from a = (from ≤ a) × IsPlace bodies a
+
 -- the header word of a published body
 abbrev pub header_of : SeatView → Body → ℕ
 header_of v b = header_word true (holds v.marked b.place) (holds v.traced b.place) b.ty b.size

@@ -26,12 +26,14 @@
 #![tactic(auto)]
 
 mod accesses;
+mod bodywords;
 mod marking;
 mod mutator;
 mod reasons;
 mod views;
 mod words;
 
+pub use bodywords::Bodywords;
 pub use marking::has_mark;
 pub use mutator::MutatorSeat;
 pub use reasons::{Reading, Reason, Tracing, WeakRead};

@@ -6,8 +6,8 @@ use Rattle.marker_core.specs.Matching.{IsWhole}
 use Rattle.page_words.specs.Roles.{kind_lists}
 use Rattle.page_space.specs.Pages.{word_count}
 use Rattle.page_words.specs.BodyPlaces.{two_words, whole_body}
-use Rattle.page_space.proofs.space.Space.next_object.Goals as goal
-use Rattle.page_space.proofs.space.Space.next_object.Goals.{In-loop-at}
+use Rattle.page_space.proofs.space.Space.lowest_from.Goals as goal
+use Rattle.page_space.proofs.space.Space.lowest_from.Goals.{In-loop-at}
 
 -- the words are counted as the seat counts them
 counted : (c : In-loop-at) → c.count-count.result ≡ c.args.seat.now.count
