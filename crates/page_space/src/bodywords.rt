@@ -8,6 +8,10 @@ impl Bodywords for Space {
 
     ghost heap = { heap_of };
 
+    fn count(&self) -> u32 {
+        self.words.count()
+    }
+
     fn load<W: Reason>(&self, seat: &mut MutatorSeat, a: u32) -> u64 {
         self.words.load::<W>(seat, a)
     }

@@ -11,6 +11,7 @@ ghost use Rattle.marker_core.specs.Layout.{stop_at};
 ghost use Rattle.marker_core.specs.Laws.{IsLeastOver};
 ghost use Rattle.marker_core.specs.SeatLaws.{IsReady};
 ghost use Rattle.marker_core.specs.SeatSteps.{is_grey, seat_can_load, seat_can_store};
+ghost use Rattle.page_words.specs.Heaps.{IsCount};
 ghost use Rattle.page_words.specs.Roles.{kind_lists};
 ghost use Rattle.page_words.specs.Seat.{Heap, side, IsWordAt, OnlyLooked, loaded, filled_with};
 ghost use Rattle.page_words.specs.Seat.{stored, rewritten, published, IsUnnamed, retracted};
@@ -25,6 +26,11 @@ use crate::reasons::Reason;
 pub trait Bodywords {
     // Which words they are.
     ghost heap: { Self → Heap };
+
+    /// How many words the heap has. This is no step.
+    fn count(&self) -> u32
+        ensures count { result ≡ (heap self.now).count }
+        ensures valid { IsCount (heap self.now).count };
 
     fn load<W: Reason>(&self, seat: &mut MutatorSeat, a: u32) -> u64
         requires heap { seat.old.heap ≡ heap self.now }
