@@ -13,6 +13,7 @@ ghost use Rattle.marker_core.specs.Bodies.{holds};
 ghost use Rattle.marker_core.specs.Laws.{IsLeastOver};
 ghost use Rattle.page_words.specs.Roles.{kind_lists};
 ghost use Rattle.page_words.specs.Seat.{IsQuiet, PairsAreWhole, begun};
+ghost use Rattle.page_space.specs.Space.{IsSeatOf};
 ghost use Rattle.nodes_in_words.specs.Nodes.{AreOfValid};
 ghost use Rattle.nodes_in_words.specs.Places.{places_of, IsJudged};
 ghost use Rattle.atomic_pause.specs.Pausing.{IsPaused, NamePlaces, hits_in};
@@ -29,6 +30,7 @@ use cross_thread_region::{Pass, Region};
 use ephemerons::trace_listed;
 use ghost_values::GhostValue;
 use nodes_in_words::NodeLists;
+use page_space::Space;
 use page_words::MutatorSeat;
 use persistent_slots::Slots;
 
