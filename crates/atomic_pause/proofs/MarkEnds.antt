@@ -52,7 +52,7 @@ pub marks_reachable : (types : List ObjectType) (w x y : SeatView) → MarksOn w
     → MarksReachable types (IsMarkedIn w) (IsMarkedIn w) w y
 marks_reachable types w x y led over grows ends =
     subst (λ (z : SeatView). MarksReachable types (IsMarkedIn w) (IsMarkedIn w) w z) (sym ends) (record {
-      count = led.count;
+      heap = led.heap;
       known = led.types;
       off = refl;
       bodies = led.bodies;

@@ -53,7 +53,7 @@ pub roots_marked : (types : List ObjectType) (slots : List (Option ℕ)) (histor
 roots_marked types slots history precise stack v u r w y l m o n view on slots_may visit slots_in only_slots share shared_in only_shared scan hits_in only_hits ends =
     let same : r.bodies ≡ v.bodies = ap (λ (z : SeatView). z.bodies) share.view ∙ ap (λ (z : SeatView). z.bodies) visit.view in
     record {
-      count = ends.count ∙ ap (λ (z : SeatView). z.count) scan.view ∙ ap (λ (z : SeatView). z.count) share.view ∙ ap (λ (z : SeatView). z.count) visit.view;
+      heap = ends.heap ∙ ap (λ (z : SeatView). z.heap) scan.view ∙ ap (λ (z : SeatView). z.heap) share.view ∙ ap (λ (z : SeatView). z.heap) visit.view;
       known = ends.known ∙ ap (λ (z : SeatView). z.types) scan.view ∙ ap (λ (z : SeatView). z.types) share.view ∙ ap (λ (z : SeatView). z.types) visit.view;
       off = ends.off;
       bodies = ends.bodies ∙ ap (λ (z : SeatView). z.bodies) scan.view ∙ same;

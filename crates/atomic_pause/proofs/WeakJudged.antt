@@ -18,7 +18,7 @@ use Rattle.type_table.specs.Layouts.{kinds_of_words}
 use Rattle.marker_core.specs.declared.states.Body.{Body}
 use Rattle.marker_core.specs.Bodies.{IsPlace, holds}
 use Rattle.page_words.specs.Seat.{SeatView, OnlyLooked}
-use Rattle.page_space.specs.Space.{SpaceView, IsSpaceOf, IsSpaceOver, extents_of_bodies}
+use Rattle.page_space.specs.Space.{SpaceView, IsSpaceOf, IsSpaceIn, extents_of_bodies}
 use Rattle.weak_clearing.specs.Clearing.{clear_words, clear_body, with_weak_cleared, clear_pair_words, clear_pairs_of, with_pairs_cleared}
 use Rattle.nodes_in_words.specs.Nodes.{AreOfValid, place_of, word_of, IsHeld}
 use Rattle.nodes_in_words.specs.Places.{IsJudged, kept_of, places_of}
@@ -167,13 +167,13 @@ place_cleared v w p looked (b, there, at) =
 -- and so leaves the space's objects where they are
 pub space_cleared : (space : SpaceView) (v : SeatView) → IsSpaceOf space v → IsSpaceOf space (both_cleared v)
 space_cleared space v is =
-    subst (IsSpaceOver space v.count) (sym (extents_cleared v)) is
+    subst (IsSpaceIn space v.heap) (sym (extents_cleared v)) is
 
 -- marking leaves the space's objects where they are
 pub space_marked : (space : SpaceView) (types : List ObjectType) (root may : ℕ → Type 0) (v new : SeatView) → MarksReachable types root may v new → IsSpaceOf space v → IsSpaceOf space new
 space_marked space types root may v new marks is =
-    subst (λ count. IsSpaceOver space count (extents_of_bodies new.bodies)) (sym marks.count)
-    (subst (λ bodies. IsSpaceOver space v.count (extents_of_bodies bodies)) (sym marks.bodies) is)
+    subst (λ heap. IsSpaceIn space heap (extents_of_bodies new.bodies)) (sym marks.heap)
+    (subst (λ bodies. IsSpaceIn space v.heap (extents_of_bodies bodies)) (sym marks.bodies) is)
 
 pub judged_cleared : (v : SeatView) → IsJudged v → IsJudged (both_cleared v)
 judged_cleared v is =

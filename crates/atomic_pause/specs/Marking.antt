@@ -53,7 +53,7 @@ IsMarkedIn v p = holds v.marked p ≡ true
 
 -- marking is over: what these roots reach is marked, and nothing but what may lead to it; what is not marked is dead
 pub record MarksReachable (types : List ObjectType) (root may : ℕ → Type 0) (old new : SeatView) : Type 0 where
-  pub count : new.count ≡ old.count
+  pub heap : new.heap ≡ old.heap
   pub known : new.types ≡ old.types
   pub off : new.on ≡ false
   pub bodies : new.bodies ≡ old.bodies

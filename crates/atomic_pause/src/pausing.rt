@@ -110,8 +110,8 @@ pub fn pause(parts: Parts, stack: &[u64], precise: bool) -> PauseResult
     gc_graph::reach_is_least();
     seat.bodies_lie_apart();
     let held = region.pause_begin(pass);
-    visit_slots(space.words(), seat, marking, strong);
-    visit_region(space.words(), seat, marking, &held);
+    visit_slots(space, seat, marking, strong);
+    visit_region(space, seat, marking, &held);
     scan_stack(space, seat, marking, stack, precise);
     let more = close(space, types, seat, marking, notes);
     clear_weak(space, types, seat, weak);

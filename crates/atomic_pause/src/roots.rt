@@ -5,7 +5,7 @@ ghost use Rattle.std.specs.Prelude.{◌≡◌, ◌⊎◌, ◌+◌, ℕ, true, Co
 ghost use Rattle.std.specs.Option.{ForSome};
 ghost use Rattle.marker_core.specs.Bodies.{IsPlace};
 ghost use Rattle.marker_core.specs.Bodies.{holds};
-ghost use Rattle.page_space.specs.Space.{IsSpaceOf, HoldsAddress};
+ghost use Rattle.page_space.specs.Space.{IsSeatOf, IsSpaceOf, HoldsAddress};
 ghost use Rattle.page_words.specs.Seat.{OnlyLooked};
 ghost use Rattle.ephemerons.specs.Fixpoint.{ListsMarks};
 ghost use Rattle.cross_thread_region.specs.Histories.{strong_place};
@@ -15,15 +15,15 @@ use cross_thread_region::HeldRegion;
 use ephemerons::mark;
 use mark_worklist::Marking;
 use page_space::Space;
-use page_words::{MutatorSeat, WeakRead, Words};
+use page_words::{Bodywords, MutatorSeat, WeakRead};
 use persistent_slots::Slots;
 
 /// How many slots a region has.
 pub(crate) const SHARED: u32 = 32;
 
 /// Marks and lists the targets of the slots.
-pub fn visit_slots(words: &Words, seat: &mut MutatorSeat, marking: &mut Marking, slots: &Slots)
-    requires heap { seat.old.count ≡ words.now }
+pub fn visit_slots(space: &Space, seat: &mut MutatorSeat, marking: &mut Marking, slots: &Slots)
+    requires heap { IsSeatOf space.now seat.old }
     requires on { seat.old.on ≡ true }
     requires marking { marking.old.on ≡ seat.old.on }
     requires alone { seat.old.lent ≡ 0 }
@@ -37,15 +37,15 @@ pub fn visit_slots(words: &Words, seat: &mut MutatorSeat, marking: &mut Marking,
 {
     for i in 0..slots.len() {
         if let Some(place) = slots.get(i) {
-            mark(words, seat, marking, place);
+            mark(space, seat, marking, place);
         }
     }
 }
 
 /// Marks and lists the targets of the slots of the region that a start told as strong: of each the
 /// place and 1, and 0 of the others.
-pub fn visit_told(words: &Words, seat: &mut MutatorSeat, marking: &mut Marking, told: &[u32])
-    requires heap { seat.old.count ≡ words.now }
+pub fn visit_told(space: &Space, seat: &mut MutatorSeat, marking: &mut Marking, told: &[u32])
+    requires heap { IsSeatOf space.now seat.old }
     requires on { seat.old.on ≡ true }
     requires marking { marking.old.on ≡ seat.old.on }
     requires alone { seat.old.lent ≡ 0 }
@@ -59,15 +59,15 @@ pub fn visit_told(words: &Words, seat: &mut MutatorSeat, marking: &mut Marking, 
 {
     for i in 0..told.len() {
         if told[i] != 0 {
-            mark(words, seat, marking, told[i] - 1);
+            mark(space, seat, marking, told[i] - 1);
         }
     }
 }
 
 /// Marks and lists the targets of the region's strong slots. From now on they may be kept, with all
 /// that they reach.
-pub fn visit_region(words: &Words, seat: &mut MutatorSeat, marking: &mut Marking, held: &HeldRegion)
-    requires heap { seat.old.count ≡ words.now }
+pub fn visit_region(space: &Space, seat: &mut MutatorSeat, marking: &mut Marking, held: &HeldRegion)
+    requires heap { IsSeatOf space.now seat.old }
     requires on { seat.old.on ≡ true }
     requires marking { marking.old.on ≡ seat.old.on }
     requires alone { seat.old.lent ≡ 0 }
@@ -82,7 +82,7 @@ pub fn visit_region(words: &Words, seat: &mut MutatorSeat, marking: &mut Marking
 {
     for i in 0..SHARED {
         if let Some(place) = held.strong(i) {
-            keep(words, seat, marking, place);
+            keep(space, seat, marking, place);
         }
     }
 }
@@ -145,13 +145,13 @@ fn scan_word(space: &Space, seat: &mut MutatorSeat, marking: &mut Marking, word:
 {
     seat.bodies_lie_apart();
     if let Some(place) = space.start_of(seat, word) {
-        keep(space.words(), seat, marking, place);
+        keep(space, seat, marking, place);
     }
 }
 
 /// Marks and lists an object. From now on it may be kept, with all that it reaches.
-fn keep(words: &Words, seat: &mut MutatorSeat, marking: &mut Marking, place: u32)
-    requires heap { seat.old.count ≡ words.now }
+fn keep(space: &Space, seat: &mut MutatorSeat, marking: &mut Marking, place: u32)
+    requires heap { IsSeatOf space.now seat.old }
     requires on { seat.old.on ≡ true }
     requires marking { marking.old.on ≡ seat.old.on }
     requires alone { seat.old.lent ≡ 0 }
@@ -163,18 +163,18 @@ fn keep(words: &Words, seat: &mut MutatorSeat, marking: &mut Marking, place: u32
         → (holds seat.old.marked p ≡ true) ⊎ (place ≡ p) }
     ensures noted { seat.new.noted ≡ seat.old.noted }
 {
-    read_weakly(words, seat, place);
-    mark(words, seat, marking, place);
+    read_weakly(space, seat, place);
+    mark(space, seat, marking, place);
 }
 
 /// Reads an object's header weakly: the cycle may keep the object from now on.
-fn read_weakly(words: &Words, seat: &mut MutatorSeat, place: u32)
-    requires heap { seat.old.count ≡ words.now }
+fn read_weakly(space: &Space, seat: &mut MutatorSeat, place: u32)
+    requires heap { IsSeatOf space.now seat.old }
     requires on { seat.old.on ≡ true }
     requires place { IsPlace seat.old.bodies place }
     ensures may { holds seat.new.may place ≡ true }
     ensures view { OnlyLooked (with_may seat.old seat.new.may) seat.new }
 {
     seat.bodies_lie_apart();
-    words.load::<WeakRead>(seat, place);
+    space.load::<WeakRead>(seat, place);
 }

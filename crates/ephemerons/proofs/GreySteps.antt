@@ -7,7 +7,7 @@ use Rattle.gc_graph.specs.State.{ObjectType}
 use Rattle.mark_worklist.specs.declared.marking.Marking.{Marking}
 use Rattle.marker_core.specs.declared.states.Body.{Body}
 use Rattle.marker_core.specs.Bodies.{IsPlace, holds}
-use Rattle.page_words.specs.Seat.{SeatView, IsView, is_grey_at}
+use Rattle.page_words.specs.Seat.{Heap, SeatView, IsView, is_grey_at}
 use Rattle.ephemerons.specs.BodyGraph.{AreReferences}
 use Rattle.ephemerons.specs.Marking.{heap_and_marks, GrowsWithin, HasStrongMarked, traced_count}
 use Rattle.ephemerons.specs.Notes.{NotesState, NotesGrow, HasPairsNoted, group_at, refusals_in, IsNotedIn, IsNote, note_of}
@@ -67,8 +67,11 @@ module _ (types : List ObjectType) (v u w : SeatView) (m n : Marking) (groups : 
   bodies_are : Reads → w.bodies ≡ v.bodies
   bodies_are r = ap (λ (z : SeatView). z.bodies) r.marks.view ∙ ap (λ (z : SeatView). z.bodies) r.claimed
 
+  heap_is : Reads → w.heap ≡ v.heap
+  heap_is r = ap (λ (z : SeatView). z.heap) r.marks.view ∙ ap (λ (z : SeatView). z.heap) r.claimed
+
   count_is : Reads → w.count ≡ v.count
-  count_is r = ap (λ (z : SeatView). z.count) r.marks.view ∙ ap (λ (z : SeatView). z.count) r.claimed
+  count_is r = ap (λ (h : Heap). h.count) (heap_is r)
 
   types_are : Reads → w.types ≡ v.types
   types_are r = ap (λ (z : SeatView). z.types) r.marks.view ∙ ap (λ (z : SeatView). z.types) r.claimed
@@ -173,7 +176,7 @@ module _ (types : List ObjectType) (v u w : SeatView) (m n : Marking) (groups : 
       let grow = groups_grow r ground in
       record {
         kept = record {
-          count = count_is r;
+          heap = heap_is r;
           types = types_are r;
           on = on_is r;
           bodies = bodies_are r;

@@ -114,7 +114,7 @@ looked_ground types s t same alone ground =
 -- more may be marked than before, looks apart
 kept_apart : (u v : SeatView) → MarksOn u v → MarksOn u (heap_and_marks v)
 kept_apart u v x = record {
-  count = x.count;
+  heap = x.heap;
   types = x.types;
   on = x.on;
   bodies = x.bodies;
@@ -128,7 +128,7 @@ kept_apart u v x = record {
 
 kept_with : (u v : SeatView) → MarksOn u (heap_and_marks v) → MarksOn u v
 kept_with u v x = record {
-  count = x.count;
+  heap = x.heap;
   types = x.types;
   on = x.on;
   bodies = x.bodies;

@@ -47,7 +47,7 @@ pub marks_work : (types : List ObjectType) (v w : SeatView) (m n : Marking) (gro
 marks_work types v w m n groups t x within =
     record {
       kept = record {
-        count = ap (λ (z : SeatView). z.count) x.view;
+        heap = ap (λ (z : SeatView). z.heap) x.view;
         types = ap (λ (z : SeatView). z.types) x.view;
         on = ap (λ (z : SeatView). z.on) x.view;
         bodies = ap (λ (z : SeatView). z.bodies) x.view;

@@ -86,8 +86,8 @@ looks_list u v m same pending hand = record {
 pub same_bodies : (u v : SeatView) (l m : Marking) → ListsMarks u l v m → v.bodies ≡ u.bodies
 same_bodies u v l m x = ap (λ (z : SeatView). z.bodies) x.view
 
-pub same_count : (u v : SeatView) (l m : Marking) → ListsMarks u l v m → v.count ≡ u.count
-same_count u v l m x = ap (λ (z : SeatView). z.count) x.view
+pub same_heap : (u v : SeatView) (l m : Marking) → ListsMarks u l v m → v.heap ≡ u.heap
+same_heap u v l m x = ap (λ (z : SeatView). z.heap) x.view
 
 pub same_types : (u v : SeatView) (l m : Marking) → ListsMarks u l v m → v.types ≡ u.types
 same_types u v l m x = ap (λ (z : SeatView). z.types) x.view

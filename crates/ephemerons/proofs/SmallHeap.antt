@@ -6,7 +6,7 @@ use Rattle.marker_core.specs.declared.states.Body.{Body}
 use Rattle.marker_core.specs.declared.states.Role.TheVariants.{StrongWord, KeyWord, ValueWord, PlainWord}
 use Rattle.marker_core.specs.Bodies.{IsPlace, holds, role_in, word_in, with_word}
 use Rattle.page_words.specs.Roles.{kind_lists}
-use Rattle.page_words.specs.Seat.{SeatView, PairsAreWhole, empty_view, begun, marked_at, stored}
+use Rattle.page_words.specs.Seat.{Heap, SeatView, PairsAreWhole, empty_view, begun, marked_at, stored}
 use Rattle.page_space.specs.Occupying.{Occupies, new_body}
 use Rattle.ephemerons.specs.BodyGraph.{HasType, HasPair}
 use Rattle.ephemerons.specs.declared.notes.Note.{Note}
@@ -65,9 +65,9 @@ pairs_whole v k w s small both b i there role =
     ]
 
 -- two objects with null fields were made
-pub small_made : (u v w : SeatView) (count : ℕ) → u ≡ empty_view count pair_then_strong → Occupies u v (new_body 0 0 5 1) → Occupies v w (new_body 256 0 5 2)
+pub small_made : (u v w : SeatView) (heap : Heap) → u ≡ empty_view heap pair_then_strong → Occupies u v (new_body 0 0 5 1) → Occupies v w (new_body 256 0 5 2)
     → IsSmall w 0 0 0
-small_made u v w count is one two = record {
+small_made u v w heap is one two = record {
   known = two.types ∙ one.types ∙ ap (λ (x : SeatView). x.types) is;
   quiet = record {
     off = two.on ∙ one.on ∙ ap (λ (x : SeatView). x.on) is;

@@ -15,7 +15,7 @@ use Rattle.mark_worklist.specs.Told.{told_same, told_then, told_from}
 
 pub MarksOn-same : (v : SeatView) → MarksOn v v
 MarksOn-same v = record {
-  count = refl;
+  heap = refl;
   types = refl;
   on = refl;
   bodies = refl;
@@ -29,7 +29,7 @@ MarksOn-same v = record {
 
 pub MarksOn-then : (a b c : SeatView) → MarksOn a b → MarksOn b c → MarksOn a c
 MarksOn-then a b c x y = record {
-  count = y.count ∙ x.count;
+  heap = y.heap ∙ x.heap;
   types = y.types ∙ x.types;
   on = y.on ∙ x.on;
   bodies = y.bodies ∙ x.bodies;

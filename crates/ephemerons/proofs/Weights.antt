@@ -48,12 +48,12 @@ one_fewer (x ∷ xs) places a there fresh = elim (Contains-cons_cases x xs a the
 ]
 
 -- a place that no body has changes no count
-same_count : (bodies : List Body) (places : List ℕ) (a : ℕ) → All (λ c. c.place ≡ a → ⊥) bodies
+same_heap : (bodies : List Body) (places : List ℕ) (a : ℕ) → All (λ c. c.place ≡ a → ⊥) bodies
     → count_by (λ (b : Body). holds (places ++ a ∷ []) b.place) bodies ≡ count_by (λ (b : Body). holds places b.place) bodies
-same_count [] places a none = refl
-same_count (b ∷ bodies) places a none =
+same_heap [] places a none = refl
+same_heap (b ∷ bodies) places a none =
     sum_by-cons (λ (c : Body). cond (holds (places ++ a ∷ []) c.place) 1 0) b bodies
-    ∙ ap (λ n. cond (holds (places ++ a ∷ []) b.place) 1 0 + n) (same_count bodies places a (All-tail (λ (c : Body). c.place ≡ a → ⊥) b bodies none))
+    ∙ ap (λ n. cond (holds (places ++ a ∷ []) b.place) 1 0 + n) (same_heap bodies places a (All-tail (λ (c : Body). c.place ≡ a → ⊥) b bodies none))
     ∙ ap (λ t. cond t 1 0 + count_by (λ (c : Body). holds places c.place) bodies) (holds_push_other places a b.place (λ e. All-head (λ (c : Body). c.place ≡ a → ⊥) b bodies none (sym e)))
     ∙ sym (sum_by-cons (λ (c : Body). cond (holds places c.place) 1 0) b bodies)
 
@@ -70,7 +70,7 @@ one_more (b ∷ bodies) places a differ is fresh =
     elim (cases_eq b.place a) [
       | inl here ↦
           (let others : All (λ (c : Body). c.place ≡ a → ⊥) bodies = subst (λ p. All (λ (c : Body). c.place ≡ p → ⊥) bodies) here differ.0 in
-          let same : new ≡ old = same_count bodies places a others in
+          let same : new ≡ old = same_heap bodies places a others in
           let yes : one_if (holds (places ++ a ∷ []) b.place) ≡ 1 =
           cond-true (holds (places ++ a ∷ []) b.place) 1 0 (subst (λ p. holds (places ++ a ∷ []) p ≡ true) (sym here) (pushed_is_held places a)) in
           let none : one_if (holds places b.place) ≡ 0 = cond-false (holds places b.place) 1 0 (subst (λ p. holds places p ≡ false) (sym here) fresh) in

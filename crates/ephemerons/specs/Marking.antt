@@ -20,7 +20,7 @@ heap_alone v = record v { mutator = record (heap_and_marks v).mutator { marked =
 
 -- the bodies and what may be kept are as before, and what was marked or traced still is
 pub record MarksOn (old new : SeatView) : Type 0 where
-  pub count : new.count ≡ old.count
+  pub heap : new.heap ≡ old.heap
   pub types : new.types ≡ old.types
   pub on : new.on ≡ old.on
   pub bodies : new.bodies ≡ old.bodies

@@ -5,7 +5,6 @@ ghost use Rattle.std.specs.Prelude.{length};
 ghost use Rattle.mark_worklist.specs.Refusals.{TellsRefused, refusals_of};
 ghost use Rattle.marker_core.specs.Bodies.{IsPlace};
 ghost use Rattle.page_words.specs.Seat.{IsAlone};
-ghost use Rattle.page_space.specs.Space.{IsSeatOf};
 ghost use Rattle.ephemerons.specs.declared.notes.Note.{Note};
 ghost use Rattle.ephemerons.specs.BodyGraph.{PlacesDiffer};
 ghost use Rattle.ephemerons.specs.Marking.{MarksOn, GrowsWithin, IsOver, traced_count};
@@ -18,23 +17,22 @@ use crate::notes::Pairs;
 use crate::settling::settle_notes;
 use crate::walking::walk_heap;
 use mark_worklist::Marking;
-use page_space::Space;
-use page_words::MutatorSeat;
+use page_words::{Bodywords, MutatorSeat};
 use type_table::TypeTable;
 
 /// Traces all that is marked, and marks what that asks for, until nothing is grey and what is
 /// marked is closed. It answers how many objects it traced. New notes go to the first group. With
 /// `walk`, or where a push or a note was refused, it looks at all objects of the heap: then neither
 /// list nor notes need be whole. It can't be refused.
-pub fn fixpoint(
-    space: &Space,
+pub fn fixpoint<B: Bodywords>(
+    space: &B,
     types: &TypeTable,
     seat: &mut MutatorSeat,
     marking: &mut Marking,
     groups: &mut [Pairs],
     walk: bool,
 ) -> u32
-    requires heap { IsSeatOf space.now seat.old }
+    requires heap { seat.old.heap ≡ B.heap space.now }
     requires on { seat.old.on ≡ true }
     requires marking { marking.old.on ≡ seat.old.on }
     requires types { types.now ≡ seat.old.types }
@@ -80,15 +78,15 @@ fn begin_indexes(groups: &mut [Pairs])
 }
 
 /// Drains the list and settles the notes, until neither asks for more.
-fn settle_all(
-    space: &Space,
+fn settle_all<B: Bodywords>(
+    space: &B,
     types: &TypeTable,
     seat: &mut MutatorSeat,
     marking: &mut Marking,
     groups: &mut [Pairs],
     traced: &mut u32,
 )
-    requires heap { IsSeatOf space.now seat.old }
+    requires heap { seat.old.heap ≡ B.heap space.now }
     requires ground { IsGround types.now (stage seat.old marking.old groups.old traced.old) }
     ensures ground { IsGround types.now (stage seat.new marking.new groups.new traced.new) }
     ensures works { Works types.now None
@@ -105,15 +103,15 @@ fn settle_all(
 }
 
 /// Drains the list, and then settles each note. True where a note asked for work.
-fn turn(
-    space: &Space,
+fn turn<B: Bodywords>(
+    space: &B,
     types: &TypeTable,
     seat: &mut MutatorSeat,
     marking: &mut Marking,
     groups: &mut [Pairs],
     traced: &mut u32,
 ) -> bool
-    requires heap { IsSeatOf space.now seat.old }
+    requires heap { seat.old.heap ≡ B.heap space.now }
     requires ground { IsGround types.now (stage seat.old marking.old groups.old traced.old) }
     ensures ground { IsGround types.now (stage seat.new marking.new groups.new traced.new) }
     ensures works { Works types.now None

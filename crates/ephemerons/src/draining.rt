@@ -1,7 +1,6 @@
 // Draining: what is listed is traced, until the list is empty.
 
 ghost use Rattle.std.specs.Prelude.{◌≡◌, ◌<◌, true, false, [], None};
-ghost use Rattle.page_space.specs.Space.{IsSeatOf};
 ghost use Rattle.ephemerons.specs.BodyGraph.{HaveNoPairs};
 ghost use Rattle.ephemerons.specs.Fixpoint.{IsGround, Works, stage, weight};
 
@@ -10,8 +9,7 @@ use crate::notes::Pairs;
 use crate::settling::settle_under;
 use crate::tracing::{trace_grey, trace_pairless};
 use mark_worklist::Marking;
-use page_space::Space;
-use page_words::MutatorSeat;
+use page_words::{Bodywords, MutatorSeat};
 use type_table::TypeTable;
 
 /// A list is short where it has less than one object for so many notes.
@@ -21,15 +19,15 @@ const NOTES_FOR_ONE: usize = 8;
 /// alone: a short list may be the head of a long chain of pairs, and there each note is settled as
 /// soon as its key is traced. After a long one the next look at all notes costs no more than the
 /// objects did, and their index isn't asked for.
-pub(crate) fn drain(
-    space: &Space,
+pub(crate) fn drain<B: Bodywords>(
+    space: &B,
     types: &TypeTable,
     seat: &mut MutatorSeat,
     marking: &mut Marking,
     groups: &mut [Pairs],
     traced: &mut u32,
 )
-    requires heap { IsSeatOf space.now seat.old }
+    requires heap { seat.old.heap ≡ B.heap space.now }
     requires ground { IsGround types.now (stage seat.old marking.old groups.old traced.old) }
     ensures ground { IsGround types.now (stage seat.new marking.new groups.new traced.new) }
     ensures works { Works types.now None
@@ -54,15 +52,15 @@ fn is_short(marking: &Marking, groups: &[Pairs]) -> bool {
 }
 
 /// Traces what is listed, until the list is empty, and settles the notes under each key.
-fn drain_under_keys(
-    space: &Space,
+fn drain_under_keys<B: Bodywords>(
+    space: &B,
     types: &TypeTable,
     seat: &mut MutatorSeat,
     marking: &mut Marking,
     groups: &mut [Pairs],
     traced: &mut u32,
 )
-    requires heap { IsSeatOf space.now seat.old }
+    requires heap { seat.old.heap ≡ B.heap space.now }
     requires ground { IsGround types.now (stage seat.old marking.old groups.old traced.old) }
     ensures ground { IsGround types.now (stage seat.new marking.new groups.new traced.new) }
     ensures works { Works types.now None
@@ -75,15 +73,15 @@ fn drain_under_keys(
 
 /// Takes an object from the list and traces it, if that is to be done. False where the list is
 /// empty.
-fn trace_next(
-    space: &Space,
+fn trace_next<B: Bodywords>(
+    space: &B,
     types: &TypeTable,
     seat: &mut MutatorSeat,
     marking: &mut Marking,
     groups: &mut [Pairs],
     traced: &mut u32,
 ) -> bool
-    requires heap { IsSeatOf space.now seat.old }
+    requires heap { seat.old.heap ≡ B.heap space.now }
     requires ground { IsGround types.now (stage seat.old marking.old groups.old traced.old) }
     ensures ground { IsGround types.now (stage seat.new marking.new groups.new traced.new) }
     ensures works { Works types.now None
@@ -104,15 +102,15 @@ fn trace_next(
 }
 
 /// Traces what is listed, until the list is empty, and settles no note.
-fn drain_alone(
-    space: &Space,
+fn drain_alone<B: Bodywords>(
+    space: &B,
     types: &TypeTable,
     seat: &mut MutatorSeat,
     marking: &mut Marking,
     groups: &mut [Pairs],
     traced: &mut u32,
 )
-    requires heap { IsSeatOf space.now seat.old }
+    requires heap { seat.old.heap ≡ B.heap space.now }
     requires ground { IsGround types.now (stage seat.old marking.old groups.old traced.old) }
     ensures ground { IsGround types.now (stage seat.new marking.new groups.new traced.new) }
     ensures works { Works types.now None
@@ -127,15 +125,15 @@ fn drain_alone(
 
 /// Traces what is listed, where no type has a pair. It is the way of most heaps, and neither notes
 /// nor their index are looked at for each object.
-pub(crate) fn drain_if_pairless(
-    space: &Space,
+pub(crate) fn drain_if_pairless<B: Bodywords>(
+    space: &B,
     types: &TypeTable,
     seat: &mut MutatorSeat,
     marking: &mut Marking,
     groups: &[Pairs],
     traced: &mut u32,
 )
-    requires heap { IsSeatOf space.now seat.old }
+    requires heap { seat.old.heap ≡ B.heap space.now }
     requires ground { IsGround types.now (stage seat.old marking.old groups.now traced.old) }
     ensures ground { IsGround types.now (stage seat.new marking.new groups.now traced.new) }
     ensures works { Works types.now None
@@ -150,15 +148,15 @@ pub(crate) fn drain_if_pairless(
 /// Traces what is listed, until the list is empty. Nothing waits for a key.
 // The loop of most collections: alone, it has all registers.
 #[inline(never)]
-fn drain_pairless(
-    space: &Space,
+fn drain_pairless<B: Bodywords>(
+    space: &B,
     types: &TypeTable,
     seat: &mut MutatorSeat,
     marking: &mut Marking,
     groups: &[Pairs],
     traced: &mut u32,
 )
-    requires heap { IsSeatOf space.now seat.old }
+    requires heap { seat.old.heap ≡ B.heap space.now }
     requires ground { IsGround types.now (stage seat.old marking.old groups.now traced.old) }
     requires pairless { HaveNoPairs types.now }
     ensures ground { IsGround types.now (stage seat.new marking.new groups.now traced.new) }

@@ -10,7 +10,6 @@ ghost use Rattle.marker_core.specs.Bodies.{holds};
 ghost use Rattle.marker_core.specs.Hands.{hand_after_mark, each_hand};
 ghost use Rattle.page_words.specs.Roles.{kind_lists};
 ghost use Rattle.page_words.specs.Seat.{OnlyLooked};
-ghost use Rattle.page_space.specs.Space.{IsSeatOf};
 ghost use Rattle.ephemerons.specs.BodyGraph.{HasType, word_at};
 ghost use Rattle.ephemerons.specs.Marking.{heap_and_marks};
 ghost use Rattle.ephemerons.specs.InHand.{MayMark};
@@ -19,12 +18,11 @@ ghost use Rattle.ephemerons.specs.Fixpoint.{IsStillHeld, with_held};
 
 use mark_worklist::Marking;
 use object_headers::Header;
-use page_space::Space;
-use page_words::{MutatorSeat, Reading, Words, has_mark};
+use page_words::{Bodywords, MutatorSeat, Reading, has_mark};
 
 /// Whether the object that a reference names is marked. Null names none.
-pub(crate) fn names_marked(space: &Space, seat: &mut MutatorSeat, reference: u64) -> bool
-    requires heap { IsSeatOf space.now seat.old }
+pub(crate) fn names_marked<B: Bodywords>(space: &B, seat: &mut MutatorSeat, reference: u64) -> bool
+    requires heap { seat.old.heap ≡ B.heap space.now }
     requires alone { seat.old.lent ≡ 0 }
     requires reference { IsReference seat.old.bodies reference }
     ensures named { (p : ℕ) → reference ≡ reference_to p → result ≡ holds seat.old.marked p }
@@ -32,12 +30,12 @@ pub(crate) fn names_marked(space: &Space, seat: &mut MutatorSeat, reference: u64
     ensures view { OnlyLooked seat.old seat.new }
 {
     seat.bodies_lie_apart();
-    reference != 0 && is_marked(space.words(), seat, (reference - 1) as u32)
+    reference != 0 && is_marked(space, seat, (reference - 1) as u32)
 }
 
 /// Whether the object at a place is marked. No more of its header is looked at.
-pub(crate) fn is_marked(words: &Words, seat: &mut MutatorSeat, place: u32) -> bool
-    requires heap { seat.old.count ≡ words.now }
+pub(crate) fn is_marked<B: Bodywords>(words: &B, seat: &mut MutatorSeat, place: u32) -> bool
+    requires heap { seat.old.heap ≡ B.heap words.now }
     requires alone { seat.old.lent ≡ 0 }
     requires place { IsPlace seat.old.bodies place }
     ensures mark { result ≡ holds seat.old.marked place }
@@ -48,8 +46,8 @@ pub(crate) fn is_marked(words: &Words, seat: &mut MutatorSeat, place: u32) -> bo
 }
 
 /// The type of the object at a place.
-pub(crate) fn type_of(words: &Words, seat: &mut MutatorSeat, place: u32) -> u32
-    requires heap { seat.old.count ≡ words.now }
+pub(crate) fn type_of<B: Bodywords>(words: &B, seat: &mut MutatorSeat, place: u32) -> u32
+    requires heap { seat.old.heap ≡ B.heap words.now }
     requires place { IsPlace seat.old.bodies place }
     ensures body { HasType seat.old.bodies place result }
     ensures view { OnlyLooked seat.old seat.new }
@@ -59,8 +57,8 @@ pub(crate) fn type_of(words: &Words, seat: &mut MutatorSeat, place: u32) -> u32
 }
 
 /// The field word at an offset of the object at a place.
-pub(crate) fn word_of(words: &Words, seat: &mut MutatorSeat, holder: u32, offset: u32) -> u64
-    requires heap { seat.old.count ≡ words.now }
+pub(crate) fn word_of<B: Bodywords>(words: &B, seat: &mut MutatorSeat, holder: u32, offset: u32) -> u64
+    requires heap { seat.old.heap ≡ B.heap words.now }
     requires field { HasWord seat.old.bodies holder offset }
     ensures word { (b : Body) → Contains seat.old.bodies b → b.place ≡ holder
         → result ≡ word_at b offset }
@@ -71,13 +69,13 @@ pub(crate) fn word_of(words: &Words, seat: &mut MutatorSeat, holder: u32, offset
 }
 
 /// Marks and lists what a field word names. True where it was not marked.
-pub(crate) fn mark_reference(
-    words: &Words,
+pub(crate) fn mark_reference<B: Bodywords>(
+    words: &B,
     seat: &mut MutatorSeat,
     marking: &mut Marking,
     reference: u64,
 ) -> bool
-    requires heap { seat.old.count ≡ words.now }
+    requires heap { seat.old.heap ≡ B.heap words.now }
     requires on { seat.old.on ≡ true }
     requires marking { marking.old.on ≡ seat.old.on }
     requires alone { seat.old.lent ≡ 0 }
@@ -98,8 +96,8 @@ pub(crate) fn mark_reference(
 
 /// Marks an object, and lists it if it was not marked. True where it was not. A refused push leaves
 /// it marked, and raises `overflow`.
-pub fn mark(words: &Words, seat: &mut MutatorSeat, marking: &mut Marking, place: u32) -> bool
-    requires heap { seat.old.count ≡ words.now }
+pub fn mark<B: Bodywords>(words: &B, seat: &mut MutatorSeat, marking: &mut Marking, place: u32) -> bool
+    requires heap { seat.old.heap ≡ B.heap words.now }
     requires on { seat.old.on ≡ true }
     requires marking { marking.old.on ≡ seat.old.on }
     requires alone { seat.old.lent ≡ 0 }
@@ -122,8 +120,8 @@ pub fn mark(words: &Words, seat: &mut MutatorSeat, marking: &mut Marking, place:
 
 /// Marks what a field word names. Its place where it was not marked: the caller lists or traces it.
 #[inline(always)]
-pub(crate) fn mark_named(words: &Words, seat: &mut MutatorSeat, reference: u64) -> Option<u32>
-    requires heap { seat.old.count ≡ words.now }
+pub(crate) fn mark_named<B: Bodywords>(words: &B, seat: &mut MutatorSeat, reference: u64) -> Option<u32>
+    requires heap { seat.old.heap ≡ B.heap words.now }
     requires on { seat.old.on ≡ true }
     requires alone { seat.old.lent ≡ 0 }
     requires may { MayMark seat.old reference }
@@ -159,8 +157,8 @@ fn place_named(reference: u64) -> u32
 
 /// Marks an object. Its place where it was not marked.
 #[inline(always)]
-fn mark_unlisted(words: &Words, seat: &mut MutatorSeat, place: u32) -> Option<u32>
-    requires heap { seat.old.count ≡ words.now }
+fn mark_unlisted<B: Bodywords>(words: &B, seat: &mut MutatorSeat, place: u32) -> Option<u32>
+    requires heap { seat.old.heap ≡ B.heap words.now }
     requires on { seat.old.on ≡ true }
     requires alone { seat.old.lent ≡ 0 }
     requires place { IsPlace seat.old.bodies place }

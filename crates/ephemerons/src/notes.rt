@@ -6,7 +6,7 @@ ghost use Rattle.page_words.specs.Seat.{OnlyLooked};
 ghost use Rattle.ephemerons.specs.Notes.{no_notes, note_at, noted, overflowed, cleared};
 
 use key_index::Index;
-use page_words::{MutatorSeat, Reading, Words};
+use page_words::{Bodywords, MutatorSeat, Reading};
 use std::alloc::Global;
 use std::marker::Model;
 
@@ -121,8 +121,8 @@ impl Pairs {
     }
 
     /// Brings the notes that were made since the last call into the index.
-    pub(crate) fn index_notes(&mut self, words: &Words, seat: &mut MutatorSeat)
-        requires heap { seat.old.count ≡ words.now }
+    pub(crate) fn index_notes<B: Bodywords>(&mut self, words: &B, seat: &mut MutatorSeat)
+        requires heap { seat.old.heap ≡ B.heap words.now }
         ensures view { OnlyLooked seat.old seat.new }
         ensures notes { self.new ≡ self.old }
     {

@@ -20,19 +20,19 @@ use crate::notes::Pairs;
 use crate::strong_fields::trace_target;
 use mark_worklist::Marking;
 use object_headers::place_in;
-use page_words::{MutatorSeat, Tracing, Words, has_mark};
+use page_words::{Bodywords, MutatorSeat, Tracing, has_mark};
 
 /// Marks and lists the value of the pair in hand where the key is marked, and notes the pair
 /// otherwise. A pair without a key asks for nothing.
-pub(crate) fn trace_pair(
-    words: &Words,
+pub(crate) fn trace_pair<B: Bodywords>(
+    words: &B,
     seat: &mut MutatorSeat,
     marking: &mut Marking,
     notes: &mut Pairs,
     holder: u32,
     offset: u32,
 )
-    requires heap { seat.old.count ≡ words.now }
+    requires heap { seat.old.heap ≡ B.heap words.now }
     requires marking { marking.old.on ≡ seat.old.on }
     requires tracing { IsTracing seat.old }
     requires marked { holds seat.old.marked holder ≡ true }
@@ -60,8 +60,8 @@ pub(crate) fn trace_pair(
 }
 
 /// The key of the pair in hand.
-fn read_key(words: &Words, seat: &mut MutatorSeat, holder: u32, offset: u32) -> Option<u32>
-    requires heap { seat.old.count ≡ words.now }
+fn read_key<B: Bodywords>(words: &B, seat: &mut MutatorSeat, holder: u32, offset: u32) -> Option<u32>
+    requires heap { seat.old.heap ≡ B.heap words.now }
     requires tracing { IsTracing seat.old }
     requires hand { IsAt pair_offsets seat.old holder offset Read }
     ensures key { (b : Body) → Contains seat.old.bodies b → b.place ≡ holder
@@ -80,8 +80,8 @@ fn read_key(words: &Words, seat: &mut MutatorSeat, holder: u32, offset: u32) -> 
 }
 
 /// Whether the key in hand is marked. If it is, the hand wants the value, and else it moves on.
-fn key_is_marked(words: &Words, seat: &mut MutatorSeat, holder: u32, offset: u32, key: u32) -> bool
-    requires heap { seat.old.count ≡ words.now }
+fn key_is_marked<B: Bodywords>(words: &B, seat: &mut MutatorSeat, holder: u32, offset: u32, key: u32) -> bool
+    requires heap { seat.old.heap ≡ B.heap words.now }
     requires tracing { IsTracing seat.old }
     requires hand { IsAt pair_offsets seat.old holder offset (Key key) }
     ensures mark { result ≡ holds seat.old.marked key }

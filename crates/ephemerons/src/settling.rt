@@ -3,7 +3,6 @@
 ghost use Rattle.std.specs.Prelude.{◌≡◌, ℕ, ◌<◌, true, false, Contains, None, length};
 ghost use Rattle.std.specs.Prelude.{slice_index_or};
 ghost use Rattle.marker_core.specs.Bodies.{IsPlace};
-ghost use Rattle.page_space.specs.Space.{IsSeatOf};
 ghost use Rattle.ephemerons.specs.BodyGraph.{HasPair};
 ghost use Rattle.ephemerons.specs.declared.notes.Note.{Note};
 ghost use Rattle.ephemerons.specs.Notes.{IsNote, IsNotedIn, group_at, note_at, note_of};
@@ -13,20 +12,19 @@ use crate::marks::{is_marked, mark_reference, names_marked, word_of};
 use crate::notes::{Note, Pairs};
 use crate::tracing::trace_grey;
 use mark_worklist::Marking;
-use page_space::Space;
-use page_words::MutatorSeat;
+use page_words::{Bodywords, MutatorSeat};
 use type_table::TypeTable;
 
 /// Settles each note of each group. True where one asked for work.
-pub(crate) fn settle_notes(
-    space: &Space,
+pub(crate) fn settle_notes<B: Bodywords>(
+    space: &B,
     types: &TypeTable,
     seat: &mut MutatorSeat,
     marking: &mut Marking,
     groups: &mut [Pairs],
     traced: &mut u32,
 ) -> bool
-    requires heap { IsSeatOf space.now seat.old }
+    requires heap { seat.old.heap ≡ B.heap space.now }
     requires ground { IsGround types.now (stage seat.old marking.old groups.old traced.old) }
     ensures ground { IsGround types.now (stage seat.new marking.new groups.new traced.new) }
     ensures looks { Looks types.now None
@@ -44,8 +42,8 @@ pub(crate) fn settle_notes(
 }
 
 /// Settles each note of a group. True where one asked for work.
-fn settle_group(
-    space: &Space,
+fn settle_group<B: Bodywords>(
+    space: &B,
     types: &TypeTable,
     seat: &mut MutatorSeat,
     marking: &mut Marking,
@@ -53,7 +51,7 @@ fn settle_group(
     traced: &mut u32,
     i: usize,
 ) -> bool
-    requires heap { IsSeatOf space.now seat.old }
+    requires heap { seat.old.heap ≡ B.heap space.now }
     requires ground { IsGround types.now (stage seat.old marking.old groups.old traced.old) }
     requires group { i < length groups.old }
     ensures ground { IsGround types.now (stage seat.new marking.new groups.new traced.new) }
@@ -72,8 +70,8 @@ fn settle_group(
 }
 
 /// Settles the notes that the index tells under a key.
-pub(crate) fn settle_under(
-    space: &Space,
+pub(crate) fn settle_under<B: Bodywords>(
+    space: &B,
     types: &TypeTable,
     seat: &mut MutatorSeat,
     marking: &mut Marking,
@@ -81,7 +79,7 @@ pub(crate) fn settle_under(
     traced: &mut u32,
     key: u32,
 )
-    requires heap { IsSeatOf space.now seat.old }
+    requires heap { seat.old.heap ≡ B.heap space.now }
     requires ground { IsGround types.now (stage seat.old marking.old groups.old traced.old) }
     ensures ground { IsGround types.now (stage seat.new marking.new groups.new traced.new) }
     ensures works { Works types.now None
@@ -95,8 +93,8 @@ pub(crate) fn settle_under(
 
 /// Settles the notes that the index of a group tells under a key: first the one in the tree, and
 /// then its chain from the latest on, whose numbers fall.
-fn settle_chain(
-    space: &Space,
+fn settle_chain<B: Bodywords>(
+    space: &B,
     types: &TypeTable,
     seat: &mut MutatorSeat,
     marking: &mut Marking,
@@ -105,7 +103,7 @@ fn settle_chain(
     i: usize,
     key: u32,
 )
-    requires heap { IsSeatOf space.now seat.old }
+    requires heap { seat.old.heap ≡ B.heap space.now }
     requires ground { IsGround types.now (stage seat.old marking.old groups.old traced.old) }
     requires group { i < length groups.old }
     ensures ground { IsGround types.now (stage seat.new marking.new groups.new traced.new) }
@@ -113,7 +111,7 @@ fn settle_chain(
         (stage seat.old marking.old groups.old traced.old)
         (stage seat.new marking.new groups.new traced.new) }
 {
-    groups[i].index_notes(space.words(), seat);
+    groups[i].index_notes(space, seat);
     let first = groups[i].first_under(key);
     let mut bound = groups[i].count();
     let mut j = groups[i].after(first);
@@ -126,8 +124,8 @@ fn settle_chain(
 }
 
 /// Settles the note with a number of a group, where there is one. True where it asked for work.
-fn settle_at(
-    space: &Space,
+fn settle_at<B: Bodywords>(
+    space: &B,
     types: &TypeTable,
     seat: &mut MutatorSeat,
     marking: &mut Marking,
@@ -136,7 +134,7 @@ fn settle_at(
     i: usize,
     j: usize,
 ) -> bool
-    requires heap { IsSeatOf space.now seat.old }
+    requires heap { seat.old.heap ≡ B.heap space.now }
     requires ground { IsGround types.now (stage seat.old marking.old groups.old traced.old) }
     requires group { i < length groups.old }
     ensures ground { IsGround types.now (stage seat.new marking.new groups.new traced.new) }
@@ -156,8 +154,8 @@ fn settle_at(
 
 /// Does what a note asks for: an object is traced, if it is marked and not yet traced; and a pair's
 /// value is marked, if holder and key are. True where that was to be done.
-fn settle(
-    space: &Space,
+fn settle<B: Bodywords>(
+    space: &B,
     types: &TypeTable,
     seat: &mut MutatorSeat,
     marking: &mut Marking,
@@ -165,7 +163,7 @@ fn settle(
     traced: &mut u32,
     note: Note,
 ) -> bool
-    requires heap { IsSeatOf space.now seat.old }
+    requires heap { seat.old.heap ≡ B.heap space.now }
     requires ground { IsGround types.now (stage seat.old marking.old groups.old traced.old) }
     requires note { IsNote types.now seat.old.bodies note }
     ensures ground { IsGround types.now (stage seat.new marking.new groups.new traced.new) }
@@ -191,8 +189,8 @@ fn settle(
 }
 
 /// Marks and lists the value of a pair, if holder and key are marked. True where it was not marked.
-pub(crate) fn settle_pair(
-    space: &Space,
+pub(crate) fn settle_pair<B: Bodywords>(
+    space: &B,
     types: &TypeTable,
     seat: &mut MutatorSeat,
     marking: &mut Marking,
@@ -201,7 +199,7 @@ pub(crate) fn settle_pair(
     holder: u32,
     word: u32,
 ) -> bool
-    requires heap { IsSeatOf space.now seat.old }
+    requires heap { seat.old.heap ≡ B.heap space.now }
     requires ground { IsGround types.now (stage seat.old marking.old groups.now traced) }
     requires pair { HasPair types.now seat.old.bodies holder word }
     ensures ground { IsGround types.now (stage seat.new marking.new groups.now traced) }
@@ -211,13 +209,13 @@ pub(crate) fn settle_pair(
     ensures settled { result ≡ false → IsSettled types.now seat.new (note_of holder word) }
 {
     seat.bodies_lie_apart();
-    if !is_marked(space.words(), seat, holder) {
+    if !is_marked(space, seat, holder) {
         return false;
     }
-    let key = word_of(space.words(), seat, holder, word);
+    let key = word_of(space, seat, holder, word);
     if !names_marked(space, seat, key) {
         return false;
     }
-    let value = word_of(space.words(), seat, holder, word + 1);
-    mark_reference(space.words(), seat, marking, value)
+    let value = word_of(space, seat, holder, word + 1);
+    mark_reference(space, seat, marking, value)
 }

@@ -2,7 +2,6 @@
 
 ghost use Rattle.std.specs.Prelude.{◌≡◌, ◌<◌, ◌≤◌, ◌+◌, ◌^◌, [], ◌∷◌, None, Some};
 ghost use Rattle.mark_worklist.specs.Refusals.{TellsRefused, refusals_of};
-ghost use Rattle.page_space.specs.Space.{IsSeatOf};
 ghost use Rattle.ephemerons.specs.BodyGraph.{PlacesDiffer, HaveNoPairs};
 ghost use Rattle.ephemerons.specs.Marking.{MarksOn, traced_count};
 ghost use Rattle.ephemerons.specs.Notes.{refusals_in};
@@ -15,21 +14,20 @@ use crate::notes::Pairs;
 use crate::strong_fields::trace_strong;
 use crate::tracing::{claim, trace_fields};
 use mark_worklist::Marking;
-use page_space::Space;
-use page_words::{MutatorSeat, Words};
+use page_words::{Bodywords, MutatorSeat};
 use type_table::TypeTable;
 
 /// Traces objects from the list, at most so many. Answers how many: fewer only where the list came
 /// to its end. Pairs whose key is not marked are noted, and none is settled. It can't be refused.
-pub fn trace_listed(
-    space: &Space,
+pub fn trace_listed<B: Bodywords>(
+    space: &B,
     types: &TypeTable,
     seat: &mut MutatorSeat,
     marking: &mut Marking,
     notes: &mut Pairs,
     most: u32,
 ) -> u32
-    requires heap { IsSeatOf space.now seat.old }
+    requires heap { seat.old.heap ≡ B.heap space.now }
     requires types { types.now ≡ seat.old.types }
     requires under_way { IsUnderWay seat.old marking.old notes.old }
     ensures under_way { IsUnderWay seat.new marking.new notes.new }
@@ -50,15 +48,15 @@ pub fn trace_listed(
 }
 
 /// The step where types have pairs.
-fn step_with_notes(
-    space: &Space,
+fn step_with_notes<B: Bodywords>(
+    space: &B,
     types: &TypeTable,
     seat: &mut MutatorSeat,
     marking: &mut Marking,
     notes: &mut Pairs,
     most: u32,
 ) -> u32
-    requires heap { IsSeatOf space.now seat.old }
+    requires heap { seat.old.heap ≡ B.heap space.now }
     requires ground { IsGround types.now (stage seat.old marking.old (notes.old ∷ []) 0) }
     requires under_way { IsUnderWay seat.old marking.old notes.old }
     ensures works { Works types.now None (stage seat.old marking.old (notes.old ∷ []) 0)
@@ -73,7 +71,7 @@ fn step_with_notes(
             return traced;
         };
         trace_taken(
-            space.words(),
+            space,
             types,
             seat,
             marking,
@@ -87,8 +85,8 @@ fn step_with_notes(
 
 /// Claims an object that was taken from the list and traces it, unless it was traced before.
 /// `traced` counts.
-fn trace_taken(
-    words: &Words,
+fn trace_taken<B: Bodywords>(
+    words: &B,
     types: &TypeTable,
     seat: &mut MutatorSeat,
     marking: &mut Marking,
@@ -96,7 +94,7 @@ fn trace_taken(
     traced: &mut u32,
     place: u32,
 )
-    requires heap { seat.old.count ≡ words.now }
+    requires heap { seat.old.heap ≡ B.heap words.now }
     requires ground { IsGround types.now
         (stage seat.old marking.old (notes.old ∷ []) traced.old) }
     requires under_way { IsUnderWay seat.old (with_held (Some place) marking.old) notes.old }
@@ -118,15 +116,15 @@ fn trace_taken(
 /// and what would be traced next at the end is listed again: so a chain is traced without the list.
 // As in the fixpoint's drain: alone, it has all registers.
 #[inline(never)]
-fn step_pairless(
-    space: &Space,
+fn step_pairless<B: Bodywords>(
+    space: &B,
     types: &TypeTable,
     seat: &mut MutatorSeat,
     marking: &mut Marking,
     notes: &Pairs,
     most: u32,
 ) -> u32
-    requires heap { IsSeatOf space.now seat.old }
+    requires heap { seat.old.heap ≡ B.heap space.now }
     requires pairless { HaveNoPairs types.now }
     requires ground { IsGround types.now (stage seat.old marking.old (notes.now ∷ []) 0) }
     requires under_way { IsUnderWay seat.old marking.old notes.now }
@@ -144,7 +142,7 @@ fn step_pairless(
             return traced;
         }
         let held = trace_taken_pairless(
-            space.words(),
+            space,
             types,
             seat,
             marking,
@@ -160,8 +158,8 @@ fn step_pairless(
 /// The same for an object of a type without pairs. Of what was marked the answer has one object,
 /// which is held back, and the others are listed.
 #[inline(always)]
-fn trace_taken_pairless(
-    words: &Words,
+fn trace_taken_pairless<B: Bodywords>(
+    words: &B,
     types: &TypeTable,
     seat: &mut MutatorSeat,
     marking: &mut Marking,
@@ -169,7 +167,7 @@ fn trace_taken_pairless(
     traced: &mut u32,
     place: u32,
 ) -> Option<u32>
-    requires heap { seat.old.count ≡ words.now }
+    requires heap { seat.old.heap ≡ B.heap words.now }
     requires pairless { HaveNoPairs types.now }
     requires ground { IsGround types.now
         (stage seat.old marking.old (notes.now ∷ []) traced.old) }

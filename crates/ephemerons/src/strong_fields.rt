@@ -16,22 +16,22 @@ ghost use Rattle.ephemerons.specs.Fixpoint.{ListsMarks, HasWord, with_held};
 
 use crate::marks::{list_held, mark_named};
 use mark_worklist::Marking;
-use page_words::{MutatorSeat, Tracing, Words};
+use page_words::{Bodywords, MutatorSeat, Tracing};
 use type_table::TypeTable;
 
 /// Traces an object in hand, of a type without pairs: marks what its strong fields name. All of it
 /// is listed but what the last one names: that is the answer, if it was not marked. So a chain is
 /// traced without the list.
 #[inline(always)]
-pub(crate) fn trace_strong(
-    words: &Words,
+pub(crate) fn trace_strong<B: Bodywords>(
+    words: &B,
     types: &TypeTable,
     seat: &mut MutatorSeat,
     marking: &mut Marking,
     place: u32,
     ty: u32,
 ) -> Option<u32>
-    requires heap { seat.old.count ≡ words.now }
+    requires heap { seat.old.heap ≡ B.heap words.now }
     requires marking { marking.old.on ≡ seat.old.on }
     requires types { seat.old.types ≡ types.now }
     requires tracing { IsTracing seat.old }
@@ -58,15 +58,15 @@ pub(crate) fn trace_strong(
 
 /// Marks and lists what the first words that the hand comes to name, which are strong fields.
 #[inline(always)]
-fn trace_words(
-    words: &Words,
+fn trace_words<B: Bodywords>(
+    words: &B,
     seat: &mut MutatorSeat,
     marking: &mut Marking,
     place: u32,
     ty: u32,
     offsets: &[u32],
 )
-    requires heap { seat.old.count ≡ words.now }
+    requires heap { seat.old.heap ≡ B.heap words.now }
     requires marking { marking.old.on ≡ seat.old.on }
     requires tracing { IsTracing seat.old }
     requires body { HasType seat.old.bodies place ty }
@@ -93,13 +93,13 @@ fn trace_words(
 /// Marks what the strong field in hand names. Its place where it was not marked: the caller lists or
 /// traces it.
 #[inline(always)]
-pub(crate) fn trace_strong_word(
-    words: &Words,
+pub(crate) fn trace_strong_word<B: Bodywords>(
+    words: &B,
     seat: &mut MutatorSeat,
     holder: u32,
     offset: u32,
 ) -> Option<u32>
-    requires heap { seat.old.count ≡ words.now }
+    requires heap { seat.old.heap ≡ B.heap words.now }
     requires tracing { IsTracing seat.old }
     requires marked { holds seat.old.marked holder ≡ true }
     requires hand { IsAt strong_offsets seat.old holder offset Read }
@@ -119,13 +119,13 @@ pub(crate) fn trace_strong_word(
 /// Reads the word that the hand wants, and marks what it names: then the hand moves on. Its place
 /// where it was not marked.
 #[inline(always)]
-pub(crate) fn trace_target(
-    words: &Words,
+pub(crate) fn trace_target<B: Bodywords>(
+    words: &B,
     seat: &mut MutatorSeat,
     holder: u32,
     offset: u32,
 ) -> Option<u32>
-    requires heap { seat.old.count ≡ words.now }
+    requires heap { seat.old.heap ≡ B.heap words.now }
     requires tracing { IsTracing seat.old }
     requires field { HasWord seat.old.bodies holder offset }
     requires hand { IsAtTarget seat.old (holder + offset) }

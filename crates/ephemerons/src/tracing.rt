@@ -8,7 +8,6 @@ ghost use Rattle.type_table.specs.Types.{kinds_of};
 ghost use Rattle.type_table.specs.TracedWords.{traced_words_of};
 ghost use Rattle.marker_core.specs.Bodies.{IsPlace, holds};
 ghost use Rattle.page_words.specs.Seat.{IsAlone, is_grey_at};
-ghost use Rattle.page_space.specs.Space.{IsSeatOf};
 ghost use Rattle.ephemerons.specs.BodyGraph.{HasType, HaveNoPairs};
 ghost use Rattle.ephemerons.specs.Marking.{GrowsWithin, HasStrongMarked};
 ghost use Rattle.ephemerons.specs.Notes.{NotesGrow, HasPairsNoted};
@@ -24,23 +23,22 @@ use crate::pair_fields::trace_pair;
 use crate::strong_fields::{trace_strong, trace_strong_word};
 use mark_worklist::Marking;
 use object_headers::{Header, with_traced};
-use page_space::Space;
-use page_words::{MutatorSeat, Reading, Words, has_mark};
+use page_words::{Bodywords, MutatorSeat, Reading, has_mark};
 use type_table::{TracedWord, TypeTable};
 
 /// Traces an object that this seat claimed, and that is in hand as the claim left it: marks and
 /// lists what its strong fields name, and for each pair marks and lists the value where the key is
 /// marked, and notes the pair otherwise. A refused push leaves its object marked and raises
 /// `overflow` of the marking, and a refused note that of the notes.
-pub fn trace(
-    space: &Space,
+pub fn trace<B: Bodywords>(
+    space: &B,
     types: &TypeTable,
     seat: &mut MutatorSeat,
     marking: &mut Marking,
     notes: &mut Pairs,
     place: u32,
 )
-    requires heap { IsSeatOf space.now seat.old }
+    requires heap { seat.old.heap ≡ B.heap space.now }
     requires marking { marking.old.on ≡ seat.old.on }
     requires types { seat.old.types ≡ types.now }
     requires tracing { IsTracing seat.old }
@@ -58,13 +56,13 @@ pub fn trace(
     ensures hand { seat.new.hand ≡ None }
 {
     seat.bodies_lie_apart();
-    let ty = type_of(space.words(), seat, place);
-    trace_fields(space.words(), types, seat, marking, notes, place, ty);
+    let ty = type_of(space, seat, place);
+    trace_fields(space, types, seat, marking, notes, place, ty);
 }
 
 /// Traces a marked object of a type, which is in hand. Its other words are never read.
-pub(crate) fn trace_fields(
-    words: &Words,
+pub(crate) fn trace_fields<B: Bodywords>(
+    words: &B,
     types: &TypeTable,
     seat: &mut MutatorSeat,
     marking: &mut Marking,
@@ -72,7 +70,7 @@ pub(crate) fn trace_fields(
     place: u32,
     ty: u32,
 )
-    requires heap { seat.old.count ≡ words.now }
+    requires heap { seat.old.heap ≡ B.heap words.now }
     requires marking { marking.old.on ≡ seat.old.on }
     requires types { seat.old.types ≡ types.now }
     requires tracing { IsTracing seat.old }
@@ -97,15 +95,15 @@ pub(crate) fn trace_fields(
 }
 
 /// Traces the word in hand of a marked object.
-fn trace_word(
-    words: &Words,
+fn trace_word<B: Bodywords>(
+    words: &B,
     seat: &mut MutatorSeat,
     marking: &mut Marking,
     notes: &mut Pairs,
     place: u32,
     word: TracedWord,
 )
-    requires heap { seat.old.count ≡ words.now }
+    requires heap { seat.old.heap ≡ B.heap words.now }
     requires marking { marking.old.on ≡ seat.old.on }
     requires tracing { IsTracing seat.old }
     requires marked { holds seat.old.marked place ≡ true }
@@ -128,8 +126,8 @@ fn trace_word(
 
 /// Claims an object and traces it, where it is marked and not yet traced, and tells whether it did.
 /// `traced` counts. New notes go to the first group.
-pub(crate) fn trace_grey(
-    space: &Space,
+pub(crate) fn trace_grey<B: Bodywords>(
+    space: &B,
     types: &TypeTable,
     seat: &mut MutatorSeat,
     marking: &mut Marking,
@@ -137,7 +135,7 @@ pub(crate) fn trace_grey(
     traced: &mut u32,
     place: u32,
 ) -> bool
-    requires heap { IsSeatOf space.now seat.old }
+    requires heap { seat.old.heap ≡ B.heap space.now }
     requires ground { IsGround types.now (stage seat.old marking.old groups.old traced.old) }
     requires place { IsPlace seat.old.bodies place }
     ensures ground { IsGround types.now (stage seat.new marking.new groups.new traced.new) }
@@ -147,11 +145,11 @@ pub(crate) fn trace_grey(
     ensures settled { holds seat.new.marked place ≡ true → holds seat.new.traced place ≡ true }
 {
     seat.bodies_lie_apart();
-    match claim(space.words(), seat, place) {
+    match claim(space, seat, place) {
         Some(ty) => {
             *traced += 1;
             let own = &mut groups[0];
-            trace_fields(space.words(), types, seat, marking, own, place, ty);
+            trace_fields(space, types, seat, marking, own, place, ty);
             true
         }
         None => false,
@@ -161,8 +159,8 @@ pub(crate) fn trace_grey(
 /// The same where no type has a pair: the strong fields are all that there is to trace. Of what was
 /// marked the answer has one object, which is held back, and the others are listed.
 #[inline(always)]
-pub(crate) fn trace_pairless(
-    space: &Space,
+pub(crate) fn trace_pairless<B: Bodywords>(
+    space: &B,
     types: &TypeTable,
     seat: &mut MutatorSeat,
     marking: &mut Marking,
@@ -170,7 +168,7 @@ pub(crate) fn trace_pairless(
     traced: &mut u32,
     place: u32,
 ) -> Option<u32>
-    requires heap { IsSeatOf space.now seat.old }
+    requires heap { seat.old.heap ≡ B.heap space.now }
     requires ground { IsGround types.now (stage seat.old marking.old groups.now traced.old) }
     requires pairless { HaveNoPairs types.now }
     requires place { IsPlace seat.old.bodies place }
@@ -182,10 +180,10 @@ pub(crate) fn trace_pairless(
 {
     let _ = groups;
     seat.bodies_lie_apart();
-    match claim(space.words(), seat, place) {
+    match claim(space, seat, place) {
         Some(ty) => {
             *traced += 1;
-            trace_strong(space.words(), types, seat, marking, place, ty)
+            trace_strong(space, types, seat, marking, place, ty)
         }
         None => None,
     }
@@ -194,8 +192,8 @@ pub(crate) fn trace_pairless(
 /// Claims an object. Its type where it was marked and not yet traced: one look at the header serves
 /// both.
 #[inline(always)]
-pub(crate) fn claim(words: &Words, seat: &mut MutatorSeat, place: u32) -> Option<u32>
-    requires heap { seat.old.count ≡ words.now }
+pub(crate) fn claim<B: Bodywords>(words: &B, seat: &mut MutatorSeat, place: u32) -> Option<u32>
+    requires heap { seat.old.heap ≡ B.heap words.now }
     requires on { seat.old.on ≡ true }
     requires alone { IsAlone seat.old }
     requires place { IsPlace seat.old.bodies place }

@@ -14,7 +14,7 @@ use crate::tracing::{claim, trace};
 use gc_graph::{Kind, NoMemory};
 use mark_worklist::{Marking, Worklist};
 use page_space::Space;
-use page_words::{MutatorSeat, Words};
+use page_words::{Bodywords, MutatorSeat};
 use std::alloc::Global;
 use type_table::{TypeDecl, TypeTable};
 
@@ -85,22 +85,22 @@ fn made(alloc: Global, types: &TypeTable) -> Option<(Space, MutatorSeat)>
 }
 
 /// Writes the fields of the first object: the value goes in before its key.
-fn write(words: &Words, seat: &mut MutatorSeat, key: u64, value: u64, strong: u64)
-    requires heap { seat.old.count ≡ words.now }
+fn write(space: &Space, seat: &mut MutatorSeat, key: u64, value: u64, strong: u64)
+    requires heap { IsSeatOf space.now seat.old }
     requires small { IsSmall seat.old 0 0 0 }
     requires key { IsEither key }
     requires value { IsEither value }
     requires strong { IsEither strong }
     requires pair { (key ≡ 0) ↔ (value ≡ 0) }
-    ensures heap { seat.new.count ≡ seat.old.count }
+    ensures heap { seat.new.heap ≡ seat.old.heap }
     ensures small { IsSmall seat.new key value strong }
 {
     seat.bodies_lie_apart();
-    words.store(seat, HOLDER + 3, value);
+    space.store(seat, HOLDER + 3, value);
     seat.bodies_lie_apart();
-    words.store(seat, HOLDER + 2, key);
+    space.store(seat, HOLDER + 2, key);
     seat.bodies_lie_apart();
-    words.store(seat, HOLDER + 4, strong);
+    space.store(seat, HOLDER + 4, strong);
 }
 
 /// A heap in which the first object was traced.
@@ -135,7 +135,7 @@ fn traced(alloc: Global, key: u64, value: u64, strong: u64) -> Option<Trial>
         return None;
     };
     let (space, mut seat) = made(alloc, &types)?;
-    write(space.words(), &mut seat, key, value, strong);
+    write(&space, &mut seat, key, value, strong);
     let mut marking = Marking {
         on: true,
         overflow: false,
@@ -143,9 +143,9 @@ fn traced(alloc: Global, key: u64, value: u64, strong: u64) -> Option<Trial>
     };
     let mut notes = Pairs::new(alloc);
     seat.bodies_lie_apart();
-    space.words().set_stop(&mut seat, false);
-    space.words().mark(&mut seat, HOLDER);
-    claim(space.words(), &mut seat, HOLDER)?;
+    space.set_stop(&mut seat, false);
+    space.mark(&mut seat, HOLDER);
+    claim(&space, &mut seat, HOLDER)?;
     trace(&space, &types, &mut seat, &mut marking, &mut notes, HOLDER);
     Some(Trial {
         space,
@@ -167,7 +167,7 @@ fn left(alloc: Global, key: u64, value: u64, strong: u64) -> Option<Counts>
     Some(Counts {
         listed: t.marking.list.len(),
         noted: t.notes.count(),
-        marked: is_marked(t.space.words(), &mut t.seat, OTHER),
+        marked: is_marked(&t.space, &mut t.seat, OTHER),
     })
 }
 
@@ -180,11 +180,11 @@ fn null_over_a_noted_pair(alloc: Global) -> Option<(u32, bool)> {
         mut marking,
         notes,
     } = traced(alloc, 257, 1, 0)?;
-    space.words().store(&mut seat, HOLDER + 3, 0);
-    space.words().store(&mut seat, HOLDER + 2, 0);
+    space.store(&mut seat, HOLDER + 3, 0);
+    space.store(&mut seat, HOLDER + 2, 0);
     let mut groups = [notes];
     let count = fixpoint(&space, &types, &mut seat, &mut marking, &mut groups, false);
-    Some((count, is_marked(space.words(), &mut seat, OTHER)))
+    Some((count, is_marked(&space, &mut seat, OTHER)))
 }
 
 /// The same where its value was overwritten by another, the key itself: the write marks and lists it.
@@ -196,12 +196,12 @@ fn another_over_a_noted_pair(alloc: Global) -> Option<(u32, bool)> {
         mut marking,
         notes,
     } = traced(alloc, 257, 1, 0)?;
-    space.words().store(&mut seat, HOLDER + 3, 257);
-    space.words().mark(&mut seat, OTHER);
+    space.store(&mut seat, HOLDER + 3, 257);
+    space.mark(&mut seat, OTHER);
     list_held(&mut marking, Some(OTHER));
     let mut groups = [notes];
     let count = fixpoint(&space, &types, &mut seat, &mut marking, &mut groups, false);
-    Some((count, is_marked(space.words(), &mut seat, OTHER)))
+    Some((count, is_marked(&space, &mut seat, OTHER)))
 }
 
 /// Whether tracing leaves so many places listed and pairs noted, and the other object marked or not.

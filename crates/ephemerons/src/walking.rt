@@ -2,7 +2,6 @@
 
 ghost use Rattle.std.specs.Prelude.{◌≡◌, ℕ, ◌<◌, true, false, [], Contains, None, Some};
 ghost use Rattle.marker_core.specs.Bodies.{IsPlace};
-ghost use Rattle.page_space.specs.Space.{IsSeatOf};
 ghost use Rattle.ephemerons.specs.BodyGraph.{HasPair};
 ghost use Rattle.ephemerons.specs.Marking.{IsOver};
 ghost use Rattle.ephemerons.specs.Notes.{note_of};
@@ -15,20 +14,19 @@ use crate::notes::Pairs;
 use crate::settling::settle_pair;
 use crate::tracing::trace_grey;
 use mark_worklist::Marking;
-use page_space::Space;
-use page_words::MutatorSeat;
+use page_words::{Bodywords, MutatorSeat};
 use type_table::TypeTable;
 
 /// Drains the list and looks at all objects, until neither asks for more.
-pub(crate) fn walk_heap(
-    space: &Space,
+pub(crate) fn walk_heap<B: Bodywords>(
+    space: &B,
     types: &TypeTable,
     seat: &mut MutatorSeat,
     marking: &mut Marking,
     groups: &mut [Pairs],
     traced: &mut u32,
 )
-    requires heap { IsSeatOf space.now seat.old }
+    requires heap { seat.old.heap ≡ B.heap space.now }
     requires ground { IsGround types.now (stage seat.old marking.old groups.old traced.old) }
     ensures ground { IsGround types.now (stage seat.new marking.new groups.new traced.new) }
     ensures works { Works types.now None
@@ -42,15 +40,15 @@ pub(crate) fn walk_heap(
 }
 
 /// Drains the list, and then looks at each object. True where one asked for work.
-fn walk_turn(
-    space: &Space,
+fn walk_turn<B: Bodywords>(
+    space: &B,
     types: &TypeTable,
     seat: &mut MutatorSeat,
     marking: &mut Marking,
     groups: &mut [Pairs],
     traced: &mut u32,
 ) -> bool
-    requires heap { IsSeatOf space.now seat.old }
+    requires heap { seat.old.heap ≡ B.heap space.now }
     requires ground { IsGround types.now (stage seat.old marking.old groups.old traced.old) }
     ensures ground { IsGround types.now (stage seat.new marking.new groups.new traced.new) }
     ensures works { Works types.now None
@@ -67,15 +65,15 @@ fn walk_turn(
 }
 
 /// Settles each object, from the lowest place on. True where one asked for work.
-fn settle_objects(
-    space: &Space,
+fn settle_objects<B: Bodywords>(
+    space: &B,
     types: &TypeTable,
     seat: &mut MutatorSeat,
     marking: &mut Marking,
     groups: &mut [Pairs],
     traced: &mut u32,
 ) -> bool
-    requires heap { IsSeatOf space.now seat.old }
+    requires heap { seat.old.heap ≡ B.heap space.now }
     requires ground { IsGround types.now (stage seat.old marking.old groups.old traced.old) }
     ensures ground { IsGround types.now (stage seat.new marking.new groups.new traced.new) }
     ensures looks { Looks types.now None
@@ -97,8 +95,8 @@ fn settle_objects(
 
 /// Traces an object, if it is marked and not yet traced, and settles each of its pairs. True where
 /// that was to be done.
-fn settle_object(
-    space: &Space,
+fn settle_object<B: Bodywords>(
+    space: &B,
     types: &TypeTable,
     seat: &mut MutatorSeat,
     marking: &mut Marking,
@@ -106,7 +104,7 @@ fn settle_object(
     traced: &mut u32,
     a: u32,
 ) -> bool
-    requires heap { IsSeatOf space.now seat.old }
+    requires heap { seat.old.heap ≡ B.heap space.now }
     requires ground { IsGround types.now (stage seat.old marking.old groups.old traced.old) }
     requires place { IsPlace seat.old.bodies a }
     ensures ground { IsGround types.now (stage seat.new marking.new groups.new traced.new) }
@@ -121,8 +119,8 @@ fn settle_object(
 }
 
 /// Settles each pair of an object. True where one asked for work.
-fn settle_pairs(
-    space: &Space,
+fn settle_pairs<B: Bodywords>(
+    space: &B,
     types: &TypeTable,
     seat: &mut MutatorSeat,
     marking: &mut Marking,
@@ -130,7 +128,7 @@ fn settle_pairs(
     traced: u32,
     a: u32,
 ) -> bool
-    requires heap { IsSeatOf space.now seat.old }
+    requires heap { seat.old.heap ≡ B.heap space.now }
     requires ground { IsGround types.now (stage seat.old marking.old groups.now traced) }
     requires place { IsPlace seat.old.bodies a }
     ensures ground { IsGround types.now (stage seat.new marking.new groups.now traced) }
@@ -141,7 +139,7 @@ fn settle_pairs(
         → IsSettled types.now seat.new (note_of a offset) }
 {
     seat.bodies_lie_apart();
-    let ty = type_of(space.words(), seat, a);
+    let ty = type_of(space, seat, a);
     let pairs = types.pair_words(ty);
     let mut found = false;
     for word in pairs {

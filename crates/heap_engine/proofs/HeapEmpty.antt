@@ -7,7 +7,7 @@ use Rattle.gc_graph.specs.ThreadLaw.{IsCounted}
 use Rattle.gc_graph.specs.ValidLaw.{EmptyIsValid}
 use Rattle.cross_thread_region.specs.Histories.{slots_of}
 use Rattle.cross_thread_region.specs.PlacedNodes.{named_is_target}
-use Rattle.page_words.specs.Seat.{empty_view}
+use Rattle.page_words.specs.Seat.{Heap, empty_view}
 use Rattle.nodes_in_words.specs.Places.{places_of}
 use Rattle.heap_objects.specs.Objects.{HaveCallbacks, ObjectsView}
 use Rattle.heap_objects.specs.Marking.{no_grey}
@@ -26,27 +26,27 @@ null_places zero = refl
 null_places (suc n) = ap (λ l. None ∷ l) (null_places n)
 
 -- the parts of an empty heap
-abbrev pub empty_parts : Shape → List ObjectType → List ActionKind → Parts
-empty_parts shape types callbacks = record {
-  objects = record { shape = shape; types = types; callbacks = callbacks; nodes = []; seat = empty_view (shape.pages * shape.page_words) types; grey = no_grey };
+abbrev pub empty_parts : Heap → Shape → List ObjectType → List ActionKind → Parts
+empty_parts heap shape types callbacks = record {
+  objects = record { shape = shape; types = types; callbacks = callbacks; nodes = []; seat = empty_view heap types; grey = no_grey };
   handles = record { places = replicate 256 None; slots = replicate 256 None; weak_places = replicate 64 None; weak = replicate 64 None; stack = empty_stack };
   cycle = record { phase = Idle; sweep = record { pages = shape.pages; cursor = shape.pages }; registered = []; ran = []; rest = empty_state };
 }
 
 -- each of them is what it is in an empty heap
-pub parts_empty : (s : Parts) (shape : Shape) (types : List ObjectType) (callbacks : List ActionKind) → s.objects ≡ (empty_parts shape types callbacks).objects
-    → s.handles ≡ (empty_parts shape types callbacks).handles → s.cycle ≡ (empty_parts shape types callbacks).cycle → s ≡ empty_parts shape types callbacks
-parts_empty s shape types callbacks objects handles cycle =
-    let none : Parts = empty_parts shape types callbacks in
+pub parts_empty : (s : Parts) (heap : Heap) (shape : Shape) (types : List ObjectType) (callbacks : List ActionKind) → s.objects ≡ (empty_parts heap shape types callbacks).objects
+    → s.handles ≡ (empty_parts heap shape types callbacks).handles → s.cycle ≡ (empty_parts heap shape types callbacks).cycle → s ≡ empty_parts heap shape types callbacks
+parts_empty s heap shape types callbacks objects handles cycle =
+    let none : Parts = empty_parts heap shape types callbacks in
     ap (λ (x : ObjectsView). record s { objects = x }) objects ∙ ap (λ (x : HandlesView). record s { objects = none.objects; handles = x }) handles
     ∙ ap (λ (x : CycleView). record none { cycle = x }) cycle
 
 -- an idle cycle, over slots that are all null and no objects, is ready
-pub ready_empty : (s : Parts) (shape : Shape) (types : List ObjectType) (callbacks : List ActionKind) → EmptyIsValid → HaveCallbacks (length callbacks) types
-    → s ≡ empty_parts shape types callbacks → IsReady s
-ready_empty s shape types callbacks law called is =
-    let ready : IsReady (empty_parts shape types callbacks) = record {
-      valid = law (setup_of (empty_parts shape types callbacks));
+pub ready_empty : (s : Parts) (heap : Heap) (shape : Shape) (types : List ObjectType) (callbacks : List ActionKind) → EmptyIsValid → HaveCallbacks (length callbacks) types
+    → s ≡ empty_parts heap shape types callbacks → IsReady s
+ready_empty s heap shape types callbacks law called is =
+    let ready : IsReady (empty_parts heap shape types callbacks) = record {
+      valid = law (setup_of (empty_parts heap shape types callbacks));
       called = called;
       tied = record {
         slots = null_places 256;
@@ -67,12 +67,12 @@ ready_empty s shape types callbacks law called is =
     subst IsReady (sym is) ready
 
 -- a region without entries is an empty heap's, with threads that have no orders
-pub shared_empty : (s : Parts) (shape : Shape) (types : List ObjectType) (callbacks : List ActionKind) (h : Shared) → s ≡ empty_parts shape types callbacks → h ≡ no_shared
+pub shared_empty : (s : Parts) (heap : Heap) (shape : Shape) (types : List ObjectType) (callbacks : List ActionKind) (h : Shared) → s ≡ empty_parts heap shape types callbacks → h ≡ no_shared
     → HasShared s h
-shared_empty s shape types callbacks h is none =
-    let region : HasRegion (empty_parts shape types callbacks) [] =
+shared_empty s heap shape types callbacks h is none =
+    let region : HasRegion (empty_parts heap shape types callbacks) [] =
     record { slots = refl; placed = λ x n named. absurd (omega (arith, (named_is_target (slots_of []) x n named).1)); started = refl } in
-    let new : HasShared (empty_parts shape types callbacks) no_shared = record {
+    let new : HasShared (empty_parts heap shape types callbacks) no_shared = record {
       region = region;
       ahead = record { others = λ k d low. absurd (omega arith); legal = tt };
       threads = record {
@@ -104,7 +104,7 @@ no_totals s h none =
     subst (λ (x : Shared). AreTotalsOf s x.threads.replies) (sym none) calm
 
 -- nothing is counted
-pub counted_empty : (s : Parts) (shape : Shape) (types : List ObjectType) (callbacks : List ActionKind) → s ≡ empty_parts shape types callbacks → IsCounted (state_of s)
-counted_empty s shape types callbacks is =
-    let none : IsCounted (state_of (empty_parts shape types callbacks)) = record { pauses = omega arith; full = omega arith; finalised = refl } in
+pub counted_empty : (s : Parts) (heap : Heap) (shape : Shape) (types : List ObjectType) (callbacks : List ActionKind) → s ≡ empty_parts heap shape types callbacks → IsCounted (state_of s)
+counted_empty s heap shape types callbacks is =
+    let none : IsCounted (state_of (empty_parts heap shape types callbacks)) = record { pauses = omega arith; full = omega arith; finalised = refl } in
     subst (λ (p : Parts). IsCounted (state_of p)) (sym is) none

@@ -166,15 +166,15 @@ barrier_lists t v w m n barrier = elim (cases_Bool barrier.fresh) [
 
 -- the heap is as it was
 pub record HeapStays (old new : SeatView) : Type 0 where
-  pub count : new.count ≡ old.count
+  pub heap : new.heap ≡ old.heap
   pub types : new.types ≡ old.types
   pub bodies : new.bodies ≡ old.bodies
   pub may : new.may ≡ old.may
   pub dead : new.dead ≡ old.dead
 
 marked_stays : (v : SeatView) (p : ℕ) (was asked : Bool) → HeapStays v (cond asked (marked_at v p was) v)
-marked_stays v p was true = record { count = refl; types = refl; bodies = refl; may = refl; dead = refl }
-marked_stays v p was false = record { count = refl; types = refl; bodies = refl; may = refl; dead = refl }
+marked_stays v p was true = record { heap = refl; types = refl; bodies = refl; may = refl; dead = refl }
+marked_stays v p was false = record { heap = refl; types = refl; bodies = refl; may = refl; dead = refl }
 
 module _ (t : ℕ) (v w : SeatView) (m n : Marking) (barrier : HasBarrier t v m w n) where
   pub barrier_stays : HeapStays v w

@@ -77,7 +77,7 @@ impl Objects {
           types = types;
           callbacks = kinds_of callbacks.now;
           nodes = [];
-          seat = empty_view (pages * page_words) types;
+          seat = empty_view o.seat.heap types;
           grey = no_grey;
         }) }
     {

@@ -13,6 +13,7 @@ ghost use Rattle.marker_core.specs.Bodies.{holds};
 ghost use Rattle.marker_core.specs.Laws.{IsLeastOver};
 ghost use Rattle.page_words.specs.Roles.{kind_lists};
 ghost use Rattle.page_words.specs.Seat.{IsQuiet, PairsAreWhole, begun};
+ghost use Rattle.page_space.specs.Space.{IsSeatOf};
 ghost use Rattle.nodes_in_words.specs.Nodes.{AreOfValid};
 ghost use Rattle.nodes_in_words.specs.Places.{places_of, IsJudged};
 ghost use Rattle.atomic_pause.specs.Pausing.{IsPaused, NamePlaces, hits_in};
@@ -29,7 +30,8 @@ use cross_thread_region::{Pass, Region};
 use ephemerons::trace_listed;
 use ghost_values::GhostValue;
 use nodes_in_words::NodeLists;
-use page_words::{MutatorSeat, Words};
+use page_space::Space;
+use page_words::MutatorSeat;
 use persistent_slots::Slots;
 
 impl Objects {
@@ -61,13 +63,12 @@ impl Objects {
         self.space.lasts_while_objects_stay();
         self.grey.since = refused(&self.grey.marking, &self.grey.notes);
         self.grey.traced = 0;
-        let words = self.space.words();
         let marking = &mut self.grey.marking;
-        keep_reached(words, &mut self.seat, &self.nodes);
+        keep_reached(&self.space, &mut self.seat, &self.nodes);
         marking.on = true;
         self.seat.bodies_lie_apart();
-        visit_slots(words, &mut self.seat, marking, strong);
-        visit_told(words, &mut self.seat, marking, told);
+        visit_slots(&self.space, &mut self.seat, marking, strong);
+        visit_told(&self.space, &mut self.seat, marking, told);
     }
 
     /// Traces marked objects, at most so many. Answers how many: fewer only where no object is grey,
@@ -179,14 +180,14 @@ impl Objects {
 
 /// Begins marking: from now on what the roots reach may be kept. Contracts alone see the nodes, and
 /// the roots, which are places.
-fn keep_reached(words: &Words, seat: &mut MutatorSeat, nodes: &GhostValue<NodeLists>)
+fn keep_reached(space: &Space, seat: &mut MutatorSeat, nodes: &GhostValue<NodeLists>)
     ghost roots: { List ℕ }
-    requires heap { seat.old.count ≡ words.now }
+    requires heap { IsSeatOf space.now seat.old }
     requires quiet { IsQuiet seat.old }
     requires pairs { PairsAreWhole seat.old }
     ensures view { seat.new ≡ begun seat.old roots }
     ensures may { IsLeastOver (kind_lists seat.old.types) seat.old.bodies roots seat.new.may }
 {
     let _ = nodes;
-    words.set_stop(seat, false);
+    space.words().set_stop(seat, false);
 }

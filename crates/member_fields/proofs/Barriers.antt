@@ -38,12 +38,12 @@ bodies_marked v a was true = refl
 pub bodies_after : (w : ℕ) (v : SeatView) (m : Marking) (s : SeatView) (n : Marking) → HasBarrier w v m s n → s.bodies ≡ v.bodies
 bodies_after w v m s n h = ap (λ (u : SeatView). u.bodies) h.marked ∙ bodies_marked v (w - 1) (not h.fresh) (asks_for_mark v w)
 
-count_marked : (v : SeatView) (a : ℕ) (was wanted : Bool) → (cond wanted (marked_at v a was) v).count ≡ v.count
-count_marked v a was false = refl
-count_marked v a was true = refl
+heap_marked : (v : SeatView) (a : ℕ) (was wanted : Bool) → (cond wanted (marked_at v a was) v).heap ≡ v.heap
+heap_marked v a was false = refl
+heap_marked v a was true = refl
 
-pub count_after : (w : ℕ) (v : SeatView) (m : Marking) (s : SeatView) (n : Marking) → HasBarrier w v m s n → s.count ≡ v.count
-count_after w v m s n h = ap (λ (u : SeatView). u.count) h.marked ∙ count_marked v (w - 1) (not h.fresh) (asks_for_mark v w)
+pub heap_after : (w : ℕ) (v : SeatView) (m : Marking) (s : SeatView) (n : Marking) → HasBarrier w v m s n → s.heap ≡ v.heap
+heap_after w v m s n h = ap (λ (u : SeatView). u.heap) h.marked ∙ heap_marked v (w - 1) (not h.fresh) (asks_for_mark v w)
 
 -- ---- over the view in which the words were written
 

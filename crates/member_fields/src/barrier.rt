@@ -7,12 +7,12 @@ ghost use Rattle.member_fields.specs.Barrier.{MayKeepNamed, HasBarrier};
 
 use mark_worklist::Marking;
 use object_headers::place_in;
-use page_words::{MutatorSeat, Words};
+use page_words::{Bodywords, MutatorSeat};
 
 /// Marks what a stored word names while marking goes on, whether it has the mark or not: a header
 /// that has it must be seen too before a key may be stored beside the word.
-pub fn keep(words: &Words, seat: &mut MutatorSeat, marking: &mut Marking, target: u64)
-    requires heap { seat.old.count ≡ words.now }
+pub fn keep<B: Bodywords>(words: &B, seat: &mut MutatorSeat, marking: &mut Marking, target: u64)
+    requires heap { seat.old.heap ≡ B.heap words.now }
     requires on { marking.old.on ≡ seat.old.on }
     requires target { IsReference seat.old.bodies target }
     requires kept { MayKeepNamed seat.old target }

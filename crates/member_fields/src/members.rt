@@ -6,18 +6,16 @@ ghost use Rattle.gc_graph.specs.Fields.{is_reference};
 ghost use Rattle.type_table.specs.Types.{is_kind};
 ghost use Rattle.marker_core.specs.Bodies.{IsReference};
 ghost use Rattle.page_words.specs.Seat.{rewritten};
-ghost use Rattle.page_space.specs.Space.{IsSeatOf};
 ghost use Rattle.member_fields.specs.Words.{HasWord, IsWordIn, written};
 ghost use Rattle.member_fields.specs.Barrier.{IsReadyToStore, MayKeep, MayKeepNamed, HasBarrier};
 
 use crate::{barrier, words};
 use mark_worklist::Marking;
-use page_space::Space;
-use page_words::MutatorSeat;
+use page_words::{Bodywords, MutatorSeat};
 
 /// What a strong or weak field refers to: 0, or a reference (`object_headers::place_in`).
-pub fn get(space: &Space, seat: &mut MutatorSeat, holder: u32, word: u32) -> u64
-    requires heap { IsSeatOf space.now seat.old }
+pub fn get<B: Bodywords>(space: &B, seat: &mut MutatorSeat, holder: u32, word: u32) -> u64
+    requires heap { seat.old.heap ≡ B.heap space.now }
     requires field { HasWord is_reference seat.old holder word }
     ensures word { IsWordIn seat.old holder word result }
     ensures view { seat.new ≡ seat.old }
@@ -27,15 +25,15 @@ pub fn get(space: &Space, seat: &mut MutatorSeat, holder: u32, word: u32) -> u64
 
 /// Makes a strong field refer to an object, or to none: `target` is a reference, or 0. While marking
 /// goes on the object is marked, and its place goes to the list where it had no mark.
-pub fn set(
-    space: &Space,
+pub fn set<B: Bodywords>(
+    space: &B,
     seat: &mut MutatorSeat,
     marking: &mut Marking,
     holder: u32,
     word: u32,
     target: u64,
 )
-    requires heap { IsSeatOf space.now seat.old }
+    requires heap { seat.old.heap ≡ B.heap space.now }
     requires on { marking.old.on ≡ seat.old.on }
     requires ready { IsReadyToStore seat.old }
     requires field { HasWord (is_kind Strong) seat.old holder word }
@@ -54,12 +52,12 @@ pub fn set(
     seat.bodies_lie_apart();
     words::write(space, seat, holder, word, target);
     // The word goes in first: a marker that traces the holder from here on finds the target itself.
-    barrier::keep(space.words(), seat, marking, target);
+    barrier::keep(space, seat, marking, target);
 }
 
 /// Makes a strong field null. What it named stays what it was, and null asks for no mark.
-pub fn clear(space: &Space, seat: &mut MutatorSeat, holder: u32, word: u32)
-    requires heap { IsSeatOf space.now seat.old }
+pub fn clear<B: Bodywords>(space: &B, seat: &mut MutatorSeat, holder: u32, word: u32)
+    requires heap { seat.old.heap ≡ B.heap space.now }
     requires ready { IsReadyToStore seat.old }
     requires field { HasWord (is_kind Strong) seat.old holder word }
     requires holder { MayKeep seat.old holder }

@@ -3,19 +3,22 @@
 ghost use Rattle.std.specs.Prelude.{◌≡◌, ◌↔◌, ◌+◌, false};
 ghost use Rattle.marker_core.specs.Bodies.{IsReference};
 ghost use Rattle.page_words.specs.Seat.{rewritten};
-ghost use Rattle.page_space.specs.Space.{IsSeatOf};
 ghost use Rattle.member_fields.specs.Words.{HasPair, IsWordIn, pair_written};
 ghost use Rattle.member_fields.specs.Barrier.{IsReadyToStore, MayKeep, MayKeepNamed, HasBarrier};
 
 use crate::{barrier, words};
 use mark_worklist::Marking;
-use page_space::Space;
-use page_words::MutatorSeat;
+use page_words::{Bodywords, MutatorSeat};
 use type_table::fields_stand_apart;
 
 /// The key and the value of the pair whose key is at this offset: each is 0, or a reference.
-pub fn read_pair(space: &Space, seat: &mut MutatorSeat, holder: u32, word: u32) -> (u64, u64)
-    requires heap { IsSeatOf space.now seat.old }
+pub fn read_pair<B: Bodywords>(
+    space: &B,
+    seat: &mut MutatorSeat,
+    holder: u32,
+    word: u32,
+) -> (u64, u64)
+    requires heap { seat.old.heap ≡ B.heap space.now }
     requires pair { HasPair seat.old holder word }
     ensures key { IsWordIn seat.old holder word result.0 }
     ensures value { IsWordIn seat.old holder (word + 1) result.1 }
@@ -31,8 +34,8 @@ pub fn read_pair(space: &Space, seat: &mut MutatorSeat, holder: u32, word: u32) 
 /// Writes both words of the pair whose key is at this offset: `key` and `value` are references, or
 /// both 0. The value is stored first, so that nobody meets the key of a value that isn't there yet.
 /// While marking goes on the value is marked, and its place goes to the list where it had no mark.
-pub fn set_pair(
-    space: &Space,
+pub fn set_pair<B: Bodywords>(
+    space: &B,
     seat: &mut MutatorSeat,
     marking: &mut Marking,
     holder: u32,
@@ -40,7 +43,7 @@ pub fn set_pair(
     key: u64,
     value: u64,
 )
-    requires heap { IsSeatOf space.now seat.old }
+    requires heap { seat.old.heap ≡ B.heap space.now }
     requires on { marking.old.on ≡ seat.old.on }
     requires ready { IsReadyToStore seat.old }
     requires pair { HasPair seat.old holder word }
@@ -65,13 +68,13 @@ pub fn set_pair(
     seat.bodies_lie_apart();
     // A marker that sees the key looks for the value no more once the key has its mark: so the value
     // has its own before the key is there.
-    barrier::keep(space.words(), seat, marking, value);
+    barrier::keep(space, seat, marking, value);
     words::write_key(space, seat, holder, word, key);
 }
 
 /// Sets both words of a pair to null, the value first. Null asks for no mark.
-pub fn clear_pair(space: &Space, seat: &mut MutatorSeat, holder: u32, word: u32)
-    requires heap { IsSeatOf space.now seat.old }
+pub fn clear_pair<B: Bodywords>(space: &B, seat: &mut MutatorSeat, holder: u32, word: u32)
+    requires heap { seat.old.heap ≡ B.heap space.now }
     requires ready { IsReadyToStore seat.old }
     requires pair { HasPair seat.old holder word }
     requires holder { MayKeep seat.old holder }

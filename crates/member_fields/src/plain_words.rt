@@ -4,17 +4,15 @@
 ghost use Rattle.std.specs.Prelude.{◌≡◌, ◌+◌};
 ghost use Rattle.gc_graph.specs.Fields.{is_plain};
 ghost use Rattle.page_words.specs.Seat.{rewritten};
-ghost use Rattle.page_space.specs.Space.{IsSeatOf};
 ghost use Rattle.member_fields.specs.Words.{HasWord, IsWordIn, written};
 ghost use Rattle.member_fields.specs.Barrier.{IsReadyToStore, MayKeep};
 
 use crate::words;
-use page_space::Space;
-use page_words::MutatorSeat;
+use page_words::{Bodywords, MutatorSeat};
 
 /// The number in a plain word.
-pub fn get_word(space: &Space, seat: &mut MutatorSeat, holder: u32, word: u32) -> u64
-    requires heap { IsSeatOf space.now seat.old }
+pub fn get_word<B: Bodywords>(space: &B, seat: &mut MutatorSeat, holder: u32, word: u32) -> u64
+    requires heap { seat.old.heap ≡ B.heap space.now }
     requires field { HasWord is_plain seat.old holder word }
     ensures word { IsWordIn seat.old holder word result }
     ensures view { seat.new ≡ seat.old }
@@ -23,8 +21,8 @@ pub fn get_word(space: &Space, seat: &mut MutatorSeat, holder: u32, word: u32) -
 }
 
 /// Puts a number into a plain word. No collection takes it for a reference.
-pub fn put_word(space: &Space, seat: &mut MutatorSeat, holder: u32, word: u32, n: u64)
-    requires heap { IsSeatOf space.now seat.old }
+pub fn put_word<B: Bodywords>(space: &B, seat: &mut MutatorSeat, holder: u32, word: u32, n: u64)
+    requires heap { seat.old.heap ≡ B.heap space.now }
     requires ready { IsReadyToStore seat.old }
     requires field { HasWord is_plain seat.old holder word }
     requires holder { MayKeep seat.old holder }

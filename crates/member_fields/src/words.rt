@@ -6,14 +6,12 @@ ghost use Rattle.object_headers.specs.Offsets.{first_field};
 ghost use Rattle.marker_core.specs.Bodies.{IsReference};
 ghost use Rattle.page_words.specs.Bodies.{IsPlainWord};
 ghost use Rattle.page_words.specs.Seat.{stored, rewritten};
-ghost use Rattle.page_space.specs.Space.{IsSeatOf};
 ghost use Rattle.member_fields.specs.Words.{HasWord, HasWordOfSomeKind, HasLoneWord, HasPair};
 ghost use Rattle.member_fields.specs.Words.{IsWordIn, written};
 ghost use Rattle.member_fields.specs.Barrier.{IsReadyToStore, MayKeep, MayKeepNamed};
 ghost use Rattle.member_fields.specs.Keys.{TakesKey};
 
-use page_space::Space;
-use page_words::{MutatorSeat, Reading};
+use page_words::{Bodywords, MutatorSeat, Reading};
 use type_table::fields_stand_apart;
 
 /// A word has one kind, and keeps it under each write, and a pair stays one. Whoever calls this has
@@ -44,19 +42,19 @@ pub fn write_is_of_one_word(seat: &MutatorSeat)
 }
 
 /// Reads a field word.
-pub fn read(space: &Space, seat: &mut MutatorSeat, holder: u32, word: u32) -> u64
-    requires heap { IsSeatOf space.now seat.old }
+pub fn read<B: Bodywords>(space: &B, seat: &mut MutatorSeat, holder: u32, word: u32) -> u64
+    requires heap { seat.old.heap ≡ B.heap space.now }
     requires field { HasWordOfSomeKind seat.old holder word }
     ensures word { IsWordIn seat.old holder word result }
     ensures view { seat.new ≡ seat.old }
 {
     seat.bodies_lie_apart();
-    space.words().load::<Reading>(seat, holder + word)
+    space.load::<Reading>(seat, holder + word)
 }
 
 /// Writes a field word that belongs to no pair.
-pub fn write(space: &Space, seat: &mut MutatorSeat, holder: u32, word: u32, w: u64)
-    requires heap { IsSeatOf space.now seat.old }
+pub fn write<B: Bodywords>(space: &B, seat: &mut MutatorSeat, holder: u32, word: u32, w: u64)
+    requires heap { seat.old.heap ≡ B.heap space.now }
     requires ready { IsReadyToStore seat.old }
     requires field { HasLoneWord seat.old holder word }
     requires holder { MayKeep seat.old holder }
@@ -66,12 +64,18 @@ pub fn write(space: &Space, seat: &mut MutatorSeat, holder: u32, word: u32, w: u
     ensures address { written seat.old holder word w ≡ rewritten seat.old (holder + word) w }
 {
     seat.bodies_lie_apart();
-    space.words().store(seat, holder + word, w);
+    space.store(seat, holder + word, w);
 }
 
 /// Writes the value of the pair whose key is at an offset.
-pub fn write_value(space: &Space, seat: &mut MutatorSeat, holder: u32, word: u32, value: u64)
-    requires heap { IsSeatOf space.now seat.old }
+pub fn write_value<B: Bodywords>(
+    space: &B,
+    seat: &mut MutatorSeat,
+    holder: u32,
+    word: u32,
+    value: u64,
+)
+    requires heap { seat.old.heap ≡ B.heap space.now }
     requires ready { IsReadyToStore seat.old }
     requires pair { HasPair seat.old holder word }
     requires holder { MayKeep seat.old holder }
@@ -82,16 +86,16 @@ pub fn write_value(space: &Space, seat: &mut MutatorSeat, holder: u32, word: u32
 {
     fields_stand_apart();
     seat.bodies_lie_apart();
-    space.words().store(seat, holder + (word + 1), value);
+    space.store(seat, holder + (word + 1), value);
 }
 
 /// Writes the key of the pair at an offset, whose value stands already.
-pub fn write_key(space: &Space, seat: &mut MutatorSeat, holder: u32, word: u32, key: u64)
-    requires heap { IsSeatOf space.now seat.old }
+pub fn write_key<B: Bodywords>(space: &B, seat: &mut MutatorSeat, holder: u32, word: u32, key: u64)
+    requires heap { seat.old.heap ≡ B.heap space.now }
     requires takes { TakesKey seat.old holder word key }
     ensures word { seat.new ≡ written seat.old holder word key }
 {
     fields_stand_apart();
     seat.bodies_lie_apart();
-    space.words().store(seat, holder + word, key);
+    space.store(seat, holder + word, key);
 }

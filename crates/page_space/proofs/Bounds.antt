@@ -1,5 +1,6 @@
 -- How large the counts of a space can be, and a space without objects.
 use Rattle.std.proofs.Common.{◌≡◌, ℕ, zero, suc, ◌+◌, ◌-◌, ◌*◌, ◌^◌, ◌<◌, ◌≤◌, true, List, [], ◌∷◌, length, get_or, replicate, refl, ap, ◌∙◌, inl, inr, arith}
+use Rattle.atomic_table.specs.Seated.{TableId}
 use Rattle.std.specs.List.{Contains, sum_by}
 use Rattle.std.proofs.lemmas.Bool.{cases_lt}
 use Rattle.std.proofs.lemmas.List.{get_or_past, get_or-replicate}
@@ -52,9 +53,9 @@ all_free : (n : ℕ) → free_words [] n ≡ n
 all_free zero = refl
 all_free (suc n) = omega (arith, all_free n)
 
-pub empty_space : (shape : Shape) (count : ℕ) (table : PageTable) (gaps : GapTable) → count ≡ word_count shape → table.objects ≡ replicate shape.pages 0
-    → KnowsGaps shape [] gaps → IsSpaceOver (record { shape = shape; objects = 0; used = 0; table = table; gaps = gaps }) count []
-empty_space shape count table gaps whole zeros knows = record {
+pub empty_space : (shape : Shape) (words : TableId) (count : ℕ) (table : PageTable) (gaps : GapTable) → count ≡ word_count shape → table.objects ≡ replicate shape.pages 0
+    → KnowsGaps shape [] gaps → IsSpaceOver (record { shape = shape; words = words; objects = 0; used = 0; table = table; gaps = gaps }) count []
+empty_space shape words count table gaps whole zeros knows = record {
   seat = whole;
   differ = tt;
   sizes = λ e there. absurd (omega (arith, there.1));

@@ -127,7 +127,7 @@ starts_push space count es e table words over some good enters page d there d_in
 
 pub joined : (space : SpaceView) (count : ℕ) (es : List Extent) (e : Extent) (table : PageTable) (gaps : GapTable) → 0 < space.shape.page_words → IsSpaceOver space count es → 2 ≤ e.size
     → IsGoodPlace space.shape es e → Enters space.shape.page_words e space.table table → KnowsGaps space.shape (es ++ e ∷ []) gaps
-    → IsSpaceOver (record { shape = space.shape; objects = space.objects + 1; used = space.used + e.size; table = table; gaps = gaps }) count (es ++ e ∷ [])
+    → IsSpaceOver (record { shape = space.shape; words = space.words; objects = space.objects + 1; used = space.used + e.size; table = table; gaps = gaps }) count (es ++ e ∷ [])
 joined space count es e table gaps words over some good enters knows =
     let w : ℕ = space.shape.page_words in
     record {

@@ -9,7 +9,8 @@ use Rattle.gc_graph.specs.Placement.{Extent, HasWord, bucket_of}
 use Rattle.page_space.specs.Pages.{is_between, is_in_page, word_count}
 use Rattle.gap_bounds.specs.Gaps.{GapTable, least_of, IsGap, HasClass, KnowsGaps}
 use Rattle.gap_bounds.specs.Changes.{GapsOpenedIn, GapsTaken, HadClasses}
-use Rattle.page_space.specs.Space.{SpaceView, IsSpaceOver}
+use Rattle.page_words.specs.Seat.{SeatView}
+use Rattle.page_space.specs.Space.{SpaceView, IsSpaceOver, IsSpaceOf, extents_of_bodies, heap_of}
 use Rattle.page_space.specs.Opening.{without_place}
 use Rattle.page_space.proofs.PageSpan.{page_of, page_inside, in_page_from, in_page_word}
 use Rattle.gap_bounds.specs.Spans.{between_parts}
@@ -42,6 +43,14 @@ pub others_stay : (space before : SpaceView) (count : ℕ) (es : List Extent) (g
     → KnowsGaps before.shape es gaps → IsSpaceOver (record space { gaps = gaps }) count es
 others_stay space before count es gaps same over knows =
     subst (λ (s : SpaceView). IsSpaceOver (record s { gaps = gaps }) count es) (sym same) (with_gaps before count es gaps over knows)
+
+-- the same of the words of a seat
+pub space_stays : (space before : SpaceView) (v : SeatView) (gaps : GapTable) → space ≡ before → IsSpaceOf before v
+    → KnowsGaps before.shape (extents_of_bodies v.bodies) gaps → IsSpaceOf (record space { gaps = gaps }) v
+space_stays space before v gaps same is knows = record {
+  words = is.words ∙ sym (ap heap_of same);
+  over = others_stay space before v.count (extents_of_bodies v.bodies) gaps same is.over knows;
+}
 
 -- ---- an object comes
 

@@ -42,7 +42,7 @@ takes_less es e apart there some one = record {
 }
 
 pub left : (space : SpaceView) (count : ℕ) (es : List Extent) (e : Extent) (table : PageTable) (gaps : GapTable) → 0 < space.shape.page_words → IsSpaceOver space count es → LieApart es → Contains es e → e.place + e.size ≤ count → Leaves space.shape.page_words e space.table table → KnowsGaps space.shape (filter (others e.place) es) gaps
-    → IsSpaceOver (record { shape = space.shape; objects = space.objects - 1; used = space.used - e.size; table = table; gaps = gaps }) count (filter (others e.place) es)
+    → IsSpaceOver (record { shape = space.shape; words = space.words; objects = space.objects - 1; used = space.used - e.size; table = table; gaps = gaps }) count (filter (others e.place) es)
 left space count es e table gaps some over apart there inside leaves knows =
     let w : ℕ = space.shape.page_words in
     let fewer : List Extent = filter (others e.place) es in

@@ -105,7 +105,7 @@ nulls_inside v b a (suc n) low high = fill_inside (nulled v a n) b (a + n) 0 (om
 pub head_occupies : (old new : SeatView) (b : Body) (a header serial : ℕ) → b.place ≡ a → 2 ≤ b.size
     → new ≡ published (filled_with (filled_with old a header) (a + 1) serial) b → Occupies old new b
 head_occupies old new b a header serial at least is = record {
-  count = ap (λ (v : SeatView). v.count) is;
+  heap = ap (λ (v : SeatView). v.heap) is;
   types = ap (λ (v : SeatView). v.types) is;
   on = ap (λ (v : SeatView). v.on) is;
   bodies = ap (λ (v : SeatView). v.bodies) is;
@@ -125,7 +125,7 @@ head_occupies old new b a header serial at least is = record {
 pub occupies_before : (old mid new : SeatView) (fs : List (ℕ × ℕ)) (b : Body) → mid ≡ record old { mutator = record old.mutator { filled = fs } }
     → filter (is_outside b) fs ≡ filter (is_outside b) old.filled → Occupies mid new b → Occupies old new b
 occupies_before old mid new fs b rest inside joins = record {
-  count = joins.count ∙ ap (λ (v : SeatView). v.count) rest;
+  heap = joins.heap ∙ ap (λ (v : SeatView). v.heap) rest;
   types = joins.types ∙ ap (λ (v : SeatView). v.types) rest;
   on = joins.on ∙ ap (λ (v : SeatView). v.on) rest;
   bodies = joins.bodies ∙ ap (λ (v : SeatView). v.bodies ++ b ∷ []) rest;

@@ -5,8 +5,8 @@ use Rattle.std.proofs.lemmas.Bool.{cases_Bool}
 use Rattle.gc_graph.specs.Placement.{Extent, HasWord}
 use Rattle.marker_core.specs.Bodies.{with_word}
 use Rattle.marker_core.specs.declared.states.Body.{Body}
-use Rattle.page_words.specs.Seat.{SeatView, IsView}
-use Rattle.page_space.specs.Space.{SpaceView, IsSpaceOver, IsSpaceOf, extent_of, extents_of_bodies}
+use Rattle.page_words.specs.Seat.{Heap, SeatView, IsView}
+use Rattle.page_space.specs.Space.{SpaceView, IsSpaceIn, IsSpaceOf, extent_of, extents_of_bodies}
 use Rattle.page_space.proofs.PlaceBodies.{body_of_extent}
 use Rattle.page_space.proofs.Extents.{others}
 use Rattle.page_space.proofs.Left.{LieApart}
@@ -42,7 +42,7 @@ stored_keeps (b ∷ bodies) a w =
     ap (λ e. e ∷ extents_of_bodies (map (with_word a w) bodies)) (word_keeps a w b) ∙ ap (λ es. extent_of b ∷ es) (stored_keeps bodies a w)
 
 -- the objects are as before, to a space
-pub lasts : (space : SpaceView) (old new : SeatView) → new.count ≡ old.count → extents_of_bodies new.bodies ≡ extents_of_bodies old.bodies
+pub lasts : (space : SpaceView) (old new : SeatView) → new.heap ≡ old.heap → extents_of_bodies new.bodies ≡ extents_of_bodies old.bodies
     → IsSpaceOf space old → IsSpaceOf space new
-lasts space old new count extents over =
-    subst (λ n. IsSpaceOver space n (extents_of_bodies new.bodies)) (sym count) (subst (IsSpaceOver space old.count) (sym extents) over)
+lasts space old new heap extents is =
+    subst (λ (h : Heap). IsSpaceIn space h (extents_of_bodies new.bodies)) (sym heap) (subst (IsSpaceIn space old.heap) (sym extents) is)

@@ -35,7 +35,7 @@ nulled v a (suc n) = filled_with (nulled v a n) (a + n) 0
 -- the body joined the others, words that were filled in it are no longer filled ones, and marks are as before; while marking goes on
 -- it may be kept
 pub record Occupies (old new : SeatView) (b : Body) : Type 0 where
-  pub count : new.count ≡ old.count
+  pub heap : new.heap ≡ old.heap
   pub types : new.types ≡ old.types
   pub on : new.on ≡ old.on
   pub bodies : new.bodies ≡ old.bodies ++ b ∷ []

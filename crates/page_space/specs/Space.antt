@@ -7,22 +7,28 @@ use Rattle.object_headers.specs.declared.header.Header.{Header}
 use Rattle.marker_core.specs.Bodies.{end_of, IsPlace, holds}
 use Rattle.marker_core.specs.declared.states.Body.{Body}
 use Rattle.marker_core.specs.SeatFacts.{IsTold}
-use Rattle.page_words.specs.Seat.{SeatView, block_words}
+use Rattle.atomic_table.specs.Seated.{TableId}
+use Rattle.page_words.specs.Seat.{Heap, SeatView, block_words}
 use Rattle.page_space.specs.Pages.{PageTable, word_count, first_page, is_in_page, free_words}
 use Rattle.gap_bounds.specs.Gaps.{GapTable, KnowsGaps}
 
--- what a space keeps beside the words: its shape, how many objects it has and how many words these, its table, and what
--- it remembers of its gaps
+-- what a space keeps beside the words: its shape, the table in which its words lie, how many objects it has and how many
+-- words these, its page table, and what it remembers of its gaps
 pub record SpaceView : Type 0 where
   pub shape : Shape
+  pub words : TableId
   pub objects : ℕ
   pub used : ℕ
   pub table : PageTable
   pub gaps : GapTable
 
--- the seat is that of words of this shape
+-- which words they are: as many as the shape has, in this table
+abbrev pub heap_of : SpaceView → Heap
+heap_of space = record { count = word_count space.shape; table = space.words }
+
+-- the seat is that of the space's words
 abbrev pub IsSeatOf : SpaceView → SeatView → Type 0
-IsSeatOf space v = v.count ≡ word_count space.shape
+IsSeatOf space v = v.heap ≡ heap_of space
 
 -- the words of a body
 abbrev pub extent_of : Body → Extent
@@ -74,9 +80,15 @@ pub record IsSpaceOver (space : SpaceView) (count : ℕ) (extents : List Extent)
       → slice_index space.table.starts page ≡ first_page space.shape.page_words e
   pub gaps : KnowsGaps space.shape extents space.gaps
 
+-- the space belongs to these words, with these objects
+pub record IsSpaceIn (space : SpaceView) (heap : Heap) (extents : List Extent) : Type 0 where
+  pub words : heap ≡ heap_of space
+  pub over : IsSpaceOver space heap.count extents
+  pub open over use *
+
 -- the space belongs to the words of the seat
 abbrev pub IsSpaceOf : SpaceView → SeatView → Type 0
-IsSpaceOf space v = IsSpaceOver space v.count (extents_of_bodies v.bodies)
+IsSpaceOf space v = IsSpaceIn space v.heap (extents_of_bodies v.bodies)
 
 -- an object of the size, which isn't large, fits at a, in a page of its bucket, from the one page up to the other
 abbrev pub FitsBetween : Shape → ℕ → ℕ → List Extent → ℕ → ℕ → Type 0
@@ -94,10 +106,6 @@ pub record IsHeaderOf (v : SeatView) (b : Body) (header : Header) : Type 0 where
   pub size : header.size ≡ b.size
   pub mark : IsTold v.lent (holds v.marked b.place) header.mark
   pub traced : IsTold v.lent (holds v.traced b.place) header.traced
-
--- a is a place, and not below from
-abbrev pub IsPlaceFrom : List Body → ℕ → ℕ → Type 0
-IsPlaceFrom bodies from a = (from ≤ a) × IsPlace bodies a
 
 -- bit i of the word tells whether an object starts at the word i of the block
 abbrev pub AreStartsOf : List Body → ℕ → ℕ → Type 0

@@ -32,6 +32,7 @@
 //! `bench` measures it.
 #![tactic(auto)]
 
+mod bodywords;
 mod changing;
 mod holding;
 mod opening;

@@ -5,9 +5,9 @@ ghost use Rattle.std.specs.Prelude.{◌≤◌, ◌↔◌, IsTrue, IfSome, IfNone
 ghost use Rattle.gc_graph.specs.Placement.{IsLowest, IsNowhere};
 ghost use Rattle.marker_core.specs.Bodies.{IsPlace};
 ghost use Rattle.marker_core.specs.declared.states.Body.{Body};
-ghost use Rattle.page_words.specs.Seat.{OnlyLooked, block_words};
+ghost use Rattle.page_words.specs.Seat.{OnlyLooked, IsPlaceFrom, block_words};
 ghost use Rattle.page_space.specs.Pages.{word_count};
-ghost use Rattle.page_space.specs.Space.{IsSeatOf, IsPlaceFrom, HasNoStart, IsHeaderOf};
+ghost use Rattle.page_space.specs.Space.{IsSeatOf, HasNoStart, IsHeaderOf};
 ghost use Rattle.page_space.specs.Space.{IsLastStart, AreStartsOf};
 ghost use Rattle.page_space.specs.Walks.{block_end};
 
@@ -17,7 +17,7 @@ use page_words::{BLOCK_WORDS, MutatorSeat, Reading};
 
 impl Space {
     /// The lowest place that is not below an address.
-    pub fn next_object(&self, seat: &mut MutatorSeat, from: u32) -> Option<u32>
+    pub(crate) fn lowest_from(&self, seat: &mut MutatorSeat, from: u32) -> Option<u32>
         requires heap { IsSeatOf self.now seat.old }
         ensures found { IfSome result (IsLowest (IsPlaceFrom seat.old.bodies from)) }
         ensures none { IfNone result (IsNowhere (IsPlaceFrom seat.old.bodies from)) }

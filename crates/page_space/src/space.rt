@@ -6,7 +6,8 @@ ghost use Rattle.gc_graph.specs.Placement.{PageHasBucket, IsEmptyPage, IsUsedPag
 ghost use Rattle.gc_graph.specs.Shapes.{IsShape};
 ghost use Rattle.page_words.specs.Seat.{SeatView, empty_view, stored};
 ghost use Rattle.page_space.specs.Pages.{word_count};
-ghost use Rattle.page_space.specs.Space.{IsSpaceOf, extents_of_bodies};
+ghost use Rattle.std.specs.Arc.{arc_value};
+ghost use Rattle.page_space.specs.Space.{IsSpaceOf, extents_of_bodies, heap_of};
 
 use crate::table::Table;
 use gap_bounds::{GROUP_WORDS, Gaps};
@@ -14,6 +15,7 @@ use gc_graph::NoMemory;
 use page_words::{MutatorSeat, Words};
 use std::alloc::Global;
 use std::marker::Model;
+use std::sync::Arc;
 use type_table::TypeTable;
 
 /// The bucket of large objects.
@@ -23,7 +25,7 @@ pub(crate) const LARGE: u32 = 4;
 /// are in words. See "Heap partitioning" in `include/cppgc/README.md`.
 #[derive(Drop)]
 pub struct Space {
-    pub(crate) words: Words,
+    pub(crate) words: Arc<Words>,
     pub(crate) pages: u32,
     pub(crate) page_words: u32,
     pub(crate) objects: u32,
@@ -33,6 +35,7 @@ pub struct Space {
 }
 
 impl Model for Space {
+    ghost use Rattle.std.specs.Arc.{arc_value};
     ghost use Rattle.page_space.specs.Space.{SpaceView};
 
     ghost Value = { SpaceView };
@@ -41,6 +44,7 @@ impl Model for Space {
 
     ghost view = { λ s. record {
       shape = shape_of s;
+      words = (arc_value s.words).table;
       objects = s.objects;
       used = s.used;
       table = s.table;
@@ -63,9 +67,10 @@ impl Space {
         ensures space { IfOk result (λ made. IsSpaceOf made.0 made.1) }
         ensures shape { IfOk result (λ made.
             made.0.shape ≡ record { pages = pages; page_words = page_words }) }
-        ensures view { IfOk result (λ made. made.1 ≡ empty_view (pages * page_words) types.now) }
+        ensures view { IfOk result (λ made. made.1 ≡ empty_view (heap_of made.0) types.now) }
     {
         let (words, seat) = Words::new(alloc, pages * page_words, types)?;
+        let words = Arc::new(alloc, words)?;
         let table = Table::new(alloc, pages)?;
         let gaps = Gaps::new(alloc, pages, pages * page_words / GROUP_WORDS)?;
         let space = Space {
@@ -90,7 +95,7 @@ impl Space {
     /// A space belongs to the words of the seat as long as the objects' places and sizes stay, as
     /// they do under a store. Whoever calls this has the law.
     pub fn lasts_while_objects_stay(&self)
-        ensures objects { (old new : SeatView) → new.count ≡ old.count
+        ensures objects { (old new : SeatView) → new.heap ≡ old.heap
             → extents_of_bodies new.bodies ≡ extents_of_bodies old.bodies
             → IsSpaceOf self.now old → IsSpaceOf self.now new }
         ensures store { (v : SeatView) (a w : ℕ) → IsSpaceOf self.now v
@@ -100,8 +105,8 @@ impl Space {
     }
 
     /// The words of the heap.
-    pub fn words(&self) -> &Words
-        ensures { result.now ≡ word_count self.now.shape }
+    pub fn words(&self) -> &Arc<Words>
+        ensures { arc_value result.now ≡ heap_of self.now }
     {
         &self.words
     }

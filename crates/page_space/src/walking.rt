@@ -7,7 +7,8 @@ ghost use Rattle.page_words.specs.Seat.{OnlyLooked, block_words};
 ghost use Rattle.gap_bounds.specs.Changes.{HasGroups};
 ghost use Rattle.page_space.specs.Pages.{word_count};
 ghost use Rattle.page_space.specs.Space.{IsSeatOf, HoldsWhole, extents_of_bodies};
-ghost use Rattle.page_space.specs.Space.{IsPlaceFrom, HasNoStart};
+ghost use Rattle.page_words.specs.Seat.{IsPlaceFrom};
+ghost use Rattle.page_space.specs.Space.{HasNoStart};
 ghost use Rattle.page_space.specs.Walks.{IsEdge, BeginsBetween};
 
 use crate::space::Space;

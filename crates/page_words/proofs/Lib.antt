@@ -1,9 +1,9 @@
 pub mod Elements
 pub mod Allowed
 pub mod Bits
+pub mod Owning
 pub mod Steps
 pub mod ViewFacts
 pub mod StopWord
 pub mod NewWords
-pub mod Found
 pub mod Marks

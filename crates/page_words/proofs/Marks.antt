@@ -10,17 +10,9 @@ use Rattle.marker_core.specs.SeatSteps.{is_grey}
 use Rattle.page_words.specs.Seat.{SeatView, IsWordAt, side, is_grey_at}
 use Rattle.page_words.proofs.Bits.{mark_stands, grey_is_found}
 
--- where the mark is found, the word is the one with it
-pub marked_stays : (w : ℕ) (found : Bool) → found ≡ has_mark w → found ≡ true → w ≡ word_with_mark true w
-marked_stays w found is there = eqb-true w (word_with_mark true w) (mark_stands w ∙ sym is ∙ there)
-
 module _ (v : SeatView) (a w : ℕ) (is : IsWordAt v a w) (at : IsPlace v.bodies a) where
   told : IsHeaderAt (side v) a w
   told = is.header at.0 at.1 at.2
-
-  -- where no view is lent, the word has the mark just where the object is marked
-  pub mark_is_fresh : (found : Bool) → found ≡ has_mark w → v.lent ≡ 0 → not found ≡ not (holds v.marked a)
-  mark_is_fresh found is alone = ap not (is ∙ told.mark.alone alone)
 
   -- the grey header is found just where the one that is there is grey
   pub finds_grey : (header : ℕ) → ((b : Body) → Contains v.bodies b → b.place ≡ a → header ≡ header_word true true false b.ty b.size)

@@ -16,7 +16,9 @@ use Rattle.marker_core.specs.SeatSteps.{seat_can_store, store_fits}
 use Rattle.marker_core.specs.Matching.{IsWhole, LieApart}
 use Rattle.marker_core.specs.SeatFacts.{IsViewOk, ViewsAreOk, WordsMayBeFound, MayBeFound, IsHeaderAt}
 use Rattle.page_words.proofs.Elements.{members_are}
-use Rattle.page_words.specs.Heaps.{IsHeap}
+use Rattle.atomic_table.specs.Seated.{TableId}
+use Rattle.page_words.specs.BodyPlaces.{place_below, within_heap}
+use Rattle.page_words.specs.Rule.{View, side_of, IsSure, seat_view}
 use Rattle.page_words.specs.PlaceTests.{place_of_test, test_of_place, outside_of_test}
 use Rattle.page_words.specs.Roles.{kind_lists}
 use Rattle.page_words.specs.Seat.{SeatView, IsView, IsWordAt, side, header_of, with_mutator, loaded}
@@ -42,24 +44,24 @@ shared bodies apart b c a hb hc from until from_too until_too =
       ]
     ]
 
-pub view_is : ViewsAreOk → (words : List ℕ) (v : SeatView) → IsHeap words v → IsView v
-view_is law words v heap =
-    let ok : IsViewOk (side v) = law (side v) words [] heap.ok in
+pub view_is : ViewsAreOk → (table : TableId) (v : View) → IsSure v → IsView (seat_view table v)
+view_is law table v sure =
+    let ok : IsViewOk (side_of v) = law (side_of v) sure.words sure.markers sure.ok in
     record {
-      count = heap.count.most;
+      count = sure.count.most;
       few = omega (arith, ok.are_types.few, length-map v.types (λ (type : ObjectType). type.kinds));
-      whole = members_are (IsWhole v.count (kind_lists v.types)) v.bodies ok.bodies_are_whole;
+      whole = members_are (IsWhole v.count (kind_lists v.types)) v.mutator.bodies ok.bodies_are_whole;
       serials = ok.serials_differ;
-      apart = shared v.bodies ok.bodies_lie_apart;
-      filled_outside = λ f h. ((ok.filled_outside f h).0, outside_of_test v.bodies f.0 (ok.filled_outside f h).1);
+      apart = shared v.mutator.bodies ok.bodies_lie_apart;
+      filled_outside = λ f h. ((ok.filled_outside f h).0, outside_of_test v.mutator.bodies f.0 (ok.filled_outside f h).1);
       references = ok.references_name_bodies;
-      marked_are_bodies = λ a h. place_of_test v.bodies a (ok.marked_are_bodies a h);
-      traced_are_bodies = λ a h. place_of_test v.bodies a (ok.traced_are_bodies a h);
+      marked_are_bodies = λ a h. place_of_test v.mutator.bodies a (ok.marked_are_bodies a h);
+      traced_are_bodies = λ a h. place_of_test v.mutator.bodies a (ok.traced_are_bodies a h);
       traced_are_marked = ok.traced_are_marked;
-      dead_are_unmarked = λ a h. (place_of_test v.bodies a (ok.dead_are_unmarked a h).0, (ok.dead_are_unmarked a h).1);
+      dead_are_unmarked = λ a h. (place_of_test v.mutator.bodies a (ok.dead_are_unmarked a h).0, (ok.dead_are_unmarked a h).1);
       marking = ok.marking;
       at_rest = ok.at_rest;
-      none_noted = heap.none_noted;
+      none_noted = sure.none_noted;
     }
 
 -- where no view is lent the bits are those that the view tells
@@ -69,41 +71,32 @@ told_alone v a w told alone b there at =
     ∙ ap (λ t. header_word true (holds v.marked a) t b.ty b.size) (told.traced.alone alone)
     ∙ ap (λ p. header_word true (holds v.marked p) (holds v.traced p) b.ty b.size) (sym at)
 
-pub word_is : WordsMayBeFound → (words : List ℕ) (v : SeatView) (a w : ℕ) → IsHeap words v → w ≡ get_or words a 0 → IsWordAt v a w
-word_is law words v a w heap read =
-    let found : MayBeFound (side v) a w = subst (MayBeFound (side v) a) (sym read) (law (side v) words [] a heap.ok) in
-    record {
-      header = λ b there at. found.header (test_of_place v.bodies a (b, there, at));
-      alone = λ alone b there at. told_alone v a w (found.header (test_of_place v.bodies a (b, there, at))) alone b there at;
-      serial = found.serial;
-      field = found.field;
-      filled = found.filled;
-      start = λ p below at. (
-        λ set. place_of_test v.bodies p (sym (found.start p below at) ∙ eq-eqb (w / 2 ^ (p % 64) % 2) 1 set),
-        λ place. eqb-true (w / 2 ^ (p % 64) % 2) 1 (found.start p below at ∙ test_of_place v.bodies p place),
-      );
-    }
+pub word_is : (v : SeatView) (a w : ℕ) → MayBeFound (side v) a w → IsWordAt v a w
+word_is v a w found = record {
+  header = λ b there at. found.header (test_of_place v.bodies a (b, there, at));
+  alone = λ alone b there at. told_alone v a w (found.header (test_of_place v.bodies a (b, there, at))) alone b there at;
+  serial = found.serial;
+  field = found.field;
+  filled = found.filled;
+  start = λ p below at. (
+    λ set. place_of_test v.bodies p (sym (found.start p below at) ∙ eq-eqb (w / 2 ^ (p % 64) % 2) 1 set),
+    λ place. eqb-true (w / 2 ^ (p % 64) % 2) 1 (found.start p below at ∙ test_of_place v.bodies p place),
+  );
+}
 
--- each address up to the stop word is one of the words
-pub within : (words : List ℕ) (v : SeatView) (a : ℕ) → IsHeap words v → a ≤ stop_at v.count → a < length words
-within words v a heap below = omega (arith, heap.ok.has_room.length_is)
-
--- a place lies below the stop word
-pub place_within : (words : List ℕ) (v : SeatView) (a : ℕ) → IsHeap words v → IsPlace v.bodies a → a < length words
-place_within words v a heap at =
-    let whole = heap.ok.bodies_are_whole at.0 at.1 in
-    within words v a heap (omega (arith, whole.fields, whole.inside, at.2))
+-- each word of an object lies below the stop word
+pub place_within : (v : SeatView) (a : ℕ) → IsView v → IsPlace v.bodies a → a ≤ stop_at v.count
+place_within v a is at = omega (arith, place_below v a is at)
 
 -- and so does a word that may be stored
-pub store_within : (words : List ℕ) (v : SeatView) (a w : ℕ) → IsHeap words v → seat_can_store (side v) a w ≡ true → a < length words
-store_within words v a w heap can =
+pub store_within : (v : SeatView) (a w : ℕ) → IsView v → seat_can_store (side v) a w ≡ true → a ≤ stop_at v.count
+store_within v a w is can =
     let some = (and_parts (is_none v.pending && is_none v.hand) (list_any (store_fits (side v) a w) v.bodies) can).1 in
     let found = any_member (store_fits (side v) a w) v.bodies some in
     let b : Body = found.0 in
-    let whole = heap.ok.bodies_are_whole b found.1 in
     let field : has_field a b ≡ true = (and_parts _ _ (and_parts _ _ (and_parts _ _ found.2).0).0).0 in
     let below = ltb-true a (end_of b) (and_parts (leb (b.place + 2) a) (ltb a (end_of b)) field).1 in
-    within words v a heap (omega (arith, whole.inside))
+    omega (arith, below, within_heap v is b found.1)
 
 -- what is loaded to read and is no header leaves the view as it was
 pub read_beside : (v : SeatView) (a found : ℕ) → (IsPlace v.bodies a → ⊥) → loaded v a Read found ≡ v

@@ -2,6 +2,7 @@ pub mod Bodies
 pub mod Roles
 pub mod Seat
 pub mod Heaps
+pub mod Rule
 -- Lemmas that the crates above cite too, since a crate's proofs/ can't be cited from another.
 pub mod BodyPlaces
 pub mod PlaceTests

@@ -1,5 +1,6 @@
 -- What the mutator's seat knows of the words, and how each call changes that.
 use Rattle.std.specs.Prelude.{◌≡◌, ℕ, ◌+◌, ◌/◌, ◌%◌, ◌^◌, ◌<◌, ◌≤◌, ◌↔◌, ◌&&◌, not, Bool, true, false, List, [], length, map, slice_index, None, Contains, All}
+use Rattle.atomic_table.specs.Seated.{TableId}
 use Rattle.gc_graph.specs.State.{ObjectType}
 use Rattle.object_headers.specs.Layout.{header_word}
 use Rattle.object_headers.specs.Offsets.{serial_offset, reference_to}
@@ -19,10 +20,16 @@ use Rattle.marker_core.specs.SeatFacts.{IsHeaderAt, IsMarking, IsAtRest}
 use Rattle.page_words.specs.Bodies.{is_reference_word}
 use Rattle.page_words.specs.Roles.{kind_lists}
 
--- a seat's view: the number of the heap's words, the types of its objects, and the mutator's view of the words, whose parts are
--- told of the seat's view too
-pub record SeatView : Type 0 where
+-- which words they are: how many the heap has, and the table in which they lie, which is no other heap's
+pub record Heap : Type 0 where
   pub count : ℕ
+  pub table : TableId
+
+-- a seat's view: which words it is for, the types of the heap's objects, and the mutator's view of the words; the parts of
+-- the first and the last are told of the seat's view too
+pub record SeatView : Type 0 where
+  pub heap : Heap
+  pub open heap use *
   pub types : List ObjectType
   pub mutator : MutatorView
   pub open mutator use *
@@ -38,6 +45,10 @@ with_bodies v bodies = record v { mutator = record v.mutator { bodies = bodies }
 -- so many words have their start bits in one word
 abbrev pub block_words : ℕ
 block_words = 64
+
+-- a is a place, and not below from
+abbrev pub IsPlaceFrom : List Body → ℕ → ℕ → Type 0
+IsPlaceFrom bodies from a = (from ≤ a) × IsPlace bodies a
 
 -- the header word of a published body
 abbrev pub header_of : SeatView → Body → ℕ
@@ -159,9 +170,8 @@ MaySetStop v true = v.on ≡ true → v.lent ≡ 0 → IsMarkedOut v
 MaySetStop v false = IsQuiet v × PairsAreWhole v
 
 -- the view of new words: nothing is published, filled or marked, and no marking goes on
-abbrev pub empty_view : ℕ → List ObjectType → SeatView
-empty_view count types =
-    record { count = count; types = types; mutator = idle_view }
+abbrev pub empty_view : Heap → List ObjectType → SeatView
+empty_view heap types = record { heap = heap; types = types; mutator = idle_view }
 
 -- what is true of every seat's view
 pub record IsView (v : SeatView) : Type 0 where

@@ -13,48 +13,41 @@ ghost use Rattle.page_words.specs.Seat.{IsWordAt, marked_at, is_grey_at, claimed
 ghost use Rattle.page_words.specs.Seat.{MaySetStop, ended, stop_set};
 
 use crate::mutator::MutatorSeat;
-use crate::views::{About, AboutStop};
 use crate::words::{BLOCK_WORDS, Words};
-use ghost_values::GhostValue;
 use marker_core::{
-    begins_are_steps, claims_are_steps, every_step_keeps, marks_are_steps, reach_over_is_least,
-    stops_are_steps, unmarks_are_steps, words_may_be_found,
+    begins_are_steps, claims_are_steps, marks_are_steps, reach_over_is_least, stops_are_steps,
+    unmarks_are_steps,
 };
 use object_headers::{with_mark, with_traced};
+use std::marker::Brand;
+
+/// The bit of a header's mark, and that of its traced bit.
+const MARK: u64 = 2;
+
+const TRACED: u64 = 4;
 
 impl Words {
     /// Marks an object while marking goes on. True where this call set the mark. Where the object
     /// was in hand to be marked, the hand moves on.
     pub fn mark(&self, seat: &mut MutatorSeat, a: u32) -> bool
-        requires heap { seat.old.count ≡ self.now }
+        requires heap { seat.old.heap ≡ self.now }
         requires on { seat.old.on ≡ true }
         requires place { IsPlace seat.old.bodies a }
         requires may { holds seat.old.may a ≡ true }
         ensures fresh { seat.old.lent ≡ 0 → result ≡ not (holds seat.old.marked a) }
         ensures view { seat.new ≡ marked_at seat.old a (not result) }
     {
-        words_may_be_found();
         marks_are_steps();
-        every_step_keeps();
-        let w = seat.words[a as usize];
-        seat.view = GhostValue::chosen(&About {
-            view: &seat.view,
-            a,
-            w,
-        });
-        let marked = has_mark(w);
-        // Nothing is written to a marked object.
-        if !marked {
-            seat.words[a as usize] = with_mark(w, true);
-        }
-        !marked
+        seat.bodies_lie_apart();
+        let found = self.set_bits_at::<Brand>(seat, a, MARK);
+        !has_mark(found)
     }
 
     /// Claims a marked object for tracing. `header` is its header word with the mark and without
     /// the traced bit. True where the object was marked and not yet traced; this call has then set
     /// the traced bit, and the object is in hand.
     pub fn claim(&self, seat: &mut MutatorSeat, a: u32, header: u64) -> bool
-        requires heap { seat.old.count ≡ self.now }
+        requires heap { seat.old.heap ≡ self.now }
         requires on { seat.old.on ≡ true }
         requires hand { seat.old.hand ≡ None }
         requires place { IsPlace seat.old.bodies a }
@@ -64,47 +57,31 @@ impl Words {
         ensures view { (found : ℕ) × IsWordAt seat.old a found × (result ≡ is_grey found)
             × (seat.new ≡ claimed_at seat.old a found) }
     {
-        words_may_be_found();
         claims_are_steps();
-        every_step_keeps();
-        // The whole word is compared, and nothing may come between test and write: of two that
-        // claim an object one alone finds the word without the traced bit, and traces it.
-        let w = seat.words[a as usize];
-        seat.view = GhostValue::chosen(&About {
-            view: &seat.view,
-            a,
-            w,
-        });
-        let found = w == header;
-        if found {
-            seat.words[a as usize] = with_traced(header, true);
-        }
-        found
+        seat.bodies_lie_apart();
+        // The whole word is compared, and nothing comes between test and write: of two that claim an
+        // object one alone finds the word without the traced bit, and traces it.
+        let traced = with_traced(header, true);
+        self.exchange_at::<Brand>(seat, a, header, traced) == header
     }
 
     /// Clears the mark and the traced bit of an object, while no marking goes on.
     pub fn unmark(&self, seat: &mut MutatorSeat, a: u32)
-        requires heap { seat.old.count ≡ self.now }
+        requires heap { seat.old.heap ≡ self.now }
         requires off { seat.old.on ≡ false }
         requires place { IsPlace seat.old.bodies a }
         ensures { seat.new ≡ unmarked_at seat.old a }
     {
         unmarks_are_steps();
-        every_step_keeps();
-        let header = seat.words[a as usize];
-        seat.words[a as usize] = with_traced(with_mark(header, false), false);
-        seat.view = GhostValue::chosen(&About {
-            view: &seat.view,
-            a,
-            w: 0,
-        });
+        seat.bodies_lie_apart();
+        self.keep_bits_at::<Brand>(seat, a, !(MARK + TRACED));
     }
 
     /// Sets the stop word: `false` begins marking on a quiet heap, and what the roots reach may be
     /// kept; `true` ends it where no view is lent, and what is not marked is then dead.
     pub fn set_stop(&self, seat: &mut MutatorSeat, on: bool)
         ghost roots: { List ℕ }
-        requires heap { seat.old.count ≡ self.now }
+        requires heap { seat.old.heap ≡ self.now }
         requires allowed { MaySetStop seat.old on }
         ensures view { seat.new ≡ stop_set seat.old roots on }
         ensures ended { on ≡ true → seat.old.on ≡ true → seat.old.lent ≡ 0
@@ -115,14 +92,10 @@ impl Words {
         reach_over_is_least();
         begins_are_steps();
         stops_are_steps();
-        every_step_keeps();
+        let _seat = &seat.seat;
         seat.bodies_lie_apart();
-        let at = (self.count + self.count / BLOCK_WORDS) as usize;
-        seat.words[at] = u64::from(on);
-        seat.view = GhostValue::chosen(&AboutStop {
-            view: &seat.view,
-            on,
-        });
+        let at = self.count + self.count / BLOCK_WORDS;
+        self.store_at::<Brand>(seat, at, u64::from(on));
     }
 }
 

@@ -1,9 +1,9 @@
-// The mutator's seat: the words, and the view of them that contracts see.
+// The mutator's seat of the words, with the view of them that contracts see.
 
 ghost use Rattle.page_words.specs.Seat.{IsView};
 
-use crate::views::SeatViews;
-use ghost_values::GhostValue;
+use crate::views::Views;
+use atomic_table::Seat;
 use marker_core::views_are_ok;
 use std::marker::Model;
 
@@ -25,8 +25,7 @@ use std::marker::Model;
 /// each object without a mark is dead from then on.
 #[derive(Drop)]
 pub struct MutatorSeat {
-    pub(crate) words: Vec<u64>,
-    pub(crate) view: GhostValue<SeatViews>,
+    pub(crate) seat: Seat<(), Views>,
 }
 
 impl Model for MutatorSeat {
@@ -34,11 +33,11 @@ impl Model for MutatorSeat {
 
     ghost Value = { SeatView };
 
-    ghost use Rattle.page_words.specs.Heaps.{IsHeap};
+    ghost use Rattle.page_words.specs.Rule.{IsOwner, seat_view};
 
-    ghost view = { λ s. s.view.value };
+    ghost view = { λ s. seat_view s.seat.table_id s.seat.me.0 };
 
-    ghost invariant = { λ s. IsHeap s.words.items s.view.value };
+    ghost invariant = { λ s. IsOwner s.seat.me };
 }
 
 impl MutatorSeat {
@@ -49,6 +48,6 @@ impl MutatorSeat {
         ensures { IsView self.now }
     {
         views_are_ok();
-        let _words = &self.words;
+        let _seat = &self.seat;
     }
 }

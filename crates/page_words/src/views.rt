@@ -1,37 +1,36 @@
-// What the view of a seat is, and what a change of it looks at. All of it is for contracts alone.
+// What a seat of the words' table knows, the rule of that table, and what its steps tell. All of it is
+// for contracts alone.
 
+ghost use Rattle.std.specs.Prelude.{ℕ};
+ghost use Rattle.marker_core.specs.declared.states.MutatorView.{MutatorView};
+ghost use Rattle.marker_core.specs.Idle.{idle_view};
+
+use atomic_table::{Play, TableRule};
 use ghost_values::GhostValue;
-use std::marker::Model;
+use std::marker::{Brand, Model, PhantomData};
 use type_table::TypeTable;
 
-/// A view. It is never made.
+/// What a seat knows. It is never made.
 #[derive(Drop)]
-pub struct SeatViews {
+pub struct Views {
     none: u8,
 }
 
-impl Model for SeatViews {
-    ghost use Rattle.std.specs.Prelude.{[]};
-    ghost use Rattle.page_words.specs.Seat.{SeatView, empty_view};
+impl Model for Views {
+    ghost use Rattle.std.specs.Prelude.{[], true};
+    ghost use Rattle.marker_core.specs.Idle.{idle_view};
+    ghost use Rattle.marker_core.specs.Views.{spent_view};
+    ghost use Rattle.page_words.specs.Rule.{View};
 
-    ghost Value = { SeatView };
+    ghost Value = { View };
 
-    ghost view = { λ s. empty_view s.none [] };
-}
-
-/// What a change looks at: the view, an address, and the word that is written or was found.
-#[derive(Drop)]
-pub(crate) struct About<'a> {
-    pub(crate) view: &'a GhostValue<SeatViews>,
-    pub(crate) a: u32,
-    pub(crate) w: u64,
-}
-
-/// What setting the stop word looks at.
-#[derive(Drop)]
-pub(crate) struct AboutStop<'a> {
-    pub(crate) view: &'a GhostValue<SeatViews>,
-    pub(crate) on: bool,
+    ghost view = { λ s. record {
+      owner = true;
+      count = s.none;
+      types = [];
+      mutator = idle_view;
+      marker = spent_view;
+    } };
 }
 
 /// What the first view looks at.
@@ -39,4 +38,46 @@ pub(crate) struct AboutStop<'a> {
 pub(crate) struct AboutNew<'a> {
     pub(crate) count: u32,
     pub(crate) types: &'a TypeTable,
+}
+
+/// The rule: words and views are a state of the step machine. The table is told the first view.
+pub(crate) struct CoreRule;
+
+impl TableRule<(), Views, GhostValue<Views>> for CoreRule {
+    ghost use Rattle.page_words.specs.Rule.{IsCore, owner_view};
+
+    ghost holds = { λ _. IsCore };
+
+    ghost first = { λ key. owner_view key.value };
+}
+
+/// The mutator's view after a step, for the word that was found or, at a store, written.
+pub(crate) trait Next {
+    ghost next: { ℕ → MutatorView };
+}
+
+impl Next for Brand {
+    ghost next = { λ _. idle_view };
+}
+
+/// A step that finds a word.
+pub(crate) struct Finding<N> {
+    next: PhantomData<N>,
+}
+
+impl<N: Next> Play<(), Views> for Finding<N> {
+    ghost use Rattle.page_words.specs.Rule.{Finds};
+
+    ghost then = { λ step before found after. Finds before.0 step.word N.next found after };
+}
+
+/// A step that only writes.
+pub(crate) struct Writing<N> {
+    next: PhantomData<N>,
+}
+
+impl<N: Next> Play<(), Views> for Writing<N> {
+    ghost use Rattle.page_words.specs.Rule.{Turns};
+
+    ghost then = { λ _ before found after. Turns before.0 (N.next found) after };
 }

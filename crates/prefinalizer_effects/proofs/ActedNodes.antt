@@ -145,7 +145,7 @@ added_keeps types field amount b = go (ltb field (words.field_count types b)) (w
 
 -- bodies that stay where they are, with their sizes, in a view that is otherwise as it was
 pub record StayPut (old new : SeatView) : Type 0 where
-  pub count : new.count ≡ old.count
+  pub heap : new.heap ≡ old.heap
   pub types : new.types ≡ old.types
   pub on : new.on ≡ old.on
   pub extents : extents_of_bodies new.bodies ≡ extents_of_bodies old.bodies
@@ -154,7 +154,7 @@ pub record StayPut (old new : SeatView) : Type 0 where
 -- headers were looked at
 pub put_looked : (v w x : SeatView) → OnlyLooked w x → StayPut v w → StayPut v x
 put_looked v w x same put = record {
-  count = ap (λ (z : SeatView). z.count) same ∙ put.count;
+  heap = ap (λ (z : SeatView). z.heap) same ∙ put.heap;
   types = ap (λ (z : SeatView). z.types) same ∙ put.types;
   on = ap (λ (z : SeatView). z.on) same ∙ put.on;
   extents = ap (λ (z : SeatView). extents_of_bodies z.bodies) same ∙ put.extents;
@@ -162,9 +162,9 @@ put_looked v w x same put = record {
 }
 
 linked_put : (v : SeatView) (target : Option ℕ) (change : Body → Body) → KeepsExtents change → StayPut v (words.change_linked v target change)
-linked_put v None change keeps = record { count = refl; types = refl; on = refl; extents = refl; judged = λ is. is }
+linked_put v None change keeps = record { heap = refl; types = refl; on = refl; extents = refl; judged = λ is. is }
 linked_put v (Some place) change keeps = record {
-  count = refl;
+  heap = refl;
   types = refl;
   on = refl;
   extents = same_extents (λ b. cond (eqb b.place place) (change b) b) (at_place place change keeps) v.bodies;
@@ -172,6 +172,6 @@ linked_put v (Some place) change keeps = record {
 }
 
 pub acted_put : (v : SeatView) (dying : Body) (action : Action) → StayPut v (words.acted v dying action)
-acted_put v dying A.Nothing = record { count = refl; types = refl; on = refl; extents = refl; judged = λ is. is }
+acted_put v dying A.Nothing = record { heap = refl; types = refl; on = refl; extents = refl; judged = λ is. is }
 acted_put v dying (A.Clear link field) = linked_put v (words.linked v.types dying link) (words.cleared_at v.types field) (cleared_keeps v.types field)
 acted_put v dying (A.Add link field amount) = linked_put v (words.linked v.types dying link) (words.added_at v.types field amount) (added_keeps v.types field amount)

@@ -1,8 +1,8 @@
 use Rattle.std.proofs.Common.{◌≡◌, ◌<◌, ℕ, List, length, get_or, inl, inr, refl, sym, ap, ◌∙◌, subst, arith}
 use Rattle.gc_graph.specs.Members.{Contains-take_more_cases, Contains-take_more_old, Contains-take_more_new}
 use Rattle.marker_core.specs.declared.states.Body.{Body}
-use Rattle.page_words.specs.Seat.{SeatView}
-use Rattle.page_space.specs.Space.{HoldsAddress, IsSpaceOver, extents_of_bodies}
+use Rattle.page_words.specs.Seat.{Heap, SeatView}
+use Rattle.page_space.specs.Space.{HoldsAddress, IsSpaceIn, extents_of_bodies}
 use Rattle.atomic_pause.proofs.MayMarks.{scans_then, scans_none}
 use Rattle.atomic_pause.proofs.roots.scan_words.Goals as goal
 
@@ -11,8 +11,8 @@ bodies c = ap (λ (v : SeatView). v.bodies) c.loop-i.invariant.marks.view
 
 pub scan_word-requires-clause-space : goal.scan_word-requires-clause-space
 scan_word-requires-clause-space c =
-    subst (λ (n : ℕ). IsSpaceOver c.args.space.now n (extents_of_bodies c.loop-i.seat.bodies)) (sym (ap (λ (v : SeatView). v.count) c.loop-i.invariant.marks.view))
-    (subst (λ (bs : List Body). IsSpaceOver c.args.space.now c.args.seat.now.count (extents_of_bodies bs)) (sym (ap (λ (v : SeatView). v.bodies) c.loop-i.invariant.marks.view)) c.requires.space)
+    subst (λ (h : Heap). IsSpaceIn c.args.space.now h (extents_of_bodies c.loop-i.seat.bodies)) (sym (ap (λ (v : SeatView). v.heap) c.loop-i.invariant.marks.view))
+    (subst (λ (bs : List Body). IsSpaceIn c.args.space.now c.args.seat.now.heap (extents_of_bodies bs)) (sym (ap (λ (v : SeatView). v.bodies) c.loop-i.invariant.marks.view)) c.requires.space)
 
 pub scan_word-requires-clause-on : goal.scan_word-requires-clause-on
 scan_word-requires-clause-on c = ap (λ (v : SeatView). v.on) c.loop-i.invariant.marks.view ∙ c.requires.on

@@ -9,7 +9,7 @@ use Rattle.mark_worklist.specs.Told.{told_then}
 use Rattle.ephemerons.proofs.closing.fixpoint.Goals as goal
 
 pub settle_all-requires-clause-ground : goal.settle_all-requires-clause-ground
-settle_all-requires-clause-ground c =
+settle_all-requires-clause-ground g c =
     subst (λ (gs : List NotesState). IsGround c.args.types.now (stage c.args.seat.now c.args.marking.now gs 0)) (sym c.begin_indexes.ensures) (record {
       on = c.requires.on;
       told = c.requires.marking ∙ c.requires.on;
@@ -25,17 +25,17 @@ settle_all-requires-clause-ground c =
     })
 
 pub returns-then-walk-clause-within : goal.returns-then-walk-clause-within
-returns-then-walk-clause-within c =
+returns-then-walk-clause-within g c =
     GrowsWithin-then c.args.types.now c.args.seat.now c.settle_all.new.seat c.walk_heap.new.seat c.settle_all.ensures.works.kept.bodies
     c.settle_all.ensures.works.within c.walk_heap.ensures.works.within
 
 pub returns-then-walk-clause-told : goal.returns-then-walk-clause-told
-returns-then-walk-clause-told c =
+returns-then-walk-clause-told g c =
     told_then (refusals_of c.args.marking.now) (refusals_of c.settle_all.new.marking) (refusals_of c.walk_heap.new.marking)
     c.settle_all.ensures.works.told c.walk_heap.ensures.works.told
 
 pub returns-then-walk-clause-notes_told : goal.returns-then-walk-clause-notes_told
-returns-then-walk-clause-notes_told c i =
+returns-then-walk-clause-notes_told g c i =
     subst (λ (gs : List NotesState). TellsRefused (refusals_in (group_at gs i)) (refusals_in (group_at c.walk_heap.new.groups i))) c.begin_indexes.ensures
     (told_then (refusals_in (group_at c.begin_indexes.new.groups i)) (refusals_in (group_at c.settle_all.new.groups i))
     (refusals_in (group_at c.walk_heap.new.groups i)) (c.settle_all.ensures.works.notes_told i) (c.walk_heap.ensures.works.notes_told i))

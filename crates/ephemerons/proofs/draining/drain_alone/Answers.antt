@@ -5,17 +5,17 @@ use Rattle.ephemerons.proofs.Stages.{ground_popped, Works-popped, Works-then}
 use Rattle.ephemerons.proofs.draining.drain_alone.Goals as goal
 
 pub trace_grey-requires-clause-ground : goal.trace_grey-requires-clause-ground
-trace_grey-requires-clause-ground c =
+trace_grey-requires-clause-ground g c =
     (ground_popped c.args.types.now (stage c.loop-place.seat c.loop-place.marking c.loop-place.groups c.loop-place.traced) c.pop.new.self.items
     c.in-Some.place (refusals_of (record c.loop-place.marking { list = c.pop.new.self })) c.in-Some.ensures.items c.loop-place.invariant.ground).0
 
 pub trace_grey-requires-clause-place : goal.trace_grey-requires-clause-place
-trace_grey-requires-clause-place c =
+trace_grey-requires-clause-place g c =
     (ground_popped c.args.types.now (stage c.loop-place.seat c.loop-place.marking c.loop-place.groups c.loop-place.traced) c.pop.new.self.items
     c.in-Some.place (refusals_of (record c.loop-place.marking { list = c.pop.new.self })) c.in-Some.ensures.items c.loop-place.invariant.ground).1
 
 pub loop-place-preserved : goal.loop-place-preserved
-loop-place-preserved c = record {
+loop-place-preserved g c = record {
   ground = c.trace_grey.ensures.ground;
   works =
       Works-then c.args.types.now None _ _ _ c.loop-place.invariant.works

@@ -2,34 +2,34 @@ use Rattle.std.proofs.Common.{◌<◌, Option, None, ℕ, sym, subst, arith}
 use Rattle.ephemerons.specs.Fixpoint.{IsGround, Works, stage, weight, with_held}
 use Rattle.ephemerons.proofs.Stages.{Works-same, Works-then}
 use Rattle.ephemerons.proofs.Holding.{still_ground, still_works, still_weighs, held_works, held_ground, held_place, held_heavier}
+use Rattle.ephemerons.proofs.draining.drain_pairless.Given as given
 use Rattle.ephemerons.proofs.draining.drain_pairless.Goals as goal
-use Rattle.ephemerons.proofs.draining.drain_pairless.Goals.{After-next_listed-next-in-Some}
 
 pub loop-next-init : goal.loop-next-init
-loop-next-init c = record {
+loop-next-init g c = record {
   ground = still_ground c.args.marking.now c.next_listed-next.new.marking None c.next_listed-next.result c.next_listed-next.ensures.next c.args.seat.now
       c.args.groups.now c.args.traced.now c.args.types.now c.requires.ground;
   works = Works-same c.args.types.now _;
 }
 
 pub trace_pairless-held-requires-clause-ground : goal.trace_pairless-held-requires-clause-ground
-trace_pairless-held-requires-clause-ground c =
+trace_pairless-held-requires-clause-ground g c =
     held_ground c.args.types.now c.loop-next.seat c.loop-next.marking c.args.groups.now c.loop-next.traced c.in-Some.place
     (subst (λ (next : Option ℕ). IsGround c.args.types.now (stage c.loop-next.seat (with_held next c.loop-next.marking) c.args.groups.now c.loop-next.traced))
     c.in-Some.is c.loop-next.invariant.ground)
 
 pub trace_pairless-held-requires-clause-place : goal.trace_pairless-held-requires-clause-place
-trace_pairless-held-requires-clause-place c =
+trace_pairless-held-requires-clause-place g c =
     held_place c.args.types.now c.loop-next.seat c.loop-next.marking c.args.groups.now c.loop-next.traced c.in-Some.place
     (subst (λ (next : Option ℕ). IsGround c.args.types.now (stage c.loop-next.seat (with_held next c.loop-next.marking) c.args.groups.now c.loop-next.traced))
     c.in-Some.is c.loop-next.invariant.ground)
 
 -- one turn of the loop, up to what is held back then
-works : (c : After-next_listed-next-in-Some)
+works : (g : given.Over) (c : goal.After-next_listed-next-in-Some g)
     → Works c.args.types.now None (stage c.loop-next.seat (with_held c.loop-next.next c.loop-next.marking) c.args.groups.now c.loop-next.traced)
     (stage c.trace_pairless-held.new.seat (with_held c.trace_pairless-held.result c.trace_pairless-held.new.marking) c.args.groups.now
     c.trace_pairless-held.new.traced)
-works c =
+works g c =
     subst
     (λ (next : Option ℕ). Works c.args.types.now None (stage c.loop-next.seat (with_held next c.loop-next.marking) c.args.groups.now c.loop-next.traced)
     (stage c.trace_pairless-held.new.seat (with_held c.trace_pairless-held.result c.trace_pairless-held.new.marking) c.args.groups.now
@@ -38,7 +38,7 @@ works c =
     c.trace_pairless-held.ensures.works)
 
 pub loop-next-smaller : goal.loop-next-smaller
-loop-next-smaller c =
+loop-next-smaller g c =
     subst
     (λ (next : Option ℕ). weight (stage c.trace_pairless-held.new.seat (with_held c.next_listed-next-in-Some.result c.next_listed-next-in-Some.new.marking)
     c.args.groups.now c.trace_pairless-held.new.traced)
@@ -52,24 +52,24 @@ loop-next-smaller c =
     ))
 
 pub loop-next-preserved : goal.loop-next-preserved
-loop-next-preserved c = record {
+loop-next-preserved g c = record {
   ground = still_ground c.trace_pairless-held.new.marking c.next_listed-next-in-Some.new.marking c.trace_pairless-held.result
       c.next_listed-next-in-Some.result c.next_listed-next-in-Some.ensures.next c.trace_pairless-held.new.seat c.args.groups.now
       c.trace_pairless-held.new.traced c.args.types.now c.trace_pairless-held.ensures.ground;
   works =
       Works-then c.args.types.now None _ _ _ c.loop-next.invariant.works
-      (Works-then c.args.types.now None _ _ _ (works c)
+      (Works-then c.args.types.now None _ _ _ (works g c)
       (still_works c.trace_pairless-held.new.marking c.next_listed-next-in-Some.new.marking c.trace_pairless-held.result c.next_listed-next-in-Some.result
       c.next_listed-next-in-Some.ensures.next c.trace_pairless-held.new.seat c.args.groups.now c.trace_pairless-held.new.traced c.args.types.now));
 }
 
 pub returns-clause-ground : goal.returns-clause-ground
-returns-clause-ground c =
+returns-clause-ground g c =
     subst (λ (next : Option ℕ). IsGround c.args.types.now (stage c.loop-next.seat (with_held next c.loop-next.marking) c.args.groups.now c.loop-next.traced))
     c.in_default.is c.loop-next.invariant.ground
 
 pub returns-clause-works : goal.returns-clause-works
-returns-clause-works c =
+returns-clause-works g c =
     Works-then c.args.types.now None _ _ _
     (still_works c.args.marking.now c.next_listed-next.new.marking None c.next_listed-next.result c.next_listed-next.ensures.next c.args.seat.now
     c.args.groups.now c.args.traced.now c.args.types.now)

@@ -6,24 +6,24 @@ use Rattle.ephemerons.proofs.Stages.{ground_popped, Works-popped, Works-then}
 use Rattle.ephemerons.proofs.draining.trace_next.Goals as goal
 
 pub returns-in-Some-clause-works : goal.returns-in-Some-clause-works
-returns-in-Some-clause-works c =
+returns-in-Some-clause-works g c =
     Works-then c.args.types.now None _ _ _
     (Works-popped c.args.types.now (stage c.args.seat.now c.args.marking.now c.args.groups.now c.args.traced.now)
     (stage c.trace_grey.new.seat c.trace_grey.new.marking c.trace_grey.new.groups c.trace_grey.new.traced) c.pop.new.self.items c.in-Some.place
     c.pop.new.self.refused c.in-Some.ensures.items c.pop.ensures.refused c.trace_grey.ensures.looks.works) c.settle_under.ensures.works
 
 pub trace_grey-requires-clause-ground : goal.trace_grey-requires-clause-ground
-trace_grey-requires-clause-ground c =
+trace_grey-requires-clause-ground g c =
     (ground_popped c.args.types.now (stage c.args.seat.now c.args.marking.now c.args.groups.now c.args.traced.now) c.pop.new.self.items c.in-Some.place
     (refusals_of (record c.args.marking.now { list = c.pop.new.self })) c.in-Some.ensures.items c.requires.ground).0
 
 pub trace_grey-requires-clause-place : goal.trace_grey-requires-clause-place
-trace_grey-requires-clause-place c =
+trace_grey-requires-clause-place g c =
     (ground_popped c.args.types.now (stage c.args.seat.now c.args.marking.now c.args.groups.now c.args.traced.now) c.pop.new.self.items c.in-Some.place
     (refusals_of (record c.args.marking.now { list = c.pop.new.self })) c.in-Some.ensures.items c.requires.ground).1
 
 pub returns-in-Some-clause-found : goal.returns-in-Some-clause-found
-returns-in-Some-clause-found c told =
+returns-in-Some-clause-found g c told =
     omega (
       arith,
       one_longer c.pop.new.self.items c.args.marking.now.list.items c.in-Some.place c.in-Some.ensures.items,

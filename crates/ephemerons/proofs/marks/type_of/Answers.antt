@@ -4,7 +4,7 @@ use Rattle.page_words.specs.BodyPlaces.{small_type}
 use Rattle.ephemerons.proofs.marks.type_of.Goals as goal
 
 pub returns-clause-body : goal.returns-clause-body
-returns-clause-body c =
+returns-clause-body g c =
     let at = c.requires.place in (
       at.0,
       at.1,

@@ -10,7 +10,7 @@ use Rattle.ephemerons.proofs.HandLoads.{read_marks}
 use Rattle.ephemerons.proofs.pair_fields.read_key.Goals as goal
 
 pub overflow_add-holder : goal.overflow_add-holder
-overflow_add-holder c =
+overflow_add-holder g c =
     let v = c.args.seat.now in
     let below : c.args.holder + c.args.offset < v.count =
     word_below v c.args.holder c.args.offset c.bodies_lie_apart.ensures (key_there v c.args.holder c.args.offset c.bodies_lie_apart.ensures (pair_in_hand v c.args.holder c.args.offset Read c.requires.hand)) in
@@ -18,7 +18,7 @@ overflow_add-holder c =
     search rules
 
 pub load-reference-requires-clause-address : goal.load-reference-requires-clause-address
-load-reference-requires-clause-address c =
+load-reference-requires-clause-address g c =
     let v = c.args.seat.now in
     omega (
       arith,
@@ -26,7 +26,7 @@ load-reference-requires-clause-address c =
     )
 
 pub place_in-requires : goal.place_in-requires
-place_in-requires c =
+place_in-requires g c =
     let v = c.args.seat.now in
     let u = c.load-reference.new.seat in
     let w = c.load-reference.result in
@@ -46,17 +46,17 @@ place_in-requires c =
     ]
 
 pub returns-clause-key : goal.returns-clause-key
-returns-clause-key c b there at =
+returns-clause-key g c b there at =
     let v = c.args.seat.now in
     subst (λ x. MatchOption c.place_in.result (x ≡ 0) (λ key. x ≡ reference_to key))
     (read_word v c.args.holder c.args.offset c.load-reference.result c.bodies_lie_apart.ensures
     (key_there v c.args.holder c.args.offset c.bodies_lie_apart.ensures (pair_in_hand v c.args.holder c.args.offset Read c.requires.hand)) c.load-reference.ensures.word b there at) c.place_in.ensures
 
 pub returns-clause-hand : goal.returns-clause-hand
-returns-clause-hand c =
+returns-clause-hand g c =
     key_told c.args.seat.now c.load-reference.new.seat c.args.holder c.args.offset c.load-reference.result c.place_in.result c.requires.hand
     c.load-reference.ensures.view c.place_in.ensures
 
 pub returns-clause-noted : goal.returns-clause-noted
-returns-clause-noted c =
+returns-clause-noted g c =
     key_notes_none c.args.seat.now c.load-reference.new.seat c.args.holder c.args.offset c.load-reference.result c.requires.hand c.load-reference.ensures.view

@@ -17,7 +17,7 @@ use Rattle.ephemerons.proofs.Traced.{null_traces, kept_traces, waiting_traces}
 use Rattle.ephemerons.proofs.pair_fields.trace_pair.Goals as goal
 
 pub overflow_add-offset : goal.overflow_add-offset
-overflow_add-offset c =
+overflow_add-offset g c =
     let v = c.args.seat.now in
     let there = value_there v c.args.holder c.args.offset c.bodies_lie_apart.ensures (pair_in_hand v c.args.holder c.args.offset Read c.requires.hand) in
     let low : c.args.offset + 1 < 2 ^ 32 =
@@ -25,18 +25,18 @@ overflow_add-offset c =
     search rules
 
 pub trace_target-fresh-requires-clause-field : goal.trace_target-fresh-requires-clause-field
-trace_target-fresh-requires-clause-field c =
+trace_target-fresh-requires-clause-field g c =
     let v = c.args.seat.now in
     let same : heap_and_marks c.key_is_marked.new.seat ≡ heap_and_marks v = c.key_is_marked.ensures.view ∙ c.read_key.ensures.view in
     subst (λ bs. HasWord bs c.args.holder (c.args.offset + 1)) (sym (ap (λ (x : SeatView). x.bodies) same))
     (value_there v c.args.holder c.args.offset c.bodies_lie_apart.ensures (pair_in_hand v c.args.holder c.args.offset Read c.requires.hand))
 
 pub trace_target-fresh-requires-clause-hand : goal.trace_target-fresh-requires-clause-hand
-trace_target-fresh-requires-clause-hand c =
+trace_target-fresh-requires-clause-hand g c =
     at_value c.key_is_marked.new.seat c.args.holder c.args.offset (c.key_is_marked.ensures.hand c.if-key_is_marked.true)
 
 pub returns-then-key_is_marked-clause-marks : goal.returns-then-key_is_marked-clause-marks
-returns-then-key_is_marked-clause-marks c =
+returns-then-key_is_marked-clause-marks g c =
     let v = c.args.seat.now in
     let u = c.key_is_marked.new.seat in
     ListsMarks-then v u c.trace_target-fresh.new.seat c.args.marking.now c.args.marking.now c.list_held.new.marking
@@ -46,7 +46,7 @@ returns-then-key_is_marked-clause-marks c =
     c.list_held.ensures.listed)
 
 pub returns-then-key_is_marked-clause-within : goal.returns-then-key_is_marked-clause-within
-returns-then-key_is_marked-clause-within c =
+returns-then-key_is_marked-clause-within g c =
     let v = c.args.seat.now in
     let u = c.key_is_marked.new.seat in
     let at = c.requires.hand in
@@ -62,7 +62,7 @@ returns-then-key_is_marked-clause-within c =
     ])
 
 pub returns-then-key_is_marked-clause-told : goal.returns-then-key_is_marked-clause-told
-returns-then-key_is_marked-clause-told c =
+returns-then-key_is_marked-clause-told g c =
     let v = c.args.seat.now in
     let u = c.key_is_marked.new.seat in
     let w = c.trace_target-fresh.new.seat in
@@ -83,17 +83,17 @@ returns-then-key_is_marked-clause-told c =
     ])
 
 pub returns-else-key_is_marked-clause-notes : goal.returns-else-key_is_marked-clause-notes
-returns-else-key_is_marked-clause-notes c =
+returns-else-key_is_marked-clause-notes g c =
     (pair_asked c.args.seat.now c.args.notes.now c.note.new.self c.args.holder c.args.offset c.note.result c.requires.hand c.note.ensures.noted
     c.note.ensures.refused c.note.ensures.fits).grow
 
 pub returns-else-key_is_marked-clause-pair : goal.returns-else-key_is_marked-clause-pair
-returns-else-key_is_marked-clause-pair c fine b k w there where_it_is pair key value =
+returns-else-key_is_marked-clause-pair g c fine b k w there where_it_is pair key value =
     inr ((pair_asked c.args.seat.now c.args.notes.now c.note.new.self c.args.holder c.args.offset c.note.result c.requires.hand c.note.ensures.noted
     c.note.ensures.refused c.note.ensures.fits).there fine)
 
 pub returns-else-key_is_marked-clause-told : goal.returns-else-key_is_marked-clause-told
-returns-else-key_is_marked-clause-told c =
+returns-else-key_is_marked-clause-told g c =
     let v = c.args.seat.now in
     let u = c.key_is_marked.new.seat in
     waiting_traces v u c.args.notes.now c.note.new.self c.args.holder c.args.offset c.in-Some.key (c.key_is_marked.ensures.view ∙ c.read_key.ensures.view)
@@ -105,6 +105,6 @@ returns-else-key_is_marked-clause-told c =
     c.note.ensures.fits).follow
 
 pub returns-in-None-clause-told : goal.returns-in-None-clause-told
-returns-in-None-clause-told c =
+returns-in-None-clause-told g c =
     null_traces c.args.seat.now c.read_key.new.seat c.args.notes.now c.args.notes.now c.args.holder c.args.offset c.read_key.ensures.view
     c.read_key.ensures.noted c.in-None.ensures.key

@@ -5,7 +5,7 @@ use Rattle.ephemerons.specs.Notes.{NotesState, IsNote, group_at, no_notes, note_
 use Rattle.ephemerons.proofs.settling.settle_at.Goals as goal
 
 pub settle-requires-clause-note : goal.settle-requires-clause-note
-settle-requires-clause-note c =
+settle-requires-clause-note g c =
     let group : NotesState = group_at c.args.groups.now c.args.i in
     let counted : get_or c.args.groups.now c.args.i c.index-groups-i.result ≡ group =
     get_or_default c.args.groups.now c.args.i c.index-groups-i.result no_notes c.requires.group in

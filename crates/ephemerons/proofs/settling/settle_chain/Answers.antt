@@ -12,14 +12,14 @@ regrouped : (groups : List NotesState) (i : ℕ) (g new : NotesState) → new �
 regrouped groups i g new same = ap (set groups i) same ∙ set-get_or groups i g
 
 pub settle_at-requires-clause-ground : goal.settle_at-requires-clause-ground
-settle_at-requires-clause-ground c =
+settle_at-requires-clause-ground g c =
     let groups : slice_set c.args.groups.now c.args.i c.index_notes.new.self ≡ c.args.groups.now =
     regrouped c.args.groups.now c.args.i c.index-groups-i.result c.index_notes.new.self c.index_notes.ensures.notes in
     subst (λ gs. IsGround c.args.types.now (stage c.index_notes.new.seat c.args.marking.now gs c.args.traced.now)) (sym groups)
     (ground_looked c.args.seat.now c.index_notes.new.seat c.index_notes.ensures.view c.args.types.now c.args.marking.now c.args.groups.now c.args.traced.now c.requires.ground)
 
 pub loop-j-init : goal.loop-j-init
-loop-j-init c =
+loop-j-init g c =
     let groups : slice_set c.args.groups.now c.args.i c.index_notes.new.self ≡ c.args.groups.now =
     regrouped c.args.groups.now c.args.i c.index-groups-i.result c.index_notes.new.self c.index_notes.ensures.notes in
     let types = c.args.types.now in
@@ -33,7 +33,7 @@ loop-j-init c =
     }
 
 pub loop-j-preserved : goal.loop-j-preserved
-loop-j-preserved c = record {
+loop-j-preserved g c = record {
   ground = c.settle_at-in-loop-j.ensures.ground;
   works = Works-then c.args.types.now None _ _ _ c.loop-j.invariant.works c.settle_at-in-loop-j.ensures.looks.works;
 }

@@ -7,7 +7,7 @@ use Rattle.ephemerons.proofs.settling.settle_group.Goals.{then-found, else-found
 use Rattle.ephemerons.proofs.settling.settle_group.Goals as goal
 
 pub loop-j-preserved : goal.loop-j-preserved
-loop-j-preserved c =
+loop-j-preserved g c =
     let either : c.if-found.found ≡ (c.loop-j.found || c.settle_at-more.result) = joined c.loop-j.found c.settle_at-more.result c.if-found.found
     (elim c.if-found.branch [ then-found w ↦ inl (w.if-found.true, w.found-is) | else-found w ↦ inr (w.if-found.false, w.found-is) ]) in
     let before : Stage = stage c.loop-j.seat c.loop-j.marking c.loop-j.groups c.loop-j.traced in
@@ -22,7 +22,7 @@ loop-j-preserved c =
     }
 
 pub returns-clause-settled : goal.returns-clause-settled
-returns-clause-settled c none note there =
+returns-clause-settled g c none note there =
     let group : NotesState = group_at c.loop-j.groups c.args.i in
     let counted : get_or c.args.groups.now c.args.i c.index-groups-i.result ≡ group_at c.args.groups.now c.args.i =
     get_or_default c.args.groups.now c.args.i c.index-groups-i.result no_notes c.requires.group in

@@ -8,7 +8,7 @@ use Rattle.ephemerons.proofs.settling.settle_notes.Goals.{then-found, else-found
 use Rattle.ephemerons.proofs.settling.settle_notes.Goals as goal
 
 pub loop-i-preserved : goal.loop-i-preserved
-loop-i-preserved c =
+loop-i-preserved g c =
     let either : c.if-found.found ≡ (c.loop-i.found || c.settle_group-more.result) = joined c.loop-i.found c.settle_group-more.result c.if-found.found
     (elim c.if-found.branch [ then-found w ↦ inl (w.if-found.true, w.found-is) | else-found w ↦ inr (w.if-found.false, w.found-is) ]) in
     let before : Stage = stage c.loop-i.seat c.loop-i.marking c.loop-i.groups c.loop-i.traced in
@@ -23,5 +23,5 @@ loop-i-preserved c =
     }
 
 pub returns-clause-settled : goal.returns-clause-settled
-returns-clause-settled c none note noted =
+returns-clause-settled g c none note noted =
     c.loop-i.invariant.settled none noted.0 (omega (arith, noted.1, c.loop-i-test.false, c.loop-i.auto.groups)) note noted.2

@@ -6,7 +6,7 @@ use Rattle.ephemerons.specs.Fixpoint.{IsGround, IsSettled, Looks, stage}
 use Rattle.ephemerons.proofs.settling.settle_notes.Given as goal
 
 abbrev pub invariant-loop-i : goal.invariant-loop-i
-invariant-loop-i l = record {
+invariant-loop-i g l = record {
   ground : IsGround l.types (stage l.seat l.marking l.groups l.traced);
   looks : Looks l.types None (stage l.initial.seat l.initial.marking l.initial.groups l.initial.traced) (stage l.seat l.marking l.groups l.traced) l.found;
   settled : l.found ≡ false → (k : ℕ) → k < l.i → (note : Note) → Contains (group_at l.groups k).notes note → IsSettled l.types l.seat note;

@@ -18,13 +18,13 @@ use Rattle.ephemerons.proofs.MarkStages.{marks_work, marks_ground, marks_lighter
 use Rattle.ephemerons.proofs.settling.settle_pair.Goals as goal
 
 pub word_of-key-requires-clause-field : goal.word_of-key-requires-clause-field
-word_of-key-requires-clause-field c =
+word_of-key-requires-clause-field g c =
     let v = c.args.seat.now in
     rw (ap (λ (u : SeatView). u.bodies) c.is_marked.ensures.view) (key_there v c.args.holder c.args.word c.bodies_lie_apart.ensures
     (subst (λ (ts : List ObjectType). HasPair ts v.bodies c.args.holder c.args.word) (sym c.requires.ground.known) c.requires.pair))
 
 pub names_marked-requires-clause-reference : goal.names_marked-requires-clause-reference
-names_marked-requires-clause-reference c =
+names_marked-requires-clause-reference g c =
     let has : HasPair c.args.types.now c.args.seat.now.bodies c.args.holder c.args.word = c.requires.pair in
     rw (c.word_of-key.ensures.view, ap (λ (u : SeatView). u.bodies) c.is_marked.ensures.view)
     (key_reference c.args.types.now c.args.seat.now.bodies c.args.holder c.args.word c.word_of-key.result c.requires.ground.references has
@@ -35,28 +35,28 @@ looked : (v first key second value : SeatView) → OnlyLooked v first → key �
 looked v first key second value one two three four = ap unlooked four ∙ three ∙ ap unlooked two ∙ one
 
 pub returns-then-not-is_marked-clause-ground : goal.returns-then-not-is_marked-clause-ground
-returns-then-not-is_marked-clause-ground c =
+returns-then-not-is_marked-clause-ground g c =
     ground_looked c.args.seat.now c.is_marked.new.seat c.is_marked.ensures.view c.args.types.now c.args.marking.now c.args.groups.now c.args.traced
     c.requires.ground
 
 pub returns-then-not-is_marked-clause-looks : goal.returns-then-not-is_marked-clause-looks
-returns-then-not-is_marked-clause-looks c =
+returns-then-not-is_marked-clause-looks g c =
     looks_none c.args.seat.now c.is_marked.new.seat c.is_marked.ensures.view c.args.types.now c.args.marking.now c.args.groups.now c.args.traced
 
 pub returns-then-not-names_marked-clause-ground : goal.returns-then-not-names_marked-clause-ground
-returns-then-not-names_marked-clause-ground c =
+returns-then-not-names_marked-clause-ground g c =
     ground_looked c.args.seat.now c.names_marked.new.seat
     (c.names_marked.ensures.view ∙ ap unlooked c.word_of-key.ensures.view ∙ c.is_marked.ensures.view) c.args.types.now c.args.marking.now c.args.groups.now
     c.args.traced c.requires.ground
 
 pub returns-then-not-names_marked-clause-looks : goal.returns-then-not-names_marked-clause-looks
-returns-then-not-names_marked-clause-looks c =
+returns-then-not-names_marked-clause-looks g c =
     looks_none c.args.seat.now c.names_marked.new.seat
     (c.names_marked.ensures.view ∙ ap unlooked c.word_of-key.ensures.view ∙ c.is_marked.ensures.view) c.args.types.now c.args.marking.now c.args.groups.now
     c.args.traced
 
 pub returns-then-not-names_marked-clause-settled : goal.returns-then-not-names_marked-clause-settled
-returns-then-not-names_marked-clause-settled c told =
+returns-then-not-names_marked-clause-settled g c told =
     let same : OnlyLooked c.args.seat.now c.names_marked.new.seat =
     c.names_marked.ensures.view ∙ ap unlooked c.word_of-key.ensures.view ∙ c.is_marked.ensures.view in
     settled_stays c.args.types.now (stage c.args.seat.now c.args.marking.now c.args.groups.now c.args.traced)
@@ -69,7 +69,7 @@ returns-then-not-names_marked-clause-settled c told =
     absurd (true≢false (sym yes_marked ∙ c.if-not-names_marked.true)))))
 
 pub overflow_add-word : goal.overflow_add-word
-overflow_add-word c =
+overflow_add-word g c =
     let v = c.args.seat.now in
     let there = value_there v c.args.holder c.args.word c.bodies_lie_apart.ensures
     (subst (λ (ts : List ObjectType). HasPair ts v.bodies c.args.holder c.args.word) (sym c.requires.ground.known) c.requires.pair) in
@@ -78,14 +78,14 @@ overflow_add-word c =
     search rules
 
 pub word_of-value-requires-clause-field : goal.word_of-value-requires-clause-field
-word_of-value-requires-clause-field c =
+word_of-value-requires-clause-field g c =
     let v = c.args.seat.now in
     rw (ap (λ (u : SeatView). u.bodies) c.names_marked.ensures.view, c.word_of-key.ensures.view, ap (λ (u : SeatView). u.bodies) c.is_marked.ensures.view)
     (value_there v c.args.holder c.args.word c.bodies_lie_apart.ensures
     (subst (λ (ts : List ObjectType). HasPair ts v.bodies c.args.holder c.args.word) (sym c.requires.ground.known) c.requires.pair))
 
 pub mark_reference-requires-clause-may : goal.mark_reference-requires-clause-may
-mark_reference-requires-clause-may c p names =
+mark_reference-requires-clause-may g c p names =
     let v = c.args.seat.now in
     let has : HasPair c.args.types.now v.bodies c.args.holder c.args.word = c.requires.pair in
     let is_key : c.word_of-key.result ≡ word_at has.0 c.args.word = c.word_of-key.ensures.word has.0 (rw (ap (λ (u : SeatView). u.bodies) c.is_marked.ensures.view) has.1) has.2 in
@@ -102,14 +102,14 @@ mark_reference-requires-clause-may c p names =
     (sym is_value ∙ names))
 
 pub returns-clause-ground : goal.returns-clause-ground
-returns-clause-ground c =
+returns-clause-ground g c =
     marks_ground c.args.types.now c.word_of-value.new.seat c.mark_reference.new.seat c.args.marking.now c.mark_reference.new.marking c.args.groups.now c.args.traced
     c.mark_reference.ensures.marks
     (ground_looked c.args.seat.now c.word_of-value.new.seat (looked c.args.seat.now c.is_marked.new.seat c.word_of-key.new.seat c.names_marked.new.seat c.word_of-value.new.seat c.is_marked.ensures.view
     c.word_of-key.ensures.view c.names_marked.ensures.view c.word_of-value.ensures.view) c.args.types.now c.args.marking.now c.args.groups.now c.args.traced c.requires.ground)
 
 pub returns-clause-looks : goal.returns-clause-looks
-returns-clause-looks c =
+returns-clause-looks g c =
     let same : OnlyLooked c.args.seat.now c.word_of-value.new.seat = looked c.args.seat.now c.is_marked.new.seat c.word_of-key.new.seat c.names_marked.new.seat c.word_of-value.new.seat c.is_marked.ensures.view
     c.word_of-key.ensures.view c.names_marked.ensures.view c.word_of-value.ensures.view in
     let has : HasPair c.args.types.now c.args.seat.now.bodies c.args.holder c.args.word = c.requires.pair in
@@ -139,7 +139,7 @@ returns-clause-looks c =
     })
 
 pub returns-clause-settled : goal.returns-clause-settled
-returns-clause-settled c told =
+returns-clause-settled g c told =
     let bodies : c.mark_reference.new.seat.bodies ≡ c.args.seat.now.bodies =
     same_bodies c.word_of-value.new.seat c.mark_reference.new.seat c.args.marking.now c.mark_reference.new.marking c.mark_reference.ensures.marks
     ∙ ap (λ (v : SeatView). v.bodies) (looked c.args.seat.now c.is_marked.new.seat c.word_of-key.new.seat c.names_marked.new.seat c.word_of-value.new.seat c.is_marked.ensures.view

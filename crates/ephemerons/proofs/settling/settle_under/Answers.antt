@@ -3,7 +3,7 @@ use Rattle.ephemerons.proofs.Stages.{Works-then}
 use Rattle.ephemerons.proofs.settling.settle_under.Goals as goal
 
 pub loop-i-preserved : goal.loop-i-preserved
-loop-i-preserved c = record {
+loop-i-preserved g c = record {
   ground = c.settle_chain.ensures.ground;
   works = Works-then c.args.types.now None _ _ _ c.loop-i.invariant.works c.settle_chain.ensures.works;
 }

@@ -9,7 +9,7 @@ use Rattle.ephemerons.proofs.UnderWaySteps.{listed_under_way, listed_works, stil
 use Rattle.ephemerons.proofs.stepping.step_pairless.Goals as goal
 
 pub loop-next-init : goal.loop-next-init
-loop-next-init c =
+loop-next-init g c =
     let notes : List NotesState = c.args.notes.now ∷ [] in
     record {
       ground = still_ground c.args.marking.now c.next_listed-next.new.marking None c.next_listed-next.result c.next_listed-next.ensures.next c.args.seat.now
@@ -22,13 +22,13 @@ loop-next-init c =
     }
 
 pub trace_taken_pairless-held-requires-clause-ground : goal.trace_taken_pairless-held-requires-clause-ground
-trace_taken_pairless-held-requires-clause-ground c =
+trace_taken_pairless-held-requires-clause-ground g c =
     held_ground c.args.types.now c.loop-next.seat c.loop-next.marking (c.args.notes.now ∷ []) c.loop-next.traced c.in-Some.place
     (subst (λ (next : Option ℕ). IsGround c.args.types.now (stage c.loop-next.seat (with_held next c.loop-next.marking) (c.args.notes.now ∷ []) c.loop-next.traced))
     c.in-Some.is c.loop-next.invariant.ground)
 
 pub loop-next-preserved : goal.loop-next-preserved
-loop-next-preserved c =
+loop-next-preserved g c =
     let notes : List NotesState = c.args.notes.now ∷ [] in
     record {
       ground = still_ground c.trace_taken_pairless-held.new.marking c.next_listed-next-in-Some.new.marking c.trace_taken_pairless-held.result
@@ -56,7 +56,7 @@ loop-next-preserved c =
 -- ---- the budget is spent: what would be traced next is listed again
 
 pub returns-then-traced-most-clause-works : goal.returns-then-traced-most-clause-works
-returns-then-traced-most-clause-works c =
+returns-then-traced-most-clause-works g c =
     let notes : List NotesState = c.args.notes.now ∷ [] in
     Works-then c.args.types.now None _ _ _
     (still_works c.args.marking.now c.next_listed-next.new.marking None c.next_listed-next.result c.next_listed-next.ensures.next c.args.seat.now notes 0
@@ -69,14 +69,14 @@ returns-then-traced-most-clause-works c =
     c.list_held.ensures.listed))
 
 pub returns-then-traced-most-clause-under_way : goal.returns-then-traced-most-clause-under_way
-returns-then-traced-most-clause-under_way c =
+returns-then-traced-most-clause-under_way g c =
     listed_under_way c.loop-next.seat c.loop-next.marking c.list_held.new.marking (Some c.in-Some.place) c.args.notes.now c.list_held.ensures.listed
     (subst (λ (next : Option ℕ). IsUnderWay c.loop-next.seat (with_held next c.loop-next.marking) c.args.notes.now) c.in-Some.is c.loop-next.invariant.under_way)
 
 -- ---- the list came to its end
 
 pub returns-clause-works : goal.returns-clause-works
-returns-clause-works c =
+returns-clause-works g c =
     let notes : List NotesState = c.args.notes.now ∷ [] in
     Works-then c.args.types.now None _ _ _
     (still_works c.args.marking.now c.next_listed-next.new.marking None c.next_listed-next.result c.next_listed-next.ensures.next c.args.seat.now notes 0
@@ -86,4 +86,4 @@ returns-clause-works c =
     (stage c.loop-next.seat (with_held next c.loop-next.marking) notes c.loop-next.traced)) c.in_default.is c.loop-next.invariant.works)
 
 pub returns-clause-done : goal.returns-clause-done
-returns-clause-done c fewer = c.loop-next.invariant.empty c.in_default.is
+returns-clause-done g c fewer = c.loop-next.invariant.empty c.in_default.is

@@ -4,7 +4,7 @@ use Rattle.ephemerons.specs.Fixpoint.{IsGround, Works, stage, weight, with_held}
 use Rattle.ephemerons.proofs.stepping.step_pairless.Given as goal
 
 abbrev pub invariant-loop-next : goal.invariant-loop-next
-invariant-loop-next l = record {
+invariant-loop-next g l = record {
   ground : IsGround l.types (stage l.seat (with_held l.next l.marking) (l.notes ∷ []) l.traced);
   works :
       Works l.types None (stage l.initial.seat (with_held l.initial.next l.initial.marking) (l.notes ∷ []) 0)
@@ -15,4 +15,4 @@ invariant-loop-next l = record {
 }
 
 abbrev pub decreases-loop-next : goal.decreases-loop-next
-decreases-loop-next l = weight (stage l.seat (with_held l.next l.marking) (l.notes ∷ []) l.traced)
+decreases-loop-next g l = weight (stage l.seat (with_held l.next l.marking) (l.notes ∷ []) l.traced)

@@ -6,7 +6,7 @@ use Rattle.ephemerons.proofs.UnderWaySteps.{held_under_way}
 use Rattle.ephemerons.proofs.stepping.step_with_notes.Goals as goal
 
 pub loop-traced-init : goal.loop-traced-init
-loop-traced-init c = record {
+loop-traced-init g c = record {
   ground = c.requires.ground;
   works = Works-same c.args.types.now (stage c.args.seat.now c.args.marking.now (c.args.notes.now ∷ []) 0);
   under_way = c.requires.under_way;
@@ -14,17 +14,17 @@ loop-traced-init c = record {
 }
 
 pub trace_taken-requires-clause-ground : goal.trace_taken-requires-clause-ground
-trace_taken-requires-clause-ground c =
+trace_taken-requires-clause-ground g c =
     (ground_popped c.args.types.now (stage c.loop-traced.seat c.loop-traced.marking (c.loop-traced.notes ∷ []) c.loop-traced.traced) c.pop.new.self.items
     c.in-Some.place (refusals_of (record c.loop-traced.marking { list = c.pop.new.self })) c.in-Some.ensures.items c.loop-traced.invariant.ground).0
 
 pub trace_taken-requires-clause-under_way : goal.trace_taken-requires-clause-under_way
-trace_taken-requires-clause-under_way c =
+trace_taken-requires-clause-under_way g c =
     held_under_way c.loop-traced.seat c.loop-traced.marking (record c.loop-traced.marking { list = c.pop.new.self }) c.loop-traced.notes c.in-Some.place
     c.in-Some.ensures.items refl refl c.loop-traced.invariant.under_way
 
 pub loop-traced-preserved : goal.loop-traced-preserved
-loop-traced-preserved c = record {
+loop-traced-preserved g c = record {
   ground = c.trace_taken.ensures.ground;
   works =
       Works-then c.args.types.now None _ _ _ c.loop-traced.invariant.works
@@ -36,4 +36,4 @@ loop-traced-preserved c = record {
 }
 
 pub returns-clause-done : goal.returns-clause-done
-returns-clause-done c fewer = absurd (omega (arith, fewer, c.loop-traced-test.false))
+returns-clause-done g c fewer = absurd (omega (arith, fewer, c.loop-traced-test.false))

@@ -4,7 +4,7 @@ use Rattle.ephemerons.specs.Fixpoint.{IsGround, Works, stage, weight}
 use Rattle.ephemerons.proofs.stepping.step_with_notes.Given as goal
 
 abbrev pub invariant-loop-traced : goal.invariant-loop-traced
-invariant-loop-traced l = record {
+invariant-loop-traced g l = record {
   ground : IsGround l.types (stage l.seat l.marking (l.notes ∷ []) l.traced);
   works :
       Works l.types None (stage l.initial.seat l.initial.marking (l.initial.notes ∷ []) l.initial.traced) (stage l.seat l.marking (l.notes ∷ []) l.traced);
@@ -13,4 +13,4 @@ invariant-loop-traced l = record {
 }
 
 abbrev pub decreases-loop-traced : goal.decreases-loop-traced
-decreases-loop-traced l = weight (stage l.seat l.marking (l.notes ∷ []) l.traced)
+decreases-loop-traced g l = weight (stage l.seat l.marking (l.notes ∷ []) l.traced)

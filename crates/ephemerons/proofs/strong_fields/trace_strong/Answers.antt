@@ -17,17 +17,17 @@ use Rattle.ephemerons.proofs.StrongWords.{at_strong_field, all_named, target_sta
 use Rattle.ephemerons.proofs.strong_fields.trace_strong.Goals as goal
 
 pub trace_words-requires-clause-first : goal.trace_words-requires-clause-first
-trace_words-requires-clause-first c = (
+trace_words-requires-clause-first g c = (
   c.in-Some.last.now ∷ [],
   all_traced c.args.types.now c.args.seat.now c.args.place c.args.ty c.strong_words-strong.result.now c.bodies_lie_apart.ensures c.requires.types
       c.requires.pairless c.requires.body c.strong_words-strong.ensures ∙ c.in-Some.ensures.cases.0,
 )
 
 pub trace_words-requires-clause-hand : goal.trace_words-requires-clause-hand
-trace_words-requires-clause-hand c = hand_at_first c.args.seat.now.types c.args.seat.now c.args.place c.args.ty refl c.requires.hand
+trace_words-requires-clause-hand g c = hand_at_first c.args.seat.now.types c.args.seat.now c.args.place c.args.ty refl c.requires.hand
 
 pub trace_strong_word-requires-clause-hand : goal.trace_strong_word-requires-clause-hand
-trace_strong_word-requires-clause-hand c =
+trace_strong_word-requires-clause-hand g c =
     let u = c.args.seat.now in
     let v = c.trace_words.new.seat in
     let last = c.in-Some.last.now in
@@ -44,13 +44,13 @@ trace_strong_word-requires-clause-hand c =
     ∙ ap (hand_over c.args.place c.args.ty) (ap (drop (length c.in-Some.others.now)) all ∙ drop-append_seam c.in-Some.others.now (last ∷ [])))
 
 pub returns-in-Some-clause-marks : goal.returns-in-Some-clause-marks
-returns-in-Some-clause-marks c =
+returns-in-Some-clause-marks g c =
     ListsMarks-then c.args.seat.now c.trace_words.new.seat c.trace_strong_word.new.seat c.args.marking.now c.trace_words.new.marking
     (with_held c.trace_strong_word.result c.trace_words.new.marking) c.trace_words.ensures.marks
     (c.trace_strong_word.ensures.marks c.trace_words.new.marking)
 
 pub returns-in-Some-clause-within : goal.returns-in-Some-clause-within
-returns-in-Some-clause-within c =
+returns-in-Some-clause-within g c =
     let u = c.args.seat.now in
     let v = c.trace_words.new.seat in
     within_then c.args.types.now u v c.trace_strong_word.new.seat c.args.marking.now c.trace_words.new.marking
@@ -58,7 +58,7 @@ returns-in-Some-clause-within c =
     (subst (λ (ts : List ObjectType). GrowsWithin ts u v) c.requires.types c.trace_words.ensures.within) c.trace_strong_word.ensures.within
 
 pub returns-in-Some-clause-strong : goal.returns-in-Some-clause-strong
-returns-in-Some-clause-strong c =
+returns-in-Some-clause-strong g c =
     let u = c.args.seat.now in
     let v = c.trace_words.new.seat in
     let w = c.trace_strong_word.new.seat in
@@ -67,7 +67,7 @@ returns-in-Some-clause-strong c =
     c.strong_words-strong.ensures ∙ ap (λ (ts : List ObjectType). offsets_of_kind Strong (kinds_of ts c.args.ty)) (sym c.requires.types) in
     subst (λ (ts : List ObjectType). HasStrongMarked ts w c.args.place) c.requires.types
     (all_named u w c.args.place c.args.ty c.strong_words-strong.result.now c.bodies_lie_apart.ensures c.requires.body strong
-    (same_bodies u w c.args.marking.now after (returns-in-Some-clause-marks c))
+    (same_bodies u w c.args.marking.now after (returns-in-Some-clause-marks g c))
     (λ o there. elim (Contains-push_cases c.in-Some.others.now c.in-Some.last.now o (subst (λ (l : List ℕ). Contains l o) c.in-Some.ensures.cases.0 there)) [
       | inl earlier ↦ target_stays v w c.trace_words.new.marking after c.args.place o (c.trace_strong_word.ensures.marks c.trace_words.new.marking)
           (c.trace_words.ensures.named o earlier)
@@ -75,7 +75,7 @@ returns-in-Some-clause-strong c =
     ]))
 
 pub returns-in-Some-clause-hand : goal.returns-in-Some-clause-hand
-returns-in-Some-clause-hand c =
+returns-in-Some-clause-hand g c =
     let u = c.args.seat.now in
     let v = c.trace_words.new.seat in
     let w = c.trace_strong_word.new.seat in
@@ -90,7 +90,7 @@ returns-in-Some-clause-hand c =
     c.trace_strong_word.ensures.hand)
 
 pub returns-in-None-clause-strong : goal.returns-in-None-clause-strong
-returns-in-None-clause-strong c =
+returns-in-None-clause-strong g c =
     let u = c.args.seat.now in
     let strong : c.strong_words-strong.result.now ≡ offsets_of_kind Strong (kinds_of u.types c.args.ty) =
     c.strong_words-strong.ensures ∙ ap (λ (ts : List ObjectType). offsets_of_kind Strong (kinds_of ts c.args.ty)) (sym c.requires.types) in
@@ -99,7 +99,7 @@ returns-in-None-clause-strong c =
     (λ o there. absurd (omega (arith, there.1, c.in-None.ensures.cases))))
 
 pub returns-in-None-clause-hand : goal.returns-in-None-clause-hand
-returns-in-None-clause-hand c =
+returns-in-None-clause-hand g c =
     let u = c.args.seat.now in
     let all : traced_in u.types c.args.ty ≡ c.strong_words-strong.result.now =
     all_traced c.args.types.now u c.args.place c.args.ty c.strong_words-strong.result.now c.bodies_lie_apart.ensures c.requires.types c.requires.pairless

@@ -6,15 +6,15 @@ use Rattle.ephemerons.proofs.Graph.{strong_within}
 use Rattle.ephemerons.proofs.strong_fields.trace_strong_word.Goals as goal
 
 pub trace_target-requires-clause-field : goal.trace_target-requires-clause-field
-trace_target-requires-clause-field c =
+trace_target-requires-clause-field g c =
     strong_there c.args.seat.now c.args.holder c.args.offset c.bodies_lie_apart.ensures
     (strong_in_hand c.args.seat.now c.args.holder c.args.offset Read c.requires.hand)
 
 pub trace_target-requires-clause-hand : goal.trace_target-requires-clause-hand
-trace_target-requires-clause-hand c = at_strong c.args.seat.now c.args.holder c.args.offset c.requires.hand
+trace_target-requires-clause-hand g c = at_strong c.args.seat.now c.args.holder c.args.offset c.requires.hand
 
 pub returns-clause-within : goal.returns-clause-within
-returns-clause-within c =
+returns-clause-within g c =
     let at = c.requires.hand in
     strong_within c.args.seat.now.types c.args.seat.now c.args.seat.now c.trace_target.new.seat at.body c.args.offset at.there
     (subst (λ p. holds c.args.seat.now.marked p ≡ true) (sym at.place_is) c.requires.marked) at.among (λ test closed held p marked. held p marked)

@@ -9,23 +9,23 @@ use Rattle.gc_graph.specs.Members.{Contains-take_more_cases}
 use Rattle.ephemerons.specs.ListedMarks.{ListsMarks-then}
 use Rattle.ephemerons.proofs.HandPath.{hand_at_next}
 use Rattle.ephemerons.proofs.Holding.{fresh_listed}
-use Rattle.ephemerons.proofs.MarkSteps.{same_bodies, same_types, same_count, still_tracing}
+use Rattle.ephemerons.proofs.MarkSteps.{same_bodies, same_types, same_heap, still_tracing}
 use Rattle.ephemerons.proofs.StrongWords.{at_next_strong, target_stays, within_then}
 use Rattle.ephemerons.proofs.strong_fields.trace_words.Goals as goal
 
 pub trace_strong_word-fresh-requires-clause-heap : goal.trace_strong_word-fresh-requires-clause-heap
-trace_strong_word-fresh-requires-clause-heap c =
-    same_count c.args.seat.now c.loop-offset.seat c.args.marking.now c.loop-offset.marking c.loop-offset.invariant.marks ∙ c.requires.heap
+trace_strong_word-fresh-requires-clause-heap g c =
+    same_heap c.args.seat.now c.loop-offset.seat c.args.marking.now c.loop-offset.marking c.loop-offset.invariant.marks ∙ c.requires.heap
 
 pub trace_strong_word-fresh-requires-clause-tracing : goal.trace_strong_word-fresh-requires-clause-tracing
-trace_strong_word-fresh-requires-clause-tracing c =
+trace_strong_word-fresh-requires-clause-tracing g c =
     still_tracing c.args.seat.now c.loop-offset.seat c.args.marking.now c.loop-offset.marking c.loop-offset.invariant.marks c.requires.tracing
 
 pub trace_strong_word-fresh-requires-clause-marked : goal.trace_strong_word-fresh-requires-clause-marked
-trace_strong_word-fresh-requires-clause-marked c = c.loop-offset.invariant.marks.marked c.args.place c.requires.marked
+trace_strong_word-fresh-requires-clause-marked g c = c.loop-offset.invariant.marks.marked c.args.place c.requires.marked
 
 pub trace_strong_word-fresh-requires-clause-hand : goal.trace_strong_word-fresh-requires-clause-hand
-trace_strong_word-fresh-requires-clause-hand c =
+trace_strong_word-fresh-requires-clause-hand g c =
     let i : ℕ = c.loop-offset.offset-index in
     at_next_strong c.args.seat.now c.loop-offset.seat
     (same_bodies c.args.seat.now c.loop-offset.seat c.args.marking.now c.loop-offset.marking c.loop-offset.invariant.marks)
@@ -34,7 +34,7 @@ trace_strong_word-fresh-requires-clause-hand c =
     (c.requires.strong (get_or c.args.offsets.now i 0) (Contains-get_or c.args.offsets.now i 0 c.loop-offset-test.true)) c.loop-offset.invariant.hand
 
 pub loop-offset-preserved : goal.loop-offset-preserved
-loop-offset-preserved c =
+loop-offset-preserved g c =
     let u = c.args.seat.now in
     let v = c.loop-offset.seat in
     let w = c.trace_strong_word-fresh.new.seat in
@@ -58,6 +58,6 @@ loop-offset-preserved c =
     }
 
 pub returns-clause-named : goal.returns-clause-named
-returns-clause-named c o there =
+returns-clause-named g c o there =
     c.loop-offset.invariant.named o
     (subst (λ (l : List ℕ). Contains l o) (sym (take_all c.loop-offset.offset-index c.args.offsets.now (omega arith))) there)

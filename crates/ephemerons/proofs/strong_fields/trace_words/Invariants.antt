@@ -6,7 +6,7 @@ use Rattle.ephemerons.specs.Fixpoint.{ListsMarks}
 use Rattle.ephemerons.proofs.strong_fields.trace_words.Given as goal
 
 abbrev pub invariant-loop-offset : goal.invariant-loop-offset
-invariant-loop-offset l = record {
+invariant-loop-offset g l = record {
   marks : ListsMarks l.initial.seat l.initial.marking l.seat l.marking;
   within : GrowsWithin l.initial.seat.types l.initial.seat l.seat;
   named : (offset : ℕ) → Contains (take l.offset-index l.offsets) offset → HasTargetMarked l.seat l.place offset;

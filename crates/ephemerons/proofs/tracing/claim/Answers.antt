@@ -7,7 +7,7 @@ use Rattle.page_words.specs.Seat.{SeatView}
 use Rattle.ephemerons.proofs.tracing.claim.Goals as goal
 
 pub claim-requires-clause-header : goal.claim-requires-clause-header
-claim-requires-clause-header c b there at =
+claim-requires-clause-header g c b there at =
     let v : SeatView = c.args.seat.now in
     let here : Contains v.bodies b = subst (λ (x : SeatView). Contains x.bodies b) (c.load-word.ensures.read refl) there in
     let read = c.load-word.ensures.word.alone c.requires.alone.none_lent b here at in
@@ -18,7 +18,7 @@ claim-requires-clause-header c b there at =
     untraced ∙ ap (λ mark. header_word true mark false b.ty b.size) marked
 
 pub returns-clause-body : goal.returns-clause-body
-returns-clause-body c =
+returns-clause-body g c =
     let v : SeatView = c.args.seat.now in
     let at = c.requires.place in
     let read = c.load-word.ensures.word.alone c.requires.alone.none_lent at.0 at.1 at.2 in (

@@ -11,16 +11,16 @@ use Rattle.ephemerons.proofs.Traced.{traces_from}
 use Rattle.ephemerons.proofs.tracing.trace.Goals as goal
 
 pub returns-clause-within : goal.returns-clause-within
-returns-clause-within c =
+returns-clause-within g c =
     grows_from c.args.seat.now c.type_of-ty.new.seat c.type_of-ty.ensures.view c.args.types.now c.trace_fields.new.seat c.trace_fields.ensures.within
 
 pub returns-clause-marks : goal.returns-clause-marks
-returns-clause-marks c =
+returns-clause-marks g c =
     ListsMarks-then c.args.seat.now c.type_of-ty.new.seat c.trace_fields.new.seat c.args.marking.now c.args.marking.now c.trace_fields.new.marking
     (lists_looked c.args.seat.now c.type_of-ty.new.seat c.args.marking.now c.type_of-ty.ensures.view) c.trace_fields.ensures.marks
 
 pub returns-clause-told : goal.returns-clause-told
-returns-clause-told c ty has =
+returns-clause-told g c ty has =
     let known : HasType c.args.seat.now.bodies c.args.place c.type_of-ty.result = c.type_of-ty.ensures.body in
     let one : known.0 ≡ has.0 = same_body c.args.seat.now known.0 has.0 c.bodies_lie_apart.ensures known.1 has.1 (known.2 ∙ sym has.2) in
     let same : c.type_of-ty.result ≡ ty = sym known.3 ∙ ap (λ (b : Body). b.ty) one ∙ has.3 in

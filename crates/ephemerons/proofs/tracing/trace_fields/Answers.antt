@@ -23,7 +23,7 @@ use Rattle.ephemerons.proofs.TracedFields.{told_length, told_apart, at_each_word
 use Rattle.ephemerons.proofs.tracing.trace_fields.Goals as goal
 
 pub loop-word-init : goal.loop-word-init
-loop-word-init c = record {
+loop-word-init g c = record {
   marks = ListsMarks-same c.args.seat.now c.args.marking.now;
   within = λ test closed held p marked. held p marked;
   notes = nothing_noted c.args.seat.now.types c.args.seat.now.bodies c.args.notes.now;
@@ -33,7 +33,7 @@ loop-word-init c = record {
 }
 
 pub trace_word-requires-clause-hand : goal.trace_word-requires-clause-hand
-trace_word-requires-clause-hand c =
+trace_word-requires-clause-hand g c =
     let u = c.args.seat.now in
     let v = c.loop-word.seat in
     at_each_word u v (same_bodies u v c.args.marking.now c.loop-word.marking c.loop-word.invariant.marks)
@@ -43,7 +43,7 @@ trace_word-requires-clause-hand c =
     c.loop-word-test.true c.loop-word.invariant.hand
 
 pub loop-word-preserved : goal.loop-word-preserved
-loop-word-preserved c =
+loop-word-preserved g c =
     let u = c.args.seat.now in
     let v = c.loop-word.seat in
     let w = c.trace_word.new.seat in
@@ -76,11 +76,11 @@ loop-word-preserved c =
     }
 
 pub returns-clause-within : goal.returns-clause-within
-returns-clause-within c =
+returns-clause-within g c =
     subst (λ (ts : List ObjectType). GrowsWithin ts c.args.seat.now c.loop-word.seat) c.requires.types c.loop-word.invariant.within
 
 pub returns-clause-strong : goal.returns-clause-strong
-returns-clause-strong c =
+returns-clause-strong g c =
     let u = c.args.seat.now in
     let w = c.loop-word.seat in
     let told : List TracedWord = c.traced_words-traced.result.now in
@@ -91,7 +91,7 @@ returns-clause-strong c =
     (λ word there. c.loop-word.invariant.done word (subst (λ l. Contains l word) (sym (take_all c.loop-word.word-index told (omega arith))) there)))
 
 pub returns-clause-pairs : goal.returns-clause-pairs
-returns-clause-pairs c fine =
+returns-clause-pairs g c fine =
     let u = c.args.seat.now in
     let w = c.loop-word.seat in
     let told : List TracedWord = c.traced_words-traced.result.now in
@@ -102,13 +102,13 @@ returns-clause-pairs c fine =
     (λ word there. c.loop-word.invariant.done word (subst (λ l. Contains l word) (sym (take_all c.loop-word.word-index told (omega arith))) there)) fine)
 
 pub returns-clause-told : goal.returns-clause-told
-returns-clause-told c =
+returns-clause-told g c =
     let told : List TracedWord = c.traced_words-traced.result.now in
     subst (Traces c.args.seat.now c.args.notes.now c.loop-word.seat c.loop-word.notes c.args.place)
     (take_all c.loop-word.word-index told (omega arith) ∙ c.traced_words-traced.ensures) c.loop-word.invariant.told
 
 pub returns-clause-hand : goal.returns-clause-hand
-returns-clause-hand c =
+returns-clause-hand g c =
     let u = c.args.seat.now in
     let told : List TracedWord = c.traced_words-traced.result.now in
     let is : told ≡ traced_words_of (kinds_of u.types c.args.ty) =

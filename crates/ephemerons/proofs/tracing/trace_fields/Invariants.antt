@@ -9,7 +9,7 @@ use Rattle.ephemerons.specs.Traces.{Traces}
 use Rattle.ephemerons.proofs.tracing.trace_fields.Given as goal
 
 abbrev pub invariant-loop-word : goal.invariant-loop-word
-invariant-loop-word l = record {
+invariant-loop-word g l = record {
   marks : ListsMarks l.initial.seat l.initial.marking l.seat l.marking;
   within : GrowsWithin l.initial.seat.types l.initial.seat l.seat;
   notes : NotesGrow l.initial.seat.types l.initial.seat.bodies l.initial.notes l.notes;

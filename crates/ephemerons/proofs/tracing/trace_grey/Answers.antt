@@ -3,19 +3,20 @@ use Rattle.std.proofs.lemmas.List.{get_or_default}
 use Rattle.page_words.specs.Seat.{SeatView, is_grey_at}
 use Rattle.ephemerons.specs.Notes.{NotesState, NotesGrow, group_at, no_notes}
 use Rattle.ephemerons.proofs.GreySteps.{ReadsFields, fewer_untraced, grey_ground, grey_looks, black_ground, black_looks}
+use Rattle.ephemerons.proofs.tracing.trace_grey.Given as given
 use Rattle.ephemerons.proofs.tracing.trace_grey.Goals as goal
 
 pub overflow_add-traced : goal.overflow_add-traced
-overflow_add-traced c =
+overflow_add-traced g c =
     let grey : is_grey_at c.args.seat.now c.args.place ≡ true = sym c.in-Some.ensures.grey in
     let low : c.args.traced.now + 1 < 2 ^ 32 =
     omega (arith, fewer_untraced c.args.seat.now c.args.place c.bodies_lie_apart.ensures c.requires.place grey, c.requires.ground.few) in
     search rules
 
-read : (c : goal.After-trace_fields)
+read : (g : given.Over) (c : goal.After-trace_fields g)
     → ReadsFields c.args.types.now c.args.seat.now c.claim.new.seat c.trace_fields.new.seat c.args.marking.now c.trace_fields.new.marking
     (group_at c.args.groups.now 0) c.trace_fields.new.notes c.args.place
-read c = record {
+read g c = record {
   view = c.bodies_lie_apart.ensures;
   place = c.requires.place;
   grey = sym c.in-Some.ensures.grey;
@@ -33,21 +34,21 @@ read c = record {
 }
 
 pub returns-in-Some-clause-ground : goal.returns-in-Some-clause-ground
-returns-in-Some-clause-ground c =
+returns-in-Some-clause-ground g c =
     grey_ground c.args.types.now c.args.seat.now c.claim.new.seat c.trace_fields.new.seat c.args.marking.now c.trace_fields.new.marking c.args.groups.now
-    c.trace_fields.new.notes c.args.traced.now c.args.place (read c) c.requires.ground
+    c.trace_fields.new.notes c.args.traced.now c.args.place (read g c) c.requires.ground
 
 pub returns-in-Some-clause-looks : goal.returns-in-Some-clause-looks
-returns-in-Some-clause-looks c =
+returns-in-Some-clause-looks g c =
     grey_looks c.args.types.now c.args.seat.now c.claim.new.seat c.trace_fields.new.seat c.args.marking.now c.trace_fields.new.marking c.args.groups.now
-    c.trace_fields.new.notes c.args.traced.now c.args.place (read c) c.requires.ground
+    c.trace_fields.new.notes c.args.traced.now c.args.place (read g c) c.requires.ground
 
 pub returns-in-None-clause-ground : goal.returns-in-None-clause-ground
-returns-in-None-clause-ground c =
+returns-in-None-clause-ground g c =
     black_ground c.args.types.now c.args.seat.now c.claim.new.seat c.args.marking.now c.args.groups.now c.args.traced.now c.args.place
     c.in-None.ensures.failed (sym c.in-None.ensures.grey) c.requires.ground
 
 pub returns-in-None-clause-looks : goal.returns-in-None-clause-looks
-returns-in-None-clause-looks c =
+returns-in-None-clause-looks g c =
     black_looks c.args.types.now c.args.seat.now c.claim.new.seat c.args.marking.now c.args.groups.now c.args.traced.now c.args.place
     c.in-None.ensures.failed (sym c.in-None.ensures.grey)

@@ -5,20 +5,21 @@ use Rattle.ephemerons.specs.Notes.{NotesState, group_at}
 use Rattle.ephemerons.specs.Fixpoint.{IsGround, Works, stage, with_held}
 use Rattle.ephemerons.proofs.GreySteps.{ReadsFields, fewer_untraced, grey_ground, grey_looks, black_ground, black_looks}
 use Rattle.ephemerons.proofs.NoPairs.{nothing_noted, none_noted, same_groups}
+use Rattle.ephemerons.proofs.tracing.trace_pairless.Given as given
 use Rattle.ephemerons.proofs.tracing.trace_pairless.Goals as goal
 
 pub overflow_add-traced : goal.overflow_add-traced
-overflow_add-traced c =
+overflow_add-traced g c =
     let grey : is_grey_at c.args.seat.now c.args.place ≡ true = sym c.in-Some.ensures.grey in
     let low : c.args.traced.now + 1 < 2 ^ 32 =
     omega (arith, fewer_untraced c.args.seat.now c.args.place c.bodies_lie_apart.ensures c.requires.place grey, c.requires.ground.few) in
     search rules
 
-read : (c : goal.After-trace_strong)
+read : (g : given.Over) (c : goal.After-trace_strong g)
     → ReadsFields c.args.types.now c.args.seat.now c.claim.new.seat c.trace_strong.new.seat c.args.marking.now
     (with_held c.trace_strong.result c.trace_strong.new.marking) (group_at c.args.groups.now 0)
     (group_at c.args.groups.now 0) c.args.place
-read c = record {
+read g c = record {
   view = c.bodies_lie_apart.ensures;
   place = c.requires.place;
   grey = sym c.in-Some.ensures.grey;
@@ -35,28 +36,28 @@ read c = record {
 }
 
 pub returns-in-Some-clause-ground : goal.returns-in-Some-clause-ground
-returns-in-Some-clause-ground c =
+returns-in-Some-clause-ground g c =
     subst (λ (gs : List NotesState). IsGround c.args.types.now (stage c.trace_strong.new.seat (with_held c.trace_strong.result c.trace_strong.new.marking) gs (c.args.traced.now + 1)))
     (same_groups c.args.groups.now c.requires.ground.own)
     (grey_ground c.args.types.now c.args.seat.now c.claim.new.seat c.trace_strong.new.seat c.args.marking.now
     (with_held c.trace_strong.result c.trace_strong.new.marking) c.args.groups.now
-    (group_at c.args.groups.now 0) c.args.traced.now c.args.place (read c) c.requires.ground)
+    (group_at c.args.groups.now 0) c.args.traced.now c.args.place (read g c) c.requires.ground)
 
 pub returns-in-Some-clause-works : goal.returns-in-Some-clause-works
-returns-in-Some-clause-works c =
+returns-in-Some-clause-works g c =
     subst
     (λ (gs : List NotesState). Works c.args.types.now (Some c.args.place) (stage c.args.seat.now c.args.marking.now c.args.groups.now c.args.traced.now)
     (stage c.trace_strong.new.seat (with_held c.trace_strong.result c.trace_strong.new.marking) gs (c.args.traced.now + 1))) (same_groups c.args.groups.now c.requires.ground.own)
     (grey_looks c.args.types.now c.args.seat.now c.claim.new.seat c.trace_strong.new.seat c.args.marking.now
     (with_held c.trace_strong.result c.trace_strong.new.marking) c.args.groups.now
-    (group_at c.args.groups.now 0) c.args.traced.now c.args.place (read c) c.requires.ground).works
+    (group_at c.args.groups.now 0) c.args.traced.now c.args.place (read g c) c.requires.ground).works
 
 pub returns-in-None-clause-ground : goal.returns-in-None-clause-ground
-returns-in-None-clause-ground c =
+returns-in-None-clause-ground g c =
     black_ground c.args.types.now c.args.seat.now c.claim.new.seat c.args.marking.now c.args.groups.now c.args.traced.now c.args.place
     c.in-None.ensures.failed (sym c.in-None.ensures.grey) c.requires.ground
 
 pub returns-in-None-clause-works : goal.returns-in-None-clause-works
-returns-in-None-clause-works c =
+returns-in-None-clause-works g c =
     (black_looks c.args.types.now c.args.seat.now c.claim.new.seat c.args.marking.now c.args.groups.now c.args.traced.now c.args.place
     c.in-None.ensures.failed (sym c.in-None.ensures.grey)).works

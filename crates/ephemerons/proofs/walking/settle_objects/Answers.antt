@@ -8,7 +8,7 @@ use Rattle.ephemerons.proofs.walking.settle_objects.Goals.{then-found, else-foun
 use Rattle.ephemerons.proofs.walking.settle_objects.Goals as goal
 
 pub loop-a-preserved : goal.loop-a-preserved
-loop-a-preserved c =
+loop-a-preserved g c =
     let either : c.if-found.found ≡ (c.loop-a.found || c.settle_object-more.result) = joined c.loop-a.found c.settle_object-more.result c.if-found.found
     (elim c.if-found.branch [ then-found w ↦ inl (w.if-found.true, w.found-is) | else-found w ↦ inr (w.if-found.false, w.found-is) ]) in
     let read : c.next_object.new.seat ≡ c.loop-a.seat = c.next_object.ensures.view in
@@ -31,7 +31,7 @@ loop-a-preserved c =
     }
 
 pub returns-clause-settled : goal.returns-clause-settled
-returns-clause-settled c none p place =
+returns-clause-settled g c none p place =
     let there : IsPlace c.loop-a.seat.bodies p = rw c.next_object.ensures.view at place in
     rw c.next_object.ensures.view (elim (cases_lt p c.loop-a.from) [
       | inl early ↦ c.loop-a.invariant.settled none p early there

@@ -15,12 +15,12 @@ use Rattle.ephemerons.proofs.walking.settle_pairs.Goals.{then-found, else-found}
 use Rattle.ephemerons.proofs.walking.settle_pairs.Goals as goal
 
 pub pair_words-pairs-requires : goal.pair_words-pairs-requires
-pair_words-pairs-requires c =
+pair_words-pairs-requires g c =
     let has : HasType c.args.seat.now.bodies c.args.a c.type_of-ty.result = c.type_of-ty.ensures.body in
     omega (arith, c.requires.ground.references.typed has.0 has.1, has.3)
 
 pub loop-word-init : goal.loop-word-init
-loop-word-init c = record {
+loop-word-init g c = record {
   ground =
       ground_looked c.args.seat.now c.type_of-ty.new.seat c.type_of-ty.ensures.view c.args.types.now c.args.marking.now c.args.groups.now c.args.traced
       c.requires.ground;
@@ -29,13 +29,13 @@ loop-word-init c = record {
 }
 
 pub settle_pair-more-requires-clause-pair : goal.settle_pair-more-requires-clause-pair
-settle_pair-more-requires-clause-pair c =
+settle_pair-more-requires-clause-pair g c =
     rw c.loop-word.invariant.looks.works.kept.bodies
     (told_pair c.args.types.now c.args.seat.now.bodies c.args.a c.type_of-ty.result c.loop-word.word-index c.pair_words-pairs.result.now
     c.type_of-ty.ensures.body c.pair_words-pairs.ensures c.loop-word-test.true)
 
 pub loop-word-preserved : goal.loop-word-preserved
-loop-word-preserved c =
+loop-word-preserved g c =
     let either : c.if-found.found ≡ (c.loop-word.found || c.settle_pair-more.result) = joined c.loop-word.found c.settle_pair-more.result c.if-found.found
     (elim c.if-found.branch [ then-found w ↦ inl (w.if-found.true, w.found-is) | else-found w ↦ inr (w.if-found.false, w.found-is) ]) in
     let before : Stage = stage c.loop-word.seat c.loop-word.marking c.args.groups.now c.args.traced in
@@ -50,7 +50,7 @@ loop-word-preserved c =
     }
 
 pub returns-clause-settled : goal.returns-clause-settled
-returns-clause-settled c none offset has =
+returns-clause-settled g c none offset has =
     let told : List ℕ = c.pair_words-pairs.result.now in
     let first : Contains c.args.seat.now.bodies has.0 = rw c.loop-word.invariant.looks.works.kept.bodies at has.1 in
     let known : HasType c.args.seat.now.bodies c.args.a c.type_of-ty.result = c.type_of-ty.ensures.body in

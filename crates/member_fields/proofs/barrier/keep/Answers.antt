@@ -4,7 +4,7 @@ use Rattle.member_fields.proofs.Marked.{fresh_barrier}
 use Rattle.member_fields.proofs.barrier.keep.Goals as goal
 
 pub returns-then-mark : goal.returns-then-mark
-returns-then-mark c =
+returns-then-mark g c =
     let on = sym c.requires.on ∙ c.if-not-marking.false in
     fresh_barrier c.args.seat.now c.mark.new.seat c.args.marking.now c.push.new.self c.args.target c.in-Some.place on c.in-Some.ensures
     (c.mark.ensures.view ∙ ap (λ (b : Bool). marked_at c.args.seat.now c.in-Some.place (not b)) c.if-mark.true)

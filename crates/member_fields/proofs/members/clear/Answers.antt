@@ -5,12 +5,12 @@ use Rattle.member_fields.proofs.Stored.{null_written}
 use Rattle.member_fields.proofs.members.clear.Goals as goal
 
 pub write-requires-clause-word : goal.write-requires-clause-word
-write-requires-clause-word c = inr (inl refl, λ on. inl refl)
+write-requires-clause-word g c = inr (inl refl, λ on. inl refl)
 
 pub returns-clause-word : goal.returns-clause-word
-returns-clause-word c =
+returns-clause-word g c =
     c.write.ensures.view
     ∙ null_written c.args.seat.now c.args.holder c.args.word c.bodies_lie_apart.ensures (is_kind Strong, c.requires.field)
 
 pub returns-clause-address : goal.returns-clause-address
-returns-clause-address c = returns-clause-word c ∙ c.write.ensures.address
+returns-clause-address g c = returns-clause-word g c ∙ c.write.ensures.address

@@ -7,13 +7,13 @@ use Rattle.member_fields.proofs.PairWords.{key_word, value_word, kinds_of_pairs,
 use Rattle.member_fields.proofs.pairs.read_pair.Goals as goal
 
 pub read-key-requires-clause-field : goal.read-key-requires-clause-field
-read-key-requires-clause-field c =
+read-key-requires-clause-field g c =
     (is_kind Pair, key_word c.args.seat.now c.args.holder c.args.word (kinds_of_pairs c.fields_stand_apart.ensures c.args.seat.now) c.requires.pair)
 
 pub overflow_add-word : goal.overflow_add-word
-overflow_add-word c = next_fits c.args.seat.now c.args.holder c.args.word c.bodies_lie_apart.ensures c.requires.pair
+overflow_add-word g c = next_fits c.args.seat.now c.args.holder c.args.word c.bodies_lie_apart.ensures c.requires.pair
 
 pub read-value-requires-clause-field : goal.read-value-requires-clause-field
-read-value-requires-clause-field c =
+read-value-requires-clause-field g c =
     subst (λ (v : SeatView). HasWordOfSomeKind v c.args.holder (c.args.word + 1)) (sym c.read-key.ensures.view)
     (is_kind Pair, value_word c.args.seat.now c.args.holder c.args.word (kinds_of_pairs c.fields_stand_apart.ensures c.args.seat.now) c.requires.pair)

@@ -7,11 +7,11 @@ use Rattle.member_fields.proofs.Stored.{key_written}
 use Rattle.member_fields.proofs.words.write_key.Goals as goal
 
 pub store-requires-clause-allowed : goal.store-requires-clause-allowed
-store-requires-clause-allowed c =
+store-requires-clause-allowed g c =
     key_allowed c.fields_stand_apart.ensures c.args.seat.now c.args.holder c.args.word c.args.key c.bodies_lie_apart.ensures c.requires.takes
 
 pub returns : goal.returns
-returns c = record {
+returns g c = record {
   word =
       c.store.ensures.view
       ∙ key_written c.fields_stand_apart.ensures c.args.seat.now c.args.holder c.args.word c.args.key c.bodies_lie_apart.ensures c.requires.takes.pair

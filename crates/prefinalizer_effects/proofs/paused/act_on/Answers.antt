@@ -106,7 +106,7 @@ returns-clause-ready c =
     let count : length (acted nodes n c.args.action) ≡ length nodes = law.0.count in
     record {
       known = stays.types ∙ ready.known;
-      laid = c.lasts_while_objects_stay.ensures.objects v c.apply.new.seat stays.count stays.extents ready.laid;
+      laid = c.lasts_while_objects_stay.ensures.objects v c.apply.new.seat stays.heap stays.extents ready.laid;
       off = stays.on ∙ ready.off;
       held = subst (λ (ns : List Node). IsHeld ns c.apply.new.seat) left (held_looked (acted nodes n c.args.action)
           (words.acted v (body_of (place_of nodes) n (node_at nodes n)) c.args.action) c.apply.new.seat (words_left c n stands) held);

@@ -5,7 +5,7 @@ use Rattle.std.proofs.lemmas.Bool.{cases_eq}
 use Rattle.std.proofs.lemmas.Nat.{and_le_l}
 use Rattle.std.proofs.lemmas.Nat.Bits.{bit_at-zero, bit_at-trailing_zeros, bit_at_clear_same, bit_at_clear_other}
 use Rattle.marker_core.specs.Bodies.{IsPlace}
-use Rattle.page_words.specs.Seat.{SeatView, unlooked}
+use Rattle.page_words.specs.Seat.{Heap, SeatView, unlooked}
 use Rattle.weak_clearing.specs.Clearing.{MarkedHaveReferencesOf}
 use Rattle.weak_clearing.specs.Steps.{kind_of_handles, body_cleared}
 use Rattle.weak_clearing.proofs.BlockWalk.{is_passed, still_left, none_left, one_passed, not_next}
@@ -33,13 +33,13 @@ lowest left some fits =
 
 pub overflow_mul-block : goal.overflow_mul-block
 overflow_mul-block c =
-    let inside : 64 * c.args.block < 2 ^ 32 = omega (arith, c.bodies_lie_apart.ensures.count, c.requires.heap, c.requires.block) in
+    let inside : 64 * c.args.block < 2 ^ 32 = omega (arith, c.bodies_lie_apart.ensures.count, ap (λ (h : Heap). h.count) c.requires.heap, c.requires.block) in
     search rules
 
 pub overflow_add-block : goal.overflow_add-block
 overflow_add-block c =
     let low = lowest c.loop-left.left c.loop-left-test.true (omega arith) in
-    let inside : 64 * c.args.block + trailing_zeros w64 c.loop-left.left < 2 ^ 32 = omega (arith, low.0, c.bodies_lie_apart.ensures.count, c.requires.heap, c.requires.block) in
+    let inside : 64 * c.args.block + trailing_zeros w64 c.loop-left.left < 2 ^ 32 = omega (arith, low.0, c.bodies_lie_apart.ensures.count, ap (λ (h : Heap). h.count) c.requires.heap, c.requires.block) in
     search rules
 
 pub clear_object-requires-clause-start : goal.clear_object-requires-clause-start

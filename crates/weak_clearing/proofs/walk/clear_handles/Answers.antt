@@ -4,7 +4,7 @@ use Rattle.gc_graph.specs.State.{ObjectType}
 use Rattle.marker_core.specs.Matching.{IsWhole}
 use Rattle.page_words.specs.BodyPlaces.{whole_body}
 use Rattle.page_words.specs.Roles.{kind_lists}
-use Rattle.page_words.specs.Seat.{SeatView, unlooked}
+use Rattle.page_words.specs.Seat.{Heap, SeatView, unlooked}
 use Rattle.type_table.specs.Types.{kinds_of, offsets_of_kind}
 use Rattle.weak_clearing.specs.Clearing.{MarkedHaveReferencesOf}
 use Rattle.weak_clearing.specs.Steps.{kind_of_handles, block_cleared}
@@ -34,7 +34,7 @@ returns c =
     c.loop-block.invariant
     ∙ ap unlooked (where_all c.args.handles c.args.seat.now (λ a. ltb a (64 * c.loop-block.block)) (λ b there.
     let whole : IsWhole c.args.seat.now.count (kind_lists c.args.seat.now.types) b = whole_body c.args.seat.now c.bodies_lie_apart.ensures b there in
-    lt-ltb b.place (64 * c.loop-block.block) (omega (arith, whole.inside, whole.fields, c.requires.heap, c.count-block-end.ensures.valid.bits, c.count-block-end.ensures.count, c.words.ensures))))
+    lt-ltb b.place (64 * c.loop-block.block) (omega (arith, whole.inside, whole.fields, ap (λ (h : Heap). h.count) c.requires.heap, c.count-block-end.ensures.valid.bits, c.count-block-end.ensures.count, ap (λ (h : Heap). h.count) (c.deref.ensures ∙ c.words.ensures)))))
 
 pub returns-then-not-are_in : goal.returns-then-not-are_in
 returns-then-not-are_in c =

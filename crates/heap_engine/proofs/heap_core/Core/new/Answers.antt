@@ -4,6 +4,7 @@ use Rattle.gc_graph.specs.State.{Shape}
 use Rattle.callback_table.specs.Table.{kinds_of}
 use Rattle.marker_core.specs.Bodies.{holds}
 use Rattle.cross_thread_region.specs.Histories.{entries_of}
+use Rattle.page_words.specs.Seat.{Heap}
 use Rattle.nodes_in_words.specs.Places.{kept_of}
 use Rattle.heap_objects.specs.Objects.{told_of}
 use Rattle.heap_cycle.specs.declared.parts.Parts.{Parts}
@@ -18,9 +19,9 @@ use Rattle.heap_engine.proofs.heap_core.Core.new.Goals as goal
 -- the parts are those of an empty heap
 are_empty : (d : given.Over) (c : goal.After-empty d)
     → (let parts : Parts = record { objects = c.in_ok-objects.objects; handles = c.in_ok-handles.handles; cycle = c.new-cycle.result } in
-    parts ≡ empty_parts (record { pages = c.args.config.pages; page_words = c.args.config.page_words }) c.args.types (kinds_of c.args.callbacks.now))
+    parts ≡ empty_parts c.in_ok-objects.objects.seat.heap (record { pages = c.args.config.pages; page_words = c.args.config.page_words }) c.args.types (kinds_of c.args.callbacks.now))
 are_empty d c =
-    parts_empty (record { objects = c.in_ok-objects.objects; handles = c.in_ok-handles.handles; cycle = c.new-cycle.result })
+    parts_empty (record { objects = c.in_ok-objects.objects; handles = c.in_ok-handles.handles; cycle = c.new-cycle.result }) c.in_ok-objects.objects.seat.heap
     (record { pages = c.args.config.pages; page_words = c.args.config.page_words }) c.args.types (kinds_of c.args.callbacks.now) c.in_ok-objects.ensures.view c.in_ok-handles.ensures
     c.new-cycle.ensures
 
@@ -28,13 +29,14 @@ pub invariant_of-result : goal.invariant_of-result
 invariant_of-result d c =
     let shape : Shape = record { pages = c.args.config.pages; page_words = c.args.config.page_words } in
     let parts : Parts = record { objects = c.in_ok-objects.objects; handles = c.in_ok-handles.handles; cycle = c.new-cycle.result } in
+    let heap : Heap = c.in_ok-objects.objects.seat.heap in
     record {
-      ready = ready_empty parts shape c.args.types (kinds_of c.args.callbacks.now) c.empty_is_valid.ensures c.requires.called (are_empty d c);
-      shared = shared_empty parts shape c.args.types (kinds_of c.args.callbacks.now) c.in_ok-shared.shared (are_empty d c) c.in_ok-shared.ensures;
+      ready = ready_empty parts heap shape c.args.types (kinds_of c.args.callbacks.now) c.empty_is_valid.ensures c.requires.called (are_empty d c);
+      shared = shared_empty parts heap shape c.args.types (kinds_of c.args.callbacks.now) c.in_ok-shared.shared (are_empty d c) c.in_ok-shared.ensures;
       replies = told_empty c.in_ok-shared.shared c.in_ok-shared.ensures;
       totals = no_totals c.empty.result.value c.in_ok-shared.shared c.in_ok-shared.ensures;
       joined = λ telling. absurd (true≢false (sym telling ∙ ap (λ (h : Shared). h.telling) c.in_ok-shared.ensures));
-      counted = counted_empty parts shape c.args.types (kinds_of c.args.callbacks.now) (are_empty d c);
+      counted = counted_empty parts heap shape c.args.types (kinds_of c.args.callbacks.now) (are_empty d c);
       told = subst (λ (o : Printed). IsOutcome o c.new-cycle.result.ran) (sym c.in_ok-outcome.ensures) (record { ran_some = λ runs. cc; last_plain = tt });
       room = omega (arith, ap (λ (o : Printed). o.room) c.in_ok-outcome.ensures, c.word_count.ensures);
     }

@@ -57,7 +57,7 @@ invariant_of-self c =
       called = c.self.invariant.called;
       few = c.self.invariant.few;
       known = stays.types ∙ c.self.invariant.known;
-      laid = c.lasts_while_objects_stay.ensures.objects u c.write_field.new.seat stays.count (ap extents_of_bodies stays.bodies)
+      laid = c.lasts_while_objects_stay.ensures.objects u c.write_field.new.seat stays.heap (ap extents_of_bodies stays.bodies)
           (c.lasts_while_objects_stay.ensures.store v a c.args.content.now.word c.self.invariant.laid);
       alone = leaves.alone ((rewritten_leaves v a c.args.content.now.word).alone c.self.invariant.alone);
       held = held_marked c.written.result.value u c.write_field.new.seat stays (subst (λ (ns : List Node). IsHeld ns u) new (subst (IsHeld (with_field nodes is.0 index x)) seat

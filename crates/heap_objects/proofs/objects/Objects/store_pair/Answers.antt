@@ -83,7 +83,7 @@ invariant_of-self c =
       called = c.self.invariant.called;
       few = c.self.invariant.few;
       known = stays.types ∙ c.self.invariant.known;
-      laid = c.lasts_while_objects_stay.ensures.objects u c.set_pair.new.seat stays.count (ap extents_of_bodies stays.bodies)
+      laid = c.lasts_while_objects_stay.ensures.objects u c.set_pair.new.seat stays.heap (ap extents_of_bodies stays.bodies)
           (c.lasts_while_objects_stay.ensures.store half (holder + word) c.args.pair.now.key.word
           (c.lasts_while_objects_stay.ensures.store v (holder + (word + 1)) c.args.pair.now.value.word c.self.invariant.laid));
       alone = leaves.alone ((rewritten_leaves half (holder + word) c.args.pair.now.key.word).alone ((rewritten_leaves v (holder + (word + 1)) c.args.pair.now.value.word).alone c.self.invariant.alone));

@@ -70,7 +70,7 @@ returns-clause-none c =
       | inl under ↦ c.loop-page.invariant.none other (omega arith)
       | inr above ↦
           (λ from a run. absurd (let some : 0 < get_or now.table.objects other 0 =
-          (held_is_used now c.args.seat.now.count (extents_of_bodies c.args.seat.now.bodies) other (omega (arith, words.0)) c.requires.space (omega (arith, c.requires.to))).1
+          (held_is_used now c.args.seat.now.count (extents_of_bodies c.args.seat.now.bodies) other (omega (arith, words.0)) c.requires.space.over (omega (arith, c.requires.to))).1
           (uses_of_bucket now.shape (extents_of_bodies c.args.seat.now.bodies) other (bucket_of now.shape.page_words c.args.size) run.bucket) in
           omega (arith, some, c.top.ensures other above, ap (λ s. get_or s.table.objects other 0) c.self.view_is)))
     ])

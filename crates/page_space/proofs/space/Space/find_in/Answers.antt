@@ -40,7 +40,7 @@ gap_in-found-requires-clause-whole c =
     let has : PageHasBucket now.shape.page_words (extents_of_bodies c.args.seat.now.bodies) c.args.page (bucket_of now.shape.page_words c.args.size) =
     subst (PageHasBucket now.shape.page_words (extents_of_bodies c.args.seat.now.bodies) c.args.page) bucket (c.has_bucket.ensures.bucket.0 c.if-not-has_bucket.false) in
     subst (λ (v : SeatView). HoldsWhole now.shape v.bodies c.args.page) (sym c.has_bucket.ensures.view)
-    (page_holds_whole now c.args.seat.now.count c.args.seat.now.bodies c.args.size c.args.page (omega (arith, words.0)) c.requires.space c.requires.small has)
+    (page_holds_whole now c.args.seat.now.count c.args.seat.now.bodies c.args.size c.args.page (omega (arith, words.0)) c.requires.space.over c.requires.small has)
 
 -- a gap of the size begins where the search looks
 searched_from : (now : SpaceView) (v : SeatView) (page size class least from : ℕ) → IsSpaceOf now v → 256 ≤ now.shape.page_words

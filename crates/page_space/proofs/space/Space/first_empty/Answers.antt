@@ -8,6 +8,6 @@ pub returns-clause-used : goal.returns-clause-used
 returns-clause-used c page below =
     let now = c.args.self.now in
     let words = shape_words now.shape c.shape_is_valid.ensures in
-    (held_is_used now c.args.seat.now.count (extents_of_bodies c.args.seat.now.bodies) page (omega (arith, words.0)) c.requires.space
+    (held_is_used now c.args.seat.now.count (extents_of_bodies c.args.seat.now.bodies) page (omega (arith, words.0)) c.requires.space.over
     (omega (arith, c.first_empty.ensures.within, c.self.invariant.objects, ap (λ s. s.shape.pages) c.self.view_is))).0
     (omega (arith, c.first_empty.ensures.below page below, ap (λ s. get_or s.table.objects page 0) c.self.view_is))

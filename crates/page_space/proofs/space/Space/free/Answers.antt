@@ -1,4 +1,5 @@
 use Rattle.std.proofs.Common.{rules, ◌≡◌, ℕ, ◌+◌, ◌-◌, ◌^◌, ◌<◌, ◌≤◌, true, List, ap, ◌∙◌, sym, subst, arith, refl}
+use Rattle.std.specs.Arc.{arc_value}
 use Rattle.std.specs.List.{Contains, filter, sum_by}
 use Rattle.gc_graph.specs.Placement.{Extent}
 use Rattle.marker_core.specs.Bodies.{IsPlace, holds}
@@ -7,7 +8,7 @@ use Rattle.page_words.specs.Seat.{SeatView, IsView, IsUnnamed, OnlyLooked}
 use Rattle.page_words.specs.BodyPlaces.{two_words, within_heap}
 use Rattle.gap_bounds.specs.Gaps.{KnowsGaps}
 use Rattle.page_space.specs.Pages.{word_count}
-use Rattle.page_space.specs.Space.{SpaceView, IsSpaceOver, extent_of, extents_of_bodies}
+use Rattle.page_space.specs.Space.{heap_of, SpaceView, IsSpaceOver, extent_of, extents_of_bodies}
 use Rattle.page_space.proofs.Shapes.{shape_words}
 use Rattle.gc_graph.specs.Members.{Contains-map}
 use Rattle.page_space.proofs.Extents.{others, one_less}
@@ -82,6 +83,7 @@ leave-requires-clause-some c page in_page =
     freed_extent c.args.seat.now c.args.a c.args.size c.bodies_lie_apart.ensures c.requires.dead c.requires.size in
     let space : SpaceView = record {
       shape = record { pages = c.self.inside.pages; page_words = c.self.inside.page_words };
+      words = (arc_value c.self.inside.words).table;
       objects = c.self.inside.objects;
       used = c.self.inside.used;
       table = c.self.inside.table;
@@ -90,7 +92,7 @@ leave-requires-clause-some c page in_page =
     let same : space ≡ c.args.self.now =
     ap (λ (s : SpaceView). let r : SpaceView = record s { gaps = c.args.self.now.gaps } in r) c.self.view_is ∙ as_was c.open_gap.new.self c.args.self.now c.open_gap.ensures.rest in
     let over : IsSpaceOver space c.args.seat.now.count (extents_of_bodies c.args.seat.now.bodies) =
-    subst (λ s. IsSpaceOver s c.args.seat.now.count (extents_of_bodies c.args.seat.now.bodies)) (sym same) c.requires.space in
+    subst (λ s. IsSpaceOver s c.args.seat.now.count (extents_of_bodies c.args.seat.now.bodies)) (sym same) c.requires.space.over in
     let words = shape_words space.shape c.self.invariant.shape in
     held_some space c.args.seat.now.count (extents_of_bodies c.args.seat.now.bodies) e page (omega (arith, words.0)) over there
     (omega (arith, freed_inside c.args.seat.now c.args.a c.args.size c.bodies_lie_apart.ensures c.requires.dead c.requires.size, ap (λ s. word_count s.shape) same)) in_page
@@ -103,6 +105,7 @@ returns-clause-space c =
     freed_extent c.args.seat.now c.args.a c.args.size c.bodies_lie_apart.ensures c.requires.dead c.requires.size in
     let space : SpaceView = record {
       shape = record { pages = c.self.inside.pages; page_words = c.self.inside.page_words };
+      words = (arc_value c.self.inside.words).table;
       objects = c.self.inside.objects;
       used = c.self.inside.used;
       table = c.self.inside.table;
@@ -111,11 +114,11 @@ returns-clause-space c =
     let same : space ≡ c.args.self.now =
     ap (λ (s : SpaceView). let r : SpaceView = record s { gaps = c.args.self.now.gaps } in r) c.self.view_is ∙ as_was c.open_gap.new.self c.args.self.now c.open_gap.ensures.rest in
     let over : IsSpaceOver space c.args.seat.now.count (extents_of_bodies c.args.seat.now.bodies) =
-    subst (λ s. IsSpaceOver s c.args.seat.now.count (extents_of_bodies c.args.seat.now.bodies)) (sym same) c.requires.space in
+    subst (λ s. IsSpaceOver s c.args.seat.now.count (extents_of_bodies c.args.seat.now.bodies)) (sym same) c.requires.space.over in
     let knows : KnowsGaps space.shape (filter (others c.args.a) es) c.self.inside.gaps =
     rw (ap (λ s. s.shape) same, ap (λ s. s.gaps) c.self.view_is) c.open_gap.ensures.knows in
     let now : IsSpaceOver
-    (record { shape = space.shape; objects = space.objects - 1; used = space.used - c.args.size; table = c.leave.new.self; gaps = c.self.inside.gaps })
+    (record { shape = space.shape; words = space.words; objects = space.objects - 1; used = space.used - c.args.size; table = c.leave.new.self; gaps = c.self.inside.gaps })
     c.args.seat.now.count (filter (others c.args.a) es) =
     left space c.args.seat.now.count es e c.leave.new.self c.self.inside.gaps (omega (arith, (shape_words space.shape c.self.invariant.shape).0)) over (seat_apart c.args.seat.now c.bodies_lie_apart.ensures) there
     (omega (arith, freed_inside c.args.seat.now c.args.a c.args.size c.bodies_lie_apart.ensures c.requires.dead c.requires.size, c.requires.space.seat))
@@ -125,4 +128,7 @@ returns-clause-space c =
     let extents : extents_of_bodies c.retract.new.seat.bodies ≡ filter (others c.args.a) es =
     ap (λ v. extents_of_bodies v.bodies) c.retract.ensures ∙ extents_filter c.open_gap.new.seat.bodies c.args.a
     ∙ ap (λ (v : SeatView). filter (others c.args.a) (extents_of_bodies v.bodies)) opened in
-    rw (count, extents) now
+    record {
+      words = ap (λ v. v.heap) c.retract.ensures ∙ ap (λ (v : SeatView). v.heap) opened ∙ c.requires.space.words ∙ sym (ap heap_of same);
+      over = rw (count, extents) now;
+    }

@@ -4,7 +4,7 @@ use Rattle.object_headers.specs.Layout.{header_word}
 use Rattle.marker_core.specs.SeatLaws.{IsReady}
 use Rattle.page_words.specs.Seat.{SeatView, side, filled_with, published}
 use Rattle.page_space.specs.Pages.{word_count}
-use Rattle.page_space.specs.Space.{IsSeatOf}
+use Rattle.page_space.specs.Space.{IsSeatOf, heap_of}
 use Rattle.page_space.specs.Occupying.{HasNulls, IsNewNumber, IsRoom, least_size, new_body}
 use Rattle.page_space.proofs.OccupyFilled.{head_filled, head_occupies, ready_to_publish}
 use Rattle.page_space.proofs.space.Space.head_and_publish.Goals as goal
@@ -40,7 +40,7 @@ publish-requires g c =
     let ready : IsReady (side c.fill-2.new.seat) (new_body c.args.a c.args.ty c.args.size c.args.serial) =
     subst (λ (v : SeatView). IsReady (side v) (new_body c.args.a c.args.ty c.args.size c.args.serial)) (sym head)
     (ready_to_publish c.args.seat.now c.args.a c.args.ty c.args.size c.args.serial room known least most unused number nulls) in (
-      ap (λ v. v.count) head ∙ seat ∙ ap (λ s. word_count s.shape) (sym c.self.view_is) ∙ sym c.self.invariant.words,
+      ap (λ v. v.heap) head ∙ seat ∙ ap heap_of (sym c.self.view_is) ∙ sym c.self.invariant.words ∙ sym c.deref-3.ensures,
       (ap (λ b. b.place) body, subst (IsReady (side c.fill-2.new.seat)) (sym body) ready),
     )
 

@@ -1,11 +1,11 @@
-use Rattle.std.proofs.Common.{◌≡◌, ◌≤◌, refl, subst, sym, arith}
+use Rattle.std.proofs.Common.{◌≡◌, ◌≤◌, ap, refl, subst, sym, arith}
 use Rattle.std.specs.List.{Contains}
 use Rattle.object_headers.specs.Layout.{IsHeaderWord}
 use Rattle.marker_core.specs.declared.states.Body.{Body}
 use Rattle.marker_core.specs.Matching.{IsWhole}
 use Rattle.marker_core.specs.Layout.{has_mark, has_traced}
 use Rattle.marker_core.specs.SeatFacts.{IsTold, IsHeaderAt}
-use Rattle.page_words.specs.Seat.{side}
+use Rattle.page_words.specs.Seat.{Heap, side}
 use Rattle.page_words.specs.Roles.{kind_lists}
 use Rattle.marker_core.specs.Bodies.{holds}
 use Rattle.page_space.specs.Space.{IsHeaderOf}
@@ -63,4 +63,4 @@ returns-clause-inside c =
     let start = c.requires.start in
     let at : start.0.place ≡ c.args.a = start.2 in
     let whole : IsWhole v.count (kind_lists v.types) start.0 = whole_body v c.bodies_lie_apart.ensures start.0 start.1 in
-    omega (arith, at, tells_size v c.args.a c.read_unchecked.result (header_is c) start.0 start.1 start.2, whole.inside, c.requires.heap)
+    omega (arith, at, tells_size v c.args.a c.read_unchecked.result (header_is c) start.0 start.1 start.2, whole.inside, ap (λ (h : Heap). h.count) c.requires.heap)

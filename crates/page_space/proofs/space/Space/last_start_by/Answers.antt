@@ -1,9 +1,10 @@
 use Rattle.std.proofs.Common.{◌≡◌, ◌+◌, ◌*◌, ◌/◌, ◌%◌, ap, ◌∙◌, sym, inl, inr, refl, arith}
+use Rattle.page_words.specs.Seat.{Heap}
 use Rattle.std.proofs.lemmas.Bool.{cases_lt}
 use Rattle.std.proofs.lemmas.Option.{IfSome_then}
 use Rattle.page_words.specs.BodyPlaces.{no_place_beyond}
 use Rattle.page_space.specs.Pages.{word_count}
-use Rattle.page_space.specs.Space.{HasNoStart}
+use Rattle.page_space.specs.Space.{heap_of, HasNoStart}
 use Rattle.page_space.proofs.PlaceFound.{if_none_then}
 use Rattle.page_space.proofs.StartBits.{bits_to, no_bits_to, highest_bit_to}
 use Rattle.page_space.proofs.space.Space.last_start_by.Goals as goal
@@ -13,7 +14,7 @@ use Rattle.page_space.proofs.space.Space.last_start_by.Goals.{After-load, After-
 same_view : (c : After-load) → c.load.new.seat ≡ c.args.seat.now
 same_view c =
     let count : c.count.result ≡ c.args.seat.now.count =
-    c.count.ensures.count ∙ c.self.invariant.words ∙ ap (λ s. word_count s.shape) c.self.view_is ∙ sym c.requires.heap in
+    c.count.ensures.count ∙ ap (λ (h : Heap). h.count) (c.deref-2.ensures ∙ c.self.invariant.words ∙ ap heap_of c.self.view_is ∙ sym c.requires.heap) in
     c.load.ensures.beside refl
     (no_place_beyond c.args.seat.now (c.count.result + c.args.a / 64) c.bodies_lie_apart.ensures (omega (arith, count)))
 
@@ -21,7 +22,7 @@ pub returns-then-bits-ne0-clause-view : goal.returns-then-bits-ne0-clause-view
 returns-then-bits-ne0-clause-view c = same_view c.before.before
 
 pub last_start-requires-clause-heap : goal.last_start-requires-clause-heap
-last_start-requires-clause-heap c = ap (λ v. v.count) (same_view c.before.before) ∙ c.requires.heap
+last_start-requires-clause-heap c = ap (λ v. v.heap) (same_view c.before.before) ∙ c.requires.heap
 
 pub returns-clause-view : goal.returns-clause-view
 returns-clause-view c = c.last_start.ensures.view ∙ same_view c.before.before.before
@@ -29,18 +30,18 @@ returns-clause-view c = c.last_start.ensures.view ∙ same_view c.before.before.
 pub returns-then-bits-ne0-clause-found : goal.returns-then-bits-ne0-clause-found
 returns-then-bits-ne0-clause-found c =
     let count : c.count.result ≡ c.args.seat.now.count =
-    c.count.ensures.count ∙ c.self.invariant.words ∙ ap (λ s. word_count s.shape) c.self.view_is ∙ sym c.requires.heap in
+    c.count.ensures.count ∙ ap (λ (h : Heap). h.count) (c.deref-2.ensures ∙ c.self.invariant.words ∙ ap heap_of c.self.view_is ∙ sym c.requires.heap) in
     let last = highest_bit_to c.args.seat.now c.load.result c.args.a (bits_to c.load.result (c.args.a % 64)) c.ilog2.result
-    (rw count at c.load.ensures.word) (omega (arith, c.requires.heap, c.requires.address)) refl c.ilog2.ensures.power_le c.ilog2.ensures.next_power_gt in
+    (rw count at c.load.ensures.word) (omega (arith, ap (λ (h : Heap). h.count) c.requires.heap, c.requires.address)) refl c.ilog2.ensures.power_le c.ilog2.ensures.next_power_gt in
     (last.0, omega (arith, last.1, c.requires.first), last.2, last.3)
 
 -- no object starts in the address's block up to the address
 none_here : (c : After-last_start) → HasNoStart c.args.seat.now.bodies (64 * (c.args.a / 64)) (c.args.a + 1)
 none_here c =
     let count : c.count.result ≡ c.args.seat.now.count =
-    c.count.ensures.count ∙ c.self.invariant.words ∙ ap (λ s. word_count s.shape) c.self.view_is ∙ sym c.requires.heap in
+    c.count.ensures.count ∙ ap (λ (h : Heap). h.count) (c.deref-2.ensures ∙ c.self.invariant.words ∙ ap heap_of c.self.view_is ∙ sym c.requires.heap) in
     no_bits_to c.args.seat.now c.load.result c.args.a (bits_to c.load.result (c.args.a % 64)) (rw count at c.load.ensures.word)
-    (omega (arith, c.requires.heap, c.requires.address)) refl c.if-bits-ne0.false
+    (omega (arith, ap (λ (h : Heap). h.count) c.requires.heap, c.requires.address)) refl c.if-bits-ne0.false
 
 pub returns-clause-found : goal.returns-clause-found
 returns-clause-found c =

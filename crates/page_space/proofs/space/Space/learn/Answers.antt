@@ -1,7 +1,7 @@
 use Rattle.std.proofs.Common.{◌≡◌, ◌*◌, ◌+◌, ap, arith}
 use Rattle.page_space.specs.Space.{extents_of_bodies}
 use Rattle.gc_graph.specs.PageNumbers.{page_before}
-use Rattle.page_space.proofs.KnownGaps.{others_stay}
+use Rattle.page_space.proofs.KnownGaps.{space_stays}
 use Rattle.page_space.proofs.Shapes.{shape_words}
 use Rattle.page_space.proofs.space.Space.learn.Goals as goal
 
@@ -10,7 +10,7 @@ returns-then-not-is_known-clause-space c =
     let now = c.args.self.now in
     let es = extents_of_bodies c.args.seat.now.bodies in
     let same : c.self.inside.gaps ≡ now.gaps = ap (λ s. s.gaps) c.self.view_is in
-    others_stay _ now c.args.seat.now.count es c.learn.new.self c.self.view_is c.requires.space
+    space_stays _ now c.args.seat.now c.learn.new.self c.self.view_is c.requires.space
     (c.learn.ensures.knows now.shape es c.groups-groups.ensures (shape_words now.shape c.shape_is_valid.ensures).1 (rw same c.requires.space.gaps))
 
 pub learn-requires-clause-groups : goal.learn-requires-clause-groups

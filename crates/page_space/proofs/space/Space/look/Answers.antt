@@ -6,8 +6,9 @@ use Rattle.page_space.specs.Pages.{word_count}
 use Rattle.page_space.specs.Space.{SpaceView, HoldsWhole, extents_of_bodies}
 use Rattle.page_space.specs.Walks.{IsEdge}
 use Rattle.gc_graph.specs.PageNumbers.{same_page, page_before}
-use Rattle.page_space.proofs.KnownGaps.{others_stay}
+use Rattle.page_space.proofs.KnownGaps.{space_stays}
 use Rattle.page_space.proofs.WalkSteps.{from_edge, block_ends}
+use Rattle.page_space.proofs.SeatExtents.{lasts}
 use Rattle.page_space.proofs.Shapes.{shape_words}
 use Rattle.page_space.proofs.space.Space.look.Goals as goal
 
@@ -67,8 +68,8 @@ returns-clause-space c =
     let same : c.self.inside.gaps ≡ now.gaps = ap (λ s. s.gaps) c.self.view_is in
     let longest = rw (ap (λ (v : SeatView). v.bodies) c.edge_from.ensures.view) at c.in_default.ensures.longest in
     let view : OnlyLooked v c.walk.new.seat = c.walk.ensures.view ∙ c.edge_from.ensures.view in
-    rw (ap (λ (u : SeatView). u.count) view, ap (λ (u : SeatView). u.bodies) view)
-    (others_stay _ now v.count es c.saw.new.self c.self.view_is c.requires.space
+    lasts _ v c.walk.new.seat (ap (λ (u : SeatView). u.heap) view) (ap (λ (u : SeatView). extents_of_bodies u.bodies) view)
+    (space_stays _ now v c.saw.new.self c.self.view_is c.requires.space
     (c.saw.ensures.knows now.shape es
     (λ page size a gap from to. elim (cases_lt 0 size) [
       | inl some ↦

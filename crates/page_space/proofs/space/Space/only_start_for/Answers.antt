@@ -10,7 +10,7 @@ use Rattle.page_space.proofs.space.Space.only_start_for.Goals.{After-start_of_pa
 pub returns-then-objects_in-eq0-clause-only : goal.returns-then-objects_in-eq0-clause-only
 returns-then-objects_in-eq0-clause-only c a h =
     let v = c.args.seat.now in
-    let over : IsSpaceOver _ v.count (extents_of_bodies v.bodies) = subst (λ s. IsSpaceOver s v.count (extents_of_bodies v.bodies)) (sym c.self.view_is) c.requires.space in
+    let over : IsSpaceOver _ v.count (extents_of_bodies v.bodies) = subst (λ s. IsSpaceOver s v.count (extents_of_bodies v.bodies)) (sym c.self.view_is) c.requires.space.over in
     let w : ℕ = c.self.inside.page_words in
     let words = shape_words _ c.self.invariant.shape in
     let page : c.args.a / w < c.self.inside.pages =
@@ -22,7 +22,7 @@ starts : (c : After-start_of_page)
     → IsOnlyStart c.args.seat.now.bodies c.self.inside.page_words (c.args.a / c.self.inside.page_words) (c.start_of_page.result * c.self.inside.page_words)
 starts c =
     let v = c.args.seat.now in
-    let over : IsSpaceOver _ v.count (extents_of_bodies v.bodies) = subst (λ s. IsSpaceOver s v.count (extents_of_bodies v.bodies)) (sym c.self.view_is) c.requires.space in
+    let over : IsSpaceOver _ v.count (extents_of_bodies v.bodies) = subst (λ s. IsSpaceOver s v.count (extents_of_bodies v.bodies)) (sym c.self.view_is) c.requires.space.over in
     let w : ℕ = c.self.inside.page_words in
     let words = shape_words _ c.self.invariant.shape in
     let page : c.args.a / w < c.self.inside.pages =
@@ -59,7 +59,7 @@ returns-clause-only c a h =
     let bucket : c.bucket_of_page.result ≡ get_or c.args.self.now.table.buckets (c.args.a / w) 0 =
     c.bucket_of_page.ensures ∙ ap (λ s. get_or s.table.buckets (c.args.a / s.shape.page_words) 0) c.self.view_is in
     let from : c.args.a / w * w ≤ a =
-    small_start c.args.self.now v.count v.bodies c.args.a a (omega (arith, sizes.0)) c.requires.space (λ large. c.if-bucket_of_page-eq-LARGE.false (bucket ∙ large)) h in
+    small_start c.args.self.now v.count v.bodies c.args.a a (omega (arith, sizes.0)) c.requires.space.over (λ large. c.if-bucket_of_page-eq-LARGE.false (bucket ∙ large)) h in
     let words : c.args.a / w * (64 * c.blocks-2.result) ≡ c.args.a / w * w = ap (λ n. c.args.a / w * n) c.blocks-2.ensures in
     let start : 64 * (c.args.a / w * c.blocks-2.result) ≤ a = omega arith in
     only_last v _ c.args.a a c.last_start_by.result c.bodies_lie_apart.ensures c.last_start_by.ensures.found c.last_start_by.ensures.none (rw page start) h

@@ -1,7 +1,7 @@
 use Rattle.std.proofs.Common.{◌≡◌, ◌*◌, get_or, ap, ◌∙◌, arith}
 use Rattle.gap_bounds.specs.Changes.{MayBegin}
 use Rattle.page_space.specs.Space.{extents_of_bodies}
-use Rattle.page_space.proofs.KnownGaps.{others_stay}
+use Rattle.page_space.proofs.KnownGaps.{space_stays}
 use Rattle.page_space.proofs.Shapes.{shape_words}
 use Rattle.page_space.proofs.space.Space.pass.Goals as goal
 
@@ -21,5 +21,5 @@ returns-then-first_for-page-clause-space c =
       known = c.requires.known;
       worth = c.requires.worth;
     } in
-    others_stay _ now c.args.seat.now.count es c.begin_at.new.self c.self.view_is c.requires.space
+    space_stays _ now c.args.seat.now c.begin_at.new.self c.self.view_is c.requires.space
     (c.begin_at.ensures.knows now.shape es c.args.page (rw same may) (rw same c.requires.space.gaps))

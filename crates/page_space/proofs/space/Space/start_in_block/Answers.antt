@@ -1,4 +1,6 @@
 use Rattle.std.proofs.Common.{◌≡◌, ◌+◌, ◌/◌, ◌%◌, ◌^◌, ap, ◌∙◌, sym, refl, arith}
+use Rattle.page_space.specs.Space.{heap_of}
+use Rattle.page_words.specs.Seat.{Heap}
 use Rattle.std.specs.Int.{trailing_zeros}
 use mir.Syntax.{w64}
 use Rattle.page_words.specs.BodyPlaces.{no_place_beyond}
@@ -9,7 +11,7 @@ use Rattle.page_space.proofs.space.Space.start_in_block.Goals.{After-load, Else-
 
 -- the words are counted as the seat counts them
 counted : (c : After-load) → c.count.result ≡ c.args.seat.now.count
-counted c = c.count.ensures.count ∙ c.self.invariant.words ∙ ap (λ s. word_count s.shape) c.self.view_is ∙ sym c.requires.heap
+counted c = c.count.ensures.count ∙ ap (λ (h : Heap). h.count) (c.deref.ensures ∙ c.self.invariant.words ∙ ap heap_of c.self.view_is ∙ sym c.requires.heap)
 
 bits_at : (c : After-load) → IsBitsAt c.args.seat.now c.args.at c.load.result
 bits_at c = rw (counted c) at c.load.ensures.word
@@ -17,13 +19,13 @@ bits_at c = rw (counted c) at c.load.ensures.word
 next_place : (c : Else-bits-eq0) → IsNextPlace c.args.seat.now c.args.at (c.args.at + trailing_zeros w64 (c.load.result / 2 ^ (c.args.at % 64)))
 next_place c =
     lowest_bit c.args.seat.now c.load.result c.args.at _ _ (bits_at c.before) c.load.type_inv
-    (omega (arith, c.count.ensures.valid.bits, c.count.ensures.count, counted c.before)) (omega (arith, c.requires.heap, c.requires.address))
+    (omega (arith, c.count.ensures.valid.bits, c.count.ensures.count, counted c.before)) (omega (arith, ap (λ (h : Heap). h.count) c.requires.heap, c.requires.address))
     refl c.if-bits-eq0.false refl
 
 pub returns-then-bits-eq0-clause-none : goal.returns-then-bits-eq0-clause-none
 returns-then-bits-eq0-clause-none c p low high place =
     no_bits c.args.seat.now c.load.result c.args.at _ (bits_at c.before) refl c.if-bits-eq0.true p low high
-    (omega (arith, c.count.ensures.valid.bits, c.count.ensures.count, counted c.before, c.requires.heap, c.requires.address)) place
+    (omega (arith, c.count.ensures.valid.bits, c.count.ensures.count, counted c.before, ap (λ (h : Heap). h.count) c.requires.heap, c.requires.address)) place
 
 pub returns-clause-found : goal.returns-clause-found
 returns-clause-found c =

@@ -1,7 +1,7 @@
 use Rattle.std.proofs.Common.{◌≡◌, ◌*◌, ◌+◌, ap, arith}
 use Rattle.page_space.specs.Space.{extents_of_bodies}
 use Rattle.gc_graph.specs.PageNumbers.{page_before}
-use Rattle.page_space.proofs.KnownGaps.{others_stay}
+use Rattle.page_space.proofs.KnownGaps.{space_stays}
 use Rattle.page_space.proofs.space.Space.tighten.Goals as goal
 
 pub returns-clause-space : goal.returns-clause-space
@@ -9,7 +9,7 @@ returns-clause-space c =
     let now = c.args.self.now in
     let es = extents_of_bodies c.args.seat.now.bodies in
     let same : c.self.inside.gaps ≡ now.gaps = ap (λ s. s.gaps) c.self.view_is in
-    others_stay _ now c.args.seat.now.count es c.tighten.new.self c.self.view_is c.requires.space
+    space_stays _ now c.args.seat.now c.tighten.new.self c.self.view_is c.requires.space
     (c.tighten.ensures.knows now.shape es c.groups-groups.ensures (rw same c.requires.space.gaps))
 
 pub tighten-requires-clause-groups : goal.tighten-requires-clause-groups

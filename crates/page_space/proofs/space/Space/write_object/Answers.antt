@@ -17,7 +17,6 @@ head_and_publish-requires c =
     let filled : c.fill_nulls.new.seat ≡ nulled v (c.args.a + 2) (c.args.size - 2) = c.fill_nulls.ensures ∙ ap (nulled v (c.args.a + 2)) fields in
     let rest = filled ∙ only_nulled v (c.args.a + 2) (c.args.size - 2) in
     let same : c.fill_nulls.new.seat.bodies ≡ v.bodies = ap (λ (s : SeatView). s.bodies) rest in
-    let count : c.fill_nulls.new.seat.count ≡ v.count = ap (λ (s : SeatView). s.count) rest in
     let types : c.fill_nulls.new.seat.types ≡ v.types = ap (λ (s : SeatView). s.types) rest in
     let known : c.args.ty < length c.fill_nulls.new.seat.types = subst (λ (types : List ObjectType). c.args.ty < length types) (sym types) c.requires.ty in
     let least : least_size c.fill_nulls.new.seat c.args.ty ≤ c.args.size =
@@ -25,12 +24,12 @@ head_and_publish-requires c =
     let unused : IsNewNumber c.fill_nulls.new.seat c.args.serial = subst (λ (s : SeatView). IsNewNumber s c.args.serial) (sym rest) c.requires.number in
     let nulls : HasNulls c.fill_nulls.new.seat.filled (c.args.a + 2) (c.args.size - 2) =
     subst (λ (s : SeatView). HasNulls s.filled (c.args.a + 2) (c.args.size - 2)) (sym filled) (nulls_filled v (c.args.a + 2) (c.args.size - 2)) in (
-      count ∙ c.requires.heap,
+      ap (λ (s : SeatView). s.heap) rest ∙ c.requires.heap,
       (
         refl,
         (
           record {
-            inside = omega (arith, c.requires.room.inside);
+            inside = omega (arith, c.requires.room.inside, ap (λ (s : SeatView). s.count) rest);
             free = λ x low high word. c.requires.room.free x low high (subst (λ bodies. IsInBody bodies x) same word);
           },
           (known, (least, (c.requires.most, (unused, nulls)))),

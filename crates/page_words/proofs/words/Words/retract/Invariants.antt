@@ -1,5 +1,6 @@
-use Rattle.page_words.specs.Seat.{retracted}
+use Rattle.marker_core.specs.SeatSteps.{seat_retracted}
+use Rattle.page_words.specs.Seat.{side}
 use Rattle.page_words.proofs.words.Words.retract.Given as goal
 
-abbrev pub ghost-chosen : goal.ghost-chosen
-ghost-chosen a = retracted a.about.now.view.now.value a.about.now.a
+abbrev pub ghosts-clear_start : goal.ghosts-clear_start
+ghosts-clear_start a = record { next = λ _. seat_retracted (side a.seat.now) a.a }

@@ -1,5 +1,6 @@
+use Rattle.std.proofs.Common.{eqb}
 use Rattle.page_words.specs.Seat.{stop_set}
 use Rattle.page_words.proofs.words.Words.set_stop.Given as goal
 
-abbrev pub ghost-chosen : goal.ghost-chosen
-ghost-chosen g a = stop_set a.about.now.view.now.value g.roots a.about.now.on
+abbrev pub ghosts-store_at : goal.ghosts-store_at
+ghosts-store_at g a = record { next = λ _. (stop_set a.seat.now g.roots (eqb a.w 1)).mutator }

@@ -1,6 +1,6 @@
 use Rattle.std.proofs.Common.{◌-◌, ◌≡◌, ◌≤◌}
 use Rattle.page_space.specs.Space.{HasNoStart}
-use Rattle.page_space.proofs.space.Space.next_object.Given as goal
+use Rattle.page_space.proofs.space.Space.lowest_from.Given as goal
 
 abbrev pub invariant-loop-at : goal.invariant-loop-at
 invariant-loop-at l = record {

@@ -1,15 +1,17 @@
 use Rattle.std.proofs.Common.{◌≡◌, ap, ◌∙◌, sym, inl, inr, arith}
+use Rattle.page_space.specs.Space.{heap_of}
+use Rattle.page_words.specs.Seat.{Heap}
 use Rattle.std.proofs.lemmas.Bool.{cases_lt}
 use Rattle.marker_core.specs.Matching.{IsWhole}
 use Rattle.page_words.specs.Roles.{kind_lists}
 use Rattle.page_space.specs.Pages.{word_count}
 use Rattle.page_words.specs.BodyPlaces.{two_words, whole_body}
-use Rattle.page_space.proofs.space.Space.next_object.Goals as goal
-use Rattle.page_space.proofs.space.Space.next_object.Goals.{In-loop-at}
+use Rattle.page_space.proofs.space.Space.lowest_from.Goals as goal
+use Rattle.page_space.proofs.space.Space.lowest_from.Goals.{In-loop-at}
 
 -- the words are counted as the seat counts them
 counted : (c : In-loop-at) → c.count-count.result ≡ c.args.seat.now.count
-counted c = c.count-count.ensures.count ∙ c.self.invariant.words ∙ ap (λ s. word_count s.shape) c.self.view_is ∙ sym c.requires.heap
+counted c = c.count-count.ensures.count ∙ ap (λ (h : Heap). h.count) (c.deref.ensures ∙ c.self.invariant.words ∙ ap heap_of c.self.view_is ∙ sym c.requires.heap)
 
 pub returns-in-Some-clause-found : goal.returns-in-Some-clause-found
 returns-in-Some-clause-found c =
@@ -37,7 +39,7 @@ returns-clause-none c a place =
     let at : b.place ≡ a = place.1.2 in
     let whole : IsWhole c.args.seat.now.count (kind_lists c.args.seat.now.types) b = whole_body c.args.seat.now c.bodies_lie_apart.ensures b place.1.1 in
     let count : c.count-count.result ≡ c.args.seat.now.count =
-    c.count-count.ensures.count ∙ c.self.invariant.words ∙ ap (λ s. word_count s.shape) c.self.view_is ∙ sym c.requires.heap in
+    c.count-count.ensures.count ∙ ap (λ (h : Heap). h.count) (c.deref.ensures ∙ c.self.invariant.words ∙ ap heap_of c.self.view_is ∙ sym c.requires.heap) in
     c.loop-at.invariant.none a place.0
     (omega (
       arith,
