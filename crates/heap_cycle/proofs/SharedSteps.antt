@@ -39,24 +39,6 @@ own_made s history op place slots =
 pub own_begins : (history : List PlacedEntry) (op : Op) (place : ℕ) → Begins history (with_own history op place)
 own_begins history op place = begins_next history history (entry_of first_pass history op place) (begins_itself history)
 
--- two entries of the owner
-pub both_made : (before between after : List PlacedEntry) (first second : Op) (a b : ℕ) → between ≡ with_own before first a → after ≡ with_own between second b
-    → made before after ≡ made before between ++ made between after
-both_made before between after first second a b is then =
-    let x : PlacedEntry = entry_of first_pass before first a in
-    let y : PlacedEntry = entry_of first_pass between second b in
-    let whole : after ≡ before ++ x ∷ y ∷ [] = then ∙ ap (λ h. h ++ y ∷ []) is ∙ append_assoc before (x ∷ []) (y ∷ []) in
-    let one : made before between ≡ x.entry ∷ [] = ap (made before) is ∙ made_next before x in
-    let other : made between after ≡ y.entry ∷ [] = ap (made between) then ∙ made_next between y in
-    ap (made before) whole ∙ ap entries_of (drop_at before (x ∷ y ∷ []) (length before) refl)
-    ∙ sym (ap (λ es. es ++ made between after) one ∙ ap (λ es. x.entry ∷ es) other)
-
-pub both_begin : (before between after : List PlacedEntry) (first second : Op) (a b : ℕ) → between ≡ with_own before first a → after ≡ with_own between second b
-    → Begins before after
-both_begin before between after first second a b is then =
-    subst (Begins before) (sym then)
-    (begins_next before between (entry_of first_pass between second b) (subst (Begins before) (sym is) (own_begins before first a)))
-
 -- ---- the region after an entry
 
 -- the owner's entry leaves the region the heap's, where the places of nodes stay
@@ -83,10 +65,6 @@ started_placed rule history placed = placed_next rule history (entry_of first_pa
 
 pub is_started_now : (history : List PlacedEntry) → is_started (with_own history O.Start 0) ≡ true
 is_started_now history = started_next history (entry_of first_pass history O.Start 0)
-
--- the start entry is that of any state
-pub start_made : (s : State) (before after : List PlacedEntry) → after ≡ with_own before O.Start 0 → made before after ≡ owner_entry s O.Start ∷ []
-start_made s before after is = ap (made before) is ∙ made_next before (entry_of first_pass before O.Start 0)
 
 -- the region's slots are handles to live nodes
 pub handled : (s : Parts) (history : List PlacedEntry) → IsReady s → HasRegion s history → IsHandled s.objects.nodes history

@@ -66,19 +66,6 @@ pub walk_in_lines : (phase : Phase) (old new : RefusalsTold) (o : Printed) (ran 
 walk_in_lines phase old new o ran line told =
     walk_told phase old new o.numbers (line ∷ ran_lines o.prefinalises ran) (line_first phase old new line o.prefinalises ran told)
 
--- ---- what holds of every list of prefinalizers holds of those that ran
-
-pub at_ran : {A : Type 0} (found : Option A) (Holds : A → List (ℕ × ℕ) → Type 0) (ran : List (ℕ × ℕ)) → IfSome found (λ a. (rs : List (ℕ × ℕ)) → Holds a rs)
-    → IfSome found (λ a. Holds a ran)
-at_ran None Holds ran all = tt
-at_ran (Some a) Holds ran all = all ran
-
-pub none_at_ran : {A : Type 0} (found : Option A) (o : Printed) (ran : List (ℕ × ℕ))
-    → IfNone found ((rs : List (ℕ × ℕ)) (l : Line) → TellsThoseThatRan o rs → outcome_lines o rs ≡ l ∷ [] → TellsNode l)
-    → TellsThoseThatRan o ran → IfNone found ((l : Line) → outcome_lines o ran ≡ l ∷ [] → TellsNode l)
-none_at_ran None o ran all some = λ l is. all ran l some is
-none_at_ran (Some a) o ran all some = tt
-
 -- ---- one line alone
 
 -- an outcome that finalises nothing and runs no prefinalizer has its last line

@@ -155,9 +155,6 @@ script_tells_no_input kinds summary shape script w z kept S.Usage answer tells =
 pub asks_input : (words : List (List ℕ)) (options : Options) → AskInput words options → reads_input words ≡ true
 asks_input words options ask = ap needs_input ask.asked ∙ ap (λ (made : Option Generated). not (is_some made)) ask.none
 
-pub asks_no_input : (words : List (List ℕ)) (options : Options) (made : Generated) → AskGenerated words options made → reads_input words ≡ false
-asks_no_input words options made ask = ap needs_input ask.asked ∙ ap (λ (asked : Option Generated). not (is_some asked)) ask.some
-
 -- ---- a heap is seen by its core
 
 -- what is so of what is seen of a heap, where one is kept
