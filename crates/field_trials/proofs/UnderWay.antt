@@ -106,7 +106,7 @@ reference_is v p w at e = inr (at.0, at.1, e ∙ ap reference_to (sym at.2))
 -- headers were looked at
 pub looked_goes : (space : SpaceView) (v w : SeatView) (told : Bool) → OnlyLooked v w → IsUnderWay space v told → IsUnderWay space w told
 looked_goes space v w told same is = record {
-  heap = ap (λ (x : SeatView). x.count) same ∙ is.heap;
+  heap = ap (λ (x : SeatView). x.heap) same ∙ is.heap;
   on = ap (λ (x : SeatView). x.on) same ∙ is.on;
   same = is.same;
   ready = record {

@@ -55,7 +55,7 @@ pub under_way : (space : SpaceView) (v s : SeatView) (number : ℕ) (roots : Lis
 under_way space v s number roots is young e may =
     let rest = is.at_rest young.quiet.off in
     record {
-      heap = ap (λ (u : SeatView). u.count) e ∙ young.laid.seat;
+      heap = ap (λ (u : SeatView). u.heap) e ∙ young.laid.words;
       on = ap (λ (u : SeatView). u.on) e;
       same = refl;
       ready = record {

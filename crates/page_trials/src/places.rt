@@ -153,6 +153,34 @@ holder 4294967297|none
 holder 18446744073709551615|none
 ";
 
+/// The first and the last word of the heap, of the start bits, and the stop word after them, on one
+/// page.
+const ENDS: &str = "\
+put 128|0
+put 64|128
+put 64|192
+put 16|none
+word 0|16777225
+word 1|7
+word 192|8388617
+word 193|9
+word 255|0
+word 256|1
+word 258|1
+word 259|1
+word 260|0
+word 261|none
+condemn|0
+word 260|1
+free 2|192
+word 259|0
+word 256|1
+free 0|0
+word 256|0
+word 258|1
+objects|1
+";
+
 /// The number of the first line that is wrong of a new heap of such pages, or 0.
 fn first_wrong(alloc: Global, pages: u32, lines: &str) -> Result<usize, NoMemory>
     requires { IsShape (record { pages = pages; page_words = 256 }) }
@@ -181,5 +209,23 @@ fn places_and_holders_are_those_worked_out_by_hand(rt: HostRuntime) -> Result<()
     assert_eq!(rt; first_wrong(rt.alloc(), 1, HOLE)?, 0);
     assert_eq!(rt; first_wrong(rt.alloc(), 2, EMPTY)?, 0);
     assert_eq!(rt; first_wrong(rt.alloc(), 8, HELD)?, 0);
+    assert_eq!(rt; first_wrong(rt.alloc(), 1, ENDS)?, 0);
+    Ok(())
+}
+
+#[test]
+fn two_heaps_of_one_size_do_not_meet(rt: HostRuntime) -> Result<(), Fail> {
+    let mut one = Aged::new(rt.alloc(), 1, 256)?;
+    let mut other = Aged::new(rt.alloc(), 1, 256)?;
+    assert_eq!(rt; one.answer("put", 3), Some(0));
+    assert_eq!(rt; other.answer("put", 64), Some(0));
+    assert_eq!(rt; one.answer("put", 3), Some(3));
+    assert_eq!(rt; one.answer("word", 0), Some(393225));
+    assert_eq!(rt; other.answer("word", 0), Some(8388617));
+    assert_eq!(rt; one.answer("word", 256), Some(9));
+    assert_eq!(rt; other.answer("word", 256), Some(1));
+    assert_eq!(rt; one.answer("condemn", 0), Some(0));
+    assert_eq!(rt; one.answer("word", 260), Some(1));
+    assert_eq!(rt; other.answer("word", 260), Some(0));
     Ok(())
 }
