@@ -57,7 +57,12 @@ pub(crate) fn type_of<B: Bodywords>(words: &B, seat: &mut MutatorSeat, place: u3
 }
 
 /// The field word at an offset of the object at a place.
-pub(crate) fn word_of<B: Bodywords>(words: &B, seat: &mut MutatorSeat, holder: u32, offset: u32) -> u64
+pub(crate) fn word_of<B: Bodywords>(
+    words: &B,
+    seat: &mut MutatorSeat,
+    holder: u32,
+    offset: u32,
+) -> u64
     requires heap { seat.old.heap ≡ B.heap words.now }
     requires field { HasWord seat.old.bodies holder offset }
     ensures word { (b : Body) → Contains seat.old.bodies b → b.place ≡ holder
@@ -96,7 +101,12 @@ pub(crate) fn mark_reference<B: Bodywords>(
 
 /// Marks an object, and lists it if it was not marked. True where it was not. A refused push leaves
 /// it marked, and raises `overflow`.
-pub fn mark<B: Bodywords>(words: &B, seat: &mut MutatorSeat, marking: &mut Marking, place: u32) -> bool
+pub fn mark<B: Bodywords>(
+    words: &B,
+    seat: &mut MutatorSeat,
+    marking: &mut Marking,
+    place: u32,
+) -> bool
     requires heap { seat.old.heap ≡ B.heap words.now }
     requires on { seat.old.on ≡ true }
     requires marking { marking.old.on ≡ seat.old.on }
@@ -120,7 +130,11 @@ pub fn mark<B: Bodywords>(words: &B, seat: &mut MutatorSeat, marking: &mut Marki
 
 /// Marks what a field word names. Its place where it was not marked: the caller lists or traces it.
 #[inline(always)]
-pub(crate) fn mark_named<B: Bodywords>(words: &B, seat: &mut MutatorSeat, reference: u64) -> Option<u32>
+pub(crate) fn mark_named<B: Bodywords>(
+    words: &B,
+    seat: &mut MutatorSeat,
+    reference: u64,
+) -> Option<u32>
     requires heap { seat.old.heap ≡ B.heap words.now }
     requires on { seat.old.on ≡ true }
     requires alone { seat.old.lent ≡ 0 }

@@ -60,7 +60,12 @@ pub(crate) fn trace_pair<B: Bodywords>(
 }
 
 /// The key of the pair in hand.
-fn read_key<B: Bodywords>(words: &B, seat: &mut MutatorSeat, holder: u32, offset: u32) -> Option<u32>
+fn read_key<B: Bodywords>(
+    words: &B,
+    seat: &mut MutatorSeat,
+    holder: u32,
+    offset: u32,
+) -> Option<u32>
     requires heap { seat.old.heap ≡ B.heap words.now }
     requires tracing { IsTracing seat.old }
     requires hand { IsAt pair_offsets seat.old holder offset Read }
@@ -80,7 +85,13 @@ fn read_key<B: Bodywords>(words: &B, seat: &mut MutatorSeat, holder: u32, offset
 }
 
 /// Whether the key in hand is marked. If it is, the hand wants the value, and else it moves on.
-fn key_is_marked<B: Bodywords>(words: &B, seat: &mut MutatorSeat, holder: u32, offset: u32, key: u32) -> bool
+fn key_is_marked<B: Bodywords>(
+    words: &B,
+    seat: &mut MutatorSeat,
+    holder: u32,
+    offset: u32,
+    key: u32,
+) -> bool
     requires heap { seat.old.heap ≡ B.heap words.now }
     requires tracing { IsTracing seat.old }
     requires hand { IsAt pair_offsets seat.old holder offset (Key key) }

@@ -70,15 +70,7 @@ fn step_with_notes<B: Bodywords>(
         let Some(place) = marking.list.pop() else {
             return traced;
         };
-        trace_taken(
-            space,
-            types,
-            seat,
-            marking,
-            notes,
-            &mut traced,
-            place,
-        );
+        trace_taken(space, types, seat, marking, notes, &mut traced, place);
     }
     traced
 }
@@ -141,15 +133,7 @@ fn step_pairless<B: Bodywords>(
             list_held(marking, next);
             return traced;
         }
-        let held = trace_taken_pairless(
-            space,
-            types,
-            seat,
-            marking,
-            notes,
-            &mut traced,
-            place,
-        );
+        let held = trace_taken_pairless(space, types, seat, marking, notes, &mut traced, place);
         next = next_listed(marking, held);
     }
     traced
