@@ -173,7 +173,8 @@ fn run_script<'a, K: Sink>(
     requires shape { IsShape (shape_asked options) }
     requires runnable { IsRunnable (length (kinds_of callbacks.now)) script }
     ensures answer { RunsScript (kinds_of callbacks.now) options.summary (shape_asked options)
-        script (K.written sink.old) (K.written sink.new) (option_map (λ heap. heap.core) kept.new) result }
+        script (K.written sink.old) (K.written sink.new)
+        (option_map (λ heap. heap.core) kept.new) result }
     ensures fault { result ≡ Status.WriteFault → Rose (K.faults sink.old) (K.faults sink.new) }
     ensures later { K.faults sink.old ≤ K.faults sink.new }
     ensures steady { ¬ (result ≡ Status.WriteFault) → K.faults sink.new ≡ K.faults sink.old }
