@@ -12,7 +12,7 @@ ghost use Rattle.page_space.specs.Occupying.{new_body, nulled};
 
 use crate::space::{Space, bucket_of};
 use object_headers::{FIRST_FIELD, Header, SERIAL};
-use page_words::MutatorSeat;
+use page_words::{MutatorSeat, Words};
 
 impl Space {
     /// Writes an object whose fields are null to a free place, and publishes it.
@@ -73,21 +73,8 @@ impl Space {
         ensures { Occupies seat.old seat.new (new_body a ty size serial) }
     {
         self.shape_is_valid();
-        self.fill_nulls(seat, a + FIRST_FIELD, a + size);
+        fill_nulls(&self.words, seat, a + FIRST_FIELD, a + size);
         self.head_and_publish(seat, a, ty, size, serial);
-    }
-
-    /// Writes null to words from an address up to another that belong to no object.
-    fn fill_nulls(&self, seat: &mut MutatorSeat, first: u32, end: u32)
-        requires heap { IsSeatOf self.now seat.old }
-        requires order { first ≤ end }
-        requires end { end ≤ seat.old.count }
-        requires outside { (x : ℕ) → first ≤ x → x < end → IsInBody seat.old.bodies x → ⊥ }
-        ensures { seat.new ≡ nulled seat.old first (end - first) }
-    {
-        for x in first..end {
-            self.words.fill(seat, x, 0);
-        }
     }
 
     /// Writes header and serial number before an object's null fields, and publishes it.
@@ -110,5 +97,18 @@ impl Space {
             .fill(seat, a, Header::pack(true, false, false, ty, size));
         self.words.fill(seat, a + SERIAL, u64::from(serial));
         self.words.publish(seat, a);
+    }
+}
+
+/// Writes null to words from an address up to another that belong to no object.
+fn fill_nulls(words: &Words, seat: &mut MutatorSeat, first: u32, end: u32)
+    requires heap { seat.old.heap ≡ words.now }
+    requires order { first ≤ end }
+    requires end { end ≤ seat.old.count }
+    requires outside { (x : ℕ) → first ≤ x → x < end → IsInBody seat.old.bodies x → ⊥ }
+    ensures { seat.new ≡ nulled seat.old first (end - first) }
+{
+    for x in first..end {
+        words.fill(seat, x, 0);
     }
 }

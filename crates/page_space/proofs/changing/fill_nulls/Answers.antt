@@ -2,9 +2,8 @@ use Rattle.std.proofs.Common.{◌≡◌, ◌-◌, ap, ◌∙◌, sym, subst, ari
 use Rattle.marker_core.specs.Bodies.{IsInBody}
 use Rattle.page_words.specs.Seat.{SeatView}
 use Rattle.page_space.specs.Occupying.{nulled}
-use Rattle.page_space.specs.Space.{heap_of}
 use Rattle.page_space.proofs.OccupyFilled.{nulled_none, nulled_next, only_nulled}
-use Rattle.page_space.proofs.space.Space.fill_nulls.Goals as goal
+use Rattle.page_space.proofs.changing.fill_nulls.Goals as goal
 
 pub loop-x-init : goal.loop-x-init
 loop-x-init c = nulled_none c.args.seat.now c.args.first
@@ -12,7 +11,7 @@ loop-x-init c = nulled_none c.args.seat.now c.args.first
 pub fill-requires-clause-heap : goal.fill-requires-clause-heap
 fill-requires-clause-heap c =
     ap (λ (v : SeatView). v.heap) (c.loop-x.invariant ∙ only_nulled c.args.seat.now c.args.first (c.loop-x.x - c.args.first))
-    ∙ c.requires.heap ∙ ap heap_of (sym c.self.view_is) ∙ sym c.self.invariant.words ∙ sym c.deref.ensures
+    ∙ c.requires.heap
 
 pub fill-requires-clause-address : goal.fill-requires-clause-address
 fill-requires-clause-address c =
