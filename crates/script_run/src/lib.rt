@@ -5,9 +5,10 @@
 //! report of the run, or its summary.
 //!
 //! The parts: `run` in `one_run` (from the words and the bytes of a script to what is printed),
-//! `report` (each command's outcome is printed before the next command, and the text goes out in large
-//! pieces; or one line is printed at the end), `callbacks` (the five of the program), `adapters`
-//! (devices over the standard streams), `status` (how a run ends, and what is told of it).
+//! `own_heap` (the heap of a script), `report` (the types, the outcomes and the end; or one line at the
+//! end), `outcome_lines` (each command's outcome is printed before the next command, and the text goes
+//! out in large pieces), `callbacks` (the five of the program), `adapters` (devices over the standard
+//! streams), `status` (how a run ends, and what is told of it).
 //!
 //! What is proved, at `run`: after Done the script is the generated one, and the input was let alone,
 //! or the input was read to its end and is a script within the limits. What was written is what is
@@ -26,6 +27,8 @@
 mod adapters;
 mod callbacks;
 mod one_run;
+mod outcome_lines;
+mod own_heap;
 mod report;
 mod status;
 

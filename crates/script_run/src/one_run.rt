@@ -1,34 +1,27 @@
 // One run of the program: from the bytes of a script to its report.
 
-ghost use Rattle.std.specs.Prelude.{◌≡◌, ◌↔◌, ℕ, ◌<◌};
-ghost use Rattle.std.specs.Prelude.{◌≤◌, [], length, map, string_bytes, None, MatchOption, IfOk};
+ghost use Rattle.std.specs.Prelude.{◌≡◌, ◌↔◌};
+ghost use Rattle.std.specs.Prelude.{◌≤◌, [], length, map, string_bytes, None, MatchOption};
 ghost use Rattle.std.specs.Prelude.{option_map, Some, true, false};
 ghost use Rattle.callback_table.specs.Table.{kinds_of};
 ghost use Rattle.text_devices.specs.Causes.{Rose};
 ghost use Rattle.text_devices.specs.Devices.{Grew};
-ghost use Rattle.gc_graph.specs.Shapes.{IsShape};
-ghost use Rattle.type_table.specs.Faults.{AreGoodTypes};
 ghost use Rattle.command_line.specs.Options.{options_asked, shape_asked, AreInRanges};
 ghost use Rattle.script_generator.specs.Generated as made;
-ghost use Rattle.gc_graph.specs.State.{empty_state};
-ghost use Rattle.report_text.specs.Pieces.{no_pieces};
-ghost use Rattle.script_run.specs.Setting.{IsRunnable, script_on, setup_of};
 ghost use Rattle.script_run.specs.Headline.{RunsScript, RunsBytes, status_of_fault, IsUntouched};
 ghost use Rattle.script_run.specs.Headline.{IsDone, IsStopped, IsTooLongInput, IsFaultyInput};
 ghost use Rattle.script_run.specs.Headline.{reads_input, tells_of_input};
 
-use super::report::print_run;
+use super::own_heap::run_script;
 use super::status::Status;
 use callback_table::CallbackTable;
 use command_line::{Generated, Options, options_of};
-use gc_graph::Command;
-use heap_engine::{Config, Heap};
+use heap_engine::Heap;
 use heap_script::{
-    NoMemory, Pieces, ReadError, Script, ScriptFault, Sink, Source, read_script, read_whole,
+    NoMemory, ReadError, Script, ScriptFault, Sink, Source, read_script, read_whole,
 };
 use script_generator::generate;
 use std::alloc::Global;
-use type_table::{TypeDecl, TypeFault, TypeTable};
 
 const MOST_BYTES: usize = 16_777_216;
 
@@ -157,110 +150,5 @@ fn status_of(fault: ScriptFault) -> Status
     Status::Script {
         line: fault.line,
         reason: fault.reason,
-    }
-}
-
-/// Runs a script on a heap of its own.
-fn run_script<'a, K: Sink>(
-    alloc: Global,
-    options: Options,
-    script: Script,
-    sink: &mut K,
-    callbacks: &'a CallbackTable,
-    kept: &mut Option<Heap<'a>>,
-) -> Status
-    requires empty { kept.old ≡ None }
-    requires shape { IsShape (shape_asked options) }
-    requires runnable { IsRunnable (length (kinds_of callbacks.now)) script }
-    ensures answer { RunsScript (kinds_of callbacks.now) options.summary (shape_asked options)
-        script (K.written sink.old) (K.written sink.new)
-        (option_map (λ heap. heap.core) kept.new) result }
-    ensures fault { result ≡ Status.WriteFault → Rose (K.faults sink.old) (K.faults sink.new) }
-    ensures later { K.faults sink.old ≤ K.faults sink.new }
-    ensures steady { ¬ (result ≡ Status.WriteFault) → K.faults sink.new ≡ K.faults sink.old }
-{
-    let mut pieces = match Pieces::new(alloc) {
-        Ok(pieces) => pieces,
-        Err(_) => return Status::NoMemory,
-    };
-    let count = script.types().len() as u32;
-    let (types, commands) = script.into_parts();
-    let table = match table_of(alloc, types, callbacks.len()) {
-        Ok(table) => table,
-        Err(_) => return Status::NoMemory,
-    };
-    let config = Config {
-        pages: options.pages,
-        page_words: options.page_words,
-    };
-    match Heap::new(alloc, config, table, callbacks) {
-        Ok(heap) => run_commands(
-            heap,
-            options.summary,
-            count,
-            &commands,
-            &mut pieces,
-            sink,
-            kept,
-        ),
-        Err(_) => Status::NoMemory,
-    }
-}
-
-/// Runs commands on a new heap, which has so many types, and keeps it once all is printed.
-fn run_commands<'a, K: Sink>(
-    mut heap: Heap<'a>,
-    summary: bool,
-    types: u32,
-    commands: &[Command],
-    pieces: &mut Pieces,
-    sink: &mut K,
-    kept: &mut Option<Heap<'a>>,
-) -> Status
-    requires vacant { kept.old ≡ None }
-    requires runnable { IsRunnable (length heap.core.setup.callbacks)
-        (script_on heap.core.setup commands.now) }
-    requires setup { heap.core.setup ≡ setup_of heap.core.setup.callbacks
-        heap.core.setup.shape heap.core.setup.types }
-    requires types { types ≡ length heap.core.setup.types }
-    requires start { heap.core.state ≡ empty_state }
-    requires fresh { heap.core.history ≡ [] }
-    requires opened { heap.core.closed ≡ false }
-    requires empty { pieces.old ≡ no_pieces }
-    ensures answer { RunsScript heap.entry.core.setup.callbacks summary
-        heap.entry.core.setup.shape (script_on heap.entry.core.setup commands.now)
-        (K.written sink.old) (K.written sink.new) (option_map (λ heap. heap.core) kept.new) result }
-    ensures fault { result ≡ Status.WriteFault → Rose (K.faults sink.old) (K.faults sink.new) }
-    ensures later { K.faults sink.old ≤ K.faults sink.new }
-    ensures steady { ¬ (result ≡ Status.WriteFault) → K.faults sink.new ≡ K.faults sink.old }
-{
-    match print_run(&mut heap, summary, types, commands, pieces, sink) {
-        Ok(()) => {
-            keep(heap, kept);
-            Status::Done
-        }
-        Err(_) => Status::WriteFault,
-    }
-}
-
-/// Keeps a heap.
-fn keep<'a>(heap: Heap<'a>, kept: &mut Option<Heap<'a>>)
-    requires { kept.old ≡ None }
-    ensures { option_map (λ heap. heap.core) kept.new ≡ Some heap.entry.core }
-{
-    *kept = Some(heap);
-}
-
-/// The types that a script declares make a table, where memory suffices.
-fn table_of(alloc: Global, types: Vec<TypeDecl>, callbacks: u32) -> Result<TypeTable, NoMemory>
-    requires { AreGoodTypes callbacks types.items }
-    ensures { IfOk result (λ table. table ≡ types.items) }
-{
-    match TypeTable::new(alloc, types, callbacks) {
-        Ok(table) => Ok(table),
-        Err(TypeFault::NoMemory) => Err(NoMemory),
-        Err(TypeFault::TooManyTypes { .. }) => unreachable!(),
-        Err(TypeFault::TooManyFields { .. }) => unreachable!(),
-        Err(TypeFault::NoCallback { .. }) => unreachable!(),
     }
 }

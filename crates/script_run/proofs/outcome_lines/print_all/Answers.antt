@@ -1,7 +1,7 @@
 use Rattle.std.proofs.Common.{refl, rules}
 use Rattle.script_run.proofs.Printing.{printed_more, printed_part, printed_none, section_at, sections_none, sections_after}
 use Rattle.script_run.proofs.HeldBack.{taken_none, taken_on}
-use Rattle.script_run.proofs.report.print_all.Goals as goal
+use Rattle.script_run.proofs.outcome_lines.print_all.Goals as goal
 
 pub print_outcome-requires-clause-section : goal.print_outcome-requires-clause-section
 print_outcome-requires-clause-section g c =

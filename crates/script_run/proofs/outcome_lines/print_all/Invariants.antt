@@ -2,7 +2,7 @@ use Rattle.std.proofs.Common.{◌≡◌, false, take, drop}
 use Rattle.gc_graph.specs.Sections.{AreInSections}
 use Rattle.report_text.specs.Pieces.{with_held, TookMore}
 use Rattle.script_run.specs.Printed.{IsPrintedRun}
-use Rattle.script_run.proofs.report.print_all.Given as goal
+use Rattle.script_run.proofs.outcome_lines.print_all.Given as goal
 
 abbrev pub invariant-loop-command : goal.invariant-loop-command
 invariant-loop-command g l = record {

@@ -2,7 +2,7 @@ use Rattle.std.proofs.Common.{refl, rules}
 use Rattle.gc_graph.specs.Outcomes.{finalise_lines}
 use Rattle.script_run.proofs.Writing.{line_more, line_fails, finalise_at}
 use Rattle.script_run.proofs.HeldBack.{taken_on}
-use Rattle.script_run.proofs.report.print_finalised.Goals as goal
+use Rattle.script_run.proofs.outcome_lines.print_finalised.Goals as goal
 
 pub returns-in-Err-clause-bytes : goal.returns-in-Err-clause-bytes
 returns-in-Err-clause-bytes g c =

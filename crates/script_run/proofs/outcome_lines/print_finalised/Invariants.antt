@@ -3,7 +3,7 @@ use Rattle.gc_graph.specs.Outcomes.{finalise_lines}
 use Rattle.gc_graph.specs.Report.{lines_bytes}
 use Rattle.text_devices.specs.Devices.{Grew}
 use Rattle.report_text.specs.Pieces.{with_held, TookMore}
-use Rattle.script_run.proofs.report.print_finalised.Given as goal
+use Rattle.script_run.proofs.outcome_lines.print_finalised.Given as goal
 
 abbrev pub invariant-loop-number : goal.invariant-loop-number
 invariant-loop-number g l = record {

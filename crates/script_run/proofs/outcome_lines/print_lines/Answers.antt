@@ -6,7 +6,7 @@ use Rattle.text_devices.specs.Devices.{Grew}
 use Rattle.report_text.specs.Pieces.{with_held}
 use Rattle.script_run.proofs.Writing.{line_more, line_fails, front_fails}
 use Rattle.script_run.proofs.HeldBack.{taken_on}
-use Rattle.script_run.proofs.report.print_lines.Goals as goal
+use Rattle.script_run.proofs.outcome_lines.print_lines.Goals as goal
 
 pub returns-in-Err-clause-bytes : goal.returns-in-Err-clause-bytes
 returns-in-Err-clause-bytes g c =

@@ -2,7 +2,7 @@ use Rattle.std.proofs.Common.{◌≡◌, take}
 use Rattle.gc_graph.specs.Report.{lines_bytes}
 use Rattle.text_devices.specs.Devices.{Grew}
 use Rattle.report_text.specs.Pieces.{with_held, TookMore}
-use Rattle.script_run.proofs.report.print_lines.Given as goal
+use Rattle.script_run.proofs.outcome_lines.print_lines.Given as goal
 
 abbrev pub invariant-loop-index : goal.invariant-loop-index
 invariant-loop-index g l = record {

@@ -3,7 +3,7 @@ use Rattle.gc_graph.specs.Report.{lines_bytes}
 use Rattle.text_devices.specs.Devices.{Writes}
 use Rattle.report_text.specs.Pieces.{with_held}
 use Rattle.script_run.proofs.Writing.{one_line}
-use Rattle.script_run.proofs.report.print_outcome.Goals as goal
+use Rattle.script_run.proofs.outcome_lines.print_outcome.Goals as goal
 
 pub returns-in-Some-clause-bytes : goal.returns-in-Some-clause-bytes
 returns-in-Some-clause-bytes g c =

@@ -1,4 +1,4 @@
-use Rattle.script_run.proofs.one_run.keep.Goals as goal
+use Rattle.script_run.proofs.own_heap.keep.Goals as goal
 
 pub returns : goal.returns
 returns c j = cc

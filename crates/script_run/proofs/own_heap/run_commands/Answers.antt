@@ -1,5 +1,5 @@
 use Rattle.std.proofs.Common.{ap, option_map}
-use Rattle.script_run.proofs.one_run.run_commands.Goals as goal
+use Rattle.script_run.proofs.own_heap.run_commands.Goals as goal
 
 pub returns-in-Ok-clause-answer : goal.returns-in-Ok-clause-answer
 returns-in-Ok-clause-answer g c = rw c.keep.ensures c.in-Ok.ensures.told

@@ -3,7 +3,7 @@ use Rattle.type_table.specs.Faults.{AreGoodTypes}
 use Rattle.callback_table.specs.Table.{kinds_of}
 use Rattle.heap_objects.specs.Objects.{HaveCallbacks}
 use Rattle.script_run.proofs.Runnable.{have_callbacks, types_are_good}
-use Rattle.script_run.proofs.one_run.run_script.Goals as goal
+use Rattle.script_run.proofs.own_heap.run_script.Goals as goal
 
 pub table_of-requires : goal.table_of-requires
 table_of-requires g c =

@@ -1,7 +1,7 @@
 use Rattle.std.proofs.Common.{subst}
 use Rattle.type_table.specs.Faults.{IsTypeFault}
 use Rattle.script_run.proofs.Runnable.{none_too_wide, none_unknown}
-use Rattle.script_run.proofs.one_run.table_of.Goals as goal
+use Rattle.script_run.proofs.own_heap.table_of.Goals as goal
 
 pub unreachable-requires-in-Err-TooManyFields : goal.unreachable-requires-in-Err-TooManyFields
 unreachable-requires-in-Err-TooManyFields c =
