@@ -47,3 +47,5 @@ pub mod SeatSteps
 pub mod SeatEnds
 pub mod SeatPublishes
 pub mod SeatFacts
+pub mod MarkerLaws
+pub mod MarkerFacts

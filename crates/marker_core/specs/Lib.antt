@@ -16,6 +16,9 @@ pub mod Idle
 pub mod Laws
 pub mod SeatLaws
 pub mod SeatFacts
+pub mod MarkerSeats
+pub mod MarkerLaws
+pub mod MarkerFacts
 pub mod Faults
 pub mod Looking
 pub mod RoleOrder

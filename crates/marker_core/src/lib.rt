@@ -27,6 +27,7 @@ mod laws;
 mod lending;
 mod lists;
 mod looking;
+mod marker_seats;
 mod markers;
 mod marking;
 mod mutator;
@@ -44,6 +45,11 @@ pub use laws::{
     reach_over_is_least, settled_has_ended,
 };
 pub use lists::List;
+pub use marker_seats::{
+    bits_are_steps, claims_as_are_steps, fields_are_steps, joins_are_steps, lent_while_on,
+    looks_are_steps, marker_words_may_be_found, markers_are_ok, marks_as_are_steps,
+    polls_are_steps, splits_are_steps,
+};
 pub use running::{CoreFault, after};
 pub use seats::{
     begins_are_steps, claims_are_steps, fills_are_steps, loads_are_steps, marks_are_steps,

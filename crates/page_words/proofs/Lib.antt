@@ -7,3 +7,6 @@ pub mod ViewFacts
 pub mod StopWord
 pub mod NewWords
 pub mod Marks
+pub mod MarkerSeats
+pub mod Lending
+pub mod MarkerCalls

@@ -1,14 +1,13 @@
 -- What a header that was found tells of marks.
-use Rattle.std.proofs.Common.{◌≡◌, ℕ, ◌&&◌, Bool, true, false, not, eqb, sym, ap, ◌∙◌, Contains}
-use Rattle.std.proofs.lemmas.Bool.{eqb-true}
-use Rattle.object_headers.specs.Layout.{header_word, word_with_mark}
+use Rattle.std.proofs.Common.{◌≡◌, ℕ, ◌&&◌, true, false, not, eqb, ap, ◌∙◌, Contains}
+use Rattle.object_headers.specs.Layout.{header_word}
 use Rattle.marker_core.specs.declared.states.Body.{Body}
 use Rattle.marker_core.specs.Bodies.{IsPlace, holds}
 use Rattle.marker_core.specs.Layout.{has_mark, has_traced}
 use Rattle.marker_core.specs.SeatFacts.{IsHeaderAt}
 use Rattle.marker_core.specs.SeatSteps.{is_grey}
 use Rattle.page_words.specs.Seat.{SeatView, IsWordAt, side, is_grey_at}
-use Rattle.page_words.proofs.Bits.{mark_stands, grey_is_found}
+use Rattle.page_words.proofs.Bits.{grey_is_found}
 
 module _ (v : SeatView) (a w : ℕ) (is : IsWordAt v a w) (at : IsPlace v.bodies a) where
   told : IsHeaderAt (side v) a w

@@ -1,5 +1,5 @@
 -- A step of the mutator's seat keeps the rule of the table, and tells its play.
-use Rattle.std.proofs.Common.{◌≡◌, ℕ, zero, suc, ◌+◌, ◌^◌, ◌<◌, ◌≤◌, List, [], ◌∷◌, map, length, get_or, set, Bool, true, false, refl, sym, ap, ◌∙◌, subst, arith}
+use Rattle.std.proofs.Common.{◌≡◌, ℕ, zero, suc, ◌+◌, ◌^◌, ◌<◌, ◌≤◌, List, [], ◌∷◌, map, get_or, set, false, refl, sym, ap, ◌∙◌, subst, arith}
 use mathlib.Core.Option.{some, some-injective, some-ne-none}
 use lib.ListN.{get_elem?}
 use Rattle.std.proofs.lemmas.Bool.{true≢false}
@@ -11,9 +11,9 @@ use Rattle.marker_core.specs.Core.{IsCoreOk}
 use Rattle.marker_core.specs.Laws.{StepsKeep}
 use Rattle.marker_core.specs.SeatFacts.{WordsMayBeFound, ViewsAreOk}
 use Rattle.marker_core.specs.Seats.{core_of}
-use Rattle.page_words.specs.Rule.{View, side_of, turned_to, owner_view, marker_view, IsCore, IsSure, IsOwner, seat_view, IsStepOf, Turns, Finds}
+use Rattle.page_words.specs.Rule.{View, side_of, turned_to, owner_view, marker_view, IsCore, IsOwner, seat_view, IsStepOf, Turns, Finds}
 use Rattle.page_words.specs.Heaps.{AreWords}
-use Rattle.page_words.specs.Seat.{Heap, SeatView, IsView}
+use Rattle.page_words.specs.Seat.{Heap, SeatView}
 use Rattle.marker_core.specs.Layout.{stop_at}
 use Rattle.page_words.proofs.ViewFacts.{view_is}
 

@@ -11,8 +11,8 @@ use Rattle.marker_core.specs.declared.steps.CoreStep.TheVariants.{Load, Fill, St
 use Rattle.marker_core.specs.Bodies.{IsInBody, IsPlace, holds}
 use Rattle.marker_core.specs.Hands.{wants, wants_word, wants_key, each_hand, hand_looked, hand_read, noted_pair}
 use Rattle.marker_core.specs.Layout.{bitmap_at, stop_at, has_mark}
-use Rattle.marker_core.specs.SeatSteps.{seat_can_load, seat_loaded, seat_can_store, seat_stored, seat_filled, seat_published, seat_retracted, seat_marked, seat_claimed, seat_unmarked, seat_ended, seat_begun, seat_looked}
-use Rattle.marker_core.specs.SeatLaws.{IsReady, IsGreyHeader, exchanged, seat_ends, seat_stopped, LoadsAreSteps, FillsAreSteps, StoresAreSteps, PublishesAreSteps, RetractsAreSteps, MarksAreSteps, ClaimsAreSteps, UnmarksAreSteps, BeginsAreSteps, StopsAreSteps}
+use Rattle.marker_core.specs.SeatSteps.{seat_can_load, seat_loaded, seat_can_store, seat_stored, seat_filled, seat_published, seat_retracted, seat_marked, seat_claimed, seat_unmarked, seat_ended, seat_looked}
+use Rattle.marker_core.specs.SeatLaws.{IsReady, IsGreyHeader, exchanged, seat_ends, LoadsAreSteps, FillsAreSteps, StoresAreSteps, PublishesAreSteps, RetractsAreSteps, MarksAreSteps, ClaimsAreSteps, UnmarksAreSteps, BeginsAreSteps, StopsAreSteps}
 use Rattle.page_words.specs.Roles.{kind_lists}
 use Rattle.page_words.specs.Rule.{IsStepOf}
 use Rattle.page_words.specs.Seat.{SeatView, IsView, IsUnnamed, MaySetStop, side, stop_set, begun, stopped}

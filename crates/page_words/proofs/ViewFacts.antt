@@ -1,5 +1,5 @@
 -- What is true of every seat's view, and what a word that was found tells.
-use Rattle.std.proofs.Common.{◌≡◌, ℕ, ◌+◌, ◌/◌, ◌%◌, ◌^◌, ◌<◌, ◌≤◌, List, [], length, get_or, ◌∷◌, ◌++◌, true, false, leb, ltb, ◌&&◌, if◌then◌else◌, refl, sym, ap, ◌∙◌, subst, inl, inr, arith, Contains}
+use Rattle.std.proofs.Common.{◌≡◌, ℕ, ◌+◌, ◌/◌, ◌%◌, ◌^◌, ◌<◌, ◌≤◌, List, [], get_or, ◌∷◌, ◌++◌, true, false, leb, ltb, ◌&&◌, if◌then◌else◌, refl, sym, ap, ◌∙◌, subst, inl, inr, arith, Contains}
 use mathlib.Core.Logic.{◌⊎◌}
 use Rattle.std.specs.List.{list_any}
 use Rattle.std.specs.Option.{is_none}
@@ -14,7 +14,7 @@ use Rattle.marker_core.specs.declared.states.Why.TheVariants.{Read}
 use Rattle.marker_core.specs.Layout.{stop_at, has_traced}
 use Rattle.marker_core.specs.SeatSteps.{seat_can_store, store_fits}
 use Rattle.marker_core.specs.Matching.{IsWhole, LieApart}
-use Rattle.marker_core.specs.SeatFacts.{IsViewOk, ViewsAreOk, WordsMayBeFound, MayBeFound, IsHeaderAt}
+use Rattle.marker_core.specs.SeatFacts.{IsViewOk, ViewsAreOk, MayBeFound, IsHeaderAt}
 use Rattle.page_words.proofs.Elements.{members_are}
 use Rattle.atomic_table.specs.Seated.{TableId}
 use Rattle.page_words.specs.BodyPlaces.{place_below, within_heap}

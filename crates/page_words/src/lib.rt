@@ -1,14 +1,15 @@
 //! # The heap's words
 //!
 //! What it is: the words of a heap, with a start bit for each and a stop word, in a table of atomic
-//! words, and the mutator's seat of it. Objects are filled, published, marked, claimed and retracted
-//! here, one word at a time.
+//! words, the mutator's seat of it, and the seats that it lends to markers. Objects are filled,
+//! published, marked, claimed and retracted here, one word at a time.
 //!
 //! The parts: `Words` (the table, which threads can share), `MutatorSeat` (the right to its words, with
 //! the view of them that contracts see: which words they are, the types, and the mutator's view of the
-//! step machine in `marker_core`), the calls on both, and `Bodywords`, which is these calls and a way
-//! from object to object. A load says why it is made (`Reason`). Inside, `accesses` has one step of
-//! the table of each kind.
+//! step machine in `marker_core`), `MarkerSeat` (the same of one marker, which `split` lends and `join`
+//! takes back), the calls on each, and `Bodywords`, which is the mutator's calls and a way from object
+//! to object. A load says why it is made (`Reason`). Inside, `accesses` and `marker_accesses` have one
+//! step of the table of each kind.
 //!
 //! | address | word |
 //! |---|---|
@@ -23,11 +24,15 @@
 //!
 //! What is only tested or not said: that `Words::new` succeeds where there is memory, and where the
 //! stop word is, is tested in `page_trials`. A word that belongs to no object and was not filled may
-//! be anything. No call on markers' seats is here yet.
+//! be anything. Nothing is said of when a marker comes to its end.
 #![tactic(auto)]
 
 mod accesses;
 mod bodywords;
+mod lent_seats;
+mod marker_accesses;
+mod marker_views;
+mod markers;
 mod marking;
 mod mutator;
 mod reasons;
@@ -35,6 +40,7 @@ mod views;
 mod words;
 
 pub use bodywords::Bodywords;
+pub use markers::MarkerSeat;
 pub use marking::has_mark;
 pub use mutator::MutatorSeat;
 pub use reasons::{Reading, Reason, Tracing, WeakRead};
