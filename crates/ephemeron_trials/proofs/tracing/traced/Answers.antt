@@ -3,11 +3,11 @@ use Rattle.gc_graph.specs.State.{ObjectType}
 use Rattle.mark_worklist.specs.Lists.{ListState}
 use Rattle.ephemerons.specs.BodyGraph.{HasPair}
 use Rattle.ephemerons.specs.Notes.{NotesState}
-use Rattle.ephemerons.specs.SmallHeap.{two_bodies}
+use Rattle.ephemeron_trials.specs.SmallHeap.{two_bodies}
 use Rattle.marker_core.specs.Bodies.{IsPlace, is_place}
 use Rattle.page_words.specs.Seat.{SeatView}
-use Rattle.ephemerons.proofs.SmallHeap.{holder_there, place_either, pair_either, small_traced}
-use Rattle.ephemerons.proofs.trials.traced.Goals as goal
+use Rattle.ephemeron_trials.proofs.SmallHeap.{holder_there, place_either, pair_either, small_traced}
+use Rattle.ephemeron_trials.proofs.tracing.traced.Goals as goal
 
 pub mark-requires-clause-place : goal.mark-requires-clause-place
 mark-requires-clause-place c =

@@ -12,11 +12,13 @@ use Rattle.ephemerons.specs.BodyGraph.{HasType, HasPair}
 use Rattle.ephemerons.specs.declared.notes.Note.{Note}
 use Rattle.gc_graph.specs.declared.kind.Kind.TheVariants.{Pair}
 use Rattle.type_table.specs.Types.{kinds_of, offsets_of_kind}
-use Rattle.ephemerons.specs.SmallHeap.{pair_then_strong, two_bodies, IsSmall, IsTraced, IsEitherPlace, IsEitherPair}
+use Rattle.ephemeron_trials.specs.SmallHeap.{pair_then_strong, two_bodies, IsSmall, IsTraced, IsEitherPlace, IsEitherPair}
 use Rattle.ephemerons.specs.InHand.{Claims}
 use Rattle.ephemerons.specs.Notes.{NotesState, IsNotedIn, group_at}
 use Rattle.ephemerons.specs.Fixpoint.{ListsMarks}
 use Rattle.mark_worklist.specs.declared.marking.Marking.{Marking}
+use Rattle.mark_worklist.specs.OneMore.{was_there}
+use Rattle.mark_worklist.specs.Refusals.{PushesOrTells}
 
 abbrev first : ℕ → ℕ → ℕ → Body
 first k w s = record { place = 0; ty = 0; size = 5; serial = 1; fields = k ∷ w ∷ s ∷ [] }
@@ -148,3 +150,10 @@ null_written u v w traced value key =
 pub other_written : (u v w : SeatView) (was : Bool) → IsTraced u 257 1 0 → v ≡ stored u 3 257 → w ≡ marked_at v 256 was → w.bodies ≡ two_bodies 257 257 0
 other_written u v w was traced value marked =
     ap (λ (z : SeatView). z.bodies) marked ∙ ap (λ (z : SeatView). z.bodies) value ∙ ap (λ (bs : List Body). map (with_word 3 257) bs) traced.bodies
+
+-- a push lists its place at most
+pub pushed_place : (m n : Marking) (a p : ℕ) → PushesOrTells m n a → Contains n.list.items p → Contains m.list.items p ⊎ (a ≡ p)
+pushed_place m n a p pushed there = elim pushed [
+  | inl done ↦ was_there m.list.items n.list.items a done.0.items p there
+  | inr refused ↦ inl (subst (λ items. Contains items p) (ap (λ (x : Marking). x.list.items) refused) there)
+]

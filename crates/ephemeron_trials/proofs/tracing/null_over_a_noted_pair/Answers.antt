@@ -2,9 +2,9 @@ use Rattle.std.proofs.Common.{List, sym, ◌∙◌, subst, inr}
 use Rattle.gc_graph.specs.State.{ObjectType}
 use Rattle.marker_core.specs.Bodies.{IsPlace}
 use Rattle.ephemerons.specs.BodyGraph.{HasPair}
-use Rattle.ephemerons.specs.SmallHeap.{pair_then_strong}
-use Rattle.ephemerons.proofs.SmallHeap.{null_written, other_there, either_place, either_pair, noted_alone}
-use Rattle.ephemerons.proofs.trials.null_over_a_noted_pair.Goals as goal
+use Rattle.ephemeron_trials.specs.SmallHeap.{pair_then_strong}
+use Rattle.ephemeron_trials.proofs.SmallHeap.{null_written, other_there, either_place, either_pair, noted_alone}
+use Rattle.ephemeron_trials.proofs.tracing.null_over_a_noted_pair.Goals as goal
 
 pub fixpoint-count-requires-clause-listed : goal.fixpoint-count-requires-clause-listed
 fixpoint-count-requires-clause-listed c p there =
@@ -18,6 +18,6 @@ fixpoint-count-requires-clause-noted c note noted =
     (null_written c.in_ok-space.field-0.seat c.store.new.seat c.store-2.new.seat c.in_ok-space.ensures.traced c.store.ensures.view c.store-2.ensures.view))
     (either_pair 0 0 0 note (c.in_ok-space.ensures.noted note (noted_alone c.in_ok-space.field-0.notes note noted)))))
 
-pub is_marked-requires-clause-place : goal.is_marked-requires-clause-place
-is_marked-requires-clause-place c = subst (λ bs. IsPlace bs 256) (sym (c.fixpoint-count.ensures.kept.bodies
+pub header_at-requires-clause-start : goal.header_at-requires-clause-start
+header_at-requires-clause-start c = subst (λ bs. IsPlace bs 256) (sym (c.fixpoint-count.ensures.kept.bodies
     ∙ null_written c.in_ok-space.field-0.seat c.store.new.seat c.store-2.new.seat c.in_ok-space.ensures.traced c.store.ensures.view c.store-2.ensures.view)) (other_there 0 0 0)

@@ -1,7 +1,7 @@
 use Rattle.std.proofs.Common.{◌∙◌, ap}
 use Rattle.page_words.specs.Seat.{empty_view}
-use Rattle.ephemerons.proofs.SmallHeap.{small_made}
-use Rattle.ephemerons.proofs.trials.made.Goals as goal
+use Rattle.ephemeron_trials.proofs.SmallHeap.{small_made}
+use Rattle.ephemeron_trials.proofs.small_heap.made.Goals as goal
 
 pub returns-clause-small : goal.returns-clause-small
 returns-clause-small c =

@@ -1,27 +1,18 @@
-// One object, traced on a heap of two that were made by hand.
+// One object, traced on a heap of two.
 
-ghost use Rattle.std.specs.Prelude.{◌≡◌, ◌↔◌, ℕ, true, false, Contains, IfOk, IfSome};
-ghost use Rattle.page_space.specs.Space.{IsSeatOf, IsSpaceOf};
-ghost use Rattle.page_space.specs.Occupying.{IsNewNumber, Occupies, new_body};
+ghost use Rattle.std.specs.Prelude.{◌≡◌, ◌↔◌, ℕ, true, Contains, IfSome};
+ghost use Rattle.page_space.specs.Space.{IsSeatOf};
 ghost use Rattle.ephemerons.specs.declared.notes.Note.{Note};
-ghost use Rattle.ephemerons.specs.SmallHeap.{pair_then_strong, IsEither, IsSmall, IsTraced};
-ghost use Rattle.ephemerons.specs.SmallHeap.{IsEitherPlace, IsEitherPair};
+ghost use Rattle.ephemeron_trials.specs.SmallHeap.{pair_then_strong, IsEither, IsTraced};
+ghost use Rattle.ephemeron_trials.specs.SmallHeap.{IsEitherPlace, IsEitherPair};
 
-use crate::closing::fixpoint;
-use crate::marks::{is_marked, list_held};
-use crate::notes::Pairs;
-use crate::tracing::{claim, trace};
-use gc_graph::{Kind, NoMemory};
+use crate::small_heap::{HOLDER, OTHER, made, one_type, write};
+use ephemerons::{Pairs, claim, fixpoint, trace};
 use mark_worklist::{Marking, Worklist};
 use page_space::Space;
 use page_words::{Bodywords, MutatorSeat};
 use std::alloc::Global;
-use type_table::{TypeDecl, TypeTable};
-
-/// Where the object that is traced stands, and the other one.
-const HOLDER: u32 = 0;
-
-const OTHER: u32 = 256;
+use type_table::TypeTable;
 
 /// How many places are listed and how many pairs noted, and whether the other object is marked.
 #[derive(Clone, Copy, Debug, PartialEq)]
@@ -29,78 +20,6 @@ struct Counts {
     listed: usize,
     noted: usize,
     marked: bool,
-}
-
-/// One type, with a pair and after it a strong field.
-fn one_type(alloc: Global) -> Result<TypeTable, NoMemory>
-    ensures { IfOk result (λ types. types ≡ pair_then_strong) }
-{
-    let mut fields = Vec::new(alloc);
-    fields.push(Kind::Pair)?;
-    fields.push(Kind::Strong)?;
-    let mut types = Vec::new(alloc);
-    types.push(TypeDecl::new(fields, Vec::new(alloc)))?;
-    let Ok(types) = TypeTable::new(alloc, types, 0) else {
-        return Err(NoMemory);
-    };
-    Ok(types)
-}
-
-/// Makes an object with null fields, if the place is the next one.
-fn put(space: &mut Space, seat: &mut MutatorSeat, place: u32, serial: u32) -> bool
-    requires space { IsSpaceOf space.old seat.old }
-    requires types { seat.old.types ≡ pair_then_strong }
-    requires number { IsNewNumber seat.old serial }
-    ensures put { result ≡ true → Occupies seat.old seat.new (new_body place 0 5 serial) }
-    ensures space { result ≡ true → IsSpaceOf space.new seat.new }
-{
-    match space.find_empty(seat, 5) {
-        Some(a) => {
-            if a != place {
-                return false;
-            }
-            space.occupy(seat, a, 0, 5, serial);
-            true
-        }
-        None => false,
-    }
-}
-
-/// The heap before marking.
-fn made(alloc: Global, types: &TypeTable) -> Option<(Space, MutatorSeat)>
-    requires { types.now ≡ pair_then_strong }
-    ensures space { IfSome result (λ made. IsSeatOf made.0 made.1) }
-    ensures small { IfSome result (λ made. IsSmall made.1 0 0 0) }
-{
-    let Ok((mut space, mut seat)) = Space::new(alloc, 2, 256, types) else {
-        return None;
-    };
-    if !put(&mut space, &mut seat, HOLDER, 1) {
-        return None;
-    }
-    if !put(&mut space, &mut seat, OTHER, 2) {
-        return None;
-    }
-    Some((space, seat))
-}
-
-/// Writes the fields of the first object: the value goes in before its key.
-fn write(space: &Space, seat: &mut MutatorSeat, key: u64, value: u64, strong: u64)
-    requires heap { IsSeatOf space.now seat.old }
-    requires small { IsSmall seat.old 0 0 0 }
-    requires key { IsEither key }
-    requires value { IsEither value }
-    requires strong { IsEither strong }
-    requires pair { (key ≡ 0) ↔ (value ≡ 0) }
-    ensures heap { seat.new.heap ≡ seat.old.heap }
-    ensures small { IsSmall seat.new key value strong }
-{
-    seat.bodies_lie_apart();
-    space.store(seat, HOLDER + 3, value);
-    seat.bodies_lie_apart();
-    space.store(seat, HOLDER + 2, key);
-    seat.bodies_lie_apart();
-    space.store(seat, HOLDER + 4, strong);
 }
 
 /// A heap in which the first object was traced.
@@ -167,11 +86,11 @@ fn left(alloc: Global, key: u64, value: u64, strong: u64) -> Option<Counts>
     Some(Counts {
         listed: t.marking.list.len(),
         noted: t.notes.count(),
-        marked: is_marked(&t.space, &mut t.seat, OTHER),
+        marked: t.space.header_at(&mut t.seat, OTHER).mark,
     })
 }
 
-/// What the fixpoint traces, and whether the other object is marked then, where null is written over.
+/// How many objects the fixpoint traces, and whether the other one is marked, once null is written.
 fn null_over_a_noted_pair(alloc: Global) -> Option<(u32, bool)> {
     let Trial {
         space,
@@ -184,10 +103,10 @@ fn null_over_a_noted_pair(alloc: Global) -> Option<(u32, bool)> {
     space.store(&mut seat, HOLDER + 2, 0);
     let mut groups = [notes];
     let count = fixpoint(&space, &types, &mut seat, &mut marking, &mut groups, false);
-    Some((count, is_marked(&space, &mut seat, OTHER)))
+    Some((count, space.header_at(&mut seat, OTHER).mark))
 }
 
-/// The same where its value was overwritten by another, the key itself: the write marks and lists it.
+/// The same where its value was overwritten by the key itself: the write marks and lists that.
 fn another_over_a_noted_pair(alloc: Global) -> Option<(u32, bool)> {
     let Trial {
         space,
@@ -198,13 +117,13 @@ fn another_over_a_noted_pair(alloc: Global) -> Option<(u32, bool)> {
     } = traced(alloc, 257, 1, 0)?;
     space.store(&mut seat, HOLDER + 3, 257);
     space.mark(&mut seat, OTHER);
-    list_held(&mut marking, Some(OTHER));
+    marking.push(OTHER);
     let mut groups = [notes];
     let count = fixpoint(&space, &types, &mut seat, &mut marking, &mut groups, false);
-    Some((count, is_marked(&space, &mut seat, OTHER)))
+    Some((count, space.header_at(&mut seat, OTHER).mark))
 }
 
-/// Whether tracing leaves so many places listed and pairs noted, and the other object marked or not.
+/// Whether tracing leaves so many places listed and pairs noted, and the other object marked.
 fn leaves(found: Option<Counts>, listed: usize, noted: usize, marked: bool) -> bool {
     found
         == Some(Counts {
