@@ -20,6 +20,5 @@ pub mod NoPairs
 pub mod Holding
 pub mod TrueOfViews
 pub mod UnderWaySteps
-pub mod SmallHeap
 pub mod StrongWords
 pub mod TracedFields

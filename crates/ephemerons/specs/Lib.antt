@@ -12,5 +12,3 @@ pub mod BodyLeads
 pub mod ListedMarks
 pub mod Accounted
 pub mod UnderWayStays
--- The heap on which tracing is tried, for the tests alone.
-pub mod SmallHeap

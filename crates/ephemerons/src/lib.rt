@@ -4,9 +4,9 @@
 //! names; a pair marks its value once its key is marked (`include/cppgc/ephemeron-pair.h`).
 //!
 //! The parts: `Pairs` (notes of pairs whose key was not marked yet, and of objects that may still
-//! have to be traced), `mark` (one object, as a root does it), `trace` (one object that was
-//! claimed), `trace_listed` (so many objects of the list), `fixpoint` (all that is marked, until
-//! nothing asks for more). Below is `page_words`.
+//! have to be traced), `mark` (one object, as a root does it), `claim` and `trace` (one object),
+//! `trace_listed` (so many objects of the list), `fixpoint` (all that is marked, until nothing asks
+//! for more). Below is `page_words`.
 //!
 //! An object is claimed, and traced to its end before the next one is. Meanwhile it is in the step
 //! machine's hand: its strong fields and pairs are read in the order of their offsets, and what a
@@ -22,8 +22,8 @@
 //! nothing waits for its mark, and leaves that so. What is marked is something that the cycle may
 //! keep.
 //!
-//! What is only tested or not said: how long it takes. That the tree over keys tells all notes of a
-//! key is tested in `part_tests`.
+//! What is only tested or not said: how long it takes. That tracing can succeed is tested in
+//! `ephemeron_trials`, and that the tree over keys tells all notes of a key in `part_tests`.
 #![tactic(auto)]
 
 mod closing;
@@ -35,12 +35,10 @@ mod settling;
 mod stepping;
 mod strong_fields;
 mod tracing;
-#[cfg(test)]
-mod trials;
 mod walking;
 
 pub use closing::fixpoint;
 pub use marks::mark;
 pub use notes::{Note, Pairs};
 pub use stepping::trace_listed;
-pub use tracing::trace;
+pub use tracing::{claim, trace};

@@ -99,7 +99,8 @@ impl Pairs {
         self.refused
     }
 
-    pub(crate) fn count(&self) -> usize
+    /// How many notes there are.
+    pub fn count(&self) -> usize
         ensures { result ≡ length self.now.notes }
     {
         self.notes.len()

@@ -192,7 +192,7 @@ pub(crate) fn trace_pairless<B: Bodywords>(
 /// Claims an object. Its type where it was marked and not yet traced: one look at the header serves
 /// both.
 #[inline(always)]
-pub(crate) fn claim<B: Bodywords>(words: &B, seat: &mut MutatorSeat, place: u32) -> Option<u32>
+pub fn claim<B: Bodywords>(words: &B, seat: &mut MutatorSeat, place: u32) -> Option<u32>
     requires heap { seat.old.heap ≡ B.heap words.now }
     requires on { seat.old.on ≡ true }
     requires alone { IsAlone seat.old }

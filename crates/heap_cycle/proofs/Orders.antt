@@ -1,17 +1,17 @@
 -- How many entries and replies come of the orders that wait.
-use Rattle.std.proofs.Common.{◌≡◌, ℕ, zero, suc, ◌+◌, ◌-◌, ◌≤◌, Bool, true, false, List, [], ◌∷◌, ◌++◌, length, get_or, drop, map, All, refl, sym, ap, subst, inl, inr, arith, cond, eqb, nat_lt, not}
+use Rattle.std.proofs.Common.{◌≡◌, ℕ, zero, suc, ◌+◌, ◌-◌, ◌≤◌, Bool, true, false, List, [], ◌∷◌, length, get_or, drop, map, All, refl, sym, ap, subst, inl, inr, arith, cond, eqb, nat_lt, not}
 use Rattle.std.specs.List.{Contains, filter, flat_map, range_with_len, sum_by}
-use Rattle.std.proofs.lemmas.Bool.{cases_lt, cases_Bool, eq-eqb}
-use Rattle.std.proofs.lemmas.List.{length-append, length-map, set_past}
+use Rattle.std.proofs.lemmas.Bool.{cases_Bool, eq-eqb}
+use Rattle.std.proofs.lemmas.List.{length-append, length-map}
 use Rattle.std.proofs.lemmas.List.Concat.{length-flat_map}
 use Rattle.std.proofs.lemmas.List.Elements.{All-head, All-tail}
 use Rattle.std.proofs.lemmas.List.Filters.{sum_by-filter_both}
-use Rattle.std.proofs.lemmas.List.Sums.{sum_by-cons, sum_by-set}
+use Rattle.std.proofs.lemmas.List.Sums.{sum_by-cons}
 use Rattle.gc_graph.specs.declared.command.Order.{Order}
 use Rattle.gc_graph.specs.declared.region.Entry.{Entry}
 use Rattle.gc_graph.specs.Members.{Contains-cons_cases, Contains-head, Contains-cons}
 use Rattle.gc_graph.specs.RegionSteps.{Answer, HasDone, entries_by, entry_of, op_of, reply_line}
-use Rattle.thread_queues.specs.Queues.{queue_in, threads_in, with_order}
+use Rattle.thread_queues.specs.Queues.{queue_in, threads_in}
 use Rattle.heap_cycle.specs.Took.{at_most_one}
 
 -- ---- sums
@@ -59,17 +59,6 @@ orders_few queues =
       sum_filtered (λ j. length (queue_in queues j)) (λ j. nat_lt 0 (length (queue_in queues j))) (range_with_len 1 8),
       from_on queues 8 1 0 refl,
     )
-
--- one order more waits at most
-pub one_more : (queues : List (List Order)) (j : ℕ) (order : Order) → sum_by length (with_order queues j order) ≤ sum_by length queues + 1
-one_more queues j order = elim (cases_lt (j - 1) (length queues)) [
-  | inl low ↦ omega (
-    arith,
-    sum_by-set length queues (j - 1) (queue_in queues j ++ order ∷ []) [] low,
-    length-append (queue_in queues j) (order ∷ []),
-  )
-  | inr past ↦ omega (arith, ap (sum_by length) (set_past queues (j - 1) (queue_in queues j ++ order ∷ []) past))
-]
 
 -- ---- what a thread has done
 

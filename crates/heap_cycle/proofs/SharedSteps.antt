@@ -1,6 +1,6 @@
 -- The region beside the parts: after one more entry of the owner, and after a sweep.
 use Rattle.std.proofs.Common.{◌≡◌, ℕ, true, List, [], ◌∷◌, ◌++◌, ◌*◌, length, refl, sym, ap, ◌∙◌, subst}
-use Rattle.std.proofs.lemmas.List.{drop_at, append_assoc}
+use Rattle.std.proofs.lemmas.List.{drop_at}
 use Rattle.gc_graph.specs.declared.phase.Phase.{Phase}
 use Rattle.gc_graph.specs.declared.phase.Phase.TheVariants.{Idle, Marking, Sweeping}
 use Rattle.gc_graph.specs.declared.region.Entry.{Entry}
@@ -12,9 +12,9 @@ use Rattle.gc_graph.specs.Outcomes.{owner_entry}
 use Rattle.gc_graph.specs.State.{Shape, State, RegionSlot}
 use Rattle.gc_graph.specs.Sweep.{SweepsInPhase}
 use Rattle.cross_thread_region.specs.declared.chronicle.PlacedEntry.{PlacedEntry}
-use Rattle.cross_thread_region.specs.Calls.{Begins, entry_of, first_pass, with_own}
+use Rattle.cross_thread_region.specs.Calls.{entry_of, first_pass, with_own}
 use Rattle.cross_thread_region.specs.Histories.{entries_of, slots_of, is_started, IsPlacedBy}
-use Rattle.cross_thread_region.specs.NextEntries.{slots_next, started_next, begins_itself, begins_next}
+use Rattle.cross_thread_region.specs.NextEntries.{slots_next, started_next}
 use Rattle.cross_thread_region.specs.PlacedNodes.{placed_next}
 use Rattle.heap_objects.specs.SweptNodes.{place-finalised}
 use Rattle.nodes_in_words.specs.Nodes.{place_of}
@@ -35,9 +35,6 @@ pub own_made : (s : State) (history : List PlacedEntry) (op : Op) (place : ℕ) 
 own_made s history op place slots =
     let entry : List RegionSlot → List Entry = λ region. record { thread = 0; op = op; reply = reply_of region op } ∷ [] in
     made_next history (entry_of first_pass history op place) ∙ ap entry (sym slots)
-
-pub own_begins : (history : List PlacedEntry) (op : Op) (place : ℕ) → Begins history (with_own history op place)
-own_begins history op place = begins_next history history (entry_of first_pass history op place) (begins_itself history)
 
 -- ---- the region after an entry
 

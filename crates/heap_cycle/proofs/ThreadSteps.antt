@@ -1,4 +1,4 @@
--- Orders are queued, threads go, and are joined: the region stays the heap's.
+-- Threads go, and are joined: the region stays the heap's.
 use Rattle.std.proofs.Common.{◌≡◌, ℕ, zero, suc, ◌+◌, ◌<◌, ◌≤◌, Bool, true, false, List, [], ◌∷◌, ◌++◌, length, replicate, take, drop, map, All, refl, sym, ap, ◌∙◌, subst, inl, inr, arith, eqb, cond, nat_lt}
 use Rattle.std.proofs.Math.Seq.{drop-length, take-length}
 use Rattle.std.specs.List.{Contains, flat_map, list_any, range_with_len, sum_by}
@@ -14,14 +14,14 @@ use Rattle.gc_graph.specs.CycleSteps.{is_marking}
 use Rattle.gc_graph.specs.History.{IsLegal, IsLegalFrom, replayed}
 use Rattle.gc_graph.specs.Members.{Contains-cons, Contains-head, holds_from, in_range, stays_in, to_range}
 use Rattle.gc_graph.specs.Outcomes.{AreOthers, IsThreadOp, answered, took}
-use Rattle.gc_graph.specs.RegionSteps.{HasDone, StepThreadsJoin, entries_by, joined, queue_of, queued, reply_line}
+use Rattle.gc_graph.specs.RegionSteps.{HasDone, StepThreadsJoin, entries_by, joined, queue_of, reply_line}
 use Rattle.gc_graph.specs.State.{State}
 use Rattle.gc_graph.specs.State.RegionSlot.{Vacant}
 use Rattle.cross_thread_region.specs.declared.chronicle.PlacedEntry.{PlacedEntry}
 use Rattle.cross_thread_region.specs.Histories.{entries_of, is_started, slots_of, IsPlacedBy}
 use Rattle.thread_queues.specs.declared.totals.Totals.{Totals}
 use Rattle.thread_queues.specs.Going.{HaveGone}
-use Rattle.thread_queues.specs.Queues.{QueuesView, queue_in, queues_left, threads_in, with_order}
+use Rattle.thread_queues.specs.Queues.{QueuesView, queue_in, queues_left, threads_in}
 use Rattle.nodes_in_words.specs.Nodes.{place_of}
 use Rattle.heap_cycle.specs.declared.parts.Parts.{Parts}
 use Rattle.heap_cycle.specs.declared.shared.Shared.{Shared}
@@ -31,44 +31,7 @@ use Rattle.heap_cycle.specs.Region.{HasRegion, made}
 use Rattle.heap_cycle.specs.Shared.{HasAhead, HasShared, HasThreads, HaveAnswered, IsOwners, ahead_of, joined_shared, taken_of, told_lines}
 use Rattle.heap_cycle.specs.ThreadEntries.{entries_on, owners_by_none, thread_above}
 use Rattle.heap_cycle.specs.Took.{legal_later, took_is}
-use Rattle.heap_cycle.proofs.Orders.{made_few, one_more, replies_few}
-
--- ---- an order
-
--- the parts once the order waits
-abbrev pub queued_parts : Parts → ℕ → Order → Parts
-queued_parts s j order = record s { cycle = record s.cycle { rest = queued (state_of s) j order } }
-
--- the queues once it waits
-abbrev pub queued_shared : Shared → ℕ → Order → Shared
-queued_shared h j order = record h { threads = record h.threads { queues = with_order h.threads.queues j order } }
-
-pub has_queued : (s : Parts) (h : Shared) (j : ℕ) (order : Order) → HasShared s h → s.cycle.rest.awaiting ≡ false
-    → HasShared (counted (queued_parts s j order)) (queued_shared h j order)
-has_queued s h j order shared still =
-    let threads : HasThreads (state_of s) h = shared.threads in
-    let calm : h.threads.awaiting ≡ false = sym threads.awaiting ∙ still in
-    let waits : (b : Bool) → b ≡ false → cond b 0 (sum_by length (with_order h.threads.queues j order)) ≤ cond b 0 (sum_by length h.threads.queues) + 1 =
-    λ b is. subst (λ x. cond x 0 (sum_by length (with_order h.threads.queues j order)) ≤ cond x 0 (sum_by length h.threads.queues) + 1) (sym is)
-    (one_more h.threads.queues j order) in
-    record {
-      region = record { slots = shared.region.slots; placed = shared.region.placed; started = shared.region.started };
-      ahead = record { others = shared.ahead.others; legal = shared.ahead.legal };
-      threads = record {
-        queues = ap (λ queues. with_order queues j order) threads.queues;
-        running = threads.running;
-        awaiting = threads.awaiting;
-        unprinted = threads.unprinted;
-        printed = threads.printed;
-        taken = threads.taken;
-        owners = threads.owners;
-        calm = threads.calm;
-        idle = threads.idle;
-        answered = λ awaits. absurd (true≢false (sym awaits ∙ calm));
-        few = omega (arith, threads.few, waits h.threads.awaiting calm);
-        few_replies = omega (arith, threads.few_replies);
-      };
-    }
+use Rattle.heap_cycle.proofs.Orders.{made_few, replies_few}
 
 -- ---- the threads go
 

@@ -1,2 +1,3 @@
 pub mod NoFields
 pub mod AgedHeaps
+pub mod EndSteps

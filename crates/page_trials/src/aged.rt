@@ -184,7 +184,7 @@ impl Aged {
 }
 
 /// A table of two types without fields.
-fn two_types(alloc: Global) -> Result<TypeTable, NoMemory>
+pub fn two_types(alloc: Global) -> Result<TypeTable, NoMemory>
     ensures { IfOk result (λ types. types ≡ no_type ∷ no_type ∷ []) }
 {
     let mut types = Vec::new(alloc);

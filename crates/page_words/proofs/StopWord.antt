@@ -1,6 +1,6 @@
--- What may be kept once marking has begun, and after a weak read; and when marking ends.
+-- What may be kept once marking has begun, and after a weak read; and what the written stop word tells.
 use Rattle.std.proofs.Common.{◌≡◌, ℕ, List, [], ◌∷◌, ◌++◌, Bool, true, false, eqb, ap, sym, subst}
-use Rattle.std.proofs.lemmas.Bool.{true≢false, and_from, cond-true, eq-eqb}
+use Rattle.std.proofs.lemmas.Bool.{true≢false, cond-true}
 use Rattle.object_headers.specs.Layout.{bit_of}
 use Rattle.atomic_table.specs.Seated.{TableId}
 use Rattle.marker_core.specs.Bodies.{holds}
@@ -8,9 +8,7 @@ use Rattle.marker_core.specs.Closed.{reach_over}
 use Rattle.marker_core.specs.declared.states.Why.{Why}
 use Rattle.marker_core.specs.declared.states.Why.TheVariants.{Weak}
 use Rattle.marker_core.specs.Laws.{ReachOverIsLeast, IsLeastOver}
-use Rattle.marker_core.specs.SeatLaws.{seat_ends}
-use Rattle.marker_core.specs.SeatSteps.{seat_ended}
-use Rattle.page_words.specs.Seat.{SeatView, MaySetStop, side, with_mutator, stop_set, ended, loaded}
+use Rattle.page_words.specs.Seat.{SeatView, MaySetStop, with_mutator, stop_set, loaded}
 use Rattle.page_words.specs.Roles.{kind_lists}
 use Rattle.page_words.specs.Rule.{View, IsSure, seat_view}
 
@@ -34,12 +32,6 @@ module _ (law : ReachOverIsLeast) (table : TableId) (known : View) (sure : IsSur
       (law known.count (kind_lists known.types) known.mutator.bodies roots sure.ok.bodies_are_whole sure.ok.bodies_lie_apart
       (λ b i there names.
       sure.ok.references_name_bodies b i there (ap (λ dead. holds dead b.place) (sure.ok.quiet_while_off.no_dead on)) names)))
-
--- where no view is lent marking ends
-pub ends_marking : (v : SeatView) (roots : List ℕ) (on : Bool) → on ≡ true → v.on ≡ true → v.lent ≡ 0 → stop_set v roots on ≡ ended v
-ends_marking v roots true is goes alone =
-    ap (with_mutator v) (cond-true (seat_ends (side v)) (seat_ended (side v)) v.mutator (and_from v.on (eqb v.lent 0) goes (eq-eqb v.lent 0 alone)))
-ends_marking v roots false is goes alone = absurd (true≢false (sym is))
 
 -- the word that is written tells which it was
 pub stop_word_tells : (v : SeatView) (roots : List ℕ) (w : ℕ) (on : Bool) → w ≡ bit_of on

@@ -1,0 +1,20 @@
+//! # Trials of tracing
+//!
+//! What it is: tests alone, of `trace` and `fixpoint` of `ephemerons`, on a heap that a `Space`
+//! holds. They stand apart from it, so that `ephemerons` stands on `page_words` alone, and since a
+//! crate with tests is proved a second time with them.
+//!
+//! The parts: `small_heap` (a heap of two objects, whose type has a pair and after it a strong
+//! field), `tracing` (the first of them traced with fields of each kind, and pairs that are
+//! overwritten after they were noted).
+//!
+//! What is proved: that the tests are safe and call only what they may. So what `claim`, `trace`
+//! and `fixpoint` ask for can be met.
+//!
+//! What is only tested or not said: nothing further; the clauses of tracing fix what is tested.
+#![tactic(auto)]
+
+#[cfg(test)]
+mod small_heap;
+#[cfg(test)]
+mod tracing;
