@@ -1,0 +1,9 @@
+pub mod Balance
+pub mod Looks
+pub mod Steps
+pub mod Others
+pub mod Links
+pub mod Items
+pub mod Joins
+pub mod Taking
+pub mod Wholes

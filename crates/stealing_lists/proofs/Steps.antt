@@ -1,0 +1,116 @@
+-- Each step of an end keeps the rule.
+use Rattle.std.proofs.Common.{◌≡◌, ℕ, zero, suc, ◌+◌, ◌-◌, ◌<◌, ◌≤◌, Bool, List, [], ◌∷◌, ◌++◌, length, set, Option, None, Some, MatchOption, refl, sym, ap, ◌∙◌, subst, arith}
+use Rattle.std.specs.List.{All, count_by}
+use Rattle.std.proofs.lemmas.List.Sums.{sum_by-append, sum_by_push}
+use Rattle.std.proofs.lemmas.List.Elements.{All-set, All-append}
+use Rattle.crossbeam_deque.specs.Tasks.{Pushes, Takes, Finds, FindsFew, Forks, Merges, Learns}
+use Rattle.stealing_lists.specs.declared.rule.Hand.{Hand}
+use Rattle.stealing_lists.specs.Hands.{hand, all_parts, with_put, with_taken, joined, IsIdleWithoutParts, IsBalanced, WasEmpty, IsLeft}
+use Rattle.stealing_lists.proofs.Balance.{sum-set, is-there, alone}
+
+-- how many items that are asked for an end has put, and taken
+abbrev puts : (ℕ → Bool) → Hand → ℕ
+puts asked h = count_by asked h.put
+
+abbrev takes : (ℕ → Bool) → Hand → ℕ
+takes asked h = count_by asked h.taken
+
+append : (asked : ℕ → Bool) (xs ys : List ℕ) → count_by asked (xs ++ ys) ≡ count_by asked xs + count_by asked ys
+append asked xs ys = sum_by-append _ xs ys
+
+busy : (h : Hand) → 0 < h.parts → IsIdleWithoutParts h
+busy h some_part none = absurd (omega (arith, some_part, none))
+
+all-one : (w : Hand) → IsIdleWithoutParts w → All IsIdleWithoutParts (w ∷ [])
+all-one w idle zero d l = idle
+all-one w idle (suc k) d l = absurd (omega (arith, l))
+
+pub begins : IsBalanced [] (hand all_parts [] [] ∷ [])
+begins = record { whole = refl; even = λ asked. refl; partless = all-one (hand all_parts [] []) (λ none. (refl, refl)) }
+
+pub puts-one : (port : ℕ) (v : Hand) (xs : List ℕ) → 0 < v.parts → Pushes IsBalanced port v xs (λ w. w ≡ with_put v xs)
+puts-one port v xs some_part items hands b at =
+    let w : Hand = with_put v xs in (
+      w,
+      record {
+        whole = (let s = sum-set (λ h. h.parts) hands port v w at in omega (arith, s, b.whole));
+        even = λ asked.
+            let s = sum-set (puts asked) hands port v w at in
+            let t = sum-set (takes asked) hands port v w at in
+            omega (arith, s, t, b.even asked, append asked v.put xs, append asked items xs);
+        partless = All-set IsIdleWithoutParts hands port w (busy w some_part) b.partless;
+      },
+      refl,
+    )
+
+pub takes-some : (port : ℕ) (v : Hand) (most : ℕ) → 0 < v.parts → Takes IsBalanced port v most (λ xs w. w ≡ with_taken v xs)
+takes-some port v most some_part xs items hands _ _ b at =
+    let w : Hand = with_taken v xs in (
+      w,
+      record {
+        whole = (let s = sum-set (λ h. h.parts) hands port v w at in omega (arith, s, b.whole));
+        even = λ asked.
+            let s = sum-set (puts asked) hands port v w at in
+            let t = sum-set (takes asked) hands port v w at in
+            omega (arith, s, t, b.even asked, append asked v.taken xs, append asked xs items);
+        partless = All-set IsIdleWithoutParts hands port w (busy w some_part) b.partless;
+      },
+      refl,
+    )
+
+pub finds-none : (port : ℕ) (v : Hand) → Finds IsBalanced port v (WasEmpty v)
+finds-none port v hands b at = (hands, b, is-there hands port v at)
+
+no-items : (items : List ℕ) → length items ≤ 0 → items ≡ []
+no-items [] few = refl
+no-items (x ∷ xs) few = absurd (omega (arith, few))
+
+pub finds-few : (port : ℕ) (v : Hand) → FindsFew IsBalanced 0 port v (WasEmpty v)
+finds-few port v items hands few b at = (hands, subst (λ l. IsBalanced l hands) (no-items items few) b, is-there hands port v at)
+
+pub cuts : (port : ℕ) (v : Hand) → 1 < v.parts → Forks IsBalanced port v (hand (v.parts - 1) v.put v.taken) (hand 1 [] [])
+cuts port v more items hands b at =
+    let left : Hand = hand (v.parts - 1) v.put v.taken in
+    let right : Hand = hand 1 [] [] in
+    record {
+      whole = (
+          let s = sum-set (λ h. h.parts) hands port v left at in
+          omega (arith, s, b.whole, more, sum_by_push (λ h. h.parts) (set hands port left) right));
+      even = λ asked.
+          let s = sum-set (puts asked) hands port v left at in
+          let t = sum-set (takes asked) hands port v left at in
+          omega (arith, s, t, b.even asked, sum_by_push (puts asked) (set hands port left) right, sum_by_push (takes asked) (set hands port left) right);
+      partless = All-append IsIdleWithoutParts (set hands port left) (right ∷ []) (All-set IsIdleWithoutParts hands port left (busy left (omega (arith, more))) b.partless)
+          (all-one right (busy right (omega arith)));
+    }
+
+pub joins : (port : ℕ) (v : Hand) (other : ℕ) (u : Hand) → 0 < v.parts → Merges IsBalanced port v other u (joined v u) (hand 0 [] [])
+joins port v other u some_part items hands b at apart at' =
+    let both : Hand = joined v u in
+    let spent : Hand = hand 0 [] [] in
+    let now : List Hand = set hands port both in
+    record {
+      whole = (
+          let s = sum-set (λ h. h.parts) hands port v both at in
+          let t = sum-set (λ h. h.parts) now other u spent at' in
+          omega (arith, s, t, b.whole));
+      even = λ asked.
+          let s = sum-set (puts asked) hands port v both at in
+          let s' = sum-set (puts asked) now other u spent at' in
+          let t = sum-set (takes asked) hands port v both at in
+          let t' = sum-set (takes asked) now other u spent at' in
+          omega (arith, s, s', t, t', b.even asked, append asked v.put u.put, append asked v.taken u.taken);
+      partless = All-set IsIdleWithoutParts now other spent (λ none. (refl, refl)) (All-set IsIdleWithoutParts hands port both (busy both (omega (arith, some_part))) b.partless);
+    }
+
+pub totals : (port : ℕ) (v : Hand) → v.parts ≡ all_parts → Learns IsBalanced port v (IsLeft v)
+totals port v whole items hands b at asked =
+    let all = b.whole ∙ sym whole in
+    let s = alone (puts asked) (λ h idle none. ap (count_by asked) (idle none).0) hands port v at b.partless all in
+    let t = alone (takes asked) (λ h idle none. ap (count_by asked) (idle none).1) hands port v at b.partless all in
+    omega (arith, s, t, b.even asked)
+
+-- what follows from each answer of a call follows from the call
+pub follows : {T : Type 0} (o : Option T) (A A' : Type 0) (B B' : T → Type 0) → (A → A') → ((a : T) → B a → B' a) → MatchOption o A B → MatchOption o A' B'
+follows None A A' B B' f g h = f h
+follows (Some a) A A' B B' f g h = g a h

@@ -1,0 +1,7 @@
+pub mod Hands
+pub mod Ends
+pub mod Shares
+pub mod Families
+pub mod Linking
+pub mod Joining
+pub mod Kept

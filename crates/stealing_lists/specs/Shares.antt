@@ -1,0 +1,69 @@
+-- Shares, and what their calls make of them.
+use Rattle.std.specs.Prelude.{◌≡◌, ℕ, ◌+◌, ◌-◌, ◌^◌, ◌<◌, ◌==◌, Bool, true, false, List, [], ◌∷◌, ◌++◌, length, map, min, slice_index_or, slice_set}
+use Rattle.std.specs.List.{count_by, flat_map}
+use Rattle.stealing_lists.specs.Hands.{with_put, with_taken}
+use Rattle.stealing_lists.specs.Ends.{OwnState, OtherState, FoundNone}
+
+-- a share: its number, the end of its own list, and its ends of the lists of all others, in the order of their numbers; how many
+-- pushes were refused; and whether a pop, and a steal, found nothing since it last put or gave an item
+pub record ShareState : Type 0 where
+  pub number : ℕ
+  pub own : OwnState
+  pub others : List OtherState
+  pub refused : ℕ
+  pub pop_found_none : Bool
+  pub steal_found_none : Bool
+
+-- what it put
+abbrev pub put_of : ShareState → List ℕ
+put_of s = s.own.hand.put
+
+-- what it took, of its own list and of others
+abbrev pub taken_of : ShareState → List ℕ
+taken_of s = s.own.hand.taken ++ flat_map (λ e. e.taken) s.others
+
+-- how often an item stands in a list
+abbrev pub times : ℕ → List ℕ → ℕ
+times item items = count_by (λ i. i == item) items
+
+-- the last value of a count of what was refused
+abbrev pub last_count : ℕ
+last_count = 2 ^ 64 - 1
+
+-- the count after so many more; at its last value it stays
+abbrev pub more_counted : ℕ → ℕ → ℕ
+more_counted count more = min (count + more) last_count
+
+-- the item was put on its own list
+abbrev pub pushed : ShareState → ℕ → ShareState
+pushed s a = record s { own = record s.own { hand = with_put s.own.hand (a ∷ []) }; pop_found_none = false; steal_found_none = false }
+
+-- one more push was refused, and nothing else changed
+abbrev pub refused_once : ShareState → ShareState
+refused_once s = record s { refused = more_counted s.refused 1 }
+
+-- the item was taken from its own list
+abbrev pub popped : ShareState → ℕ → ShareState
+popped s a = record s { own = record s.own { hand = with_taken s.own.hand (a ∷ []) }; pop_found_none = false; steal_found_none = false }
+
+-- the item was taken from another one's list
+pub record Stole (old : ShareState) (a : ℕ) (new : ShareState) : Type 0 where
+  pub place : ℕ
+  pub within : place < length old.others
+  pub lists : map (λ e. e.list) new.others ≡ map (λ e. e.list) old.others
+  pub taken : map (λ e. e.taken) new.others
+      ≡ slice_set (map (λ e. e.taken) old.others) place (slice_index_or (map (λ e. e.taken) old.others) place [] ++ a ∷ [])
+  pub rest : new ≡ record old { others = new.others; pop_found_none = false; steal_found_none = false }
+
+-- nothing was taken: each other list was empty at one step, or lost items since it was last looked at
+pub record StoleNone (old new : ShareState) : Type 0 where
+  pub as_many : length new.others ≡ length old.others
+  pub each : (k : ℕ) (d : OtherState) → k < length old.others → FoundNone (slice_index_or old.others k d) (slice_index_or new.others k d)
+  pub rest : new ≡ record old { others = new.others; steal_found_none = true }
+
+-- it has the same lists as before
+pub record IsSameShare (old new : ShareState) : Type 0 where
+  pub number : new.number ≡ old.number
+  pub own : new.own.list ≡ old.own.list
+  pub parts : new.own.hand.parts ≡ old.own.hand.parts
+  pub others : map (λ e. e.list) new.others ≡ map (λ e. e.list) old.others
