@@ -15,3 +15,4 @@ pub mod HeapEmpty
 pub mod ThreadsKept
 pub mod ThreadsTold
 pub mod Joined
+pub mod CommandKinds

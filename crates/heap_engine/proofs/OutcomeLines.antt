@@ -9,11 +9,24 @@ use Rattle.gc_graph.specs.Outcomes.{finalise_lines}
 use Rattle.heap_objects.specs.Refused.{RefusalsTold}
 use Rattle.heap_cycle.specs.Walks.{GoesOnTelling, IsWalkTold, IsWalkToldIn}
 use Rattle.heap_cycle.specs.Printed.{Printed, ran_lines, lines_with, later_lines, outcome_lines, finalised_in, TellsNode, TellsThoseThatRan}
+use Rattle.heap_engine.specs.Ended.{last_line, IsEnded}
 
 -- it tells its line alone
 pub line_alone : (o : Printed) (ran : List (ℕ × ℕ)) (line : Line) → o.numbers ≡ [] → o.prefinalises ≡ false → lines_with o ran line ≡ line ∷ []
 line_alone o ran line numbers calm =
     ap (λ ns. finalise_lines ns ++ line ∷ ran_lines o.prefinalises ran) numbers ∙ ap (λ b. line ∷ ran_lines b ran) calm
+
+-- its line has ended it
+pub ended_by : (o new : Printed) (line : Line) → new ≡ record o { last = Some line } → new ≡ record o { last = Some (last_line new) }
+ended_by o new line is = is ∙ ap (λ (l : Line). record o { last = Some l }) (sym (ap last_line is))
+
+pub ended_alone : (o new : Printed) (ran : List (ℕ × ℕ)) (line : Line) → new ≡ record o { last = Some line } → o.numbers ≡ [] → o.prefinalises ≡ false
+    → outcome_lines new ran ≡ line ∷ []
+ended_alone o new ran line is numbers calm = ap (λ (x : Printed). outcome_lines x ran) is ∙ line_alone o ran line numbers calm
+
+-- an outcome that has ended tells its last line between the finalised nodes and the prefinalizers
+pub ended_lines : (o : Printed) (ran : List (ℕ × ℕ)) → IsEnded o → outcome_lines o ran ≡ lines_with o ran (last_line o)
+ended_lines o ran ended = ap (λ (l : Option Line). finalise_lines o.numbers ++ (option_to_list l ++ ran_lines o.prefinalises ran)) ended
 
 -- ---- what lines tell as finalised
 

@@ -2,5 +2,6 @@ pub mod View
 pub mod FieldSteps
 pub mod Going
 pub mod Alone
+pub mod Ended
 pub mod Sound
 pub mod Acted

@@ -134,14 +134,13 @@ impl Core {
         self.going = after(&self.going, &self.parts, command);
         self.outcome.begin();
         self.shared.begin();
-        let line = run(
+        run(
             &mut self.parts,
             &mut self.shared,
             &mut self.outcome,
             callbacks,
             command,
         );
-        self.outcome.end(line);
         self.parts.cycle.count_command();
         self.outcome.count(self.parts.cycle.ran())
     }

@@ -26,7 +26,8 @@ use Rattle.heap_cycle.specs.Region.{made}
 use Rattle.heap_cycle.specs.Shared.{HasShared, taken_of, told_lines}
 use Rattle.heap_cycle.specs.Views.{CycleView}
 use Rattle.heap_cycle.specs.Walks.{IsWalkToldIn}
-use Rattle.heap_engine.proofs.OutcomeLines.{walk_in_lines}
+use Rattle.heap_engine.specs.Ended.{last_line}
+use Rattle.heap_engine.proofs.OutcomeLines.{ended_lines, walk_in_lines}
 use Rattle.heap_engine.proofs.RegionAlone.{made_behind}
 use Rattle.heap_engine.proofs.MarksTold.{started_last, stepped_last, roots_marked, still_marking, all_traced}
 use Rattle.heap_engine.proofs.StepLines.{last_plain, started_by, stepped_by}
@@ -37,12 +38,12 @@ use Rattle.heap_engine.proofs.heap_core.Core.run.Given as given
 use Rattle.heap_engine.proofs.heap_core.Core.run.Goals as goal
 
 -- the region and the threads as they were, once the last command tells nothing more
-pub run-line-requires-clause-shared : goal.run-line-requires-clause-shared
-run-line-requires-clause-shared d c =
+pub run-requires-clause-shared : goal.run-requires-clause-shared
+run-requires-clause-shared d c =
     subst (HasShared c.self.inside.parts) (sym c.begin-2.ensures) (shared_quiet c.self.inside.parts c.self.inside.shared c.self.invariant.shared)
 
-pub run-line-requires-clause-told : goal.run-line-requires-clause-told
-run-line-requires-clause-told d c = subst HasTold (sym c.begin-2.ensures) (told_quiet c.self.inside.shared c.self.invariant.replies)
+pub run-requires-clause-told : goal.run-requires-clause-told
+run-requires-clause-told d c = subst HasTold (sym c.begin-2.ensures) (told_quiet c.self.inside.shared c.self.invariant.replies)
 
 -- what had been taken of the history
 before_is : (d : given.Over) (c : goal.After-count d) → c.history.result.value ≡ taken_of c.begin-2.new.self
@@ -54,56 +55,64 @@ count-requires d c =
     let few : c.self.inside.parts.cycle.rest.ordinal < 1000000 = rw (← c.self.view_is) at c.requires.few in
     omega (
       arith,
-      c.run-line.ensures.frame.tied.few,
-      c.run-line.ensures.frame.ordinal,
+      c.run.ensures.frame.tied.few,
+      c.run.ensures.frame.ordinal,
       few,
       ap length c.ran.ensures,
       ap (λ (k : CycleView). length k.ran) c.count_command.ensures,
     )
 
+-- the step that the command is
+step : (d : given.Over) (c : goal.After-count d)
+    → Step (setup_of c.self.inside.parts) (state_of c.self.inside.parts) c.args.command.now (made (taken_of c.begin-2.new.self) (taken_of c.run.new.shared))
+    (lines_with c.run.new.outcome c.run.new.parts.cycle.ran (last_line c.run.new.outcome)) (answered (state_of c.run.new.parts))
+step d c =
+    subst (λ ls. Step (setup_of c.self.inside.parts) (state_of c.self.inside.parts) c.args.command.now (made (taken_of c.begin-2.new.self) (taken_of c.run.new.shared)) ls
+    (answered (state_of c.run.new.parts))) (ended_lines c.run.new.outcome c.run.new.parts.cycle.ran c.run.ensures.ended) c.run.ensures.step
+
 -- the outcome is one of a command
-told : (d : given.Over) (c : goal.After-count d) → IsOutcome c.end.new.self c.count_command.new.self.ran
+told : (d : given.Over) (c : goal.After-count d) → IsOutcome c.run.new.outcome c.count_command.new.self.ran
 told d c = record {
   ran_some = λ runs. omega (
     arith,
-    c.run-line.ensures.ran (sym (ap (λ (o : Printed). o.prefinalises) c.end.ensures) ∙ runs),
+    c.run.ensures.ran runs,
     ap (λ (k : CycleView). length k.ran) c.count_command.ensures,
   );
-  last_plain = subst (λ (last : Option Line). IfSome last (λ l. TellsNode l → ⊥)) (sym (ap (λ (o : Printed). o.last) c.end.ensures))
-      (last_plain (setup_of c.self.inside.parts) (state_of c.self.inside.parts) c.args.command.now (made (taken_of c.begin-2.new.self) (taken_of c.run-line.new.shared)) c.run-line.new.outcome c.run-line.new.parts.cycle.ran
-      c.run-line.result (answered (state_of c.run-line.new.parts)) c.requires.other c.run-line.ensures.step);
+  last_plain = subst (λ (last : Option Line). IfSome last (λ l. TellsNode l → ⊥)) (sym c.run.ensures.ended)
+      (last_plain (setup_of c.self.inside.parts) (state_of c.self.inside.parts) c.args.command.now (made (taken_of c.begin-2.new.self) (taken_of c.run.new.shared)) c.run.new.outcome c.run.new.parts.cycle.ran
+      (last_line c.run.new.outcome) (answered (state_of c.run.new.parts)) c.requires.other (step d c));
 }
 
 -- the parts are ready for the next command
-ready : (d : given.Over) (c : goal.After-count d) → IsReady (record c.run-line.new.parts { cycle = c.count_command.new.self })
+ready : (d : given.Over) (c : goal.After-count d) → IsReady (record c.run.new.parts { cycle = c.count_command.new.self })
 ready d c = search rules
 
 -- the region is theirs, with its threads
-shared : (d : given.Over) (c : goal.After-count d) → HasShared (record c.run-line.new.parts { cycle = c.count_command.new.self }) c.run-line.new.shared
+shared : (d : given.Over) (c : goal.After-count d) → HasShared (record c.run.new.parts { cycle = c.count_command.new.self }) c.run.new.shared
 shared d c =
-    subst (λ (k : CycleView). HasShared (record c.run-line.new.parts { cycle = k }) c.run-line.new.shared) (sym c.count_command.ensures) c.run-line.ensures.shared
+    subst (λ (k : CycleView). HasShared (record c.run.new.parts { cycle = k }) c.run.new.shared) (sym c.count_command.ensures) c.run.ensures.shared
 
 -- what is counted stays within bounds
-counts : (d : given.Over) (c : goal.After-count d) → IsCounted (state_of (record c.run-line.new.parts { cycle = c.count_command.new.self }))
+counts : (d : given.Over) (c : goal.After-count d) → IsCounted (state_of (record c.run.new.parts { cycle = c.count_command.new.self }))
 counts d c =
-    subst (λ (k : CycleView). IsCounted (state_of (record c.run-line.new.parts { cycle = k }))) (sym c.count_command.ensures)
-    (c.steps_count.ensures (setup_of c.self.inside.parts) (state_of c.self.inside.parts) c.args.command.now (made (taken_of c.begin-2.new.self) (taken_of c.run-line.new.shared))
-    (lines_with c.run-line.new.outcome c.run-line.new.parts.cycle.ran c.run-line.result) (answered (state_of c.run-line.new.parts)) c.run-line.ensures.step c.self.invariant.counted)
+    subst (λ (k : CycleView). IsCounted (state_of (record c.run.new.parts { cycle = k }))) (sym c.count_command.ensures)
+    (c.steps_count.ensures (setup_of c.self.inside.parts) (state_of c.self.inside.parts) c.args.command.now (made (taken_of c.begin-2.new.self) (taken_of c.run.new.shared))
+    (lines_with c.run.new.outcome c.run.new.parts.cycle.ran (last_line c.run.new.outcome)) (answered (state_of c.run.new.parts)) (step d c) c.self.invariant.counted)
 
 -- the replies tell the totals of the state just before the threads went
-totals : (d : given.Over) (c : goal.After-count d) → AreTotalsOf c.after.result.value c.run-line.new.shared.threads.replies
+totals : (d : given.Over) (c : goal.After-count d) → AreTotalsOf c.after.result.value c.run.new.shared.threads.replies
 totals d c =
-    subst (λ (s : State). AreTotalsOf s c.run-line.new.shared.threads.replies) (sym c.after.ensures)
-    (totals_after c.args.command.now (state_of c.self.inside.parts) c.self.inside.going.value c.begin-2.new.self c.run-line.new.shared c.run-line.ensures.totals
+    subst (λ (s : State). AreTotalsOf s c.run.new.shared.threads.replies) (sym c.after.ensures)
+    (totals_after c.args.command.now (state_of c.self.inside.parts) c.self.inside.going.value c.begin-2.new.self c.run.new.shared c.run.ensures.totals
     (subst (λ (x : Shared). AreTotalsOf c.self.inside.going.value x.threads.replies) (sym c.begin-2.ensures) c.self.invariant.totals))
 
 pub invariant_of-self : goal.invariant_of-self
 invariant_of-self d c = record {
   ready = ready d c;
   shared = shared d c;
-  replies = c.run-line.ensures.told;
+  replies = c.run.ensures.told;
   totals = totals d c;
-  joined = λ telling. absurd (true≢false (sym telling ∙ c.run-line.ensures.quiet));
+  joined = λ telling. absurd (true≢false (sym telling ∙ c.run.ensures.quiet));
   counted = counts d c;
   told = told d c;
   room = search rules;
@@ -111,80 +120,80 @@ invariant_of-self d c = record {
 
 -- the lines of the outcome are those of the command
 lines : (d : given.Over) (c : goal.After-count d)
-    → lines_with c.run-line.new.outcome c.run-line.new.parts.cycle.ran c.run-line.result ≡ outcome_lines c.end.new.self c.count_command.new.self.ran
+    → lines_with c.run.new.outcome c.run.new.parts.cycle.ran (last_line c.run.new.outcome) ≡ outcome_lines c.run.new.outcome c.count_command.new.self.ran
 lines d c =
-    ap (λ (o : Printed). outcome_lines o c.run-line.new.parts.cycle.ran) (sym c.end.ensures)
-    ∙ ap (λ (k : CycleView). outcome_lines c.end.new.self k.ran) (sym c.count_command.ensures)
+    sym (ended_lines c.run.new.outcome c.run.new.parts.cycle.ran c.run.ensures.ended)
+    ∙ ap (λ (k : CycleView). outcome_lines c.run.new.outcome k.ran) (sym c.count_command.ensures)
 
 -- they tell of refusals what the command's line tells
 walks : (d : given.Over) (c : goal.After-count d)
-    → IsWalkToldIn c.self.inside.parts.cycle.phase (told_of c.self.inside.parts.objects) (told_of c.run-line.new.parts.objects)
-    (outcome_lines c.end.new.self c.count_command.new.self.ran)
+    → IsWalkToldIn c.self.inside.parts.cycle.phase (told_of c.self.inside.parts.objects) (told_of c.run.new.parts.objects)
+    (outcome_lines c.run.new.outcome c.count_command.new.self.ran)
 walks d c =
     let phase : Phase = c.self.inside.parts.cycle.phase in
     let before : RefusalsTold = told_of c.self.inside.parts.objects in
-    let after : RefusalsTold = told_of c.run-line.new.parts.objects in
+    let after : RefusalsTold = told_of c.run.new.parts.objects in
     subst (IsWalkToldIn phase before after) (lines d c)
-    (walk_in_lines phase before after c.run-line.new.outcome c.run-line.new.parts.cycle.ran c.run-line.result c.run-line.ensures.frame.refused)
+    (walk_in_lines phase before after c.run.new.outcome c.run.new.parts.cycle.ran (last_line c.run.new.outcome) c.run.ensures.frame.refused)
 
 -- where they tell a start, what the strong slots name is marked, those of the region among them
-starts : (d : given.Over) (c : goal.After-count d) → Contains (outcome_lines c.end.new.self c.count_command.new.self.ran) L.Started
-    → HoldsAll (kept_of (holds c.run-line.new.parts.objects.seat.marked) c.run-line.new.parts.objects.nodes)
-    (slot_targets c.run-line.new.parts.handles.slots ++ strong_region_targets c.count_command.new.self.rest.region)
+starts : (d : given.Over) (c : goal.After-count d) → Contains (outcome_lines c.run.new.outcome c.count_command.new.self.ran) L.Started
+    → HoldsAll (kept_of (holds c.run.new.parts.objects.seat.marked) c.run.new.parts.objects.nodes)
+    (slot_targets c.run.new.parts.handles.slots ++ strong_region_targets c.count_command.new.self.rest.region)
 starts d c there =
-    let s : Parts = c.run-line.new.parts in
-    let last : c.run-line.result ≡ L.Started =
-    started_last c.run-line.new.outcome s.cycle.ran c.run-line.result (subst (λ ls. Contains ls L.Started) (sym (lines d c)) there) in
+    let s : Parts = c.run.new.parts in
+    let last : (last_line c.run.new.outcome) ≡ L.Started =
+    started_last c.run.new.outcome s.cycle.ran (last_line c.run.new.outcome) (subst (λ ls. Contains ls L.Started) (sym (lines d c)) there) in
     let command : c.args.command.now ≡ C.GcStart =
-    started_by (setup_of c.self.inside.parts) (state_of c.self.inside.parts) c.args.command.now (made (taken_of c.begin-2.new.self) (taken_of c.run-line.new.shared)) c.run-line.new.outcome s.cycle.ran c.run-line.result
-    (answered (state_of s)) c.requires.other c.run-line.ensures.step last in
-    let marked : AreSlotsMarked s (taken_of c.run-line.new.shared) = c.run-line.ensures.marked command last in
-    roots_marked (record s { cycle = c.count_command.new.self }) (taken_of c.run-line.new.shared) (ready d c).tied (ready d c).valid (shared d c).region
+    started_by (setup_of c.self.inside.parts) (state_of c.self.inside.parts) c.args.command.now (made (taken_of c.begin-2.new.self) (taken_of c.run.new.shared)) c.run.new.outcome s.cycle.ran (last_line c.run.new.outcome)
+    (answered (state_of s)) c.requires.other (step d c) last in
+    let marked : AreSlotsMarked s (taken_of c.run.new.shared) = c.run.ensures.marked command last in
+    roots_marked (record s { cycle = c.count_command.new.self }) (taken_of c.run.new.shared) (ready d c).tied (ready d c).valid (shared d c).region
     (record { slots = marked.slots; shared = marked.shared })
 
 -- where they tell a step that is done, each marked node is traced, unless a push was refused
-traces : (d : given.Over) (c : goal.After-count d) (t : ℕ) → outcome_lines c.end.new.self c.count_command.new.self.ran ≡ L.Step t true ∷ []
-    → HasNoRefusedPush (told_of c.run-line.new.parts.objects)
-    → IsWithin (kept_of (holds c.run-line.new.parts.objects.seat.marked) c.run-line.new.parts.objects.nodes)
-    (kept_of (holds c.run-line.new.parts.objects.seat.traced) c.run-line.new.parts.objects.nodes)
+traces : (d : given.Over) (c : goal.After-count d) (t : ℕ) → outcome_lines c.run.new.outcome c.count_command.new.self.ran ≡ L.Step t true ∷ []
+    → HasNoRefusedPush (told_of c.run.new.parts.objects)
+    → IsWithin (kept_of (holds c.run.new.parts.objects.seat.marked) c.run.new.parts.objects.nodes)
+    (kept_of (holds c.run.new.parts.objects.seat.traced) c.run.new.parts.objects.nodes)
 traces d c t is none =
-    let s : Parts = c.run-line.new.parts in
+    let s : Parts = c.run.new.parts in
     let old : Parts = c.self.inside.parts in
-    let told : lines_with c.run-line.new.outcome s.cycle.ran c.run-line.result ≡ L.Step t true ∷ [] = lines d c ∙ is in
-    let last : c.run-line.result ≡ L.Step t true = stepped_last c.run-line.new.outcome s.cycle.ran c.run-line.result t true told in
+    let told : lines_with c.run.new.outcome s.cycle.ran (last_line c.run.new.outcome) ≡ L.Step t true ∷ [] = lines d c ∙ is in
+    let last : (last_line c.run.new.outcome) ≡ L.Step t true = stepped_last c.run.new.outcome s.cycle.ran (last_line c.run.new.outcome) t true told in
     let command : (n : ℕ) × (c.args.command.now ≡ C.GcStep n) =
-    stepped_by (setup_of old) (state_of old) c.args.command.now (made (taken_of c.begin-2.new.self) (taken_of c.run-line.new.shared)) c.run-line.new.outcome s.cycle.ran c.run-line.result (answered (state_of s))
-    c.requires.other c.run-line.ensures.step t true last in
-    let step : Step (setup_of old) (state_of old) (C.GcStep command.0) (made (taken_of c.begin-2.new.self) (taken_of c.run-line.new.shared)) (L.Step t true ∷ []) (answered (state_of s)) =
-    subst (λ ls. Step (setup_of old) (state_of old) (C.GcStep command.0) (made (taken_of c.begin-2.new.self) (taken_of c.run-line.new.shared)) ls (answered (state_of s))) told
-    (subst (λ (k : Command). Step (setup_of old) (state_of old) k (made (taken_of c.begin-2.new.self) (taken_of c.run-line.new.shared)) (lines_with c.run-line.new.outcome s.cycle.ran c.run-line.result) (answered (state_of s)))
-    command.1 c.run-line.ensures.step) in
-    all_traced (counted s) c.run-line.ensures.frame.tied (still_marking (state_of old) command.0 t true (answered (state_of s)) step.1)
-    (c.run-line.ensures.done command.0 t command.1 last) none
+    stepped_by (setup_of old) (state_of old) c.args.command.now (made (taken_of c.begin-2.new.self) (taken_of c.run.new.shared)) c.run.new.outcome s.cycle.ran (last_line c.run.new.outcome) (answered (state_of s))
+    c.requires.other (step d c) t true last in
+    let step : Step (setup_of old) (state_of old) (C.GcStep command.0) (made (taken_of c.begin-2.new.self) (taken_of c.run.new.shared)) (L.Step t true ∷ []) (answered (state_of s)) =
+    subst (λ ls. Step (setup_of old) (state_of old) (C.GcStep command.0) (made (taken_of c.begin-2.new.self) (taken_of c.run.new.shared)) ls (answered (state_of s))) told
+    (subst (λ (k : Command). Step (setup_of old) (state_of old) k (made (taken_of c.begin-2.new.self) (taken_of c.run.new.shared)) (lines_with c.run.new.outcome s.cycle.ran (last_line c.run.new.outcome)) (answered (state_of s)))
+    command.1 (step d c)) in
+    all_traced (counted s) c.run.ensures.frame.tied (still_marking (state_of old) command.0 t true (answered (state_of s)) step.1)
+    (c.run.ensures.done command.0 t command.1 last) none
 
 -- no more is told before them
-told_none : (d : given.Over) (c : goal.After-count d) → told_lines c.run-line.new.shared ≡ []
+told_none : (d : given.Over) (c : goal.After-count d) → told_lines c.run.new.shared ≡ []
 told_none d c =
-    ap (λ telling. cond telling (c.run-line.new.shared.threads.replies ++ map (λ entry. L.Entry entry) (entries_of (drop c.run-line.new.shared.shown (taken_of c.run-line.new.shared)))) [])
-    c.run-line.ensures.quiet
+    ap (λ telling. cond telling (c.run.new.shared.threads.replies ++ map (λ entry. L.Entry entry) (entries_of (drop c.run.new.shared.shown (taken_of c.run.new.shared)))) [])
+    c.run.ensures.quiet
 
 pub returns : goal.returns
 returns d c = record {
   acted = record {
-    step = rw (← c.self.view_is, before_is d c, told_none d c, ← lines d c, c.count_command.ensures) c.run-line.ensures.step;
+    step = rw (← c.self.view_is, before_is d c, told_none d c, ← lines d c, c.count_command.ensures) (step d c);
     count = rw (told_none d c) (search rules);
     ordinal = search rules;
     history = rw (← c.self.view_is, before_is d c)
-        (subst (λ xs. entries_of (taken_of c.run-line.new.shared) ≡ entries_of xs ++ made (taken_of c.begin-2.new.self) (taken_of c.run-line.new.shared)) (ap taken_of c.begin-2.ensures)
-        (made_behind (taken_of c.begin-2.new.self) (taken_of c.run-line.new.shared) c.run-line.ensures.grown));
-    ahead = none_ahead _ c.run-line.new.shared (shared d c).threads;
-    unjoined = has_begun _ c.run-line.new.shared (shared d c).threads;
+        (subst (λ xs. entries_of (taken_of c.run.new.shared) ≡ entries_of xs ++ made (taken_of c.begin-2.new.self) (taken_of c.run.new.shared)) (ap taken_of c.begin-2.ensures)
+        (made_behind (taken_of c.begin-2.new.self) (taken_of c.run.new.shared) c.run.ensures.grown));
+    ahead = none_ahead _ c.run.new.shared (shared d c).threads;
+    unjoined = has_begun _ c.run.new.shared (shared d c).threads;
     going = rw (← c.self.view_is) c.after.ensures;
     totals = λ is. absurd (c.requires.other is);
     setup = search rules;
     closed = search rules;
     walked = rw (← c.self.view_is, told_none d c) (walks d c);
-    started = λ there. starts d c (subst (λ ls. Contains (ls ++ outcome_lines c.end.new.self c.count_command.new.self.ran) L.Started) (told_none d c) there);
-    done = λ t is. traces d c t (sym (ap (λ ls. ls ++ outcome_lines c.end.new.self c.count_command.new.self.ran) (told_none d c)) ∙ is);
+    started = λ there. starts d c (subst (λ ls. Contains (ls ++ outcome_lines c.run.new.outcome c.count_command.new.self.ran) L.Started) (told_none d c) there);
+    done = λ t is. traces d c t (sym (ap (λ ls. ls ++ outcome_lines c.run.new.outcome c.count_command.new.self.ran) (told_none d c)) ∙ is);
   };
 }
