@@ -193,6 +193,10 @@ module _ (v : MarkerSide) (m : MutatorView) (words : List ℕ) (markers : List M
     header = header_found a;
     marked = λ own. marked_tells a (marked_place a own) ∙ some_is_true (marks a) (some_marks a own);
     traced = λ own. trace_tells a (traced_place a own) ∙ some_is_true (traces a) (some_traces a own);
+    done = λ own.
+        let some : 0 < traces a = (ok.may_is_closed on).done_are_traced a (inr (v.marker, is_in, own)) in
+        let most = ok.traced_are_marked a in
+        trace_tells a (ok.marks_counted_once.are_bodies a (omega (arith, some, most))) ∙ some_is_true (traces a) some;
     start = λ p known at.
         let place : is_place m.bodies p ≡ true = ok.hands_are_bodies.known v.marker p is_in known in
         let inside = body_inside p place in

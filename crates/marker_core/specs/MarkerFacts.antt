@@ -32,12 +32,14 @@ pub record IsObjectHeader (v : MarkerSide) (a w : ℕ) : Type 0 where
   pub traced_is_marked : has_traced w ≡ true → has_mark w ≡ true
   pub in_hand : (h : Hand) → v.hand ≡ Some h → h.place ≡ a → h.ty ≡ ty
 
--- the marker may find w at a: a known place has an object's header and its start bit; bits that this marker set are set; the word
--- that the hand wants is null or names a place in the heap; the stop word is 1 where this marker has read it so
+-- the marker may find w at a: a known place has an object's header and its start bit; bits that this marker set are set, and so is
+-- the traced bit of what it found traced; the word that the hand wants is null or names a place in the heap; the stop word is 1
+-- where this marker has read it so
 pub record MarkerMayFind (v : MarkerSide) (a w : ℕ) : Type 0 where
   pub header : holds v.known a ≡ true → IsObjectHeader v a w
   pub marked : holds v.marked a ≡ true → has_mark w ≡ true
   pub traced : holds v.traced a ≡ true → has_traced w ≡ true
+  pub done : holds v.done a ≡ true → has_traced w ≡ true
   pub start : (p : ℕ) → holds v.known p ≡ true → bitmap_at v.count p ≡ a → bit_is_set w (p % 64) ≡ true
   pub reference : marker_wants_word v a ≡ true → (w ≡ 0) ⊎ ((0 < w) × (place_named w + 2 ≤ v.count))
   pub stop : a ≡ stop_at v.count → v.halted ≡ true → w ≡ 1

@@ -3,6 +3,7 @@
 
 ghost use Rattle.std.specs.Prelude.{◌≡◌, ℕ, ◌<◌, ◌==◌, not, true, false, None, Some};
 ghost use Rattle.marker_core.specs.Bodies.{holds};
+ghost use Rattle.marker_core.specs.Layout as layout;
 ghost use Rattle.marker_core.specs.Layout.{bitmap_at};
 ghost use Rattle.marker_core.specs.MarkerFacts.{IsMarkerOk, IsObjectHeader, MarkerMayFind};
 ghost use Rattle.marker_core.specs.MarkerSeats.{marker_wants_word, marker_wants_mark};
@@ -100,6 +101,7 @@ impl Words {
         requires heap { seat.old.heap ≡ self.now }
         requires known { holds seat.old.known a ≡ true }
         ensures word { IsObjectHeader (marker_side seat.old) a result }
+        ensures done { holds seat.old.done a ≡ true → layout.has_traced result ≡ true }
         ensures view { seat.new ≡ header_read seat.old a result }
     {
         looks_are_steps();
