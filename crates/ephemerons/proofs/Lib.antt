@@ -1,7 +1,6 @@
 pub mod Lists
 pub mod Graph
 pub mod Weights
-pub mod HandPath
 pub mod HandLoads
 pub mod MarkSteps
 pub mod FieldWords

@@ -15,7 +15,7 @@ use Rattle.ephemerons.specs.Marking.{GrowsWithin, HasStrongMarked, HasTargetMark
 use Rattle.ephemerons.specs.InHand.{IsAt, BeginsWith, hand_over, traced_in}
 use Rattle.ephemerons.specs.Fixpoint.{ListsMarks}
 use Rattle.ephemerons.proofs.Graph.{GrowsWithin-then}
-use Rattle.ephemerons.proofs.HandPath.{hand_at_each}
+use Rattle.ephemerons.specs.HandPath.{hand_at_each}
 use Rattle.page_words.specs.BodyPlaces.{same_body}
 use Rattle.ephemerons.proofs.MarkSteps.{same_bodies}
 

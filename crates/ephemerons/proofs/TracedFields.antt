@@ -24,16 +24,9 @@ use Rattle.ephemerons.specs.Marking.{HasStrongMarked}
 use Rattle.ephemerons.specs.Notes.{NotesState, NotesGrow, HasPairsNoted, note_of}
 use Rattle.ephemerons.specs.InHand.{IsAtWord, IsWordTraced, hand_over, traced_in}
 use Rattle.ephemerons.specs.Fixpoint.{ListsMarks}
-use Rattle.ephemerons.proofs.HandPath.{hand_at_each, rising}
+use Rattle.ephemerons.specs.HandPath.{hand_at_each, rising, told_offsets, told_length}
 use Rattle.ephemerons.proofs.MarkSteps.{same_bodies}
 use Rattle.ephemerons.proofs.StrongWords.{at_strong_field, at_pair_field, all_named, target_stays}
-
--- the hand stops at what the table tells
-pub told_offsets : (types : List ObjectType) (ty : ℕ) (told : List TracedWord) → told ≡ traced_words_of (kinds_in types ty) → traced_in types ty ≡ map offset_in told
-told_offsets types ty told is = ap (traced_offsets 2) (kinds_fit types ty) ∙ sym (traced_fit 2 (kinds_in types ty)) ∙ ap (map offset_in) (sym is)
-
-pub told_length : (types : List ObjectType) (ty : ℕ) (told : List TracedWord) → told ≡ traced_words_of (kinds_in types ty) → length (traced_in types ty) ≡ length told
-told_length types ty told is = ap length (told_offsets types ty told is) ∙ length-map told offset_in
 
 -- no pair that was told before is told again
 pub told_apart : (types : List ObjectType) (ty : ℕ) (told : List TracedWord) → told ≡ traced_words_of (kinds_in types ty) → (i : ℕ) → i < length told

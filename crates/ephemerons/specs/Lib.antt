@@ -12,3 +12,4 @@ pub mod BodyLeads
 pub mod ListedMarks
 pub mod Accounted
 pub mod UnderWayStays
+pub mod HandPath

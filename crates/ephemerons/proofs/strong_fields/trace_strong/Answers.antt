@@ -10,7 +10,7 @@ use Rattle.ephemerons.specs.Marking.{GrowsWithin, HasStrongMarked, HasTargetMark
 use Rattle.ephemerons.specs.InHand.{hand_over, traced_in}
 use Rattle.ephemerons.specs.Fixpoint.{with_held}
 use Rattle.ephemerons.specs.ListedMarks.{ListsMarks-then}
-use Rattle.ephemerons.proofs.HandPath.{hand_at_first, hand_at_next, hand_at_end}
+use Rattle.ephemerons.specs.HandPath.{hand_at_first, hand_at_next, hand_at_end}
 use Rattle.ephemerons.proofs.MarkSteps.{same_bodies, same_types}
 use Rattle.ephemerons.proofs.NoPairs.{all_traced}
 use Rattle.ephemerons.proofs.StrongWords.{at_strong_field, all_named, target_stays, within_then}

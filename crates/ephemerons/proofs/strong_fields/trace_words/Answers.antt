@@ -7,7 +7,7 @@ use Rattle.ephemerons.specs.InHand.{traced_in}
 use Rattle.ephemerons.specs.Fixpoint.{ListsMarks}
 use Rattle.gc_graph.specs.Members.{Contains-take_more_cases}
 use Rattle.ephemerons.specs.ListedMarks.{ListsMarks-then}
-use Rattle.ephemerons.proofs.HandPath.{hand_at_next}
+use Rattle.ephemerons.specs.HandPath.{hand_at_next}
 use Rattle.ephemerons.proofs.Holding.{fresh_listed}
 use Rattle.ephemerons.proofs.MarkSteps.{same_bodies, same_types, same_heap, still_tracing}
 use Rattle.ephemerons.proofs.StrongWords.{at_next_strong, target_stays, within_then}

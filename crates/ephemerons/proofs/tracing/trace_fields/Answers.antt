@@ -12,14 +12,14 @@ use Rattle.ephemerons.specs.Notes.{NotesGrow, HasPairsNoted}
 use Rattle.ephemerons.specs.InHand.{IsWordTraced, traced_in}
 use Rattle.ephemerons.specs.Traces.{Traces}
 use Rattle.ephemerons.specs.ListedMarks.{ListsMarks-then}
-use Rattle.ephemerons.proofs.HandPath.{hand_at_first, hand_at_next, hand_at_end}
+use Rattle.ephemerons.specs.HandPath.{hand_at_first, hand_at_next, hand_at_end, told_length}
 use Rattle.ephemerons.proofs.Holding.{ListsMarks-same}
 use Rattle.ephemerons.proofs.MarkSteps.{same_bodies, same_types}
 use Rattle.ephemerons.proofs.NoPairs.{nothing_noted}
 use Rattle.ephemerons.proofs.NoteSteps.{NotesGrow-then}
 use Rattle.ephemerons.proofs.Traced.{Traces-none, Traces-then}
 use Rattle.ephemerons.proofs.StrongWords.{within_then}
-use Rattle.ephemerons.proofs.TracedFields.{told_length, told_apart, at_each_word, word_stays, strong_done, pairs_done}
+use Rattle.ephemerons.proofs.TracedFields.{told_apart, at_each_word, word_stays, strong_done, pairs_done}
 use Rattle.ephemerons.proofs.tracing.trace_fields.Goals as goal
 
 pub loop-word-init : goal.loop-word-init
