@@ -1,0 +1,38 @@
+-- Items that are dealt with stay so.
+use Rattle.std.proofs.Common.{◌≡◌, ℕ, false, sym, ap, ◌∙◌, subst, inl, inr}
+use mathlib.Core.Logic.{◌⊎◌}
+use Rattle.std.specs.List.{Contains}
+use Rattle.std.proofs.lemmas.Bool.{true≢false}
+use Rattle.std.proofs.lemmas.List.Elements.{Contains-push}
+use Rattle.ephemerons.specs.Notes.{NotesState, note_of}
+use Rattle.stealing_lists.specs.Shares.{ShareState, taken_of}
+use Rattle.marker_crew.specs.declared.draining.Drained.{Drained}
+use Rattle.marker_crew.specs.Drains.{AreDealtWith, IsTaken}
+use Rattle.marker_crew.specs.Stages.{Stage, IsLater, IsDealtWith, Notes}
+
+pub dealt_stays : (s t : Stage) (a : ℕ) → IsLater s t → IsDealtWith s a → IsDealtWith t a
+dealt_stays s t a later dealt fine = elim (dealt (later.overflow fine)) [
+  | inl traced ↦ inl (later.traced a traced)
+  | inr other ↦ elim other [ inl done ↦ inr (inl (later.done a done)) | inr note ↦ inr (inr (later.notes (note_of a 0) note)) ]
+]
+
+pub all_dealt_stay : (before : ShareState) (s t : Stage) → IsLater s t → taken_of t.share ≡ taken_of s.share → AreDealtWith before s → AreDealtWith before t
+all_dealt_stay before s t later same dealt a there = elim (dealt a (subst (λ xs. Contains xs a) same there)) [
+  | inl first ↦ inl first
+  | inr is ↦ inr (dealt_stays s t a later is)
+]
+
+-- one item more was taken, and is dealt with
+pub one_dealt : (before : ShareState) (s t : Stage) (h : ShareState) (a : ℕ) → IsLater s t → AreDealtWith before s → IsTaken s.share a h → taken_of t.share ≡ taken_of h
+    → IsDealtWith t a → AreDealtWith before t
+one_dealt before s t h a later dealt taken same is b there = elim (taken.only b (subst (λ xs. Contains xs b) same there)) [
+  | inl earlier ↦ elim (dealt b earlier) [ inl first ↦ inl first | inr done ↦ inr (dealt_stays s t b later done) ]
+  | inr one ↦ inr (subst (IsDealtWith t) (sym one) is)
+]
+
+-- what was noted with word 0 is dealt with
+pub note_deals : (t : Stage) (n : NotesState) (d : Drained) (a : ℕ) → Notes n d a 0 t.notes t.drained → IsDealtWith t a
+note_deals t n d a made fine = elim made [
+  | inl done ↦ inr (inr (subst (λ (x : NotesState). Contains x.notes (note_of a 0)) (sym done.0) (Contains-push n.notes (note_of a 0))))
+  | inr refused ↦ absurd (true≢false (sym (ap (λ (x : Drained). x.overflow) refused.1) ∙ fine))
+]

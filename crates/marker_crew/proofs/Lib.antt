@@ -1,0 +1,6 @@
+pub mod Shares
+pub mod Working
+pub mod Reading
+pub mod Claiming
+pub mod Dealing
+pub mod TracedWords

@@ -1,0 +1,14 @@
+use Rattle.std.proofs.Common.{◌≡◌, ◌+◌, ◌≤◌, None, length}
+use Rattle.stealing_lists.specs.Shares.{taken_of}
+use Rattle.marker_crew.specs.Drains.{nothing_yet, AreDealtWith}
+use Rattle.marker_crew.specs.Stages.{stage, Works}
+use Rattle.marker_crew.proofs.draining.drain.Given as goal
+
+abbrev pub invariant-loop-item : goal.invariant-loop-item
+invariant-loop-item g l = record {
+  works : Works (stage l.initial.seat l.initial.share l.initial.notes nothing_yet) (stage l.seat l.share l.notes l.drained);
+  dealt : AreDealtWith l.initial.share (stage l.seat l.share l.notes l.drained);
+  hand : l.seat.hand ≡ None;
+  count : length (taken_of l.share) ≡ length (taken_of l.initial.share) + l.item;
+  most : l.drained.traced ≤ l.item;
+}

@@ -1,0 +1,22 @@
+-- What a drain takes from the lists.
+use Rattle.std.specs.Prelude.{◌≡◌, ◌⊎◌, ℕ, ◌+◌, true, false, length, Contains}
+use Rattle.stealing_lists.specs.Shares.{ShareState, taken_of}
+use Rattle.marker_crew.specs.declared.draining.Drained.{Drained}
+use Rattle.marker_crew.specs.Stages.{Stage, IsDealtWith}
+
+-- a drain that has done nothing
+abbrev pub nothing_yet : Drained
+nothing_yet = record { traced = 0; more = true; overflow = false }
+
+-- a pop and a steal have found nothing since the share last put or gave an item
+abbrev pub IsIdle : ShareState → Type 0
+IsIdle h = (h.pop_found_none ≡ true) × (h.steal_found_none ≡ true)
+
+-- one item was taken, and this is it
+pub record IsTaken (old : ShareState) (a : ℕ) (new : ShareState) : Type 0 where
+  pub count : length (taken_of new) ≡ length (taken_of old) + 1
+  pub only : (b : ℕ) → Contains (taken_of new) b → Contains (taken_of old) b ⊎ (b ≡ a)
+
+-- each item that was taken since the share was this is dealt with
+abbrev pub AreDealtWith : ShareState → Stage → Type 0
+AreDealtWith before t = (a : ℕ) → Contains (taken_of t.share) a → Contains (taken_of before) a ⊎ IsDealtWith t a

@@ -1,0 +1,91 @@
+-- What a marker has while it drains, and what it makes of it.
+use Rattle.std.specs.Prelude.{◌≡◌, ◌⊎◌, ℕ, ◌+◌, ◌<◌, ◌≤◌, true, false, List, [], ◌∷◌, ◌++◌, length, Contains}
+use Rattle.ephemerons.specs.declared.notes.Note.{Note}
+use Rattle.ephemerons.specs.Notes.{NotesState, note_of, noted, overflowed}
+use Rattle.page_words.specs.Markers.{MarkerSeatView}
+use Rattle.stealing_lists.specs.Shares.{ShareState, IsSameShare, put_of, taken_of, pushed, refused_once, last_count}
+use Rattle.marker_crew.specs.declared.draining.Drained.{Drained}
+
+-- a marker's seat, its share of the lists, its notes, and what it has told of the drain so far
+pub record Stage : Type 0 where
+  pub seat : MarkerSeatView
+  pub share : ShareState
+  pub notes : NotesState
+  pub drained : Drained
+
+-- the stage with these
+abbrev pub stage : MarkerSeatView → ShareState → NotesState → Drained → Stage
+stage seat share notes drained = record { seat = seat; share = share; notes = notes; drained = drained }
+
+-- ---- what is written down
+
+-- a push or a note was refused
+abbrev pub with_overflow : Drained → Drained
+with_overflow d = record d { overflow = true }
+
+-- the place was put on the share's list, or the push was refused, which is told
+abbrev pub Lists : ShareState → Drained → ℕ → ShareState → Drained → Type 0
+Lists old before place new after =
+    ((new ≡ pushed old place) × (after ≡ before)) ⊎ ((new ≡ refused_once old) × (after ≡ with_overflow before))
+
+-- the note was made, or was refused, which is told
+abbrev pub Notes : NotesState → Drained → ℕ → ℕ → NotesState → Drained → Type 0
+Notes old before holder word new after =
+    ((new ≡ noted old holder word) × (after ≡ before)) ⊎ ((new ≡ overflowed old) × (after ≡ with_overflow before))
+
+-- ---- from one stage to a later one
+
+-- what is in the list stays in it
+abbrev pub Keeps : {X : Type 0} → List X → List X → Type 0
+Keeps old new = (x : _) → Contains old x → Contains new x
+
+-- the seat is of the same words, and the share has the same lists; what the seat marked, traced, noted, found traced or missed
+-- stays so, what was put and noted stays, and that something was refused stays told
+pub record IsLater (s t : Stage) : Type 0 where
+  pub heap : t.seat.heap ≡ s.seat.heap
+  pub types : t.seat.types ≡ s.seat.types
+  pub lists : IsSameShare s.share t.share
+  pub marked : Keeps s.seat.marked t.seat.marked
+  pub traced : Keeps s.seat.traced t.seat.traced
+  pub noted : Keeps s.seat.noted t.seat.noted
+  pub done : Keeps s.seat.done t.seat.done
+  pub missed : Keeps s.seat.missed t.seat.missed
+  pub put : Keeps (put_of s.share) (put_of t.share)
+  pub notes : Keeps s.notes.notes t.notes.notes
+  pub overflow : t.drained.overflow ≡ false → s.drained.overflow ≡ false
+
+-- the note is of a pair that the seat noted, of an object that it traced; or it is of a place alone that the seat missed, or
+-- that isn't one of the heap
+abbrev pub IsNoteOf : MarkerSeatView → Note → Type 0
+IsNoteOf v note =
+    (Contains v.noted (note.holder, note.word) × Contains v.traced note.holder)
+    ⊎ ((note.word ≡ 0) × (Contains v.missed note.holder ⊎ (v.count ≤ note.holder)))
+
+-- a count of what was refused has risen, or stands at its last value
+abbrev pub HasRisen : ℕ → ℕ → Type 0
+HasRisen old new = (old < new) ⊎ (last_count ≤ new)
+
+-- the work of a drain between two stages: as many objects are traced as are counted; unless something was refused, what the seat
+-- marked is put on its share's list, and what it noted is in the notes; what is put was marked; each note has its cause; and that
+-- something was refused comes to be told where a count of it rose
+pub record Works (s t : Stage) : Type 0 where
+  pub later : IsLater s t
+  pub counted : t.drained.traced + length s.seat.traced ≡ s.drained.traced + length t.seat.traced
+  pub listed : t.drained.overflow ≡ false → (a : ℕ) → Contains t.seat.marked a → Contains s.seat.marked a ⊎ Contains (put_of t.share) a
+  pub put : (a : ℕ) → Contains (put_of t.share) a → Contains (put_of s.share) a ⊎ Contains t.seat.marked a
+  pub noted :
+      t.drained.overflow ≡ false → (p offset : ℕ) → Contains t.seat.noted (p, offset)
+      → Contains s.seat.noted (p, offset) ⊎ Contains t.notes.notes (note_of p offset)
+  pub notes : (note : Note) → Contains t.notes.notes note → Contains s.notes.notes note ⊎ IsNoteOf t.seat note
+  pub refused_pushes : s.share.refused ≤ t.share.refused
+  pub refused_notes : s.notes.refused ≤ t.notes.refused
+  pub cause :
+      t.drained.overflow ≡ true
+      → (s.drained.overflow ≡ true) ⊎ (HasRisen s.share.refused t.share.refused ⊎ HasRisen s.notes.refused t.notes.refused)
+
+-- ---- an item
+
+-- unless something was refused, an item is traced by this seat, or found traced, or noted with word 0
+abbrev pub IsDealtWith : Stage → ℕ → Type 0
+IsDealtWith t a =
+    t.drained.overflow ≡ false → Contains t.seat.traced a ⊎ (Contains t.seat.done a ⊎ Contains t.notes.notes (note_of a 0))

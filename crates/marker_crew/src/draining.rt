@@ -1,0 +1,82 @@
+// A marker takes items from the lists and deals with each.
+
+ghost use Rattle.std.specs.Prelude.{◌≡◌, ◌⊎◌, ◌+◌, true, false, None, length, MatchOption};
+ghost use Rattle.stealing_lists.specs.Shares.{IsSameShare, put_of, taken_of};
+ghost use Rattle.marker_crew.specs.Stages.{stage, Works};
+ghost use Rattle.marker_crew.specs.Drains.{nothing_yet, AreDealtWith, IsIdle, IsTaken};
+
+use crate::gate::{Gate, Post};
+use crate::items::deal_with;
+use ephemerons::Pairs;
+use page_words::{MarkerSeat, Words};
+use stealing_lists::Share;
+use type_table::TypeTable;
+
+/// What a drain tells: how many objects it claimed and traced, whether more may be left to do, and
+/// whether a push or a note was refused.
+#[derive(Clone, Copy, Debug, Drop, PartialEq)]
+pub struct Drained {
+    pub traced: u32,
+    pub more: bool,
+    pub overflow: bool,
+}
+
+/// Takes items from the lists and traces them, so many at most, until there are none or the stop word
+/// says to stop. More may be left to do where all the items were taken that were asked for, or the
+/// marker was told to stop; there is nothing more where the share is idle at the end. A marker's
+/// thread calls it, with a seat, a share and notes of its own.
+pub fn drain<G: Gate>(
+    words: &Words,
+    types: &TypeTable,
+    seat: &mut MarkerSeat,
+    share: &mut Share,
+    notes: &mut Pairs,
+    budget: u32,
+    worker: u32,
+    gate: &G,
+) -> Drained
+    requires heap { seat.old.heap ≡ words.now }
+    requires types { types.now ≡ seat.old.types }
+    requires hand { seat.old.hand ≡ None }
+    ensures works { Works (stage seat.old share.old notes.old nothing_yet)
+        (stage seat.new share.new notes.new result) }
+    ensures taken { AreDealtWith share.old (stage seat.new share.new notes.new result) }
+    ensures hand { seat.new.hand ≡ None }
+    ensures done { result.more ≡ false → IsIdle share.new }
+    ensures more { result.more ≡ true → (seat.new.halted ≡ true)
+        ⊎ (length (taken_of share.new) ≡ length (taken_of share.old) + budget) }
+{
+    let post = Post { gate, worker };
+    let mut drained = Drained {
+        traced: 0,
+        more: true,
+        overflow: false,
+    };
+    for item in 0..budget {
+        if words.stopped(seat) {
+            drained.more = true;
+            return drained;
+        }
+        let Some(place) = next_item(share) else {
+            drained.more = false;
+            return drained;
+        };
+        deal_with(words, types, seat, share, notes, &mut drained, &post, place);
+    }
+    drained.more = true;
+    drained
+}
+
+/// An item of the share's own list, or else one of another's. None where the share is idle then.
+fn next_item(share: &mut Share) -> Option<u32>
+    ensures taken { MatchOption result
+        ((taken_of share.new ≡ taken_of share.old) × IsIdle share.new)
+        (λ a. IsTaken share.old a share.new) }
+    ensures lists { IsSameShare share.old share.new }
+    ensures same { (put_of share.new ≡ put_of share.old) × (share.new.refused ≡ share.old.refused) }
+{
+    match share.pop() {
+        Some(a) => Some(a),
+        None => share.steal(),
+    }
+}

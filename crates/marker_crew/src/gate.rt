@@ -1,0 +1,36 @@
+// Where a marker may be held.
+
+/// The point before a claim.
+pub(crate) const BEFORE_CLAIM: u32 = 1;
+
+/// The point after an object was traced.
+pub(crate) const AFTER_OBJECT: u32 = 2;
+
+/// Holds a worker at a point, as a test may want to. A marker has the number 1 or more.
+pub trait Gate: Drop {
+    fn pass(&self, worker: u32, point: u32);
+}
+
+/// Never holds anybody.
+#[derive(Drop)]
+pub struct FreeGate;
+
+impl Gate for FreeGate {
+    fn pass(&self, worker: u32, point: u32) {
+        let _ = (worker, point);
+    }
+}
+
+/// A worker at the gate.
+#[derive(Drop)]
+pub(crate) struct Post<'a, G> {
+    pub(crate) gate: &'a G,
+    pub(crate) worker: u32,
+}
+
+impl<G: Gate> Post<'_, G> {
+    /// Waits as long as the gate holds the worker at the point.
+    pub(crate) fn pass(&self, point: u32) {
+        self.gate.pass(self.worker, point);
+    }
+}
