@@ -14,8 +14,8 @@ use Rattle.page_words.specs.Roles.{kind_lists}
 use Rattle.page_words.specs.Markers.{MarkerSeatView, marker_side, with_marker, claimed_as, start_read, stop_read}
 use Rattle.ephemerons.specs.HandPath.{hand_first}
 use Rattle.ephemerons.specs.InHand.{hand_over, traced_in}
-use Rattle.marker_crew.specs.Stages.{Keeps}
-use Rattle.marker_crew.proofs.Working.{Looks, keeps_more}
+use Rattle.marker_crew.specs.Stages.{Keeps, OnlyLooks}
+use Rattle.marker_crew.proofs.Working.{keeps_more}
 
 module _ (v u : MarkerSeatView) (a header found : ℕ) (is : u ≡ claimed_as v a header found) where
   abbrev taken : MarkerView
@@ -83,7 +83,7 @@ module _ (v u : MarkerSeatView) (a header found : ℕ) (is : u ≡ claimed_as v 
   kept_else true xs more = λ x there. there
   kept_else false xs more = keeps_more xs (xs ++ more) more refl
 
-  pub failed_looks : eqb found header ≡ false → Looks v u
+  pub failed_looks : eqb found header ≡ false → OnlyLooks v u
   failed_looks other = record {
     heap = ap (λ (x : MarkerSeatView). x.heap) (missed other);
     types = ap (λ (x : MarkerSeatView). x.types) (missed other);
@@ -106,7 +106,7 @@ start_kept : (b : Bool) (xs more : List ℕ) → Keeps xs (cond b xs (xs ++ more
 start_kept true xs more = λ x there. there
 start_kept false xs more = keeps_more xs (xs ++ more) more refl
 
-pub start_looks : (v u : MarkerSeatView) (a : ℕ) (set : Bool) → u ≡ start_read v a set → Looks v u
+pub start_looks : (v u : MarkerSeatView) (a : ℕ) (set : Bool) → u ≡ start_read v a set → OnlyLooks v u
 start_looks v u a set is = record {
   heap = ap (λ (x : MarkerSeatView). x.heap) is;
   types = ap (λ (x : MarkerSeatView). x.types) is;
@@ -121,7 +121,7 @@ start_looks v u a set is = record {
 pub start_missed : (v u : MarkerSeatView) (a : ℕ) → u ≡ start_read v a false → Contains u.missed a
 start_missed v u a is = subst (λ (s : MarkerSeatView). Contains s.missed a) (sym is) (Contains-push v.missed a)
 
-pub stop_looks : (v u : MarkerSeatView) (stop : Bool) → u ≡ stop_read v stop → Looks v u
+pub stop_looks : (v u : MarkerSeatView) (stop : Bool) → u ≡ stop_read v stop → OnlyLooks v u
 stop_looks v u stop is = record {
   heap = ap (λ (x : MarkerSeatView). x.heap) is;
   types = ap (λ (x : MarkerSeatView). x.types) is;

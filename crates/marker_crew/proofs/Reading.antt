@@ -17,12 +17,12 @@ use Rattle.marker_core.specs.MarkerSeats.{marker_wants_mark}
 use Rattle.page_words.specs.Roles.{kind_lists}
 use Rattle.page_words.specs.Markers.{MarkerSeatView, marker_side, field_read, header_read, marked_as}
 use Rattle.marker_crew.specs.Hands.{IsAt, IsAtTarget, moved_on}
-use Rattle.marker_crew.specs.Stages.{Keeps}
-use Rattle.marker_crew.proofs.Working.{Looks, keeps_more}
+use Rattle.marker_crew.specs.Stages.{Keeps, OnlyLooks}
+use Rattle.marker_crew.proofs.Working.{keeps_more}
 
 -- ---- a word is read
 
-pub read_looks : (v u : MarkerSeatView) (w : ℕ) → u ≡ field_read v w → Looks v u
+pub read_looks : (v u : MarkerSeatView) (w : ℕ) → u ≡ field_read v w → OnlyLooks v u
 read_looks v u w is = record {
   heap = ap (λ (x : MarkerSeatView). x.heap) is;
   types = ap (λ (x : MarkerSeatView). x.types) is;
@@ -81,7 +81,7 @@ mark_moves v u w h t was before types held is =
     ∙ sym (ap (each_hand (hand_moved (kind_lists v.types))) before)
 
 -- a target that had its mark leaves the seat's marks
-pub marked_looks : (v w : MarkerSeatView) (t : ℕ) → w ≡ marked_as v t true → Looks v w
+pub marked_looks : (v w : MarkerSeatView) (t : ℕ) → w ≡ marked_as v t true → OnlyLooks v w
 marked_looks v w t is = record {
   heap = ap (λ (x : MarkerSeatView). x.heap) is;
   types = ap (λ (x : MarkerSeatView). x.types) is;
@@ -149,7 +149,7 @@ module _ (v u : MarkerSeatView) (a w : ℕ) (is : u ≡ header_read v a w) where
   header_missed x there =
       subst (λ (s : MarkerSeatView). Contains s.missed x) (sym is) (done_kept (is_none v.hand && not (has_mark w) && not (has_traced w)) v.missed a x there)
 
-  pub header_looks : u.noted ≡ v.noted → Looks v u
+  pub header_looks : u.noted ≡ v.noted → OnlyLooks v u
   header_looks noted = record {
     heap = ap (λ (x : MarkerSeatView). x.heap) is;
     types = ap (λ (x : MarkerSeatView). x.types) is;

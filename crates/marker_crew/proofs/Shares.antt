@@ -1,7 +1,9 @@
 -- What the calls of a share make of what it put and took.
-use Rattle.std.proofs.Common.{◌≡◌, ℕ, zero, suc, ◌+◌, ◌<◌, List, [], ◌∷◌, ◌++◌, length, map, get_or, set, Option, None, Some, MatchOption, true, refl, sym, ap, ◌∙◌, subst, inl, inr, arith}
+use Rattle.std.proofs.Common.{◌≡◌, ℕ, zero, suc, ◌+◌, ◌<◌, List, [], ◌∷◌, ◌++◌, length, map, get_or, set, Option, None, Some, MatchOption, true, false, refl, sym, ap, ◌∙◌, subst, inl, inr, arith}
 use mathlib.Core.Logic.{◌⊎◌}
 use Rattle.std.specs.List.{Contains, flat_map}
+use Rattle.std.specs.Option.{is_some}
+use Rattle.std.proofs.lemmas.Bool.{true≢false}
 use Rattle.std.proofs.lemmas.List.{length-append, length-map}
 use Rattle.std.proofs.lemmas.List.Elements.{Contains-append_left, Contains-append_right, Contains-append_cases, Contains-push_cases}
 use Rattle.std.proofs.lemmas.List.Folds.{flat_map-map}
@@ -143,3 +145,15 @@ then_stolen h k l None pop none = (
   (ap (λ (s : ShareState). s.pop_found_none) none.rest ∙ ap (λ (s : ShareState). s.pop_found_none) pop, ap (λ (s : ShareState). s.steal_found_none) none.rest),
 )
 then_stolen h k l (Some a) pop stole = taken_after h k l a (ap taken_of pop) (stolen_is k l a stole)
+
+-- ---- one look after another
+
+pub then_found : (h k l : ShareState) (found : Option ℕ) → taken_of k ≡ taken_of h → MatchOption found ((taken_of l ≡ taken_of k) × IsIdle l) (λ a. IsTaken k a l)
+    → MatchOption found ((taken_of l ≡ taken_of h) × IsIdle l) (λ a. IsTaken h a l)
+then_found h k l None same none = (none.0 ∙ same, none.1)
+then_found h k l (Some a) same taken = taken_after h k l a same taken
+
+pub found_none : (h l : ShareState) (found : Option ℕ) → is_some found ≡ false → MatchOption found ((taken_of l ≡ taken_of h) × IsIdle l) (λ a. IsTaken h a l)
+    → (taken_of l ≡ taken_of h) × IsIdle l
+found_none h l None none told = told
+found_none h l (Some a) none told = absurd (true≢false none)

@@ -11,7 +11,7 @@ use Rattle.ephemerons.specs.Notes.{NotesState, note_of, noted, overflowed}
 use Rattle.page_words.specs.Markers.{MarkerSeatView}
 use Rattle.stealing_lists.specs.Shares.{ShareState, IsSameShare, put_of, last_count, more_counted}
 use Rattle.marker_crew.specs.declared.draining.Drained.{Drained}
-use Rattle.marker_crew.specs.Stages.{Stage, stage, Lists, Notes, Keeps, IsLater, IsNoteOf, HasRisen, Works}
+use Rattle.marker_crew.specs.Stages.{Stage, stage, Lists, Notes, Keeps, IsLater, IsNoteOf, HasRisen, Works, OnlyLooks}
 use Rattle.marker_crew.proofs.Shares.{same_itself, same_then, same_pushed, same_refused}
 
 keeps_all : {X : Type 0} (old new : List X) → new ≡ old → Keeps old new
@@ -93,17 +93,18 @@ Works-then s t u x y = record {
 
 -- ---- steps that mark, trace and note nothing
 
--- the seat looked at words, and nothing else has changed
-pub record Looks (v w : MarkerSeatView) : Type 0 where
-  pub heap : w.heap ≡ v.heap
-  pub types : w.types ≡ v.types
-  pub marked : w.marked ≡ v.marked
-  pub traced : w.traced ≡ v.traced
-  pub noted : w.noted ≡ v.noted
-  pub done : Keeps v.done w.done
-  pub missed : Keeps v.missed w.missed
+pub looks_then : (v u w : MarkerSeatView) → OnlyLooks v u → OnlyLooks u w → OnlyLooks v w
+looks_then v u w x y = record {
+  heap = y.heap ∙ x.heap;
+  types = y.types ∙ x.types;
+  marked = y.marked ∙ x.marked;
+  traced = y.traced ∙ x.traced;
+  noted = y.noted ∙ x.noted;
+  done = λ a there. y.done a (x.done a there);
+  missed = λ a there. y.missed a (x.missed a there);
+}
 
-pub looks_work : (v w : MarkerSeatView) (h : ShareState) (n : NotesState) (d : Drained) → Looks v w → Works (stage v h n d) (stage w h n d)
+pub looks_work : (v w : MarkerSeatView) (h : ShareState) (n : NotesState) (d : Drained) → OnlyLooks v w → Works (stage v h n d) (stage w h n d)
 looks_work v w h n d x = record {
   later = record {
     heap = x.heap;
@@ -352,13 +353,13 @@ pub no_pair : (holder word p offset : ℕ) → Contains {X = ℕ × ℕ} [] (p, 
 no_pair holder word p offset there = absurd (omega (arith, there.1))
 
 -- the place of an item was noted, with nothing else noted
-pub item_noted : (v w : MarkerSeatView) (h : ShareState) (n o : NotesState) (d e : Drained) (a : ℕ) → Looks v w
+pub item_noted : (v w : MarkerSeatView) (h : ShareState) (n o : NotesState) (d e : Drained) (a : ℕ) → OnlyLooks v w
     → Contains w.missed a ⊎ (w.count ≤ a) → n.refused ≤ last_count → Notes n d a 0 o e → Works (stage v h n d) (stage w h o e)
 item_noted v w h n o d e a looks why fits made =
     note_works v w h n o d e a 0 looks.heap looks.types looks.marked looks.traced [] (looks.noted ∙ sym (append-nil v.noted)) (no_pair a 0) looks.done looks.missed
     (inr (refl, why)) fits made
 
-pub looks_not : (v : MarkerSeatView) → Looks v v
+pub looks_not : (v : MarkerSeatView) → OnlyLooks v v
 looks_not v = record { heap = refl; types = refl; marked = refl; traced = refl; noted = refl; done = λ a there. there; missed = λ a there. there }
 
 pub later_with_more : (v : MarkerSeatView) (h : ShareState) (n : NotesState) (d : Drained) (more : Bool)

@@ -54,6 +54,16 @@ pub record IsLater (s t : Stage) : Type 0 where
   pub notes : Keeps s.notes.notes t.notes.notes
   pub overflow : t.drained.overflow ≡ false → s.drained.overflow ≡ false
 
+-- the seat looked at words, and marked, traced and noted nothing; what it found traced or missed stays so
+pub record OnlyLooks (v w : MarkerSeatView) : Type 0 where
+  pub heap : w.heap ≡ v.heap
+  pub types : w.types ≡ v.types
+  pub marked : w.marked ≡ v.marked
+  pub traced : w.traced ≡ v.traced
+  pub noted : w.noted ≡ v.noted
+  pub done : Keeps v.done w.done
+  pub missed : Keeps v.missed w.missed
+
 -- the note is of a pair that the seat noted, of an object that it traced; or it is of a place alone that the seat missed, or
 -- that isn't one of the heap
 abbrev pub IsNoteOf : MarkerSeatView → Note → Type 0

@@ -1,12 +1,13 @@
 // A marker takes items from the lists and deals with each.
 
-ghost use Rattle.std.specs.Prelude.{◌≡◌, ◌⊎◌, ◌+◌, true, false, None, length, MatchOption};
-ghost use Rattle.stealing_lists.specs.Shares.{IsSameShare, put_of, taken_of};
+ghost use Rattle.std.specs.Prelude.{◌≡◌, ◌⊎◌, ◌+◌, true, false, None, length};
+ghost use Rattle.stealing_lists.specs.Shares.{taken_of};
 ghost use Rattle.marker_crew.specs.Stages.{stage, Works};
-ghost use Rattle.marker_crew.specs.Drains.{nothing_yet, AreDealtWith, IsIdle, IsTaken};
+ghost use Rattle.marker_crew.specs.Drains.{nothing_yet, AreDealtWith, IsIdle};
 
 use crate::gate::{Gate, Post};
 use crate::items::deal_with;
+use crate::taking::await_item;
 use ephemerons::Pairs;
 use page_words::{MarkerSeat, Words};
 use stealing_lists::Share;
@@ -52,12 +53,12 @@ pub fn drain<G: Gate>(
         more: true,
         overflow: false,
     };
-    for item in 0..budget {
+    for _item in 0..budget {
         if words.stopped(seat) {
             drained.more = true;
             return drained;
         }
-        let Some(place) = next_item(share) else {
+        let Some(place) = await_item(words, seat, share) else {
             drained.more = false;
             return drained;
         };
@@ -65,18 +66,4 @@ pub fn drain<G: Gate>(
     }
     drained.more = true;
     drained
-}
-
-/// An item of the share's own list, or else one of another's. None where the share is idle then.
-fn next_item(share: &mut Share) -> Option<u32>
-    ensures taken { MatchOption result
-        ((taken_of share.new ≡ taken_of share.old) × IsIdle share.new)
-        (λ a. IsTaken share.old a share.new) }
-    ensures lists { IsSameShare share.old share.new }
-    ensures same { (put_of share.new ≡ put_of share.old) × (share.new.refused ≡ share.old.refused) }
-{
-    match share.pop() {
-        Some(a) => Some(a),
-        None => share.steal(),
-    }
 }

@@ -13,6 +13,7 @@ mod gate;
 mod items;
 mod objects;
 mod recording;
+mod taking;
 
 pub use draining::{Drained, drain};
 pub use gate::{FreeGate, Gate};

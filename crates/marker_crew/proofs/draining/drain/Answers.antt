@@ -2,10 +2,10 @@ use Rattle.std.proofs.Common.{true, false, length, refl, ap, arith}
 use Rattle.page_words.specs.Markers.{MarkerSeatView}
 use Rattle.marker_crew.specs.declared.draining.Drained.{Drained}
 use Rattle.marker_crew.specs.Drains.{nothing_yet}
-use Rattle.marker_crew.specs.Stages.{Stage, stage, Works}
+use Rattle.marker_crew.specs.Stages.{Stage, stage, Works, OnlyLooks}
 use Rattle.marker_crew.proofs.Claiming.{stop_looks}
 use Rattle.marker_crew.proofs.Dealing.{all_dealt_stay, one_dealt}
-use Rattle.marker_crew.proofs.Working.{Works-then, looks_work, take_works, works_with_more, later_then, later_with_more}
+use Rattle.marker_crew.proofs.Working.{Works-then, looks_then, looks_work, take_works, works_with_more, later_then, later_with_more}
 use Rattle.marker_crew.proofs.draining.drain.Goals as goal
 
 pub returns-then-stopped-clause-works : goal.returns-then-stopped-clause-works
@@ -37,44 +37,51 @@ pub returns-in_default-clause-works : goal.returns-in_default-clause-works
 returns-in_default-clause-works g c =
     let s : Stage = stage c.args.seat.now c.args.share.now c.args.notes.now nothing_yet in
     let h = c.loop-item.share in
-    let k = c.next_item.new.share in
+    let k = c.await_item.new.share in
     let n = c.loop-item.notes in
     let d : Drained = c.loop-item.drained in
     let v : MarkerSeatView = c.loop-item.seat in
-    let u : MarkerSeatView = c.stopped.new.seat in
+    let u : MarkerSeatView = c.await_item.new.seat in
+    let looks : OnlyLooks v u =
+    looks_then v c.stopped.new.seat u (stop_looks v c.stopped.new.seat c.stopped.result c.stopped.ensures.view) c.await_item.ensures.looks in
     works_with_more s u k n d false
     (Works-then s (stage v h n d) (stage u k n d) c.loop-item.invariant.works
-    (Works-then (stage v h n d) (stage u h n d) (stage u k n d) (looks_work v u h n d (stop_looks v u c.stopped.result c.stopped.ensures.view))
-    (take_works u h k n d c.next_item.ensures.lists c.next_item.ensures.same.0 c.next_item.ensures.same.1)))
+    (Works-then (stage v h n d) (stage u h n d) (stage u k n d) (looks_work v u h n d looks)
+    (take_works u h k n d c.await_item.ensures.lists c.await_item.ensures.same.0 c.await_item.ensures.same.1)))
 
 pub returns-in_default-clause-taken : goal.returns-in_default-clause-taken
 returns-in_default-clause-taken g c =
     let h = c.loop-item.share in
-    let k = c.next_item.new.share in
+    let k = c.await_item.new.share in
     let n = c.loop-item.notes in
     let d : Drained = c.loop-item.drained in
     let v : MarkerSeatView = c.loop-item.seat in
-    let u : MarkerSeatView = c.stopped.new.seat in
+    let u : MarkerSeatView = c.await_item.new.seat in
     let last : Stage = stage u k n (record d { more = false }) in
+    let looks : OnlyLooks v u =
+    looks_then v c.stopped.new.seat u (stop_looks v c.stopped.new.seat c.stopped.result c.stopped.ensures.view) c.await_item.ensures.looks in
     all_dealt_stay c.args.share.now (stage v h n d) last
-    (later_then (stage v h n d) (stage u h n d) last (looks_work v u h n d (stop_looks v u c.stopped.result c.stopped.ensures.view)).later
-    (later_then (stage u h n d) (stage u k n d) last (take_works u h k n d c.next_item.ensures.lists c.next_item.ensures.same.0 c.next_item.ensures.same.1).later
-    (later_with_more u k n d false)))
+    (later_then (stage v h n d) (stage u h n d) last (looks_work v u h n d looks).later
+    (later_then (stage u h n d) (stage u k n d) last
+    (take_works u h k n d c.await_item.ensures.lists c.await_item.ensures.same.0 c.await_item.ensures.same.1).later (later_with_more u k n d false)))
     c.in_default.ensures.taken.0 c.loop-item.invariant.dealt
 
 pub loop-item-preserved : goal.loop-item-preserved
 loop-item-preserved g c =
     let s : Stage = stage c.args.seat.now c.args.share.now c.args.notes.now nothing_yet in
     let h = c.loop-item.share in
-    let k = c.next_item.new.share in
+    let k = c.await_item.new.share in
     let n = c.loop-item.notes in
     let d : Drained = c.loop-item.drained in
     let v : MarkerSeatView = c.loop-item.seat in
-    let u : MarkerSeatView = c.stopped.new.seat in
+    let u : MarkerSeatView = c.await_item.new.seat in
     let last : Stage = stage c.deal_with.new.seat c.deal_with.new.share c.deal_with.new.notes c.deal_with.new.drained in
+    let looks : OnlyLooks v u =
+    looks_then v c.stopped.new.seat u (stop_looks v c.stopped.new.seat c.stopped.result c.stopped.ensures.view) c.await_item.ensures.looks in
     let works : Works (stage v h n d) last =
-    Works-then (stage v h n d) (stage u h n d) last (looks_work v u h n d (stop_looks v u c.stopped.result c.stopped.ensures.view))
-    (Works-then (stage u h n d) (stage u k n d) last (take_works u h k n d c.next_item.ensures.lists c.next_item.ensures.same.0 c.next_item.ensures.same.1) c.deal_with.ensures.works) in
+    Works-then (stage v h n d) (stage u h n d) last (looks_work v u h n d looks)
+    (Works-then (stage u h n d) (stage u k n d) last
+    (take_works u h k n d c.await_item.ensures.lists c.await_item.ensures.same.0 c.await_item.ensures.same.1) c.deal_with.ensures.works) in
     record {
       works = Works-then s (stage v h n d) last c.loop-item.invariant.works works;
       dealt = one_dealt c.args.share.now (stage v h n d) last k c.in-Some.place works.later c.loop-item.invariant.dealt c.in-Some.ensures.taken

@@ -9,6 +9,6 @@ invariant-loop-item g l = record {
   works : Works (stage l.initial.seat l.initial.share l.initial.notes nothing_yet) (stage l.seat l.share l.notes l.drained);
   dealt : AreDealtWith l.initial.share (stage l.seat l.share l.notes l.drained);
   hand : l.seat.hand ≡ None;
-  count : length (taken_of l.share) ≡ length (taken_of l.initial.share) + l.item;
-  most : l.drained.traced ≤ l.item;
+  count : length (taken_of l.share) ≡ length (taken_of l.initial.share) + l._item;
+  most : l.drained.traced ≤ l._item;
 }

@@ -1,10 +1,10 @@
 use Rattle.std.proofs.Common.{◌≡◌, ◌≤◌, false, sym, ap, ◌∙◌, subst, inl, inr, arith}
 use Rattle.page_words.specs.Markers.{MarkerSeatView, start_read}
 use Rattle.page_words.specs.Seat.{Heap}
-use Rattle.marker_crew.specs.Stages.{stage}
+use Rattle.marker_crew.specs.Stages.{stage, OnlyLooks}
 use Rattle.marker_crew.proofs.Claiming.{start_looks, start_missed}
 use Rattle.marker_crew.proofs.Dealing.{note_deals}
-use Rattle.marker_crew.proofs.Working.{Works-then, looks_work, item_noted, Looks, looks_not}
+use Rattle.marker_crew.proofs.Working.{Works-then, looks_work, item_noted, looks_not}
 use Rattle.marker_crew.proofs.items.deal_with.Goals as goal
 use Rattle.marker_crew.proofs.items.deal_with.Goals.{else-place-count-via-then-place-count+else-is_start, else-place-count-via-else-place-count}
 
@@ -38,7 +38,7 @@ returns-else-place-count-clause-works g c = elim c.else-place-count.branch [
         ap (λ (x : MarkerSeatView). x.count) w.seat-is,
       ) in
       item_noted v u c.args.share.now c.args.notes.now c.note.new.notes c.args.drained.now c.note.new.drained c.args.place
-      (subst (Looks v) (sym w.seat-is) (looks_not v)) (inr far) c.note.ensures.fits c.note.ensures.noted)
+      (subst (OnlyLooks v) (sym w.seat-is) (looks_not v)) (inr far) c.note.ensures.fits c.note.ensures.noted)
 ]
 
 pub returns-else-place-count-clause-dealt : goal.returns-else-place-count-clause-dealt

@@ -1,5 +1,5 @@
 use Rattle.marker_crew.proofs.Shares.{popped_is, then_stolen}
-use Rattle.marker_crew.proofs.draining.next_item.Goals as goal
+use Rattle.marker_crew.proofs.taking.next_item.Goals as goal
 
 pub returns-in-Some-clause-taken : goal.returns-in-Some-clause-taken
 returns-in-Some-clause-taken c = popped_is c.args.share.now c.pop.new.self c.in-Some.a c.in-Some.ensures.taken

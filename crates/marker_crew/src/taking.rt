@@ -1,0 +1,53 @@
+// The next item, from the share's own list or from another's.
+
+ghost use Rattle.std.specs.Prelude.{◌≡◌, MatchOption};
+ghost use Rattle.stealing_lists.specs.Shares.{IsSameShare, put_of, taken_of};
+ghost use Rattle.marker_crew.specs.Drains.{IsIdle, IsTaken};
+ghost use Rattle.marker_crew.specs.Stages.{OnlyLooks};
+
+use page_words::{MarkerSeat, Words};
+use std::hint;
+use stealing_lists::Share;
+
+/// So often a marker that finds nothing looks again before it ends: the others may still put more.
+const LOOKS: u32 = 4096;
+
+/// The next item, once there is one. None where the share is idle, and stayed so for long, or the stop
+/// word says to stop.
+pub(crate) fn await_item(words: &Words, seat: &mut MarkerSeat, share: &mut Share) -> Option<u32>
+    requires heap { seat.old.heap ≡ words.now }
+    ensures taken { MatchOption result
+        ((taken_of share.new ≡ taken_of share.old) × IsIdle share.new)
+        (λ a. IsTaken share.old a share.new) }
+    ensures lists { IsSameShare share.old share.new }
+    ensures same { (put_of share.new ≡ put_of share.old) × (share.new.refused ≡ share.old.refused) }
+    ensures looks { OnlyLooks seat.old seat.new }
+    ensures hand { seat.new.hand ≡ seat.old.hand }
+{
+    let mut found = next_item(share);
+    for _look in 0..LOOKS {
+        if found.is_some() {
+            return found;
+        }
+        if words.stopped(seat) {
+            return None;
+        }
+        hint::spin_loop();
+        found = next_item(share);
+    }
+    found
+}
+
+/// An item of the share's own list, or else one of another's. None where the share is idle then.
+fn next_item(share: &mut Share) -> Option<u32>
+    ensures taken { MatchOption result
+        ((taken_of share.new ≡ taken_of share.old) × IsIdle share.new)
+        (λ a. IsTaken share.old a share.new) }
+    ensures lists { IsSameShare share.old share.new }
+    ensures same { (put_of share.new ≡ put_of share.old) × (share.new.refused ≡ share.old.refused) }
+{
+    match share.pop() {
+        Some(a) => Some(a),
+        None => share.steal(),
+    }
+}
