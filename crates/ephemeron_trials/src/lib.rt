@@ -15,6 +15,8 @@
 #![tactic(auto)]
 
 #[cfg(test)]
+mod draining;
+#[cfg(test)]
 mod small_heap;
 #[cfg(test)]
 mod tracing;
