@@ -4,6 +4,7 @@ use Rattle.gc_graph.specs.declared.line.Line.{Line}
 use Rattle.gc_graph.specs.declared.line.Line.TheVariants as L
 use Rattle.heap_cycle.specs.Printed.{Printed}
 
+-- the line, or Fine where there is none
 abbrev line_or_fine : Option Line → Line
 line_or_fine (Some line) = line
 line_or_fine None = L.Fine

@@ -1,17 +1,14 @@
 -- What a claim makes of the view, and what a look at a header tells of an item.
-use Rattle.std.proofs.Common.{◌≡◌, ℕ, ◌++◌, Bool, true, false, not, cond, eqb, List, [], ◌∷◌, Option, None, refl, sym, ap, ◌∙◌, subst, inl, inr}
+use Rattle.std.proofs.Common.{◌≡◌, ℕ, ◌++◌, Bool, true, false, cond, eqb, List, [], ◌∷◌, refl, sym, ap, ◌∙◌, subst, inl, inr}
 use mathlib.Core.Logic.{◌⊎◌}
 use Rattle.std.specs.List.{Contains}
-use Rattle.std.proofs.lemmas.Bool.{cond-true, cond-false, eqb-true, true≢false}
+use Rattle.std.proofs.lemmas.Bool.{cond-true, cond-false, eqb-true}
 use Rattle.std.proofs.lemmas.List.Elements.{Contains-push}
-use Rattle.gc_graph.specs.Members.{holds_from}
 use Rattle.marker_core.specs.declared.states.MarkerView.{MarkerView}
-use Rattle.marker_core.specs.Bodies.{holds}
 use Rattle.marker_core.specs.Hands.{hand_claimed}
-use Rattle.marker_core.specs.Layout.{has_mark, has_traced, type_in}
-use Rattle.marker_core.specs.MarkerFacts.{IsObjectHeader}
+use Rattle.marker_core.specs.Layout.{has_traced, type_in}
 use Rattle.page_words.specs.Roles.{kind_lists}
-use Rattle.page_words.specs.Markers.{MarkerSeatView, marker_side, with_marker, claimed_as, start_read, stop_read}
+use Rattle.page_words.specs.Markers.{MarkerSeatView, with_marker, claimed_as, start_read, stop_read}
 use Rattle.ephemerons.specs.HandPath.{hand_first}
 use Rattle.ephemerons.specs.InHand.{hand_over, traced_in}
 use Rattle.marker_crew.specs.Stages.{Keeps, OnlyLooks}

@@ -1,22 +1,19 @@
 -- What the calls of a seat that traces make of its hand and of its view.
-use Rattle.std.proofs.Common.{rules, ◌≡◌, ℕ, ◌+◌, ◌-◌, Bool, true, false, not, ◌&&◌, cond, eqb, List, [], ◌∷◌, ◌++◌, Option, None, Some, refl, sym, ap, ◌∙◌, subst, arith}
+use Rattle.std.proofs.Common.{rules, ◌≡◌, ℕ, ◌+◌, ◌-◌, Bool, true, false, not, ◌&&◌, cond, eqb, List, [], ◌∷◌, ◌++◌, None, Some, refl, sym, ap, ◌∙◌, subst, arith}
 use Rattle.std.specs.List.{Contains}
 use Rattle.std.specs.Option.{is_none}
 use Rattle.std.proofs.lemmas.Bool.{eq-eqb, cond-true, cond-false}
 use Rattle.std.proofs.lemmas.List.{append-nil}
 use Rattle.std.proofs.lemmas.List.Elements.{Contains-push}
-use Rattle.gc_graph.specs.Members.{holds_from}
 use Rattle.marker_core.specs.declared.states.Hand.{Hand}
 use Rattle.marker_core.specs.declared.states.Part.{Part}
-use Rattle.marker_core.specs.declared.states.Part.TheVariants.{Read, Mark, Key, Value}
-use Rattle.marker_core.specs.declared.states.Role.TheVariants.{StrongWord, KeyWord}
-use Rattle.marker_core.specs.Hands.{hand_read, hand_looked, hand_moved, wants, wants_word, wants_key, wants_mark, part_found, role_at_hand, noted_pair, each_hand}
-use Rattle.marker_core.specs.Bodies.{holds}
+use Rattle.marker_core.specs.declared.states.Part.TheVariants.{Read, Key, Value}
+use Rattle.marker_core.specs.declared.states.Role.TheVariants.{KeyWord}
+use Rattle.marker_core.specs.Hands.{hand_read, hand_looked, hand_moved, wants, wants_key, part_found, role_at_hand, noted_pair, each_hand}
 use Rattle.marker_core.specs.Layout.{has_mark, has_traced}
-use Rattle.marker_core.specs.MarkerSeats.{marker_wants_mark}
 use Rattle.page_words.specs.Roles.{kind_lists}
-use Rattle.page_words.specs.Markers.{MarkerSeatView, marker_side, field_read, header_read, marked_as}
-use Rattle.marker_crew.specs.Hands.{IsAt, IsAtTarget, moved_on}
+use Rattle.page_words.specs.Markers.{MarkerSeatView, field_read, header_read}
+use Rattle.marker_crew.specs.Hands.{IsAt, IsAtTarget}
 use Rattle.marker_crew.specs.Stages.{Keeps, OnlyLooks}
 use Rattle.marker_crew.proofs.Working.{keeps_more}
 
@@ -33,16 +30,8 @@ read_looks v u w is = record {
   missed = λ a there. subst (λ (x : MarkerSeatView). Contains x.missed a) (sym is) there;
 }
 
--- it names nothing, and the hand moves on
-pub read_null : (v u : MarkerSeatView) (w : ℕ) (h : Hand) → v.hand ≡ Some h → u ≡ field_read v w → w ≡ 0 → u.hand ≡ moved_on v
-read_null v u w h held is null =
-    ap (λ (x : MarkerSeatView). x.hand) is
-    ∙ ap (each_hand (hand_read (kind_lists v.types) w)) held
-    ∙ cond-true (eqb w 0) (hand_moved (kind_lists v.types) h) (Some (record h { part = part_found (role_at_hand (kind_lists v.types) h) h.part (w - 1) })) (eq-eqb w 0 null)
-    ∙ sym (ap (each_hand (hand_moved (kind_lists v.types))) held)
-
 -- it names a place, which is in hand then
-pub read_named : (v u : MarkerSeatView) (w t : ℕ) (h : Hand) (part : Part) → v.hand ≡ Some h → u ≡ field_read v w → w ≡ t + 1
+read_named : (v u : MarkerSeatView) (w t : ℕ) (h : Hand) (part : Part) → v.hand ≡ Some h → u ≡ field_read v w → w ≡ t + 1
     → part_found (role_at_hand (kind_lists v.types) h) h.part t ≡ part → u.hand ≡ Some (record h { part = part })
 read_named v u w t h part held is names finds =
     let some : eqb w 0 ≡ false = search (rules, names) in
@@ -51,46 +40,6 @@ read_named v u w t h part held is names finds =
     ∙ ap (each_hand (hand_read (kind_lists v.types) w)) held
     ∙ cond-false (eqb w 0) (hand_moved (kind_lists v.types) h) (Some (record h { part = part_found (role_at_hand (kind_lists v.types) h) h.part (w - 1) })) some
     ∙ ap (λ p. Some (record h { part = p })) (ap (part_found (role_at_hand (kind_lists v.types) h) h.part) place ∙ finds)
-
--- and known from then on
-pub read_knows : (v u : MarkerSeatView) (w t : ℕ) → u ≡ field_read v w → w ≡ t + 1 → holds u.known t ≡ true
-read_knows v u w t is names =
-    let some : eqb w 0 ≡ false = search (rules, names) in
-    let place : w - 1 ≡ t = omega (arith, names) in
-    let more : u.known ≡ v.known ++ t ∷ [] =
-    ap (λ (x : MarkerSeatView). x.known) is ∙ ap (λ xs. v.known ++ xs) (cond-false (eqb w 0) [] ((w - 1) ∷ []) some ∙ ap (λ p. p ∷ []) place) in
-    subst (λ xs. holds xs t ≡ true) (sym more) (holds_from (v.known ++ t ∷ []) t (Contains-push v.known t))
-
--- ---- a word whose target is marked
-
-pub wants_target : (v u : MarkerSeatView) (w t a : ℕ) → (at : IsAtTarget v a) → u ≡ field_read v w → w ≡ t + 1
-    → u.hand ≡ Some (record at.hand { part = Mark t })
-wants_target v u w t a at is names = read_named v u w t at.hand (Mark t) at.is is names (at.target t)
-
--- the target in hand may be marked
-pub may_mark : (u : MarkerSeatView) (h : Hand) (t : ℕ) → u.hand ≡ Some (record h { part = Mark t }) → marker_wants_mark (marker_side u) t ≡ true
-may_mark u h t held = ap (wants (λ k. wants_mark k.part t)) held ∙ eq-eqb t t refl
-
--- and once it is, the hand moves on
-pub mark_moves : (v u w : MarkerSeatView) (h : Hand) (t : ℕ) (was : Bool) → v.hand ≡ Some h → u.types ≡ v.types → u.hand ≡ Some (record h { part = Mark t })
-    → w ≡ marked_as u t was → w.hand ≡ moved_on v
-mark_moves v u w h t was before types held is =
-    ap (λ (x : MarkerSeatView). x.hand) is
-    ∙ ap (each_hand (hand_moved (kind_lists u.types))) held
-    ∙ ap (λ ts. hand_moved (kind_lists ts) h) types
-    ∙ sym (ap (each_hand (hand_moved (kind_lists v.types))) before)
-
--- a target that had its mark leaves the seat's marks
-pub marked_looks : (v w : MarkerSeatView) (t : ℕ) → w ≡ marked_as v t true → OnlyLooks v w
-marked_looks v w t is = record {
-  heap = ap (λ (x : MarkerSeatView). x.heap) is;
-  types = ap (λ (x : MarkerSeatView). x.types) is;
-  marked = ap (λ (x : MarkerSeatView). x.marked) is;
-  traced = ap (λ (x : MarkerSeatView). x.traced) is;
-  noted = ap (λ (x : MarkerSeatView). x.noted) is;
-  done = λ a there. subst (λ (x : MarkerSeatView). Contains x.done a) (sym is) there;
-  missed = λ a there. subst (λ (x : MarkerSeatView). Contains x.missed a) (sym is) there;
-}
 
 -- ---- a pair
 
@@ -169,15 +118,6 @@ value_target v u place offset at types held = record {
   wants = eq-eqb (place + offset + 1) (place + offset + 1) refl;
   target = λ t. ap (λ role. part_found role Value t)
       (ap (λ ts. role_at_hand (kind_lists ts) (record { place = place; ty = at.ty; next = offset; part = Value })) types ∙ at.role_is);
-}
-
--- a strong word in hand comes next
-pub strong_target : (v : MarkerSeatView) (place offset : ℕ) (at : IsAt v place offset StrongWord Read) → IsAtTarget v (place + offset)
-strong_target v place offset at = record {
-  hand = record { place = place; ty = at.ty; next = offset; part = Read };
-  is = at.is;
-  wants = eq-eqb (place + offset) (place + offset) refl;
-  target = λ t. ap (λ role. part_found role Read t) at.role_is;
 }
 
 -- ---- a look at a header with nothing in hand

@@ -1,9 +1,9 @@
 -- What a marker has while it drains, and what it makes of it.
-use Rattle.std.specs.Prelude.{◌≡◌, ◌⊎◌, ℕ, ◌+◌, ◌<◌, ◌≤◌, true, false, List, [], ◌∷◌, ◌++◌, length, Contains}
+use Rattle.std.specs.Prelude.{◌≡◌, ◌⊎◌, ℕ, ◌+◌, ◌<◌, ◌≤◌, true, false, List, length, Contains}
 use Rattle.ephemerons.specs.declared.notes.Note.{Note}
 use Rattle.ephemerons.specs.Notes.{NotesState, note_of, noted, overflowed}
 use Rattle.page_words.specs.Markers.{MarkerSeatView}
-use Rattle.stealing_lists.specs.Shares.{ShareState, IsSameShare, put_of, taken_of, pushed, refused_once, last_count}
+use Rattle.stealing_lists.specs.Shares.{ShareState, IsSameShare, put_of, pushed, refused_once, last_count}
 use Rattle.marker_crew.specs.declared.draining.Drained.{Drained}
 
 -- a marker's seat, its share of the lists, its notes, and what it has told of the drain so far

@@ -1,5 +1,3 @@
-use Rattle.heap_cycle.specs.Printed.{Printed}
-use Rattle.std.proofs.Common.{ap, ◌∙◌}
 use Rattle.heap_engine.specs.Ended.{last_line}
 use Rattle.heap_engine.proofs.OutcomeLines.{ended_alone}
 use Rattle.heap_engine.proofs.alone.run_alone.Goals as goal

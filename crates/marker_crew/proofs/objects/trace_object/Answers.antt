@@ -1,9 +1,8 @@
-use Rattle.std.proofs.Common.{◌≡◌, List, ap, ◌∙◌, sym, arith}
+use Rattle.std.proofs.Common.{◌≡◌, List, ap, ◌∙◌, arith}
 use Rattle.type_table.specs.declared.traced.TracedWord.{TracedWord}
 use Rattle.type_table.specs.Types.{kinds_of as kinds_in}
 use Rattle.type_table.specs.TracedWords.{traced_words_of}
 use Rattle.gc_graph.specs.State.{ObjectType}
-use Rattle.page_words.specs.Markers.{MarkerSeatView}
 use Rattle.ephemerons.specs.HandPath.{hand_last, told_length}
 use Rattle.ephemerons.specs.InHand.{traced_in}
 use Rattle.marker_crew.specs.Stages.{stage}
