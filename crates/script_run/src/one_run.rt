@@ -1,6 +1,6 @@
 // One run of the program: from the bytes of a script to its report.
 
-ghost use Rattle.std.specs.Prelude.{◌≡◌, ◌↔◌};
+ghost use Rattle.std.specs.Prelude.{◌≡◌, ◌↔◌, ℕ};
 ghost use Rattle.std.specs.Prelude.{◌≤◌, [], length, map, string_bytes, None, MatchOption};
 ghost use Rattle.std.specs.Prelude.{option_map, Some, true, false};
 ghost use Rattle.callback_table.specs.Table.{kinds_of};
