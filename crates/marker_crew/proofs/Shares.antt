@@ -13,13 +13,6 @@ use Rattle.marker_crew.specs.Drains.{IsIdle, IsTaken}
 
 -- ---- it has the same lists
 
-pub same_itself : (h : ShareState) → IsSameShare h h
-same_itself h = record { number = refl; own = refl; parts = refl; others = refl }
-
-pub same_then : (h k l : ShareState) → IsSameShare h k → IsSameShare k l → IsSameShare h l
-same_then h k l x y =
-    record { number = y.number ∙ x.number; own = y.own ∙ x.own; parts = y.parts ∙ x.parts; others = y.others ∙ x.others }
-
 pub same_pushed : (h k : ShareState) (a : ℕ) → k ≡ pushed h a → IsSameShare h k
 same_pushed h k a is = subst (IsSameShare h) (sym is) (record { number = refl; own = refl; parts = refl; others = refl })
 

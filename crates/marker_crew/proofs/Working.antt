@@ -9,10 +9,11 @@ use Rattle.std.proofs.lemmas.List.Elements.{Contains-append_left, Contains-appen
 use Rattle.ephemerons.specs.declared.notes.Note.{Note}
 use Rattle.ephemerons.specs.Notes.{NotesState, note_of, noted, overflowed}
 use Rattle.page_words.specs.Markers.{MarkerSeatView}
+use Rattle.stealing_lists.specs.Kept.{same-share, share-then}
 use Rattle.stealing_lists.specs.Shares.{ShareState, IsSameShare, put_of, last_count, more_counted}
 use Rattle.marker_crew.specs.declared.draining.Drained.{Drained}
 use Rattle.marker_crew.specs.Stages.{Stage, stage, Lists, Notes, Keeps, IsLater, IsNoteOf, HasRisen, Works, OnlyLooks}
-use Rattle.marker_crew.proofs.Shares.{same_itself, same_then, same_pushed, same_refused}
+use Rattle.marker_crew.proofs.Shares.{same_pushed, same_refused}
 
 keeps_all : {X : Type 0} (old new : List X) → new ≡ old → Keeps old new
 keeps_all old new same x there = subst (λ xs. Contains xs x) (sym same) there
@@ -34,7 +35,7 @@ pub later_then : (s t u : Stage) → IsLater s t → IsLater t u → IsLater s u
 later_then s t u x y = record {
   heap = y.heap ∙ x.heap;
   types = y.types ∙ x.types;
-  lists = same_then s.share t.share u.share x.lists y.lists;
+  lists = share-then s.share t.share u.share x.lists y.lists;
   marked = λ a h. y.marked a (x.marked a h);
   traced = λ a h. y.traced a (x.traced a h);
   noted = λ a h. y.noted a (x.noted a h);
@@ -109,7 +110,7 @@ looks_work v w h n d x = record {
   later = record {
     heap = x.heap;
     types = x.types;
-    lists = same_itself h;
+    lists = same-share h;
     marked = keeps_all v.marked w.marked x.marked;
     traced = keeps_all v.traced w.traced x.traced;
     noted = keeps_all v.noted w.noted x.noted;
@@ -206,7 +207,7 @@ module _ (v w : MarkerSeatView) (h : ShareState) (n o : NotesState) (d e : Drain
   later_note kept overflow = record {
     heap = heap;
     types = types;
-    lists = same_itself h;
+    lists = same-share h;
     marked = keeps_all v.marked w.marked marked;
     traced = keeps_all v.traced w.traced traced;
     noted = keeps_more v.noted w.noted new_pairs pairs;
@@ -267,7 +268,7 @@ claim_works v w h n d e a heap types marked traced noted_same done missed counte
   later = record {
     heap = heap;
     types = types;
-    lists = same_itself h;
+    lists = same-share h;
     marked = keeps_all v.marked w.marked marked;
     traced = keeps_more v.traced w.traced (a ∷ []) traced;
     noted = keeps_all v.noted w.noted noted_same;
@@ -367,7 +368,7 @@ pub later_with_more : (v : MarkerSeatView) (h : ShareState) (n : NotesState) (d 
 later_with_more v h n d more = record {
   heap = refl;
   types = refl;
-  lists = same_itself h;
+  lists = same-share h;
   marked = λ a there. there;
   traced = λ a there. there;
   noted = λ a there. there;

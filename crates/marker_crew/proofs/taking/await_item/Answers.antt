@@ -1,7 +1,8 @@
 use Rattle.std.proofs.Common.{refl, sym, ap, ◌∙◌}
 use Rattle.page_words.specs.Markers.{MarkerSeatView}
+use Rattle.stealing_lists.specs.Kept.{share-then}
 use Rattle.marker_crew.proofs.Claiming.{stop_looks}
-use Rattle.marker_crew.proofs.Shares.{found_none, same_then, then_found}
+use Rattle.marker_crew.proofs.Shares.{found_none, then_found}
 use Rattle.marker_crew.proofs.Working.{looks_not, looks_then}
 use Rattle.marker_crew.proofs.taking.await_item.Goals as goal
 
@@ -23,7 +24,7 @@ loop-look-preserved c =
     let none = found_none c.args.share.now c.loop-look.share c.loop-look.found (sym c.is_some.ensures ∙ c.if-is_some.false) c.loop-look.invariant.taken in
     record {
       taken = then_found c.args.share.now c.loop-look.share c.next_item-found-in-loop-look.new.share c.next_item-found-in-loop-look.result none.0 c.next_item-found-in-loop-look.ensures.taken;
-      lists = same_then c.args.share.now c.loop-look.share c.next_item-found-in-loop-look.new.share c.loop-look.invariant.lists c.next_item-found-in-loop-look.ensures.lists;
+      lists = share-then c.args.share.now c.loop-look.share c.next_item-found-in-loop-look.new.share c.loop-look.invariant.lists c.next_item-found-in-loop-look.ensures.lists;
       put = c.next_item-found-in-loop-look.ensures.same.0 ∙ c.loop-look.invariant.put;
       refused = c.next_item-found-in-loop-look.ensures.same.1 ∙ c.loop-look.invariant.refused;
       looks = looks_then c.args.seat.now c.loop-look.seat c.stopped.new.seat c.loop-look.invariant.looks
