@@ -5,8 +5,9 @@
 ghost use Rattle.std.specs.Prelude.{◌≡◌, ◌*◌, ◌/◌, IfOk};
 ghost use Rattle.marker_core.specs.Matching.{AreTypes};
 
+use core_steps::{CoreFault, after, idle_state};
 use gc_graph::{Kind, NoMemory};
-use marker_core::{CoreFault, CoreState, CoreStep, List, Why, after, idle_state};
+use marker_core::{CoreState, CoreStep, List, Why};
 use std::alloc::Global;
 use std::test::Fail;
 

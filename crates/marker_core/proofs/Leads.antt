@@ -1,5 +1,5 @@
 -- What a body leads to, looked at word by word.
-use Rattle.std.proofs.Common.{◌≡◌, ℕ, zero, suc, ◌+◌, ◌-◌, ◌<◌, List, length, map, filter, Bool, true, ◌&&◌, ◌||◌, not, eqb, refl, sym, ap, ◌∙◌, inl, inr, arith}
+use Rattle.std.proofs.Common.{◌≡◌, ℕ, zero, suc, ◌+◌, ◌-◌, ◌<◌, List, length, map, Bool, true, ◌&&◌, ◌||◌, not, eqb, refl, sym, ap, ◌∙◌, inl, inr, arith}
 use mathlib.Core.Logic.{◌⊎◌}
 use mathlib.Core.Path.{fun_ext}
 use Rattle.std.specs.List.{list_any, find, range_with_len}
@@ -8,15 +8,16 @@ use Rattle.std.proofs.lemmas.List.{get_or_past}
 use Rattle.std.proofs.lemmas.List.FromFn.{length-map-range_with_len}
 use Rattle.gc_graph.specs.declared.kind.Kind.{Kind}
 use Rattle.gc_graph.specs.Graph.{has, object_at, leads_by, leads_to}
-use Rattle.gc_graph.specs.Reach.{any_below, closing, closed_times, set_of, Reach}
+use Rattle.gc_graph.specs.Reach.{any_below, set_of}
 use Rattle.marker_core.specs.declared.states.Body.{Body}
 use Rattle.marker_core.specs.declared.states.Role.{Role}
 use Rattle.marker_core.specs.declared.states.Role.TheVariants.{StrongWord, WeakWord, KeyWord, ValueWord, PlainWord}
-use Rattle.marker_core.specs.Bodies.{word_in, role_in, holds, places, is_place}
-use Rattle.marker_core.specs.Closed.{object_of, node_of, graph_of, reach_over}
+use Rattle.marker_core.specs.Bodies.{word_in, role_in}
+use Rattle.marker_core.specs.Closed.{object_of, node_of, graph_of}
 use Rattle.marker_core.specs.Matching.{AreWhole, LieApart}
-use Rattle.marker_core.specs.Looking.{word_leads, some_word_leads, by_body, is_pulled}
-use Rattle.gc_graph.specs.Members.{any_member, any_from, below_ranged, filtered_holds}
+use Rattle.marker_core.specs.Looking.{word_leads, some_word_leads, by_body}
+use Rattle.marker_core.specs.Laws.{ClosesByWords}
+use Rattle.gc_graph.specs.Members.{any_member, any_from, below_ranged}
 use Rattle.gc_graph.specs.AnyBelow.{any_below-from}
 use Rattle.marker_core.proofs.Reached.{StrongTo, ValueTo, edges, from_strong, from_pair, node_cases, body_node}
 use Rattle.marker_core.proofs.Apart.{place_of_body, place_below}
@@ -118,27 +119,10 @@ module _ (count : ℕ) (types : List (List Kind)) (bodies : List Body) (whole : 
   ]
 
 -- the closing of a set, number by number
-pub closing_is : (count : ℕ) (types : List (List Kind)) (bodies : List Body) (set : List Bool) → AreWhole count types bodies → LieApart bodies
-    → map (is_pulled types bodies set) (range_with_len 0 count) ≡ closing (graph_of count types bodies) set
-closing_is count types bodies set whole apart =
+pub closes_by_words : ClosesByWords
+closes_by_words count types bodies set whole apart =
     let long : length (graph_of count types bodies) ≡ count = length-map-range_with_len (λ a. node_of types (find (λ (b : Body). eqb b.place a) bodies)) 0 count in
-    ap (λ f. map f (range_with_len 0 count))
+    sym
+    (ap (λ f. map f (range_with_len 0 count))
     (fun_ext (λ n. ap (λ t. has set n || t) (sym (pulled_is count types bodies whole apart set n))))
-    ∙ ap (λ m. set_of (λ n. has set n || any_below (λ k. has set k && leads_to set (object_at (graph_of count types bodies) k) n) m) m) (sym long)
-
--- a root that is a place
-pub root_is : (p : ℕ → Bool) (roots : List ℕ) (n : ℕ) → holds (filter p roots) n ≡ (p n && holds roots n)
-root_is p roots n = filtered_holds p roots n
-
--- the flags closed as many times as there are words are those of what the roots reach
-pub reached_is : (count : ℕ) (types : List (List Kind)) (bodies : List Body) (roots : List ℕ) (set : List Bool) (n : ℕ) → n ≡ count
-    → set ≡ closed_times n (graph_of count types bodies) (map (holds (filter (is_place bodies) roots)) (range_with_len 0 count))
-    → filter (has set) (places bodies) ≡ reach_over count types bodies roots
-unfolding reach_over Reach
-reached_is count types bodies roots set n all closed =
-    let g = graph_of count types bodies in
-    let start = holds (filter (is_place bodies) roots) in
-    let long : length g ≡ count = length-map-range_with_len (λ a. node_of types (find (λ (b : Body). eqb b.place a) bodies)) 0 count in
-    ap (λ l. filter (has l) (places bodies))
-    (closed ∙ ap (λ k. closed_times k g (map start (range_with_len 0 count))) (all ∙ sym long)
-    ∙ ap (λ k. closed_times (length g) g (map start (range_with_len 0 k))) (sym long))
+    ∙ ap (λ m. set_of (λ n. has set n || any_below (λ k. has set k && leads_to set (object_at (graph_of count types bodies) k) n) m) m) (sym long))

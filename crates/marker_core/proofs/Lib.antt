@@ -35,14 +35,8 @@ mod MarkerClaims
 mod MarkerMarks
 pub mod Kept
 pub mod Cycles
-pub mod NextOffsets
-pub mod Fitting
-pub mod MapLoop
 pub mod Leads
-pub mod Readable
 pub mod FirstState
-pub mod Runs
-pub mod ViewSets
 pub mod SeatSteps
 pub mod SeatEnds
 pub mod SeatPublishes

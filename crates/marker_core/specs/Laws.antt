@@ -1,6 +1,8 @@
 -- The laws of the machine.
-use Rattle.std.specs.Prelude.{◌≡◌, ◌⊎◌, ℕ, ◌<◌, ◌^◌, ◌/◌, ◌*◌, ◌+◌, nat_lt, Bool, true, false, List, Some, None, Contains}
+use Rattle.std.specs.Prelude.{◌≡◌, ◌⊎◌, ℕ, ◌<◌, ◌^◌, ◌/◌, ◌*◌, ◌+◌, nat_lt, Bool, true, false, List, map, Some, None, Contains}
+use Rattle.std.specs.List.{range_with_len}
 use Rattle.gc_graph.specs.declared.kind.Kind.{Kind}
+use Rattle.gc_graph.specs.Reach.{closing}
 use Rattle.object_headers.specs.Offsets.{first_field}
 use Rattle.marker_core.specs.declared.states.Body.{Body}
 use Rattle.marker_core.specs.declared.states.CoreState.{CoreState}
@@ -10,7 +12,8 @@ use Rattle.marker_core.specs.declared.states.Why.TheVariants.{Weak}
 use Rattle.marker_core.specs.declared.steps.CoreStep.TheVariants.{Load, Publish, Stop}
 use Rattle.marker_core.specs.declared.states.Hand.{Hand}
 use Rattle.marker_core.specs.Bodies.{refers, word_in, role_in, is_place, names_body, holds, place_named}
-use Rattle.marker_core.specs.Closed.{IsClosedOver, reach_over}
+use Rattle.marker_core.specs.Closed.{IsClosedOver, graph_of, reach_over}
+use Rattle.marker_core.specs.Looking.{is_pulled}
 use Rattle.marker_core.specs.Matching.{AreTypes, AreWhole, LieApart}
 use Rattle.marker_core.specs.Views.{marks_at, traces_at, IsHand, IsNoted}
 use Rattle.marker_core.specs.Step.{core_step, core_run}
@@ -38,6 +41,12 @@ abbrev pub ReachOverIsLeast : Type 0
 ReachOverIsLeast =
     (count : ℕ) (types : List (List Kind)) (bodies : List Body) (roots : List ℕ) → AreWhole count types bodies → LieApart bodies
     → AllNameBodies types bodies → IsLeastOver types bodies roots (reach_over count types bodies roots)
+
+-- over the graph that bodies stand for, a set of flags is closed once by looking at the words of the bodies that have one
+abbrev pub ClosesByWords : Type 0
+ClosesByWords =
+    (count : ℕ) (types : List (List Kind)) (bodies : List Body) (set : List Bool) → AreWhole count types bodies → LieApart bodies
+    → closing (graph_of count types bodies) set ≡ map (is_pulled types bodies set) (range_with_len 0 count)
 
 -- ---- the state with which all begins
 

@@ -13,12 +13,11 @@ pub mod Matching
 pub mod Tracing
 pub mod Core
 pub mod Idle
+pub mod Looking
 pub mod Laws
 pub mod SeatLaws
 pub mod SeatFacts
 pub mod MarkerSeats
 pub mod MarkerLaws
 pub mod MarkerFacts
-pub mod Faults
-pub mod Looking
 pub mod RoleOrder

@@ -1,4 +1,4 @@
--- What bodies lead to, looked at body by body and word by word: this serves private functions alone.
+-- What bodies lead to, looked at body by body and word by word. The law of closing tells that it is what their nodes lead to.
 use Rattle.std.specs.Prelude.{ℕ, ◌+◌, ◌==◌, ◌&&◌, ◌||◌, not, Bool, false, List, length}
 use Rattle.std.specs.List.{list_any, range_with_len}
 use Rattle.gc_graph.specs.declared.kind.Kind.{Kind}

@@ -1,7 +1,8 @@
 // The laws of the machine. Whoever calls one of these has its law; none of them does anything.
 
-ghost use Rattle.marker_core.specs.Laws.{ReachOverIsLeast, SettledHasEnded, StepsKeep, RunsKeep};
-ghost use Rattle.marker_core.specs.Laws.{NewAndReadMayBeKept, EndsMarkedOut, IdleIsOk};
+ghost use Rattle.marker_core.specs.Laws.{ReachOverIsLeast, ClosesByWords, SettledHasEnded};
+ghost use Rattle.marker_core.specs.Laws.{StepsKeep, RunsKeep, NewAndReadMayBeKept, EndsMarkedOut};
+ghost use Rattle.marker_core.specs.Laws.{IdleIsOk};
 
 use gc_graph::reach_is_least;
 
@@ -11,6 +12,11 @@ pub fn reach_over_is_least()
 {
     reach_is_least();
 }
+
+/// Over the graph that bodies stand for, a set is closed once by looking at the words of its bodies.
+pub fn closes_by_words()
+    ensures { ClosesByWords }
+{}
 
 /// The state with which all begins is one of those of which all this is true.
 pub fn idle_is_ok()

@@ -9,7 +9,8 @@ use std::marker::Model;
 /// A list of values. Contracts see it as a list, inside other values too.
 #[derive(Drop)]
 pub struct List<T> {
-    pub(crate) items: Vec<T>,
+    /// The items, for those who change more than one.
+    pub items: Vec<T>,
 }
 
 impl<T> Model for List<T> {
@@ -48,7 +49,7 @@ impl<T: Drop> List<T> {
     }
 
     /// Adds an item at the end, where it is told to.
-    pub(crate) fn push_if(&mut self, joins: bool, item: T) -> Result<(), NoMemory>
+    pub fn push_if(&mut self, joins: bool, item: T) -> Result<(), NoMemory>
         ensures { OnOk result (self.new ≡ (if joins then self.old ++ item ∷ [] else self.old)) }
     {
         if joins {
@@ -58,7 +59,7 @@ impl<T: Drop> List<T> {
     }
 
     /// Writes an item over the one at a position; past the end nothing changes.
-    pub(crate) fn set(&mut self, at: usize, item: T)
+    pub fn set(&mut self, at: usize, item: T)
         ensures { self.new ≡ slice_set self.old at item }
     {
         if at < self.items.len() {
@@ -67,7 +68,7 @@ impl<T: Drop> List<T> {
     }
 
     /// Takes all items out.
-    pub(crate) fn clear(&mut self)
+    pub fn clear(&mut self)
         ensures { self.new ≡ [] }
     {
         self.items.clear();
