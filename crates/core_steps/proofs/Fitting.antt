@@ -1,9 +1,9 @@
 -- References fit: what a hand reads, and what is stored, is null or one more than an address. For the step after which it is
 -- known keeps what is true of every state, and there what is in a hand, known to a marker or waits for its mark is an object.
-use Rattle.std.proofs.Common.{◌≡◌, ℕ, ◌+◌, ◌-◌, ◌<◌, ◌≤◌, ◌^◌, List, [], ◌∷◌, ◌++◌, length, get_or, set, true, false, not, ◌&&◌, ◌||◌, cond, eqb, Option, Some, None, refl, sym, ap, ◌∙◌, inl, inr, arith, Contains}
+use Rattle.std.proofs.Common.{◌≡◌, ℕ, ◌-◌, ◌<◌, ◌≤◌, ◌^◌, List, [], ◌∷◌, ◌++◌, length, get_or, true, false, not, ◌&&◌, eqb, Option, Some, None, refl, sym, ap, ◌∙◌, inl, inr, arith, Contains}
 use mathlib.Core.Logic.{◌⊎◌}
 use Rattle.std.specs.List.{list_any}
-use Rattle.std.proofs.lemmas.Bool.{cases_eq, cases_lt, and_parts, cond-true, cond-false, eqb-true, ne_eqb, not-true, both_ways, false≢true}
+use Rattle.std.proofs.lemmas.Bool.{cases_eq, cases_lt, and_parts, cond-true, cond-false, eqb-true, ne_eqb, false≢true}
 use Rattle.std.proofs.lemmas.List.{length-set, get_or-set_same, get_or_past}
 use Rattle.gc_graph.specs.declared.kind.Kind.{Kind}
 use Rattle.object_headers.specs.Offsets.{first_field}

@@ -1,9 +1,8 @@
 -- When the words from an address on can be an object.
-use Rattle.std.proofs.Common.{◌≡◌, ℕ, ◌+◌, ◌<◌, ◌≤◌, ◌^◌, get_or, true, false, not, ◌&&◌, ◌||◌, eqb, leb, ltb, length, sym, ap, ◌∙◌, inl, inr, arith}
+use Rattle.std.proofs.Common.{◌≡◌, ℕ, ◌+◌, ◌<◌, ◌≤◌, ◌^◌, get_or, true, false, not, ◌&&◌, eqb, leb, ltb, sym, ap, ◌∙◌, inl, inr, arith}
 use mathlib.Core.Logic.{◌⊎◌}
-use Rattle.std.specs.List.{list_any, list_all, range_with_len}
+use Rattle.std.specs.List.{list_any}
 use Rattle.std.proofs.lemmas.Bool.{lt-ltb, ltb-true, leb-true, and_parts, false_from_ne_true}
-use Rattle.object_headers.specs.Layout.{header_word}
 use Rattle.marker_core.specs.declared.states.Body.{Body}
 use Rattle.marker_core.specs.declared.states.CoreState.{CoreState}
 use Rattle.marker_core.specs.Layout.{size_in}
@@ -18,6 +17,9 @@ record InRange (s : CoreState) (b : Body) : Type 0 where
   serial : b.serial < 2 ^ 32
   inside : end_of b ≤ s.count
 
+two_at_least : (words size : ℕ) → 2 + words ≤ size → 2 ≤ size
+two_at_least words size room = omega arith
+
 in_range : (s : CoreState) (a : ℕ) → can_publish s a ≡ true → InRange s (body_at s.words a)
 in_range s a can =
     let b = body_at s.words a in
@@ -29,9 +31,8 @@ in_range s a can =
     let w2 = and_parts _ _ w3.0 in
     let f2 = and_parts _ _ both.1 in
     let f1 = and_parts (leb (end_of b) s.count) (not (list_any (overlaps b) s.mutator.bodies)) f2.0 in
-    let room = leb-true (2 + word_count (kinds_of s.types b.ty)) b.size w2.1 in
     record {
-      two = omega arith;
+      two = two_at_least (word_count (kinds_of s.types b.ty)) b.size (leb-true (2 + word_count (kinds_of s.types b.ty)) b.size w2.1);
       small = ltb-true b.size (2 ^ 26) w3.1;
       serial = ltb-true b.serial (2 ^ 32) (and_parts (ltb b.serial (2 ^ 32)) (not (list_any (λ (c : Body). eqb c.serial b.serial) s.mutator.bodies)) all.1).0;
       inside = leb-true (end_of b) s.count f1.0;
