@@ -158,6 +158,7 @@ module _ (v : SeatSide) (words : List ℕ) (markers : List MarkerView) (ok : IsC
         let some = own_is_traced a own in
         let most = ok.traced_are_marked a in
         ok.marks_counted_once.are_bodies a (omega arith);
+    traced_once = λ a. let most = ok.traced_are_marked a in let once = ok.marks_counted_once.once a in omega arith;
     traced_are_marked = λ lent a own.
         let some = own_is_traced a own in
         let most = ok.traced_are_marked a in

@@ -1,5 +1,5 @@
 -- What a seat of the mutator may rely on, whatever the markers do: what a word that it finds tells, and what is true of its view.
-use Rattle.std.specs.Prelude.{◌≡◌, ◌⊎◌, ℕ, ◌+◌, ◌%◌, ◌<◌, Bool, true, false, List, [], length, Some, None, slice_index, Contains}
+use Rattle.std.specs.Prelude.{◌≡◌, ◌⊎◌, ℕ, ◌+◌, ◌%◌, ◌<◌, ◌≤◌, Bool, true, false, List, [], length, Some, None, slice_index, Contains}
 use Rattle.object_headers.specs.Offsets.{serial_offset, first_field}
 use Rattle.object_headers.specs.Layout.{header_word}
 use Rattle.marker_core.specs.declared.states.Body.{Body}
@@ -10,6 +10,7 @@ use Rattle.marker_core.specs.declared.states.Role.TheVariants.{StrongWord, KeyWo
 use Rattle.marker_core.specs.Layout.{bitmap_at, bit_is_set, has_mark, has_traced}
 use Rattle.marker_core.specs.Bodies.{word_in, role_in, is_place, in_body, holds, place_named}
 use Rattle.marker_core.specs.Closed.{IsClosedOver}
+use Rattle.marker_core.specs.Views.{times}
 use Rattle.marker_core.specs.Seats.{SeatSide, core_of}
 use Rattle.marker_core.specs.Matching.{AreTypes, AreWhole, LieApart, SerialsDiffer, ReferencesNameBodies}
 use Rattle.marker_core.specs.Core.{IsCoreOk}
@@ -84,7 +85,8 @@ pub record IsAtRest (v : SeatSide) : Type 0 where
   pub none_lent : v.lent ≡ 0
 
 -- what is true of the view in every state: bodies are whole and lie apart, with serial numbers that differ; filled words lie
--- outside them; a reference of a body that isn't dead is null or names a body; what is marked, traced or dead is a body's place
+-- outside them; a reference of a body that isn't dead is null or names a body; what is marked, traced or dead is a body's place,
+-- and no place is traced twice
 pub record IsViewOk (v : SeatSide) : Type 0 where
   pub are_types : AreTypes v.types
   pub bodies_are_whole : AreWhole v.count v.types v.bodies
@@ -94,6 +96,7 @@ pub record IsViewOk (v : SeatSide) : Type 0 where
   pub references_name_bodies : ReferencesNameBodies v.types v.bodies v.dead
   pub marked_are_bodies : (a : ℕ) → holds v.marked a ≡ true → is_place v.bodies a ≡ true
   pub traced_are_bodies : (a : ℕ) → holds v.traced a ≡ true → is_place v.bodies a ≡ true
+  pub traced_once : (a : ℕ) → times a v.traced ≤ 1
   pub traced_are_marked : v.lent ≡ 0 → (a : ℕ) → holds v.traced a ≡ true → holds v.marked a ≡ true
   pub dead_are_unmarked : (a : ℕ) → holds v.dead a ≡ true → (is_place v.bodies a ≡ true) × (holds v.marked a ≡ false)
   pub marking : v.on ≡ true → IsMarking v

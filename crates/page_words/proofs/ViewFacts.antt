@@ -57,6 +57,7 @@ view_is law table v sure =
       references = ok.references_name_bodies;
       marked_are_bodies = λ a h. place_of_test v.mutator.bodies a (ok.marked_are_bodies a h);
       traced_are_bodies = λ a h. place_of_test v.mutator.bodies a (ok.traced_are_bodies a h);
+      traced_once = ok.traced_once;
       traced_are_marked = ok.traced_are_marked;
       dead_are_unmarked = λ a h. (place_of_test v.mutator.bodies a (ok.dead_are_unmarked a h).0, (ok.dead_are_unmarked a h).1);
       marking = ok.marking;

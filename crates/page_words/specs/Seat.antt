@@ -11,6 +11,7 @@ use Rattle.marker_core.specs.declared.states.Why.{Why}
 use Rattle.marker_core.specs.Bodies.{end_of, fields_at, word_in, role_in, IsPlace, IsInBody, with_word, holds}
 use Rattle.marker_core.specs.declared.states.Role.TheVariants.{KeyWord}
 use Rattle.marker_core.specs.Closed.{IsClosedOver}
+use Rattle.marker_core.specs.Views.{times}
 use Rattle.marker_core.specs.Idle.{idle_view}
 use Rattle.marker_core.specs.Matching.{IsWhole, SerialsDiffer, ReferencesNameBodies}
 use Rattle.marker_core.specs.Seats.{SeatSide}
@@ -186,6 +187,7 @@ pub record IsView (v : SeatView) : Type 0 where
   pub references : ReferencesNameBodies (kind_lists v.types) v.bodies v.dead
   pub marked_are_bodies : (a : ℕ) → holds v.marked a ≡ true → IsPlace v.bodies a
   pub traced_are_bodies : (a : ℕ) → holds v.traced a ≡ true → IsPlace v.bodies a
+  pub traced_once : (a : ℕ) → times a v.traced ≤ 1
   pub traced_are_marked : v.lent ≡ 0 → (a : ℕ) → holds v.traced a ≡ true → holds v.marked a ≡ true
   pub dead_are_unmarked : (a : ℕ) → holds v.dead a ≡ true → IsPlace v.bodies a × (holds v.marked a ≡ false)
   pub marking : v.on ≡ true → IsMarking (side v)
