@@ -97,7 +97,7 @@ module _ (v : SeatSide) (words : List ℕ) (markers : List MarkerView) (ok : IsC
       ap (ltb 0) (ap (λ n. times a v.mutator.marked + n) (no_marks (core_of v words markers) ok spent a) ∙ omega arith)
       ∙ some_times a v.mutator.marked
 
-  own_traces : (a : ℕ) → ltb 0 (traces_at v.mutator markers a) ≡ holds v.mutator.traced a
+  pub own_traces : (a : ℕ) → ltb 0 (traces_at v.mutator markers a) ≡ holds v.mutator.traced a
   own_traces a =
       ap (ltb 0) (ap (λ n. times a v.mutator.traced + n) (no_traces (core_of v words markers) ok spent a) ∙ omega arith)
       ∙ some_times a v.mutator.traced

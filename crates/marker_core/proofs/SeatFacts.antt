@@ -18,7 +18,7 @@ use Rattle.marker_core.proofs.Apart.{body_of_place, place_of_body}
 use Rattle.marker_core.proofs.Counts.{some_is_true, true_is_some}
 use Rattle.marker_core.proofs.Headers.{mark_tells, traced_tells}
 use Rattle.marker_core.proofs.Quiet.{none_in, no_hands}
-use Rattle.marker_core.proofs.SeatEnds.{some_times, marked_same, traced_same}
+use Rattle.marker_core.proofs.SeatEnds.{some_times, own_traces, marked_same, traced_same}
 use Rattle.marker_core.proofs.Stops.{all_spent}
 
 module _ (v : SeatSide) (words : List ℕ) (markers : List MarkerView) (ok : IsCoreOk (core_of v words markers)) where
@@ -178,6 +178,8 @@ module _ (v : SeatSide) (words : List ℕ) (markers : List MarkerView) (ok : IsC
           marked_in = λ a own. may.marked_in a (own_is_marked a own);
           hand = hand_found on;
           pending_in = may.pending_in;
+          done_are_traced = λ lent a done.
+              sym (own_traces v words markers ok lent a) ∙ some_is_true (traces a) (may.done_are_traced a (inl done));
           traced_targets = strong_targets on;
           traced_pairs = pairs_noted on;
         };
