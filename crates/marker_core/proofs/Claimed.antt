@@ -72,6 +72,7 @@ module _ (s : CoreState) (ok : IsCoreOk s) (on : s.mutator.on ≡ true) (none : 
         marks_counted_once = ok.marks_counted_once;
         strong_targets_accounted = ok.strong_targets_accounted;
         pairs_accounted = ok.pairs_accounted;
+        noted_are_pairs = ok.noted_are_pairs;
         hands_are_bodies = ok.hands_are_bodies;
         may_is_closed = λ _. record {
           are_places = may.are_places;
@@ -143,6 +144,7 @@ module _ (s : CoreState) (ok : IsCoreOk s) (on : s.mutator.on ≡ true) (none : 
           marks_counted_once = ok.marks_counted_once;
           strong_targets_accounted = λ _. strong_claimed s ok on a place grey now own other new changes;
           pairs_accounted = λ _. pairs_claimed s ok on a place grey now own other new changes;
+          noted_are_pairs = ok.noted_are_pairs;
           hands_are_bodies = record {
             known = ok.hands_are_bodies.known;
             hands = fits_claimed s ok on a place grey now own other new changes;

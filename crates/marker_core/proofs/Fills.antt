@@ -89,6 +89,7 @@ module _ (s : CoreState) (ok : IsCoreOk s) (a w : ℕ) (below : a < s.count) (ou
         marks_counted_once = ok.marks_counted_once;
         strong_targets_accounted = ok.strong_targets_accounted;
         pairs_accounted = ok.pairs_accounted;
+        noted_are_pairs = ok.noted_are_pairs;
         hands_are_bodies = ok.hands_are_bodies;
         may_is_closed = ok.may_is_closed;
       }

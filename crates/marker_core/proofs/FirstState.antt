@@ -1,5 +1,5 @@
 -- What is true of every state is true of the first.
-use Rattle.std.proofs.Common.{◌≡◌, ℕ, ◌+◌, ◌*◌, ◌/◌, ◌%◌, ◌<◌, ◌^◌, List, [], get_or, replicate, false, refl, sym, ap, ◌∙◌, inl, inr, arith, Contains}
+use Rattle.std.proofs.Common.{◌≡◌, ℕ, ◌+◌, ◌*◌, ◌/◌, ◌%◌, ◌<◌, ◌^◌, List, get_or, replicate, false, refl, sym, ap, ◌∙◌, inl, inr, arith}
 use Rattle.std.specs.Int.{bit_at}
 use Rattle.std.proofs.lemmas.Bool.{ne_eqb, false≢true, cases_lt}
 use Rattle.std.proofs.lemmas.List.{length-replicate, get_or-replicate, get_or_past}
@@ -9,9 +9,7 @@ use Rattle.marker_core.specs.Layout.{stop_at, bitmap_at, bit_is_set}
 use Rattle.marker_core.specs.Matching.{AreTypes}
 use Rattle.marker_core.specs.Core.{IsCoreOk}
 use Rattle.marker_core.specs.Idle.{idle_state}
-
-nothing_in : {X : Type 0} (x : X) → Contains [] x → ⊥
-nothing_in x h = omega (arith, h.1)
+use Rattle.marker_core.proofs.Members.{nothing_in}
 
 abbrev zeros : ℕ → List ℕ
 zeros n = replicate n 0
@@ -60,6 +58,7 @@ idle_ok count types small bits are = record {
   };
   strong_targets_accounted = λ on. absurd (false≢true on);
   pairs_accounted = λ on. absurd (false≢true on);
+  noted_are_pairs = λ on. absurd (false≢true on);
   hands_are_bodies = record {
     known = λ v a h. absurd (nothing_in v h);
     hands = λ h held. elim held [

@@ -3,7 +3,7 @@ use Rattle.std.proofs.Common.{◌≡◌, ℕ, ◌+◌, ◌-◌, List, [], ◌∷
 use Rattle.std.specs.List.{sum_by}
 use Rattle.std.specs.Option.{is_none}
 use Rattle.std.proofs.lemmas.Bool.{both_ways, and_parts, not-true, false≢true}
-use Rattle.std.proofs.lemmas.List.Elements.{Contains-append_left, Contains-append_right, Contains-push_cases}
+use Rattle.std.proofs.lemmas.List.Elements.{Contains-append_left, Contains-append_right, Contains-append_cases, Contains-push_cases}
 use Rattle.std.proofs.lemmas.List.Sums.{sum_by_push}
 use Rattle.marker_core.specs.declared.states.CoreState.{CoreState}
 use Rattle.marker_core.specs.declared.states.Hand.{Hand}
@@ -14,7 +14,7 @@ use Rattle.marker_core.specs.CycleSteps.{can_split, split, can_join, joined}
 use Rattle.marker_core.specs.Views.{times, marks_at, traces_at, IsHand, IsNoted, fresh_view, spent_view, view_at}
 use Rattle.marker_core.specs.Matching.{IsEmptied}
 use Rattle.marker_core.specs.Core.{IsCoreOk}
-use Rattle.marker_core.proofs.Members.{holds_append_cases, still_in_or_overwritten}
+use Rattle.marker_core.proofs.Members.{nothing_in, holds_append_cases, still_in_or_overwritten}
 use Rattle.marker_core.proofs.Counts.{times_append}
 use Rattle.marker_core.proofs.Tricolour.{strong_same, pairs_same}
 use Rattle.marker_core.proofs.Claims.{is_none_tells}
@@ -64,6 +64,13 @@ module _ (s : CoreState) (ok : IsCoreOk s) (on : s.mutator.on ≡ true) where
               | inr other ↦ inr (other.0, Contains-append_left s.markers (fresh_view ∷ []) other.0 other.1, other.2)
             ])
             (ok.pairs_accounted on);
+        noted = λ p o note. elim note [
+          | inl own ↦ ok.noted_are_pairs on p o (inl own)
+          | inr other ↦ elim (Contains-push_cases s.markers fresh_view other.0 other.1) [
+            | inl was ↦ ok.noted_are_pairs on p o (inr (other.0, was, other.2))
+            | inr same ↦ absurd (nothing_in (p, o) (subst (λ (v : MarkerView). Contains v.noted (p, o)) (sym same) other.2))
+          ]
+        ];
         known = λ v a h known. elim (Contains-push_cases s.markers fresh_view v h) [
           | inl was ↦ ok.hands_are_bodies.known v a was known
           | inr same ↦ absurd (false≢true (ap (λ (u : MarkerView). holds u.known a) same ∙ known))
@@ -169,6 +176,16 @@ module _ (s : CoreState) (ok : IsCoreOk s) (k : ℕ) (out : (view_at s.markers k
               ]
             ])
             (ok.pairs_accounted on);
+        noted = λ p o note. elim note [
+          | inl own ↦ elim (Contains-append_cases s.mutator.noted view.noted (p, o) own) [
+            | inl mine ↦ ok.noted_are_pairs on p o (inl mine)
+            | inr theirs ↦ ok.noted_are_pairs on p o (inr (view, was_in_view, theirs))
+          ]
+          | inr other ↦ elim (view_cases s ok k out spent_view other.0 other.1) [
+            | inl at ↦ absurd (nothing_in (p, o) (subst (λ (v : MarkerView). Contains v.noted (p, o)) at other.2))
+            | inr was ↦ ok.noted_are_pairs on p o (inr (other.0, was, other.2))
+          ]
+        ];
         known = λ v a h known. elim (view_cases s ok k out spent_view v h) [
           | inl at ↦ absurd (false≢true (ap (λ (u : MarkerView). holds u.known a) (sym at) ∙ known))
           | inr was ↦ ok.hands_are_bodies.known v a was known

@@ -118,6 +118,7 @@ module _ (s : CoreState) (ok : IsCoreOk s) where
     marks_counted_once = ok.marks_counted_once;
     strong_targets_accounted = ok.strong_targets_accounted;
     pairs_accounted = ok.pairs_accounted;
+    noted_are_pairs = ok.noted_are_pairs;
     hands_are_bodies = ok.hands_are_bodies;
     may_is_closed = λ on. looked_may on a;
   }
@@ -157,6 +158,7 @@ module _ (s : CoreState) (ok : IsCoreOk s) where
     marks_counted_once = ok.marks_counted_once;
     strong_targets_accounted = ok.strong_targets_accounted;
     pairs_accounted = ok.pairs_accounted;
+    noted_are_pairs = ok.noted_are_pairs;
     hands_are_bodies = record {
       known = ok.hands_are_bodies.known;
       hands = λ h held.

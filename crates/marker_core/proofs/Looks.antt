@@ -3,7 +3,7 @@ use Rattle.std.proofs.Common.{◌≡◌, ℕ, ◌-◌, ◌<◌, List, [], ◌∷
 use Rattle.std.specs.Option.{is_none}
 use Rattle.std.proofs.lemmas.Bool.{cases_Bool, cases_eq, cond-true, cond-false, false≢true, false_from_ne_true, eq-eqb, ne_eqb, eqb-true, or_cases, cases_lt}
 use Rattle.std.proofs.lemmas.List.{get_or_past}
-use Rattle.std.proofs.lemmas.List.Elements.{Contains-get_or, Contains-append_left, Contains-append_right}
+use Rattle.std.proofs.lemmas.List.Elements.{Contains-get_or, Contains-append_left, Contains-append_right, Contains-append_cases}
 use Rattle.marker_core.specs.declared.states.CoreState.{CoreState}
 use Rattle.marker_core.specs.declared.states.Hand.{Hand}
 use Rattle.marker_core.specs.declared.states.MarkerView.{MarkerView}
@@ -12,13 +12,14 @@ use Rattle.marker_core.specs.Bodies.{is_place, holds}
 use Rattle.marker_core.specs.Hands.{hand_read, hand_looked, wants_word, wants_key, wants, noted_pair, each_hand}
 use Rattle.marker_core.specs.MarkerSteps.{can_look, looked, can_read_field, field_read, known_by, with_view}
 use Rattle.marker_core.specs.Views.{times, marks_at, traces_at, IsHand, IsNoted, spent_view, view_at}
+use Rattle.marker_core.specs.Tracing.{NotedArePairs}
 use Rattle.marker_core.specs.Core.{IsCoreOk}
 use Rattle.marker_core.proofs.Members.{held_after, holds_append_cases}
 use Rattle.marker_core.proofs.Loads.{found_traced}
 use Rattle.marker_core.proofs.Traces.{hand_or_none}
 use Rattle.marker_core.proofs.Tricolour.{HandTurn, HandChanges, marker_changes, strong_same, pairs_same, pairs_covered, strong_turned, pairs_turned, hands_turned, hands_in_turned, loaded_in_turned}
-use Rattle.marker_core.proofs.Turns.{turn_by_word, turn_by_key, target_is_place}
-use Rattle.marker_core.proofs.Retold.{retold_ok, is_there, is_view, is_on, own_hand, sum_after, now_is_in, still_noted, quiet_after, known_after, done_after, hand_goes, hand_comes}
+use Rattle.marker_core.proofs.Turns.{turn_by_word, turn_by_key, noted_here, noted_is_pair, target_is_place}
+use Rattle.marker_core.proofs.Retold.{retold_ok, is_there, is_view, is_on, own_hand, sum_after, now_is_in, still_noted, noted_after, noted_again, quiet_after, known_after, done_after, hand_goes, hand_comes}
 
 -- a view that knows a place, or has a hand, isn't spent
 pub known_is_out : (s : CoreState) → IsCoreOk s → (k a : ℕ) → holds (view_at s.markers k).known a ≡ true → (view_at s.markers k).spent ≡ false
@@ -45,6 +46,7 @@ pub record Keeps (s : CoreState) (k : ℕ) (now : MarkerView) : Type 0 where
   pub out : now.spent ≡ false
   pub halts : now.halted ≡ true → get_or s.words (stop_at s.count) 0 ≡ 1
   pub notes : (p : ℕ × ℕ) → Contains (view_at s.markers k).noted p → Contains now.noted p
+  pub pairs : NotedArePairs s.types s.mutator.bodies (IsNoted s.mutator (set s.markers k now))
   pub knows : (a : ℕ) → holds now.known a ≡ true → is_place s.mutator.bodies a ≡ true
   pub does : (a : ℕ) → holds now.done a ≡ true → 0 < traces_at s.mutator s.markers a
 
@@ -95,6 +97,7 @@ module _ (s : CoreState) (ok : IsCoreOk s) (k : ℕ) (out : (view_at s.markers k
         pairs =
             pairs_same s.types s.mutator.bodies marks traces s.mutator.pending (IsHand s.mutator s.markers) (IsHand s.mutator views) goes
             (IsNoted s.mutator s.markers) (IsNoted s.mutator views) noted_still (ok.pairs_accounted on);
+        noted = keeps.pairs;
         known = known_after s ok k out now keeps.knows;
         fits = λ h is. ok.hands_are_bodies.hands h (comes h is);
         hands_in = λ h is. may.hands_in h (comes h is);
@@ -128,6 +131,7 @@ module _ (s : CoreState) (ok : IsCoreOk s) (k : ℕ) (out : (view_at s.markers k
             new h now.hand changes fits turn traces
             (pairs_covered s.types s.mutator.bodies marks marks traces s.mutator.pending s.mutator.pending old (λ w c. c)
             (IsNoted s.mutator s.markers) noted noted_still (ok.pairs_accounted on));
+        noted = keeps.pairs;
         known = known_after s ok k out now keeps.knows;
         fits =
             hands_turned s.count s.types s.mutator.bodies ok.bodies_are_whole ok.bodies_lie_apart marks s.mutator.pending s.mutator.may noted old
@@ -170,13 +174,15 @@ module _ (s : CoreState) (ok : IsCoreOk s) (k a : ℕ) (can : can_look s k a ≡
   place_here : is_place s.mutator.bodies a ≡ true
   place_here = ok.hands_are_bodies.known own a (is_view s ok k out_here) can
 
-  looked_keeps : (key : Bool) → ((p : ℕ × ℕ) → Contains own.noted p → Contains (looked_view s k a key).noted p) → Keeps s k (looked_view s k a key)
-  looked_keeps key notes = record {
+  looked_keeps : (key : Bool) → ((p : ℕ × ℕ) → Contains own.noted p → Contains (looked_view s k a key).noted p)
+      → NotedArePairs s.types s.mutator.bodies (IsNoted s.mutator (set s.markers k (looked_view s k a key))) → Keeps s k (looked_view s k a key)
+  looked_keeps key notes pairs = record {
     marked = refl;
     traced = refl;
     out = out_here;
     halts = λ halted. ok.quiet_while_off.halted_views own (is_view s ok k out_here) halted;
     notes = notes;
+    pairs = pairs;
     knows = λ x known. ok.hands_are_bodies.known own x (is_view s ok k out_here) known;
     does = λ x held. elim (held_after (has_traced header) own.done a x held) [
       | inl old ↦ (ok.may_is_closed (is_on s ok k out_here)).done_are_traced x (inr (own, is_view s ok k out_here, old))
@@ -187,28 +193,35 @@ module _ (s : CoreState) (ok : IsCoreOk s) (k a : ℕ) (can : can_look s k a ≡
   look_at_key : (h : Hand) → own.hand ≡ Some h → wants_key h.part a ≡ true → IsCoreOk (with_view s k (looked_view s k a true))
   look_at_key h mine key =
       let now = looked_view s k a true in
-      let keeps = looked_keeps true (λ p. Contains-append_left own.noted (noted_pair header own.hand) p) in
+      let held : IsHand s.mutator s.markers h = own_hand s ok k out_here h mine in
+      let on = is_on s ok k out_here in
+      let keeps = looked_keeps true (λ p. Contains-append_left own.noted (noted_pair header own.hand) p)
+      (noted_after s ok k out_here now (λ p o note. elim (Contains-append_cases own.noted (noted_pair header own.hand) (p, o) note) [
+        | inl was ↦ ok.noted_are_pairs on p o (inr (own, is_view s ok k out_here, was))
+        | inr new ↦
+            noted_is_pair s ok on (IsNoted s.mutator s.markers) h held a key p o
+            (subst (λ hand. Contains (noted_pair header hand) (p, o)) mine new)
+      ]))
+      in
       let n : now.hand ≡ hand_looked s.types header h = ap (each_hand (hand_looked s.types header)) mine in
       let noted = IsNoted s.mutator (set s.markers k now) in
       turned_hand_ok s ok k out_here now keeps h mine
       (subst (HandTurn s.types s.mutator.bodies (marks_at s.mutator s.markers) s.mutator.pending s.mutator.may noted h) (sym n)
-      (turn_by_key s ok (is_on s ok k out_here) noted h (own_hand s ok k out_here h mine) a key
+      (turn_by_key s ok on noted h held a key
       (λ unmarked.
-      let pairs : noted_pair header own.hand ≡ (h.place, h.next) ∷ [] =
-      ap (noted_pair header) mine ∙ cond-false (has_mark header) [] ((h.place, h.next) ∷ []) unmarked
-      in
       inr (
         now,
         now_is_in s ok k out_here now,
         Contains-append_right own.noted (noted_pair header own.hand) (h.place, h.next)
-            (subst (λ l. Contains l (h.place, h.next)) (sym pairs) (0, omega arith, refl)),
+            (subst (λ hand. Contains (noted_pair header hand) (h.place, h.next)) (sym mine) (noted_here header h unmarked)),
       ))))
 
   pub looked_state : IsCoreOk (looked s k a)
   looked_state = elim (cases_Bool (wants (λ h. wants_key h.part a) own.hand)) [
     | inr other_header ↦
         subst (λ key. IsCoreOk (with_view s k (looked_view s k a key))) (sym other_header)
-        (same_hand_ok s ok k out_here (looked_view s k a false) (looked_keeps false (λ p h. h)) refl)
+        (same_hand_ok s ok k out_here (looked_view s k a false)
+        (looked_keeps false (λ p h. h) (noted_again s ok k out_here (looked_view s k a false) refl)) refl)
     | inl key ↦
         subst (λ b. IsCoreOk (with_view s k (looked_view s k a b))) (sym key)
         (elim (hand_or_none own.hand) [
@@ -263,6 +276,7 @@ module _ (s : CoreState) (ok : IsCoreOk s) (k a : ℕ) (h : Hand) (mine : (view_
         out = out_now;
         halts = λ halted. ok.quiet_while_off.halted_views reader (is_view s ok k out_now) halted;
         notes = λ p there. there;
+        pairs = noted_again s ok k out_now after refl;
         knows = λ x known. elim (holds_append_cases reader.known (known_by word) x known) [
           | inl old ↦ ok.hands_are_bodies.known reader x (is_view s ok k out_now) old
           | inr new ↦ found_place x new

@@ -142,6 +142,7 @@ module _ (s : CoreState) (ok : IsCoreOk s) (on : s.mutator.on ≡ true) (a : ℕ
         marks_counted_once = remarked_once s ok on a place now now_own now_other;
         strong_targets_accounted = λ _. parts.strong;
         pairs_accounted = λ _. parts.pairs;
+        noted_are_pairs = ok.noted_are_pairs;
         hands_are_bodies = record { known = ok.hands_are_bodies.known; hands = parts.fits };
         may_is_closed = λ _. record {
           are_places = may.are_places;

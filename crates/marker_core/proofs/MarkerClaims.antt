@@ -20,7 +20,7 @@ use Rattle.marker_core.proofs.Headers.{traced_tells}
 use Rattle.marker_core.proofs.Loads.{found_traced}
 use Rattle.marker_core.proofs.Tricolour.{HandChanges, marker_changes, pairs_same}
 use Rattle.marker_core.proofs.Claims.{is_none_tells, claimed_words, claimed_traced, still_traced, strong_claimed, pairs_claimed, fits_claimed, hands_in_claimed, loaded_in_claimed}
-use Rattle.marker_core.proofs.Retold.{rewritten_ok, is_there, is_view, is_on, sum_after, still_noted, quiet_after, known_after, done_after}
+use Rattle.marker_core.proofs.Retold.{rewritten_ok, is_there, is_view, is_on, sum_after, still_noted, noted_again, quiet_after, known_after, done_after}
 use Rattle.marker_core.proofs.Looks.{known_is_out, same_hand_ok}
 
 module _ (s : CoreState) (ok : IsCoreOk s) (k a : ℕ) (known : holds (view_at s.markers k).known a ≡ true) (none : (view_at s.markers k).hand ≡ None) where
@@ -56,6 +56,7 @@ module _ (s : CoreState) (ok : IsCoreOk s) (k a : ℕ) (known : holds (view_at s
         out = out;
         halts = λ halted. ok.quiet_while_off.halted_views view (is_view s ok k out) halted;
         notes = λ p h. h;
+        pairs = noted_again s ok k out refused refl;
         knows = λ x held. ok.hands_are_bodies.known view x (is_view s ok k out) held;
         does = λ x held. elim (held_after (has_traced found) view.done a x held) [
           | inl old ↦ (ok.may_is_closed (is_on s ok k out)).done_are_traced x (inr (view, is_view s ok k out, old))
@@ -118,6 +119,7 @@ module _ (s : CoreState) (ok : IsCoreOk s) (k a : ℕ) (known : holds (view_at s
               pairs_same s.types s.mutator.bodies marks now s.mutator.pending new new (λ g is. is) (IsNoted s.mutator s.markers)
               (IsNoted s.mutator views) (still_noted s ok k out taken s.mutator (λ p h. h) (λ p h. h))
               (pairs_claimed s ok on a place grey now now_own now_other new changes);
+          noted = noted_again s ok k out taken refl;
           hands = record {
             known = known_after s ok k out taken (λ x held. ok.hands_are_bodies.known view x (is_view s ok k out) held);
             hands = fits_claimed s ok on a place grey now now_own now_other new changes;

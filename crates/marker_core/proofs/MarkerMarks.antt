@@ -21,7 +21,7 @@ use Rattle.marker_core.proofs.Headers.{mark_tells}
 use Rattle.marker_core.proofs.Remarks.{grown, new_mark_cases, remarked_words, remarked_traced, remarked_once, mark_done}
 use Rattle.marker_core.proofs.Traces.{hand_or_none}
 use Rattle.marker_core.proofs.Tricolour.{Covers, cover_more, HandChanges, HandTurn, marker_changes, strong_covered, pairs_covered, fits_covered, strong_turned, pairs_turned, hands_turned, hands_in_turned, loaded_in_turned}
-use Rattle.marker_core.proofs.Retold.{rewritten_ok, is_there, is_view, is_on, own_hand, sum_after, still_noted, quiet_after, known_after, done_after}
+use Rattle.marker_core.proofs.Retold.{rewritten_ok, is_there, is_view, is_on, own_hand, sum_after, still_noted, noted_again, quiet_after, known_after, done_after}
 use Rattle.marker_core.proofs.Looks.{hand_is_out}
 
 module _ (s : CoreState) (ok : IsCoreOk s) (k a : ℕ) (h : Hand) (mine : (view_at s.markers k).hand ≡ Some h) (want : wants_mark h.part a ≡ true) where
@@ -167,6 +167,7 @@ module _ (s : CoreState) (ok : IsCoreOk s) (k a : ℕ) (h : Hand) (mine : (view_
             (fits_now h held) turn traces
             (pairs_covered s.types bodies was now traces pending pending old covers (IsNoted s.mutator s.markers) is_noted
             (still_noted s ok k out moved s.mutator (λ p there. there) (λ p there. there)) (ok.pairs_accounted on));
+        noted = noted_again s ok k out moved refl;
         hands = record {
           known = known_after s ok k out moved (λ x known. ok.hands_are_bodies.known view x (is_view s ok k out) known);
           hands =

@@ -11,6 +11,9 @@ use Rattle.std.proofs.lemmas.List.Sums.{AllPass-from_list_all}
 use Rattle.marker_core.specs.Bodies.{holds}
 use Rattle.gc_graph.specs.Members.{any_member, any_from, holds_from, in_from_holds}
 
+pub nothing_in : {X : Type 0} (x : X) → Contains [] x → ⊥
+nothing_in x h = omega (arith, h.1)
+
 -- ---- a test over a list
 
 pub none_passes : {X : Type 0} (p : X → Bool) (xs : List X) (x : X) → list_any p xs ≡ false → Contains xs x → p x ≡ false

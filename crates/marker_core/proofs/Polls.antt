@@ -10,7 +10,7 @@ use Rattle.marker_core.specs.Views.{times, marks_at, traces_at, IsHand, IsNoted,
 use Rattle.marker_core.specs.Core.{IsCoreOk}
 use Rattle.marker_core.proofs.Members.{held_after}
 use Rattle.marker_core.proofs.Tricolour.{strong_same, pairs_same}
-use Rattle.marker_core.proofs.Retold.{retold_ok, is_view, is_on, sum_after, still_noted, quiet_after, known_after, done_after, hand_goes, hand_comes}
+use Rattle.marker_core.proofs.Retold.{retold_ok, is_view, is_on, sum_after, still_noted, noted_again, quiet_after, known_after, done_after, hand_goes, hand_comes}
 
 -- a view that differs in what it knows, missed and was told alone
 pub same_lists_ok : (s : CoreState) → IsCoreOk s → (k : ℕ) → (view_at s.markers k).spent ≡ false → (known missed : List ℕ) (halted : Bool)
@@ -37,6 +37,7 @@ same_lists_ok s ok k out known missed halted knows halts =
           pairs_same s.types s.mutator.bodies marks traces s.mutator.pending (IsHand s.mutator s.markers) (IsHand s.mutator views) goes
           (IsNoted s.mutator s.markers) (IsNoted s.mutator views)
           (still_noted s ok k out now s.mutator (λ p h. h) (λ p h. h)) (ok.pairs_accounted on);
+      noted = noted_again s ok k out now refl;
       known = known_after s ok k out now knows;
       fits = λ h is. ok.hands_are_bodies.hands h (comes h is);
       hands_in = λ h is. may.hands_in h (comes h is);

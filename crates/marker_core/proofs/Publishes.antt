@@ -23,7 +23,7 @@ use Rattle.marker_core.proofs.Apart.{place_of_body, named}
 use Rattle.marker_core.proofs.Counts.{none_is_false}
 use Rattle.marker_core.specs.RoleOrder.{value_after_key}
 use Rattle.marker_core.proofs.Turns.{all_name_bodies}
-use Rattle.marker_core.proofs.Tricolour.{fits_among_more}
+use Rattle.marker_core.proofs.Tricolour.{pair_among_more, fits_among_more}
 use Rattle.marker_core.proofs.StartBits.{Besides, bitmap_written, start_is_set, other_start_set}
 use Rattle.marker_core.proofs.Published.{header_tells, new_is_whole, new_field, new_null, apart_from_new, serial_differs, no_place_yet, a_below, two}
 
@@ -53,6 +53,9 @@ module _ (s : CoreState) (ok : IsCoreOk s) (a : ℕ) (can : can_publish s a ≡ 
   -- what is true of the old bodies and of the new one is true of each
   each_body : (P : Body → Type 0) → ((b : Body) → Contains bodies b → P b) → P fresh → (c : Body) → Contains now c → P c
   each_body P old own c h = elim (Contains-push_cases bodies fresh c h) [ inl was ↦ old c was | inr same ↦ subst P same own ]
+
+  kept_there : (b : Body) → Contains bodies b → Contains now b
+  kept_there b there = Contains-append_left bodies (fresh ∷ []) b there
 
   -- ---- places
 
@@ -235,11 +238,12 @@ module _ (s : CoreState) (ok : IsCoreOk s) (a : ℕ) (can : can_publish s a ≡ 
           | inl was ↦ ok.pairs_accounted on c i was traced role
           | inr same ↦ (let none : traces c.place ≡ 0 = ap (λ (d : Body). traces d.place) (sym same) ∙ untraced in absurd (omega arith))
         ];
+        noted_are_pairs = λ on p offset note. pair_among_more bodies now kept_there s.types p offset (ok.noted_are_pairs on p offset note);
         hands_are_bodies = record {
           known = λ v x h known. place_stays x (ok.hands_are_bodies.known v x h known);
           hands = λ h held.
               fits_among_more bodies now marks s.mutator.pending s.mutator.may may place_stays may_grows s.types h
-              (λ b there. Contains-append_left bodies (fresh ∷ []) b there) (ok.hands_are_bodies.hands h held);
+              kept_there (ok.hands_are_bodies.hands h held);
         };
         may_is_closed = may_published;
       }

@@ -1,5 +1,5 @@
 -- While no marking goes on there are no hands, and no view but the mutator's knows anything.
-use Rattle.std.proofs.Common.{◌≡◌, ℕ, List, get_or, true, Option, Some, None, sym, ap, ◌∙◌, inl, inr, arith, Contains}
+use Rattle.std.proofs.Common.{◌≡◌, ℕ, List, get_or, true, Option, Some, None, sym, ap, ◌∙◌, subst, inl, inr, arith, Contains}
 use Rattle.std.specs.List.{sum_by}
 use Rattle.std.proofs.lemmas.Bool.{false≢true}
 use Rattle.std.proofs.lemmas.List.Elements.{Contains-get_or}
@@ -13,6 +13,7 @@ use Rattle.marker_core.specs.Bodies.{holds}
 use Rattle.marker_core.specs.Views.{times, IsHand}
 use Rattle.marker_core.specs.Tracing.{HandsAreBodies}
 use Rattle.marker_core.specs.Core.{IsCoreOk}
+use Rattle.marker_core.proofs.Members.{nothing_in}
 
 pub none_in : (views : List MarkerView) (f : MarkerView → ℕ) → ((v : MarkerView) → Contains views v → f v ≡ 0) → sum_by f views ≡ 0
 none_in views f none =
@@ -42,6 +43,11 @@ module _ (s : CoreState) (ok : IsCoreOk s) (spent : (v : MarkerView) → Contain
   nothing_known v a h known =
       let emptied = ok.quiet_while_off.spent_views v h (spent v h) in
       false≢true (ap (λ places. holds places a) (sym emptied.known) ∙ known)
+
+  pub nothing_noted : (p offset : ℕ) → (v : MarkerView) × Contains s.markers v × Contains v.noted (p, offset) → ⊥
+  nothing_noted p offset note =
+      let emptied = ok.quiet_while_off.spent_views note.0 note.1 (spent note.0 note.1) in
+      nothing_in (p, offset) (subst (λ l. Contains l (p, offset)) emptied.noted note.2)
 
   pub nothing_done : (a : ℕ) → (v : MarkerView) × Contains s.markers v × (holds v.done a ≡ true) → ⊥
   nothing_done a done =

@@ -15,7 +15,7 @@ use Rattle.marker_core.specs.Layout.{stop_at}
 use Rattle.marker_core.specs.Bodies.{is_place, holds}
 use Rattle.marker_core.specs.Views.{marks_at, traces_at, IsHand, IsNoted, IsDone, spent_view, view_at}
 use Rattle.marker_core.specs.Matching.{HeadersMatch, QuietWhileOff}
-use Rattle.marker_core.specs.Tracing.{StrongAccounted, PairsAccounted, HandFits, HandsAreBodies, IsLoaded, MayIsClosed, TracedAreMarked, MarksCountedOnce}
+use Rattle.marker_core.specs.Tracing.{StrongAccounted, PairsAccounted, IsPairAt, NotedArePairs, HandFits, HandsAreBodies, IsLoaded, MayIsClosed, TracedAreMarked, MarksCountedOnce}
 use Rattle.marker_core.specs.Core.{IsCoreOk}
 use Rattle.marker_core.proofs.Members.{was_in_or_written, still_in_or_overwritten, written_is_in}
 use Rattle.marker_core.proofs.Rewords.{Rewords}
@@ -33,6 +33,7 @@ module _ (s : CoreState) (m : MutatorView) (views : List MarkerView) where
     pub traces_same : (x : ℕ) → traces_at m views x ≡ traces x
     pub strong : StrongAccounted s.types s.mutator.bodies marks traces s.mutator.pending (IsHand m views)
     pub pairs : PairsAccounted s.types s.mutator.bodies marks traces s.mutator.pending (IsHand m views) (IsNoted m views)
+    pub noted : NotedArePairs s.types s.mutator.bodies (IsNoted m views)
     pub known : (v : MarkerView) (a : ℕ) → Contains views v → holds v.known a ≡ true → is_place s.mutator.bodies a ≡ true
     pub fits : (h : Hand) → IsHand m views h → HandFits s.types s.mutator.bodies marks s.mutator.pending s.mutator.may h
     pub hands_in : (h : Hand) → IsHand m views h → holds s.mutator.may h.place ≡ true
@@ -79,6 +80,7 @@ retold_ok s ok on marked traced noted done missed lent views tells =
       pairs_accounted = λ _.
           subst (λ k. PairsAccounted s.types s.mutator.bodies k (traces_at m views) s.mutator.pending (IsHand m views) (IsNoted m views)) e
           (subst (λ k. PairsAccounted s.types s.mutator.bodies was k s.mutator.pending (IsHand m views) (IsNoted m views)) f tells.pairs);
+      noted_are_pairs = λ _. tells.noted;
       hands_are_bodies =
           subst (λ k. HandsAreBodies s.types s.mutator.bodies k s.mutator.pending s.mutator.may (IsHand m views) views) e
           (record { known = tells.known; hands = tells.fits });
@@ -152,6 +154,22 @@ module _ (s : CoreState) (ok : IsCoreOk s) (k : ℕ) (out : (view_at s.markers k
       ]
     ]
 
+    -- what the view noted beside what it had noted are pairs
+    pub noted_after : ((p o : ℕ) → Contains now.noted (p, o) → IsPairAt s.types s.mutator.bodies p o)
+        → NotedArePairs s.types s.mutator.bodies (IsNoted s.mutator views)
+    noted_after own p o note = elim note [
+      | inl mine ↦ ok.noted_are_pairs is_on p o (inl mine)
+      | inr other ↦ elim (view_cases other.0 other.1) [
+        | inl same ↦ own p o (subst (λ (v : MarkerView). Contains v.noted (p, o)) same other.2)
+        | inr was ↦ ok.noted_are_pairs is_on p o (inr (other.0, was, other.2))
+      ]
+    ]
+
+    -- where it noted nothing new
+    pub noted_again : now.noted ≡ view.noted → NotedArePairs s.types s.mutator.bodies (IsNoted s.mutator views)
+    noted_again same =
+        noted_after (λ p o note. ok.noted_are_pairs is_on p o (inr (view, is_view, subst (λ l. Contains l (p, o)) same note)))
+
     pub quiet_after : (hand : Option Hand) → now.spent ≡ false → (now.halted ≡ true → get_or s.words (stop_at s.count) 0 ≡ 1)
         → QuietWhileOff s.mutator.on s.mutator.pending hand s.mutator.dead s.mutator.lent views (get_or s.words (stop_at s.count) 0)
     quiet_after hand still halts = record {
@@ -218,6 +236,7 @@ pub record Rewrites (s : CoreState) (words : List ℕ) (views : List MarkerView)
   pub once : MarksCountedOnce s.mutator.bodies marks s.mutator.dead
   pub strong : StrongAccounted s.types s.mutator.bodies marks traces s.mutator.pending (IsHand s.mutator views)
   pub pairs : PairsAccounted s.types s.mutator.bodies marks traces s.mutator.pending (IsHand s.mutator views) (IsNoted s.mutator views)
+  pub noted : NotedArePairs s.types s.mutator.bodies (IsNoted s.mutator views)
   pub hands : HandsAreBodies s.types s.mutator.bodies marks s.mutator.pending s.mutator.may (IsHand s.mutator views) views
   pub may :
       MayIsClosed s.types s.mutator.bodies marks traces s.mutator.pending s.mutator.may s.mutator.seen (IsHand s.mutator views)
@@ -256,6 +275,7 @@ rewritten_ok s ok words views marks traces e f parts =
       marks_counted_once = both.once;
       strong_targets_accounted = λ _. both.strong;
       pairs_accounted = λ _. both.pairs;
+      noted_are_pairs = λ _. both.noted;
       hands_are_bodies = both.hands;
       may_is_closed = λ _. both.may;
     }

@@ -17,7 +17,7 @@ use Rattle.marker_core.specs.SeatFacts.{IsHeaderAt, MayBeFound, WordsMayBeFound,
 use Rattle.marker_core.proofs.Apart.{body_of_place, place_of_body}
 use Rattle.marker_core.proofs.Counts.{some_is_true, true_is_some}
 use Rattle.marker_core.proofs.Headers.{mark_tells, traced_tells}
-use Rattle.marker_core.proofs.Quiet.{none_in, no_hands}
+use Rattle.marker_core.proofs.Quiet.{none_in, no_hands, nothing_noted}
 use Rattle.marker_core.proofs.SeatEnds.{some_times, own_traces, marked_same, traced_same}
 use Rattle.marker_core.proofs.Stops.{all_spent}
 
@@ -122,9 +122,7 @@ module _ (v : SeatSide) (words : List ℕ) (markers : List MarkerView) (ok : IsC
   own_note : v.mutator.lent ≡ 0 → (p offset : ℕ) → IsNoted v.mutator markers p offset → Contains v.mutator.noted (p, offset)
   own_note lent p offset noted = elim noted [
     | inl own ↦ own
-    | inr other ↦
-        (let emptied = ok.quiet_while_off.spent_views other.0 other.1 (all_spent (core_of v words markers) ok lent other.0 other.1) in
-        absurd (omega (arith, (subst (λ l. Contains l (p, offset)) emptied.noted other.2).1)))
+    | inr other ↦ absurd (nothing_noted (core_of v words markers) ok (all_spent (core_of v words markers) ok lent) p offset other)
   ]
 
   pairs_noted : v.mutator.on ≡ true → v.mutator.lent ≡ 0 → v.mutator.hand ≡ None → v.mutator.pending ≡ None → TracedPairsNoted v
@@ -178,6 +176,7 @@ module _ (v : SeatSide) (words : List ℕ) (markers : List MarkerView) (ok : IsC
           marked_in = λ a own. may.marked_in a (own_is_marked a own);
           hand = hand_found on;
           pending_in = may.pending_in;
+          noted_are_pairs = λ p offset own. ok.noted_are_pairs on p offset (inl own);
           done_are_traced = λ lent a done.
               sym (own_traces v words markers ok lent a) ∙ some_is_true (traces a) (may.done_are_traced a (inl done));
           traced_targets = strong_targets on;

@@ -1,5 +1,5 @@
 -- The stop word is written: what is true of every state stays, where marking begins, goes on, or ends.
-use Rattle.std.proofs.Common.{◌≡◌, ℕ, ◌+◌, ◌%◌, ◌≤◌, List, [], length, get_or, set, true, false, not, cond, eqb, ltb, Some, None, refl, sym, ap, ◌∙◌, inl, inr, arith, Contains}
+use Rattle.std.proofs.Common.{◌≡◌, ℕ, ◌+◌, ◌%◌, ◌≤◌, List, [], length, get_or, set, true, false, not, cond, eqb, ltb, Some, None, refl, sym, ap, ◌∙◌, subst, inl, inr, arith, Contains}
 use mathlib.Core.Logic.{◌↔◌}
 use Rattle.std.specs.List.{count_by, list_all, range_with_len, sum_by}
 use Rattle.std.specs.Option.{is_none}
@@ -16,12 +16,12 @@ use Rattle.marker_core.specs.declared.states.Role.TheVariants.{StrongWord, WeakW
 use Rattle.marker_core.specs.Layout.{stop_at, bitmap_at, bit_is_set, is_marked}
 use Rattle.marker_core.specs.Bodies.{word_in, role_in, refers, places, is_place, holds}
 use Rattle.marker_core.specs.Closed.{reach_over}
-use Rattle.marker_core.specs.Views.{times, marks_at, traces_at, IsHand}
+use Rattle.marker_core.specs.Views.{times, marks_at, traces_at, IsHand, IsNoted}
 use Rattle.marker_core.specs.CycleSteps.{can_begin, begun, stopped, ends, can_end, unmarked_places, ended}
 use Rattle.marker_core.specs.SeatSteps.{pair_is_whole, pairs_are_whole}
 use Rattle.marker_core.specs.Core.{IsCoreOk}
 use Rattle.marker_core.specs.Laws.{AllNameBodies, IsLeastOver}
-use Rattle.marker_core.proofs.Members.{all_member}
+use Rattle.marker_core.proofs.Members.{nothing_in, all_member}
 use Rattle.gc_graph.specs.Members.{in_from_holds, was_in, has_passed, Contains-map_some, below_ranged}
 use Rattle.marker_core.proofs.Apart.{place_of_body}
 use Rattle.marker_core.proofs.Counts.{false_is_none}
@@ -31,7 +31,7 @@ use Rattle.marker_core.proofs.Reached.{reach_over_law}
 use Rattle.marker_core.proofs.Rewords.{Rewords}
 use Rattle.marker_core.proofs.Turns.{within_fields}
 use Rattle.marker_core.proofs.Claims.{is_none_tells}
-use Rattle.marker_core.proofs.Quiet.{no_marks, no_traces, no_hands, nothing_done, hands_of_none}
+use Rattle.marker_core.proofs.Quiet.{no_marks, no_traces, no_hands, nothing_noted, nothing_done, hands_of_none}
 
 -- what belongs to the words after the stop word is written, but for itself
 record StopWritten (s : CoreState) (w : ℕ) : Type 0 where
@@ -97,6 +97,7 @@ stopped_ok s ok =
       marks_counted_once = ok.marks_counted_once;
       strong_targets_accounted = ok.strong_targets_accounted;
       pairs_accounted = ok.pairs_accounted;
+      noted_are_pairs = ok.noted_are_pairs;
       hands_are_bodies = ok.hands_are_bodies;
       may_is_closed = ok.may_is_closed;
     }
@@ -166,6 +167,7 @@ module _ (s : CoreState) (ok : IsCoreOk s) (on : s.mutator.on ≡ true) (lent : 
         };
         strong_targets_accounted = λ e. absurd (false≢true e);
         pairs_accounted = λ e. absurd (false≢true e);
+        noted_are_pairs = λ e. absurd (false≢true e);
         hands_are_bodies = hands_of_none s ok spent s.types s.mutator.bodies (marks_at s.mutator s.markers) s.mutator.pending [] no_hand;
         may_is_closed = λ e. absurd (false≢true e);
       }
@@ -193,7 +195,7 @@ whole_pair WeakWord key value e h = cc
 whole_pair ValueWord key value e h = cc
 whole_pair PlainWord key value e h = cc
 
-module _ (s : CoreState) (ok : IsCoreOk s) (off : s.mutator.on ≡ false) (unmarked : s.mutator.marked ≡ []) (untraced : s.mutator.traced ≡ []) (no_dead : s.mutator.dead ≡ []) (whole : list_all (pairs_are_whole s.types) s.mutator.bodies ≡ true) (roots : List ℕ) where
+module _ (s : CoreState) (ok : IsCoreOk s) (off : s.mutator.on ≡ false) (unmarked : s.mutator.marked ≡ []) (untraced : s.mutator.traced ≡ []) (unnoted : s.mutator.noted ≡ []) (no_dead : s.mutator.dead ≡ []) (whole : list_all (pairs_are_whole s.types) s.mutator.bodies ≡ true) (roots : List ℕ) where
   abbrev spent_now : (v : MarkerView) → Contains s.markers v → v.spent ≡ true
   spent_now = ok.quiet_while_off.no_views off
 
@@ -218,6 +220,12 @@ module _ (s : CoreState) (ok : IsCoreOk s) (off : s.mutator.on ≡ false) (unmar
 
   no_hands_yet : (h : Hand) → IsHand s.mutator s.markers h → ⊥
   no_hands_yet = no_hands s ok spent_now (ok.quiet_while_off.no_hand off)
+
+  nothing_noted_yet : (p offset : ℕ) → IsNoted s.mutator s.markers p offset → ⊥
+  nothing_noted_yet p offset note = elim note [
+    | inl own ↦ nothing_in (p, offset) (subst (λ l. Contains l (p, offset)) unnoted own)
+    | inr other ↦ nothing_noted s ok spent_now p offset other
+  ]
 
   pub begun_state : IsLeastOver s.types s.mutator.bodies roots may → IsCoreOk (begun s roots)
   begun_state least =
@@ -249,6 +257,7 @@ module _ (s : CoreState) (ok : IsCoreOk s) (off : s.mutator.on ≡ false) (unmar
         marks_counted_once = ok.marks_counted_once;
         strong_targets_accounted = λ _ b i h traced role. absurd (omega (arith, none_traced b.place));
         pairs_accounted = λ _ b i h traced role. absurd (omega (arith, none_traced b.place));
+        noted_are_pairs = λ _ p offset note. absurd (nothing_noted_yet p offset note);
         hands_are_bodies =
             hands_of_none s ok spent_now s.types s.mutator.bodies (marks_at s.mutator s.markers) s.mutator.pending may
             (ok.quiet_while_off.no_hand off);
@@ -280,7 +289,8 @@ begin_ok law s ok roots can =
     let off = not-true s.mutator.on t1.0 in
     let unmarked = nil_from_length s.mutator.marked (eqb-true (length s.mutator.marked) 0 t1.1) in
     let untraced = nil_from_length s.mutator.traced (eqb-true (length s.mutator.traced) 0 t2.1) in
+    let unnoted = nil_from_length s.mutator.noted (eqb-true (length s.mutator.noted) 0 t3.1) in
     let no_dead = nil_from_length s.mutator.dead (eqb-true (length s.mutator.dead) 0 t4.1) in
-    begun_state s ok off unmarked untraced no_dead t6.1 roots
+    begun_state s ok off unmarked untraced unnoted no_dead t6.1 roots
     (reach_over_law law s.count s.types s.mutator.bodies roots ok.bodies_are_whole ok.bodies_lie_apart
-    (names_off s ok off unmarked untraced no_dead t6.1 roots))
+    (names_off s ok off unmarked untraced unnoted no_dead t6.1 roots))

@@ -1,19 +1,19 @@
 -- The mutator's hand takes a turn: what is true of every state stays.
-use Rattle.std.proofs.Common.{◌≡◌, ℕ, List, [], ◌∷◌, ◌++◌, get_or, Bool, true, ◌||◌, Option, Some, None, refl, sym, ap, ◌∙◌, subst, inl, inr, arith, Contains}
+use Rattle.std.proofs.Common.{◌≡◌, ℕ, List, ◌++◌, get_or, Bool, true, ◌||◌, Option, Some, None, refl, sym, ap, ◌∙◌, subst, inl, inr, Contains}
 use mathlib.Core.Logic.{◌⊎◌}
 use Rattle.std.proofs.lemmas.Bool.{cases_Bool, cond-true, cond-false, false≢true, both_ways, or_cases}
-use Rattle.std.proofs.lemmas.List.Elements.{Contains-append_left, Contains-append_right}
+use Rattle.std.proofs.lemmas.List.Elements.{Contains-append_left, Contains-append_right, Contains-append_cases}
 use Rattle.marker_core.specs.declared.states.CoreState.{CoreState}
 use Rattle.marker_core.specs.declared.states.Hand.{Hand}
 use Rattle.marker_core.specs.declared.states.MutatorView.{MutatorView}
 use Rattle.marker_core.specs.declared.states.Why.TheVariants.{Trace}
-use Rattle.marker_core.specs.Layout.{has_mark}
 use Rattle.marker_core.specs.Views.{marks_at, traces_at, IsHand, IsNoted}
 use Rattle.marker_core.specs.Hands.{hand_read, hand_looked, wants_word, wants_key, wants, noted_pair, each_hand}
 use Rattle.marker_core.specs.MutatorSteps.{can_load, loaded}
+use Rattle.marker_core.specs.Tracing.{NotedArePairs}
 use Rattle.marker_core.specs.Core.{IsCoreOk}
 use Rattle.marker_core.proofs.Tricolour.{HandTurn, HandChanges, mutator_changes, strong_turned, pairs_turned, pairs_covered, hands_turned, hands_in_turned, loaded_in_turned}
-use Rattle.marker_core.proofs.Turns.{turn_by_word, turn_by_key}
+use Rattle.marker_core.proofs.Turns.{turn_by_word, turn_by_key, noted_here, noted_is_pair}
 use Rattle.marker_core.proofs.Loads.{looked_at, looked_done}
 
 pub hand_or_none : (o : Option Hand) → (o ≡ None) ⊎ ((h : Hand) × (o ≡ Some h))
@@ -44,8 +44,8 @@ module _ (s : CoreState) (ok : IsCoreOk s) (on : s.mutator.on ≡ true) (a : ℕ
     still_noted p o note = elim note [ inl own_note ↦ inl (more (p, o) own_note) | inr other ↦ inr other ]
 
     pub turned_ok : HandTurn s.types s.mutator.bodies (marks_at s.mutator s.markers) s.mutator.pending s.mutator.may is_noted h n
-        → IsCoreOk (turned_state s a n noted)
-    turned_ok turn =
+        → NotedArePairs s.types s.mutator.bodies is_noted → IsCoreOk (turned_state s a n noted)
+    turned_ok turn notes =
         let fits = ok.hands_are_bodies.hands h held in
         let marks = marks_at s.mutator s.markers in
         let traces = traces_at s.mutator s.markers in
@@ -83,6 +83,7 @@ module _ (s : CoreState) (ok : IsCoreOk s) (on : s.mutator.on ≡ true) (a : ℕ
               old new h n changes fits turn traces
               (pairs_covered s.types s.mutator.bodies marks marks traces s.mutator.pending s.mutator.pending old (λ w c. c)
               (IsNoted s.mutator s.markers) is_noted still_noted (ok.pairs_accounted on));
+          noted_are_pairs = λ _. notes;
           hands_are_bodies = record {
             known = ok.hands_are_bodies.known;
             hands =
@@ -120,14 +121,20 @@ module _ (s : CoreState) (ok : IsCoreOk s) (on : s.mutator.on ≡ true) (a : ℕ
       turned_ok n noted more
       (turn_by_key s ok on (is_noted n noted more) h held a key
       (λ unmarked.
-      inl (Contains-append_right s.mutator.noted (noted_pair word (Some h)) (h.place, h.next)
-      (subst (λ pairs. Contains pairs (h.place, h.next)) (sym (cond-false (has_mark word) [] ((h.place, h.next) ∷ []) unmarked)) (0, omega arith, refl)))))
+      inl (Contains-append_right s.mutator.noted (noted_pair word (Some h)) (h.place, h.next) (noted_here word h unmarked))))
+      (λ p o note. elim note [
+        | inr other ↦ ok.noted_are_pairs on p o (inr other)
+        | inl own_note ↦ elim (Contains-append_cases s.mutator.noted (noted_pair word (Some h)) (p, o) own_note) [
+          | inl was ↦ ok.noted_are_pairs on p o (inl was)
+          | inr new ↦ noted_is_pair s ok on (is_noted n noted more) h held a key p o new
+        ]
+      ])
 
   trace_by_word : wants_word h h.part a ≡ true → IsCoreOk (turned_state s a (hand_read s.types word h) s.mutator.noted)
   trace_by_word want =
       let n = hand_read s.types word h in
       let more : (p : ℕ × ℕ) → Contains s.mutator.noted p → Contains s.mutator.noted p = λ p there. there in
-      turned_ok n s.mutator.noted more (turn_by_word s ok on (is_noted n s.mutator.noted more) h held a want)
+      turned_ok n s.mutator.noted more (turn_by_word s ok on (is_noted n s.mutator.noted more) h held a want) (ok.noted_are_pairs on)
 
   abbrev by_key : MutatorView
   by_key = turned_view s a (each_hand (hand_looked s.types word) s.mutator.hand) (s.mutator.noted ++ noted_pair word s.mutator.hand)

@@ -16,7 +16,7 @@ use Rattle.marker_core.specs.Bodies.{role_at, kinds_of, is_traced_role, word_in,
 use Rattle.marker_core.specs.Hands.{hand_moved, role_at_hand}
 use Rattle.marker_core.specs.Views.{IsHand, spent_view, view_at}
 use Rattle.marker_core.specs.Matching.{AreWhole, LieApart}
-use Rattle.marker_core.specs.Tracing.{IsCovered, IsInHand, StrongAccounted, PairsAccounted, marking_word, PartFits, HandFits, IsLoaded}
+use Rattle.marker_core.specs.Tracing.{IsCovered, IsInHand, StrongAccounted, PairsAccounted, IsPairAt, marking_word, PartFits, HandFits, IsLoaded}
 use Rattle.marker_core.proofs.Members.{was_in_or_written, still_in_or_overwritten, written_is_in}
 use Rattle.marker_core.proofs.Apart.{same_place}
 use Rattle.marker_core.proofs.Offsets.{hand_past_is, hand_past_finds}
@@ -278,6 +278,16 @@ module _ (types : List (List Kind)) (bodies : List Body) (marks traces : ℕ →
   ]
 
 -- ---- more bodies
+
+pub pair_among_more : (bodies more : List Body) → ((b : Body) → Contains bodies b → Contains more b) → (types : List (List Kind)) (p offset : ℕ)
+    → IsPairAt types bodies p offset → IsPairAt types more p offset
+pair_among_more bodies more kept types p offset pair = record {
+  body = pair.body;
+  there = kept pair.body pair.there;
+  place = pair.place;
+  past_serial = pair.past_serial;
+  key = pair.key;
+}
 
 module _ (bodies more : List Body) (marks : ℕ → ℕ) (pending : Option ℕ) (may wider : List ℕ) (there : (x : ℕ) → is_place bodies x ≡ true → is_place more x ≡ true) (grown : (x : ℕ) → holds may x ≡ true → holds wider x ≡ true) where
   part_among_more : (role : Role) (b : Body) (i : ℕ) (part : Part) → PartFits bodies marks pending may role b i part

@@ -1,6 +1,7 @@
 -- What a hand that reads a word, or looks at its key's header, may become.
-use Rattle.std.proofs.Common.{◌≡◌, ℕ, ◌+◌, ◌-◌, ◌<◌, List, length, get_or, true, false, cond, eqb, Option, Some, refl, sym, ap, ◌∙◌, subst, inl, inr, arith, Contains}
+use Rattle.std.proofs.Common.{◌≡◌, ℕ, ◌+◌, ◌-◌, ◌<◌, List, [], ◌∷◌, length, get_or, true, false, cond, eqb, Option, Some, refl, sym, ap, ◌∙◌, subst, inl, inr, arith, Contains}
 use Rattle.std.proofs.lemmas.Bool.{cases_Bool, cases_eq, cond-true, cond-false, eqb-true, ne_eqb, false≢true}
+use Rattle.std.proofs.lemmas.List.Elements.{Contains-push_cases}
 use Rattle.gc_graph.specs.declared.kind.Kind.{Kind}
 use Rattle.marker_core.specs.declared.states.Body.{Body}
 use Rattle.marker_core.specs.declared.states.CoreState.{CoreState}
@@ -10,12 +11,13 @@ use Rattle.marker_core.specs.declared.states.Part.TheVariants.{Read, Mark, Key, 
 use Rattle.marker_core.specs.declared.states.Role.TheVariants.{StrongWord, KeyWord}
 use Rattle.marker_core.specs.Layout.{has_mark, is_marked}
 use Rattle.marker_core.specs.Bodies.{role_at, kinds_of, refers, is_traced_role, word_in, role_in, is_place, holds}
-use Rattle.marker_core.specs.Hands.{hand_moved, hand_read, hand_looked, role_at_hand, part_found, wants_word, wants_key}
+use Rattle.marker_core.specs.Hands.{hand_moved, hand_read, hand_looked, role_at_hand, part_found, wants_word, wants_key, noted_pair}
 use Rattle.marker_core.specs.Views.{marks_at, traces_at, IsHand}
 use Rattle.marker_core.specs.Matching.{IsWhole}
-use Rattle.marker_core.specs.Tracing.{PartFits, HandFits, marking_word}
+use Rattle.marker_core.specs.Tracing.{IsPairAt, PartFits, HandFits, marking_word}
 use Rattle.marker_core.specs.Core.{IsCoreOk}
 use Rattle.marker_core.specs.Laws.{AllNameBodies}
+use Rattle.marker_core.proofs.Members.{nothing_in}
 use Rattle.marker_core.proofs.Apart.{same_place, body_of_place, named}
 use Rattle.marker_core.proofs.Counts.{true_is_some}
 use Rattle.marker_core.specs.RoleOrder.{value_after_key}
@@ -37,6 +39,24 @@ value_or_mark n e = cc
 
 pub strong_or_key : StrongWord ≡ KeyWord → ⊥
 strong_or_key e = cc
+
+-- where the key's header has no mark the pair at hand is noted
+pub noted_here : (header : ℕ) (h : Hand) → has_mark header ≡ false → Contains (noted_pair header (Some h)) (h.place, h.next)
+noted_here header h unmarked =
+    subst (λ l. Contains l (h.place, h.next)) (sym (cond-false (has_mark header) [] _ unmarked)) (0, omega arith, refl)
+
+-- and no other is
+noted_at_hand : (header : ℕ) (h : Hand) (q : ℕ × ℕ) → Contains (noted_pair header (Some h)) q → (h.place, h.next) ≡ q
+noted_at_hand header h q note =
+    let at : ℕ × ℕ = (h.place, h.next) in
+    elim (cases_Bool (has_mark header)) [
+      | inl marked ↦ absurd (nothing_in q (subst (λ l. Contains l q) (cond-true (has_mark header) [] (at ∷ []) marked) note))
+      | inr unmarked ↦
+          elim (Contains-push_cases [] at q (subst (λ l. Contains l q) (cond-false (has_mark header) [] (at ∷ []) unmarked) note)) [
+            | inl none ↦ absurd (nothing_in q none)
+            | inr same ↦ same
+          ]
+    ]
 
 module _ (s : CoreState) (ok : IsCoreOk s) (on : s.mutator.on ≡ true) where
   pub all_name_bodies : AllNameBodies s.types s.mutator.bodies
@@ -240,6 +260,27 @@ module _ (s : CoreState) (ok : IsCoreOk s) (on : s.mutator.on ≡ true) where
 
     pub turn_by_key : wants_key h.part a ≡ true → (has_mark word ≡ false → noted h.place h.next) → Turns (hand_looked s.types word h)
     turn_by_key wants note = look_by h.part refl wants note
+
+    -- the pair that is noted is the one at hand
+    pair_of : (part : Part) → h.part ≡ part → wants_key part a ≡ true → IsPairAt s.types s.mutator.bodies h.place h.next
+    pair_of (Key k) e wants =
+        let fits : Fits hand_fits.body (Key k) = subst (Fits hand_fits.body) e hand_fits.part in
+        record {
+          body = hand_fits.body;
+          there = hand_fits.there;
+          place = hand_fits.place;
+          past_serial = hand_fits.past_serial;
+          key = role_is ∙ fits.1;
+        }
+    pair_of Read e wants = absurd (false≢true wants)
+    pair_of Value e wants = absurd (false≢true wants)
+    pair_of (Mark t) e wants = absurd (false≢true wants)
+
+    pub noted_is_pair : wants_key h.part a ≡ true → (p offset : ℕ) → Contains (noted_pair word (Some h)) (p, offset)
+        → IsPairAt s.types s.mutator.bodies p offset
+    noted_is_pair wants p offset note =
+        let same = noted_at_hand word h (p, offset) note in
+        subst (λ (q : ℕ × ℕ). IsPairAt s.types s.mutator.bodies q.0 q.1) same (pair_of h.part refl wants)
 
     -- the word that the hand wants is a reference of its body
     abbrev IsRead : Type 0

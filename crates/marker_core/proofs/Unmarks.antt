@@ -95,6 +95,7 @@ module _ (s : CoreState) (ok : IsCoreOk s) (off : s.mutator.on ≡ false) (a : �
         };
         strong_targets_accounted = λ on. absurd (both_ways s.mutator.on off on);
         pairs_accounted = λ on. absurd (both_ways s.mutator.on off on);
+        noted_are_pairs = λ on. absurd (both_ways s.mutator.on off on);
         hands_are_bodies =
             hands_of_none s ok (ok.quiet_while_off.no_views off) s.types s.mutator.bodies marks s.mutator.pending s.mutator.may
             (ok.quiet_while_off.no_hand off);

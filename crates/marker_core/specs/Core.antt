@@ -4,9 +4,10 @@ use Rattle.marker_core.specs.declared.states.CoreState.{CoreState}
 use Rattle.marker_core.specs.Layout.{stop_at}
 use Rattle.marker_core.specs.Views.{marks_at, traces_at, IsHand, IsNoted, IsDone}
 use Rattle.marker_core.specs.Matching.{AreTypes, HasRoom, AreWhole, LieApart, SerialsDiffer, HeadersMatch, SerialsMatch, StartsMatch, FieldsMatch, FilledMatch, ReferencesNameBodies, QuietWhileOff}
-use Rattle.marker_core.specs.Tracing.{StrongAccounted, PairsAccounted, HandsAreBodies, MayIsClosed, TracedAreMarked, MarksCountedOnce}
+use Rattle.marker_core.specs.Tracing.{StrongAccounted, PairsAccounted, NotedArePairs, HandsAreBodies, MayIsClosed, TracedAreMarked, MarksCountedOnce}
 
--- words, bodies and views belong together, and while marking goes on every traced body is accounted for
+-- words, bodies and views belong together, and while marking goes on every traced body is accounted for, and what is noted are
+-- pairs of bodies
 pub record IsCoreOk (s : CoreState) : Type 0 where
   pub are_types : AreTypes s.types
   pub has_room : HasRoom s.count s.words
@@ -33,6 +34,7 @@ pub record IsCoreOk (s : CoreState) : Type 0 where
       s.mutator.on ≡ true
       → PairsAccounted s.types s.mutator.bodies (marks_at s.mutator s.markers) (traces_at s.mutator s.markers) s.mutator.pending
       (IsHand s.mutator s.markers) (IsNoted s.mutator s.markers)
+  pub noted_are_pairs : s.mutator.on ≡ true → NotedArePairs s.types s.mutator.bodies (IsNoted s.mutator s.markers)
   pub hands_are_bodies :
       HandsAreBodies s.types s.mutator.bodies (marks_at s.mutator s.markers) s.mutator.pending s.mutator.may
       (IsHand s.mutator s.markers) s.markers

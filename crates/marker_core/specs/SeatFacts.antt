@@ -13,6 +13,7 @@ use Rattle.marker_core.specs.Closed.{IsClosedOver}
 use Rattle.marker_core.specs.Views.{times}
 use Rattle.marker_core.specs.Seats.{SeatSide, core_of}
 use Rattle.marker_core.specs.Matching.{AreTypes, AreWhole, LieApart, SerialsDiffer, ReferencesNameBodies}
+use Rattle.marker_core.specs.Tracing.{IsPairAt}
 use Rattle.marker_core.specs.Core.{IsCoreOk}
 
 -- ---- what a word tells
@@ -66,8 +67,9 @@ TracedPairsNoted v =
     → 0 < word_in b (i + 1) → (holds v.marked (place_named (word_in b (i + 1))) ≡ true) ⊎ Contains v.noted (b.place, i + first_field)
 
 -- while marking goes on nothing is dead, what may be kept are bodies, it is closed and has what is marked, and what is in hand
--- or waits for its mark is an object that may be kept; where no view is lent, what was found traced the mutator traced, and where
--- there is none in hand or waiting either, the strong targets of traced bodies are marked, and their pairs accounted for
+-- or waits for its mark is an object that may be kept; what was noted are pairs of bodies; where no view is lent, what was found
+-- traced the mutator traced, and where there is none in hand or waiting either, the strong targets of traced bodies are marked,
+-- and their pairs accounted for
 pub record IsMarking (v : SeatSide) : Type 0 where
   pub no_dead : v.dead ≡ []
   pub are_places : (a : ℕ) → holds v.may a ≡ true → is_place v.bodies a ≡ true
@@ -75,6 +77,7 @@ pub record IsMarking (v : SeatSide) : Type 0 where
   pub marked_in : (a : ℕ) → holds v.marked a ≡ true → holds v.may a ≡ true
   pub hand : (h : Hand) → v.hand ≡ Some h → IsHandOf v h
   pub pending_in : (t : ℕ) → v.pending ≡ Some t → holds v.may t ≡ true
+  pub noted_are_pairs : (p offset : ℕ) → Contains v.noted (p, offset) → IsPairAt v.types v.bodies p offset
   pub done_are_traced : v.lent ≡ 0 → (a : ℕ) → holds v.done a ≡ true → holds v.traced a ≡ true
   pub traced_targets : v.lent ≡ 0 → v.hand ≡ None → v.pending ≡ None → TracedTargetsMarked v
   pub traced_pairs : v.lent ≡ 0 → v.hand ≡ None → v.pending ≡ None → TracedPairsNoted v

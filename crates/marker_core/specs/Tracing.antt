@@ -33,6 +33,18 @@ PairsAccounted types bodies marks traces pending hand noted =
     (b : Body) (i : ℕ) → Contains bodies b → 0 < traces b.place → role_in types b i ≡ KeyWord
     → (word_in b i ≡ 0) ⊎ (IsCovered marks pending (word_in b (i + 1)) ⊎ (noted b.place (i + first_field) ⊎ IsInHand hand b.place (i + first_field)))
 
+-- the object at p is a body that has a pair at the offset
+pub record IsPairAt (types : List (List Kind)) (bodies : List Body) (p offset : ℕ) : Type 0 where
+  pub body : Body
+  pub there : Contains bodies body
+  pub place : body.place ≡ p
+  pub past_serial : first_field ≤ offset
+  pub key : role_in types body (offset - first_field) ≡ KeyWord
+
+-- what was noted are pairs of bodies
+abbrev pub NotedArePairs : List (List Kind) → List Body → (ℕ → ℕ → Type 0) → Type 0
+NotedArePairs types bodies noted = (p offset : ℕ) → noted p offset → IsPairAt types bodies p offset
+
 -- the word of the hand's strong word or pair that is marked: the value of a pair
 abbrev pub marking_word : Role → Body → ℕ → ℕ
 marking_word KeyWord b i = word_in b (i + 1)
