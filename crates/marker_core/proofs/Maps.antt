@@ -4,9 +4,11 @@ use mathlib.Core.Logic.{◌⊎◌}
 use Rattle.std.specs.List.{AllPairs}
 use Rattle.std.proofs.lemmas.Bool.{cases_Bool, cases_eq, cond-true, cond-false, and_parts, and_from, leb-true, ltb-true, le-leb, lt-ltb, both_ways}
 use Rattle.std.proofs.lemmas.List.{length-map, length-set, get_or-map, get_or-set_same, get_or-set_other}
+use Rattle.gc_graph.specs.declared.kind.Kind.{Kind}
 use Rattle.marker_core.specs.declared.states.Body.{Body}
 use Rattle.marker_core.specs.Bodies.{word_in, has_field, field_number, has_word, end_of, with_word, is_place, in_body, names_body}
-use Rattle.gc_graph.specs.Members.{Contains-map_some}
+use Rattle.marker_core.specs.Tracing.{IsPairAt}
+use Rattle.gc_graph.specs.Members.{Contains-map, Contains-map_some}
 
 pub all_pairs_map : {X : Type 0} (R : X → X → Type 0) (f : X → X) (xs : List X) → ((x y : X) → R x y → R (f x) (f y)) → AllPairs R xs → AllPairs R (map f xs)
 all_pairs_map R f xs kept all i j d before within =
@@ -30,6 +32,17 @@ module _ (a w : ℕ) where
   pub each_written : (P : Body → Type 0) (bodies : List Body) → ((b : Body) → Contains bodies b → P (with_word a w b)) → (c : Body)
       → Contains (map (with_word a w) bodies) c → P c
   each_written P bodies all c h = let from = Contains-map_some (with_word a w) bodies c h in subst P from.2 (all from.0 from.1)
+
+  -- a pair stays one, whatever its words are
+  pub pair_written : (types : List (List Kind)) (bodies : List Body) (p offset : ℕ) → IsPairAt types bodies p offset
+      → IsPairAt types (map (with_word a w) bodies) p offset
+  pair_written types bodies p offset pair = record {
+    body = with_word a w pair.body;
+    there = Contains-map (with_word a w) bodies pair.body pair.there;
+    place = pair.place;
+    past_serial = pair.past_serial;
+    key = pair.key;
+  }
 
   pub has_field_from : (b : Body) → b.place + 2 ≤ a → a < end_of b → has_field a b ≡ true
   has_field_from b low high = and_from (leb (b.place + 2) a) (ltb a (end_of b)) (le-leb (b.place + 2) a low) (lt-ltb a (end_of b) high)

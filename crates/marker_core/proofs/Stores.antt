@@ -19,14 +19,14 @@ use Rattle.marker_core.specs.Seats.{seat_of}
 use Rattle.marker_core.specs.MutatorSteps.{can_store, stored}
 use Rattle.marker_core.specs.SeatSteps.{key_fits, may_store, store_fits, keeps_in}
 use Rattle.marker_core.specs.Views.{marks_at, traces_at, IsHand, IsNoted, IsDone}
-use Rattle.marker_core.specs.Tracing.{IsCovered, IsInHand, StrongAccounted, PairsAccounted, NotedArePairs, marking_word, PartFits, HandsAreBodies, MayIsClosed}
+use Rattle.marker_core.specs.Tracing.{IsCovered, IsInHand, StrongAccounted, PairsAccounted, marking_word, PartFits, HandsAreBodies, MayIsClosed}
 use Rattle.marker_core.specs.Core.{IsCoreOk}
 use Rattle.gc_graph.specs.Members.{any_member, any_from, Contains-map}
 use Rattle.marker_core.specs.RoleOrder.{value_after_key}
 use Rattle.marker_core.proofs.Tricolour.{Covers, cover_more}
 use Rattle.marker_core.proofs.Claims.{is_none_tells}
 use Rattle.marker_core.proofs.Quiet.{hands_of_none}
-use Rattle.marker_core.proofs.Maps.{places_same, names_same, each_written, field_low, field_high, written_or_kept}
+use Rattle.marker_core.proofs.Maps.{places_same, names_same, each_written, pair_written, field_low, field_high, written_or_kept}
 use Rattle.marker_core.proofs.Written.{hit, stored_words}
 
 unless : (x y : Bool) → (not x || y) ≡ true → x ≡ true → y ≡ true
@@ -255,17 +255,6 @@ module _ (s : CoreState) (ok : IsCoreOk s) (a w : ℕ) (no_pending : s.mutator.p
       each_written a w (λ d. 0 < traces d.place → role_in s.types d i ≡ KeyWord → PairFine i d) bodies
       (λ b hb traced key. pair_stored on b i hb traced key) c h
 
-  noted_stored : s.mutator.on ≡ true → NotedArePairs s.types now (IsNoted s.mutator s.markers)
-  noted_stored on p offset note =
-      let was = ok.noted_are_pairs on p offset note in
-      record {
-        body = with_word a w was.body;
-        there = Contains-map (with_word a w) bodies was.body was.there;
-        place = was.place;
-        past_serial = was.past_serial;
-        key = was.key;
-      }
-
   -- ---- hands
 
   key_in_may : s.mutator.on ≡ true → (b : Body) (i : ℕ) → Contains bodies b → role_in s.types b i ≡ KeyWord
@@ -489,7 +478,7 @@ module _ (s : CoreState) (ok : IsCoreOk s) (a w : ℕ) (no_pending : s.mutator.p
         };
         strong_targets_accounted = strong_stored;
         pairs_accounted = pairs_stored;
-        noted_are_pairs = noted_stored;
+        noted_are_pairs = λ on p offset note. pair_written a w s.types bodies p offset (ok.noted_are_pairs on p offset note);
         hands_are_bodies = elim (cases_Bool s.mutator.on) [
           | inl on ↦ hands_stored on
           | inr off ↦ hands_of_none s ok (ok.quiet_while_off.no_views off) s.types now marks later s.mutator.may no_hand
