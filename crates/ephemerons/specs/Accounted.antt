@@ -1,19 +1,22 @@
--- While marking is under way and nothing was refused, the list and the notes account for all that is left to do.
-use Rattle.std.proofs.Common.{◌≡◌, ℕ, ◌+◌, ◌-◌, true, false, List, [], ◌∷◌, None, sym, ap, ◌∙◌, subst, inl, inr, arith}
+-- Marking that is under way can be brought to its end once the owner is alone with the whole list: the list and the notes
+-- account for all that is left to do, unless something was refused.
+use Rattle.std.proofs.Common.{◌≡◌, ℕ, zero, suc, ◌+◌, ◌-◌, true, false, List, [], ◌∷◌, None, sym, ap, ◌∙◌, subst, inl, inr, arith}
 use Rattle.std.specs.List.{Contains}
 use Rattle.gc_graph.specs.State.{ObjectType}
 use Rattle.gc_graph.specs.declared.kind.Kind.TheVariants.{Pair}
 use Rattle.type_table.specs.Types.{kinds_of as kinds_in}
 use Rattle.mark_worklist.specs.declared.marking.Marking.{Marking}
 use Rattle.marker_core.specs.Bodies.{holds, word_in}
-use Rattle.page_words.specs.Seat.{SeatView, IsView}
+use Rattle.page_words.specs.Seat.{SeatView, IsAlone, IsView}
+use Rattle.ephemerons.specs.declared.notes.Note.{Note}
+use Rattle.ephemerons.specs.BodyGraph.{HasPair}
 use Rattle.ephemerons.specs.Notes.{NotesState, HasPairsNoted, IsNotedIn, note_of}
-use Rattle.ephemerons.specs.UnderWay.{IsUnderWay}
+use Rattle.ephemerons.specs.UnderWay.{IsReadyToEnd, IsUnderWay}
 use Rattle.ephemerons.specs.Fixpoint.{IsAccounted, IsUnrefused}
 use Rattle.ephemerons.specs.Fields.{field_at_offset}
 use Rattle.ephemerons.specs.BodyLeads.{role_of_offset}
 
-module _ (v : SeatView) (m : Marking) (x : NotesState) (view : IsView v) (h : IsUnderWay v m x) where
+module _ (v : SeatView) (m : Marking) (x : NotesState) (view : IsView v) (h : IsUnderWay v m x) (alone : IsAlone v) where
   -- the pairs of traced objects
   pairs_noted : x.overflow ≡ false → (p : ℕ) → holds v.traced p ≡ true → HasPairsNoted v.types v p (IsNotedIn (x ∷ []))
   pairs_noted fine p traced offset b k q there at pair key value =
@@ -22,7 +25,7 @@ module _ (v : SeatView) (m : Marking) (x : NotesState) (view : IsView v) (h : Is
       let back : offset - 2 + 2 ≡ offset = omega (arith, field.2) in
       let at_value : word_in b (offset - 2 + 1) ≡ q + 1 = ap (word_in b) (sym next) ∙ value in
       let target : word_in b (offset - 2 + 1) - 1 ≡ q = omega (arith, at_value) in
-      elim ((view.marking h.on).traced_pairs h.alone.none_lent h.alone.no_hand h.alone.no_pending b (offset - 2) there
+      elim ((view.marking h.on).traced_pairs alone.none_lent alone.no_hand alone.no_pending b (offset - 2) there
       (subst (λ a. holds v.traced a ≡ true) (sym at) traced) (role_of_offset v.types b Pair offset pair) (omega (arith, key)) (omega (arith, at_value))) [
         | inl marked ↦ inl (subst (λ a. holds v.marked a ≡ true) target marked)
         | inr noted ↦ inr (
@@ -35,6 +38,30 @@ module _ (v : SeatView) (m : Marking) (x : NotesState) (view : IsView v) (h : Is
 
   pub under_way_is_accounted : (types : List ObjectType) → v.types ≡ types → IsUnrefused m.overflow (x ∷ []) → IsAccounted types None v m.list.items (x ∷ [])
   under_way_is_accounted types known fine = record {
-    grey = λ p marked white. inr (inl (h.grey fine.pushes p marked white));
+    grey = λ p marked white. elim (h.grey fine.pushes (fine.notes 0 (omega arith)) p marked white) [
+      | inl listed ↦ inr (inl listed)
+      | inr noted ↦ inr (inr (0, omega arith, noted))
+    ];
     pairs = λ p traced. subst (λ (ts : List ObjectType). HasPairsNoted ts v p (IsNotedIn (x ∷ []))) known (pairs_noted (fine.notes 0 (omega arith)) p traced);
+  }
+
+  in_the_group : (note : Note) → IsNotedIn (x ∷ []) note → Contains x.notes note
+  in_the_group note (zero, low, there) = there
+  in_the_group note (suc i, low, there) = absurd (omega (arith, low))
+
+  pub under_way_is_ready : (types : List ObjectType) → v.types ≡ types → m.list.whole ≡ true → IsReadyToEnd types v m (x ∷ [])
+  under_way_is_ready types known whole = record {
+    on = h.on;
+    told = h.told;
+    alone = alone;
+    whole = whole;
+    listed = h.listed;
+    noted = λ note there.
+        let is = h.noted note (in_the_group note there) in
+        elim is.of [
+          | inl itself ↦ inl (itself, view.marked_are_bodies note.holder is.marked)
+          | inr pair ↦ inr (subst (λ (ts : List ObjectType). HasPair ts v.bodies note.holder note.word) known pair)
+        ];
+    accounted = under_way_is_accounted types known;
+    own = omega arith;
   }

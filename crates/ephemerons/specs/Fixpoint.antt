@@ -26,10 +26,21 @@ abbrev pub HasWord : List Body → ℕ → ℕ → Type 0
 HasWord bodies place offset =
     (b : Body) × Contains bodies b × (b.place ≡ place) × (first_field ≤ offset) × (offset - first_field < length b.fields)
 
+-- what steps leave of the owner's marking state: whether marking goes on, whether no share of the list is out, and how many
+-- shares the list has
+pub record Mode : Type 0 where
+  pub on : Bool
+  pub whole : Bool
+  pub shares : ℕ
+
+-- the mode of this state
+abbrev pub mode_of : Marking → Mode
+mode_of m = record { on = m.on; whole = m.list.whole; shares = length m.list.shares }
+
 -- the seat's view, the owner's marking state, the groups of notes, and how many objects were traced
 pub record Stage : Type 0 where
   pub view : SeatView
-  pub on : Bool
+  pub mode : Mode
   pub refusals : Refusals
   pub list : List ℕ
   pub groups : List NotesState
@@ -37,7 +48,7 @@ pub record Stage : Type 0 where
 
 -- the stage of these
 abbrev pub stage : SeatView → Marking → List NotesState → ℕ → Stage
-stage v m groups n = record { view = v; on = m.on; refusals = refusals_of m; list = m.list.items; groups = groups; traced = n }
+stage v m groups n = record { view = v; mode = mode_of m; refusals = refusals_of m; list = m.list.items; groups = groups; traced = n }
 
 -- marks and traces that may still come count, and so does what is listed
 abbrev pub weight : Stage → ℕ
@@ -51,7 +62,8 @@ pub record IsUnrefused (overflow : Bool) (groups : List NotesState) : Type 0 whe
 -- what holds at each stage
 pub record IsGround (types : List ObjectType) (s : Stage) : Type 0 where
   pub on : s.view.on ≡ true
-  pub told : s.on ≡ true
+  pub told : s.mode.on ≡ true
+  pub whole : s.mode.whole ≡ true
   pub known : s.view.types ≡ types
   pub alone : IsAlone s.view
   pub references : AreReferences types s.view.bodies
@@ -83,7 +95,7 @@ weight_of v m = 2 * unmarked_places v + length m.list.items
 
 -- the place was put on the list, unless the push was refused
 pub record IsListed (before after : Marking) (place : ℕ) : Type 0 where
-  pub on : after.on ≡ before.on
+  pub mode : mode_of after ≡ mode_of before
   pub overflow : after.overflow ≡ false → before.overflow ≡ false
   pub told : TellsRefused (refusals_of before) (refusals_of after)
   pub kept : (p : ℕ) → Contains before.list.items p → Contains after.list.items p
@@ -104,7 +116,7 @@ pub record ListsMarks (old : SeatView) (before : Marking) (new : SeatView) (afte
   pub no_hand : old.hand ≡ None → new.hand ≡ None
   pub no_pending : old.pending ≡ None → new.pending ≡ None
   pub marked : (p : ℕ) → holds old.marked p ≡ true → holds new.marked p ≡ true
-  pub on : after.on ≡ before.on
+  pub mode : mode_of after ≡ mode_of before
   pub overflow : after.overflow ≡ false → before.overflow ≡ false
   pub told : TellsRefused (refusals_of before) (refusals_of after)
   pub kept : (p : ℕ) → Contains before.list.items p → Contains after.list.items p
@@ -127,7 +139,7 @@ pub record HoldTheSame (first second : List ℕ) : Type 0 where
 -- the list and what is held back from it have together what they had, in any order
 pub record IsStillHeld (before : Marking) (old : Option ℕ) (after : Marking) (new : Option ℕ) : Type 0 where
   pub items : HoldTheSame (with_held old before).list.items (with_held new after).list.items
-  pub on : (with_held new after).on ≡ (with_held old before).on
+  pub mode : mode_of (with_held new after) ≡ mode_of (with_held old before)
   pub refusals : refusals_of (with_held new after) ≡ refusals_of (with_held old before)
 
 -- from one stage to a later one: more may be marked, traced and noted, and what was accounted for still is, with the
@@ -135,7 +147,7 @@ pub record IsStillHeld (before : Marking) (old : Option ℕ) (after : Marking) (
 pub record Works (types : List ObjectType) (taken : Option ℕ) (old new : Stage) : Type 0 where
   pub kept : MarksOn old.view new.view
   pub within : GrowsWithin types old.view new.view
-  pub on : new.on ≡ old.on
+  pub mode : new.mode ≡ old.mode
   pub unrefused : IsUnrefused new.refusals.told new.groups → IsUnrefused old.refusals.told old.groups
   pub told : TellsRefused old.refusals new.refusals
   pub notes_told : (i : ℕ) → TellsRefused (refusals_in (group_at old.groups i)) (refusals_in (group_at new.groups i))

@@ -3,8 +3,8 @@ pub mod Marking
 pub mod Notes
 pub mod InHand
 pub mod Traces
-pub mod UnderWay
 pub mod Fixpoint
+pub mod UnderWay
 -- Lemmas that the crates above cite too, since a crate's proofs/ can't be cited from another.
 pub mod Fields
 pub mod PairFields

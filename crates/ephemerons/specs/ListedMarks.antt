@@ -1,11 +1,11 @@
--- What was marked and listed in two goes was in one; whoever was alone still is; and looks mark and list nothing.
+-- What was marked and listed in two goes was in one; whoever was still or alone is so yet; and looks mark and list nothing.
 use Rattle.std.proofs.Common.{ℕ, refl, ap, ◌∙◌, sym, subst, inl, inr, arith}
 use Rattle.std.proofs.lemmas.Bool.{true≢false, false_from_ne_true}
 use Rattle.mark_worklist.specs.Refusals.{refusals_of}
 use Rattle.mark_worklist.specs.Told.{told_same, told_then}
 use Rattle.mark_worklist.specs.declared.marking.Marking.{Marking}
 use Rattle.marker_core.specs.Bodies.{IsPlace, holds}
-use Rattle.page_words.specs.Seat.{SeatView, IsAlone, OnlyLooked}
+use Rattle.page_words.specs.Seat.{SeatView, IsAlone, IsStill, OnlyLooked}
 use Rattle.ephemerons.specs.Fixpoint.{ListsMarks, IsFresh, weight_of}
 use Rattle.ephemerons.specs.Marking.{heap_alone}
 
@@ -26,7 +26,7 @@ ListsMarks-then u v w l m n x y = record {
   no_hand = λ none. y.no_hand (x.no_hand none);
   no_pending = λ none. y.no_pending (x.no_pending none);
   marked = λ p h. y.marked p (x.marked p h);
-  on = y.on ∙ x.on;
+  mode = y.mode ∙ x.mode;
   overflow = λ h. x.overflow (y.overflow h);
   told = told_then (refusals_of l) (refusals_of m) (refusals_of n) x.told y.told;
   kept = λ p h. y.kept p (x.kept p h);
@@ -40,6 +40,9 @@ ListsMarks-then u v w l m n x y = record {
   ];
   lighter = omega (arith, x.lighter, y.lighter);
 }
+
+pub still_yet : (u v : SeatView) (l m : Marking) → ListsMarks u l v m → IsStill u → IsStill v
+still_yet u v l m x still = record { no_hand = x.no_hand still.no_hand; no_pending = x.no_pending still.no_pending }
 
 pub alone_still : (u v : SeatView) (l m : Marking) → ListsMarks u l v m → IsAlone u → IsAlone v
 alone_still u v l m x alone = record {
@@ -56,7 +59,7 @@ lists_looked u v l same = record {
   no_hand = λ none. ap (λ (x : SeatView). x.hand) same ∙ none;
   no_pending = λ none. ap (λ (x : SeatView). x.pending) same ∙ none;
   marked = λ p h. ap (λ (x : SeatView). holds x.marked p) same ∙ h;
-  on = refl;
+  mode = refl;
   overflow = λ h. h;
   told = told_same (refusals_of l);
   kept = λ p h. h;

@@ -1,16 +1,21 @@
 -- A marking list and what a push and a pop make of it.
-use Rattle.std.specs.Prelude.{◌≡◌, ℕ, ◌+◌, ◌-◌, ◌^◌, Bool, false, List, [], ◌∷◌, ◌++◌, min}
+use Rattle.std.specs.Prelude.{◌≡◌, ℕ, ◌+◌, ◌-◌, ◌^◌, Bool, true, false, List, [], ◌∷◌, ◌++◌, min, slice_set, if◌then◌else◌}
+use Rattle.stealing_lists.specs.Families.{at}
+use Rattle.stealing_lists.specs.Shares.{ShareState, pushed, refused_once as refused_at}
 
--- the addresses, of whose order nothing is said, how many pushes were refused, and whether the last pop found nothing with no
--- accepted push since
+-- the addresses, of whose order nothing is said, and while shares are out those that the owner put; how many pushes were
+-- refused; whether nothing was found since an item was last put or given; the owner's share and those that it took in; and
+-- whether no share is out
 pub record ListState : Type 0 where
   pub items : List ℕ
   pub refused : ℕ
   pub idle : Bool
+  pub shares : List ShareState
+  pub whole : Bool
 
--- a list to which nothing happened yet
+-- a list without shares, to which nothing happened yet
 abbrev pub no_items : ListState
-no_items = record { items = []; refused = 0; idle = false }
+no_items = record { items = []; refused = 0; idle = false; shares = []; whole = true }
 
 -- the longer list has the address once more than the shorter one, and each other as often
 pub record IsOneMore (short : List ℕ) (a : ℕ) (long : List ℕ) : Type 0 where
@@ -19,11 +24,17 @@ pub record IsOneMore (short : List ℕ) (a : ℕ) (long : List ℕ) : Type 0 whe
   pub others : short ≡ before ++ after
   pub all : long ≡ before ++ a ∷ after
 
+-- while shares are out, the change is one of the owner's share
+abbrev pub with_own : (ShareState → ShareState) → ListState → List ShareState
+with_own change l = if l.whole then l.shares else slice_set l.shares 0 (change (at l.shares 0))
+
 -- the address was put on the list, and nothing was refused
 pub record IsPushed (old : ListState) (a : ℕ) (new : ListState) : Type 0 where
   pub items : IsOneMore old.items a new.items
   pub awake : new.idle ≡ false
   pub refused : new.refused ≡ old.refused
+  pub whole : new.whole ≡ old.whole
+  pub shares : new.shares ≡ with_own (λ s. pushed s a) old
 
 -- the last value of a count of what was refused
 abbrev pub last_count : ℕ
@@ -35,4 +46,4 @@ one_counted count = min (count + 1) last_count
 
 -- one more push was refused, and nothing else changed
 abbrev pub refused_once : ListState → ListState
-refused_once l = record l { refused = one_counted l.refused }
+refused_once l = record l { refused = one_counted l.refused; shares = with_own refused_at l }

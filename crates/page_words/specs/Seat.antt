@@ -153,7 +153,12 @@ abbrev pub PairsAreWhole : SeatView → Type 0
 PairsAreWhole v =
     (b : Body) (i : ℕ) → Contains v.bodies b → role_in (kind_lists v.types) b i ≡ KeyWord → (word_in b i ≡ 0) ↔ (word_in b (i + 1) ≡ 0)
 
--- no object is in hand, nothing waits for its mark, and no view is lent
+-- no object is in hand, and nothing waits for its mark
+pub record IsStill (v : SeatView) : Type 0 where
+  pub no_hand : v.hand ≡ None
+  pub no_pending : v.pending ≡ None
+
+-- the same, and no view is lent
 pub record IsAlone (v : SeatView) : Type 0 where
   pub no_hand : v.hand ≡ None
   pub no_pending : v.pending ≡ None
