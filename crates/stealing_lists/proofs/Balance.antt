@@ -23,6 +23,11 @@ is-there [] port v at = absurd (some-ne-none v (sym at))
 is-there (x ∷ xs) zero v at = (0, omega arith, same_some x v at)
 is-there (x ∷ xs) (suc port) v at = let c = is-there xs port v at in (suc c.0, omega (arith, c.1), c.2)
 
+pub at-port : (hands : List Hand) (v : Hand) → Contains hands v → (port : ℕ) × (get_elem? hands port ≡ some v)
+at-port [] v (k, low, is) = absurd (omega (arith, low))
+at-port (x ∷ xs) v (zero, low, is) = (0, ap some is)
+at-port (x ∷ xs) v (suc k, low, is) = let r = at-port xs v (k, omega (arith, low), is) in (suc r.0, r.1)
+
 -- ---- the end with all parts
 
 -- where no end has parts, the ends have nothing

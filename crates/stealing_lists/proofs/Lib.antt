@@ -7,3 +7,4 @@ pub mod Items
 pub mod Joins
 pub mod Taking
 pub mod Wholes
+pub mod Popped

@@ -1,12 +1,14 @@
 -- Each step of an end keeps the rule.
 use Rattle.std.proofs.Common.{◌≡◌, ℕ, zero, suc, ◌+◌, ◌-◌, ◌<◌, ◌≤◌, Bool, List, [], ◌∷◌, ◌++◌, length, set, Option, None, Some, MatchOption, refl, sym, ap, ◌∙◌, subst, arith}
+use mathlib.Core.Option.{some, some-ne-none}
+use lib.ListN.{get_elem?}
 use Rattle.std.specs.List.{All, count_by}
 use Rattle.std.proofs.lemmas.List.Sums.{sum_by-append, sum_by_push}
 use Rattle.std.proofs.lemmas.List.Elements.{All-set, All-append}
 use Rattle.crossbeam_deque.specs.Tasks.{Pushes, Takes, Finds, FindsFew, Forks, Merges, Learns}
 use Rattle.stealing_lists.specs.declared.rule.Hand.{Hand}
-use Rattle.stealing_lists.specs.Hands.{hand, all_parts, with_put, with_taken, joined, IsIdleWithoutParts, IsBalanced, WasEmpty, IsLeft}
-use Rattle.stealing_lists.proofs.Balance.{sum-set, is-there, alone}
+use Rattle.stealing_lists.specs.Hands.{hand, all_parts, with_put, with_taken, joined, IsIdleWithoutParts, IsBalanced, WasEmpty, HasLeft, IsLeft, TookWhole}
+use Rattle.stealing_lists.proofs.Balance.{sum-set, is-there, at-port, alone}
 
 -- how many items that are asked for an end has put, and taken
 abbrev puts : (ℕ → Bool) → Hand → ℕ
@@ -58,6 +60,31 @@ takes-some port v most some_part xs items hands _ _ b at =
       refl,
     )
 
+there-now : (hands : List Hand) (port : ℕ) (v w : Hand) → get_elem? hands port ≡ some v → get_elem? (set hands port w) port ≡ some w
+there-now [] port v w at = absurd (some-ne-none v (sym at))
+there-now (x ∷ xs) zero v w at = refl
+there-now (x ∷ xs) (suc port) v w at = there-now xs port v w at
+
+pub totals : (port : ℕ) (v : Hand) → v.parts ≡ all_parts → Learns IsBalanced port v (IsLeft v)
+totals port v whole items hands b at asked =
+    let all = b.whole ∙ sym whole in
+    let s = alone (puts asked) (λ h idle none. ap (count_by asked) (idle none).0) hands port v at b.partless all in
+    let t = alone (takes asked) (λ h idle none. ap (count_by asked) (idle none).1) hands port v at b.partless all in
+    omega (arith, s, t, b.even asked)
+
+-- the end with all parts knows after it took an item what is left
+pub pops-one : (port : ℕ) (v : Hand) → 0 < v.parts → Takes IsBalanced port v 1 (TookWhole v)
+pops-one port v some_part xs items hands many few b at =
+    let now = takes-some port v 1 some_part xs items hands many few b at in
+    let w : Hand = with_taken v xs in (
+      now.0,
+      now.1,
+      record {
+        taken = now.2;
+        left = λ whole. subst HasLeft (sym now.2) (items, totals port w whole items (set hands port w) (subst (λ x. IsBalanced items (set hands port x)) now.2 now.1) (there-now hands port v w at));
+      },
+    )
+
 pub finds-none : (port : ℕ) (v : Hand) → Finds IsBalanced port v (WasEmpty v)
 finds-none port v hands b at = (hands, b, is-there hands port v at)
 
@@ -103,12 +130,9 @@ joins port v other u some_part items hands b at apart at' =
       partless = All-set IsIdleWithoutParts now other spent (λ none. (refl, refl)) (All-set IsIdleWithoutParts hands port both (busy both (omega (arith, some_part))) b.partless);
     }
 
-pub totals : (port : ℕ) (v : Hand) → v.parts ≡ all_parts → Learns IsBalanced port v (IsLeft v)
-totals port v whole items hands b at asked =
-    let all = b.whole ∙ sym whole in
-    let s = alone (puts asked) (λ h idle none. ap (count_by asked) (idle none).0) hands port v at b.partless all in
-    let t = alone (takes asked) (λ h idle none. ap (count_by asked) (idle none).1) hands port v at b.partless all in
-    omega (arith, s, t, b.even asked)
+-- an end with all parts has put what it took, where the list was empty
+pub left-none : (v : Hand) → v.parts ≡ all_parts → WasEmpty v → IsLeft v []
+left-none v whole (hands, b, there) = (let at = at-port hands v there in totals at.0 v whole [] hands b at.1)
 
 -- what follows from each answer of a call follows from the call
 pub follows : {T : Type 0} (o : Option T) (A A' : Type 0) (B B' : T → Type 0) → (A → A') → ((a : T) → B a → B' a) → MatchOption o A B → MatchOption o A' B'

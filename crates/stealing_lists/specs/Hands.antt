@@ -40,3 +40,12 @@ WasEmpty h = (hands : List Hand) × IsBalanced [] hands × Contains hands h
 -- whatever items are asked for, as many were put as were taken and are left
 abbrev pub IsLeft : Hand → List ℕ → Type 0
 IsLeft h items = (asked : ℕ → Bool) → count_by asked h.put ≡ count_by asked h.taken + count_by asked items
+
+-- what it put and did not take is left on the list
+abbrev pub HasLeft : Hand → Type 0
+HasLeft h = (items : List ℕ) × IsLeft h items
+
+-- the end took this one item more, and where it has all parts, the rest of what it put is left
+pub record TookWhole (old : Hand) (xs : List ℕ) (new : Hand) : Type 0 where
+  pub taken : new ≡ with_taken old xs
+  pub left : old.parts ≡ all_parts → HasLeft new

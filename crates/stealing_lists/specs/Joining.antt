@@ -1,7 +1,7 @@
 -- All shares of a family, and how far they are joined.
-use Rattle.std.specs.Prelude.{◌≡◌, ℕ, ◌+◌, ◌<◌, ◌≤◌, false, Bool, List, [], ◌∷◌, ◌++◌, length, map, take, slice_index_or, slice_set, sum_by, All, Contains}
+use Rattle.std.specs.Prelude.{◌≡◌, ℕ, ◌+◌, ◌<◌, ◌≤◌, false, Bool, List, [], ◌∷◌, ◌++◌, length, map, take, slice_index_or, slice_set, sum_by, All, Contains, Option, MatchOption, IsNone}
 use Rattle.std.specs.List.{count_by, flat_map, remove}
-use Rattle.stealing_lists.specs.Hands.{all_parts, with_taken}
+use Rattle.stealing_lists.specs.Hands.{all_parts, with_taken, HasLeft}
 use Rattle.stealing_lists.specs.Ends.{ListName}
 use Rattle.stealing_lists.specs.Shares.{ShareState, put_of, taken_of, times, IsSameShare}
 use Rattle.stealing_lists.specs.Families.{at, names_of, IsFresh, IsShareOf}
@@ -32,6 +32,10 @@ pub record AreJoined (shares : List ShareState) : Type 0 where
   pub whole : All (λ s. s.own.hand.parts ≡ all_parts) shares
   pub apart : All (λ s. s.others ≡ []) shares
 
+-- what each put and did not take is left on its list
+abbrev pub KnowLeft : List ShareState → Type 0
+KnowLeft shares = All (λ s. HasLeft s.own.hand) shares
+
 -- they have put and taken the same items as before, each as often
 pub record HaveSameItems (old new : List ShareState) : Type 0 where
   pub put : (item : ℕ) → times item (put_by new) ≡ times item (put_by old)
@@ -55,6 +59,18 @@ pub record TookOne (old : List ShareState) (a : ℕ) (new : List ShareState) : T
   pub place : ℕ
   pub within : place < length old
   pub all : new ≡ awake_first (slice_set old place (with_own_taken (at old place) a))
+
+-- of the items left there was none; or the list has this one no more, and all the others yet
+abbrev pub IsLeftAfter : List ShareState → Option ℕ → List ℕ → Type 0
+IsLeftAfter new result left =
+    MatchOption result (left ≡ []) (λ a. (before : List ℕ) × (after : List ℕ) × (left ≡ before ++ a ∷ after) × IsTaken new (before ++ after))
+
+-- joined lists, of which it is known what is left, were asked for an item
+pub record IsPopped (old : List ShareState) (result : Option ℕ) (new : List ShareState) : Type 0 where
+  pub joined : AreJoined new
+  pub known : KnowLeft new
+  pub none : IsNone result → IsTaken new []
+  pub left : (left : List ℕ) → IsTaken old left → IsLeftAfter new result left
 
 -- a list of the owner's and so many shares, of which no call was made: they are numbered from 0, the owner's first, and each has
 -- a list of its own and an end of each other one's

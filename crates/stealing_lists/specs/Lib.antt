@@ -4,4 +4,5 @@ pub mod Shares
 pub mod Families
 pub mod Linking
 pub mod Joining
+pub mod Lending
 pub mod Kept

@@ -5,6 +5,7 @@ ghost use Rattle.std.specs.Prelude.{vec_len, vec_capacity};
 ghost use Rattle.stealing_lists.specs.Hands.{all_parts};
 ghost use Rattle.stealing_lists.specs.Shares.{last_count};
 ghost use Rattle.stealing_lists.specs.Joining.{put_by, refused_by, AreJoined, IsAllCounted};
+ghost use Rattle.stealing_lists.specs.Joining.{KnowLeft};
 
 use crate::share::Share;
 
@@ -16,6 +17,7 @@ pub(crate) fn count_left(family: &mut Vec<Share>) -> u64
     ensures room { vec_capacity family.new ≡ vec_capacity family.old }
     ensures left { (items : List ℕ) × (length items ≡ result)
         × IsAllCounted family.old.items items }
+    ensures each { KnowLeft family.old.items }
 {
     let mut left = 0;
     for i in 0..family.len() {

@@ -1,11 +1,12 @@
 // The ends of one list: its owner's, and those at which others steal.
 
-ghost use Rattle.std.specs.Prelude.{◌≡◌, ◌<◌, ℕ, List, [], ◌∷◌, ◌++◌, length, IfErr, IfOk, OnErr, OnOk, MatchOption};
+ghost use Rattle.std.specs.Prelude.{◌≡◌, ◌<◌, ℕ, List, [], ◌∷◌, ◌++◌, length, MatchOption};
+ghost use Rattle.std.specs.Prelude.{IfErr, IfOk, IfSome, OnErr, OnOk};
 ghost use Rattle.stealing_lists.specs.Hands.{hand, all_parts, with_put, with_taken, joined};
-ghost use Rattle.stealing_lists.specs.Hands.{WasEmpty, IsLeft};
+ghost use Rattle.stealing_lists.specs.Hands.{WasEmpty, HasLeft, IsLeft};
 ghost use Rattle.stealing_lists.specs.Ends.{OwnState, OtherState, FoundNone, hand_of, one_part_less};
 
-use crate::rule::{Cut, Fair, Hand, Puts, Takes, Total};
+use crate::rule::{Cut, Fair, Hand, Pops, Puts, Takes, Total};
 use crossbeam_deque::{Pass, Steal, Stealer, Worker};
 use std::alloc::{AllocError, Global};
 use std::marker::Model;
@@ -94,10 +95,12 @@ impl OwnEnd {
 
     /// Takes the first item. None only where the list was empty at one step of the call.
     pub(crate) fn take(&mut self) -> Option<u32>
-        ensures { MatchOption result ((self.new ≡ self.old) × WasEmpty self.old.hand)
+        ensures taken { MatchOption result ((self.new ≡ self.old) × WasEmpty self.old.hand)
             (λ a. self.new ≡ record self.old { hand = with_taken self.old.hand (a ∷ []) }) }
+        ensures left { IfSome result (λ a. self.old.hand.parts ≡ all_parts
+            → HasLeft self.new.hand) }
     {
-        self.worker.pop_as::<Takes>()
+        self.worker.pop_as::<Pops>()
     }
 
     /// Takes another end in, with all that it put and took.

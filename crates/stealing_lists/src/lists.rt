@@ -8,6 +8,7 @@ ghost use Rattle.stealing_lists.specs.Shares.{Stole, StoleNone};
 ghost use Rattle.stealing_lists.specs.Families.{at, names_of, IsFresh, IsShareOf};
 ghost use Rattle.stealing_lists.specs.Joining.{put_by, taken_by, refused_by, TookOne, IsTaken};
 ghost use Rattle.stealing_lists.specs.Joining.{AreAllShares, AreJoined, AreFresh, HaveSameItems};
+ghost use Rattle.stealing_lists.specs.Joining.{KnowLeft, IsPopped};
 ghost use Rattle.stealing_lists.specs.Joining.{IsSameList};
 
 use crate::counting::{count_left, count_pushed, count_refused};
@@ -17,6 +18,9 @@ use crate::share::{Refused, Share};
 use gc_graph::NoMemory;
 use std::alloc::Global;
 use std::marker::Model;
+
+/// The owner's share and the others of its family are no more than so many.
+const MOST_SHARES: usize = 9;
 
 /// What was put on the lists of all shares, what was taken from them, and what is left.
 #[derive(Clone, Copy, Debug, Drop, PartialEq)]
@@ -33,28 +37,38 @@ pub struct SharedList {
 }
 
 impl Model for SharedList {
-    ghost use Rattle.std.specs.Prelude.{◌<◌, List, length, vec_capacity};
+    ghost use Rattle.std.specs.Prelude.{◌<◌, ◌≤◌, List, length, vec_capacity};
+    ghost use Rattle.stealing_lists.specs.Hands.{all_parts};
     ghost use Rattle.stealing_lists.specs.Shares.{ShareState};
-    ghost use Rattle.stealing_lists.specs.Families.{at};
 
     ghost Value = { List ShareState };
 
     ghost view = { λ l. l.family.items };
 
     ghost invariant = { λ l. (0 < length l.family.items)
-        × (length (at l.family.items 0).others < vec_capacity l.family) };
+        × (all_parts ≤ vec_capacity l.family) };
 }
 
 impl SharedList {
+    ghost use Rattle.std.specs.Borrow.{sem};
+    ghost use Rattle.stealing_lists.specs.Lending.{LendsOwn};
+
     /// A list of the owner's own, and so many shares. Want of memory is free.
     pub fn new(alloc: Global, shares: u32) -> Result<(SharedList, Vec<Share>), NoMemory>
         requires few { shares < all_parts }
         ensures { IfOk result (λ made. AreFresh shares made.0 made.1.items) }
     {
         let mut others = linked(alloc, shares + 1)?;
-        let mut family = Vec::with_capacity(alloc, others.len())?;
+        let mut family = Vec::with_capacity(alloc, MOST_SHARES)?;
         family.push_reserved(others.remove(0));
         Ok((SharedList { family }, others))
+    }
+
+    /// The owner's share, for calls that take a share. It is to be left in its place.
+    pub fn own(&mut self) -> &mut Share
+        ensures* { sem 𝓛 (LendsOwn self.entry result) }
+    {
+        &mut self.family[0]
     }
 
     /// Puts an item on its own list. Want of memory is free, and so is the 2^60th push: the item is
@@ -75,6 +89,8 @@ impl SharedList {
             ((self.new ≡ slice_set self.old 0 (record (at self.old 0) { pop_found_none = true }))
             × All (λ s. WasEmpty s.own.hand) self.old)
             (λ a. TookOne self.old a self.new) }
+        ensures left { AreJoined self.old → KnowLeft self.old
+            → IsPopped self.old result self.new }
         ensures same { IsSameList self.old self.new }
     {
         for i in 0..self.family.len() {
@@ -107,6 +123,7 @@ impl SharedList {
         ensures left { (left : List ℕ) × (length left ≡ result.left)
             × IsTaken (self.old ++ shares.items) left }
         ensures same { HaveSameItems (self.old ++ shares.items) self.new × AreJoined self.new }
+        ensures known { KnowLeft self.new }
         ensures refused { (at self.new 0).refused
             ≡ min (refused_by (self.old ++ shares.items)) last_count }
         ensures awake { ((at self.new 0).pop_found_none ≡ false)

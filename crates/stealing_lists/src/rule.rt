@@ -55,7 +55,18 @@ impl Outcome<u32, Hand> for Puts {
     ghost then = { λ v xs w. w ≡ with_put v xs };
 }
 
-/// A pop, and a steal.
+/// A pop: the end that has all parts knows then what is left.
+pub(crate) struct Pops;
+
+impl Outcome<u32, Hand> for Pops {
+    ghost use Rattle.stealing_lists.specs.Hands.{TookWhole, WasEmpty};
+
+    ghost then = { TookWhole };
+
+    ghost empty = { WasEmpty };
+}
+
+/// A steal.
 pub(crate) struct Takes;
 
 impl Outcome<u32, Hand> for Takes {

@@ -1,8 +1,8 @@
 // A share: a list of its own, and the lists of others from which it steals.
 
 ghost use Rattle.std.specs.Prelude.{◌≡◌, ◌≤◌, ◌<◌, ◌&&◌, ◌^◌, ℕ, List, [], ◌∷◌, ◌++◌, length, true, false};
-ghost use Rattle.std.specs.Prelude.{IfErr, IfOk, OnErr, OnOk, MatchOption, vec_capacity};
-ghost use Rattle.stealing_lists.specs.Hands.{hand, all_parts, WasEmpty, IsLeft};
+ghost use Rattle.std.specs.Prelude.{IfErr, IfOk, IfSome, OnErr, OnOk, MatchOption, vec_capacity};
+ghost use Rattle.stealing_lists.specs.Hands.{hand, all_parts, WasEmpty, HasLeft, IsLeft};
 ghost use Rattle.stealing_lists.specs.Shares.{pushed, popped, refused_once, last_count};
 ghost use Rattle.stealing_lists.specs.Ends.{one_part_less};
 ghost use Rattle.stealing_lists.specs.Families.{alone, with_joined};
@@ -188,8 +188,10 @@ impl Share {
 
     /// Takes the first item of its own list, and leaves open whether the share is idle.
     pub(crate) fn take(&mut self) -> Option<u32>
-        ensures { MatchOption result ((self.new ≡ self.old) × WasEmpty self.old.own.hand)
+        ensures taken { MatchOption result ((self.new ≡ self.old) × WasEmpty self.old.own.hand)
             (λ a. self.new ≡ with_own_taken self.old a) }
+        ensures left { IfSome result (λ a. self.old.own.hand.parts ≡ all_parts
+            → HasLeft self.new.own.hand) }
     {
         self.own.take()
     }

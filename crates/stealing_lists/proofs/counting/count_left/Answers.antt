@@ -1,6 +1,7 @@
-use Rattle.std.proofs.Common.{rules, ◌≡◌, ◌<◌, ◌++◌, length, take, set, get_or, subst, ap, ◌∙◌, arith}
+use Rattle.std.proofs.Common.{rules, ◌≡◌, ◌<◌, ◌++◌, length, take, set, get_or, subst, ap, ◌∙◌, inl, inr, arith}
 use Rattle.std.proofs.lemmas.List.{length-append, set-get_or, get_or_default, take_all}
-use Rattle.stealing_lists.specs.Hands.{IsLeft}
+use Rattle.std.proofs.lemmas.Bool.{cases_lt}
+use Rattle.stealing_lists.specs.Hands.{HasLeft, IsLeft}
 use Rattle.stealing_lists.specs.Families.{at, nobody}
 use Rattle.stealing_lists.specs.Joining.{OwnLeft}
 use Rattle.stealing_lists.proofs.Items.{all-own}
@@ -26,6 +27,12 @@ loop-i-preserved c =
         length-append counted.0 left.0 ∙ omega (arith, counted.1, left.1),
         left-more shares c.loop-i.i counted.0 left.0 within counted.2 (subst (λ s. IsLeft s.own.hand left.0) here left.2),
       );
+      each = λ k l. elim (cases_lt k c.loop-i.i) [
+        | inl before ↦ inv.each k before
+        | inr last ↦
+            (let this : c.loop-i.i ≡ k = omega (arith, l, last) in
+            subst (λ j. HasLeft (at shares j).own.hand) this (left.0, subst (λ s. IsLeft s.own.hand left.0) here left.2))
+      ];
     }
 
 pub returns-clause-left : goal.returns-clause-left
@@ -34,3 +41,8 @@ returns-clause-left c =
     let shares = c.args.family.now.items in
     let all : take c.loop-i.i shares ≡ shares = take_all c.loop-i.i shares (search rules) in
     (counted.0, counted.1, all-own shares counted.0 c.requires.joined (subst (λ l. OwnLeft l counted.0) all counted.2))
+
+pub returns-clause-each : goal.returns-clause-each
+returns-clause-each c = λ k d l.
+    let shares = c.args.family.now.items in
+    subst (λ s. HasLeft s.own.hand) (get_or_default shares k nobody d l) (c.loop-i.invariant.each k (search rules))

@@ -1,4 +1,6 @@
-use Rattle.std.proofs.Common.{◌≡◌, ◌≤◌, ◌*◌, ◌^◌, ℕ, List, length, take, vec_len, vec_capacity}
+use Rattle.std.proofs.Common.{◌≡◌, ◌≤◌, ◌<◌, ◌*◌, ◌^◌, ℕ, List, length, take, vec_len, vec_capacity}
+use Rattle.stealing_lists.specs.Hands.{HasLeft}
+use Rattle.stealing_lists.specs.Families.{at}
 use Rattle.stealing_lists.specs.Joining.{OwnLeft}
 use Rattle.stealing_lists.proofs.counting.count_left.Given as goal
 
@@ -9,4 +11,5 @@ invariant-loop-i l = record {
   room : vec_capacity l.family ≡ vec_capacity l.initial.family;
   few : l.left ≤ l.i * 2 ^ 60;
   counted : (items : List ℕ) × (length items ≡ l.left) × OwnLeft (take l.i l.initial.family.items) items;
+  each : (k : ℕ) → k < l.i → HasLeft (at l.initial.family.items k).own.hand;
 }

@@ -1,8 +1,10 @@
 use Rattle.std.proofs.Common.{rules, ◌≡◌, ◌<◌, ℕ, ◌++◌, List, false, min, length, sym, ap, ◌∙◌, subst, arith}
 use Rattle.std.proofs.lemmas.List.{length-set, get_or-set_same, get_or_default}
+use Rattle.std.proofs.lemmas.List.Elements.{All-set}
+use Rattle.stealing_lists.specs.Hands.{HasLeft}
 use Rattle.stealing_lists.specs.Shares.{ShareState, last_count}
 use Rattle.stealing_lists.specs.Families.{at, nobody}
-use Rattle.stealing_lists.specs.Joining.{put_by, AreJoined, LoseNothing, IsAllCounted, IsTaken}
+use Rattle.stealing_lists.specs.Joining.{put_by, AreJoined, KnowLeft, LoseNothing, IsAllCounted, IsTaken}
 use Rattle.stealing_lists.proofs.Wholes.{as-many-put, all-taken, settled, still-joined}
 use Rattle.stealing_lists.proofs.lists.SharedList.finish.Goals as goal
 use Rattle.stealing_lists.proofs.lists.SharedList.finish.Goals.{After-self-1}
@@ -47,8 +49,7 @@ invariant_of-self c =
     let f = facts c in
     let now = c.count_left-left.new.family.items in
     let s = c.settle.new.self in
-    let others = ap length (ap (λ t. t.others) (get_or-set_same now 0 s nobody f.some ∙ f.is) ∙ f.joined.apart 0 nobody f.some) in
-    (omega (arith, f.some, length-set now 0 s), omega (arith, others, c.count_left-left.ensures.room, c.join_all.ensures.room, c.self.invariant.1))
+    (omega (arith, f.some, length-set now 0 s), omega (arith, c.count_left-left.ensures.room, c.join_all.ensures.room, c.self.invariant.1))
 
 pub returns-clause-pushed : goal.returns-clause-pushed
 returns-clause-pushed c = (facts c).all_put
@@ -65,6 +66,13 @@ returns-clause-same c =
       settled _ _ f.lose c.count_refused-refused.result c.settle.new.self f.some f.is,
       still-joined _ c.count_refused-refused.result c.settle.new.self f.some f.is f.joined,
     )
+
+pub returns-clause-known : goal.returns-clause-known
+returns-clause-known c =
+    let f = facts c in
+    let now = c.count_left-left.new.family.items in
+    let known : KnowLeft now = subst KnowLeft (sym c.count_left-left.ensures.same) c.count_left-left.ensures.each in
+    All-set (λ s. HasLeft s.own.hand) now 0 c.settle.new.self (subst (λ (s : ShareState). HasLeft s.own.hand) (sym f.is) (known 0 nobody f.some)) known
 
 pub returns-clause-refused : goal.returns-clause-refused
 returns-clause-refused c =
