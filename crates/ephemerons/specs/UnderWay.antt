@@ -10,11 +10,6 @@ use Rattle.ephemerons.specs.Notes.{NotesState, IsNote, IsNotedIn, note_of}
 use Rattle.ephemerons.specs.Traces.{note_from}
 use Rattle.ephemerons.specs.Fixpoint.{IsAccounted, IsUnrefused}
 
--- the note is of a marked object, or of a pair of one
-pub record IsOfMarked (v : SeatView) (note : Note) : Type 0 where
-  pub of : (note.word ≡ 0) ⊎ HasPair v.types v.bodies note.holder note.word
-  pub marked : holds v.marked note.holder ≡ true
-
 -- what is grey is listed, unless a push was refused
 abbrev pub ListsGrey : SeatView → Marking → Type 0
 ListsGrey v marking =
@@ -22,8 +17,8 @@ ListsGrey v marking =
 
 -- marking is under way: the owner's state tells that it goes on; nothing is in hand, and nothing waits for its mark; what is
 -- listed is marked, and what is grey, as far as this view tells, is listed or noted unless something was refused, and listed
--- where the list never had shares; each note is of a marked object or a pair of one, and what the hand noted is among the
--- notes unless a note was refused. Views and shares may be lent meanwhile
+-- where the list never had shares; each note with a word is of a pair of an object, and what the hand noted is among the notes
+-- unless a note was refused. Views and shares may be lent meanwhile
 pub record IsUnderWay (v : SeatView) (marking : Marking) (notes : NotesState) : Type 0 where
   pub on : v.on ≡ true
   pub told : marking.on ≡ true
@@ -33,7 +28,7 @@ pub record IsUnderWay (v : SeatView) (marking : Marking) (notes : NotesState) : 
       marking.overflow ≡ false → notes.overflow ≡ false → (p : ℕ) → holds v.marked p ≡ true → holds v.traced p ≡ false
       → Contains marking.list.items p ⊎ Contains notes.notes (note_of p 0)
   pub unshared : marking.list.shares ≡ [] → ListsGrey v marking
-  pub noted : (note : Note) → Contains notes.notes note → IsOfMarked v note
+  pub noted : (note : Note) → Contains notes.notes note → (note.word ≡ 0) ⊎ HasPair v.types v.bodies note.holder note.word
   pub recorded : notes.overflow ≡ false → (pair : ℕ × ℕ) → Contains v.noted pair → Contains notes.notes (note_from pair)
 
 -- marking can be brought to its end: it goes on, and the owner is alone with the whole list; what is listed is marked, and each

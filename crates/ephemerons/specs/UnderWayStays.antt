@@ -1,5 +1,6 @@
 -- Marking stays under way where objects were marked and listed, and where nothing that it looks at has changed.
 use Rattle.std.proofs.Common.{◌≡◌, ℕ, ◌+◌, true, false, List, [], ◌∷◌, length, refl, ap, ◌∙◌, sym, subst, inl, inr, arith}
+use mathlib.Core.Logic.{◌⊎◌}
 use Rattle.std.specs.List.{Contains}
 use Rattle.gc_graph.specs.State.{ObjectType}
 use Rattle.mark_worklist.specs.declared.marking.Marking.{Marking}
@@ -8,7 +9,7 @@ use Rattle.page_words.specs.Seat.{SeatView, IsStill}
 use Rattle.ephemerons.specs.declared.notes.Note.{Note}
 use Rattle.ephemerons.specs.BodyGraph.{HasPair}
 use Rattle.ephemerons.specs.Notes.{NotesState}
-use Rattle.ephemerons.specs.UnderWay.{IsOfMarked, IsUnderWay, ListsGrey}
+use Rattle.ephemerons.specs.UnderWay.{IsUnderWay, ListsGrey}
 use Rattle.ephemerons.specs.Fixpoint.{ListsMarks, Mode, mode_of}
 use Rattle.ephemerons.specs.ListedMarks.{still_yet}
 
@@ -32,16 +33,13 @@ grey_marked u v m n marks grey = λ fine p marked white. elim (marks.fresh fine 
 
 -- ---- marking that is under way
 
-of_same : (u v : SeatView) (note : Note) → v.types ≡ u.types → v.bodies ≡ u.bodies → ((p : ℕ) → holds u.marked p ≡ true → holds v.marked p ≡ true)
-    → IsOfMarked u note → IsOfMarked v note
-of_same u v note types bodies marked is = record {
-  of = elim is.of [
-    | inl itself ↦ inl itself
-    | inr pair ↦ inr (subst (λ (ts : List ObjectType). HasPair ts v.bodies note.holder note.word) (sym types)
-        (subst (λ bs. HasPair u.types bs note.holder note.word) (sym bodies) pair))
-  ];
-  marked = marked note.holder is.marked;
-}
+pair_same : (u v : SeatView) (note : Note) → v.types ≡ u.types → v.bodies ≡ u.bodies
+    → (note.word ≡ 0) ⊎ HasPair u.types u.bodies note.holder note.word → (note.word ≡ 0) ⊎ HasPair v.types v.bodies note.holder note.word
+pair_same u v note types bodies is = elim is [
+  | inl itself ↦ inl itself
+  | inr pair ↦ inr (subst (λ (ts : List ObjectType). HasPair ts v.bodies note.holder note.word) (sym types)
+      (subst (λ bs. HasPair u.types bs note.holder note.word) (sym bodies) pair))
+]
 
 -- objects were marked and listed
 pub under_way_marked : (u v : SeatView) (m n : Marking) (x : NotesState) → ListsMarks u m v n → v.noted ≡ u.noted → IsUnderWay u m x → IsUnderWay v n x
@@ -59,7 +57,7 @@ under_way_marked u v m n x marks noted h = record {
   ];
   unshared = λ none. grey_marked u v m n marks (h.unshared (unshared_before m n marks.mode none));
   noted = λ note there.
-      of_same u v note (ap (λ (z : SeatView). z.types) marks.view) (ap (λ (z : SeatView). z.bodies) marks.view) marks.marked (h.noted note there);
+      pair_same u v note (ap (λ (z : SeatView). z.types) marks.view) (ap (λ (z : SeatView). z.bodies) marks.view) (h.noted note there);
   recorded = λ fine pair there. h.recorded fine pair (subst (λ l. Contains l pair) noted there);
 }
 
@@ -83,6 +81,6 @@ under_way_same u v m x same h = record {
       h.grey fine unrefused p (subst (λ l. holds l p ≡ true) same.marked marked) (subst (λ l. holds l p ≡ false) same.traced white);
   unshared = λ none fine p marked white.
       h.unshared none fine p (subst (λ l. holds l p ≡ true) same.marked marked) (subst (λ l. holds l p ≡ false) same.traced white);
-  noted = λ note there. of_same u v note same.types same.bodies (λ p marked. subst (λ l. holds l p ≡ true) (sym same.marked) marked) (h.noted note there);
+  noted = λ note there. pair_same u v note same.types same.bodies (h.noted note there);
   recorded = λ fine pair there. h.recorded fine pair (subst (λ l. Contains l pair) same.noted there);
 }
