@@ -8,7 +8,7 @@ ghost use Rattle.ephemerons.specs.BodyGraph.{PlacesDiffer};
 ghost use Rattle.ephemerons.specs.Marking.{traced_count};
 ghost use Rattle.ephemerons.specs.Fixpoint.{IsUnrefused};
 ghost use Rattle.ephemerons.specs.Notes.{group_at, refusals_in};
-ghost use Rattle.ephemerons.specs.UnderWay.{IsUnderWay};
+ghost use Rattle.ephemerons.specs.UnderWay.{IsReadyToEnd};
 ghost use Rattle.atomic_pause.specs.Marking.{IsMarkedIn, MarksReachable, marked_count};
 
 use ephemerons::{Pairs, fixpoint};
@@ -30,13 +30,14 @@ pub fn close(
     requires heap { IsSeatOf space.now seat.old }
     requires types { types.now ≡ seat.old.types }
     requires differ { PlacesDiffer seat.old.bodies }
-    requires one { length notes.old ≡ 1 }
-    requires under_way { IsUnderWay seat.old marking.old (group_at notes.old 0) }
+    requires ready { IsReadyToEnd types.now seat.old marking.old notes.old }
     ensures over { MarksReachable types.now (IsMarkedIn seat.old) (IsMarkedIn seat.old)
         seat.old seat.new }
     ensures traced { traced_count seat.old + result ≡ marked_count seat.new }
     ensures list { marking.new.list.items ≡ [] }
     ensures off { marking.new.on ≡ false }
+    ensures whole { marking.new.list.whole ≡ true }
+    ensures shares { length marking.new.list.shares ≡ length marking.old.list.shares }
     ensures told { TellsRefused (refusals_of marking.old) (refusals_of marking.new) }
     ensures notes_told { (i : ℕ) → TellsRefused
         (refusals_in (group_at notes.old i)) (refusals_in (group_at notes.new i)) }

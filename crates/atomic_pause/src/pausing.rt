@@ -13,7 +13,7 @@ ghost use Rattle.marker_core.specs.Bodies.{IsPlace, holds};
 ghost use Rattle.page_space.specs.Space.{IsSpaceOf, extents_of_bodies};
 ghost use Rattle.persistent_slots.specs.Clearing.{taken};
 ghost use Rattle.ephemerons.specs.Marking.{traced_count};
-ghost use Rattle.ephemerons.specs.UnderWay.{IsUnderWay};
+ghost use Rattle.ephemerons.specs.UnderWay.{IsReadyToEnd};
 ghost use Rattle.ephemerons.specs.Fixpoint.{IsUnrefused};
 ghost use Rattle.ephemerons.specs.Notes.{group_at, refusals_in};
 ghost use Rattle.nodes_in_words.specs.Nodes.{AreOfValid, IsHeld};
@@ -35,8 +35,8 @@ use crate::roots::{scan_stack, visit_region, visit_slots};
 /// Keeps what the roots reach and condemns the other objects. The roots are what the strong slots
 /// name, those of the region too, and, unless the pause is precise, the objects with a word at an
 /// address of the stack (`include/cppgc/README.md`, precise and conservative garbage collection). It
-/// is called while marking is under way, by the thread that owns the heap; what was marked before it
-/// keeps too.
+/// is called while marking goes on, by the thread that owns the heap, once no marker has a view or a
+/// share; what was marked before it keeps too. Each marker's notes may be a group of their own.
 /// Refusals of memory stay told in the marking state and the notes, until their owner clears these.
 pub fn pause(parts: Parts, stack: &[u64], precise: bool) -> PauseResult
     requires heap { IsSpaceOf parts.space.now parts.seat.now }
@@ -46,8 +46,8 @@ pub fn pause(parts: Parts, stack: &[u64], precise: bool) -> PauseResult
         parts.nodes.now.value }
     requires held { IsHeld parts.nodes.now.value parts.seat.now }
     requires few { length parts.nodes.now.value ≤ 1000000 }
-    requires under_way { IsUnderWay parts.seat.now parts.marking.now
-        (group_at parts.notes.now 0) }
+    requires ready { IsReadyToEnd parts.types.now parts.seat.now parts.marking.now
+        parts.notes.now }
     requires may { (p : ℕ) → Contains parts.strong.now (Some p)
         → holds parts.seat.now.may p ≡ true }
     requires traced { traced_count parts.seat.now ≡ parts.traced }
@@ -82,6 +82,9 @@ pub fn pause(parts: Parts, stack: &[u64], precise: bool) -> PauseResult
     ensures traced { parts.entry.traced + result.traced ≡ result.kept }
     ensures list { (marking_left parts.exit).now.list.items ≡ [] }
     ensures off { (marking_left parts.exit).now.on ≡ false }
+    ensures joined { (marking_left parts.exit).now.list.whole ≡ true }
+    ensures shares { length (marking_left parts.exit).now.list.shares
+        ≡ length parts.entry.marking.now.list.shares }
     ensures walked { result.walked ≡ true →
         IsUnrefused (marking_left parts.exit).now.overflow (notes_left parts.exit).now → ⊥ }
     ensures whole { result.walked ≡ false →

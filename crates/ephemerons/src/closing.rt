@@ -10,7 +10,7 @@ ghost use Rattle.ephemerons.specs.BodyGraph.{PlacesDiffer};
 ghost use Rattle.ephemerons.specs.Marking.{MarksOn, GrowsWithin, IsOver, traced_count};
 ghost use Rattle.ephemerons.specs.Notes.{IsNote, IsNotedIn, group_at, refusals_in};
 ghost use Rattle.ephemerons.specs.Fixpoint.{IsGround, IsAccounted, IsSettled, IsUnrefused};
-ghost use Rattle.ephemerons.specs.Fixpoint.{Works, stage, weight};
+ghost use Rattle.ephemerons.specs.Fixpoint.{Works, mode_of, stage, weight};
 
 use crate::draining::{drain, drain_if_pairless};
 use crate::notes::Pairs;
@@ -37,6 +37,7 @@ pub fn fixpoint<B: Bodywords>(
     requires marking { marking.old.on ≡ seat.old.on }
     requires types { types.now ≡ seat.old.types }
     requires alone { IsAlone seat.old }
+    requires whole { marking.old.list.whole ≡ true }
     requires listed { (p : ℕ) → Contains marking.old.list.items p → IsPlace seat.old.bodies p }
     requires noted { (note : Note) → IsNotedIn groups.old note
         → IsNote types.now seat.old.bodies note }
@@ -50,7 +51,7 @@ pub fn fixpoint<B: Bodywords>(
     ensures counted { PlacesDiffer seat.old.bodies
         → traced_count seat.new ≡ traced_count seat.old + result }
     ensures list { marking.new.list.items ≡ [] }
-    ensures on { marking.new.on ≡ marking.old.on }
+    ensures mode { mode_of marking.new ≡ mode_of marking.old }
     ensures noted { (note : Note) → IsNotedIn groups.old note → IsNotedIn groups.new note }
     ensures refused { IsUnrefused marking.new.overflow groups.new
         → IsUnrefused marking.old.overflow groups.old }

@@ -209,6 +209,7 @@ pub(crate) fn list_held(marking: &mut Marking, held: Option<u32>)
 /// The object that was held back, or else one that was listed.
 #[inline(always)]
 pub(crate) fn next_listed(marking: &mut Marking, held: Option<u32>) -> Option<u32>
+    requires whole { marking.old.list.whole ≡ true }
     ensures next { IsStillHeld marking.old held marking.new result }
     ensures none { IfNone result (marking.new.list.items ≡ []) }
 {

@@ -1,12 +1,15 @@
 // A step of marking: so many objects from the list are traced, and no note is settled.
 
-ghost use Rattle.std.specs.Prelude.{◌≡◌, ◌<◌, ◌≤◌, ◌+◌, ◌^◌, [], ◌∷◌, None, Some};
+ghost use Rattle.std.specs.Prelude.{◌≡◌, ◌⊎◌, ◌<◌, ◌≤◌, ◌+◌, ◌^◌, [], ◌∷◌, None, Some};
+ghost use Rattle.std.specs.Prelude.{true, Contains};
 ghost use Rattle.mark_worklist.specs.Refusals.{TellsRefused, refusals_of};
-ghost use Rattle.ephemerons.specs.BodyGraph.{PlacesDiffer, HaveNoPairs};
+ghost use Rattle.page_words.specs.Seat.{IsAlone};
+ghost use Rattle.ephemerons.specs.declared.notes.Note.{Note};
+ghost use Rattle.ephemerons.specs.BodyGraph.{HasPair, PlacesDiffer, HaveNoPairs};
 ghost use Rattle.ephemerons.specs.Marking.{MarksOn, traced_count};
 ghost use Rattle.ephemerons.specs.Notes.{refusals_in};
 ghost use Rattle.ephemerons.specs.UnderWay.{IsUnderWay};
-ghost use Rattle.ephemerons.specs.Fixpoint.{IsGround, Works, stage, with_held};
+ghost use Rattle.ephemerons.specs.Fixpoint.{IsGround, Works, mode_of, stage, with_held};
 
 use crate::draining::has_pairs;
 use crate::marks::{list_held, next_listed};
@@ -30,7 +33,13 @@ pub fn trace_listed<B: Bodywords>(
     requires heap { seat.old.heap ≡ B.heap space.now }
     requires types { types.now ≡ seat.old.types }
     requires under_way { IsUnderWay seat.old marking.old notes.old }
+    requires alone { IsAlone seat.old }
+    requires whole { marking.old.list.whole ≡ true }
     ensures under_way { IsUnderWay seat.new marking.new notes.new }
+    ensures alone { IsAlone seat.new }
+    ensures mode { mode_of marking.new ≡ mode_of marking.old }
+    ensures noted { (note : Note) → Contains notes.new.notes note → Contains notes.old.notes note
+        ⊎ HasPair types.now seat.old.bodies note.holder note.word }
     ensures kept { MarksOn seat.old seat.new }
     ensures counted { PlacesDiffer seat.old.bodies
         → traced_count seat.new ≡ traced_count seat.old + result }

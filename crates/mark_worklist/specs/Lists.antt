@@ -1,7 +1,8 @@
 -- A marking list and what a push and a pop make of it.
-use Rattle.std.specs.Prelude.{◌≡◌, ℕ, ◌+◌, ◌-◌, ◌^◌, Bool, true, false, List, [], ◌∷◌, ◌++◌, min, slice_set, if◌then◌else◌}
+use Rattle.std.specs.Prelude.{◌≡◌, ℕ, ◌+◌, ◌-◌, ◌^◌, Bool, true, false, List, [], ◌∷◌, ◌++◌, min, slice_set, if◌then◌else◌, ◌&&◌}
 use Rattle.stealing_lists.specs.Families.{at}
-use Rattle.stealing_lists.specs.Shares.{ShareState, pushed, refused_once as refused_at}
+use Rattle.stealing_lists.specs.Joining.{AreFresh}
+use Rattle.stealing_lists.specs.Shares.{ShareState, put_of, pushed, refused_once as refused_at}
 
 -- the addresses, of whose order nothing is said, and while shares are out those that the owner put; how many pushes were
 -- refused; whether nothing was found since an item was last put or given; the owner's share and those that it took in; and
@@ -13,9 +14,28 @@ pub record ListState : Type 0 where
   pub shares : List ShareState
   pub whole : Bool
 
+-- while shares are out the list is as the owner's share tells
+abbrev pub as_own : List ShareState → ListState
+as_own shares = record {
+  items = put_of (at shares 0);
+  refused = (at shares 0).refused;
+  idle = (at shares 0).pop_found_none && (at shares 0).steal_found_none;
+  shares = shares;
+  whole = false;
+}
+
 -- a list without shares, to which nothing happened yet
 abbrev pub no_items : ListState
 no_items = record { items = []; refused = 0; idle = false; shares = []; whole = true }
+
+-- a list and its shares, all of them out, of which no call was made
+pub record IsShared (count : ℕ) (list : ListState) (shares : List ShareState) : Type 0 where
+  pub whole : list.whole ≡ false
+  pub own : list ≡ as_own list.shares
+  pub items : list.items ≡ []
+  pub refused : list.refused ≡ 0
+  pub idle : list.idle ≡ false
+  pub fresh : AreFresh count list.shares shares
 
 -- the longer list has the address once more than the shorter one, and each other as often
 pub record IsOneMore (short : List ℕ) (a : ℕ) (long : List ℕ) : Type 0 where

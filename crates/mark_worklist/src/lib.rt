@@ -17,8 +17,10 @@
 //! What is only tested or not said: that memory suffices for a push; which address a pop takes.
 #![tactic(auto)]
 
+mod left;
 mod marking;
 mod worklist;
 
 pub use marking::Marking;
-pub use worklist::{Refused, Share, Worklist};
+pub use stealing_lists::{Refused, Share, Tally};
+pub use worklist::Worklist;

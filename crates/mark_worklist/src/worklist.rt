@@ -1,58 +1,81 @@
 // A marking list (`src/heap/base/worklist.h`, of which this is the owner's view alone).
 
-ghost use Rattle.std.specs.Prelude.{◌≡◌, ◌≤◌, [], true, false, length};
-ghost use Rattle.std.specs.Prelude.{IfErr, IfOk, OnOk, MatchOption, MatchResult};
-ghost use Rattle.mark_worklist.specs.Lists.{no_items, IsPushed, IsOneMore};
+ghost use Rattle.std.specs.Prelude.{◌≡◌, ◌≤◌, ◌<◌, ◌++◌, Some, [], true, false, length, min};
+ghost use Rattle.std.specs.Prelude.{slice_set};
+ghost use Rattle.std.specs.Prelude.{IfErr, IfOk, OnOk, MatchOption};
+ghost use Rattle.stealing_lists.specs.Hands.{all_parts};
+ghost use Rattle.stealing_lists.specs.Shares.{pushed, refused_once as refused_at};
+ghost use Rattle.stealing_lists.specs.Families.{at};
+ghost use Rattle.stealing_lists.specs.Joining.{put_by, taken_by, refused_by, IsTaken};
+ghost use Rattle.stealing_lists.specs.Joining.{AreAllShares, AreJoined, HaveSameItems};
+ghost use Rattle.mark_worklist.specs.Lists.{no_items, as_own, IsShared, IsPushed, IsOneMore};
 ghost use Rattle.mark_worklist.specs.Lists.{refused_once, last_count};
+ghost use Rattle.mark_worklist.specs.Left.{shares_in, IsLeftIn};
 
+use crate::left::{Addresses, none};
 use gc_graph::NoMemory;
+use ghost_values::GhostValue;
 use std::alloc::Global;
 use std::marker::Model;
-
-/// The address of a push for which memory was wanting.
-#[derive(Debug, Drop, PartialEq)]
-pub struct Refused(pub u32);
-
-/// A marker's share of a list. Nobody can make one so far: the owner alone marks.
-#[derive(Drop)]
-pub enum Share {}
+use stealing_lists::{Refused, Share, SharedList, Tally};
 
 /// A list of addresses. It takes memory as it grows, and keeps it. The order in which addresses are
 /// popped is free: here the last one is the first, and a list from which others take addresses too
 /// keeps another order.
+///
+/// | shares | where the owner's pushes go |
+/// |---|---|
+/// | there are none | to `items` |
+/// | they are out | to the owner's share in `shared`, from which the others steal |
+/// | they were taken in | to `items`, and what was left on the lists is popped after these |
 #[derive(Drop)]
 pub struct Worklist {
     items: Vec<u32>,
     refused: u64,
     idle: bool,
+    out: bool,
+    shared: Option<SharedList>,
+    left: GhostValue<Addresses>,
 }
 
 impl Model for Worklist {
-    ghost use Rattle.std.specs.Prelude.{◌≡◌, true, []};
     ghost use Rattle.mark_worklist.specs.Lists.{ListState};
+    ghost use Rattle.mark_worklist.specs.Left.{state_of, IsKept};
 
     ghost Value = { ListState };
 
-    ghost view = { λ l. record { items = l.items.items; refused = l.refused; idle = l.idle } };
+    ghost view = { λ l. state_of l.out l.items.items l.refused l.idle l.shared l.left.value };
 
-    ghost invariant = { λ l. l.idle ≡ true → l.items.items ≡ [] };
+    ghost invariant = { λ l. IsKept l.out l.items.items l.idle l.shared l.left.value };
 }
 
 impl Worklist {
-    /// An empty list without room, and a share of it for each marker that is to come. Want of memory
-    /// is free.
+    ghost use Rattle.std.specs.Borrow.{sem};
+    ghost use Rattle.mark_worklist.specs.Lending.{LendsOwn};
+
+    /// An empty list without room, and so many shares of it, one for each marker that is to come. Want
+    /// of memory is free.
     pub fn new(alloc: Global, shares: u32) -> Result<(Worklist, Vec<Share>), NoMemory>
-        requires none { shares ≡ 0 }
-        ensures list { IfOk result (λ made. made.0 ≡ no_items) }
-        ensures shares { IfOk result (λ made. length made.1.items ≡ shares) }
+        requires few { shares < all_parts }
+        ensures alone { shares ≡ 0 → IfOk result (λ made. (made.0 ≡ no_items)
+            × (made.1.items ≡ [])) }
+        ensures shared { 0 < shares → IfOk result (λ made. IsShared shares made.0 made.1.items) }
     {
-        let _ = shares;
-        let list = Worklist {
+        let mut list = Worklist {
             items: Vec::new(alloc),
             refused: 0,
             idle: false,
+            out: false,
+            shared: None,
+            left: none(),
         };
-        Ok((list, Vec::new(alloc)))
+        if shares == 0 {
+            return Ok((list, Vec::new(alloc)));
+        }
+        let (shared, others) = SharedList::new(alloc, shares)?;
+        list.shared = Some(shared);
+        list.out = true;
+        Ok((list, others))
     }
 
     /// Takes room for so many more addresses. Want of memory is free.
@@ -69,7 +92,11 @@ impl Worklist {
         ensures refused { IfErr result (λ back.
             (back.0 ≡ a) × (self.new ≡ refused_once self.old)) }
         ensures fits { self.old.refused ≤ last_count }
+        ensures own { self.new.whole ≡ false → self.new ≡ as_own self.new.shares }
     {
+        if self.out {
+            return push_out(&mut self.shared, a);
+        }
         if let Err(_) = self.items.push(a) {
             self.refused = self.refused.saturating_add(1);
             return Err(Refused(a));
@@ -78,42 +105,148 @@ impl Worklist {
         Ok(())
     }
 
-    /// Takes an address from the list. None where there is none.
+    /// Takes an address from the list, of which no share is out. None where there is none.
     pub fn pop(&mut self) -> Option<u32>
+        requires whole { self.old.whole ≡ true }
         ensures items { MatchOption result ((self.old.items ≡ []) × (self.new.items ≡ []))
             (λ a. IsOneMore self.new.items a self.old.items) }
         ensures idle { MatchOption result (self.new.idle ≡ true) (λ a. self.new.idle ≡ false) }
         ensures refused { self.new.refused ≡ self.old.refused }
+        ensures whole { self.new.whole ≡ true }
+        ensures shares { length self.new.shares ≡ length self.old.shares }
     {
-        let last = self.items.pop();
-        match last {
-            // A list with an item isn't idle, so that only the end of a list is written down.
-            Some(a) => Some(a),
-            None => {
-                self.idle = true;
-                None
-            }
+        // A list with an item isn't idle, so that only the end of a list is written down.
+        if let Some(a) = self.items.pop() {
+            return Some(a);
+        }
+        if let Some(a) = pop_left(&mut self.shared, &mut self.left) {
+            return Some(a);
+        }
+        self.idle = true;
+        None
+    }
+
+    /// The owner's share, for calls that take a share.
+    pub fn own_share(&mut self) -> &mut Share
+        requires out { self.old.whole ≡ false }
+        ensures* lends { sem 𝓛 (LendsOwn self.entry result) }
+    {
+        match &mut self.shared {
+            Some(list) => list.own(),
+            None => unreachable!(),
         }
     }
 
-    /// How many addresses the list has.
+    /// Takes all shares in, without memory: what is left on their lists is on the list from now on.
+    pub fn finish(&mut self, shares: Vec<Share>) -> Tally
+        requires out { self.old.whole ≡ false }
+        requires all { AreAllShares self.old.shares shares.items }
+        ensures pushed { result.pushed ≡ length (put_by (self.old.shares ++ shares.items)) }
+        ensures taken { result.taken ≡ length (taken_by (self.old.shares ++ shares.items)) }
+        ensures left { result.left ≡ length self.new.items }
+        ensures items { IsTaken (self.old.shares ++ shares.items) self.new.items }
+        ensures same { HaveSameItems (self.old.shares ++ shares.items) self.new.shares
+            × AreJoined self.new.shares }
+        ensures refused { self.new.refused
+            ≡ min (refused_by (self.old.shares ++ shares.items)) last_count }
+        ensures whole { self.new.whole ≡ true }
+        ensures awake { self.new.idle ≡ false }
+    {
+        let (tally, refused) = take_in(&mut self.shared, &mut self.left, shares);
+        self.refused = refused;
+        self.out = false;
+        tally
+    }
+
+    /// How many addresses a list without shares has. One with shares may have more.
     pub fn len(&self) -> usize
-        ensures { result ≡ length self.now.items }
+        ensures alone { self.now.shares ≡ [] → result ≡ length self.now.items }
+        ensures some { result ≤ length self.now.items }
     {
         self.items.len()
     }
 
-    /// How many pushes were refused. It stays at its last value once it is there.
+    /// How many pushes were refused, those of the shares among them once they were taken in. It stays
+    /// at its last value once it is there.
     pub fn refused(&self) -> u64
         ensures { result ≡ self.now.refused }
     {
-        self.refused
+        match &self.shared {
+            Some(list) if self.out => list.refused(),
+            _ => self.refused,
+        }
     }
 
-    /// Whether the last `pop` found nothing, with no accepted push since.
+    /// Whether the list has found nothing since it was made, took its shares in, or last put or gave an
+    /// address. While shares are out, a pop and a steal of the owner's share have.
     pub fn idle(&self) -> bool
         ensures { result ≡ self.now.idle }
     {
-        self.idle
+        match &self.shared {
+            Some(list) if self.out => list.idle(),
+            _ => self.idle,
+        }
+    }
+}
+
+/// Puts an address on the owner's share, while others are out.
+#[inline(never)]
+fn push_out(shared: &mut Option<SharedList>, a: u32) -> Result<(), Refused>
+    requires some { 0 < length (shares_in shared.old) }
+    ensures done { OnOk result (shared.new
+        ≡ Some (slice_set (shares_in shared.old) 0 (pushed (at (shares_in shared.old) 0) a))) }
+    ensures refused { IfErr result (λ back. (back.0 ≡ a) × (shared.new
+        ≡ Some (slice_set (shares_in shared.old) 0
+        (refused_at (at (shares_in shared.old) 0))))) }
+{
+    match shared {
+        Some(list) => list.push(a),
+        None => unreachable!(),
+    }
+}
+
+/// Takes an address that was left on lists that were taken in.
+#[inline(never)]
+fn pop_left(shared: &mut Option<SharedList>, left: &mut GhostValue<Addresses>) -> Option<u32>
+    requires left { IsLeftIn shared.old left.old.value }
+    ensures left { IsLeftIn shared.new left.new.value }
+    ensures items { MatchOption result ((left.old.value ≡ []) × (left.new.value ≡ []))
+        (λ a. IsOneMore left.new.value a left.old.value) }
+    ensures as_many { length (shares_in shared.new) ≡ length (shares_in shared.old) }
+{
+    match shared {
+        Some(list) => {
+            let popped = list.pop();
+            *left = GhostValue::chosen(&0u8);
+            popped
+        }
+        None => None,
+    }
+}
+
+/// Takes all shares in. The lists tell how many pushes were refused.
+fn take_in(
+    shared: &mut Option<SharedList>,
+    left: &mut GhostValue<Addresses>,
+    shares: Vec<Share>,
+) -> (Tally, u64)
+    requires all { AreAllShares (shares_in shared.old) shares.items }
+    ensures pushed { result.0.pushed ≡ length (put_by (shares_in shared.old ++ shares.items)) }
+    ensures taken { result.0.taken ≡ length (taken_by (shares_in shared.old ++ shares.items)) }
+    ensures count { result.0.left ≡ length left.new.value }
+    ensures left { IsLeftIn shared.new left.new.value }
+    ensures items { IsTaken (shares_in shared.old ++ shares.items) left.new.value }
+    ensures same { HaveSameItems (shares_in shared.old ++ shares.items) (shares_in shared.new)
+        × AreJoined (shares_in shared.new) }
+    ensures refused { result.1
+        ≡ min (refused_by (shares_in shared.old ++ shares.items)) last_count }
+{
+    match shared {
+        Some(list) => {
+            let tally = list.finish(shares);
+            *left = GhostValue::chosen(&0u8);
+            (tally, list.refused())
+        }
+        None => unreachable!(),
     }
 }

@@ -1,11 +1,11 @@
 -- All shares of a family, in one list: before they are joined, and what is known afterwards.
 use Rattle.std.proofs.Common.{◌≡◌, ◌≤◌, ℕ, ◌+◌, ◌<◌, true, false, List, [], ◌∷◌, ◌++◌, length, map, set, get_or, sym, ap, ap₂, ◌∙◌, subst, inl, inr, IsPermutation, arith, ◌==◌}
 use Rattle.std.specs.List.{All, remove}
-use Rattle.std.proofs.lemmas.List.{length-map, length-append, length-set, take_all, get_or_default, get_or-set_same, get_or-set_other, get_or_append_left, set-get_or}
+use Rattle.std.proofs.lemmas.List.{length-map, length-append, length-set, take_all, get_or_default, get_or_append_left, set-get_or}
 use Rattle.std.proofs.lemmas.List.Edits.{length-insert, length-remove}
 use Rattle.std.proofs.lemmas.List.Elements.{All-append, All-set}
 use Rattle.std.proofs.lemmas.List.Sorted.{All-permutation}
-use Rattle.std.proofs.lemmas.Bool.{cases_eq, cases_lt}
+use Rattle.std.proofs.lemmas.Bool.{cases_lt}
 use Rattle.stealing_lists.specs.Hands.{all_parts, WasEmpty}
 use Rattle.stealing_lists.specs.Ends.{ListName}
 use Rattle.stealing_lists.specs.Shares.{ShareState, times}
@@ -86,16 +86,14 @@ still-joined shares refused s some is h = record {
   apart = All-set (λ t. t.others ≡ []) shares 0 s (ap (λ t. t.others) is ∙ h.apart 0 nobody some) h.apart;
 }
 
--- the first one keeps its ends of other lists where one of them gave an item and the first is woken
-pub first-others : (shares : List ShareState) (i a : ℕ) (e w : ShareState) → i < length shares → e ≡ with_own_taken (at shares i) a
-    → w ≡ record (at (set shares i e) 0) { pop_found_none = false; steal_found_none = false } → (at (set (set shares i e) 0 w) 0).others ≡ (at shares 0).others
-first-others shares i a e w within e-is w-is =
-    let first = ap (λ s. s.others) (get_or-set_same (set shares i e) 0 w nobody (omega (arith, within, length-set shares i e)) ∙ w-is) in
-    first ∙ elim (cases_eq 0 i) [
-      | inl is ↦ (let there : (at (set shares i e) 0).others ≡ e.others = ap (λ s. s.others) (ap (λ j. at (set shares i e) j) is ∙ get_or-set_same shares i e nobody within) in
-          there ∙ ap (λ s. s.others) e-is ∙ ap (λ j. (at shares j).others) (sym is))
-      | inr other ↦ ap (λ s. s.others) (get_or-set_other shares i 0 e nobody other)
-    ]
+-- the first share tells what was refused, and what is left is the same
+pub still-taken : (shares : List ShareState) (refused : ℕ) (s : ShareState) → 0 < length shares
+    → s ≡ record (at shares 0) { refused = refused; pop_found_none = false; steal_found_none = false } → (left : List ℕ) → IsTaken shares left → IsTaken (set shares 0 s) left
+still-taken [] refused s some is left taken = absurd (omega (arith, some))
+still-taken (x ∷ xs) refused s some is left taken = record {
+  even = λ item. ap (λ t. times item (taken_by (t ∷ xs)) + times item left) is ∙ taken.even item ∙ sym (ap (λ t. times item (put_by (t ∷ xs))) is);
+  as_many = ap (λ t. length (taken_by (t ∷ xs)) + length left) is ∙ taken.as_many ∙ sym (ap (λ t. length (put_by (t ∷ xs))) is);
+}
 
 -- the first share and the others are all
 pub first-and-rest : (shares : List ShareState) (x : ShareState) → 0 < length shares → x ≡ get_or shares 0 x → (x ∷ []) ++ remove shares 0 ≡ shares

@@ -66,7 +66,9 @@ impl SharedList {
 
     /// The owner's share, for calls that take a share. It is to be left in its place.
     pub fn own(&mut self) -> &mut Share
-        ensures* { sem 𝓛 (LendsOwn self.entry result) }
+        ensures* lends { sem 𝓛 (LendsOwn self.entry result) }
+        ensures share { result.now ≡ at self.old 0 }
+        ensures some { 0 < length self.old }
     {
         &mut self.family[0]
     }
@@ -121,7 +123,7 @@ impl SharedList {
         ensures pushed { result.pushed ≡ length (put_by (self.old ++ shares.items)) }
         ensures taken { result.taken ≡ length (taken_by (self.old ++ shares.items)) }
         ensures left { (left : List ℕ) × (length left ≡ result.left)
-            × IsTaken (self.old ++ shares.items) left }
+            × IsTaken (self.old ++ shares.items) left × IsTaken self.new left }
         ensures same { HaveSameItems (self.old ++ shares.items) self.new × AreJoined self.new }
         ensures known { KnowLeft self.new }
         ensures refused { (at self.new 0).refused

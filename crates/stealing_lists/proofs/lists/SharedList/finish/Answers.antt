@@ -5,7 +5,8 @@ use Rattle.stealing_lists.specs.Hands.{HasLeft}
 use Rattle.stealing_lists.specs.Shares.{ShareState, last_count}
 use Rattle.stealing_lists.specs.Families.{at, nobody}
 use Rattle.stealing_lists.specs.Joining.{put_by, AreJoined, KnowLeft, LoseNothing, IsAllCounted, IsTaken}
-use Rattle.stealing_lists.proofs.Wholes.{as-many-put, all-taken, settled, still-joined}
+use Rattle.stealing_lists.proofs.Items.{same-items}
+use Rattle.stealing_lists.proofs.Wholes.{as-many-put, all-taken, settled, still-joined, still-taken}
 use Rattle.stealing_lists.proofs.lists.SharedList.finish.Goals as goal
 use Rattle.stealing_lists.proofs.lists.SharedList.finish.Goals.{After-self-1}
 
@@ -58,7 +59,15 @@ pub returns-clause-taken : goal.returns-clause-taken
 returns-clause-taken c = let f = facts c in let t = taken c in omega (arith, f.all_put, f.counted.1, t.as_many)
 
 pub returns-clause-left : goal.returns-clause-left
-returns-clause-left c = let f = facts c in (f.counted.0, f.counted.1, taken c)
+returns-clause-left c =
+    let f = facts c in
+    let now = c.count_left-left.new.family.items in
+    let items = f.counted.0 in (
+      items,
+      f.counted.1,
+      taken c,
+      still-taken now c.count_refused-refused.result c.settle.new.self f.some f.is items (all-taken now now (same-items now) items f.counted.2),
+    )
 
 pub returns-clause-same : goal.returns-clause-same
 returns-clause-same c =

@@ -1,0 +1,33 @@
+-- What a list keeps of its shares, and what is left on those that it took in.
+use Rattle.std.specs.Prelude.{◌≡◌, ℕ, Bool, true, false, List, [], ◌++◌, Option, Some, None}
+use Rattle.stealing_lists.specs.Joining.{AreJoined, KnowLeft, IsTaken}
+use Rattle.stealing_lists.specs.Shares.{ShareState}
+use Rattle.mark_worklist.specs.Lists.{ListState, as_own}
+
+-- the shares, if there are any
+abbrev pub shares_in : Option (List ShareState) → List ShareState
+shares_in None = []
+shares_in (Some shares) = shares
+
+-- the list whose owner's vector has these addresses; all of it is the owner's share's while shares are out
+abbrev pub state_of : Bool → List ℕ → ℕ → Bool → Option (List ShareState) → List ℕ → ListState
+state_of true items refused idle shared left = as_own (shares_in shared)
+state_of false items refused idle shared left =
+    record { items = left ++ items; refused = refused; idle = idle; shares = shares_in shared; whole = true }
+
+-- these addresses are left on the lists of the shares, which were taken in
+pub record IsLeftOn (shares : List ShareState) (left : List ℕ) : Type 0 where
+  pub joined : AreJoined shares
+  pub known : KnowLeft shares
+  pub taken : IsTaken shares left
+
+-- the same where there may be none
+abbrev pub IsLeftIn : Option (List ShareState) → List ℕ → Type 0
+IsLeftIn None left = left ≡ []
+IsLeftIn (Some shares) left = IsLeftOn shares left
+
+-- while shares are out the vector is empty; then what is left is known, and an idle list has nothing
+abbrev pub IsKept : Bool → List ℕ → Bool → Option (List ShareState) → List ℕ → Type 0
+IsKept true items idle None left = ⊥
+IsKept true items idle (Some shares) left = (items ≡ []) × (idle ≡ false)
+IsKept false items idle shared left = IsLeftIn shared left × (idle ≡ true → left ++ items ≡ [])
