@@ -1,6 +1,7 @@
 -- A pop from joined lists, of which it is known what is left.
 use Rattle.std.proofs.Common.{rules, ◌≡◌, ℕ, zero, suc, ◌+◌, ◌≤◌, ◌<◌, Bool, true, false, List, [], ◌∷◌, ◌++◌, length, set, Option, None, Some, refl, sym, ap, ◌∙◌, subst, inl, inr, arith, ◌==◌, cond}
-use Rattle.std.specs.List.{All, count_by, flat_map, sum_by}
+use Rattle.std.specs.List.{All, Contains, count_by, flat_map, sum_by}
+use Rattle.gc_graph.specs.Members.{Contains-cons, Contains-head}
 use Rattle.std.proofs.lemmas.Bool.{cases_Bool, eqb-true}
 use Rattle.std.proofs.lemmas.List.{append-nil, length-append, length-set}
 use Rattle.std.proofs.lemmas.List.Elements.{All-set}
@@ -35,13 +36,11 @@ taken-le shares asked joined known =
 one-of : (a : ℕ) → times a (a ∷ []) ≡ 1
 one-of a = search rules
 
-is-in : (a : ℕ) (items : List ℕ) → 0 < times a items → (before : List ℕ) × (after : List ℕ) × (items ≡ before ++ a ∷ after)
+is-in : (a : ℕ) (items : List ℕ) → 0 < times a items → Contains items a
 is-in a [] some = absurd (omega (arith, some))
 is-in a (x ∷ xs) some = elim (cases_Bool (x == a)) [
-  | inl this ↦ ([], xs, ap (λ y. y ∷ xs) (eqb-true x a this))
-  | inr other ↦
-      (let r = is-in a xs (omega (arith, some, sum_by-cons (λ y. cond (y == a) 1 0) x xs, ap {B = ℕ} (λ t. cond t 1 0) other)) in
-      (x ∷ r.0, r.1, ap (λ l. x ∷ l) r.2))
+  | inl this ↦ subst (λ y. Contains (y ∷ xs) a) (sym (eqb-true x a this)) (Contains-head a xs)
+  | inr other ↦ Contains-cons x xs a (is-in a xs (omega (arith, some, sum_by-cons (λ y. cond (y == a) 1 0) x xs, ap {B = ℕ} (λ t. cond t 1 0) other)))
 ]
 
 -- ---- one item was taken
@@ -104,12 +103,9 @@ module _ (old new : List ShareState) (a : ℕ) (took : TookOne old a new) where
 
     left-after : (items : List ℕ) → IsTaken old items → IsLeftAfter new (Some a) items
     left-after items taken =
-        let this : ℕ → Bool = λ i. i == a in
-        let is = is-in a items (omega (arith, taken.even a, put-same this, taken-more this, one-of a, taken-le new this joined-yet known-yet)) in (
-          is.0,
-          is.1,
-          is.2,
-          record {
+        let this : ℕ → Bool = λ i. i == a in (
+          is-in a items (omega (arith, taken.even a, put-same this, taken-more this, one-of a, taken-le new this joined-yet known-yet)),
+          λ before after is. record {
             even = λ item.
                 let asked : ℕ → Bool = λ i. i == item in
                 omega (
@@ -117,10 +113,10 @@ module _ (old new : List ShareState) (a : ℕ) (took : TookOne old a new) where
                   taken.even item,
                   put-same asked,
                   taken-more asked,
-                  ap (count_by asked) is.2,
-                  count-append asked is.0 (a ∷ is.1),
-                  count-append asked (a ∷ []) is.1,
-                  count-append asked is.0 is.1,
+                  ap (count_by asked) is,
+                  count-append asked before (a ∷ after),
+                  count-append asked (a ∷ []) after,
+                  count-append asked before after,
                 );
             as_many =
                 let all : ℕ → Bool = λ i. true in
@@ -133,9 +129,9 @@ module _ (old new : List ShareState) (a : ℕ) (took : TookOne old a new) where
                   all-counted (put_by old),
                   all-counted (taken_by new),
                   all-counted (taken_by old),
-                  ap length is.2,
-                  length-append is.0 (a ∷ is.1),
-                  length-append is.0 is.1,
+                  ap length is,
+                  length-append before (a ∷ after),
+                  length-append before after,
                   all-counted (a ∷ []),
                 );
           },

@@ -60,10 +60,11 @@ pub record TookOne (old : List ShareState) (a : ℕ) (new : List ShareState) : T
   pub within : place < length old
   pub all : new ≡ awake_first (slice_set old place (with_own_taken (at old place) a))
 
--- of the items left there was none; or the list has this one no more, and all the others yet
+-- of the items left there was none; or this was one of them, and the others are left yet
 abbrev pub IsLeftAfter : List ShareState → Option ℕ → List ℕ → Type 0
 IsLeftAfter new result left =
-    MatchOption result (left ≡ []) (λ a. (before : List ℕ) × (after : List ℕ) × (left ≡ before ++ a ∷ after) × IsTaken new (before ++ after))
+    MatchOption result (left ≡ [])
+    (λ a. Contains left a × ((before after : List ℕ) → left ≡ before ++ a ∷ after → IsTaken new (before ++ after)))
 
 -- joined lists, of which it is known what is left, were asked for an item
 pub record IsPopped (old : List ShareState) (result : Option ℕ) (new : List ShareState) : Type 0 where

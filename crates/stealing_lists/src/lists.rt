@@ -80,6 +80,8 @@ impl SharedList {
         ensures refused { IfErr result (λ back. (back.0 ≡ a)
             × (self.new ≡ slice_set self.old 0 (refused_once (at self.old 0)))) }
         ensures same { IsSameList self.old self.new }
+        ensures fits { (at self.old 0).refused ≤ last_count }
+        ensures some { 0 < length self.old }
     {
         self.family[0].push(a)
     }
