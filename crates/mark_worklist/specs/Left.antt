@@ -1,6 +1,6 @@
 -- What a list keeps of its shares, and what is left on those that it took in.
-use Rattle.std.specs.Prelude.{◌≡◌, ℕ, Bool, true, false, List, [], ◌++◌, Option, Some, None}
-use Rattle.stealing_lists.specs.Joining.{AreJoined, KnowLeft, IsTaken}
+use Rattle.std.specs.Prelude.{◌≡◌, ℕ, ◌==◌, Bool, true, false, List, [], ◌∷◌, ◌++◌, Option, Some, None, if◌then◌else◌}
+use Rattle.stealing_lists.specs.Joining.{put_by, taken_by, AreJoined, KnowLeft, IsTaken}
 use Rattle.stealing_lists.specs.Shares.{ShareState}
 use Rattle.mark_worklist.specs.Lists.{ListState, as_own}
 
@@ -14,6 +14,20 @@ abbrev pub state_of : Bool → List ℕ → ℕ → Bool → Option (List ShareS
 state_of true items refused idle shared left = as_own (shares_in shared)
 state_of false items refused idle shared left =
     record { items = left ++ items; refused = refused; idle = idle; shares = shares_in shared; whole = true }
+
+-- the items without the first that is this one
+abbrev pub without : ℕ → List ℕ → List ℕ
+without a [] = []
+without a (x ∷ xs) = if x == a then xs else (x ∷ without a xs)
+
+-- the items without each of these
+abbrev pub without_all : List ℕ → List ℕ → List ℕ
+without_all [] items = items
+without_all (a ∷ taken) items = without_all taken (without a items)
+
+-- what was put on joined lists and not taken, in some order
+abbrev pub left_on : List ShareState → List ℕ
+left_on shares = without_all (taken_by shares) (put_by shares)
 
 -- these addresses are left on the lists of the shares, which were taken in
 pub record IsLeftOn (shares : List ShareState) (left : List ℕ) : Type 0 where

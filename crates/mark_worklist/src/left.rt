@@ -1,9 +1,11 @@
 // What is left on lists that were taken in. All of it is for contracts alone.
 
 ghost use Rattle.std.specs.Prelude.{◌≡◌, []};
+ghost use Rattle.mark_worklist.specs.Left.{left_on, without};
 
 use ghost_values::GhostValue;
 use std::marker::Model;
+use stealing_lists::SharedList;
 
 /// A list of addresses. It is never made.
 #[derive(Drop)]
@@ -17,6 +19,27 @@ impl Model for Addresses {
     ghost Value = { List ℕ };
 
     ghost view = { λ addresses. [] };
+}
+
+/// What a pop looks at.
+#[derive(Drop)]
+struct AboutPop<'a> {
+    a: u32,
+    left: &'a GhostValue<Addresses>,
+}
+
+/// What was left, without this address.
+pub(crate) fn without(a: u32, left: &GhostValue<Addresses>) -> GhostValue<Addresses>
+    ensures { result.value ≡ without a left.now.value }
+{
+    GhostValue::chosen(&AboutPop { a, left })
+}
+
+/// What is left on joined lists.
+pub(crate) fn left_on(list: &SharedList) -> GhostValue<Addresses>
+    ensures { result.value ≡ left_on list.now }
+{
+    GhostValue::chosen(list)
 }
 
 /// No address is left.

@@ -12,7 +12,7 @@ ghost use Rattle.mark_worklist.specs.Lists.{no_items, as_own, IsShared, IsPushed
 ghost use Rattle.mark_worklist.specs.Lists.{refused_once, last_count};
 ghost use Rattle.mark_worklist.specs.Left.{shares_in, IsLeftIn};
 
-use crate::left::{Addresses, none};
+use crate::left::{Addresses, left_on, none, without};
 use gc_graph::NoMemory;
 use ghost_values::GhostValue;
 use std::alloc::Global;
@@ -192,12 +192,14 @@ impl Worklist {
 /// Puts an address on the owner's share, while others are out.
 #[inline(never)]
 fn push_out(shared: &mut Option<SharedList>, a: u32) -> Result<(), Refused>
-    requires some { 0 < length (shares_in shared.old) }
+    requires some { shared.old ≡ Some (shares_in shared.old) }
     ensures done { OnOk result (shared.new
         ≡ Some (slice_set (shares_in shared.old) 0 (pushed (at (shares_in shared.old) 0) a))) }
     ensures refused { IfErr result (λ back. (back.0 ≡ a) × (shared.new
         ≡ Some (slice_set (shares_in shared.old) 0
         (refused_at (at (shares_in shared.old) 0))))) }
+    ensures fits { (at (shares_in shared.old) 0).refused ≤ last_count }
+    ensures own { 0 < length (shares_in shared.old) }
 {
     match shared {
         Some(list) => list.push(a),
@@ -216,9 +218,9 @@ fn pop_left(shared: &mut Option<SharedList>, left: &mut GhostValue<Addresses>) -
 {
     match shared {
         Some(list) => {
-            let popped = list.pop();
-            *left = GhostValue::chosen(&0u8);
-            popped
+            let a = list.pop()?;
+            *left = without(a, left);
+            Some(a)
         }
         None => None,
     }
@@ -244,7 +246,7 @@ fn take_in(
     match shared {
         Some(list) => {
             let tally = list.finish(shares);
-            *left = GhostValue::chosen(&0u8);
+            *left = left_on(list);
             (tally, list.refused())
         }
         None => unreachable!(),

@@ -1,0 +1,21 @@
+-- A push leaves as many shares as there were.
+use Rattle.std.proofs.Common.{◌≡◌, ℕ, true, false, length, set, ap, ◌∙◌, inl, inr, refl, cond}
+use Rattle.std.proofs.lemmas.Bool.{cases_Bool}
+use Rattle.std.proofs.lemmas.List.{length-set}
+use Rattle.stealing_lists.specs.Families.{at}
+use Rattle.stealing_lists.specs.Shares.{ShareState, pushed, refused_once as refused_at}
+use Rattle.mark_worklist.specs.Lists.{ListState, IsPushed, refused_once, with_own}
+
+pub own_as_many : (change : ShareState → ShareState) (l : ListState) → length (with_own change l) ≡ length l.shares
+own_as_many change l =
+    let other = set l.shares 0 (change (at l.shares 0)) in
+    elim (cases_Bool l.whole) [
+      | inl whole ↦ ap {B = ℕ} (λ b. length (cond b l.shares other)) whole
+      | inr out ↦ ap {B = ℕ} (λ b. length (cond b l.shares other)) out ∙ length-set l.shares 0 (change (at l.shares 0))
+    ]
+
+pub pushed_as_many : (old new : ListState) (a : ℕ) → IsPushed old a new → length new.shares ≡ length old.shares
+pushed_as_many old new a is = ap length is.shares ∙ own_as_many (λ s. pushed s a) old
+
+pub refused_as_many : (l : ListState) → length (refused_once l).shares ≡ length l.shares
+refused_as_many l = own_as_many refused_at l
