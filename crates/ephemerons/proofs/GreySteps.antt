@@ -12,7 +12,7 @@ use Rattle.ephemerons.specs.BodyGraph.{AreReferences}
 use Rattle.ephemerons.specs.Marking.{heap_and_marks, GrowsWithin, HasStrongMarked, traced_count}
 use Rattle.ephemerons.specs.Notes.{NotesState, NotesGrow, HasPairsNoted, group_at, refusals_in, IsNotedIn, IsNote, note_of}
 use Rattle.ephemerons.specs.InHand.{with_trace, OnlyLooks}
-use Rattle.ephemerons.specs.Fixpoint.{Stage, stage, weight, IsGround, IsAccounted, IsUnrefused, Works, Looks, ListsMarks, unmarked_places, untraced_places}
+use Rattle.ephemerons.specs.Fixpoint.{Mode, Stage, stage, weight, IsGround, IsAccounted, IsUnrefused, Works, Looks, ListsMarks, unmarked_places, untraced_places}
 use Rattle.ephemerons.proofs.Lists.{holds_push_old, holds_push_cases}
 use Rattle.gc_graph.specs.Members.{pushed_is_held, to_range}
 use Rattle.ephemerons.proofs.Weights.{one_fewer, one_more}
@@ -116,7 +116,8 @@ module _ (types : List ObjectType) (v u w : SeatView) (m n : Marking) (groups : 
       let bodies = bodies_are r in
       record {
         on = on_is r ∙ ground.on;
-        told = r.marks.on ∙ ground.told;
+        told = ap (λ (o : Mode). o.on) r.marks.mode ∙ ground.told;
+        whole = ap (λ (o : Mode). o.whole) r.marks.mode ∙ ground.whole;
         known = types_are r ∙ ground.known;
         alone = record { no_hand = r.no_hand; no_pending = r.no_pending; none_lent = lent_is r ∙ ground.alone.none_lent };
         references = subst (AreReferences types) (sym bodies) ground.references;
@@ -188,7 +189,7 @@ module _ (types : List ObjectType) (v u w : SeatView) (m n : Marking) (groups : 
           traced = λ p old. subst (λ l. holds l p ≡ true) (sym (traced_is r)) (holds_push_old v.traced a p old);
         };
         within = subst (λ (z : SeatView). GrowsWithin types z w) r.claimed r.within;
-        on = r.marks.on;
+        mode = r.marks.mode;
         unrefused = λ fine. record { pushes = r.marks.overflow fine.pushes; notes = grow.overflow fine.notes };
         told = r.marks.told;
         notes_told = grow.told;
@@ -212,7 +213,7 @@ pub Works-black : (types : List ObjectType) (s : Stage) (a : ℕ) → is_grey_at
 Works-black types s a black = record {
   kept = MarksOn-same s.view;
   within = λ test closed held p marked. held p marked;
-  on = refl;
+  mode = refl;
   unrefused = λ h. h;
   told = told_same s.refusals;
   notes_told = λ i. told_same (refusals_in (group_at s.groups i));

@@ -8,6 +8,7 @@ use Rattle.std.proofs.lemmas.List.{length_push}
 use Rattle.std.proofs.lemmas.List.Elements.{Contains-append_left, Contains-push, Contains-push_cases}
 use Rattle.gc_graph.specs.State.{ObjectType}
 use Rattle.mark_worklist.specs.Lists.{no_items, IsOneMore}
+use Rattle.mark_worklist.specs.AsMany.{pushed_as_many, refused_as_many}
 use Rattle.mark_worklist.specs.OneMore.{at_the_end, one_longer, is_there, still_there, was_there}
 use Rattle.mark_worklist.specs.Refusals.{Refusals, PushesOrTells, TellsRefused, refusals_of}
 use Rattle.mark_worklist.specs.declared.marking.Marking.{Marking}
@@ -15,9 +16,9 @@ use Rattle.marker_core.specs.Bodies.{IsPlace}
 use Rattle.page_words.specs.Seat.{SeatView}
 use Rattle.ephemerons.specs.Marking.{heap_and_marks}
 use Rattle.ephemerons.specs.Notes.{NotesState, group_at, refusals_in}
-use Rattle.ephemerons.specs.Fixpoint.{Stage, stage, weight, IsGround, Works, ListsMarks, IsListed, IsStillHeld, weight_of, with_held}
+use Rattle.ephemerons.specs.Fixpoint.{Mode, Stage, mode_of, stage, weight, IsGround, Works, ListsMarks, IsListed, IsStillHeld, weight_of, with_held}
 use Rattle.mark_worklist.specs.Told.{told_same}
-use Rattle.ephemerons.proofs.Stages.{MarksOn-same, Works-popped}
+use Rattle.ephemerons.proofs.Stages.{mode_is, MarksOn-same, Works-popped}
 
 pub no_marking : Marking
 no_marking = record { on = false; overflow = false; list = no_items }
@@ -29,7 +30,7 @@ ListsMarks-same v m = record {
   no_hand = λ none. none;
   no_pending = λ none. none;
   marked = λ p h. h;
-  on = refl;
+  mode = refl;
   overflow = λ fine. fine;
   told = told_same (refusals_of m);
   kept = λ p h. h;
@@ -40,7 +41,7 @@ ListsMarks-same v m = record {
 
 pub held_back : (m : Marking) (a : ℕ) → IsListed m (with_held (Some a) m) a
 held_back m a = record {
-  on = refl;
+  mode = refl;
   overflow = λ fine. fine;
   told = told_same (refusals_of m);
   kept = λ p h. Contains-append_left m.list.items (a ∷ []) p h;
@@ -53,7 +54,7 @@ held_back m a = record {
 listed_by_push : (m n : Marking) (a : ℕ) → PushesOrTells m n a → TellsRefused (refusals_of m) (refusals_of n) → IsListed m n a
 listed_by_push m n a pushed told = elim pushed [
   | inl done ↦ record {
-    on = ap (λ (x : Marking). x.on) done.1;
+    mode = mode_is m n (ap (λ (x : Marking). x.on) done.1) done.0.whole (pushed_as_many m.list n.list a done.0);
     overflow = λ fine. sym (ap (λ (x : Marking). x.overflow) done.1) ∙ fine;
     told = told;
     kept = still_there m.list.items n.list.items a done.0.items;
@@ -65,7 +66,8 @@ listed_by_push m n a pushed told = elim pushed [
       let same : n.list.items ≡ m.list.items = ap (λ (x : Marking). x.list.items) refused in
       let raised : n.overflow ≡ true = ap (λ (x : Marking). x.overflow) refused in
       record {
-        on = ap (λ (x : Marking). x.on) refused;
+        mode = mode_is m n (ap (λ (x : Marking). x.on) refused) (ap (λ (x : Marking). x.list.whole) refused)
+            (ap (λ (x : Marking). length x.list.shares) refused ∙ refused_as_many m.list);
         overflow = λ fine. absurd (true≢false (sym raised ∙ fine));
         told = told;
         kept = λ p h. subst (λ items. Contains items p) (sym same) h;
@@ -92,7 +94,7 @@ fresh_listed v w m n (Some a) marks listed =
       no_hand = x.no_hand;
       no_pending = x.no_pending;
       marked = x.marked;
-      on = listed.on;
+      mode = listed.mode;
       overflow = listed.overflow;
       told = listed.told;
       kept = listed.kept;
@@ -123,20 +125,20 @@ fresh_still v w m n (Some a) still listed none = absurd (true≢false none)
 -- ---- the list and what is held back have what they had
 
 -- nothing is held back and nothing was listed
-pub none_held : (m n : Marking) → n.on ≡ m.on → refusals_of n ≡ refusals_of m → m.list.items ≡ [] → n.list.items ≡ [] → IsStillHeld m None n None
-none_held m n on refusals before after = record {
+pub none_held : (m n : Marking) → mode_of n ≡ mode_of m → refusals_of n ≡ refusals_of m → m.list.items ≡ [] → n.list.items ≡ [] → IsStillHeld m None n None
+none_held m n mode refusals before after = record {
   items = record {
     there = λ p h. absurd (omega (arith, h.1, ap length before));
     back = λ p h. absurd (omega (arith, h.1, ap length after));
     long = ap length after ∙ sym (ap length before);
   };
-  on = on;
+  mode = mode;
   refusals = refusals;
 }
 
 -- one that was listed is held back
-pub one_held : (m n : Marking) (a : ℕ) → n.on ≡ m.on → refusals_of n ≡ refusals_of m → IsOneMore n.list.items a m.list.items → IsStillHeld m None n (Some a)
-one_held m n a on refusals one =
+pub one_held : (m n : Marking) (a : ℕ) → mode_of n ≡ mode_of m → refusals_of n ≡ refusals_of m → IsOneMore n.list.items a m.list.items → IsStillHeld m None n (Some a)
+one_held m n a mode refusals one =
     let held = at_the_end n.list.items a in
     record {
       items = record {
@@ -150,15 +152,15 @@ one_held m n a on refusals one =
         ];
         long = omega (arith, one_longer n.list.items m.list.items a one, one_longer n.list.items (n.list.items ++ a ∷ []) a held);
       };
-      on = on;
+      mode = mode;
       refusals = refusals;
     }
 
 -- what a pop gave is held back
-pub popped_held : (m n : Marking) (popped : Option ℕ) → n.on ≡ m.on → refusals_of n ≡ refusals_of m
+pub popped_held : (m n : Marking) (popped : Option ℕ) → mode_of n ≡ mode_of m → refusals_of n ≡ refusals_of m
     → MatchOption popped ((m.list.items ≡ []) × (n.list.items ≡ [])) (λ a. IsOneMore n.list.items a m.list.items) → IsStillHeld m None n popped
-popped_held m n None on refusals none = none_held m n on refusals none.0 none.1
-popped_held m n (Some a) on refusals one = one_held m n a on refusals one
+popped_held m n None mode refusals none = none_held m n mode refusals none.0 none.1
+popped_held m n (Some a) mode refusals one = one_held m n a mode refusals one
 
 -- and where it gave nothing, nothing is listed
 pub popped_none : (m n : Marking) (popped : Option ℕ)
@@ -173,7 +175,8 @@ module _ (m n : Marking) (old new : Option ℕ) (x : IsStillHeld m old n new) (v
   pub still_ground : (types : List ObjectType) → IsGround types (stage v (with_held old m) groups t) → IsGround types (stage v (with_held new n) groups t)
   still_ground types ground = record {
     on = ground.on;
-    told = x.on ∙ ground.told;
+    told = ap (λ (o : Mode). o.on) x.mode ∙ ground.told;
+    whole = ap (λ (o : Mode). o.whole) x.mode ∙ ground.whole;
     known = ground.known;
     alone = ground.alone;
     references = ground.references;
@@ -188,7 +191,7 @@ module _ (m n : Marking) (old new : Option ℕ) (x : IsStillHeld m old n new) (v
   still_works types = record {
     kept = MarksOn-same v;
     within = λ test closed held p marked. held p marked;
-    on = x.on;
+    mode = x.mode;
     unrefused = λ fine. record { pushes = sym (ap (λ (r : Refusals). r.told) x.refusals) ∙ fine.pushes; notes = fine.notes };
     told = subst (TellsRefused (refusals_of (with_held old m))) (sym x.refusals) (told_same (refusals_of (with_held old m)));
     notes_told = λ i. told_same (refusals_in (group_at groups i));
@@ -210,7 +213,7 @@ module _ (m n : Marking) (old new : Option ℕ) (x : IsStillHeld m old n new) (v
 pub held_works : (types : List ObjectType) (v : SeatView) (m : Marking) (groups : List NotesState) (t a : ℕ) (after : Stage)
     → Works types (Some a) (stage v m groups t) after → Works types None (stage v (with_held (Some a) m) groups t) after
 held_works types v m groups t a after x =
-    Works-popped types (stage v (with_held (Some a) m) groups t) after m.list.items a m.list.refused (at_the_end m.list.items a) refl x
+    Works-popped types (stage v (with_held (Some a) m) groups t) after m.list.items a m.list.refused (mode_of m) (at_the_end m.list.items a) refl refl x
 
 -- what holds at a stage holds without the object that is held back
 pub held_ground : (types : List ObjectType) (v : SeatView) (m : Marking) (groups : List NotesState) (t a : ℕ)
@@ -218,6 +221,7 @@ pub held_ground : (types : List ObjectType) (v : SeatView) (m : Marking) (groups
 held_ground types v m groups t a x = record {
   on = x.on;
   told = x.told;
+  whole = x.whole;
   known = x.known;
   alone = x.alone;
   references = x.references;

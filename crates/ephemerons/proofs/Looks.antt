@@ -88,6 +88,7 @@ looked_ground types s t same alone ground =
     let first : IsGround types (without_looks s) = record {
       on = ground.on;
       told = ground.told;
+      whole = ground.whole;
       known = ground.known;
       alone = record { no_hand = refl; no_pending = refl; none_lent = ground.alone.none_lent };
       references = ground.references;
@@ -101,6 +102,7 @@ looked_ground types s t same alone ground =
     record {
       on = last.on;
       told = last.told;
+      whole = last.whole;
       known = last.known;
       alone = alone;
       references = last.references;
@@ -145,7 +147,7 @@ works_apart : (types : List ObjectType) (taken : Option ℕ) (s t : Stage) → W
 works_apart types taken s t x = record {
   kept = kept_apart s.view t.view x.kept;
   within = x.within;
-  on = x.on;
+  mode = x.mode;
   unrefused = x.unrefused;
   told = x.told;
   notes_told = x.notes_told;
@@ -161,7 +163,7 @@ works_with : (types : List ObjectType) (taken : Option ℕ) (s t : Stage) → Wo
 works_with types taken s t x = record {
   kept = kept_with s.view t.view x.kept;
   within = x.within;
-  on = x.on;
+  mode = x.mode;
   unrefused = x.unrefused;
   told = x.told;
   notes_told = x.notes_told;

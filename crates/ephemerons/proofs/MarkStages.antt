@@ -10,7 +10,7 @@ use Rattle.page_words.specs.Seat.{SeatView}
 use Rattle.ephemerons.specs.BodyGraph.{AreReferences}
 use Rattle.ephemerons.specs.Marking.{heap_and_marks, GrowsWithin, traced_count}
 use Rattle.ephemerons.specs.Notes.{NotesState, group_at, refusals_in, IsNote}
-use Rattle.ephemerons.specs.Fixpoint.{stage, weight, IsGround, IsAccounted, Works, ListsMarks, without_looks, untraced_places, weight_of}
+use Rattle.ephemerons.specs.Fixpoint.{Mode, stage, weight, IsGround, IsAccounted, Works, ListsMarks, without_looks, untraced_places, weight_of}
 use Rattle.ephemerons.specs.ListedMarks.{alone_still}
 
 untraced_same : (v w : SeatView) (m n : Marking) → ListsMarks v m w n → untraced_places w ≡ untraced_places v
@@ -59,7 +59,7 @@ marks_work types v w m n groups t x within =
         traced = λ p h. subst (λ l. holds l p ≡ true) (sym x.traced) h;
       };
       within = within;
-      on = x.on;
+      mode = x.mode;
       unrefused = λ fine. record { pushes = x.overflow fine.pushes; notes = fine.notes };
       told = x.told;
       notes_told = λ i. told_same (refusals_in (group_at groups i));
@@ -78,7 +78,8 @@ marks_ground types v w m n groups t x ground =
     let bodies : w.bodies ≡ v.bodies = ap (λ (z : SeatView). z.bodies) x.view in
     record {
       on = ap (λ (z : SeatView). z.on) x.view ∙ ground.on;
-      told = x.on ∙ ground.told;
+      told = ap (λ (o : Mode). o.on) x.mode ∙ ground.told;
+      whole = ap (λ (o : Mode). o.whole) x.mode ∙ ground.whole;
       known = ap (λ (z : SeatView). z.types) x.view ∙ ground.known;
       alone = alone_still v w m n x ground.alone;
       references = subst (AreReferences types) (sym bodies) ground.references;

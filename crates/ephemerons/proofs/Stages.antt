@@ -1,17 +1,32 @@
 -- Stages that follow one another.
-use Rattle.std.proofs.Common.{◌≡◌, ℕ, ◌≤◌, List, Option, Some, None, refl, sym, ap, ◌∙◌, subst, inl, inr, arith}
+use Rattle.std.proofs.Common.{◌≡◌, ℕ, ◌≤◌, true, List, length, Option, Some, None, refl, sym, ap, ap₂, ◌∙◌, subst, inl, inr, arith}
 use Rattle.gc_graph.specs.State.{ObjectType}
-use Rattle.mark_worklist.specs.Lists.{IsOneMore}
+use Rattle.mark_worklist.specs.Lists.{IsOneMore, ListState}
 use Rattle.mark_worklist.specs.OneMore.{one_longer, is_there, still_there, was_there}
 use Rattle.mark_worklist.specs.Refusals.{Refusals}
+use Rattle.mark_worklist.specs.declared.marking.Marking.{Marking}
 use Rattle.marker_core.specs.Bodies.{IsPlace}
 use Rattle.page_words.specs.Seat.{SeatView}
 use Rattle.ephemerons.specs.BodyGraph.{PlacesDiffer}
 use Rattle.ephemerons.specs.Marking.{MarksOn}
 use Rattle.ephemerons.specs.Notes.{group_at, refusals_in}
-use Rattle.ephemerons.specs.Fixpoint.{Stage, weight, IsGround, Works}
+use Rattle.ephemerons.specs.Fixpoint.{Mode, Stage, mode_of, weight, IsGround, Works}
 use Rattle.ephemerons.proofs.Graph.{GrowsWithin-then}
 use Rattle.mark_worklist.specs.Told.{told_same, told_then, told_from}
+
+-- ---- the mode
+
+pub mode_is : (m n : Marking) → n.on ≡ m.on → n.list.whole ≡ m.list.whole → length n.list.shares ≡ length m.list.shares → mode_of n ≡ mode_of m
+mode_is m n on whole shares =
+    ap (λ b. record { on = b; whole = n.list.whole; shares = length n.list.shares }) on
+    ∙ ap₂ (λ b k. record { on = m.on; whole = b; shares = k }) whole shares
+
+-- a pop from a whole list leaves it
+pub mode_popped : (m : Marking) (list : ListState) → m.list.whole ≡ true → list.whole ≡ true → length list.shares ≡ length m.list.shares
+    → mode_of (record m { list = list }) ≡ mode_of m
+mode_popped m list before after shares = mode_is m (record m { list = list }) refl (after ∙ sym before) shares
+
+-- ---- one stage after another
 
 pub MarksOn-same : (v : SeatView) → MarksOn v v
 MarksOn-same v = record {
@@ -45,7 +60,7 @@ pub Works-same : (types : List ObjectType) (s : Stage) → Works types None s s
 Works-same types s = record {
   kept = MarksOn-same s.view;
   within = λ test closed held p marked. held p marked;
-  on = refl;
+  mode = refl;
   unrefused = λ h. h;
   told = told_same s.refusals;
   notes_told = λ i. told_same (refusals_in (group_at s.groups i));
@@ -61,7 +76,7 @@ pub Works-then : (types : List ObjectType) (taken : Option ℕ) (a b c : Stage) 
 Works-then types taken a b c x y = record {
   kept = MarksOn-then a.view b.view c.view x.kept y.kept;
   within = GrowsWithin-then types a.view b.view c.view x.kept.bodies x.within y.within;
-  on = y.on ∙ x.on;
+  mode = y.mode ∙ x.mode;
   unrefused = λ fine. x.unrefused (y.unrefused fine);
   told = told_then a.refusals b.refusals c.refusals x.told y.told;
   notes_told = λ i. told_then (refusals_in (group_at a.groups i)) (refusals_in (group_at b.groups i)) (refusals_in (group_at c.groups i))
@@ -82,7 +97,7 @@ pub Works-free : (types : List ObjectType) (p : ℕ) (a b : Stage) → Works typ
 Works-free types p a b x = record {
   kept = x.kept;
   within = x.within;
-  on = x.on;
+  mode = x.mode;
   unrefused = x.unrefused;
   told = x.told;
   notes_told = x.notes_told;
@@ -101,12 +116,13 @@ pub popped_lighter : (s t : Stage) (list : List ℕ) (a : ℕ) → IsOneMore lis
 popped_lighter s t list a one less = omega (arith, less, one_longer list s.list a one)
 
 -- the ground stays where an object is taken from the list, and it is an object's place
-pub ground_popped : (types : List ObjectType) (s : Stage) (list : List ℕ) (a : ℕ) (refusals : Refusals) → IsOneMore list a s.list → IsGround types s
-    → IsGround types (record s { list = list; refusals = refusals }) × IsPlace s.view.bodies a
-ground_popped types s list a refusals one ground = (
+pub ground_popped : (types : List ObjectType) (s : Stage) (list : List ℕ) (a : ℕ) (refusals : Refusals) (mode : Mode) → IsOneMore list a s.list → mode ≡ s.mode
+    → IsGround types s → IsGround types (record s { mode = mode; list = list; refusals = refusals }) × IsPlace s.view.bodies a
+ground_popped types s list a refusals mode one same ground = (
   record {
     on = ground.on;
-    told = ground.told;
+    told = ap (λ (o : Mode). o.on) same ∙ ground.told;
+    whole = ap (λ (o : Mode). o.whole) same ∙ ground.whole;
     known = ground.known;
     alone = ground.alone;
     references = ground.references;
@@ -120,12 +136,12 @@ ground_popped types s list a refusals one ground = (
 )
 
 -- the object that was taken is one that was listed
-pub Works-popped : (types : List ObjectType) (s t : Stage) (list : List ℕ) (a count : ℕ) → IsOneMore list a s.list → count ≡ s.refusals.count
-    → Works types (Some a) (record s { list = list; refusals = record { told = s.refusals.told; count = count } }) t → Works types None s t
-Works-popped types s t list a count one same x = record {
+pub Works-popped : (types : List ObjectType) (s t : Stage) (list : List ℕ) (a count : ℕ) (mode : Mode) → IsOneMore list a s.list → count ≡ s.refusals.count
+    → mode ≡ s.mode → Works types (Some a) (record s { mode = mode; list = list; refusals = record { told = s.refusals.told; count = count } }) t → Works types None s t
+Works-popped types s t list a count mode one same still x = record {
   kept = x.kept;
   within = x.within;
-  on = x.on;
+  mode = x.mode ∙ still;
   unrefused = x.unrefused;
   told = told_from s.refusals t.refusals count same x.told;
   notes_told = x.notes_told;

@@ -1,12 +1,12 @@
 -- Marking stays under way where an object was taken from the list, and was then traced or only looked at.
-use Rattle.std.proofs.Common.{◌≡◌, ℕ, zero, suc, true, false, not, List, [], ◌∷◌, ◌++◌, Option, Some, None, refl, sym, ap, ◌∙◌, subst, inl, inr, arith}
+use Rattle.std.proofs.Common.{◌≡◌, ℕ, zero, suc, true, false, List, [], ◌∷◌, ◌++◌, Option, Some, None, refl, sym, ap, ◌∙◌, subst, inl, inr, arith}
 use mathlib.Core.Logic.{◌⊎◌}
 use Rattle.std.specs.Prelude.{MatchOption}
 use Rattle.std.specs.List.{Contains}
-use Rattle.std.proofs.lemmas.Bool.{true≢false, cases_Bool, and_parts}
+use Rattle.std.proofs.lemmas.Bool.{true≢false, cases_Bool}
 use Rattle.std.proofs.lemmas.List.{length_push}
 use Rattle.std.proofs.lemmas.List.Elements.{Contains-append_left, Contains-append_right, Contains-append_cases, Contains-push, Contains-push_cases}
-use Rattle.gc_graph.specs.Members.{Contains-map, Contains-map_some, pushed_is_held}
+use Rattle.gc_graph.specs.Members.{Contains-map, pushed_is_held}
 use Rattle.gc_graph.specs.State.{ObjectType}
 use Rattle.type_table.specs.declared.traced.TracedWord.{TracedWord}
 use Rattle.mark_worklist.specs.Lists.{IsOneMore}
@@ -14,15 +14,16 @@ use Rattle.mark_worklist.specs.OneMore.{is_there, still_there, was_there}
 use Rattle.mark_worklist.specs.Refusals.{Refusals}
 use Rattle.mark_worklist.specs.Told.{told_same}
 use Rattle.mark_worklist.specs.declared.marking.Marking.{Marking}
-use Rattle.marker_core.specs.Bodies.{holds}
-use Rattle.page_words.specs.Seat.{SeatView, IsView, is_grey_at}
+use Rattle.marker_core.specs.Bodies.{holds, IsPlace}
+use Rattle.page_words.specs.Seat.{SeatView, IsAlone, IsView, is_grey_at}
 use Rattle.ephemerons.specs.declared.notes.Note.{Note}
-use Rattle.ephemerons.specs.BodyGraph.{HasType, HasPair}
-use Rattle.ephemerons.specs.Notes.{NotesState, IsNotedIn, IsNote, group_at, refusals_in}
+use Rattle.ephemerons.specs.BodyGraph.{HasPair}
+use Rattle.ephemerons.specs.Notes.{NotesState, IsNotedIn, IsNote, group_at, note_of, refusals_in}
 use Rattle.ephemerons.specs.InHand.{OnlyLooks}
 use Rattle.ephemerons.specs.Traces.{Traces, note_from}
-use Rattle.ephemerons.specs.UnderWay.{IsNotedPair, IsUnderWay}
-use Rattle.ephemerons.specs.Fixpoint.{IsGround, Works, IsListed, IsStillHeld, stage, with_held}
+use Rattle.ephemerons.specs.UnderWay.{IsUnderWay}
+use Rattle.ephemerons.specs.UnderWayStays.{pair_same, unshared_before}
+use Rattle.ephemerons.specs.Fixpoint.{IsGround, Mode, Works, IsListed, IsStillHeld, mode_of, stage, with_held}
 use Rattle.ephemerons.proofs.Ends.{few_untraced}
 use Rattle.ephemerons.proofs.GreySteps.{ReadsFields, was_traced}
 use Rattle.ephemerons.proofs.Lists.{holds_push_old}
@@ -31,77 +32,81 @@ use Rattle.ephemerons.proofs.TrueOfViews.{are_references, traced_name_marked}
 
 -- ---- the ground from which it goes on
 
-noted_pairs : (v : SeatView) (m : Marking) (x : NotesState) → IsUnderWay v m x → (note : Note) → IsNotedIn (x ∷ []) note → IsNote v.types v.bodies note
-noted_pairs v m x h note (zero, low, there) = inr (h.noted note there).pair
-noted_pairs v m x h note (suc i, low, there) = absurd (omega (arith, low))
+noted_pairs : (v : SeatView) (m : Marking) (x : NotesState) → ((note : Note) → Contains x.notes note → note.word ≡ 0 → IsPlace v.bodies note.holder)
+    → IsUnderWay v m x → (note : Note) → IsNotedIn (x ∷ []) note → IsNote v.types v.bodies note
+noted_pairs v m x objects h note (zero, low, there) = elim (h.noted note there) [ inl itself ↦ inl (itself, objects note there itself) | inr pair ↦ inr pair ]
+noted_pairs v m x objects h note (suc i, low, there) = absurd (omega (arith, low))
 
-pub step_ground : (types : List ObjectType) (v : SeatView) (m : Marking) (x : NotesState) → IsView v → v.types ≡ types → IsUnderWay v m x
-    → IsGround types (stage v m (x ∷ []) 0)
-step_ground types v m x view known h = record {
+pub step_ground : (types : List ObjectType) (v : SeatView) (m : Marking) (x : NotesState) → IsView v → v.types ≡ types → IsAlone v → m.list.whole ≡ true
+    → ((note : Note) → Contains x.notes note → note.word ≡ 0 → IsPlace v.bodies note.holder) → IsUnderWay v m x → IsGround types (stage v m (x ∷ []) 0)
+step_ground types v m x view known alone whole objects h = record {
   on = h.on;
   told = h.told;
+  whole = whole;
   known = known;
-  alone = h.alone;
+  alone = alone;
   references = are_references v view h.on types known;
-  traced_name_marked = traced_name_marked v view h.on types known h.alone;
+  traced_name_marked = traced_name_marked v view h.on types known alone;
   listed = λ p there. view.marked_are_bodies p (h.listed p there);
-  noted = λ note there. subst (λ (ts : List ObjectType). IsNote ts v.bodies note) known (noted_pairs v m x h note there);
+  noted = λ note there. subst (λ (ts : List ObjectType). IsNote ts v.bodies note) known (noted_pairs v m x objects h note there);
   own = omega arith;
   few = omega (arith, few_untraced v view);
 }
 
 -- ---- an object is taken from the list
 
-pub held_under_way : (v : SeatView) (m n : Marking) (x : NotesState) (a : ℕ) → IsOneMore n.list.items a m.list.items → n.on ≡ m.on → n.overflow ≡ m.overflow
-    → IsUnderWay v m x → IsUnderWay v (with_held (Some a) n) x
-held_under_way v m n x a one on overflow h = record {
+-- the list has what it had, with what is held back from it
+pub moved_under_way : (v : SeatView) (m n : Marking) (x : NotesState) → mode_of n ≡ mode_of m → (n.overflow ≡ false → m.overflow ≡ false)
+    → ((p : ℕ) → Contains n.list.items p → Contains m.list.items p) → (n.overflow ≡ false → (p : ℕ) → Contains m.list.items p → Contains n.list.items p)
+    → IsUnderWay v m x → IsUnderWay v n x
+moved_under_way v m n x mode overflow back there h = record {
   on = h.on;
-  told = on ∙ h.told;
-  alone = h.alone;
-  listed = λ p there. h.listed p (elim (Contains-push_cases n.list.items a p there) [
-    | inl old ↦ still_there n.list.items m.list.items a one p old
-    | inr here ↦ subst (Contains m.list.items) here (is_there n.list.items m.list.items a one)
-  ]);
-  grey = λ fine p marked white. elim (was_there n.list.items m.list.items a one p (h.grey (sym overflow ∙ fine) p marked white)) [
-    | inl old ↦ Contains-append_left n.list.items (a ∷ []) p old
-    | inr here ↦ subst (Contains (n.list.items ++ a ∷ [])) here (Contains-push n.list.items a)
+  told = ap (λ (o : Mode). o.on) mode ∙ h.told;
+  still = h.still;
+  listed = λ p listed. h.listed p (back p listed);
+  grey = λ fine unrefused p marked white. elim (h.grey (overflow fine) unrefused p marked white) [
+    | inl listed ↦ inl (there fine p listed)
+    | inr noted ↦ inr noted
   ];
+  unshared = λ none fine p marked white. there fine p (h.unshared (unshared_before m n mode none) (overflow fine) p marked white);
   noted = h.noted;
   recorded = h.recorded;
 }
 
+pub held_under_way : (v : SeatView) (m n : Marking) (x : NotesState) (a : ℕ) → IsOneMore n.list.items a m.list.items → mode_of n ≡ mode_of m
+    → n.overflow ≡ m.overflow → IsUnderWay v m x → IsUnderWay v (with_held (Some a) n) x
+held_under_way v m n x a one mode overflow =
+    moved_under_way v m (with_held (Some a) n) x mode (λ fine. sym overflow ∙ fine)
+    (λ p there. elim (Contains-push_cases n.list.items a p there) [
+      | inl old ↦ still_there n.list.items m.list.items a one p old
+      | inr here ↦ subst (Contains m.list.items) here (is_there n.list.items m.list.items a one)
+    ])
+    (λ fine p there. elim (was_there n.list.items m.list.items a one p there) [
+      | inl old ↦ Contains-append_left n.list.items (a ∷ []) p old
+      | inr here ↦ subst (Contains (n.list.items ++ a ∷ [])) here (Contains-push n.list.items a)
+    ])
+
 -- the list and what is held back are together what they were
 pub still_under_way : (v : SeatView) (m n : Marking) (old new : Option ℕ) (x : NotesState) → IsStillHeld m old n new → IsUnderWay v (with_held old m) x
     → IsUnderWay v (with_held new n) x
-still_under_way v m n old new x still h = record {
-  on = h.on;
-  told = still.on ∙ h.told;
-  alone = h.alone;
-  listed = λ p there. h.listed p (still.items.back p there);
-  grey = λ fine p marked white. still.items.there p (h.grey (sym (ap (λ (r : Refusals). r.told) still.refusals) ∙ fine) p marked white);
-  noted = h.noted;
-  recorded = h.recorded;
-}
+still_under_way v m n old new x still =
+    moved_under_way v (with_held old m) (with_held new n) x still.mode (λ fine. sym (ap (λ (r : Refusals). r.told) still.refusals) ∙ fine) still.items.back
+    (λ fine. still.items.there)
 
 -- what was held back is listed, or its push is refused
 pub listed_under_way : (v : SeatView) (m n : Marking) (held : Option ℕ) (x : NotesState) → MatchOption held (n ≡ m) (IsListed m n)
     → IsUnderWay v (with_held held m) x → IsUnderWay v n x
 listed_under_way v m n None x same h = subst (λ (k : Marking). IsUnderWay v k x) (sym same) h
-listed_under_way v m n (Some a) x listed h = record {
-  on = h.on;
-  told = listed.on ∙ h.told;
-  alone = h.alone;
-  listed = λ p there. h.listed p (elim (listed.listed p there) [
-    | inl old ↦ Contains-append_left m.list.items (a ∷ []) p old
-    | inr here ↦ subst (Contains (m.list.items ++ a ∷ [])) here (Contains-push m.list.items a)
-  ]);
-  grey = λ fine p marked white. elim (Contains-push_cases m.list.items a p (h.grey (listed.overflow fine) p marked white)) [
-    | inl old ↦ listed.kept p old
-    | inr here ↦ subst (Contains n.list.items) here (listed.there fine)
-  ];
-  noted = h.noted;
-  recorded = h.recorded;
-}
+listed_under_way v m n (Some a) x listed h =
+    moved_under_way v (with_held (Some a) m) n x listed.mode listed.overflow
+    (λ p there. elim (listed.listed p there) [
+      | inl old ↦ Contains-append_left m.list.items (a ∷ []) p old
+      | inr here ↦ subst (Contains (m.list.items ++ a ∷ [])) here (Contains-push m.list.items a)
+    ])
+    (λ fine p there. elim (Contains-push_cases m.list.items a p there) [
+      | inl old ↦ listed.kept p old
+      | inr here ↦ subst (Contains n.list.items) here (listed.there fine)
+    ]) h
 
 pub listed_works : (types : List ObjectType) (v : SeatView) (m n : Marking) (held : Option ℕ) (groups : List NotesState) (t : ℕ)
     → MatchOption held (n ≡ m) (IsListed m n) → Works types None (stage v (with_held held m) groups t) (stage v n groups t)
@@ -110,7 +115,7 @@ listed_works types v m n None groups t same =
 listed_works types v m n (Some a) groups t listed = record {
   kept = MarksOn-same v;
   within = λ test closed held p marked. held p marked;
-  on = listed.on;
+  mode = listed.mode;
   unrefused = λ fine. record { pushes = listed.overflow fine.pushes; notes = fine.notes };
   told = listed.told;
   notes_told = λ i. told_same (refusals_in (group_at groups i));
@@ -161,66 +166,48 @@ module _ (types : List ObjectType) (v u w : SeatView) (m n : Marking) (x y : Not
   own_traced : (p : ℕ) → a ≡ p → holds w.traced p ≡ true
   own_traced p here = subst (λ q. holds w.traced q ≡ true) here (subst (λ l. holds l a ≡ true) (sym traced_is) (pushed_is_held v.traced a))
 
-  still_noted : (note : Note) → IsNotedPair v note → IsNotedPair w note
-  still_noted note is = record {
-    pair = subst (λ (ts : List ObjectType). HasPair ts w.bodies note.holder note.word) (sym types_are)
-        (subst (λ bs. HasPair v.types bs note.holder note.word) (sym bodies_are) is.pair);
-    marked = still_marked note.holder is.marked;
-  }
+  -- what was grey and is yet was and is listed, or noted
+  still_listed : (p : ℕ) → holds w.traced p ≡ false → Contains (m.list.items ++ a ∷ []) p → Contains n.list.items p
+  still_listed p white there = elim (Contains-push_cases m.list.items a p there) [
+    | inl listed ↦ r.marks.kept p listed
+    | inr here ↦ absurd (true≢false (sym (own_traced p here) ∙ white))
+  ]
 
-  -- the new notes are of pairs of the object, and what the hand noted is among them
-  pub noted_under_way : ((note : Note) → Contains y.notes note → IsNotedPair v note ⊎ IsNotedPair w note)
+  -- the new notes are of pairs, and what the hand noted is among them
+  pub noted_under_way : ((note : Note) → Contains y.notes note → Contains x.notes note ⊎ HasPair v.types v.bodies note.holder note.word)
       → (y.overflow ≡ false → (pair : ℕ × ℕ) → Contains w.noted pair → Contains y.notes (note_from pair)) → IsUnderWay v (with_held (Some a) m) x
       → IsUnderWay w n y
   noted_under_way noted recorded h = record {
     on = ap (λ (z : SeatView). z.on) r.marks.view ∙ ap (λ (z : SeatView). z.on) r.claimed ∙ h.on;
-    told = r.marks.on ∙ h.told;
-    alone = record {
-      no_hand = r.no_hand;
-      no_pending = r.no_pending;
-      none_lent = ap (λ (z : SeatView). z.lent) r.marks.view ∙ ap (λ (z : SeatView). z.lent) r.claimed ∙ h.alone.none_lent;
-    };
+    told = ap (λ (o : Mode). o.on) r.marks.mode ∙ h.told;
+    still = record { no_hand = r.no_hand; no_pending = r.no_pending };
     listed = λ p there. elim (r.marks.listed p there) [
       | inl old ↦ still_marked p (h.listed p (Contains-append_left m.list.items (a ∷ []) p old))
       | inr fresh ↦ fresh.marked
     ];
-    grey = λ fine p marked white. elim (r.marks.fresh fine p marked) [
-      | inl old ↦ elim (Contains-push_cases m.list.items a p (h.grey (r.marks.overflow fine) p (was_marked p old) (was_white p white))) [
-        | inl listed ↦ r.marks.kept p listed
-        | inr here ↦ absurd (true≢false (sym (own_traced p here) ∙ white))
+    grey = λ fine unrefused p marked white. elim (r.marks.fresh fine p marked) [
+      | inl old ↦ elim (h.grey (r.marks.overflow fine) (r.notes.overflow unrefused) p (was_marked p old) (was_white p white)) [
+        | inl listed ↦ inl (still_listed p white listed)
+        | inr note ↦ inr (r.notes.kept (note_of p 0) note)
       ]
+      | inr listed ↦ inl listed
+    ];
+    unshared = λ none fine p marked white. elim (r.marks.fresh fine p marked) [
+      | inl old ↦ still_listed p white
+          (h.unshared (unshared_before m n r.marks.mode none) (r.marks.overflow fine) p (was_marked p old) (was_white p white))
       | inr listed ↦ listed
     ];
-    noted = λ note there. elim (noted note there) [ inl before ↦ still_noted note before | inr now ↦ now ];
+    noted = λ note there. pair_same v w note types_are bodies_are (elim (noted note there) [ inl before ↦ h.noted note before | inr pair ↦ inr pair ]);
     recorded = recorded;
   }
 
-  module _ (ty : ℕ) (words : List TracedWord) (noted : u.noted ≡ v.noted) (has : HasType u.bodies a ty) (told : Traces u x w y a words) where
-    -- a new note is of a pair of the object that was traced
-    new_holder : (note : Note) → Contains told.notes.made note → note.holder ≡ a
-    new_holder note made =
-        let from = Contains-map_some note_from told.pairs note (told.notes.some note made) in
-        let waits = told.waiting has.0 from.0 has.1 has.2 from.1 in
-        sym (ap (λ (k : Note). k.holder) from.2) ∙ waits.holder ∙ has.2
-
-    new_noted : v.types ≡ types → IsUnderWay v (with_held (Some a) m) x → (note : Note) → Contains told.notes.made note → Contains y.notes note
-        → IsNotedPair v note ⊎ IsNotedPair w note
-    new_noted known h note made there = elim (r.notes.pairs note there) [
-      | inl old ↦ inl (h.noted note old)
-      | inr pair ↦ inr (record {
-        pair = subst (λ (ts : List ObjectType). HasPair ts w.bodies note.holder note.word) (sym (types_are ∙ known))
-            (subst (λ bs. HasPair types bs note.holder note.word) (sym bodies_are) pair);
-        marked = subst (λ p. holds w.marked p ≡ true) (sym (new_holder note made))
-            (still_marked a (and_parts (holds v.marked a) (not (holds v.traced a)) r.grey).0);
-      })
-    ]
-
+  module _ (ty : ℕ) (words : List TracedWord) (noted : u.noted ≡ v.noted) (told : Traces u x w y a words) where
     pub grey_under_way : v.types ≡ types → IsUnderWay v (with_held (Some a) m) x → IsUnderWay w n y
     grey_under_way known h =
         noted_under_way
-        (λ note there. elim (Contains-append_cases x.notes told.notes.made note (subst (λ l. Contains l note) told.notes.notes there)) [
-          | inl old ↦ inl (h.noted note old)
-          | inr made ↦ new_noted known h note made there
+        (λ note there. elim (r.notes.pairs note there) [
+          | inl old ↦ inl old
+          | inr pair ↦ inr (subst (λ (ts : List ObjectType). HasPair ts v.bodies note.holder note.word) (sym known) pair)
         ])
         (λ fine pair there.
         elim (Contains-append_cases v.noted told.pairs pair (subst (λ l. Contains l pair) (told.noted ∙ ap (λ l. l ++ told.pairs) noted) there)) [
@@ -235,8 +222,7 @@ module _ (types : List ObjectType) (v u w : SeatView) (m n : Marking) (x y : Not
 pub strong_under_way : (types : List ObjectType) (v u w : SeatView) (m n : Marking) (x : NotesState) (a : ℕ) → ReadsFields types v u w m n x x a
     → w.noted ≡ v.noted → IsUnderWay v (with_held (Some a) m) x → IsUnderWay w n x
 strong_under_way types v u w m n x a r same h =
-    noted_under_way types v u w m n x x a r (λ note there. inl (h.noted note there))
-    (λ fine pair there. h.recorded fine pair (subst (λ l. Contains l pair) same there)) h
+    noted_under_way types v u w m n x x a r (λ note there. inl there) (λ fine pair there. h.recorded fine pair (subst (λ l. Contains l pair) same there)) h
 
 -- ---- it was not grey, and was only looked at
 
@@ -245,25 +231,26 @@ pub black_under_way : (v w : SeatView) (m : Marking) (x : NotesState) (a : ℕ) 
 black_under_way v w m x a looks black h =
     let marks : w.marked ≡ v.marked = ap (λ (z : SeatView). z.marked) looks.marks in
     let traces : w.traced ≡ v.traced = ap (λ (z : SeatView). z.traced) looks.marks in
+    let listed : (p : ℕ) → holds w.marked p ≡ true → holds w.traced p ≡ false → Contains (m.list.items ++ a ∷ []) p → Contains m.list.items p =
+    λ p marked white there.
+    let was_marked : holds v.marked p ≡ true = subst (λ l. holds l p ≡ true) marks marked in
+    let was_white : holds v.traced p ≡ false = subst (λ l. holds l p ≡ false) traces white in
+    elim (Contains-push_cases m.list.items a p there) [
+      | inl old ↦ old
+      | inr here ↦ absurd (true≢false (sym (was_traced v p (subst (λ q. is_grey_at v q ≡ false) here black) was_marked) ∙ was_white))
+    ] in
     record {
       on = ap (λ (z : SeatView). z.on) looks.marks ∙ h.on;
       told = h.told;
-      alone = looks.alone;
+      still = record { no_hand = looks.alone.no_hand; no_pending = looks.alone.no_pending };
       listed = λ p there. subst (λ l. holds l p ≡ true) (sym marks) (h.listed p (Contains-append_left m.list.items (a ∷ []) p there));
-      grey = λ fine p marked white.
-          let was_marked : holds v.marked p ≡ true = subst (λ l. holds l p ≡ true) marks marked in
-          let was_white : holds v.traced p ≡ false = subst (λ l. holds l p ≡ false) traces white in
-          elim (Contains-push_cases m.list.items a p (h.grey fine p was_marked was_white)) [
-            | inl listed ↦ listed
-            | inr here ↦ absurd
-                (true≢false (sym (was_traced v p (subst (λ q. is_grey_at v q ≡ false) here black) was_marked) ∙ was_white))
+      grey = λ fine unrefused p marked white.
+          elim (h.grey fine unrefused p (subst (λ l. holds l p ≡ true) marks marked) (subst (λ l. holds l p ≡ false) traces white)) [
+            | inl there ↦ inl (listed p marked white there)
+            | inr note ↦ inr note
           ];
-      noted = λ note there.
-          let is = h.noted note there in
-          record {
-            pair = subst (λ (ts : List ObjectType). HasPair ts w.bodies note.holder note.word) (sym (ap (λ (z : SeatView). z.types) looks.marks))
-                (subst (λ bs. HasPair v.types bs note.holder note.word) (sym (ap (λ (z : SeatView). z.bodies) looks.marks)) is.pair);
-            marked = subst (λ l. holds l note.holder ≡ true) (sym marks) is.marked;
-          };
+      unshared = λ none fine p marked white.
+          listed p marked white (h.unshared none fine p (subst (λ l. holds l p ≡ true) marks marked) (subst (λ l. holds l p ≡ false) traces white));
+      noted = λ note there. pair_same v w note (ap (λ (z : SeatView). z.types) looks.marks) (ap (λ (z : SeatView). z.bodies) looks.marks) (h.noted note there);
       recorded = λ fine pair there. h.recorded fine pair (subst (λ l. Contains l pair) looks.noted there);
     }

@@ -33,7 +33,7 @@ grey_marked u v m n marks grey = λ fine p marked white. elim (marks.fresh fine 
 
 -- ---- marking that is under way
 
-pair_same : (u v : SeatView) (note : Note) → v.types ≡ u.types → v.bodies ≡ u.bodies
+pub pair_same : (u v : SeatView) (note : Note) → v.types ≡ u.types → v.bodies ≡ u.bodies
     → (note.word ≡ 0) ⊎ HasPair u.types u.bodies note.holder note.word → (note.word ≡ 0) ⊎ HasPair v.types v.bodies note.holder note.word
 pair_same u v note types bodies is = elim is [
   | inl itself ↦ inl itself

@@ -3,6 +3,7 @@
 ghost use Rattle.std.specs.Prelude.{◌≡◌, ◌⊎◌, ◌<◌, ◌≤◌, ◌+◌, ◌^◌, [], ◌∷◌, None, Some};
 ghost use Rattle.std.specs.Prelude.{true, Contains};
 ghost use Rattle.mark_worklist.specs.Refusals.{TellsRefused, refusals_of};
+ghost use Rattle.marker_core.specs.Bodies.{IsPlace};
 ghost use Rattle.page_words.specs.Seat.{IsAlone};
 ghost use Rattle.ephemerons.specs.declared.notes.Note.{Note};
 ghost use Rattle.ephemerons.specs.BodyGraph.{HasPair, PlacesDiffer, HaveNoPairs};
@@ -35,6 +36,8 @@ pub fn trace_listed<B: Bodywords>(
     requires under_way { IsUnderWay seat.old marking.old notes.old }
     requires alone { IsAlone seat.old }
     requires whole { marking.old.list.whole ≡ true }
+    requires objects { (note : Note) → Contains notes.old.notes note → note.word ≡ 0
+        → IsPlace seat.old.bodies note.holder }
     ensures under_way { IsUnderWay seat.new marking.new notes.new }
     ensures alone { IsAlone seat.new }
     ensures mode { mode_of marking.new ≡ mode_of marking.old }
@@ -71,6 +74,8 @@ fn step_with_notes<B: Bodywords>(
     ensures works { Works types.now None (stage seat.old marking.old (notes.old ∷ []) 0)
         (stage seat.new marking.new (notes.new ∷ []) result) }
     ensures under_way { IsUnderWay seat.new marking.new notes.new }
+    ensures noted { (note : Note) → Contains notes.new.notes note → Contains notes.old.notes note
+        ⊎ HasPair types.now seat.old.bodies note.holder note.word }
     ensures most { result ≤ most }
     ensures done { result < most → marking.new.list.items ≡ [] }
 {
@@ -104,6 +109,8 @@ fn trace_taken<B: Bodywords>(
         (stage seat.old marking.old (notes.old ∷ []) traced.old)
         (stage seat.new marking.new (notes.new ∷ []) traced.new) }
     ensures under_way { IsUnderWay seat.new marking.new notes.new }
+    ensures noted { (note : Note) → Contains notes.new.notes note → Contains notes.old.notes note
+        ⊎ HasPair types.now seat.old.bodies note.holder note.word }
     ensures one { traced.new ≤ traced.old + 1 }
 {
     seat.bodies_lie_apart();

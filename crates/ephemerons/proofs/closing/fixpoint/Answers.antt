@@ -13,6 +13,7 @@ settle_all-requires-clause-ground g c =
     subst (λ (gs : List NotesState). IsGround c.args.types.now (stage c.args.seat.now c.args.marking.now gs 0)) (sym c.begin_indexes.ensures) (record {
       on = c.requires.on;
       told = c.requires.marking ∙ c.requires.on;
+      whole = c.requires.whole;
       known = sym c.requires.types;
       alone = c.requires.alone;
       references = are_references c.args.seat.now c.bodies_lie_apart.ensures c.requires.on c.args.types.now (sym c.requires.types);

@@ -1,7 +1,8 @@
-use Rattle.std.proofs.Common.{[], ◌∷◌, None, refl, arith}
+use Rattle.std.proofs.Common.{[], ◌∷◌, None, refl, subst, inl, inr, arith}
 use Rattle.mark_worklist.specs.Refusals.{refusals_of}
-use Rattle.ephemerons.specs.Fixpoint.{stage}
-use Rattle.ephemerons.proofs.Stages.{Works-same, Works-then, Works-popped, ground_popped}
+use Rattle.ephemerons.specs.BodyGraph.{HasPair}
+use Rattle.ephemerons.specs.Fixpoint.{mode_of, stage}
+use Rattle.ephemerons.proofs.Stages.{mode_popped, Works-same, Works-then, Works-popped, ground_popped}
 use Rattle.ephemerons.proofs.UnderWaySteps.{held_under_way}
 use Rattle.ephemerons.proofs.stepping.step_with_notes.Goals as goal
 
@@ -10,18 +11,21 @@ loop-traced-init g c = record {
   ground = c.requires.ground;
   works = Works-same c.args.types.now (stage c.args.seat.now c.args.marking.now (c.args.notes.now ∷ []) 0);
   under_way = c.requires.under_way;
+  noted = λ note there. inl there;
   most = omega arith;
 }
 
 pub trace_taken-requires-clause-ground : goal.trace_taken-requires-clause-ground
 trace_taken-requires-clause-ground g c =
     (ground_popped c.args.types.now (stage c.loop-traced.seat c.loop-traced.marking (c.loop-traced.notes ∷ []) c.loop-traced.traced) c.pop.new.self.items
-    c.in-Some.place (refusals_of (record c.loop-traced.marking { list = c.pop.new.self })) c.in-Some.ensures.items c.loop-traced.invariant.ground).0
+    c.in-Some.place (refusals_of (record c.loop-traced.marking { list = c.pop.new.self })) (mode_of (record c.loop-traced.marking { list = c.pop.new.self }))
+    c.in-Some.ensures.items (mode_popped c.loop-traced.marking c.pop.new.self c.loop-traced.invariant.ground.whole c.pop.ensures.whole c.pop.ensures.shares) c.loop-traced.invariant.ground).0
 
 pub trace_taken-requires-clause-under_way : goal.trace_taken-requires-clause-under_way
 trace_taken-requires-clause-under_way g c =
     held_under_way c.loop-traced.seat c.loop-traced.marking (record c.loop-traced.marking { list = c.pop.new.self }) c.loop-traced.notes c.in-Some.place
-    c.in-Some.ensures.items refl refl c.loop-traced.invariant.under_way
+    c.in-Some.ensures.items (mode_popped c.loop-traced.marking c.pop.new.self c.loop-traced.invariant.ground.whole c.pop.ensures.whole c.pop.ensures.shares) refl
+    c.loop-traced.invariant.under_way
 
 pub loop-traced-preserved : goal.loop-traced-preserved
 loop-traced-preserved g c = record {
@@ -30,8 +34,13 @@ loop-traced-preserved g c = record {
       Works-then c.args.types.now None _ _ _ c.loop-traced.invariant.works
       (Works-popped c.args.types.now (stage c.loop-traced.seat c.loop-traced.marking (c.loop-traced.notes ∷ []) c.loop-traced.traced)
       (stage c.trace_taken.new.seat c.trace_taken.new.marking (c.trace_taken.new.notes ∷ []) c.trace_taken.new.traced) c.pop.new.self.items c.in-Some.place
-      c.pop.new.self.refused c.in-Some.ensures.items c.pop.ensures.refused c.trace_taken.ensures.works);
+      c.pop.new.self.refused (mode_of (record c.loop-traced.marking { list = c.pop.new.self })) c.in-Some.ensures.items c.pop.ensures.refused
+      (mode_popped c.loop-traced.marking c.pop.new.self c.loop-traced.invariant.ground.whole c.pop.ensures.whole c.pop.ensures.shares) c.trace_taken.ensures.works);
   under_way = c.trace_taken.ensures.under_way;
+  noted = λ note there. elim (c.trace_taken.ensures.noted note there) [
+    | inl before ↦ c.loop-traced.invariant.noted note before
+    | inr pair ↦ inr (subst (λ bs. HasPair c.args.types.now bs note.holder note.word) c.loop-traced.invariant.works.kept.bodies pair)
+  ];
   most = omega (arith, c.trace_taken.ensures.one, c.loop-traced-test.true);
 }
 

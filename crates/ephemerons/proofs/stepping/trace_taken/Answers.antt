@@ -3,7 +3,6 @@ use Rattle.std.proofs.lemmas.List.Elements.{Contains-push}
 use Rattle.type_table.specs.Types.{kinds_of}
 use Rattle.type_table.specs.TracedWords.{traced_words_of}
 use Rattle.page_words.specs.Seat.{SeatView, is_grey_at}
-use Rattle.ephemerons.specs.BodyGraph.{HasType}
 use Rattle.ephemerons.specs.Notes.{NotesGrow}
 use Rattle.ephemerons.proofs.GreySteps.{ReadsFields, fewer_untraced, grey_ground, grey_works, black_ground, black_looks}
 use Rattle.ephemerons.proofs.UnderWaySteps.{grey_under_way, black_under_way}
@@ -49,11 +48,12 @@ returns-in-Some-clause-works g c =
 
 pub returns-in-Some-clause-under_way : goal.returns-in-Some-clause-under_way
 returns-in-Some-clause-under_way g c =
-    let has : HasType c.claim.new.seat.bodies c.args.place c.in-Some.ty =
-    subst (λ bs. HasType bs c.args.place c.in-Some.ty) (sym (ap (λ (v : SeatView). v.bodies) c.in-Some.ensures.claimed.marks)) c.in-Some.ensures.body in
     grey_under_way c.args.types.now c.args.seat.now c.claim.new.seat c.trace_fields.new.seat c.args.marking.now c.trace_fields.new.marking c.args.notes.now
-    c.trace_fields.new.notes c.args.place (read g c) c.in-Some.ty (traced_words_of (kinds_of c.args.types.now c.in-Some.ty)) c.in-Some.ensures.claimed.noted has
+    c.trace_fields.new.notes c.args.place (read g c) c.in-Some.ty (traced_words_of (kinds_of c.args.types.now c.in-Some.ty)) c.in-Some.ensures.claimed.noted
     c.trace_fields.ensures.told c.requires.ground.known c.requires.under_way
+
+pub returns-in-Some-clause-noted : goal.returns-in-Some-clause-noted
+returns-in-Some-clause-noted g c = (read g c).notes.pairs
 
 pub returns-in_default-clause-ground : goal.returns-in_default-clause-ground
 returns-in_default-clause-ground g c =
