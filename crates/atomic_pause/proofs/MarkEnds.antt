@@ -1,7 +1,7 @@
 -- How marking ends.
-use Rattle.std.proofs.Common.{◌≡◌, ℕ, ◌+◌, Bool, true, false, List, [], ◌∷◌, length, None, refl, sym, ap, ◌∙◌, subst, inl, inr, arith, cond}
+use Rattle.std.proofs.Common.{◌≡◌, ℕ, ◌+◌, Bool, true, false, List, [], ◌∷◌, None, refl, sym, ap, ◌∙◌, subst, inl, inr, arith, cond}
 use mathlib.Core.Logic.{◌⊎◌}
-use Rattle.std.specs.List.{Contains, count_by}
+use Rattle.std.specs.List.{count_by}
 use Rattle.std.proofs.lemmas.Bool.{true≢false, cases_Bool}
 use Rattle.std.proofs.lemmas.List.Sums.{sum_by-cons}
 use Rattle.gc_graph.specs.State.{ObjectType}
@@ -12,11 +12,9 @@ use Rattle.marker_core.specs.Closed.{IsClosedOver}
 use Rattle.page_words.specs.Roles.{kind_lists}
 use Rattle.page_words.specs.Seat.{SeatView, IsView, ended}
 use Rattle.ephemerons.specs.Marking.{MarksOn, GrowsWithin, IsOver, traced_count}
-use Rattle.ephemerons.specs.Notes.{NotesState, IsNotedIn, IsNote, group_at}
-use Rattle.ephemerons.specs.declared.notes.Note.{Note}
-use Rattle.ephemerons.specs.UnderWay.{IsUnderWay}
+use Rattle.ephemerons.specs.Notes.{NotesState}
+use Rattle.ephemerons.specs.UnderWay.{IsReadyToEnd}
 use Rattle.ephemerons.specs.Fixpoint.{IsAccounted, IsUnrefused}
-use Rattle.ephemerons.specs.Accounted.{under_way_is_accounted}
 use Rattle.atomic_pause.specs.Marking.{IsMarkedIn, MarksReachable, marked_count}
 
 count_agrees : (bodies : List Body) (p q : ℕ → Bool) → ((x : ℕ) → p x ≡ q x) → count_by (λ (b : Body). p b.place) bodies ≡ count_by (λ (b : Body). q b.place) bodies
@@ -64,25 +62,7 @@ marks_reachable types w x y led over grows ends =
 
 -- ---- what the fixpoint asks for
 
--- there is one group of notes
-one_group : (groups : List NotesState) → length groups ≡ 1 → groups ≡ group_at groups 0 ∷ []
-one_group [] one = absurd (omega (arith, one))
-one_group (g ∷ []) one = refl
-one_group (g ∷ h ∷ groups) one = absurd (omega (arith, one))
-
-pub noted_pair : (types : List ObjectType) (w : SeatView) (m : Marking) (groups : List NotesState) → length groups ≡ 1 → w.types ≡ types
-    → IsUnderWay w m (group_at groups 0) → (note : Note) → IsNotedIn groups note → IsNote types w.bodies note
-noted_pair types w m groups one known h note noted =
-    let first : noted.0 ≡ 0 = omega (arith, noted.1, one) in
-    let there : Contains (group_at groups 0).notes note = subst (λ i. Contains (group_at groups i).notes note) first noted.2 in
-    subst (λ (ts : List ObjectType). IsNote ts w.bodies note) known (inr (h.noted note there).pair)
-
 -- list and notes account for all that is left, unless something was refused, and then the heap is walked
-pub walked_or_listed : (types : List ObjectType) (w : SeatView) (m : Marking) (groups : List NotesState) (walk : Bool) → IsView w → w.types ≡ types
-    → length groups ≡ 1 → IsUnderWay w m (group_at groups 0) → (walk ≡ false → IsUnrefused m.overflow groups)
-    → (walk ≡ true) ⊎ IsAccounted types None w m.list.items groups
-walked_or_listed types w m groups walk view known one h whole = elim (cases_Bool walk) [
-  | inl refused ↦ inl refused
-  | inr fine ↦ inr (subst (λ gs. IsAccounted types None w m.list.items gs) (sym (one_group groups one))
-      (under_way_is_accounted w m (group_at groups 0) view h types known (subst (IsUnrefused m.overflow) (one_group groups one) (whole fine))))
-]
+pub walked_or_listed : (types : List ObjectType) (w : SeatView) (m : Marking) (groups : List NotesState) (walk : Bool) → IsReadyToEnd types w m groups
+    → (walk ≡ false → IsUnrefused m.overflow groups) → (walk ≡ true) ⊎ IsAccounted types None w m.list.items groups
+walked_or_listed types w m groups walk ready whole = elim (cases_Bool walk) [ inl refused ↦ inl refused | inr fine ↦ inr (ready.accounted (whole fine)) ]

@@ -1,12 +1,13 @@
 -- Objects were marked and listed while more came to be kept.
 use Rattle.std.proofs.Common.{◌≡◌, ℕ, List, refl, ap, ◌∙◌, inl, inr}
+use Rattle.gc_graph.specs.State.{ObjectType}
 use Rattle.mark_worklist.specs.declared.marking.Marking.{Marking}
-use Rattle.page_words.specs.Seat.{SeatView, IsAlone}
+use Rattle.page_words.specs.Seat.{SeatView}
 use Rattle.ephemerons.specs.Notes.{NotesState}
-use Rattle.ephemerons.specs.UnderWay.{IsUnderWay}
-use Rattle.ephemerons.specs.Fixpoint.{ListsMarks}
+use Rattle.ephemerons.specs.UnderWay.{IsReadyToEnd}
+use Rattle.ephemerons.specs.Fixpoint.{ListsMarks, mode_of}
 use Rattle.ephemerons.specs.ListedMarks.{ListsMarks-then, lists_looked}
-use Rattle.ephemerons.specs.UnderWayStays.{under_way_marked, under_way_same}
+use Rattle.ephemerons.specs.ReadyStays.{ready_marked}
 use Rattle.atomic_pause.specs.Marking.{with_may}
 
 -- what may be kept has no part in it
@@ -18,7 +19,7 @@ lists_whatever u v l m before after x = record {
   no_hand = x.no_hand;
   no_pending = x.no_pending;
   marked = x.marked;
-  on = x.on;
+  mode = x.mode;
   overflow = x.overflow;
   told = x.told;
   kept = x.kept;
@@ -38,13 +39,27 @@ scans_then u v w l m n x y =
 pub scans_none : (u : SeatView) (l : Marking) → ListsMarks (with_may u u.may) l u l
 scans_none u l = lists_looked u u l refl
 
--- marking stays under way where the roots of a pause are marked
-pub roots_under_way : (v u r w : SeatView) (l m o n : Marking) (x : NotesState) → ListsMarks v l u m → u.noted ≡ v.noted → ListsMarks (with_may u r.may) m r o
-    → r.noted ≡ u.noted → ListsMarks (with_may r w.may) o w n → w.noted ≡ r.noted → IsUnderWay v l x → IsUnderWay w n x
-roots_under_way v u r w l m o n x visit visit_noted share share_noted scan scan_noted h =
-    let between : IsUnderWay u m x = under_way_marked v u l m x visit visit_noted h in
-    under_way_marked (with_may u w.may) w m n x (scans_then u r w m o n share scan) (scan_noted ∙ share_noted)
-    (under_way_same u (with_may u w.may) m x
-    (record { on = refl; alone = alone_same between.alone; types = refl; bodies = refl; marked = refl; traced = refl; noted = refl }) between) where
-      alone_same : IsAlone u → IsAlone (with_may u w.may)
-      alone_same alone = record { no_hand = alone.no_hand; no_pending = alone.no_pending; none_lent = alone.none_lent }
+ready_whatever : (types : List ObjectType) (u : SeatView) (m : Marking) (groups : List NotesState) (may : List ℕ) → IsReadyToEnd types u m groups
+    → IsReadyToEnd types (with_may u may) m groups
+ready_whatever types u m groups may h = record {
+  on = h.on;
+  told = h.told;
+  alone = record { no_hand = h.alone.no_hand; no_pending = h.alone.no_pending; none_lent = h.alone.none_lent };
+  whole = h.whole;
+  listed = h.listed;
+  noted = h.noted;
+  accounted = λ fine. (let known = h.accounted fine in record { grey = known.grey; pairs = known.pairs });
+  own = h.own;
+}
+
+-- marking can be brought to its end yet where the roots of a pause are marked
+pub roots_ready : (types : List ObjectType) (v u r w : SeatView) (l m o n : Marking) (groups : List NotesState) → ListsMarks v l u m
+    → ListsMarks (with_may u r.may) m r o → ListsMarks (with_may r w.may) o w n → IsReadyToEnd types v l groups → IsReadyToEnd types w n groups
+roots_ready types v u r w l m o n groups visit share scan h =
+    ready_marked types (with_may u w.may) w m n groups (scans_then u r w m o n share scan)
+    (ready_whatever types u m groups w.may (ready_marked types v u l m groups visit h))
+
+-- and the list has as many shares as it had
+pub roots_mode : (v u r w : SeatView) (l m o n : Marking) → ListsMarks v l u m → ListsMarks (with_may u r.may) m r o → ListsMarks (with_may r w.may) o w n
+    → mode_of n ≡ mode_of l
+roots_mode v u r w l m o n visit share scan = scan.mode ∙ share.mode ∙ visit.mode

@@ -10,8 +10,9 @@ use Rattle.page_words.specs.Seat.{SeatView}
 use Rattle.ephemerons.specs.BodyGraph.{AreReferences}
 use Rattle.ephemerons.specs.Marking.{heap_and_marks, GrowsWithin, traced_count}
 use Rattle.ephemerons.specs.Notes.{NotesState, group_at, refusals_in, IsNote}
-use Rattle.ephemerons.specs.Fixpoint.{Mode, stage, weight, IsGround, IsAccounted, Works, ListsMarks, without_looks, untraced_places, weight_of}
+use Rattle.ephemerons.specs.Fixpoint.{Mode, stage, weight, IsGround, Works, ListsMarks, without_looks, untraced_places, weight_of}
 use Rattle.ephemerons.specs.ListedMarks.{alone_still}
+use Rattle.ephemerons.specs.ReadyStays.{marks_accounted}
 
 untraced_same : (v w : SeatView) (m n : Marking) → ListsMarks v m w n → untraced_places w ≡ untraced_places v
 untraced_same v w m n x =
@@ -22,25 +23,6 @@ count_same : (v w : SeatView) (m n : Marking) → ListsMarks v m w n → traced_
 count_same v w m n x =
     ap (λ bs. count_by (λ (b : Body). holds w.traced b.place) bs) (ap (λ (z : SeatView). z.bodies) x.view)
     ∙ ap (λ ts. count_by (λ (b : Body). holds ts b.place) v.bodies) x.traced
-
--- what was accounted for still is
-marks_accounted : (types : List ObjectType) (v w : SeatView) (m n : Marking) (groups : List NotesState) → ListsMarks v m w n → n.overflow ≡ false
-    → IsAccounted types None v m.list.items groups → IsAccounted types None w n.list.items groups
-marks_accounted types v w m n groups x fine h = record {
-  grey = λ p marked untraced. elim (x.fresh fine p marked) [
-    | inl before ↦ elim (h.grey p before (subst (λ l. holds l p ≡ false) x.traced untraced)) [
-      | inl last ↦ inl last
-      | inr known ↦ inr (elim known [ inl listed ↦ inl (x.kept p listed) | inr noted ↦ inr noted ])
-    ]
-    | inr listed ↦ inr (inl listed)
-  ];
-  pairs = λ p is offset b k q there at pair key value.
-      elim (h.pairs p (subst (λ l. holds l p ≡ true) x.traced is) offset b k q (subst (λ bs. Contains bs b) (ap (λ (z : SeatView). z.bodies) x.view) there)
-      at pair key value) [
-        | inl marked ↦ inl (x.marked q marked)
-        | inr noted ↦ inr noted
-      ];
-}
 
 pub marks_work : (types : List ObjectType) (v w : SeatView) (m n : Marking) (groups : List NotesState) (t : ℕ) → ListsMarks v m w n → GrowsWithin types v w
     → Works types None (stage v m groups t) (stage w n groups t)

@@ -12,4 +12,5 @@ pub mod BodyLeads
 pub mod ListedMarks
 pub mod Accounted
 pub mod UnderWayStays
+pub mod ReadyStays
 pub mod HandPath

@@ -4,21 +4,14 @@ use Rattle.marker_core.specs.Closed.{IsClosedOver}
 use Rattle.page_words.specs.Seat.{ended}
 use Rattle.page_words.specs.Roles.{kind_lists}
 use Rattle.ephemerons.specs.Marking.{IsOver}
-use Rattle.atomic_pause.proofs.MarkEnds.{noted_pair, walked_or_listed, kept_are_counted, marks_reachable}
+use Rattle.atomic_pause.proofs.MarkEnds.{walked_or_listed, kept_are_counted, marks_reachable}
 use Rattle.atomic_pause.proofs.closing.close.Goals as goal
 
 pub fixpoint-traced-requires-clause-marking : goal.fixpoint-traced-requires-clause-marking
-fixpoint-traced-requires-clause-marking c = c.requires.under_way.told ∙ sym c.requires.under_way.on
+fixpoint-traced-requires-clause-marking c = c.requires.ready.told ∙ sym c.requires.ready.on
 
 pub fixpoint-traced-requires-clause-listed : goal.fixpoint-traced-requires-clause-listed
-fixpoint-traced-requires-clause-listed c p there = c.bodies_lie_apart.ensures.marked_are_bodies p (c.requires.under_way.listed p there)
-
-pub fixpoint-traced-requires-clause-noted : goal.fixpoint-traced-requires-clause-noted
-fixpoint-traced-requires-clause-noted c note noted =
-    noted_pair c.args.types.now c.args.seat.now c.args.marking.now c.args.notes.now c.requires.one (sym c.requires.types) c.requires.under_way note noted
-
-pub fixpoint-traced-requires-clause-own : goal.fixpoint-traced-requires-clause-own
-fixpoint-traced-requires-clause-own c = omega (arith, c.requires.one)
+fixpoint-traced-requires-clause-listed c p there = c.bodies_lie_apart.ensures.marked_are_bodies p (c.requires.ready.listed p there)
 
 pub set_stop-requires : goal.set_stop-requires
 set_stop-requires c =
@@ -26,8 +19,8 @@ set_stop-requires c =
     let kept = c.fixpoint-traced.ensures.kept in
     let over : IsOver c.args.types.now v =
     c.fixpoint-traced.ensures.over
-    (walked_or_listed c.args.types.now c.args.seat.now c.args.marking.now c.args.notes.now c.is_refused-walk.result c.bodies_lie_apart.ensures
-    (sym c.requires.types) c.requires.one c.requires.under_way c.is_refused-walk.ensures.whole) in (
+    (walked_or_listed c.args.types.now c.args.seat.now c.args.marking.now c.args.notes.now c.is_refused-walk.result c.requires.ready
+    c.is_refused-walk.ensures.whole) in (
       kept.heap ∙ c.requires.heap ∙ sym (c.deref.ensures ∙ c.words.ensures),
       λ on alone. record {
         alone = c.fixpoint-traced.ensures.alone;
@@ -38,13 +31,13 @@ set_stop-requires c =
 
 ends : (c : goal.After-marking-1) → c.set_stop.new.seat ≡ ended c.fixpoint-traced.new.seat
 ends c =
-    c.set_stop.ensures.ended refl (c.fixpoint-traced.ensures.kept.on ∙ c.requires.under_way.on) c.fixpoint-traced.ensures.alone.none_lent
+    c.set_stop.ensures.ended refl (c.fixpoint-traced.ensures.kept.on ∙ c.requires.ready.on) c.fixpoint-traced.ensures.alone.none_lent
 
 over : (c : goal.After-marking-1) → IsOver c.args.types.now c.fixpoint-traced.new.seat
 over c =
     c.fixpoint-traced.ensures.over
-    (walked_or_listed c.args.types.now c.args.seat.now c.args.marking.now c.args.notes.now c.is_refused-walk.result c.bodies_lie_apart.ensures
-    (sym c.requires.types) c.requires.one c.requires.under_way c.is_refused-walk.ensures.whole)
+    (walked_or_listed c.args.types.now c.args.seat.now c.args.marking.now c.args.notes.now c.is_refused-walk.result c.requires.ready
+    c.is_refused-walk.ensures.whole)
 
 pub returns-clause-over : goal.returns-clause-over
 returns-clause-over c =

@@ -15,7 +15,7 @@ use Rattle.page_words.specs.Seat.{SeatView}
 use Rattle.page_space.specs.Space.{extents_of_bodies}
 use Rattle.ephemerons.specs.BodyGraph.{PlacesDiffer}
 use Rattle.ephemerons.specs.Marking.{traced_count}
-use Rattle.ephemerons.specs.Notes.{group_at}
+use Rattle.ephemerons.specs.Fixpoint.{Mode}
 use Rattle.prefinalizer_effects.specs.Prepared.{setup_of, IsPrepared}
 use Rattle.prefinalizer_effects.specs.LookedObjects.{prepared_looked}
 use Rattle.nodes_in_words.specs.Places.{kept_of}
@@ -24,7 +24,7 @@ use Rattle.nodes_in_words.specs.NodePlaces.{places_differ}
 use Rattle.atomic_pause.specs.Marking.{IsOtherRoot, IsRootPlace, IsMayOrRoot, MarksReachable, marked_count}
 use Rattle.atomic_pause.specs.Pausing.{IsKeptBetween}
 use Rattle.atomic_pause.proofs.BodyReferences.{alive_marked, marked_references}
-use Rattle.atomic_pause.proofs.MayMarks.{roots_under_way}
+use Rattle.atomic_pause.proofs.MayMarks.{roots_mode, roots_ready}
 use Rattle.atomic_pause.proofs.PausedNodes.{roots_marked, traced_so_far, few_kept, none_missing, prepared, paused_is, registered_after, kept_count, dead_left}
 use Rattle.atomic_pause.proofs.ReachedNodes.{has_marked, others_at, other_roots, roots_with, roots_with_others, keeps_between}
 use Rattle.atomic_pause.proofs.RegionPaused.{shared_place, weak_is_place, region_paused}
@@ -33,15 +33,15 @@ use Rattle.atomic_pause.proofs.pausing.pause.Given as given
 use Rattle.atomic_pause.proofs.pausing.pause.Goals as goal
 
 pub visit_slots-requires-clause-marking : goal.visit_slots-requires-clause-marking
-visit_slots-requires-clause-marking g c = c.requires.under_way.told ∙ sym c.requires.under_way.on
+visit_slots-requires-clause-marking g c = c.requires.ready.told ∙ sym c.requires.ready.on
 
 pub visit_region-requires-clause-marking : goal.visit_region-requires-clause-marking
 visit_region-requires-clause-marking g c =
-    c.visit_slots.ensures.marks.on ∙ c.requires.under_way.told
-    ∙ sym (ap (λ (z : SeatView). z.on) c.visit_slots.ensures.marks.view ∙ c.requires.under_way.on)
+    ap (λ (o : Mode). o.on) c.visit_slots.ensures.marks.mode ∙ c.requires.ready.told
+    ∙ sym (ap (λ (z : SeatView). z.on) c.visit_slots.ensures.marks.view ∙ c.requires.ready.on)
 
 pub visit_region-requires-clause-alone : goal.visit_region-requires-clause-alone
-visit_region-requires-clause-alone g c = ap (λ (z : SeatView). z.lent) c.visit_slots.ensures.marks.view ∙ c.requires.under_way.alone.none_lent
+visit_region-requires-clause-alone g c = ap (λ (z : SeatView). z.lent) c.visit_slots.ensures.marks.view ∙ c.requires.ready.alone.none_lent
 
 pub visit_region-requires-clause-places : goal.visit_region-requires-clause-places
 visit_region-requires-clause-places g c = λ x p is.
@@ -51,19 +51,19 @@ visit_region-requires-clause-places g c = λ x p is.
 
 pub scan_stack-requires-clause-marking : goal.scan_stack-requires-clause-marking
 scan_stack-requires-clause-marking g c =
-    c.visit_region.ensures.marks.on ∙ c.visit_slots.ensures.marks.on ∙ c.requires.under_way.told
-    ∙ sym (ap (λ (z : SeatView). z.on) c.visit_region.ensures.marks.view ∙ ap (λ (z : SeatView). z.on) c.visit_slots.ensures.marks.view ∙ c.requires.under_way.on)
+    ap (λ (o : Mode). o.on) c.visit_region.ensures.marks.mode ∙ ap (λ (o : Mode). o.on) c.visit_slots.ensures.marks.mode ∙ c.requires.ready.told
+    ∙ sym (ap (λ (z : SeatView). z.on) c.visit_region.ensures.marks.view ∙ ap (λ (z : SeatView). z.on) c.visit_slots.ensures.marks.view ∙ c.requires.ready.on)
 
 pub scan_stack-requires-clause-alone : goal.scan_stack-requires-clause-alone
 scan_stack-requires-clause-alone g c =
     ap (λ (z : SeatView). z.lent) c.visit_region.ensures.marks.view ∙ ap (λ (z : SeatView). z.lent) c.visit_slots.ensures.marks.view
-    ∙ c.requires.under_way.alone.none_lent
+    ∙ c.requires.ready.alone.none_lent
 
-pub close-more-requires-clause-under_way : goal.close-more-requires-clause-under_way
-close-more-requires-clause-under_way g c =
-    roots_under_way c.args.parts.seat.now c.visit_slots.new.seat c.visit_region.new.seat c.scan_stack.new.seat c.args.parts.marking.now c.visit_slots.new.marking
-    c.visit_region.new.marking c.scan_stack.new.marking (group_at c.args.parts.notes.now 0) c.visit_slots.ensures.marks c.visit_slots.ensures.noted
-    c.visit_region.ensures.marks c.visit_region.ensures.noted c.scan_stack.ensures.marks c.scan_stack.ensures.noted c.requires.under_way
+pub close-more-requires-clause-ready : goal.close-more-requires-clause-ready
+close-more-requires-clause-ready g c =
+    roots_ready c.args.parts.types.now c.args.parts.seat.now c.visit_slots.new.seat c.visit_region.new.seat c.scan_stack.new.seat c.args.parts.marking.now
+    c.visit_slots.new.marking c.visit_region.new.marking c.scan_stack.new.marking c.args.parts.notes.now c.visit_slots.ensures.marks
+    c.visit_region.ensures.marks c.scan_stack.ensures.marks c.requires.ready
 
 pub close-more-requires-clause-types : goal.close-more-requires-clause-types
 close-more-requires-clause-types g c =
@@ -83,29 +83,29 @@ pub clear_weak-requires-clause-references : goal.clear_weak-requires-clause-refe
 clear_weak-requires-clause-references g c =
     let marks = roots_marked c.args.parts.types.now c.args.parts.strong.now c.pause_begin-held.result c.args.precise c.args.stack.now c.args.parts.seat.now c.visit_slots.new.seat
     c.visit_region.new.seat c.scan_stack.new.seat c.close-more.new.seat c.args.parts.marking.now c.visit_slots.new.marking c.visit_region.new.marking c.scan_stack.new.marking
-    c.bodies_lie_apart.ensures c.requires.under_way.on c.requires.may c.visit_slots.ensures.marks c.visit_slots.ensures.roots c.visit_slots.ensures.only
+    c.bodies_lie_apart.ensures c.requires.ready.on c.requires.may c.visit_slots.ensures.marks c.visit_slots.ensures.roots c.visit_slots.ensures.only
     c.visit_region.ensures.marks c.visit_region.ensures.roots c.visit_region.ensures.only c.scan_stack.ensures.marks c.scan_stack.ensures.roots c.scan_stack.ensures.only
     c.close-more.ensures.over in
     marked_references Weak (setup_of c.args.parts.space.now c.args.parts.types.now (kinds_of c.args.parts.callbacks.now)) c.args.parts.nodes.now.value c.close-more.new.seat refl (marks.known ∙ c.requires.types)
     (alive_marked (setup_of c.args.parts.space.now c.args.parts.types.now (kinds_of c.args.parts.callbacks.now)) c.args.parts.nodes.now.value (IsRootPlace c.args.parts.strong.now c.pause_begin-held.result c.args.precise c.args.parts.seat.now.bodies c.args.stack.now) (IsMayOrRoot c.pause_begin-held.result c.args.precise c.args.parts.seat.now c.args.stack.now)
-    c.args.parts.seat.now c.close-more.new.seat c.requires.valid c.requires.held (c.bodies_lie_apart.ensures.marking c.requires.under_way.on).no_dead marks)
+    c.args.parts.seat.now c.close-more.new.seat c.requires.valid c.requires.held (c.bodies_lie_apart.ensures.marking c.requires.ready.on).no_dead marks)
 
 pub clear_weak-requires-clause-pairs : goal.clear_weak-requires-clause-pairs
 clear_weak-requires-clause-pairs g c =
     let marks = roots_marked c.args.parts.types.now c.args.parts.strong.now c.pause_begin-held.result c.args.precise c.args.stack.now c.args.parts.seat.now c.visit_slots.new.seat
     c.visit_region.new.seat c.scan_stack.new.seat c.close-more.new.seat c.args.parts.marking.now c.visit_slots.new.marking c.visit_region.new.marking c.scan_stack.new.marking
-    c.bodies_lie_apart.ensures c.requires.under_way.on c.requires.may c.visit_slots.ensures.marks c.visit_slots.ensures.roots c.visit_slots.ensures.only
+    c.bodies_lie_apart.ensures c.requires.ready.on c.requires.may c.visit_slots.ensures.marks c.visit_slots.ensures.roots c.visit_slots.ensures.only
     c.visit_region.ensures.marks c.visit_region.ensures.roots c.visit_region.ensures.only c.scan_stack.ensures.marks c.scan_stack.ensures.roots c.scan_stack.ensures.only
     c.close-more.ensures.over in
     marked_references Pair (setup_of c.args.parts.space.now c.args.parts.types.now (kinds_of c.args.parts.callbacks.now)) c.args.parts.nodes.now.value c.close-more.new.seat refl (marks.known ∙ c.requires.types)
     (alive_marked (setup_of c.args.parts.space.now c.args.parts.types.now (kinds_of c.args.parts.callbacks.now)) c.args.parts.nodes.now.value (IsRootPlace c.args.parts.strong.now c.pause_begin-held.result c.args.precise c.args.parts.seat.now.bodies c.args.stack.now) (IsMayOrRoot c.pause_begin-held.result c.args.precise c.args.parts.seat.now c.args.stack.now)
-    c.args.parts.seat.now c.close-more.new.seat c.requires.valid c.requires.held (c.bodies_lie_apart.ensures.marking c.requires.under_way.on).no_dead marks)
+    c.args.parts.seat.now c.close-more.new.seat c.requires.valid c.requires.held (c.bodies_lie_apart.ensures.marking c.requires.ready.on).no_dead marks)
 
 pub clear_weak-requires-clause-places : goal.clear_weak-requires-clause-places
 clear_weak-requires-clause-places g c =
     let marks = roots_marked c.args.parts.types.now c.args.parts.strong.now c.pause_begin-held.result c.args.precise c.args.stack.now c.args.parts.seat.now c.visit_slots.new.seat
     c.visit_region.new.seat c.scan_stack.new.seat c.close-more.new.seat c.args.parts.marking.now c.visit_slots.new.marking c.visit_region.new.marking c.scan_stack.new.marking
-    c.bodies_lie_apart.ensures c.requires.under_way.on c.requires.may c.visit_slots.ensures.marks c.visit_slots.ensures.roots c.visit_slots.ensures.only
+    c.bodies_lie_apart.ensures c.requires.ready.on c.requires.may c.visit_slots.ensures.marks c.visit_slots.ensures.roots c.visit_slots.ensures.only
     c.visit_region.ensures.marks c.visit_region.ensures.roots c.visit_region.ensures.only c.scan_stack.ensures.marks c.scan_stack.ensures.roots c.scan_stack.ensures.only
     c.close-more.ensures.over in
     subst (λ bs. All (IsPlace bs) (taken c.args.parts.weak.now)) (sym marks.bodies) c.requires.weak
@@ -114,7 +114,7 @@ pub clear_region-requires-clause-places : goal.clear_region-requires-clause-plac
 clear_region-requires-clause-places g c = λ x p is.
     let marks = roots_marked c.args.parts.types.now c.args.parts.strong.now c.pause_begin-held.result c.args.precise c.args.stack.now c.args.parts.seat.now c.visit_slots.new.seat
     c.visit_region.new.seat c.scan_stack.new.seat c.close-more.new.seat c.args.parts.marking.now c.visit_slots.new.marking c.visit_region.new.marking c.scan_stack.new.marking
-    c.bodies_lie_apart.ensures c.requires.under_way.on c.requires.may c.visit_slots.ensures.marks c.visit_slots.ensures.roots c.visit_slots.ensures.only
+    c.bodies_lie_apart.ensures c.requires.ready.on c.requires.may c.visit_slots.ensures.marks c.visit_slots.ensures.roots c.visit_slots.ensures.only
     c.visit_region.ensures.marks c.visit_region.ensures.roots c.visit_region.ensures.only c.scan_stack.ensures.marks c.scan_stack.ensures.roots c.scan_stack.ensures.only
     c.close-more.ensures.over in
     place_cleared c.close-more.new.seat c.clear_weak.new.seat p c.clear_weak.ensures.fields
@@ -128,14 +128,14 @@ prefinalise-requires-clause-ready g c =
     let y : SeatView = c.close-more.new.seat in
     let marks = roots_marked c.args.parts.types.now c.args.parts.strong.now c.pause_begin-held.result c.args.precise c.args.stack.now c.args.parts.seat.now c.visit_slots.new.seat
     c.visit_region.new.seat c.scan_stack.new.seat c.close-more.new.seat c.args.parts.marking.now c.visit_slots.new.marking c.visit_region.new.marking c.scan_stack.new.marking
-    c.bodies_lie_apart.ensures c.requires.under_way.on c.requires.may c.visit_slots.ensures.marks c.visit_slots.ensures.roots c.visit_slots.ensures.only
+    c.bodies_lie_apart.ensures c.requires.ready.on c.requires.may c.visit_slots.ensures.marks c.visit_slots.ensures.roots c.visit_slots.ensures.only
     c.visit_region.ensures.marks c.visit_region.ensures.roots c.visit_region.ensures.only c.scan_stack.ensures.marks c.scan_stack.ensures.roots c.scan_stack.ensures.only
     c.close-more.ensures.over in
     let judged_is : c.judged.result.value ≡ nodes_after (kept_of (holds c.close-more.new.seat.marked) c.args.parts.nodes.now.value) c.args.parts.nodes.now.value =
     c.judged.ensures ∙ ap (λ (u : SeatView). nodes_after (kept_of (holds u.marked) c.args.parts.nodes.now.value) c.args.parts.nodes.now.value) (c.clear_region.ensures.view ∙ c.clear_weak.ensures.fields) in
     let ready : IsPrepared c.args.parts.space.now c.args.parts.types.now (both_cleared y) (nodes_after (kept_of (holds y.marked) nodes) nodes) =
     prepared c.args.parts.space.now c.args.parts.types.now (kinds_of c.args.parts.callbacks.now) nodes (IsRootPlace c.args.parts.strong.now c.pause_begin-held.result c.args.precise c.args.parts.seat.now.bodies c.args.stack.now) (IsMayOrRoot c.pause_begin-held.result c.args.precise c.args.parts.seat.now c.args.stack.now)
-    c.args.parts.seat.now y c.requires.valid c.requires.types c.requires.heap (c.bodies_lie_apart.ensures.marking c.requires.under_way.on).no_dead c.requires.held c.requires.few marks in
+    c.args.parts.seat.now y c.requires.valid c.requires.types c.requires.heap (c.bodies_lie_apart.ensures.marking c.requires.ready.on).no_dead c.requires.held c.requires.few marks in
     subst (IsPrepared c.args.parts.space.now c.args.parts.types.now c.clear_region.new.seat) (sym judged_is)
     (prepared_looked c.args.parts.space.now c.args.parts.types.now (both_cleared y) c.clear_region.new.seat (nodes_after (kept_of (holds y.marked) nodes) nodes)
     (c.clear_region.ensures.view ∙ c.clear_weak.ensures.fields) ready)
@@ -183,7 +183,7 @@ marks : (g : given.Over) (c : goal.After-is_refused g) → MarksReachable c.args
 marks g c =
     roots_marked c.args.parts.types.now c.args.parts.strong.now c.pause_begin-held.result c.args.precise c.args.stack.now c.args.parts.seat.now c.visit_slots.new.seat
     c.visit_region.new.seat c.scan_stack.new.seat c.close-more.new.seat c.args.parts.marking.now c.visit_slots.new.marking c.visit_region.new.marking c.scan_stack.new.marking
-    c.bodies_lie_apart.ensures c.requires.under_way.on c.requires.may c.visit_slots.ensures.marks c.visit_slots.ensures.roots c.visit_slots.ensures.only
+    c.bodies_lie_apart.ensures c.requires.ready.on c.requires.may c.visit_slots.ensures.marks c.visit_slots.ensures.roots c.visit_slots.ensures.only
     c.visit_region.ensures.marks c.visit_region.ensures.roots c.visit_region.ensures.only c.scan_stack.ensures.marks c.scan_stack.ensures.roots c.scan_stack.ensures.only
     c.close-more.ensures.over
 
@@ -206,9 +206,9 @@ returns-clause-paused g c = λ slots may names within.
     let others : List ℕ = other_roots nodes c.args.parts.region.now c.args.precise c.args.stack.now in
     let other : ℕ → Type 0 = IsOtherRoot c.pause_begin-held.result c.args.precise v.bodies c.args.stack.now in
     let are = others_at nodes c.args.parts.region.now c.args.parts.pass.now c.pause_begin-held.result c.args.precise c.args.stack.now v c.requires.shared
-    c.pause_begin-held.ensures.held (c.bodies_lie_apart.ensures.marking c.requires.under_way.on).no_dead c.requires.held in
+    c.pause_begin-held.ensures.held (c.bodies_lie_apart.ensures.marking c.requires.ready.on).no_dead c.requires.held in
     let at = has_marked (setup_of c.args.parts.space.now c.args.parts.types.now (kinds_of c.args.parts.callbacks.now)) nodes slots c.args.parts.strong.now may others other v
-    c.close-more.new.seat c.bodies_lie_apart.ensures c.requires.under_way.on c.requires.valid c.requires.held names within are (marks g c) in
+    c.close-more.new.seat c.bodies_lie_apart.ensures c.requires.ready.on c.requires.valid c.requires.held names within are (marks g c) in
     let between = keeps_between (setup_of c.args.parts.space.now c.args.parts.types.now (kinds_of c.args.parts.callbacks.now)) nodes (slot_targets slots ++ others)
     (members may ++ others) (IsRootPlace c.args.parts.strong.now c.pause_begin-held.result c.args.precise v.bodies c.args.stack.now)
     (IsMayOrRoot c.pause_begin-held.result c.args.precise v c.args.stack.now) v c.close-more.new.seat c.reach_is_least.ensures at in
@@ -254,7 +254,13 @@ live g c =
     counted g c
     ∙ kept_count c.args.parts.nodes.now.value c.prefinalise.new.nodes.value (IsRootPlace c.args.parts.strong.now c.pause_begin-held.result c.args.precise c.args.parts.seat.now.bodies c.args.stack.now)
     (IsMayOrRoot c.pause_begin-held.result c.args.precise c.args.parts.seat.now c.args.stack.now) c.args.parts.types.now c.args.parts.seat.now c.close-more.new.seat c.requires.held
-    (c.bodies_lie_apart.ensures.marking c.requires.under_way.on).no_dead (marks g c) (stayed g c)
+    (c.bodies_lie_apart.ensures.marking c.requires.ready.on).no_dead (marks g c) (stayed g c)
+
+pub returns-clause-shares : goal.returns-clause-shares
+returns-clause-shares g c =
+    c.close-more.ensures.shares
+    ∙ ap (λ (o : Mode). o.shares) (roots_mode c.args.parts.seat.now c.visit_slots.new.seat c.visit_region.new.seat c.scan_stack.new.seat c.args.parts.marking.now
+    c.visit_slots.new.marking c.visit_region.new.marking c.scan_stack.new.marking c.visit_slots.ensures.marks c.visit_region.ensures.marks c.scan_stack.ensures.marks)
 
 pub returns-clause-kept : goal.returns-clause-kept
 returns-clause-kept g c = live g c

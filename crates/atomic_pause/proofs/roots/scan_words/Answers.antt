@@ -3,6 +3,7 @@ use Rattle.gc_graph.specs.Members.{Contains-take_more_cases, Contains-take_more_
 use Rattle.marker_core.specs.declared.states.Body.{Body}
 use Rattle.page_words.specs.Seat.{Heap, SeatView}
 use Rattle.page_space.specs.Space.{HoldsAddress, IsSpaceIn, extents_of_bodies}
+use Rattle.ephemerons.specs.Fixpoint.{Mode}
 use Rattle.atomic_pause.proofs.MayMarks.{scans_then, scans_none}
 use Rattle.atomic_pause.proofs.roots.scan_words.Goals as goal
 
@@ -22,7 +23,7 @@ scan_word-requires-clause-alone c = ap (λ (v : SeatView). v.lent) c.loop-i.inva
 
 pub scan_word-requires-clause-marking : goal.scan_word-requires-clause-marking
 scan_word-requires-clause-marking c =
-    c.loop-i.invariant.marks.on ∙ c.requires.marking ∙ sym (ap (λ (v : SeatView). v.on) c.loop-i.invariant.marks.view)
+    ap (λ (o : Mode). o.on) c.loop-i.invariant.marks.mode ∙ c.requires.marking ∙ sym (ap (λ (v : SeatView). v.on) c.loop-i.invariant.marks.view)
 
 pub loop-i-init : goal.loop-i-init
 loop-i-init c = record {
