@@ -1,5 +1,5 @@
 -- A push leaves as many shares as there were.
-use Rattle.std.proofs.Common.{◌≡◌, ℕ, true, false, length, set, ap, ◌∙◌, inl, inr, refl, cond}
+use Rattle.std.proofs.Common.{◌≡◌, ℕ, length, set, ap, ◌∙◌, inl, inr, cond}
 use Rattle.std.proofs.lemmas.Bool.{cases_Bool}
 use Rattle.std.proofs.lemmas.List.{length-set}
 use Rattle.stealing_lists.specs.Families.{at}

@@ -130,6 +130,8 @@ impl Worklist {
     pub fn own_share(&mut self) -> &mut Share
         requires out { self.old.whole ≡ false }
         ensures* lends { sem 𝓛 (LendsOwn self.entry result) }
+        ensures share { result.now ≡ at self.old.shares 0 }
+        ensures some { 0 < length self.old.shares }
     {
         match &mut self.shared {
             Some(list) => list.own(),

@@ -1,4 +1,4 @@
-use Rattle.std.proofs.Common.{rules, ◌≡◌, ◌∷◌, ◌++◌, [], true, subst, sym}
+use Rattle.std.proofs.Common.{rules, ◌≡◌, ◌∷◌, ◌++◌, [], subst}
 use Rattle.mark_worklist.specs.Lists.{ListState, IsOneMore}
 use Rattle.mark_worklist.specs.Left.{state_of}
 use Rattle.mark_worklist.proofs.Kept.{first_kept, first_one, first_awake}

@@ -1,8 +1,6 @@
-use Rattle.std.proofs.Common.{rules, ◌≡◌, ◌≤◌, set, subst, sym, ◌∙◌, Some}
-use Rattle.stealing_lists.specs.Families.{at}
-use Rattle.stealing_lists.specs.Shares.{pushed, refused_once as refused_at}
+use Rattle.std.proofs.Common.{rules, ◌≡◌, ◌≤◌, subst}
 use Rattle.mark_worklist.specs.Lists.{ListState, IsPushed, last_count, refused_once}
-use Rattle.mark_worklist.specs.Left.{shares_in, state_of}
+use Rattle.mark_worklist.specs.Left.{state_of}
 use Rattle.mark_worklist.proofs.Kept.{shares_there, on_ok, if_err, pushed_out, refused_out, fits_out}
 use Rattle.mark_worklist.proofs.worklist.Worklist.push.Goals as goal
 
