@@ -1,7 +1,7 @@
 -- The strong fields and the pairs of an object, one after another in the order of their offsets.
-use Rattle.std.proofs.Common.{◌≡◌, ℕ, ◌<◌, false, List, [], ◌∷◌, length, get_or, take, drop, map, Some, refl, sym, ap, ◌∙◌, subst, inl, inr, arith}
+use Rattle.std.proofs.Common.{◌≡◌, ℕ, ◌<◌, false, List, [], ◌∷◌, length, get_or, take, drop, Some, refl, sym, ap, ◌∙◌, subst, inl, inr, arith}
 use Rattle.std.specs.List.{Contains}
-use Rattle.std.proofs.lemmas.List.{get_or-map, get_or-take, get_or_default, length-map, length-take}
+use Rattle.std.proofs.lemmas.List.{get_or-map, get_or-take, get_or_default, length-take}
 use Rattle.std.proofs.lemmas.List.Elements.{Contains-get_or}
 use Rattle.gc_graph.specs.Members.{Contains-cons_cases}
 use Rattle.gc_graph.specs.declared.kind.Kind.TheVariants.{Strong, Pair}
@@ -17,7 +17,7 @@ use Rattle.marker_core.specs.declared.states.Part.TheVariants.{Read}
 use Rattle.marker_core.specs.Bodies.{kinds_of}
 use Rattle.marker_core.specs.Hands.{traced_offsets}
 use Rattle.page_words.specs.BodyPlaces.{same_body}
-use Rattle.page_words.specs.Roles.{kind_lists, kinds_fit, traced_fit}
+use Rattle.page_words.specs.Roles.{kind_lists}
 use Rattle.page_words.specs.Seat.{SeatView, IsView}
 use Rattle.ephemerons.specs.BodyGraph.{HasType, pair_offsets}
 use Rattle.ephemerons.specs.Marking.{HasStrongMarked}
