@@ -44,6 +44,7 @@ fn traced(alloc: Global, key: u64, value: u64, strong: u64) -> Option<Trial>
     ensures listed { IfSome result (λ t.
         (p : ℕ) → Contains t.marking.list.items p → IsEitherPlace p) }
     ensures told { IfSome result (λ t. t.marking.on ≡ true) }
+    ensures whole { IfSome result (λ t. t.marking.list.whole ≡ true) }
     ensures noted { IfSome result (λ t.
         (note : Note) → Contains t.notes.notes note → IsEitherPair note) }
 {

@@ -1,4 +1,4 @@
-use Rattle.std.proofs.Common.{◌≡◌, refl, sym, ◌∙◌, subst, arith}
+use Rattle.std.proofs.Common.{◌≡◌, refl, sym, ◌∙◌, subst}
 use Rattle.marker_core.specs.Bodies.{holds}
 use Rattle.marker_core.specs.Closed.{IsClosedOver}
 use Rattle.page_words.specs.Seat.{ended}

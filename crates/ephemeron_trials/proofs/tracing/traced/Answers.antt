@@ -2,6 +2,7 @@ use Rattle.std.proofs.Common.{◌≡◌, true, List, length, refl, not, sym, ap,
 use Rattle.gc_graph.specs.State.{ObjectType}
 use Rattle.mark_worklist.specs.Lists.{ListState}
 use Rattle.ephemerons.specs.BodyGraph.{HasPair}
+use Rattle.ephemerons.specs.Fixpoint.{Mode}
 use Rattle.ephemerons.specs.Notes.{NotesState}
 use Rattle.ephemeron_trials.specs.SmallHeap.{two_bodies}
 use Rattle.marker_core.specs.Bodies.{IsPlace, is_place}
@@ -32,9 +33,15 @@ returns-clause-traced c =
     ((c.set_stop.ensures.may refl).roots_in 0 refl (subst (λ bs. is_place bs 0 ≡ true) (sym c.write.ensures.small.bodies) refl))
     ((c.set_stop.ensures.may refl).roots_in 256 refl (subst (λ bs. is_place bs 256 ≡ true) (sym c.write.ensures.small.bodies) refl))
 
+pub returns-clause-told : goal.returns-clause-told
+returns-clause-told c = ap (λ (o : Mode). o.on) c.trace.ensures.marks.mode
+
+pub returns-clause-whole : goal.returns-clause-whole
+returns-clause-whole c = ap (λ (o : Mode). o.whole) c.trace.ensures.marks.mode ∙ ap (λ (l : ListState). l.whole) (c.in-Ok-new.ensures.alone refl).0
+
 pub returns-clause-listed : goal.returns-clause-listed
 returns-clause-listed c p there = elim (c.trace.ensures.marks.listed p there) [
-  | inl before ↦ absurd (omega (arith, before.1, ap (λ (l : ListState). length l.items) c.in-Ok-new.ensures.list))
+  | inl before ↦ absurd (omega (arith, before.1, ap (λ (l : ListState). length l.items) (c.in-Ok-new.ensures.alone refl).0))
   | inr fresh ↦ place_either c.args.key c.args.value c.args.strong p
       (subst (λ bs. IsPlace bs p)
       (ap (λ (v : SeatView). v.bodies) c.in_ok-claim.ensures.claimed.marks ∙ ap (λ (v : SeatView). v.bodies) c.mark.ensures.view
