@@ -1,5 +1,5 @@
 -- A pop from joined lists, of which it is known what is left.
-use Rattle.std.proofs.Common.{rules, ◌≡◌, ℕ, zero, suc, ◌+◌, ◌≤◌, ◌<◌, Bool, true, false, List, [], ◌∷◌, ◌++◌, length, set, Option, None, Some, refl, sym, ap, ◌∙◌, subst, inl, inr, arith, ◌==◌, cond}
+use Rattle.std.proofs.Common.{rules, ◌≡◌, ℕ, suc, ◌+◌, ◌≤◌, ◌<◌, Bool, true, false, List, [], ◌∷◌, ◌++◌, length, set, None, Some, refl, sym, ap, ◌∙◌, subst, inl, inr, arith, ◌==◌, cond}
 use Rattle.std.specs.List.{All, Contains, count_by, flat_map, sum_by}
 use Rattle.gc_graph.specs.Members.{Contains-cons, Contains-head}
 use Rattle.std.proofs.lemmas.Bool.{cases_Bool, eqb-true}
@@ -9,7 +9,7 @@ use Rattle.std.proofs.lemmas.List.Sums.{sum_by-cons, sum_by-set}
 use Rattle.stealing_lists.specs.Hands.{all_parts, HasLeft, WasEmpty}
 use Rattle.stealing_lists.specs.Shares.{ShareState, put_of, taken_of, times}
 use Rattle.stealing_lists.specs.Families.{at, nobody}
-use Rattle.stealing_lists.specs.Joining.{put_by, taken_by, with_own_taken, awake_first, AreJoined, IsLeftAfter, IsPopped, IsTaken, KnowLeft, TookOne}
+use Rattle.stealing_lists.specs.Joining.{put_by, taken_by, with_own_taken, AreJoined, IsLeftAfter, IsPopped, IsTaken, KnowLeft, TookOne}
 use Rattle.stealing_lists.proofs.Items.{all-counted, count-append, count-of_all}
 use Rattle.stealing_lists.proofs.Steps.{left-none}
 

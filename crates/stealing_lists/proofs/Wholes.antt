@@ -1,7 +1,7 @@
 -- All shares of a family, in one list: before they are joined, and what is known afterwards.
 use Rattle.std.proofs.Common.{◌≡◌, ◌≤◌, ℕ, ◌+◌, ◌<◌, true, false, List, [], ◌∷◌, ◌++◌, length, map, set, get_or, sym, ap, ap₂, ◌∙◌, subst, inl, inr, IsPermutation, arith, ◌==◌}
 use Rattle.std.specs.List.{All, remove}
-use Rattle.std.proofs.lemmas.List.{length-map, length-append, length-set, take_all, get_or_default, get_or_append_left, set-get_or}
+use Rattle.std.proofs.lemmas.List.{length-map, length-append, take_all, get_or_default, get_or_append_left, set-get_or}
 use Rattle.std.proofs.lemmas.List.Edits.{length-insert, length-remove}
 use Rattle.std.proofs.lemmas.List.Elements.{All-append, All-set}
 use Rattle.std.proofs.lemmas.List.Sorted.{All-permutation}
@@ -10,7 +10,7 @@ use Rattle.stealing_lists.specs.Hands.{all_parts, WasEmpty}
 use Rattle.stealing_lists.specs.Ends.{ListName}
 use Rattle.stealing_lists.specs.Shares.{ShareState, times}
 use Rattle.stealing_lists.specs.Families.{at, names_of, nobody, IsFresh, IsShareOf}
-use Rattle.stealing_lists.specs.Joining.{put_by, taken_by, with_own_taken, AreAllShares, AreFresh, AreJoined, AreOpen, HaveSameItems, IsTaken, LoseNothing, IsAllCounted}
+use Rattle.stealing_lists.specs.Joining.{put_by, taken_by, AreAllShares, AreFresh, AreJoined, AreOpen, HaveSameItems, IsTaken, LoseNothing, IsAllCounted}
 use Rattle.stealing_lists.proofs.Items.{all-counted}
 
 module _ (list shares new : List ShareState) (all : AreAllShares list shares) (same : IsPermutation (list ++ shares) new)
