@@ -5,7 +5,7 @@ use Rattle.std.specs.List.{Contains, flat_map}
 use Rattle.std.specs.Option.{is_some}
 use Rattle.std.proofs.lemmas.Bool.{true≢false}
 use Rattle.std.proofs.lemmas.List.{length-append, length-map}
-use Rattle.std.proofs.lemmas.List.Elements.{Contains-append_left, Contains-append_right, Contains-append_cases, Contains-push_cases}
+use Rattle.std.proofs.lemmas.List.Elements.{Contains-append_left, Contains-append_right, Contains-append_cases, Contains-push, Contains-push_cases}
 use Rattle.std.proofs.lemmas.List.Folds.{flat_map-map}
 use Rattle.stealing_lists.specs.Ends.{OtherState}
 use Rattle.stealing_lists.specs.Shares.{ShareState, IsSameShare, taken_of, pushed, popped, refused_once, Stole, StoleNone}
@@ -43,6 +43,23 @@ one_in (xs ∷ xss) (suc p) a b low there = elim (Contains-append_cases xs (item
   ]
 ]
 
+in_one : (xss : List (List ℕ)) (p a b : ℕ) → Contains (items xss) b → Contains (items (set xss p (get_or xss p [] ++ a ∷ []))) b
+in_one [] p a b there = there
+in_one (xs ∷ xss) zero a b there = elim (Contains-append_cases xs (items xss) b there) [
+  | inl here ↦ Contains-append_left (xs ++ a ∷ []) (items xss) b (Contains-append_left xs (a ∷ []) b here)
+  | inr later ↦ Contains-append_right (xs ++ a ∷ []) (items xss) b later
+]
+in_one (xs ∷ xss) (suc p) a b there = elim (Contains-append_cases xs (items xss) b there) [
+  | inl here ↦ Contains-append_left xs (items (set xss p (get_or xss p [] ++ a ∷ []))) b here
+  | inr later ↦ Contains-append_right xs (items (set xss p (get_or xss p [] ++ a ∷ []))) b (in_one xss p a b later)
+]
+
+one_there : (xss : List (List ℕ)) (p a : ℕ) → p < length xss → Contains (items (set xss p (get_or xss p [] ++ a ∷ []))) a
+one_there [] p a low = absurd (omega (arith, low))
+one_there (xs ∷ xss) zero a low = Contains-append_left (xs ++ a ∷ []) (items xss) a (Contains-push xs a)
+one_there (xs ∷ xss) (suc p) a low =
+    Contains-append_right xs (items (set xss p (get_or xss p [] ++ a ∷ []))) a (one_there xss p a (omega (arith, low)))
+
 one_longer : (xss : List (List ℕ)) (p a : ℕ) → p < length xss → length (items (set xss p (get_or xss p [] ++ a ∷ []))) ≡ length (items xss) + 1
 one_longer [] p a low = absurd (omega (arith, low))
 one_longer (xs ∷ xss) zero a low =
@@ -72,6 +89,11 @@ popped_is h k a is =
         length-append h.own.hand.taken (a ∷ []),
         length-append h.own.hand.taken others,
       );
+      kept = λ b there. subst (λ l. Contains l b) (sym now) (elim (Contains-append_cases h.own.hand.taken others b there) [
+        | inl own ↦ Contains-append_left (h.own.hand.taken ++ a ∷ []) others b (Contains-append_left h.own.hand.taken (a ∷ []) b own)
+        | inr other ↦ Contains-append_right (h.own.hand.taken ++ a ∷ []) others b other
+      ]);
+      there = subst (λ l. Contains l a) (sym now) (Contains-append_left (h.own.hand.taken ++ a ∷ []) others a (Contains-push h.own.hand.taken a));
       only = λ b there. elim (Contains-append_cases (h.own.hand.taken ++ a ∷ []) others b (subst (λ l. Contains l b) now there)) [
         | inl own ↦ elim (Contains-push_cases h.own.hand.taken a b own) [
           | inl old ↦ inl (Contains-append_left h.own.hand.taken others b old)
@@ -97,6 +119,15 @@ stolen_is h k a stole =
         length-append h.own.hand.taken (items before),
         one_longer before stole.place a low,
       );
+      kept = λ b there. subst (λ l. Contains l b) (sym now) (elim (Contains-append_cases h.own.hand.taken (items before) b
+          (subst (λ l. Contains l b) (taken_from h) there)) [
+            | inl old ↦ Contains-append_left h.own.hand.taken (items (set before stole.place (get_or before stole.place [] ++ a ∷ []))) b old
+            | inr other ↦ Contains-append_right h.own.hand.taken (items (set before stole.place (get_or before stole.place [] ++ a ∷ []))) b
+                (in_one before stole.place a b other)
+          ]);
+      there = subst (λ l. Contains l a) (sym now)
+          (Contains-append_right h.own.hand.taken (items (set before stole.place (get_or before stole.place [] ++ a ∷ []))) a
+          (one_there before stole.place a low));
       only = λ b there. elim (Contains-append_cases h.own.hand.taken (items (set before stole.place (get_or before stole.place [] ++ a ∷ []))) b
           (subst (λ l. Contains l b) now there)) [
             | inl old ↦ inl (subst (λ l. Contains l b) (sym (taken_from h)) (Contains-append_left h.own.hand.taken (items before) b old))
@@ -128,6 +159,8 @@ none_stolen h k none =
 taken_after : (h k l : ShareState) (a : ℕ) → taken_of k ≡ taken_of h → IsTaken k a l → IsTaken h a l
 taken_after h k l a same is = record {
   count = omega (arith, is.count, ap length same);
+  kept = λ b there. is.kept b (subst (λ xs. Contains xs b) (sym same) there);
+  there = is.there;
   only = λ b there. elim (is.only b there) [ inl old ↦ inl (subst (λ xs. Contains xs b) same old) | inr one ↦ inr one ];
 }
 

@@ -7,12 +7,14 @@ use Rattle.std.proofs.lemmas.List.{append-nil, length-append}
 use Rattle.gc_graph.specs.Members.{Contains-cons_cases}
 use Rattle.std.proofs.lemmas.List.Elements.{Contains-append_left, Contains-append_cases, Contains-push, Contains-push_cases}
 use Rattle.ephemerons.specs.declared.notes.Note.{Note}
-use Rattle.ephemerons.specs.Notes.{NotesState, note_of, noted, overflowed}
+use Rattle.mark_worklist.specs.Refusals.{TellsRefused}
+use Rattle.mark_worklist.specs.Told.{told_same, told_once, told_then}
+use Rattle.ephemerons.specs.Notes.{NotesState, note_of, noted, overflowed, refusals_in}
 use Rattle.page_words.specs.Markers.{MarkerSeatView}
 use Rattle.stealing_lists.specs.Kept.{same-share, share-then}
-use Rattle.stealing_lists.specs.Shares.{ShareState, IsSameShare, put_of, last_count, more_counted}
+use Rattle.stealing_lists.specs.Shares.{ShareState, IsSameShare, put_of, taken_of, last_count, more_counted}
 use Rattle.marker_crew.specs.declared.draining.Drained.{Drained}
-use Rattle.marker_crew.specs.Stages.{Stage, stage, Lists, Notes, Keeps, IsLater, IsNoteOf, HasRisen, Works, OnlyLooks}
+use Rattle.marker_crew.specs.Stages.{Stage, stage, Lists, Notes, Keeps, IsLater, HasCause, IsNoteOf, HasRisen, WorksAs, Works, OnlyLooks}
 use Rattle.marker_crew.proofs.Shares.{same_pushed, same_refused}
 
 keeps_all : {X : Type 0} (old new : List X) → new ≡ old → Keeps old new
@@ -22,11 +24,16 @@ pub keeps_more : {X : Type 0} (old new more : List X) → new ≡ old ++ more �
 keeps_more old new more is x there = subst (λ xs. Contains xs x) (sym is) (Contains-append_left old more x there)
 
 -- a note keeps its cause
-note_stays : (v w : MarkerSeatView) (note : Note) → w.heap ≡ v.heap → Keeps v.noted w.noted → Keeps v.traced w.traced → Keeps v.missed w.missed
-    → IsNoteOf v note → IsNoteOf w note
-note_stays v w note heap noted traced missed is = elim is [
-  | inl pair ↦ inl (noted (note.holder, note.word) pair.0, traced note.holder pair.1)
-  | inr place ↦ inr (place.0, elim place.1 [ inl one ↦ inl (missed note.holder one) | inr far ↦ inr (omega (arith, far, ap (λ h. h.count) heap)) ])
+cause_stays : (too : Bool) (s t : Stage) (a : ℕ) → IsLater s t → HasCause too s.seat a → HasCause too t.seat a
+cause_stays too s t a later why = elim why [
+  | inl missed ↦ inl (later.missed a missed)
+  | inr other ↦ inr (elim other [ inl far ↦ inl (omega (arith, far, ap (λ h. h.count) later.heap)) | inr found ↦ inr (found.0, later.done a found.1) ])
+]
+
+note_stays : (too : Bool) (s t : Stage) (note : Note) → IsLater s t → IsNoteOf too s.seat s.share note → IsNoteOf too t.seat t.share note
+note_stays too s t note later is = elim is [
+  | inl pair ↦ inl (later.noted (note.holder, note.word) pair.0, later.traced note.holder pair.1)
+  | inr place ↦ inr (place.0, (later.taken note.holder place.1.0, cause_stays too s t note.holder later place.1.1))
 ]
 
 -- ---- one work after another
@@ -42,6 +49,7 @@ later_then s t u x y = record {
   done = λ a h. y.done a (x.done a h);
   missed = λ a h. y.missed a (x.missed a h);
   put = λ a h. y.put a (x.put a h);
+  taken = λ a h. y.taken a (x.taken a h);
   notes = λ a h. y.notes a (x.notes a h);
   overflow = λ fine. x.overflow (y.overflow fine);
 }
@@ -52,8 +60,8 @@ risen_then a b c low high rose = elim rose [
   | inr second ↦ elim second [ inl more ↦ inl (omega (arith, more, low)) | inr last ↦ inr last ]
 ]
 
-pub Works-then : (s t u : Stage) → Works s t → Works t u → Works s u
-Works-then s t u x y = record {
+pub works_then_as : (too : Bool) (s t u : Stage) → WorksAs too s t → WorksAs too t u → WorksAs too s u
+works_then_as too s t u x y = record {
   later = later_then s t u x.later y.later;
   counted = omega (arith, x.counted, y.counted);
   listed = λ fine a there. elim (y.listed fine a there) [
@@ -69,27 +77,56 @@ Works-then s t u x y = record {
     | inr note ↦ inr note
   ];
   notes = λ note there. elim (y.notes note there) [
-    | inl before ↦ elim (x.notes note before) [
-      | inl first ↦ inl first
-      | inr is ↦ inr (note_stays t.seat u.seat note y.later.heap y.later.noted y.later.traced y.later.missed is)
-    ]
+    | inl before ↦ elim (x.notes note before) [ inl first ↦ inl first | inr is ↦ inr (note_stays too t u note y.later is) ]
     | inr is ↦ inr is
   ];
   refused_pushes = omega (arith, x.refused_pushes, y.refused_pushes);
-  refused_notes = omega (arith, x.refused_notes, y.refused_notes);
+  notes_told = told_then (refusals_in s.notes) (refusals_in t.notes) (refusals_in u.notes) x.notes_told y.notes_told;
   cause = λ told. elim (y.cause told) [
     | inl before ↦ elim (x.cause before) [
       | inl first ↦ inl first
       | inr rose ↦ inr (elim rose [
         | inl pushes ↦ inl (risen_then s.share.refused t.share.refused u.share.refused x.refused_pushes y.refused_pushes (inl pushes))
-        | inr notes ↦ inr (risen_then s.notes.refused t.notes.refused u.notes.refused x.refused_notes y.refused_notes (inl notes))
+        | inr notes ↦ inr (y.notes_told.kept notes)
       ])
     ]
     | inr rose ↦ inr (elim rose [
       | inl pushes ↦ inl (risen_then s.share.refused t.share.refused u.share.refused x.refused_pushes y.refused_pushes (inr pushes))
-      | inr notes ↦ inr (risen_then s.notes.refused t.notes.refused u.notes.refused x.refused_notes y.refused_notes (inr notes))
+      | inr notes ↦ inr notes
     ])
   ];
+}
+
+pub Works-then : (s t u : Stage) → Works s t → Works t u → Works s u
+Works-then s t u x y = works_then_as false s t u x y
+
+-- what a marker does may be done where what is found traced is noted too
+pub works_as : (too : Bool) (s t : Stage) → Works s t → WorksAs too s t
+works_as too s t x = record {
+  later = x.later;
+  counted = x.counted;
+  listed = x.listed;
+  put = x.put;
+  noted = x.noted;
+  notes = λ note there. elim (x.notes note there) [
+    | inl before ↦ inl before
+    | inr is ↦ inr (elim is [
+      | inl pair ↦ inl pair
+      | inr place ↦ inr (
+        place.0,
+        (
+          place.1.0,
+          elim place.1.1 [
+            | inl missed ↦ inl missed
+            | inr other ↦ inr (elim other [ inl far ↦ inl far | inr found ↦ absurd (true≢false (sym found.0)) ])
+          ],
+        ),
+      )
+    ])
+  ];
+  refused_pushes = x.refused_pushes;
+  notes_told = x.notes_told;
+  cause = x.cause;
 }
 
 -- ---- steps that mark, trace and note nothing
@@ -117,6 +154,7 @@ looks_work v w h n d x = record {
     done = x.done;
     missed = x.missed;
     put = λ a there. there;
+    taken = λ a there. there;
     notes = λ a there. there;
     overflow = λ fine. fine;
   };
@@ -126,7 +164,7 @@ looks_work v w h n d x = record {
   noted = λ fine p offset there. inl (subst (λ xs. Contains xs (p, offset)) x.noted there);
   notes = λ note there. inl there;
   refused_pushes = omega arith;
-  refused_notes = omega arith;
+  notes_told = told_same (refusals_in n);
   cause = λ told. inl told;
 }
 
@@ -135,8 +173,8 @@ looks_work v w h n d x = record {
 module _ (v w : MarkerSeatView) (h k : ShareState) (n : NotesState) (d e : Drained) (a : ℕ) (heap : w.heap ≡ v.heap) (types : w.types ≡ v.types)
     (marked : w.marked ≡ v.marked ++ a ∷ []) (traced : w.traced ≡ v.traced) (noted_same : w.noted ≡ v.noted) (done : w.done ≡ v.done) (missed : w.missed ≡ v.missed)
     (fits : h.refused ≤ last_count) where
-  marks_put : IsSameShare h k → put_of k ≡ put_of h ++ a ∷ [] → k.refused ≡ h.refused → e ≡ d → Works (stage v h n d) (stage w k n e)
-  marks_put lists put refused same = record {
+  marks_put : IsSameShare h k → put_of k ≡ put_of h ++ a ∷ [] → taken_of k ≡ taken_of h → k.refused ≡ h.refused → e ≡ d → Works (stage v h n d) (stage w k n e)
+  marks_put lists put took refused same = record {
     later = record {
       heap = heap;
       types = types;
@@ -147,6 +185,7 @@ module _ (v w : MarkerSeatView) (h k : ShareState) (n : NotesState) (d e : Drain
       done = keeps_all v.done w.done done;
       missed = keeps_all v.missed w.missed missed;
       put = keeps_more (put_of h) (put_of k) (a ∷ []) put;
+      taken = keeps_all (taken_of h) (taken_of k) took;
       notes = λ x there. there;
       overflow = λ fine. sym (ap (λ (x : Drained). x.overflow) same) ∙ fine;
     };
@@ -162,12 +201,12 @@ module _ (v w : MarkerSeatView) (h k : ShareState) (n : NotesState) (d e : Drain
     noted = λ fine p offset there. inl (subst (λ xs. Contains xs (p, offset)) noted_same there);
     notes = λ note there. inl there;
     refused_pushes = omega (arith, refused);
-    refused_notes = omega arith;
+    notes_told = told_same (refusals_in n);
     cause = λ told. inl (sym (ap (λ (x : Drained). x.overflow) same) ∙ told);
   }
 
-  marks_refused : IsSameShare h k → put_of k ≡ put_of h → k.refused ≡ more_counted h.refused 1 → e ≡ record d { overflow = true } → Works (stage v h n d) (stage w k n e)
-  marks_refused lists put refused told = record {
+  marks_refused : IsSameShare h k → put_of k ≡ put_of h → taken_of k ≡ taken_of h → k.refused ≡ more_counted h.refused 1 → e ≡ record d { overflow = true } → Works (stage v h n d) (stage w k n e)
+  marks_refused lists put took refused told = record {
     later = record {
       heap = heap;
       types = types;
@@ -178,6 +217,7 @@ module _ (v w : MarkerSeatView) (h k : ShareState) (n : NotesState) (d e : Drain
       done = keeps_all v.done w.done done;
       missed = keeps_all v.missed w.missed missed;
       put = keeps_all (put_of h) (put_of k) put;
+      taken = keeps_all (taken_of h) (taken_of k) took;
       notes = λ x there. there;
       overflow = λ fine. absurd (true≢false (sym (ap (λ (x : Drained). x.overflow) told) ∙ fine));
     };
@@ -187,22 +227,22 @@ module _ (v w : MarkerSeatView) (h k : ShareState) (n : NotesState) (d e : Drain
     noted = λ fine. absurd (true≢false (sym (ap (λ (x : Drained). x.overflow) told) ∙ fine));
     notes = λ note there. inl there;
     refused_pushes = search (rules, refused, fits);
-    refused_notes = omega arith;
+    notes_told = told_same (refusals_in n);
     cause = λ is. inr (inl (search (rules, refused, fits)));
   }
 
   pub marks_work : Lists h d a k e → Works (stage v h n d) (stage w k n e)
   marks_work listed = elim listed [
-    | inl put ↦ marks_put (same_pushed h k a put.0) (ap put_of put.0) (ap (λ (x : ShareState). x.refused) put.0) put.1
-    | inr refused ↦ marks_refused (same_refused h k refused.0) (ap put_of refused.0) (ap (λ (x : ShareState). x.refused) refused.0) refused.1
+    | inl put ↦ marks_put (same_pushed h k a put.0) (ap put_of put.0) (ap taken_of put.0) (ap (λ (x : ShareState). x.refused) put.0) put.1
+    | inr refused ↦ marks_refused (same_refused h k refused.0) (ap put_of refused.0) (ap taken_of refused.0) (ap (λ (x : ShareState). x.refused) refused.0) refused.1
   ]
 
 -- ---- a note
 
-module _ (v w : MarkerSeatView) (h : ShareState) (n o : NotesState) (d e : Drained) (holder word : ℕ) (heap : w.heap ≡ v.heap) (types : w.types ≡ v.types)
+module _ (too : Bool) (v w : MarkerSeatView) (h : ShareState) (n o : NotesState) (d e : Drained) (holder word : ℕ) (heap : w.heap ≡ v.heap) (types : w.types ≡ v.types)
     (marked : w.marked ≡ v.marked) (traced : w.traced ≡ v.traced) (new_pairs : List (ℕ × ℕ)) (pairs : w.noted ≡ v.noted ++ new_pairs)
     (only : (p offset : ℕ) → Contains new_pairs (p, offset) → (p ≡ holder) × (offset ≡ word)) (done : Keeps v.done w.done) (missed : Keeps v.missed w.missed)
-    (is_note : IsNoteOf w (note_of holder word)) (fits : n.refused ≤ last_count) where
+    (is_note : IsNoteOf too w h (note_of holder word)) (fits : n.refused ≤ last_count) where
   later_note : Keeps n.notes o.notes → (e.overflow ≡ false → d.overflow ≡ false) → IsLater (stage v h n d) (stage w h o e)
   later_note kept overflow = record {
     heap = heap;
@@ -214,11 +254,12 @@ module _ (v w : MarkerSeatView) (h : ShareState) (n o : NotesState) (d e : Drain
     done = done;
     missed = missed;
     put = λ a there. there;
+    taken = λ a there. there;
     notes = kept;
     overflow = overflow;
   }
 
-  note_made : o ≡ noted n holder word → e ≡ d → Works (stage v h n d) (stage w h o e)
+  note_made : o ≡ noted n holder word → e ≡ d → WorksAs too (stage v h n d) (stage w h o e)
   note_made made same =
       let notes : o.notes ≡ n.notes ++ note_of holder word ∷ [] = ap (λ (x : NotesState). x.notes) made in
       record {
@@ -235,14 +276,14 @@ module _ (v w : MarkerSeatView) (h : ShareState) (n o : NotesState) (d e : Drain
         ];
         notes = λ note there. elim (Contains-push_cases n.notes (note_of holder word) note (subst (λ xs. Contains xs note) notes there)) [
           | inl before ↦ inl before
-          | inr is ↦ inr (subst (IsNoteOf w) is is_note)
+          | inr is ↦ inr (subst (IsNoteOf too w h) is is_note)
         ];
         refused_pushes = omega arith;
-        refused_notes = omega (arith, ap (λ (x : NotesState). x.refused) made);
+        notes_told = subst (λ (x : NotesState). TellsRefused (refusals_in n) (refusals_in x)) (sym made) (told_same (refusals_in n));
         cause = λ told. inl (sym (ap (λ (x : Drained). x.overflow) same) ∙ told);
       }
 
-  note_refused : o ≡ overflowed n → e ≡ record d { overflow = true } → Works (stage v h n d) (stage w h o e)
+  note_refused : o ≡ overflowed n → e ≡ record d { overflow = true } → WorksAs too (stage v h n d) (stage w h o e)
   note_refused made told = record {
     later = later_note (keeps_all n.notes o.notes (ap (λ (x : NotesState). x.notes) made))
         (λ fine. absurd (true≢false (sym (ap (λ (x : Drained). x.overflow) told) ∙ fine)));
@@ -252,11 +293,11 @@ module _ (v w : MarkerSeatView) (h : ShareState) (n o : NotesState) (d e : Drain
     noted = λ fine. absurd (true≢false (sym (ap (λ (x : Drained). x.overflow) told) ∙ fine));
     notes = λ note there. inl (subst (λ xs. Contains xs note) (ap (λ (x : NotesState). x.notes) made) there);
     refused_pushes = omega arith;
-    refused_notes = search (rules, ap (λ (x : NotesState). x.refused) made, fits);
-    cause = λ is. inr (inr (search (rules, ap (λ (x : NotesState). x.refused) made, fits)));
+    notes_told = subst (λ (x : NotesState). TellsRefused (refusals_in n) (refusals_in x)) (sym made) (told_once n.overflow n.refused fits);
+    cause = λ is. inr (inr (ap (λ (x : NotesState). x.overflow) made));
   }
 
-  pub note_works : Notes n d holder word o e → Works (stage v h n d) (stage w h o e)
+  pub note_works : Notes n d holder word o e → WorksAs too (stage v h n d) (stage w h o e)
   note_works made = elim made [ inl done ↦ note_made done.0 done.1 | inr refused ↦ note_refused refused.0 refused.1 ]
 
 -- ---- a claim, which is counted
@@ -275,6 +316,7 @@ claim_works v w h n d e a heap types marked traced noted_same done missed counte
     done = keeps_all v.done w.done done;
     missed = keeps_all v.missed w.missed missed;
     put = λ x there. there;
+    taken = λ x there. there;
     notes = λ x there. there;
     overflow = λ fine. sym (ap (λ (x : Drained). x.overflow) counted) ∙ fine;
   };
@@ -284,15 +326,15 @@ claim_works v w h n d e a heap types marked traced noted_same done missed counte
   noted = λ fine p offset there. inl (subst (λ xs. Contains xs (p, offset)) noted_same there);
   notes = λ note there. inl there;
   refused_pushes = omega arith;
-  refused_notes = omega arith;
+  notes_told = told_same (refusals_in n);
   cause = λ told. inl (sym (ap (λ (x : Drained). x.overflow) counted) ∙ told);
 }
 
 -- ---- whether more is left to do is told last
 
-pub works_with_more : (s : Stage) (v : MarkerSeatView) (h : ShareState) (n : NotesState) (d : Drained) (more : Bool) → Works s (stage v h n d)
-    → Works s (stage v h n (record d { more = more }))
-works_with_more s v h n d more x = record {
+pub works_with_more_as : (too : Bool) (s : Stage) (v : MarkerSeatView) (h : ShareState) (n : NotesState) (d : Drained) (more : Bool)
+    → WorksAs too s (stage v h n d) → WorksAs too s (stage v h n (record d { more = more }))
+works_with_more_as too s v h n d more x = record {
   later = record {
     heap = x.later.heap;
     types = x.later.types;
@@ -303,6 +345,7 @@ works_with_more s v h n d more x = record {
     done = x.later.done;
     missed = x.later.missed;
     put = x.later.put;
+    taken = x.later.taken;
     notes = x.later.notes;
     overflow = x.later.overflow;
   };
@@ -312,14 +355,18 @@ works_with_more s v h n d more x = record {
   noted = x.noted;
   notes = x.notes;
   refused_pushes = x.refused_pushes;
-  refused_notes = x.refused_notes;
+  notes_told = x.notes_told;
   cause = x.cause;
 }
 
+pub works_with_more : (s : Stage) (v : MarkerSeatView) (h : ShareState) (n : NotesState) (d : Drained) (more : Bool) → Works s (stage v h n d)
+    → Works s (stage v h n (record d { more = more }))
+works_with_more s v h n d more x = works_with_more_as false s v h n d more x
+
 -- an item was taken, and nothing else has changed
-pub take_works : (v : MarkerSeatView) (h k : ShareState) (n : NotesState) (d : Drained) → IsSameShare h k → put_of k ≡ put_of h → k.refused ≡ h.refused
-    → Works (stage v h n d) (stage v k n d)
-take_works v h k n d lists put refused = record {
+pub take_works : (v : MarkerSeatView) (h k : ShareState) (n : NotesState) (d : Drained) → IsSameShare h k → put_of k ≡ put_of h → Keeps (taken_of h) (taken_of k)
+    → k.refused ≡ h.refused → Works (stage v h n d) (stage v k n d)
+take_works v h k n d lists put took refused = record {
   later = record {
     heap = refl;
     types = refl;
@@ -330,6 +377,7 @@ take_works v h k n d lists put refused = record {
     done = λ a there. there;
     missed = λ a there. there;
     put = keeps_all (put_of h) (put_of k) put;
+    taken = took;
     notes = λ a there. there;
     overflow = λ fine. fine;
   };
@@ -339,7 +387,7 @@ take_works v h k n d lists put refused = record {
   noted = λ fine p offset there. inl there;
   notes = λ note there. inl there;
   refused_pushes = omega (arith, refused);
-  refused_notes = omega arith;
+  notes_told = told_same (refusals_in n);
   cause = λ told. inl told;
 }
 
@@ -354,14 +402,25 @@ pub no_pair : (holder word p offset : ℕ) → Contains {X = ℕ × ℕ} [] (p, 
 no_pair holder word p offset there = absurd (omega (arith, there.1))
 
 -- the place of an item was noted, with nothing else noted
-pub item_noted : (v w : MarkerSeatView) (h : ShareState) (n o : NotesState) (d e : Drained) (a : ℕ) → OnlyLooks v w
-    → Contains w.missed a ⊎ (w.count ≤ a) → n.refused ≤ last_count → Notes n d a 0 o e → Works (stage v h n d) (stage w h o e)
-item_noted v w h n o d e a looks why fits made =
-    note_works v w h n o d e a 0 looks.heap looks.types looks.marked looks.traced [] (looks.noted ∙ sym (append-nil v.noted)) (no_pair a 0) looks.done looks.missed
-    (inr (refl, why)) fits made
+pub item_noted_as : (too : Bool) (v w : MarkerSeatView) (h : ShareState) (n o : NotesState) (d e : Drained) (a : ℕ) → OnlyLooks v w
+    → Contains (taken_of h) a → HasCause too w a → n.refused ≤ last_count → Notes n d a 0 o e → WorksAs too (stage v h n d) (stage w h o e)
+item_noted_as too v w h n o d e a looks took why fits made =
+    note_works too v w h n o d e a 0 looks.heap looks.types looks.marked looks.traced [] (looks.noted ∙ sym (append-nil v.noted)) (no_pair a 0) looks.done
+    looks.missed (inr (refl, (took, why))) fits made
 
 pub looks_not : (v : MarkerSeatView) → OnlyLooks v v
 looks_not v = record { heap = refl; types = refl; marked = refl; traced = refl; noted = refl; done = λ a there. there; missed = λ a there. there }
+
+-- an item that was found traced is noted too, or nothing is
+pub traced_noted : (too : Bool) (v w : MarkerSeatView) (h : ShareState) (n o : NotesState) (d e : Drained) (a : ℕ) → OnlyLooks v w
+    → Contains (taken_of h) a → Contains w.done a → n.refused ≤ last_count
+    → ((too ≡ true) × Notes n d a 0 o e) ⊎ ((too ≡ false) × (o ≡ n) × (e ≡ d)) → WorksAs too (stage v h n d) (stage w h o e)
+traced_noted too v w h n o d e a looks took found fits made = elim made [
+  | inl noted ↦ item_noted_as too v w h n o d e a looks took (inr (inr (noted.0, found))) fits noted.1
+  | inr same ↦ subst (λ (x : NotesState). WorksAs too (stage v h n d) (stage w h x e)) (sym same.1)
+      (subst (λ (x : Drained). WorksAs too (stage v h n d) (stage w h n x)) (sym same.2)
+      (works_as too (stage v h n d) (stage w h n d) (looks_work v w h n d looks)))
+]
 
 pub later_with_more : (v : MarkerSeatView) (h : ShareState) (n : NotesState) (d : Drained) (more : Bool)
     → IsLater (stage v h n d) (stage v h n (record d { more = more }))
@@ -375,6 +434,7 @@ later_with_more v h n d more = record {
   done = λ a there. there;
   missed = λ a there. there;
   put = λ a there. there;
+  taken = λ a there. there;
   notes = λ a there. there;
   overflow = λ fine. fine;
 }

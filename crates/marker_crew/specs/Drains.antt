@@ -2,7 +2,7 @@
 use Rattle.std.specs.Prelude.{◌≡◌, ◌⊎◌, ℕ, ◌+◌, true, false, length, Contains}
 use Rattle.stealing_lists.specs.Shares.{ShareState, taken_of}
 use Rattle.marker_crew.specs.declared.draining.Drained.{Drained}
-use Rattle.marker_crew.specs.Stages.{Stage, IsDealtWith}
+use Rattle.marker_crew.specs.Stages.{Stage, Keeps, IsDealtWith, IsTracedOrNoted}
 
 -- a drain that has done nothing
 abbrev pub nothing_yet : Drained
@@ -15,8 +15,14 @@ IsIdle h = (h.pop_found_none ≡ true) × (h.steal_found_none ≡ true)
 -- one item was taken, and this is it
 pub record IsTaken (old : ShareState) (a : ℕ) (new : ShareState) : Type 0 where
   pub count : length (taken_of new) ≡ length (taken_of old) + 1
+  pub kept : Keeps (taken_of old) (taken_of new)
+  pub there : Contains (taken_of new) a
   pub only : (b : ℕ) → Contains (taken_of new) b → Contains (taken_of old) b ⊎ (b ≡ a)
 
 -- each item that was taken since the share was this is dealt with
 abbrev pub AreDealtWith : ShareState → Stage → Type 0
 AreDealtWith before t = (a : ℕ) → Contains (taken_of t.share) a → Contains (taken_of before) a ⊎ IsDealtWith t a
+
+-- each item that was taken since the share was this is traced by the seat or noted
+abbrev pub AreTracedOrNoted : ShareState → Stage → Type 0
+AreTracedOrNoted before t = (a : ℕ) → Contains (taken_of t.share) a → Contains (taken_of before) a ⊎ IsTracedOrNoted t a

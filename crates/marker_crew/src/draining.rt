@@ -1,11 +1,11 @@
 // A marker takes items from the lists and deals with each.
 
-ghost use Rattle.std.specs.Prelude.{◌≡◌, ◌⊎◌, ◌+◌, true, false, None, length};
+ghost use Rattle.std.specs.Prelude.{◌≡◌, ◌⊎◌, ◌≤◌, ◌+◌, true, false, None, length};
 ghost use Rattle.stealing_lists.specs.Shares.{taken_of};
 ghost use Rattle.marker_crew.specs.Stages.{stage, Works};
 ghost use Rattle.marker_crew.specs.Drains.{nothing_yet, AreDealtWith, IsIdle};
 
-use crate::gate::{Gate, Post};
+use crate::gate::{Gate, Manner};
 use crate::items::deal_with;
 use crate::taking::await_item;
 use ephemerons::Pairs;
@@ -43,11 +43,16 @@ pub fn drain<G: Gate>(
         (stage seat.new share.new notes.new result) }
     ensures taken { AreDealtWith share.old (stage seat.new share.new notes.new result) }
     ensures hand { seat.new.hand ≡ None }
+    ensures most { result.traced ≤ budget }
     ensures done { result.more ≡ false → IsIdle share.new }
     ensures more { result.more ≡ true → (seat.new.halted ≡ true)
         ⊎ (length (taken_of share.new) ≡ length (taken_of share.old) + budget) }
 {
-    let post = Post { gate, worker };
+    let manner = Manner {
+        gate,
+        worker,
+        too: false,
+    };
     let mut drained = Drained {
         traced: 0,
         more: true,
@@ -62,7 +67,16 @@ pub fn drain<G: Gate>(
             drained.more = false;
             return drained;
         };
-        deal_with(words, types, seat, share, notes, &mut drained, &post, place);
+        deal_with(
+            words,
+            types,
+            seat,
+            share,
+            notes,
+            &mut drained,
+            &manner,
+            place,
+        );
     }
     drained.more = true;
     drained

@@ -21,14 +21,15 @@ impl Gate for FreeGate {
     }
 }
 
-/// A worker at the gate.
+/// How a worker drains: at which gate, and whether it notes what it finds traced too.
 #[derive(Drop)]
-pub(crate) struct Post<'a, G> {
+pub(crate) struct Manner<'a, G> {
     pub(crate) gate: &'a G,
     pub(crate) worker: u32,
+    pub(crate) too: bool,
 }
 
-impl<G: Gate> Post<'_, G> {
+impl<G: Gate> Manner<'_, G> {
     /// Waits as long as the gate holds the worker at the point.
     pub(crate) fn pass(&self, point: u32) {
         self.gate.pass(self.worker, point);

@@ -3,12 +3,12 @@
 ghost use Rattle.std.specs.Prelude.{◌≡◌, ◌⊎◌, ◌<◌, ◌≤◌, ◌+◌, ◌^◌, true, None, Contains};
 ghost use Rattle.marker_core.specs.Bodies.{holds};
 ghost use Rattle.stealing_lists.specs.Shares.{ShareState, taken_of};
-ghost use Rattle.marker_crew.specs.Stages.{stage, Works, IsDealtWith};
+ghost use Rattle.marker_crew.specs.Stages.{stage, WorksAs, IsDealtWithAs};
 
 use crate::draining::Drained;
-use crate::gate::{AFTER_OBJECT, BEFORE_CLAIM, Gate, Post};
+use crate::gate::{AFTER_OBJECT, BEFORE_CLAIM, Gate, Manner};
 use crate::objects::{has_traced, trace_object};
-use crate::recording::note;
+use crate::recording::{note, note_traced};
 use ephemerons::Pairs;
 use object_headers::Header;
 use page_words::{MarkerSeat, Words, has_mark};
@@ -17,7 +17,7 @@ use type_table::TypeTable;
 
 /// Claims and traces the object at a place that was taken from a list. Where none is found there, or
 /// one with neither mark nor traced bit, or one that changes before it is claimed and isn't traced
-/// then, the place is noted with word 0.
+/// then, the place is noted with word 0; and by some drains also where it is found traced.
 pub(crate) fn deal_with<G: Gate>(
     words: &Words,
     types: &TypeTable,
@@ -25,22 +25,24 @@ pub(crate) fn deal_with<G: Gate>(
     share: &mut Share,
     notes: &mut Pairs,
     drained: &mut Drained,
-    post: &Post<'_, G>,
+    manner: &Manner<'_, G>,
     place: u32,
 )
     requires heap { seat.old.heap ≡ words.now }
     requires types { types.now ≡ seat.old.types }
     requires hand { seat.old.hand ≡ None }
     requires few { drained.old.traced + 1 < 2 ^ 32 }
-    ensures works { Works (stage seat.old share.old notes.old drained.old)
+    requires item { Contains (taken_of share.old) place }
+    ensures works { WorksAs manner.now.too (stage seat.old share.old notes.old drained.old)
         (stage seat.new share.new notes.new drained.new) }
-    ensures dealt { IsDealtWith (stage seat.new share.new notes.new drained.new) place }
+    ensures dealt { IsDealtWithAs manner.now.too
+        (stage seat.new share.new notes.new drained.new) place }
     ensures taken { taken_of share.new ≡ taken_of share.old }
     ensures hand { seat.new.hand ≡ None }
     ensures most { drained.new.traced ≤ drained.old.traced + 1 }
 {
     if place < words.count() && words.is_start(seat, place) {
-        trace_known(words, types, seat, share, notes, drained, post, place);
+        trace_known(words, types, seat, share, notes, drained, manner, place);
     } else {
         note(notes, drained, place, 0);
     }
@@ -54,7 +56,7 @@ fn trace_known<G: Gate>(
     share: &mut Share,
     notes: &mut Pairs,
     drained: &mut Drained,
-    post: &Post<'_, G>,
+    manner: &Manner<'_, G>,
     place: u32,
 )
     requires heap { seat.old.heap ≡ words.now }
@@ -62,52 +64,60 @@ fn trace_known<G: Gate>(
     requires hand { seat.old.hand ≡ None }
     requires known { holds seat.old.known place ≡ true }
     requires few { drained.old.traced + 1 < 2 ^ 32 }
-    ensures works { Works (stage seat.old share.old notes.old drained.old)
+    requires item { Contains (taken_of share.old) place }
+    ensures works { WorksAs manner.now.too (stage seat.old share.old notes.old drained.old)
         (stage seat.new share.new notes.new drained.new) }
-    ensures dealt { IsDealtWith (stage seat.new share.new notes.new drained.new) place }
+    ensures dealt { IsDealtWithAs manner.now.too
+        (stage seat.new share.new notes.new drained.new) place }
     ensures taken { taken_of share.new ≡ taken_of share.old }
     ensures hand { seat.new.hand ≡ None }
     ensures most { drained.new.traced ≤ drained.old.traced + 1 }
 {
     let header = words.header(seat, place);
     if has_traced(header) {
+        note_traced(notes, drained, manner.too, place);
         return;
     }
     if !has_mark(header) {
         note(notes, drained, place, 0);
         return;
     }
-    post.pass(BEFORE_CLAIM);
+    manner.pass(BEFORE_CLAIM);
     if words.claim_as(seat, place, header) {
         drained.traced += 1;
         let ty = Header::type_in(header);
         trace_object(words, types, seat, share, notes, drained, place, ty);
-        post.pass(AFTER_OBJECT);
+        manner.pass(AFTER_OBJECT);
     } else {
-        look_again(words, seat, notes, drained, place);
+        look_again(words, seat, notes, drained, manner.too, place);
     }
 }
 
-/// Notes with word 0 the place of an object that could not be claimed, unless it is traced.
+/// Notes with word 0 the place of an object that could not be claimed, unless it is traced and the
+/// drain doesn't note such.
 fn look_again(
     words: &Words,
     seat: &mut MarkerSeat,
     notes: &mut Pairs,
     drained: &mut Drained,
+    too: bool,
     place: u32,
 )
     requires heap { seat.old.heap ≡ words.now }
     requires hand { seat.old.hand ≡ None }
     requires known { holds seat.old.known place ≡ true }
     requires failed { Contains seat.old.done place ⊎ Contains seat.old.missed place }
-    ensures works { (h : ShareState) → Works (stage seat.old h notes.old drained.old)
+    ensures works { (h : ShareState) → Contains (taken_of h) place
+        → WorksAs too (stage seat.old h notes.old drained.old)
         (stage seat.new h notes.new drained.new) }
     ensures dealt { (h : ShareState)
-        → IsDealtWith (stage seat.new h notes.new drained.new) place }
+        → IsDealtWithAs too (stage seat.new h notes.new drained.new) place }
     ensures hand { seat.new.hand ≡ None }
     ensures count { drained.new.traced ≡ drained.old.traced }
 {
-    if !has_traced(words.header(seat, place)) {
+    if has_traced(words.header(seat, place)) {
+        note_traced(notes, drained, too, place);
+    } else {
         note(notes, drained, place, 0);
     }
 }

@@ -39,7 +39,7 @@ pub(crate) fn await_item(words: &Words, seat: &mut MarkerSeat, share: &mut Share
 }
 
 /// An item of the share's own list, or else one of another's. None where the share is idle then.
-fn next_item(share: &mut Share) -> Option<u32>
+pub(crate) fn next_item(share: &mut Share) -> Option<u32>
     ensures taken { MatchOption result
         ((taken_of share.new ≡ taken_of share.old) × IsIdle share.new)
         (λ a. IsTaken share.old a share.new) }

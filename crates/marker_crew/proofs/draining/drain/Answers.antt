@@ -1,4 +1,5 @@
-use Rattle.std.proofs.Common.{true, false, length, refl, ap, arith}
+use Rattle.std.proofs.Common.{true, false, length, refl, sym, ap, subst, arith}
+use Rattle.std.specs.List.{Contains}
 use Rattle.page_words.specs.Markers.{MarkerSeatView}
 use Rattle.marker_crew.specs.declared.draining.Drained.{Drained}
 use Rattle.marker_crew.specs.Drains.{nothing_yet}
@@ -47,7 +48,7 @@ returns-in_default-clause-works g c =
     works_with_more s u k n d false
     (Works-then s (stage v h n d) (stage u k n d) c.loop-item.invariant.works
     (Works-then (stage v h n d) (stage u h n d) (stage u k n d) (looks_work v u h n d looks)
-    (take_works u h k n d c.await_item.ensures.lists c.await_item.ensures.same.0 c.await_item.ensures.same.1)))
+    (take_works u h k n d c.await_item.ensures.lists c.await_item.ensures.same.0 (λ a there. subst (λ xs. Contains xs a) (sym c.in_default.ensures.taken.0) there) c.await_item.ensures.same.1)))
 
 pub returns-in_default-clause-taken : goal.returns-in_default-clause-taken
 returns-in_default-clause-taken g c =
@@ -63,7 +64,9 @@ returns-in_default-clause-taken g c =
     all_dealt_stay c.args.share.now (stage v h n d) last
     (later_then (stage v h n d) (stage u h n d) last (looks_work v u h n d looks).later
     (later_then (stage u h n d) (stage u k n d) last
-    (take_works u h k n d c.await_item.ensures.lists c.await_item.ensures.same.0 c.await_item.ensures.same.1).later (later_with_more u k n d false)))
+    (take_works u h k n d c.await_item.ensures.lists c.await_item.ensures.same.0
+    (λ a there. subst (λ xs. Contains xs a) (sym c.in_default.ensures.taken.0) there)
+    c.await_item.ensures.same.1).later (later_with_more u k n d false)))
     c.in_default.ensures.taken.0 c.loop-item.invariant.dealt
 
 pub loop-item-preserved : goal.loop-item-preserved
@@ -81,7 +84,7 @@ loop-item-preserved g c =
     let works : Works (stage v h n d) last =
     Works-then (stage v h n d) (stage u h n d) last (looks_work v u h n d looks)
     (Works-then (stage u h n d) (stage u k n d) last
-    (take_works u h k n d c.await_item.ensures.lists c.await_item.ensures.same.0 c.await_item.ensures.same.1) c.deal_with.ensures.works) in
+    (take_works u h k n d c.await_item.ensures.lists c.await_item.ensures.same.0 c.in-Some.ensures.taken.kept c.await_item.ensures.same.1) c.deal_with.ensures.works) in
     record {
       works = Works-then s (stage v h n d) last c.loop-item.invariant.works works;
       dealt = one_dealt c.args.share.now (stage v h n d) last k c.in-Some.place works.later c.loop-item.invariant.dealt c.in-Some.ensures.taken
@@ -90,3 +93,6 @@ loop-item-preserved g c =
       count = omega (arith, ap length c.deal_with.ensures.taken, c.in-Some.ensures.taken.count, c.loop-item.invariant.count);
       most = omega (arith, c.deal_with.ensures.most, c.loop-item.invariant.most);
     }
+
+pub deal_with-requires-clause-item : goal.deal_with-requires-clause-item
+deal_with-requires-clause-item g c = c.in-Some.ensures.taken.there
