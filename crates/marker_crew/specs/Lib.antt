@@ -1,3 +1,4 @@
 pub mod Stages
 pub mod Hands
 pub mod Drains
+pub mod Steps

@@ -8,6 +8,7 @@
 //! test may hold a marker), `FreeGate` (which holds nobody).
 #![tactic(auto)]
 
+mod beside;
 mod draining;
 mod gate;
 mod items;
@@ -15,5 +16,6 @@ mod objects;
 mod recording;
 mod taking;
 
+pub use beside::step_beside;
 pub use draining::{Drained, drain};
 pub use gate::{FreeGate, Gate};

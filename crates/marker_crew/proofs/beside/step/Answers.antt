@@ -1,0 +1,59 @@
+use Rattle.std.proofs.Common.{length, sym, ap, subst, true, false, arith}
+use Rattle.std.specs.List.{Contains}
+use Rattle.page_words.specs.Markers.{MarkerSeatView}
+use Rattle.marker_crew.specs.declared.draining.Drained.{Drained}
+use Rattle.marker_crew.specs.Drains.{nothing_yet}
+use Rattle.marker_crew.specs.Stages.{Stage, stage, Works, WorksAs}
+use Rattle.marker_crew.proofs.Dealing.{all_noted_stay, one_noted}
+use Rattle.marker_crew.proofs.Working.{works_then_as, works_as, works_with_more_as, take_works, later_then, later_with_more}
+use Rattle.marker_crew.proofs.beside.step.Goals as goal
+
+pub returns-in_default-clause-works : goal.returns-in_default-clause-works
+returns-in_default-clause-works c =
+    let s : Stage = stage c.args.seat.now c.args.share.now c.args.notes.now nothing_yet in
+    let v : MarkerSeatView = c.loop-item.seat in
+    let h = c.loop-item.share in
+    let k = c.next_item.new.share in
+    let n = c.loop-item.notes in
+    let d : Drained = c.loop-item.drained in
+    let took : Works (stage v h n d) (stage v k n d) =
+    take_works v h k n d c.next_item.ensures.lists c.next_item.ensures.same.0 (λ a there. subst (λ xs. Contains xs a) (sym c.in_default.ensures.taken.0) there)
+    c.next_item.ensures.same.1 in
+    works_with_more_as true s v k n d false
+    (works_then_as true s (stage v h n d) (stage v k n d) c.loop-item.invariant.works (works_as true (stage v h n d) (stage v k n d) took))
+
+pub returns-in_default-clause-taken : goal.returns-in_default-clause-taken
+returns-in_default-clause-taken c =
+    let v : MarkerSeatView = c.loop-item.seat in
+    let h = c.loop-item.share in
+    let k = c.next_item.new.share in
+    let n = c.loop-item.notes in
+    let d : Drained = c.loop-item.drained in
+    let took : Works (stage v h n d) (stage v k n d) =
+    take_works v h k n d c.next_item.ensures.lists c.next_item.ensures.same.0 (λ a there. subst (λ xs. Contains xs a) (sym c.in_default.ensures.taken.0) there)
+    c.next_item.ensures.same.1 in
+    let last : Stage = stage v k n (record d { more = false }) in
+    all_noted_stay c.args.share.now (stage v h n d) last (later_then (stage v h n d) (stage v k n d) last took.later (later_with_more v k n d false))
+    c.in_default.ensures.taken.0 c.loop-item.invariant.taken
+
+pub loop-item-preserved : goal.loop-item-preserved
+loop-item-preserved c =
+    let s : Stage = stage c.args.seat.now c.args.share.now c.args.notes.now nothing_yet in
+    let v : MarkerSeatView = c.loop-item.seat in
+    let h = c.loop-item.share in
+    let k = c.next_item.new.share in
+    let n = c.loop-item.notes in
+    let d : Drained = c.loop-item.drained in
+    let last : Stage = stage c.deal_with.new.seat c.deal_with.new.share c.deal_with.new.notes c.deal_with.new.drained in
+    let took : Works (stage v h n d) (stage v k n d) =
+    take_works v h k n d c.next_item.ensures.lists c.next_item.ensures.same.0 c.in-Some.ensures.taken.kept c.next_item.ensures.same.1 in
+    let works : WorksAs true (stage v h n d) last =
+    works_then_as true (stage v h n d) (stage v k n d) last (works_as true (stage v h n d) (stage v k n d) took) c.deal_with.ensures.works in
+    record {
+      works = works_then_as true s (stage v h n d) last c.loop-item.invariant.works works;
+      taken = one_noted c.args.share.now (stage v h n d) last k c.in-Some.place works.later c.loop-item.invariant.taken c.in-Some.ensures.taken
+          c.deal_with.ensures.taken c.deal_with.ensures.dealt;
+      hand = c.deal_with.ensures.hand;
+      count = omega (arith, ap length c.deal_with.ensures.taken, c.in-Some.ensures.taken.count, c.loop-item.invariant.count);
+      most = omega (arith, c.deal_with.ensures.most, c.loop-item.invariant.most, c.if-drained-most.false);
+    }
