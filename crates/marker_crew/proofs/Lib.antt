@@ -4,3 +4,5 @@ pub mod Reading
 pub mod Claiming
 pub mod Dealing
 pub mod TracedWords
+pub mod Starting
+pub mod Joining

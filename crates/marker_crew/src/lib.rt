@@ -9,13 +9,17 @@
 #![tactic(auto)]
 
 mod beside;
+mod crew;
 mod draining;
+mod endings;
 mod gate;
 mod items;
 mod objects;
 mod recording;
+mod runners;
 mod taking;
 
 pub use beside::step_beside;
+pub use crew::{Crew, CrewResult};
 pub use draining::{Drained, drain};
 pub use gate::{FreeGate, Gate};
