@@ -2,12 +2,12 @@
 use Rattle.std.proofs.Common.{rules, ◌≡◌, ℕ, ◌+◌, ◌≤◌, Bool, true, false, List, [], ◌∷◌, ◌++◌, length, refl, sym, ap, ◌∙◌, subst, inl, inr, arith}
 use mathlib.Core.Logic.{◌⊎◌}
 use Rattle.std.specs.List.{Contains}
-use Rattle.std.proofs.lemmas.Bool.{true≢false}
+use Rattle.std.proofs.lemmas.Bool.{true≢false, cases_Bool}
 use Rattle.std.proofs.lemmas.List.{append-nil, length-append}
 use Rattle.gc_graph.specs.Members.{Contains-cons_cases}
 use Rattle.std.proofs.lemmas.List.Elements.{Contains-append_left, Contains-append_cases, Contains-push, Contains-push_cases}
 use Rattle.ephemerons.specs.declared.notes.Note.{Note}
-use Rattle.mark_worklist.specs.Refusals.{TellsRefused}
+use Rattle.mark_worklist.specs.Refusals.{Refusals, TellsRefused}
 use Rattle.mark_worklist.specs.Told.{told_same, told_once, told_then}
 use Rattle.ephemerons.specs.Notes.{NotesState, note_of, noted, overflowed, refusals_in}
 use Rattle.page_words.specs.Markers.{MarkerSeatView}
@@ -60,6 +60,10 @@ risen_then a b c low high rose = elim rose [
   | inr second ↦ elim second [ inl more ↦ inl (omega (arith, more, low)) | inr last ↦ inr last ]
 ]
 
+-- what isn't told at last was never told
+untold : (a b : Refusals) → TellsRefused a b → b.told ≡ false → a.told ≡ false
+untold a b tells fine = elim (cases_Bool a.told) [ inl told ↦ absurd (true≢false (sym (tells.kept told) ∙ fine)) | inr not_so ↦ not_so ]
+
 pub works_then_as : (too : Bool) (s t u : Stage) → WorksAs too s t → WorksAs too t u → WorksAs too s u
 works_then_as too s t u x y = record {
   later = later_then s t u x.later y.later;
@@ -73,7 +77,7 @@ works_then_as too s t u x y = record {
     | inr marked ↦ inr marked
   ];
   noted = λ fine p offset there. elim (y.noted fine p offset there) [
-    | inl before ↦ elim (x.noted (y.later.overflow fine) p offset before) [ inl first ↦ inl first | inr note ↦ inr (y.later.notes (note_of p offset) note) ]
+    | inl before ↦ elim (x.noted (untold (refusals_in t.notes) (refusals_in u.notes) y.notes_told fine) p offset before) [ inl first ↦ inl first | inr note ↦ inr (y.later.notes (note_of p offset) note) ]
     | inr note ↦ inr note
   ];
   notes = λ note there. elim (y.notes note there) [
@@ -224,7 +228,7 @@ module _ (v w : MarkerSeatView) (h k : ShareState) (n : NotesState) (d e : Drain
     counted = omega (arith, ap length traced, ap (λ (x : Drained). x.traced) told);
     listed = λ fine. absurd (true≢false (sym (ap (λ (x : Drained). x.overflow) told) ∙ fine));
     put = λ x there. inl (subst (λ xs. Contains xs x) put there);
-    noted = λ fine. absurd (true≢false (sym (ap (λ (x : Drained). x.overflow) told) ∙ fine));
+    noted = λ fine p offset there. inl (subst (λ xs. Contains xs (p, offset)) noted_same there);
     notes = λ note there. inl there;
     refused_pushes = search (rules, refused, fits);
     notes_told = told_same (refusals_in n);
@@ -290,7 +294,7 @@ module _ (too : Bool) (v w : MarkerSeatView) (h : ShareState) (n o : NotesState)
     counted = omega (arith, ap length traced, ap (λ (x : Drained). x.traced) told);
     listed = λ fine. absurd (true≢false (sym (ap (λ (x : Drained). x.overflow) told) ∙ fine));
     put = λ a there. inl there;
-    noted = λ fine. absurd (true≢false (sym (ap (λ (x : Drained). x.overflow) told) ∙ fine));
+    noted = λ fine. absurd (true≢false (sym (ap (λ (x : NotesState). x.overflow) made) ∙ fine));
     notes = λ note there. inl (subst (λ xs. Contains xs note) (ap (λ (x : NotesState). x.notes) made) there);
     refused_pushes = omega arith;
     notes_told = subst (λ (x : NotesState). TellsRefused (refusals_in n) (refusals_in x)) (sym made) (told_once n.overflow n.refused fits);

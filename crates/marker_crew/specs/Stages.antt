@@ -83,15 +83,16 @@ abbrev pub HasRisen : ℕ → ℕ → Type 0
 HasRisen old new = (old < new) ⊎ (last_count ≤ new)
 
 -- the work of a drain between two stages, which notes what it finds traced too or doesn't: as many objects are traced as are
--- counted; unless something was refused, what the seat marked is put on its share's list, and what it noted is in the notes; what
--- is put was marked; each note has its cause; and that something was refused comes to be told where a push or a note was
+-- counted; unless something was refused, what the seat marked is put on its share's list; unless a note was, what it noted is in
+-- the notes; what is put was marked; each note has its cause; and that something was refused comes to be told where a push or a
+-- note was
 pub record WorksAs (too : Bool) (s t : Stage) : Type 0 where
   pub later : IsLater s t
   pub counted : t.drained.traced + length s.seat.traced ≡ s.drained.traced + length t.seat.traced
   pub listed : t.drained.overflow ≡ false → (a : ℕ) → Contains t.seat.marked a → Contains s.seat.marked a ⊎ Contains (put_of t.share) a
   pub put : (a : ℕ) → Contains (put_of t.share) a → Contains (put_of s.share) a ⊎ Contains t.seat.marked a
   pub noted :
-      t.drained.overflow ≡ false → (p offset : ℕ) → Contains t.seat.noted (p, offset)
+      t.notes.overflow ≡ false → (p offset : ℕ) → Contains t.seat.noted (p, offset)
       → Contains s.seat.noted (p, offset) ⊎ Contains t.notes.notes (note_of p offset)
   pub notes : (note : Note) → Contains t.notes.notes note → Contains s.notes.notes note ⊎ IsNoteOf too t.seat t.share note
   pub refused_pushes : s.share.refused ≤ t.share.refused
