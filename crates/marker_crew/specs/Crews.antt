@@ -1,13 +1,13 @@
 -- A crew of markers, and what starting and joining it make of it.
-use Rattle.std.specs.Prelude.{◌≡◌, ℕ, ◌+◌, ◌<◌, ◌≤◌, Bool, List, [], ◌∷◌, ◌++◌, length, map, sum_by, slice_index_or, drop, take, None}
+use Rattle.std.specs.Prelude.{◌≡◌, ◌⊎◌, ℕ, ◌+◌, ◌<◌, ◌≤◌, true, false, List, [], ◌∷◌, ◌++◌, length, map, sum_by, slice_index_or, drop, take, None}
 use Rattle.std.specs.List.{list_any}
 use Rattle.ephemerons.specs.Notes.{NotesState, no_notes}
 use Rattle.page_words.specs.Markers.{MarkerSeatView, joined_with}
 use Rattle.page_words.specs.Seat.{SeatView}
-use Rattle.stealing_lists.specs.Shares.{ShareState}
+use Rattle.stealing_lists.specs.Shares.{ShareState, taken_of}
 use Rattle.marker_crew.specs.declared.crew.CrewResult.{CrewResult}
 use Rattle.marker_crew.specs.declared.draining.Drained.{Drained}
-use Rattle.marker_crew.specs.Drains.{nothing_yet, AreDealtWith}
+use Rattle.marker_crew.specs.Drains.{nothing_yet, AreDealtWith, IsIdle}
 use Rattle.marker_crew.specs.Stages.{stage, Works}
 
 -- a marker as it began: its seat, its share of the lists, and its notes
@@ -23,12 +23,15 @@ pub record Ending : Type 0 where
   pub notes : NotesState
   pub drained : Drained
 
--- a marker that began so has drained, and ended so
+-- a marker that began so has drained, and ended so: it found the lists idle, or was told to stop, or took as many items as the
+-- heap has words
 pub record HasDrained (began : Marker) (end : Ending) : Type 0 where
   pub works : Works (stage began.seat began.share began.notes nothing_yet) (stage end.seat end.share end.notes end.drained)
   pub taken : AreDealtWith began.share (stage end.seat end.share end.notes end.drained)
   pub hand : end.seat.hand ≡ None
   pub most : end.drained.traced ≤ began.seat.count
+  pub done : end.drained.more ≡ false → IsIdle end.share
+  pub more : end.drained.more ≡ true → (end.seat.halted ≡ true) ⊎ (length (taken_of end.share) ≡ length (taken_of began.share) + began.seat.count)
 
 -- a crew: how many markers it has, the groups of notes that are here (the owner's first; while it runs that one alone), the shares
 -- that it brought back, and the markers that run, as they began
