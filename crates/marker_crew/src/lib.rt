@@ -1,11 +1,16 @@
 //! # The crew of markers
 //!
-//! What it is: how a marker traces what it takes from the marking lists, beside the mutator and the
-//! other markers. Below are `page_words` (the seats of markers), `stealing_lists` (their shares of the
+//! What it is: how markers trace what they take from the marking lists, beside the mutator and one
+//! another. Below are `page_words` (the seats of markers), `stealing_lists` (their shares of the
 //! lists) and `ephemerons` (notes of pairs).
 //!
-//! The parts: `drain` (so many items, one after another), `Drained` (what it tells), `Gate` (where a
-//! test may hold a marker), `FreeGate` (which holds nobody).
+//! The parts: `drain` (so many items, one after another), `Drained` (what it tells), `Crew` (up to
+//! eight markers, each with a thread), `CrewResult` (what they tell together), `step_beside` (the
+//! owner's step), `Gate` (where a test may hold a marker), `FreeGate` (which holds nobody).
+//!
+//! What is proved: `docs/PROVED.md`, under what a marker drains.
+//!
+//! What is only tested or not said: that a marker has a thread of its own, and when it ends.
 #![tactic(auto)]
 
 mod beside;
