@@ -11,7 +11,8 @@ use Rattle.ephemerons.specs.Notes.{NotesState}
 use Rattle.marker_core.specs.Bodies.{holds}
 use Rattle.page_words.specs.Markers.{MarkerSeatView, joined_with}
 use Rattle.page_words.specs.Seat.{SeatView, with_mutator}
-use Rattle.stealing_lists.specs.Shares.{ShareState}
+use Rattle.stealing_lists.specs.Families.{at}
+use Rattle.stealing_lists.specs.Shares.{ShareState, IsSameShare}
 use Rattle.marker_crew.specs.Crews.{Marker, Ending, HasDrained, begun_with, joined_with_all}
 
 -- ---- the markers that begin
@@ -56,6 +57,16 @@ begun_at (v ∷ seats) [] notes k m low s n = absurd (omega (arith, s))
 begun_at (v ∷ seats) (h ∷ shares) [] k m low s n = absurd (omega (arith, n))
 begun_at (v ∷ seats) (h ∷ shares) (o ∷ notes) zero m low s n = refl
 begun_at (v ∷ seats) (h ∷ shares) (o ∷ notes) (suc k) m low s n = begun_at seats shares notes k m (omega (arith, low)) (omega (arith, s)) (omega (arith, n))
+
+-- what is true of each seat is true of each marker's
+pub all_begun : (P : MarkerSeatView → Type 0) (seats : List MarkerSeatView) (shares : List ShareState) (notes : List NotesState) → All P seats
+    → All (λ (m : Marker). P m.seat) (begun_with seats shares notes)
+all_begun P [] shares notes all k d low = absurd (omega (arith, low))
+all_begun P (v ∷ seats) [] notes all k d low = absurd (omega (arith, low))
+all_begun P (v ∷ seats) (h ∷ shares) [] all k d low = absurd (omega (arith, low))
+all_begun P (v ∷ seats) (h ∷ shares) (o ∷ notes) all zero d low = all 0 v (omega arith)
+all_begun P (v ∷ seats) (h ∷ shares) (o ∷ notes) all (suc k) d low =
+    all_begun P seats shares notes (λ i w l. all (suc i) w (omega (arith, l))) k d (omega (arith, low))
 
 -- ---- seats that were joined
 
@@ -185,3 +196,14 @@ traced_counted (m ∷ began) (e ∷ ends) many each =
       sum_by-cons (λ (x : Marker). length x.seat.traced) m began,
       sum_by-cons (λ (x : Ending). length x.seat.traced) e ends,
     )
+
+-- ---- the share of each marker is still one of its family
+
+pub same_shares : (began : List Marker) (ends : List Ending) → length ends ≡ length began
+    → ((k : ℕ) (m : Marker) (e : Ending) → k < length ends → HasDrained (get_or began k m) (get_or ends k e))
+    → (k : ℕ) → k < length began → IsSameShare (at (map (λ (m : Marker). m.share) began) k) (at (map (λ (e : Ending). e.share) ends) k)
+same_shares [] ends many each k low = absurd (omega (arith, low))
+same_shares (m ∷ began) [] many each k low = absurd (omega (arith, many))
+same_shares (m ∷ began) (e ∷ ends) many each zero low = (each 0 m e (omega arith)).works.later.lists
+same_shares (m ∷ began) (e ∷ ends) many each (suc k) low =
+    same_shares began ends (omega (arith, many)) (λ i n f l. each (suc i) n f (omega (arith, l))) k (omega (arith, low))
