@@ -1,20 +1,18 @@
 -- The markers of a crew are joined one after another.
-use Rattle.std.proofs.Common.{◌≡◌, ℕ, zero, suc, ◌+◌, ◌-◌, ◌*◌, ◌<◌, ◌≤◌, ◌^◌, ◌||◌, Bool, false, List, [], ◌∷◌, ◌++◌, length, map, get_or, refl, sym, ap, ap₂, ◌∙◌, subst, inl, inr, arith}
+use Rattle.std.proofs.Common.{◌≡◌, ℕ, ◌+◌, ◌-◌, ◌*◌, ◌<◌, ◌≤◌, ◌^◌, ◌||◌, false, List, [], ◌∷◌, ◌++◌, length, map, get_or, refl, sym, ap, ◌∙◌, subst, inl, inr, arith}
 use Rattle.std.specs.List.{list_any, remove, sum_by}
 use Rattle.std.proofs.Math.Bool.{or-false}
 use Rattle.std.proofs.lemmas.Bool.{cases_lt}
-use Rattle.std.proofs.lemmas.List.{append-nil, append_assoc, length-append, length-map, get_or-map, map-append, get_or-append_right, get_or_append_left}
+use Rattle.std.proofs.lemmas.List.{append-nil, append_assoc, length-append, map-append, get_or-append_right, get_or_append_left}
 use Rattle.std.proofs.lemmas.List.Folds.{list_any-append}
 use Rattle.std.proofs.lemmas.List.Sums.{sum_by_push}
 use Rattle.ephemerons.specs.Notes.{NotesState}
-use Rattle.page_words.specs.Markers.{MarkerSeatView, joined_with}
+use Rattle.page_words.specs.Markers.{joined_with}
 use Rattle.page_words.specs.Seat.{SeatView}
 use Rattle.stealing_lists.specs.Shares.{ShareState}
 use Rattle.marker_crew.specs.declared.crew.CrewResult.{CrewResult}
-use Rattle.marker_crew.specs.declared.runners.Runner.{Runner}
 use Rattle.marker_crew.specs.Crews.{Marker, Ending, CrewState, HasDrained, HasJoined, joined_with_all}
 use Rattle.marker_crew.specs.Joined.{joined_last}
-use Rattle.marker_crew.specs.Runners.{began_as}
 
 -- the last value of what a marker may count
 abbrev pub most_words : ℕ

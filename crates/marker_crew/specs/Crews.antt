@@ -1,7 +1,7 @@
 -- A crew of markers, and what starting and joining it make of it.
 use Rattle.std.specs.Prelude.{◌≡◌, ◌⊎◌, ℕ, ◌+◌, ◌<◌, ◌≤◌, true, false, List, [], ◌∷◌, ◌++◌, length, map, sum_by, slice_index_or, drop, take, None}
 use Rattle.std.specs.List.{list_any}
-use Rattle.ephemerons.specs.Notes.{NotesState, no_notes}
+use Rattle.ephemerons.specs.Notes.{NotesState}
 use Rattle.page_words.specs.Markers.{MarkerSeatView, joined_with}
 use Rattle.page_words.specs.Seat.{SeatView}
 use Rattle.stealing_lists.specs.Shares.{ShareState, taken_of}

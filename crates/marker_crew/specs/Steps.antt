@@ -1,5 +1,5 @@
 -- The owner's step of marking beside a crew.
-use Rattle.std.specs.Prelude.{◌≡◌, ℕ, true, None}
+use Rattle.std.specs.Prelude.{◌≡◌, true}
 use Rattle.ephemerons.specs.Notes.{NotesState}
 use Rattle.page_words.specs.Markers.{MarkerSeatView, lent_from, new_marker, joined_with}
 use Rattle.page_words.specs.Seat.{SeatView}

@@ -1,4 +1,4 @@
-use Rattle.std.proofs.Common.{◌≡◌, ◌≤◌, length, replicate, vec_capacity}
+use Rattle.std.proofs.Common.{◌≡◌, ◌≤◌, replicate, vec_capacity}
 use Rattle.ephemerons.specs.Notes.{no_notes}
 use Rattle.marker_crew.proofs.crew.groups.Given as goal
 

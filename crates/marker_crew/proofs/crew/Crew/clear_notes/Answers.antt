@@ -1,4 +1,4 @@
-use Rattle.std.proofs.Common.{◌≡◌, ◌<◌, length, set, ap, ◌∙◌, arith}
+use Rattle.std.proofs.Common.{◌<◌, length, set, ap, ◌∙◌, arith}
 use Rattle.std.proofs.lemmas.List.{length-set}
 use Rattle.std.proofs.lemmas.List.Edits.{map_over_more}
 use Rattle.ephemerons.specs.Notes.{cleared}
