@@ -12,22 +12,18 @@ nodes_left x = x.1.0
 abbrev pub marking_left : {A B C D : Type 0} → A × (B × (C × D)) → C
 marking_left x = x.1.1.0
 
--- the notes
-abbrev pub notes_left : {A B C D E : Type 0} → A × (B × (C × (D × E))) → D
-notes_left x = x.1.1.1.0
-
 -- the weak slots
-abbrev pub weak_left : {A B C D E F : Type 0} → A × (B × (C × (D × (E × F)))) → E
-weak_left x = x.1.1.1.1.0
+abbrev pub weak_left : {A B C D E : Type 0} → A × (B × (C × (D × E))) → D
+weak_left x = x.1.1.1.0
 
 -- the registered prefinalizers
-abbrev pub registry_left : {A B C D E F G : Type 0} → A × (B × (C × (D × (E × (F × G))))) → F
-registry_left x = x.1.1.1.1.1.0
+abbrev pub registry_left : {A B C D E F : Type 0} → A × (B × (C × (D × (E × F)))) → E
+registry_left x = x.1.1.1.1.0
 
 -- the region
-abbrev pub region_left : {A B C D E F G H : Type 0} → A × (B × (C × (D × (E × (F × (G × H)))))) → G
-region_left x = x.1.1.1.1.1.1.0
+abbrev pub region_left : {A B C D E F G : Type 0} → A × (B × (C × (D × (E × (F × G))))) → F
+region_left x = x.1.1.1.1.1.0
 
 -- the owner's pass
-abbrev pub pass_left : {A B C D E F G H I : Type 0} → A × (B × (C × (D × (E × (F × (G × (H × I))))))) → H
-pass_left x = x.1.1.1.1.1.1.1.0
+abbrev pub pass_left : {A B C D E F G H : Type 0} → A × (B × (C × (D × (E × (F × (G × H)))))) → G
+pass_left x = x.1.1.1.1.1.1.0

@@ -38,6 +38,7 @@ pub fn close(
     ensures off { marking.new.on ≡ false }
     ensures whole { marking.new.list.whole ≡ true }
     ensures shares { length marking.new.list.shares ≡ length marking.old.list.shares }
+    ensures groups { length notes.new ≡ length notes.old }
     ensures told { TellsRefused (refusals_of marking.old) (refusals_of marking.new) }
     ensures notes_told { (i : ℕ) → TellsRefused
         (refusals_in (group_at notes.old i)) (refusals_in (group_at notes.new i)) }

@@ -2,7 +2,6 @@
 
 use callback_table::{CallbackTable, Registry};
 use cross_thread_region::{Pass, Region};
-use ephemerons::Pairs;
 use ghost_values::GhostValue;
 use mark_worklist::Marking;
 use nodes_in_words::NodeLists;
@@ -18,7 +17,6 @@ use type_table::TypeTable;
 /// | `seat` | the owner's access to the words |
 /// | `nodes` | the nodes that the objects in the words are; contracts alone see them |
 /// | `marking` | the owner's marking state |
-/// | `notes` | groups of notes of pairs that wait for their keys |
 /// | `weak` | weak slots |
 /// | `registry` | the registered prefinalizers |
 /// | `region` | the slots that threads share |
@@ -38,7 +36,6 @@ pub struct Parts<'a> {
     pub seat: &'a mut MutatorSeat,
     pub nodes: &'a mut GhostValue<NodeLists>,
     pub marking: &'a mut Marking,
-    pub notes: &'a mut [Pairs],
     pub weak: &'a mut Slots,
     pub registry: &'a mut Registry,
     pub region: &'a mut Region,

@@ -21,7 +21,7 @@ ghost use Rattle.nodes_in_words.specs.Places.{places_of};
 ghost use Rattle.prefinalizer_effects.specs.Prepared.{setup_of, IsPrepared};
 ghost use Rattle.atomic_pause.specs.Pausing.{NamePlaces, IsMayWithin, hits_in, IsPaused};
 ghost use Rattle.atomic_pause.specs.Pausing.{IsPausable, IsPausedRegion, shared_roots};
-ghost use Rattle.atomic_pause.specs.Left.{seat_left, nodes_left, marking_left, notes_left};
+ghost use Rattle.atomic_pause.specs.Left.{seat_left, nodes_left, marking_left};
 ghost use Rattle.atomic_pause.specs.Left.{weak_left, registry_left, region_left, pass_left};
 
 use crate::clearing::clear_weak;
@@ -31,6 +31,7 @@ use crate::parts::{Parts, PauseResult};
 use crate::prefinalizing::prefinalise;
 use crate::region_clearing::clear_region;
 use crate::roots::{scan_stack, visit_region, visit_slots};
+use ephemerons::Pairs;
 
 /// Keeps what the roots reach and condemns the other objects. The roots are what the strong slots
 /// name, those of the region too, and, unless the pause is precise, the objects with a word at an
@@ -38,7 +39,7 @@ use crate::roots::{scan_stack, visit_region, visit_slots};
 /// is called while marking goes on, by the thread that owns the heap, once no marker has a view or a
 /// share; what was marked before it keeps too. Each marker's notes may be a group of their own.
 /// Refusals of memory stay told in the marking state and the notes, until their owner clears these.
-pub fn pause(parts: Parts, stack: &[u64], precise: bool) -> PauseResult
+pub fn pause(parts: Parts, notes: &mut [Pairs], stack: &[u64], precise: bool) -> PauseResult
     requires heap { IsSpaceOf parts.space.now parts.seat.now }
     requires types { parts.seat.now.types ≡ parts.types.now }
     requires valid { AreOfValid
@@ -47,7 +48,7 @@ pub fn pause(parts: Parts, stack: &[u64], precise: bool) -> PauseResult
     requires held { IsHeld parts.nodes.now.value parts.seat.now }
     requires few { length parts.nodes.now.value ≤ 1000000 }
     requires ready { IsReadyToEnd parts.types.now parts.seat.now parts.marking.now
-        parts.notes.now }
+        notes.old }
     requires may { (p : ℕ) → Contains parts.strong.now (Some p)
         → holds parts.seat.now.may p ≡ true }
     requires traced { traced_count parts.seat.now ≡ parts.traced }
@@ -85,21 +86,21 @@ pub fn pause(parts: Parts, stack: &[u64], precise: bool) -> PauseResult
     ensures joined { (marking_left parts.exit).now.list.whole ≡ true }
     ensures shares { length (marking_left parts.exit).now.list.shares
         ≡ length parts.entry.marking.now.list.shares }
+    ensures groups { length notes.new ≡ length notes.old }
     ensures walked { result.walked ≡ true →
-        IsUnrefused (marking_left parts.exit).now.overflow (notes_left parts.exit).now → ⊥ }
+        IsUnrefused (marking_left parts.exit).now.overflow notes.new → ⊥ }
     ensures whole { result.walked ≡ false →
-        IsUnrefused (marking_left parts.exit).now.overflow (notes_left parts.exit).now }
+        IsUnrefused (marking_left parts.exit).now.overflow notes.new }
     ensures told { TellsRefused (refusals_of parts.entry.marking.now)
         (refusals_of (marking_left parts.exit).now) }
     ensures notes_told { (i : ℕ) → TellsRefused
-        (refusals_in (group_at parts.entry.notes.now i))
-        (refusals_in (group_at (notes_left parts.exit).now i)) }
+        (refusals_in (group_at notes.old i))
+        (refusals_in (group_at notes.new i)) }
 {
     let Parts {
         seat,
         nodes,
         marking,
-        notes,
         weak,
         registry,
         region,

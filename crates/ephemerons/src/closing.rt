@@ -52,6 +52,7 @@ pub fn fixpoint<B: Bodywords>(
         → traced_count seat.new ≡ traced_count seat.old + result }
     ensures list { marking.new.list.items ≡ [] }
     ensures mode { mode_of marking.new ≡ mode_of marking.old }
+    ensures groups { length groups.new ≡ length groups.old }
     ensures noted { (note : Note) → IsNotedIn groups.old note → IsNotedIn groups.new note }
     ensures refused { IsUnrefused marking.new.overflow groups.new
         → IsUnrefused marking.old.overflow groups.old }

@@ -62,7 +62,7 @@ scan_stack-requires-clause-alone g c =
 pub close-more-requires-clause-ready : goal.close-more-requires-clause-ready
 close-more-requires-clause-ready g c =
     roots_ready c.args.parts.types.now c.args.parts.seat.now c.visit_slots.new.seat c.visit_region.new.seat c.scan_stack.new.seat c.args.parts.marking.now
-    c.visit_slots.new.marking c.visit_region.new.marking c.scan_stack.new.marking c.args.parts.notes.now c.visit_slots.ensures.marks
+    c.visit_slots.new.marking c.visit_region.new.marking c.scan_stack.new.marking c.args.notes.now c.visit_slots.ensures.marks
     c.visit_region.ensures.marks c.scan_stack.ensures.marks c.requires.ready
 
 pub close-more-requires-clause-types : goal.close-more-requires-clause-types

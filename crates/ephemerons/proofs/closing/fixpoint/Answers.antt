@@ -1,4 +1,4 @@
-use Rattle.std.proofs.Common.{arith, subst, sym, List, ◌∙◌}
+use Rattle.std.proofs.Common.{arith, subst, sym, ap, List, length, ◌∙◌}
 use Rattle.mark_worklist.specs.Refusals.{TellsRefused, refusals_of}
 use Rattle.ephemerons.specs.Notes.{NotesState, group_at, refusals_in}
 use Rattle.ephemerons.specs.Fixpoint.{IsGround, stage}
@@ -40,3 +40,9 @@ returns-then-walk-clause-notes_told g c i =
     subst (λ (gs : List NotesState). TellsRefused (refusals_in (group_at gs i)) (refusals_in (group_at c.walk_heap.new.groups i))) c.begin_indexes.ensures
     (told_then (refusals_in (group_at c.begin_indexes.new.groups i)) (refusals_in (group_at c.settle_all.new.groups i))
     (refusals_in (group_at c.walk_heap.new.groups i)) (c.settle_all.ensures.works.notes_told i) (c.walk_heap.ensures.works.notes_told i))
+
+pub returns-then-walk-clause-groups : goal.returns-then-walk-clause-groups
+returns-then-walk-clause-groups g c = c.walk_heap.ensures.works.many ∙ c.settle_all.ensures.works.many ∙ ap (λ (gs : List NotesState). length gs) c.begin_indexes.ensures
+
+pub returns-else-is_refused-clause-groups : goal.returns-else-is_refused-clause-groups
+returns-else-is_refused-clause-groups g c = c.settle_all.ensures.works.many ∙ ap (λ (gs : List NotesState). length gs) c.begin_indexes.ensures
