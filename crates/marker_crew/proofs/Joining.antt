@@ -11,7 +11,7 @@ use Rattle.page_words.specs.Markers.{joined_with}
 use Rattle.page_words.specs.Seat.{SeatView}
 use Rattle.stealing_lists.specs.Shares.{ShareState}
 use Rattle.marker_crew.specs.declared.crew.CrewResult.{CrewResult}
-use Rattle.marker_crew.specs.Crews.{Marker, Ending, CrewState, HasDrained, HasJoined, joined_with_all}
+use Rattle.marker_crew.specs.Crews.{Marker, Ending, CrewState, HasDrained, joined_with_all}
 use Rattle.marker_crew.specs.Joined.{joined_last}
 
 -- the last value of what a marker may count
@@ -101,23 +101,6 @@ one_joined old before rest notes shares v w r s m e x some is drained out joined
       lent = omega (arith, ap (λ (u : SeatView). u.lent) joined, out, x.lent, more);
       few = omega (arith, x.few, low, traced, more);
     }
-
-pub all_joined : (old : CrewState) (before : SeatView) (rest : List Marker) (notes : List NotesState) (shares : List ShareState) (new : CrewState) (after : SeatView)
-    (r : CrewResult) → IsPartJoined old before rest notes shares after r → length rest ≡ 0 → new.notes ≡ notes → new.shares ≡ shares → new.running ≡ rest
-    → new.markers ≡ old.markers → HasJoined old before new after r
-all_joined old before [] notes shares new after r x none n s run m = record {
-  ends = x.ends;
-  many = sym x.many ∙ sym (ap length (x.whole ∙ append-nil x.begun));
-  each = x.each;
-  seat = x.seat;
-  notes = n ∙ x.notes_are;
-  shares = s ∙ x.shares_are;
-  running = run;
-  markers = m;
-  traced = x.traced;
-  overflow = x.overflow;
-}
-all_joined old before (b ∷ rest) notes shares new after r x none n s run m = absurd (omega (arith, none))
 
 -- a marker that counts no more items than the heap has words
 pub counts_few : (m : Marker) (e : Ending) (count : ℕ) → HasDrained m e → m.seat.count ≡ count → count ≤ most_words → e.drained.traced ≤ most_words

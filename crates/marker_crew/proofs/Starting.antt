@@ -61,10 +61,6 @@ pub none_left : (all begun : List Marker) (seats : List MarkerSeatView) (shares 
 none_left all begun [] shares notes none whole = sym (append-nil begun) ∙ whole
 none_left all begun (v ∷ seats) shares notes none whole = absurd (omega (arith, none))
 
-pub no_item : {X : Type 0} (xs : List X) → length xs ≡ 0 → xs ≡ []
-no_item [] none = refl
-no_item (x ∷ xs) none = absurd (omega (arith, none))
-
 pub take_all : {X : Type 0} (xs : List X) → length xs ≡ 1 → take 1 xs ≡ xs
 take_all [] one = refl
 take_all (x ∷ []) one = refl

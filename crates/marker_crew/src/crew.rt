@@ -201,7 +201,8 @@ impl Crew {
 
     /// How many markers it has.
     pub fn markers(&self) -> u32
-        ensures { result ≡ self.now.markers }
+        ensures value { result ≡ self.now.markers }
+        ensures few { result ≤ 8 }
     {
         self.markers
     }
