@@ -4,6 +4,7 @@ pub mod Fields
 pub mod Objects
 pub mod Finalising
 pub mod Marks
+pub mod Crews
 pub mod FieldNodes
 pub mod NewNodes
 pub mod SweptNodes

@@ -1,20 +1,26 @@
--- The marks of each phase, and what is kept of marking.
-use Rattle.std.specs.Prelude.{◌≡◌, ℕ, ◌+◌, Bool, true, false, List, length, Option, Contains}
+-- The marks of each phase, what is kept of marking, and where its markers are.
+use Rattle.std.specs.Prelude.{◌≡◌, ◌⊎◌, ℕ, ◌+◌, ◌<◌, ◌≤◌, Bool, true, false, List, [], length, map, Option, Contains, All}
 use Rattle.gc_graph.specs.declared.phase.Phase.{Phase}
 use Rattle.gc_graph.specs.declared.phase.Phase.TheVariants.{Idle, Marking, Sweeping}
 use Rattle.gc_graph.specs.Graph.{has}
 use Rattle.gc_graph.specs.State.{Node, IsLive, slot_targets}
-use Rattle.mark_worklist.specs.Refusals.{TellsRefused, refusals_of}
+use Rattle.mark_worklist.specs.Refusals.{TellsRefused}
+use Rattle.stealing_lists.specs.Families.{at}
+use Rattle.stealing_lists.specs.Joining.{AreFresh, IsSameList}
+use Rattle.stealing_lists.specs.Shares.{ShareState, put_of, taken_of}
 use Rattle.marker_core.specs.Bodies.{holds}
+use Rattle.page_words.specs.Markers.{new_marker}
 use Rattle.page_words.specs.Seat.{SeatView, IsQuiet}
+use Rattle.ephemerons.specs.declared.notes.Note.{Note}
 use Rattle.ephemerons.specs.Marking.{traced_count}
-use Rattle.ephemerons.specs.Notes.{refusals_in}
+use Rattle.ephemerons.specs.Notes.{note_of}
 use Rattle.ephemerons.specs.UnderWay.{IsUnderWay}
+use Rattle.marker_crew.specs.Crews.{Marker}
 use Rattle.nodes_in_words.specs.AmongNodes.{IsAmong}
 use Rattle.nodes_in_words.specs.Nodes.{place_of}
 use Rattle.atomic_pause.specs.Pausing.{NamePlaces}
 use Rattle.heap_objects.specs.Finalising.{IsSweptTo}
-use Rattle.heap_objects.specs.Marking.{IsClear}
+use Rattle.heap_objects.specs.Marking.{GreyView, IsClear, IsCleared, pushes_in, notes_in}
 use Rattle.heap_objects.specs.Objects.{ObjectsView, refused_of, IsLiveAt}
 
 -- no marking goes on, and nothing is left of it
@@ -28,14 +34,56 @@ pub record IsMayOf (nodes : List Node) (v : SeatView) (may : List Bool) : Type 0
   pub live : (n : ℕ) → has may n ≡ true → IsLive nodes n
   pub same : (n : ℕ) → IsLive nodes n → holds v.may (place_of nodes n) ≡ has may n
 
--- marking is under way: what may be kept are these nodes, the steps' count is that of the traced objects, and that a push or a
--- note was refused comes to be told since it began exactly where the count rose
+-- no marker runs: no share of the list is out, which has none without markers; no note is of an object alone, and each marker
+-- has notes here, in which there is nothing
+pub record IsHome (g : GreyView) : Type 0 where
+  pub whole : g.marking.list.whole ≡ true
+  pub unshared : g.markers ≡ 0 → g.marking.list.shares ≡ []
+  pub paired : (note : Note) → Contains g.notes.notes note → note.word ≡ 0 → ⊥
+  pub others : All IsCleared g.others
+  pub many : length g.others ≡ g.markers
+
+-- a marker began with a seat that knew nothing, and noted nothing
+pub record IsNew (v : SeatView) (m : Marker) : Type 0 where
+  pub seat : m.seat ≡ new_marker v
+  pub notes : IsCleared m.notes
+
+-- markers run: each began with nothing, and with a share of the list that the owner has a share of too, which counts the pushes that
+-- were refused. What is listed the owner put there, which is marked; and each item that it took is traced, or noted with word 0
+-- unless something was refused, and nothing else is noted so
+pub record IsOut (v : SeatView) (g : GreyView) : Type 0 where
+  pub many : length g.running ≡ g.markers
+  pub shared : g.marking.list.whole ≡ false
+  pub first : List ShareState
+  pub fresh : AreFresh g.markers first (map (λ m. m.share) g.running)
+  pub family : IsSameList first g.marking.list.shares
+  pub began : All (IsNew v) g.running
+  pub others : g.others ≡ []
+  pub refused : g.marking.list.refused ≡ (at g.marking.list.shares 0).refused
+  pub since : g.since.pushes ≤ g.earlier
+  pub put : (p : ℕ) → Contains g.marking.list.items p → Contains (put_of (at g.marking.list.shares 0)) p
+  pub marked : (p : ℕ) → Contains (put_of (at g.marking.list.shares 0)) p → holds v.marked p ≡ true
+  pub taken :
+      g.marking.overflow ≡ false → g.notes.overflow ≡ false → (p : ℕ) → Contains (taken_of (at g.marking.list.shares 0)) p
+      → (holds v.traced p ≡ true) ⊎ Contains g.notes.notes (note_of p 0)
+  pub lone :
+      (note : Note) → Contains g.notes.notes note → note.word ≡ 0 → Contains (taken_of (at g.marking.list.shares 0)) note.holder
+
+-- as many seats are lent as markers run, and these are at home or out
+pub record HasCrew (v : SeatView) (g : GreyView) : Type 0 where
+  pub lent : v.lent ≡ length g.running
+  pub home : g.running ≡ [] → IsHome g
+  pub out : 0 < length g.running → IsOut v g
+
+-- marking is under way: what may be kept are these nodes, the steps' count is that of the objects that the owner traced, its
+-- crew is at home or out, and that a push or a note was refused comes to be told since it began exactly where the count rose
 pub record HasMarking (may : List Bool) (o : ObjectsView) : Type 0 where
   pub under_way : IsUnderWay o.seat o.grey.marking o.grey.notes
+  pub crew : HasCrew o.seat o.grey
   pub may_is : IsMayOf o.nodes o.seat may
   pub counted : traced_count o.seat ≡ o.grey.traced
-  pub pushes_told : TellsRefused (record { told = false; count = o.grey.since.pushes }) (refusals_of o.grey.marking)
-  pub notes_told : TellsRefused (record { told = false; count = o.grey.since.notes }) (refusals_in o.grey.notes)
+  pub pushes_told : TellsRefused (record { told = false; count = o.grey.since.pushes }) (pushes_in o.grey)
+  pub notes_told : TellsRefused (record { told = false; count = o.grey.since.notes }) (notes_in o.grey)
 
 -- nothing is marked while the heap is idle; while marking goes on, these nodes may be kept; in an open sweep nothing is marked
 -- below the address up to which all is swept, and from there on each object is marked or dead

@@ -4,13 +4,13 @@ use Rattle.gc_graph.specs.declared.kind.Value.{Value}
 use Rattle.gc_graph.specs.declared.action.ActionKind.{ActionKind}
 use Rattle.gc_graph.specs.State.{Shape, Setup, ObjectType, Node, node_at, size_of, IsLive}
 use Rattle.gc_graph.specs.Fields.{word_of_field, with_value, target_of, new_node}
-use Rattle.page_words.specs.Seat.{SeatView, IsAlone}
+use Rattle.page_words.specs.Seat.{SeatView, IsStill}
 use Rattle.page_space.specs.Space.{SpaceView, IsSpaceOf}
 use Rattle.nodes_in_words.specs.Nodes.{place_of, word_of, IsHeld}
 use Rattle.heap_objects.specs.declared.marking.Grey.{Grey}
 use Rattle.heap_objects.specs.Fields.{IsLiveReference}
-use Rattle.heap_objects.specs.Marking.{GreyView}
-use Rattle.heap_objects.specs.Refused.{RefusedCounts, RefusalsTold, refused_counts}
+use Rattle.heap_objects.specs.Marking.{GreyView, refused_in}
+use Rattle.heap_objects.specs.Refused.{RefusedCounts, RefusalsTold}
 
 -- the objects: the heap's shape and types, the kinds of its callbacks, the nodes, what is known of the words but for the
 -- headers that were looked at, and what is kept of marking
@@ -24,7 +24,7 @@ pub record ObjectsView : Type 0 where
 
 -- how many pushes and notes were refused since the heap was made
 abbrev pub refused_of : ObjectsView → RefusedCounts
-refused_of o = refused_counts o.grey.marking o.grey.notes
+refused_of o = refused_in o.grey
 
 -- what the objects tell of refusals
 abbrev pub told_of : ObjectsView → RefusalsTold
@@ -32,15 +32,15 @@ told_of o = record { now = refused_of o; since = o.grey.since }
 
 -- what was set up
 abbrev pub setup_of_objects : ObjectsView → Setup
-setup_of_objects o = record { shape = o.shape; markers = 0; types = o.types; callbacks = o.callbacks }
+setup_of_objects o = record { shape = o.shape; markers = o.grey.markers; types = o.types; callbacks = o.callbacks }
 
 -- each type has at most 16 prefinalizers, and there are so many callbacks that each of these is one
 pub record HaveCallbacks (callbacks : ℕ) (types : List ObjectType) : Type 0 where
   pub few : All (λ type. length type.prefinalizers ≤ 16) types
   pub known : All (λ type. All (λ number. number < callbacks) type.prefinalizers) types
 
--- the words hold the nodes, and the next number is the one that no node has; a header can name each type; nothing is in hand,
--- nothing waits for its mark and no view is lent; and the owner's state tells whether marking goes on, beside one group of notes
+-- the words hold the nodes, and the next number is the one that no node has; a header can name each type; nothing is in hand and
+-- nothing waits for its mark; and the owner's state tells whether marking goes on, beside notes of its own
 pub record AreObjects
     (space : SpaceView) (v : SeatView) (types : List ObjectType) (callbacks : List ActionKind) (made : ℕ) (nodes : List Node) (grey : Grey)
     : Type 0 where
@@ -48,11 +48,11 @@ pub record AreObjects
   pub few : length types < 16384
   pub known : v.types ≡ types
   pub laid : IsSpaceOf space v
-  pub alone : IsAlone v
+  pub still : IsStill v
   pub held : IsHeld nodes v
   pub numbers_are : made ≡ length nodes
   pub told : grey.marking.on ≡ v.on
-  pub one : length grey.notes ≡ 1
+  pub own : 0 < length grey.crew.notes
 
 -- ---- reading
 

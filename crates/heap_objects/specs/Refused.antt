@@ -1,8 +1,6 @@
 -- How many pushes and notes were refused, and what a pause tells of it.
 use Rattle.std.specs.Prelude.{◌≡◌, ◌⊎◌, ◌<◌, ◌≤◌, ℕ, Bool, true}
 use Rattle.mark_worklist.specs.Lists.{last_count}
-use Rattle.mark_worklist.specs.declared.marking.Marking.{Marking}
-use Rattle.ephemerons.specs.Notes.{NotesState}
 
 -- how many pushes on the marking list and how many notes were refused since the heap was made; a count stays at its last value
 pub record RefusedCounts : Type 0 where
@@ -12,10 +10,6 @@ pub record RefusedCounts : Type 0 where
 -- nothing was refused
 abbrev pub none_refused : RefusedCounts
 none_refused = record { pushes = 0; notes = 0 }
-
--- the counts that the owner's list and notes hold
-abbrev pub refused_counts : Marking → NotesState → RefusedCounts
-refused_counts marking notes = record { pushes = marking.list.refused; notes = notes.refused }
 
 -- what is told of refusals: how much was refused until now, and until marking began
 pub record RefusalsTold : Type 0 where

@@ -1,15 +1,15 @@
 // What a heap keeps of marking: its list and notes while it goes on, and between collections the room
 // of the list and no more.
 
-ghost use Rattle.std.specs.Prelude.{◌≡◌, [], false, length, IfOk};
-ghost use Rattle.ephemerons.specs.Notes.{group_at};
-ghost use Rattle.heap_objects.specs.Marking.{IsClear, grey_of, no_grey};
-ghost use Rattle.heap_objects.specs.Refused.{none_refused, refused_counts};
+ghost use Rattle.std.specs.Prelude.{◌≡◌, ◌<◌, ◌≤◌, ◌+◌, [], false, true, length, IfOk};
+ghost use Rattle.heap_objects.specs.Crews.{TellsRisen};
+ghost use Rattle.heap_objects.specs.Marking.{IsClear, grey_of, no_grey, refused_in};
+ghost use Rattle.heap_objects.specs.Refused.{none_refused};
 
-use ephemerons::Pairs;
 use gc_graph::NoMemory;
 use ghost_values::GhostValue;
 use mark_worklist::{Marking, Worklist};
+use marker_crew::Crew;
 use std::alloc::Global;
 use std::marker::Model;
 
@@ -30,21 +30,38 @@ impl Model for Counts {
     ghost view = { λ counts. none_refused };
 }
 
-/// The marking state of the heap's owner, the notes of pairs, and how many objects the steps of this
-/// cycle have traced. Contracts alone see how much had been refused when marking began.
+/// A number. It is never made.
+#[derive(Drop)]
+pub struct Number {
+    none: u8,
+}
+
+impl Model for Number {
+    ghost use Rattle.std.specs.Prelude.{ℕ};
+
+    ghost Value = { ℕ };
+
+    ghost view = { λ number. 0 };
+}
+
+/// The marking state of the heap's owner, its markers with the notes of pairs, and how many objects the
+/// steps of this cycle have traced. Contracts alone see how much had been refused when marking began, and
+/// how many pushes on the lists of earlier cycles.
 #[derive(Drop)]
 pub struct Grey {
     pub(crate) marking: Marking,
-    pub(crate) notes: [Pairs; 1],
+    pub(crate) crew: Crew,
     pub(crate) traced: u32,
     pub(crate) since: GhostValue<Counts>,
+    pub(crate) earlier: GhostValue<Number>,
 }
 
 impl Grey {
-    /// A list and notes without room, for the owner alone. Want of memory is free.
-    pub fn new(alloc: Global) -> Result<Grey, NoMemory>
-        ensures grey { IfOk result (λ grey. grey_of grey ≡ no_grey) }
-        ensures groups { IfOk result (λ grey. length grey.notes ≡ 1) }
+    /// A list and notes without room, and a crew of so many markers. Want of memory is free.
+    pub fn new(alloc: Global, markers: u32) -> Result<Grey, NoMemory>
+        requires few { markers ≤ 8 }
+        ensures grey { IfOk result (λ grey. grey_of grey ≡ no_grey markers) }
+        ensures own { IfOk result (λ grey. 0 < length grey.crew.notes) }
     {
         let (list, _) = Worklist::new(alloc, 0)?;
         Ok(Grey {
@@ -53,9 +70,10 @@ impl Grey {
                 overflow: false,
                 list,
             },
-            notes: [Pairs::new(alloc)],
+            crew: Crew::new(alloc, markers)?,
             traced: 0,
             since: none(),
+            earlier: zero(),
         })
     }
 
@@ -74,33 +92,50 @@ fn none() -> GhostValue<Counts>
     GhostValue::chosen(&0u8)
 }
 
-/// What a look at the counts looks at.
-#[derive(Drop)]
-struct AboutRefused<'a> {
-    marking: &'a Marking,
-    notes: &'a [Pairs; 1],
+fn zero() -> GhostValue<Number>
+    ensures { result.value ≡ 0 }
+{
+    GhostValue::chosen(&0u8)
 }
 
 /// How much was refused until now.
-pub fn refused(marking: &Marking, notes: &[Pairs; 1]) -> GhostValue<Counts>
-    ensures { result.value
-        ≡ refused_counts marking.now (group_at notes.now 0) }
+pub fn refused(grey: &Grey) -> GhostValue<Counts>
+    ensures { result.value ≡ refused_in (grey_of grey.now) }
 {
-    GhostValue::chosen(&AboutRefused { marking, notes })
+    GhostValue::chosen(grey)
+}
+
+/// How many pushes were refused until now.
+pub fn refused_pushes(grey: &Grey) -> GhostValue<Number>
+    ensures { result.value ≡ (refused_in (grey_of grey.now)).pushes }
+{
+    GhostValue::chosen(grey)
+}
+
+/// Tells that a push was refused where the list's count of these is no longer what it was.
+pub fn tell_refused(marking: &mut Marking, before: u64)
+    ensures told { TellsRisen before marking.old marking.new }
+{
+    if marking.list.refused() != before {
+        marking.overflow = true;
+    }
 }
 
 /// Forgets what was noted and that something was refused in a collection that is over.
 pub fn clear(grey: &mut Grey)
     requires list { grey.old.marking.list.items ≡ [] }
+    requires whole { grey.old.marking.list.whole ≡ true }
+    requires unshared { grey.old.crew.markers ≡ 0 → grey.old.marking.list.shares ≡ [] }
     requires off { grey.old.marking.on ≡ false }
+    requires home { grey.old.crew.running ≡ [] }
+    requires groups { length grey.old.crew.notes ≡ grey.old.crew.markers + 1 }
     ensures clear { IsClear (grey_of grey.new) }
-    ensures counts { refused_counts grey.new.marking (group_at grey.new.notes 0)
-        ≡ refused_counts grey.old.marking (group_at grey.old.notes 0) }
+    ensures counts { refused_in (grey_of grey.new) ≡ refused_in (grey_of grey.old) }
     ensures traced { grey.new.traced ≡ grey.old.traced }
     ensures since { grey.new.since ≡ grey.old.since }
-    ensures groups { length grey.new.notes ≡ length grey.old.notes }
-    ensures one { length grey.new.notes ≡ 1 }
+    ensures own { 0 < length grey.new.crew.notes }
+    ensures markers { grey.new.crew.markers ≡ grey.old.crew.markers }
 {
     grey.marking.overflow = false;
-    grey.notes[0].clear();
+    grey.crew.clear_notes();
 }

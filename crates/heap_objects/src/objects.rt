@@ -22,14 +22,16 @@ use page_space::Space;
 use page_words::MutatorSeat;
 use std::alloc::Global;
 use std::marker::Model;
+use std::sync::Arc;
 use type_table::TypeTable;
 
 /// The objects of a heap, by place. Places, sizes and offsets are in words.
 #[derive(Drop)]
 pub struct Objects {
+    pub(crate) alloc: Global,
     pub(crate) space: Space,
     pub(crate) seat: MutatorSeat,
-    pub(crate) types: TypeTable,
+    pub(crate) types: Arc<TypeTable>,
     /// The kinds of the callbacks.
     pub(crate) kinds: GhostValue<Kinds>,
     /// How many numbers were given out.
@@ -40,6 +42,7 @@ pub struct Objects {
 }
 
 impl Model for Objects {
+    ghost use Rattle.std.specs.Arc.{arc_value};
     ghost use Rattle.heap_objects.specs.Objects.{AreObjects};
     ghost use Rattle.heap_objects.specs.Objects.{ObjectsView};
     ghost use Rattle.heap_objects.specs.Marking.{grey_of};
@@ -49,26 +52,28 @@ impl Model for Objects {
 
     ghost view = { λ o. record {
       shape = o.space.shape;
-      types = o.types;
+      types = arc_value o.types;
       callbacks = o.kinds.value;
       nodes = o.nodes.value;
       seat = unlooked o.seat;
       grey = grey_of o.grey;
     } };
 
-    ghost invariant = { λ o. AreObjects o.space o.seat o.types o.kinds.value o.made
+    ghost invariant = { λ o. AreObjects o.space o.seat (arc_value o.types) o.kinds.value o.made
         o.nodes.value o.grey };
 }
 
 impl Objects {
-    /// No objects of these types, in words of this shape. Want of memory is free.
+    /// No objects of these types, in words of this shape, with so many markers. Want of memory is free.
     pub fn new(
         alloc: Global,
         pages: u32,
         page_words: u32,
+        markers: u32,
         types: TypeTable,
         callbacks: &CallbackTable,
     ) -> Result<Objects, NoMemory>
+        requires few_markers { markers ≤ 8 }
         requires shape { IsShape (record { pages = pages; page_words = page_words }) }
         requires called { HaveCallbacks (length (kinds_of callbacks.now)) types }
         requires few { length types < 16384 }
@@ -78,22 +83,24 @@ impl Objects {
           callbacks = kinds_of callbacks.now;
           nodes = [];
           seat = empty_view o.seat.heap types;
-          grey = no_grey;
+          grey = no_grey markers;
         }) }
     {
         let (space, seat) = Space::new(alloc, pages, page_words, &types)?;
+        let types = Arc::new(alloc, types)?;
         Ok(Objects {
+            alloc,
             space,
             seat,
             types,
             kinds: kinds::of(callbacks),
             made: 0,
             nodes: nodes_in_words::none(),
-            grey: Grey::new(alloc)?,
+            grey: Grey::new(alloc, markers)?,
         })
     }
 
-    /// Takes room for marking. Want of memory is free.
+    /// Takes room for marking by the owner. Want of memory is free.
     pub fn reserve(&mut self) -> Result<(), NoMemory>
         ensures { self.new ≡ self.old }
     {

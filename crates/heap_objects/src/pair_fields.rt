@@ -76,6 +76,7 @@ impl Objects {
         ensures setup { setup_of_objects self.new ≡ setup_of_objects self.old }
         ensures refused { IsTellingOn self.old self.new }
         ensures traced { self.new.grey.traced ≡ self.old.grey.traced }
+        ensures running { self.new.grey.running ≡ self.old.grey.running }
     {
         fields_stand_apart();
         self.seat.bodies_lie_apart();

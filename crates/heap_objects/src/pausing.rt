@@ -1,6 +1,6 @@
 // What a collection does to the objects: marking begins, goes on in steps, and ends with the pause.
 
-ghost use Rattle.std.specs.Prelude.{◌≡◌, ℕ, List, Option, ◌+◌, ◌<◌, ◌++◌};
+ghost use Rattle.std.specs.Prelude.{◌≡◌, ℕ, List, [], Option, ◌+◌, ◌<◌, ◌++◌};
 ghost use Rattle.std.specs.Prelude.{◌≤◌, Bool, true, false, length, map, Some, All, Contains};
 ghost use Rattle.gc_graph.specs.May.{members};
 ghost use Rattle.gc_graph.specs.Reach.{Reach};
@@ -18,21 +18,31 @@ ghost use Rattle.nodes_in_words.specs.Nodes.{AreOfValid};
 ghost use Rattle.nodes_in_words.specs.Places.{places_of, IsJudged};
 ghost use Rattle.atomic_pause.specs.Pausing.{IsPaused, NamePlaces, hits_in};
 ghost use Rattle.atomic_pause.specs.Pausing.{IsPausable, IsPausedRegion, shared_roots};
+ghost use Rattle.heap_objects.specs.Crews.{IsIdleOrLong};
 ghost use Rattle.heap_objects.specs.Marks.{IsAtRest, HasMarking, NameRoots, TellsRoots};
 ghost use Rattle.heap_objects.specs.Objects.{setup_of_objects, refused_of};
 ghost use Rattle.heap_objects.specs.Refused.{IsToldTruly};
 
+use crate::crew::gather;
 use crate::marking::{clear, refused};
 use crate::objects::Objects;
+use crate::steps::step;
 use atomic_pause::{Parts, PauseResult, pause, visit_slots, visit_told};
 use callback_table::{CallbackTable, Registry};
 use cross_thread_region::{Pass, Region};
-use ephemerons::trace_listed;
 use ghost_values::GhostValue;
 use nodes_in_words::NodeLists;
 use page_space::Space;
 use page_words::MutatorSeat;
 use persistent_slots::Slots;
+use std::thread::Threads;
+
+/// What a pause did, and how many objects the markers that it joined had traced.
+#[derive(Clone, Copy, Debug, PartialEq, Eq, Drop)]
+pub struct Finished {
+    pub pause: PauseResult,
+    pub crew: u32,
+}
 
 impl Objects {
     /// Begins marking: from now on what the roots reach may be kept, and what the strong slots name
@@ -54,6 +64,7 @@ impl Objects {
         ensures told { (p : ℕ) → Contains told.now (p + 1)
             → holds self.new.seat.marked p ≡ true }
         ensures traced { self.new.grey.traced ≡ 0 }
+        ensures home { self.new.grey.running ≡ [] }
         ensures since { self.new.grey.since ≡ refused_of self.old }
         ensures nodes { self.new.nodes ≡ self.old.nodes }
         ensures setup { setup_of_objects self.new ≡ setup_of_objects self.old }
@@ -61,7 +72,7 @@ impl Objects {
         gc_graph::reach_is_least();
         self.seat.bodies_lie_apart();
         self.space.lasts_while_objects_stay();
-        self.grey.since = refused(&self.grey.marking, &self.grey.notes);
+        self.grey.since = refused(&self.grey);
         self.grey.traced = 0;
         let marking = &mut self.grey.marking;
         keep_reached(&self.space, &mut self.seat, &self.nodes);
@@ -71,16 +82,20 @@ impl Objects {
         visit_told(&self.space, &mut self.seat, marking, told);
     }
 
-    /// Traces marked objects, at most so many. Answers how many: fewer only where no object is grey,
-    /// unless a push was refused.
+    /// Traces marked objects, at most so many, by the owner. Answers how many: fewer only where no object
+    /// is grey, unless a push was refused; and beside markers, where nothing is found on any list.
     #[inline(never)]
     pub fn step(&mut self, most: u32) -> u32
         requires marks { (may : List Bool) × HasMarking may self.old }
         ensures marks { (may : List Bool) → HasMarking may self.old → HasMarking may self.new }
         ensures most { result ≤ most }
         ensures counted { self.new.grey.traced ≡ self.old.grey.traced + result }
-        ensures done { result < most → self.new.grey.marking.overflow ≡ false → (p : ℕ)
+        ensures done { result < most → self.old.grey.markers ≡ 0
+            → self.new.grey.marking.overflow ≡ false → (p : ℕ)
             → holds self.new.seat.marked p ≡ true → holds self.new.seat.traced p ≡ true }
+        ensures idle { result < most → 0 < length self.old.grey.running
+            → IsIdleOrLong self.old.grey self.new.grey }
+        ensures running { self.new.grey.running ≡ self.old.grey.running }
         ensures since { self.new.grey.since ≡ self.old.grey.since }
         ensures nodes { self.new.nodes ≡ self.old.nodes }
         ensures setup { setup_of_objects self.new ≡ setup_of_objects self.old }
@@ -89,13 +104,11 @@ impl Objects {
         self.space.lasts_while_objects_stay();
         // The count of objects fits its type, and so does that of traced ones.
         let _objects = self.space.objects();
-        let [notes] = &mut self.grey.notes;
-        let traced = trace_listed(
+        let traced = step(
             &self.space,
             &self.types,
             &mut self.seat,
-            &mut self.grey.marking,
-            notes,
+            &mut self.grey,
             most,
         );
         self.grey.traced += traced;
@@ -105,10 +118,12 @@ impl Objects {
     /// Finishes marking, with the pause: what the strong slots, the region's among them, and, unless it
     /// is precise, the words of the stack reach is kept, what couldn't be kept before is condemned
     /// unless the region's slots or the stack's words reach it, what is weak and names a condemned
-    /// object becomes null, and the prefinalizers of these run.
+    /// object becomes null, and the prefinalizers of these run. Markers that run are stopped and joined
+    /// first.
     #[inline(never)]
-    pub fn finish<'a>(
+    pub fn finish<'a, R: Threads>(
         &mut self,
+        rt: &R,
         strong: &'a Slots,
         weak: &mut Slots,
         region: &mut Region,
@@ -117,7 +132,7 @@ impl Objects {
         precise: bool,
         registry: &mut Registry,
         callbacks: &'a CallbackTable,
-    ) -> PauseResult
+    ) -> Finished
         requires valid { AreOfValid (setup_of_objects self.old) self.old.nodes }
         requires marks { (may : List Bool) × HasMarking may self.old }
         requires few { length self.old.nodes ≤ 1000000 }
@@ -145,20 +160,26 @@ impl Objects {
         ensures region { IsPausedRegion self.new.nodes region.old pass.old region.new pass.new }
         ensures rest { IsAtRest self.new }
         ensures judged { IsJudged self.new.seat }
-        ensures kept { result.kept ≡ live_count self.new.nodes }
-        ensures dead { result.dead ≡ dead_count self.new.nodes }
-        ensures traced { self.old.grey.traced + result.traced ≡ result.kept }
+        ensures kept { result.pause.kept ≡ live_count self.new.nodes }
+        ensures dead { result.pause.dead ≡ dead_count self.new.nodes }
+        ensures traced { self.old.grey.traced + result.crew + result.pause.traced
+            ≡ result.pause.kept }
+        ensures crew { self.old.grey.running ≡ [] → result.crew ≡ 0 }
         ensures kept_traced { self.new.grey.traced ≡ self.old.grey.traced }
-        ensures walked { IsToldTruly self.old.grey.since (refused_of self.new) result.walked }
+        ensures walked { IsToldTruly self.old.grey.since (refused_of self.new)
+            result.pause.walked }
         ensures setup { setup_of_objects self.new ≡ setup_of_objects self.old }
     {
         self.seat.bodies_lie_apart();
+        self.space.lasts_while_objects_stay();
+        // The count of objects fits its type, and so does that of traced ones.
+        let _objects = self.space.objects();
+        let crew = gather(rt, &self.space, &mut self.seat, &mut self.grey);
         let result = pause(
             Parts {
                 seat: &mut self.seat,
                 nodes: &mut self.nodes,
                 marking: &mut self.grey.marking,
-                notes: &mut self.grey.notes,
                 weak,
                 registry,
                 region,
@@ -167,14 +188,18 @@ impl Objects {
                 types: &self.types,
                 strong,
                 callbacks,
-                traced: self.grey.traced,
+                traced: self.grey.traced + crew,
             },
+            self.grey.crew.notes(),
             stack,
             precise,
         );
         clear(&mut self.grey);
         self.seat.bodies_lie_apart();
-        result
+        Finished {
+            pause: result,
+            crew,
+        }
     }
 }
 
