@@ -1,0 +1,103 @@
+-- The crew stays where it is while the mutator goes on.
+use Rattle.std.proofs.Common.{◌≡◌, ◌<◌, true, false, length, sym, ap, ap₂, ◌∙◌, subst, inl, inr, arith}
+use Rattle.std.specs.List.{Contains}
+use Rattle.std.proofs.lemmas.List.Elements.{All-weaker}
+use Rattle.mark_worklist.specs.declared.marking.Marking.{Marking}
+use Rattle.marker_core.specs.Bodies.{holds}
+use Rattle.page_words.specs.Markers.{new_marker}
+use Rattle.page_words.specs.Seat.{SeatView, unlooked}
+use Rattle.stealing_lists.specs.Kept.{list-then}
+use Rattle.heap_objects.specs.Marking.{GreyView}
+use Rattle.heap_objects.specs.Marks.{HasCrew, IsNew, IsOut}
+use Rattle.heap_objects.specs.Crews.{PutsOn}
+use Rattle.heap_objects.proofs.WayChanges.{Leaves}
+
+pub same_marker : (v w : SeatView) → w.heap ≡ v.heap → w.types ≡ v.types → new_marker w ≡ new_marker v
+same_marker v w heap types = ap₂ (λ h t. new_marker (record v { heap = h; types = t })) heap types
+
+-- the shares of a list that has some out
+pub has_shares : (v : SeatView) (g : GreyView) → IsOut v g → length g.marking.list.shares ≡ 1
+has_shares v g out = out.family.as_many ∙ out.fresh.alone
+
+module _ (v w : SeatView) (g : GreyView) (k : Marking) (leaves : Leaves v w) (puts : PutsOn g.marking.list k.list (λ p. holds w.marked p ≡ true)) (unrefused : k.overflow ≡ false → g.marking.overflow ≡ false) where
+  out_on : IsOut v g → IsOut w (record g { marking = k })
+  out_on out =
+      let one = has_shares v g out in
+      let some : 0 < length g.marking.list.shares = omega (arith, one) in
+      record {
+        many = out.many;
+        shared = puts.whole ∙ out.shared;
+        first = out.first;
+        fresh = out.fresh;
+        family = list-then out.first g.marking.list.shares k.list.shares out.family (puts.family out.shared some);
+        began = All-weaker (IsNew v) (IsNew w)
+            (λ m new. record { seat = new.seat ∙ sym (same_marker v w leaves.heap leaves.types); notes = new.notes })
+            g.running out.began;
+        others = out.others;
+        refused = puts.refused out.shared some out.refused;
+        since = out.since;
+        put = λ p there. elim (puts.item out.shared some p there) [ inl before ↦ puts.kept out.shared some p (out.put p before) | inr new ↦ new ];
+        marked = λ p there. elim (puts.put out.shared some p there) [ inl before ↦ leaves.marked p (out.marked p before) | inr is ↦ is ];
+        taken = λ fine none p there. elim (out.taken (unrefused fine) none p (subst (λ l. Contains l p) (puts.taken out.shared some) there)) [
+          | inl traced ↦ inl (ap (λ l. holds l p) leaves.traced ∙ traced)
+          | inr noted ↦ inr noted
+        ];
+        lone = λ note there itself. subst (λ l. Contains l note.holder) (sym (puts.taken out.shared some)) (out.lone note there itself);
+      }
+
+  pub crew_on : HasCrew v g → HasCrew w (record g { marking = k })
+  crew_on h = record {
+    lent = leaves.lent ∙ h.lent;
+    home = λ none.
+        let home = h.home none in
+        record {
+          whole = puts.whole ∙ home.whole;
+          unshared = λ no_markers. puts.alone home.whole ∙ home.unshared no_markers;
+          paired = home.paired;
+          others = home.others;
+          many = home.many;
+        };
+    out = λ some. out_on (h.out some);
+  }
+
+-- ---- whatever was looked at
+
+out_is : (v : SeatView) (g : GreyView) → IsOut (unlooked v) g → IsOut v g
+out_is v g x = record {
+  many = x.many;
+  shared = x.shared;
+  first = x.first;
+  fresh = x.fresh;
+  family = x.family;
+  began = All-weaker (IsNew (unlooked v)) (IsNew v) (λ m new. record { seat = new.seat; notes = new.notes }) g.running x.began;
+  others = x.others;
+  refused = x.refused;
+  since = x.since;
+  put = x.put;
+  marked = x.marked;
+  taken = x.taken;
+  lone = x.lone;
+}
+
+out_told : (v : SeatView) (g : GreyView) → IsOut v g → IsOut (unlooked v) g
+out_told v g x = record {
+  many = x.many;
+  shared = x.shared;
+  first = x.first;
+  fresh = x.fresh;
+  family = x.family;
+  began = All-weaker (IsNew v) (IsNew (unlooked v)) (λ m new. record { seat = new.seat; notes = new.notes }) g.running x.began;
+  others = x.others;
+  refused = x.refused;
+  since = x.since;
+  put = x.put;
+  marked = x.marked;
+  taken = x.taken;
+  lone = x.lone;
+}
+
+pub crew_is : (v : SeatView) (g : GreyView) → HasCrew (unlooked v) g → HasCrew v g
+crew_is v g x = record { lent = x.lent; home = x.home; out = λ some. out_is v g (x.out some) }
+
+pub crew_told : (v : SeatView) (g : GreyView) → HasCrew v g → HasCrew (unlooked v) g
+crew_told v g x = record { lent = x.lent; home = x.home; out = λ some. out_told v g (x.out some) }
