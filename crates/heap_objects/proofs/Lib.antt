@@ -5,6 +5,7 @@ pub mod NodesSwept
 pub mod SweptObjects
 pub mod PausedSizes
 pub mod ToldTruly
+pub mod Refilled
 pub mod Unlooked
 pub mod WayChanges
 pub mod MarksKept
@@ -16,3 +17,14 @@ pub mod MarksRead
 pub mod MarkingBegun
 pub mod ToldRoots
 pub mod MarksStepped
+pub mod CrewStays
+pub mod ToldSums
+pub mod TracedMore
+pub mod Flattened
+pub mod CrewSteps
+pub mod JoinedSeats
+pub mod CrewJoined
+pub mod CrewStarted
+pub mod Relisting
+pub mod AloneSteps
+pub mod AloneJoined

@@ -1,5 +1,5 @@
 -- The marks of each phase, and what is kept of marking, once fields were written, and once an object was made.
-use Rattle.std.proofs.Common.{◌≡◌, ℕ, ◌+◌, ◌<◌, Bool, false, not, List, [], ◌∷◌, ◌++◌, length, map, refl, sym, ap, ◌∙◌, subst, inl, inr, arith, cond}
+use Rattle.std.proofs.Common.{true, ◌≡◌, ℕ, ◌+◌, ◌<◌, Bool, false, not, List, [], ◌∷◌, ◌++◌, length, map, refl, sym, ap, ◌∙◌, subst, inl, inr, arith, cond}
 use Rattle.std.specs.List.{Contains, count_by, sum_by}
 use Rattle.std.proofs.lemmas.Bool.{false_from_ne_true}
 use Rattle.std.proofs.lemmas.List.Sums.{sum_by-cons, sum_by_push}
@@ -19,9 +19,11 @@ use Rattle.ephemerons.specs.Notes.{NotesState}
 use Rattle.ephemerons.specs.UnderWay.{IsUnderWay}
 use Rattle.nodes_in_words.specs.Nodes.{place_of}
 use Rattle.heap_objects.specs.Finalising.{IsSweptTo}
-use Rattle.heap_objects.specs.Marks.{IsAtRest, IsMayOf, HasMarking, HasMarks}
+use Rattle.heap_objects.specs.Marking.{GreyView}
+use Rattle.heap_objects.specs.Marks.{HasCrew, IsAtRest, IsMayOf, HasMarking, HasMarks}
 use Rattle.heap_objects.specs.Objects.{ObjectsView}
-use Rattle.heap_objects.proofs.WayChanges.{way_rewritten}
+use Rattle.heap_objects.proofs.CrewStays.{crew_on}
+use Rattle.heap_objects.proofs.WayChanges.{way_rewritten, rewritten_leaves, puts_same}
 
 -- ---- phase by phase
 
@@ -43,6 +45,7 @@ marks_by Sweeping limit may after o n keeps (rest, swept) = (keeps.rest rest, ke
 -- field words were written, and nothing else
 pub record Writes (v u : SeatView) : Type 0 where
   pub way : (m : MarkingState) (x : NotesState) → IsUnderWay v m x → IsUnderWay u m x
+  pub crew : (g : GreyView) → HasCrew v g → HasCrew u g
   pub may : u.may ≡ v.may
   pub on : u.on ≡ v.on
   pub count : traced_count u ≡ traced_count v
@@ -68,6 +71,7 @@ swept_stored limit v a w swept = record {
 pub writes_one : (v : SeatView) (a w : ℕ) → Writes v (rewritten v a w)
 writes_one v a w = record {
   way = way_rewritten v a w;
+  crew = λ g. crew_on v (rewritten v a w) g g.marking (rewritten_leaves v a w) (puts_same g.marking.list (λ p. holds v.marked p ≡ true)) (λ fine. fine);
   may = refl;
   on = refl;
   count = count_places (holds v.traced) a w v.bodies;
@@ -78,6 +82,7 @@ writes_one v a w = record {
 pub writes_then : (v u w : SeatView) → Writes v u → Writes u w → Writes v w
 writes_then v u w x y = record {
   way = λ m n h. y.way m n (x.way m n h);
+  crew = λ g h. y.crew g (x.crew g h);
   may = y.may ∙ x.may;
   on = y.on ∙ x.on;
   count = y.count ∙ x.count;

@@ -7,6 +7,7 @@ use Rattle.gc_graph.specs.Reach.{Reach, ReachIsLeast}
 use Rattle.gc_graph.specs.State.{Setup, ObjectType, Node, graph_of, IsLive}
 use Rattle.marker_core.specs.declared.states.Why.TheVariants.{Weak}
 use Rattle.marker_core.specs.Laws.{IsLeastOver}
+use Rattle.marker_core.specs.Bodies.{holds}
 use Rattle.page_words.specs.Roles.{kind_lists}
 use Rattle.page_words.specs.Seat.{SeatView, IsView, IsQuiet, loaded}
 use Rattle.nodes_in_words.specs.Nodes.{place_of, IsHeld, AreOfValid}
@@ -15,14 +16,18 @@ use Rattle.heap_objects.specs.Marking.{GreyView}
 use Rattle.heap_objects.specs.Marks.{IsMayOf, HasMarks}
 use Rattle.heap_objects.proofs.MarksKept.{KeepsMarks, marks_by}
 use Rattle.heap_objects.proofs.MarksStored.{view_in}
+use Rattle.heap_objects.proofs.CrewStays.{crew_on, crew_is, crew_told}
 use Rattle.heap_objects.proofs.Unlooked.{quiet_is, quiet_told, swept_is, swept_told, way_is, way_told, may_is, may_told}
-use Rattle.heap_objects.proofs.WayChanges.{Leaves, way_on, lists_same}
+use Rattle.heap_objects.proofs.WayChanges.{Leaves, way_on, lists_same, puts_same}
 use Rattle.heap_objects.proofs.WeakMay.{read_is_may}
 
 read_leaves : (v : SeatView) (a found : ℕ) → Leaves v (loaded v a Weak found)
 read_leaves v a found = record {
   on = refl;
-  alone = λ alone. record { no_hand = alone.no_hand; no_pending = alone.no_pending; none_lent = alone.none_lent };
+  still = λ still. record { no_hand = still.no_hand; no_pending = still.no_pending };
+  lent = refl;
+  heap = refl;
+  types = refl;
   pairs = λ p offset h. h;
   marked = λ p h. h;
   traced = refl;
@@ -57,6 +62,7 @@ module _ (setup : Setup) (nodes : List Node) (v : SeatView) (g : GreyView) (view
     marking = λ h. record {
       under_way = way_told (loaded v a Weak found) g.marking g.notes
           (way_on v (loaded v a Weak found) g.marking g.marking g.notes (read_leaves v a found) (lists_same v (loaded v a Weak found) g.marking refl) (way_is v g.marking g.notes h.under_way));
+      crew = crew_told (loaded v a Weak found) g (crew_on v (loaded v a Weak found) g g.marking (read_leaves v a found) (puts_same g.marking.list (λ p. holds (loaded v a Weak found).marked p ≡ true)) (λ fine. fine) (crew_is v g h.crew));
       may_is = may_told nodes (loaded v a Weak found) (Reach (graph_of nodes) (members may ++ n ∷ [])) (read_may may h.under_way.on (may_is nodes v may h.may_is));
       counted = h.counted;
       pushes_told = h.pushes_told;

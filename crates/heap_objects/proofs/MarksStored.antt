@@ -14,12 +14,14 @@ use Rattle.ephemerons.specs.Marking.{traced_count}
 use Rattle.member_fields.specs.Barrier.{HasBarrier}
 use Rattle.nodes_in_words.specs.Nodes.{place_of, IsHeld}
 use Rattle.heap_objects.specs.Finalising.{IsSweptTo}
-use Rattle.heap_objects.specs.Marking.{GreyView, IsClear}
+use Rattle.heap_objects.specs.Marking.{GreyView, IsClear, pushes_in}
 use Rattle.heap_objects.specs.Marks.{HasMarks}
 use Rattle.heap_objects.specs.Objects.{ObjectsView}
 use Rattle.heap_objects.proofs.MarksKept.{KeepsMarks, Writes, marks_by, may_same}
+use Rattle.heap_objects.proofs.CrewStays.{crew_on, crew_is, crew_told}
+use Rattle.heap_objects.proofs.ToldSums.{told_shifted}
 use Rattle.heap_objects.proofs.Unlooked.{quiet_is, quiet_told, swept_is, swept_told, way_is, way_told, may_is, may_told}
-use Rattle.heap_objects.proofs.WayChanges.{HeapStays, way_stored, barrier_stays, barrier_leaves}
+use Rattle.heap_objects.proofs.WayChanges.{HeapStays, way_stored, barrier_lists, barrier_stays, barrier_leaves}
 
 -- what is told of the objects in these words
 abbrev pub view_in : Shape → List ObjectType → List ActionKind → List Node → SeatView → GreyView → ObjectsView
@@ -52,9 +54,10 @@ module _ (shape : Shape) (types : List ObjectType) (callbacks : List ActionKind)
     swept = λ rest swept. swept_told limit w (subst (IsSweptTo limit) (sym (off rest.off).0) (writes.swept limit (swept_is limit v swept)));
     marking = λ h. record {
       under_way = way_told w k g.notes (way_stored t u w g.marking k g.notes barrier (writes.way g.marking g.notes (way_is v g.marking g.notes h.under_way)));
+      crew = crew_told w (record g { marking = k }) (crew_on u w g k (barrier_leaves t u w g.marking k barrier) (barrier_lists t u w g.marking k barrier).puts (barrier_lists t u w g.marking k barrier).overflow (writes.crew g (crew_is v g h.crew)));
       may_is = may_told new w may (may_same old new v w may stay.long stay.place stay.life (stays.may ∙ writes.may) (may_is old v may h.may_is));
       counted = counted ∙ h.counted;
-      pushes_told = told_then (record { told = false; count = g.since.pushes }) (refusals_of g.marking) (refusals_of k) h.pushes_told barrier.told;
+      pushes_told = told_then (record { told = false; count = g.since.pushes }) (pushes_in g) (pushes_in (record g { marking = k })) h.pushes_told (told_shifted g.earlier (refusals_of g.marking) (refusals_of k) barrier.told);
       notes_told = h.notes_told;
     };
   }

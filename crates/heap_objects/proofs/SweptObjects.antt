@@ -16,19 +16,19 @@ use Rattle.heap_objects.specs.Objects.{AreObjects}
 use Rattle.heap_objects.proofs.NodesSwept.{held_below, finalises_below}
 
 -- what was set up
-abbrev setup_in : SpaceView → List ObjectType → List ActionKind → Setup
-setup_in space types callbacks = record { shape = space.shape; markers = 0; types = types; callbacks = callbacks }
+abbrev setup_in : Grey → SpaceView → List ObjectType → List ActionKind → Setup
+setup_in grey space types callbacks = record { shape = space.shape; markers = grey.crew.markers; types = types; callbacks = callbacks }
 
 -- the objects may be swept from the cursor on where all is swept below it
 pub may_sweep : (space : SpaceView) (v : SeatView) (types : List ObjectType) (callbacks : List ActionKind) (made : ℕ) (grey : Grey) (nodes : List Node) (sweep : SweepView)
     → AreObjects space v types callbacks made nodes grey → v.on ≡ false → sweep.pages ≡ space.shape.pages → IsSweptTo (cursor_at space.shape sweep) v → length nodes ≤ 1000000
-    → AreOfValid (setup_in space types callbacks) nodes → MaySweep sweep space v
+    → AreOfValid (setup_in grey space types callbacks) nodes → MaySweep sweep space v
 may_sweep space v types callbacks made grey nodes sweep is off pages marks few valid = record {
   laid = is.laid;
   pages = pages;
   off = off;
   judged = marks.judged;
-  unnamed = dead_unnamed (setup_in space types callbacks) nodes v valid is.held is.known;
+  unnamed = dead_unnamed (setup_in grey space types callbacks) nodes v valid is.held is.known;
   serials = serials_fit nodes v is.held.bodies few;
 }
 
@@ -46,16 +46,15 @@ module _ (space left : SpaceView) (v w : SeatView) (types : List ObjectType) (ca
     few = is.few;
     known = ap (λ (u : SeatView). u.types) swept.view ∙ is.known;
     laid = may.laid;
-    alone = record {
-      no_hand = ap (λ (u : SeatView). u.hand) swept.view ∙ is.alone.no_hand;
-      no_pending = ap (λ (u : SeatView). u.pending) swept.view ∙ is.alone.no_pending;
-      none_lent = ap (λ (u : SeatView). u.lent) swept.view ∙ is.alone.none_lent;
+    still = record {
+      no_hand = ap (λ (u : SeatView). u.hand) swept.view ∙ is.still.no_hand;
+      no_pending = ap (λ (u : SeatView). u.pending) swept.view ∙ is.still.no_pending;
     };
     held = subst (λ (ns : List Node). IsHeld ns w) (sym nodes_left)
         (held_below nodes v w (cursor_at space.shape sweep) (cursor_at space.shape after) before told is.held marks.clear swept);
     numbers_are = is.numbers_are ∙ sym (length-map nodes (finalise (cursor_at space.shape after))) ∙ sym (ap length nodes_left);
     told = is.told ∙ off ∙ sym may.off;
-    one = is.one;
+    own = is.own;
   }
 
   pub finalised_nodes : FinalisesBelow (cursor_at space.shape after) nodes before told new

@@ -2,10 +2,9 @@
 use Rattle.std.proofs.Common.{ℕ, List, Bool}
 use Rattle.gc_graph.specs.State.{Node}
 use Rattle.mark_worklist.specs.declared.marking.Marking.{Marking}
-use Rattle.page_words.specs.Seat.{SeatView, IsAlone, IsQuiet, unlooked}
-use Rattle.ephemerons.specs.declared.notes.Note.{Note}
+use Rattle.page_words.specs.Seat.{SeatView, IsStill, IsQuiet, unlooked}
 use Rattle.ephemerons.specs.Notes.{NotesState}
-use Rattle.ephemerons.specs.UnderWay.{IsNotedPair, IsUnderWay}
+use Rattle.ephemerons.specs.UnderWay.{IsUnderWay}
 use Rattle.sweeper.specs.Sweeping.{IsClearBelow}
 use Rattle.heap_objects.specs.Finalising.{IsSweptTo}
 use Rattle.heap_objects.specs.Marks.{IsMayOf}
@@ -28,26 +27,21 @@ swept_is limit v x = record { clear = clear_is limit v x.clear; judged = x.judge
 pub swept_told : (limit : ℕ) (v : SeatView) → IsSweptTo limit v → IsSweptTo limit (unlooked v)
 swept_told limit v x = record { clear = clear_told limit v x.clear; judged = x.judged }
 
-alone_is : (v : SeatView) → IsAlone (unlooked v) → IsAlone v
-alone_is v x = record { no_hand = x.no_hand; no_pending = x.no_pending; none_lent = x.none_lent }
+still_is : (v : SeatView) → IsStill (unlooked v) → IsStill v
+still_is v x = record { no_hand = x.no_hand; no_pending = x.no_pending }
 
-alone_told : (v : SeatView) → IsAlone v → IsAlone (unlooked v)
-alone_told v x = record { no_hand = x.no_hand; no_pending = x.no_pending; none_lent = x.none_lent }
-
-noted_is : (v : SeatView) (note : Note) → IsNotedPair (unlooked v) note → IsNotedPair v note
-noted_is v note x = record { pair = x.pair; marked = x.marked }
-
-noted_told : (v : SeatView) (note : Note) → IsNotedPair v note → IsNotedPair (unlooked v) note
-noted_told v note x = record { pair = x.pair; marked = x.marked }
+still_told : (v : SeatView) → IsStill v → IsStill (unlooked v)
+still_told v x = record { no_hand = x.no_hand; no_pending = x.no_pending }
 
 pub way_is : (v : SeatView) (m : Marking) (notes : NotesState) → IsUnderWay (unlooked v) m notes → IsUnderWay v m notes
 way_is v m notes x = record {
   on = x.on;
   told = x.told;
-  alone = alone_is v x.alone;
+  still = still_is v x.still;
   listed = x.listed;
   grey = x.grey;
-  noted = λ note there. noted_is v note (x.noted note there);
+  unshared = x.unshared;
+  noted = x.noted;
   recorded = x.recorded;
 }
 
@@ -55,10 +49,11 @@ pub way_told : (v : SeatView) (m : Marking) (notes : NotesState) → IsUnderWay 
 way_told v m notes x = record {
   on = x.on;
   told = x.told;
-  alone = alone_told v x.alone;
+  still = still_told v x.still;
   listed = x.listed;
   grey = x.grey;
-  noted = λ note there. noted_told v note (x.noted note there);
+  unshared = x.unshared;
+  noted = x.noted;
   recorded = x.recorded;
 }
 

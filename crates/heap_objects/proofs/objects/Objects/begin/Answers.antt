@@ -1,4 +1,5 @@
-use Rattle.std.proofs.Common.{◌≡◌, ℕ, List, Some, true, map, refl, sym, ap, ◌∙◌, subst, rules}
+use Rattle.std.specs.Arc.{arc_value}
+use Rattle.std.proofs.Common.{◌≡◌, ℕ, List, Some, true, false, map, refl, sym, ap, ◌∙◌, subst, rules}
 use Rattle.std.specs.List.{All, Contains}
 use Rattle.std.specs.Option.{ForSome}
 use Rattle.std.proofs.lemmas.List.Elements.{All-contains}
@@ -6,7 +7,7 @@ use Rattle.gc_graph.specs.Members.{in_from_holds, holds_from, Contains-map}
 use Rattle.gc_graph.specs.State.{Setup, Node, IsLive}
 use Rattle.marker_core.specs.Bodies.{IsPlace, holds}
 use Rattle.page_words.specs.PlaceTests.{test_of_place}
-use Rattle.page_words.specs.Seat.{SeatView, IsQuiet}
+use Rattle.page_words.specs.Seat.{SeatView, IsAlone, IsQuiet, IsView}
 use Rattle.nodes_in_words.specs.AmongNodes.{IsAmong}
 use Rattle.nodes_in_words.specs.KeptNodes.{slots_live, named_places, place_slot, root_of_slot}
 use Rattle.nodes_in_words.specs.Nodes.{place_of, bodies_of}
@@ -72,17 +73,21 @@ visit_told-requires-clause-may g c p there =
     ap (λ (x : SeatView). holds x.may p) c.visit_slots.ensures.marks.view
     ∙ c.keep_reached.ensures.may.roots_in p (told_root nodes g.roots c.args.told.now tells p there) place
 
+-- no view is lent while no marking goes on
+at_rest_alone : (v : SeatView) → IsView v → v.on ≡ false → IsAlone v
+at_rest_alone v view off = (let rest = view.at_rest off in record { no_hand = rest.no_hand; no_pending = rest.no_pending; none_lent = rest.none_lent })
+
 pub returns-clause-marks : goal.returns-clause-marks
 returns-clause-marks g c =
     let v : SeatView = c.self.inside.seat in
     let nodes : List Node = c.self.inside.nodes.value in
     let u : SeatView = c.keep_reached.new.seat in
-    let setup : Setup = record { shape = c.self.inside.space.shape; markers = 0; types = c.self.inside.types; callbacks = c.self.inside.kinds.value } in
+    let setup : Setup = record { shape = c.self.inside.space.shape; markers = c.self.inside.grey.crew.markers; types = (arc_value c.self.inside.types); callbacks = c.self.inside.kinds.value } in
     let quiet : IsQuiet v = quiet_is v (rw (← c.self.view_is) at c.requires.1.1.0) in
     let rest = rw (← c.self.view_is) at c.requires.1.0 in
     let roots : All (IsLive nodes) g.roots = rw (← c.self.view_is) at c.requires.1.1.1.0 in
     let live : (n : ℕ) → IsAmong g.roots n → IsLive nodes n = λ n is. All-contains (IsLive nodes) g.roots n roots (in_from_holds g.roots n is) in
     rw (← c.self.view_is, c.refused.ensures)
     (has_begun setup nodes v u c.visit_told.new.seat (grey_of c.self.inside.grey) c.visit_told.new.marking g.roots c.bodies_lie_apart.ensures
-    (rw (← c.self.view_is) at c.requires.0) c.self.invariant.held c.self.invariant.known c.reach_is_least.ensures quiet c.self.invariant.alone rest.clear live
+    (rw (← c.self.view_is) at c.requires.0) c.self.invariant.held c.self.invariant.known c.reach_is_least.ensures quiet (at_rest_alone v c.bodies_lie_apart.ensures quiet.off) rest.clear live
     c.keep_reached.ensures.view c.keep_reached.ensures.may (ListsMarks-then u c.visit_slots.new.seat c.visit_told.new.seat (raised (grey_of c.self.inside.grey).marking) c.visit_slots.new.marking c.visit_told.new.marking c.visit_slots.ensures.marks c.visit_told.ensures.marks) (c.visit_told.ensures.noted ∙ c.visit_slots.ensures.noted) c.self.inside.kinds.value)

@@ -1,3 +1,4 @@
+use Rattle.std.specs.Arc.{arc_value}
 use Rattle.std.proofs.Common.{◌≡◌, ℕ, ◌+◌, ◌*◌, ◌<◌, ◌≤◌, vec_capacity, ap, subst, ◌∙◌, arith}
 use Rattle.std.proofs.Math.Nat.{mul-le-mul_right}
 use Rattle.gc_graph.specs.State.{Shape}
@@ -10,7 +11,7 @@ use Rattle.heap_objects.proofs.objects.Objects.finalise_page.Goals as goal
 
 pub page-swept-requires-clause-sweeping : goal.page-swept-requires-clause-sweeping
 page-swept-requires-clause-sweeping c =
-    may_sweep c.self.inside.space c.self.inside.seat c.self.inside.types c.self.inside.kinds.value c.self.inside.made c.self.inside.grey c.self.inside.nodes.value c.args.sweep.now c.self.invariant
+    may_sweep c.self.inside.space c.self.inside.seat (arc_value c.self.inside.types) c.self.inside.kinds.value c.self.inside.made c.self.inside.grey c.self.inside.nodes.value c.args.sweep.now c.self.invariant
     (rw (← c.self.view_is) at c.requires.rest).off (rw (← c.self.view_is) at c.requires.pages) (swept_is (cursor_at c.self.inside.space.shape c.args.sweep.now) c.self.inside.seat (rw (← c.self.view_is) at c.requires.marks)) (rw (← c.self.view_is) at c.requires.few)
     (rw (← c.self.view_is) at c.requires.valid)
 
@@ -33,13 +34,13 @@ page-swept-requires-clause-room c =
 
 pub invariant_of-self : goal.invariant_of-self
 invariant_of-self c =
-    swept_objects c.self.inside.space c.page-swept.new.space c.self.inside.seat c.page-swept.new.seat c.self.inside.types c.self.inside.kinds.value c.self.inside.made c.self.inside.grey c.self.inside.nodes.value
+    swept_objects c.self.inside.space c.page-swept.new.space c.self.inside.seat c.page-swept.new.seat (arc_value c.self.inside.types) c.self.inside.kinds.value c.self.inside.made c.self.inside.grey c.self.inside.nodes.value
     c.finalised.result.value c.args.sweep.now c.page-swept.new.self c.args.finalised.now.items c.page-swept.new.done.items c.self.invariant (rw (← c.self.view_is) at c.requires.rest).off (swept_is (cursor_at c.self.inside.space.shape c.args.sweep.now) c.self.inside.seat (rw (← c.self.view_is) at c.requires.marks))
     c.page-swept.ensures.swept c.page-swept.ensures.shape c.finalised.ensures c.page-swept.ensures.sweeping
 
 pub returns-clause-nodes : goal.returns-clause-nodes
 returns-clause-nodes c =
-    rw (← c.self.view_is) (finalised_nodes c.self.inside.space c.page-swept.new.space c.self.inside.seat c.page-swept.new.seat c.self.inside.types c.self.inside.kinds.value c.self.inside.made c.self.inside.grey
+    rw (← c.self.view_is) (finalised_nodes c.self.inside.space c.page-swept.new.space c.self.inside.seat c.page-swept.new.seat (arc_value c.self.inside.types) c.self.inside.kinds.value c.self.inside.made c.self.inside.grey
     c.self.inside.nodes.value c.finalised.result.value c.args.sweep.now c.page-swept.new.self c.args.finalised.now.items c.page-swept.new.done.items c.self.invariant
     (rw (← c.self.view_is) at c.requires.rest).off (swept_is (cursor_at c.self.inside.space.shape c.args.sweep.now) c.self.inside.seat (rw (← c.self.view_is) at c.requires.marks)) c.page-swept.ensures.swept c.page-swept.ensures.shape c.finalised.ensures)
 

@@ -1,3 +1,4 @@
+use Rattle.std.specs.Arc.{arc_value}
 use Rattle.std.proofs.Common.{◌≡◌, ◌*◌, ap, ◌∙◌, arith}
 use Rattle.gc_graph.specs.State.{Shape}
 use Rattle.page_words.specs.Seat.{SeatView, OnlyLooked}
@@ -10,19 +11,19 @@ use Rattle.heap_objects.proofs.objects.Objects.finalise_rest.Goals as goal
 
 pub finish-count-requires-clause-sweeping : goal.finish-count-requires-clause-sweeping
 finish-count-requires-clause-sweeping c =
-    may_sweep c.self.inside.space c.self.inside.seat c.self.inside.types c.self.inside.kinds.value c.self.inside.made c.self.inside.grey c.self.inside.nodes.value c.args.sweep.now c.self.invariant
+    may_sweep c.self.inside.space c.self.inside.seat (arc_value c.self.inside.types) c.self.inside.kinds.value c.self.inside.made c.self.inside.grey c.self.inside.nodes.value c.args.sweep.now c.self.invariant
     (rw (← c.self.view_is) at c.requires.rest).off (rw (← c.self.view_is) at c.requires.pages) (swept_is (cursor_at c.self.inside.space.shape c.args.sweep.now) c.self.inside.seat (rw (← c.self.view_is) at c.requires.marks)) (rw (← c.self.view_is) at c.requires.few)
     (rw (← c.self.view_is) at c.requires.valid)
 
 pub invariant_of-self : goal.invariant_of-self
 invariant_of-self c =
-    swept_objects c.self.inside.space c.finish-count.new.space c.self.inside.seat c.finish-count.new.seat c.self.inside.types c.self.inside.kinds.value c.self.inside.made c.self.inside.grey c.self.inside.nodes.value
+    swept_objects c.self.inside.space c.finish-count.new.space c.self.inside.seat c.finish-count.new.seat (arc_value c.self.inside.types) c.self.inside.kinds.value c.self.inside.made c.self.inside.grey c.self.inside.nodes.value
     c.finalised.result.value c.args.sweep.now c.finish-count.new.self c.args.finalised.now.items c.finish-count.new.done.items c.self.invariant (rw (← c.self.view_is) at c.requires.rest).off (swept_is (cursor_at c.self.inside.space.shape c.args.sweep.now) c.self.inside.seat (rw (← c.self.view_is) at c.requires.marks))
     c.finish-count.ensures.swept c.finish-count.ensures.shape c.finalised.ensures c.finish-count.ensures.sweeping
 
 pub returns-clause-nodes : goal.returns-clause-nodes
 returns-clause-nodes c =
-    rw (← c.self.view_is) (finalised_nodes c.self.inside.space c.finish-count.new.space c.self.inside.seat c.finish-count.new.seat c.self.inside.types c.self.inside.kinds.value c.self.inside.made c.self.inside.grey
+    rw (← c.self.view_is) (finalised_nodes c.self.inside.space c.finish-count.new.space c.self.inside.seat c.finish-count.new.seat (arc_value c.self.inside.types) c.self.inside.kinds.value c.self.inside.made c.self.inside.grey
     c.self.inside.nodes.value c.finalised.result.value c.args.sweep.now c.finish-count.new.self c.args.finalised.now.items c.finish-count.new.done.items c.self.invariant
     (rw (← c.self.view_is) at c.requires.rest).off (swept_is (cursor_at c.self.inside.space.shape c.args.sweep.now) c.self.inside.seat (rw (← c.self.view_is) at c.requires.marks)) c.finish-count.ensures.swept c.finish-count.ensures.shape c.finalised.ensures)
 

@@ -1,3 +1,4 @@
+use Rattle.std.specs.Arc.{arc_value}
 use Rattle.std.proofs.lemmas.Bool.{cases_Bool}
 use Rattle.marker_core.specs.Bodies.{holds}
 use Rattle.page_words.specs.Seat.{SeatView, IsView}
@@ -30,7 +31,7 @@ occupy-requires-clause-ty c =
 
 pub occupy-requires-clause-least : goal.occupy-requires-clause-least
 occupy-requires-clause-least c =
-    let setup : Setup = record { shape = c.self.inside.space.shape; markers = 0; types = c.self.inside.types; callbacks = c.self.inside.kinds.value } in
+    let setup : Setup = record { shape = c.self.inside.space.shape; markers = c.self.inside.grey.crew.markers; types = (arc_value c.self.inside.types); callbacks = c.self.inside.kinds.value } in
     let size : c.args.size ≡ size_of_type setup c.args.t c.args.extra = rw (← c.self.view_is) at c.requires.size in
     subst (λ n. least_size c.self.inside.seat c.args.t ≤ n) (sym size)
     (room_for_fields setup c.self.inside.seat c.args.t c.args.extra c.self.invariant.known)
@@ -47,7 +48,7 @@ not_dead v place view off_alive = elim (cases_Bool v.on) [ inl on ↦ ap (λ pla
 pub invariant_of-self : goal.invariant_of-self
 invariant_of-self c =
     let nodes : List Node = c.self.inside.nodes.value in
-    let setup : Setup = record { shape = c.self.inside.space.shape; markers = 0; types = c.self.inside.types; callbacks = c.self.inside.kinds.value } in
+    let setup : Setup = record { shape = c.self.inside.space.shape; markers = c.self.inside.grey.crew.markers; types = (arc_value c.self.inside.types); callbacks = c.self.inside.kinds.value } in
     let size : ℕ = size_of_type setup c.args.t c.args.extra in
     let occupies : Occupies c.self.inside.seat c.occupy.new.seat (new_body c.args.place c.args.t size (length nodes)) =
     subst (λ k. Occupies c.self.inside.seat c.occupy.new.seat (new_body c.args.place c.args.t size k)) c.self.invariant.numbers_are
@@ -55,37 +56,38 @@ invariant_of-self c =
     c.occupy.ensures.occupied) in
     let new : with_made setup nodes c.args.t c.args.extra (Some c.args.place) ≡ c.made.result.value =
     sym (c.made.ensures
-    ∙ ap (λ sh. with_made (record { shape = sh; markers = 0; types = c.self.inside.types; callbacks = c.self.inside.kinds.value }) nodes c.args.t c.args.extra (Some c.args.place)) c.occupy.ensures.shape) in
+    ∙ ap (λ (ts : List ObjectType). with_made (record { shape = c.occupy.new.self.shape; markers = 0; types = ts; callbacks = [] }) nodes c.args.t c.args.extra (Some c.args.place)) c.deref.ensures
+    ∙ ap (λ sh. with_made (record { shape = sh; markers = c.self.inside.grey.crew.markers; types = (arc_value c.self.inside.types); callbacks = c.self.inside.kinds.value }) nodes c.args.t c.args.extra (Some c.args.place)) c.occupy.ensures.shape) in
     record {
       called = c.self.invariant.called;
       few = c.self.invariant.few;
       known = occupies.types ∙ c.self.invariant.known;
       laid = c.occupy.ensures.space;
-      alone = record {
-        no_hand = occupies.hand ∙ c.self.invariant.alone.no_hand;
-        no_pending = occupies.pending ∙ c.self.invariant.alone.no_pending;
-        none_lent = occupies.lent ∙ c.self.invariant.alone.none_lent;
+      still = record {
+        no_hand = occupies.hand ∙ c.self.invariant.still.no_hand;
+        no_pending = occupies.pending ∙ c.self.invariant.still.no_pending;
       };
       held = subst (λ (ns : List Node). IsHeld ns c.occupy.new.seat) new
           (held_made setup nodes c.self.inside.seat c.occupy.new.seat c.args.t c.args.extra c.args.place
           (known_nodes setup nodes (rw (← c.self.view_is) at c.requires.valid)) (not_dead c.self.inside.seat c.args.place c.bodies_lie_apart.ensures (rw (← c.self.view_is) at c.requires.alive)) c.self.invariant.held occupies);
       numbers_are = omega (arith, c.self.invariant.numbers_are, ap length new, length_push nodes (new_node setup c.args.t c.args.extra c.args.place));
       told = c.self.invariant.told ∙ sym occupies.on;
-      one = c.self.invariant.one;
+      own = c.self.invariant.own;
     }
 
 pub returns-clause-marks : goal.returns-clause-marks
 returns-clause-marks c =
     let nodes : List Node = c.self.inside.nodes.value in
-    let setup : Setup = record { shape = c.self.inside.space.shape; markers = 0; types = c.self.inside.types; callbacks = c.self.inside.kinds.value } in
+    let setup : Setup = record { shape = c.self.inside.space.shape; markers = c.self.inside.grey.crew.markers; types = (arc_value c.self.inside.types); callbacks = c.self.inside.kinds.value } in
     let new : nodes ++ new_node setup c.args.t c.args.extra c.args.place ∷ [] ≡ c.made.result.value =
     sym (c.made.ensures
-    ∙ ap (λ sh. with_made (record { shape = sh; markers = 0; types = c.self.inside.types; callbacks = c.self.inside.kinds.value }) nodes c.args.t c.args.extra (Some c.args.place)) c.occupy.ensures.shape) in
+    ∙ ap (λ (ts : List ObjectType). with_made (record { shape = c.occupy.new.self.shape; markers = 0; types = ts; callbacks = [] }) nodes c.args.t c.args.extra (Some c.args.place)) c.deref.ensures
+    ∙ ap (λ sh. with_made (record { shape = sh; markers = c.self.inside.grey.crew.markers; types = (arc_value c.self.inside.types); callbacks = c.self.inside.kinds.value }) nodes c.args.t c.args.extra (Some c.args.place)) c.occupy.ensures.shape) in
     let fresh : IsNewNumber c.self.inside.seat c.self.inside.made =
     subst (IsNewNumber c.self.inside.seat) (sym c.self.invariant.numbers_are) (next_is_new nodes c.self.inside.seat c.self.invariant.held.bodies) in
     rw (← c.self.view_is) (λ phase limit may low.
-    subst (λ (ns : List Node). HasMarks phase limit may (view_in c.self.inside.space.shape c.self.inside.types c.self.inside.kinds.value nodes c.self.inside.seat (grey_of c.self.inside.grey))
-    → HasMarks phase limit (may_with_new phase may) (view_in c.occupy.new.self.shape c.self.inside.types c.self.inside.kinds.value ns c.occupy.new.seat (grey_of c.self.inside.grey))) new
-    (marks_made c.self.inside.space.shape c.occupy.new.self.shape c.self.inside.types c.self.inside.kinds.value nodes (new_node setup c.args.t c.args.extra c.args.place)
+    subst (λ (ns : List Node). HasMarks phase limit may (view_in c.self.inside.space.shape (arc_value c.self.inside.types) c.self.inside.kinds.value nodes c.self.inside.seat (grey_of c.self.inside.grey))
+    → HasMarks phase limit (may_with_new phase may) (view_in c.occupy.new.self.shape (arc_value c.self.inside.types) c.self.inside.kinds.value ns c.occupy.new.seat (grey_of c.self.inside.grey))) new
+    (marks_made c.self.inside.space.shape c.occupy.new.self.shape (arc_value c.self.inside.types) c.self.inside.kinds.value nodes (new_node setup c.args.t c.args.extra c.args.place)
     c.self.inside.seat c.occupy.new.seat (new_body c.args.place c.args.t c.args.size c.self.inside.made) (grey_of c.self.inside.grey)
     c.bodies_lie_apart.ensures c.bodies_lie_apart-2.ensures c.occupy.ensures.occupied refl refl c.self.invariant.held.bodies fresh phase limit may low))

@@ -1,3 +1,4 @@
+use Rattle.std.specs.Arc.{arc_value}
 use Rattle.std.proofs.Common.{List, sym, ap, ◌∙◌}
 use Rattle.gc_graph.specs.State.{Setup, Node}
 use Rattle.heap_objects.specs.declared.field.Part.TheVariants as P
@@ -8,14 +9,14 @@ use Rattle.heap_objects.proofs.objects.Objects.part_at.Goals as goal
 
 pub read_pair-key-requires-clause-pair : goal.read_pair-key-requires-clause-pair
 read_pair-key-requires-clause-pair c =
-    let setup : Setup = record { shape = c.self.inside.space.shape; markers = 0; types = c.self.inside.types; callbacks = c.self.inside.kinds.value } in
+    let setup : Setup = record { shape = c.self.inside.space.shape; markers = c.self.inside.grey.crew.markers; types = (arc_value c.self.inside.types); callbacks = c.self.inside.kinds.value } in
     let is = rw (← c.self.view_is) at c.requires.field in
     has_pair setup c.self.inside.nodes.value c.self.inside.seat is.0 is.1 c.args.field c.fields_stand_apart.ensures (rw (← c.self.view_is) at c.requires.valid)
     c.self.invariant.held.bodies c.self.invariant.known is.2 c.requires.pair
 
 pub named_by-requires-clause-reference : goal.named_by-requires-clause-reference
 named_by-requires-clause-reference c =
-    let setup : Setup = record { shape = c.self.inside.space.shape; markers = 0; types = c.self.inside.types; callbacks = c.self.inside.kinds.value } in
+    let setup : Setup = record { shape = c.self.inside.space.shape; markers = c.self.inside.grey.crew.markers; types = (arc_value c.self.inside.types); callbacks = c.self.inside.kinds.value } in
     let nodes : List Node = c.self.inside.nodes.value in
     let is = rw (← c.self.view_is) at c.requires.field in (
       part_in P.Key nodes is.0 is.1,
@@ -25,7 +26,7 @@ named_by-requires-clause-reference c =
 
 pub named_by-requires-in-Value-clause-reference : goal.named_by-requires-in-Value-clause-reference
 named_by-requires-in-Value-clause-reference c =
-    let setup : Setup = record { shape = c.self.inside.space.shape; markers = 0; types = c.self.inside.types; callbacks = c.self.inside.kinds.value } in
+    let setup : Setup = record { shape = c.self.inside.space.shape; markers = c.self.inside.grey.crew.markers; types = (arc_value c.self.inside.types); callbacks = c.self.inside.kinds.value } in
     let nodes : List Node = c.self.inside.nodes.value in
     let is = rw (← c.self.view_is) at c.requires.field in (
       part_in P.Value nodes is.0 is.1,
@@ -35,7 +36,7 @@ named_by-requires-in-Value-clause-reference c =
 
 pub returns-in-Key-clause-target : goal.returns-in-Key-clause-target
 returns-in-Key-clause-target c = rw (← c.self.view_is) (λ n f is.
-    let setup : Setup = record { shape = c.self.inside.space.shape; markers = 0; types = c.self.inside.types; callbacks = c.self.inside.kinds.value } in
+    let setup : Setup = record { shape = c.self.inside.space.shape; markers = c.self.inside.grey.crew.markers; types = (arc_value c.self.inside.types); callbacks = c.self.inside.kinds.value } in
     let nodes : List Node = c.self.inside.nodes.value in
     c.named_by.ensures.target (part_in P.Key nodes n f)
     (reads_part setup nodes c.self.inside.seat n f c.args.field P.Key c.read_pair-key.result.0 (rw (← c.self.view_is) at c.requires.valid)
@@ -44,7 +45,7 @@ returns-in-Key-clause-target c = rw (← c.self.view_is) (λ n f is.
 
 pub returns-in-Value-clause-target : goal.returns-in-Value-clause-target
 returns-in-Value-clause-target c = rw (← c.self.view_is) (λ n f is.
-    let setup : Setup = record { shape = c.self.inside.space.shape; markers = 0; types = c.self.inside.types; callbacks = c.self.inside.kinds.value } in
+    let setup : Setup = record { shape = c.self.inside.space.shape; markers = c.self.inside.grey.crew.markers; types = (arc_value c.self.inside.types); callbacks = c.self.inside.kinds.value } in
     let nodes : List Node = c.self.inside.nodes.value in
     c.named_by-in-Value.ensures.target (part_in P.Value nodes n f)
     (reads_part setup nodes c.self.inside.seat n f c.args.field P.Value c.read_pair-key.result.1 (rw (← c.self.view_is) at c.requires.valid)

@@ -1,3 +1,4 @@
+use Rattle.std.specs.Arc.{arc_value}
 use Rattle.std.proofs.Common.{◌≡◌, List, [], ◌∷◌, ◌++◌, true, refl, sym, subst}
 use Rattle.gc_graph.specs.May.{may_with_read}
 use Rattle.gc_graph.specs.State.{Setup, Node, graph_of}
@@ -23,13 +24,13 @@ pub returns-clause-marks : goal.returns-clause-marks
 returns-clause-marks c =
     let v : SeatView = c.self.inside.seat in
     let nodes : List Node = c.self.inside.nodes.value in
-    let setup : Setup = record { shape = c.self.inside.space.shape; markers = 0; types = c.self.inside.types; callbacks = c.self.inside.kinds.value } in
+    let setup : Setup = record { shape = c.self.inside.space.shape; markers = c.self.inside.grey.crew.markers; types = (arc_value c.self.inside.types); callbacks = c.self.inside.kinds.value } in
     let w : SeatView = loaded v c.args.place Weak c.load.result in
     let weak : v.on ≡ true → IsLeastOver (kind_lists v.types) v.bodies (v.may ++ c.args.place ∷ []) w.may = λ on.
     subst (λ (u : SeatView). IsLeastOver (kind_lists v.types) v.bodies (v.may ++ c.args.place ∷ []) u.may) c.load.ensures.view (c.load.ensures.weak refl on) in
     rw (← c.self.view_is) (λ phase limit may n is.
-    subst (λ (u : SeatView). HasMarks phase limit may (view_in c.self.inside.space.shape c.self.inside.types c.self.inside.kinds.value nodes v (grey_of c.self.inside.grey))
-    → HasMarks phase limit (may_with_read phase (graph_of nodes) may n) (view_in c.self.inside.space.shape c.self.inside.types c.self.inside.kinds.value nodes u (grey_of c.self.inside.grey)))
+    subst (λ (u : SeatView). HasMarks phase limit may (view_in c.self.inside.space.shape (arc_value c.self.inside.types) c.self.inside.kinds.value nodes v (grey_of c.self.inside.grey))
+    → HasMarks phase limit (may_with_read phase (graph_of nodes) may n) (view_in c.self.inside.space.shape (arc_value c.self.inside.types) c.self.inside.kinds.value nodes u (grey_of c.self.inside.grey)))
     (sym c.load.ensures.view)
     (marks_read setup nodes v (grey_of c.self.inside.grey) c.bodies_lie_apart.ensures (rw (← c.self.view_is) at c.requires.valid) c.self.invariant.held c.self.invariant.known
     c.reach_is_least.ensures c.args.place c.load.result n is.0 is.1 weak c.self.inside.kinds.value phase limit may))

@@ -1,3 +1,4 @@
+use Rattle.std.specs.Arc.{arc_value}
 use Rattle.std.proofs.Common.{◌≡◌, ℕ, ◌+◌, ◌∙◌, List, length, sym, ap, subst, arith}
 use Rattle.gc_graph.specs.declared.kind.Value.{Value}
 use Rattle.gc_graph.specs.State.{Setup, Node, node_at}
@@ -23,7 +24,7 @@ use Rattle.type_table.specs.KindLaws.{kind_itself}
 
 pub write_field-requires-clause-field : goal.write_field-requires-clause-field
 write_field-requires-clause-field c =
-    let setup : Setup = record { shape = c.self.inside.space.shape; markers = 0; types = c.self.inside.types; callbacks = c.self.inside.kinds.value } in
+    let setup : Setup = record { shape = c.self.inside.space.shape; markers = c.self.inside.grey.crew.markers; types = (arc_value c.self.inside.types); callbacks = c.self.inside.kinds.value } in
     let is = rw (← c.self.view_is) at c.requires.field in
     has_word setup c.self.inside.nodes.value c.self.inside.seat is.0 c.args.f c.args.field (is_kind c.args.field.kind) c.fields_stand_apart.ensures
     (rw (← c.self.view_is) at c.requires.valid) c.self.invariant.held.bodies c.self.invariant.known is.2 (kind_itself c.args.field.kind)
@@ -37,7 +38,7 @@ write_field-requires-clause-word c =
 
 pub invariant_of-self : goal.invariant_of-self
 invariant_of-self c =
-    let setup : Setup = record { shape = c.self.inside.space.shape; markers = 0; types = c.self.inside.types; callbacks = c.self.inside.kinds.value } in
+    let setup : Setup = record { shape = c.self.inside.space.shape; markers = c.self.inside.grey.crew.markers; types = (arc_value c.self.inside.types); callbacks = c.self.inside.kinds.value } in
     let nodes : List Node = c.self.inside.nodes.value in
     let x : Value = c.args.content.now.value.value in
     let is = rw (← c.self.view_is) at c.requires.field in
@@ -59,13 +60,13 @@ invariant_of-self c =
       known = stays.types ∙ c.self.invariant.known;
       laid = c.lasts_while_objects_stay.ensures.objects u c.write_field.new.seat stays.heap (ap extents_of_bodies stays.bodies)
           (c.lasts_while_objects_stay.ensures.store v a c.args.content.now.word c.self.invariant.laid);
-      alone = leaves.alone ((rewritten_leaves v a c.args.content.now.word).alone c.self.invariant.alone);
+      still = leaves.still ((rewritten_leaves v a c.args.content.now.word).still c.self.invariant.still);
       held = held_marked c.written.result.value u c.write_field.new.seat stays (subst (λ (ns : List Node). IsHeld ns u) new (subst (IsHeld (with_field nodes is.0 index x)) seat
           (held_stored nodes v a is.0 index x c.bodies_lie_apart.ensures c.self.invariant.held (live_is_there nodes is.0 is.2.live) at
           (word_low setup nodes is.0 c.args.f c.args.field (rw (← c.self.view_is) at c.requires.valid) is.2))));
       numbers_are = c.self.invariant.numbers_are ∙ sym (length-field nodes is.0 index x) ∙ ap length new;
       told = barrier_told target u c.write_field.new.seat c.self.inside.grey.marking c.write_field.new.marking c.write_field.ensures.barrier c.self.invariant.told;
-      one = c.self.invariant.one;
+      own = c.self.invariant.own;
     }
 
 pub returns-clause-marks : goal.returns-clause-marks
@@ -80,6 +81,6 @@ returns-clause-marks c =
     let new : with_field nodes is.0 index x ≡ c.written.result.value = sym (c.written.ensures ∙ ap (λ slot. written_in nodes slot c.args.f x) is.1) in
     let stay : StayThere nodes c.written.result.value = subst (StayThere nodes) new
     (record { long = length-field nodes is.0 index x; place = place-field nodes is.0 index x; life = life-field nodes is.0 index x }) in
-    rw (← c.self.view_is) (marks_stored c.self.inside.space.shape c.self.inside.types c.self.inside.kinds.value nodes c.written.result.value v u c.write_field.new.seat
+    rw (← c.self.view_is) (marks_stored c.self.inside.space.shape (arc_value c.self.inside.types) c.self.inside.kinds.value nodes c.written.result.value v u c.write_field.new.seat
     (kept_word c.args.field.kind c.args.content.now.word) (grey_of c.self.inside.grey) c.write_field.new.marking stay (writes_one v a c.args.content.now.word)
     c.write_field.ensures.off c.write_field.ensures.barrier)

@@ -1,3 +1,4 @@
+use Rattle.std.specs.Arc.{arc_value}
 use Rattle.std.proofs.Common.{◌≡◌, ℕ, ◌+◌, ◌∙◌, List, length, refl, sym, ap, subst, arith}
 use Rattle.gc_graph.specs.declared.kind.Value.{Value}
 use Rattle.gc_graph.specs.State.{Setup, Node, node_at}
@@ -27,7 +28,7 @@ after v holder word key value = rewritten (rewritten v (holder + (word + 1)) val
 
 pub set_pair-requires-clause-pair : goal.set_pair-requires-clause-pair
 set_pair-requires-clause-pair c =
-    let setup : Setup = record { shape = c.self.inside.space.shape; markers = 0; types = c.self.inside.types; callbacks = c.self.inside.kinds.value } in
+    let setup : Setup = record { shape = c.self.inside.space.shape; markers = c.self.inside.grey.crew.markers; types = (arc_value c.self.inside.types); callbacks = c.self.inside.kinds.value } in
     let is = rw (← c.self.view_is) at c.requires.field in
     has_pair setup c.self.inside.nodes.value c.self.inside.seat is.0 c.args.f c.args.field c.fields_stand_apart.ensures (rw (← c.self.view_is) at c.requires.valid)
     c.self.invariant.held.bodies c.self.invariant.known is.2 c.requires.kind
@@ -57,7 +58,7 @@ set_pair-requires-clause-both c =
 
 pub invariant_of-self : goal.invariant_of-self
 invariant_of-self c =
-    let setup : Setup = record { shape = c.self.inside.space.shape; markers = 0; types = c.self.inside.types; callbacks = c.self.inside.kinds.value } in
+    let setup : Setup = record { shape = c.self.inside.space.shape; markers = c.self.inside.grey.crew.markers; types = (arc_value c.self.inside.types); callbacks = c.self.inside.kinds.value } in
     let nodes : List Node = c.self.inside.nodes.value in
     let v : SeatView = c.self.inside.seat in
     let k : Value = c.args.pair.now.key.value.value in
@@ -86,13 +87,13 @@ invariant_of-self c =
       laid = c.lasts_while_objects_stay.ensures.objects u c.set_pair.new.seat stays.heap (ap extents_of_bodies stays.bodies)
           (c.lasts_while_objects_stay.ensures.store half (holder + word) c.args.pair.now.key.word
           (c.lasts_while_objects_stay.ensures.store v (holder + (word + 1)) c.args.pair.now.value.word c.self.invariant.laid));
-      alone = leaves.alone ((rewritten_leaves half (holder + word) c.args.pair.now.key.word).alone ((rewritten_leaves v (holder + (word + 1)) c.args.pair.now.value.word).alone c.self.invariant.alone));
+      still = leaves.still ((rewritten_leaves half (holder + word) c.args.pair.now.key.word).still ((rewritten_leaves v (holder + (word + 1)) c.args.pair.now.value.word).still c.self.invariant.still));
       held = held_marked c.paired.result.value u c.set_pair.new.seat stays (subst (λ (ns : List Node). IsHeld ns u) new (subst (IsHeld (with_pair nodes is.0 index k x)) seat
           (held_paired nodes v (holder + word) (holder + (word + 1)) is.0 index k x c.bodies_lie_apart.ensures c.self.invariant.held (live_is_there nodes is.0 is.2.live) at next
           (pair_low setup nodes is.0 c.args.f (rw (← c.self.view_is) at c.requires.valid) is.2.live (pair_is nodes is.0 c.args.f c.args.field is.2 c.requires.kind)))));
       numbers_are = c.self.invariant.numbers_are ∙ sym (length-pair nodes is.0 index k x) ∙ ap length new;
       told = barrier_told c.args.pair.now.value.word u c.set_pair.new.seat c.self.inside.grey.marking c.set_pair.new.marking barrier c.self.invariant.told;
-      one = c.self.invariant.one;
+      own = c.self.invariant.own;
     }
 
 pub returns-clause-marks : goal.returns-clause-marks
@@ -111,7 +112,7 @@ returns-clause-marks c =
     let new : with_pair nodes is.0 index k x ≡ c.paired.result.value = sym (c.paired.ensures ∙ ap (λ slot. paired_in nodes slot c.args.f k x) is.1) in
     let stay : StayThere nodes c.paired.result.value = subst (StayThere nodes) new
     (record { long = length-pair nodes is.0 index k x; place = λ m. place_set nodes is.0 y m refl; life = λ m. life_set nodes is.0 y m refl }) in
-    rw (← c.self.view_is) (marks_stored c.self.inside.space.shape c.self.inside.types c.self.inside.kinds.value nodes c.paired.result.value v u c.set_pair.new.seat
+    rw (← c.self.view_is) (marks_stored c.self.inside.space.shape (arc_value c.self.inside.types) c.self.inside.kinds.value nodes c.paired.result.value v u c.set_pair.new.seat
     c.args.pair.now.value.word (grey_of c.self.inside.grey) c.set_pair.new.marking stay
     (writes_then v half u (writes_one v (holder + (word + 1)) c.args.pair.now.value.word) (writes_one half (holder + word) c.args.pair.now.key.word))
     (λ off. ((c.set_pair.ensures.off off).0 ∙ c.set_pair.ensures.addresses, (c.set_pair.ensures.off off).1))

@@ -1,0 +1,30 @@
+use Rattle.std.proofs.Common.{◌≡◌, ◌<◌, List, length, not, eqb, true, sym, ap, ◌∙◌, inl, inr, arith}
+use Rattle.std.proofs.lemmas.Bool.{true≢false, cases_lt, eq-eqb}
+use Rattle.nodes_in_words.specs.NodePlaces.{places_differ}
+use Rattle.marker_crew.specs.Crews.{Marker}
+use Rattle.heap_objects.specs.Marking.{grey_of}
+use Rattle.heap_objects.proofs.CrewStays.{crew_is}
+use Rattle.heap_objects.proofs.Unlooked.{way_is}
+use Rattle.heap_objects.proofs.objects.Objects.close.Goals as goal
+
+-- markers run
+some_of : (running : List Marker) → not (eqb (length running) 0) ≡ true → 0 < length running
+some_of running is = elim (cases_lt 0 (length running)) [
+  | inl some ↦ some
+  | inr none ↦ (let zero : length running ≡ 0 = omega (arith, none) in absurd (true≢false (sym is ∙ ap not (eq-eqb (length running) 0 zero))))
+]
+
+pub gather-requires-clause-way : goal.gather-requires-clause-way
+gather-requires-clause-way g c =
+    let running = some_of c.self.inside.grey.crew.running (sym c.is_running.ensures.runs ∙ c.if-is_running.true) in
+    let marks = (rw (← c.self.view_is) at c.requires.marks) running in
+    way_is c.self.inside.seat c.self.inside.grey.marking (grey_of c.self.inside.grey).notes marks.1.under_way
+
+pub gather-requires-clause-crew : goal.gather-requires-clause-crew
+gather-requires-clause-crew g c =
+    let running = some_of c.self.inside.grey.crew.running (sym c.is_running.ensures.runs ∙ c.if-is_running.true) in
+    let marks = (rw (← c.self.view_is) at c.requires.marks) running in
+    crew_is c.self.inside.seat (grey_of c.self.inside.grey) marks.1.crew
+
+pub gather-requires-clause-differ : goal.gather-requires-clause-differ
+gather-requires-clause-differ g c = places_differ c.self.inside.nodes.value c.self.inside.seat c.bodies_lie_apart.ensures c.self.invariant.held.bodies
