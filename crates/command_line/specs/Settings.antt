@@ -24,9 +24,9 @@ abbrev pub page_size_of : List ℕ → Option ℕ
 page_size_of word =
     if is_number word && is_page_size (value_after 0 word) then Some (value_after 0 word) else None
 
--- no marker can be asked for yet
+-- how many markers can be asked for
 abbrev pub most_markers : ℕ
-most_markers = 0
+most_markers = 8
 
 -- the setting that a name and a value make
 abbrev pub setting_named : List ℕ → List ℕ → Option Setting

@@ -12,7 +12,7 @@ use super::settings::first_setting;
 /// |---|---|---|---|
 /// | `--pages N` | `pages` | 1 to 1,024 | 64 |
 /// | `--page-words W` | `page_words` | powers of two from 256 to 16,384 | 16,384 |
-/// | `--markers N` | `markers` | 0 | 0 |
+/// | `--markers N` | `markers` | 0 to 8 | 0 |
 /// | `--summary` | `summary` | | not asked for |
 /// | `--generate SEED` and `--count N` | `generated` | of 64 bits; 1 to 50,000 | nothing generated |
 #[derive(Clone, Copy, Debug, PartialEq, Eq, Drop)]

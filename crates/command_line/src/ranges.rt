@@ -5,7 +5,7 @@ ghost use Rattle.command_line.specs.Settings.{is_page_size, most_markers, number
 
 use line_words::number;
 
-const MOST_MARKERS: u32 = 0;
+const MOST_MARKERS: u32 = 8;
 
 // The number from `least` to `most` that a word is.
 fn number_within(least: u32, most: u32, word: &[u8]) -> Option<u32>

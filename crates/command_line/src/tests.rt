@@ -16,11 +16,12 @@ const TABLE: &str = "\
 --page-words=8192|64 8192 0 no
 --page-words=16384|64 16384 0 no
 --markers 0|64 16384 0 no
---markers=0|64 16384 0 no
+--markers 8|64 16384 8 no
+--markers=1|64 16384 1 no
 --summary|64 16384 0 yes
 --generate 0 --count 1|64 16384 0 no 0 1
 --count=50000 --generate=18446744073709551615|64 16384 0 no 18446744073709551615 50000
---summary --count 7 --page-words=512 --generate 9 --markers=0 --pages 3|3 512 0 yes 9 7
+--summary --count 7 --page-words=512 --generate 9 --markers=4 --pages 3|3 512 4 yes 9 7
 --pages 0|refused
 --pages 1025|refused
 --pages 04|refused
@@ -46,7 +47,7 @@ pages 4|refused
 --page-words 32768|refused
 --page-words 18446744073709551872|refused
 --page-words 256 --page-words 256|refused
---markers 1|refused
+--markers 9|refused
 --markers 00|refused
 --markers=0 --markers=0|refused
 --summary=|refused
