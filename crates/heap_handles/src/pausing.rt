@@ -1,6 +1,6 @@
 // The handles of a heap in a collection: marking begins with what they name, and ends with the pause.
 
-ghost use Rattle.std.specs.Prelude.{◌≡◌, ℕ, List, Bool, Some, true, ◌+◌, ◌++◌};
+ghost use Rattle.std.specs.Prelude.{◌≡◌, ℕ, List, Bool, Some, true, [], ◌+◌, ◌++◌};
 ghost use Rattle.std.specs.Prelude.{◌≤◌, length, map, All, Contains};
 ghost use Rattle.gc_graph.specs.May.{members};
 ghost use Rattle.gc_graph.specs.Reach.{Reach};
@@ -26,10 +26,10 @@ ghost use Rattle.heap_handles.specs.Stack as spec;
 use crate::handles::Handles;
 use crate::region::RegionHandles;
 use crate::slot_lists;
-use atomic_pause::PauseResult;
 use callback_table::{CallbackTable, Registry};
 use gc_graph::Want;
-use heap_objects::Objects;
+use heap_objects::{Finished, Objects};
+use std::thread::Threads;
 
 impl Handles {
     /// Begins marking: from now on what the strong slots, those of the region and the pointers on the
@@ -53,6 +53,7 @@ impl Handles {
         ensures shared { (x p : ℕ) → strong_place region.now x ≡ Some p
             → holds objects.new.seat.marked p ≡ true }
         ensures traced { objects.new.grey.traced ≡ 0 }
+        ensures home { objects.new.grey.running ≡ [] }
         ensures since { objects.new.grey.since ≡ refused_of objects.old }
         ensures nodes { objects.new.nodes ≡ objects.old.nodes }
         ensures setup { setup_of_objects objects.new ≡ setup_of_objects objects.old }
@@ -64,15 +65,17 @@ impl Handles {
     /// Finishes marking, with the pause: what the strong slots, the region's among them, and, unless it
     /// is precise, the words of the stack reach is kept, what couldn't be kept before is condemned
     /// unless the region's slots or the stack's words reach it, what is weak and names a condemned
-    /// object becomes null, and the prefinalizers of these run.
-    pub fn finish(
+    /// object becomes null, and the prefinalizers of these run. Markers that run are stopped and joined
+    /// first.
+    pub fn finish<R: Threads>(
         &mut self,
+        rt: &R,
         region: &mut RegionHandles,
         objects: &mut Objects,
         registry: &mut Registry,
         callbacks: &CallbackTable,
         want: Want,
-    ) -> PauseResult
+    ) -> Finished
         requires valid { AreOfValid (setup_of_objects objects.old) objects.old.nodes }
         requires marks { (may : List Bool) × HasMarking may objects.old }
         requires few { length objects.old.nodes ≤ 1000000 }
@@ -103,15 +106,18 @@ impl Handles {
         ensures region { HasPauseEntry objects.new.nodes region.old region.new }
         ensures rest { IsAtRest objects.new }
         ensures judged { IsJudged objects.new.seat }
-        ensures kept { result.kept ≡ live_count objects.new.nodes }
-        ensures dead { result.dead ≡ dead_count objects.new.nodes }
-        ensures traced { objects.old.grey.traced + result.traced ≡ result.kept }
+        ensures kept { result.pause.kept ≡ live_count objects.new.nodes }
+        ensures dead { result.pause.dead ≡ dead_count objects.new.nodes }
+        ensures traced { objects.old.grey.traced + result.crew + result.pause.traced
+            ≡ result.pause.kept }
+        ensures crew { objects.old.grey.running ≡ [] → result.crew ≡ 0 }
         ensures kept_traced { objects.new.grey.traced ≡ objects.old.grey.traced }
         ensures walked { IsToldTruly objects.old.grey.since (refused_of objects.new)
-            result.walked }
+            result.pause.walked }
         ensures setup { setup_of_objects objects.new ≡ setup_of_objects objects.old }
     {
         let result = objects.finish(
+            rt,
             &self.strong,
             &mut self.weak,
             &mut region.region,
