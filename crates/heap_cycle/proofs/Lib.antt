@@ -8,6 +8,7 @@ pub mod PauseKeeps
 pub mod CollectSteps
 mod PauseSteps
 mod StartSteps
+mod CrewSteps
 mod TakenSteps
 pub mod OutcomeLines
 mod Prefixes

@@ -10,7 +10,6 @@ use Rattle.std.specs.Prelude.{Option, Some, None, option_map}
 use Rattle.cross_thread_region.specs.declared.chronicle.PlacedEntry.{PlacedEntry}
 use Rattle.cross_thread_region.specs.Calls.{entry_of, first_pass, with_own}
 use Rattle.cross_thread_region.specs.Histories.{entries_of, place_at, slots_of, target_of, IsPlacedBy}
-use Rattle.heap_objects.specs.Objects.{told_of}
 use Rattle.heap_cycle.specs.declared.parts.Parts.{Parts}
 use Rattle.heap_cycle.specs.declared.shared.Shared.{Shared}
 use Rattle.heap_cycle.specs.Parts.{setup_of, state_of, IsReady}
@@ -28,7 +27,7 @@ pub record HasMid (s mid : Parts) (h : Shared) : Type 0 where
   pub region : HasRegion mid h.region
   pub nodes : mid.objects.nodes ≡ s.objects.nodes
   pub setup : setup_of mid ≡ setup_of s
-  pub told : told_of mid.objects ≡ told_of s.objects
+  pub grey : mid.objects.grey ≡ s.objects.grey
   pub handles : mid.handles ≡ s.handles
   pub ordinal : mid.cycle.rest.ordinal ≡ s.cycle.rest.ordinal
 
@@ -44,7 +43,7 @@ has_mid s mid h history own to ready shared is count then state others =
       region = region_taken s mid h ready shared es nodes (ap (λ (p : Parts). p.cycle.phase) others);
       nodes = nodes;
       setup = ap setup_of others;
-      told = ap (λ (p : Parts). told_of p.objects) others;
+      grey = ap (λ (p : Parts). p.objects.grey) others;
       handles = ap (λ (p : Parts). p.handles) others;
       ordinal = ap (λ (st : State). st.ordinal) es ∙ took_ordinal s h;
     }

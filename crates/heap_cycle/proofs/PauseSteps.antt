@@ -18,7 +18,6 @@ use Rattle.gc_graph.specs.Outcomes.{owner_entry}
 use Rattle.gc_graph.specs.Sweep.{pages_swept_in}
 use Rattle.gc_graph.specs.CycleSteps.{IsPause, is_marking, is_stack_refused}
 use Rattle.callback_table.specs.Registry.{RegistryView, registration_of, registrations_of}
-use Rattle.atomic_pause.specs.declared.parts.PauseResult.{PauseResult}
 use Rattle.atomic_pause.specs.Pausing.{IsPaused, hits_in}
 use Rattle.sweeper.specs.Sweeping.{SweepView, cursor_at}
 use Rattle.nodes_in_words.specs.Places.{places_of, IsJudged}
@@ -32,6 +31,7 @@ use Rattle.heap_handles.specs.Handles.{HandlesView}
 use Rattle.heap_handles.specs.Region.{HasPauseEntry}
 use Rattle.heap_handles.specs.Stack.{HoldsWords, is_precise}
 use Rattle.heap_handles.specs.StackWords.{words_held}
+use Rattle.heap_objects.specs.declared.pausing.Finished.{Finished}
 use Rattle.heap_objects.specs.Marks.{IsAtRest, HasMarks}
 use Rattle.heap_objects.specs.Objects.{ObjectsView, setup_of_objects, refused_of, StaysAt}
 use Rattle.heap_objects.specs.Refused.{IsToldTruly}
@@ -71,16 +71,16 @@ dying_agree a b region same = ap mask_of (named_agree region) where
       ap (λ d. d ∷ map (λ slot. names_dead_node (is_dead_at a) (weak_target slot)) region) (same n) ∙ ap (λ l. is_dead_at b n ∷ l) (named_agree region)
 
 -- the counts of a pause are those of the nodes that it judged
-pub record TellsPause (s : State) (judged : List Node) (result : PauseResult) : Type 0 where
-  pub kept : result.kept ≡ live_count judged
-  pub dead : result.dead ≡ dead_count judged
-  pub traced : s.traced + result.traced ≡ result.kept
+pub record TellsPause (s : State) (judged : List Node) (result : Finished) : Type 0 where
+  pub kept : result.pause.kept ≡ live_count judged
+  pub dead : result.pause.dead ≡ dead_count judged
+  pub traced : s.traced + result.crew + result.pause.traced ≡ result.pause.kept
 
-pauses : (setup : Setup) (want : Want) (s : State) (kept : List Bool) (result : PauseResult) → IsKept s (hits_for want s) kept
+pauses : (setup : Setup) (markers : ℕ) (want : Want) (s : State) (kept : List Bool) (result : Finished) → (markers ≡ 0 → result.crew ≡ 0) → IsKept s (hits_for want s) kept
     → NamesWeakSlots (dying_slots (condemn kept s.nodes) s.region) s.region → TellsPause s (condemn kept s.nodes) result
-    → IsPause setup 0 want s (entry_of_pause s (condemn kept s.nodes) ∷ [])
+    → IsPause setup markers want s (entry_of_pause s (condemn kept s.nodes) ∷ [])
     (pause_line result ∷ prefinalise_lines (run_order (condemn kept s.nodes) s.registrations)) (paused setup s (condemn kept s.nodes))
-pauses setup want s kept result keeps weak tells =
+pauses setup markers want s kept result crew keeps weak tells =
     let c : List Node = condemn kept s.nodes in
     record {
       before = [];
@@ -88,13 +88,13 @@ pauses setup want s kept result keeps weak tells =
       kept = kept;
       done = record {
         keeps = keeps;
-        crew = 0;
-        traced = result.traced;
-        walked = result.walked;
-        crew_is = λ none. refl;
+        crew = result.crew;
+        traced = result.pause.traced;
+        walked = result.pause.walked;
+        crew_is = crew;
         counted = omega (arith, tells.traced, tells.kept);
-        lines_are = ap (λ k. L.Pause k result.dead 0 result.traced result.walked ∷ prefinalise_lines (run_order c s.registrations)) tells.kept
-            ∙ ap (λ d. L.Pause (live_count c) d 0 result.traced result.walked ∷ prefinalise_lines (run_order c s.registrations)) tells.dead;
+        lines_are = ap (λ k. L.Pause k result.pause.dead result.crew result.pause.traced result.pause.walked ∷ prefinalise_lines (run_order c s.registrations)) tells.kept
+            ∙ ap (λ d. L.Pause (live_count c) d result.crew result.pause.traced result.pause.walked ∷ prefinalise_lines (run_order c s.registrations)) tells.dead;
         after = refl;
       };
       piece_is = refl;
@@ -132,9 +132,10 @@ began_marks new after s phase sweep rest judged =
       },
     )
 
--- from the parts of an open cycle to those after its pause, beside which the region has this history before it and after it
+-- from the parts of an open cycle to those after its pause, at which so many markers run, beside which the region has this history
+-- before it and after it
 pub record Pauses
-    (want : Want) (s : Parts) (history : List PlacedEntry) (new : ObjectsView) (left : HandlesView) (after : CycleView) (longer : List PlacedEntry) (result : PauseResult)
+    (markers : ℕ) (want : Want) (s : Parts) (history : List PlacedEntry) (new : ObjectsView) (left : HandlesView) (after : CycleView) (longer : List PlacedEntry) (result : Finished)
     : Type 0 where
   pub ready : IsReady s
   pub marking : s.cycle.phase ≡ Marking
@@ -153,15 +154,16 @@ pub record Pauses
   pub phase : after.phase ≡ Sweeping
   pub sweep : after.sweep ≡ record s.cycle.sweep { cursor = 0 }
   pub rest : after.rest ≡ paused_from new.nodes s.cycle.rest
-  pub kept_is : result.kept ≡ live_count new.nodes
-  pub dead_is : result.dead ≡ dead_count new.nodes
-  pub traced_is : s.objects.grey.traced + result.traced ≡ result.kept
+  pub kept_is : result.pause.kept ≡ live_count new.nodes
+  pub dead_is : result.pause.dead ≡ dead_count new.nodes
+  pub traced_is : s.objects.grey.traced + result.crew + result.pause.traced ≡ result.pause.kept
+  pub crew_is : markers ≡ 0 → result.crew ≡ 0
   pub kept_traced : new.grey.traced ≡ s.objects.grey.traced
-  pub walked : IsToldTruly s.objects.grey.since (refused_of new) result.walked
+  pub walked : IsToldTruly s.objects.grey.since (refused_of new) result.pause.walked
 
 module _
-    (want : Want) (s : Parts) (history : List PlacedEntry) (new : ObjectsView) (left : HandlesView) (after : CycleView) (longer : List PlacedEntry) (result : PauseResult)
-    (is : Pauses want s history new left after longer result)
+    (markers : ℕ) (want : Want) (s : Parts) (history : List PlacedEntry) (new : ObjectsView) (left : HandlesView) (after : CycleView) (longer : List PlacedEntry) (result : Finished)
+    (is : Pauses markers want s history new left after longer result)
   where
     abbrev kept : List Bool
     kept = is.paused.kept
@@ -223,15 +225,15 @@ module _
         subst (λ m. NamesWeakSlots m s.cycle.rest.region) dying
         (subst (λ region. NamesWeakSlots (dying_slots new.nodes region) region) (sym is.shared.slots) is.entry.weak)
 
-    pub pause_steps : ReachIsLeast → IsPause (setup_of s) 0 want (state_of s) (made history longer) (pause_line result ∷ ran_lines true after.ran) (state_of paused_parts)
+    pub pause_steps : ReachIsLeast → IsPause (setup_of s) markers want (state_of s) (made history longer) (pause_line result ∷ ran_lines true after.ran) (state_of paused_parts)
     pause_steps law =
         let hits : List ℕ = hits_in (is_precise want) old_nodes s.handles.stack.addresses in
-        let at : List Entry → List Line → State → Type 0 = IsPause (setup_of s) 0 want (state_of s) in
+        let at : List Entry → List Line → State → Type 0 = IsPause (setup_of s) markers want (state_of s) in
         subst (λ es. at es (pause_line result ∷ ran_lines true after.ran) (state_of paused_parts)) (sym piece)
         (subst (at (entry_of_pause (state_of s) judged_nodes ∷ []) (pause_line result ∷ ran_lines true after.ran)) (sym parts_paused)
         (subst (λ ls. at (entry_of_pause (state_of s) judged_nodes ∷ []) (pause_line result ∷ ls) (paused (setup_of s) (state_of s) judged_nodes))
         (sym (ap (ran_lines true) is.paused.ran ∙ lines_ran judged_nodes s.cycle.registered))
-        (pauses (setup_of s) want (state_of s) kept result
+        (pauses (setup_of s) markers want (state_of s) kept result is.crew_is
         (pause_keeps want (state_of s) hits kept law (refers_within (setup_of s) old_nodes (valid_nodes s is.ready)) (may_of s is.ready is.marking) is.ready.valid.slots
         (has_roots want (state_of s) s.handles.stack refl is.allowed is.ready.valid.stack is.ready.tied.stack) is.paused.between)
         weak_named tells)))
@@ -255,12 +257,13 @@ module _
         subst (HasRegion paused_parts) (sym is.entry.entry)
         (own_region s paused_parts history (O.Pause mask) 0 is.shared after_region places (λ x n e. cc) (ap is_marking is.phase))
 
-    pub has_paused : ReachIsLeast → HasPaused want s history paused_parts longer result
+    pub has_paused : ReachIsLeast → HasPaused markers want s history paused_parts longer result
     has_paused law =
         let h : HandlesView = s.handles in
         let ordinal : after.rest.ordinal ≡ s.cycle.rest.ordinal = ap (λ (st : State). st.ordinal) is.rest in
         record {
           pause = pause_steps law;
+          phase = is.phase;
           setup = is.setup;
           ordinal = ordinal;
           tied = record {

@@ -34,7 +34,7 @@ use Rattle.nodes_in_words.specs.NodePlaces.{live_is_there}
 use Rattle.nodes_in_words.specs.Nodes.{place_of}
 use Rattle.atomic_pause.specs.MembersOf.{member_among, among_member}
 use Rattle.heap_objects.specs.Marks.{HasMarking, HasMarks, IsMayOf}
-use Rattle.heap_objects.specs.Objects.{ObjectsView, IsLiveAt, told_of}
+use Rattle.heap_objects.specs.Objects.{ObjectsView, IsLiveAt}
 use Rattle.heap_cycle.specs.declared.parts.Parts.{Parts}
 use Rattle.heap_cycle.specs.Changes.{taken_own}
 use Rattle.heap_cycle.specs.KeptRoots.{may_of, marking_of}
@@ -58,7 +58,7 @@ pub record HasOwn (op : Op) (old : Parts) (before : List PlacedEntry) (new : Par
   pub tied : AreTied new
   pub nodes : new.objects.nodes ≡ old.objects.nodes
   pub setup : setup_of new ≡ setup_of old
-  pub told : told_of new.objects ≡ told_of old.objects
+  pub grey : new.objects.grey ≡ old.objects.grey
   pub handles : new.handles ≡ old.handles
   pub ordinal : new.cycle.rest.ordinal ≡ old.cycle.rest.ordinal
 
@@ -83,7 +83,7 @@ module _ (s : Parts) (history : List PlacedEntry) (op : Op) (place : ℕ) (seat 
             ready.tied.sweep marks ready.tied.traced ready.tied.made;
         nodes = refl;
         setup = refl;
-        told = refl;
+        grey = refl;
         handles = refl;
         ordinal = refl;
       }
@@ -148,7 +148,7 @@ same_may s n o law ready nodes root marks =
       live = λ k has_flag. subst (λ (ns : List Node). IsLive ns k) (sym nodes) (may.live k has_flag);
       same = λ k lives. read.may_is.same k lives ∙ kept_already s n k law ready marking kept;
     } in
-    record { under_way = read.under_way; may_is = is; counted = read.counted; pushes_told = read.pushes_told; notes_told = read.notes_told })
+    record { under_way = read.under_way; crew = read.crew; may_is = is; counted = read.counted; pushes_told = read.pushes_told; notes_told = read.notes_told })
     marks
 
 -- a read of a slot keeps what the entry says: what a weak slot names, and no more by a strong one
@@ -279,10 +279,10 @@ legal_after s mid h piece shared state legal =
 
 -- a call of the owner took what was ahead, and then its own entry
 pub taken_after : (op : Op) (place : ℕ) (s mid new : Parts) (h after : Shared) → HasShared s h → state_of mid ≡ took (state_of s) (entries_of (ahead_of h))
-    → mid.objects.nodes ≡ s.objects.nodes → setup_of mid ≡ setup_of s → told_of mid.objects ≡ told_of s.objects → mid.handles ≡ s.handles
+    → mid.objects.nodes ≡ s.objects.nodes → setup_of mid ≡ setup_of s → mid.objects.grey ≡ s.objects.grey → mid.handles ≡ s.handles
     → mid.cycle.rest.ordinal ≡ s.cycle.rest.ordinal → HasOwn op mid h.region new (with_own h.region op place)
     → IsTakenWith (entry_of first_pass h.region op place ∷ []) h after → HasTaken op s h new after
-taken_after op place s mid new h after shared state nodes setup told handles ordinal own is =
+taken_after op place s mid new h after shared state nodes setup grey handles ordinal own is =
     let es : List Entry = entries_of (ahead_of h) in
     let x : PlacedEntry = entry_of first_pass h.region op place in
     let low : h.taken ≤ length h.region = shared.threads.taken in
@@ -305,7 +305,7 @@ taken_after op place s mid new h after shared state nodes setup told handles ord
       tied = own.tied;
       nodes = own.nodes ∙ nodes;
       setup = own.setup ∙ setup;
-      told = own.told ∙ told;
+      grey = own.grey ∙ grey;
       handles = own.handles ∙ handles;
       ordinal = own.ordinal ∙ ordinal;
     }

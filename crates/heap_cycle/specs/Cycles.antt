@@ -1,9 +1,9 @@
 -- A cycle from its start to its pause, over the parts of a heap.
-use Rattle.std.specs.Prelude.{◌≡◌, ◌+◌, ◌<◌, ℕ, true, false, length, List, ◌∷◌, Contains, Some}
+use Rattle.std.specs.Prelude.{◌≡◌, ◌+◌, ◌<◌, ℕ, true, false, length, List, [], ◌∷◌, Contains, Some}
 use Rattle.gc_graph.specs.declared.command.Want.{Want}
 use Rattle.gc_graph.specs.declared.line.Line.{Line}
 use Rattle.gc_graph.specs.declared.line.Line.TheVariants as L
-use Rattle.gc_graph.specs.declared.phase.Phase.TheVariants.{Marking}
+use Rattle.gc_graph.specs.declared.phase.Phase.TheVariants.{Marking, Sweeping}
 use Rattle.gc_graph.specs.State.{State}
 use Rattle.gc_graph.specs.Sweep.{SweepsToEnd}
 use Rattle.gc_graph.specs.May.{marking}
@@ -13,16 +13,17 @@ use Rattle.cross_thread_region.specs.Histories.{strong_place}
 use Rattle.gc_graph.specs.CycleSteps.{IsPause, IsStart}
 use Rattle.mark_worklist.specs.Lists.{last_count}
 use Rattle.marker_core.specs.Bodies.{holds}
-use Rattle.atomic_pause.specs.declared.parts.PauseResult.{PauseResult}
 use Rattle.heap_handles.specs.Region.{HasPauseEntry}
 use Rattle.heap_objects.specs.Refused.{RefusalsTold, IsToldTruly}
+use Rattle.heap_objects.specs.declared.pausing.Finished.{Finished}
+use Rattle.heap_objects.specs.Crews.{IsIdleOrLong}
 use Rattle.heap_objects.specs.Objects.{refused_of}
 use Rattle.heap_cycle.specs.declared.parts.Parts.{Parts}
 use Rattle.heap_cycle.specs.Changes.{taken_own}
 use Rattle.heap_cycle.specs.Region.{HasRegion, made}
 use Rattle.heap_cycle.specs.Shared.{TakesAhead, taken_of}
 use Rattle.heap_cycle.specs.declared.shared.Shared.{Shared}
-use Rattle.heap_cycle.specs.Parts.{setup_of, state_of, AreTied, IsReady}
+use Rattle.heap_cycle.specs.Parts.{setup_of, state_of, AreTied, IsReady, IsManned}
 use Rattle.heap_cycle.specs.Printed.{ran_lines}
 
 -- the state in which marking has just begun
@@ -51,6 +52,7 @@ pub record HasBegun (old : Parts) (before : Shared) (numbers : List ℕ) (new : 
   pub one : length after.region ≡ length before.region + 1
   pub region : HasRegion new after.region
   pub marked : AreSlotsMarked new (taken_of after)
+  pub home : new.objects.grey.running ≡ []
   pub setup : setup_of new ≡ setup_of old
   pub since : new.objects.grey.since ≡ refused_of old.objects
   pub ordinal : new.cycle.rest.ordinal ≡ old.cycle.rest.ordinal
@@ -61,17 +63,37 @@ abbrev pub IsNoneGrey : Parts → Type 0
 IsNoneGrey s =
     s.objects.grey.marking.overflow ≡ false → (p : ℕ) → holds s.objects.seat.marked p ≡ true → holds s.objects.seat.traced p ≡ true
 
--- the line of a pause without a crew
-abbrev pub pause_line : PauseResult → Line
-pause_line result = L.Pause result.kept result.dead 0 result.traced result.walked
+-- at the end of a step nothing was left to be found: without markers nothing is grey, unless a push was refused, and beside
+-- markers nothing was found on any list
+pub record HasFoundAll (old new : Parts) : Type 0 where
+  pub alone : old.objects.grey.markers ≡ 0 → IsNoneGrey new
+  pub beside : 0 < length old.objects.grey.running → IsIdleOrLong old.objects.grey new.objects.grey
 
--- the pause of a cycle is a step of the graph, of which it tells, and leaves the parts tied, with the region
-pub record HasPaused (want : Want) (old : Parts) (before : List PlacedEntry) (new : Parts) (after : List PlacedEntry) (result : PauseResult) : Type 0 where
+-- the heap's markers run, each with a seat and a share of the list, and nothing else has changed
+pub record HasManned (old new : Parts) : Type 0 where
+  pub tied : AreTied new
+  pub manned : length new.objects.grey.running ≡ new.objects.grey.markers
+  pub setup : setup_of new ≡ setup_of old
+  pub nodes : new.objects.nodes ≡ old.objects.nodes
+  pub marked : new.objects.seat.marked ≡ old.objects.seat.marked
+  pub since : new.objects.grey.since ≡ old.objects.grey.since
+  pub others : new ≡ record old { objects = new.objects }
+
+-- the line of a pause
+abbrev pub pause_line : Finished → Line
+pause_line result = L.Pause result.pause.kept result.pause.dead result.crew result.pause.traced result.pause.walked
+
+-- the pause of a cycle at which so many markers run is a step of the graph, of which it tells, and leaves the parts tied, with the
+-- region
+pub record HasPaused (markers : ℕ) (want : Want) (old : Parts) (before : List PlacedEntry) (new : Parts) (after : List PlacedEntry) (result : Finished)
+    : Type 0 where
   pub pause :
-      IsPause (setup_of old) 0 want (state_of old) (made before after) (pause_line result ∷ ran_lines true new.cycle.ran) (state_of new)
+      IsPause (setup_of old) markers want (state_of old) (made before after) (pause_line result ∷ ran_lines true new.cycle.ran)
+      (state_of new)
+  pub phase : new.cycle.phase ≡ Sweeping
   pub setup : setup_of new ≡ setup_of old
   pub ordinal : new.cycle.rest.ordinal ≡ old.cycle.rest.ordinal
   pub tied : AreTied new
   pub entry : HasPauseEntry new.objects.nodes before after
   pub shared : HasRegion new after
-  pub walked : IsToldTruly old.objects.grey.since (refused_of new.objects) result.walked
+  pub walked : IsToldTruly old.objects.grey.since (refused_of new.objects) result.pause.walked

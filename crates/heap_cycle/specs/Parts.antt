@@ -1,6 +1,7 @@
 -- The parts of a heap together: the state that they are, and what is true of them between commands.
 use Rattle.std.specs.Prelude.{◌≡◌, ℕ, ◌+◌, ◌-◌, ◌*◌, ◌≤◌, ◌++◌, length, map, take, All}
 use Rattle.gc_graph.specs.declared.line.Line.{Line}
+use Rattle.gc_graph.specs.declared.phase.Phase.TheVariants.{Marking}
 use Rattle.gc_graph.specs.State.{Setup, State, type_at}
 use Rattle.gc_graph.specs.Valid.{IsValid}
 use Rattle.gc_graph.specs.Outcomes.{answered}
@@ -70,9 +71,14 @@ pub record IsReady (s : Parts) : Type 0 where
   pub tied : AreTied s
   pub most : s.cycle.rest.ordinal ≤ 1000000
 
+-- while marking goes on between two commands, as many markers run as the heap has
+abbrev pub IsManned : Parts → Type 0
+IsManned s = s.cycle.phase ≡ Marking → length s.objects.grey.running ≡ s.objects.grey.markers
+
 -- what a command that answers this line leaves as it was, from the old parts to the new ones, which belong together
 pub record IsFrame (old new : Parts) (line : Line) : Type 0 where
   pub setup : setup_of new ≡ setup_of old
   pub ordinal : new.cycle.rest.ordinal ≡ old.cycle.rest.ordinal + 1
   pub tied : AreTied new
+  pub manned : IsManned old → IsManned new
   pub refused : IsWalkTold old.cycle.phase (told_of old.objects) (told_of new.objects) line

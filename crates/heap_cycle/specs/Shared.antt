@@ -14,7 +14,6 @@ use Rattle.gc_graph.specs.State.{State}
 use Rattle.cross_thread_region.specs.declared.chronicle.PlacedEntry.{PlacedEntry}
 use Rattle.cross_thread_region.specs.Histories.{entries_of}
 use Rattle.thread_queues.specs.Queues.{no_orders, queues_left, threads_in}
-use Rattle.heap_objects.specs.Objects.{told_of}
 use Rattle.heap_cycle.specs.declared.parts.Parts.{Parts}
 use Rattle.heap_cycle.specs.declared.shared.Shared.{Shared}
 use Rattle.heap_cycle.specs.Parts.{setup_of, state_of, AreTied}
@@ -130,6 +129,6 @@ pub record HasTaken (op : Op) (old : Parts) (before : Shared) (new : Parts) (aft
   pub tied : AreTied new
   pub nodes : new.objects.nodes ≡ old.objects.nodes
   pub setup : setup_of new ≡ setup_of old
-  pub told : told_of new.objects ≡ told_of old.objects
+  pub grey : new.objects.grey ≡ old.objects.grey
   pub handles : new.handles ≡ old.handles
   pub ordinal : new.cycle.rest.ordinal ≡ old.cycle.rest.ordinal

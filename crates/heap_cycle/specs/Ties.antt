@@ -1,10 +1,14 @@
 -- What a command leaves tied, and what a ready heap tells of its parts.
-use Rattle.std.proofs.Common.{◌≡◌, ℕ, ◌≤◌, All, List, [], ◌∷◌, length, get_or, set, map, Option, Some, None, option_map, refl, sym, ap, ◌∙◌, subst, inl, inr, arith}
+use Rattle.std.proofs.Common.{◌≡◌, ℕ, ◌≤◌, Bool, true, false, All, List, [], ◌∷◌, length, get_or, set, map, Option, Some, None, option_map, refl, sym, ap, ◌∙◌, subst, inl, inr, arith}
 use Rattle.std.specs.Option.{ForSome}
-use Rattle.std.proofs.lemmas.Bool.{cases_lt}
+use Rattle.std.proofs.lemmas.Bool.{cases_lt, true≢false}
 use Rattle.std.proofs.lemmas.List.{map-set, length-map, get_or-map, get_or_past}
 use Rattle.std.proofs.lemmas.List.Elements.{All-get_or, All-weaker}
+use Rattle.gc_graph.specs.declared.phase.Phase.{Phase}
+use Rattle.gc_graph.specs.declared.phase.Phase.TheVariants.{Idle, Marking, Sweeping}
+use Rattle.gc_graph.specs.CycleSteps.{is_marking}
 use Rattle.gc_graph.specs.State.{Setup, Node, IsLive, slot_targets}
+use Rattle.marker_crew.specs.Crews.{Marker}
 use Rattle.gc_graph.specs.Valid.{AreLive}
 use Rattle.callback_table.specs.declared.registry.Registered.{Registered}
 use Rattle.sweeper.specs.Sweeping.{cursor_at}
@@ -13,8 +17,9 @@ use Rattle.nodes_in_words.specs.Places.{places_of}
 use Rattle.heap_objects.specs.Objects.{IsLiveAt, ObjectsView, setup_of_objects, StaysAt}
 use Rattle.heap_cycle.specs.declared.parts.Parts.{Parts}
 use Rattle.heap_cycle.specs.Views.{CycleView, IsPlaced, IsSweepOf}
-use Rattle.heap_objects.specs.Marks.{HasMarks}
-use Rattle.heap_cycle.specs.Parts.{setup_of, state_of, counted, AreTied, IsReady}
+use Rattle.heap_objects.specs.Marking.{GreyView}
+use Rattle.heap_objects.specs.Marks.{HasMarking, HasMarks}
+use Rattle.heap_cycle.specs.Parts.{setup_of, state_of, counted, AreTied, IsManned, IsReady}
 use Rattle.heap_handles.specs.Handles.{put_in, copied_in, weakened_in, popped_in}
 use Rattle.nodes_in_words.specs.KeptNodes.{slots_live}
 use Rattle.heap_handles.specs.StackWords.{words_held, words_popped}
@@ -168,3 +173,49 @@ tied_fields s new tied same setup marks traced made =
     tied_nodes s new (counted s).cycle tied same setup refl refl (omega arith) (subst (λ (st : Setup). IsSweepOf st.shape s.cycle.phase s.cycle.rest.cursor s.cycle.sweep) (sym setup) tied.sweep)
     (subst (λ (st : Setup). HasMarks s.cycle.phase (cursor_at st.shape s.cycle.sweep) s.cycle.rest.may new) (sym setup) marks) (traced ∙ tied.traced)
     (omega (arith, tied.made, made))
+
+-- one command more was answered
+pub tied_counted : (s : Parts) → AreTied s → AreTied (counted s)
+tied_counted s tied = record {
+  slots = tied.slots;
+  weak = tied.weak;
+  stack = tied.stack;
+  registered = tied.registered;
+  few = omega (arith, tied.few);
+  sweep = tied.sweep;
+  marks = tied.marks;
+  traced = tied.traced;
+  made = omega (arith, tied.made);
+}
+
+-- ---- the markers that run
+
+-- the owner's state tells whether marking goes on
+told_marking : (phase : Phase) (limit : ℕ) (may : List Bool) (o : ObjectsView) → HasMarks phase limit may o → o.grey.marking.on ≡ true → phase ≡ Marking
+told_marking Idle limit may o marks on = absurd (true≢false (sym on ∙ marks.0.clear.off))
+told_marking Marking limit may o marks on = refl
+told_marking Sweeping limit may o marks on = absurd (true≢false (sym on ∙ marks.0.clear.off))
+
+-- as many run as before where what is kept of marking stays
+pub manned_grey : (s t : Parts) → AreTied s → AreTied t → t.objects.grey ≡ s.objects.grey → IsManned s → IsManned t
+manned_grey s t before tied grey manned =
+    λ marking. (let on : t.objects.grey.marking.on ≡ true =
+    (subst (λ ph. HasMarks ph (cursor_at t.objects.shape t.cycle.sweep) t.cycle.rest.may t.objects) marking tied.marks).under_way.told in
+    let was : s.cycle.phase ≡ Marking =
+    told_marking s.cycle.phase (cursor_at s.objects.shape s.cycle.sweep) s.cycle.rest.may s.objects before.marks (sym (ap (λ (g : GreyView). g.marking.on) grey) ∙ on) in
+    ap (λ (g : GreyView). length g.running) grey ∙ manned was ∙ sym (ap (λ (g : GreyView). g.markers) grey))
+
+-- or where marking goes on with those that ran
+pub manned_running : (s t : Parts) → t.cycle.phase ≡ s.cycle.phase → t.objects.grey.running ≡ s.objects.grey.running → setup_of t ≡ setup_of s → IsManned s → IsManned t
+manned_running s t phase running setup manned = λ marking. ap length running ∙ manned (sym phase ∙ marking) ∙ sym (ap (λ (u : Setup). u.markers) setup)
+
+-- while no marking goes on this says nothing
+pub manned_calm : (s : Parts) (phase : Phase) → s.cycle.phase ≡ phase → is_marking phase ≡ false → IsManned s
+manned_calm s phase is calm = λ marking. absurd (true≢false (sym (ap is_marking (sym is ∙ marking)) ∙ calm))
+
+-- where a heap has no markers none runs
+pub none_runs : (may : List Bool) (o : ObjectsView) → HasMarking may o → o.grey.markers ≡ 0 → o.grey.running ≡ []
+none_runs may o marking none = go o.grey.running refl where
+  go : (running : List Marker) → o.grey.running ≡ running → running ≡ []
+  go [] is = refl
+  go (m ∷ running) is = absurd (omega (arith, (marking.crew.out (omega (arith, ap length is))).many, none, ap length is))

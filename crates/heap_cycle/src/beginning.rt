@@ -72,6 +72,7 @@ fn mark_roots(parts: &mut Parts, region: &RegionHandles, told: &[u32])
     ensures shared { HasRegion parts.new region.now }
     ensures marked { AreSlotsMarked parts.new region.now }
     ensures setup { setup_of parts.new ≡ setup_of parts.old }
+    ensures home { parts.new.objects.grey.running ≡ [] }
     ensures since { parts.new.objects.grey.since ≡ refused_of parts.old.objects }
     ensures others { parts.new ≡ record parts.old {
       objects = parts.new.objects;

@@ -9,28 +9,38 @@ ghost use Rattle.gc_graph.specs.CycleSteps.{StepGcStart, StepGcStep, StepGcFinis
 ghost use Rattle.gc_graph.specs.CycleSteps.{is_marking, is_stack_refused};
 ghost use Rattle.page_space.specs.Pages.{word_count};
 ghost use Rattle.callback_table.specs.Table.{kinds_of};
-ghost use Rattle.heap_cycle.specs.Cycles.{HasPaused, AreSlotsMarked, IsNoneGrey};
+ghost use Rattle.heap_cycle.specs.Cycles.{HasPaused, AreSlotsMarked, HasFoundAll, pause_line};
 ghost use Rattle.heap_cycle.specs.Parts.{setup_of, state_of, counted, IsReady, IsFrame};
 ghost use Rattle.heap_cycle.specs.Region.{HasRegion};
 ghost use Rattle.heap_cycle.specs.Shared.{piece_of, taken_of, HasShared, MayTake};
 ghost use Rattle.heap_cycle.specs.Printed.{lines_with, TellsThoseThatRan};
 
 use crate::beginning::begin;
+use crate::crew::man;
 use crate::outcome::Outcome;
 use crate::parts::Parts;
 use crate::shared::Shared;
 use crate::states;
 use crate::taking::take_others;
-use atomic_pause::PauseResult;
 use callback_table::CallbackTable;
 use gc_graph::{Line, Phase, Refusal, Want};
 use heap_handles::RegionHandles;
+use heap_objects::Finished;
+use marker_crew::Gate;
+use std::sync::Arc;
+use std::thread::Threads;
 
-/// The start of a cycle, which is refused while marking goes on: an open sweep is ended, and marking
-/// begins. What the strong slots name, those of the region too, is marked then. Want of memory is
-/// free.
+/// The start of a cycle, which is refused while marking goes on: an open sweep is ended, marking
+/// begins, and the heap's markers are started. What the strong slots name, those of the region too, is
+/// marked then. Want of memory is free.
 #[inline(never)]
-pub fn start(parts: &mut Parts, shared: &mut Shared, outcome: &mut Outcome) -> Line
+pub fn start<R: Threads, G: Gate + Send + Sync + 'static>(
+    rt: &R,
+    parts: &mut Parts,
+    shared: &mut Shared,
+    outcome: &mut Outcome,
+    gate: &Arc<G>,
+) -> Line
     requires ready { IsReady parts.old }
     requires shared { HasShared parts.old shared.old }
     requires numbers { outcome.old.numbers ≡ [] }
@@ -50,20 +60,24 @@ pub fn start(parts: &mut Parts, shared: &mut Shared, outcome: &mut Outcome) -> L
     if open {
         return Line::Refused(Refusal::Phase);
     }
+    let Ok(lists) = parts.objects.crew_lists() else {
+        return Line::Memory;
+    };
     let Ok(()) = begin(parts, shared, &mut outcome.finalised) else {
         return Line::Memory;
     };
+    man(rt, parts, lists, gate);
     Line::Started
 }
 
 /// A step of a cycle, which is refused where none is open: so many objects are traced, or those that
-/// are left to be found.
+/// are left to be found, alone or beside markers.
 #[inline(never)]
 pub fn step(parts: &mut Parts, n: u32) -> Line
     requires ready { IsReady parts.old }
     ensures step { StepGcStep (state_of parts.old) n (result ∷ []) (answered (state_of parts.new)) }
     ensures frame { IsFrame parts.old (counted parts.new) result }
-    ensures done { (t : ℕ) → result ≡ L.Step t true → IsNoneGrey parts.new }
+    ensures done { (t : ℕ) → result ≡ L.Step t true → HasFoundAll parts.old parts.new }
 {
     if !parts.cycle.is_marking() {
         return Line::Refused(Refusal::Phase);
@@ -78,9 +92,10 @@ pub fn step(parts: &mut Parts, n: u32) -> Line
 }
 
 /// The pause of a cycle, which is refused where none is open, and where the pause would be precise
-/// and the stack isn't empty.
+/// and the stack isn't empty. Markers that run are stopped and joined first.
 #[inline(never)]
-pub fn finish(
+pub fn finish<R: Threads>(
+    rt: &R,
     parts: &mut Parts,
     shared: &mut Shared,
     outcome: &mut Outcome,
@@ -111,16 +126,18 @@ pub fn finish(
     parts.objects.shape_is_valid();
     let made = shared.region.len();
     take_others(parts, &mut shared.region, shared.taken, made);
-    let result = pause(parts, &mut shared.region, callbacks, want);
+    let result = pause(rt, parts, &mut shared.region, callbacks, want);
     shared.taken = made + 1;
     outcome.prefinalise(parts.cycle.ran());
     line_of(result)
 }
 
 /// A whole collection, which is refused while marking goes on, and where its pause would be precise
-/// and the stack isn't empty: an open sweep is ended, marking begins, and the pause ends it.
+/// and the stack isn't empty: an open sweep is ended, marking begins, and the pause ends it. No marker
+/// is started.
 #[inline(never)]
-pub fn collect(
+pub fn collect<R: Threads>(
+    rt: &R,
     parts: &mut Parts,
     shared: &mut Shared,
     outcome: &mut Outcome,
@@ -152,29 +169,32 @@ pub fn collect(
     let Ok(()) = begin(parts, shared, &mut outcome.finalised) else {
         return Line::Memory;
     };
-    let result = pause(parts, &mut shared.region, callbacks, want);
+    let result = pause(rt, parts, &mut shared.region, callbacks, want);
     shared.taken = shared.region.len();
     outcome.prefinalise(parts.cycle.ran());
     line_of(result)
 }
 
 /// The pause ends marking: what is not kept is condemned, and a sweep is open.
-fn pause(
+fn pause<R: Threads>(
+    rt: &R,
     parts: &mut Parts,
     region: &mut RegionHandles,
     callbacks: &CallbackTable,
     want: Want,
-) -> PauseResult
+) -> Finished
     requires ready { IsReady parts.old }
     requires shared { HasRegion parts.old region.old }
     requires marking { parts.old.cycle.phase ≡ Marking }
     requires allowed { is_stack_refused want parts.old.handles.stack.words ≡ false }
     requires kinds { kinds_of callbacks.now ≡ parts.old.objects.callbacks }
-    ensures paused { HasPaused want parts.old region.old parts.new region.new result }
+    ensures paused { (markers : ℕ) → (markers ≡ 0 → parts.old.objects.grey.running ≡ [])
+        → HasPaused markers want parts.old region.old parts.new region.new result }
 {
     gc_graph::reach_is_least();
     let cycle = &mut parts.cycle;
     let result = parts.handles.finish(
+        rt,
         region,
         &mut parts.objects,
         &mut cycle.registry,
@@ -188,15 +208,15 @@ fn pause(
     result
 }
 
-/// The line of a pause without a crew.
-fn line_of(paused: PauseResult) -> Line
-    ensures { result ≡ L.Pause paused.kept paused.dead 0 paused.traced paused.walked }
+/// The line of a pause.
+fn line_of(finished: Finished) -> Line
+    ensures { result ≡ pause_line finished }
 {
     Line::Pause {
-        kept: paused.kept,
-        dead: paused.dead,
-        crew: 0,
-        traced: paused.traced,
-        walked: paused.walked,
+        kept: finished.pause.kept,
+        dead: finished.pause.dead,
+        crew: finished.crew,
+        traced: finished.pause.traced,
+        walked: finished.pause.walked,
     }
 }

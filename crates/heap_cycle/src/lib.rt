@@ -6,7 +6,7 @@
 //! The parts: `Parts` (`objects`, `handles` and `cycle`; a further part is one more field, and one
 //! line in `state_of`), `Cycle` (phase, registered prefinalizers, how far the sweep has come),
 //! `collections` (`start`, `step` and `finish` of a cycle, and `collect`, which is the whole of one)
-//! over `beginning`, `reads` (weak reads), `Shared` (the region, which stands beside the parts since
+//! over `beginning` and `crew` (the markers), `reads` (weak reads), `Shared` (the region, which stands beside the parts since
 //! threads share it), `region` (`export`, `import`), `threads` and `taking` (what they did),
 //! `sweeps` and `cycle_sweeps`, `placement`, and `Outcome` (the lines of the last command). For
 //! contracts alone: `states`. Next down are `heap_handles` and `heap_objects`.
@@ -15,15 +15,18 @@
 //! step and pause of a cycle, a whole collection, a weak read, a call on the region and a sweep are
 //! lawful steps of that state, and leave the parts tied to each other and to the region: slots,
 //! stack and registrations hold the places of their nodes, and the marks are those of the phase. A
-//! start marks what the strong slots name, those of the region too, and a step that is done leaves
-//! nothing grey unless a push was refused. A place for a new object is the one that the graph's
-//! placement says. A pause line tells truly whether the heap was walked.
+//! start marks what the strong slots name, those of the region too, and starts the heap's markers,
+//! which run until the pause joins them. A step that is done leaves nothing grey unless a push was
+//! refused, or beside markers has found all lists empty. A place for a new object is the one that the
+//! graph's placement says. A pause line tells truly whether the heap was walked, and how many objects
+//! the markers traced.
 //!
 //! What is only tested or not said: that memory suffices, and how long a command takes.
 #![tactic(auto)]
 
 mod beginning;
 mod collections;
+mod crew;
 mod cycle;
 mod cycle_sweeps;
 mod outcome;
@@ -38,6 +41,7 @@ mod taking;
 mod threads;
 
 pub use collections::{collect, finish, start, step};
+pub use crew::dismiss;
 pub use cycle::{Counts, Cycle};
 pub use outcome::Outcome;
 pub use parts::Parts;

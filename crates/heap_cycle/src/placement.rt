@@ -8,7 +8,7 @@ ghost use Rattle.page_space.specs.Space.{FitsBetween, IsFreePlace};
 ghost use Rattle.sweeper.specs.Sweeping.{cursor_at};
 ghost use Rattle.heap_objects.specs.Finalising.{AreFewTold};
 ghost use Rattle.heap_cycle.specs.Finalising.{IsSearched};
-ghost use Rattle.heap_cycle.specs.Parts.{setup_of, state_of, IsReady, unregistered};
+ghost use Rattle.heap_cycle.specs.Parts.{setup_of, state_of, IsManned, IsReady, unregistered};
 
 use crate::outcome::Outcome;
 use crate::parts::Parts;
@@ -33,6 +33,7 @@ pub fn place_for(parts: &mut Parts, count: u32, size: u32, outcome: &mut Outcome
     ensures registered { parts.new.cycle.registered ≡ parts.old.cycle.registered }
     ensures setup { setup_of parts.new ≡ setup_of parts.old }
     ensures grey { parts.new.objects.grey ≡ parts.old.objects.grey }
+    ensures manned { IsManned parts.old → IsManned parts.new }
     ensures made { length parts.new.objects.nodes ≡ length parts.old.objects.nodes }
     ensures ordinal { parts.new.cycle.rest.ordinal ≡ parts.old.cycle.rest.ordinal }
     ensures outcome { outcome.new ≡ record outcome.old { numbers = outcome.new.numbers } }
@@ -82,6 +83,7 @@ fn sweep_until_found(
     ensures registered { parts.new.cycle.registered ≡ parts.old.cycle.registered }
     ensures setup { setup_of parts.new ≡ setup_of parts.old }
     ensures grey { parts.new.objects.grey ≡ parts.old.objects.grey }
+    ensures manned { IsManned parts.old → IsManned parts.new }
     ensures made { length parts.new.objects.nodes ≡ length parts.old.objects.nodes }
     ensures ordinal { parts.new.cycle.rest.ordinal ≡ parts.old.cycle.rest.ordinal }
     ensures told { AreFewTold parts.new.objects.shape

@@ -4,7 +4,6 @@
 ghost use Rattle.std.specs.Prelude.{◌≡◌, MatchOption, IfSome};
 ghost use Rattle.gc_graph.specs.May.{weakly_read};
 ghost use Rattle.heap_objects.specs.Objects.{IsLiveAt};
-ghost use Rattle.heap_objects.specs.Objects.{told_of};
 ghost use Rattle.heap_cycle.specs.Parts.{setup_of, state_of, AreTied, IsReady};
 
 use crate::parts::Parts;
@@ -19,7 +18,7 @@ pub fn read_weakly(parts: &mut Parts, target: Option<(u32, u32)>)
     ensures tied { AreTied parts.new }
     ensures nodes { parts.new.objects.nodes ≡ parts.old.objects.nodes }
     ensures setup { setup_of parts.new ≡ setup_of parts.old }
-    ensures told { told_of parts.new.objects ≡ told_of parts.old.objects }
+    ensures grey { parts.new.objects.grey ≡ parts.old.objects.grey }
     ensures others { parts.new ≡ record parts.old {
       objects = parts.new.objects;
       cycle = record parts.old.cycle { rest = parts.new.cycle.rest };

@@ -7,7 +7,7 @@ ghost use Rattle.gc_graph.specs.Outcomes.{answered};
 ghost use Rattle.gc_graph.specs.CycleSteps.{StepSweep, StepSweepAll, is_marking};
 ghost use Rattle.gc_graph.specs.Sweep.{SweepsTo, SweepsToEnd};
 ghost use Rattle.page_space.specs.Pages.{word_count};
-ghost use Rattle.heap_cycle.specs.Parts.{setup_of, state_of, counted, IsReady, IsFrame};
+ghost use Rattle.heap_cycle.specs.Parts.{setup_of, state_of, counted, IsReady, IsFrame, IsManned};
 ghost use Rattle.heap_cycle.specs.Printed.{lines_with};
 
 use crate::outcome::Outcome;
@@ -74,6 +74,7 @@ fn sweep_pages(parts: &mut Parts, finalised: &mut Vec<u32>, n: u32)
     ensures ready { IsReady parts.new }
     ensures setup { setup_of parts.new ≡ setup_of parts.old }
     ensures grey { parts.new.objects.grey ≡ parts.old.objects.grey }
+    ensures manned { IsManned parts.old → IsManned parts.new }
     ensures ordinal { parts.new.cycle.rest.ordinal ≡ parts.old.cycle.rest.ordinal }
     ensures many { length finalised.new.items ≤ 2 ^ 24 }
     ensures room { vec_capacity finalised.new ≡ vec_capacity finalised.old }
@@ -99,6 +100,7 @@ pub fn end_sweep(parts: &mut Parts, finalised: &mut Vec<u32>)
     ensures idle { parts.new.cycle.phase ≡ Idle }
     ensures setup { setup_of parts.new ≡ setup_of parts.old }
     ensures grey { parts.new.objects.grey ≡ parts.old.objects.grey }
+    ensures manned { IsManned parts.old → IsManned parts.new }
     ensures ordinal { parts.new.cycle.rest.ordinal ≡ parts.old.cycle.rest.ordinal }
     ensures others { parts.new ≡ record parts.old {
       objects = parts.new.objects;

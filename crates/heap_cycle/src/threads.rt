@@ -8,7 +8,6 @@ ghost use Rattle.gc_graph.specs.Lawful.{IsAllowedOrder, TellsTotals};
 ghost use Rattle.gc_graph.specs.Outcomes.{answered};
 ghost use Rattle.gc_graph.specs.RegionSteps.{queued, threads_with_orders, StepThreadsJoin};
 ghost use Rattle.gc_graph.specs.ThreadLaw.{IsCounted};
-ghost use Rattle.heap_objects.specs.Objects.{told_of};
 ghost use Rattle.heap_cycle.specs.Changes.{going};
 ghost use Rattle.heap_cycle.specs.Parts.{state_of, setup_of, counted, IsReady, AreTied};
 ghost use Rattle.heap_cycle.specs.Shared.{piece_of, taken_of, told_lines, joined_shared, HasShared};
@@ -100,7 +99,7 @@ pub fn join(parts: &mut Parts, shared: &mut Shared) -> u32
     ensures kept { shared.new ≡ joined_shared shared.old }
     ensures tied { AreTied parts.new }
     ensures setup { setup_of parts.new ≡ setup_of parts.old }
-    ensures told { told_of parts.new.objects ≡ told_of parts.old.objects }
+    ensures grey { parts.new.objects.grey ≡ parts.old.objects.grey }
     ensures ordinal { parts.new.cycle.rest.ordinal ≡ parts.old.cycle.rest.ordinal }
 {
     gc_graph::step_keeps_valid();

@@ -145,6 +145,7 @@ returns-clause-begun c =
       one = longer;
       region = c.mark_roots.ensures.shared;
       marked = subst (AreSlotsMarked new) (sym (ap (λ n. take n after.region) all ∙ take-length after.region)) c.mark_roots.ensures.marked;
+      home = c.mark_roots.ensures.home;
       setup = c.mark_roots.ensures.setup ∙ ap setup_of c.take_others.ensures.others ∙ c.end_sweep.ensures.setup ∙ ap setup_of_objects c.reserve.ensures;
       since = c.mark_roots.ensures.since ∙ ap (λ (p : Parts). refused_of p.objects) c.take_others.ensures.others
           ∙ ap (λ (g : GreyView). refused_of (record swept.objects { grey = g })) c.end_sweep.ensures.grey ∙ ap refused_of c.reserve.ensures;

@@ -27,40 +27,43 @@ pub finish-result-requires-clause-shared : goal.finish-result-requires-clause-sh
 finish-result-requires-clause-shared g c = handled c.args.parts.now c.args.region.now c.requires.ready c.requires.shared
 
 pub returns : goal.returns
-returns g c =
-    let s : Parts = c.args.parts.now in
-    let after : CycleView = record {
-      phase = Sweeping;
-      sweep = c.begin.new.self;
-      registered = c.finish-result.new.registry.entries;
-      ran = c.finish-result.new.registry.ran;
-      rest = c.paused.result.value;
-    } in
-    let hits : List ℕ = hits_in (is_precise c.args.want) s.objects.nodes s.handles.stack.addresses in
-    let keeps : List RegionSlot → RegistryView → Type 0 = λ region registry.
-    IsPaused s.objects.callbacks (slot_targets s.handles.slots ++ strong_region_targets region ++ hits) (members s.cycle.rest.may ++ strong_region_targets region ++ hits)
-    s.objects.nodes c.finish-result.new.objects.nodes registry c.finish-result.new.registry in
-    let is : Pauses c.args.want s c.args.region.now c.finish-result.new.objects c.finish-result.new.self after c.finish-result.new.region c.finish-result.result = record {
-      ready = c.requires.ready;
-      marking = c.requires.marking;
-      shared = c.requires.shared;
-      entry = c.finish-result.ensures.region;
-      allowed = c.requires.allowed;
-      setup = c.finish-result.ensures.setup;
-      paused = subst (λ region. keeps region (registry_of s.cycle)) (sym c.requires.shared.slots)
-          (subst (keeps (slots_of c.args.region.now)) (ap registry_of c.cycle.view_is)
-          (c.finish-result.ensures.paused s.cycle.rest.may (marking_of s c.requires.ready c.requires.marking)));
-      sizes = c.finish-result.ensures.sizes;
-      handles_left = c.finish-result.ensures.handles;
-      rests = c.finish-result.ensures.rest;
-      judged_marks = c.finish-result.ensures.judged;
-      phase = refl;
-      sweep = c.begin.ensures ∙ ap (λ (k : CycleView). record k.sweep { cursor = 0 }) c.cycle.view_is;
-      rest = c.paused.ensures ∙ ap (λ (k : CycleView). paused_from c.finish-result.new.objects.nodes k.rest) c.cycle.view_is;
-      kept_is = c.finish-result.ensures.kept;
-      dead_is = c.finish-result.ensures.dead;
-      traced_is = c.finish-result.ensures.traced;
-      kept_traced = c.finish-result.ensures.kept_traced;
-      walked = c.finish-result.ensures.walked;
-    } in
-    record { paused = has_paused c.args.want s c.args.region.now c.finish-result.new.objects c.finish-result.new.self after c.finish-result.new.region c.finish-result.result is c.reach_is_least.ensures }
+returns g c = record {
+  paused = λ markers none.
+      (let s : Parts = c.args.parts.now in
+      let after : CycleView = record {
+        phase = Sweeping;
+        sweep = c.begin.new.self;
+        registered = c.finish-result.new.registry.entries;
+        ran = c.finish-result.new.registry.ran;
+        rest = c.paused.result.value;
+      } in
+      let hits : List ℕ = hits_in (is_precise c.args.want) s.objects.nodes s.handles.stack.addresses in
+      let keeps : List RegionSlot → RegistryView → Type 0 = λ region registry.
+      IsPaused s.objects.callbacks (slot_targets s.handles.slots ++ strong_region_targets region ++ hits) (members s.cycle.rest.may ++ strong_region_targets region ++ hits)
+      s.objects.nodes c.finish-result.new.objects.nodes registry c.finish-result.new.registry in
+      let is : Pauses markers c.args.want s c.args.region.now c.finish-result.new.objects c.finish-result.new.self after c.finish-result.new.region c.finish-result.result = record {
+        ready = c.requires.ready;
+        marking = c.requires.marking;
+        shared = c.requires.shared;
+        entry = c.finish-result.ensures.region;
+        allowed = c.requires.allowed;
+        setup = c.finish-result.ensures.setup;
+        paused = subst (λ region. keeps region (registry_of s.cycle)) (sym c.requires.shared.slots)
+            (subst (keeps (slots_of c.args.region.now)) (ap registry_of c.cycle.view_is)
+            (c.finish-result.ensures.paused s.cycle.rest.may (marking_of s c.requires.ready c.requires.marking)));
+        sizes = c.finish-result.ensures.sizes;
+        handles_left = c.finish-result.ensures.handles;
+        rests = c.finish-result.ensures.rest;
+        judged_marks = c.finish-result.ensures.judged;
+        phase = refl;
+        sweep = c.begin.ensures ∙ ap (λ (k : CycleView). record k.sweep { cursor = 0 }) c.cycle.view_is;
+        rest = c.paused.ensures ∙ ap (λ (k : CycleView). paused_from c.finish-result.new.objects.nodes k.rest) c.cycle.view_is;
+        kept_is = c.finish-result.ensures.kept;
+        dead_is = c.finish-result.ensures.dead;
+        traced_is = c.finish-result.ensures.traced;
+        crew_is = λ few. c.finish-result.ensures.crew (none few);
+        kept_traced = c.finish-result.ensures.kept_traced;
+        walked = c.finish-result.ensures.walked;
+      } in
+      has_paused markers c.args.want s c.args.region.now c.finish-result.new.objects c.finish-result.new.self after c.finish-result.new.region c.finish-result.result is c.reach_is_least.ensures);
+}

@@ -46,6 +46,6 @@ returns-clause-made c =
     (λ slot n same. sym c.requires.node.1 ∙ ap (place_of s.objects.nodes) (let number : c.args.number ≡ n = cc in number) ∙ sym (ap (λ (ns : List Node). place_of ns n) mid.nodes))
     mid.ready.tied.marks) in
     let after : Shared = record h { region = c.take_others.new.region; taken = c.len-made.result + 1 } in
-    taken_after op place s m new h after c.requires.shared mid.state mid.nodes mid.setup mid.told mid.handles mid.ordinal own
+    taken_after op place s m new h after c.requires.shared mid.state mid.nodes mid.setup mid.grey mid.handles mid.ordinal own
     (taken_with_one h after op place c.len-made.result
     (ap (λ region. record h { region = region; taken = c.len-made.result + 1 }) (c.take_others.ensures.region ∙ history)) c.len-made.ensures.count)

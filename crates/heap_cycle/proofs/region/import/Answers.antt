@@ -81,6 +81,6 @@ returns-clause-made c =
     (import_marks m h.region c.args.slot c.in_ok-target.target c.look.new.objects c.reach_is_least.ensures mid.ready mid.region
     (c.in_ok-target.ensures.target ∙ ap (λ l. target_of l c.args.slot) c.len-made.ensures.same) looked))) in
     let after : Shared = record h { region = c.take_others.new.region; taken = c.len-made.result + 1 } in
-    taken_after op 0 s m new h after c.requires.shared mid.state mid.nodes mid.setup mid.told mid.handles mid.ordinal own
+    taken_after op 0 s m new h after c.requires.shared mid.state mid.nodes mid.setup mid.grey mid.handles mid.ordinal own
     (taken_with_one h after op 0 c.len-made.result
     (ap (λ region. record h { region = region; taken = c.len-made.result + 1 }) (c.take_others.ensures.region ∙ history)) c.len-made.ensures.count)

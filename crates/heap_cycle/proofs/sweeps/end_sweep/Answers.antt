@@ -5,7 +5,7 @@ use Rattle.page_space.specs.Pages.{word_count}
 use Rattle.sweeper.specs.Sweeping.{cursor_at}
 use Rattle.heap_cycle.specs.declared.parts.Parts.{Parts}
 use Rattle.heap_cycle.specs.Parts.{state_of}
-use Rattle.heap_cycle.specs.Ties.{valid_nodes}
+use Rattle.heap_cycle.specs.Ties.{manned_grey, valid_nodes}
 use Rattle.heap_cycle.proofs.SweepSteps.{parts_sweep, parts_ready, cursor_open}
 use Rattle.heap_cycle.proofs.sweeps.end_sweep.Goals as goal
 
@@ -31,3 +31,8 @@ returns-in-Sweeping-clause-ready c =
     let sweeping : s.cycle.phase ≡ Sweeping = sym c.phase.ensures ∙ c.in-Sweeping.is in
     parts_ready s c.finish.new.objects c.finish.new.self s.objects.shape.pages c.args.finalised.now.items c.finish.new.finalised.items c.step_keeps_valid.ensures c.shape_is_valid.ensures
     c.requires.ready sweeping (cursor_open s c.requires.ready sweeping) (omega arith) c.finish.ensures.swept
+
+pub returns-in-Sweeping-clause-manned : goal.returns-in-Sweeping-clause-manned
+returns-in-Sweeping-clause-manned c =
+    let s : Parts = c.args.parts.now in
+    manned_grey s (record s { objects = c.finish.new.objects; cycle = c.finish.new.self }) c.requires.ready.tied (returns-in-Sweeping-clause-ready c).tied c.finish.ensures.swept.grey

@@ -10,7 +10,7 @@ use Rattle.heap_cycle.specs.declared.parts.Parts.{Parts}
 use Rattle.heap_cycle.specs.Finalising.{SweepsOn}
 use Rattle.heap_objects.specs.Finalising.{AreFewTold}
 use Rattle.heap_cycle.specs.Parts.{state_of}
-use Rattle.heap_cycle.specs.Ties.{valid_nodes}
+use Rattle.heap_cycle.specs.Ties.{manned_grey, valid_nodes}
 use Rattle.heap_cycle.proofs.SweepSteps.{parts_sweep, parts_ready, still_open, sweep_joined, nothing_swept}
 use Rattle.heap_cycle.proofs.sweeps.sweep_pages.Goals as goal
 
@@ -65,3 +65,7 @@ loop-page-preserved c =
       ordinal = ap (λ (st : State). st.ordinal) is.rest ∙ c.loop-page.invariant.ordinal;
       room = c.sweep_page.ensures.room ∙ c.loop-page.invariant.room;
     }
+
+pub returns-clause-manned : goal.returns-clause-manned
+returns-clause-manned c =
+    manned_grey c.args.parts.now c.loop-page.parts c.requires.ready.tied c.loop-page.invariant.ready.tied c.loop-page.invariant.grey

@@ -1,0 +1,75 @@
+-- The markers of a heap are started: nothing changes for the graph.
+use Rattle.std.proofs.Common.{◌≡◌, ℕ, List, [], length, Option, Some, refl, sym, ap, ◌∙◌, subst, arith, true}
+use Rattle.std.specs.List.{Contains}
+use Rattle.gc_graph.specs.declared.phase.Phase.TheVariants.{Marking}
+use Rattle.gc_graph.specs.CycleSteps.{is_marking}
+use Rattle.gc_graph.specs.State.{Setup, Node}
+use Rattle.cross_thread_region.specs.declared.chronicle.PlacedEntry.{PlacedEntry}
+use Rattle.marker_core.specs.Bodies.{holds}
+use Rattle.sweeper.specs.Sweeping.{cursor_at}
+use Rattle.nodes_in_words.specs.Nodes.{place_of}
+use Rattle.heap_objects.specs.Marks.{HasMarking, HasMarks}
+use Rattle.heap_objects.specs.Objects.{ObjectsView, setup_of_objects, StaysAt}
+use Rattle.heap_cycle.specs.declared.parts.Parts.{Parts}
+use Rattle.heap_cycle.specs.Cycles.{AreSlotsMarked, HasManned}
+use Rattle.heap_cycle.specs.Parts.{setup_of, state_of, AreTied}
+use Rattle.heap_cycle.specs.Region.{HasRegion}
+use Rattle.heap_cycle.specs.Ties.{tied_nodes}
+use Rattle.heap_cycle.specs.Views.{IsSweepOf}
+
+-- from the parts of a cycle that has begun to those with the objects once the markers were started
+pub record Mans (s : Parts) (new : ObjectsView) : Type 0 where
+  pub tied : AreTied s
+  pub marking : s.cycle.phase ≡ Marking
+  pub marks : HasMarking s.cycle.rest.may s.objects → HasMarking s.cycle.rest.may new
+  pub running : length new.grey.running ≡ s.objects.grey.markers
+  pub marked : new.seat.marked ≡ s.objects.seat.marked
+  pub traced : new.grey.traced ≡ s.objects.grey.traced
+  pub since : new.grey.since ≡ s.objects.grey.since
+  pub nodes : new.nodes ≡ s.objects.nodes
+  pub setup : setup_of_objects new ≡ setup_of s
+
+pub has_manned : (s : Parts) (new : ObjectsView) → Mans s new → HasManned s (record s { objects = new })
+has_manned s new is =
+    let before : HasMarking s.cycle.rest.may s.objects =
+    subst (λ ph. HasMarks ph (cursor_at s.objects.shape s.cycle.sweep) s.cycle.rest.may s.objects) is.marking is.tied.marks in
+    let marks : HasMarks s.cycle.phase (cursor_at new.shape s.cycle.sweep) s.cycle.rest.may new =
+    subst (λ ph. HasMarks ph (cursor_at new.shape s.cycle.sweep) s.cycle.rest.may new) (sym is.marking) (is.marks before) in
+    record {
+      tied = tied_nodes s new s.cycle is.tied (λ n. subst (λ (ns : List Node). StaysAt s.objects.nodes ns n) (sym is.nodes) (refl, refl)) is.setup refl refl (omega arith)
+          (subst (λ (u : Setup). IsSweepOf u.shape s.cycle.phase s.cycle.rest.cursor s.cycle.sweep) (sym is.setup) is.tied.sweep) marks (is.traced ∙ is.tied.traced)
+          (omega (arith, is.tied.made, ap length is.nodes));
+      manned = is.running ∙ sym (ap (λ (u : Setup). u.markers) is.setup);
+      setup = is.setup;
+      nodes = is.nodes;
+      marked = is.marked;
+      since = is.since;
+      others = refl;
+    }
+
+-- a heap without markers has none to start
+pub none_manned : (s : Parts) → AreTied s → s.objects.grey.running ≡ [] → s.objects.grey.markers ≡ 0 → HasManned s s
+none_manned s tied home none =
+    record { tied = tied; manned = ap length home ∙ sym none; setup = refl; nodes = refl; marked = refl; since = refl; others = refl }
+
+module _ (s t : Parts) (is : HasManned s t) where
+  -- the state is the same
+  pub manned_state : state_of t ≡ state_of s
+  manned_state = ap state_of is.others ∙ ap (λ (ns : List Node). record (state_of s) { nodes = ns }) is.nodes
+
+  -- the region stays the heap's
+  pub manned_region : (history : List PlacedEntry) → HasRegion s history → HasRegion t history
+  manned_region history region = record {
+    slots = ap (λ (p : Parts). p.cycle.rest.region) is.others ∙ region.slots;
+    placed = λ x n named. region.placed x n named ∙ sym (ap (λ (ns : List Node). place_of ns n) is.nodes);
+    started = region.started ∙ sym (ap (λ (p : Parts). is_marking p.cycle.phase) is.others);
+  }
+
+  -- and what the slots name is marked
+  pub manned_slots : (history : List PlacedEntry) → AreSlotsMarked s history → AreSlotsMarked t history
+  manned_slots history marked = record {
+    slots = λ p there.
+        subst (λ ms. holds ms p ≡ true) (sym is.marked)
+        (marked.slots p (subst (λ (places : List (Option ℕ)). Contains places (Some p)) (ap (λ (k : Parts). k.handles.places) is.others) there));
+    shared = λ x p named. subst (λ ms. holds ms p ≡ true) (sym is.marked) (marked.shared x p named);
+  }
