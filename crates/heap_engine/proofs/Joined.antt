@@ -7,26 +7,13 @@ use Rattle.sweeper.specs.Sweeping.{cursor_at}
 use Rattle.heap_objects.specs.Marks.{HasMarks}
 use Rattle.heap_objects.specs.Objects.{HaveCallbacks, told_of}
 use Rattle.heap_cycle.specs.declared.parts.Parts.{Parts}
-use Rattle.heap_cycle.specs.Parts.{counted, setup_of, state_of, AreTied, IsFrame, IsReady}
+use Rattle.heap_cycle.specs.Parts.{counted, setup_of, state_of, AreTied, IsFrame, IsManned, IsReady}
+use Rattle.heap_cycle.specs.Ties.{tied_counted}
 use Rattle.heap_cycle.specs.Views.{IsSweepOf}
 use Rattle.heap_cycle.specs.Walks.{GoesOnTelling, IsWalkTold}
 use Rattle.heap_engine.proofs.Tellings.{tells_same}
 
--- they stay tied
-pub tied_counted : (s : Parts) → AreTied s → AreTied (counted s)
-tied_counted s tied = record {
-  slots = tied.slots;
-  weak = tied.weak;
-  stack = tied.stack;
-  registered = tied.registered;
-  few = omega (arith, tied.few);
-  sweep = tied.sweep;
-  marks = tied.marks;
-  traced = tied.traced;
-  made = omega (arith, tied.made);
-}
-
--- and ready
+-- they stay ready
 pub ready_counted : (s new : Parts) → IsReady s → setup_of new ≡ setup_of s → new.cycle.rest.ordinal ≡ s.cycle.rest.ordinal → s.cycle.rest.ordinal < 1000000
     → AreTied new → IsValid (setup_of (counted new)) (state_of (counted new)) → IsReady (counted new)
 ready_counted s new ready setup ordinal few tied valid = record {
@@ -64,6 +51,7 @@ frame_rest s new line tied others same plain = record {
   setup = ap setup_of others;
   ordinal = ap (λ n. n + 1) same.ordinal;
   tied = tied_counted new (subst AreTied (sym others) (tied_rest s new.cycle.rest tied same));
+  manned = subst IsManned (sym others);
   refused = plain (tells_same s.cycle.phase (told_of s.objects) (told_of new.objects) (ap (λ (p : Parts). told_of p.objects) others));
 }
 

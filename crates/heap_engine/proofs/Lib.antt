@@ -16,3 +16,4 @@ pub mod ThreadsKept
 pub mod ThreadsTold
 pub mod Joined
 pub mod CommandKinds
+pub mod Closing

@@ -1,5 +1,5 @@
 -- What the lines of a cycle's start and of its last step tell of marks.
-use Rattle.std.proofs.Common.{◌≡◌, ℕ, Bool, true, false, List, [], ◌∷◌, ◌++◌, Option, Some, option_map, refl, sym, ap, ◌∙◌, subst, inl, inr, arith}
+use Rattle.std.proofs.Common.{◌≡◌, ℕ, ◌<◌, length, Bool, true, false, List, [], ◌∷◌, ◌++◌, Option, Some, option_map, refl, sym, ap, ◌∙◌, subst, inl, inr, arith}
 use Rattle.std.specs.Prelude.{MatchBool}
 use Rattle.std.specs.List.{Contains}
 use Rattle.std.proofs.lemmas.Bool.{cases_Bool, true≢false}
@@ -27,7 +27,8 @@ use Rattle.heap_objects.specs.Marks.{HasMarks, HasMarking}
 use Rattle.heap_objects.specs.Objects.{told_of}
 use Rattle.heap_cycle.specs.declared.parts.Parts.{Parts}
 use Rattle.heap_cycle.specs.Cycles.{AreSlotsMarked, IsNoneGrey, HasNoRefusedPush}
-use Rattle.heap_cycle.specs.Parts.{setup_of, state_of, AreTied}
+use Rattle.heap_cycle.specs.KeptRoots.{marking_of}
+use Rattle.heap_cycle.specs.Parts.{setup_of, state_of, AreTied, IsManned, IsReady}
 use Rattle.heap_cycle.specs.Printed.{Printed, ran_lines, lines_with}
 use Rattle.heap_cycle.specs.Region.{HasRegion}
 
@@ -99,7 +100,11 @@ open_at Idle Refused Traced is never = absurd (never is)
 open_at Marking Refused Traced is never = (refl, is)
 open_at Sweeping Refused Traced is never = absurd (never is)
 
--- after it marking goes on
+-- before it marking went on
+pub was_marking : (old : State) (n t : ℕ) (done : Bool) (new : State) → StepGcStep old n (L.Step t done ∷ []) new → old.phase ≡ Marking
+was_marking old n t done new is = (open_at old.phase _ _ is (λ why. (let never : L.Step t done ∷ [] ≡ L.Refused _ ∷ [] = why.0 in cc))).0
+
+-- and after it it goes on
 pub still_marking : (old : State) (n t : ℕ) (done : Bool) (new : State) → StepGcStep old n (L.Step t done ∷ []) new → new.phase ≡ Marking
 still_marking old n t done new is =
     let goes = open_at old.phase _ _ is (λ why. (let never : L.Step t done ∷ [] ≡ L.Refused _ ∷ [] = why.0 in cc)) in
@@ -123,3 +128,13 @@ pub all_traced : (s : Parts) → AreTied s → s.cycle.phase ≡ Marking → IsN
 all_traced s tied on grey none n marked =
     let is = kept_parts (holds s.objects.seat.marked) s.objects.nodes n marked in
     kept_from (holds s.objects.seat.traced) s.objects.nodes n is.0 (grey (unrefused s tied on none) (place_of s.objects.nodes n) is.1)
+
+-- ---- the markers that run
+
+-- while marking goes on a seat is lent for each of the heap's
+pub all_lent : (s : Parts) → IsReady s → IsManned s → s.cycle.phase ≡ Marking → s.objects.seat.lent ≡ s.objects.grey.markers
+all_lent s ready manned marking = (marking_of s ready marking).crew.lent ∙ manned marking
+
+-- and where it has some, some run
+pub some_run : (s : Parts) → IsManned s → s.cycle.phase ≡ Marking → 0 < s.objects.grey.markers → 0 < length s.objects.grey.running
+some_run s manned marking some = omega (arith, some, manned marking)

@@ -18,10 +18,10 @@ use Rattle.heap_objects.specs.Refused.{RefusalsTold}
 use Rattle.heap_handles.specs.Handles.{put_in, HandlesView}
 use Rattle.heap_cycle.specs.declared.parts.Parts.{Parts}
 use Rattle.heap_cycle.specs.Parts.{setup_of, state_of, counted, AreTied, IsFrame}
-use Rattle.heap_cycle.specs.Ties.{tied_slot}
+use Rattle.heap_cycle.specs.Ties.{manned_grey, tied_slot}
 use Rattle.heap_cycle.specs.Walks.{IsWalkTold}
 use Rattle.heap_engine.specs.FieldSteps.{HasRead, after_read}
-use Rattle.heap_engine.proofs.Tellings.{tells_same}
+use Rattle.heap_engine.proofs.Tellings.{told_by, tells_same}
 
 -- ---- what is read
 
@@ -70,14 +70,14 @@ weak_state s mid (Some t) is = is
 
 -- what `read_weakly` of `heap_cycle` leaves
 pub weak_read : (s mid : Parts) (target : Option (ℕ × ℕ)) → MatchOption target (mid ≡ s) (λ (t : ℕ × ℕ). state_of mid ≡ weakly_read (state_of s) t.1) → AreTied mid
-    → mid.objects.nodes ≡ s.objects.nodes → setup_of mid ≡ setup_of s → told_of mid.objects ≡ told_of s.objects
+    → mid.objects.nodes ≡ s.objects.nodes → setup_of mid ≡ setup_of s → mid.objects.grey ≡ s.objects.grey
     → mid ≡ record s { objects = mid.objects; cycle = record s.cycle { rest = mid.cycle.rest } } → mid.cycle.rest.ordinal ≡ s.cycle.rest.ordinal → HasRead true s mid target
-weak_read s mid target state tied nodes setup told others ordinal = record {
+weak_read s mid target state tied nodes setup grey others ordinal = record {
   state = weak_state s mid target state;
   tied = tied;
   nodes = nodes;
   setup = setup;
-  told = told;
+  grey = grey;
   handles = ap (λ (x : Parts). x.handles) others;
   ordinal = ordinal;
 }
@@ -112,10 +112,10 @@ told_same phase old new (Some t) told same is = subst (IsWalkTold phase old new)
 
 -- where a slot then gets the target, no more changes
 pub put_frame : (s mid : Parts) (after : HandlesView) (q : ℕ) (target : Option (ℕ × ℕ)) (content : Option ℕ) (told : Line) → mid.objects.nodes ≡ s.objects.nodes → setup_of mid ≡ setup_of s
-    → told_of mid.objects ≡ told_of s.objects → mid.cycle.rest.ordinal ≡ s.cycle.rest.ordinal → AreTied mid
+    → mid.objects.grey ≡ s.objects.grey → mid.cycle.rest.ordinal ≡ s.cycle.rest.ordinal → AreTied s → AreTied mid
     → target ≡ option_map (λ (m : ℕ). (place_of s.objects.nodes m, m)) content → after ≡ put_in mid.handles q target
     → MatchOption target (told ≡ L.Null) (λ (t : ℕ × ℕ). told ≡ L.Node t.1) → IsFrame s (counted (record mid { handles = after })) told
-put_frame s mid after q target content told nodes setup refused ordinal tied is put line =
+put_frame s mid after q target content told nodes setup grey ordinal before tied is put line =
     let at : target ≡ option_map (λ (m : ℕ). (place_of mid.objects.nodes m, m)) content =
     is ∙ ap (λ (ns : List Node). option_map (λ (m : ℕ). (place_of ns m, m)) content) (sym nodes) in
     record {
@@ -125,11 +125,12 @@ put_frame s mid after q target content told nodes setup refused ordinal tied is 
           (tied_slot mid q target
           (subst (λ (t : Option (ℕ × ℕ)). option_map (λ (x : ℕ × ℕ). x.0) t ≡ option_map (place_of mid.objects.nodes) (option_map (λ (x : ℕ × ℕ). x.1) t)) (sym at)
           (target_places mid.objects.nodes content)) tied);
-      refused = told_same s.cycle.phase (told_of s.objects) (told_of mid.objects) target told refused line;
+      manned = manned_grey s mid before tied grey;
+      refused = told_same s.cycle.phase (told_of s.objects) (told_of mid.objects) target told (told_by s.objects mid.objects grey) line;
     }
 
 -- a slot got what was read, and no more
-pub read_frame : (weak : Bool) (s mid : Parts) (after : HandlesView) (q : ℕ) (target : Option (ℕ × ℕ)) (content : Option ℕ) (told : Line) → HasRead weak s mid target
+pub read_frame : (weak : Bool) (s mid : Parts) (after : HandlesView) (q : ℕ) (target : Option (ℕ × ℕ)) (content : Option ℕ) (told : Line) → AreTied s → HasRead weak s mid target
     → target ≡ option_map (λ (m : ℕ). (place_of s.objects.nodes m, m)) content → after ≡ put_in mid.handles q target
     → MatchOption target (told ≡ L.Null) (λ (t : ℕ × ℕ). told ≡ L.Node t.1) → IsFrame s (counted (record mid { handles = after })) told
-read_frame weak s mid after q target content told has is put line = put_frame s mid after q target content told has.nodes has.setup has.told has.ordinal has.tied is put line
+read_frame weak s mid after q target content told before has is put line = put_frame s mid after q target content told has.nodes has.setup has.grey has.ordinal before has.tied is put line

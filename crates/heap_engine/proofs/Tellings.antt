@@ -18,8 +18,11 @@ pub tells_same : (phase : Phase) (old new : RefusalsTold) → new ≡ old → Go
 tells_same phase old new same = record { since = ap (λ (t : RefusalsTold). t.since) same; still = λ calm. ap (λ (t : RefusalsTold). t.now) same }
 
 -- what is kept of marking is as it was
+pub told_by : (old new : ObjectsView) → new.grey ≡ old.grey → told_of new ≡ told_of old
+told_by old new same = ap (λ (g : GreyView). told_of (record old { grey = g })) same
+
 pub tells_kept : (phase : Phase) (old new : ObjectsView) → new.grey ≡ old.grey → GoesOnTelling phase (told_of old) (told_of new)
-tells_kept phase old new same = tells_same phase (told_of old) (told_of new) (ap (λ (g : GreyView). told_of (record old { grey = g })) same)
+tells_kept phase old new same = tells_same phase (told_of old) (told_of new) (told_by old new same)
 
 off_at : (phase : Phase) (limit : ℕ) (may : List Bool) (o : ObjectsView) → HasMarks phase limit may o → is_marking phase ≡ false → o.seat.on ≡ false
 off_at Idle limit may o marks calm = marks.0.off

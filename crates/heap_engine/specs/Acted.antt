@@ -1,8 +1,9 @@
 -- What a command does to a heap.
-use Rattle.std.specs.Prelude.{◌≡◌, ℕ, ◌+◌, ◌++◌, true, false, [], ◌∷◌, length, Contains}
+use Rattle.std.specs.Prelude.{◌≡◌, ◌⊎◌, ℕ, ◌+◌, ◌-◌, ◌^◌, ◌<◌, ◌++◌, true, false, [], ◌∷◌, length, Contains}
 use Rattle.gc_graph.specs.declared.command.Command.{Command}
 use Rattle.gc_graph.specs.declared.command.Command.TheVariants as C
 use Rattle.gc_graph.specs.declared.line.Line.TheVariants as L
+use Rattle.gc_graph.specs.declared.phase.Phase.TheVariants.{Marking}
 use Rattle.gc_graph.specs.Graph.{IsWithin}
 use Rattle.gc_graph.specs.Reach.{HoldsAll}
 use Rattle.gc_graph.specs.RegionSteps.{HasDoneFirst}
@@ -13,11 +14,17 @@ use Rattle.heap_cycle.specs.Walks.{IsWalkToldIn}
 use Rattle.heap_engine.specs.Going.{AreTotalsOf}
 use Rattle.heap_engine.specs.View.{View, going_after}
 
+-- a step that is done: without markers each marked node is traced, unless a push was refused in the cycle; and beside markers the
+-- owner found all lists empty at its end, or took so many items that it was ended
+pub record IsStepDone (old new : View) : Type 0 where
+  pub alone : old.setup.markers ≡ 0 → HasNoRefusedPush new.refusals → IsWithin new.marked new.traced
+  pub beside : 0 < old.setup.markers → (new.idle ≡ true) ⊎ (new.taken ≡ old.taken + (2 ^ 32 - 1))
+
 -- the command is a step to the new state, which takes this piece of the region's history and tells these lines, so many; one command
 -- more is counted, the piece follows the history, and the heap isn't closed; nothing is ahead where no join is awaited; a thread that
 -- runs has done the first of its orders, and the totals that a join tells are those just before the threads went; a pause line tells truly
--- whether the heap was walked; where a cycle was started, what the strong slots name is marked, those of the region among them; and
--- where its step tells that it is done, each marked node is traced, unless a push was refused in the cycle
+-- whether the heap was walked; where a cycle was started, what the strong slots name is marked, those of the region among them;
+-- while marking goes on a seat is lent for each of the heap's markers; and a step tells truly that it is done
 pub record IsActed (old new : View) (command : Command) (lines : ℕ) : Type 0 where
   pub step : Step old.setup old.state command new.piece new.lines new.state
   pub count : lines ≡ length new.lines
@@ -32,4 +39,5 @@ pub record IsActed (old new : View) (command : Command) (lines : ℕ) : Type 0 w
   pub walked : IsWalkToldIn old.state.phase old.refusals new.refusals new.lines
   pub started :
       Contains new.lines L.Started → HoldsAll new.marked (slot_targets new.state.slots ++ strong_region_targets new.state.region)
-  pub done : (t : ℕ) → new.lines ≡ L.Step t true ∷ [] → HasNoRefusedPush new.refusals → IsWithin new.marked new.traced
+  pub lent : new.state.phase ≡ Marking → new.lent ≡ new.setup.markers
+  pub done : (t : ℕ) → new.lines ≡ L.Step t true ∷ [] → IsStepDone old new

@@ -12,7 +12,6 @@ use Rattle.heap_objects.specs.declared.field.Part.{Part}
 use Rattle.heap_objects.specs.declared.field.Wanted.{Wanted}
 use Rattle.heap_objects.specs.declared.field.Wanted.TheVariants.{References, Numbers, Pairs}
 use Rattle.heap_objects.specs.Fields.{allows, part_word}
-use Rattle.heap_objects.specs.Objects.{told_of}
 use Rattle.heap_cycle.specs.declared.parts.Parts.{Parts}
 use Rattle.heap_cycle.specs.Parts.{setup_of, state_of, AreTied}
 
@@ -43,12 +42,12 @@ abbrev pub after_read : Bool → State → Option ℕ → State
 after_read weak s None = s
 after_read weak s (Some n) = read_node weak s n
 
--- a read, weak or not, gave the target: what it may keep is kept, the parts stay tied, and no node, slot or count of refusals changes
+-- a read, weak or not, gave the target: what it may keep is kept, the parts stay tied, and no node, no slot and nothing of marking changes
 pub record HasRead (weak : Bool) (old new : Parts) (target : Option (ℕ × ℕ)) : Type 0 where
   pub state : state_of new ≡ after_read weak (state_of old) (option_map (λ t. t.1) target)
   pub tied : AreTied new
   pub nodes : new.objects.nodes ≡ old.objects.nodes
   pub setup : setup_of new ≡ setup_of old
-  pub told : told_of new.objects ≡ told_of old.objects
+  pub grey : new.objects.grey ≡ old.objects.grey
   pub handles : new.handles ≡ old.handles
   pub ordinal : new.cycle.rest.ordinal ≡ old.cycle.rest.ordinal

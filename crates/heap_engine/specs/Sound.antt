@@ -1,19 +1,26 @@
 -- How a heap's fields are seen, and what is true of them.
-use Rattle.std.specs.Prelude.{◌≡◌, ◌*◌, ◌≤◌, true, [], ◌++◌, Some}
+use Rattle.std.specs.Prelude.{◌≡◌, ℕ, ◌*◌, ◌≤◌, true, false, [], ◌++◌, length, Some}
 use Rattle.gc_graph.specs.declared.line.Line.{Line}
 use Rattle.gc_graph.specs.ThreadLaw.{IsCounted}
 use Rattle.marker_core.specs.Bodies.{holds}
 use Rattle.page_space.specs.Pages.{word_count}
 use Rattle.cross_thread_region.specs.Histories.{entries_of}
 use Rattle.nodes_in_words.specs.Places.{kept_of}
+use Rattle.stealing_lists.specs.Families.{at}
+use Rattle.stealing_lists.specs.Shares.{taken_of as items_taken}
+use Rattle.heap_objects.specs.Marking.{GreyView}
 use Rattle.heap_objects.specs.Objects.{told_of}
 use Rattle.heap_engine.specs.declared.heap_core.Core.TheInside.{Inside}
 use Rattle.heap_engine.specs.View.{View}
 use Rattle.heap_cycle.specs.Printed.{Printed, outcome_lines, IsOutcome}
-use Rattle.heap_cycle.specs.Parts.{setup_of, state_of, IsReady}
+use Rattle.heap_cycle.specs.Parts.{setup_of, state_of, IsManned, IsReady}
 use Rattle.heap_cycle.specs.Region.{made}
 use Rattle.heap_cycle.specs.Shared.{HasShared, ahead_of, taken_of, told_lines}
 use Rattle.heap_engine.specs.Going.{AreTotalsOf, HasTold}
+
+-- how many items the owner took from lists with shares
+abbrev pub taken_in : GreyView → ℕ
+taken_in g = length (items_taken (at g.marking.list.shares 0))
 
 -- a heap as its callers see it
 abbrev pub view_of : Inside → View
@@ -28,6 +35,9 @@ view_of h = record {
   lines = told_lines h.shared ++ outcome_lines h.outcome h.parts.cycle.ran;
   piece = made h.before.value (taken_of h.shared);
   refusals = told_of h.parts.objects;
+  lent = h.parts.objects.seat.lent;
+  idle = h.parts.objects.grey.marking.list.idle;
+  taken = taken_in h.parts.objects.grey;
   closed = h.closed;
 }
 
@@ -37,10 +47,15 @@ pub record IsOfJoin (o : Printed) : Type 0 where
   pub last : o.last ≡ Some line
   pub numbers : o.numbers ≡ []
 
--- the parts are ready, the region is theirs, with its threads, whose replies tell the totals just before they went; the outcome is one
--- of a command, and has room for all nodes that a sweep can finalise; and what is counted stays within bounds
+-- while the heap isn't closed the parts are ready, with the markers that ought to run, and once it is closed none runs; the region is
+-- theirs, with its threads, whose replies tell the totals just before they went; the outcome is one of a command, and has room for
+-- all nodes that a sweep can finalise; and what is counted stays within bounds
 pub record IsSound (h : Inside) : Type 0 where
-  pub ready : IsReady h.parts
+  pub ready : h.closed ≡ false → IsReady h.parts
+  pub manned : h.closed ≡ false → IsManned h.parts
+  pub joined_at_last : h.closed ≡ true → h.parts.objects.grey.running ≡ []
+  pub most : h.parts.cycle.rest.ordinal ≤ 1000000
+  pub made : length h.parts.objects.nodes ≤ h.parts.cycle.rest.ordinal
   pub shared : HasShared h.parts h.shared
   pub replies : HasTold h.shared
   pub totals : AreTotalsOf h.going.value h.shared.threads.replies

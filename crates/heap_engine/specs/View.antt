@@ -1,5 +1,5 @@
 -- A heap as its callers see it.
-use Rattle.std.specs.Prelude.{Bool, List}
+use Rattle.std.specs.Prelude.{◌≡◌, ℕ, Bool, true, List}
 use Rattle.gc_graph.specs.declared.command.Command.{Command}
 use Rattle.gc_graph.specs.declared.command.Command.TheVariants as C
 use Rattle.gc_graph.specs.declared.line.Line.{Line}
@@ -9,7 +9,8 @@ use Rattle.heap_objects.specs.Refused.{RefusalsTold, none_refused}
 
 -- what was set up, the state of the graph, whether each node is marked and whether it is traced, the region's history as far as
 -- commands have taken it, the entries that threads made after that, the state just before threads went last, the lines of the last
--- outcome and the piece of the history that it took, how many pushes and notes were refused until now and until marking began, and
+-- outcome and the piece of the history that it took, how many pushes and notes were refused until now and until marking began, how
+-- many seats are lent to markers, whether the owner found its lists empty last, how many items it took from lists with shares, and
 -- whether the heap was closed
 pub record View : Type 0 where
   pub setup : Setup
@@ -22,6 +23,9 @@ pub record View : Type 0 where
   pub lines : List Line
   pub piece : List Entry
   pub refusals : RefusalsTold
+  pub lent : ℕ
+  pub idle : Bool
+  pub taken : ℕ
   pub closed : Bool
 
 -- what a new heap tells of refusals: there were none
@@ -32,3 +36,17 @@ no_refusals = record { now = none_refused; since = none_refused }
 abbrev pub going_after : Command → State → State → State
 going_after C.ThreadsGo before going = before
 going_after _ before going = going
+
+-- the heap was closed: its markers are joined, and nothing else has changed but what is known of marks and refusals
+abbrev pub IsClosed : View → View → Type 0
+IsClosed old new =
+    new
+    ≡ record old {
+      closed = true;
+      marked = new.marked;
+      traced = new.traced;
+      refusals = new.refusals;
+      lent = new.lent;
+      idle = new.idle;
+      taken = new.taken;
+    }

@@ -7,7 +7,7 @@ ghost use Rattle.gc_graph.specs.Lawful.{IsAllowed};
 ghost use Rattle.gc_graph.specs.Outcomes.{answered};
 ghost use Rattle.gc_graph.specs.Step.{Step};
 ghost use Rattle.page_space.specs.Pages.{word_count};
-ghost use Rattle.heap_cycle.specs.Cycles.{IsNoneGrey};
+ghost use Rattle.heap_cycle.specs.Cycles.{HasFoundAll};
 ghost use Rattle.heap_cycle.specs.Parts.{setup_of, state_of, counted, IsReady, IsFrame};
 ghost use Rattle.heap_cycle.specs.Printed.{outcome_lines, TellsThoseThatRan};
 ghost use Rattle.heap_engine.specs.Alone.{leaves_region, is_on_pages, is_on_fields};
@@ -37,7 +37,7 @@ pub(crate) fn run_alone(parts: &mut Parts, outcome: &mut Outcome, command: &Comm
     ensures frame { IsFrame parts.old (counted parts.new) (last_line outcome.new) }
     ensures ran { TellsThoseThatRan outcome.new parts.new.cycle.ran }
     ensures done { (n t : ℕ) → command.now ≡ C.GcStep n → last_line outcome.new ≡ L.Step t true
-        → IsNoneGrey parts.new }
+        → HasFoundAll parts.old parts.new }
     ensures room { outcome.new.room ≡ outcome.old.room }
 {
     match *command {
@@ -84,7 +84,7 @@ fn run_on_pages(parts: &mut Parts, outcome: &mut Outcome, command: &Command)
     ensures frame { IsFrame parts.old (counted parts.new) (last_line outcome.new) }
     ensures ran { TellsThoseThatRan outcome.new parts.new.cycle.ran }
     ensures done { (n t : ℕ) → command.now ≡ C.GcStep n → last_line outcome.new ≡ L.Step t true
-        → IsNoneGrey parts.new }
+        → HasFoundAll parts.old parts.new }
     ensures room { outcome.new.room ≡ outcome.old.room }
 {
     match *command {

@@ -12,7 +12,7 @@ ghost use Rattle.gc_graph.specs.ThreadLaw.{IsCounted};
 ghost use Rattle.cross_thread_region.specs.Calls.{Begins};
 ghost use Rattle.page_space.specs.Pages.{word_count};
 ghost use Rattle.callback_table.specs.Table.{kinds_of};
-ghost use Rattle.heap_cycle.specs.Cycles.{AreSlotsMarked, IsNoneGrey};
+ghost use Rattle.heap_cycle.specs.Cycles.{AreSlotsMarked, HasFoundAll};
 ghost use Rattle.heap_cycle.specs.Parts.{setup_of, state_of, counted, IsReady, IsFrame};
 ghost use Rattle.heap_cycle.specs.Printed.{outcome_lines, TellsThoseThatRan};
 ghost use Rattle.heap_cycle.specs.Shared.{piece_of, taken_of, HasShared};
@@ -26,13 +26,18 @@ use crate::threads::{at, go};
 use callback_table::CallbackTable;
 use gc_graph::Command;
 use heap_cycle::{Outcome, Parts, Shared, collect, finish, start};
+use marker_crew::Gate;
+use std::sync::Arc;
+use std::thread::Threads;
 
 /// Does the command, and ends its outcome.
-pub(crate) fn run(
+pub(crate) fn run<R: Threads, G: Gate + Send + Sync + 'static>(
+    rt: &R,
     parts: &mut Parts,
     shared: &mut Shared,
     outcome: &mut Outcome,
     callbacks: &CallbackTable,
+    gate: &Arc<G>,
     command: &Command,
 )
     requires ready { IsReady parts.old }
@@ -61,7 +66,7 @@ pub(crate) fn run(
     ensures marked { command.now ≡ C.GcStart → last_line outcome.new ≡ L.Started
         → AreSlotsMarked parts.new (taken_of shared.new) }
     ensures done { (n t : ℕ) → command.now ≡ C.GcStep n → last_line outcome.new ≡ L.Step t true
-        → IsNoneGrey parts.new }
+        → HasFoundAll parts.old parts.new }
     ensures room { outcome.new.room ≡ outcome.old.room }
 {
     parts.objects.shape_is_valid();
@@ -75,17 +80,19 @@ pub(crate) fn run(
         | Command::GcFinish { .. }
         | Command::GcNow { .. }
         | Command::At { .. }
-        | Command::ThreadsGo => run_shared(parts, shared, outcome, callbacks, command),
+        | Command::ThreadsGo => run_shared(rt, parts, shared, outcome, callbacks, gate, command),
         _ => run_alone(parts, outcome, command),
     }
 }
 
 /// Does a command that touches the region or its threads.
-fn run_shared(
+fn run_shared<R: Threads, G: Gate + Send + Sync + 'static>(
+    rt: &R,
     parts: &mut Parts,
     shared: &mut Shared,
     outcome: &mut Outcome,
     callbacks: &CallbackTable,
+    gate: &Arc<G>,
     command: &Command,
 )
     requires ready { IsReady parts.old }
@@ -115,7 +122,7 @@ fn run_shared(
     ensures marked { command.now ≡ C.GcStart → last_line outcome.new ≡ L.Started
         → AreSlotsMarked parts.new (taken_of shared.new) }
     ensures done { (n t : ℕ) → command.now ≡ C.GcStep n → last_line outcome.new ≡ L.Step t true
-        → IsNoneGrey parts.new }
+        → HasFoundAll parts.old parts.new }
     ensures room { outcome.new.room ≡ outcome.old.room }
 {
     gc_graph::steps_follow_the_history();
@@ -124,15 +131,15 @@ fn run_shared(
         Command::Export { p, x } => outcome.end(export(parts, shared, p, x)),
         Command::Import { x, p } => outcome.end(import(parts, shared, x, p)),
         Command::GcStart => {
-            let line = start(parts, shared, outcome);
+            let line = start(rt, parts, shared, outcome, gate);
             outcome.end(line);
         }
         Command::GcFinish { want } => {
-            let line = finish(parts, shared, outcome, callbacks, want);
+            let line = finish(rt, parts, shared, outcome, callbacks, want);
             outcome.end(line);
         }
         Command::GcNow { want } => {
-            let line = collect(parts, shared, outcome, callbacks, want);
+            let line = collect(rt, parts, shared, outcome, callbacks, want);
             outcome.end(line);
         }
         Command::At { j, order } => outcome.end(at(parts, shared, j, order)),

@@ -12,31 +12,46 @@ ghost use Rattle.gc_graph.specs.Shapes.{IsShape};
 ghost use Rattle.callback_table.specs.Table.{kinds_of};
 ghost use Rattle.heap_engine.specs.Acted.{IsActed};
 ghost use Rattle.heap_objects.specs.Objects.{HaveCallbacks};
-ghost use Rattle.heap_engine.specs.View.{no_refusals};
+ghost use Rattle.heap_engine.specs.View.{no_refusals, IsClosed};
 ghost use Rattle.heap_cycle.specs.Printed.{finalised_in, TellsNode};
 
 use crate::heap_core::Core;
 use callback_table::CallbackTable;
 use gc_graph::{Command, Line, NoMemory};
+use marker_crew::Gate;
 use std::alloc::Global;
+use std::sync::Arc;
+use std::thread::Threads;
 use type_table::TypeTable;
 
-/// How many pages a heap has, and how many words a page.
+/// The owner's number at the gate.
+const OWNER: u32 = 0;
+
+/// The point before a command of the owner.
+const BEFORE_COMMAND: u32 = 3;
+
+/// The point after the owner's answer.
+const AFTER_ANSWER: u32 = 4;
+
+/// How many pages a heap has, how many words a page, and how many markers run beside its owner.
 #[derive(Clone, Copy, Debug, PartialEq, Eq, Drop)]
 pub struct Config {
     pub pages: u32,
     pub page_words: u32,
+    pub markers: u32,
 }
 
-/// A heap, with the callbacks of its program. It belongs to one thread (`include/cppgc/heap.h`).
+/// A heap, with the callbacks of its program. It belongs to one thread (`include/cppgc/heap.h`), beside
+/// which its markers have threads of their own while marking goes on; all of them pass the gate.
 #[derive(Drop)]
-pub struct Heap<'a> {
+pub struct Heap<'a, G> {
     callbacks: &'a CallbackTable,
+    gate: Arc<G>,
     core: Core,
     pub ghost kinds: { kinds_of callbacks.now ≡ core.setup.callbacks },
 }
 
-impl<'a> Heap<'a> {
+impl<'a, G: Gate + Send + Sync + 'static> Heap<'a, G> {
     /// An empty heap for objects of these types, which takes all the memory that its commands need
     /// but for collections, prefinalizers, calls on the region and orders of threads. Want of memory
     /// is free.
@@ -45,12 +60,14 @@ impl<'a> Heap<'a> {
         config: Config,
         types: TypeTable,
         callbacks: &'a CallbackTable,
-    ) -> Result<Heap<'a>, NoMemory>
+        gate: &Arc<G>,
+    ) -> Result<Heap<'a, G>, NoMemory>
         requires shape { IsShape (record { pages = config.pages; page_words = config.page_words }) }
+        requires few { config.markers ≤ 8 }
         requires called { HaveCallbacks (length (kinds_of callbacks.now)) types }
         ensures setup { IfOk result (λ h. h.core.setup ≡ record {
           shape = record { pages = config.pages; page_words = config.page_words };
-          markers = 0;
+          markers = config.markers;
           types = types;
           callbacks = kinds_of callbacks.now;
         }) }
@@ -62,20 +79,31 @@ impl<'a> Heap<'a> {
         ensures marked { IfOk result (λ h. h.core.marked ≡ []) }
         ensures traced { IfOk result (λ h. h.core.traced ≡ []) }
         ensures refusals { IfOk result (λ h. h.core.refusals ≡ no_refusals) }
+        ensures lent { IfOk result (λ h. h.core.lent ≡ 0) }
     {
         let core = Core::new(alloc, config, types, callbacks)?;
-        Ok(Heap { callbacks, core })
+        let Ok(gate) = Arc::try_clone(gate) else {
+            return Err(NoMemory);
+        };
+        Ok(Heap {
+            callbacks,
+            gate,
+            core,
+        })
     }
 
     /// Runs a command. The answer is the number of lines that `line` then tells.
-    pub fn act(&mut self, command: &Command) -> u32
+    pub fn act<R: Threads>(&mut self, rt: &R, command: &Command) -> u32
         requires few { self.old.core.state.ordinal < 1000000 }
         requires opened { self.old.core.closed ≡ false }
         requires allowed { IsAllowed (length self.old.core.setup.types) command.now }
         requires section { IsInSection self.old.core.state.awaiting command.now }
         ensures acted { IsActed self.old.core self.new.core command.now result }
     {
-        self.core.act(command, self.callbacks)
+        self.gate.pass(OWNER, BEFORE_COMMAND);
+        let count = self.core.act(rt, command, self.callbacks, &self.gate);
+        self.gate.pass(OWNER, AFTER_ANSWER);
+        count
     }
 
     /// A line of the last outcome.
@@ -114,11 +142,12 @@ impl<'a> Heap<'a> {
         self.core.summary()
     }
 
-    /// Ends the heap's run, and answers the line that counts what is not finalised.
-    pub fn close(&mut self) -> Line
+    /// Ends the heap's run: markers that run are stopped and joined. Answers the line that counts what is
+    /// not finalised.
+    pub fn close<R: Threads>(&mut self, rt: &R) -> Line
         ensures line { IsEndLine self.old.core.setup self.old.core.state result }
-        ensures same { self.new.core ≡ record self.old.core { closed = true } }
+        ensures closed { IsClosed self.old.core self.new.core }
     {
-        self.core.close()
+        self.core.close(rt)
     }
 }

@@ -14,7 +14,7 @@ ghost use Rattle.gc_graph.specs.Shapes.{IsShape};
 ghost use Rattle.callback_table.specs.Table.{kinds_of};
 ghost use Rattle.heap_engine.specs.Acted.{IsActed};
 ghost use Rattle.heap_objects.specs.Objects.{HaveCallbacks};
-ghost use Rattle.heap_engine.specs.View.{no_refusals};
+ghost use Rattle.heap_engine.specs.View.{no_refusals, IsClosed};
 ghost use Rattle.heap_cycle.specs.Printed.{finalised_in, TellsNode};
 
 use crate::commands::run;
@@ -27,8 +27,11 @@ use ghost_values::GhostValue;
 use heap_cycle::{Cycle, Outcome, Parts, Shared, States};
 use heap_handles::Handles;
 use heap_objects::Objects;
+use marker_crew::Gate;
 use std::alloc::Global;
 use std::marker::Model;
+use std::sync::Arc;
+use std::thread::Threads;
 use type_table::TypeTable;
 
 /// A heap but for its callbacks: what contracts speak of.
@@ -65,10 +68,11 @@ impl Core {
         callbacks: &CallbackTable,
     ) -> Result<Core, NoMemory>
         requires shape { IsShape (record { pages = config.pages; page_words = config.page_words }) }
+        requires few { config.markers ≤ 8 }
         requires called { HaveCallbacks (length (kinds_of callbacks.now)) types }
         ensures setup { IfOk result (λ h. h.setup ≡ record {
           shape = record { pages = config.pages; page_words = config.page_words };
-          markers = 0;
+          markers = config.markers;
           types = types;
           callbacks = kinds_of callbacks.now;
         }) }
@@ -80,11 +84,19 @@ impl Core {
         ensures marked { IfOk result (λ h. h.marked ≡ []) }
         ensures traced { IfOk result (λ h. h.traced ≡ []) }
         ensures refusals { IfOk result (λ h. h.refusals ≡ no_refusals) }
+        ensures lent { IfOk result (λ h. h.lent ≡ 0) }
     {
         gc_graph::empty_is_valid();
         // A header can name each type.
         let _count = types.count();
-        let objects = Objects::new(alloc, config.pages, config.page_words, types, callbacks)?;
+        let objects = Objects::new(
+            alloc,
+            config.pages,
+            config.page_words,
+            config.markers,
+            types,
+            callbacks,
+        )?;
         let outcome = Outcome::new(alloc, objects.word_count() as usize / 2 + 1)?;
         let handles = Handles::new(alloc)?;
         let shared = Shared::new(alloc)?;
@@ -103,7 +115,13 @@ impl Core {
         })
     }
 
-    pub fn act(&mut self, command: &Command, callbacks: &CallbackTable) -> u32
+    pub fn act<R: Threads, G: Gate + Send + Sync + 'static>(
+        &mut self,
+        rt: &R,
+        command: &Command,
+        callbacks: &CallbackTable,
+        gate: &Arc<G>,
+    ) -> u32
         requires few { self.old.state.ordinal < 1000000 }
         requires opened { self.old.closed ≡ false }
         requires allowed { IsAllowed (length self.old.setup.types) command.now }
@@ -113,12 +131,18 @@ impl Core {
     {
         match command {
             Command::ThreadsJoin => self.join(),
-            _ => self.run(command, callbacks),
+            _ => self.run(rt, command, callbacks, gate),
         }
     }
 
     /// Does a command that is no join.
-    fn run(&mut self, command: &Command, callbacks: &CallbackTable) -> u32
+    fn run<R: Threads, G: Gate + Send + Sync + 'static>(
+        &mut self,
+        rt: &R,
+        command: &Command,
+        callbacks: &CallbackTable,
+        gate: &Arc<G>,
+    ) -> u32
         requires few { self.old.state.ordinal < 1000000 }
         requires opened { self.old.closed ≡ false }
         requires allowed { IsAllowed (length self.old.setup.types) command.now }
@@ -135,10 +159,12 @@ impl Core {
         self.outcome.begin();
         self.shared.begin();
         run(
+            rt,
             &mut self.parts,
             &mut self.shared,
             &mut self.outcome,
             callbacks,
+            gate,
             command,
         );
         self.parts.cycle.count_command();
@@ -208,12 +234,23 @@ impl Core {
         }
     }
 
-    pub fn close(&mut self) -> Line
+    pub fn close<R: Threads>(&mut self, rt: &R) -> Line
         ensures line { IsEndLine self.old.setup self.old.state result }
-        ensures same { self.new ≡ record self.old { closed = true } }
+        ensures closed { IsClosed self.old self.new }
     {
         let (n, u, g) = self.parts.objects.totals();
-        self.closed = true;
+        self.stop(rt);
         Line::End { n, u, g }
+    }
+
+    /// Joins the markers of an open cycle, which is left without a pause.
+    fn stop<R: Threads>(&mut self, rt: &R)
+        ensures closed { IsClosed self.old self.new }
+    {
+        if self.closed {
+            return;
+        }
+        heap_cycle::dismiss(rt, &mut self.parts);
+        self.closed = true;
     }
 }

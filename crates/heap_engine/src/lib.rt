@@ -16,9 +16,11 @@
 //! its number, type, size, place, field words and extra words. Refusals and a full heap are answered
 //! exactly where the step says so; prefinalizers, collections, calls on the region and orders alone
 //! may want memory, and then nothing has changed. A pause line tells truly whether the heap was
-//! walked. After a start each target of a strong slot is marked, and after a step that is done no
-//! node is marked and untraced, unless a push was refused in the cycle. A thread that runs has done
-//! the first of its orders, and a join tells the totals of when the threads went.
+//! walked. After a start each target of a strong slot is marked, and a seat is lent for each marker
+//! until the pause. After a step that is done no node is marked and untraced, unless a push was refused
+//! in the cycle; beside markers all lists were found empty. A heap that is closed has no marker that
+//! runs. A thread that runs has done the first of its orders, and a join tells the totals of when the
+//! threads went.
 //!
 //! What is only tested or not said: that memory suffices, and how long a command takes.
 #![tactic(auto)]

@@ -1,4 +1,4 @@
-use Rattle.std.proofs.Common.{◌≡◌, ◌+◌, ◌<◌, false, ◌∷◌, ◌++◌, length, Some, refl, sym, ap, ◌∙◌, subst}
+use Rattle.std.proofs.Common.{◌≡◌, ℕ, ◌+◌, ◌<◌, false, ◌∷◌, ◌++◌, length, Some, refl, sym, ap, ◌∙◌, subst}
 use Rattle.gc_graph.specs.declared.line.Line.TheVariants as L
 use Rattle.gc_graph.specs.Placement.{IsPlacement}
 use Rattle.gc_graph.specs.State.{Setup, Shape}
@@ -7,13 +7,22 @@ use Rattle.gc_graph.specs.May.{may_with_new}
 use Rattle.gc_graph.specs.Outcomes.{finalise_lines}
 use Rattle.sweeper.specs.Sweeping.{cursor_at}
 use Rattle.heap_cycle.specs.declared.parts.Parts.{Parts}
-use Rattle.heap_cycle.specs.Parts.{setup_of, state_of, unregistered}
+use Rattle.heap_objects.specs.Marking.{GreyView}
+use Rattle.heap_objects.specs.Objects.{ObjectsView}
+use Rattle.heap_handles.specs.Handles.{HandlesView}
+use Rattle.heap_cycle.specs.Parts.{counted, setup_of, state_of, unregistered, IsManned}
 use Rattle.heap_cycle.specs.Printed.{Printed, ran_lines}
 use Rattle.heap_cycle.specs.Views.{CycleView}
 use Rattle.heap_engine.proofs.NewSteps.{made_cycle, step_made, tied_made}
 use Rattle.heap_engine.proofs.Tellings.{tells_kept}
 use Rattle.heap_cycle.specs.Registrations.{left_out_before, joined_after}
 use Rattle.heap_engine.proofs.creating.new_object.Goals as goal
+
+-- a new object leaves the markers that run
+made_manned : (mid : Parts) (new : ObjectsView) (handles : HandlesView) (t place : ℕ) → new.grey ≡ mid.objects.grey → IsManned mid
+    → IsManned (counted (record mid { objects = new; handles = handles; cycle = made_cycle mid t place }))
+made_manned mid new handles t place grey manned =
+    λ marking. ap (λ (g : GreyView). length g.running) grey ∙ manned marking ∙ sym (ap (λ (g : GreyView). g.markers) grey)
 
 -- the parts once the place is found, but for the registrations of the new object
 abbrev found_parts : goal.After-put → Parts
@@ -72,6 +81,7 @@ returns-clause-frame c =
           (subst (λ (st : Setup). c.args.t < length st.types) (sym (setup_found c)) c.requires.ty)
           (c.make.ensures.marks mid.cycle.phase (cursor_at mid.objects.shape mid.cycle.sweep) mid.cycle.rest.may c.in-Some.ensures.swept c.place_for.ensures.ready.tied.marks)
           c.make.ensures.grey c.make.ensures.setup (c.made-number.ensures ∙ sym (made_found c)) refl c.make.ensures.nodes (registers c) c.put.ensures;
+      manned = λ manned. subst IsManned (sym (ap (λ (k : CycleView). counted (record mid { objects = c.make.new.self; handles = c.put.new.self; cycle = k })) (registers c))) (made_manned mid c.make.new.self c.put.new.self c.args.t c.in-Some.place c.make.ensures.grey (c.place_for.ensures.manned (subst IsManned (sym c.in-Ok.ensures.registered) manned)));
       refused = tells_kept c.args.parts.now.cycle.phase c.args.parts.now.objects c.make.new.self
           (c.make.ensures.grey ∙ c.place_for.ensures.grey ∙ ap (λ (x : Parts). x.objects.grey) c.in-Ok.ensures.registered);
     }

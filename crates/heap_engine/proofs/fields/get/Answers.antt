@@ -57,4 +57,4 @@ returns-in-Ok-clause-frame c =
     subst (λ (x : Parts). HasRead (is_weak c.in-Ok.field.kind) x c.keep_read.new.parts c.target_at-target.result)
     (ap (λ (x : ObjectsView). record c.field_of.new.parts { objects = x }) c.target_at-target.ensures.same ∙ c.in-Ok.ensures.same) c.keep_read.ensures in
     read_frame (is_weak c.in-Ok.field.kind) s c.keep_read.new.parts c.put.new.self c.args.q c.target_at-target.result (target_of (value_in s.objects.nodes is.node c.args.f))
-    c.line_of.result has read c.put.ensures c.line_of.ensures
+    c.line_of.result c.requires.ready.tied has read c.put.ensures c.line_of.ensures

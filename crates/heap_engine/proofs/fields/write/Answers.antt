@@ -11,7 +11,7 @@ use Rattle.heap_engine.proofs.KeptSlots.{slot_kept, write_kept}
 use Rattle.heap_engine.proofs.Tellings.{tells_on}
 use Rattle.heap_objects.specs.FieldNodes.{stays-written, length-written}
 use Rattle.heap_objects.specs.FieldReads.{takes_suited}
-use Rattle.heap_cycle.specs.Ties.{valid_nodes, tied_fields}
+use Rattle.heap_cycle.specs.Ties.{manned_running, valid_nodes, tied_fields}
 use Rattle.heap_engine.proofs.fields.write.Goals as goal
 
 pub store-requires-clause-valid : goal.store-requires-clause-valid
@@ -66,5 +66,6 @@ returns-in-Ok-clause-frame c =
           (c.store.ensures.marks s.cycle.phase (cursor_at s.objects.shape s.cycle.sweep) s.cycle.rest.may (rw c.in-Ok.ensures.same c.requires.ready.tied.marks))
           (rw c.in-Ok.ensures.same at c.store.ensures.traced)
           (ap length nodes ∙ length-written old (get_or s.handles.slots c.args.p None) c.args.f c.args.content.now.value.value);
+      manned = manned_running s (record s { objects = new }) refl (rw c.in-Ok.ensures.same at c.store.ensures.running) (rw c.in-Ok.ensures.same at c.store.ensures.setup);
       refused = tells_on s new c.requires.ready.tied (rw c.in-Ok.ensures.same at c.store.ensures.refused);
     })

@@ -44,7 +44,7 @@ has_read c =
     subst (λ (x : Parts). HasRead true x c.read_weakly.new.parts c.part_at-target.result)
     (ap (λ (x : ObjectsView). record c.field_of.new.parts { objects = x }) c.part_at-target.ensures.same ∙ c.in-Ok.ensures.same)
     (weak_read before c.read_weakly.new.parts c.part_at-target.result c.read_weakly.ensures.state c.read_weakly.ensures.tied c.read_weakly.ensures.nodes c.read_weakly.ensures.setup
-    c.read_weakly.ensures.told c.read_weakly.ensures.others c.read_weakly.ensures.ordinal)
+    c.read_weakly.ensures.grey c.read_weakly.ensures.others c.read_weakly.ensures.ordinal)
 
 pub returns-in-Ok-clause-step : goal.returns-in-Ok-clause-step
 returns-in-Ok-clause-step c =
@@ -62,4 +62,4 @@ returns-in-Ok-clause-frame c =
     let read : c.part_at-target.result ≡ target_in s.objects.nodes (part_in c.args.part s.objects.nodes is.node c.args.f) =
     (rw c.in-Ok.ensures.same at c.part_at-target.ensures.target) is.node c.args.f is.is in
     read_frame true s c.read_weakly.new.parts c.put.new.self c.args.q c.part_at-target.result (target_of (part_in c.args.part s.objects.nodes is.node c.args.f)) c.line_of.result
-    (has_read c) read c.put.ensures c.line_of.ensures
+    c.requires.ready.tied (has_read c) read c.put.ensures c.line_of.ensures

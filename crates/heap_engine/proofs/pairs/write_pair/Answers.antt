@@ -12,7 +12,7 @@ use Rattle.heap_engine.proofs.PairAnswers.{step_pair}
 use Rattle.heap_engine.proofs.KeptSlots.{slot_kept}
 use Rattle.heap_engine.proofs.Tellings.{tells_on}
 use Rattle.heap_objects.specs.FieldNodes.{stays-paired, length-paired}
-use Rattle.heap_cycle.specs.Ties.{valid_nodes, tied_fields}
+use Rattle.heap_cycle.specs.Ties.{manned_running, valid_nodes, tied_fields}
 use Rattle.heap_engine.proofs.pairs.write_pair.Goals as goal
 
 pub store_pair-requires-clause-valid : goal.store_pair-requires-clause-valid
@@ -76,5 +76,6 @@ returns-in-Ok-clause-frame c =
           (c.store_pair.ensures.marks s.cycle.phase (cursor_at s.objects.shape s.cycle.sweep) s.cycle.rest.may (rw c.in-Ok.ensures.same c.requires.ready.tied.marks))
           (rw c.in-Ok.ensures.same at c.store_pair.ensures.traced)
           (ap length nodes ∙ length-paired old slot c.args.f key value);
+      manned = manned_running s (record s { objects = new }) refl (rw c.in-Ok.ensures.same at c.store_pair.ensures.running) (rw c.in-Ok.ensures.same at c.store_pair.ensures.setup);
       refused = tells_on s new c.requires.ready.tied (rw c.in-Ok.ensures.same at c.store_pair.ensures.refused);
     })

@@ -1,10 +1,11 @@
-use Rattle.std.proofs.Common.{◌≡◌, ℕ, get_or, None, Some, sym, ◌∙◌, subst}
+use Rattle.std.proofs.Common.{◌≡◌, ℕ, ◌+◌, get_or, None, Some, sym, ap, ◌∙◌, subst}
 use Rattle.gc_graph.specs.declared.region.Op.TheVariants as O
 use Rattle.heap_objects.specs.Objects.{IsLiveAt}
 use Rattle.heap_cycle.specs.declared.parts.Parts.{Parts}
 use Rattle.heap_cycle.specs.Shared.{HasTaken}
-use Rattle.heap_cycle.specs.Ties.{slot_names}
+use Rattle.heap_cycle.specs.Ties.{manned_grey, slot_names, tied_counted}
 use Rattle.heap_engine.proofs.SharedSteps.{step_exported}
+use Rattle.heap_engine.proofs.Tellings.{tells_kept}
 use Rattle.heap_engine.proofs.shared.export.Goals as goal
 
 -- the node at the place that the slot holds
@@ -27,3 +28,16 @@ returns-in-Ok-clause-step c =
     step_exported s c.export.new.parts c.args.shared.now c.export.new.shared c.args.p c.args.x is.0 is.1
     (subst (λ n. HasTaken (O.Export c.args.x n) s c.args.shared.now c.export.new.parts c.export.new.shared) (c.number_at-number.ensures.number is.0 is.2)
     (rw (← c.number_at-number.ensures.same) c.in-Ok.ensures.made))
+
+pub returns-in-Ok-clause-frame : goal.returns-in-Ok-clause-frame
+returns-in-Ok-clause-frame c =
+    let s : Parts = c.args.parts.now in
+    let has : HasTaken (O.Export c.args.x c.number_at-number.result) s c.args.shared.now c.export.new.parts c.export.new.shared =
+    rw (← c.number_at-number.ensures.same) c.in-Ok.ensures.made in
+    record {
+      setup = has.setup;
+      ordinal = ap (λ n. n + 1) has.ordinal;
+      tied = tied_counted c.export.new.parts has.tied;
+      manned = manned_grey s c.export.new.parts c.requires.ready.tied has.tied has.grey;
+      refused = tells_kept s.cycle.phase s.objects c.export.new.parts.objects has.grey;
+    }

@@ -16,4 +16,4 @@ pub returns-in-Ok-clause-frame : goal.returns-in-Ok-clause-frame
 returns-in-Ok-clause-frame c =
     put_frame c.args.parts.now c.import.new.parts c.put.new.self c.args.p c.in-Ok.target
     (node_of (region_slot (took (state_of c.args.parts.now) (entries_of (ahead_of c.args.shared.now))).region c.args.x)) c.line_of.result
-    c.in-Ok.ensures.made.nodes c.in-Ok.ensures.made.setup c.in-Ok.ensures.made.told c.in-Ok.ensures.made.ordinal c.in-Ok.ensures.made.tied c.in-Ok.ensures.target c.put.ensures c.line_of.ensures
+    c.in-Ok.ensures.made.nodes c.in-Ok.ensures.made.setup c.in-Ok.ensures.made.grey c.in-Ok.ensures.made.ordinal c.requires.ready.tied c.in-Ok.ensures.made.tied c.in-Ok.ensures.target c.put.ensures c.line_of.ensures

@@ -10,5 +10,6 @@ returns-clause-frame c = record {
   ordinal = refl;
   tied = subst (λ (h : HandlesView). AreTied (counted (record c.args.parts.now { handles = h }))) (sym c.put.ensures)
       (tied_slot c.args.parts.now c.args.p None refl c.requires.ready.tied);
+  manned = λ manned. manned;
   refused = record { since = refl; still = λ calm. refl };
 }

@@ -10,7 +10,7 @@ has_read : (c : goal.After-line_of) → HasRead true c.args.parts.now c.read_wea
 has_read c =
     subst (λ (x : Parts). HasRead true x c.read_weakly.new.parts c.weak_target-target.result) c.weak_target-target.ensures.same
     (weak_read c.weak_target-target.new.parts c.read_weakly.new.parts c.weak_target-target.result c.read_weakly.ensures.state c.read_weakly.ensures.tied c.read_weakly.ensures.nodes
-    c.read_weakly.ensures.setup c.read_weakly.ensures.told c.read_weakly.ensures.others c.read_weakly.ensures.ordinal)
+    c.read_weakly.ensures.setup c.read_weakly.ensures.grey c.read_weakly.ensures.others c.read_weakly.ensures.ordinal)
 
 pub returns-clause-step : goal.returns-clause-step
 returns-clause-step c =
@@ -20,4 +20,4 @@ returns-clause-step c =
 pub returns-clause-frame : goal.returns-clause-frame
 returns-clause-frame c =
     read_frame true c.args.parts.now c.read_weakly.new.parts c.put.new.self c.args.p c.weak_target-target.result (get_or c.args.parts.now.handles.weak c.args.w None) c.line_of.result
-    (has_read c) c.weak_target-target.ensures.target c.put.ensures c.line_of.ensures
+    c.requires.ready.tied (has_read c) c.weak_target-target.ensures.target c.put.ensures c.line_of.ensures

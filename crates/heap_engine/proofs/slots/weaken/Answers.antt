@@ -10,5 +10,6 @@ returns-clause-frame c = record {
   ordinal = refl;
   tied = subst (λ (h : HandlesView). AreTied (counted (record c.args.parts.now { handles = h }))) (sym c.weaken.ensures)
       (tied_weak c.args.parts.now c.args.w c.args.p c.requires.ready.tied);
+  manned = λ manned. manned;
   refused = record { since = refl; still = λ calm. refl };
 }

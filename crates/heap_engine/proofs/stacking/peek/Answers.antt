@@ -38,6 +38,7 @@ returns-in-Some-Some-clause-frame c =
       ordinal = refl;
       tied = subst (λ (k : HandlesView). AreTied (counted (record s { handles = k }))) (sym c.put.ensures)
           (tied_slot s c.args.q (Some (c.in-Some-Some.place, c.number_at-number.result)) (ap Some at) c.requires.ready.tied);
+      manned = λ manned. manned;
       refused = record { since = refl; still = λ calm. refl };
     })
 

@@ -9,5 +9,6 @@ returns-then-has_words-clause-frame c = record {
   setup = refl;
   ordinal = refl;
   tied = subst (λ (k : HandlesView). AreTied (counted (record c.args.parts.now { handles = k }))) (sym c.pop.ensures) (tied_pop c.args.parts.now c.requires.ready.tied);
+  manned = λ manned. manned;
   refused = record { since = refl; still = λ calm. refl };
 }

@@ -12,10 +12,11 @@ use Rattle.gc_graph.specs.ThreadLaw.{IsCounted}
 use Rattle.gc_graph.specs.Valid.{IsValid}
 use Rattle.heap_cycle.specs.declared.parts.Parts.{Parts}
 use Rattle.heap_cycle.specs.declared.shared.Shared.{Shared}
-use Rattle.heap_cycle.specs.Parts.{counted, setup_of, state_of, IsReady}
+use Rattle.heap_cycle.specs.Parts.{counted, setup_of, state_of, IsManned, IsReady}
 use Rattle.heap_cycle.specs.Printed.{Printed, TellsNode, outcome_lines}
 use Rattle.heap_cycle.specs.Region.{made}
 use Rattle.heap_cycle.specs.Shared.{HasShared, joined_shared, taken_of, told_lines}
+use Rattle.heap_cycle.specs.Ties.{manned_grey}
 use Rattle.heap_cycle.specs.Views.{CycleView}
 use Rattle.heap_engine.specs.Going.{AreTotalsOf, HasTold, IsReplyLine}
 use Rattle.cross_thread_region.specs.declared.chronicle.PlacedEntry.{PlacedEntry}
@@ -23,12 +24,20 @@ use Rattle.cross_thread_region.specs.Calls.{Begins}
 use Rattle.heap_engine.proofs.Joined.{ready_counted}
 use Rattle.heap_engine.proofs.OutcomeLines.{last_alone}
 use Rattle.heap_engine.proofs.RegionAlone.{made_behind}
-use Rattle.heap_engine.proofs.Tellings.{tells_same}
+use Rattle.heap_engine.proofs.MarksTold.{all_lent}
+use Rattle.heap_engine.proofs.Tellings.{tells_same, told_by}
 use Rattle.heap_engine.proofs.ThreadsTold.{has_begun, joined_behind, none_ahead, none_started, not_stepped, told_joined, totals_joined, walk_joined}
 use Rattle.heap_engine.proofs.heap_core.Core.join.Goals as goal
 
 pub join-count-requires-clause-awaited : goal.join-count-requires-clause-awaited
 join-count-requires-clause-awaited c = rw (← c.self.view_is) at c.requires.awaited
+
+pub join-count-requires-clause-ready : goal.join-count-requires-clause-ready
+join-count-requires-clause-ready c = c.self.invariant.ready (rw (← c.self.view_is) at c.requires.opened)
+
+-- the heap isn't closed
+opened : (c : goal.After-told_count) → c.self.inside.closed ≡ false
+opened c = rw (← c.self.view_is) at c.requires.opened
 
 -- the parts, once the command is counted
 parts_are : (c : goal.After-told_count) → record c.join-count.new.parts { cycle = c.count_command.new.self } ≡ counted c.join-count.new.parts
@@ -76,12 +85,19 @@ valid c =
     subst (λ u. IsValid u (answered (state_of c.join-count.new.parts))) (sym c.join-count.ensures.setup)
     (c.step_keeps_valid.ensures (setup_of c.self.inside.parts) (state_of c.self.inside.parts) (answered (state_of c.join-count.new.parts)) C.ThreadsJoin
     (made (taken_of c.self.inside.shared) (taken_of c.join-count.new.shared)) (told_lines c.join-count.new.shared ++ L.Joined c.join-count.result ∷ []) c.shape_is_valid.ensures.some tt
-    c.self.invariant.ready.valid (step c))
+    (c.self.invariant.ready (opened c)).valid (step c))
 
 ready : (c : goal.After-told_count) → IsReady (record c.join-count.new.parts { cycle = c.count_command.new.self })
 ready c =
     subst IsReady (sym (parts_are c))
-    (ready_counted c.self.inside.parts c.join-count.new.parts c.self.invariant.ready c.join-count.ensures.setup c.join-count.ensures.ordinal (few c) c.join-count.ensures.tied (valid c))
+    (ready_counted c.self.inside.parts c.join-count.new.parts (c.self.invariant.ready (opened c)) c.join-count.ensures.setup c.join-count.ensures.ordinal (few c) c.join-count.ensures.tied (valid c))
+
+-- with the markers that ought to run
+manned : (c : goal.After-told_count) → IsManned (record c.join-count.new.parts { cycle = c.count_command.new.self })
+manned c =
+    let s : Parts = c.self.inside.parts in
+    subst IsManned (sym (parts_are c))
+    (manned_grey s c.join-count.new.parts (c.self.invariant.ready (opened c)).tied c.join-count.ensures.tied c.join-count.ensures.grey (c.self.invariant.manned (opened c)))
 
 shared : (c : goal.After-told_count) → HasShared (record c.join-count.new.parts { cycle = c.count_command.new.self }) c.join-count.new.shared
 shared c = subst (λ (p : Parts). HasShared p c.join-count.new.shared) (sym (parts_are c)) c.join-count.ensures.shared
@@ -90,7 +106,11 @@ pub invariant_of-self : goal.invariant_of-self
 invariant_of-self c =
     let h : Shared = c.self.inside.shared in
     record {
-      ready = ready c;
+      ready = λ goes. ready c;
+      manned = λ goes. manned c;
+      joined_at_last = λ closed. absurd (true≢false (sym closed ∙ opened c));
+      most = (ready c).most;
+      made = (ready c).tied.made;
       shared = shared c;
       replies = subst HasTold (sym c.join-count.ensures.kept) (told_joined (state_of c.self.inside.parts) h c.self.invariant.shared.threads c.self.invariant.replies);
       totals = subst (λ (x : Shared). AreTotalsOf c.self.inside.going.value x.threads.replies) (sym c.join-count.ensures.kept) c.self.invariant.totals;
@@ -127,9 +147,10 @@ returns c =
         setup = search rules;
         closed = search rules;
         walked = rw (← c.self.view_is, alone c)
-            (walk_joined _ _ _ c.join-count.new.shared m replies (tells_same _ _ _ c.join-count.ensures.told));
+            (walk_joined _ _ _ c.join-count.new.shared m replies (tells_same _ _ _ (told_by c.self.inside.parts.objects c.join-count.new.parts.objects c.join-count.ensures.grey)));
         started = λ there. absurd (none_started c.join-count.new.shared m replies
             (subst (λ ls. Contains (told_lines c.join-count.new.shared ++ ls) L.Started) (alone c) there));
+        lent = λ marking. all_lent (record c.join-count.new.parts { cycle = c.count_command.new.self }) (ready c) (manned c) marking;
         done = λ t is. absurd (not_stepped (told_lines c.join-count.new.shared) m t true (sym (ap (λ ls. told_lines c.join-count.new.shared ++ ls) (alone c)) ∙ is));
       };
     }

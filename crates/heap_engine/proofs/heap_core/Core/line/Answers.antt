@@ -10,7 +10,7 @@ use Rattle.heap_engine.proofs.heap_core.Core.line.Goals as goal
 
 pub told_count-told-requires : goal.told_count-told-requires
 told_count-told-requires c =
-    is_told_by (state_of c.self.inside.parts) c.self.inside.shared c.self.invariant.shared.threads c.self.invariant.replies c.self.invariant.ready.most
+    is_told_by (state_of c.self.inside.parts) c.self.inside.shared c.self.invariant.shared.threads c.self.invariant.replies c.self.invariant.most
 
 pub invariant_of-self : goal.invariant_of-self
 invariant_of-self c = subst (λ (h : Shared). IsSound (record c.self.inside { shared = h })) (sym c.told_line.ensures.same) c.self.invariant

@@ -1,4 +1,4 @@
-use Rattle.std.proofs.Common.{◌≡◌, ◌++◌, sym, ap, ◌∙◌, subst, arith}
+use Rattle.std.proofs.Common.{◌≡◌, ◌≤◌, ◌++◌, length, sym, ap, ◌∙◌, subst, arith}
 use Rattle.std.proofs.lemmas.Bool.{true≢false}
 use Rattle.gc_graph.specs.State.{Shape}
 use Rattle.callback_table.specs.Table.{kinds_of}
@@ -12,17 +12,17 @@ use Rattle.heap_cycle.specs.declared.shared.Shared.{Shared}
 use Rattle.heap_cycle.specs.Parts.{state_of}
 use Rattle.heap_cycle.specs.Printed.{Printed, IsOutcome, outcome_lines}
 use Rattle.heap_cycle.specs.Shared.{ahead_of, taken_of, told_lines}
-use Rattle.heap_engine.proofs.HeapEmpty.{counted_empty, empty_parts, no_totals, parts_empty, ready_empty, shared_empty, told_empty}
+use Rattle.heap_engine.proofs.HeapEmpty.{counted_empty, empty_parts, manned_empty, no_totals, parts_empty, ready_empty, refusals_empty, shared_empty, told_empty}
 use Rattle.heap_engine.proofs.heap_core.Core.new.Given as given
 use Rattle.heap_engine.proofs.heap_core.Core.new.Goals as goal
 
 -- the parts are those of an empty heap
 are_empty : (d : given.Over) (c : goal.After-empty d)
     → (let parts : Parts = record { objects = c.in_ok-objects.objects; handles = c.in_ok-handles.handles; cycle = c.new-cycle.result } in
-    parts ≡ empty_parts c.in_ok-objects.objects.seat.heap (record { pages = c.args.config.pages; page_words = c.args.config.page_words }) c.args.types (kinds_of c.args.callbacks.now))
+    parts ≡ empty_parts c.in_ok-objects.objects.seat.heap (record { pages = c.args.config.pages; page_words = c.args.config.page_words }) c.args.config.markers c.args.types (kinds_of c.args.callbacks.now))
 are_empty d c =
     parts_empty (record { objects = c.in_ok-objects.objects; handles = c.in_ok-handles.handles; cycle = c.new-cycle.result }) c.in_ok-objects.objects.seat.heap
-    (record { pages = c.args.config.pages; page_words = c.args.config.page_words }) c.args.types (kinds_of c.args.callbacks.now) c.in_ok-objects.ensures.view c.in_ok-handles.ensures
+    (record { pages = c.args.config.pages; page_words = c.args.config.page_words }) c.args.config.markers c.args.types (kinds_of c.args.callbacks.now) c.in_ok-objects.ensures.view c.in_ok-handles.ensures
     c.new-cycle.ensures
 
 pub invariant_of-result : goal.invariant_of-result
@@ -31,12 +31,16 @@ invariant_of-result d c =
     let parts : Parts = record { objects = c.in_ok-objects.objects; handles = c.in_ok-handles.handles; cycle = c.new-cycle.result } in
     let heap : Heap = c.in_ok-objects.objects.seat.heap in
     record {
-      ready = ready_empty parts heap shape c.args.types (kinds_of c.args.callbacks.now) c.empty_is_valid.ensures c.requires.called (are_empty d c);
-      shared = shared_empty parts heap shape c.args.types (kinds_of c.args.callbacks.now) c.in_ok-shared.shared (are_empty d c) c.in_ok-shared.ensures;
+      ready = λ opened. ready_empty parts heap shape c.args.config.markers c.args.types (kinds_of c.args.callbacks.now) c.empty_is_valid.ensures c.requires.called (are_empty d c);
+      manned = λ opened. manned_empty parts heap shape c.args.config.markers c.args.types (kinds_of c.args.callbacks.now) (are_empty d c);
+      joined_at_last = λ closed. absurd (true≢false (sym closed));
+      most = subst (λ (s : Parts). s.cycle.rest.ordinal ≤ 1000000) (sym (are_empty d c)) (omega arith);
+      made = subst (λ (s : Parts). length s.objects.nodes ≤ s.cycle.rest.ordinal) (sym (are_empty d c)) (omega arith);
+      shared = shared_empty parts heap shape c.args.config.markers c.args.types (kinds_of c.args.callbacks.now) c.in_ok-shared.shared (are_empty d c) c.in_ok-shared.ensures;
       replies = told_empty c.in_ok-shared.shared c.in_ok-shared.ensures;
       totals = no_totals c.empty.result.value c.in_ok-shared.shared c.in_ok-shared.ensures;
       joined = λ telling. absurd (true≢false (sym telling ∙ ap (λ (h : Shared). h.telling) c.in_ok-shared.ensures));
-      counted = counted_empty parts heap shape c.args.types (kinds_of c.args.callbacks.now) (are_empty d c);
+      counted = counted_empty parts heap shape c.args.config.markers c.args.types (kinds_of c.args.callbacks.now) (are_empty d c);
       told = subst (λ (o : Printed). IsOutcome o c.new-cycle.result.ran) (sym c.in_ok-outcome.ensures) (record { ran_some = λ runs. cc; last_plain = tt });
       room = omega (arith, ap (λ (o : Printed). o.room) c.in_ok-outcome.ensures, c.word_count.ensures);
     }
@@ -52,7 +56,7 @@ pub returns-clause-traced : goal.returns-clause-traced
 returns-clause-traced d c = ap (λ (s : Parts). kept_of (holds s.objects.seat.traced) s.objects.nodes) (are_empty d c)
 
 pub returns-clause-refusals : goal.returns-clause-refusals
-returns-clause-refusals d c = ap (λ (s : Parts). told_of s.objects) (are_empty d c)
+returns-clause-refusals d c = ap (λ (s : Parts). told_of s.objects) (are_empty d c) ∙ refusals_empty c.args.config.markers
 
 pub returns-clause-history : goal.returns-clause-history
 returns-clause-history d c = ap (λ (h : Shared). entries_of (taken_of h)) c.in_ok-shared.ensures
@@ -64,3 +68,6 @@ pub returns-clause-lines : goal.returns-clause-lines
 returns-clause-lines d c =
     ap (λ (h : Shared). told_lines h ++ outcome_lines c.in_ok-outcome.outcome c.new-cycle.result.ran) c.in_ok-shared.ensures
     ∙ ap (λ (o : Printed). outcome_lines o c.new-cycle.result.ran) c.in_ok-outcome.ensures
+
+pub returns-clause-lent : goal.returns-clause-lent
+returns-clause-lent d c = ap (λ (s : Parts). s.objects.seat.lent) (are_empty d c)

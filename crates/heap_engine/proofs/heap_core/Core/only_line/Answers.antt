@@ -5,7 +5,7 @@ use Rattle.heap_engine.proofs.heap_core.Core.only_line.Goals as goal
 
 pub told_count-requires : goal.told_count-requires
 told_count-requires c =
-    is_told_by (state_of c.self.inside.parts) c.self.inside.shared c.self.invariant.shared.threads c.self.invariant.replies c.self.invariant.ready.most
+    is_told_by (state_of c.self.inside.parts) c.self.inside.shared c.self.invariant.shared.threads c.self.invariant.replies c.self.invariant.most
 
 pub returns-then-told_count-gt0-clause-none : goal.returns-then-told_count-gt0-clause-none
 returns-then-told_count-gt0-clause-none c =

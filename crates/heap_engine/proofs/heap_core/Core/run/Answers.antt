@@ -1,4 +1,4 @@
-use Rattle.std.proofs.Common.{◌≡◌, ℕ, ◌<◌, true, cond, [], ◌∷◌, ◌++◌, Option, IfSome, length, drop, map, sym, ap, ◌∙◌, subst, arith, rules}
+use Rattle.std.proofs.Common.{◌≡◌, ℕ, ◌<◌, true, false, cond, [], ◌∷◌, ◌++◌, Option, IfSome, length, drop, map, sym, ap, ◌∙◌, subst, arith, rules}
 use Rattle.std.proofs.lemmas.Bool.{true≢false}
 use Rattle.std.specs.List.{Contains}
 use Rattle.gc_graph.specs.declared.command.Command.{Command}
@@ -9,18 +9,20 @@ use Rattle.gc_graph.specs.declared.phase.Phase.{Phase}
 use Rattle.gc_graph.specs.Graph.{IsWithin}
 use Rattle.gc_graph.specs.Outcomes.{answered}
 use Rattle.gc_graph.specs.Reach.{HoldsAll}
-use Rattle.gc_graph.specs.State.{State, slot_targets, strong_region_targets}
+use Rattle.gc_graph.specs.State.{Setup, State, slot_targets, strong_region_targets}
 use Rattle.gc_graph.specs.Step.{Step}
 use Rattle.gc_graph.specs.ThreadLaw.{IsCounted}
+use Rattle.gc_graph.specs.Valid.{IsValid}
 use Rattle.cross_thread_region.specs.Histories.{entries_of}
 use Rattle.marker_core.specs.Bodies.{holds}
 use Rattle.nodes_in_words.specs.Places.{kept_of}
-use Rattle.heap_objects.specs.Objects.{told_of}
+use Rattle.heap_objects.specs.Crews.{IsIdleOrLong}
+use Rattle.heap_objects.specs.Objects.{HaveCallbacks, told_of}
 use Rattle.heap_objects.specs.Refused.{RefusalsTold}
 use Rattle.heap_cycle.specs.declared.parts.Parts.{Parts}
 use Rattle.heap_cycle.specs.declared.shared.Shared.{Shared}
 use Rattle.heap_cycle.specs.Cycles.{AreSlotsMarked, HasNoRefusedPush}
-use Rattle.heap_cycle.specs.Parts.{setup_of, state_of, counted, IsReady}
+use Rattle.heap_cycle.specs.Parts.{setup_of, state_of, counted, IsManned, IsReady}
 use Rattle.heap_cycle.specs.Printed.{Printed, TellsNode, IsOutcome, lines_with, outcome_lines}
 use Rattle.heap_cycle.specs.Region.{made}
 use Rattle.heap_cycle.specs.Shared.{HasShared, taken_of, told_lines}
@@ -29,7 +31,7 @@ use Rattle.heap_cycle.specs.Walks.{IsWalkToldIn}
 use Rattle.heap_engine.specs.Ended.{last_line}
 use Rattle.heap_engine.proofs.OutcomeLines.{ended_lines, walk_in_lines}
 use Rattle.heap_engine.proofs.RegionAlone.{made_behind}
-use Rattle.heap_engine.proofs.MarksTold.{started_last, stepped_last, roots_marked, still_marking, all_traced}
+use Rattle.heap_engine.proofs.MarksTold.{all_lent, all_traced, roots_marked, some_run, started_last, stepped_last, still_marking, was_marking}
 use Rattle.heap_engine.proofs.StepLines.{last_plain, started_by, stepped_by}
 use Rattle.heap_engine.proofs.ThreadsTold.{has_begun, none_ahead, totals_after}
 use Rattle.heap_engine.specs.Going.{AreTotalsOf, HasTold}
@@ -39,11 +41,18 @@ use Rattle.heap_engine.proofs.heap_core.Core.run.Goals as goal
 
 -- the region and the threads as they were, once the last command tells nothing more
 pub run-requires-clause-shared : goal.run-requires-clause-shared
-run-requires-clause-shared d c =
+run-requires-clause-shared d c κs live =
     subst (HasShared c.self.inside.parts) (sym c.begin-2.ensures) (shared_quiet c.self.inside.parts c.self.inside.shared c.self.invariant.shared)
 
 pub run-requires-clause-told : goal.run-requires-clause-told
-run-requires-clause-told d c = subst HasTold (sym c.begin-2.ensures) (told_quiet c.self.inside.shared c.self.invariant.replies)
+run-requires-clause-told d c κs live = subst HasTold (sym c.begin-2.ensures) (told_quiet c.self.inside.shared c.self.invariant.replies)
+
+pub run-requires-clause-ready : goal.run-requires-clause-ready
+run-requires-clause-ready d c κs live = c.self.invariant.ready (rw (← c.self.view_is) at c.requires.opened)
+
+-- the heap isn't closed
+opened : (d : given.Over) (c : goal.After-count d) → c.self.inside.closed ≡ false
+opened d c = rw (← c.self.view_is) at c.requires.opened
 
 -- what had been taken of the history
 before_is : (d : given.Over) (c : goal.After-count d) → c.history.result.value ≡ taken_of c.begin-2.new.self
@@ -85,7 +94,24 @@ told d c = record {
 
 -- the parts are ready for the next command
 ready : (d : given.Over) (c : goal.After-count d) → IsReady (record c.run.new.parts { cycle = c.count_command.new.self })
-ready d c = search rules
+ready d c =
+    let s : Parts = c.self.inside.parts in
+    let was : IsReady s = c.self.invariant.ready (opened d c) in
+    let few : s.cycle.rest.ordinal < 1000000 = rw (← c.self.view_is) at c.requires.few in
+    let valid : IsValid (setup_of s) (answered (state_of c.run.new.parts)) =
+    c.step_keeps_valid.ensures (setup_of s) (state_of s) (answered (state_of c.run.new.parts)) c.args.command.now (made (taken_of c.begin-2.new.self) (taken_of c.run.new.shared))
+    (lines_with c.run.new.outcome c.run.new.parts.cycle.ran (last_line c.run.new.outcome)) c.shape_is_valid.ensures.some (rw (← c.self.view_is) at c.requires.allowed) was.valid (step d c) in
+    subst (λ (k : CycleView). IsReady (record c.run.new.parts { cycle = k })) (sym c.count_command.ensures) (record {
+      valid = subst (λ u. IsValid u (answered (state_of c.run.new.parts))) (sym c.run.ensures.frame.setup) valid;
+      called = subst (λ (u : Setup). HaveCallbacks (length u.callbacks) u.types) (sym c.run.ensures.frame.setup) was.called;
+      tied = c.run.ensures.frame.tied;
+      most = omega (arith, c.run.ensures.frame.ordinal, few);
+    })
+
+-- with the markers that ought to run
+manned : (d : given.Over) (c : goal.After-count d) → IsManned (record c.run.new.parts { cycle = c.count_command.new.self })
+manned d c =
+    subst (λ (k : CycleView). IsManned (record c.run.new.parts { cycle = k })) (sym c.count_command.ensures) (c.run.ensures.frame.manned (c.self.invariant.manned (opened d c)))
 
 -- the region is theirs, with its threads
 shared : (d : given.Over) (c : goal.After-count d) → HasShared (record c.run.new.parts { cycle = c.count_command.new.self }) c.run.new.shared
@@ -108,7 +134,11 @@ totals d c =
 
 pub invariant_of-self : goal.invariant_of-self
 invariant_of-self d c = record {
-  ready = ready d c;
+  ready = λ goes. ready d c;
+  manned = λ goes. manned d c;
+  joined_at_last = λ closed. absurd (true≢false (sym closed ∙ opened d c));
+  most = (ready d c).most;
+  made = (ready d c).tied.made;
   shared = shared d c;
   replies = c.run.ensures.told;
   totals = totals d c;
@@ -151,12 +181,17 @@ starts d c there =
     roots_marked (record s { cycle = c.count_command.new.self }) (taken_of c.run.new.shared) (ready d c).tied (ready d c).valid (shared d c).region
     (record { slots = marked.slots; shared = marked.shared })
 
--- where they tell a step that is done, each marked node is traced, unless a push was refused
+-- what a step that is done found, between the parts
+record FindsAll (old new : Parts) : Type 0 where
+  alone :
+      old.objects.grey.markers ≡ 0 → HasNoRefusedPush (told_of new.objects)
+      → IsWithin (kept_of (holds new.objects.seat.marked) new.objects.nodes) (kept_of (holds new.objects.seat.traced) new.objects.nodes)
+  beside : 0 < old.objects.grey.markers → IsIdleOrLong old.objects.grey new.objects.grey
+
+-- where they tell a step that is done, it is
 traces : (d : given.Over) (c : goal.After-count d) (t : ℕ) → outcome_lines c.run.new.outcome c.count_command.new.self.ran ≡ L.Step t true ∷ []
-    → HasNoRefusedPush (told_of c.run.new.parts.objects)
-    → IsWithin (kept_of (holds c.run.new.parts.objects.seat.marked) c.run.new.parts.objects.nodes)
-    (kept_of (holds c.run.new.parts.objects.seat.traced) c.run.new.parts.objects.nodes)
-traces d c t is none =
+    → FindsAll c.self.inside.parts c.run.new.parts
+traces d c t is =
     let s : Parts = c.run.new.parts in
     let old : Parts = c.self.inside.parts in
     let told : lines_with c.run.new.outcome s.cycle.ran (last_line c.run.new.outcome) ≡ L.Step t true ∷ [] = lines d c ∙ is in
@@ -168,8 +203,13 @@ traces d c t is none =
     subst (λ ls. Step (setup_of old) (state_of old) (C.GcStep command.0) (made (taken_of c.begin-2.new.self) (taken_of c.run.new.shared)) ls (answered (state_of s))) told
     (subst (λ (k : Command). Step (setup_of old) (state_of old) k (made (taken_of c.begin-2.new.self) (taken_of c.run.new.shared)) (lines_with c.run.new.outcome s.cycle.ran (last_line c.run.new.outcome)) (answered (state_of s)))
     command.1 (step d c)) in
-    all_traced (counted s) c.run.ensures.frame.tied (still_marking (state_of old) command.0 t true (answered (state_of s)) step.1)
-    (c.run.ensures.done command.0 t command.1 last) none
+    let found = c.run.ensures.done command.0 t command.1 last in
+    record {
+      alone = λ none unrefused.
+          all_traced (counted s) c.run.ensures.frame.tied (still_marking (state_of old) command.0 t true (answered (state_of s)) step.1) (found.alone none) unrefused;
+      beside = λ some.
+          found.beside (some_run old (c.self.invariant.manned (opened d c)) (was_marking (state_of old) command.0 t true (answered (state_of s)) step.1) some);
+    }
 
 -- no more is told before them
 told_none : (d : given.Over) (c : goal.After-count d) → told_lines c.run.new.shared ≡ []
@@ -194,6 +234,9 @@ returns d c = record {
     closed = search rules;
     walked = rw (← c.self.view_is, told_none d c) (walks d c);
     started = λ there. starts d c (subst (λ ls. Contains (ls ++ outcome_lines c.run.new.outcome c.count_command.new.self.ran) L.Started) (told_none d c) there);
-    done = λ t is. traces d c t (sym (ap (λ ls. ls ++ outcome_lines c.run.new.outcome c.count_command.new.self.ran) (told_none d c)) ∙ is);
+    lent = λ marking. all_lent (record c.run.new.parts { cycle = c.count_command.new.self }) (ready d c) (manned d c) marking;
+    done = λ t is.
+        (let found = traces d c t (sym (ap (λ ls. ls ++ outcome_lines c.run.new.outcome c.count_command.new.self.ran) (told_none d c)) ∙ is) in
+        rw (← c.self.view_is) (record { alone = found.alone; beside = found.beside }));
   };
 }
