@@ -5,6 +5,7 @@ use heap_script::{ListSink, ListSource, NoMemory, read_whole};
 use script_run::{Ran, Status, run_program};
 use std::alloc::Global;
 use std::io::ErrorKind;
+use std::thread::Threads;
 use std::{fmt, fs, io};
 
 /// The most bytes of a report, and of a script that is left.
@@ -53,12 +54,12 @@ struct Trial {
     left: usize,
 }
 
-/// How the case of this name comes out.
-pub(crate) fn tried(rt: &HostRuntime, name: &str) -> io::Result<Verdict> {
+/// How the case of this name comes out, whose heap starts no thread unless it has markers.
+pub(crate) fn tried<R: Threads>(rt: &HostRuntime, threads: &R, name: &str) -> io::Result<Verdict> {
     let words = words_of(rt, name)?;
     let script = script_of(rt, name)?;
     let length = script.len();
-    let trial = trial_of(rt.alloc(), &words, script)?;
+    let trial = trial_of(threads, rt.alloc(), &words, script)?;
     let wanted = wanted_of(rt, name)?;
     if trial.left != length && lets_input_alone(&words, trial.ran.status) {
         return Ok(Verdict::Input);
@@ -112,19 +113,29 @@ fn wanted_of(rt: &HostRuntime, name: &str) -> io::Result<Wanted> {
     }
 }
 
-fn trial_of(alloc: Global, words: &[String], script: Vec<u8>) -> io::Result<Trial> {
-    match run_of(alloc, words, script) {
+fn trial_of<R: Threads>(
+    threads: &R,
+    alloc: Global,
+    words: &[String],
+    script: Vec<u8>,
+) -> io::Result<Trial> {
+    match run_of(threads, alloc, words, script) {
         Ok(trial) => Ok(trial),
         Err(_) => Err(io::Error::from(ErrorKind::OutOfMemory)),
     }
 }
 
 /// Runs a script between devices in memory that don't fail.
-fn run_of(alloc: Global, words: &[String], script: Vec<u8>) -> Result<Trial, NoMemory> {
+fn run_of<R: Threads>(
+    threads: &R,
+    alloc: Global,
+    words: &[String],
+    script: Vec<u8>,
+) -> Result<Trial, NoMemory> {
     let mut source = ListSource::new(script, ROOM, Vec::new(alloc));
     let mut sink = ListSink::new(alloc, ROOM, Vec::new(alloc));
     sink.reserve(ROOM)?;
-    let ran = run_program(alloc, words, &mut source, &mut sink)?;
+    let ran = run_program(threads, alloc, words, &mut source, &mut sink)?;
     let left = match read_whole(alloc, &mut source, ROOM) {
         Ok(bytes) => bytes.len(),
         Err(_) => return Err(NoMemory),

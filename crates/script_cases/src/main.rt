@@ -25,7 +25,7 @@ use std::{fs, io};
 fn main(rt: HostRuntime) -> io::Result<()> {
     let names = fs::read_to_string(&rt, "cases.txt")?;
     for name in names.lines() {
-        let verdict = cases::tried(&rt, name)?;
+        let verdict = cases::tried(&rt, &rt, name)?;
         println!(rt; "{name} {verdict}")?;
     }
     Ok(())

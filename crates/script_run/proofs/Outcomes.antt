@@ -10,17 +10,17 @@ use Rattle.script_run.specs.declared.status.Status.{Status}
 use Rattle.script_run.specs.declared.status.Status.TheVariants as S
 use Rattle.command_line.specs.declared.options.Generated.{Generated}
 use Rattle.command_line.specs.declared.options.Options.{Options}
-use Rattle.command_line.specs.Options.{options_asked, shape_asked}
+use Rattle.command_line.specs.Options.{options_asked}
 use Rattle.script_run.specs.Headline.{RunsBytes, RunsScript, status_of_fault, IsScriptInput, IsScriptRun, IsDone, IsStopped, IsFaultyInput, needs_input, reads_input, tells_of_input}
 use Rattle.script_generator.specs.Generated.{generated}
 use Rattle.script_run.proofs.Inputs.{read_whole_of}
 use Rattle.gc_graph.specs.declared.action.ActionKind.{ActionKind}
-use Rattle.gc_graph.specs.State.{Shape}
 use Rattle.gc_graph.specs.Script.{Script, IsScript}
+use Rattle.script_run.specs.Setting.{Plan, plan_asked}
 
 -- an answer to the script is one to its bytes
 pub bytes_of_script : (kinds : List ActionKind) (options : Options) (bytes : List ℕ) (script : Script) (w z : Option (List ℕ)) (kept : Option View) (status : Status)
-    → IsScript (length kinds) bytes script → RunsScript kinds options.summary (shape_asked options) script w z kept status → RunsBytes kinds options bytes w z kept status
+    → IsScript (length kinds) bytes script → RunsScript kinds options.summary (plan_asked options) script w z kept status → RunsBytes kinds options bytes w z kept status
 bytes_of_script kinds options bytes script w z kept S.Done is answer = (script, is, answer)
 bytes_of_script kinds options bytes script w z kept S.WriteFault is answer = (script, is, answer)
 bytes_of_script kinds options bytes script w z kept S.NoMemory is answer = answer
@@ -109,7 +109,7 @@ made_of options made callbacks left some =
     subst (λ (asked : Option Generated). IsScriptRun asked callbacks left left (generated made.seed made.count)) (sym some) (refl, refl)
 
 made_done_of : (kinds : List ActionKind) (words : List (List ℕ)) (options : Options) (made : Generated) → AskGenerated words options made → (left w z : Option (List ℕ)) (kept : Option View)
-    → RunsScript kinds options.summary (shape_asked options) (generated made.seed made.count) w z kept S.Done → MatchOption kept ⊥ (λ heap. IsDone kinds words left left w z heap)
+    → RunsScript kinds options.summary (plan_asked options) (generated made.seed made.count) w z kept S.Done → MatchOption kept ⊥ (λ heap. IsDone kinds words left left w z heap)
 made_done_of kinds words options made ask left w z None answer = answer
 made_done_of kinds words options made ask left w z (Some heap) answer = record {
   options = options;
@@ -120,17 +120,17 @@ made_done_of kinds words options made ask left w z (Some heap) answer = record {
 }
 
 pub made_done : (kinds : List ActionKind) (words : List (List ℕ)) (options : Options) (made : Generated) → AskGenerated words options made → (left w z : Option (List ℕ)) (kept : Option View) (status : Status)
-    → RunsScript kinds options.summary (shape_asked options) (generated made.seed made.count) w z kept status → status ≡ S.Done
+    → RunsScript kinds options.summary (plan_asked options) (generated made.seed made.count) w z kept status → status ≡ S.Done
     → MatchOption kept ⊥ (λ heap. IsDone kinds words left left w z heap)
 made_done kinds words options made ask left w z kept status answer is =
     made_done_of kinds words options made ask left w z kept
-    (subst (RunsScript kinds options.summary (shape_asked options) (generated made.seed made.count) w z kept) is answer)
+    (subst (RunsScript kinds options.summary (plan_asked options) (generated made.seed made.count) w z kept) is answer)
 
 pub made_stopped : (kinds : List ActionKind) (words : List (List ℕ)) (options : Options) (made : Generated) → AskGenerated words options made → (left w z : Option (List ℕ)) (kept : Option View) (status : Status)
-    → RunsScript kinds options.summary (shape_asked options) (generated made.seed made.count) w z kept status → status ≡ S.WriteFault
+    → RunsScript kinds options.summary (plan_asked options) (generated made.seed made.count) w z kept status → status ≡ S.WriteFault
     → IsStopped kinds words left left w z
 made_stopped kinds words options made ask left w z kept status answer is =
-    let stopped = subst (RunsScript kinds options.summary (shape_asked options) (generated made.seed made.count) w z kept) is answer in
+    let stopped = subst (RunsScript kinds options.summary (plan_asked options) (generated made.seed made.count) w z kept) is answer in
     record {
       options = options;
       asked = ask.asked;
@@ -140,15 +140,15 @@ made_stopped kinds words options made ask left w z kept status answer is =
     }
 
 -- a script that was there from the start has no answer that tells of the input
-pub script_tells_no_input : (kinds : List ActionKind) (summary : Bool) (shape : Shape) (script : Script) (w z : Option (List ℕ)) (kept : Option View) (status : Status)
-    → RunsScript kinds summary shape script w z kept status → tells_of_input status ≡ true → ⊥
-script_tells_no_input kinds summary shape script w z kept S.Done answer tells = true≢false (sym tells)
-script_tells_no_input kinds summary shape script w z kept S.WriteFault answer tells = true≢false (sym tells)
-script_tells_no_input kinds summary shape script w z kept S.NoMemory answer tells = true≢false (sym tells)
-script_tells_no_input kinds summary shape script w z kept S.TooLong answer tells = answer
-script_tells_no_input kinds summary shape script w z kept (S.Script line reason) answer tells = answer
-script_tells_no_input kinds summary shape script w z kept S.ReadFault answer tells = answer
-script_tells_no_input kinds summary shape script w z kept S.Usage answer tells = answer
+pub script_tells_no_input : (kinds : List ActionKind) (summary : Bool) (plan : Plan) (script : Script) (w z : Option (List ℕ)) (kept : Option View) (status : Status)
+    → RunsScript kinds summary plan script w z kept status → tells_of_input status ≡ true → ⊥
+script_tells_no_input kinds summary plan script w z kept S.Done answer tells = true≢false (sym tells)
+script_tells_no_input kinds summary plan script w z kept S.WriteFault answer tells = true≢false (sym tells)
+script_tells_no_input kinds summary plan script w z kept S.NoMemory answer tells = true≢false (sym tells)
+script_tells_no_input kinds summary plan script w z kept S.TooLong answer tells = answer
+script_tells_no_input kinds summary plan script w z kept (S.Script line reason) answer tells = answer
+script_tells_no_input kinds summary plan script w z kept S.ReadFault answer tells = answer
+script_tells_no_input kinds summary plan script w z kept S.Usage answer tells = answer
 
 -- ---- what words ask
 

@@ -5,40 +5,40 @@ use Rattle.std.proofs.lemmas.List.{take_all}
 use Rattle.gc_graph.specs.declared.command.Command.{Command}
 use Rattle.gc_graph.specs.declared.line.Line.{Line}
 use Rattle.gc_graph.specs.declared.action.ActionKind.{ActionKind}
-use Rattle.gc_graph.specs.State.{State, Shape, empty_state}
+use Rattle.gc_graph.specs.State.{State, empty_state}
 use Rattle.gc_graph.specs.Lawful.{IsLawful, IsEndLine}
 use Rattle.gc_graph.specs.Report.{line_bytes, lines_bytes, type_lines, outcomes_bytes, report_of}
 use Rattle.gc_graph.specs.Script.{Script}
 use Rattle.text_devices.specs.Devices.{Grew, GrewByFront, Writes}
-use Rattle.heap_engine.specs.View.{View}
-use Rattle.script_run.specs.Setting.{setup_of}
+use Rattle.heap_engine.specs.View.{IsClosed, View}
+use Rattle.script_run.specs.Setting.{Plan, setup_of}
 use Rattle.script_run.specs.Printed.{IsPrintedRun, IsPartRun, printed_lines}
 use Rattle.script_run.specs.Headline.{IsWholeRun, IsReportCut, IsTold}
 use Rattle.script_run.proofs.Writing.{grew, grew_front, longer}
 use Rattle.script_run.proofs.Printing.{printed_none}
 
 -- the heap that did all the commands of the script
-pub record HasPrinted (kinds : List ActionKind) (shape : Shape) (script : Script) (x y : Option (List ℕ)) (old mid : View) : Type 0 where
-  pub setup : old.setup ≡ setup_of kinds shape script.types
+pub record HasPrinted (kinds : List ActionKind) (plan : Plan) (script : Script) (x y : Option (List ℕ)) (old mid : View) : Type 0 where
+  pub setup : old.setup ≡ setup_of kinds plan script.types
   pub same : mid.setup ≡ old.setup
   pub run : IsPrintedRun old.setup script.commands x y mid
 
 -- the same in words of the script alone
-run_of : (kinds : List ActionKind) (shape : Shape) (script : Script) (x y : Option (List ℕ)) (old mid : View) → HasPrinted kinds shape script x y old mid
-    → IsPrintedRun (setup_of kinds shape script.types) script.commands x y mid
-run_of kinds shape script x y old mid has = subst (λ s. IsPrintedRun s script.commands x y mid) has.setup has.run
+run_of : (kinds : List ActionKind) (plan : Plan) (script : Script) (x y : Option (List ℕ)) (old mid : View) → HasPrinted kinds plan script x y old mid
+    → IsPrintedRun (setup_of kinds plan script.types) script.commands x y mid
+run_of kinds plan script x y old mid has = subst (λ s. IsPrintedRun s script.commands x y mid) has.setup has.run
 
-end_of : (kinds : List ActionKind) (shape : Shape) (script : Script) (x y : Option (List ℕ)) (old mid : View) (end : Line) → HasPrinted kinds shape script x y old mid
-    → IsEndLine mid.setup mid.state end → IsEndLine (setup_of kinds shape script.types) mid.state end
-end_of kinds shape script x y old mid end has ended = subst (λ s. IsEndLine s mid.state end) (has.same ∙ has.setup) ended
+end_of : (kinds : List ActionKind) (plan : Plan) (script : Script) (x y : Option (List ℕ)) (old mid : View) (end : Line) → HasPrinted kinds plan script x y old mid
+    → IsEndLine mid.setup mid.state end → IsEndLine (setup_of kinds plan script.types) mid.state end
+end_of kinds plan script x y old mid end has ended = subst (λ s. IsEndLine s mid.state end) (has.same ∙ has.setup) ended
 
-whole_run : (kinds : List ActionKind) (shape : Shape) (script : Script) (w x y z : Option (List ℕ)) (old mid heap : View) (end : Line)
-    → Grew w x (lines_bytes (type_lines 0 script.types)) → HasPrinted kinds shape script x y old mid → mid.state.ordinal ≡ length script.commands
-    → IsEndLine mid.setup mid.state end → heap ≡ record mid { closed = true } → Grew y z (line_bytes end)
-    → IsWholeRun false kinds shape script w z heap
-whole_run kinds shape script w x y z old mid heap end types has count ended is last =
-    let run = run_of kinds shape script x y old mid has in
-    subst (λ (h : View). IsWholeRun false kinds shape script w z h) (sym is) (record {
+whole_run : (kinds : List ActionKind) (plan : Plan) (script : Script) (w x y z : Option (List ℕ)) (old mid heap : View) (end : Line)
+    → Grew w x (lines_bytes (type_lines 0 script.types)) → HasPrinted kinds plan script x y old mid → mid.state.ordinal ≡ length script.commands
+    → IsEndLine mid.setup mid.state end → IsClosed mid heap → Grew y z (line_bytes end)
+    → IsWholeRun false kinds plan script w z heap
+whole_run kinds plan script w x y z old mid heap end types has count ended is last =
+    let run = run_of kinds plan script x y old mid has in
+    subst (λ (h : View). IsWholeRun false kinds plan script w z h) (sym is) (record {
       outcomes = run.outcomes;
       history = mid.history;
       text = report_of script.types (printed_lines run.outcomes) end;
@@ -47,7 +47,7 @@ whole_run kinds shape script w x y z old mid heap end types has count ended is l
       taken = refl;
       printed = record {
         end = end;
-        counted = subst (λ (s : State). IsEndLine (setup_of kinds shape script.types) s end) run.ran.last (end_of kinds shape script x y old mid end has ended);
+        counted = subst (λ (s : State). IsEndLine (setup_of kinds plan script.types) s end) run.ran.last (end_of kinds plan script x y old mid end has ended);
         report = refl;
       };
       written = grew w y z _ _ (grew w x y _ _ types run.written) last;
@@ -56,11 +56,11 @@ whole_run kinds shape script w x y z old mid heap end types has count ended is l
       count = count;
     })
 
-pub cut_in_types : (kinds : List ActionKind) (shape : Shape) (script : Script) (w x : Option (List ℕ)) (old : View) → old.state ≡ empty_state → old.history ≡ []
-    → GrewByFront w x (lines_bytes (type_lines 0 script.types)) → IsReportCut kinds shape script w x
-cut_in_types kinds shape script w x old start fresh front =
-    let start_run : IsPrintedRun (setup_of kinds shape script.types) (take 0 script.commands) x x old =
-    printed_none (setup_of kinds shape script.types) script.commands x old start fresh in
+pub cut_in_types : (kinds : List ActionKind) (plan : Plan) (script : Script) (w x : Option (List ℕ)) (old : View) → old.state ≡ empty_state → old.history ≡ []
+    → GrewByFront w x (lines_bytes (type_lines 0 script.types)) → IsReportCut kinds plan script w x
+cut_in_types kinds plan script w x old start fresh front =
+    let start_run : IsPrintedRun (setup_of kinds plan script.types) (take 0 script.commands) x x old =
+    printed_none (setup_of kinds plan script.types) script.commands x old start fresh in
     record {
       number = 0;
       within = omega arith;
@@ -72,9 +72,9 @@ cut_in_types kinds shape script w x old start fresh front =
       written = longer w x _ [] (longer w x _ (outcomes_bytes (printed_lines start_run.outcomes)) front);
     }
 
-pub cut_in_outcomes : (kinds : List ActionKind) (shape : Shape) (script : Script) (w x y : Option (List ℕ)) (old : View) → Grew w x (lines_bytes (type_lines 0 script.types))
-    → old.setup ≡ setup_of kinds shape script.types → IsPartRun old.setup script.commands x y → IsReportCut kinds shape script w y
-cut_in_outcomes kinds shape script w x y old types setup part =
+pub cut_in_outcomes : (kinds : List ActionKind) (plan : Plan) (script : Script) (w x y : Option (List ℕ)) (old : View) → Grew w x (lines_bytes (type_lines 0 script.types))
+    → old.setup ≡ setup_of kinds plan script.types → IsPartRun old.setup script.commands x y → IsReportCut kinds plan script w y
+cut_in_outcomes kinds plan script w x y old types setup part =
     let run = subst (λ s. IsPartRun s script.commands x y) setup part in
     record {
       number = run.number;
@@ -87,33 +87,33 @@ cut_in_outcomes kinds shape script w x y old types setup part =
       written = longer w y _ [] (grew_front w x y _ _ types run.written);
     }
 
-cut_in_end : (kinds : List ActionKind) (shape : Shape) (script : Script) (w x y z : Option (List ℕ)) (old mid : View) (end : Line)
-    → Grew w x (lines_bytes (type_lines 0 script.types)) → HasPrinted kinds shape script x y old mid
-    → IsEndLine mid.setup mid.state end → GrewByFront y z (line_bytes end) → IsReportCut kinds shape script w z
-cut_in_end kinds shape script w x y z old mid end types has ended last =
-    let run = run_of kinds shape script x y old mid has in
+cut_in_end : (kinds : List ActionKind) (plan : Plan) (script : Script) (w x y z : Option (List ℕ)) (old mid : View) (end : Line)
+    → Grew w x (lines_bytes (type_lines 0 script.types)) → HasPrinted kinds plan script x y old mid
+    → IsEndLine mid.setup mid.state end → GrewByFront y z (line_bytes end) → IsReportCut kinds plan script w z
+cut_in_end kinds plan script w x y z old mid end types has ended last =
+    let run = run_of kinds plan script x y old mid has in
     record {
       number = length script.commands;
       within = omega arith;
       outcomes = run.outcomes;
       history = mid.history;
-      lawful = subst (λ (ks : List Command). IsLawful (setup_of kinds shape script.types) ks run.outcomes mid.history)
+      lawful = subst (λ (ks : List Command). IsLawful (setup_of kinds plan script.types) ks run.outcomes mid.history)
           (sym (take_all (length script.commands) script.commands (omega arith))) run.ran.lawful;
       ending = line_bytes end;
       ends = inr (
         refl,
-        (end, subst (λ (s : State). IsEndLine (setup_of kinds shape script.types) s end) run.ran.last (end_of kinds shape script x y old mid end has ended), refl),
+        (end, subst (λ (s : State). IsEndLine (setup_of kinds plan script.types) s end) run.ran.last (end_of kinds plan script x y old mid end has ended), refl),
       );
       written = grew_front w y z _ _ (grew w x y _ _ types run.written) last;
     }
 
 -- ---- the end line is written or not
 
-pub told_at_end : {T E : Type 0} (kinds : List ActionKind) (shape : Shape) (script : Script) (w x y z : Option (List ℕ)) (old mid heap : View) (end : Line) (result : Result T E)
-    → Grew w x (lines_bytes (type_lines 0 script.types)) → HasPrinted kinds shape script x y old mid → mid.state.ordinal ≡ length script.commands
-    → IsEndLine mid.setup mid.state end → heap ≡ record mid { closed = true } → Writes y z (line_bytes end) result
-    → IsTold false kinds shape script w z heap result
-told_at_end kinds shape script w x y z old mid heap end (Ok u) types has count ended is last =
-    whole_run kinds shape script w x y z old mid heap end types has count ended is last
-told_at_end kinds shape script w x y z old mid heap end (Err e) types has count ended is last =
-    cut_in_end kinds shape script w x y z old mid end types has ended last
+pub told_at_end : {T E : Type 0} (kinds : List ActionKind) (plan : Plan) (script : Script) (w x y z : Option (List ℕ)) (old mid heap : View) (end : Line) (result : Result T E)
+    → Grew w x (lines_bytes (type_lines 0 script.types)) → HasPrinted kinds plan script x y old mid → mid.state.ordinal ≡ length script.commands
+    → IsEndLine mid.setup mid.state end → IsClosed mid heap → Writes y z (line_bytes end) result
+    → IsTold false kinds plan script w z heap result
+told_at_end kinds plan script w x y z old mid heap end (Ok u) types has count ended is last =
+    whole_run kinds plan script w x y z old mid heap end types has count ended is last
+told_at_end kinds plan script w x y z old mid heap end (Err e) types has count ended is last =
+    cut_in_end kinds plan script w x y z old mid end types has ended last

@@ -4,15 +4,15 @@ use Rattle.std.specs.Prelude.{Result, Ok, Err}
 use Rattle.std.proofs.lemmas.List.{take_all}
 use Rattle.gc_graph.specs.declared.command.Command.{Command}
 use Rattle.gc_graph.specs.declared.action.ActionKind.{ActionKind}
-use Rattle.gc_graph.specs.State.{Setup, State, Shape, empty_state}
+use Rattle.gc_graph.specs.State.{Setup, State, empty_state}
 use Rattle.gc_graph.specs.HistoryLaw.{RunsAreReplayed}
 use Rattle.gc_graph.specs.Lawful.{Outcome, last_state, summary_line}
 use Rattle.gc_graph.specs.Report.{line_bytes}
 use Rattle.gc_graph.specs.Script.{Script}
 use Rattle.text_devices.specs.Devices.{GrewByFront, Writes}
 use Rattle.heap_engine.specs.Acted.{IsActed}
-use Rattle.heap_engine.specs.View.{View}
-use Rattle.script_run.specs.Setting.{setup_of}
+use Rattle.heap_engine.specs.View.{IsClosed, View}
+use Rattle.script_run.specs.Setting.{Plan, setup_of}
 use Rattle.script_run.specs.Printed.{HasRunAll}
 use Rattle.script_run.specs.Headline.{IsWholeRun, IsTold}
 use Rattle.script_run.proofs.LawfulRuns.{outcome_of, has_run_next, has_run_none}
@@ -42,8 +42,8 @@ ran_all setup commands i heap end ran = subst (λ (ks : List Command). HasRunAll
 -- ---- the line
 
 -- the heap that did all the commands of the script, and of which a summary is printed
-pub record HasSummed (kinds : List ActionKind) (shape : Shape) (script : Script) (old mid : View) : Type 0 where
-  pub setup : old.setup ≡ setup_of kinds shape script.types
+pub record HasSummed (kinds : List ActionKind) (plan : Plan) (script : Script) (old mid : View) : Type 0 where
+  pub setup : old.setup ≡ setup_of kinds plan script.types
   pub same : mid.setup ≡ old.setup
   pub ran : HasRunAll old.setup script.commands mid
   pub count : mid.state.ordinal ≡ length script.commands
@@ -52,16 +52,16 @@ line_of : (mid : View) (outcomes : List Outcome) → mid.state ≡ last_state em
     → line_bytes (summary_line mid.state) ≡ line_bytes (summary_line (last_state empty_state outcomes))
 line_of mid outcomes is = ap (λ (s : State). line_bytes (summary_line s)) is
 
-ran_of : (kinds : List ActionKind) (shape : Shape) (script : Script) (old mid : View) → HasSummed kinds shape script old mid
-    → HasRunAll (setup_of kinds shape script.types) script.commands mid
-ran_of kinds shape script old mid has = subst (λ (s : Setup). HasRunAll s script.commands mid) has.setup has.ran
+ran_of : (kinds : List ActionKind) (plan : Plan) (script : Script) (old mid : View) → HasSummed kinds plan script old mid
+    → HasRunAll (setup_of kinds plan script.types) script.commands mid
+ran_of kinds plan script old mid has = subst (λ (s : Setup). HasRunAll s script.commands mid) has.setup has.ran
 
-pub told_in_summary : {T E : Type 0} (kinds : List ActionKind) (shape : Shape) (script : Script) (y z : Option (List ℕ)) (old mid heap : View) (result : Result T E)
-    → HasSummed kinds shape script old mid → heap ≡ record mid { closed = true } → Writes y z (line_bytes (summary_line mid.state)) result
-    → IsTold true kinds shape script y z heap result
-told_in_summary kinds shape script y z old mid heap (Ok u) has is written =
-    let ran = ran_of kinds shape script old mid has in
-    subst (λ (h : View). IsWholeRun true kinds shape script y z h) (sym is) (record {
+pub told_in_summary : {T E : Type 0} (kinds : List ActionKind) (plan : Plan) (script : Script) (y z : Option (List ℕ)) (old mid heap : View) (result : Result T E)
+    → HasSummed kinds plan script old mid → IsClosed mid heap → Writes y z (line_bytes (summary_line mid.state)) result
+    → IsTold true kinds plan script y z heap result
+told_in_summary kinds plan script y z old mid heap (Ok u) has is written =
+    let ran = ran_of kinds plan script old mid has in
+    subst (λ (h : View). IsWholeRun true kinds plan script y z h) (sym is) (record {
       outcomes = ran.0;
       history = mid.history;
       text = line_bytes (summary_line mid.state);
@@ -74,8 +74,8 @@ told_in_summary kinds shape script y z old mid heap (Ok u) has is written =
       closed = refl;
       count = has.count;
     })
-told_in_summary kinds shape script y z old mid heap (Err e) has is written =
-    let ran = ran_of kinds shape script old mid has in
+told_in_summary kinds plan script y z old mid heap (Err e) has is written =
+    let ran = ran_of kinds plan script old mid has in
     record {
       outcomes = ran.0;
       history = mid.history;

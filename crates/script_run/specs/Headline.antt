@@ -4,7 +4,7 @@ use Rattle.std.specs.Prelude.{◌≡◌, ℕ, ◌≤◌, ◌==◌, not, is_some,
 use Rattle.gc_graph.specs.declared.action.ActionKind.{ActionKind}
 use Rattle.gc_graph.specs.declared.line.Line.{Line}
 use Rattle.gc_graph.specs.declared.region.Entry.{Entry}
-use Rattle.gc_graph.specs.State.{Setup, Shape, empty_state}
+use Rattle.gc_graph.specs.State.{Setup, empty_state}
 use Rattle.gc_graph.specs.Lawful.{Outcome, IsLawful, IsEndLine, last_state, summary_line}
 use Rattle.gc_graph.specs.Report.{type_lines, line_bytes, lines_bytes, outcomes_bytes, report_of}
 use Rattle.gc_graph.specs.Script.{Script, IsScript, IsTooLong, IsInLimits, IsFault}
@@ -15,9 +15,9 @@ use Rattle.script_run.specs.declared.status.Status.{Status}
 use Rattle.script_run.specs.declared.status.Status.TheVariants as S
 use Rattle.command_line.specs.declared.options.Generated.{Generated}
 use Rattle.command_line.specs.declared.options.Options.{Options}
-use Rattle.command_line.specs.Options.{options_asked, shape_asked}
+use Rattle.command_line.specs.Options.{options_asked}
 use Rattle.script_generator.specs.Generated.{generated}
-use Rattle.script_run.specs.Setting.{setup_of}
+use Rattle.script_run.specs.Setting.{Plan, plan_asked, setup_of}
 use Rattle.script_run.specs.Printed.{IsEnding, printed_lines}
 
 -- ---- what is printed of a run
@@ -37,42 +37,42 @@ IsPrinted true setup script outcomes text = text ≡ line_bytes (summary_line (l
 
 -- a lawful run of the whole script led to this heap, which is closed and has taken the history of that run, and what is printed of
 -- the run was written
-pub record IsWholeRun (summary : Bool) (kinds : List ActionKind) (shape : Shape) (script : Script) (before after : Option (List ℕ)) (heap : View) : Type 0 where
+pub record IsWholeRun (summary : Bool) (kinds : List ActionKind) (plan : Plan) (script : Script) (before after : Option (List ℕ)) (heap : View) : Type 0 where
   pub outcomes : List Outcome
   pub history : List Entry
   pub text : List ℕ
-  pub lawful : IsLawful (setup_of kinds shape script.types) script.commands outcomes history
+  pub lawful : IsLawful (setup_of kinds plan script.types) script.commands outcomes history
   pub state : heap.state ≡ last_state empty_state outcomes
   pub taken : heap.history ≡ history
-  pub printed : IsPrinted summary (setup_of kinds shape script.types) script outcomes text
+  pub printed : IsPrinted summary (setup_of kinds plan script.types) script outcomes text
   pub written : Grew before after text
-  pub setup : heap.setup ≡ setup_of kinds shape script.types
+  pub setup : heap.setup ≡ setup_of kinds plan script.types
   pub closed : heap.closed ≡ true
   pub count : heap.state.ordinal ≡ length script.commands
 
 -- a beginning of the report of a lawful run of the first commands was written
-pub record IsReportCut (kinds : List ActionKind) (shape : Shape) (script : Script) (before after : Option (List ℕ)) : Type 0 where
+pub record IsReportCut (kinds : List ActionKind) (plan : Plan) (script : Script) (before after : Option (List ℕ)) : Type 0 where
   pub number : ℕ
   pub within : number ≤ length script.commands
   pub outcomes : List Outcome
   pub history : List Entry
-  pub lawful : IsLawful (setup_of kinds shape script.types) (take number script.commands) outcomes history
+  pub lawful : IsLawful (setup_of kinds plan script.types) (take number script.commands) outcomes history
   pub ending : List ℕ
-  pub ends : IsEnding (setup_of kinds shape script.types) script.commands number (last_state empty_state outcomes) ending
+  pub ends : IsEnding (setup_of kinds plan script.types) script.commands number (last_state empty_state outcomes) ending
   pub written :
       GrewByFront before after (lines_bytes (type_lines 0 script.types) ++ outcomes_bytes (printed_lines outcomes) ++ ending)
 
 -- a beginning of the summary of a lawful run of the whole script was written
-pub record IsSummaryCut (kinds : List ActionKind) (shape : Shape) (script : Script) (before after : Option (List ℕ)) : Type 0 where
+pub record IsSummaryCut (kinds : List ActionKind) (plan : Plan) (script : Script) (before after : Option (List ℕ)) : Type 0 where
   pub outcomes : List Outcome
   pub history : List Entry
-  pub lawful : IsLawful (setup_of kinds shape script.types) script.commands outcomes history
+  pub lawful : IsLawful (setup_of kinds plan script.types) script.commands outcomes history
   pub written : GrewByFront before after (line_bytes (summary_line (last_state empty_state outcomes)))
 
 -- a beginning of what is printed of a lawful run was written
-abbrev pub IsCutShort : Bool → List ActionKind → Shape → Script → Option (List ℕ) → Option (List ℕ) → Type 0
-IsCutShort false kinds shape script before after = IsReportCut kinds shape script before after
-IsCutShort true kinds shape script before after = IsSummaryCut kinds shape script before after
+abbrev pub IsCutShort : Bool → List ActionKind → Plan → Script → Option (List ℕ) → Option (List ℕ) → Type 0
+IsCutShort false kinds plan script before after = IsReportCut kinds plan script before after
+IsCutShort true kinds plan script before after = IsSummaryCut kinds plan script before after
 
 -- ---- the script that is run
 
@@ -100,7 +100,7 @@ pub record IsDone (kinds : List ActionKind) (words : List (List ℕ)) (left_befo
   pub asked : options_asked words ≡ Some options
   pub script : Script
   pub input : IsScriptRun options.generated (length kinds) left_before left_after script
-  pub run : IsWholeRun options.summary kinds (shape_asked options) script before after heap
+  pub run : IsWholeRun options.summary kinds (plan_asked options) script before after heap
 
 -- the words asked for options; the script was run, and of what is printed of the run only a beginning was written
 pub record IsStopped (kinds : List ActionKind) (words : List (List ℕ)) (left_before left_after before after : Option (List ℕ)) : Type 0 where
@@ -108,7 +108,7 @@ pub record IsStopped (kinds : List ActionKind) (words : List (List ℕ)) (left_b
   pub asked : options_asked words ≡ Some options
   pub script : Script
   pub input : IsScriptRun options.generated (length kinds) left_before left_after script
-  pub run : IsCutShort options.summary kinds (shape_asked options) script before after
+  pub run : IsCutShort options.summary kinds (plan_asked options) script before after
 
 -- ---- the input
 
@@ -155,29 +155,29 @@ pub record IsUntouched (told_before told_after : Option (List ℕ)) (faults_befo
 -- ---- what the parts of the program answer
 
 -- all that is printed was written of a run that led to this heap, or after a failure a beginning of it
-abbrev pub IsTold : {T E : Type 0} → Bool → List ActionKind → Shape → Script → Option (List ℕ) → Option (List ℕ) → View → Result T E → Type 0
-IsTold summary kinds shape script before after heap (Ok u) = IsWholeRun summary kinds shape script before after heap
-IsTold summary kinds shape script before after heap (Err e) = IsCutShort summary kinds shape script before after
+abbrev pub IsTold : {T E : Type 0} → Bool → List ActionKind → Plan → Script → Option (List ℕ) → Option (List ℕ) → View → Result T E → Type 0
+IsTold summary kinds plan script before after heap (Ok u) = IsWholeRun summary kinds plan script before after heap
+IsTold summary kinds plan script before after heap (Err e) = IsCutShort summary kinds plan script before after
 
 -- what comes of a script, where the callbacks are of these kinds
-abbrev pub RunsScript : List ActionKind → Bool → Shape → Script → Option (List ℕ) → Option (List ℕ) → Option View → Status → Type 0
-RunsScript kinds summary shape script before after kept S.Done =
-    MatchOption kept ⊥ (λ heap. IsWholeRun summary kinds shape script before after heap)
-RunsScript kinds summary shape script before after kept S.WriteFault = (kept ≡ None) × IsCutShort summary kinds shape script before after
-RunsScript kinds summary shape script before after kept S.NoMemory = (kept ≡ None) × Grew before after []
-RunsScript kinds summary shape script before after kept S.TooLong = ⊥
-RunsScript kinds summary shape script before after kept (S.Script line reason) = ⊥
-RunsScript kinds summary shape script before after kept S.ReadFault = ⊥
-RunsScript kinds summary shape script before after kept S.Usage = ⊥
+abbrev pub RunsScript : List ActionKind → Bool → Plan → Script → Option (List ℕ) → Option (List ℕ) → Option View → Status → Type 0
+RunsScript kinds summary plan script before after kept S.Done =
+    MatchOption kept ⊥ (λ heap. IsWholeRun summary kinds plan script before after heap)
+RunsScript kinds summary plan script before after kept S.WriteFault = (kept ≡ None) × IsCutShort summary kinds plan script before after
+RunsScript kinds summary plan script before after kept S.NoMemory = (kept ≡ None) × Grew before after []
+RunsScript kinds summary plan script before after kept S.TooLong = ⊥
+RunsScript kinds summary plan script before after kept (S.Script line reason) = ⊥
+RunsScript kinds summary plan script before after kept S.ReadFault = ⊥
+RunsScript kinds summary plan script before after kept S.Usage = ⊥
 
 -- what comes of bytes that were read up to the first past the limit
 abbrev pub RunsBytes : List ActionKind → Options → List ℕ → Option (List ℕ) → Option (List ℕ) → Option View → Status → Type 0
 RunsBytes kinds options bytes before after kept S.Done =
     (script : Script) × IsScript (length kinds) bytes script
-    × RunsScript kinds options.summary (shape_asked options) script before after kept S.Done
+    × RunsScript kinds options.summary (plan_asked options) script before after kept S.Done
 RunsBytes kinds options bytes before after kept S.WriteFault =
     (script : Script) × IsScript (length kinds) bytes script
-    × RunsScript kinds options.summary (shape_asked options) script before after kept S.WriteFault
+    × RunsScript kinds options.summary (plan_asked options) script before after kept S.WriteFault
 RunsBytes kinds options bytes before after kept S.NoMemory = (kept ≡ None) × Grew before after []
 RunsBytes kinds options bytes before after kept S.TooLong = (kept ≡ None) × Grew before after [] × IsTooLong bytes
 RunsBytes kinds options bytes before after kept (S.Script line reason) =

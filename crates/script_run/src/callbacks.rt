@@ -10,7 +10,10 @@ use super::one_run::run;
 use super::status::Status;
 use callback_table::{Action, ActionKind, Callback, CallbackTable};
 use heap_script::{NoMemory, Sink, Source};
+use marker_crew::FreeGate;
 use std::alloc::Global;
+use std::sync::Arc;
+use std::thread::Threads;
 
 /// How a run ended, and whether its heap was kept.
 #[derive(Clone, Copy, Drop)]
@@ -19,8 +22,10 @@ pub struct Ran {
     pub is_kept: bool,
 }
 
-/// Runs the script of the source with the five callbacks of the program. Want of memory is free.
-pub fn run_program<S: Source, K: Sink>(
+/// Runs the script of the source with the five callbacks of the program, and holds nobody at the gate.
+/// Want of memory is free.
+pub fn run_program<R: Threads, S: Source, K: Sink>(
+    rt: &R,
     alloc: Global,
     words: &[String],
     source: &mut S,
@@ -49,21 +54,24 @@ pub fn run_program<S: Source, K: Sink>(
     };
     list.push(Callback::new(kind, Box::new(alloc, clear_if_second)?))?;
     let callbacks = CallbackTable::new(list);
-    Ok(run_with(alloc, words, source, sink, &callbacks))
+    let gate = Arc::new(alloc, FreeGate)?;
+    Ok(run_with(rt, alloc, words, source, sink, &callbacks, &gate))
 }
 
 /// Runs the script of the source with callbacks that are those of the program.
-fn run_with<S: Source, K: Sink>(
+fn run_with<R: Threads, S: Source, K: Sink>(
+    rt: &R,
     alloc: Global,
     words: &[String],
     source: &mut S,
     sink: &mut K,
     callbacks: &CallbackTable,
+    gate: &Arc<FreeGate>,
 ) -> Ran
     requires { kinds_of callbacks.now ≡ program_kinds }
 {
     let mut kept = None;
-    let status = run(alloc, words, source, sink, callbacks, &mut kept);
+    let status = run(rt, alloc, words, source, sink, callbacks, gate, &mut kept);
     Ran {
         status,
         is_kept: kept.is_some(),

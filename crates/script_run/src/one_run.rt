@@ -6,8 +6,9 @@ ghost use Rattle.std.specs.Prelude.{option_map, Some, true, false};
 ghost use Rattle.callback_table.specs.Table.{kinds_of};
 ghost use Rattle.text_devices.specs.Causes.{Rose};
 ghost use Rattle.text_devices.specs.Devices.{Grew};
-ghost use Rattle.command_line.specs.Options.{options_asked, shape_asked, AreInRanges};
+ghost use Rattle.command_line.specs.Options.{options_asked, AreInRanges};
 ghost use Rattle.script_generator.specs.Generated as made;
+ghost use Rattle.script_run.specs.Setting.{plan_asked};
 ghost use Rattle.script_run.specs.Headline.{RunsScript, RunsBytes, status_of_fault, IsUntouched};
 ghost use Rattle.script_run.specs.Headline.{IsDone, IsStopped, IsTooLongInput, IsFaultyInput};
 ghost use Rattle.script_run.specs.Headline.{reads_input, tells_of_input};
@@ -20,8 +21,11 @@ use heap_engine::Heap;
 use heap_script::{
     NoMemory, ReadError, Script, ScriptFault, Sink, Source, read_script, read_whole,
 };
+use marker_crew::Gate;
 use script_generator::generate;
 use std::alloc::Global;
+use std::sync::Arc;
+use std::thread::Threads;
 
 const MOST_BYTES: usize = 16_777_216;
 
@@ -30,15 +34,17 @@ const NO_MEMORY: u32 = 0;
 
 const NO_LINE: u32 = 0;
 
-/// Reads a script or generates one, runs it on one heap, and writes its report or its summary. When
-/// memory is wanting is free.
-pub fn run<'a, S: Source, K: Sink>(
+/// Reads a script or generates one, runs it on one heap, and writes its report or its summary. The
+/// heap's markers run beside it, and pass the gate as it does. When memory is wanting is free.
+pub fn run<'a, R: Threads, S: Source, K: Sink, G: Gate + Send + Sync + 'static>(
+    rt: &R,
     alloc: Global,
     words: &[String],
     source: &mut S,
     sink: &mut K,
     callbacks: &'a CallbackTable,
-    kept: &mut Option<Heap<'a>>,
+    gate: &Arc<G>,
+    kept: &mut Option<Heap<'a, G>>,
 ) -> Status
     requires { kept.old ≡ None }
     ensures done { result ≡ Status.Done → MatchOption kept.new ⊥ (λ heap. IsDone
@@ -78,23 +84,25 @@ pub fn run<'a, S: Source, K: Sink>(
         None => return Status::Usage,
     };
     if let Some(asked) = options.generated {
-        return run_generated(alloc, options, asked, sink, callbacks, kept);
+        return run_generated(rt, alloc, options, asked, sink, callbacks, gate, kept);
     }
     match read_whole(alloc, source, MOST_BYTES) {
-        Ok(bytes) => run_bytes(alloc, options, &bytes, sink, callbacks, kept),
+        Ok(bytes) => run_bytes(rt, alloc, options, &bytes, sink, callbacks, gate, kept),
         Err(ReadError::Fault) => Status::ReadFault,
         Err(ReadError::Memory) => Status::NoMemory,
     }
 }
 
 /// Runs the script that the bytes are, with these options.
-pub(crate) fn run_bytes<'a, K: Sink>(
+pub(crate) fn run_bytes<'a, R: Threads, K: Sink, G: Gate + Send + Sync + 'static>(
+    rt: &R,
     alloc: Global,
     options: Options,
     bytes: &[u8],
     sink: &mut K,
     callbacks: &'a CallbackTable,
-    kept: &mut Option<Heap<'a>>,
+    gate: &Arc<G>,
+    kept: &mut Option<Heap<'a, G>>,
 ) -> Status
     requires empty { kept.old ≡ None }
     requires ranges { AreInRanges options }
@@ -106,25 +114,27 @@ pub(crate) fn run_bytes<'a, K: Sink>(
 {
     gc_graph::scripts_are_in_ranges();
     match read_script(alloc, bytes, callbacks.len()) {
-        Ok(script) => run_script(alloc, options, script, sink, callbacks, kept),
+        Ok(script) => run_script(rt, alloc, options, script, sink, callbacks, gate, kept),
         Err(fault) => status_of(fault),
     }
 }
 
 /// Runs the script that is generated from a seed, with these options.
-fn run_generated<'a, K: Sink>(
+fn run_generated<'a, R: Threads, K: Sink, G: Gate + Send + Sync + 'static>(
+    rt: &R,
     alloc: Global,
     options: Options,
     asked: Generated,
     sink: &mut K,
     callbacks: &'a CallbackTable,
-    kept: &mut Option<Heap<'a>>,
+    gate: &Arc<G>,
+    kept: &mut Option<Heap<'a, G>>,
 ) -> Status
     requires empty { kept.old ≡ None }
     requires ranges { AreInRanges options }
     requires some { 1 ≤ asked.count }
     requires few { asked.count ≤ 50000 }
-    ensures answer { RunsScript (kinds_of callbacks.now) options.summary (shape_asked options)
+    ensures answer { RunsScript (kinds_of callbacks.now) options.summary (plan_asked options)
         (made.generated asked.seed asked.count)
         (K.written sink.old) (K.written sink.new) (option_map (λ heap. heap.core) kept.new) result }
     ensures fault { result ≡ Status.WriteFault → Rose (K.faults sink.old) (K.faults sink.new) }
@@ -133,7 +143,7 @@ fn run_generated<'a, K: Sink>(
 {
     script_generator::generated_is_in_ranges();
     match generate(alloc, asked.seed, asked.count) {
-        Ok(script) => run_script(alloc, options, script, sink, callbacks, kept),
+        Ok(script) => run_script(rt, alloc, options, script, sink, callbacks, gate, kept),
         Err(_) => Status::NoMemory,
     }
 }

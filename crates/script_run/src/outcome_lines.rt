@@ -16,10 +16,13 @@ ghost use Rattle.script_run.specs.Printed.{IsPrintedRun, IsPartRun};
 use gc_graph::{Command, Line};
 use heap_engine::Heap;
 use heap_script::{Failed, Pieces, Sink};
+use marker_crew::Gate;
+use std::thread::Threads;
 
 /// Does the commands in order, and prints each outcome.
-pub(crate) fn print_all<K: Sink>(
-    heap: &mut Heap<'_>,
+pub(crate) fn print_all<R: Threads, K: Sink, G: Gate + Send + Sync + 'static>(
+    rt: &R,
+    heap: &mut Heap<'_, G>,
     commands: &[Command],
     pieces: &mut Pieces,
     sink: &mut K,
@@ -44,7 +47,7 @@ pub(crate) fn print_all<K: Sink>(
     gc_graph::runs_are_replayed();
     gc_graph::steps_leave_threads();
     for command in commands {
-        match print_outcome(heap, command, pieces, sink) {
+        match print_outcome(rt, heap, command, pieces, sink) {
             Ok(()) => {}
             Err(failed) => return Err(failed),
         }
@@ -53,8 +56,9 @@ pub(crate) fn print_all<K: Sink>(
 }
 
 /// Does a command, and prints the lines of its outcome.
-fn print_outcome<K: Sink>(
-    heap: &mut Heap<'_>,
+fn print_outcome<R: Threads, K: Sink, G: Gate + Send + Sync + 'static>(
+    rt: &R,
+    heap: &mut Heap<'_, G>,
     command: &Command,
     pieces: &mut Pieces,
     sink: &mut K,
@@ -69,7 +73,7 @@ fn print_outcome<K: Sink>(
     ensures taken { TookMore (K.written sink.old) (K.written sink.new) }
     ensures cause { HasCause (K.faults sink.old) (K.faults sink.new) result }
 {
-    let count = heap.act(command);
+    let count = heap.act(rt, command);
     if let Some(line) = heap.only_line() {
         return pieces.print(line, sink);
     }
@@ -78,8 +82,8 @@ fn print_outcome<K: Sink>(
 
 /// Prints the lines of the last outcome, so many.
 #[inline(never)]
-fn print_lines<K: Sink>(
-    heap: &mut Heap<'_>,
+fn print_lines<K: Sink, G: Gate + Send + Sync + 'static>(
+    heap: &mut Heap<'_, G>,
     count: u32,
     pieces: &mut Pieces,
     sink: &mut K,

@@ -10,7 +10,7 @@ ghost use Rattle.type_table.specs.Faults.{AreGoodTypes};
 ghost use Rattle.command_line.specs.Options.{shape_asked};
 ghost use Rattle.gc_graph.specs.State.{empty_state};
 ghost use Rattle.report_text.specs.Pieces.{no_pieces};
-ghost use Rattle.script_run.specs.Setting.{IsRunnable, script_on, setup_of};
+ghost use Rattle.script_run.specs.Setting.{IsRunnable, plan_asked, plan_of, script_on};
 ghost use Rattle.script_run.specs.Headline.{RunsScript};
 
 use super::report::print_run;
@@ -20,22 +20,28 @@ use command_line::Options;
 use gc_graph::Command;
 use heap_engine::{Config, Heap};
 use heap_script::{NoMemory, Pieces, Script, Sink};
+use marker_crew::Gate;
 use std::alloc::Global;
+use std::sync::Arc;
+use std::thread::Threads;
 use type_table::{TypeDecl, TypeFault, TypeTable};
 
 /// Runs a script on a heap of its own.
-pub(crate) fn run_script<'a, K: Sink>(
+pub(crate) fn run_script<'a, R: Threads, K: Sink, G: Gate + Send + Sync + 'static>(
+    rt: &R,
     alloc: Global,
     options: Options,
     script: Script,
     sink: &mut K,
     callbacks: &'a CallbackTable,
-    kept: &mut Option<Heap<'a>>,
+    gate: &Arc<G>,
+    kept: &mut Option<Heap<'a, G>>,
 ) -> Status
     requires empty { kept.old ≡ None }
     requires shape { IsShape (shape_asked options) }
+    requires few { options.markers ≤ 8 }
     requires runnable { IsRunnable (length (kinds_of callbacks.now)) script }
-    ensures answer { RunsScript (kinds_of callbacks.now) options.summary (shape_asked options)
+    ensures answer { RunsScript (kinds_of callbacks.now) options.summary (plan_asked options)
         script (K.written sink.old) (K.written sink.new)
         (option_map (λ heap. heap.core) kept.new) result }
     ensures fault { result ≡ Status.WriteFault → Rose (K.faults sink.old) (K.faults sink.new) }
@@ -55,9 +61,11 @@ pub(crate) fn run_script<'a, K: Sink>(
     let config = Config {
         pages: options.pages,
         page_words: options.page_words,
+        markers: options.markers,
     };
-    match Heap::new(alloc, config, table, callbacks) {
+    match Heap::new(alloc, config, table, callbacks, gate) {
         Ok(heap) => run_commands(
+            rt,
             heap,
             options.summary,
             count,
@@ -70,44 +78,47 @@ pub(crate) fn run_script<'a, K: Sink>(
     }
 }
 
-/// Runs commands on a new heap, which has so many types, and keeps it once all is printed.
-fn run_commands<'a, K: Sink>(
-    mut heap: Heap<'a>,
+/// Runs commands on a new heap, which has so many types, and keeps it once all is printed. After a
+/// failed write its markers are joined before it is let go.
+fn run_commands<'a, R: Threads, K: Sink, G: Gate + Send + Sync + 'static>(
+    rt: &R,
+    mut heap: Heap<'a, G>,
     summary: bool,
     types: u32,
     commands: &[Command],
     pieces: &mut Pieces,
     sink: &mut K,
-    kept: &mut Option<Heap<'a>>,
+    kept: &mut Option<Heap<'a, G>>,
 ) -> Status
     requires vacant { kept.old ≡ None }
     requires runnable { IsRunnable (length heap.core.setup.callbacks)
         (script_on heap.core.setup commands.now) }
-    requires setup { heap.core.setup ≡ setup_of heap.core.setup.callbacks
-        heap.core.setup.shape heap.core.setup.types }
     requires types { types ≡ length heap.core.setup.types }
     requires start { heap.core.state ≡ empty_state }
     requires fresh { heap.core.history ≡ [] }
     requires opened { heap.core.closed ≡ false }
     requires empty { pieces.old ≡ no_pieces }
     ensures answer { RunsScript heap.entry.core.setup.callbacks summary
-        heap.entry.core.setup.shape (script_on heap.entry.core.setup commands.now)
+        (plan_of heap.entry.core.setup) (script_on heap.entry.core.setup commands.now)
         (K.written sink.old) (K.written sink.new) (option_map (λ heap. heap.core) kept.new) result }
     ensures fault { result ≡ Status.WriteFault → Rose (K.faults sink.old) (K.faults sink.new) }
     ensures later { K.faults sink.old ≤ K.faults sink.new }
     ensures steady { ¬ (result ≡ Status.WriteFault) → K.faults sink.new ≡ K.faults sink.old }
 {
-    match print_run(&mut heap, summary, types, commands, pieces, sink) {
+    match print_run(rt, &mut heap, summary, types, commands, pieces, sink) {
         Ok(()) => {
             keep(heap, kept);
             Status::Done
         }
-        Err(_) => Status::WriteFault,
+        Err(_) => {
+            let _end = heap.close(rt);
+            Status::WriteFault
+        }
     }
 }
 
 /// Keeps a heap.
-fn keep<'a>(heap: Heap<'a>, kept: &mut Option<Heap<'a>>)
+fn keep<'a, G: Gate + Send + Sync + 'static>(heap: Heap<'a, G>, kept: &mut Option<Heap<'a, G>>)
     requires { kept.old ≡ None }
     ensures { option_map (λ heap. heap.core) kept.new ≡ Some heap.entry.core }
 {

@@ -9,7 +9,7 @@ ghost use Rattle.gc_graph.specs.Report.{line_bytes, lines_bytes};
 ghost use Rattle.text_devices.specs.Causes.{HasCause};
 ghost use Rattle.text_devices.specs.Devices.{Writes};
 ghost use Rattle.report_text.specs.Pieces.{no_pieces, with_held, TookMore};
-ghost use Rattle.script_run.specs.Setting.{IsRunnable, setup_of, script_on};
+ghost use Rattle.script_run.specs.Setting.{IsRunnable, plan_of, script_on};
 ghost use Rattle.script_run.specs.Printed.{HasRunAll, counted_lines};
 ghost use Rattle.script_run.specs.Headline.{IsTold};
 
@@ -17,11 +17,14 @@ use super::outcome_lines::print_all;
 use gc_graph::{Command, Line};
 use heap_engine::Heap;
 use heap_script::{Failed, Pieces, Sink};
+use marker_crew::Gate;
+use std::thread::Threads;
 
 /// Does the commands of a script on a new heap, which has so many types, prints the report or the
 /// summary, and closes the heap.
-pub(crate) fn print_run<K: Sink>(
-    heap: &mut Heap<'_>,
+pub(crate) fn print_run<R: Threads, K: Sink, G: Gate + Send + Sync + 'static>(
+    rt: &R,
+    heap: &mut Heap<'_, G>,
     summary: bool,
     types: u32,
     commands: &[Command],
@@ -30,27 +33,26 @@ pub(crate) fn print_run<K: Sink>(
 ) -> Result<(), Failed>
     requires runnable { IsRunnable (length heap.old.core.setup.callbacks)
         (script_on heap.old.core.setup commands.now) }
-    requires setup { heap.old.core.setup ≡ setup_of heap.old.core.setup.callbacks
-        heap.old.core.setup.shape heap.old.core.setup.types }
     requires types { types ≡ length heap.old.core.setup.types }
     requires start { heap.old.core.state ≡ empty_state }
     requires fresh { heap.old.core.history ≡ [] }
     requires opened { heap.old.core.closed ≡ false }
     requires empty { pieces.old ≡ no_pieces }
-    ensures told { IsTold summary heap.old.core.setup.callbacks heap.old.core.setup.shape
+    ensures told { IsTold summary heap.old.core.setup.callbacks (plan_of heap.old.core.setup)
         (script_on heap.old.core.setup commands.now)
         (K.written sink.old) (K.written sink.new) heap.new.core result }
     ensures cause { HasCause (K.faults sink.old) (K.faults sink.new) result }
 {
     if summary {
-        return print_summary(heap, commands, pieces, sink);
+        return print_summary(rt, heap, commands, pieces, sink);
     }
-    print_report(heap, types, commands, pieces, sink)
+    print_report(rt, heap, types, commands, pieces, sink)
 }
 
 /// Does the commands and prints the report: the types, each outcome as it comes, and the end line.
-fn print_report<K: Sink>(
-    heap: &mut Heap<'_>,
+fn print_report<R: Threads, K: Sink, G: Gate + Send + Sync + 'static>(
+    rt: &R,
+    heap: &mut Heap<'_, G>,
     types: u32,
     commands: &[Command],
     pieces: &mut Pieces,
@@ -58,14 +60,12 @@ fn print_report<K: Sink>(
 ) -> Result<(), Failed>
     requires runnable { IsRunnable (length heap.old.core.setup.callbacks)
         (script_on heap.old.core.setup commands.now) }
-    requires setup { heap.old.core.setup ≡ setup_of heap.old.core.setup.callbacks
-        heap.old.core.setup.shape heap.old.core.setup.types }
     requires types { types ≡ length heap.old.core.setup.types }
     requires start { heap.old.core.state ≡ empty_state }
     requires fresh { heap.old.core.history ≡ [] }
     requires opened { heap.old.core.closed ≡ false }
     requires empty { pieces.old ≡ no_pieces }
-    ensures told { IsTold false heap.old.core.setup.callbacks heap.old.core.setup.shape
+    ensures told { IsTold false heap.old.core.setup.callbacks (plan_of heap.old.core.setup)
         (script_on heap.old.core.setup commands.now)
         (K.written sink.old) (K.written sink.new) heap.new.core result }
     ensures cause { HasCause (K.faults sink.old) (K.faults sink.new) result }
@@ -74,42 +74,45 @@ fn print_report<K: Sink>(
         Ok(()) => {}
         Err(failed) => return Err(failed),
     }
-    match print_all(heap, commands, pieces, sink) {
+    match print_all(rt, heap, commands, pieces, sink) {
         Ok(()) => {}
         Err(failed) => return Err(failed),
     }
-    let end = heap.close();
+    let end = heap.close(rt);
     print_end(&end, pieces, sink)
 }
 
 /// Does the commands, and prints the one line that counts what came of them.
-fn print_summary<K: Sink>(
-    heap: &mut Heap<'_>,
+fn print_summary<R: Threads, K: Sink, G: Gate + Send + Sync + 'static>(
+    rt: &R,
+    heap: &mut Heap<'_, G>,
     commands: &[Command],
     pieces: &mut Pieces,
     sink: &mut K,
 ) -> Result<(), Failed>
     requires runnable { IsRunnable (length heap.old.core.setup.callbacks)
         (script_on heap.old.core.setup commands.now) }
-    requires setup { heap.old.core.setup ≡ setup_of heap.old.core.setup.callbacks
-        heap.old.core.setup.shape heap.old.core.setup.types }
     requires start { heap.old.core.state ≡ empty_state }
     requires fresh { heap.old.core.history ≡ [] }
     requires opened { heap.old.core.closed ≡ false }
     requires empty { pieces.old ≡ no_pieces }
-    ensures told { IsTold true heap.old.core.setup.callbacks heap.old.core.setup.shape
+    ensures told { IsTold true heap.old.core.setup.callbacks (plan_of heap.old.core.setup)
         (script_on heap.old.core.setup commands.now)
         (K.written sink.old) (K.written sink.new) heap.new.core result }
     ensures cause { HasCause (K.faults sink.old) (K.faults sink.new) result }
 {
-    do_all(heap, commands);
+    do_all(rt, heap, commands);
     let line = heap.summary();
-    let _end = heap.close();
+    let _end = heap.close(rt);
     print_end(&line, pieces, sink)
 }
 
 /// Does the commands in order.
-fn do_all(heap: &mut Heap<'_>, commands: &[Command])
+fn do_all<R: Threads, G: Gate + Send + Sync + 'static>(
+    rt: &R,
+    heap: &mut Heap<'_, G>,
+    commands: &[Command],
+)
     requires start { heap.old.core.state ≡ empty_state }
     requires fresh { heap.old.core.history ≡ [] }
     requires opened { heap.old.core.closed ≡ false }
@@ -123,7 +126,7 @@ fn do_all(heap: &mut Heap<'_>, commands: &[Command])
     gc_graph::runs_are_replayed();
     gc_graph::steps_leave_threads();
     for command in commands {
-        let _lines = heap.act(command);
+        let _lines = heap.act(rt, command);
     }
 }
 

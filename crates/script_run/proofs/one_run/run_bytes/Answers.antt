@@ -7,7 +7,7 @@ use Rattle.script_run.proofs.Writing.{grew_by_none}
 use Rattle.script_run.proofs.one_run.run_bytes.Goals as goal
 
 pub run_script-requires-clause-runnable : goal.run_script-requires-clause-runnable
-run_script-requires-clause-runnable g c =
+run_script-requires-clause-runnable g c κs live =
     script_is_runnable _ c.args.bytes.now c.in-Ok.script c.scripts_are_in_ranges.ensures
     (subst (λ n. IsScript n c.args.bytes.now c.in-Ok.script) c.len.ensures c.in-Ok.ensures.script)
 

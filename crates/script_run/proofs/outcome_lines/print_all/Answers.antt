@@ -4,7 +4,7 @@ use Rattle.script_run.proofs.HeldBack.{taken_none, taken_on}
 use Rattle.script_run.proofs.outcome_lines.print_all.Goals as goal
 
 pub print_outcome-requires-clause-section : goal.print_outcome-requires-clause-section
-print_outcome-requires-clause-section g c =
+print_outcome-requires-clause-section g c κs live =
     section_at c.args.commands.now c.loop-command.command-index _ _ c.loop-command-test.true c.loop-command.invariant.sections
 
 pub returns-in-Err-clause-part : goal.returns-in-Err-clause-part

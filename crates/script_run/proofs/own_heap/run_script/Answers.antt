@@ -11,6 +11,6 @@ table_of-requires g c =
     (subst (AreGoodTypes (length (kinds_of c.args.callbacks.now))) (sym c.into_parts-types.ensures.types) (types_are_good _ c.args.script c.requires.runnable))
 
 pub new-requires-2-clause-called : goal.new-requires-2-clause-called
-new-requires-2-clause-called g c =
+new-requires-2-clause-called g c κs live =
     let same : c.in-Ok-table_of.table ≡ c.args.script.types = c.in-Ok-table_of.ensures ∙ c.into_parts-types.ensures.types in
     subst (HaveCallbacks (length (kinds_of c.args.callbacks.now))) (sym same) (have_callbacks _ c.args.script c.requires.runnable)

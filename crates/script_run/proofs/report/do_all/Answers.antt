@@ -13,7 +13,7 @@ loop-command-init g c = record {
 }
 
 pub act-lines-requires-clause-section : goal.act-lines-requires-clause-section
-act-lines-requires-clause-section g c =
+act-lines-requires-clause-section g c κs live =
     section_at c.args.commands.now c.loop-command.command-index _ _ c.loop-command-test.true c.loop-command.invariant.sections
 
 pub loop-command-preserved : goal.loop-command-preserved
