@@ -7,6 +7,7 @@ use script_run::{Status, StdinSource, StdoutSink, run_program};
 use std::alloc::Global;
 use std::io;
 use std::io::{ErrorKind, Read, Write};
+use std::thread::Threads;
 
 /// Gives its bytes, at most so many a call; the call of this number fails, counted from 1.
 #[derive(Drop)]
@@ -80,7 +81,7 @@ const STREAMS: &str = "\
 
 /// Whether the script's run ends as the row says. `bad_read` takes the place of a reader's call that
 /// the row names.
-fn is_right(alloc: Global, row: &str, bad_read: u32) -> bool {
+fn is_right<R: Threads>(rt: &R, alloc: Global, row: &str, bad_read: u32) -> bool {
     let source = StdinSource::over(Trickle {
         bytes: SCRIPT,
         at: 0,
@@ -95,23 +96,28 @@ fn is_right(alloc: Global, row: &str, bad_read: u32) -> bool {
         idle: number_at(row, 4),
         calls: 0,
     };
-    let status = status_over(alloc, source, &mut sink);
+    let status = status_over(rt, alloc, source, &mut sink);
     status == status_at(row, 5)
         && written_of(&sink.taken, REPORT) == Some(number_at(row, 6) as usize)
 }
 
-fn status_over(alloc: Global, source: StdinSource<Trickle<'_>>, sink: &mut Drip) -> Status {
+fn status_over<R: Threads>(
+    rt: &R,
+    alloc: Global,
+    source: StdinSource<Trickle<'_>>,
+    sink: &mut Drip,
+) -> Status {
     let mut source = source;
-    match run_program(alloc, &[], &mut source, &mut StdoutSink::over(sink)) {
+    match run_program(rt, alloc, &[], &mut source, &mut StdoutSink::over(sink)) {
         Ok(ran) => ran.status,
         Err(_) => Status::NoMemory,
     }
 }
 
 /// The number of the first row of which something else comes, counted from 1.
-fn first_wrong(alloc: Global) -> Option<u32> {
+fn first_wrong<R: Threads>(rt: &R, alloc: Global) -> Option<u32> {
     for (row, number) in STREAMS.lines().zip(1u32..) {
-        if !is_right(alloc, row, number_at(row, 1)) {
+        if !is_right(rt, alloc, row, number_at(row, 1)) {
             return Some(number);
         }
     }
@@ -119,10 +125,10 @@ fn first_wrong(alloc: Global) -> Option<u32> {
 }
 
 /// The first call of a reader of single bytes whose failure is no read fault.
-fn first_wrong_read(alloc: Global) -> Option<u32> {
+fn first_wrong_read<R: Threads>(rt: &R, alloc: Global) -> Option<u32> {
     // After 9, 16, 24, 31, 46 and 56 bytes what was read is a script of its own.
     for bad_read in 1..=57 {
-        if !is_right(alloc, "1 0 1000 0 0 3 0", bad_read) {
+        if !is_right(rt, alloc, "1 0 1000 0 0 3 0", bad_read) {
             return Some(bad_read);
         }
     }
@@ -131,6 +137,6 @@ fn first_wrong_read(alloc: Global) -> Option<u32> {
 
 #[test]
 fn adapters_pass_all_bytes_on_up_to_a_failure(rt: HostRuntime) {
-    assert_eq!(rt; first_wrong(rt.alloc()), None);
-    assert_eq!(rt; first_wrong_read(rt.alloc()), None);
+    assert_eq!(rt; first_wrong(&rt, rt.alloc()), None);
+    assert_eq!(rt; first_wrong_read(&rt, rt.alloc()), None);
 }

@@ -3,6 +3,7 @@
 use super::rows::{number_at, status_at};
 use super::trial::{STEADY, expected, outcome_of};
 use std::alloc::{AllocError, Global};
+use std::thread::Threads;
 
 // A byte; how often it stands after the header; the exit status; how many bytes are written.
 const PADDED: &str = "\
@@ -21,21 +22,27 @@ fn padded(alloc: Global, byte: u8, more: u32) -> Result<Vec<u8>, AllocError> {
     Ok(script)
 }
 
-fn is_right(alloc: Global, row: &str) -> bool {
+fn is_right<R: Threads>(rt: &R, alloc: Global, row: &str) -> bool {
     let byte = if number_at(row, 0) == 10 { b'\n' } else { b' ' };
     let wanted = expected(status_at(row, 2), number_at(row, 3) as usize);
     match padded(alloc, byte, number_at(row, 1)) {
         Ok(script) => {
-            outcome_of(alloc, &script, b"end objects 0 used 0 pages 0\n", STEADY) == wanted
+            outcome_of(
+                rt,
+                alloc,
+                &script,
+                b"end objects 0 used 0 pages 0\n",
+                STEADY,
+            ) == wanted
         }
         Err(_) => false,
     }
 }
 
 /// The number of the first row of which something else comes, counted from 1.
-fn first_wrong(alloc: Global, rows: &str) -> Option<u32> {
+fn first_wrong<R: Threads>(rt: &R, alloc: Global, rows: &str) -> Option<u32> {
     for (row, number) in rows.lines().zip(1u32..) {
-        if !is_right(alloc, row) {
+        if !is_right(rt, alloc, row) {
             return Some(number);
         }
     }
@@ -44,5 +51,5 @@ fn first_wrong(alloc: Global, rows: &str) -> Option<u32> {
 
 #[test]
 fn input_up_to_the_limits_is_read(rt: HostRuntime) {
-    assert_eq!(rt; first_wrong(rt.alloc(), PADDED), None);
+    assert_eq!(rt; first_wrong(&rt, rt.alloc(), PADDED), None);
 }

@@ -4,6 +4,7 @@ use super::rows::number_at;
 use super::trial::{Devices, Outcome, expected, outcome_of};
 use script_run::Status;
 use std::alloc::{AllocError, Global};
+use std::thread::Threads;
 
 // A script with its report.
 #[derive(Drop)]
@@ -57,23 +58,23 @@ const THIRTEEN_FIRST: &str = "\
 ";
 
 /// The number of the first row of which something else comes, counted from 1.
-fn first_wrong(case: &Case, rows: &str, alloc: Global) -> Option<u32> {
+fn first_wrong<R: Threads>(rt: &R, case: &Case, rows: &str, alloc: Global) -> Option<u32> {
     for (row, number) in rows.lines().zip(1u32..) {
-        if outcome_at(alloc, case, row) != wanted_at(case, row) {
+        if outcome_at(rt, alloc, case, row) != wanted_at(case, row) {
             return Some(number);
         }
     }
     None
 }
 
-fn outcome_at(alloc: Global, case: &Case, row: &str) -> Outcome {
+fn outcome_at<R: Threads>(rt: &R, alloc: Global, case: &Case, row: &str) -> Outcome {
     let devices = Devices {
         most: (number_at(row, 0) as usize).max(1),
         bad_read: 0,
         bad_write: number_at(row, 1),
         room: number_at(row, 2) as usize,
     };
-    outcome_of(alloc, &case.script, &case.report, devices)
+    outcome_of(rt, alloc, &case.script, &case.report, devices)
 }
 
 fn wanted_at(case: &Case, row: &str) -> Outcome {
@@ -87,7 +88,8 @@ fn wanted_at(case: &Case, row: &str) -> Outcome {
 
 /// The same for one command with its answer, and so many with an answer of three bytes; 0 where
 /// memory is wanting.
-fn first_wrong_of(
+fn first_wrong_of<R: Threads>(
+    rt: &R,
     alloc: Global,
     command: &[u8],
     answer: &[u8],
@@ -95,16 +97,16 @@ fn first_wrong_of(
     rows: &str,
 ) -> Option<u32> {
     match make_case(alloc, command, answer, count) {
-        Ok(case) => first_wrong(&case, rows, alloc),
+        Ok(case) => first_wrong(rt, &case, rows, alloc),
         Err(_) => Some(0),
     }
 }
 
 #[test]
 fn long_report_goes_out_in_pieces_of_whole_lines(rt: HostRuntime) {
-    let wrong = first_wrong_of(rt.alloc(), b"drop 0\n", b"ok\n", 29_999, THREES);
+    let wrong = first_wrong_of(&rt, rt.alloc(), b"drop 0\n", b"ok\n", 29_999, THREES);
     assert_eq!(rt; wrong, None);
     let (command, answer) = (b"set 0 0 0\n", b"refused null\n");
-    let wrong = first_wrong_of(rt.alloc(), command, answer, 25_000, THIRTEEN_FIRST);
+    let wrong = first_wrong_of(&rt, rt.alloc(), command, answer, 25_000, THIRTEEN_FIRST);
     assert_eq!(rt; wrong, None);
 }

@@ -5,6 +5,7 @@ ghost use Rattle.std.specs.Prelude.{◌≤◌};
 use heap_script::{ListSink, ListSource, NoMemory};
 use script_run::{Status, run_program};
 use std::alloc::Global;
+use std::thread::Threads;
 
 /// How devices behave: they move at most so many bytes a call, and one call each fails, or none
 /// where the number is 0. The sink has so much room.
@@ -42,14 +43,21 @@ pub(crate) fn expected(status: Status, written: usize) -> Outcome {
 }
 
 /// What comes of the script, whose report this is, without words.
-pub(crate) fn outcome_of(alloc: Global, script: &[u8], report: &[u8], devices: Devices) -> Outcome
+pub(crate) fn outcome_of<R: Threads>(
+    rt: &R,
+    alloc: Global,
+    script: &[u8],
+    report: &[u8],
+    devices: Devices,
+) -> Outcome
     requires { 1 ≤ devices.most }
 {
-    outcome_with(alloc, &[], script, report, devices)
+    outcome_with(rt, alloc, &[], script, report, devices)
 }
 
 /// What comes of the script, of which this is printed, with these words.
-pub(crate) fn outcome_with(
+pub(crate) fn outcome_with<R: Threads>(
+    rt: &R,
     alloc: Global,
     words: &[String],
     script: &[u8],
@@ -58,7 +66,7 @@ pub(crate) fn outcome_with(
 ) -> Outcome
     requires { 1 ≤ devices.most }
 {
-    match try_on(alloc, words, script, report, devices) {
+    match try_on(rt, alloc, words, script, report, devices) {
         Ok(outcome) => outcome,
         Err(_) => Outcome {
             status: Status::NoMemory,
@@ -68,7 +76,8 @@ pub(crate) fn outcome_with(
     }
 }
 
-fn try_on(
+fn try_on<R: Threads>(
+    rt: &R,
     alloc: Global,
     words: &[String],
     script: &[u8],
@@ -82,7 +91,7 @@ fn try_on(
     let mut source = ListSource::new(Vec::from_slice(alloc, script)?, devices.most, bad_reads);
     let mut sink = ListSink::new(alloc, devices.most, bad_writes);
     sink.reserve(devices.room)?;
-    let ran = run_program(alloc, words, &mut source, &mut sink)?;
+    let ran = run_program(rt, alloc, words, &mut source, &mut sink)?;
     Ok(Outcome {
         status: ran.status,
         written: written_of(sink.bytes(), report),

@@ -1,0 +1,247 @@
+// Markers beside the owner: a schedule that a gate makes, and runs in which they take turns as they come.
+
+use callback_table::CallbackTable;
+use heap_script::{ListSink, ListSource, NoMemory};
+use marker_crew::{FreeGate, Gate};
+use script_run::{Status, run};
+use std::alloc::{AllocError, Global};
+use std::sync::Arc;
+use std::sync::atomic::{AtomicU64, Ordering};
+use std::test::Fail;
+use std::thread;
+use std::thread::Threads;
+
+/// After so many turns a hold lets go, and the test fails.
+const TURNS: u32 = 20_000_000;
+
+/// The owner writes an object into another one while a marker waits before its first claim; the marker
+/// has traced one object before the owner comes to the pause.
+const WRITTEN_WHILE_MARKING: &[u8] = b"oilpan 1\ntype S\nnew 0 0\nnew 1 0\ngc start\n\
+set 0 0 1\ngc finish precise\n";
+
+/// All that the crew has traced, or one object and the pause the other one.
+const WRITTEN_REPORTS: &str = "\
+type 0
+node 0 at 0
+node 1 at 3
+started
+ok
+pause kept 2 dead 0 crew 2 traced 0 walked 0
+end objects 2 used 6 pages 1
+|type 0
+node 0 at 0
+node 1 at 3
+started
+ok
+pause kept 2 dead 0 crew 1 traced 1 walked 0
+end objects 2 used 6 pages 1
+";
+
+/// The fourth command is the last one, so the marker makes its first claim only after it.
+const ENDED_WHILE_MARKING: &[u8] = b"oilpan 1\ntype S\nnew 0 0\nnew 1 0\nset 0 0 1\ngc start\n";
+
+const ENDED_REPORT: &str = "\
+type 0
+node 0 at 0
+node 1 at 3
+ok
+started
+end objects 2 used 6 pages 1
+";
+
+/// A weak slot is read while marking goes on, and no other slot named its object when it began.
+const READ_WEAKLY: &[u8] =
+    b"oilpan 1\ntype S\nnew 0 0\nweak 0 0\ndrop 0\ngc start\nread 0 1\ndrop 1\n\
+gc finish precise\nread 0 1\nsweep all\n";
+
+/// The object dies, or the cycle keeps it because it was read.
+const READ_REPORTS: &str = "\
+type 0
+node 0 at 0
+ok
+ok
+started
+node 0
+ok
+pause kept 0 dead 1 crew 0 traced 0 walked 0
+null
+finalise 0
+swept to 4
+end objects 0 used 0 pages 0
+|type 0
+node 0 at 0
+ok
+ok
+started
+node 0
+ok
+pause kept 1 dead 0 crew 0 traced 1 walked 0
+node 0
+swept to 4
+end objects 1 used 3 pages 1
+|type 0
+node 0 at 0
+ok
+ok
+started
+node 0
+ok
+pause kept 1 dead 0 crew 1 traced 0 walked 0
+node 0
+swept to 4
+end objects 1 used 3 pages 1
+";
+
+/// Of 2,000 turns 649 make an entry and two elements that die.
+const GENERATED: &str =
+    "summary commands 19347 cycles 19 objects 2001 used 11357 finalised 1298 full 0\n";
+
+/// Holds the first marker before its first claim until the owner has answered its fourth command, and
+/// the owner before its fifth until the marker has traced an object.
+#[derive(Drop)]
+struct HeldInTurn {
+    begun: AtomicU64,
+    answered: AtomicU64,
+    traced: AtomicU64,
+    given_up: AtomicU64,
+}
+
+impl Gate for HeldInTurn {
+    fn pass(&self, worker: u32, point: u32) {
+        match (worker, point) {
+            (0, 3) => {
+                if self.begun.fetch_add(1, Ordering::SeqCst) == 4 {
+                    self.hold(&self.traced, 1);
+                }
+            }
+            (0, 4) => {
+                self.answered.fetch_add(1, Ordering::SeqCst);
+            }
+            (1, 1) => self.hold(&self.answered, 4),
+            (1, 2) => {
+                self.traced.fetch_add(1, Ordering::SeqCst);
+            }
+            _ => {}
+        }
+    }
+}
+
+impl HeldInTurn {
+    /// Waits until the count has come so far.
+    fn hold(&self, count: &AtomicU64, least: u64) {
+        for _turn in 0..TURNS {
+            if count.load(Ordering::SeqCst) >= least {
+                return;
+            }
+            thread::yield_now();
+        }
+        self.given_up.fetch_add(1, Ordering::SeqCst);
+    }
+}
+
+pub(crate) fn words_of(alloc: Global, text: &str) -> Result<Vec<String>, AllocError> {
+    let mut words = Vec::new(alloc);
+    for word in text.split(' ') {
+        words.push(String::from_str(alloc, word)?)?;
+    }
+    Ok(words)
+}
+
+pub(crate) fn run_over<R: Threads, G: Gate + Send + Sync + 'static>(
+    rt: &R,
+    alloc: Global,
+    words: &[String],
+    source: &mut ListSource,
+    sink: &mut ListSink,
+    gate: &Arc<G>,
+) -> Status {
+    let callbacks = CallbackTable::new(Vec::new(alloc));
+    let mut kept = None;
+    run(rt, alloc, words, source, sink, &callbacks, gate, &mut kept)
+}
+
+fn is_among(bytes: &[u8], reports: &str) -> bool {
+    for report in reports.split('|') {
+        if report.as_bytes() == bytes {
+            return true;
+        }
+    }
+    false
+}
+
+/// Whether the run is done, and has written one of the reports that bars part.
+pub(crate) fn writes_one_of<R: Threads, G: Gate + Send + Sync + 'static>(
+    rt: &R,
+    alloc: Global,
+    words: &str,
+    script: &[u8],
+    gate: &Arc<G>,
+    reports: &str,
+) -> Result<bool, NoMemory> {
+    let words = words_of(alloc, words)?;
+    let bytes = Vec::from_slice(alloc, script)?;
+    let mut source = ListSource::new(bytes, 1_000_000, Vec::new(alloc));
+    let mut sink = ListSink::new(alloc, 1_000_000, Vec::new(alloc));
+    sink.reserve(10_000)?;
+    let status = run_over(rt, alloc, &words, &mut source, &mut sink, gate);
+    Ok(status == Status::Done && is_among(sink.bytes(), reports))
+}
+
+/// Whether the turns were kept, and the run wrote one of the reports.
+fn is_held_in_turn<R: Threads>(
+    rt: &R,
+    alloc: Global,
+    script: &[u8],
+    reports: &str,
+) -> Result<bool, NoMemory> {
+    let gate = Arc::new(
+        alloc,
+        HeldInTurn {
+            begun: AtomicU64::new(0),
+            answered: AtomicU64::new(0),
+            traced: AtomicU64::new(0),
+            given_up: AtomicU64::new(0),
+        },
+    )?;
+    let words = "--pages 4 --page-words 256 --markers 1";
+    let right = writes_one_of(rt, alloc, words, script, &gate, reports)?;
+    Ok(right && gate.given_up.load(Ordering::SeqCst) == 0)
+}
+
+/// Whether a run in which nobody is held has written one of the reports.
+fn is_right<R: Threads>(
+    rt: &R,
+    alloc: Global,
+    words: &str,
+    script: &[u8],
+    reports: &str,
+) -> Result<bool, NoMemory> {
+    let gate = Arc::new(alloc, FreeGate)?;
+    writes_one_of(rt, alloc, words, script, &gate, reports)
+}
+
+#[test]
+fn marker_traces_while_the_owner_goes_on(rt: HostRuntime) {
+    let right = is_held_in_turn(&rt, rt.alloc(), WRITTEN_WHILE_MARKING, WRITTEN_REPORTS);
+    assert!(rt; right.unwrap_or(false));
+}
+
+#[test]
+fn script_may_end_before_the_marker_has_claimed(rt: HostRuntime) {
+    let right = is_held_in_turn(&rt, rt.alloc(), ENDED_WHILE_MARKING, ENDED_REPORT);
+    assert!(rt; right.unwrap_or(false));
+}
+
+#[test]
+fn weak_read_beside_two_markers_is_lawful(rt: HostRuntime) {
+    let words = "--pages 4 --page-words 256 --markers 2";
+    let right = is_right(&rt, rt.alloc(), words, READ_WEAKLY, READ_REPORTS);
+    assert!(rt; right.unwrap_or(false));
+}
+
+#[test]
+fn summary_is_the_same_whatever_four_markers_do(rt: HostRuntime) {
+    let words = "--generate 1 --count 2000 --summary --markers 4";
+    let right = is_right(&rt, rt.alloc(), words, b"", GENERATED);
+    assert!(rt; right.unwrap_or(false));
+}
