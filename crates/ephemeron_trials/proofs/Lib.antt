@@ -1,1 +1,2 @@
 pub mod SmallHeap
+pub mod NewSeats

@@ -21,7 +21,7 @@ use type_table::TypeTable;
 const TRIES: u32 = 200;
 
 /// A heap whose first object has these words and is marked.
-fn marked(
+pub fn marked(
     alloc: Global,
     types: &TypeTable,
     key: u64,
