@@ -12,12 +12,13 @@ import shutil
 import subprocess
 import sys
 import tempfile
+import time
 
 # No compiled files beside the scripts.
 sys.dont_write_bytecode = True
 
 import loads
-from loads import COLLECTION, STACK_COLLECTION, SWEEP
+from loads import COLLECTION, PAUSE, STACK_COLLECTION, START, SWEEP
 
 ROOT = os.path.dirname(os.path.dirname(os.path.abspath(__file__)))
 PROVE = os.path.join(ROOT, "prove")
@@ -51,6 +52,11 @@ LAZY_NEW_BAR = 1000
 STEP = 1000
 STEPS_BAR = 1.15
 MARKING_SET_BAR = 60
+
+# With how many markers the clock's times are taken, how often each, and as many objects as any heap has.
+MARKERS = (0, 1, 2, 3)
+CLOCK_TRIES = 5
+ALL_OBJECTS = 4_294_967_295
 # For a line of each kind, read, run and told.
 LINE_BARS = {
     "drop 0": 330, "set 0 0 0": 430, "get 0 0 2": 430, "put 0 1 5": 430, "word 0 1": 430, "copy 0 2": 430,
@@ -137,6 +143,13 @@ class Script:
             sys.exit("bench: the program failed")
         return usage.ru_utime + usage.ru_stime
 
+    def clock(self, markers):
+        """The clock's time for one run with so many markers."""
+        with open(self.path, "rb") as script:
+            start = time.monotonic()
+            subprocess.run([*self.command, "--markers", str(markers)], stdin=script, stdout=subprocess.DEVNULL, check=True)
+            return time.monotonic() - start
+
     def instructions(self):
         """How many instructions one run takes, by callgrind."""
         valgrind = ["valgrind", "--tool=callgrind", "--callgrind-out-file=/dev/null"]
@@ -168,6 +181,22 @@ class Bench:
             least = [min(seconds) for seconds in zip(*tries)]
             self.figures.tell_time(f"{name}_seconds", least[-1])
             self.figures.tell_time(f"{name}_ratio", ratio(least))
+
+    def beside(self):
+        """The clock's times with markers, beside those without: of a step that marks a tree to its end, of the pause
+        after it, and of a line while the tree is marked."""
+        tree = loads.tree(8 * self.count)
+        begun = tree.then(START)
+        marked = begun.then(f"gc step {ALL_OBJECTS}")
+        read = begun.then(*["get 0 0 1"] * self.count)
+        scripts = [Script(self.folder, load) for load in (begun, marked, marked.then(PAUSE), read)]
+        for markers in MARKERS:
+            tries = [[script.clock(markers) for script in scripts] for _ in range(CLOCK_TRIES)]
+            start, step, pause, lines = (min(seconds) for seconds in zip(*tries))
+            tell = self.figures.tell_time
+            tell(f"marking_beside_{markers}_markers_clock_seconds", step - start)
+            tell(f"pause_beside_{markers}_markers_clock_seconds", pause - step)
+            tell(f"line_beside_{markers}_markers_clock_microseconds", 1_000_000 * (lines - start) / self.count)
 
     def instructions(self, load):
         return Script(self.folder, load).instructions()
@@ -264,7 +293,7 @@ class Bench:
 
         for name, load in (("marked", marked), ("new", new)):
             costs = []
-            for before in ([], [loads.START]):
+            for before in ([], [START]):
                 scripts = [Script(self.folder, load(n * self.count, *before)) for n in (1, 2)]
                 for script in scripts:
                     script.check()
@@ -376,6 +405,7 @@ def main():
     with tempfile.TemporaryDirectory() as folder:
         bench = Bench(folder, scale)
         bench.times()
+        bench.beside()
         if shutil.which("valgrind"):
             bench.growth()
             bench.lines()
