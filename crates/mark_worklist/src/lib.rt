@@ -7,7 +7,8 @@
 //! The parts: `Worklist` (a list that grows as it can), `Share` (a marker's part of it), `Refused`
 //! (what a push hands back where memory is wanting), `Tally` (what is told where shares come in),
 //! `Marking` (whether marking goes on, whether a push was refused, the list). Inside: `left` (what is
-//! left on lists that were taken in, for contracts alone). Below is `stealing_lists`.
+//! left on lists that were taken in, for contracts alone), `shared` (what a list does with its shares).
+//! Below is `stealing_lists`.
 //!
 //! What is proved: a push puts its address on the list, or hands it back, counts that, and leaves the
 //! list as it was; a pop, for which no share is out, takes one of the addresses and leaves the others,
@@ -20,6 +21,7 @@
 
 mod left;
 mod marking;
+mod shared;
 mod worklist;
 
 pub use marking::Marking;

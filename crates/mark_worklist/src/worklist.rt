@@ -1,18 +1,16 @@
 // A marking list (`src/heap/base/worklist.h`, of which this is the owner's view alone).
 
 ghost use Rattle.std.specs.Prelude.{◌≡◌, ◌≤◌, ◌<◌, ◌++◌, Some, [], true, false, length, min};
-ghost use Rattle.std.specs.Prelude.{slice_set};
 ghost use Rattle.std.specs.Prelude.{IfErr, IfOk, OnOk, MatchOption};
 ghost use Rattle.stealing_lists.specs.Hands.{all_parts};
-ghost use Rattle.stealing_lists.specs.Shares.{pushed, refused_once as refused_at};
 ghost use Rattle.stealing_lists.specs.Families.{at};
 ghost use Rattle.stealing_lists.specs.Joining.{put_by, taken_by, refused_by, IsTaken};
 ghost use Rattle.stealing_lists.specs.Joining.{AreAllShares, AreJoined, HaveSameItems};
 ghost use Rattle.mark_worklist.specs.Lists.{no_items, as_own, IsShared, IsPushed, IsOneMore};
 ghost use Rattle.mark_worklist.specs.Lists.{refused_once, last_count};
-ghost use Rattle.mark_worklist.specs.Left.{shares_in, IsLeftIn};
 
-use crate::left::{Addresses, left_on, none, without};
+use crate::left::{Addresses, none};
+use crate::shared::{pop_left, push_out, take_in};
 use gc_graph::NoMemory;
 use ghost_values::GhostValue;
 use std::alloc::Global;
@@ -188,69 +186,5 @@ impl Worklist {
             Some(list) if self.out => list.idle(),
             _ => self.idle,
         }
-    }
-}
-
-/// Puts an address on the owner's share, while others are out.
-#[inline(never)]
-fn push_out(shared: &mut Option<SharedList>, a: u32) -> Result<(), Refused>
-    requires some { shared.old ≡ Some (shares_in shared.old) }
-    ensures done { OnOk result (shared.new
-        ≡ Some (slice_set (shares_in shared.old) 0 (pushed (at (shares_in shared.old) 0) a))) }
-    ensures refused { IfErr result (λ back. (back.0 ≡ a) × (shared.new
-        ≡ Some (slice_set (shares_in shared.old) 0
-        (refused_at (at (shares_in shared.old) 0))))) }
-    ensures fits { (at (shares_in shared.old) 0).refused ≤ last_count }
-    ensures own { 0 < length (shares_in shared.old) }
-{
-    match shared {
-        Some(list) => list.push(a),
-        None => unreachable!(),
-    }
-}
-
-/// Takes an address that was left on lists that were taken in.
-#[inline(never)]
-fn pop_left(shared: &mut Option<SharedList>, left: &mut GhostValue<Addresses>) -> Option<u32>
-    requires left { IsLeftIn shared.old left.old.value }
-    ensures left { IsLeftIn shared.new left.new.value }
-    ensures items { MatchOption result ((left.old.value ≡ []) × (left.new.value ≡ []))
-        (λ a. IsOneMore left.new.value a left.old.value) }
-    ensures as_many { length (shares_in shared.new) ≡ length (shares_in shared.old) }
-{
-    match shared {
-        Some(list) => {
-            let a = list.pop()?;
-            *left = without(a, left);
-            Some(a)
-        }
-        None => None,
-    }
-}
-
-/// Takes all shares in. The lists tell how many pushes were refused.
-fn take_in(
-    shared: &mut Option<SharedList>,
-    left: &mut GhostValue<Addresses>,
-    shares: Vec<Share>,
-) -> (Tally, u64)
-    requires all { AreAllShares (shares_in shared.old) shares.items }
-    ensures pushed { result.0.pushed ≡ length (put_by (shares_in shared.old ++ shares.items)) }
-    ensures taken { result.0.taken ≡ length (taken_by (shares_in shared.old ++ shares.items)) }
-    ensures count { result.0.left ≡ length left.new.value }
-    ensures left { IsLeftIn shared.new left.new.value }
-    ensures items { IsTaken (shares_in shared.old ++ shares.items) left.new.value }
-    ensures same { HaveSameItems (shares_in shared.old ++ shares.items) (shares_in shared.new)
-        × AreJoined (shares_in shared.new) }
-    ensures refused { result.1
-        ≡ min (refused_by (shares_in shared.old ++ shares.items)) last_count }
-{
-    match shared {
-        Some(list) => {
-            let tally = list.finish(shares);
-            *left = left_on(list);
-            (tally, list.refused())
-        }
-        None => unreachable!(),
     }
 }

@@ -3,7 +3,7 @@ use Rattle.stealing_lists.specs.Joining.{IsTaken}
 use Rattle.mark_worklist.specs.Lists.{IsOneMore}
 use Rattle.mark_worklist.specs.Left.{IsLeftIn, IsLeftOn}
 use Rattle.mark_worklist.proofs.Without.{one_without}
-use Rattle.mark_worklist.proofs.worklist.pop_left.Goals as goal
+use Rattle.mark_worklist.proofs.shared.pop_left.Goals as goal
 
 pub returns-in_err-a-in-Some-clause-left : goal.returns-in_err-a-in-Some-clause-left
 returns-in_err-a-in-Some-clause-left c =
