@@ -255,6 +255,22 @@ def tree(count):
     return Load(["SS"], lines, {"node": count, "full": 0, "refused": 0}, pages_for(count, 4))
 
 
+def wide_tree(fields):
+    """A tree of three levels below its root in slot 0, with so many objects below each of the upper ones; the
+    lowest have no fields, and no other slot is in use."""
+    lines = ["new 0 0"]
+    for first in range(fields):
+        lines += ["new 1 0", f"set 0 {first} 1"]
+        for second in range(fields):
+            lines += ["new 2 0", f"set 1 {second} 2"]
+            for third in range(fields):
+                lines += ["new 3 1", f"set 2 {third} 3"]
+    lines += ["drop 1", "drop 2", "drop 3"]
+    upper, lowest = 1 + fields + fields**2, fields**3
+    pages = pages_for(upper, fields + 2) + pages_for(lowest, 2)
+    return Load(["S" * fields, "-"], lines, {"node": upper + lowest, "full": 0, "refused": 0}, pages)
+
+
 def own_holes(count):
     """A list of objects of 3 words, and after each one that is dead; all of them are swept."""
     lines = []

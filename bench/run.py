@@ -53,10 +53,14 @@ STEP = 1000
 STEPS_BAR = 1.15
 MARKING_SET_BAR = 60
 
-# With how many markers the clock's times are taken, how often each, and as many objects as any heap has.
+# With how many markers the clock's times are taken, how often each, and how often a crew is looked at; how
+# many fields an object of the wide tree has, and for how many lines it is marked.
 MARKERS = (0, 1, 2, 3)
-CLOCK_TRIES = 5
-ALL_OBJECTS = 4_294_967_295
+CLOCK_TRIES = 9
+CREW_TRIES = 5
+LOOK_SECONDS = 0.0001
+WIDE_FIELDS = 50
+WIDE_LINES = 700_000
 # For a line of each kind, read, run and told.
 LINE_BARS = {
     "drop 0": 330, "set 0 0 0": 430, "get 0 0 2": 430, "put 0 1 5": 430, "word 0 1": 430, "copy 0 2": 430,
@@ -113,6 +117,14 @@ class Figures:
         sys.exit(1 if self.over else 0)
 
 
+def threads_of(number):
+    """How many threads the process of this number has."""
+    try:
+        return len(os.listdir(f"/proc/{number}/task"))
+    except FileNotFoundError:
+        return 0
+
+
 class Script:
     """A load's script in a file of its own."""
 
@@ -150,6 +162,22 @@ class Script:
             subprocess.run([*self.command, "--markers", str(markers)], stdin=script, stdout=subprocess.DEVNULL, check=True)
             return time.monotonic() - start
 
+    def crew(self, markers):
+        """For how long there were more threads than one in a run with so many markers, and how many objects these
+        traced by what its one pause tells."""
+        with open(self.path, "rb") as script, tempfile.TemporaryFile() as report:
+            process = subprocess.Popen([*self.command, "--markers", str(markers)], stdin=script, stdout=report)
+            start = end = time.monotonic()
+            count = 1
+            while process.poll() is None:
+                count, before = threads_of(process.pid), count
+                if (before > 1) != (count > 1):
+                    start, end = (time.monotonic(), end) if count > 1 else (start, time.monotonic())
+                time.sleep(LOOK_SECONDS)
+            report.seek(0)
+            pauses = [line.split() for line in report.read().decode().splitlines() if line.startswith("pause ")]
+        return end - start, int(pauses[0][6])
+
     def instructions(self):
         """How many instructions one run takes, by callgrind."""
         valgrind = ["valgrind", "--tool=callgrind", "--callgrind-out-file=/dev/null"]
@@ -170,6 +198,8 @@ class Bench:
         self.every = max(1, int(5_000 * scale))
         self.count = 10 * self.every
         self.page_words = loads.scaled_page_words(scale)
+        self.fields = max(2, round(WIDE_FIELDS * min(1, scale) ** (1 / 3)))
+        self.lines_beside = round(WIDE_LINES * min(1, scale))
 
     def times(self):
         """The times of each load of one size and of twice that, the least of several tries each."""
@@ -183,20 +213,34 @@ class Bench:
             self.figures.tell_time(f"{name}_ratio", ratio(least))
 
     def beside(self):
-        """The clock's times with markers, beside those without: of a step that marks a tree to its end, of the pause
-        after it, and of a line while the tree is marked."""
-        tree = loads.tree(8 * self.count)
-        begun = tree.then(START)
-        marked = begun.then(f"gc step {ALL_OBJECTS}")
-        read = begun.then(*["get 0 0 1"] * self.count)
-        scripts = [Script(self.folder, load) for load in (begun, marked, marked.then(PAUSE), read)]
+        """What markers do beside the owner on a wide tree, while it runs lines: how long they take to mark it, and
+        what a line and the pause cost by the clock."""
+        tree = loads.wide_tree(self.fields)
+        wanted = [START, *["get 0 0 1"] * self.lines_beside]
+        stages = [tree, tree.then(START), tree.then(*wanted), tree.then(*wanted, PAUSE)]
+        built, begun, read, paused = (Script(self.folder, load) for load in stages)
+        tell = self.figures.tell_time
+        whole = []
         for markers in MARKERS:
+            if markers > 0:
+                seconds = self.marking(paused, markers, tree.tells["node"])
+                whole.append(seconds)
+                tell(f"marking_by_{markers}_markers_clock_seconds", seconds)
+            scripts = (built, begun, read, paused)
             tries = [[script.clock(markers) for script in scripts] for _ in range(CLOCK_TRIES)]
-            start, step, pause, lines = (min(seconds) for seconds in zip(*tries))
-            tell = self.figures.tell_time
-            tell(f"marking_beside_{markers}_markers_clock_seconds", step - start)
-            tell(f"pause_beside_{markers}_markers_clock_seconds", pause - step)
-            tell(f"line_beside_{markers}_markers_clock_microseconds", 1_000_000 * (lines - start) / self.count)
+            made, start, lines, pause = (min(seconds) for seconds in zip(*tries))
+            tell(f"start_of_{markers}_markers_clock_seconds", start - made)
+            tell(f"line_beside_{markers}_markers_clock_microseconds", 1_000_000 * (lines - start) / self.lines_beside)
+            tell(f"pause_after_{markers}_markers_clock_seconds", pause - lines)
+        for markers, seconds in zip(MARKERS[1:], whole):
+            tell(f"marking_by_1_over_{markers}_markers_ratio", whole[0] / seconds)
+
+    def marking(self, script, markers, count):
+        """The least time of several in which so many markers mark the objects of the tree, so many, beside lines."""
+        tries = [script.crew(markers) for _ in range(CREW_TRIES)]
+        if any(traced != count for _, traced in tries):
+            sys.exit("bench: markers have not traced all before the pause")
+        return min(seconds for seconds, _ in tries)
 
     def instructions(self, load):
         return Script(self.folder, load).instructions()
