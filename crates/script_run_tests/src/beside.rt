@@ -1,10 +1,10 @@
 // Markers beside the owner: a schedule that a gate makes, and runs in which they take turns as they come.
 
-use callback_table::CallbackTable;
-use heap_script::{ListSink, ListSource, NoMemory};
+use super::gated::{text_of, words_of, writes_one_of, written_by};
+use super::lawful::count_of;
+use heap_script::NoMemory;
 use marker_crew::{FreeGate, Gate};
-use script_run::{Status, run};
-use std::alloc::{AllocError, Global};
+use std::alloc::Global;
 use std::sync::Arc;
 use std::sync::atomic::{AtomicU64, Ordering};
 use std::test::Fail;
@@ -139,54 +139,6 @@ impl HeldInTurn {
     }
 }
 
-pub(crate) fn words_of(alloc: Global, text: &str) -> Result<Vec<String>, AllocError> {
-    let mut words = Vec::new(alloc);
-    for word in text.split(' ') {
-        words.push(String::from_str(alloc, word)?)?;
-    }
-    Ok(words)
-}
-
-pub(crate) fn run_over<R: Threads, G: Gate + Send + Sync + 'static>(
-    rt: &R,
-    alloc: Global,
-    words: &[String],
-    source: &mut ListSource,
-    sink: &mut ListSink,
-    gate: &Arc<G>,
-) -> Status {
-    let callbacks = CallbackTable::new(Vec::new(alloc));
-    let mut kept = None;
-    run(rt, alloc, words, source, sink, &callbacks, gate, &mut kept)
-}
-
-fn is_among(bytes: &[u8], reports: &str) -> bool {
-    for report in reports.split('|') {
-        if report.as_bytes() == bytes {
-            return true;
-        }
-    }
-    false
-}
-
-/// Whether the run is done, and has written one of the reports that bars part.
-pub(crate) fn writes_one_of<R: Threads, G: Gate + Send + Sync + 'static>(
-    rt: &R,
-    alloc: Global,
-    words: &str,
-    script: &[u8],
-    gate: &Arc<G>,
-    reports: &str,
-) -> Result<bool, NoMemory> {
-    let words = words_of(alloc, words)?;
-    let bytes = Vec::from_slice(alloc, script)?;
-    let mut source = ListSource::new(bytes, 1_000_000, Vec::new(alloc));
-    let mut sink = ListSink::new(alloc, 1_000_000, Vec::new(alloc));
-    sink.reserve(10_000)?;
-    let status = run_over(rt, alloc, &words, &mut source, &mut sink, gate);
-    Ok(status == Status::Done && is_among(sink.bytes(), reports))
-}
-
 /// Whether the turns were kept, and the run wrote one of the reports.
 fn is_held_in_turn<R: Threads>(
     rt: &R,
@@ -237,6 +189,22 @@ fn weak_read_beside_two_markers_is_lawful(rt: HostRuntime) {
     let words = "--pages 4 --page-words 256 --markers 2";
     let right = is_right(&rt, rt.alloc(), words, READ_WEAKLY, READ_REPORTS);
     assert!(rt; right.unwrap_or(false));
+}
+
+/// How many of the pauses of the generated script tell that nobody walked, of how many pauses.
+fn pauses_without_a_walk<R: Threads>(rt: &R, alloc: Global) -> Result<(u32, u32), NoMemory> {
+    let gate = Arc::new(alloc, FreeGate)?;
+    let words = words_of(alloc, "--generate 1 --count 2000 --markers 4")?;
+    let written = written_by(rt, alloc, &words, b"", &gate, 1_000_000)?;
+    let report = text_of(&written);
+    let still = count_of(report, "pause ", " walked 0");
+    Ok((still, count_of(report, "pause ", "")))
+}
+
+#[test]
+fn no_pause_walks_beside_four_markers(rt: HostRuntime) {
+    let pauses = pauses_without_a_walk(&rt, rt.alloc()).unwrap_or((0, 0));
+    assert_eq!(rt; pauses, (19, 19));
 }
 
 #[test]

@@ -31,7 +31,7 @@ pub(crate) fn is_lawful(trial: &Trial, report: &str) -> bool {
         && traced_of(report, pause) == kept
         && pause.ends_with(" walked 0")
         && is_last(trial, line_of(report, "pause ", 1), kept)
-        && count_of(report, "finalise ") == trial.objects.saturating_sub(trial.left)
+        && count_of(report, "finalise ", "") == trial.objects.saturating_sub(trial.left)
         && report.contains(trial.reads)
         && report.ends_with(trial.end)
 }
@@ -53,7 +53,7 @@ fn is_last(trial: &Trial, pause: &str, kept: u32) -> bool {
 }
 
 /// The line that begins so and has so many before it; without one, no words.
-fn line_of<'a>(report: &'a str, start: &str, before: u32) -> &'a str {
+pub(crate) fn line_of<'a>(report: &'a str, start: &str, before: u32) -> &'a str {
     let mut found = 0u32;
     for line in report.lines() {
         if line.starts_with(start) {
@@ -77,11 +77,11 @@ fn sum_of(report: &str, start: &str, place: usize) -> u32 {
     sum
 }
 
-/// How many lines begin so.
-fn count_of(report: &str, start: &str) -> u32 {
+/// How many lines begin and end so.
+pub(crate) fn count_of(report: &str, start: &str, end: &str) -> u32 {
     let mut count = 0u32;
     for line in report.lines() {
-        if line.starts_with(start) {
+        if line.starts_with(start) && line.ends_with(end) {
             count = count.saturating_add(1);
         }
     }

@@ -7,10 +7,11 @@
 //! table says), `devices` (devices that fail at each call in turn), `pieces` (the same with reports
 //! of more than one piece), `summaries` (summaries that end early), `adapters` (the standard streams'
 //! devices, over readers and writers that move few bytes or fail), `limits` (input at the limits),
-//! `statuses` (what standard error is told), `calls` (how often a callback is called), `beside`
-//! (markers beside the owner, one of them held by a gate), `drawn` (a gate that holds everybody for
-//! drawn times), `lawful` (what a report may say of a collection beside markers), `schedules` (many
-//! runs of scripts behind that gate, and two heaps with markers at once).
+//! `statuses` (what standard error is told), `calls` (how often a callback is called), `gated` (a run
+//! behind a gate), `beside` (markers beside the owner, one of them held by a gate), `held` (markers
+//! that a gate holds once), `drawn` (a gate that holds everybody for drawn times), `lawful` (what a
+//! report may say of a collection beside markers), `schedules` (many runs of scripts behind that gate,
+//! and two heaps with markers at once).
 //!
 //! What is proved: nothing of its own.
 //!
@@ -28,6 +29,10 @@ mod calls;
 mod devices;
 #[cfg(test)]
 mod drawn;
+#[cfg(test)]
+mod gated;
+#[cfg(test)]
+mod held;
 #[cfg(test)]
 mod lawful;
 #[cfg(test)]

@@ -1,14 +1,13 @@
 // Runs beside 1 to 8 markers, whom a gate holds for drawn times, as it holds the owner.
 
-use super::beside::{run_over, words_of, writes_one_of};
 use super::drawn::Drawn;
+use super::gated::{text_of, words_of, writes_one_of, written_by};
 use super::lawful::{Trial, is_lawful};
-use heap_script::{ListSink, ListSource, NoMemory};
-use script_run::Status;
+use heap_script::NoMemory;
 use std::alloc::Global;
 use std::sync::Arc;
+use std::thread;
 use std::thread::Threads;
-use std::{str, thread};
 
 /// So many runs of each script, with 1 to 8 markers in turn.
 const RUNS: u32 = 200;
@@ -119,13 +118,8 @@ fn is_right<R: Threads>(
     let gate = Arc::new(alloc, Drawn::new(u64::from(seed)))?;
     let mut words = words_of(alloc, "--pages 4 --page-words 256 --markers")?;
     words.push(String::from_str(alloc, markers)?)?;
-    let script = Vec::from_slice(alloc, trial.script.as_bytes())?;
-    let mut source = ListSource::new(script, 1_000_000, Vec::new(alloc));
-    let mut sink = ListSink::new(alloc, 1_000_000, Vec::new(alloc));
-    sink.reserve(10_000)?;
-    let status = run_over(rt, alloc, &words, &mut source, &mut sink, &gate);
-    let report = str::from_utf8(sink.bytes()).unwrap_or("");
-    Ok(status == Status::Done && is_lawful(trial, report))
+    let written = written_by(rt, alloc, &words, trial.script.as_bytes(), &gate, 10_000)?;
+    Ok(is_lawful(trial, text_of(&written)))
 }
 
 /// The first seed whose run isn't as it has to be.
