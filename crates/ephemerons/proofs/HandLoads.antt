@@ -1,6 +1,6 @@
 -- What a load to trace makes of the hand, and that it leaves the heap and its marks.
-use Rattle.std.proofs.Common.{rules, ◌≡◌, ℕ, zero, suc, ◌+◌, ◌-◌, Bool, true, false, cond, eqb, List, ◌++◌, Option, Some, refl, sym, ap, ◌∙◌, arith}
-use Rattle.std.proofs.lemmas.Bool.{true≢false, eq-eqb, cond-true, cond-false}
+use Rattle.std.proofs.Common.{rules, ◌≡◌, ℕ, zero, suc, ◌+◌, ◌-◌, Bool, true, false, cond, eqb, List, [], ◌∷◌, ◌++◌, Option, Some, refl, sym, ap, ◌∙◌, arith}
+use Rattle.std.proofs.lemmas.Bool.{true≢false, eq-eqb, cond-true, cond-false, false_from_ne_true}
 use Rattle.gc_graph.specs.declared.kind.Kind.{Kind}
 use Rattle.marker_core.specs.declared.states.Hand.{Hand}
 use Rattle.marker_core.specs.declared.states.MutatorView.{MutatorView}
@@ -11,7 +11,8 @@ use Rattle.marker_core.specs.Hands.{hand_read, hand_looked, hand_moved, hand_aft
 use Rattle.marker_core.specs.SeatSteps.{seat_looked}
 use Rattle.page_words.specs.Roles.{kind_lists}
 use Rattle.mark_worklist.specs.declared.marking.Marking.{Marking}
-use Rattle.marker_core.specs.Bodies.{holds}
+use Rattle.marker_core.specs.Bodies.{holds, is_place, IsPlace}
+use Rattle.page_words.specs.PlaceTests.{place_of_test, test_of_place}
 use Rattle.page_words.specs.Seat.{SeatView, IsView, side, loaded, with_mutator}
 use Rattle.ephemerons.specs.Marking.{heap_and_marks}
 use Rattle.ephemerons.specs.InHand.{IsAtTarget, moved_on}
@@ -39,6 +40,14 @@ module _ (v : SeatView) (a w : ℕ) where
   either_pending : (b : Bool) → (cond b with_key with_target).pending ≡ v.pending
   either_pending true = refl
   either_pending false = refl
+
+  either_looked : (b : Bool) → (cond b with_key with_target).looked ≡ looked.looked
+  either_looked true = refl
+  either_looked false = refl
+
+  -- a header that was loaded is looked at, and no field word is
+  pub load_looked : (loaded v a Trace w).looked ≡ cond (is_place v.bodies a) (v.looked ++ a ∷ []) v.looked
+  load_looked = either_looked (is_key v.hand)
 
   pub load_marks : heap_and_marks (loaded v a Trace w) ≡ heap_and_marks v
   load_marks = either_marks (is_key v.hand)
@@ -76,6 +85,16 @@ module _ (v u : SeatView) (a w : ℕ) (is : u ≡ loaded v a Trace w) where
 
   pub read_pending : u.pending ≡ v.pending
   read_pending = ap (λ (x : SeatView). x.pending) is ∙ load_pending v a w
+
+  pub read_beside : (IsPlace v.bodies a → ⊥) → u.looked ≡ v.looked
+  read_beside out =
+      ap (λ (x : SeatView). x.looked) is ∙ load_looked v a w
+      ∙ cond-false (is_place v.bodies a) (v.looked ++ a ∷ []) v.looked (false_from_ne_true (is_place v.bodies a) (λ told. out (place_of_test v.bodies a told)))
+
+  pub read_header : IsPlace v.bodies a → u.looked ≡ v.looked ++ a ∷ []
+  read_header at =
+      ap (λ (x : SeatView). x.looked) is ∙ load_looked v a w
+      ∙ cond-true (is_place v.bodies a) (v.looked ++ a ∷ []) v.looked (test_of_place v.bodies a at)
 
   pub read_lists : (h : Hand) → v.hand ≡ Some h → (m : Marking) → ListsMarks v m u m
   read_lists h held m = looks_list v u m read_marks read_pending (λ none. cc)

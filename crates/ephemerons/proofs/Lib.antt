@@ -21,3 +21,4 @@ pub mod TrueOfViews
 pub mod UnderWaySteps
 pub mod StrongWords
 pub mod TracedFields
+pub mod Onward

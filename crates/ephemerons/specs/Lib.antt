@@ -4,6 +4,7 @@ pub mod Notes
 pub mod InHand
 pub mod Traces
 pub mod Fixpoint
+pub mod LookedAt
 pub mod UnderWay
 -- Lemmas that the crates above cite too, since a crate's proofs/ can't be cited from another.
 pub mod Fields
@@ -14,3 +15,4 @@ pub mod Accounted
 pub mod UnderWayStays
 pub mod ReadyStays
 pub mod HandPath
+pub mod LookedPlaces

@@ -11,6 +11,7 @@ ghost use Rattle.ephemerons.specs.Marking.{MarksOn, GrowsWithin, IsOver, traced_
 ghost use Rattle.ephemerons.specs.Notes.{IsNote, IsNotedIn, group_at, refusals_in};
 ghost use Rattle.ephemerons.specs.Fixpoint.{IsGround, IsAccounted, IsSettled, IsUnrefused};
 ghost use Rattle.ephemerons.specs.Fixpoint.{Works, mode_of, stage, weight};
+ghost use Rattle.ephemerons.specs.LookedAt.{AreHoldersMarked, LooksWithin, LooksOnward};
 
 use crate::draining::{drain, drain_if_pairless};
 use crate::notes::Pairs;
@@ -59,6 +60,9 @@ pub fn fixpoint<B: Bodywords>(
     ensures told { TellsRefused (refusals_of marking.old) (refusals_of marking.new) }
     ensures notes_told { (i : ℕ) → TellsRefused
         (refusals_in (group_at groups.old i)) (refusals_in (group_at groups.new i)) }
+    ensures looked { walk ≡ false → IsUnrefused marking.new.overflow groups.new
+        → AreHoldersMarked seat.old marking.old.list.items groups.old
+        → LooksWithin types.now seat.old seat.new }
 {
     seat.bodies_lie_apart();
     begin_indexes(groups);
@@ -94,6 +98,9 @@ fn settle_all<B: Bodywords>(
     ensures works { Works types.now None
         (stage seat.old marking.old groups.old traced.old)
         (stage seat.new marking.new groups.new traced.new) }
+    ensures looked { LooksOnward types.now
+        (stage seat.old marking.old groups.old traced.old)
+        (stage seat.new marking.new groups.new traced.new) }
     ensures list { marking.new.list.items ≡ [] }
     ensures over { IsUnrefused marking.new.overflow groups.new
         → IsAccounted types.now None seat.old marking.old.list.items groups.old
@@ -119,6 +126,9 @@ fn turn<B: Bodywords>(
     ensures works { Works types.now None
         (stage seat.old marking.old groups.old traced.old)
         (stage seat.new marking.new groups.new traced.new) }
+    ensures looked { LooksOnward types.now
+        (stage seat.old marking.old groups.old traced.old)
+        (stage seat.new marking.new groups.new traced.new) }
     ensures list { result ≡ false → marking.new.list.items ≡ [] }
     ensures settled { result ≡ false → (note : Note) → IsNotedIn groups.new note
         → IsSettled types.now seat.new note }
@@ -131,7 +141,8 @@ fn turn<B: Bodywords>(
 
 /// Whether a push or a note was refused.
 fn is_refused(marking: &Marking, groups: &[Pairs]) -> bool
-    ensures { result ≡ false → IsUnrefused marking.now.overflow groups.now }
+    ensures fine { result ≡ false → IsUnrefused marking.now.overflow groups.now }
+    ensures refused { IsUnrefused marking.now.overflow groups.now → result ≡ false }
 {
     if marking.overflow {
         return true;

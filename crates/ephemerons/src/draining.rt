@@ -3,6 +3,7 @@
 ghost use Rattle.std.specs.Prelude.{◌≡◌, ◌<◌, true, false, [], None};
 ghost use Rattle.ephemerons.specs.BodyGraph.{HaveNoPairs};
 ghost use Rattle.ephemerons.specs.Fixpoint.{IsGround, Works, stage, weight};
+ghost use Rattle.ephemerons.specs.LookedAt.{LooksOnward};
 
 use crate::marks::next_listed;
 use crate::notes::Pairs;
@@ -31,6 +32,9 @@ pub(crate) fn drain<B: Bodywords>(
     requires ground { IsGround types.now (stage seat.old marking.old groups.old traced.old) }
     ensures ground { IsGround types.now (stage seat.new marking.new groups.new traced.new) }
     ensures works { Works types.now None
+        (stage seat.old marking.old groups.old traced.old)
+        (stage seat.new marking.new groups.new traced.new) }
+    ensures looked { LooksOnward types.now
         (stage seat.old marking.old groups.old traced.old)
         (stage seat.new marking.new groups.new traced.new) }
     ensures list { marking.new.list.items ≡ [] }
@@ -66,6 +70,9 @@ fn drain_under_keys<B: Bodywords>(
     ensures works { Works types.now None
         (stage seat.old marking.old groups.old traced.old)
         (stage seat.new marking.new groups.new traced.new) }
+    ensures looked { LooksOnward types.now
+        (stage seat.old marking.old groups.old traced.old)
+        (stage seat.new marking.new groups.new traced.new) }
     ensures list { marking.new.list.items ≡ [] }
 {
     while trace_next(space, types, seat, marking, groups, traced) {}
@@ -85,6 +92,9 @@ fn trace_next<B: Bodywords>(
     requires ground { IsGround types.now (stage seat.old marking.old groups.old traced.old) }
     ensures ground { IsGround types.now (stage seat.new marking.new groups.new traced.new) }
     ensures works { Works types.now None
+        (stage seat.old marking.old groups.old traced.old)
+        (stage seat.new marking.new groups.new traced.new) }
+    ensures looked { LooksOnward types.now
         (stage seat.old marking.old groups.old traced.old)
         (stage seat.new marking.new groups.new traced.new) }
     ensures found { result ≡ true → weight (stage seat.new marking.new groups.new traced.new)
@@ -116,6 +126,9 @@ fn drain_alone<B: Bodywords>(
     ensures works { Works types.now None
         (stage seat.old marking.old groups.old traced.old)
         (stage seat.new marking.new groups.new traced.new) }
+    ensures looked { LooksOnward types.now
+        (stage seat.old marking.old groups.old traced.old)
+        (stage seat.new marking.new groups.new traced.new) }
     ensures list { marking.new.list.items ≡ [] }
 {
     while let Some(place) = marking.list.pop() {
@@ -137,6 +150,9 @@ pub(crate) fn drain_if_pairless<B: Bodywords>(
     requires ground { IsGround types.now (stage seat.old marking.old groups.now traced.old) }
     ensures ground { IsGround types.now (stage seat.new marking.new groups.now traced.new) }
     ensures works { Works types.now None
+        (stage seat.old marking.old groups.now traced.old)
+        (stage seat.new marking.new groups.now traced.new) }
+    ensures looked { LooksOnward types.now
         (stage seat.old marking.old groups.now traced.old)
         (stage seat.new marking.new groups.now traced.new) }
 {
@@ -161,6 +177,9 @@ fn drain_pairless<B: Bodywords>(
     requires pairless { HaveNoPairs types.now }
     ensures ground { IsGround types.now (stage seat.new marking.new groups.now traced.new) }
     ensures works { Works types.now None
+        (stage seat.old marking.old groups.now traced.old)
+        (stage seat.new marking.new groups.now traced.new) }
+    ensures looked { LooksOnward types.now
         (stage seat.old marking.old groups.now traced.old)
         (stage seat.new marking.new groups.now traced.new) }
 {

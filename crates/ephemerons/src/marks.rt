@@ -1,7 +1,7 @@
 // Marks of objects, and the words of their fields.
 
 ghost use Rattle.std.specs.Prelude.{◌≡◌, ◌⊎◌, ℕ, ◌^◌, ◌<◌, true, false};
-ghost use Rattle.std.specs.Prelude.{Contains, MatchOption, Some, IfSome, IfNone, []};
+ghost use Rattle.std.specs.Prelude.{Contains, MatchOption, Some, IfSome, IfNone, [], ◌∷◌, ◌++◌};
 ghost use Rattle.mark_worklist.specs.declared.marking.Marking.{Marking};
 ghost use Rattle.object_headers.specs.Offsets.{reference_to};
 ghost use Rattle.marker_core.specs.Bodies.{IsPlace, IsReference};
@@ -13,6 +13,7 @@ ghost use Rattle.page_words.specs.Seat.{OnlyLooked};
 ghost use Rattle.ephemerons.specs.BodyGraph.{HasType, word_at};
 ghost use Rattle.ephemerons.specs.Marking.{heap_and_marks};
 ghost use Rattle.ephemerons.specs.InHand.{MayMark};
+ghost use Rattle.ephemerons.specs.LookedAt.{LooksOnlyAt};
 ghost use Rattle.ephemerons.specs.Fixpoint.{ListsMarks, IsListed, HasWord, weight_of};
 ghost use Rattle.ephemerons.specs.Fixpoint.{IsStillHeld, with_held};
 
@@ -28,6 +29,7 @@ pub(crate) fn names_marked<B: Bodywords>(space: &B, seat: &mut MutatorSeat, refe
     ensures named { (p : ℕ) → reference ≡ reference_to p → result ≡ holds seat.old.marked p }
     ensures null { reference ≡ 0 → result ≡ false }
     ensures view { OnlyLooked seat.old seat.new }
+    ensures looked { LooksOnlyAt (λ p. reference ≡ reference_to p) seat.old seat.new }
 {
     seat.bodies_lie_apart();
     reference != 0 && is_marked(space, seat, (reference - 1) as u32)
@@ -40,6 +42,7 @@ pub(crate) fn is_marked<B: Bodywords>(words: &B, seat: &mut MutatorSeat, place: 
     requires place { IsPlace seat.old.bodies place }
     ensures mark { result ≡ holds seat.old.marked place }
     ensures view { OnlyLooked seat.old seat.new }
+    ensures looked { seat.new.looked ≡ seat.old.looked ++ place ∷ [] }
 {
     seat.bodies_lie_apart();
     has_mark(words.load::<Reading>(seat, place))
@@ -51,6 +54,7 @@ pub(crate) fn type_of<B: Bodywords>(words: &B, seat: &mut MutatorSeat, place: u3
     requires place { IsPlace seat.old.bodies place }
     ensures body { HasType seat.old.bodies place result }
     ensures view { OnlyLooked seat.old seat.new }
+    ensures looked { seat.new.looked ≡ seat.old.looked ++ place ∷ [] }
 {
     seat.bodies_lie_apart();
     Header::type_in(words.load::<Reading>(seat, place))
@@ -93,6 +97,7 @@ pub(crate) fn mark_reference<B: Bodywords>(
         → weight_of seat.new marking.new < weight_of seat.old marking.old }
     ensures still { result ≡ false → (heap_and_marks seat.new ≡ heap_and_marks seat.old)
         × (marking.new ≡ marking.old) }
+    ensures looked { seat.new.looked ≡ seat.old.looked }
 {
     let fresh = mark_named(words, seat, reference);
     list_held(marking, fresh);
@@ -122,6 +127,7 @@ pub fn mark<B: Bodywords>(
         → weight_of seat.new marking.new < weight_of seat.old marking.old }
     ensures still { result ≡ false → (heap_and_marks seat.new ≡ heap_and_marks seat.old)
         × (marking.new ≡ marking.old) }
+    ensures looked { seat.new.looked ≡ seat.old.looked }
 {
     let fresh = mark_unlisted(words, seat, place);
     list_held(marking, fresh);
@@ -150,6 +156,7 @@ pub(crate) fn mark_named<B: Bodywords>(
     ensures noted { seat.new.noted ≡ seat.old.noted }
     ensures hand { (p : ℕ) → reference ≡ reference_to p
         → seat.new.hand ≡ each_hand (hand_after_mark (kind_lists seat.old.types) p) seat.old.hand }
+    ensures looked { seat.new.looked ≡ seat.old.looked }
 {
     seat.bodies_lie_apart();
     if reference == 0 {
@@ -187,6 +194,7 @@ fn mark_unlisted<B: Bodywords>(words: &B, seat: &mut MutatorSeat, place: u32) ->
     ensures noted { seat.new.noted ≡ seat.old.noted }
     ensures hand { seat.new.hand
         ≡ each_hand (hand_after_mark (kind_lists seat.old.types) place) seat.old.hand }
+    ensures looked { seat.new.looked ≡ seat.old.looked }
 {
     seat.bodies_lie_apart();
     if words.mark(seat, place) {

@@ -1,9 +1,10 @@
 // Notes of pairs whose key was not marked yet.
 
-ghost use Rattle.std.specs.Prelude.{◌≡◌, true, false, ◌<◌, ◌≤◌, length};
+ghost use Rattle.std.specs.Prelude.{◌≡◌, true, false, ◌<◌, ◌≤◌, length, Contains};
 ghost use Rattle.mark_worklist.specs.Lists.{last_count};
 ghost use Rattle.page_words.specs.Seat.{OnlyLooked};
-ghost use Rattle.ephemerons.specs.Notes.{no_notes, note_at, noted, overflowed, cleared};
+ghost use Rattle.ephemerons.specs.declared.notes.Note.{Note};
+ghost use Rattle.ephemerons.specs.Notes.{IsNote, no_notes, note_at, noted, overflowed, cleared};
 
 use key_index::Index;
 use page_words::{Bodywords, MutatorSeat, Reading};
@@ -126,7 +127,10 @@ impl Pairs {
         requires heap { seat.old.heap ≡ B.heap words.now }
         ensures view { OnlyLooked seat.old seat.new }
         ensures notes { self.new ≡ self.old }
+        ensures beside { ((note : Note) → Contains self.old.notes note
+            → IsNote seat.old.types seat.old.bodies note) → seat.new ≡ seat.old }
     {
+        seat.bodies_lie_apart();
         for i in self.indexed..self.notes.len() {
             let note = self.notes[i];
             let address = note.holder.wrapping_add(note.word);

@@ -13,6 +13,7 @@ ghost use Rattle.ephemerons.specs.Marking.{GrowsWithin, heap_and_marks};
 ghost use Rattle.ephemerons.specs.Notes.{NotesGrow, HasPairNoted};
 ghost use Rattle.ephemerons.specs.InHand.{IsTracing, IsAt, moved_on};
 ghost use Rattle.ephemerons.specs.Traces.{Traces, noted_unless};
+ghost use Rattle.ephemerons.specs.LookedAt.{LooksWithin};
 ghost use Rattle.ephemerons.specs.Fixpoint.{ListsMarks};
 
 use crate::marks::list_held;
@@ -44,6 +45,7 @@ pub(crate) fn trace_pair<B: Bodywords>(
         → HasPairNoted seat.old.types seat.new holder offset (Contains notes.new.notes) }
     ensures told { Traces seat.old notes.old seat.new notes.new holder (PairAt offset ∷ []) }
     ensures hand { seat.new.hand ≡ moved_on seat.old }
+    ensures looked { LooksWithin seat.old.types seat.old seat.new }
 {
     seat.bodies_lie_apart();
     match read_key(words, seat, holder, offset) {
@@ -77,6 +79,7 @@ fn read_key<B: Bodywords>(
     ensures view { heap_and_marks seat.new ≡ heap_and_marks seat.old }
     ensures noted { seat.new.noted ≡ seat.old.noted }
     ensures pending { seat.new.pending ≡ None }
+    ensures looked { seat.new.looked ≡ seat.old.looked }
 {
     seat.bodies_lie_apart();
     let reference = words.load::<Tracing>(seat, holder + offset);
@@ -102,6 +105,7 @@ fn key_is_marked<B: Bodywords>(
     ensures view { heap_and_marks seat.new ≡ heap_and_marks seat.old }
     ensures noted { seat.new.noted ≡ seat.old.noted ++ noted_unless result holder offset }
     ensures pending { seat.new.pending ≡ None }
+    ensures looked { seat.new.looked ≡ seat.old.looked ++ key ∷ [] }
 {
     let _ = (holder, offset);
     seat.bodies_lie_apart();

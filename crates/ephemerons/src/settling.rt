@@ -2,11 +2,12 @@
 
 ghost use Rattle.std.specs.Prelude.{◌≡◌, ℕ, ◌<◌, true, false, Contains, None, length};
 ghost use Rattle.std.specs.Prelude.{slice_index_or};
-ghost use Rattle.marker_core.specs.Bodies.{IsPlace};
+ghost use Rattle.marker_core.specs.Bodies.{IsPlace, holds};
 ghost use Rattle.ephemerons.specs.BodyGraph.{HasPair};
 ghost use Rattle.ephemerons.specs.declared.notes.Note.{Note};
 ghost use Rattle.ephemerons.specs.Notes.{IsNote, IsNotedIn, group_at, note_at, note_of};
 ghost use Rattle.ephemerons.specs.Fixpoint.{IsGround, IsSettled, Looks, Works, stage};
+ghost use Rattle.ephemerons.specs.LookedAt.{LooksOnward};
 
 use crate::marks::{is_marked, mark_reference, names_marked, word_of};
 use crate::notes::{Note, Pairs};
@@ -32,6 +33,9 @@ pub(crate) fn settle_notes<B: Bodywords>(
         (stage seat.new marking.new groups.new traced.new) result }
     ensures settled { result ≡ false → (note : Note) → IsNotedIn groups.new note
         → IsSettled types.now seat.new note }
+    ensures looked { LooksOnward types.now
+        (stage seat.old marking.old groups.old traced.old)
+        (stage seat.new marking.new groups.new traced.new) }
 {
     let mut found = false;
     for i in 0..groups.len() {
@@ -60,6 +64,9 @@ fn settle_group<B: Bodywords>(
         (stage seat.new marking.new groups.new traced.new) result }
     ensures settled { result ≡ false → (note : Note) → Contains (group_at groups.new i).notes note
         → IsSettled types.now seat.new note }
+    ensures looked { LooksOnward types.now
+        (stage seat.old marking.old groups.old traced.old)
+        (stage seat.new marking.new groups.new traced.new) }
 {
     let mut found = false;
     for j in 0..groups[i].count() {
@@ -85,6 +92,9 @@ pub(crate) fn settle_under<B: Bodywords>(
     ensures works { Works types.now None
         (stage seat.old marking.old groups.old traced.old)
         (stage seat.new marking.new groups.new traced.new) }
+    ensures looked { LooksOnward types.now
+        (stage seat.old marking.old groups.old traced.old)
+        (stage seat.new marking.new groups.new traced.new) }
 {
     for i in 0..groups.len() {
         settle_chain(space, types, seat, marking, groups, traced, i, key);
@@ -108,6 +118,9 @@ fn settle_chain<B: Bodywords>(
     requires group { i < length groups.old }
     ensures ground { IsGround types.now (stage seat.new marking.new groups.new traced.new) }
     ensures works { Works types.now None
+        (stage seat.old marking.old groups.old traced.old)
+        (stage seat.new marking.new groups.new traced.new) }
+    ensures looked { LooksOnward types.now
         (stage seat.old marking.old groups.old traced.old)
         (stage seat.new marking.new groups.new traced.new) }
 {
@@ -143,6 +156,9 @@ fn settle_at<B: Bodywords>(
         (stage seat.new marking.new groups.new traced.new) result }
     ensures settled { result ≡ false → j < length (group_at groups.new i).notes
         → IsSettled types.now seat.new (note_at (group_at groups.new i) j) }
+    ensures looked { LooksOnward types.now
+        (stage seat.old marking.old groups.old traced.old)
+        (stage seat.new marking.new groups.new traced.new) }
 {
     if j < groups[i].count() {
         let note = groups[i].at(j);
@@ -171,6 +187,9 @@ fn settle<B: Bodywords>(
         (stage seat.old marking.old groups.old traced.old)
         (stage seat.new marking.new groups.new traced.new) result }
     ensures settled { result ≡ false → IsSettled types.now seat.new note }
+    ensures looked { holds seat.old.marked note.holder ≡ true → LooksOnward types.now
+        (stage seat.old marking.old groups.old traced.old)
+        (stage seat.new marking.new groups.new traced.new) }
 {
     if note.word == 0 {
         trace_grey(space, types, seat, marking, groups, traced, note.holder)
@@ -207,6 +226,9 @@ pub(crate) fn settle_pair<B: Bodywords>(
         (stage seat.old marking.old groups.now traced)
         (stage seat.new marking.new groups.now traced) result }
     ensures settled { result ≡ false → IsSettled types.now seat.new (note_of holder word) }
+    ensures looked { holds seat.old.marked holder ≡ true → LooksOnward types.now
+        (stage seat.old marking.old groups.now traced)
+        (stage seat.new marking.new groups.now traced) }
 {
     seat.bodies_lie_apart();
     if !is_marked(space, seat, holder) {

@@ -44,6 +44,7 @@ pub(crate) fn trace_strong<B: Bodywords>(
     ensures strong { HasStrongMarked types.now seat.new place }
     ensures noted { seat.new.noted ≡ seat.old.noted }
     ensures hand { seat.new.hand ≡ None }
+    ensures looked { seat.new.looked ≡ seat.old.looked }
 {
     seat.bodies_lie_apart();
     let strong = types.strong_words(ty);
@@ -82,6 +83,7 @@ fn trace_words<B: Bodywords>(
     ensures noted { seat.new.noted ≡ seat.old.noted }
     ensures hand { seat.new.hand
         ≡ hand_over place ty (drop (length offsets.now) (traced_in seat.old.types ty)) }
+    ensures looked { seat.new.looked ≡ seat.old.looked }
 {
     let _ = ty;
     for offset in offsets {
@@ -111,6 +113,7 @@ pub(crate) fn trace_strong_word<B: Bodywords>(
         → (holds seat.old.marked p ≡ true) ⊎ (word_at b offset ≡ reference_to p) }
     ensures noted { seat.new.noted ≡ seat.old.noted }
     ensures hand { seat.new.hand ≡ moved_on seat.old }
+    ensures looked { seat.new.looked ≡ seat.old.looked }
 {
     seat.bodies_lie_apart();
     trace_target(words, seat, holder, offset)
@@ -136,6 +139,7 @@ pub(crate) fn trace_target<B: Bodywords>(
         → (holds seat.old.marked p ≡ true) ⊎ (word_at b offset ≡ reference_to p) }
     ensures noted { seat.new.noted ≡ seat.old.noted }
     ensures hand { seat.new.hand ≡ moved_on seat.old }
+    ensures looked { seat.new.looked ≡ seat.old.looked }
 {
     seat.bodies_lie_apart();
     let reference = words.load::<Tracing>(seat, holder + offset);

@@ -16,6 +16,7 @@ ghost use Rattle.ephemerons.specs.InHand.{Claims, OnlyLooks, moved_on};
 ghost use Rattle.ephemerons.specs.Traces.{Traces};
 ghost use Rattle.ephemerons.specs.Fixpoint.{ListsMarks, with_held};
 ghost use Rattle.ephemerons.specs.Fixpoint.{IsGround, Looks, Works, stage};
+ghost use Rattle.ephemerons.specs.LookedAt.{LooksOnlyAt, LooksWithin, LooksOnward};
 
 use crate::marks::{list_held, type_of};
 use crate::notes::Pairs;
@@ -54,6 +55,7 @@ pub fn trace<B: Bodywords>(
         → Traces seat.old notes.old seat.new notes.new place
         (traced_words_of (kinds_of types.now ty)) }
     ensures hand { seat.new.hand ≡ None }
+    ensures looked { LooksWithin types.now seat.old seat.new }
 {
     seat.bodies_lie_apart();
     let ty = type_of(space, seat, place);
@@ -86,6 +88,7 @@ pub(crate) fn trace_fields<B: Bodywords>(
     ensures told { Traces seat.old notes.old seat.new notes.new place
         (traced_words_of (kinds_of types.now ty)) }
     ensures hand { seat.new.hand ≡ None }
+    ensures looked { LooksWithin types.now seat.old seat.new }
 {
     seat.bodies_lie_apart();
     let traced = types.traced_words(ty);
@@ -114,6 +117,7 @@ fn trace_word<B: Bodywords>(
     ensures done { IsWordTraced seat.old.types seat.new place notes.new word }
     ensures told { Traces seat.old notes.old seat.new notes.new place (word ∷ []) }
     ensures hand { seat.new.hand ≡ moved_on seat.old }
+    ensures looked { LooksWithin seat.old.types seat.old seat.new }
 {
     match word {
         TracedWord::StrongAt(offset) => {
@@ -143,6 +147,9 @@ pub(crate) fn trace_grey<B: Bodywords>(
         (stage seat.old marking.old groups.old traced.old)
         (stage seat.new marking.new groups.new traced.new) result }
     ensures settled { holds seat.new.marked place ≡ true → holds seat.new.traced place ≡ true }
+    ensures looked { holds seat.old.marked place ≡ true → LooksOnward types.now
+        (stage seat.old marking.old groups.old traced.old)
+        (stage seat.new marking.new groups.new traced.new) }
 {
     seat.bodies_lie_apart();
     match claim(space, seat, place) {
@@ -177,6 +184,9 @@ pub(crate) fn trace_pairless<B: Bodywords>(
     ensures works { Works types.now (Some place)
         (stage seat.old marking.old groups.now traced.old)
         (stage seat.new (with_held result marking.new) groups.now traced.new) }
+    ensures looked { holds seat.old.marked place ≡ true → LooksOnward types.now
+        (stage seat.old marking.old groups.now traced.old)
+        (stage seat.new (with_held result marking.new) groups.now traced.new) }
 {
     let _ = groups;
     seat.bodies_lie_apart();
@@ -201,6 +211,7 @@ pub fn claim<B: Bodywords>(words: &B, seat: &mut MutatorSeat, place: u32) -> Opt
     ensures body { IfSome result (HasType seat.old.bodies place) }
     ensures claimed { IfSome result (Claims seat.old seat.new place) }
     ensures failed { IfNone result (OnlyLooks seat.old seat.new) }
+    ensures looked { LooksOnlyAt (λ p. place ≡ p) seat.old seat.new }
 {
     seat.bodies_lie_apart();
     let word = words.load::<Reading>(seat, place);

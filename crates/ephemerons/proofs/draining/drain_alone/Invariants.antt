@@ -1,11 +1,13 @@
 use Rattle.std.proofs.Common.{None}
 use Rattle.ephemerons.specs.Fixpoint.{IsGround, Works, stage, weight}
+use Rattle.ephemerons.specs.LookedAt.{LooksOnward}
 use Rattle.ephemerons.proofs.draining.drain_alone.Given as goal
 
 abbrev pub invariant-loop-place : goal.invariant-loop-place
 invariant-loop-place g l = record {
   ground : IsGround l.types (stage l.seat l.marking l.groups l.traced);
   works : Works l.types None (stage l.initial.seat l.initial.marking l.initial.groups l.initial.traced) (stage l.seat l.marking l.groups l.traced);
+  looked : LooksOnward l.types (stage l.initial.seat l.initial.marking l.initial.groups l.initial.traced) (stage l.seat l.marking l.groups l.traced);
 }
 
 abbrev pub decreases-loop-place : goal.decreases-loop-place

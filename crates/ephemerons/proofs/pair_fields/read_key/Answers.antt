@@ -4,9 +4,9 @@ use Rattle.object_headers.specs.Offsets.{reference_to}
 use Rattle.marker_core.specs.declared.states.Part.TheVariants.{Read}
 use Rattle.page_words.specs.BodyPlaces.{place_below}
 use Rattle.page_words.specs.Seat.{SeatView}
-use Rattle.ephemerons.proofs.FieldWords.{key_there, word_below, read_word, pair_in_hand}
+use Rattle.ephemerons.proofs.FieldWords.{key_there, word_below, word_is_no_place, read_word, pair_in_hand}
 use Rattle.ephemerons.proofs.HandKeys.{key_place, key_read, key_told, key_notes_none}
-use Rattle.ephemerons.proofs.HandLoads.{read_marks}
+use Rattle.ephemerons.proofs.HandLoads.{read_marks, read_beside}
 use Rattle.ephemerons.proofs.pair_fields.read_key.Goals as goal
 
 pub overflow_add-holder : goal.overflow_add-holder
@@ -60,3 +60,10 @@ returns-clause-hand g c =
 pub returns-clause-noted : goal.returns-clause-noted
 returns-clause-noted g c =
     key_notes_none c.args.seat.now c.load-reference.new.seat c.args.holder c.args.offset c.load-reference.result c.requires.hand c.load-reference.ensures.view
+
+pub returns-clause-looked : goal.returns-clause-looked
+returns-clause-looked g c =
+    let v = c.args.seat.now in
+    read_beside v c.load-reference.new.seat (c.args.holder + c.args.offset) c.load-reference.result c.load-reference.ensures.view
+    (word_is_no_place v c.args.holder c.args.offset c.bodies_lie_apart.ensures
+    (key_there v c.args.holder c.args.offset c.bodies_lie_apart.ensures (pair_in_hand v c.args.holder c.args.offset Read c.requires.hand)))

@@ -8,11 +8,14 @@ use Rattle.ephemerons.specs.Marking.{heap_and_marks}
 use Rattle.ephemerons.specs.Fixpoint.{HasWord}
 use Rattle.ephemerons.specs.Traces.{noted_unless}
 use Rattle.ephemerons.specs.ListedMarks.{ListsMarks-then}
+use Rattle.ephemerons.specs.LookedAt.{IsLookedAt}
+use Rattle.ephemerons.specs.LookedPlaces.{looked_nowhere}
 use Rattle.ephemerons.proofs.FieldWords.{value_there, word_below, pair_in_hand, at_value}
 use Rattle.ephemerons.proofs.Graph.{pair_within}
 use Rattle.ephemerons.proofs.Holding.{fresh_listed}
-use Rattle.ephemerons.proofs.MarkSteps.{looks_list}
+use Rattle.ephemerons.proofs.MarkSteps.{looks_list, same_bodies}
 use Rattle.ephemerons.proofs.NoteSteps.{pair_asked}
+use Rattle.ephemerons.proofs.Onward.{key_looked}
 use Rattle.ephemerons.proofs.Traced.{null_traces, kept_traces, waiting_traces}
 use Rattle.ephemerons.proofs.pair_fields.trace_pair.Goals as goal
 
@@ -108,3 +111,31 @@ pub returns-in-None-clause-told : goal.returns-in-None-clause-told
 returns-in-None-clause-told g c =
     null_traces c.args.seat.now c.read_key.new.seat c.args.notes.now c.args.notes.now c.args.holder c.args.offset c.read_key.ensures.view
     c.read_key.ensures.noted c.in-None.ensures.key
+
+pub returns-then-key_is_marked-clause-looked : goal.returns-then-key_is_marked-clause-looked
+returns-then-key_is_marked-clause-looked g c =
+    let v = c.args.seat.now in
+    let w = c.trace_target-fresh.new.seat in
+    let at = c.requires.hand in
+    let marks = returns-then-key_is_marked-clause-marks g c in
+    key_looked v.types v w at.body c.args.offset c.in-Some.key
+    (subst (λ bs. Contains bs at.body) (sym (same_bodies v w c.args.marking.now c.list_held.new.marking marks)) at.there)
+    (subst (λ p. holds w.marked p ≡ true) (sym at.place_is) (marks.marked c.args.holder c.requires.marked)) at.among
+    (c.in-Some.ensures.key at.body at.there at.place_is)
+    (c.trace_target-fresh.ensures.looked ∙ c.key_is_marked.ensures.looked ∙ ap (λ l. l ++ c.in-Some.key ∷ []) c.read_key.ensures.looked)
+
+pub returns-else-key_is_marked-clause-looked : goal.returns-else-key_is_marked-clause-looked
+returns-else-key_is_marked-clause-looked g c =
+    let v = c.args.seat.now in
+    let u = c.key_is_marked.new.seat in
+    let at = c.requires.hand in
+    let same : heap_and_marks u ≡ heap_and_marks v = c.key_is_marked.ensures.view ∙ c.read_key.ensures.view in
+    key_looked v.types v u at.body c.args.offset c.in-Some.key
+    (subst (λ bs. Contains bs at.body) (sym (ap (λ (x : SeatView). x.bodies) same)) at.there)
+    (subst (λ l. holds l at.body.place ≡ true) (sym (ap (λ (x : SeatView). x.marked) same))
+    (subst (λ p. holds v.marked p ≡ true) (sym at.place_is) c.requires.marked)) at.among (c.in-Some.ensures.key at.body at.there at.place_is)
+    (c.key_is_marked.ensures.looked ∙ ap (λ l. l ++ c.in-Some.key ∷ []) c.read_key.ensures.looked)
+
+pub returns-in-None-clause-looked : goal.returns-in-None-clause-looked
+returns-in-None-clause-looked g c =
+    looked_nowhere (IsLookedAt c.args.seat.now.types c.read_key.new.seat) c.args.seat.now c.read_key.new.seat c.read_key.ensures.looked

@@ -1,7 +1,11 @@
-use Rattle.std.proofs.Common.{◌≡◌, ◌<◌, get_or, length, sym, ap, ◌∙◌, subst, arith}
+use Rattle.std.proofs.Common.{◌≡◌, ◌<◌, true, get_or, length, sym, ap, ◌∙◌, subst, arith}
 use Rattle.std.proofs.lemmas.List.{get_or_default}
 use Rattle.std.proofs.lemmas.List.Elements.{Contains-get_or}
+use Rattle.marker_core.specs.Bodies.{holds}
+use Rattle.ephemerons.specs.declared.notes.Note.{Note}
 use Rattle.ephemerons.specs.Notes.{NotesState, IsNote, group_at, no_notes, note_at, note_of}
+use Rattle.ephemerons.specs.Fixpoint.{stage}
+use Rattle.ephemerons.proofs.Onward.{onward_given, onward_same}
 use Rattle.ephemerons.proofs.settling.settle_at.Goals as goal
 
 pub settle-requires-clause-note : goal.settle-requires-clause-note
@@ -15,3 +19,19 @@ settle-requires-clause-note g c =
     let is : c.at-note.result ≡ note_at group c.args.j = c.at-note.ensures ∙ ap (λ (g : NotesState). note_at g c.args.j) read in
     subst (IsNote c.args.types.now c.args.seat.now.bodies) (sym is)
     (c.requires.ground.noted (note_at group c.args.j) (c.args.i, c.requires.group, Contains-get_or group.notes c.args.j (note_of 0 0) low))
+
+pub returns-then-j-count-clause-looked : goal.returns-then-j-count-clause-looked
+returns-then-j-count-clause-looked g c =
+    let group : NotesState = group_at c.args.groups.now c.args.i in
+    let counted : get_or c.args.groups.now c.args.i c.index-groups-i.result ≡ group =
+    get_or_default c.args.groups.now c.args.i c.index-groups-i.result no_notes c.requires.group in
+    let read : get_or c.args.groups.now c.args.i c.index-groups-i-then-j-count.result ≡ group =
+    get_or_default c.args.groups.now c.args.i c.index-groups-i-then-j-count.result no_notes c.requires.group in
+    let low : c.args.j < length group.notes = omega (arith, c.if-j-count.true, c.count.ensures, ap (λ (g : NotesState). length g.notes) counted) in
+    let is : c.at-note.result ≡ note_at group c.args.j = c.at-note.ensures ∙ ap (λ (g : NotesState). note_at g c.args.j) read in
+    onward_given c.args.types.now (stage c.args.seat.now c.args.marking.now c.args.groups.now c.args.traced.now) _ (λ held.
+    c.settle.ensures.looked (subst (λ (n : Note). holds c.args.seat.now.marked n.holder ≡ true) (sym is)
+    (held.noted (note_at group c.args.j) (c.args.i, c.requires.group, Contains-get_or group.notes c.args.j (note_of 0 0) low))))
+
+pub returns-else-j-count-clause-looked : goal.returns-else-j-count-clause-looked
+returns-else-j-count-clause-looked g c = onward_same c.args.types.now _

@@ -1,7 +1,14 @@
-use Rattle.std.proofs.Common.{◌≡◌, ℕ, List, None, get_or, set, sym, ap, ◌∙◌, subst}
+use Rattle.std.proofs.Common.{◌≡◌, ℕ, ◌<◌, List, None, length, get_or, set, sym, ap, ◌∙◌, subst}
 use Rattle.std.specs.Prelude.{slice_set}
-use Rattle.std.proofs.lemmas.List.{set-get_or}
-use Rattle.ephemerons.specs.Notes.{NotesState}
+use Rattle.std.specs.List.{Contains}
+use Rattle.std.proofs.lemmas.List.{set-get_or, get_or_default}
+use Rattle.gc_graph.specs.State.{ObjectType}
+use Rattle.page_words.specs.Seat.{SeatView}
+use Rattle.mark_worklist.specs.declared.marking.Marking.{Marking}
+use Rattle.ephemerons.specs.declared.notes.Note.{Note}
+use Rattle.ephemerons.specs.Notes.{NotesState, IsNote, group_at, no_notes}
+use Rattle.ephemerons.specs.LookedAt.{LooksOnward}
+use Rattle.ephemerons.proofs.Onward.{onward_then}
 use Rattle.ephemerons.specs.Fixpoint.{IsGround, Works, stage}
 use Rattle.ephemerons.proofs.OnlyLooks.{ground_looked, looks_none}
 use Rattle.ephemerons.proofs.Stages.{Works-then}
@@ -18,6 +25,15 @@ settle_at-requires-clause-ground g c =
     subst (λ gs. IsGround c.args.types.now (stage c.index_notes.new.seat c.args.marking.now gs c.args.traced.now)) (sym groups)
     (ground_looked c.args.seat.now c.index_notes.new.seat c.index_notes.ensures.view c.args.types.now c.args.marking.now c.args.groups.now c.args.traced.now c.requires.ground)
 
+-- the notes are of fields, whose words are no headers
+not_looked : (types : List ObjectType) (v w : SeatView) (m : Marking) (groups : List NotesState) (i n : ℕ) (g : NotesState) → i < length groups
+    → IsGround types (stage v m groups n) → (((note : Note) → Contains (get_or groups i g).notes note → IsNote v.types v.bodies note) → w ≡ v) → w ≡ v
+not_looked types v w m groups i n g low ground beside =
+    let group : get_or groups i g ≡ group_at groups i = get_or_default groups i g no_notes low in
+    beside (λ note there.
+    subst (λ (ts : List ObjectType). IsNote ts v.bodies note) (sym ground.known)
+    (ground.noted note (i, low, subst (λ (s : NotesState). Contains s.notes note) group there)))
+
 pub loop-j-init : goal.loop-j-init
 loop-j-init g c =
     let groups : slice_set c.args.groups.now c.args.i c.index_notes.new.self ≡ c.args.groups.now =
@@ -27,6 +43,10 @@ loop-j-init g c =
     let mid = stage c.index_notes.new.seat c.args.marking.now c.args.groups.now c.args.traced.now in
     record {
       ground = c.settle_at.ensures.ground;
+      looked = subst (λ (v : SeatView). LooksOnward types (stage v c.args.marking.now c.args.groups.now c.args.traced.now) now)
+          (not_looked types c.args.seat.now c.index_notes.new.seat c.args.marking.now c.args.groups.now c.args.i c.args.traced.now c.index-groups-i.result
+          c.requires.group c.requires.ground c.index_notes.ensures.beside)
+          (subst (λ gs. LooksOnward types (stage c.index_notes.new.seat c.args.marking.now gs c.args.traced.now) now) groups c.settle_at.ensures.looked);
       works = Works-then types None _ mid now
           (looks_none c.args.seat.now c.index_notes.new.seat c.index_notes.ensures.view types c.args.marking.now c.args.groups.now c.args.traced.now).works
           (subst (λ gs. Works types None (stage c.index_notes.new.seat c.args.marking.now gs c.args.traced.now) now) groups c.settle_at.ensures.looks.works);
@@ -36,4 +56,5 @@ pub loop-j-preserved : goal.loop-j-preserved
 loop-j-preserved g c = record {
   ground = c.settle_at-in-loop-j.ensures.ground;
   works = Works-then c.args.types.now None _ _ _ c.loop-j.invariant.works c.settle_at-in-loop-j.ensures.looks.works;
+  looked = onward_then c.args.types.now _ _ _ c.settle_at-in-loop-j.ensures.looks.works.kept c.loop-j.invariant.looked c.settle_at-in-loop-j.ensures.looked;
 }

@@ -1,11 +1,14 @@
-use Rattle.std.proofs.Common.{rules, ◌≡◌, ◌+◌, ◌<◌, ◌^◌, true, false, List, None, sym, ap, ◌∙◌, subst, inl, inr, arith}
+use Rattle.std.proofs.Common.{rules, ◌≡◌, ℕ, ◌+◌, ◌<◌, ◌^◌, true, false, List, [], ◌∷◌, ◌++◌, None, refl, sym, ap, ◌∙◌, subst, inl, inr, arith}
 use Rattle.std.specs.List.{Contains}
 use Rattle.std.proofs.lemmas.Bool.{true≢false}
 use Rattle.gc_graph.specs.State.{ObjectType}
+use Rattle.object_headers.specs.Offsets.{reference_to}
 use Rattle.marker_core.specs.Bodies.{holds}
 use Rattle.page_words.specs.Seat.{SeatView, OnlyLooked, unlooked}
 use Rattle.ephemerons.specs.BodyGraph.{HasPair, pair_offsets, word_at}
 use Rattle.ephemerons.specs.Marking.{GrowsWithin}
+use Rattle.ephemerons.specs.LookedAt.{IsLookedAt, LooksOnlyAt, LooksWithin}
+use Rattle.ephemerons.specs.LookedPlaces.{looked_nowhere, looked_once, looked_then, looked_as}
 use Rattle.ephemerons.proofs.FieldWords.{key_there, value_there, word_below}
 use Rattle.ephemerons.proofs.Graph.{pair_within}
 use Rattle.ephemerons.proofs.MarkSteps.{same_bodies}
@@ -13,6 +16,7 @@ use Rattle.ephemerons.specs.Fixpoint.{stage}
 use Rattle.ephemerons.specs.Notes.{note_of}
 use Rattle.ephemerons.proofs.Looks.{Looks-then, settled_stays}
 use Rattle.ephemerons.proofs.OnlyLooks.{grows_from, ground_looked, looks_none, stage_looked}
+use Rattle.ephemerons.proofs.Onward.{onward_looked, onward_marks}
 use Rattle.ephemerons.proofs.PairWords.{key_reference, marked_key, value_may, pair_settled}
 use Rattle.ephemerons.proofs.MarkStages.{marks_work, marks_ground, marks_lighter, marks_still}
 use Rattle.ephemerons.proofs.settling.settle_pair.Goals as goal
@@ -151,3 +155,64 @@ returns-clause-settled g c told =
     let is_value : c.word_of-value.result ≡ word_at b (c.args.word + 1) = c.word_of-value.ensures.word b
     (rw (ap (λ (u : SeatView). u.bodies) c.names_marked.ensures.view, c.word_of-key.ensures.view, ap (λ (u : SeatView). u.bodies) c.is_marked.ensures.view) before) at in
     c.mark_reference.ensures.target w (is_value ∙ value)))
+
+-- ---- what was looked at
+
+-- the holder, and then the key
+both_looked : (types : List ObjectType) (v first key second w : SeatView) (holder offset word : ℕ) → (has : HasPair types v.bodies holder offset)
+    → first.looked ≡ v.looked ++ holder ∷ [] → key ≡ first → LooksOnlyAt (λ p. word ≡ reference_to p) key second → word ≡ word_at has.0 offset
+    → w.looked ≡ second.looked → w.bodies ≡ v.bodies → holds w.marked holder ≡ true → LooksWithin types v w
+both_looked types v first key second w holder offset word has one same two is later bodies marked =
+    let key_so : (p : ℕ) → word ≡ reference_to p → IsLookedAt types w p = λ p names. inr (record {
+      holder = has.0;
+      there = subst (λ bs. Contains bs has.0) (sym bodies) has.1;
+      marked = subst (λ q. holds w.marked q ≡ true) (sym has.2) marked;
+      offset = offset;
+      pair = has.3;
+      key = sym is ∙ names;
+    }) in
+    looked_then (IsLookedAt types w) v first w (looked_once (IsLookedAt types w) v first holder one (inl marked))
+    (looked_then (IsLookedAt types w) first second w
+    (subst (λ (x : SeatView). LooksOnlyAt (IsLookedAt types w) x second) same (looked_as (λ p. word ≡ reference_to p) (IsLookedAt types w) key second key_so two))
+    (looked_nowhere (IsLookedAt types w) second w later))
+
+pub returns-then-not-is_marked-clause-looked : goal.returns-then-not-is_marked-clause-looked
+returns-then-not-is_marked-clause-looked g c here =
+    let v = c.args.seat.now in
+    let u = c.is_marked.new.seat in
+    let marked : u.marked ≡ v.marked = ap (λ (x : SeatView). x.marked) c.is_marked.ensures.view in
+    onward_looked c.args.types.now v u c.args.marking.now c.args.groups.now c.args.traced c.args.traced marked
+    (looked_once (IsLookedAt c.args.types.now u) v u c.args.holder c.is_marked.ensures.looked
+    (inl (subst (λ l. holds l c.args.holder ≡ true) (sym marked) here)))
+
+pub returns-then-not-names_marked-clause-looked : goal.returns-then-not-names_marked-clause-looked
+returns-then-not-names_marked-clause-looked g c here =
+    let v = c.args.seat.now in
+    let w = c.names_marked.new.seat in
+    let same : OnlyLooked v w = c.names_marked.ensures.view ∙ ap unlooked c.word_of-key.ensures.view ∙ c.is_marked.ensures.view in
+    let has : HasPair c.args.types.now v.bodies c.args.holder c.args.word = c.requires.pair in
+    let is_key : c.word_of-key.result ≡ word_at has.0 c.args.word = c.word_of-key.ensures.word has.0 (rw (ap (λ (u : SeatView). u.bodies) c.is_marked.ensures.view) has.1) has.2 in
+    let marked : w.marked ≡ v.marked = ap (λ (x : SeatView). x.marked) same in
+    onward_looked c.args.types.now v w c.args.marking.now c.args.groups.now c.args.traced c.args.traced marked
+    (both_looked c.args.types.now v c.is_marked.new.seat c.word_of-key.new.seat w w c.args.holder c.args.word c.word_of-key.result has
+    c.is_marked.ensures.looked c.word_of-key.ensures.view c.names_marked.ensures.looked is_key refl (ap (λ (x : SeatView). x.bodies) same)
+    (subst (λ l. holds l c.args.holder ≡ true) (sym marked) here))
+
+pub returns-clause-looked : goal.returns-clause-looked
+returns-clause-looked g c here =
+    let v = c.args.seat.now in
+    let u = c.word_of-value.new.seat in
+    let w = c.mark_reference.new.seat in
+    let same : OnlyLooked v u = looked c.args.seat.now c.is_marked.new.seat c.word_of-key.new.seat c.names_marked.new.seat c.word_of-value.new.seat
+    c.is_marked.ensures.view c.word_of-key.ensures.view c.names_marked.ensures.view c.word_of-value.ensures.view in
+    let has : HasPair c.args.types.now v.bodies c.args.holder c.args.word = c.requires.pair in
+    let is_key : c.word_of-key.result ≡ word_at has.0 c.args.word = c.word_of-key.ensures.word has.0 (rw (ap (λ (u : SeatView). u.bodies) c.is_marked.ensures.view) has.1) has.2 in
+    let marked : u.marked ≡ v.marked = ap (λ (x : SeatView). x.marked) same in
+    let bodies : w.bodies ≡ v.bodies =
+    same_bodies u w c.args.marking.now c.mark_reference.new.marking c.mark_reference.ensures.marks ∙ ap (λ (x : SeatView). x.bodies) same in
+    onward_marks c.args.types.now v u w c.args.marking.now c.mark_reference.new.marking c.args.groups.now c.args.groups.now c.args.traced c.args.traced marked
+    c.mark_reference.ensures.marks c.args.holder (λ note there. inl there) here
+    (both_looked c.args.types.now v c.is_marked.new.seat c.word_of-key.new.seat c.names_marked.new.seat w c.args.holder c.args.word c.word_of-key.result has
+    c.is_marked.ensures.looked c.word_of-key.ensures.view c.names_marked.ensures.looked is_key
+    (c.mark_reference.ensures.looked ∙ ap (λ (x : SeatView). x.looked) c.word_of-value.ensures.view) bodies
+    (c.mark_reference.ensures.marks.marked c.args.holder (subst (λ l. holds l c.args.holder ≡ true) (sym marked) here)))

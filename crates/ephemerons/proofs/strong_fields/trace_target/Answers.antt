@@ -5,8 +5,8 @@ use Rattle.page_words.specs.Seat.{SeatView}
 use Rattle.ephemerons.specs.Marking.{heap_and_marks}
 use Rattle.ephemerons.specs.Fixpoint.{with_held}
 use Rattle.ephemerons.specs.ListedMarks.{ListsMarks-then}
-use Rattle.ephemerons.proofs.FieldWords.{read_word}
-use Rattle.ephemerons.proofs.HandLoads.{read_marks, read_lists, target_may, target_moves, target_notes_none}
+use Rattle.ephemerons.proofs.FieldWords.{read_word, word_is_no_place}
+use Rattle.ephemerons.proofs.HandLoads.{read_marks, read_beside, read_lists, target_may, target_moves, target_notes_none}
 use Rattle.ephemerons.proofs.Holding.{no_marking}
 use Rattle.ephemerons.proofs.MarkSteps.{same_bodies}
 use Rattle.ephemerons.proofs.strong_fields.trace_target.Goals as goal
@@ -51,3 +51,9 @@ returns-clause-noted g c =
     c.mark_named.ensures.noted
     ∙ target_notes_none c.args.seat.now c.load-reference.new.seat (c.args.holder + c.args.offset) c.load-reference.result c.requires.hand
     c.load-reference.ensures.view
+
+pub returns-clause-looked : goal.returns-clause-looked
+returns-clause-looked g c =
+    c.mark_named.ensures.looked
+    ∙ read_beside c.args.seat.now c.load-reference.new.seat (c.args.holder + c.args.offset) c.load-reference.result c.load-reference.ensures.view
+    (word_is_no_place c.args.seat.now c.args.holder c.args.offset c.bodies_lie_apart.ensures c.requires.field)

@@ -53,6 +53,7 @@ loop-offset-preserved g c =
         | inr here ↦ subst (HasTargetMarked w c.args.place) here c.trace_strong_word-fresh.ensures.named
       ];
       noted = c.trace_strong_word-fresh.ensures.noted ∙ c.loop-offset.invariant.noted;
+      looked = c.trace_strong_word-fresh.ensures.looked ∙ c.loop-offset.invariant.looked;
       hand = hand_at_next u.types v w c.args.place c.args.ty c.loop-offset.offset-index types within c.loop-offset.invariant.hand
           c.trace_strong_word-fresh.ensures.hand;
     }

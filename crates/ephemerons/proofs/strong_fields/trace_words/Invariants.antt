@@ -11,5 +11,6 @@ invariant-loop-offset g l = record {
   within : GrowsWithin l.initial.seat.types l.initial.seat l.seat;
   named : (offset : ℕ) → Contains (take l.offset-index l.offsets) offset → HasTargetMarked l.seat l.place offset;
   noted : l.seat.noted ≡ l.initial.seat.noted;
+  looked : l.seat.looked ≡ l.initial.seat.looked;
   hand : l.seat.hand ≡ hand_over l.place l.ty (drop l.offset-index (traced_in l.initial.seat.types l.ty));
 }

@@ -1,11 +1,15 @@
-use Rattle.std.proofs.Common.{◌≡◌, sym, ap, ◌∙◌, subst}
+use Rattle.std.proofs.Common.{◌≡◌, true, sym, ap, ◌∙◌, subst, inl}
 use Rattle.type_table.specs.Types.{kinds_of}
 use Rattle.type_table.specs.TracedWords.{traced_words_of}
 use Rattle.marker_core.specs.declared.states.Body.{Body}
+use Rattle.marker_core.specs.Bodies.{holds}
 use Rattle.page_words.specs.BodyPlaces.{same_body}
+use Rattle.page_words.specs.Seat.{SeatView}
 use Rattle.ephemerons.specs.BodyGraph.{HasType}
 use Rattle.ephemerons.specs.Traces.{Traces}
 use Rattle.ephemerons.specs.ListedMarks.{ListsMarks-then, lists_looked}
+use Rattle.ephemerons.specs.LookedAt.{IsLookedAt}
+use Rattle.ephemerons.specs.LookedPlaces.{looked_once, looked_then}
 use Rattle.ephemerons.proofs.OnlyLooks.{grows_from}
 use Rattle.ephemerons.proofs.Traced.{traces_from}
 use Rattle.ephemerons.proofs.tracing.trace.Goals as goal
@@ -28,3 +32,15 @@ returns-clause-told g c ty has =
     same
     (traces_from c.args.seat.now c.type_of-ty.new.seat c.type_of-ty.ensures.view c.args.notes.now c.trace_fields.new.seat c.trace_fields.new.notes c.args.place
     (traced_words_of (kinds_of c.args.types.now c.type_of-ty.result)) c.trace_fields.ensures.told)
+
+pub returns-clause-looked : goal.returns-clause-looked
+returns-clause-looked g c =
+    let v = c.args.seat.now in
+    let u = c.type_of-ty.new.seat in
+    let w = c.trace_fields.new.seat in
+    let marked : holds v.marked c.args.place ≡ true =
+    c.bodies_lie_apart.ensures.traced_are_marked c.requires.tracing.none_lent c.args.place c.requires.claimed in
+    let yet : holds w.marked c.args.place ≡ true =
+    c.trace_fields.ensures.marks.marked c.args.place (subst (λ (x : SeatView). holds x.marked c.args.place ≡ true) (sym c.type_of-ty.ensures.view) marked) in
+    looked_then (IsLookedAt c.args.types.now w) v u w (looked_once (IsLookedAt c.args.types.now w) v u c.args.place c.type_of-ty.ensures.looked (inl yet))
+    c.trace_fields.ensures.looked

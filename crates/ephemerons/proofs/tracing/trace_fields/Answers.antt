@@ -11,6 +11,8 @@ use Rattle.ephemerons.specs.Marking.{GrowsWithin, HasStrongMarked}
 use Rattle.ephemerons.specs.Notes.{NotesGrow, HasPairsNoted}
 use Rattle.ephemerons.specs.InHand.{IsWordTraced, traced_in}
 use Rattle.ephemerons.specs.Traces.{Traces}
+use Rattle.ephemerons.specs.LookedAt.{IsLookedAt, LooksWithin}
+use Rattle.ephemerons.specs.LookedPlaces.{looked_nowhere, looks_then}
 use Rattle.ephemerons.specs.ListedMarks.{ListsMarks-then}
 use Rattle.ephemerons.specs.HandPath.{hand_at_first, hand_at_next, hand_at_end, told_length}
 use Rattle.ephemerons.proofs.Holding.{ListsMarks-same}
@@ -29,6 +31,7 @@ loop-word-init g c = record {
   notes = nothing_noted c.args.seat.now.types c.args.seat.now.bodies c.args.notes.now;
   done = λ word there. absurd (omega (arith, there.1));
   told = Traces-none c.args.seat.now c.args.notes.now c.args.place;
+  looked = looked_nowhere (IsLookedAt c.args.seat.now.types c.args.seat.now) c.args.seat.now c.args.seat.now refl;
   hand = hand_at_first c.args.seat.now.types c.args.seat.now c.args.place c.args.ty refl c.requires.hand;
 }
 
@@ -71,6 +74,9 @@ loop-word-preserved g c =
           (Traces-then u v w c.args.notes.now c.loop-word.notes c.trace_word.new.notes c.args.place (take i told) (get_or told i (StrongAt 0) ∷ []) bodies
           marks.marked c.trace_word.ensures.marks.marked grow.overflow (told_apart u.types c.args.ty told is i c.loop-word-test.true) c.loop-word.invariant.told
           c.trace_word.ensures.told);
+      looked = looks_then u.types u v w (same_bodies v w c.loop-word.marking c.trace_word.new.marking c.trace_word.ensures.marks)
+          c.trace_word.ensures.marks.marked c.loop-word.invariant.looked
+          (subst (λ (ts : List ObjectType). LooksWithin ts v w) types c.trace_word.ensures.looked);
       hand = hand_at_next u.types v w c.args.place c.args.ty i types (omega (arith, c.loop-word-test.true, told_length u.types c.args.ty told is))
           c.loop-word.invariant.hand c.trace_word.ensures.hand;
     }
@@ -115,3 +121,7 @@ returns-clause-hand g c =
     c.traced_words-traced.ensures ∙ ap (λ (ts : List ObjectType). traced_words_of (kinds_of ts c.args.ty)) (sym c.requires.types) in
     hand_at_end (traced_in u.types c.args.ty) c.loop-word.seat c.args.place c.args.ty c.loop-word.word-index
     (omega (arith, c.loop-word-test.false, told_length u.types c.args.ty told is)) c.loop-word.invariant.hand
+
+pub returns-clause-looked : goal.returns-clause-looked
+returns-clause-looked g c =
+    subst (λ (ts : List ObjectType). LooksWithin ts c.args.seat.now c.loop-word.seat) c.requires.types c.loop-word.invariant.looked

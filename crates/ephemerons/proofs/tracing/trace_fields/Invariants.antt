@@ -6,6 +6,7 @@ use Rattle.ephemerons.specs.Notes.{NotesGrow}
 use Rattle.ephemerons.specs.InHand.{IsWordTraced, hand_over, traced_in}
 use Rattle.ephemerons.specs.Fixpoint.{ListsMarks}
 use Rattle.ephemerons.specs.Traces.{Traces}
+use Rattle.ephemerons.specs.LookedAt.{LooksWithin}
 use Rattle.ephemerons.proofs.tracing.trace_fields.Given as goal
 
 abbrev pub invariant-loop-word : goal.invariant-loop-word
@@ -15,5 +16,6 @@ invariant-loop-word g l = record {
   notes : NotesGrow l.initial.seat.types l.initial.seat.bodies l.initial.notes l.notes;
   done : (word : TracedWord) → Contains (take l.word-index l.traced) word → IsWordTraced l.initial.seat.types l.seat l.place l.notes word;
   told : Traces l.initial.seat l.initial.notes l.seat l.notes l.place (take l.word-index l.traced);
+  looked : LooksWithin l.initial.seat.types l.initial.seat l.seat;
   hand : l.seat.hand ≡ hand_over l.place l.ty (drop l.word-index (traced_in l.initial.seat.types l.ty));
 }

@@ -1,10 +1,14 @@
-use Rattle.std.proofs.Common.{rules, ◌≡◌, ◌+◌, ◌<◌, ◌^◌, true, List, Some, sym, ap, ◌∙◌, subst, arith}
+use Rattle.std.proofs.Common.{rules, ◌≡◌, ◌+◌, ◌<◌, ◌^◌, true, List, Some, sym, ap, ◌∙◌, subst, inl, arith}
 use Rattle.std.specs.List.{Contains}
+use Rattle.marker_core.specs.Bodies.{holds}
 use Rattle.page_words.specs.Seat.{SeatView, is_grey_at}
 use Rattle.ephemerons.specs.Notes.{NotesState, group_at}
+use Rattle.ephemerons.specs.LookedAt.{IsLookedAt}
+use Rattle.ephemerons.specs.LookedPlaces.{looked_nowhere, looked_as}
 use Rattle.ephemerons.specs.Fixpoint.{IsGround, Works, stage, with_held}
 use Rattle.ephemerons.proofs.GreySteps.{ReadsFields, fewer_untraced, grey_ground, grey_looks, black_ground, black_looks}
 use Rattle.ephemerons.proofs.NoPairs.{nothing_noted, none_noted, same_groups}
+use Rattle.ephemerons.proofs.Onward.{onward_looked, onward_marks, claimed_looks}
 use Rattle.ephemerons.proofs.tracing.trace_pairless.Given as given
 use Rattle.ephemerons.proofs.tracing.trace_pairless.Goals as goal
 
@@ -61,3 +65,27 @@ pub returns-in-None-clause-works : goal.returns-in-None-clause-works
 returns-in-None-clause-works g c =
     (black_looks c.args.types.now c.args.seat.now c.claim.new.seat c.args.marking.now c.args.groups.now c.args.traced.now c.args.place
     c.in-None.ensures.failed (sym c.in-None.ensures.grey)).works
+
+pub returns-in-Some-clause-looked : goal.returns-in-Some-clause-looked
+returns-in-Some-clause-looked g c here =
+    let v = c.args.seat.now in
+    let u = c.claim.new.seat in
+    let w = c.trace_strong.new.seat in
+    let marked : u.marked ≡ v.marked = ap (λ (x : SeatView). x.marked) c.in-Some.ensures.claimed.marks in
+    let groups = c.args.groups.now in
+    let before = c.args.marking.now in
+    let next = with_held c.trace_strong.result c.trace_strong.new.marking in
+    let traced = c.args.traced.now in
+    onward_marks c.args.types.now v u w before next groups groups traced (traced + 1) marked c.trace_strong.ensures.marks c.args.place
+    (λ note there. inl there) here
+    (claimed_looks c.args.types.now v u w before next groups groups traced (traced + 1) marked c.trace_strong.ensures.marks c.args.place here
+    c.claim.ensures.looked (looked_nowhere (IsLookedAt c.args.types.now w) u w c.trace_strong.ensures.looked))
+
+pub returns-in-None-clause-looked : goal.returns-in-None-clause-looked
+returns-in-None-clause-looked g c here =
+    let v = c.args.seat.now in
+    let u = c.claim.new.seat in
+    let marked : u.marked ≡ v.marked = ap (λ (x : SeatView). x.marked) c.in-None.ensures.failed.marks in
+    onward_looked c.args.types.now v u c.args.marking.now c.args.groups.now c.args.traced.now c.args.traced.now marked
+    (looked_as (λ p. c.args.place ≡ p) (IsLookedAt c.args.types.now u) v u
+    (λ p at. inl (subst (λ q. holds u.marked q ≡ true) at (subst (λ l. holds l c.args.place ≡ true) (sym marked) here))) c.claim.ensures.looked)
