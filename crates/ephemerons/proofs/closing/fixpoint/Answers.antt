@@ -1,11 +1,14 @@
 use Rattle.std.proofs.Common.{arith, subst, sym, ap, List, length, ◌∙◌}
+use Rattle.std.proofs.lemmas.Bool.{true≢false}
 use Rattle.mark_worklist.specs.Refusals.{TellsRefused, refusals_of}
 use Rattle.ephemerons.specs.Notes.{NotesState, group_at, refusals_in}
 use Rattle.ephemerons.specs.Fixpoint.{IsGround, stage}
+use Rattle.ephemerons.specs.LookedAt.{AreHoldersMarked}
 use Rattle.ephemerons.proofs.Ends.{few_untraced}
 use Rattle.ephemerons.proofs.Graph.{GrowsWithin-then}
 use Rattle.ephemerons.proofs.TrueOfViews.{are_references, traced_name_marked}
 use Rattle.mark_worklist.specs.Told.{told_then}
+use Rattle.ephemerons.proofs.closing.fixpoint.Goals.{then-walk-via-then-walk, then-walk-via-else-walk+then-is_refused}
 use Rattle.ephemerons.proofs.closing.fixpoint.Goals as goal
 
 pub settle_all-requires-clause-ground : goal.settle_all-requires-clause-ground
@@ -46,3 +49,16 @@ returns-then-walk-clause-groups g c = c.walk_heap.ensures.works.many ∙ c.settl
 
 pub returns-else-is_refused-clause-groups : goal.returns-else-is_refused-clause-groups
 returns-else-is_refused-clause-groups g c = c.settle_all.ensures.works.many ∙ ap (λ (gs : List NotesState). length gs) c.begin_indexes.ensures
+
+-- the heap is walked only where that was asked for, or where something was refused
+pub returns-then-walk-clause-looked : goal.returns-then-walk-clause-looked
+returns-then-walk-clause-looked g c off fine held =
+    absurd (elim c.then-walk.branch [
+      | then-walk-via-then-walk w ↦ true≢false (sym w.if-walk.true ∙ off)
+      | then-walk-via-else-walk+then-is_refused w ↦
+          true≢false (sym w.if-is_refused.true ∙ w.is_refused.ensures.refused (c.walk_heap.ensures.works.unrefused fine))
+    ])
+
+pub returns-else-is_refused-clause-looked : goal.returns-else-is_refused-clause-looked
+returns-else-is_refused-clause-looked g c off fine held =
+    c.settle_all.ensures.looked.within (subst (AreHoldersMarked c.args.seat.now c.args.marking.now.list.items) (sym c.begin_indexes.ensures) held)
