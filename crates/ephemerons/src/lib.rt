@@ -18,10 +18,10 @@
 //! was refused something. `fixpoint` ends with a closed marked set in which nothing is grey, and
 //! marks nothing but what each closed set holds that holds what was marked before. Both answer how
 //! many objects they traced. None needs memory: where a push or a note was refused, the fixpoint
-//! walks the heap, and a count tells of it. Where it doesn't walk it looks at no headers but those of
-//! objects that are marked by then and of the keys of their pairs. Both ask that no view is lent and
-//! no share of the list is out, nothing is in hand and nothing waits for its mark, and leave that so.
-//! What is marked is something that the cycle may keep.
+//! walks the heap, and a count tells of it. Where it doesn't walk it looks at no headers but those
+//! of objects that are marked by then and of the keys of their pairs. Both ask that no view is lent
+//! and no share of the list is out, nothing is in hand and nothing waits for its mark, and leave
+//! that so. What is marked is something that the cycle may keep.
 //!
 //! What is only tested or not said: how long it takes. That tracing can succeed is tested in
 //! `ephemeron_trials`, and that the tree over keys tells all notes of a key in `part_tests`.
