@@ -14,6 +14,8 @@ use Rattle.page_words.specs.Seat.{SeatView, IsView, ended}
 use Rattle.ephemerons.specs.Marking.{MarksOn, GrowsWithin, IsOver, traced_count}
 use Rattle.ephemerons.specs.Notes.{NotesState}
 use Rattle.ephemerons.specs.UnderWay.{IsReadyToEnd}
+use Rattle.ephemerons.specs.LookedAt.{LooksWithin}
+use Rattle.ephemerons.specs.LookedPlaces.{lookable_yet}
 use Rattle.ephemerons.specs.Fixpoint.{IsAccounted, IsUnrefused}
 use Rattle.atomic_pause.specs.Marking.{IsMarkedIn, MarksReachable, marked_count}
 
@@ -60,7 +62,18 @@ marks_reachable types w x y led over grows ends =
       dead = refl;
     })
 
+-- the end of marking looks at nothing
+pub looks_ended : (types : List ObjectType) (w x y : SeatView) → y ≡ ended x → LooksWithin types w x → LooksWithin types w y
+looks_ended types w x y ends looks =
+    subst (λ (z : SeatView). LooksWithin types w z) (sym ends)
+    (record { more = looks.more; grown = looks.grown; each = λ p there. lookable_yet types x (ended x) refl (λ q marked. marked) p (looks.each p there) })
+
 -- ---- what the fixpoint asks for
+
+-- where nothing was refused no walk is asked for
+pub unwalked : (walk : Bool) (fine : Type 0) → (walk ≡ true → fine → ⊥) → fine → walk ≡ false
+unwalked walk fine refused is = elim (cases_Bool walk) [ inl so ↦ absurd (refused so is) | inr not_so ↦ not_so ]
+
 
 -- list and notes account for all that is left, unless something was refused, and then the heap is walked
 pub walked_or_listed : (types : List ObjectType) (w : SeatView) (m : Marking) (groups : List NotesState) (walk : Bool) → IsReadyToEnd types w m groups

@@ -1,13 +1,14 @@
 // The roots of a pause: what the strong slots name, those of the region too, and what the words of a
 // stack hit.
 
-ghost use Rattle.std.specs.Prelude.{◌≡◌, ◌⊎◌, ◌+◌, ℕ, true, Contains, All, Some};
+ghost use Rattle.std.specs.Prelude.{◌≡◌, ◌⊎◌, ◌+◌, ℕ, true, Contains, All, Some, [], ◌∷◌, ◌++◌};
 ghost use Rattle.std.specs.Option.{ForSome};
 ghost use Rattle.marker_core.specs.Bodies.{IsPlace};
 ghost use Rattle.marker_core.specs.Bodies.{holds};
 ghost use Rattle.page_space.specs.Space.{IsSeatOf, IsSpaceOf, HoldsAddress};
 ghost use Rattle.page_words.specs.Seat.{OnlyLooked};
 ghost use Rattle.ephemerons.specs.Fixpoint.{ListsMarks};
+ghost use Rattle.ephemerons.specs.LookedAt.{LooksOnlyAt};
 ghost use Rattle.cross_thread_region.specs.Histories.{strong_place};
 ghost use Rattle.atomic_pause.specs.Marking.{IsHitPlace, IsScanned, IsSharedPlace, with_may};
 
@@ -34,6 +35,7 @@ pub fn visit_slots(space: &Space, seat: &mut MutatorSeat, marking: &mut Marking,
     ensures only { (p : ℕ) → holds seat.new.marked p ≡ true
         → (holds seat.old.marked p ≡ true) ⊎ Contains slots.now (Some p) }
     ensures noted { seat.new.noted ≡ seat.old.noted }
+    ensures looked { seat.new.looked ≡ seat.old.looked }
 {
     for i in 0..slots.len() {
         if let Some(place) = slots.get(i) {
@@ -56,6 +58,7 @@ pub fn visit_told(space: &Space, seat: &mut MutatorSeat, marking: &mut Marking, 
     ensures only { (p : ℕ) → holds seat.new.marked p ≡ true
         → (holds seat.old.marked p ≡ true) ⊎ Contains told.now (p + 1) }
     ensures noted { seat.new.noted ≡ seat.old.noted }
+    ensures looked { seat.new.looked ≡ seat.old.looked }
 {
     for i in 0..told.len() {
         if told[i] != 0 {
@@ -79,6 +82,7 @@ pub fn visit_region(space: &Space, seat: &mut MutatorSeat, marking: &mut Marking
     ensures only { (p : ℕ) → holds seat.new.marked p ≡ true
         → (holds seat.old.marked p ≡ true) ⊎ IsSharedPlace held.now p }
     ensures noted { seat.new.noted ≡ seat.old.noted }
+    ensures looked { LooksOnlyAt (IsSharedPlace held.now) seat.old seat.new }
 {
     for i in 0..SHARED {
         if let Some(place) = held.strong(i) {
@@ -107,6 +111,7 @@ pub fn scan_stack(
     ensures only { (p : ℕ) → holds seat.new.marked p ≡ true
         → (holds seat.old.marked p ≡ true) ⊎ IsScanned precise seat.old.bodies stack.now p }
     ensures noted { seat.new.noted ≡ seat.old.noted }
+    ensures looked { precise ≡ true → seat.new.looked ≡ seat.old.looked }
 {
     if !precise {
         scan_words(space, seat, marking, stack);
@@ -162,6 +167,7 @@ fn keep(space: &Space, seat: &mut MutatorSeat, marking: &mut Marking, place: u32
     ensures only { (p : ℕ) → holds seat.new.marked p ≡ true
         → (holds seat.old.marked p ≡ true) ⊎ (place ≡ p) }
     ensures noted { seat.new.noted ≡ seat.old.noted }
+    ensures looked { seat.new.looked ≡ seat.old.looked ++ place ∷ [] }
 {
     read_weakly(space, seat, place);
     mark(space, seat, marking, place);
@@ -174,6 +180,7 @@ fn read_weakly(space: &Space, seat: &mut MutatorSeat, place: u32)
     requires place { IsPlace seat.old.bodies place }
     ensures may { holds seat.new.may place ≡ true }
     ensures view { OnlyLooked (with_may seat.old seat.new.may) seat.new }
+    ensures looked { seat.new.looked ≡ seat.old.looked ++ place ∷ [] }
 {
     seat.bodies_lie_apart();
     space.load::<WeakRead>(seat, place);

@@ -1,10 +1,11 @@
-use Rattle.std.proofs.Common.{◌≡◌, refl, sym, ◌∙◌, subst}
+use Rattle.std.proofs.Common.{◌≡◌, List, length, refl, sym, ap, ◌∙◌, subst}
 use Rattle.marker_core.specs.Bodies.{holds}
 use Rattle.marker_core.specs.Closed.{IsClosedOver}
-use Rattle.page_words.specs.Seat.{ended}
+use Rattle.page_words.specs.Seat.{SeatView, ended}
 use Rattle.page_words.specs.Roles.{kind_lists}
 use Rattle.ephemerons.specs.Marking.{IsOver}
-use Rattle.atomic_pause.proofs.MarkEnds.{walked_or_listed, kept_are_counted, marks_reachable}
+use Rattle.ephemerons.specs.Fixpoint.{IsUnrefused}
+use Rattle.atomic_pause.proofs.MarkEnds.{walked_or_listed, unwalked, kept_are_counted, marks_reachable, looks_ended}
 use Rattle.atomic_pause.proofs.closing.close.Goals as goal
 
 pub fixpoint-traced-requires-clause-marking : goal.fixpoint-traced-requires-clause-marking
@@ -48,3 +49,13 @@ pub returns-clause-traced : goal.returns-clause-traced
 returns-clause-traced c =
     kept_are_counted c.args.types.now c.args.seat.now c.fixpoint-traced.new.seat c.set_stop.new.seat c.fixpoint-traced.result
     c.bodies_lie_apart-2.ensures c.fixpoint-traced.ensures.alone.none_lent (over c) (c.fixpoint-traced.ensures.counted c.requires.differ) (ends c)
+
+pub returns-clause-looked : goal.returns-clause-looked
+returns-clause-looked c fine held =
+    looks_ended c.args.types.now c.args.seat.now c.fixpoint-traced.new.seat c.set_stop.new.seat (ends c)
+    (c.fixpoint-traced.ensures.looked
+    (unwalked c.is_refused-walk.result (IsUnrefused c.args.marking.now.overflow c.args.notes.now) c.is_refused-walk.ensures.walked
+    (c.fixpoint-traced.ensures.refused fine)) fine held)
+
+pub returns-clause-early : goal.returns-clause-early
+returns-clause-early c = ap (λ (v : SeatView). v.early) (ends c) ∙ sym (ap (λ (v : SeatView). length v.looked) (ends c))

@@ -4,9 +4,11 @@ use Rattle.std.proofs.lemmas.Bool.{cases_lt}
 use Rattle.marker_core.specs.Bodies.{holds}
 use Rattle.page_words.specs.Seat.{SeatView}
 use Rattle.ephemerons.specs.Fixpoint.{ListsMarks}
+use Rattle.ephemerons.specs.LookedAt.{LooksOnlyAt}
+use Rattle.ephemerons.specs.LookedPlaces.{looked_nowhere, looked_once, looked_then}
 use Rattle.cross_thread_region.specs.Histories.{strong_place}
 use Rattle.cross_thread_region.specs.PlacedNodes.{strong_place_below}
-use Rattle.atomic_pause.specs.Marking.{with_may}
+use Rattle.atomic_pause.specs.Marking.{IsSharedPlace, with_may}
 use Rattle.atomic_pause.proofs.MayMarks.{scans_then, scans_none}
 use Rattle.atomic_pause.proofs.roots.visit_region.Goals as goal
 use Rattle.atomic_pause.proofs.roots.visit_region.Goals.{in-Some, in_default}
@@ -30,6 +32,11 @@ loop-i-preserved c =
       | in-Some w ↦ ap (λ (v : SeatView). v.noted) w.seat-is ∙ w.keep.ensures.noted
       | in_default w ↦ ap (λ (v : SeatView). v.noted) w.seat-is
     ] in
+    let looks : LooksOnlyAt (IsSharedPlace c.args.held.now) before after = elim c.match-strong.branch [
+      | in-Some w ↦ looked_once (IsSharedPlace c.args.held.now) before after w.in-Some.place
+          (ap (λ (v : SeatView). v.looked) w.seat-is ∙ w.keep.ensures.looked) (c.loop-i.i, sym c.strong.ensures ∙ w.in-Some.is)
+      | in_default w ↦ looked_nowhere (IsSharedPlace c.args.held.now) before after (ap (λ (v : SeatView). v.looked) w.seat-is)
+    ] in
     let root : (p : ℕ) → strong_place c.args.held.now c.loop-i.i ≡ Some p → holds after.marked p ≡ true = λ p is. elim c.match-strong.branch [
       | in-Some w ↦ subst (λ s. holds s.marked p ≡ true) (sym w.seat-is)
           (subst (λ q. holds w.keep.new.seat.marked q ≡ true) (ap named (sym w.in-Some.is ∙ c.strong.ensures ∙ is)) w.keep.ensures.root)
@@ -45,6 +52,7 @@ loop-i-preserved c =
     record {
       marks = scans_then c.args.seat.now before after c.args.marking.now c.loop-i.marking c.match-strong.marking c.loop-i.invariant.marks visited;
       noted = same ∙ c.loop-i.invariant.noted;
+      looked = looked_then (IsSharedPlace c.args.held.now) c.args.seat.now before after c.loop-i.invariant.looked looks;
       roots = λ x p low is. elim (cases_lt x c.loop-i.i) [
         | inl earlier ↦ visited.marked p (c.loop-i.invariant.roots x p earlier is)
         | inr late ↦

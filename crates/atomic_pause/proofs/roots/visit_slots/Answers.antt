@@ -28,6 +28,10 @@ loop-i-preserved c =
       | in-Some w ↦ ap (λ (v : SeatView). v.noted) w.seat-is ∙ w.mark.ensures.noted
       | in_default w ↦ ap (λ (v : SeatView). v.noted) w.seat-is
     ] in
+    let unlooked : c.match-get.seat.looked ≡ c.loop-i.seat.looked = elim c.match-get.branch [
+      | in-Some w ↦ ap (λ (v : SeatView). v.looked) w.seat-is ∙ w.mark.ensures.looked
+      | in_default w ↦ ap (λ (v : SeatView). v.looked) w.seat-is
+    ] in
     let root : (p : ℕ) → c.get.result ≡ Some p → holds c.match-get.seat.marked p ≡ true = λ p is. elim c.match-get.branch [
       | in-Some w ↦ subst (λ s. holds s.marked p ≡ true) (sym w.seat-is)
           (subst (λ q. holds w.mark.new.seat.marked q ≡ true) (ap named (sym w.in-Some.is ∙ is)) w.mark.ensures.target)
@@ -40,6 +44,7 @@ loop-i-preserved c =
     record {
       marks = ListsMarks-then c.args.seat.now c.loop-i.seat c.match-get.seat c.args.marking.now c.loop-i.marking c.match-get.marking c.loop-i.invariant.marks visited;
       noted = same ∙ c.loop-i.invariant.noted;
+      looked = unlooked ∙ c.loop-i.invariant.looked;
       roots = λ p among. elim (Contains-take_more_cases c.args.slots.now c.loop-i.i None (Some p) low among) [
         | inl earlier ↦ visited.marked p (c.loop-i.invariant.roots p earlier)
         | inr here ↦ root p (c.get.ensures ∙ here)

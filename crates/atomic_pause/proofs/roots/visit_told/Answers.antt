@@ -32,6 +32,10 @@ loop-i-preserved c =
       | then-told-i-ne0 w ↦ ap (λ (v : SeatView). v.noted) w.seat-is ∙ w.mark.ensures.noted
       | else-told-i-ne0 w ↦ ap (λ (v : SeatView). v.noted) w.seat-is
     ] in
+    let unlooked : c.if-told-i-ne0.seat.looked ≡ c.loop-i.seat.looked = elim c.if-told-i-ne0.branch [
+      | then-told-i-ne0 w ↦ ap (λ (v : SeatView). v.looked) w.seat-is ∙ w.mark.ensures.looked
+      | else-told-i-ne0 w ↦ ap (λ (v : SeatView). v.looked) w.seat-is
+    ] in
     let root : (p : ℕ) → get_or c.args.told.now c.loop-i.i 0 ≡ p + 1 → holds c.if-told-i-ne0.seat.marked p ≡ true = λ p is. elim c.if-told-i-ne0.branch [
       | then-told-i-ne0 w ↦
           (let place : get_or c.args.told.now c.loop-i.i 0 - 1 ≡ p = omega (arith, is) in
@@ -49,6 +53,7 @@ loop-i-preserved c =
     record {
       marks = ListsMarks-then c.args.seat.now c.loop-i.seat c.if-told-i-ne0.seat c.args.marking.now c.loop-i.marking c.if-told-i-ne0.marking c.loop-i.invariant.marks visited;
       noted = same ∙ c.loop-i.invariant.noted;
+      looked = unlooked ∙ c.loop-i.invariant.looked;
       roots = λ p among. elim (Contains-take_more_cases c.args.told.now c.loop-i.i 0 (p + 1) low among) [
         | inl earlier ↦ visited.marked p (c.loop-i.invariant.roots p earlier)
         | inr here ↦ root p here

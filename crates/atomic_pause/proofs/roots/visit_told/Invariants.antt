@@ -9,6 +9,7 @@ abbrev pub invariant-loop-i : goal.invariant-loop-i
 invariant-loop-i l = record {
   marks : ListsMarks l.initial.seat l.initial.marking l.seat l.marking;
   noted : l.seat.noted ≡ l.initial.seat.noted;
+  looked : l.seat.looked ≡ l.initial.seat.looked;
   roots : (p : ℕ) → Contains (take l.i l.told) (p + 1) → holds l.seat.marked p ≡ true;
   only : (p : ℕ) → holds l.seat.marked p ≡ true → (holds l.initial.seat.marked p ≡ true) ⊎ Contains (take l.i l.told) (p + 1);
 }
