@@ -1,4 +1,5 @@
 pub mod MarkEnds
+pub mod MarkedOut
 pub mod HeldNodes
 pub mod ReachedNodes
 pub mod BodyReferences

@@ -74,7 +74,6 @@ looks_ended types w x y ends looks =
 pub unwalked : (walk : Bool) (fine : Type 0) → (walk ≡ true → fine → ⊥) → fine → walk ≡ false
 unwalked walk fine refused is = elim (cases_Bool walk) [ inl so ↦ absurd (refused so is) | inr not_so ↦ not_so ]
 
-
 -- list and notes account for all that is left, unless something was refused, and then the heap is walked
 pub walked_or_listed : (types : List ObjectType) (w : SeatView) (m : Marking) (groups : List NotesState) (walk : Bool) → IsReadyToEnd types w m groups
     → (walk ≡ false → IsUnrefused m.overflow groups) → (walk ≡ true) ⊎ IsAccounted types None w m.list.items groups

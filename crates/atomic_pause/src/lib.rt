@@ -6,25 +6,29 @@
 //!
 //! The parts: `visit_slots`, which marks what the strong slots name, at the start of a cycle too, and
 //! `visit_told`, which does so there for the region's; `pause`, which works on `Parts` that their
-//! owners lend and answers a `PauseResult`. It calls, in this order, `visit_slots`, `visit_region` and
-//! `scan_stack` (the roots), `close` (the marking list is drained and pairs come to their fixpoint),
-//! `clear_weak`, `clear_region` and `prefinalise`, and holds the region from the roots until its weak
-//! slots are cleared. The next level down is `ephemerons`, `weak_clearing`, `cross_thread_region` and
-//! `callback_table`.
+//! owners lend and answers a `PauseResult`. It calls, in this order, `mark_out`, `clear_weak`,
+//! `clear_region` and `prefinalise`, and holds the region from the roots until its weak slots are
+//! cleared. `mark_out` is `visit_slots`, `visit_region` and `scan_stack` (the roots), and then `close`
+//! (the marking list is drained and pairs come to their fixpoint). The next level down is
+//! `ephemerons`, `weak_clearing`, `cross_thread_region` and `callback_table`.
 //!
 //! What is proved: `pause` keeps what the roots reach, by strong fields and by pairs whose key is
 //! kept, and nothing but what the cycle may keep, the region's strong slots name and the stack hits,
 //! with all that these reach; exactly the weak handles of kept objects to condemned ones become null,
 //! and exactly the weak slots, those of the region too, that name one; the prefinalizers of condemned
 //! nodes run, the last that was registered first, and nothing comes to life again. A precise pause
-//! doesn't look at the stack. It needs no memory and can't fail.
+//! doesn't look at the stack. It needs no memory and can't fail. Until marking ends, a precise pause
+//! to which no memory was refused looks at no headers but those of kept objects and of keys of their
+//! pairs (`mark_out`).
 //!
-//! What is only tested or not said: how long it takes.
+//! What is only tested or not said: how long it takes, and which headers weak clearing and
+//! prefinalizers look at once marking has ended.
 #![tactic(auto)]
 
 mod clearing;
 mod closing;
 mod judging;
+mod marking;
 mod parts;
 mod pausing;
 mod prefinalizing;

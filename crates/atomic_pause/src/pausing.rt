@@ -25,12 +25,12 @@ ghost use Rattle.atomic_pause.specs.Left.{seat_left, nodes_left, marking_left};
 ghost use Rattle.atomic_pause.specs.Left.{weak_left, registry_left, region_left, pass_left};
 
 use crate::clearing::clear_weak;
-use crate::closing::{close, is_refused};
+use crate::closing::is_refused;
 use crate::judging::judged;
+use crate::marking::mark_out;
 use crate::parts::{Parts, PauseResult};
 use crate::prefinalizing::prefinalise;
 use crate::region_clearing::clear_region;
-use crate::roots::{scan_stack, visit_region, visit_slots};
 use ephemerons::Pairs;
 
 /// Keeps what the roots reach and condemns the other objects. The roots are what the strong slots
@@ -114,10 +114,9 @@ pub fn pause(parts: Parts, notes: &mut [Pairs], stack: &[u64], precise: bool) ->
     gc_graph::reach_is_least();
     seat.bodies_lie_apart();
     let held = region.pause_begin(pass);
-    visit_slots(space, seat, marking, strong);
-    visit_region(space, seat, marking, &held);
-    scan_stack(space, seat, marking, stack, precise);
-    let more = close(space, types, seat, marking, notes);
+    let more = mark_out(
+        space, types, seat, marking, notes, strong, &held, stack, precise,
+    );
     clear_weak(space, types, seat, weak);
     clear_region(space, seat, region, pass, held);
     *nodes = judged(nodes, seat);

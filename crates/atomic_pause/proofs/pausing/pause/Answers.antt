@@ -13,9 +13,6 @@ use Rattle.marker_core.specs.Bodies.{IsPlace, holds}
 use Rattle.marker_core.specs.declared.states.Body.{Body}
 use Rattle.page_words.specs.Seat.{SeatView}
 use Rattle.page_space.specs.Space.{extents_of_bodies}
-use Rattle.ephemerons.specs.BodyGraph.{PlacesDiffer}
-use Rattle.ephemerons.specs.Marking.{traced_count}
-use Rattle.ephemerons.specs.Fixpoint.{Mode}
 use Rattle.prefinalizer_effects.specs.Prepared.{setup_of, IsPrepared}
 use Rattle.prefinalizer_effects.specs.LookedObjects.{prepared_looked}
 use Rattle.nodes_in_words.specs.Places.{kept_of}
@@ -24,100 +21,45 @@ use Rattle.nodes_in_words.specs.NodePlaces.{places_differ}
 use Rattle.atomic_pause.specs.Marking.{IsOtherRoot, IsRootPlace, IsMayOrRoot, MarksReachable, marked_count}
 use Rattle.atomic_pause.specs.Pausing.{IsKeptBetween}
 use Rattle.atomic_pause.proofs.BodyReferences.{alive_marked, marked_references}
-use Rattle.atomic_pause.proofs.MayMarks.{roots_mode, roots_ready}
-use Rattle.atomic_pause.proofs.PausedNodes.{roots_marked, traced_so_far, few_kept, none_missing, prepared, paused_is, registered_after, kept_count, dead_left}
+use Rattle.atomic_pause.proofs.PausedNodes.{few_kept, none_missing, prepared, paused_is, registered_after, kept_count, dead_left}
 use Rattle.atomic_pause.proofs.ReachedNodes.{has_marked, others_at, other_roots, roots_with, roots_with_others, keeps_between}
 use Rattle.atomic_pause.proofs.RegionPaused.{shared_place, weak_is_place, region_paused}
 use Rattle.atomic_pause.proofs.WeakJudged.{both_cleared, extents_cleared, place_cleared, weak_left_is}
 use Rattle.atomic_pause.proofs.pausing.pause.Given as given
 use Rattle.atomic_pause.proofs.pausing.pause.Goals as goal
 
-pub visit_slots-requires-clause-marking : goal.visit_slots-requires-clause-marking
-visit_slots-requires-clause-marking g c = c.requires.ready.told ∙ sym c.requires.ready.on
+pub mark_out-more-requires-clause-differ : goal.mark_out-more-requires-clause-differ
+mark_out-more-requires-clause-differ g c =
+    places_differ c.args.parts.nodes.now.value c.args.parts.seat.now c.bodies_lie_apart.ensures c.requires.held.bodies
 
-pub visit_region-requires-clause-marking : goal.visit_region-requires-clause-marking
-visit_region-requires-clause-marking g c =
-    ap (λ (o : Mode). o.on) c.visit_slots.ensures.marks.mode ∙ c.requires.ready.told
-    ∙ sym (ap (λ (z : SeatView). z.on) c.visit_slots.ensures.marks.view ∙ c.requires.ready.on)
-
-pub visit_region-requires-clause-alone : goal.visit_region-requires-clause-alone
-visit_region-requires-clause-alone g c = ap (λ (z : SeatView). z.lent) c.visit_slots.ensures.marks.view ∙ c.requires.ready.alone.none_lent
-
-pub visit_region-requires-clause-places : goal.visit_region-requires-clause-places
-visit_region-requires-clause-places g c = λ x p is.
-    subst (λ bs. IsPlace bs p) (sym (ap (λ (z : SeatView). z.bodies) c.visit_slots.ensures.marks.view))
-    (shared_place c.args.parts.nodes.now.value c.args.parts.region.now c.args.parts.pass.now c.pause_begin-held.result c.args.parts.seat.now x p c.requires.shared
-    c.pause_begin-held.ensures.held c.requires.held is)
-
-pub scan_stack-requires-clause-marking : goal.scan_stack-requires-clause-marking
-scan_stack-requires-clause-marking g c =
-    ap (λ (o : Mode). o.on) c.visit_region.ensures.marks.mode ∙ ap (λ (o : Mode). o.on) c.visit_slots.ensures.marks.mode ∙ c.requires.ready.told
-    ∙ sym (ap (λ (z : SeatView). z.on) c.visit_region.ensures.marks.view ∙ ap (λ (z : SeatView). z.on) c.visit_slots.ensures.marks.view ∙ c.requires.ready.on)
-
-pub scan_stack-requires-clause-alone : goal.scan_stack-requires-clause-alone
-scan_stack-requires-clause-alone g c =
-    ap (λ (z : SeatView). z.lent) c.visit_region.ensures.marks.view ∙ ap (λ (z : SeatView). z.lent) c.visit_slots.ensures.marks.view
-    ∙ c.requires.ready.alone.none_lent
-
-pub close-more-requires-clause-ready : goal.close-more-requires-clause-ready
-close-more-requires-clause-ready g c =
-    roots_ready c.args.parts.types.now c.args.parts.seat.now c.visit_slots.new.seat c.visit_region.new.seat c.scan_stack.new.seat c.args.parts.marking.now
-    c.visit_slots.new.marking c.visit_region.new.marking c.scan_stack.new.marking c.args.notes.now c.visit_slots.ensures.marks
-    c.visit_region.ensures.marks c.scan_stack.ensures.marks c.requires.ready
-
-pub close-more-requires-clause-types : goal.close-more-requires-clause-types
-close-more-requires-clause-types g c =
-    sym
-    (ap (λ (z : SeatView). z.types) c.scan_stack.ensures.marks.view ∙ ap (λ (z : SeatView). z.types) c.visit_region.ensures.marks.view
-    ∙ ap (λ (z : SeatView). z.types) c.visit_slots.ensures.marks.view ∙ c.requires.types)
-
-pub close-more-requires-clause-differ : goal.close-more-requires-clause-differ
-close-more-requires-clause-differ g c =
-    subst PlacesDiffer
-    (sym
-    (ap (λ (z : SeatView). z.bodies) c.scan_stack.ensures.marks.view ∙ ap (λ (z : SeatView). z.bodies) c.visit_region.ensures.marks.view
-    ∙ ap (λ (z : SeatView). z.bodies) c.visit_slots.ensures.marks.view))
-    (places_differ c.args.parts.nodes.now.value c.args.parts.seat.now c.bodies_lie_apart.ensures c.requires.held.bodies)
+pub mark_out-more-requires-clause-shared : goal.mark_out-more-requires-clause-shared
+mark_out-more-requires-clause-shared g c = λ x p is.
+    shared_place c.args.parts.nodes.now.value c.args.parts.region.now c.args.parts.pass.now c.pause_begin-held.result c.args.parts.seat.now x p c.requires.shared
+    c.pause_begin-held.ensures.held c.requires.held is
 
 pub clear_weak-requires-clause-references : goal.clear_weak-requires-clause-references
 clear_weak-requires-clause-references g c =
-    let marks = roots_marked c.args.parts.types.now c.args.parts.strong.now c.pause_begin-held.result c.args.precise c.args.stack.now c.args.parts.seat.now c.visit_slots.new.seat
-    c.visit_region.new.seat c.scan_stack.new.seat c.close-more.new.seat c.args.parts.marking.now c.visit_slots.new.marking c.visit_region.new.marking c.scan_stack.new.marking
-    c.bodies_lie_apart.ensures c.requires.ready.on c.requires.may c.visit_slots.ensures.marks c.visit_slots.ensures.roots c.visit_slots.ensures.only
-    c.visit_region.ensures.marks c.visit_region.ensures.roots c.visit_region.ensures.only c.scan_stack.ensures.marks c.scan_stack.ensures.roots c.scan_stack.ensures.only
-    c.close-more.ensures.over in
-    marked_references Weak (setup_of c.args.parts.space.now c.args.parts.types.now (kinds_of c.args.parts.callbacks.now)) c.args.parts.nodes.now.value c.close-more.new.seat refl (marks.known ∙ c.requires.types)
+    let marks = c.mark_out-more.ensures.over in
+    marked_references Weak (setup_of c.args.parts.space.now c.args.parts.types.now (kinds_of c.args.parts.callbacks.now)) c.args.parts.nodes.now.value c.mark_out-more.new.seat refl (marks.known ∙ c.requires.types)
     (alive_marked (setup_of c.args.parts.space.now c.args.parts.types.now (kinds_of c.args.parts.callbacks.now)) c.args.parts.nodes.now.value (IsRootPlace c.args.parts.strong.now c.pause_begin-held.result c.args.precise c.args.parts.seat.now.bodies c.args.stack.now) (IsMayOrRoot c.pause_begin-held.result c.args.precise c.args.parts.seat.now c.args.stack.now)
-    c.args.parts.seat.now c.close-more.new.seat c.requires.valid c.requires.held (c.bodies_lie_apart.ensures.marking c.requires.ready.on).no_dead marks)
+    c.args.parts.seat.now c.mark_out-more.new.seat c.requires.valid c.requires.held (c.bodies_lie_apart.ensures.marking c.requires.ready.on).no_dead marks)
 
 pub clear_weak-requires-clause-pairs : goal.clear_weak-requires-clause-pairs
 clear_weak-requires-clause-pairs g c =
-    let marks = roots_marked c.args.parts.types.now c.args.parts.strong.now c.pause_begin-held.result c.args.precise c.args.stack.now c.args.parts.seat.now c.visit_slots.new.seat
-    c.visit_region.new.seat c.scan_stack.new.seat c.close-more.new.seat c.args.parts.marking.now c.visit_slots.new.marking c.visit_region.new.marking c.scan_stack.new.marking
-    c.bodies_lie_apart.ensures c.requires.ready.on c.requires.may c.visit_slots.ensures.marks c.visit_slots.ensures.roots c.visit_slots.ensures.only
-    c.visit_region.ensures.marks c.visit_region.ensures.roots c.visit_region.ensures.only c.scan_stack.ensures.marks c.scan_stack.ensures.roots c.scan_stack.ensures.only
-    c.close-more.ensures.over in
-    marked_references Pair (setup_of c.args.parts.space.now c.args.parts.types.now (kinds_of c.args.parts.callbacks.now)) c.args.parts.nodes.now.value c.close-more.new.seat refl (marks.known ∙ c.requires.types)
+    let marks = c.mark_out-more.ensures.over in
+    marked_references Pair (setup_of c.args.parts.space.now c.args.parts.types.now (kinds_of c.args.parts.callbacks.now)) c.args.parts.nodes.now.value c.mark_out-more.new.seat refl (marks.known ∙ c.requires.types)
     (alive_marked (setup_of c.args.parts.space.now c.args.parts.types.now (kinds_of c.args.parts.callbacks.now)) c.args.parts.nodes.now.value (IsRootPlace c.args.parts.strong.now c.pause_begin-held.result c.args.precise c.args.parts.seat.now.bodies c.args.stack.now) (IsMayOrRoot c.pause_begin-held.result c.args.precise c.args.parts.seat.now c.args.stack.now)
-    c.args.parts.seat.now c.close-more.new.seat c.requires.valid c.requires.held (c.bodies_lie_apart.ensures.marking c.requires.ready.on).no_dead marks)
+    c.args.parts.seat.now c.mark_out-more.new.seat c.requires.valid c.requires.held (c.bodies_lie_apart.ensures.marking c.requires.ready.on).no_dead marks)
 
 pub clear_weak-requires-clause-places : goal.clear_weak-requires-clause-places
 clear_weak-requires-clause-places g c =
-    let marks = roots_marked c.args.parts.types.now c.args.parts.strong.now c.pause_begin-held.result c.args.precise c.args.stack.now c.args.parts.seat.now c.visit_slots.new.seat
-    c.visit_region.new.seat c.scan_stack.new.seat c.close-more.new.seat c.args.parts.marking.now c.visit_slots.new.marking c.visit_region.new.marking c.scan_stack.new.marking
-    c.bodies_lie_apart.ensures c.requires.ready.on c.requires.may c.visit_slots.ensures.marks c.visit_slots.ensures.roots c.visit_slots.ensures.only
-    c.visit_region.ensures.marks c.visit_region.ensures.roots c.visit_region.ensures.only c.scan_stack.ensures.marks c.scan_stack.ensures.roots c.scan_stack.ensures.only
-    c.close-more.ensures.over in
+    let marks = c.mark_out-more.ensures.over in
     subst (λ bs. All (IsPlace bs) (taken c.args.parts.weak.now)) (sym marks.bodies) c.requires.weak
 
 pub clear_region-requires-clause-places : goal.clear_region-requires-clause-places
 clear_region-requires-clause-places g c = λ x p is.
-    let marks = roots_marked c.args.parts.types.now c.args.parts.strong.now c.pause_begin-held.result c.args.precise c.args.stack.now c.args.parts.seat.now c.visit_slots.new.seat
-    c.visit_region.new.seat c.scan_stack.new.seat c.close-more.new.seat c.args.parts.marking.now c.visit_slots.new.marking c.visit_region.new.marking c.scan_stack.new.marking
-    c.bodies_lie_apart.ensures c.requires.ready.on c.requires.may c.visit_slots.ensures.marks c.visit_slots.ensures.roots c.visit_slots.ensures.only
-    c.visit_region.ensures.marks c.visit_region.ensures.roots c.visit_region.ensures.only c.scan_stack.ensures.marks c.scan_stack.ensures.roots c.scan_stack.ensures.only
-    c.close-more.ensures.over in
-    place_cleared c.close-more.new.seat c.clear_weak.new.seat p c.clear_weak.ensures.fields
+    let marks = c.mark_out-more.ensures.over in
+    place_cleared c.mark_out-more.new.seat c.clear_weak.new.seat p c.clear_weak.ensures.fields
     (subst (λ bs. IsPlace bs p) (sym marks.bodies)
     (weak_is_place c.args.parts.nodes.now.value c.args.parts.region.now c.args.parts.pass.now c.pause_begin-held.result c.args.parts.seat.now x p c.requires.shared
     c.pause_begin-held.ensures.held c.requires.held is))
@@ -125,13 +67,9 @@ clear_region-requires-clause-places g c = λ x p is.
 pub prefinalise-requires-clause-ready : goal.prefinalise-requires-clause-ready
 prefinalise-requires-clause-ready g c =
     let nodes : List Node = c.args.parts.nodes.now.value in
-    let y : SeatView = c.close-more.new.seat in
-    let marks = roots_marked c.args.parts.types.now c.args.parts.strong.now c.pause_begin-held.result c.args.precise c.args.stack.now c.args.parts.seat.now c.visit_slots.new.seat
-    c.visit_region.new.seat c.scan_stack.new.seat c.close-more.new.seat c.args.parts.marking.now c.visit_slots.new.marking c.visit_region.new.marking c.scan_stack.new.marking
-    c.bodies_lie_apart.ensures c.requires.ready.on c.requires.may c.visit_slots.ensures.marks c.visit_slots.ensures.roots c.visit_slots.ensures.only
-    c.visit_region.ensures.marks c.visit_region.ensures.roots c.visit_region.ensures.only c.scan_stack.ensures.marks c.scan_stack.ensures.roots c.scan_stack.ensures.only
-    c.close-more.ensures.over in
-    let judged_is : c.judged.result.value ≡ nodes_after (kept_of (holds c.close-more.new.seat.marked) c.args.parts.nodes.now.value) c.args.parts.nodes.now.value =
+    let y : SeatView = c.mark_out-more.new.seat in
+    let marks = c.mark_out-more.ensures.over in
+    let judged_is : c.judged.result.value ≡ nodes_after (kept_of (holds c.mark_out-more.new.seat.marked) c.args.parts.nodes.now.value) c.args.parts.nodes.now.value =
     c.judged.ensures ∙ ap (λ (u : SeatView). nodes_after (kept_of (holds u.marked) c.args.parts.nodes.now.value) c.args.parts.nodes.now.value) (c.clear_region.ensures.view ∙ c.clear_weak.ensures.fields) in
     let ready : IsPrepared c.args.parts.space.now c.args.parts.types.now (both_cleared y) (nodes_after (kept_of (holds y.marked) nodes) nodes) =
     prepared c.args.parts.space.now c.args.parts.types.now (kinds_of c.args.parts.callbacks.now) nodes (IsRootPlace c.args.parts.strong.now c.pause_begin-held.result c.args.precise c.args.parts.seat.now.bodies c.args.stack.now) (IsMayOrRoot c.pause_begin-held.result c.args.precise c.args.parts.seat.now c.args.stack.now)
@@ -142,53 +80,41 @@ prefinalise-requires-clause-ready g c =
 
 pub prefinalise-requires-clause-registered : goal.prefinalise-requires-clause-registered
 prefinalise-requires-clause-registered g c = λ k d low.
-    let judged_is : c.judged.result.value ≡ nodes_after (kept_of (holds c.close-more.new.seat.marked) c.args.parts.nodes.now.value) c.args.parts.nodes.now.value =
+    let judged_is : c.judged.result.value ≡ nodes_after (kept_of (holds c.mark_out-more.new.seat.marked) c.args.parts.nodes.now.value) c.args.parts.nodes.now.value =
     c.judged.ensures ∙ ap (λ (u : SeatView). nodes_after (kept_of (holds u.marked) c.args.parts.nodes.now.value) c.args.parts.nodes.now.value) (c.clear_region.ensures.view ∙ c.clear_weak.ensures.fields) in
     let callbacks : ℕ = length (kinds_of c.args.parts.callbacks.now) in
     let entry : Registered = get_or c.args.parts.registry.now.entries k d in
     subst (λ (ns : List Node). IsRegistered ns callbacks entry) (sym judged_is)
-    (registered_after (kept_of (holds c.close-more.new.seat.marked) c.args.parts.nodes.now.value) c.args.parts.nodes.now.value callbacks entry (c.requires.registered k d low))
+    (registered_after (kept_of (holds c.mark_out-more.new.seat.marked) c.args.parts.nodes.now.value) c.args.parts.nodes.now.value callbacks entry (c.requires.registered k d low))
 
 pub overflow_add-kept : goal.overflow_add-kept
 overflow_add-kept g c =
     let v : SeatView = c.args.parts.seat.now in
-    let before : traced_count c.scan_stack.new.seat ≡ traced_count v =
-    traced_so_far v c.visit_slots.new.seat c.visit_region.new.seat c.scan_stack.new.seat c.args.parts.marking.now c.visit_slots.new.marking c.visit_region.new.marking
-    c.scan_stack.new.marking c.visit_slots.ensures.marks c.visit_region.ensures.marks c.scan_stack.ensures.marks in
-    let all : c.args.parts.traced + c.close-more.result ≡ marked_count c.close-more.new.seat = omega (arith, c.requires.traced, before, c.close-more.ensures.traced) in
-    let same : c.close-more.new.seat.bodies ≡ v.bodies =
-    c.close-more.ensures.over.bodies ∙ ap (λ (z : SeatView). z.bodies) c.scan_stack.ensures.marks.view ∙ ap (λ (z : SeatView). z.bodies) c.visit_region.ensures.marks.view
-    ∙ ap (λ (z : SeatView). z.bodies) c.visit_slots.ensures.marks.view in
-    let low : c.args.parts.traced + c.close-more.result < 2 ^ 32 =
-    few_kept c.args.parts.nodes.now.value v c.close-more.new.seat (c.args.parts.traced + c.close-more.result) c.requires.held same c.requires.few all in
+    let all : c.args.parts.traced + c.mark_out-more.result ≡ marked_count c.mark_out-more.new.seat = omega (arith, c.requires.traced, c.mark_out-more.ensures.traced) in
+    let same : c.mark_out-more.new.seat.bodies ≡ v.bodies =
+    c.mark_out-more.ensures.over.bodies in
+    let low : c.args.parts.traced + c.mark_out-more.result < 2 ^ 32 =
+    few_kept c.args.parts.nodes.now.value v c.mark_out-more.new.seat (c.args.parts.traced + c.mark_out-more.result) c.requires.held same c.requires.few all in
     search rules
 
 pub overflow_sub-result : goal.overflow_sub-result
 overflow_sub-result g c =
     let v : SeatView = c.args.parts.seat.now in
-    let before : traced_count c.scan_stack.new.seat ≡ traced_count v =
-    traced_so_far v c.visit_slots.new.seat c.visit_region.new.seat c.scan_stack.new.seat c.args.parts.marking.now c.visit_slots.new.marking c.visit_region.new.marking
-    c.scan_stack.new.marking c.visit_slots.ensures.marks c.visit_region.ensures.marks c.scan_stack.ensures.marks in
-    let all : c.args.parts.traced + c.close-more.result ≡ marked_count c.close-more.new.seat = omega (arith, c.requires.traced, before, c.close-more.ensures.traced) in
-    let same : c.close-more.new.seat.bodies ≡ v.bodies =
-    c.close-more.ensures.over.bodies ∙ ap (λ (z : SeatView). z.bodies) c.scan_stack.ensures.marks.view ∙ ap (λ (z : SeatView). z.bodies) c.visit_region.ensures.marks.view
-    ∙ ap (λ (z : SeatView). z.bodies) c.visit_slots.ensures.marks.view in
-    let enough : c.args.parts.traced + c.close-more.result ≤ c.objects.result =
-    none_missing v c.close-more.new.seat c.objects.result (c.args.parts.traced + c.close-more.result) same all (c.objects.ensures v c.requires.heap) in
+    let all : c.args.parts.traced + c.mark_out-more.result ≡ marked_count c.mark_out-more.new.seat = omega (arith, c.requires.traced, c.mark_out-more.ensures.traced) in
+    let same : c.mark_out-more.new.seat.bodies ≡ v.bodies =
+    c.mark_out-more.ensures.over.bodies in
+    let enough : c.args.parts.traced + c.mark_out-more.result ≤ c.objects.result =
+    none_missing v c.mark_out-more.new.seat c.objects.result (c.args.parts.traced + c.mark_out-more.result) same all (c.objects.ensures v c.requires.heap) in
     search rules
 
 -- ---- at the end
 
-marks : (g : given.Over) (c : goal.After-is_refused g) → MarksReachable c.args.parts.types.now (IsRootPlace c.args.parts.strong.now c.pause_begin-held.result c.args.precise c.args.parts.seat.now.bodies c.args.stack.now) (IsMayOrRoot c.pause_begin-held.result c.args.precise c.args.parts.seat.now c.args.stack.now) c.args.parts.seat.now c.close-more.new.seat
+marks : (g : given.Over) (c : goal.After-is_refused g) → MarksReachable c.args.parts.types.now (IsRootPlace c.args.parts.strong.now c.pause_begin-held.result c.args.precise c.args.parts.seat.now.bodies c.args.stack.now) (IsMayOrRoot c.pause_begin-held.result c.args.precise c.args.parts.seat.now c.args.stack.now) c.args.parts.seat.now c.mark_out-more.new.seat
 marks g c =
-    roots_marked c.args.parts.types.now c.args.parts.strong.now c.pause_begin-held.result c.args.precise c.args.stack.now c.args.parts.seat.now c.visit_slots.new.seat
-    c.visit_region.new.seat c.scan_stack.new.seat c.close-more.new.seat c.args.parts.marking.now c.visit_slots.new.marking c.visit_region.new.marking c.scan_stack.new.marking
-    c.bodies_lie_apart.ensures c.requires.ready.on c.requires.may c.visit_slots.ensures.marks c.visit_slots.ensures.roots c.visit_slots.ensures.only
-    c.visit_region.ensures.marks c.visit_region.ensures.roots c.visit_region.ensures.only c.scan_stack.ensures.marks c.scan_stack.ensures.roots c.scan_stack.ensures.only
-    c.close-more.ensures.over
+    c.mark_out-more.ensures.over
 
 kept : (g : given.Over) → goal.After-is_refused g → List Bool
-kept g c = kept_of (holds c.close-more.new.seat.marked) c.args.parts.nodes.now.value
+kept g c = kept_of (holds c.mark_out-more.new.seat.marked) c.args.parts.nodes.now.value
 
 judged_so : (g : given.Over) (c : goal.After-is_refused g) → c.judged.result.value ≡ nodes_after (kept g c) c.args.parts.nodes.now.value
 unfolding kept
@@ -208,10 +134,10 @@ returns-clause-paused g c = λ slots may names within.
     let are = others_at nodes c.args.parts.region.now c.args.parts.pass.now c.pause_begin-held.result c.args.precise c.args.stack.now v c.requires.shared
     c.pause_begin-held.ensures.held (c.bodies_lie_apart.ensures.marking c.requires.ready.on).no_dead c.requires.held in
     let at = has_marked (setup_of c.args.parts.space.now c.args.parts.types.now (kinds_of c.args.parts.callbacks.now)) nodes slots c.args.parts.strong.now may others other v
-    c.close-more.new.seat c.bodies_lie_apart.ensures c.requires.ready.on c.requires.valid c.requires.held names within are (marks g c) in
+    c.mark_out-more.new.seat c.bodies_lie_apart.ensures c.requires.ready.on c.requires.valid c.requires.held names within are (marks g c) in
     let between = keeps_between (setup_of c.args.parts.space.now c.args.parts.types.now (kinds_of c.args.parts.callbacks.now)) nodes (slot_targets slots ++ others)
     (members may ++ others) (IsRootPlace c.args.parts.strong.now c.pause_begin-held.result c.args.precise v.bodies c.args.stack.now)
-    (IsMayOrRoot c.pause_begin-held.result c.args.precise v c.args.stack.now) v c.close-more.new.seat c.reach_is_least.ensures at in
+    (IsMayOrRoot c.pause_begin-held.result c.args.precise v c.args.stack.now) v c.mark_out-more.new.seat c.reach_is_least.ensures at in
     paused_is (kinds_of c.args.parts.callbacks.now) (roots_with (slot_targets slots) nodes c.args.parts.region.now c.args.precise c.args.stack.now)
     (roots_with (members may) nodes c.args.parts.region.now c.args.precise c.args.stack.now) (kept g c) nodes c.judged.result.value c.prefinalise.new.nodes.value
     c.args.parts.registry.now c.prefinalise.new.registry
@@ -225,42 +151,33 @@ pub returns-clause-weak : goal.returns-clause-weak
 unfolding kept
 returns-clause-weak g c = λ slots names.
     c.clear_weak.ensures.slots
-    ∙ weak_left_is c.args.parts.nodes.now.value c.prefinalise.new.nodes.value c.close-more.new.seat slots c.args.parts.weak.now names.live names.places_are (stayed g c)
+    ∙ weak_left_is c.args.parts.nodes.now.value c.prefinalise.new.nodes.value c.mark_out-more.new.seat slots c.args.parts.weak.now names.live names.places_are (stayed g c)
 
 pub returns-clause-region : goal.returns-clause-region
 unfolding kept
 returns-clause-region g c =
-    region_paused c.args.parts.nodes.now.value c.prefinalise.new.nodes.value c.close-more.new.seat c.clear_weak.new.seat c.pause_begin-held.result c.args.parts.region.now
+    region_paused c.args.parts.nodes.now.value c.prefinalise.new.nodes.value c.mark_out-more.new.seat c.clear_weak.new.seat c.pause_begin-held.result c.args.parts.region.now
     c.pause_begin-held.new.self c.clear_region.new.region c.args.parts.pass.now c.pause_begin-held.new.pass c.clear_region.new.pass c.requires.shared (stayed g c)
     (ap (λ (u : SeatView). u.marked) c.clear_weak.ensures.fields) c.pause_begin-held.ensures.held c.pause_begin-held.ensures.region c.pause_begin-held.ensures.pass
     c.clear_region.ensures.region c.clear_region.ensures.seen c.clear_region.ensures.ready c.clear_region.ensures.weak
 
 pub returns-clause-extents : goal.returns-clause-extents
 returns-clause-extents g c =
-    c.prefinalise.ensures.extents ∙ ap (λ (u : SeatView). extents_of_bodies u.bodies) (c.clear_region.ensures.view ∙ c.clear_weak.ensures.fields) ∙ extents_cleared c.close-more.new.seat
+    c.prefinalise.ensures.extents ∙ ap (λ (u : SeatView). extents_of_bodies u.bodies) (c.clear_region.ensures.view ∙ c.clear_weak.ensures.fields) ∙ extents_cleared c.mark_out-more.new.seat
     ∙ ap (λ (bs : List Body). extents_of_bodies bs) (marks g c).bodies
 
 -- all that is marked was traced before or now
-counted : (g : given.Over) (c : goal.After-is_refused g) → c.args.parts.traced + c.close-more.result ≡ marked_count c.close-more.new.seat
+counted : (g : given.Over) (c : goal.After-is_refused g) → c.args.parts.traced + c.mark_out-more.result ≡ marked_count c.mark_out-more.new.seat
 counted g c =
-    let before : traced_count c.scan_stack.new.seat ≡ traced_count c.args.parts.seat.now =
-    traced_so_far c.args.parts.seat.now c.visit_slots.new.seat c.visit_region.new.seat c.scan_stack.new.seat c.args.parts.marking.now c.visit_slots.new.marking
-    c.visit_region.new.marking c.scan_stack.new.marking c.visit_slots.ensures.marks c.visit_region.ensures.marks c.scan_stack.ensures.marks in
-    omega (arith, c.requires.traced, before, c.close-more.ensures.traced)
+    omega (arith, c.requires.traced, c.mark_out-more.ensures.traced)
 
-live : (g : given.Over) (c : goal.After-is_refused g) → c.args.parts.traced + c.close-more.result ≡ live_count c.prefinalise.new.nodes.value
+live : (g : given.Over) (c : goal.After-is_refused g) → c.args.parts.traced + c.mark_out-more.result ≡ live_count c.prefinalise.new.nodes.value
 unfolding kept
 live g c =
     counted g c
     ∙ kept_count c.args.parts.nodes.now.value c.prefinalise.new.nodes.value (IsRootPlace c.args.parts.strong.now c.pause_begin-held.result c.args.precise c.args.parts.seat.now.bodies c.args.stack.now)
-    (IsMayOrRoot c.pause_begin-held.result c.args.precise c.args.parts.seat.now c.args.stack.now) c.args.parts.types.now c.args.parts.seat.now c.close-more.new.seat c.requires.held
+    (IsMayOrRoot c.pause_begin-held.result c.args.precise c.args.parts.seat.now c.args.stack.now) c.args.parts.types.now c.args.parts.seat.now c.mark_out-more.new.seat c.requires.held
     (c.bodies_lie_apart.ensures.marking c.requires.ready.on).no_dead (marks g c) (stayed g c)
-
-pub returns-clause-shares : goal.returns-clause-shares
-returns-clause-shares g c =
-    c.close-more.ensures.shares
-    ∙ ap (λ (o : Mode). o.shares) (roots_mode c.args.parts.seat.now c.visit_slots.new.seat c.visit_region.new.seat c.scan_stack.new.seat c.args.parts.marking.now
-    c.visit_slots.new.marking c.visit_region.new.marking c.scan_stack.new.marking c.visit_slots.ensures.marks c.visit_region.ensures.marks c.scan_stack.ensures.marks)
 
 pub returns-clause-kept : goal.returns-clause-kept
 returns-clause-kept g c = live g c
@@ -270,5 +187,5 @@ returns-clause-traced g c = refl
 
 pub returns-clause-dead : goal.returns-clause-dead
 returns-clause-dead g c =
-    dead_left c.prefinalise.new.nodes.value c.prefinalise.new.seat c.objects.result (c.args.parts.traced + c.close-more.result) c.prefinalise.ensures.ready.held
+    dead_left c.prefinalise.new.nodes.value c.prefinalise.new.seat c.objects.result (c.args.parts.traced + c.mark_out-more.result) c.prefinalise.ensures.ready.held
     (c.objects.ensures c.prefinalise.new.seat c.prefinalise.ensures.ready.laid) (live g c)

@@ -1,0 +1,28 @@
+-- Which headers a precise pause looks at until marking ends.
+use Rattle.std.proofs.Common.{◌≡◌, ℕ, true, List, Some, inl}
+use Rattle.std.specs.List.{Contains}
+use Rattle.gc_graph.specs.State.{ObjectType}
+use Rattle.marker_core.specs.Bodies.{holds}
+use Rattle.page_words.specs.Seat.{SeatView}
+use Rattle.cross_thread_region.specs.declared.chronicle.PlacedEntry.{PlacedEntry}
+use Rattle.cross_thread_region.specs.Histories.{strong_place}
+use Rattle.ephemerons.specs.Notes.{NotesState}
+use Rattle.ephemerons.specs.LookedAt.{IsLookedAt, LooksOnlyAt, LooksWithin, AreHoldersMarked}
+use Rattle.ephemerons.specs.LookedPlaces.{looked_nowhere, looked_then, looked_as}
+use Rattle.atomic_pause.specs.Marking.{IsSharedPlace}
+
+-- the holders are marked yet where roots were marked and listed
+pub holders_out : (v w : SeatView) (list after : List ℕ) (groups : List NotesState) → ((p : ℕ) → holds v.marked p ≡ true → holds w.marked p ≡ true)
+    → ((p : ℕ) → Contains after p → holds w.marked p ≡ true) → AreHoldersMarked v list groups → AreHoldersMarked w after groups
+holders_out v w list after groups more listed held = record { listed = listed; noted = λ note there. more note.holder (held.noted note there) }
+
+-- the strong slots are visited (u), then those of the region (r) and no stack (w), and marking is brought to its end (y)
+pub looked_out : (types : List ObjectType) (history : List PlacedEntry) (v u r w y : SeatView) → u.looked ≡ v.looked
+    → LooksOnlyAt (IsSharedPlace history) u r → w.looked ≡ r.looked → ((x p : ℕ) → strong_place history x ≡ Some p → holds r.marked p ≡ true)
+    → ((p : ℕ) → holds r.marked p ≡ true → holds w.marked p ≡ true) → ((p : ℕ) → holds w.marked p ≡ true → holds y.marked p ≡ true)
+    → LooksWithin types w y → LooksWithin types v y
+looked_out types history v u r w y visit share scan shared scanned closed close =
+    looked_then (IsLookedAt types y) v u y (looked_nowhere (IsLookedAt types y) v u visit)
+    (looked_then (IsLookedAt types y) u r y
+    (looked_as (IsSharedPlace history) (IsLookedAt types y) u r (λ p at. inl (closed p (scanned p (shared at.0 p at.1)))) share)
+    (looked_then (IsLookedAt types y) r w y (looked_nowhere (IsLookedAt types y) r w scan) close))
