@@ -1,4 +1,4 @@
-use Rattle.std.proofs.Common.{◌≡◌, ℕ, true, Option, None, Some, inl, inr, sym, ap, ◌∙◌, subst, arith}
+use Rattle.std.proofs.Common.{◌≡◌, ℕ, true, Option, None, Some, inl, inr, refl, sym, ap, ◌∙◌, subst, arith}
 use mathlib.Core.Logic.{◌⊎◌}
 use Rattle.std.proofs.lemmas.Bool.{cases_lt}
 use Rattle.marker_core.specs.Bodies.{holds}
@@ -16,6 +16,15 @@ use Rattle.atomic_pause.proofs.roots.visit_region.Goals.{in-Some, in_default}
 named : Option ℕ → ℕ
 named None = 0
 named (Some p) = p
+
+pub loop-i-init : goal.loop-i-init
+loop-i-init c = record {
+  marks = scans_none c.args.seat.now c.args.marking.now;
+  noted = refl;
+  looked = looked_nowhere (IsSharedPlace c.args.held.now) c.args.seat.now c.args.seat.now refl;
+  roots = λ x p low is. absurd (omega (arith, low));
+  only = λ p marked. inl marked;
+}
 
 pub loop-i-preserved : goal.loop-i-preserved
 unfolding named
