@@ -8,7 +8,7 @@
 //! `Share` (another one's), `Refused` (what a push hands back), `Tally` (what was put on all lists,
 //! taken and left). Inside: `rule` (what the ends of one list have put and taken, and the rule that
 //! each step keeps), `ends` (the ends of one list), `linking` and `joining` (how the ends are given to
-//! all, and come back), `counting` (what all have together).
+//! all, and come back), `family` (what one share does for that), `counting` (what all have together).
 //!
 //! What is proved: a push puts its item on the list, or hands it back and counts that; a pop and a
 //! steal take an item, or find none for one of the causes that their lines tell; a value is idle
@@ -22,6 +22,7 @@
 
 mod counting;
 mod ends;
+mod family;
 mod joining;
 mod linking;
 mod lists;
