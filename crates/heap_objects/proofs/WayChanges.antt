@@ -213,7 +213,7 @@ pushed_puts l k a asked is one = record {
   whole = is.whole;
   unshared = λ none. still_unshared (λ s. pushed s a) l (sym is.shares ∙ none);
   alone = λ whole. is.shares ∙ with_none (λ s. pushed s a) l whole;
-  family = λ out some. changed_family (λ s. pushed s a) l k is.shares out some (λ s. record { number = refl; own = refl; parts = refl; others = refl });
+  family = λ out some. changed_family (λ s. pushed s a) l k is.shares out some (λ s. record { number = refl; own = refl; parts = refl; even = λ even. even; others = refl });
   taken = λ out some. ap taken_of (changed_at (λ s. pushed s a) l k is.shares out some);
   put = λ out some p there. elim (Contains-push_cases (put_of (at l.shares 0)) a p (subst (λ s. Contains (put_of s) p) (changed_at (λ s. pushed s a) l k is.shares out some) there)) [
     | inl before ↦ inl before
@@ -234,7 +234,7 @@ refused_puts l k asked is = subst (λ n. PutsOn l n asked) (sym is) (record {
   whole = refl;
   unshared = λ none. still_unshared refused_at l none;
   alone = λ whole. with_none refused_at l whole;
-  family = λ out some. changed_family refused_at l (refused_once l) refl out some (λ s. record { number = refl; own = refl; parts = refl; others = refl });
+  family = λ out some. changed_family refused_at l (refused_once l) refl out some (λ s. record { number = refl; own = refl; parts = refl; even = λ even. even; others = refl });
   taken = λ out some. ap taken_of (changed_at refused_at l (refused_once l) refl out some);
   put = λ out some p there. inl (subst (λ s. Contains (put_of s) p) (changed_at refused_at l (refused_once l) refl out some) there);
   kept = λ out some p there. subst (λ s. Contains (put_of s) p) (sym (changed_at refused_at l (refused_once l) refl out some)) there;

@@ -14,10 +14,10 @@ use Rattle.marker_crew.specs.Drains.{IsIdle, IsTaken}
 -- ---- it has the same lists
 
 pub same_pushed : (h k : ShareState) (a : ℕ) → k ≡ pushed h a → IsSameShare h k
-same_pushed h k a is = subst (IsSameShare h) (sym is) (record { number = refl; own = refl; parts = refl; others = refl })
+same_pushed h k a is = subst (IsSameShare h) (sym is) (record { number = refl; own = refl; parts = refl; even = λ even. even; others = refl })
 
 pub same_refused : (h k : ShareState) → k ≡ refused_once h → IsSameShare h k
-same_refused h k is = subst (IsSameShare h) (sym is) (record { number = refl; own = refl; parts = refl; others = refl })
+same_refused h k is = subst (IsSameShare h) (sym is) (record { number = refl; own = refl; parts = refl; even = λ even. even; others = refl })
 
 -- ---- what it took
 

@@ -8,3 +8,4 @@ pub mod Joins
 pub mod Taking
 pub mod Wholes
 pub mod Popped
+pub mod Stolen

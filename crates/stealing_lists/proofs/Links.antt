@@ -14,9 +14,9 @@ use Rattle.stealing_lists.specs.Linking.{lists_of, HasLinks, IsLinked}
 use Rattle.stealing_lists.proofs.Others.{none-left, others-more, others-same}
 
 -- an end from which nothing was taken
-all-one : (e : OtherState) → e.taken ≡ [] → All (λ y. y.taken ≡ []) (e ∷ [])
-all-one e none zero d l = none
-all-one e none (suc k) d l = absurd (omega (arith, l))
+all-one : (P : OtherState → Type 0) (e : OtherState) → P e → All P (e ∷ [])
+all-one P e holds zero d l = holds
+all-one P e holds (suc k) d l = absurd (omega (arith, l))
 
 module _ (old : List ShareState) (i j : ℕ) (x y : ShareState) (apart : j ≢ i) where
   abbrev now : List ShareState
@@ -46,11 +46,11 @@ module _ (names : List (ℕ × ℕ)) (giver taker : ℕ) (few : length names ≤
   ]
 
   taker-has : (g t : ShareState) (seen : ℕ) → get_or names giver g.own.list ≡ g.own.list → HasLinks names giver taker taker t
-      → HasLinks names giver (taker + 1) taker (record t { others = t.others ++ record { list = g.own.list; taken = []; seen = seen } ∷ [] })
+      → HasLinks names giver (taker + 1) taker (record t { others = t.others ++ record { list = g.own.list; taken = []; moved = []; seen = seen } ∷ [] })
   taker-has g t seen own h = record {
     number = h.number;
     own = h.own;
-    more = λ l. map-append (λ e. e.list) t.others (record { list = g.own.list; taken = []; seen = seen } ∷ []) ∙ ap (λ l. l ++ g.own.list ∷ []) (h.less (omega arith))
+    more = λ l. map-append (λ e. e.list) t.others (record { list = g.own.list; taken = []; moved = []; seen = seen } ∷ []) ∙ ap (λ l. l ++ g.own.list ∷ []) (h.less (omega arith))
         ∙ ap (λ y. remove (take giver names) taker ++ y ∷ []) (sym own) ∙ sym (others-more names giver taker g.own.list in-g apart);
     less = λ l. absurd (omega (arith, l));
     gave_all = h.gave_all;
@@ -60,7 +60,10 @@ module _ (names : List (ℕ × ℕ)) (giver taker : ℕ) (few : length names ≤
     fresh = record {
       put = h.fresh.put;
       taken = h.fresh.taken;
-      stolen = All-append (λ e. e.taken ≡ []) t.others _ h.fresh.stolen (all-one (record { list = g.own.list; taken = []; seen = seen }) refl);
+      stolen = All-append (λ e. e.taken ≡ []) t.others _ h.fresh.stolen (all-one (λ e. e.taken ≡ []) (record { list = g.own.list; taken = []; moved = []; seen = seen }) refl);
+      brought = h.fresh.brought;
+      moved = h.fresh.moved;
+      moved_there = All-append (λ e. e.moved ≡ []) t.others _ h.fresh.moved_there (all-one (λ e. e.moved ≡ []) (record { list = g.own.list; taken = []; moved = []; seen = seen }) refl);
       refused = h.fresh.refused;
       no_pop = h.fresh.no_pop;
       no_steal = h.fresh.no_steal;
@@ -77,7 +80,17 @@ module _ (names : List (ℕ × ℕ)) (giver taker : ℕ) (few : length names ≤
     gave_some = λ same l. omega (arith, h.gave_some refl (omega (arith, l)), has-parts s h);
     gave_more = λ same l. omega (arith, h.gave_more refl (omega (arith, l, apart)), has-parts s h);
     gave_none = λ l. absurd (omega (arith, l));
-    fresh = record { put = h.fresh.put; taken = h.fresh.taken; stolen = h.fresh.stolen; refused = h.fresh.refused; no_pop = h.fresh.no_pop; no_steal = h.fresh.no_steal };
+    fresh = record {
+      put = h.fresh.put;
+      taken = h.fresh.taken;
+      stolen = h.fresh.stolen;
+      brought = h.fresh.brought;
+      moved = h.fresh.moved;
+      moved_there = h.fresh.moved_there;
+      refused = h.fresh.refused;
+      no_pop = h.fresh.no_pop;
+      no_steal = h.fresh.no_steal;
+    };
   }
 
   third-has : (k : ℕ) (s : ShareState) → k ≢ giver → k ≢ taker → HasLinks names giver taker k s → HasLinks names giver (taker + 1) k s
@@ -98,7 +111,7 @@ module _ (names : List (ℕ × ℕ)) (giver taker : ℕ) (few : length names ≤
       let g = at old giver in
       let t = at old taker in
       let g' : ShareState = record g { own = one_part_less g.own } in
-      let t' : ShareState = record t { others = t.others ++ record { list = g.own.list; taken = []; seen = gave.seen } ∷ [] } in
+      let t' : ShareState = record t { others = t.others ++ record { list = g.own.list; taken = []; moved = []; seen = gave.seen } ∷ [] } in
       let has-g = h.each giver in-g in
       let has-t = h.each taker in-t in
       subst (IsLinked names giver (taker + 1)) (sym gave.all) (record {
@@ -161,12 +174,13 @@ goes-on names d shares within h = record {
 -- what the two changes of a gift make
 pub gave-end : (old : List ShareState) (giver taker : ℕ) (a b x y : ShareState) (e : OtherState) → giver < length old → taker < length old → taker ≢ giver
     → a ≡ get_or old giver a → x ≡ record a { own = one_part_less a.own } → b ≡ get_or (set old giver x) taker b
-    → y ≡ record b { others = b.others ++ e ∷ [] } → e.list ≡ a.own.list → e.taken ≡ [] → GaveEnd old giver taker (set (set old giver x) taker y)
-gave-end old giver taker a b x y e in-g in-t apart a-is x-is b-is y-is list taken =
+    → y ≡ record b { others = b.others ++ e ∷ [] } → e.list ≡ a.own.list → (e.taken ≡ []) × (e.moved ≡ []) → GaveEnd old giver taker (set (set old giver x) taker y)
+gave-end old giver taker a b x y e in-g in-t apart a-is x-is b-is y-is list none =
     let ga : a ≡ at old giver = a-is ∙ get_or_default old giver a nobody in-g in
     let gb : b ≡ at old taker = b-is ∙ get_or-set_other old giver taker x b apart ∙ get_or_default old taker b nobody in-t in
-    let e' : OtherState = record { list = (at old giver).own.list; taken = []; seen = e.seen } in
-    let ge : e ≡ e' = ap₂ (λ l t. record { list = l; taken = t; seen = e.seen }) (list ∙ ap (λ s. s.own.list) ga) taken in
+    let e' : OtherState = record { list = (at old giver).own.list; taken = []; moved = []; seen = e.seen } in
+    let ge : e ≡ e' = ap₂ (λ l t. record { list = l; taken = t; moved = e.moved; seen = e.seen }) (list ∙ ap (λ s. s.own.list) ga) none.0
+    ∙ ap (λ m. record { list = (at old giver).own.list; taken = []; moved = m; seen = e.seen }) none.1 in
     let gx = x-is ∙ ap (λ (s : ShareState). record s { own = one_part_less s.own }) ga in
     let gy = y-is ∙ ap (λ (s : ShareState). record s { others = s.others ++ e ∷ [] }) gb ∙ ap (λ z. record (at old taker) { others = (at old taker).others ++ z ∷ [] }) ge in
     record { seen = e.seen; all = ap₂ (λ v w. set (set old giver v) taker w) gx gy }
@@ -186,7 +200,17 @@ begins shares each = record {
         gave_some = λ same m. (let p = ap (λ s. s.own.hand.parts) is in omega (arith, p));
         gave_more = λ same m. absurd (omega (arith, m));
         gave_none = λ m. ap (λ s. s.own.hand.parts) is;
-        fresh = subst IsFresh (sym is) (record { put = refl; taken = refl; stolen = λ j d m. absurd (omega (arith, m)); refused = refl; no_pop = refl; no_steal = refl });
+        fresh = subst IsFresh (sym is) (record {
+          put = refl;
+          taken = refl;
+          stolen = λ j d m. absurd (omega (arith, m));
+          brought = refl;
+          moved = refl;
+          moved_there = λ j d m. absurd (omega (arith, m));
+          refused = refl;
+          no_pop = refl;
+          no_steal = refl;
+        });
       };
 }
 

@@ -10,11 +10,12 @@ pub record Looked (old new : List OtherState) (i : ℕ) : Type 0 where
   pub as_many : length new ≡ length old
   pub lists : map (λ e. e.list) new ≡ map (λ e. e.list) old
   pub taken : map (λ e. e.taken) new ≡ map (λ e. e.taken) old
+  pub moved : map (λ e. e.moved) new ≡ map (λ e. e.moved) old
   pub looked : (k : ℕ) (d : OtherState) → k < i → FoundNone (get_or old k d) (get_or new k d)
   pub rest : (k : ℕ) (d : OtherState) → i ≤ k → k < length old → get_or new k d ≡ get_or old k d
 
 pub looked-at_first : (old : List OtherState) → Looked old old 0
-looked-at_first old = record { as_many = refl; lists = refl; taken = refl; looked = λ k d l. absurd (omega (arith, l)); rest = λ k d l m. refl }
+looked-at_first old = record { as_many = refl; lists = refl; taken = refl; moved = refl; looked = λ k d l. absurd (omega (arith, l)); rest = λ k d l m. refl }
 
 module _ (old new : List OtherState) (i : ℕ) (x e : OtherState) (so : Looked old new i) (within : i < length old) (here : get_or new i x ≡ x) where
   inside : i < length new
@@ -32,6 +33,7 @@ module _ (old new : List OtherState) (i : ℕ) (x e : OtherState) (so : Looked o
     as_many = length-set new i e ∙ so.as_many;
     lists = map-set_same (λ y. y.list) new i e x (none.list ∙ ap (λ y. y.list) (sym here)) ∙ so.lists;
     taken = map-set_same (λ y. y.taken) new i e x (none.taken ∙ ap (λ y. y.taken) (sym here)) ∙ so.taken;
+    moved = map-set_same (λ y. y.moved) new i e x (none.moved ∙ ap (λ y. y.moved) (sym here)) ∙ so.moved;
     looked = λ k d l. elim (cases_lt k i) [
       | inl before ↦ subst (FoundNone (get_or old k d)) (sym (get_or-set_other new i k e d (λ same. omega (arith, before, same)))) (so.looked k d before)
       | inr after ↦ (let same : k ≡ i = omega (arith, l, after) in
@@ -42,6 +44,9 @@ module _ (old new : List OtherState) (i : ℕ) (x e : OtherState) (so : Looked o
 
   pub other-lists : e.list ≡ x.list → map (λ y. y.list) (set new i e) ≡ map (λ y. y.list) old
   other-lists same = map-set_same (λ y. y.list) new i e x (same ∙ ap (λ y. y.list) (sym here)) ∙ so.lists
+
+  pub other-moved : e.moved ≡ x.moved → map (λ y. y.moved) (set new i e) ≡ map (λ y. y.moved) old
+  other-moved same = map-set_same (λ y. y.moved) new i e x (same ∙ ap (λ y. y.moved) (sym here)) ∙ so.moved
 
   -- this end gave an item
   pub one-taken : (a : ℕ) → e.taken ≡ x.taken ++ a ∷ []

@@ -2,34 +2,29 @@
 use Rattle.std.proofs.Common.{rules, ◌≡◌, ℕ, suc, ◌+◌, ◌≤◌, ◌<◌, Bool, true, false, List, [], ◌∷◌, ◌++◌, length, set, None, Some, refl, sym, ap, ◌∙◌, subst, inl, inr, arith, ◌==◌, cond}
 use Rattle.std.specs.List.{All, Contains, count_by, flat_map, sum_by}
 use Rattle.gc_graph.specs.Members.{Contains-cons, Contains-head}
-use Rattle.std.proofs.lemmas.Bool.{cases_Bool, eqb-true}
-use Rattle.std.proofs.lemmas.List.{append-nil, length-append, length-set}
+use Rattle.std.proofs.lemmas.Bool.{cases_Bool, cases_eq, eqb-true}
+use Rattle.std.proofs.lemmas.List.{length-append, length-set, get_or-set_same, get_or-set_other}
 use Rattle.std.proofs.lemmas.List.Elements.{All-set}
 use Rattle.std.proofs.lemmas.List.Sums.{sum_by-cons, sum_by-set}
-use Rattle.stealing_lists.specs.Hands.{all_parts, HasLeft, WasEmpty}
-use Rattle.stealing_lists.specs.Shares.{ShareState, put_of, taken_of, times}
+use Rattle.stealing_lists.specs.Hands.{all_parts, laid, drawn, HasLeft, WasEmpty}
+use Rattle.stealing_lists.specs.Shares.{ShareState, put_of, taken_of, moved_of, times, IsSameShare}
 use Rattle.stealing_lists.specs.Families.{at, nobody}
-use Rattle.stealing_lists.specs.Joining.{put_by, taken_by, with_own_taken, AreJoined, IsLeftAfter, IsPopped, IsTaken, KnowLeft, TookOne}
-use Rattle.stealing_lists.proofs.Items.{all-counted, count-append, count-of_all}
+use Rattle.stealing_lists.specs.Kept.{same-share}
+use Rattle.stealing_lists.specs.Joining.{put_by, taken_by, with_own_taken, AreJoined, IsLeftAfter, IsSameList, IsPopped, IsTaken, KnowLeft, TookOne}
+use Rattle.stealing_lists.proofs.Items.{all-counted, count-append, count-of_all, laid-are, drawn-are}
 use Rattle.stealing_lists.proofs.Steps.{left-none}
 
 -- ---- what joined shares have taken
-
--- of no items more were taken than put
-own-taken : (s : ShareState) (asked : ℕ → Bool) → s.others ≡ [] → HasLeft s.own.hand → count_by asked (taken_of s) ≤ count_by asked (put_of s)
-own-taken s asked apart (items, left) =
-    let own = ap (λ os. count_by asked (s.own.hand.taken ++ flat_map (λ e. e.taken) os)) apart ∙ ap (count_by asked) (append-nil s.own.hand.taken) in
-    omega (arith, own, left asked)
 
 sum-le : (f g : ShareState → ℕ) (xs : List ShareState) → ((k : ℕ) → k < length xs → f (at xs k) ≤ g (at xs k)) → sum_by f xs ≤ sum_by g xs
 sum-le f g [] each = omega arith
 sum-le f g (x ∷ xs) each = omega (arith, sum_by-cons f x xs, sum_by-cons g x xs, each 0 (omega arith), sum-le f g xs (λ k l. each (suc k) (omega (arith, l))))
 
+-- of no items more were taken than put
 taken-le : (shares : List ShareState) (asked : ℕ → Bool) → AreJoined shares → KnowLeft shares → count_by asked (taken_by shares) ≤ count_by asked (put_by shares)
 taken-le shares asked joined known =
-    let le = sum-le (λ s. count_by asked (taken_of s)) (λ s. count_by asked (put_of s)) shares
-    (λ k l. own-taken (at shares k) asked (joined.apart k nobody l) (known k nobody l)) in
-    omega (arith, le, count-of_all asked taken_of shares, count-of_all asked put_of shares)
+    let le = sum-le (λ s. count_by asked (drawn s.own.hand)) (λ s. count_by asked (laid s.own.hand)) shares (λ k l. (let left = known.each k nobody l in omega (arith, left.1 asked))) in
+    omega (arith, le, known.even asked, laid-are shares asked, drawn-are shares asked joined)
 
 -- ---- an item is in a list
 
@@ -65,11 +60,33 @@ module _ (old new : List ShareState) (a : ℕ) (took : TookOne old a new) where
       let all = ap (sum_by f) took.all in
       omega (arith, one, two, all, same)
 
+  -- items of a kind that the call leaves
+  same-items : (items : ShareState → List ℕ) → items taker ≡ items (at old took.place) → items (woken (at step 0)) ≡ items (at step 0)
+      → (asked : ℕ → Bool) → count_by asked (flat_map items new) ≡ count_by asked (flat_map items old)
+  same-items items same wakes asked =
+      let all = total (λ s. count_by asked (items s)) (ap (count_by asked) wakes) in
+      omega (arith, all, ap (count_by asked) same, count-of_all asked items new, count-of_all asked items old)
+
   put-same : (asked : ℕ → Bool) → count_by asked (put_by new) ≡ count_by asked (put_by old)
-  put-same asked =
-      let f : ShareState → ℕ = λ s. count_by asked (put_of s) in
-      let same : f taker ≡ f (at old took.place) = refl in
-      omega (arith, total f refl, same, count-of_all asked put_of new, count-of_all asked put_of old)
+  put-same = same-items put_of refl refl
+
+  -- the first share has the same lists, also where the item was of its own
+  first-same : IsSameShare (at old 0) (at step 0)
+  first-same = elim (cases_eq took.place 0) [
+    | inl first ↦
+        (let is : at step 0 ≡ taker = ap (at step) (sym first) ∙ get_or-set_same old took.place taker nobody took.within in
+        subst (IsSameShare (at old 0)) (sym is) (subst (λ s. IsSameShare s taker) (ap (at old) first) (record { number = refl; own = refl; parts = refl; even = λ even. even; others = refl })))
+    | inr other ↦ subst (IsSameShare (at old 0)) (sym (get_or-set_other old took.place 0 taker nobody (λ e. other (sym e)))) (same-share (at old 0))
+  ]
+
+  pub same-list-yet : IsSameList old new
+  same-list-yet =
+      let s = first-same in
+      let first = ap (λ l. at l 0) took.all ∙ get_or-set_same step 0 (woken (at step 0)) nobody some-step in
+      record {
+        as_many = ap length took.all ∙ length-set step 0 (woken (at step 0)) ∙ length-set old took.place taker;
+        first = subst (IsSameShare (at old 0)) (sym first) (record { number = s.number; own = s.own; parts = s.parts; even = s.even; others = s.others });
+      }
 
   taken-more : (asked : ℕ → Bool) → count_by asked (taken_by new) ≡ count_by asked (taken_by old) + count_by asked (a ∷ [])
   taken-more asked =
@@ -99,7 +116,10 @@ module _ (old new : List ShareState) (a : ℕ) (took : TookOne old a new) where
     }
 
     known-yet : KnowLeft new
-    known-yet = keeps (λ s. HasLeft s.own.hand) (λ h. h) left known
+    known-yet = record {
+      each = keeps (λ s. HasLeft s.own.hand) (λ h. h) left known.each;
+      even = λ asked. same-items (λ s. s.own.hand.brought) refl refl asked ∙ known.even asked ∙ sym (same-items moved_of refl refl asked);
+    }
 
     left-after : (items : List ℕ) → IsTaken old items → IsLeftAfter new (Some a) items
     left-after items taken =
@@ -156,23 +176,20 @@ module _ (old : List ShareState) (some : 0 < length old) (joined : AreJoined old
 
   put-le : (asked : ℕ → Bool) → count_by asked (put_by old) ≤ count_by asked (taken_by old)
   put-le asked =
-      let le = sum-le (λ s. count_by asked (put_of s)) (λ s. count_by asked (taken_of s)) old (λ k l.
-      let s = at old k in
-      let own = count-append asked s.own.hand.taken (flat_map (λ e. e.taken) s.others) in
-      omega (arith, own, left-none s.own.hand (joined.whole k nobody l) (empty k nobody l) asked)) in
-      omega (arith, le, count-of_all asked taken_of old, count-of_all asked put_of old)
+      let le = sum-le (λ s. count_by asked (laid s.own.hand)) (λ s. count_by asked (drawn s.own.hand)) old (λ k l.
+      omega (arith, left-none (at old k).own.hand (joined.whole k nobody l) (empty k nobody l) asked)) in
+      omega (arith, le, known.even asked, laid-are old asked, drawn-are old asked joined)
+
+  still : (items : ShareState → List ℕ) → items first ≡ items (at old 0) → (asked : ℕ → Bool) → count_by asked (flat_map items after) ≡ count_by asked (flat_map items old)
+  still items same asked =
+      let set-one = sum_by-set (λ s. count_by asked (items s)) old 0 first nobody some in
+      omega (arith, set-one, ap (count_by asked) same, count-of_all asked items after, count-of_all asked items old)
 
   put-still : (asked : ℕ → Bool) → count_by asked (put_by after) ≡ count_by asked (put_by old)
-  put-still asked =
-      let set-one = sum_by-set (λ s. count_by asked (put_of s)) old 0 first nobody some in
-      let same : count_by asked (put_of first) ≡ count_by asked (put_of (at old 0)) = refl in
-      omega (arith, set-one, same, count-of_all asked put_of after, count-of_all asked put_of old)
+  put-still = still put_of refl
 
   taken-still : (asked : ℕ → Bool) → count_by asked (taken_by after) ≡ count_by asked (taken_by old)
-  taken-still asked =
-      let set-one = sum_by-set (λ s. count_by asked (taken_of s)) old 0 first nobody some in
-      let same : count_by asked (taken_of first) ≡ count_by asked (taken_of (at old 0)) = refl in
-      omega (arith, set-one, same, count-of_all asked taken_of after, count-of_all asked taken_of old)
+  taken-still = still taken_of refl
 
   no-items : (items : List ℕ) → length items ≡ 0 → items ≡ []
   no-items [] none = refl
@@ -184,7 +201,10 @@ module _ (old : List ShareState) (some : 0 < length old) (joined : AreJoined old
       whole = All-set (λ s. s.own.hand.parts ≡ all_parts) old 0 first (joined.whole 0 nobody some) joined.whole;
       apart = All-set (λ s. s.others ≡ []) old 0 first (joined.apart 0 nobody some) joined.apart;
     };
-    known = All-set (λ s. HasLeft s.own.hand) old 0 first (known 0 nobody some) known;
+    known = record {
+      each = All-set (λ s. HasLeft s.own.hand) old 0 first (known.each 0 nobody some) known.each;
+      even = λ asked. still (λ s. s.own.hand.brought) refl asked ∙ known.even asked ∙ sym (still moved_of refl asked);
+    };
     none = λ _. record {
       even = λ item.
           let asked : ℕ → Bool = λ i. i == item in

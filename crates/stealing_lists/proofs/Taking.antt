@@ -6,7 +6,7 @@ use Rattle.std.proofs.lemmas.List.Sums.{sum_by_more}
 use Rattle.std.proofs.lemmas.List.Sorted.{Contains-permutation, IsPermutation-remove, IsPermutation-more}
 use Rattle.std.proofs.lemmas.Bool.{cases_lt}
 use Rattle.gc_graph.specs.Members.{Contains-cons_cases}
-use Rattle.stealing_lists.specs.Hands.{IsLeft}
+use Rattle.stealing_lists.specs.Hands.{laid, drawn, IsLeft}
 use Rattle.stealing_lists.specs.Shares.{ShareState}
 use Rattle.stealing_lists.specs.Families.{at, nobody}
 use Rattle.stealing_lists.specs.Joining.{OwnLeft}
@@ -42,7 +42,7 @@ left-more shares i items more within so here asked = omega (
   arith,
   so asked,
   here asked,
-  sum_by_more (λ s. count_by asked s.own.hand.put) shares i nobody within,
-  sum_by_more (λ s. count_by asked s.own.hand.taken) shares i nobody within,
+  sum_by_more (λ s. count_by asked (laid s.own.hand)) shares i nobody within,
+  sum_by_more (λ s. count_by asked (drawn s.own.hand)) shares i nobody within,
   count-append asked items more,
 )

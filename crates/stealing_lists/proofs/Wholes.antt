@@ -8,10 +8,20 @@ use Rattle.std.proofs.lemmas.List.Sorted.{All-permutation}
 use Rattle.std.proofs.lemmas.Bool.{cases_lt}
 use Rattle.stealing_lists.specs.Hands.{all_parts, WasEmpty}
 use Rattle.stealing_lists.specs.Ends.{ListName}
-use Rattle.stealing_lists.specs.Shares.{ShareState, times}
+use Rattle.stealing_lists.specs.Shares.{ShareState, times, IsEven}
 use Rattle.stealing_lists.specs.Families.{at, names_of, nobody, IsFresh, IsShareOf}
-use Rattle.stealing_lists.specs.Joining.{put_by, taken_by, AreAllShares, AreFresh, AreJoined, AreOpen, HaveSameItems, IsTaken, LoseNothing, IsAllCounted}
-use Rattle.stealing_lists.proofs.Items.{all-counted}
+use Rattle.stealing_lists.specs.Joining.{put_by, taken_by, AreAllShares, AreEven, AreFresh, AreJoined, AreOpen, HaveSameItems, IsTaken, LoseNothing, IsAllCounted}
+use Rattle.stealing_lists.proofs.Items.{all-counted, each-even}
+
+-- what is so of the first share, which is alone, is so of its list
+all-first : (P : ShareState → Type 0) (list : List ShareState) → length list ≡ 1 → P (at list 0) → All P list
+all-first P list alone holds k d l =
+    let first : k ≡ 0 = omega (arith, l, alone) in
+    subst P (ap (λ j. get_or list j nobody) (sym first) ∙ get_or_default list k nobody d l) holds
+
+-- the shares of a family have brought what they moved
+pub all-even : (list shares : List ShareState) → AreAllShares list shares → AreEven (list ++ shares)
+all-even list shares all = each-even (list ++ shares) (All-append IsEven list shares (all-first IsEven list all.alone all.own_even) all.even)
 
 module _ (list shares new : List ShareState) (all : AreAllShares list shares) (same : IsPermutation (list ++ shares) new)
     (numbered : (k : ℕ) → k < length new → (at new k).number ≡ k) (long : length new ≡ length shares + 1) where
@@ -22,10 +32,7 @@ module _ (list shares new : List ShareState) (all : AreAllShares list shares) (s
   count = omega (arith, long, all.as_many, length-insert (map (λ e. e.list) (at list 0).others) (at list 0).number (at list 0).own.list (omega (arith, all.first)), length-map (at list 0).others (λ e. e.list))
 
   are-shares : All (IsShareOf names) new
-  are-shares = All-permutation (IsShareOf names) (list ++ shares) new same (All-append (IsShareOf names) list shares
-      (λ k d l. let first : k ≡ 0 = omega (arith, l, all.alone) in
-      subst (IsShareOf names) (ap (λ j. get_or list j nobody) (sym first) ∙ get_or_default list k nobody d l) all.own)
-      all.each)
+  are-shares = All-permutation (IsShareOf names) (list ++ shares) new same (All-append (IsShareOf names) list shares (all-first (IsShareOf names) list all.alone all.own) all.each)
 
   pub all-open : (names : List ListName) × (length names ≤ all_parts) × AreOpen names (length names) new
   all-open = (
@@ -94,6 +101,12 @@ still-taken (x ∷ xs) refused s some is left taken = record {
   even = λ item. ap (λ t. times item (taken_by (t ∷ xs)) + times item left) is ∙ taken.even item ∙ sym (ap (λ t. times item (put_by (t ∷ xs))) is);
   as_many = ap (λ t. length (taken_by (t ∷ xs)) + length left) is ∙ taken.as_many ∙ sym (ap (λ t. length (put_by (t ∷ xs))) is);
 }
+
+-- it is so too that they are even
+pub settled-even : (shares : List ShareState) (refused : ℕ) (s : ShareState) → 0 < length shares
+    → s ≡ record (at shares 0) { refused = refused; pop_found_none = false; steal_found_none = false } → AreEven shares → AreEven (set shares 0 s)
+settled-even [] refused s some is even = absurd (omega (arith, some))
+settled-even (x ∷ xs) refused s some is even = subst (λ (t : ShareState). AreEven (t ∷ xs)) (sym is) even
 
 -- the first share and the others are all
 pub first-and-rest : (shares : List ShareState) (x : ShareState) → 0 < length shares → x ≡ get_or shares 0 x → (x ∷ []) ++ remove shares 0 ≡ shares

@@ -22,6 +22,9 @@ pub record IsFresh (s : ShareState) : Type 0 where
   pub put : s.own.hand.put ≡ []
   pub taken : s.own.hand.taken ≡ []
   pub stolen : All (λ e. e.taken ≡ []) s.others
+  pub brought : s.own.hand.brought ≡ []
+  pub moved : s.own.hand.moved ≡ []
+  pub moved_there : All (λ e. e.moved ≡ []) s.others
   pub refused : s.refused ≡ 0
   pub no_pop : s.pop_found_none ≡ false
   pub no_steal : s.steal_found_none ≡ false
@@ -44,7 +47,7 @@ alone number list = record { number = number; own = record { list = list; hand =
 pub record GaveEnd (old : List ShareState) (d p : ℕ) (new : List ShareState) : Type 0 where
   pub seen : ℕ
   pub all : new ≡ slice_set (slice_set old d (record (at old d) { own = one_part_less (at old d).own })) p
-      (record (at old p) { others = (at old p).others ++ record { list = (at old d).own.list; taken = []; seen = seen } ∷ [] })
+      (record (at old p) { others = (at old p).others ++ record { list = (at old d).own.list; taken = []; moved = []; seen = seen } ∷ [] })
 
 -- its own end took in the other one, with what that took
 abbrev pub with_joined : ShareState → OtherState → ShareState

@@ -1,9 +1,9 @@
 -- All shares of a family, and how far they are joined.
 use Rattle.std.specs.Prelude.{◌≡◌, ℕ, ◌+◌, ◌<◌, ◌≤◌, false, Bool, List, [], ◌∷◌, ◌++◌, length, map, take, slice_index_or, slice_set, sum_by, All, Contains, Option, MatchOption, IsNone}
 use Rattle.std.specs.List.{count_by, flat_map, remove}
-use Rattle.stealing_lists.specs.Hands.{all_parts, with_taken, HasLeft}
+use Rattle.stealing_lists.specs.Hands.{all_parts, with_taken, laid, drawn, HasLeft}
 use Rattle.stealing_lists.specs.Ends.{ListName}
-use Rattle.stealing_lists.specs.Shares.{ShareState, put_of, taken_of, times, IsSameShare}
+use Rattle.stealing_lists.specs.Shares.{ShareState, put_of, taken_of, moved_of, times, IsEven, IsSameShare}
 use Rattle.stealing_lists.specs.Families.{at, names_of, IsFresh, IsShareOf}
 
 -- what shares put
@@ -13,6 +13,14 @@ put_by shares = flat_map put_of shares
 -- what shares took
 abbrev pub taken_by : List ShareState → List ℕ
 taken_by shares = flat_map taken_of shares
+
+-- what they brought to their own lists
+abbrev pub brought_by : List ShareState → List ℕ
+brought_by shares = flat_map (λ s. s.own.hand.brought) shares
+
+-- what they moved to their own lists
+abbrev pub moved_by : List ShareState → List ℕ
+moved_by shares = flat_map moved_of shares
 
 -- how many of their pushes were refused
 abbrev pub refused_by : List ShareState → ℕ
@@ -24,6 +32,8 @@ pub record AreAllShares (list shares : List ShareState) : Type 0 where
   pub first : (at list 0).number ≡ 0
   pub own : IsShareOf (names_of (at list 0)) (at list 0)
   pub each : All (IsShareOf (names_of (at list 0))) shares
+  pub own_even : IsEven (at list 0)
+  pub even : All IsEven shares
   pub as_many : length shares ≡ length (at list 0).others
   pub numbered : (n : ℕ) → 0 < n → n ≤ length shares → (s : ShareState) × Contains shares s × (s.number ≡ n)
 
@@ -32,9 +42,14 @@ pub record AreJoined (shares : List ShareState) : Type 0 where
   pub whole : All (λ s. s.own.hand.parts ≡ all_parts) shares
   pub apart : All (λ s. s.others ≡ []) shares
 
--- what each put and did not take is left on its list
-abbrev pub KnowLeft : List ShareState → Type 0
-KnowLeft shares = All (λ s. HasLeft s.own.hand) shares
+-- whatever items are asked for, they brought as many to their own lists as they moved there from others
+abbrev pub AreEven : List ShareState → Type 0
+AreEven shares = (asked : ℕ → Bool) → count_by asked (brought_by shares) ≡ count_by asked (moved_by shares)
+
+-- what came onto each one's list and did not leave it is there, and what was moved was brought
+pub record KnowLeft (shares : List ShareState) : Type 0 where
+  pub each : All (λ s. HasLeft s.own.hand) shares
+  pub even : AreEven shares
 
 -- they have put and taken the same items as before, each as often
 pub record HaveSameItems (old new : List ShareState) : Type 0 where
@@ -90,10 +105,10 @@ pub record IsSameList (old new : List ShareState) : Type 0 where
 
 -- ---- what the crate's own code cites
 
--- whatever items are asked for, as many were put on the lists as their owners took and are left
+-- whatever items are asked for, as many came onto the lists as left them at their owners' ends and are there
 abbrev pub OwnLeft : List ShareState → List ℕ → Type 0
 OwnLeft shares left =
-    (asked : ℕ → Bool) → sum_by (λ s. count_by asked s.own.hand.put) shares ≡ sum_by (λ s. count_by asked s.own.hand.taken) shares + count_by asked left
+    (asked : ℕ → Bool) → sum_by (λ s. count_by asked (laid s.own.hand)) shares ≡ sum_by (λ s. count_by asked (drawn s.own.hand)) shares + count_by asked left
 
 -- of so many shares, the one at k: the lists behind d took their ends back from all, and list d from the shares before p
 pub record IsPartJoined (names : List ListName) (d p k : ℕ) (s : ShareState) : Type 0 where
@@ -124,8 +139,10 @@ pub record AreOpen (names : List ListName) (d : ℕ) (shares : List ShareState) 
   pub as_many : length shares ≡ length names
   pub each : (k : ℕ) → k < length names → IsOpen names d k (at shares k)
 
--- they have put and taken the same items as before, and as many of their pushes were refused
+-- they have put and taken the same items as before, brought and moved the same, and as many of their pushes were refused
 pub record LoseNothing (old new : List ShareState) : Type 0 where
+  pub brought : (asked : ℕ → Bool) → count_by asked (brought_by new) ≡ count_by asked (brought_by old)
+  pub moved : (asked : ℕ → Bool) → count_by asked (moved_by new) ≡ count_by asked (moved_by old)
   pub put : (asked : ℕ → Bool) → count_by asked (put_by new) ≡ count_by asked (put_by old)
   pub taken : (asked : ℕ → Bool) → count_by asked (taken_by new) ≡ count_by asked (taken_by old)
   pub refused : refused_by new ≡ refused_by old

@@ -1,17 +1,32 @@
 -- Lemmas that the crates above cite too: shares stay those of their family through every call.
-use Rattle.std.proofs.Common.{◌≡◌, ℕ, ◌+◌, ◌-◌, ◌<◌, List, ◌++◌, length, map, get_or, refl, sym, ap, ap₂, ◌∙◌, subst, IsPermutation, arith}
-use Rattle.std.specs.List.{All, insert, remove}
+use Rattle.std.proofs.Common.{◌≡◌, ℕ, suc, ◌+◌, ◌-◌, ◌<◌, List, [], ◌∷◌, ◌++◌, length, map, get_or, refl, sym, ap, ap₂, ◌∙◌, subst, IsPermutation, arith}
+use Rattle.std.specs.List.{All, count_by, flat_map, insert, remove}
 use Rattle.std.proofs.lemmas.List.{length-map, length-append, get_or-append_right, get_or_append_left, get_or_default}
 use Rattle.std.proofs.lemmas.List.Sorted.{All-permutation, Contains-permutation, length_permutation}
-use Rattle.stealing_lists.specs.Shares.{ShareState, IsSameShare}
-use Rattle.stealing_lists.specs.Families.{at, names_of, nobody, IsShareOf}
+use Rattle.stealing_lists.specs.Ends.{OtherState}
+use Rattle.stealing_lists.specs.Shares.{ShareState, IsEven, IsSameShare}
+use Rattle.stealing_lists.specs.Families.{at, names_of, nobody, IsFresh, IsShareOf}
 use Rattle.stealing_lists.specs.Joining.{AreAllShares, AreFresh, IsSameList}
 
 pub same-share : (s : ShareState) → IsSameShare s s
-same-share s = record { number = refl; own = refl; parts = refl; others = refl }
+same-share s = record { number = refl; own = refl; parts = refl; even = λ even. even; others = refl }
 
 pub share-then : (a b c : ShareState) → IsSameShare a b → IsSameShare b c → IsSameShare a c
-share-then a b c h k = record { number = k.number ∙ h.number; own = k.own ∙ h.own; parts = k.parts ∙ h.parts; others = k.others ∙ h.others }
+share-then a b c h k = record {
+  number = k.number ∙ h.number;
+  own = k.own ∙ h.own;
+  parts = k.parts ∙ h.parts;
+  even = λ even. k.even (h.even even);
+  others = k.others ∙ h.others;
+}
+
+none-moved : (ends : List OtherState) → All (λ e. e.moved ≡ []) ends → flat_map (λ (e : OtherState). e.moved) ends ≡ []
+none-moved [] none = refl
+none-moved (e ∷ ends) none = ap₂ (λ xs ys. xs ++ ys) (none 0 e (omega arith)) (none-moved ends (λ k d l. none (suc k) d (omega (arith, l))))
+
+-- a share of which no call was made has moved nothing
+pub fresh-even : (s : ShareState) → IsFresh s → IsEven s
+fresh-even s h asked = ap (count_by asked) (h.brought ∙ sym (ap₂ (λ xs ys. xs ++ ys) h.moved (none-moved s.others h.moved_there)))
 
 pub same-list : (l : List ShareState) → IsSameList l l
 same-list l = record { as_many = refl; first = same-share (at l 0) }
@@ -55,6 +70,11 @@ all-shares count list shares list' shares' h same long each =
           let there : k + 1 < length (list ++ shares) = omega (arith, all, h.alone, l') in
           let was = subst (IsShareOf (names_of (at list 0))) (own k (omega (arith, l', h.as_many))) (h.family (k + 1) nobody there) in
           subst (IsShareOf (names_of (at list 0))) (get_or_default shares' k nobody d l) (still-share (at shares k) (at shares' k) (each k l') (names_of (at list 0)) was));
+      own_even = first.even (fresh-even (at list 0) (subst IsFresh start (h.fresh 0 nobody (omega (arith, all, h.alone)))));
+      even = λ k d l.
+          let l' : k < length shares = omega (arith, l, long) in
+          let was = fresh-even (at shares k) (subst IsFresh (own k (omega (arith, l', h.as_many))) (h.fresh (k + 1) nobody (omega (arith, all, h.alone, l')))) in
+          subst IsEven (get_or_default shares' k nobody d l) ((each k l').even was);
       as_many = omega (arith, long, h.as_many, h.ends, ends);
       numbered = λ n some l.
           let k : ℕ = n - 1 in
@@ -73,6 +93,8 @@ any-order list shares shares' same h =
       first = h.first;
       own = h.own;
       each = All-permutation (IsShareOf (names_of (at list 0))) shares shares' same h.each;
+      own_even = h.own_even;
+      even = All-permutation IsEven shares shares' same h.even;
       as_many = omega (arith, long, h.as_many);
       numbered = λ n some l.
           let s = h.numbered n some (omega (arith, l, long)) in

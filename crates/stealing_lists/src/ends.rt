@@ -4,9 +4,9 @@ ghost use Rattle.std.specs.Prelude.{◌≡◌, ◌<◌, ℕ, List, [], ◌∷◌
 ghost use Rattle.std.specs.Prelude.{IfErr, IfOk, IfSome, OnErr, OnOk};
 ghost use Rattle.stealing_lists.specs.Hands.{hand, all_parts, with_put, with_taken, joined};
 ghost use Rattle.stealing_lists.specs.Hands.{WasEmpty, HasLeft, IsLeft};
-ghost use Rattle.stealing_lists.specs.Ends.{OwnState, OtherState, FoundNone, hand_of, one_part_less};
+ghost use Rattle.stealing_lists.specs.Ends.{OwnState, OtherState, FoundNone, Moved, hand_of, one_part_less};
 
-use crate::rule::{Cut, Fair, Hand, Pops, Puts, Takes, Total};
+use crate::rule::{Brings, Cut, Fair, Hand, Moves, Pops, Puts, Takes, Total};
 use crossbeam_deque::{Pass, Steal, Stealer, Worker};
 use std::alloc::{AllocError, Global};
 use std::marker::Model;
@@ -42,23 +42,23 @@ pub(crate) struct OtherEnd {
 }
 
 impl Model for OtherEnd {
-    ghost use Rattle.std.specs.Prelude.{◌≡◌, []};
+    ghost use Rattle.std.specs.Prelude.{◌≡◌};
     ghost use Rattle.crossbeam_deque.specs.Handles.{stealer_deque, stealer_flavor};
     ghost use Rattle.crossbeam_deque.specs.Handles.{taken, IsPassOf};
-    ghost use Rattle.stealing_lists.specs.Hands.{hand};
-    ghost use Rattle.stealing_lists.specs.Ends.{OtherState, hand_in};
+    ghost use Rattle.stealing_lists.specs.Ends.{OtherState, hand_in, other_hand};
 
     ghost Value = { OtherState };
 
     ghost view = { λ e. record {
       list = (stealer_deque e.stealer).0;
       taken = (hand_in e.pass).taken;
+      moved = (hand_in e.pass).moved;
       seen = taken e.pass;
     } };
 
     ghost invariant = { λ e. (stealer_flavor e.stealer ≡ 0)
         × IsPassOf (stealer_deque e.stealer) e.pass
-        × (hand_in e.pass ≡ hand 1 [] (hand_in e.pass).taken) };
+        × (hand_in e.pass ≡ other_hand (hand_in e.pass).taken (hand_in e.pass).moved) };
 }
 
 impl OwnEnd {
@@ -77,7 +77,7 @@ impl OwnEnd {
         ensures kept { OnErr result (self.new ≡ self.old) }
         ensures parts { OnOk result (self.new ≡ one_part_less self.old) }
         ensures made { IfOk result (λ end.
-            (end.list ≡ self.old.list) × (end.taken ≡ [])) }
+            (end.list ≡ self.old.list) × (end.taken ≡ []) × (end.moved ≡ [])) }
     {
         let stealer = self.worker.stealer()?;
         let pass = self.worker.another::<Cut>();
@@ -126,6 +126,7 @@ impl OtherEnd {
     /// to another one since the last look.
     pub(crate) fn steal(&mut self) -> Option<u32>
         ensures list { self.new.list ≡ self.old.list }
+        ensures moved { self.new.moved ≡ self.old.moved }
         ensures taken { MatchOption result (FoundNone self.old self.new)
             (λ a. self.new.taken ≡ self.old.taken ++ a ∷ []) }
     {
@@ -137,5 +138,20 @@ impl OtherEnd {
             }
         }
         None
+    }
+
+    /// Moves about half of the items, and `most` of them at most, to an owner's list: none where there
+    /// are none, or others take some at the same time, and fewer where memory is wanting.
+    pub(crate) fn move_some(&mut self, own: &mut OwnEnd, most: usize)
+        requires some { 0 < most }
+        ensures { Moved most self.old own.old self.new own.new }
+    {
+        let _ = self
+            .stealer
+            .steal_batch_as::<Global, Hand, Fair, Moves, Brings>(
+                &mut self.pass,
+                &mut own.worker,
+                most,
+            );
     }
 }

@@ -24,6 +24,7 @@ impl Share {
             own: OwnEnd::new(alloc)?,
             others: Vec::new(alloc),
             pushed: 0,
+            moved: 0,
             refused: 0,
             pop_found_none: false,
             steal_found_none: false,
@@ -36,7 +37,7 @@ impl Share {
         ensures parts { OnOk result (self.new
             ≡ record self.old { own = one_part_less self.old.own }) }
         ensures made { IfOk result (λ end.
-            (end.list ≡ self.old.own.list) × (end.taken ≡ [])) }
+            (end.list ≡ self.old.own.list) × (end.taken ≡ []) × (end.moved ≡ [])) }
     {
         Ok(self.own.other_end()?)
     }

@@ -9,7 +9,7 @@ ghost use Rattle.stealing_lists.specs.Ends.{ListName, OtherState};
 ghost use Rattle.stealing_lists.specs.Shares.{ShareState};
 ghost use Rattle.stealing_lists.specs.Families.{at, names_of, GaveBack};
 ghost use Rattle.stealing_lists.specs.Joining.{AreAllShares, AreJoined, AreOpen, ArePartJoined};
-ghost use Rattle.stealing_lists.specs.Joining.{LoseNothing};
+ghost use Rattle.stealing_lists.specs.Joining.{AreEven, LoseNothing};
 
 use crate::share::Share;
 
@@ -19,6 +19,7 @@ pub(crate) fn join_all(family: &mut Vec<Share>, shares: Vec<Share>)
     requires room { length shares.items < vec_capacity family.old }
     ensures joined { AreJoined family.new.items }
     ensures same { LoseNothing (family.old.items ++ shares.items) family.new.items }
+    ensures even { AreEven family.new.items }
     ensures some { 0 < vec_len family.new }
     ensures few { vec_len family.new ≤ all_parts }
     ensures room { vec_capacity family.new ≡ vec_capacity family.old }

@@ -2,12 +2,13 @@
 //!
 //! What it is: the lists of places that an owner and several markers are to share while they mark.
 //! Each has a list of its own, first in first out, to which it alone pushes and from which it pops,
-//! and an end of every other one's list, at which it steals. It knows nothing of a heap's words.
+//! and an end of every other one's list, at which it steals: it takes one item, and moves some of those
+//! behind it to its own list. It knows nothing of a heap's words.
 //!
 //! The parts: `SharedList` (the owner's list, which gives the shares and takes them in again),
 //! `Share` (another one's), `Refused` (what a push hands back), `Tally` (what was put on all lists,
-//! taken and left). Inside: `rule` (what the ends of one list have put and taken, and the rule that
-//! each step keeps), `ends` (the ends of one list), `linking` and `joining` (how the ends are given to
+//! taken and left). Inside: `rule` (what the ends of one list have put, taken and moved, and the rule
+//! that each step keeps), `ends` (the ends of one list), `linking` and `joining` (how the ends are given to
 //! all, and come back), `family` (what one share does for that), `counting` (what all have together).
 //!
 //! What is proved: a push puts its item on the list, or hands it back and counts that; a pop and a

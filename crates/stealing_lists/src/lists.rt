@@ -73,8 +73,8 @@ impl SharedList {
         &mut self.family[0]
     }
 
-    /// Puts an item on its own list. Want of memory is free, and so is the 2^60th push: the item is
-    /// handed back.
+    /// Puts an item on its own list. Want of memory is free, and so is a push once 2^60 items may have
+    /// come onto the list: the item is handed back.
     pub fn push(&mut self, a: u32) -> Result<(), Refused>
         ensures done { OnOk result (self.new ≡ slice_set self.old 0 (pushed (at self.old 0) a)) }
         ensures refused { IfErr result (λ back. (back.0 ≡ a)
@@ -107,9 +107,9 @@ impl SharedList {
         None
     }
 
-    /// Takes the first item of a share's list. None only where each share's list was empty at one step
-    /// of the call, or lost items to others since this list last looked at it, and always once the
-    /// shares were taken in.
+    /// Takes the first item of a share's list, and moves some of those behind it to its own, as
+    /// `Share::steal` does. None only where each share's list was empty at one step of the call, or lost
+    /// items to others since this list last looked at it, and always once the shares were taken in.
     pub fn steal(&mut self) -> Option<u32>
         ensures first { self.new ≡ slice_set self.old 0 (at self.new 0) }
         ensures taken { MatchOption result (StoleNone (at self.old 0) (at self.new 0))

@@ -3,12 +3,15 @@
 use crossbeam_deque::protocol::{Join, Lesson, Outcome, Protocol, Split};
 use std::collections::LinkedList;
 
-/// What one end of a list has put on it and taken from it, and its parts of the right to know the
-/// whole. No value of it is made: contracts alone see it.
+/// What one end of a list has put on it and taken from it, what it brought to it from others and moved
+/// from it to others, and its parts of the right to know the whole. No value of it is made: contracts
+/// alone see it.
 pub struct Hand {
     pub parts: u64,
     pub put: LinkedList<u32>,
     pub taken: LinkedList<u32>,
+    pub brought: LinkedList<u32>,
+    pub moved: LinkedList<u32>,
 }
 
 pub(crate) struct Fair;
@@ -28,10 +31,10 @@ impl Protocol<u32, Hand> for Fair {
 pub(crate) struct Cut;
 
 impl Split<Hand> for Cut {
-    ghost use Rattle.std.specs.Prelude.{◌-◌, []};
-    ghost use Rattle.stealing_lists.specs.Hands.{hand};
+    ghost use Rattle.std.specs.Prelude.{[]};
+    ghost use Rattle.stealing_lists.specs.Hands.{hand, one_part_from};
 
-    ghost left = { λ v. hand (v.parts - 1) v.put v.taken };
+    ghost left = { one_part_from };
 
     ghost right = { λ v. hand 1 [] [] };
 }
@@ -76,6 +79,26 @@ impl Outcome<u32, Hand> for Takes {
     ghost then = { λ v xs w. w ≡ with_taken v xs };
 
     ghost empty = { WasEmpty };
+}
+
+/// A move of items from this list to another.
+pub(crate) struct Moves;
+
+impl Outcome<u32, Hand> for Moves {
+    ghost use Rattle.std.specs.Prelude.{◌≡◌};
+    ghost use Rattle.stealing_lists.specs.Hands.{with_moved};
+
+    ghost then = { λ v xs w. w ≡ with_moved v xs };
+}
+
+/// A move of items from another list to this one.
+pub(crate) struct Brings;
+
+impl Outcome<u32, Hand> for Brings {
+    ghost use Rattle.std.specs.Prelude.{◌≡◌};
+    ghost use Rattle.stealing_lists.specs.Hands.{with_brought};
+
+    ghost then = { λ v xs w. w ≡ with_brought v xs };
 }
 
 /// What the end that has all parts knows of the items.

@@ -40,9 +40,12 @@ returns-clause-left c =
     let counted = c.loop-i.invariant.counted in
     let shares = c.args.family.now.items in
     let all : take c.loop-i.i shares ≡ shares = take_all c.loop-i.i shares (search rules) in
-    (counted.0, counted.1, all-own shares counted.0 c.requires.joined (subst (λ l. OwnLeft l counted.0) all counted.2))
+    (counted.0, counted.1, all-own shares counted.0 c.requires.joined c.requires.even (subst (λ l. OwnLeft l counted.0) all counted.2))
 
 pub returns-clause-each : goal.returns-clause-each
-returns-clause-each c = λ k d l.
-    let shares = c.args.family.now.items in
-    subst (λ s. HasLeft s.own.hand) (get_or_default shares k nobody d l) (c.loop-i.invariant.each k (search rules))
+returns-clause-each c = record {
+  each = λ k d l.
+      let shares = c.args.family.now.items in
+      subst (λ s. HasLeft s.own.hand) (get_or_default shares k nobody d l) (c.loop-i.invariant.each k (search rules));
+  even = c.requires.even;
+}

@@ -1,7 +1,7 @@
 use Rattle.std.proofs.Common.{rules, ◌≡◌, ◌<◌, ℕ, ◌++◌, length}
 use Rattle.stealing_lists.specs.Families.{at}
-use Rattle.stealing_lists.proofs.Items.{order-items, items-then}
-use Rattle.stealing_lists.proofs.Wholes.{all-open, few-shares}
+use Rattle.stealing_lists.proofs.Items.{order-items, items-then, still-even}
+use Rattle.stealing_lists.proofs.Wholes.{all-open, all-even, few-shares}
 use Rattle.stealing_lists.proofs.joining.join_all.Goals as goal
 
 pub join_lists-requires-clause-before : goal.join_lists-requires-clause-before
@@ -17,3 +17,9 @@ returns-clause-few c =
 
 pub returns-clause-same : goal.returns-clause-same
 returns-clause-same c = items-then (c.args.family.now.items ++ c.args.shares.items) c.take_in.new.family.items c.join_lists.new.family.items (order-items _ _ c.take_in.ensures.same) c.join_lists.ensures.same
+
+pub returns-clause-even : goal.returns-clause-even
+returns-clause-even c =
+    let all = c.args.family.now.items ++ c.args.shares.items in
+    let same = items-then all c.take_in.new.family.items c.join_lists.new.family.items (order-items _ _ c.take_in.ensures.same) c.join_lists.ensures.same in
+    still-even _ _ same (all-even c.args.family.now.items c.args.shares.items c.requires.all)

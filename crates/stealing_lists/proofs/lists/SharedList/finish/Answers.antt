@@ -6,7 +6,7 @@ use Rattle.stealing_lists.specs.Shares.{ShareState, last_count}
 use Rattle.stealing_lists.specs.Families.{at, nobody}
 use Rattle.stealing_lists.specs.Joining.{put_by, AreJoined, KnowLeft, LoseNothing, IsAllCounted, IsTaken}
 use Rattle.stealing_lists.proofs.Items.{same-items}
-use Rattle.stealing_lists.proofs.Wholes.{as-many-put, all-taken, settled, still-joined, still-taken}
+use Rattle.stealing_lists.proofs.Wholes.{as-many-put, all-taken, settled, settled-even, still-joined, still-taken}
 use Rattle.stealing_lists.proofs.lists.SharedList.finish.Goals as goal
 use Rattle.stealing_lists.proofs.lists.SharedList.finish.Goals.{After-self-1}
 
@@ -81,7 +81,10 @@ returns-clause-known c =
     let f = facts c in
     let now = c.count_left-left.new.family.items in
     let known : KnowLeft now = subst KnowLeft (sym c.count_left-left.ensures.same) c.count_left-left.ensures.each in
-    All-set (λ s. HasLeft s.own.hand) now 0 c.settle.new.self (subst (λ (s : ShareState). HasLeft s.own.hand) (sym f.is) (known 0 nobody f.some)) known
+    record {
+      each = All-set (λ s. HasLeft s.own.hand) now 0 c.settle.new.self (subst (λ (s : ShareState). HasLeft s.own.hand) (sym f.is) (known.each 0 nobody f.some)) known.each;
+      even = settled-even now c.count_refused-refused.result c.settle.new.self f.some f.is known.even;
+    }
 
 pub returns-clause-refused : goal.returns-clause-refused
 returns-clause-refused c =

@@ -3,10 +3,11 @@ use Rattle.std.proofs.lemmas.List.{length-set, get_or_default}
 use Rattle.stealing_lists.specs.Hands.{HasLeft, WasEmpty}
 use Rattle.stealing_lists.specs.Shares.{ShareState}
 use Rattle.stealing_lists.specs.Families.{at, nobody}
-use Rattle.stealing_lists.specs.Joining.{with_own_taken, IsPopped}
-use Rattle.stealing_lists.proofs.Popped.{popped-none, popped-one}
+use Rattle.stealing_lists.specs.Joining.{with_own_taken, IsPopped, TookOne}
+use Rattle.stealing_lists.proofs.Popped.{popped-none, popped-one, same-list-yet}
 use Rattle.stealing_lists.proofs.Wholes.{stays, one-more_empty, first-noted}
 use Rattle.stealing_lists.proofs.lists.SharedList.pop.Goals as goal
+use Rattle.stealing_lists.proofs.lists.SharedList.pop.Goals.{After-self-in-Some-1}
 
 pub loop-i-preserved : goal.loop-i-preserved
 loop-i-preserved c =
@@ -33,8 +34,9 @@ invariant_of-self c =
     let m = length-set (set now c.loop-i.i e) 0 c.wake.new.self in
     (omega (arith, within, n, m), omega (arith, c.self.invariant.1, inv.room))
 
-pub returns-in-Some-clause-left : goal.returns-in-Some-clause-left
-returns-in-Some-clause-left c = λ joined known.
+-- one item of one of the lists was taken
+abbrev took : (c : After-self-in-Some-1) → TookOne c.args.self.now c.in-Some.a (set (set c.loop-i.self-inside.family.items c.loop-i.i c.take.new.self) 0 c.wake.new.self)
+took c =
     let inv = c.loop-i.invariant in
     let old = c.args.self.now in
     let view : c.self.inside.family.items ≡ old = search rules in
@@ -53,8 +55,21 @@ returns-in-Some-clause-left c = λ joined known.
     let y-is : y ≡ at (set now i e) 0 = c.index_mut-in-Some.ensures.value ∙ get_or_default (set now i e) 0 y nobody some in
     let w-is = c.wake.ensures ∙ ap (λ (s : ShareState). record s { pop_found_none = false; steal_found_none = false }) (y-is ∙ ap (λ l. at l 0) stepped) in
     let all = ap₂ (λ l s. set l 0 s) stepped w-is in
-    let left : HasLeft e.own.hand = c.in-Some.ensures.left (ap (λ s. s.own.hand.parts) x-is ∙ joined.whole i nobody within) in
-    popped-one old (set (set now i e) 0 c.wake.new.self) a (record { place = i; within = within; all = all }) joined known (subst (λ (s : ShareState). HasLeft s.own.hand) e-is left)
+    record { place = i; within = within; all = all }
+
+pub returns-in-Some-clause-left : goal.returns-in-Some-clause-left
+returns-in-Some-clause-left c = λ joined known.
+    let t = took c in
+    let x = c.index_mut.result.now in
+    let e = c.take.new.self in
+    let x-is : x ≡ at c.args.self.now c.loop-i.i = c.index_mut.ensures.value
+    ∙ ap (λ l. get_or l c.loop-i.i x) (c.loop-i.invariant.same ∙ search rules) ∙ get_or_default c.args.self.now c.loop-i.i x nobody t.within in
+    let left : HasLeft e.own.hand = c.in-Some.ensures.left (ap (λ s. s.own.hand.parts) x-is ∙ joined.whole c.loop-i.i nobody t.within) in
+    let e-is : e ≡ with_own_taken (at c.args.self.now c.loop-i.i) c.in-Some.a = c.in-Some.ensures.taken ∙ ap (λ s. with_own_taken s c.in-Some.a) x-is in
+    popped-one c.args.self.now _ c.in-Some.a t joined known (subst (λ (s : ShareState). HasLeft s.own.hand) e-is left)
+
+pub returns-in-Some-clause-same : goal.returns-in-Some-clause-same
+returns-in-Some-clause-same c = same-list-yet c.args.self.now _ c.in-Some.a (took c)
 
 pub returns-clause-taken : goal.returns-clause-taken
 returns-clause-taken c =

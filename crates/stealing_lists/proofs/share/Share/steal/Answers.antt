@@ -1,31 +1,25 @@
-use Rattle.std.proofs.Common.{rules, ◌≡◌, ap, map, ◌∙◌, subst, get_or, set}
-use Rattle.stealing_lists.proofs.Looks.{Looked, looked-at, other-lists, one-taken}
+use Rattle.std.proofs.Common.{rules, ◌≡◌, subst}
+use Rattle.stealing_lists.specs.Shares.{Stole}
+use Rattle.stealing_lists.proofs.Looks.{Looked, looked-at}
+use Rattle.stealing_lists.proofs.Stolen.{looked-same, stolen, stolen-same}
 use Rattle.stealing_lists.proofs.share.Share.steal.Goals as goal
+use Rattle.stealing_lists.proofs.share.Share.steal.Goals.{After-wake}
+
+-- one end gave an item, and some were moved from there
+stole : (c : After-wake) → Stole c.args.self.now c.in-Some.a c.wake.new.self
+stole c =
+    let at = c.in-Some.ensures in
+    stolen c.args.self.now c.loop-i.self _ c.move_from.new.self c.wake.new.self c.loop-i.i c.in-Some.a c.index_mut.result.now c.steal.new.self
+    c.loop-i.invariant.inside c.loop-i.invariant.looked (search rules) (search rules) at.list at.moved at.taken (search rules) c.move_from.ensures.moved c.wake.ensures
 
 pub returns-in-Some-clause-taken : goal.returns-in-Some-clause-taken
-returns-in-Some-clause-taken c =
-    let others : c.wake.new.self.others ≡ set c.loop-i.self.others c.loop-i.i c.steal.new.self = search rules in
-    let here : get_or c.loop-i.self.others c.loop-i.i c.index_mut.result.now ≡ c.index_mut.result.now = search rules in
-    let at = c.in-Some.ensures in
-    record {
-      place = c.loop-i.i;
-      within = search rules;
-      lists = ap (map (λ y. y.list)) others ∙ other-lists _ _ c.loop-i.i c.index_mut.result.now c.steal.new.self c.loop-i.invariant.looked (search rules) here at.list;
-      taken = ap (map (λ y. y.taken)) others ∙ one-taken _ _ c.loop-i.i c.index_mut.result.now c.steal.new.self c.loop-i.invariant.looked (search rules) here c.in-Some.a at.taken;
-      rest = search rules;
-    }
+returns-in-Some-clause-taken c = stole c
 
 pub returns-in-Some-clause-same : goal.returns-in-Some-clause-same
-returns-in-Some-clause-same c =
-    let others : c.wake.new.self.others ≡ set c.loop-i.self.others c.loop-i.i c.steal.new.self = search rules in
-    let here : get_or c.loop-i.self.others c.loop-i.i c.index_mut.result.now ≡ c.index_mut.result.now = search rules in
-    let at = c.in-Some.ensures in
-    record {
-      number = search rules;
-      own = search rules;
-      parts = search rules;
-      others = ap (map (λ y. y.list)) others ∙ other-lists _ _ c.loop-i.i c.index_mut.result.now c.steal.new.self c.loop-i.invariant.looked (search rules) here at.list;
-    }
+returns-in-Some-clause-same c = stolen-same c.args.self.now _ c.in-Some.a (stole c)
+
+pub returns-clause-same : goal.returns-clause-same
+returns-clause-same c = looked-same c.args.self.now _ (search rules) (search rules) (search rules)
 
 pub loop-i-preserved : goal.loop-i-preserved
 loop-i-preserved c =
