@@ -54,13 +54,17 @@ STEPS_BAR = 1.15
 MARKING_SET_BAR = 60
 
 # With how many markers the clock's times are taken, how often each, and how often a crew is looked at; how
-# many fields an object of the wide tree has, and for how many lines it is marked.
+# many fields an object of a wide tree has, and how many lines are run while it is marked: a tree in whose time
+# what a line costs is measured, and one whose own time is, beside lines that last for long enough.
 MARKERS = (0, 1, 2, 3)
 CLOCK_TRIES = 9
-CREW_TRIES = 5
+CREW_TRIES = 9
 LOOK_SECONDS = 0.0001
 WIDE_FIELDS = 50
 WIDE_LINES = 700_000
+WIDEST_FIELDS = 62
+WIDEST_LINES = 510_000
+LONG_LINE = "import 0 0"
 # For a line of each kind, read, run and told.
 LINE_BARS = {
     "drop 0": 330, "set 0 0 0": 430, "get 0 0 2": 430, "put 0 1 5": 430, "word 0 1": 430, "copy 0 2": 430,
@@ -198,8 +202,9 @@ class Bench:
         self.every = max(1, int(5_000 * scale))
         self.count = 10 * self.every
         self.page_words = loads.scaled_page_words(scale)
-        self.fields = max(2, round(WIDE_FIELDS * min(1, scale) ** (1 / 3)))
-        self.lines_beside = round(WIDE_LINES * min(1, scale))
+        least = min(1, scale)
+        self.fields, self.widest = (max(2, round(fields * least ** (1 / 3))) for fields in (WIDE_FIELDS, WIDEST_FIELDS))
+        self.lines_beside, self.long_lines = (round(lines * least) for lines in (WIDE_LINES, WIDEST_LINES))
 
     def times(self):
         """The times of each load of one size and of twice that, the least of several tries each."""
@@ -213,8 +218,10 @@ class Bench:
             self.figures.tell_time(f"{name}_ratio", ratio(least))
 
     def beside(self):
-        """What markers do beside the owner on a wide tree, while it runs lines: how long they take to mark it, and
-        what a line and the pause cost by the clock."""
+        """What markers do beside the owner on a wide tree, while it runs lines: how long they take to mark the
+        widest, and what a line and the pause cost by the clock."""
+        widest = loads.wide_tree(self.widest)
+        marked = Script(self.folder, widest.then(START, *[LONG_LINE] * self.long_lines, PAUSE))
         tree = loads.wide_tree(self.fields)
         wanted = [START, *["get 0 0 1"] * self.lines_beside]
         stages = [tree, tree.then(START), tree.then(*wanted), tree.then(*wanted, PAUSE)]
@@ -223,7 +230,7 @@ class Bench:
         whole = []
         for markers in MARKERS:
             if markers > 0:
-                seconds = self.marking(paused, markers, tree.tells["node"])
+                seconds = self.marking(marked, markers, widest.tells["node"])
                 whole.append(seconds)
                 tell(f"marking_by_{markers}_markers_clock_seconds", seconds)
             scripts = (built, begun, read, paused)
