@@ -230,7 +230,8 @@ class Bench:
         whole = []
         for markers in MARKERS:
             if markers > 0:
-                seconds = self.marking(marked, markers, widest.tells["node"])
+                self.marking_time(paused, markers, tree.tells["node"])
+                seconds = min(self.marking_time(marked, markers, widest.tells["node"]) for _ in range(CREW_TRIES))
                 whole.append(seconds)
                 tell(f"marking_by_{markers}_markers_clock_seconds", seconds)
             scripts = (built, begun, read, paused)
@@ -242,12 +243,13 @@ class Bench:
         for markers, seconds in zip(MARKERS[1:], whole):
             tell(f"marking_by_1_over_{markers}_markers_ratio", whole[0] / seconds)
 
-    def marking(self, script, markers, count):
-        """The least time of several in which so many markers mark the objects of the tree, so many, beside lines."""
-        tries = [script.crew(markers) for _ in range(CREW_TRIES)]
-        if any(traced != count for _, traced in tries):
+    def marking_time(self, script, markers, count):
+        """The time in which so many markers mark the objects of a tree, so many, beside the script's lines. It ends
+        the bench if they have not marked all of them before the pause."""
+        seconds, traced = script.crew(markers)
+        if traced != count:
             sys.exit("bench: markers have not traced all before the pause")
-        return min(seconds for seconds, _ in tries)
+        return seconds
 
     def instructions(self, load):
         return Script(self.folder, load).instructions()
