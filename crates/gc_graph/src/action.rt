@@ -7,7 +7,7 @@
 /// | `Nothing` | nothing |
 /// | `Clear` | its field `field` becomes null |
 /// | `Add` | the amount is added to its plain word `field`, modulo 2^64 |
-#[derive(Clone, Copy, Debug, PartialEq, Eq, Drop)]
+#[derive(Clone, Copy, Drop)]
 pub enum Action {
     Nothing,
     Clear { link: u32, field: u32 },
@@ -22,7 +22,7 @@ pub enum Action {
 /// | `Nothing`, `Clear`, `Add` | that one |
 /// | `AddOwn` | adds shown word `from`, or 0 where there is none |
 /// | `ClearIf` | clears where shown word `word` is there and isn't 0 |
-#[derive(Clone, Copy, Debug, PartialEq, Eq, Drop)]
+#[derive(Clone, Copy, Drop)]
 pub enum ActionKind {
     Nothing,
     Clear { link: u32, field: u32 },

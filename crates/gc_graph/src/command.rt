@@ -2,7 +2,7 @@
 
 /// Which words of the stack count as roots in a pause: none, or all that point into an object
 /// (`EmbedderStackState`, `include/cppgc/common.h`).
-#[derive(Clone, Copy, Debug, PartialEq, Eq, Drop)]
+#[derive(Clone, Copy, Drop)]
 pub enum Want {
     Precise,
     Conservative,
@@ -18,7 +18,7 @@ pub enum Want {
 /// | `Weaken` | `at j weaken x` | a strong slot x becomes weak |
 /// | `Upgrade` | `at j upgrade x y` | slot y becomes strong for the node of slot x |
 /// | `Totals` | `at j totals` | the heap's published totals are read |
-#[derive(Clone, Copy, Debug, PartialEq, Eq, Drop)]
+#[derive(Clone, Copy, Drop)]
 pub enum Order {
     Copy { from: u32, into: u32 },
     Clear { slot: u32 },
@@ -60,7 +60,7 @@ pub enum Order {
 /// | `Import` | `import x p` | slot p gets the node of region slot x |
 /// | `At` | `at j ORDER` | queues an order for thread j |
 /// | `ThreadsGo`, `ThreadsJoin` | `threads go`, `threads join` | starts the threads; waits for them |
-#[derive(Clone, Copy, Debug, PartialEq, Eq, Drop)]
+#[derive(Clone, Copy, Drop)]
 pub enum Command {
     New { p: u32, t: u32, e: u32 },
     Set { p: u32, f: u32, q: u32 },

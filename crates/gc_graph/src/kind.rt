@@ -8,7 +8,7 @@
 /// | `Weak` | one reference, which keeps nothing | `WeakMember`, `include/cppgc/member.h` |
 /// | `Pair` | a key and its value | `EphemeronPair`, `include/cppgc/ephemeron-pair.h` |
 /// | `Plain` | one number | a field that isn't traced |
-#[derive(Clone, Copy, Debug, PartialEq, Eq, Drop)]
+#[derive(Clone, Copy, PartialEq, Eq, Drop)]
 pub enum Kind {
     Strong,
     Weak,
@@ -17,7 +17,7 @@ pub enum Kind {
 }
 
 /// What one word of a field holds. A reference names a node by its number.
-#[derive(Clone, Copy, Debug, PartialEq, Eq, Drop)]
+#[derive(Clone, Copy, Drop)]
 pub enum Value {
     Null,
     Ref(u32),

@@ -3,7 +3,7 @@
 use crate::region::{Entry, Reply};
 
 /// Why a command was refused. Where several hold, the first of this list is answered.
-#[derive(Clone, Copy, Debug, PartialEq, Eq, Drop)]
+#[derive(Clone, Copy, Drop)]
 pub enum Refusal {
     /// The phase doesn't allow the command.
     Phase,
@@ -23,7 +23,7 @@ pub enum Refusal {
 /// thread, `m` threads, `n` objects, `u` words and `g` pages. `t` is a type, or in `Step` how many
 /// objects were traced; in `Word` `n` is the word. The totals that a thread saw have the number `o`
 /// of the commands before, and `f` finalisations.
-#[derive(Clone, Copy, Debug, PartialEq, Eq, Drop)]
+#[derive(Clone, Copy, Drop)]
 pub enum Line {
     TypeLine {
         t: u32,

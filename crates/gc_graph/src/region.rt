@@ -4,7 +4,7 @@
 /// What was done to the region's slots. `Export`, `Import`, `Start` and `Pause` are the owner's,
 /// the others a thread's. The number `cleared` has the bit 2^x for each weak slot x that the pause
 /// cleared.
-#[derive(Clone, Copy, Debug, PartialEq, Eq, Drop)]
+#[derive(Clone, Copy, Drop)]
 pub enum Op {
     Export { slot: u32, node: u32 },
     Import { slot: u32 },
@@ -17,7 +17,7 @@ pub enum Op {
 }
 
 /// What a call on the region answered. After `NoMemory` nothing has changed.
-#[derive(Clone, Copy, Debug, PartialEq, Eq, Drop)]
+#[derive(Clone, Copy, Drop)]
 pub enum Reply {
     Done,
     Node(u32),
@@ -26,7 +26,7 @@ pub enum Reply {
 }
 
 /// One entry of the history. The owner is thread 0.
-#[derive(Clone, Copy, Debug, PartialEq, Eq, Drop)]
+#[derive(Clone, Copy, Drop)]
 pub struct Entry {
     pub thread: u32,
     pub op: Op,
