@@ -20,7 +20,7 @@ use Rattle.marker_core.specs.Bodies.{holds}
 use Rattle.page_words.specs.Seat.{SeatView, IsView}
 use Rattle.page_space.specs.Space.{SpaceView, IsSpaceOf}
 use Rattle.ephemerons.specs.Fixpoint.{ListsMarks}
-use Rattle.ephemerons.specs.Marking.{traced_count}
+use Rattle.pair_notes.specs.Marking.{traced_count}
 use Rattle.prefinalizer_effects.specs.Prepared.{setup_of, IsPrepared}
 use Rattle.nodes_in_words.specs.Nodes.{place_of, bodies_of, IsHeld, AreOfValid}
 use Rattle.nodes_in_words.specs.Places.{kept_of}

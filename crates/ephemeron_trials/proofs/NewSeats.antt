@@ -4,10 +4,10 @@ use Rattle.std.specs.List.{All}
 use Rattle.std.proofs.lemmas.List.{replicate-append-replicate, get_or-replicate, length-replicate, length-map}
 use Rattle.page_words.specs.Markers.{MarkerSeatView, new_marker}
 use Rattle.page_words.specs.Seat.{SeatView}
-use Rattle.stealing_lists.specs.Families.{at}
-use Rattle.stealing_lists.specs.Joining.{AreAllShares, AreFresh, IsSameList}
-use Rattle.stealing_lists.specs.Kept.{all-shares}
-use Rattle.stealing_lists.specs.Shares.{ShareState, IsSameShare}
+use Rattle.mark_worklist.specs.Families.{at}
+use Rattle.mark_worklist.specs.Joining.{AreAllShares, AreFresh, IsSameList}
+use Rattle.mark_worklist.specs.Kept.{all-shares}
+use Rattle.mark_worklist.specs.Shares.{ShareState, IsSameShare}
 use Rattle.marker_crew.specs.declared.crew.CrewResult.{CrewResult}
 use Rattle.marker_crew.specs.Crews.{CrewState, Ending, HasJoined, Marker, begun_with, started_with}
 use Rattle.marker_crew.specs.Joined.{begun_many, begun_shares, same_shares}

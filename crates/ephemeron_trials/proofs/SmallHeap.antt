@@ -8,13 +8,13 @@ use Rattle.marker_core.specs.Bodies.{IsPlace, holds, role_in, word_in, with_word
 use Rattle.page_words.specs.Roles.{kind_lists}
 use Rattle.page_words.specs.Seat.{Heap, SeatView, PairsAreWhole, empty_view, begun, marked_at, stored}
 use Rattle.page_space.specs.Occupying.{Occupies, new_body}
-use Rattle.ephemerons.specs.BodyGraph.{HasType, HasPair}
-use Rattle.ephemerons.specs.declared.notes.Note.{Note}
+use Rattle.pair_notes.specs.BodyGraph.{HasType, HasPair}
+use Rattle.pair_notes.specs.declared.notes.Note.{Note}
 use Rattle.gc_graph.specs.declared.kind.Kind.TheVariants.{Pair}
 use Rattle.type_table.specs.Types.{kinds_of, offsets_of_kind}
 use Rattle.ephemeron_trials.specs.SmallHeap.{pair_then_strong, two_bodies, IsSmall, IsTraced, IsEitherPlace, IsEitherPair}
-use Rattle.ephemerons.specs.InHand.{Claims}
-use Rattle.ephemerons.specs.Notes.{NotesState, IsNotedIn, group_at}
+use Rattle.pair_notes.specs.InHand.{Claims}
+use Rattle.pair_notes.specs.Notes.{NotesState, IsNotedIn, group_at}
 use Rattle.ephemerons.specs.Fixpoint.{ListsMarks}
 use Rattle.mark_worklist.specs.declared.marking.Marking.{Marking}
 use Rattle.mark_worklist.specs.OneMore.{was_there}

@@ -5,7 +5,7 @@ use Rattle.gc_graph.specs.State.{ObjectType}
 use Rattle.marker_core.specs.declared.states.Body.{Body}
 use Rattle.marker_core.specs.Bodies.{holds}
 use Rattle.page_words.specs.Seat.{SeatView, IsQuiet, IsAlone}
-use Rattle.ephemerons.specs.declared.notes.Note.{Note}
+use Rattle.pair_notes.specs.declared.notes.Note.{Note}
 
 -- one type, with a pair and after it a strong field
 abbrev pub pair_then_strong : List ObjectType

@@ -5,7 +5,7 @@ ghost use Rattle.page_words.specs.Markers.{new_marker};
 
 use crate::draining::marked;
 use crate::small_heap::{HOLDER, OTHER, one_type};
-use ephemerons::Pairs;
+use pair_notes::Pairs;
 use marker_crew::{Crew, CrewResult, Drained, FreeGate, Gate, step_beside};
 use page_words::{MarkerSeat, MutatorSeat, Words};
 use std::alloc::Global;
@@ -13,7 +13,7 @@ use std::sync::Arc;
 use std::sync::atomic::{AtomicU64, Ordering};
 use std::thread;
 use std::thread::Threads;
-use stealing_lists::{SharedList, Tally};
+use mark_worklist::{SharedList, Tally};
 
 /// So often a thread looks whether another one came.
 const TURNS: u32 = 1 << 24;

@@ -2,12 +2,13 @@
 
 ghost use Rattle.std.specs.Prelude.{◌≡◌, ◌↔◌, ℕ, true, Contains, IfSome};
 ghost use Rattle.page_space.specs.Space.{IsSeatOf};
-ghost use Rattle.ephemerons.specs.declared.notes.Note.{Note};
+ghost use Rattle.pair_notes.specs.declared.notes.Note.{Note};
 ghost use Rattle.ephemeron_trials.specs.SmallHeap.{pair_then_strong, IsEither, IsTraced};
 ghost use Rattle.ephemeron_trials.specs.SmallHeap.{IsEitherPlace, IsEitherPair};
 
 use crate::small_heap::{HOLDER, OTHER, made, one_type, write};
-use ephemerons::{Pairs, claim, fixpoint, trace};
+use ephemerons::{claim, fixpoint, trace};
+use pair_notes::Pairs;
 use mark_worklist::{Marking, Worklist};
 use page_space::Space;
 use page_words::{Bodywords, MutatorSeat};

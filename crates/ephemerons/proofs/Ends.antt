@@ -9,12 +9,12 @@ use Rattle.gc_graph.specs.declared.kind.Kind.TheVariants.{Strong, Pair}
 use Rattle.marker_core.specs.Bodies.{IsPlace, holds}
 use Rattle.marker_core.specs.declared.states.Body.{Body}
 use Rattle.page_words.specs.Seat.{SeatView, IsView}
-use Rattle.ephemerons.specs.declared.notes.Note.{Note}
-use Rattle.ephemerons.specs.BodyGraph.{pair_offsets, word_at}
-use Rattle.ephemerons.specs.Marking.{IsOver, TracedNameMarked}
-use Rattle.ephemerons.specs.Notes.{NotesState, IsNotedIn, note_of}
+use Rattle.pair_notes.specs.declared.notes.Note.{Note}
+use Rattle.pair_notes.specs.BodyGraph.{pair_offsets, word_at}
+use Rattle.pair_notes.specs.Marking.{IsOver, TracedNameMarked}
+use Rattle.pair_notes.specs.Notes.{NotesState, IsNotedIn, note_of}
 use Rattle.ephemerons.specs.Fixpoint.{IsAccounted, IsSettled, IsSettledAt, untraced_places}
-use Rattle.ephemerons.specs.BodyLeads.{offset_told, named_word, value_word}
+use Rattle.pair_notes.specs.BodyLeads.{offset_told, named_word, value_word}
 
 -- few enough to count
 pub few_untraced : (v : SeatView) → IsView v → untraced_places v < 2 ^ 32

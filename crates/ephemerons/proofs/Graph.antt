@@ -8,9 +8,9 @@ use Rattle.marker_core.specs.Bodies.{holds}
 use Rattle.marker_core.specs.Closed.{IsClosedOver}
 use Rattle.page_words.specs.Roles.{kind_lists}
 use Rattle.page_words.specs.Seat.{SeatView}
-use Rattle.ephemerons.specs.BodyGraph.{strong_offsets, pair_offsets, word_at}
-use Rattle.ephemerons.specs.BodyLeads.{strong_within_closed, pair_within_closed}
-use Rattle.ephemerons.specs.Marking.{GrowsWithin}
+use Rattle.pair_notes.specs.BodyGraph.{strong_offsets, pair_offsets, word_at}
+use Rattle.pair_notes.specs.BodyLeads.{strong_within_closed, pair_within_closed}
+use Rattle.pair_notes.specs.Marking.{GrowsWithin}
 
 pub GrowsWithin-then : (types : List ObjectType) (a b c : SeatView) → b.bodies ≡ a.bodies → GrowsWithin types a b → GrowsWithin types b c
     → GrowsWithin types a c

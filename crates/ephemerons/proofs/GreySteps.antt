@@ -8,10 +8,10 @@ use Rattle.mark_worklist.specs.declared.marking.Marking.{Marking}
 use Rattle.marker_core.specs.declared.states.Body.{Body}
 use Rattle.marker_core.specs.Bodies.{IsPlace, holds}
 use Rattle.page_words.specs.Seat.{Heap, SeatView, IsView, is_grey_at}
-use Rattle.ephemerons.specs.BodyGraph.{AreReferences}
-use Rattle.ephemerons.specs.Marking.{heap_and_marks, GrowsWithin, HasStrongMarked, traced_count}
-use Rattle.ephemerons.specs.Notes.{NotesState, NotesGrow, HasPairsNoted, group_at, refusals_in, IsNotedIn, IsNote, note_of}
-use Rattle.ephemerons.specs.InHand.{with_trace, OnlyLooks}
+use Rattle.pair_notes.specs.BodyGraph.{AreReferences}
+use Rattle.pair_notes.specs.Marking.{heap_and_marks, GrowsWithin, HasStrongMarked, traced_count}
+use Rattle.pair_notes.specs.Notes.{NotesState, NotesGrow, HasPairsNoted, group_at, refusals_in, IsNotedIn, IsNote, note_of}
+use Rattle.pair_notes.specs.InHand.{with_trace, OnlyLooks}
 use Rattle.ephemerons.specs.Fixpoint.{Mode, Stage, stage, weight, IsGround, IsAccounted, IsUnrefused, Works, Looks, ListsMarks, unmarked_places, untraced_places}
 use Rattle.ephemerons.proofs.Lists.{holds_push_old, holds_push_cases}
 use Rattle.gc_graph.specs.Members.{pushed_is_held, to_range}

@@ -4,11 +4,11 @@ use Rattle.std.specs.Prelude.{slice_set}
 use mathlib.Core.Logic.{◌⊎◌}
 use Rattle.gc_graph.specs.State.{ObjectType}
 use Rattle.marker_core.specs.declared.states.Body.{Body}
-use Rattle.ephemerons.specs.declared.notes.Note.{Note}
-use Rattle.ephemerons.specs.BodyGraph.{HasPair}
+use Rattle.pair_notes.specs.declared.notes.Note.{Note}
+use Rattle.pair_notes.specs.BodyGraph.{HasPair}
 use Rattle.mark_worklist.specs.Refusals.{TellsRefused}
 use Rattle.mark_worklist.specs.Told.{told_same}
-use Rattle.ephemerons.specs.Notes.{NotesState, NotesGrow, group_at, refusals_in, IsNotedIn}
+use Rattle.pair_notes.specs.Notes.{NotesState, NotesGrow, group_at, refusals_in, IsNotedIn}
 
 -- what the groups hold after it
 pub record GroupsGrow (types : List ObjectType) (bodies : List Body) (old new : List NotesState) (first : NotesState) : Type 0 where

@@ -15,10 +15,10 @@ use Rattle.marker_core.specs.Layout.{has_mark}
 use Rattle.page_words.specs.PlaceTests.{place_of_test}
 use Rattle.page_words.specs.Roles.{kind_lists}
 use Rattle.page_words.specs.Seat.{SeatView, IsView, loaded}
-use Rattle.ephemerons.specs.BodyGraph.{pair_offsets}
-use Rattle.ephemerons.specs.Marking.{heap_and_marks}
-use Rattle.ephemerons.specs.InHand.{IsAt}
-use Rattle.ephemerons.specs.BodyLeads.{role_of_offset}
+use Rattle.pair_notes.specs.BodyGraph.{pair_offsets}
+use Rattle.pair_notes.specs.Marking.{heap_and_marks}
+use Rattle.pair_notes.specs.InHand.{IsAt}
+use Rattle.pair_notes.specs.BodyLeads.{role_of_offset}
 use Rattle.ephemerons.specs.Traces.{noted_unless}
 use Rattle.ephemerons.proofs.HandLoads.{read_marks, word_named, load_of_key, noted_by_word, noted_by_key}
 

@@ -14,8 +14,8 @@ use Rattle.mark_worklist.specs.declared.marking.Marking.{Marking}
 use Rattle.marker_core.specs.Bodies.{holds, is_place, IsPlace}
 use Rattle.page_words.specs.PlaceTests.{place_of_test, test_of_place}
 use Rattle.page_words.specs.Seat.{SeatView, IsView, side, loaded, with_mutator}
-use Rattle.ephemerons.specs.Marking.{heap_and_marks}
-use Rattle.ephemerons.specs.InHand.{IsAtTarget, moved_on}
+use Rattle.pair_notes.specs.Marking.{heap_and_marks}
+use Rattle.pair_notes.specs.InHand.{IsAtTarget, moved_on}
 use Rattle.ephemerons.specs.Fixpoint.{ListsMarks}
 use Rattle.ephemerons.proofs.MarkSteps.{looks_list}
 

@@ -14,8 +14,8 @@ use Rattle.mark_worklist.specs.Refusals.{Refusals, PushesOrTells, TellsRefused, 
 use Rattle.mark_worklist.specs.declared.marking.Marking.{Marking}
 use Rattle.marker_core.specs.Bodies.{IsPlace}
 use Rattle.page_words.specs.Seat.{SeatView}
-use Rattle.ephemerons.specs.Marking.{heap_and_marks}
-use Rattle.ephemerons.specs.Notes.{NotesState, group_at, refusals_in}
+use Rattle.pair_notes.specs.Marking.{heap_and_marks}
+use Rattle.pair_notes.specs.Notes.{NotesState, group_at, refusals_in}
 use Rattle.ephemerons.specs.Fixpoint.{Mode, Stage, mode_of, stage, weight, IsGround, Works, ListsMarks, IsListed, IsStillHeld, weight_of, with_held}
 use Rattle.mark_worklist.specs.Told.{told_same}
 use Rattle.ephemerons.proofs.Stages.{mode_is, MarksOn-same, Works-popped}

@@ -3,7 +3,6 @@ pub mod Graph
 pub mod Weights
 pub mod HandLoads
 pub mod MarkSteps
-pub mod FieldWords
 pub mod HandKeys
 pub mod PairWords
 pub mod NoteSteps

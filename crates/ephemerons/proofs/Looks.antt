@@ -6,9 +6,9 @@ use Rattle.std.proofs.lemmas.Bool.{true≢false, cases_eq, or_cases}
 use Rattle.gc_graph.specs.State.{ObjectType}
 use Rattle.marker_core.specs.Bodies.{IsPlace}
 use Rattle.page_words.specs.Seat.{SeatView, IsAlone}
-use Rattle.ephemerons.specs.declared.notes.Note.{Note}
-use Rattle.ephemerons.specs.Marking.{heap_and_marks, MarksOn}
-use Rattle.ephemerons.specs.Notes.{group_at, note_at, note_of}
+use Rattle.pair_notes.specs.declared.notes.Note.{Note}
+use Rattle.pair_notes.specs.Marking.{heap_and_marks, MarksOn}
+use Rattle.pair_notes.specs.Notes.{group_at, note_at, note_of}
 use Rattle.ephemerons.specs.Fixpoint.{Stage, IsGround, IsSettled, IsSettledAt, Works, Looks, without_looks}
 use Rattle.ephemerons.proofs.Stages.{Works-then, Works-free}
 

@@ -7,9 +7,9 @@ use Rattle.mark_worklist.specs.declared.marking.Marking.{Marking}
 use Rattle.marker_core.specs.Bodies.{IsPlace, holds}
 use Rattle.marker_core.specs.declared.states.Body.{Body}
 use Rattle.page_words.specs.Seat.{SeatView}
-use Rattle.ephemerons.specs.BodyGraph.{AreReferences}
-use Rattle.ephemerons.specs.Marking.{heap_and_marks, GrowsWithin, traced_count}
-use Rattle.ephemerons.specs.Notes.{NotesState, group_at, refusals_in, IsNote}
+use Rattle.pair_notes.specs.BodyGraph.{AreReferences}
+use Rattle.pair_notes.specs.Marking.{heap_and_marks, GrowsWithin, traced_count}
+use Rattle.pair_notes.specs.Notes.{NotesState, group_at, refusals_in, IsNote}
 use Rattle.ephemerons.specs.Fixpoint.{Mode, stage, weight, IsGround, Works, ListsMarks, without_looks, untraced_places, weight_of}
 use Rattle.ephemerons.specs.ListedMarks.{alone_still}
 use Rattle.ephemerons.specs.ReadyStays.{marks_accounted}

@@ -10,8 +10,8 @@ use Rattle.page_words.specs.Roles.{kind_lists}
 use Rattle.page_words.specs.Seat.{SeatView, IsView, marked_at}
 use Rattle.mark_worklist.specs.Refusals.{refusals_of}
 use Rattle.mark_worklist.specs.Told.{told_same}
-use Rattle.ephemerons.specs.Marking.{heap_and_marks, heap_alone}
-use Rattle.ephemerons.specs.InHand.{IsTracing, MayMark}
+use Rattle.pair_notes.specs.Marking.{heap_and_marks, heap_alone}
+use Rattle.pair_notes.specs.InHand.{IsTracing, MayMark}
 use Rattle.ephemerons.specs.Fixpoint.{ListsMarks, IsListed, IsFresh, unmarked_places, weight_of}
 use Rattle.ephemerons.proofs.Lists.{holds_push_old, holds_push_cases}
 use Rattle.gc_graph.specs.Members.{to_range, pushed_is_held}

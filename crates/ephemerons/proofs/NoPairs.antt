@@ -14,10 +14,10 @@ use Rattle.marker_core.specs.Hands.{traced_offsets}
 use Rattle.page_words.specs.BodyPlaces.{known_type}
 use Rattle.page_words.specs.Roles.{kinds_fit, traced_fit}
 use Rattle.page_words.specs.Seat.{SeatView, IsView}
-use Rattle.ephemerons.specs.BodyGraph.{AreReferences, HasType, HaveNoPairs}
-use Rattle.ephemerons.specs.InHand.{traced_in}
-use Rattle.ephemerons.specs.declared.notes.Note.{Note}
-use Rattle.ephemerons.specs.Notes.{NotesState, NotesGrow, HasPairsNoted, group_at, refusals_in, no_notes}
+use Rattle.pair_notes.specs.BodyGraph.{AreReferences, HasType, HaveNoPairs}
+use Rattle.pair_notes.specs.InHand.{traced_in}
+use Rattle.pair_notes.specs.declared.notes.Note.{Note}
+use Rattle.pair_notes.specs.Notes.{NotesState, NotesGrow, HasPairsNoted, group_at, refusals_in, no_notes}
 
 pub nothing_noted : (types : List ObjectType) (bodies : List Body) (s : NotesState) → NotesGrow types bodies s s
 nothing_noted types bodies s = record {

@@ -8,12 +8,12 @@ use Rattle.gc_graph.specs.State.{ObjectType}
 use Rattle.mark_worklist.specs.Lists.{last_count}
 use Rattle.mark_worklist.specs.Told.{told_same, told_once, told_then}
 use Rattle.marker_core.specs.declared.states.Body.{Body}
-use Rattle.ephemerons.specs.declared.notes.Note.{Note}
+use Rattle.pair_notes.specs.declared.notes.Note.{Note}
 use Rattle.marker_core.specs.declared.states.Part.TheVariants.{Read}
 use Rattle.page_words.specs.Seat.{SeatView}
-use Rattle.ephemerons.specs.BodyGraph.{HasPair, pair_offsets}
-use Rattle.ephemerons.specs.InHand.{IsAt}
-use Rattle.ephemerons.specs.Notes.{NotesState, NotesGrow, refusals_in, note_of, noted, overflowed}
+use Rattle.pair_notes.specs.BodyGraph.{HasPair, pair_offsets}
+use Rattle.pair_notes.specs.InHand.{IsAt}
+use Rattle.pair_notes.specs.Notes.{NotesState, NotesGrow, refusals_in, note_of, noted, overflowed}
 use Rattle.ephemerons.specs.Traces.{FollowPairs, note_from}
 
 pub NotesGrow-then : (types : List ObjectType) (bodies : List Body) (r s t : NotesState) → NotesGrow types bodies r s → NotesGrow types bodies s t

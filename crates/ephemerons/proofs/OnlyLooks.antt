@@ -4,8 +4,8 @@ use Rattle.std.proofs.lemmas.Bool.{true≢false}
 use Rattle.gc_graph.specs.State.{ObjectType}
 use Rattle.mark_worklist.specs.declared.marking.Marking.{Marking}
 use Rattle.page_words.specs.Seat.{SeatView, IsAlone, OnlyLooked}
-use Rattle.ephemerons.specs.Marking.{GrowsWithin}
-use Rattle.ephemerons.specs.Notes.{NotesState}
+use Rattle.pair_notes.specs.Marking.{GrowsWithin}
+use Rattle.pair_notes.specs.Notes.{NotesState}
 use Rattle.ephemerons.specs.Fixpoint.{IsGround, Looks, stage, without_looks}
 use Rattle.ephemerons.proofs.Looks.{looked_ground, looked_works}
 use Rattle.ephemerons.proofs.Stages.{Works-same}

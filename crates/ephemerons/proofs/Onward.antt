@@ -15,10 +15,10 @@ use Rattle.mark_worklist.specs.declared.marking.Marking.{Marking}
 use Rattle.marker_core.specs.declared.states.Body.{Body}
 use Rattle.marker_core.specs.Bodies.{holds}
 use Rattle.page_words.specs.Seat.{SeatView}
-use Rattle.ephemerons.specs.declared.notes.Note.{Note}
-use Rattle.ephemerons.specs.BodyGraph.{pair_offsets, word_at}
-use Rattle.ephemerons.specs.Marking.{MarksOn}
-use Rattle.ephemerons.specs.Notes.{NotesState, IsNotedIn, group_at}
+use Rattle.pair_notes.specs.declared.notes.Note.{Note}
+use Rattle.pair_notes.specs.BodyGraph.{pair_offsets, word_at}
+use Rattle.pair_notes.specs.Marking.{MarksOn}
+use Rattle.pair_notes.specs.Notes.{NotesState, IsNotedIn, group_at}
 use Rattle.ephemerons.specs.Traces.{Traces, IsWaiting, note_from}
 use Rattle.ephemerons.specs.Fixpoint.{Mode, Stage, stage, ListsMarks, IsStillHeld, with_held}
 use Rattle.ephemerons.specs.LookedAt.{IsLookedAt, LooksOnlyAt, LooksWithin, AreHoldersMarked, LooksOnward}

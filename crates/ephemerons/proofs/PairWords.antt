@@ -9,11 +9,11 @@ use Rattle.type_table.specs.Types.{kinds_of, offsets_of_kind}
 use Rattle.marker_core.specs.Bodies.{IsReference, holds}
 use Rattle.marker_core.specs.declared.states.Body.{Body}
 use Rattle.page_words.specs.Seat.{SeatView, IsView}
-use Rattle.ephemerons.specs.BodyGraph.{AreReferences, HasType, HasPair, pair_offsets, word_at}
-use Rattle.ephemerons.specs.Notes.{note_of}
+use Rattle.pair_notes.specs.BodyGraph.{AreReferences, HasType, HasPair, pair_offsets, word_at}
+use Rattle.pair_notes.specs.Notes.{note_of}
 use Rattle.ephemerons.specs.Fixpoint.{IsSettled}
-use Rattle.ephemerons.specs.Fields.{field_at_offset}
-use Rattle.ephemerons.specs.BodyLeads.{pair_within_closed}
+use Rattle.pair_notes.specs.Fields.{field_at_offset}
+use Rattle.pair_notes.specs.BodyLeads.{pair_within_closed}
 
 pub key_reference : (types : List ObjectType) (bodies : List Body) (holder word key : ℕ) → AreReferences types bodies
     → (has : HasPair types bodies holder word) → key ≡ word_at has.0 word → IsReference bodies key

@@ -7,9 +7,9 @@ use Rattle.mark_worklist.specs.Refusals.{Refusals}
 use Rattle.mark_worklist.specs.declared.marking.Marking.{Marking}
 use Rattle.marker_core.specs.Bodies.{IsPlace}
 use Rattle.page_words.specs.Seat.{SeatView}
-use Rattle.ephemerons.specs.BodyGraph.{PlacesDiffer}
-use Rattle.ephemerons.specs.Marking.{MarksOn}
-use Rattle.ephemerons.specs.Notes.{group_at, refusals_in}
+use Rattle.pair_notes.specs.BodyGraph.{PlacesDiffer}
+use Rattle.pair_notes.specs.Marking.{MarksOn}
+use Rattle.pair_notes.specs.Notes.{group_at, refusals_in}
 use Rattle.ephemerons.specs.Fixpoint.{Mode, Stage, mode_of, weight, IsGround, Works}
 use Rattle.ephemerons.proofs.Graph.{GrowsWithin-then}
 use Rattle.mark_worklist.specs.Told.{told_same, told_then, told_from}

@@ -10,12 +10,12 @@ use Rattle.mark_worklist.specs.declared.marking.Marking.{Marking}
 use Rattle.marker_core.specs.declared.states.Body.{Body}
 use Rattle.marker_core.specs.declared.states.Part.TheVariants.{Read}
 use Rattle.page_words.specs.Seat.{SeatView, IsView}
-use Rattle.ephemerons.specs.BodyGraph.{HasType, strong_offsets, pair_offsets}
-use Rattle.ephemerons.specs.Marking.{GrowsWithin, HasStrongMarked, HasTargetMarked}
-use Rattle.ephemerons.specs.InHand.{IsAt, BeginsWith, hand_over, traced_in}
+use Rattle.pair_notes.specs.BodyGraph.{HasType, strong_offsets, pair_offsets}
+use Rattle.pair_notes.specs.Marking.{GrowsWithin, HasStrongMarked, HasTargetMarked}
+use Rattle.pair_notes.specs.InHand.{IsAt, BeginsWith, hand_over, traced_in}
 use Rattle.ephemerons.specs.Fixpoint.{ListsMarks}
 use Rattle.ephemerons.proofs.Graph.{GrowsWithin-then}
-use Rattle.ephemerons.specs.HandPath.{hand_at_each}
+use Rattle.pair_notes.specs.HandPath.{hand_at_each}
 use Rattle.page_words.specs.BodyPlaces.{same_body}
 use Rattle.ephemerons.proofs.MarkSteps.{same_bodies}
 

@@ -11,9 +11,9 @@ use Rattle.type_table.specs.declared.traced.TracedWord.TheVariants.{StrongAt, Pa
 use Rattle.marker_core.specs.Bodies.{holds}
 use Rattle.marker_core.specs.declared.states.Body.{Body}
 use Rattle.page_words.specs.Seat.{SeatView, OnlyLooked}
-use Rattle.ephemerons.specs.BodyGraph.{word_at}
-use Rattle.ephemerons.specs.Marking.{heap_and_marks, HasTargetMarked}
-use Rattle.ephemerons.specs.Notes.{NotesState}
+use Rattle.pair_notes.specs.BodyGraph.{word_at}
+use Rattle.pair_notes.specs.Marking.{heap_and_marks, HasTargetMarked}
+use Rattle.pair_notes.specs.Notes.{NotesState}
 use Rattle.ephemerons.specs.Traces.{FollowPairs, IsWaiting, IsKept, IsStrongTarget, IsPairValue, Traces}
 use Rattle.ephemerons.proofs.NoteSteps.{follow_none, follow_then}
 

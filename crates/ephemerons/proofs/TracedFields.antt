@@ -19,12 +19,12 @@ use Rattle.marker_core.specs.Hands.{traced_offsets}
 use Rattle.page_words.specs.BodyPlaces.{same_body}
 use Rattle.page_words.specs.Roles.{kind_lists}
 use Rattle.page_words.specs.Seat.{SeatView, IsView}
-use Rattle.ephemerons.specs.BodyGraph.{HasType, pair_offsets}
-use Rattle.ephemerons.specs.Marking.{HasStrongMarked}
-use Rattle.ephemerons.specs.Notes.{NotesState, NotesGrow, HasPairsNoted, note_of}
-use Rattle.ephemerons.specs.InHand.{IsAtWord, IsWordTraced, hand_over, traced_in}
+use Rattle.pair_notes.specs.BodyGraph.{HasType, pair_offsets}
+use Rattle.pair_notes.specs.Marking.{HasStrongMarked}
+use Rattle.pair_notes.specs.Notes.{NotesState, NotesGrow, HasPairsNoted, note_of}
+use Rattle.pair_notes.specs.InHand.{IsAtWord, IsWordTraced, hand_over, traced_in}
 use Rattle.ephemerons.specs.Fixpoint.{ListsMarks}
-use Rattle.ephemerons.specs.HandPath.{hand_at_each, rising, told_offsets, told_length}
+use Rattle.pair_notes.specs.HandPath.{hand_at_each, rising, told_offsets, told_length}
 use Rattle.ephemerons.proofs.MarkSteps.{same_bodies}
 use Rattle.ephemerons.proofs.StrongWords.{at_strong_field, at_pair_field, all_named, target_stays}
 

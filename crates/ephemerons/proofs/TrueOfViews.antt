@@ -14,10 +14,10 @@ use Rattle.page_words.specs.BodyPlaces.{known_type, whole_body}
 use Rattle.page_words.specs.PlaceTests.{place_of_test}
 use Rattle.page_words.specs.Roles.{kind_lists, kinds_fit, word_count_is}
 use Rattle.page_words.specs.Seat.{SeatView, IsView, IsAlone}
-use Rattle.ephemerons.specs.BodyGraph.{AreReferences, pair_offsets, word_at}
-use Rattle.ephemerons.specs.Marking.{TracedNameMarked}
-use Rattle.ephemerons.specs.Fields.{field_at_offset}
-use Rattle.ephemerons.specs.BodyLeads.{role_of_offset}
+use Rattle.pair_notes.specs.BodyGraph.{AreReferences, pair_offsets, word_at}
+use Rattle.pair_notes.specs.Marking.{TracedNameMarked}
+use Rattle.pair_notes.specs.Fields.{field_at_offset}
+use Rattle.pair_notes.specs.BodyLeads.{role_of_offset}
 
 -- a reference that names a body, as a word of the body
 named_reference : (bodies : List Body) (w : ℕ) → names_body bodies w ≡ true → IsReference bodies w

@@ -16,10 +16,10 @@ use Rattle.mark_worklist.specs.Told.{told_same}
 use Rattle.mark_worklist.specs.declared.marking.Marking.{Marking}
 use Rattle.marker_core.specs.Bodies.{holds, IsPlace}
 use Rattle.page_words.specs.Seat.{SeatView, IsAlone, IsView, is_grey_at}
-use Rattle.ephemerons.specs.declared.notes.Note.{Note}
-use Rattle.ephemerons.specs.BodyGraph.{HasPair}
-use Rattle.ephemerons.specs.Notes.{NotesState, IsNotedIn, IsNote, group_at, note_of, refusals_in}
-use Rattle.ephemerons.specs.InHand.{OnlyLooks}
+use Rattle.pair_notes.specs.declared.notes.Note.{Note}
+use Rattle.pair_notes.specs.BodyGraph.{HasPair}
+use Rattle.pair_notes.specs.Notes.{NotesState, IsNotedIn, IsNote, group_at, note_of, refusals_in}
+use Rattle.pair_notes.specs.InHand.{OnlyLooks}
 use Rattle.ephemerons.specs.Traces.{Traces, note_from}
 use Rattle.ephemerons.specs.UnderWay.{IsUnderWay}
 use Rattle.ephemerons.specs.UnderWayStays.{pair_same, unshared_before}

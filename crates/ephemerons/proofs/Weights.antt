@@ -6,7 +6,7 @@ use Rattle.std.proofs.lemmas.List.Elements.{All-head, All-tail}
 use Rattle.std.proofs.lemmas.List.Sums.{sum_by-cons}
 use Rattle.marker_core.specs.Bodies.{IsPlace, holds}
 use Rattle.marker_core.specs.declared.states.Body.{Body}
-use Rattle.ephemerons.specs.BodyGraph.{PlacesDiffer}
+use Rattle.pair_notes.specs.BodyGraph.{PlacesDiffer}
 use Rattle.ephemerons.proofs.Lists.{holds_push_other}
 use Rattle.gc_graph.specs.Members.{Contains-cons_cases, pushed_is_held}
 

@@ -8,13 +8,13 @@ use Rattle.type_table.specs.Types.{kinds_of as kinds_in}
 use Rattle.mark_worklist.specs.declared.marking.Marking.{Marking}
 use Rattle.marker_core.specs.Bodies.{holds, word_in, IsPlace}
 use Rattle.page_words.specs.Seat.{SeatView, IsAlone, IsView}
-use Rattle.ephemerons.specs.declared.notes.Note.{Note}
-use Rattle.ephemerons.specs.BodyGraph.{HasPair}
-use Rattle.ephemerons.specs.Notes.{NotesState, HasPairsNoted, IsNotedIn, note_of}
+use Rattle.pair_notes.specs.declared.notes.Note.{Note}
+use Rattle.pair_notes.specs.BodyGraph.{HasPair}
+use Rattle.pair_notes.specs.Notes.{NotesState, HasPairsNoted, IsNotedIn, note_of}
 use Rattle.ephemerons.specs.UnderWay.{IsReadyToEnd, IsUnderWay}
 use Rattle.ephemerons.specs.Fixpoint.{IsAccounted, IsUnrefused}
-use Rattle.ephemerons.specs.Fields.{field_at_offset}
-use Rattle.ephemerons.specs.BodyLeads.{role_of_offset}
+use Rattle.pair_notes.specs.Fields.{field_at_offset}
+use Rattle.pair_notes.specs.BodyLeads.{role_of_offset}
 
 module _ (v : SeatView) (m : Marking) (x : NotesState) (view : IsView v) (h : IsUnderWay v m x) (alone : IsAlone v) where
   -- the pairs of traced objects

@@ -8,10 +8,10 @@ use Rattle.mark_worklist.specs.declared.marking.Marking.{Marking}
 use Rattle.marker_core.specs.Bodies.{IsPlace, holds}
 use Rattle.marker_core.specs.declared.states.Body.{Body}
 use Rattle.page_words.specs.Seat.{SeatView, IsAlone}
-use Rattle.ephemerons.specs.declared.notes.Note.{Note}
-use Rattle.ephemerons.specs.BodyGraph.{PlacesDiffer, AreReferences, pair_offsets, word_at}
-use Rattle.ephemerons.specs.Marking.{heap_and_marks, heap_alone, MarksOn, GrowsWithin, TracedNameMarked, traced_count}
-use Rattle.ephemerons.specs.Notes.{NotesState, group_at, refusals_in, IsNotedIn, IsNote, HasPairsNoted, note_of}
+use Rattle.pair_notes.specs.declared.notes.Note.{Note}
+use Rattle.pair_notes.specs.BodyGraph.{PlacesDiffer, AreReferences, pair_offsets, word_at}
+use Rattle.pair_notes.specs.Marking.{heap_and_marks, heap_alone, MarksOn, GrowsWithin, TracedNameMarked, traced_count}
+use Rattle.pair_notes.specs.Notes.{NotesState, group_at, refusals_in, IsNotedIn, IsNote, HasPairsNoted, note_of}
 
 -- how many addresses are not marked
 abbrev pub unmarked_places : SeatView → ℕ
@@ -20,11 +20,6 @@ unmarked_places v = count_by (λ p. not (holds v.marked p)) (range_with_len 0 v.
 -- how many addresses are not traced
 abbrev pub untraced_places : SeatView → ℕ
 untraced_places v = count_by (λ p. not (holds v.traced p)) (range_with_len 0 v.count)
-
--- there is a body at the place, and it has a field word at the offset
-abbrev pub HasWord : List Body → ℕ → ℕ → Type 0
-HasWord bodies place offset =
-    (b : Body) × Contains bodies b × (b.place ≡ place) × (first_field ≤ offset) × (offset - first_field < length b.fields)
 
 -- what steps leave of the owner's marking state: whether marking goes on, whether no share of the list is out, and how many
 -- shares the list has

@@ -7,7 +7,7 @@ use Rattle.mark_worklist.specs.declared.marking.Marking.{Marking}
 use Rattle.marker_core.specs.Bodies.{IsPlace, holds}
 use Rattle.page_words.specs.Seat.{SeatView, IsAlone, IsStill, OnlyLooked}
 use Rattle.ephemerons.specs.Fixpoint.{ListsMarks, IsFresh, weight_of}
-use Rattle.ephemerons.specs.Marking.{heap_alone}
+use Rattle.pair_notes.specs.Marking.{heap_alone}
 
 fresh_after : (u v w : SeatView) (m n : Marking) (p : ℕ) → ListsMarks v m w n → IsFresh u v p → IsFresh u w p
 fresh_after u v w m n p y fresh = record { place = fresh.place; unmarked = fresh.unmarked; marked = y.marked p fresh.marked }

@@ -5,9 +5,9 @@ use Rattle.object_headers.specs.Offsets.{reference_to}
 use Rattle.marker_core.specs.declared.states.Body.{Body}
 use Rattle.marker_core.specs.Bodies.{holds}
 use Rattle.page_words.specs.Seat.{SeatView}
-use Rattle.ephemerons.specs.declared.notes.Note.{Note}
-use Rattle.ephemerons.specs.BodyGraph.{pair_offsets, word_at}
-use Rattle.ephemerons.specs.Notes.{NotesState, IsNotedIn}
+use Rattle.pair_notes.specs.declared.notes.Note.{Note}
+use Rattle.pair_notes.specs.BodyGraph.{pair_offsets, word_at}
+use Rattle.pair_notes.specs.Notes.{NotesState, IsNotedIn}
 use Rattle.ephemerons.specs.Fixpoint.{Stage}
 
 -- it is the key of a pair of a marked object

@@ -6,7 +6,7 @@ use Rattle.mark_worklist.specs.declared.marking.Marking.{Marking}
 use Rattle.marker_core.specs.Bodies.{holds}
 use Rattle.marker_core.specs.declared.states.Body.{Body}
 use Rattle.page_words.specs.Seat.{SeatView}
-use Rattle.ephemerons.specs.Notes.{NotesState, IsNote}
+use Rattle.pair_notes.specs.Notes.{NotesState, IsNote}
 use Rattle.ephemerons.specs.UnderWay.{IsReadyToEnd}
 use Rattle.ephemerons.specs.Fixpoint.{IsAccounted, ListsMarks, Mode}
 use Rattle.ephemerons.specs.ListedMarks.{alone_still}

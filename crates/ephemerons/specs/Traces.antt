@@ -6,9 +6,9 @@ use Rattle.type_table.specs.declared.traced.TracedWord.TheVariants.{StrongAt, Pa
 use Rattle.marker_core.specs.Bodies.{holds}
 use Rattle.marker_core.specs.declared.states.Body.{Body}
 use Rattle.page_words.specs.Seat.{SeatView}
-use Rattle.ephemerons.specs.declared.notes.Note.{Note}
-use Rattle.ephemerons.specs.BodyGraph.{word_at}
-use Rattle.ephemerons.specs.Notes.{NotesState, note_of}
+use Rattle.pair_notes.specs.declared.notes.Note.{Note}
+use Rattle.pair_notes.specs.BodyGraph.{word_at}
+use Rattle.pair_notes.specs.Notes.{NotesState, note_of}
 
 -- the note of a pair that the hand noted: holder, and offset of the key
 abbrev pub note_from : ℕ × ℕ → Note

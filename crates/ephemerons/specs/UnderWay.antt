@@ -4,9 +4,9 @@ use Rattle.gc_graph.specs.State.{ObjectType}
 use Rattle.mark_worklist.specs.declared.marking.Marking.{Marking}
 use Rattle.marker_core.specs.Bodies.{holds}
 use Rattle.page_words.specs.Seat.{SeatView, IsAlone, IsStill}
-use Rattle.ephemerons.specs.declared.notes.Note.{Note}
-use Rattle.ephemerons.specs.BodyGraph.{HasPair}
-use Rattle.ephemerons.specs.Notes.{NotesState, IsNote, IsNotedIn, note_of}
+use Rattle.pair_notes.specs.declared.notes.Note.{Note}
+use Rattle.pair_notes.specs.BodyGraph.{HasPair}
+use Rattle.pair_notes.specs.Notes.{NotesState, IsNote, IsNotedIn, note_of}
 use Rattle.ephemerons.specs.Traces.{note_from}
 use Rattle.ephemerons.specs.Fixpoint.{IsAccounted, IsUnrefused}
 

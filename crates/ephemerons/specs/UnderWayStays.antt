@@ -6,9 +6,9 @@ use Rattle.gc_graph.specs.State.{ObjectType}
 use Rattle.mark_worklist.specs.declared.marking.Marking.{Marking}
 use Rattle.marker_core.specs.Bodies.{holds}
 use Rattle.page_words.specs.Seat.{SeatView, IsStill}
-use Rattle.ephemerons.specs.declared.notes.Note.{Note}
-use Rattle.ephemerons.specs.BodyGraph.{HasPair}
-use Rattle.ephemerons.specs.Notes.{NotesState}
+use Rattle.pair_notes.specs.declared.notes.Note.{Note}
+use Rattle.pair_notes.specs.BodyGraph.{HasPair}
+use Rattle.pair_notes.specs.Notes.{NotesState}
 use Rattle.ephemerons.specs.UnderWay.{IsUnderWay, ListsGrey}
 use Rattle.ephemerons.specs.Fixpoint.{ListsMarks, Mode, mode_of}
 use Rattle.ephemerons.specs.ListedMarks.{still_yet}

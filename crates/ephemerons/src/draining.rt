@@ -1,12 +1,12 @@
 // Draining: what is listed is traced, until the list is empty.
 
 ghost use Rattle.std.specs.Prelude.{◌≡◌, ◌<◌, true, false, [], None};
-ghost use Rattle.ephemerons.specs.BodyGraph.{HaveNoPairs};
+ghost use Rattle.pair_notes.specs.BodyGraph.{HaveNoPairs};
 ghost use Rattle.ephemerons.specs.Fixpoint.{IsGround, Works, stage, weight};
 ghost use Rattle.ephemerons.specs.LookedAt.{LooksOnward};
 
 use crate::marks::next_listed;
-use crate::notes::Pairs;
+use pair_notes::Pairs;
 use crate::settling::settle_under;
 use crate::tracing::{trace_grey, trace_pairless};
 use mark_worklist::Marking;

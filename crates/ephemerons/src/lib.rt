@@ -30,7 +30,6 @@
 mod closing;
 mod draining;
 mod marks;
-mod notes;
 mod pair_fields;
 mod settling;
 mod stepping;
@@ -40,6 +39,5 @@ mod walking;
 
 pub use closing::fixpoint;
 pub use marks::mark;
-pub use notes::{Note, Pairs};
 pub use stepping::trace_listed;
 pub use tracing::{claim, trace};

@@ -10,11 +10,12 @@ ghost use Rattle.marker_core.specs.Bodies.{holds};
 ghost use Rattle.marker_core.specs.Hands.{hand_after_mark, each_hand};
 ghost use Rattle.page_words.specs.Roles.{kind_lists};
 ghost use Rattle.page_words.specs.Seat.{OnlyLooked};
-ghost use Rattle.ephemerons.specs.BodyGraph.{HasType, word_at};
-ghost use Rattle.ephemerons.specs.Marking.{heap_and_marks};
-ghost use Rattle.ephemerons.specs.InHand.{MayMark};
+ghost use Rattle.pair_notes.specs.BodyGraph.{HasType, word_at};
+ghost use Rattle.pair_notes.specs.Marking.{heap_and_marks};
+ghost use Rattle.pair_notes.specs.InHand.{MayMark};
 ghost use Rattle.ephemerons.specs.LookedAt.{LooksOnlyAt};
-ghost use Rattle.ephemerons.specs.Fixpoint.{ListsMarks, IsListed, HasWord, weight_of};
+ghost use Rattle.ephemerons.specs.Fixpoint.{ListsMarks, IsListed, weight_of};
+ghost use Rattle.pair_notes.specs.BodyGraph.{HasWord};
 ghost use Rattle.ephemerons.specs.Fixpoint.{IsStillHeld, with_held};
 
 use mark_worklist::Marking;

@@ -3,14 +3,14 @@
 ghost use Rattle.std.specs.Prelude.{◌≡◌, ℕ, ◌<◌, true, false, Contains, None, length};
 ghost use Rattle.std.specs.Prelude.{slice_index_or};
 ghost use Rattle.marker_core.specs.Bodies.{IsPlace, holds};
-ghost use Rattle.ephemerons.specs.BodyGraph.{HasPair};
-ghost use Rattle.ephemerons.specs.declared.notes.Note.{Note};
-ghost use Rattle.ephemerons.specs.Notes.{IsNote, IsNotedIn, group_at, note_at, note_of};
+ghost use Rattle.pair_notes.specs.BodyGraph.{HasPair};
+ghost use Rattle.pair_notes.specs.declared.notes.Note.{Note};
+ghost use Rattle.pair_notes.specs.Notes.{IsNote, IsNotedIn, group_at, note_at, note_of};
 ghost use Rattle.ephemerons.specs.Fixpoint.{IsGround, IsSettled, Looks, Works, stage};
 ghost use Rattle.ephemerons.specs.LookedAt.{LooksOnward};
 
 use crate::marks::{is_marked, mark_reference, names_marked, word_of};
-use crate::notes::{Note, Pairs};
+use pair_notes::{Note, Pairs};
 use crate::tracing::trace_grey;
 use mark_worklist::Marking;
 use page_words::{Bodywords, MutatorSeat};

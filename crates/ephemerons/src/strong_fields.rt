@@ -8,11 +8,12 @@ ghost use Rattle.object_headers.specs.Offsets.{reference_to};
 ghost use Rattle.marker_core.specs.Bodies.{holds};
 ghost use Rattle.marker_core.specs.declared.states.Body.{Body};
 ghost use Rattle.marker_core.specs.declared.states.Part.TheVariants.{Read};
-ghost use Rattle.ephemerons.specs.BodyGraph.{HasType, HaveNoPairs, strong_offsets, word_at};
-ghost use Rattle.ephemerons.specs.Marking.{GrowsWithin, HasStrongMarked, HasTargetMarked};
-ghost use Rattle.ephemerons.specs.InHand.{IsTracing, IsPast, IsAt, IsAtTarget};
-ghost use Rattle.ephemerons.specs.InHand.{hand_over, traced_in, moved_on, BeginsWith};
-ghost use Rattle.ephemerons.specs.Fixpoint.{ListsMarks, HasWord, with_held};
+ghost use Rattle.pair_notes.specs.BodyGraph.{HasType, HaveNoPairs, strong_offsets, word_at};
+ghost use Rattle.pair_notes.specs.Marking.{GrowsWithin, HasStrongMarked, HasTargetMarked};
+ghost use Rattle.pair_notes.specs.InHand.{IsTracing, IsPast, IsAt, IsAtTarget};
+ghost use Rattle.pair_notes.specs.InHand.{hand_over, traced_in, moved_on, BeginsWith};
+ghost use Rattle.ephemerons.specs.Fixpoint.{ListsMarks, with_held};
+ghost use Rattle.pair_notes.specs.BodyGraph.{HasWord};
 
 use crate::marks::{list_held, mark_named};
 use mark_worklist::Marking;

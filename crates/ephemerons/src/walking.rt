@@ -2,15 +2,15 @@
 
 ghost use Rattle.std.specs.Prelude.{◌≡◌, ℕ, ◌<◌, true, false, [], Contains, None, Some};
 ghost use Rattle.marker_core.specs.Bodies.{IsPlace};
-ghost use Rattle.ephemerons.specs.BodyGraph.{HasPair};
-ghost use Rattle.ephemerons.specs.Marking.{IsOver};
-ghost use Rattle.ephemerons.specs.Notes.{note_of};
+ghost use Rattle.pair_notes.specs.BodyGraph.{HasPair};
+ghost use Rattle.pair_notes.specs.Marking.{IsOver};
+ghost use Rattle.pair_notes.specs.Notes.{note_of};
 ghost use Rattle.ephemerons.specs.Fixpoint.{IsGround, IsSettled, IsSettledAt, Looks};
 ghost use Rattle.ephemerons.specs.Fixpoint.{Works, stage, weight};
 
 use crate::draining::drain;
 use crate::marks::type_of;
-use crate::notes::Pairs;
+use pair_notes::Pairs;
 use crate::settling::settle_pair;
 use crate::tracing::trace_grey;
 use mark_worklist::Marking;

@@ -20,7 +20,7 @@ use Rattle.cross_thread_region.specs.declared.chronicle.PlacedEntry.{PlacedEntry
 use Rattle.cross_thread_region.specs.Histories.{entries_of, slots_of, place_if, is_started, IsPlacedBy}
 use Rattle.cross_thread_region.specs.WeakReads.{read_from}
 use Rattle.nodes_in_words.specs.Nodes.{place_of}
-use Rattle.heap_handles.specs.Region.{IsHandled}
+use Rattle.heap_roots.specs.Region.{IsHandled}
 use Rattle.heap_cycle.specs.declared.parts.Parts.{Parts}
 use Rattle.heap_cycle.specs.declared.shared.Shared.{Shared}
 use Rattle.heap_cycle.specs.Parts.{setup_of, state_of, IsReady}

@@ -27,10 +27,10 @@ use Rattle.nodes_in_words.specs.WeakNodes.{life-after, place-after, length-after
 use Rattle.nodes_in_words.specs.KeptNodes.{refers_within}
 use Rattle.cross_thread_region.specs.declared.chronicle.PlacedEntry.{PlacedEntry}
 use Rattle.cross_thread_region.specs.Histories.{slots_of}
-use Rattle.heap_handles.specs.Handles.{HandlesView}
-use Rattle.heap_handles.specs.Region.{HasPauseEntry}
-use Rattle.heap_handles.specs.Stack.{HoldsWords, is_precise}
-use Rattle.heap_handles.specs.StackWords.{words_held}
+use Rattle.heap_roots.specs.Handles.{HandlesView}
+use Rattle.heap_roots.specs.Region.{HasPauseEntry}
+use Rattle.heap_roots.specs.Stack.{HoldsWords, is_precise}
+use Rattle.heap_roots.specs.StackWords.{words_held}
 use Rattle.heap_objects.specs.declared.pausing.Finished.{Finished}
 use Rattle.heap_objects.specs.Marks.{IsAtRest, HasMarks}
 use Rattle.heap_objects.specs.Objects.{ObjectsView, setup_of_objects, refused_of, StaysAt}

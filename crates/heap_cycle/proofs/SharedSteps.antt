@@ -19,7 +19,7 @@ use Rattle.cross_thread_region.specs.PlacedNodes.{placed_next}
 use Rattle.heap_objects.specs.SweptNodes.{place-finalised}
 use Rattle.nodes_in_words.specs.Nodes.{place_of}
 use Rattle.heap_cycle.specs.declared.parts.Parts.{Parts}
-use Rattle.heap_handles.specs.Region.{IsHandled}
+use Rattle.heap_roots.specs.Region.{IsHandled}
 use Rattle.gc_graph.specs.Valid.{AreLive, region_targets}
 use Rattle.heap_cycle.specs.Parts.{IsReady}
 use Rattle.heap_cycle.specs.Region.{HasRegion, made}

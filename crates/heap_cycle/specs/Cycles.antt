@@ -13,7 +13,7 @@ use Rattle.cross_thread_region.specs.Histories.{strong_place}
 use Rattle.gc_graph.specs.CycleSteps.{IsPause, IsStart}
 use Rattle.mark_worklist.specs.Lists.{last_count}
 use Rattle.marker_core.specs.Bodies.{holds}
-use Rattle.heap_handles.specs.Region.{HasPauseEntry}
+use Rattle.heap_roots.specs.Region.{HasPauseEntry}
 use Rattle.heap_objects.specs.Refused.{RefusalsTold, IsToldTruly}
 use Rattle.heap_objects.specs.declared.pausing.Finished.{Finished}
 use Rattle.heap_objects.specs.Crews.{IsIdleOrLong}

@@ -10,7 +10,7 @@ use Rattle.sweeper.specs.Sweeping.{cursor_at}
 use Rattle.nodes_in_words.specs.Places.{places_of}
 use Rattle.heap_cycle.specs.declared.parts.Parts.{Parts}
 use Rattle.heap_objects.specs.Objects.{HaveCallbacks, setup_of_objects}
-use Rattle.heap_handles.specs.Stack.{HoldsWords}
+use Rattle.heap_roots.specs.Stack.{HoldsWords}
 use Rattle.heap_cycle.specs.Views.{IsSweepOf, IsPlaced}
 use Rattle.heap_cycle.specs.Walks.{IsWalkTold}
 use Rattle.heap_objects.specs.Marks.{HasMarks}

@@ -20,9 +20,9 @@ use Rattle.heap_cycle.specs.Views.{CycleView, IsPlaced, IsSweepOf}
 use Rattle.heap_objects.specs.Marking.{GreyView}
 use Rattle.heap_objects.specs.Marks.{HasMarking, HasMarks}
 use Rattle.heap_cycle.specs.Parts.{setup_of, state_of, counted, AreTied, IsManned, IsReady}
-use Rattle.heap_handles.specs.Handles.{put_in, copied_in, weakened_in, popped_in}
+use Rattle.heap_roots.specs.Handles.{put_in, copied_in, weakened_in, popped_in}
 use Rattle.nodes_in_words.specs.KeptNodes.{slots_live}
-use Rattle.heap_handles.specs.StackWords.{words_held, words_popped}
+use Rattle.heap_roots.specs.StackWords.{words_held, words_popped}
 
 pub valid_nodes : (s : Parts) → IsReady s → AreOfValid (setup_of s) s.objects.nodes
 valid_nodes s ready = (state_of s, ready.valid, refl)

@@ -21,7 +21,7 @@ use crate::states;
 use crate::sweeps::end_sweep;
 use crate::taking::take_others;
 use gc_graph::NoMemory;
-use heap_handles::RegionHandles;
+use heap_roots::RegionHandles;
 
 /// Begins a cycle: takes room for marking, makes the start entry, ends an open sweep, takes what
 /// threads have done, and then marking begins. Want of memory is free.

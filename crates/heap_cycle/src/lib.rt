@@ -9,7 +9,7 @@
 //! over `beginning` and `crew` (the markers), `reads` (weak reads), `Shared` (the region, which stands beside the parts since
 //! threads share it), `region` (`export`, `import`), `threads` and `taking` (what they did),
 //! `sweeps` and `cycle_sweeps`, `placement`, and `Outcome` (the lines of the last command). For
-//! contracts alone: `states`. Next down are `heap_handles` and `heap_objects`.
+//! contracts alone: `states`. Next down are `heap_roots` and `heap_objects`.
 //!
 //! What is proved: the state of the graph is put together from what each part holds of it. Start,
 //! step and pause of a cycle, a whole collection, a weak read, a call on the region and a sweep are

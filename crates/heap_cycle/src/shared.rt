@@ -10,7 +10,7 @@ ghost use Rattle.heap_cycle.specs.Shared.{taken_of, told_lines, no_shared, IsTol
 use cross_thread_region::Histories;
 use gc_graph::{Line, NoMemory};
 use ghost_values::GhostValue;
-use heap_handles::RegionHandles;
+use heap_roots::RegionHandles;
 use std::alloc::Global;
 use thread_queues::ThreadQueues;
 

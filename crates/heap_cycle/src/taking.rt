@@ -5,7 +5,7 @@ ghost use Rattle.gc_graph.specs.Outcomes.{took};
 ghost use Rattle.gc_graph.specs.State.{State};
 ghost use Rattle.gc_graph.specs.Valid.{IsValid};
 ghost use Rattle.cross_thread_region.specs.Histories.{slots_of};
-ghost use Rattle.heap_handles.specs.Region.{IsHandled};
+ghost use Rattle.heap_roots.specs.Region.{IsHandled};
 ghost use Rattle.heap_objects.specs.Marks.{HasMarks};
 ghost use Rattle.heap_objects.specs.Objects.{setup_of_objects};
 ghost use Rattle.heap_cycle.specs.Parts.{setup_of, state_of, IsReady};
@@ -14,7 +14,7 @@ ghost use Rattle.nodes_in_words.specs.Nodes.{AreOfValid};
 
 use crate::parts::Parts;
 use crate::states;
-use heap_handles::RegionHandles;
+use heap_roots::RegionHandles;
 use heap_objects::Objects;
 
 /// Takes these entries of the history, which are of threads: while marking goes on, what they read

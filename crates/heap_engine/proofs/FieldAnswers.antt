@@ -21,7 +21,7 @@ use Rattle.heap_objects.specs.Fields.{allows, field_of, IsFieldOf, IsFieldAt, va
 use Rattle.heap_engine.specs.FieldSteps.{StepWrite, HasRead}
 use Rattle.heap_engine.proofs.SlotReads.{live_names, slot_read}
 use Rattle.heap_objects.specs.Objects.{target_in, written_in, ObjectsView}
-use Rattle.heap_handles.specs.Handles.{slot_word, put_in, HandlesView}
+use Rattle.heap_roots.specs.Handles.{slot_word, put_in, HandlesView}
 use Rattle.heap_cycle.specs.declared.parts.Parts.{Parts}
 use Rattle.heap_cycle.specs.Parts.{setup_of, state_of, IsReady}
 use Rattle.heap_objects.specs.FieldReads.{holds_reference}

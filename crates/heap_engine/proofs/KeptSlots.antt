@@ -25,7 +25,7 @@ use Rattle.heap_objects.specs.declared.field.Wanted.TheVariants.{References, Num
 use Rattle.heap_objects.specs.Fields.{allows}
 use Rattle.heap_objects.specs.Marks.{HasMarks}
 use Rattle.heap_objects.specs.Objects.{ObjectsView}
-use Rattle.heap_handles.specs.Handles.{slot_word, slot_part}
+use Rattle.heap_roots.specs.Handles.{slot_word, slot_part}
 use Rattle.heap_cycle.specs.declared.parts.Parts.{Parts}
 use Rattle.heap_cycle.specs.Parts.{state_of, IsReady}
 use Rattle.heap_cycle.specs.Ties.{slot_place, slot_live}

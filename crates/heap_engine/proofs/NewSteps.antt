@@ -17,9 +17,9 @@ use Rattle.callback_table.specs.Registry.{registrations_of, registered}
 use Rattle.sweeper.specs.Sweeping.{cursor_at}
 use Rattle.nodes_in_words.specs.Nodes.{place_of}
 use Rattle.nodes_in_words.specs.Places.{places_of}
-use Rattle.heap_handles.specs.Stack.{HoldsWords}
+use Rattle.heap_roots.specs.Stack.{HoldsWords}
 use Rattle.heap_objects.specs.Objects.{with_made, ObjectsView, setup_of_objects, StaysAt}
-use Rattle.heap_handles.specs.Handles.{put_in, HandlesView}
+use Rattle.heap_roots.specs.Handles.{put_in, HandlesView}
 use Rattle.heap_cycle.specs.declared.parts.Parts.{Parts}
 use Rattle.heap_cycle.specs.Views.{CycleView, IsPlaced, IsSweepOf}
 use Rattle.heap_objects.specs.Marking.{GreyView}
@@ -29,7 +29,7 @@ use Rattle.nodes_in_words.specs.KeptNodes.{slots_live}
 use Rattle.heap_cycle.specs.Registrations.{registrations_join, live_entries}
 use Rattle.heap_objects.specs.NewNodes.{place-old, stays-old, node-new}
 use Rattle.nodes_in_words.specs.NodePlaces.{live_is_there}
-use Rattle.heap_handles.specs.StackWords.{words_held}
+use Rattle.heap_roots.specs.StackWords.{words_held}
 use Rattle.gc_graph.specs.NodeNumbers.{there_below}
 
 -- the cycle once the new node is registered, and may be kept where marking goes on

@@ -16,7 +16,7 @@ use Rattle.heap_objects.specs.Fields.{part_in, IsLiveReference, ArePartsOf}
 use Rattle.heap_engine.specs.FieldSteps.{StepPart, StepWholePair, HasRead}
 use Rattle.heap_engine.proofs.SlotReads.{live_names, slot_read}
 use Rattle.heap_objects.specs.Objects.{target_in, paired_in, ObjectsView}
-use Rattle.heap_handles.specs.Handles.{put_in, HandlesView, slot_part}
+use Rattle.heap_roots.specs.Handles.{put_in, HandlesView, slot_part}
 use Rattle.heap_cycle.specs.declared.parts.Parts.{Parts}
 use Rattle.heap_cycle.specs.Parts.{setup_of, state_of, IsReady}
 use Rattle.heap_engine.proofs.FieldAnswers.{Found, field_kind, asked}

@@ -15,7 +15,7 @@ use Rattle.nodes_in_words.specs.Nodes.{place_of}
 use Rattle.heap_objects.specs.Fields.{IsLiveReference}
 use Rattle.heap_objects.specs.Objects.{target_in, told_of, IsLiveAt}
 use Rattle.heap_objects.specs.Refused.{RefusalsTold}
-use Rattle.heap_handles.specs.Handles.{put_in, HandlesView}
+use Rattle.heap_roots.specs.Handles.{put_in, HandlesView}
 use Rattle.heap_cycle.specs.declared.parts.Parts.{Parts}
 use Rattle.heap_cycle.specs.Parts.{setup_of, state_of, counted, AreTied, IsFrame}
 use Rattle.heap_cycle.specs.Ties.{manned_grey, tied_slot}

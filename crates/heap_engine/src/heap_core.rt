@@ -25,7 +25,7 @@ use cross_thread_region::Histories;
 use gc_graph::{Command, Line, NoMemory};
 use ghost_values::GhostValue;
 use heap_cycle::{Cycle, Outcome, Parts, Shared, States};
-use heap_handles::Handles;
+use heap_roots::Handles;
 use heap_objects::Objects;
 use marker_crew::Gate;
 use std::alloc::Global;

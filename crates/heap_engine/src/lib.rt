@@ -8,7 +8,7 @@
 //! the commands that touch the region (starts, pauses, and those in `shared` and `threads`), and
 //! `alone` the parts to the others (`creating`, `fields`, `pairs`, `slots`, `stacking`, `totals`, and
 //! in `heap_cycle` steps and sweeps); both end the outcome. `going` is for contracts alone. Next down
-//! are `heap_cycle`, `heap_handles` and `heap_objects`.
+//! are `heap_cycle`, `heap_roots` and `heap_objects`.
 //!
 //! What is proved: `act` is a step from the heap's own state to its new state, for every command
 //! that is allowed and stands in its section, and its lines are those of the step; the pieces that

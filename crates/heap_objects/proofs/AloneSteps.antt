@@ -10,13 +10,13 @@ use Rattle.mark_worklist.specs.Refusals.{TellsRefused, refusals_of}
 use Rattle.mark_worklist.specs.declared.marking.Marking.{Marking}
 use Rattle.marker_core.specs.declared.states.Body.{Body}
 use Rattle.page_words.specs.Seat.{SeatView}
-use Rattle.stealing_lists.specs.Shares.{ShareState}
-use Rattle.ephemerons.specs.declared.notes.Note.{Note}
-use Rattle.ephemerons.specs.BodyGraph.{HasPair}
-use Rattle.ephemerons.specs.Fields.{field_at_offset}
+use Rattle.mark_worklist.specs.Shares.{ShareState}
+use Rattle.pair_notes.specs.declared.notes.Note.{Note}
+use Rattle.pair_notes.specs.BodyGraph.{HasPair}
+use Rattle.pair_notes.specs.Fields.{field_at_offset}
 use Rattle.ephemerons.specs.Fixpoint.{Mode, mode_of}
-use Rattle.ephemerons.specs.Marking.{MarksOn, traced_count}
-use Rattle.ephemerons.specs.Notes.{NotesState, no_notes, group_at, refusals_in}
+use Rattle.pair_notes.specs.Marking.{MarksOn, traced_count}
+use Rattle.pair_notes.specs.Notes.{NotesState, no_notes, group_at, refusals_in}
 use Rattle.ephemerons.specs.UnderWay.{IsUnderWay}
 use Rattle.marker_crew.specs.Crews.{Marker}
 use Rattle.heap_objects.specs.declared.marking.Grey.{Grey}

@@ -19,16 +19,16 @@ use Rattle.marker_core.specs.Bodies.{IsPlace, holds, word_in}
 use Rattle.marker_core.specs.Views.{times as places_at}
 use Rattle.page_words.specs.Markers.{MarkerSeatView, new_marker}
 use Rattle.page_words.specs.Seat.{SeatView, IsView}
-use Rattle.stealing_lists.specs.Families.{at, nobody, IsFresh}
-use Rattle.stealing_lists.specs.Joining.{IsTaken, put_by, taken_by, refused_by}
-use Rattle.stealing_lists.specs.Shares.{ShareState, put_of, taken_of, times}
-use Rattle.ephemerons.specs.declared.notes.Note.{Note}
-use Rattle.ephemerons.specs.BodyGraph.{HasPair, PlacesDiffer}
-use Rattle.ephemerons.specs.BodyLeads.{role_of_offset}
-use Rattle.ephemerons.specs.Fields.{field_at_offset}
+use Rattle.mark_worklist.specs.Families.{at, nobody, IsFresh}
+use Rattle.mark_worklist.specs.Joining.{IsTaken, put_by, taken_by, refused_by}
+use Rattle.mark_worklist.specs.Shares.{ShareState, put_of, taken_of, times}
+use Rattle.pair_notes.specs.declared.notes.Note.{Note}
+use Rattle.pair_notes.specs.BodyGraph.{HasPair, PlacesDiffer}
+use Rattle.pair_notes.specs.BodyLeads.{role_of_offset}
+use Rattle.pair_notes.specs.Fields.{field_at_offset}
 use Rattle.ephemerons.specs.Fixpoint.{IsUnrefused}
-use Rattle.ephemerons.specs.Marking.{traced_count}
-use Rattle.ephemerons.specs.Notes.{NotesState, no_notes, note_of, group_at, IsNote, IsNotedIn, HasPairsNoted, refusals_in}
+use Rattle.pair_notes.specs.Marking.{traced_count}
+use Rattle.pair_notes.specs.Notes.{NotesState, no_notes, note_of, group_at, IsNote, IsNotedIn, HasPairsNoted, refusals_in}
 use Rattle.ephemerons.specs.UnderWay.{IsReadyToEnd, IsUnderWay}
 use Rattle.marker_crew.specs.Crews.{Marker, Ending, HasDrained, joined_with_all}
 use Rattle.marker_crew.specs.Drains.{nothing_yet}

@@ -12,10 +12,10 @@ use Rattle.mark_worklist.specs.Told.{told_then}
 use Rattle.mark_worklist.specs.declared.marking.Marking.{Marking}
 use Rattle.page_words.specs.Markers.{MarkerSeatView, new_marker}
 use Rattle.page_words.specs.Seat.{SeatView}
-use Rattle.stealing_lists.specs.Families.{at, nobody}
-use Rattle.stealing_lists.specs.Joining.{AreFresh}
-use Rattle.stealing_lists.specs.Shares.{ShareState, put_of, taken_of}
-use Rattle.ephemerons.specs.Notes.{NotesState, group_at}
+use Rattle.mark_worklist.specs.Families.{at, nobody}
+use Rattle.mark_worklist.specs.Joining.{AreFresh}
+use Rattle.mark_worklist.specs.Shares.{ShareState, put_of, taken_of}
+use Rattle.pair_notes.specs.Notes.{NotesState, group_at}
 use Rattle.ephemerons.specs.UnderWay.{IsUnderWay}
 use Rattle.marker_crew.specs.Crews.{CrewState, Marker, begun_with, started_with}
 use Rattle.heap_objects.specs.declared.marking.Grey.{Grey}

@@ -6,7 +6,7 @@ use Rattle.mark_worklist.specs.declared.marking.Marking.{Marking}
 use Rattle.marker_core.specs.Bodies.{holds}
 use Rattle.page_words.specs.Markers.{new_marker}
 use Rattle.page_words.specs.Seat.{SeatView, unlooked}
-use Rattle.stealing_lists.specs.Kept.{list-then}
+use Rattle.mark_worklist.specs.Kept.{list-then}
 use Rattle.heap_objects.specs.Marking.{GreyView}
 use Rattle.heap_objects.specs.Marks.{HasCrew, IsNew, IsOut}
 use Rattle.heap_objects.specs.Crews.{PutsOn}

@@ -17,15 +17,15 @@ use Rattle.marker_core.specs.Tracing.{IsPairAt}
 use Rattle.page_words.specs.Roles.{kind_lists}
 use Rattle.page_words.specs.Markers.{MarkerSeatView, lent_from, new_marker, joined_with}
 use Rattle.page_words.specs.Seat.{SeatView, IsStill, IsView}
-use Rattle.stealing_lists.specs.Families.{at, nobody}
-use Rattle.stealing_lists.specs.Joining.{IsSameList}
-use Rattle.stealing_lists.specs.Kept.{list-then}
-use Rattle.stealing_lists.specs.Shares.{ShareState, IsSameShare, put_of, taken_of}
-use Rattle.ephemerons.specs.declared.notes.Note.{Note}
-use Rattle.ephemerons.specs.BodyGraph.{HasPair, PlacesDiffer}
-use Rattle.ephemerons.specs.BodyLeads.{offset_told}
-use Rattle.ephemerons.specs.Marking.{traced_count}
-use Rattle.ephemerons.specs.Notes.{NotesState, note_of, refusals_in}
+use Rattle.mark_worklist.specs.Families.{at, nobody}
+use Rattle.mark_worklist.specs.Joining.{IsSameList}
+use Rattle.mark_worklist.specs.Kept.{list-then}
+use Rattle.mark_worklist.specs.Shares.{ShareState, IsSameShare, put_of, taken_of}
+use Rattle.pair_notes.specs.declared.notes.Note.{Note}
+use Rattle.pair_notes.specs.BodyGraph.{HasPair, PlacesDiffer}
+use Rattle.pair_notes.specs.BodyLeads.{offset_told}
+use Rattle.pair_notes.specs.Marking.{traced_count}
+use Rattle.pair_notes.specs.Notes.{NotesState, note_of, refusals_in}
 use Rattle.ephemerons.specs.UnderWay.{IsUnderWay}
 use Rattle.marker_crew.specs.Crews.{Marker}
 use Rattle.marker_crew.specs.declared.draining.Drained.{Drained}

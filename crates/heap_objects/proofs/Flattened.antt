@@ -6,7 +6,7 @@ use Rattle.std.proofs.lemmas.List.Concat.{flat_map-cons}
 use Rattle.std.proofs.lemmas.List.Elements.{Contains-append_cases, Contains-append_left, Contains-append_right}
 use Rattle.std.proofs.lemmas.List.Sums.{sum_by-cons}
 use Rattle.gc_graph.specs.Members.{Contains-cons, Contains-cons_cases, Contains-head}
-use Rattle.stealing_lists.specs.Shares.{times}
+use Rattle.mark_worklist.specs.Shares.{times}
 
 module _ {X A : Type 0} (f : X → List A) where
   -- it stands in one of them

@@ -7,10 +7,10 @@ use Rattle.std.proofs.lemmas.List.Elements.{All-head, All-tail}
 use Rattle.std.proofs.lemmas.List.Sums.{sum_by-cons}
 use Rattle.page_words.specs.Markers.{MarkerSeatView, joined_with}
 use Rattle.page_words.specs.Seat.{SeatView}
-use Rattle.stealing_lists.specs.Ends.{OtherState}
-use Rattle.stealing_lists.specs.Families.{at, IsFresh}
-use Rattle.stealing_lists.specs.Joining.{refused_by}
-use Rattle.stealing_lists.specs.Shares.{ShareState, taken_of}
+use Rattle.mark_worklist.specs.Ends.{OtherState}
+use Rattle.mark_worklist.specs.Families.{at, IsFresh}
+use Rattle.mark_worklist.specs.Joining.{refused_by}
+use Rattle.mark_worklist.specs.Shares.{ShareState, taken_of}
 use Rattle.marker_crew.specs.Crews.{joined_with_all}
 
 -- ---- the seats

@@ -12,11 +12,11 @@ use Rattle.mark_worklist.specs.Refusals.{TellsRefused, refusals_of}
 use Rattle.marker_core.specs.declared.states.Body.{Body}
 use Rattle.marker_core.specs.Bodies.{holds}
 use Rattle.marker_core.specs.Laws.{IsLeastOver}
-use Rattle.stealing_lists.specs.Shares.{ShareState}
+use Rattle.mark_worklist.specs.Shares.{ShareState}
 use Rattle.page_words.specs.Roles.{kind_lists}
 use Rattle.page_words.specs.Seat.{SeatView, IsView, IsQuiet, IsAlone, begun}
 use Rattle.ephemerons.specs.Fixpoint.{ListsMarks, Mode}
-use Rattle.ephemerons.specs.Marking.{traced_count}
+use Rattle.pair_notes.specs.Marking.{traced_count}
 use Rattle.ephemerons.specs.UnderWay.{IsUnderWay}
 use Rattle.ephemerons.specs.UnderWayStays.{under_way_marked}
 use Rattle.nodes_in_words.specs.AmongNodes.{IsAmong}

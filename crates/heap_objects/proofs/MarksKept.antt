@@ -14,8 +14,8 @@ use Rattle.mark_worklist.specs.declared.marking.Marking.{Marking as MarkingState
 use Rattle.page_words.specs.Seat.{SeatView, IsView, IsQuiet, rewritten}
 use Rattle.page_words.specs.WrittenBodies.{same_place}
 use Rattle.page_space.specs.Occupying.{Occupies}
-use Rattle.ephemerons.specs.Marking.{traced_count}
-use Rattle.ephemerons.specs.Notes.{NotesState}
+use Rattle.pair_notes.specs.Marking.{traced_count}
+use Rattle.pair_notes.specs.Notes.{NotesState}
 use Rattle.ephemerons.specs.UnderWay.{IsUnderWay}
 use Rattle.nodes_in_words.specs.Nodes.{place_of}
 use Rattle.heap_objects.specs.Finalising.{IsSweptTo}

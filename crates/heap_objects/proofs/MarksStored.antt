@@ -10,7 +10,7 @@ use Rattle.mark_worklist.specs.Told.{told_then}
 use Rattle.marker_core.specs.declared.states.Body.{Body}
 use Rattle.marker_core.specs.Bodies.{holds}
 use Rattle.page_words.specs.Seat.{SeatView, IsQuiet, unlooked}
-use Rattle.ephemerons.specs.Marking.{traced_count}
+use Rattle.pair_notes.specs.Marking.{traced_count}
 use Rattle.member_fields.specs.Barrier.{HasBarrier}
 use Rattle.nodes_in_words.specs.Nodes.{place_of, IsHeld}
 use Rattle.heap_objects.specs.Finalising.{IsSweptTo}

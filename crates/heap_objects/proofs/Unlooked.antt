@@ -3,7 +3,7 @@ use Rattle.std.proofs.Common.{ℕ, List, Bool}
 use Rattle.gc_graph.specs.State.{Node}
 use Rattle.mark_worklist.specs.declared.marking.Marking.{Marking}
 use Rattle.page_words.specs.Seat.{SeatView, IsStill, IsQuiet, unlooked}
-use Rattle.ephemerons.specs.Notes.{NotesState}
+use Rattle.pair_notes.specs.Notes.{NotesState}
 use Rattle.ephemerons.specs.UnderWay.{IsUnderWay}
 use Rattle.sweeper.specs.Sweeping.{IsClearBelow}
 use Rattle.heap_objects.specs.Finalising.{IsSweptTo}

@@ -11,10 +11,10 @@ use Rattle.mark_worklist.specs.OneMore.{still_there, was_there, is_there}
 use Rattle.mark_worklist.specs.declared.marking.Marking.{Marking}
 use Rattle.mark_worklist.specs.Lists.{ListState, IsPushed, with_own, refused_once, one_counted}
 use Rattle.mark_worklist.specs.Refusals.{PushesOrTells}
-use Rattle.stealing_lists.specs.Families.{at, nobody}
-use Rattle.stealing_lists.specs.Joining.{IsSameList}
-use Rattle.stealing_lists.specs.Kept.{same-list, list-then}
-use Rattle.stealing_lists.specs.Shares.{ShareState, IsSameShare, put_of, taken_of, pushed, refused_once as refused_at}
+use Rattle.mark_worklist.specs.Families.{at, nobody}
+use Rattle.mark_worklist.specs.Joining.{IsSameList}
+use Rattle.mark_worklist.specs.Kept.{same-list, list-then}
+use Rattle.mark_worklist.specs.Shares.{ShareState, IsSameShare, put_of, taken_of, pushed, refused_once as refused_at}
 use Rattle.marker_core.specs.declared.states.Body.{Body}
 use Rattle.marker_core.specs.Bodies.{holds, place_named, with_word}
 use Rattle.marker_core.specs.Hands.{each_hand, hand_after_mark}
@@ -23,8 +23,8 @@ use Rattle.page_words.specs.Roles.{kind_lists}
 use Rattle.page_words.specs.Seat.{SeatView, IsStill, rewritten, marked_at}
 use Rattle.page_words.specs.WrittenBodies.{by_word, same_place}
 use Rattle.page_space.specs.Occupying.{Occupies}
-use Rattle.ephemerons.specs.BodyGraph.{HasPair, pair_offsets}
-use Rattle.ephemerons.specs.Notes.{NotesState}
+use Rattle.pair_notes.specs.BodyGraph.{HasPair, pair_offsets}
+use Rattle.pair_notes.specs.Notes.{NotesState}
 use Rattle.ephemerons.specs.UnderWay.{IsUnderWay, ListsGrey}
 use Rattle.heap_objects.specs.Crews.{PutsOn}
 use Rattle.member_fields.specs.Barrier.{HasBarrier, asks_for_mark, target_marked}

@@ -6,11 +6,11 @@ use Rattle.mark_worklist.specs.Lists.{ListState, IsShared}
 use Rattle.mark_worklist.specs.Refusals.{Refusals, TellsRefused, refusals_of}
 use Rattle.mark_worklist.specs.declared.marking.Marking.{Marking}
 use Rattle.page_words.specs.Seat.{SeatView}
-use Rattle.stealing_lists.specs.Families.{at}
-use Rattle.stealing_lists.specs.Joining.{IsSameList}
-use Rattle.stealing_lists.specs.Shares.{put_of, taken_of}
-use Rattle.ephemerons.specs.Marking.{traced_count}
-use Rattle.ephemerons.specs.Notes.{NotesState}
+use Rattle.mark_worklist.specs.Families.{at}
+use Rattle.mark_worklist.specs.Joining.{IsSameList}
+use Rattle.mark_worklist.specs.Shares.{put_of, taken_of}
+use Rattle.pair_notes.specs.Marking.{traced_count}
+use Rattle.pair_notes.specs.Notes.{NotesState}
 use Rattle.ephemerons.specs.UnderWay.{IsReadyToEnd, IsUnderWay}
 use Rattle.heap_objects.specs.declared.crew.CrewLists.{CrewLists}
 use Rattle.heap_objects.specs.declared.marking.Grey.{Grey}

@@ -5,15 +5,15 @@ use Rattle.gc_graph.specs.declared.phase.Phase.TheVariants.{Idle, Marking, Sweep
 use Rattle.gc_graph.specs.Graph.{has}
 use Rattle.gc_graph.specs.State.{Node, IsLive, slot_targets}
 use Rattle.mark_worklist.specs.Refusals.{TellsRefused}
-use Rattle.stealing_lists.specs.Families.{at}
-use Rattle.stealing_lists.specs.Joining.{AreFresh, IsSameList}
-use Rattle.stealing_lists.specs.Shares.{ShareState, put_of, taken_of}
+use Rattle.mark_worklist.specs.Families.{at}
+use Rattle.mark_worklist.specs.Joining.{AreFresh, IsSameList}
+use Rattle.mark_worklist.specs.Shares.{ShareState, put_of, taken_of}
 use Rattle.marker_core.specs.Bodies.{holds}
 use Rattle.page_words.specs.Markers.{new_marker}
 use Rattle.page_words.specs.Seat.{SeatView, IsQuiet}
-use Rattle.ephemerons.specs.declared.notes.Note.{Note}
-use Rattle.ephemerons.specs.Marking.{traced_count}
-use Rattle.ephemerons.specs.Notes.{note_of}
+use Rattle.pair_notes.specs.declared.notes.Note.{Note}
+use Rattle.pair_notes.specs.Marking.{traced_count}
+use Rattle.pair_notes.specs.Notes.{note_of}
 use Rattle.ephemerons.specs.UnderWay.{IsUnderWay}
 use Rattle.marker_crew.specs.Crews.{Marker}
 use Rattle.nodes_in_words.specs.AmongNodes.{IsAmong}

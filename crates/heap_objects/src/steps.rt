@@ -3,7 +3,7 @@
 ghost use Rattle.std.specs.Prelude.{◌≡◌, ◌<◌, ◌≤◌, [], false, length};
 ghost use Rattle.mark_worklist.specs.Refusals.{TellsRefused};
 ghost use Rattle.page_space.specs.Space.{IsSeatOf};
-ghost use Rattle.ephemerons.specs.BodyGraph.{PlacesDiffer};
+ghost use Rattle.pair_notes.specs.BodyGraph.{PlacesDiffer};
 ghost use Rattle.ephemerons.specs.UnderWay.{IsUnderWay};
 ghost use Rattle.heap_objects.specs.Crews.{IsIdleOrLong, IsStepped};
 ghost use Rattle.heap_objects.specs.Marking.{grey_of, pushes_in};

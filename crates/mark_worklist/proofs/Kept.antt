@@ -3,8 +3,8 @@ use Rattle.std.proofs.Common.{◌≡◌, ℕ, ◌<◌, ◌≤◌, Bool, true, fa
 use Rattle.std.specs.Prelude.{Result, Ok, Err, OnOk, IfErr}
 use Rattle.std.proofs.lemmas.Bool.{true≢false, cases_Bool}
 use Rattle.std.proofs.lemmas.List.{append-nil, append_assoc, length-append, get_or-set_same}
-use Rattle.stealing_lists.specs.Families.{at, nobody}
-use Rattle.stealing_lists.specs.Shares.{ShareState, pushed, put_of, refused_once as refused_at}
+use Rattle.mark_worklist.specs.Families.{at, nobody}
+use Rattle.mark_worklist.specs.Shares.{ShareState, pushed, put_of, refused_once as refused_at}
 use Rattle.mark_worklist.specs.Lists.{as_own, refused_once, last_count, IsOneMore, IsPushed}
 use Rattle.mark_worklist.specs.Left.{shares_in, state_of, IsKept}
 use Rattle.mark_worklist.specs.OneMore.{at_the_end}

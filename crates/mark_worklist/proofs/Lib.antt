@@ -1,2 +1,13 @@
+pub mod Balance
+pub mod Looks
+pub mod Steps
+pub mod Others
+pub mod Links
+pub mod Items
+pub mod Joins
+pub mod Taking
+pub mod Wholes
+pub mod Popped
+pub mod Stolen
 pub mod Without
 pub mod Kept

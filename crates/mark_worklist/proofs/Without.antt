@@ -4,8 +4,8 @@ use Rattle.std.specs.List.{Contains, count_by}
 use Rattle.std.proofs.lemmas.Bool.{cases_Bool, eqb-true}
 use Rattle.std.proofs.lemmas.List.Sums.{sum_by-append, sum_by-cons}
 use Rattle.gc_graph.specs.Members.{Contains-cons, Contains-cons_cases, Contains-head}
-use Rattle.stealing_lists.specs.Joining.{put_by, taken_by, IsTaken}
-use Rattle.stealing_lists.specs.Shares.{ShareState, times}
+use Rattle.mark_worklist.specs.Joining.{put_by, taken_by, IsTaken}
+use Rattle.mark_worklist.specs.Shares.{ShareState, times}
 use Rattle.mark_worklist.specs.Lists.{IsOneMore}
 use Rattle.mark_worklist.specs.OneMore.{one_longer}
 use Rattle.mark_worklist.specs.Left.{left_on, without, without_all}

@@ -2,8 +2,8 @@
 use Rattle.std.proofs.Common.{◌≡◌, ℕ, length, set, ap, ◌∙◌, inl, inr, cond}
 use Rattle.std.proofs.lemmas.Bool.{cases_Bool}
 use Rattle.std.proofs.lemmas.List.{length-set}
-use Rattle.stealing_lists.specs.Families.{at}
-use Rattle.stealing_lists.specs.Shares.{ShareState, pushed, refused_once as refused_at}
+use Rattle.mark_worklist.specs.Families.{at}
+use Rattle.mark_worklist.specs.Shares.{ShareState, pushed, refused_once as refused_at}
 use Rattle.mark_worklist.specs.Lists.{ListState, IsPushed, refused_once, with_own}
 
 pub own_as_many : (change : ShareState → ShareState) (l : ListState) → length (with_own change l) ≡ length l.shares

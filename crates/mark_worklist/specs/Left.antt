@@ -1,7 +1,7 @@
 -- What a list keeps of its shares, and what is left on those that it took in.
 use Rattle.std.specs.Prelude.{◌≡◌, ℕ, ◌==◌, Bool, true, false, List, [], ◌∷◌, ◌++◌, Option, Some, None, if◌then◌else◌}
-use Rattle.stealing_lists.specs.Joining.{put_by, taken_by, AreJoined, KnowLeft, IsTaken}
-use Rattle.stealing_lists.specs.Shares.{ShareState}
+use Rattle.mark_worklist.specs.Joining.{put_by, taken_by, AreJoined, KnowLeft, IsTaken}
+use Rattle.mark_worklist.specs.Shares.{ShareState}
 use Rattle.mark_worklist.specs.Lists.{ListState, as_own}
 
 -- the shares, if there are any

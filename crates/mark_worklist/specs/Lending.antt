@@ -1,8 +1,8 @@
 -- What is lent of a list.
 use Rattle.std.specs.Prelude.{slice_set}
 use Rattle.std.specs.Borrow.{Lends, MutBor, Fml}
-use Rattle.stealing_lists.specs.Shares.{ShareState}
-use Rattle.stealing_lists.specs.contracts.share.Share.{the_row as share_row}
+use Rattle.mark_worklist.specs.Shares.{ShareState}
+use Rattle.mark_worklist.specs.contracts.share.Share.{the_row as share_row}
 use Rattle.mark_worklist.specs.contracts.worklist.Worklist.{the_row}
 use Rattle.mark_worklist.specs.Lists.{ListState, as_own}
 

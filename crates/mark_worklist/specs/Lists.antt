@@ -1,8 +1,8 @@
 -- A marking list and what a push and a pop make of it.
 use Rattle.std.specs.Prelude.{◌≡◌, ℕ, ◌+◌, ◌-◌, ◌^◌, Bool, true, false, List, [], ◌∷◌, ◌++◌, min, slice_set, if◌then◌else◌, ◌&&◌}
-use Rattle.stealing_lists.specs.Families.{at}
-use Rattle.stealing_lists.specs.Joining.{AreFresh}
-use Rattle.stealing_lists.specs.Shares.{ShareState, put_of, pushed, refused_once as refused_at}
+use Rattle.mark_worklist.specs.Families.{at}
+use Rattle.mark_worklist.specs.Joining.{AreFresh}
+use Rattle.mark_worklist.specs.Shares.{ShareState, put_of, pushed, refused_once as refused_at}
 
 -- the addresses, of whose order nothing is said, and while shares are out those that the owner put; how many pushes were
 -- refused; whether nothing was found since an item was last put or given; the owner's share and those that it took in; and

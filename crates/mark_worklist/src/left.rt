@@ -5,7 +5,7 @@ ghost use Rattle.mark_worklist.specs.Left.{left_on, without};
 
 use ghost_values::GhostValue;
 use std::marker::Model;
-use stealing_lists::SharedList;
+use crate::lists::SharedList;
 
 /// A list of addresses. It is never made.
 #[derive(Drop)]

@@ -3,16 +3,17 @@
 
 ghost use Rattle.std.specs.Prelude.{◌≡◌, ◌≤◌, ◌<◌, ◌++◌, Some, [], length, min, slice_set};
 ghost use Rattle.std.specs.Prelude.{IfErr, OnOk, MatchOption};
-ghost use Rattle.stealing_lists.specs.Shares.{pushed, refused_once as refused_at};
-ghost use Rattle.stealing_lists.specs.Families.{at};
-ghost use Rattle.stealing_lists.specs.Joining.{put_by, taken_by, refused_by, IsTaken};
-ghost use Rattle.stealing_lists.specs.Joining.{AreAllShares, AreJoined, HaveSameItems};
+ghost use Rattle.mark_worklist.specs.Shares.{pushed, refused_once as refused_at};
+ghost use Rattle.mark_worklist.specs.Families.{at};
+ghost use Rattle.mark_worklist.specs.Joining.{put_by, taken_by, refused_by, IsTaken};
+ghost use Rattle.mark_worklist.specs.Joining.{AreAllShares, AreJoined, HaveSameItems};
 ghost use Rattle.mark_worklist.specs.Lists.{last_count, IsOneMore};
 ghost use Rattle.mark_worklist.specs.Left.{shares_in, IsLeftIn};
 
 use crate::left::{Addresses, left_on, without};
 use ghost_values::GhostValue;
-use stealing_lists::{Refused, Share, SharedList, Tally};
+use crate::lists::{SharedList, Tally};
+use crate::share::{Refused, Share};
 
 /// Puts an address on the owner's share, while others are out.
 #[inline(never)]

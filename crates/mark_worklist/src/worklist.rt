@@ -2,10 +2,10 @@
 
 ghost use Rattle.std.specs.Prelude.{◌≡◌, ◌≤◌, ◌<◌, ◌++◌, Some, [], true, false, length, min};
 ghost use Rattle.std.specs.Prelude.{IfErr, IfOk, OnOk, MatchOption};
-ghost use Rattle.stealing_lists.specs.Hands.{all_parts};
-ghost use Rattle.stealing_lists.specs.Families.{at};
-ghost use Rattle.stealing_lists.specs.Joining.{put_by, taken_by, refused_by, IsTaken};
-ghost use Rattle.stealing_lists.specs.Joining.{AreAllShares, AreJoined, HaveSameItems};
+ghost use Rattle.mark_worklist.specs.Hands.{all_parts};
+ghost use Rattle.mark_worklist.specs.Families.{at};
+ghost use Rattle.mark_worklist.specs.Joining.{put_by, taken_by, refused_by, IsTaken};
+ghost use Rattle.mark_worklist.specs.Joining.{AreAllShares, AreJoined, HaveSameItems};
 ghost use Rattle.mark_worklist.specs.Lists.{no_items, as_own, IsShared, IsPushed, IsOneMore};
 ghost use Rattle.mark_worklist.specs.Lists.{refused_once, last_count};
 
@@ -15,7 +15,8 @@ use gc_graph::NoMemory;
 use ghost_values::GhostValue;
 use std::alloc::Global;
 use std::marker::Model;
-use stealing_lists::{Refused, Share, SharedList, Tally};
+use crate::lists::{SharedList, Tally};
+use crate::share::{Refused, Share};
 
 /// A list of addresses. It takes memory as it grows, and keeps it. The order in which addresses are
 /// popped is free: here the last one is the first, and a list from which others take addresses too

@@ -9,8 +9,8 @@ use Rattle.marker_core.specs.Hands.{hand_claimed}
 use Rattle.marker_core.specs.Layout.{has_traced, type_in}
 use Rattle.page_words.specs.Roles.{kind_lists}
 use Rattle.page_words.specs.Markers.{MarkerSeatView, with_marker, claimed_as, start_read, stop_read}
-use Rattle.ephemerons.specs.HandPath.{hand_first}
-use Rattle.ephemerons.specs.InHand.{hand_over, traced_in}
+use Rattle.pair_notes.specs.HandPath.{hand_first}
+use Rattle.pair_notes.specs.InHand.{hand_over, traced_in}
 use Rattle.marker_crew.specs.Stages.{Keeps, OnlyLooks}
 use Rattle.marker_crew.proofs.Working.{keeps_more}
 

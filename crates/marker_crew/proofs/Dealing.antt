@@ -4,8 +4,8 @@ use mathlib.Core.Logic.{◌⊎◌}
 use Rattle.std.specs.List.{Contains}
 use Rattle.std.proofs.lemmas.Bool.{true≢false}
 use Rattle.std.proofs.lemmas.List.Elements.{Contains-push}
-use Rattle.ephemerons.specs.Notes.{NotesState, note_of}
-use Rattle.stealing_lists.specs.Shares.{ShareState, taken_of}
+use Rattle.pair_notes.specs.Notes.{NotesState, note_of}
+use Rattle.mark_worklist.specs.Shares.{ShareState, taken_of}
 use Rattle.marker_crew.specs.declared.draining.Drained.{Drained}
 use Rattle.marker_crew.specs.Drains.{AreDealtWith, AreTracedOrNoted, IsTaken}
 use Rattle.marker_crew.specs.Stages.{Stage, IsLater, IsDealtWith, IsTracedOrNoted, IsDealtWithAs, Notes}

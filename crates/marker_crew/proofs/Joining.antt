@@ -6,10 +6,10 @@ use Rattle.std.proofs.lemmas.Bool.{cases_lt}
 use Rattle.std.proofs.lemmas.List.{append-nil, append_assoc, length-append, map-append, get_or-append_right, get_or_append_left}
 use Rattle.std.proofs.lemmas.List.Folds.{list_any-append}
 use Rattle.std.proofs.lemmas.List.Sums.{sum_by_push}
-use Rattle.ephemerons.specs.Notes.{NotesState}
+use Rattle.pair_notes.specs.Notes.{NotesState}
 use Rattle.page_words.specs.Markers.{joined_with}
 use Rattle.page_words.specs.Seat.{SeatView}
-use Rattle.stealing_lists.specs.Shares.{ShareState}
+use Rattle.mark_worklist.specs.Shares.{ShareState}
 use Rattle.marker_crew.specs.declared.crew.CrewResult.{CrewResult}
 use Rattle.marker_crew.specs.Crews.{Marker, Ending, CrewState, HasDrained, joined_with_all}
 use Rattle.marker_crew.specs.Joined.{joined_last}

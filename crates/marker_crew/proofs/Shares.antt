@@ -7,8 +7,8 @@ use Rattle.std.proofs.lemmas.Bool.{true≢false}
 use Rattle.std.proofs.lemmas.List.{length-append, length-map}
 use Rattle.std.proofs.lemmas.List.Elements.{Contains-append_left, Contains-append_right, Contains-append_cases, Contains-push, Contains-push_cases}
 use Rattle.std.proofs.lemmas.List.Folds.{flat_map-map}
-use Rattle.stealing_lists.specs.Ends.{OtherState}
-use Rattle.stealing_lists.specs.Shares.{ShareState, IsSameShare, taken_of, pushed, popped, refused_once, Stole, StoleNone}
+use Rattle.mark_worklist.specs.Ends.{OtherState}
+use Rattle.mark_worklist.specs.Shares.{ShareState, IsSameShare, taken_of, pushed, popped, refused_once, Stole, StoleNone}
 use Rattle.marker_crew.specs.Drains.{IsIdle, IsTaken}
 
 -- ---- it has the same lists

@@ -2,9 +2,9 @@
 use Rattle.std.proofs.Common.{◌≡◌, suc, ◌+◌, ◌<◌, List, [], ◌∷◌, ◌++◌, length, map, take, drop, get_or, refl, sym, ap, ◌∙◌, arith}
 use Rattle.std.specs.List.{All, remove}
 use Rattle.std.proofs.lemmas.List.{append-nil, append_assoc, map-append}
-use Rattle.ephemerons.specs.Notes.{NotesState}
+use Rattle.pair_notes.specs.Notes.{NotesState}
 use Rattle.page_words.specs.Markers.{MarkerSeatView}
-use Rattle.stealing_lists.specs.Shares.{ShareState}
+use Rattle.mark_worklist.specs.Shares.{ShareState}
 use Rattle.marker_crew.specs.Crews.{Marker, begun_with}
 use Rattle.marker_crew.specs.declared.runners.Runner.{Runner}
 use Rattle.marker_crew.specs.Runners.{began_as}

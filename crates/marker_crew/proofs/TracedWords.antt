@@ -16,9 +16,9 @@ use Rattle.marker_core.specs.declared.states.Role.TheVariants.{StrongWord, KeyWo
 use Rattle.marker_core.specs.Hands.{role_at_hand, hand_moved, each_hand}
 use Rattle.page_words.specs.Roles.{kind_lists}
 use Rattle.page_words.specs.Markers.{MarkerSeatView}
-use Rattle.ephemerons.specs.BodyLeads.{role_of_offset}
-use Rattle.ephemerons.specs.HandPath.{hand_each, hand_next, told_offsets, told_length}
-use Rattle.ephemerons.specs.InHand.{hand_over, traced_in}
+use Rattle.pair_notes.specs.BodyLeads.{role_of_offset}
+use Rattle.pair_notes.specs.HandPath.{hand_each, hand_next, told_offsets, told_length}
+use Rattle.pair_notes.specs.InHand.{hand_over, traced_in}
 use Rattle.marker_crew.specs.Hands.{IsAtWord, moved_on}
 
 -- an object of a type, of whose place and words nothing is said

@@ -6,13 +6,13 @@ use Rattle.std.proofs.lemmas.Bool.{true≢false, cases_Bool}
 use Rattle.std.proofs.lemmas.List.{append-nil, length-append}
 use Rattle.gc_graph.specs.Members.{Contains-cons_cases}
 use Rattle.std.proofs.lemmas.List.Elements.{Contains-append_left, Contains-append_cases, Contains-push, Contains-push_cases}
-use Rattle.ephemerons.specs.declared.notes.Note.{Note}
+use Rattle.pair_notes.specs.declared.notes.Note.{Note}
 use Rattle.mark_worklist.specs.Refusals.{Refusals, TellsRefused}
 use Rattle.mark_worklist.specs.Told.{told_same, told_once, told_then}
-use Rattle.ephemerons.specs.Notes.{NotesState, note_of, noted, overflowed, refusals_in}
+use Rattle.pair_notes.specs.Notes.{NotesState, note_of, noted, overflowed, refusals_in}
 use Rattle.page_words.specs.Markers.{MarkerSeatView}
-use Rattle.stealing_lists.specs.Kept.{same-share, share-then}
-use Rattle.stealing_lists.specs.Shares.{ShareState, IsSameShare, put_of, taken_of, last_count, more_counted}
+use Rattle.mark_worklist.specs.Kept.{same-share, share-then}
+use Rattle.mark_worklist.specs.Shares.{ShareState, IsSameShare, put_of, taken_of, last_count, more_counted}
 use Rattle.marker_crew.specs.declared.draining.Drained.{Drained}
 use Rattle.marker_crew.specs.Stages.{Stage, stage, Lists, Notes, Keeps, IsLater, HasCause, IsNoteOf, HasRisen, WorksAs, Works, OnlyLooks}
 use Rattle.marker_crew.proofs.Shares.{same_pushed, same_refused}

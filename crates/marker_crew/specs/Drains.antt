@@ -1,6 +1,6 @@
 -- What a drain takes from the lists.
 use Rattle.std.specs.Prelude.{◌≡◌, ◌⊎◌, ℕ, ◌+◌, true, false, length, Contains}
-use Rattle.stealing_lists.specs.Shares.{ShareState, taken_of}
+use Rattle.mark_worklist.specs.Shares.{ShareState, taken_of}
 use Rattle.marker_crew.specs.declared.draining.Drained.{Drained}
 use Rattle.marker_crew.specs.Stages.{Stage, Keeps, IsDealtWith, IsTracedOrNoted}
 

@@ -7,12 +7,12 @@ use Rattle.std.proofs.lemmas.List.Concat.{length-flat_map}
 use Rattle.std.proofs.lemmas.List.Sums.{sum_by-cons}
 use Rattle.std.proofs.lemmas.List.Elements.{Contains-append_left, Contains-append_right, Contains-append_cases}
 use Rattle.gc_graph.specs.Members.{Contains-cons, Contains-head, Contains-cons_cases, holds_from, in_from_holds}
-use Rattle.ephemerons.specs.Notes.{NotesState}
+use Rattle.pair_notes.specs.Notes.{NotesState}
 use Rattle.marker_core.specs.Bodies.{holds}
 use Rattle.page_words.specs.Markers.{MarkerSeatView, joined_with}
 use Rattle.page_words.specs.Seat.{SeatView, with_mutator}
-use Rattle.stealing_lists.specs.Families.{at}
-use Rattle.stealing_lists.specs.Shares.{ShareState, IsSameShare}
+use Rattle.mark_worklist.specs.Families.{at}
+use Rattle.mark_worklist.specs.Shares.{ShareState, IsSameShare}
 use Rattle.marker_crew.specs.Crews.{Marker, Ending, HasDrained, begun_with, joined_with_all}
 
 -- ---- the markers that begin

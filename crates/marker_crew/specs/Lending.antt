@@ -2,8 +2,8 @@
 use Rattle.std.specs.Prelude.{List, length, slice_set}
 use Rattle.std.specs.List.{refill}
 use Rattle.std.specs.Borrow.{Array, Fml, Lends, MutBor}
-use Rattle.ephemerons.specs.Notes.{NotesState}
-use Rattle.ephemerons.specs.contracts.notes.Pairs.{the_row as notes_row}
+use Rattle.pair_notes.specs.Notes.{NotesState}
+use Rattle.pair_notes.specs.contracts.notes.Pairs.{the_row as notes_row}
 use Rattle.marker_crew.specs.contracts.crew.Crew.{the_row}
 use Rattle.marker_crew.specs.Crews.{CrewState}
 

@@ -1,10 +1,10 @@
 -- What a marker has while it drains, and what it makes of it.
 use Rattle.std.specs.Prelude.{◌≡◌, ◌⊎◌, ℕ, ◌+◌, ◌<◌, ◌≤◌, Bool, true, false, List, length, Contains}
 use Rattle.mark_worklist.specs.Refusals.{TellsRefused}
-use Rattle.ephemerons.specs.declared.notes.Note.{Note}
-use Rattle.ephemerons.specs.Notes.{NotesState, note_of, noted, overflowed, refusals_in}
+use Rattle.pair_notes.specs.declared.notes.Note.{Note}
+use Rattle.pair_notes.specs.Notes.{NotesState, note_of, noted, overflowed, refusals_in}
 use Rattle.page_words.specs.Markers.{MarkerSeatView}
-use Rattle.stealing_lists.specs.Shares.{ShareState, IsSameShare, put_of, taken_of, pushed, refused_once, last_count}
+use Rattle.mark_worklist.specs.Shares.{ShareState, IsSameShare, put_of, taken_of, pushed, refused_once, last_count}
 use Rattle.marker_crew.specs.declared.draining.Drained.{Drained}
 
 -- a marker's seat, its share of the lists, its notes, and what it has told of the drain so far

@@ -1,9 +1,9 @@
 -- The owner's step of marking beside a crew.
 use Rattle.std.specs.Prelude.{◌≡◌, true}
-use Rattle.ephemerons.specs.Notes.{NotesState}
+use Rattle.pair_notes.specs.Notes.{NotesState}
 use Rattle.page_words.specs.Markers.{MarkerSeatView, lent_from, new_marker, joined_with}
 use Rattle.page_words.specs.Seat.{SeatView}
-use Rattle.stealing_lists.specs.Shares.{ShareState}
+use Rattle.mark_worklist.specs.Shares.{ShareState}
 use Rattle.marker_crew.specs.declared.draining.Drained.{Drained}
 use Rattle.marker_crew.specs.Drains.{nothing_yet, AreTracedOrNoted}
 use Rattle.marker_crew.specs.Stages.{stage, WorksAs}

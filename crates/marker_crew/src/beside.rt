@@ -1,7 +1,7 @@
 // The owner's step of marking beside a running crew.
 
 ghost use Rattle.std.specs.Prelude.{◌≡◌, ◌⊎◌, ◌+◌, ◌-◌, ◌^◌, ◌≤◌, true, false, None, length};
-ghost use Rattle.stealing_lists.specs.Shares.{taken_of};
+ghost use Rattle.mark_worklist.specs.Shares.{taken_of};
 ghost use Rattle.marker_crew.specs.Stages.{stage, WorksAs};
 ghost use Rattle.marker_crew.specs.Drains.{nothing_yet, AreTracedOrNoted, IsIdle};
 ghost use Rattle.marker_crew.specs.Steps.{HasStepped};
@@ -10,9 +10,9 @@ use crate::draining::Drained;
 use crate::gate::{FreeGate, Manner};
 use crate::items::deal_with;
 use crate::taking::next_item;
-use ephemerons::Pairs;
+use pair_notes::Pairs;
 use page_words::{MarkerSeat, MutatorSeat, Words};
-use stealing_lists::Share;
+use mark_worklist::Share;
 use type_table::TypeTable;
 
 /// So many items one step takes at most.

@@ -4,14 +4,14 @@ ghost use Rattle.std.specs.Prelude.{◌≡◌, ◌≤◌, ◌+◌, ◌==◌, not
 ghost use Rattle.std.specs.Prelude.{vec_capacity, [], None};
 ghost use Rattle.std.specs.Arc.{arc_value};
 ghost use Rattle.std.specs.Borrow.{sem};
-ghost use Rattle.ephemerons.specs.Notes.{no_notes, cleared};
+ghost use Rattle.pair_notes.specs.Notes.{no_notes, cleared};
 ghost use Rattle.marker_crew.specs.Crews.{IsCrew, started_with, HasJoined};
 ghost use Rattle.marker_crew.specs.Lending.{LendsOwn, LendsNotes};
 
 use crate::endings::{Begun, Ended};
 use crate::gate::Gate;
 use crate::runners::{Runner, started, wait_for};
-use ephemerons::Pairs;
+use pair_notes::Pairs;
 use gc_graph::NoMemory;
 use page_words::{MarkerSeat, MutatorSeat, Words};
 use std::alloc::Global;
@@ -19,7 +19,7 @@ use std::marker::Model;
 use std::mem;
 use std::sync::Arc;
 use std::thread::Threads;
-use stealing_lists::Share;
+use mark_worklist::Share;
 use type_table::TypeTable;
 
 /// What the drains of a crew tell together: how many objects were claimed and traced, and whether a

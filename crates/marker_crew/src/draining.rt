@@ -1,16 +1,16 @@
 // A marker takes items from the lists and deals with each.
 
 ghost use Rattle.std.specs.Prelude.{◌≡◌, ◌⊎◌, ◌≤◌, ◌+◌, true, false, None, length};
-ghost use Rattle.stealing_lists.specs.Shares.{taken_of};
+ghost use Rattle.mark_worklist.specs.Shares.{taken_of};
 ghost use Rattle.marker_crew.specs.Stages.{stage, Works};
 ghost use Rattle.marker_crew.specs.Drains.{nothing_yet, AreDealtWith, IsIdle};
 
 use crate::gate::{Gate, Manner};
 use crate::items::deal_with;
 use crate::taking::await_item;
-use ephemerons::Pairs;
+use pair_notes::Pairs;
 use page_words::{MarkerSeat, Words};
-use stealing_lists::Share;
+use mark_worklist::Share;
 use type_table::TypeTable;
 
 /// What a drain tells: how many objects it claimed and traced, whether more may be left to do, and

@@ -4,12 +4,12 @@ ghost use Rattle.std.specs.Prelude.{◌≡◌};
 ghost use Rattle.marker_crew.specs.Crews.{HasDrained};
 
 use crate::draining::Drained;
-use ephemerons::Pairs;
+use pair_notes::Pairs;
 use page_words::MarkerSeat;
 use std::marker::Model;
 use std::snapshot::Snapshot;
 use std::thread::Promise;
-use stealing_lists::Share;
+use mark_worklist::Share;
 
 /// What a marker begins with.
 #[derive(Drop)]

@@ -2,17 +2,17 @@
 
 ghost use Rattle.std.specs.Prelude.{◌≡◌, ◌⊎◌, ◌<◌, ◌≤◌, ◌+◌, ◌^◌, true, None, Contains};
 ghost use Rattle.marker_core.specs.Bodies.{holds};
-ghost use Rattle.stealing_lists.specs.Shares.{ShareState, taken_of};
+ghost use Rattle.mark_worklist.specs.Shares.{ShareState, taken_of};
 ghost use Rattle.marker_crew.specs.Stages.{stage, WorksAs, IsDealtWithAs};
 
 use crate::draining::Drained;
 use crate::gate::{AFTER_OBJECT, BEFORE_CLAIM, Gate, Manner};
 use crate::objects::{has_traced, trace_object};
 use crate::recording::{note, note_traced};
-use ephemerons::Pairs;
+use pair_notes::Pairs;
 use object_headers::Header;
 use page_words::{MarkerSeat, Words, has_mark};
-use stealing_lists::Share;
+use mark_worklist::Share;
 use type_table::TypeTable;
 
 /// Claims and traces the object at a place that was taken from a list. Where none is found there, or

@@ -1,8 +1,8 @@
 //! # The crew of markers
 //!
 //! What it is: how markers trace what they take from the marking lists, beside the mutator and one
-//! another. Below are `page_words` (the seats of markers), `stealing_lists` (their shares of the
-//! lists) and `ephemerons` (notes of pairs).
+//! another. Below are `page_words` (the seats of markers), `mark_worklist` (their shares of the
+//! lists) and `pair_notes` (notes of pairs).
 //!
 //! The parts: `drain` (so many items, one after another), `Drained` (what it tells), `Crew` (up to
 //! eight markers, each with a thread), `CrewResult` (what they tell together), `step_beside` (the

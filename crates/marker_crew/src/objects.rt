@@ -3,18 +3,18 @@
 ghost use Rattle.std.specs.Prelude.{◌≡◌, ◌<◌, ◌+◌, true, false, None, Some, length, Contains};
 ghost use Rattle.type_table.specs.declared.traced.TracedWord.TheVariants.{PairAt};
 ghost use Rattle.marker_core.specs.Layout as layout;
-ghost use Rattle.ephemerons.specs.InHand.{hand_over, traced_in};
-ghost use Rattle.ephemerons.specs.Notes.{NotesState};
-ghost use Rattle.stealing_lists.specs.Shares.{taken_of};
+ghost use Rattle.pair_notes.specs.InHand.{hand_over, traced_in};
+ghost use Rattle.pair_notes.specs.Notes.{NotesState};
+ghost use Rattle.mark_worklist.specs.Shares.{taken_of};
 ghost use Rattle.marker_crew.specs.Stages.{stage, Works};
 ghost use Rattle.marker_crew.specs.Hands.{IsAtTarget, IsAtWord, moved_on};
 
 use crate::draining::Drained;
 use crate::recording::{list, note};
-use ephemerons::Pairs;
+use pair_notes::Pairs;
 use object_headers::{place_in, with_traced};
 use page_words::{MarkerSeat, Words, has_mark};
-use stealing_lists::Share;
+use mark_worklist::Share;
 use type_table::{TracedWord, TypeTable};
 
 /// Traces the object in hand, of a type, which this seat has claimed.

@@ -1,12 +1,12 @@
 // What a marker writes down: places on its share of the lists, and notes.
 
 ghost use Rattle.std.specs.Prelude.{◌≡◌, ◌⊎◌, ◌≤◌, true, false};
-ghost use Rattle.stealing_lists.specs.Shares.{ShareState, last_count};
+ghost use Rattle.mark_worklist.specs.Shares.{ShareState, last_count};
 ghost use Rattle.marker_crew.specs.Stages.{Lists, Notes};
 
 use crate::draining::Drained;
-use ephemerons::Pairs;
-use stealing_lists::Share;
+use pair_notes::Pairs;
+use mark_worklist::Share;
 
 /// Puts a marked place on the share's list, or tells that memory was wanting.
 pub(crate) fn list(share: &mut Share, drained: &mut Drained, place: u32)

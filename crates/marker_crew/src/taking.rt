@@ -1,13 +1,13 @@
 // The next item, from the share's own list or from another's.
 
 ghost use Rattle.std.specs.Prelude.{◌≡◌, MatchOption};
-ghost use Rattle.stealing_lists.specs.Shares.{IsSameShare, put_of, taken_of};
+ghost use Rattle.mark_worklist.specs.Shares.{IsSameShare, put_of, taken_of};
 ghost use Rattle.marker_crew.specs.Drains.{IsIdle, IsTaken};
 ghost use Rattle.marker_crew.specs.Stages.{OnlyLooks};
 
 use page_words::{MarkerSeat, Words};
 use std::hint;
-use stealing_lists::Share;
+use mark_worklist::Share;
 
 /// So often a marker that finds nothing looks again before it ends: the others may still put more.
 const LOOKS: u32 = 4096;

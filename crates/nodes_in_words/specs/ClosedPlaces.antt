@@ -14,8 +14,8 @@ use Rattle.marker_core.specs.Closed.{IsClosedOver}
 use Rattle.page_words.specs.BodyPlaces.{same_body}
 use Rattle.page_words.specs.Roles.{kind_lists}
 use Rattle.page_words.specs.Seat.{SeatView, IsView}
-use Rattle.ephemerons.specs.BodyGraph.{object_in}
-use Rattle.ephemerons.specs.BodyLeads.{led_within, closed_from}
+use Rattle.pair_notes.specs.BodyGraph.{object_in}
+use Rattle.pair_notes.specs.BodyLeads.{led_within, closed_from}
 use Rattle.nodes_in_words.specs.Nodes.{place_of, body_of, bodies_of, IsThere, AreOfValid}
 use Rattle.nodes_in_words.specs.Places.{kept_of}
 use Rattle.nodes_in_words.specs.NodePlaces.{live_is_there, live_is_live, is_live_life, node_body, same_node}

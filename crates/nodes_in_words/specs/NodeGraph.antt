@@ -10,7 +10,7 @@ use Rattle.gc_graph.specs.Graph.{Object}
 use Rattle.gc_graph.specs.State.{Setup, Node}
 use Rattle.gc_graph.specs.Valid.{IsTyped, HaveKinds, IsReferenceBelow, IsPlainWord}
 use Rattle.gc_graph.specs.Leading.{IsLed}
-use Rattle.ephemerons.specs.BodyGraph.{reference_in, values_in, object_in}
+use Rattle.pair_notes.specs.BodyGraph.{reference_in, values_in, object_in}
 use Rattle.nodes_in_words.specs.Nodes.{word_of, body_of}
 use Rattle.nodes_in_words.specs.BodyGraph.{renamed, renamed_object}
 

@@ -9,7 +9,7 @@ use Rattle.gc_graph.specs.Members.{Contains-cons, Contains-head}
 use Rattle.marker_core.specs.declared.states.Body.{Body}
 use Rattle.page_words.specs.Seat.{SeatView, IsView}
 use Rattle.page_words.specs.BodyPlaces.{same_body}
-use Rattle.ephemerons.specs.BodyGraph.{PlacesDiffer}
+use Rattle.pair_notes.specs.BodyGraph.{PlacesDiffer}
 use Rattle.nodes_in_words.specs.Nodes.{place_of, body_of, bodies_from, bodies_of, IsThere}
 use Rattle.nodes_in_words.specs.NodeBodies.{bodies-there, bodies-gone, node_of_body, body_of_node}
 

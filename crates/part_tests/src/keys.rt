@@ -2,7 +2,7 @@
 
 ghost use Rattle.std.specs.Prelude.{◌<◌};
 
-use key_index::Index;
+use pair_notes::Index;
 use std::alloc::Global;
 
 /// Of 300 notes under 100 keys in turn, how many found no room or have a key that is told wrong; and

@@ -2,10 +2,10 @@
 use Rattle.std.proofs.Common.{◌≡◌, ℕ, zero, suc, ◌<◌, List, [], ◌∷◌, length, get_or, refl, subst, arith}
 use Rattle.std.specs.List.{remove}
 use Rattle.std.proofs.lemmas.List.Sorted.{IsPermutation-append_comm}
-use Rattle.stealing_lists.specs.Shares.{ShareState, IsSameShare}
-use Rattle.stealing_lists.specs.Families.{at}
-use Rattle.stealing_lists.specs.Joining.{AreAllShares, AreFresh, IsSameList}
-use Rattle.stealing_lists.specs.Kept.{all-shares, any-order}
+use Rattle.mark_worklist.specs.Shares.{ShareState, IsSameShare}
+use Rattle.mark_worklist.specs.Families.{at}
+use Rattle.mark_worklist.specs.Joining.{AreAllShares, AreFresh, IsSameList}
+use Rattle.mark_worklist.specs.Kept.{all-shares, any-order}
 
 pub two-shares : (list shares list' : List ShareState) (one two one' two' : ShareState) → AreFresh 2 list shares → two ≡ get_or shares 1 two
     → one ≡ get_or (remove shares 1) 0 one → IsSameList list list' → IsSameShare one one' → IsSameShare two two' → AreAllShares list' (two' ∷ one' ∷ [])

@@ -2,7 +2,7 @@
 
 use gc_graph::NoMemory;
 use std::alloc::Global;
-use stealing_lists::{Refused, SharedList};
+use mark_worklist::{Refused, SharedList};
 
 /// Whether the first item put is the first that is popped and stolen, and lists without items are idle
 /// once a pop and a steal found nothing.

@@ -2,14 +2,14 @@
 
 ghost use Rattle.std.specs.Prelude.{◌≡◌, length};
 ghost use Rattle.std.specs.Thread.{IsSync};
-ghost use Rattle.stealing_lists.specs.Shares.{IsSameShare};
-ghost use Rattle.stealing_lists.specs.Joining.{AreAllShares, IsSameList};
+ghost use Rattle.mark_worklist.specs.Shares.{IsSameShare};
+ghost use Rattle.mark_worklist.specs.Joining.{AreAllShares, IsSameList};
 
 use gc_graph::NoMemory;
 use std::alloc::Global;
 use std::thread;
 use std::thread::Threads;
-use stealing_lists::{Share, SharedList};
+use mark_worklist::{Share, SharedList};
 
 /// How many items each puts.
 const ITEMS: u32 = 3000;

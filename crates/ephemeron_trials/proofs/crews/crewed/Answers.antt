@@ -1,7 +1,7 @@
 use Rattle.std.proofs.Common.{◌≡◌, ◌+◌, List, length, map, drop, replicate, refl, sym, ap, ◌∙◌, subst, arith}
 use Rattle.std.specs.List.{All}
 use Rattle.std.proofs.lemmas.List.{length-drop, length-replicate}
-use Rattle.ephemerons.specs.Notes.{no_notes}
+use Rattle.pair_notes.specs.Notes.{no_notes}
 use Rattle.marker_core.specs.Bodies.{IsPlace}
 use Rattle.page_words.specs.Markers.{MarkerSeatView}
 use Rattle.page_words.specs.Seat.{SeatView}

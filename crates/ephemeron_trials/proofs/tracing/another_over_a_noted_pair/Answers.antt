@@ -3,7 +3,7 @@ use Rattle.gc_graph.specs.State.{ObjectType}
 use Rattle.marker_core.specs.Bodies.{IsPlace, with_word}
 use Rattle.marker_core.specs.declared.states.Body.{Body}
 use Rattle.page_words.specs.Seat.{SeatView}
-use Rattle.ephemerons.specs.BodyGraph.{HasPair}
+use Rattle.pair_notes.specs.BodyGraph.{HasPair}
 use Rattle.ephemeron_trials.specs.SmallHeap.{pair_then_strong, two_bodies}
 use Rattle.ephemeron_trials.proofs.SmallHeap.{other_written, other_there, pushed_place, either_place, either_pair, noted_alone}
 use Rattle.ephemeron_trials.proofs.tracing.another_over_a_noted_pair.Goals as goal

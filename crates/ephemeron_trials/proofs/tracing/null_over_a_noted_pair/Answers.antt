@@ -1,7 +1,7 @@
 use Rattle.std.proofs.Common.{List, sym, ◌∙◌, subst, inr}
 use Rattle.gc_graph.specs.State.{ObjectType}
 use Rattle.marker_core.specs.Bodies.{IsPlace}
-use Rattle.ephemerons.specs.BodyGraph.{HasPair}
+use Rattle.pair_notes.specs.BodyGraph.{HasPair}
 use Rattle.ephemeron_trials.specs.SmallHeap.{pair_then_strong}
 use Rattle.ephemeron_trials.proofs.SmallHeap.{null_written, other_there, either_place, either_pair, noted_alone}
 use Rattle.ephemeron_trials.proofs.tracing.null_over_a_noted_pair.Goals as goal

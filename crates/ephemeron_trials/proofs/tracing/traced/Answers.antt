@@ -1,9 +1,9 @@
 use Rattle.std.proofs.Common.{◌≡◌, true, List, length, refl, not, sym, ap, ◌∙◌, subst, inl, inr, arith}
 use Rattle.gc_graph.specs.State.{ObjectType}
 use Rattle.mark_worklist.specs.Lists.{ListState}
-use Rattle.ephemerons.specs.BodyGraph.{HasPair}
+use Rattle.pair_notes.specs.BodyGraph.{HasPair}
 use Rattle.ephemerons.specs.Fixpoint.{Mode}
-use Rattle.ephemerons.specs.Notes.{NotesState}
+use Rattle.pair_notes.specs.Notes.{NotesState}
 use Rattle.ephemeron_trials.specs.SmallHeap.{two_bodies}
 use Rattle.marker_core.specs.Bodies.{IsPlace, is_place}
 use Rattle.page_words.specs.Seat.{SeatView}

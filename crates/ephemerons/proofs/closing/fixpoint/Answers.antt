@@ -1,7 +1,7 @@
 use Rattle.std.proofs.Common.{arith, subst, sym, ap, List, length, ◌∙◌}
 use Rattle.std.proofs.lemmas.Bool.{true≢false}
 use Rattle.mark_worklist.specs.Refusals.{TellsRefused, refusals_of}
-use Rattle.ephemerons.specs.Notes.{NotesState, group_at, refusals_in}
+use Rattle.pair_notes.specs.Notes.{NotesState, group_at, refusals_in}
 use Rattle.ephemerons.specs.Fixpoint.{IsGround, stage}
 use Rattle.ephemerons.specs.LookedAt.{AreHoldersMarked}
 use Rattle.ephemerons.proofs.Ends.{few_untraced}

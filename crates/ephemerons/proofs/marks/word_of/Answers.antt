@@ -1,5 +1,5 @@
 use Rattle.std.proofs.Common.{refl}
-use Rattle.ephemerons.proofs.FieldWords.{read_word, word_is_no_place}
+use Rattle.pair_notes.specs.FieldWords.{read_word, word_is_no_place}
 use Rattle.ephemerons.proofs.marks.word_of.Goals as goal
 
 pub returns-clause-word : goal.returns-clause-word

@@ -4,7 +4,7 @@ use Rattle.object_headers.specs.Offsets.{reference_to}
 use Rattle.marker_core.specs.declared.states.Part.TheVariants.{Read}
 use Rattle.page_words.specs.BodyPlaces.{place_below}
 use Rattle.page_words.specs.Seat.{SeatView}
-use Rattle.ephemerons.proofs.FieldWords.{key_there, word_below, word_is_no_place, read_word, pair_in_hand}
+use Rattle.pair_notes.specs.FieldWords.{key_there, word_below, word_is_no_place, read_word, pair_in_hand}
 use Rattle.ephemerons.proofs.HandKeys.{key_place, key_read, key_told, key_notes_none}
 use Rattle.ephemerons.proofs.HandLoads.{read_marks, read_beside}
 use Rattle.ephemerons.proofs.pair_fields.read_key.Goals as goal

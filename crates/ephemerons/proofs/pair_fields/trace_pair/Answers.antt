@@ -4,13 +4,13 @@ use Rattle.std.proofs.lemmas.List.{append-nil}
 use Rattle.marker_core.specs.Bodies.{holds}
 use Rattle.marker_core.specs.declared.states.Part.TheVariants.{Read}
 use Rattle.page_words.specs.Seat.{SeatView}
-use Rattle.ephemerons.specs.Marking.{heap_and_marks}
-use Rattle.ephemerons.specs.Fixpoint.{HasWord}
+use Rattle.pair_notes.specs.Marking.{heap_and_marks}
+use Rattle.pair_notes.specs.BodyGraph.{HasWord}
 use Rattle.ephemerons.specs.Traces.{noted_unless}
 use Rattle.ephemerons.specs.ListedMarks.{ListsMarks-then}
 use Rattle.ephemerons.specs.LookedAt.{IsLookedAt}
 use Rattle.ephemerons.specs.LookedPlaces.{looked_nowhere}
-use Rattle.ephemerons.proofs.FieldWords.{value_there, word_below, pair_in_hand, at_value}
+use Rattle.pair_notes.specs.FieldWords.{value_there, word_below, pair_in_hand, at_value}
 use Rattle.ephemerons.proofs.Graph.{pair_within}
 use Rattle.ephemerons.proofs.Holding.{fresh_listed}
 use Rattle.ephemerons.proofs.MarkSteps.{looks_list, same_bodies}

@@ -2,8 +2,8 @@ use Rattle.std.proofs.Common.{◌≡◌, ◌<◌, true, get_or, length, sym, ap,
 use Rattle.std.proofs.lemmas.List.{get_or_default}
 use Rattle.std.proofs.lemmas.List.Elements.{Contains-get_or}
 use Rattle.marker_core.specs.Bodies.{holds}
-use Rattle.ephemerons.specs.declared.notes.Note.{Note}
-use Rattle.ephemerons.specs.Notes.{NotesState, IsNote, group_at, no_notes, note_at, note_of}
+use Rattle.pair_notes.specs.declared.notes.Note.{Note}
+use Rattle.pair_notes.specs.Notes.{NotesState, IsNote, group_at, no_notes, note_at, note_of}
 use Rattle.ephemerons.specs.Fixpoint.{stage}
 use Rattle.ephemerons.proofs.Onward.{onward_given, onward_same}
 use Rattle.ephemerons.proofs.settling.settle_at.Goals as goal

@@ -5,8 +5,8 @@ use Rattle.std.proofs.lemmas.List.{set-get_or, get_or_default}
 use Rattle.gc_graph.specs.State.{ObjectType}
 use Rattle.page_words.specs.Seat.{SeatView}
 use Rattle.mark_worklist.specs.declared.marking.Marking.{Marking}
-use Rattle.ephemerons.specs.declared.notes.Note.{Note}
-use Rattle.ephemerons.specs.Notes.{NotesState, IsNote, group_at, no_notes}
+use Rattle.pair_notes.specs.declared.notes.Note.{Note}
+use Rattle.pair_notes.specs.Notes.{NotesState, IsNote, group_at, no_notes}
 use Rattle.ephemerons.specs.LookedAt.{LooksOnward}
 use Rattle.ephemerons.proofs.Onward.{onward_then}
 use Rattle.ephemerons.specs.Fixpoint.{IsGround, Works, stage}

@@ -1,6 +1,6 @@
 use Rattle.std.proofs.Common.{◌≡◌, ℕ, ◌<◌, ◌||◌, None, get_or, length, sym, ap, ◌∙◌, subst, inl, inr, arith}
 use Rattle.std.proofs.lemmas.List.{get_or_default}
-use Rattle.ephemerons.specs.Notes.{NotesState, group_at, no_notes, note_at, note_of}
+use Rattle.pair_notes.specs.Notes.{NotesState, group_at, no_notes, note_at, note_of}
 use Rattle.ephemerons.specs.Fixpoint.{Stage, stage, IsSettled}
 use Rattle.ephemerons.proofs.Looks.{joined, noted_stays, Looks-then, looks_more}
 use Rattle.ephemerons.proofs.Onward.{onward_then}

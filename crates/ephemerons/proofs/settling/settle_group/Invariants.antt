@@ -1,5 +1,5 @@
 use Rattle.std.proofs.Common.{◌≡◌, ℕ, ◌<◌, false, None, length}
-use Rattle.ephemerons.specs.Notes.{group_at, note_at}
+use Rattle.pair_notes.specs.Notes.{group_at, note_at}
 use Rattle.ephemerons.specs.Fixpoint.{IsGround, IsSettled, Looks, stage}
 use Rattle.ephemerons.specs.LookedAt.{LooksOnward}
 use Rattle.ephemerons.proofs.settling.settle_group.Given as goal

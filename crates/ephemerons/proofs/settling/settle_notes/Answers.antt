@@ -1,7 +1,7 @@
 use Rattle.std.proofs.Common.{◌≡◌, ℕ, ◌||◌, None, sym, ◌∙◌, inl, inr, arith}
 use Rattle.std.specs.List.{Contains}
-use Rattle.ephemerons.specs.declared.notes.Note.{Note}
-use Rattle.ephemerons.specs.Notes.{group_at}
+use Rattle.pair_notes.specs.declared.notes.Note.{Note}
+use Rattle.pair_notes.specs.Notes.{group_at}
 use Rattle.ephemerons.specs.Fixpoint.{Stage, stage, IsSettled}
 use Rattle.ephemerons.proofs.Looks.{joined, group_stays, Looks-then, looks_more}
 use Rattle.ephemerons.proofs.Onward.{onward_then}

@@ -1,7 +1,7 @@
 use Rattle.std.proofs.Common.{◌≡◌, ℕ, ◌<◌, false, None}
 use Rattle.std.specs.List.{Contains}
-use Rattle.ephemerons.specs.declared.notes.Note.{Note}
-use Rattle.ephemerons.specs.Notes.{group_at}
+use Rattle.pair_notes.specs.declared.notes.Note.{Note}
+use Rattle.pair_notes.specs.Notes.{group_at}
 use Rattle.ephemerons.specs.Fixpoint.{IsGround, IsSettled, Looks, stage}
 use Rattle.ephemerons.specs.LookedAt.{LooksOnward}
 use Rattle.ephemerons.proofs.settling.settle_notes.Given as goal

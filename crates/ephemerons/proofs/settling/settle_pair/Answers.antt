@@ -5,15 +5,15 @@ use Rattle.gc_graph.specs.State.{ObjectType}
 use Rattle.object_headers.specs.Offsets.{reference_to}
 use Rattle.marker_core.specs.Bodies.{holds}
 use Rattle.page_words.specs.Seat.{SeatView, OnlyLooked, unlooked}
-use Rattle.ephemerons.specs.BodyGraph.{HasPair, pair_offsets, word_at}
-use Rattle.ephemerons.specs.Marking.{GrowsWithin}
+use Rattle.pair_notes.specs.BodyGraph.{HasPair, pair_offsets, word_at}
+use Rattle.pair_notes.specs.Marking.{GrowsWithin}
 use Rattle.ephemerons.specs.LookedAt.{IsLookedAt, LooksOnlyAt, LooksWithin}
 use Rattle.ephemerons.specs.LookedPlaces.{looked_nowhere, looked_once, looked_then, looked_as}
-use Rattle.ephemerons.proofs.FieldWords.{key_there, value_there, word_below}
+use Rattle.pair_notes.specs.FieldWords.{key_there, value_there, word_below}
 use Rattle.ephemerons.proofs.Graph.{pair_within}
 use Rattle.ephemerons.proofs.MarkSteps.{same_bodies}
 use Rattle.ephemerons.specs.Fixpoint.{stage}
-use Rattle.ephemerons.specs.Notes.{note_of}
+use Rattle.pair_notes.specs.Notes.{note_of}
 use Rattle.ephemerons.proofs.Looks.{Looks-then, settled_stays}
 use Rattle.ephemerons.proofs.OnlyLooks.{grows_from, ground_looked, looks_none, stage_looked}
 use Rattle.ephemerons.proofs.Onward.{onward_looked, onward_marks}

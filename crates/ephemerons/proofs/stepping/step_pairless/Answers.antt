@@ -1,6 +1,6 @@
 use Rattle.std.proofs.Common.{◌≡◌, [], ◌∷◌, List, Option, Some, None, ℕ, sym, subst, arith}
 use Rattle.std.specs.Prelude.{IfNone}
-use Rattle.ephemerons.specs.Notes.{NotesState}
+use Rattle.pair_notes.specs.Notes.{NotesState}
 use Rattle.ephemerons.specs.UnderWay.{IsUnderWay}
 use Rattle.ephemerons.specs.Fixpoint.{IsGround, Works, stage, with_held}
 use Rattle.ephemerons.proofs.Stages.{Works-same, Works-then}

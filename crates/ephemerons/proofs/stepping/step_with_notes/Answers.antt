@@ -1,6 +1,6 @@
 use Rattle.std.proofs.Common.{[], ◌∷◌, None, refl, subst, inl, inr, arith}
 use Rattle.mark_worklist.specs.Refusals.{refusals_of}
-use Rattle.ephemerons.specs.BodyGraph.{HasPair}
+use Rattle.pair_notes.specs.BodyGraph.{HasPair}
 use Rattle.ephemerons.specs.Fixpoint.{mode_of, stage}
 use Rattle.ephemerons.proofs.Stages.{mode_popped, Works-same, Works-then, Works-popped, ground_popped}
 use Rattle.ephemerons.proofs.UnderWaySteps.{held_under_way}

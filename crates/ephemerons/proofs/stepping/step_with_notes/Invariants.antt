@@ -1,7 +1,7 @@
 use Rattle.std.proofs.Common.{◌≤◌, ◌⊎◌, [], ◌∷◌, None}
 use Rattle.std.specs.List.{Contains}
-use Rattle.ephemerons.specs.declared.notes.Note.{Note}
-use Rattle.ephemerons.specs.BodyGraph.{HasPair}
+use Rattle.pair_notes.specs.declared.notes.Note.{Note}
+use Rattle.pair_notes.specs.BodyGraph.{HasPair}
 use Rattle.ephemerons.specs.UnderWay.{IsUnderWay}
 use Rattle.ephemerons.specs.Fixpoint.{IsGround, Works, stage, weight}
 use Rattle.ephemerons.proofs.stepping.step_with_notes.Given as goal

@@ -3,7 +3,7 @@ use Rattle.std.proofs.lemmas.List.Elements.{Contains-push}
 use Rattle.type_table.specs.Types.{kinds_of}
 use Rattle.type_table.specs.TracedWords.{traced_words_of}
 use Rattle.page_words.specs.Seat.{SeatView, is_grey_at}
-use Rattle.ephemerons.specs.Notes.{NotesGrow}
+use Rattle.pair_notes.specs.Notes.{NotesGrow}
 use Rattle.ephemerons.proofs.GreySteps.{ReadsFields, fewer_untraced, grey_ground, grey_works, black_ground, black_looks}
 use Rattle.ephemerons.proofs.UnderWaySteps.{grey_under_way, black_under_way}
 use Rattle.ephemerons.proofs.stepping.trace_taken.Given as given

@@ -6,11 +6,11 @@ use Rattle.std.proofs.lemmas.List.Elements.{Contains-push, Contains-push_cases}
 use Rattle.gc_graph.specs.declared.kind.Kind.TheVariants.{Strong}
 use Rattle.gc_graph.specs.State.{ObjectType}
 use Rattle.type_table.specs.Types.{kinds_of, offsets_of_kind}
-use Rattle.ephemerons.specs.Marking.{GrowsWithin, HasStrongMarked, HasTargetMarked}
-use Rattle.ephemerons.specs.InHand.{hand_over, traced_in}
+use Rattle.pair_notes.specs.Marking.{GrowsWithin, HasStrongMarked, HasTargetMarked}
+use Rattle.pair_notes.specs.InHand.{hand_over, traced_in}
 use Rattle.ephemerons.specs.Fixpoint.{with_held}
 use Rattle.ephemerons.specs.ListedMarks.{ListsMarks-then}
-use Rattle.ephemerons.specs.HandPath.{hand_at_first, hand_at_next, hand_at_end}
+use Rattle.pair_notes.specs.HandPath.{hand_at_first, hand_at_next, hand_at_end}
 use Rattle.ephemerons.proofs.MarkSteps.{same_bodies, same_types}
 use Rattle.ephemerons.proofs.NoPairs.{all_traced}
 use Rattle.ephemerons.proofs.StrongWords.{at_strong_field, all_named, target_stays, within_then}

@@ -1,7 +1,7 @@
 use Rattle.std.proofs.Common.{◌≡◌, true, sym, subst}
 use Rattle.marker_core.specs.Bodies.{holds}
 use Rattle.marker_core.specs.declared.states.Part.TheVariants.{Read}
-use Rattle.ephemerons.proofs.FieldWords.{strong_there, strong_in_hand, at_strong}
+use Rattle.pair_notes.specs.FieldWords.{strong_there, strong_in_hand, at_strong}
 use Rattle.ephemerons.proofs.Graph.{strong_within}
 use Rattle.ephemerons.proofs.strong_fields.trace_strong_word.Goals as goal
 

@@ -2,10 +2,10 @@ use Rattle.std.proofs.Common.{◌≡◌, ◌+◌, true, sym, ap, ◌∙◌, subs
 use Rattle.std.specs.List.{Contains}
 use Rattle.marker_core.specs.Bodies.{holds}
 use Rattle.page_words.specs.Seat.{SeatView}
-use Rattle.ephemerons.specs.Marking.{heap_and_marks}
+use Rattle.pair_notes.specs.Marking.{heap_and_marks}
 use Rattle.ephemerons.specs.Fixpoint.{with_held}
 use Rattle.ephemerons.specs.ListedMarks.{ListsMarks-then}
-use Rattle.ephemerons.proofs.FieldWords.{read_word, word_is_no_place}
+use Rattle.pair_notes.specs.FieldWords.{read_word, word_is_no_place}
 use Rattle.ephemerons.proofs.HandLoads.{read_marks, read_beside, read_lists, target_may, target_moves, target_notes_none}
 use Rattle.ephemerons.proofs.Holding.{no_marking}
 use Rattle.ephemerons.proofs.MarkSteps.{same_bodies}

@@ -2,12 +2,12 @@ use Rattle.std.proofs.Common.{◌<◌, ℕ, List, length, get_or, ap, ◌∙◌,
 use Rattle.std.specs.List.{Contains}
 use Rattle.std.proofs.lemmas.List.{take_all, length-append}
 use Rattle.std.proofs.lemmas.List.Elements.{Contains-get_or}
-use Rattle.ephemerons.specs.Marking.{HasTargetMarked}
-use Rattle.ephemerons.specs.InHand.{traced_in}
+use Rattle.pair_notes.specs.Marking.{HasTargetMarked}
+use Rattle.pair_notes.specs.InHand.{traced_in}
 use Rattle.ephemerons.specs.Fixpoint.{ListsMarks}
 use Rattle.gc_graph.specs.Members.{Contains-take_more_cases}
 use Rattle.ephemerons.specs.ListedMarks.{ListsMarks-then}
-use Rattle.ephemerons.specs.HandPath.{hand_at_next}
+use Rattle.pair_notes.specs.HandPath.{hand_at_next}
 use Rattle.ephemerons.proofs.Holding.{fresh_listed}
 use Rattle.ephemerons.proofs.MarkSteps.{same_bodies, same_types, same_heap, still_tracing}
 use Rattle.ephemerons.proofs.StrongWords.{at_next_strong, target_stays, within_then}

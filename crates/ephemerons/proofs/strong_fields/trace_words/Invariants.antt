@@ -1,7 +1,7 @@
 use Rattle.std.proofs.Common.{◌≡◌, ℕ, take, drop}
 use Rattle.std.specs.List.{Contains}
-use Rattle.ephemerons.specs.Marking.{GrowsWithin, HasTargetMarked}
-use Rattle.ephemerons.specs.InHand.{hand_over, traced_in}
+use Rattle.pair_notes.specs.Marking.{GrowsWithin, HasTargetMarked}
+use Rattle.pair_notes.specs.InHand.{hand_over, traced_in}
 use Rattle.ephemerons.specs.Fixpoint.{ListsMarks}
 use Rattle.ephemerons.proofs.strong_fields.trace_words.Given as goal
 

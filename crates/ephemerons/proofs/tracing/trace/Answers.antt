@@ -5,7 +5,7 @@ use Rattle.marker_core.specs.declared.states.Body.{Body}
 use Rattle.marker_core.specs.Bodies.{holds}
 use Rattle.page_words.specs.BodyPlaces.{same_body}
 use Rattle.page_words.specs.Seat.{SeatView}
-use Rattle.ephemerons.specs.BodyGraph.{HasType}
+use Rattle.pair_notes.specs.BodyGraph.{HasType}
 use Rattle.ephemerons.specs.Traces.{Traces}
 use Rattle.ephemerons.specs.ListedMarks.{ListsMarks-then, lists_looked}
 use Rattle.ephemerons.specs.LookedAt.{IsLookedAt}

@@ -7,14 +7,14 @@ use Rattle.type_table.specs.declared.traced.TracedWord.{TracedWord}
 use Rattle.type_table.specs.declared.traced.TracedWord.TheVariants.{StrongAt}
 use Rattle.type_table.specs.Types.{kinds_of}
 use Rattle.type_table.specs.TracedWords.{traced_words_of}
-use Rattle.ephemerons.specs.Marking.{GrowsWithin, HasStrongMarked}
-use Rattle.ephemerons.specs.Notes.{NotesGrow, HasPairsNoted}
-use Rattle.ephemerons.specs.InHand.{IsWordTraced, traced_in}
+use Rattle.pair_notes.specs.Marking.{GrowsWithin, HasStrongMarked}
+use Rattle.pair_notes.specs.Notes.{NotesGrow, HasPairsNoted}
+use Rattle.pair_notes.specs.InHand.{IsWordTraced, traced_in}
 use Rattle.ephemerons.specs.Traces.{Traces}
 use Rattle.ephemerons.specs.LookedAt.{IsLookedAt, LooksWithin}
 use Rattle.ephemerons.specs.LookedPlaces.{looked_nowhere, looks_then}
 use Rattle.ephemerons.specs.ListedMarks.{ListsMarks-then}
-use Rattle.ephemerons.specs.HandPath.{hand_at_first, hand_at_next, hand_at_end, told_length}
+use Rattle.pair_notes.specs.HandPath.{hand_at_first, hand_at_next, hand_at_end, told_length}
 use Rattle.ephemerons.proofs.Holding.{ListsMarks-same}
 use Rattle.ephemerons.proofs.MarkSteps.{same_bodies, same_types}
 use Rattle.ephemerons.proofs.NoPairs.{nothing_noted}

@@ -1,9 +1,9 @@
 use Rattle.std.proofs.Common.{◌≡◌, take, drop}
 use Rattle.std.specs.List.{Contains}
 use Rattle.type_table.specs.declared.traced.TracedWord.{TracedWord}
-use Rattle.ephemerons.specs.Marking.{GrowsWithin}
-use Rattle.ephemerons.specs.Notes.{NotesGrow}
-use Rattle.ephemerons.specs.InHand.{IsWordTraced, hand_over, traced_in}
+use Rattle.pair_notes.specs.Marking.{GrowsWithin}
+use Rattle.pair_notes.specs.Notes.{NotesGrow}
+use Rattle.pair_notes.specs.InHand.{IsWordTraced, hand_over, traced_in}
 use Rattle.ephemerons.specs.Fixpoint.{ListsMarks}
 use Rattle.ephemerons.specs.Traces.{Traces}
 use Rattle.ephemerons.specs.LookedAt.{LooksWithin}

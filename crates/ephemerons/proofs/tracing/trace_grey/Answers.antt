@@ -7,8 +7,8 @@ use Rattle.marker_core.specs.Bodies.{holds}
 use Rattle.type_table.specs.Types.{kinds_of}
 use Rattle.type_table.specs.TracedWords.{traced_words_of}
 use Rattle.page_words.specs.Seat.{SeatView, is_grey_at}
-use Rattle.ephemerons.specs.declared.notes.Note.{Note}
-use Rattle.ephemerons.specs.Notes.{NotesState, NotesGrow, group_at, no_notes}
+use Rattle.pair_notes.specs.declared.notes.Note.{Note}
+use Rattle.pair_notes.specs.Notes.{NotesState, NotesGrow, group_at, no_notes}
 use Rattle.ephemerons.specs.LookedAt.{IsLookedAt}
 use Rattle.ephemerons.specs.LookedPlaces.{looked_as}
 use Rattle.ephemerons.proofs.GreySteps.{ReadsFields, fewer_untraced, grey_ground, grey_looks, black_ground, black_looks}

@@ -2,7 +2,7 @@ use Rattle.std.proofs.Common.{rules, ◌≡◌, ◌+◌, ◌<◌, ◌^◌, true,
 use Rattle.std.specs.List.{Contains}
 use Rattle.marker_core.specs.Bodies.{holds}
 use Rattle.page_words.specs.Seat.{SeatView, is_grey_at}
-use Rattle.ephemerons.specs.Notes.{NotesState, group_at}
+use Rattle.pair_notes.specs.Notes.{NotesState, group_at}
 use Rattle.ephemerons.specs.LookedAt.{IsLookedAt}
 use Rattle.ephemerons.specs.LookedPlaces.{looked_nowhere, looked_as}
 use Rattle.ephemerons.specs.Fixpoint.{IsGround, Works, stage, with_held}

@@ -1,7 +1,7 @@
 use Rattle.std.proofs.Common.{◌≡◌, None, true, false, ap, subst, sym}
 use Rattle.marker_core.specs.Bodies.{holds}
 use Rattle.page_words.specs.Seat.{SeatView}
-use Rattle.ephemerons.specs.Marking.{heap_and_marks}
+use Rattle.pair_notes.specs.Marking.{heap_and_marks}
 use Rattle.ephemerons.specs.Fixpoint.{Stage}
 use Rattle.ephemerons.proofs.Looks.{Looks-then, Looks-free}
 use Rattle.ephemerons.proofs.walking.settle_object.Goals as goal

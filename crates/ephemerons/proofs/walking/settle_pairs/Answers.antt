@@ -5,8 +5,8 @@ use Rattle.gc_graph.specs.declared.kind.Kind.TheVariants.{Pair}
 use Rattle.type_table.specs.Types.{kinds_of, offsets_of_kind}
 use Rattle.marker_core.specs.declared.states.Body.{Body}
 use Rattle.page_words.specs.BodyPlaces.{same_body}
-use Rattle.ephemerons.specs.BodyGraph.{HasType}
-use Rattle.ephemerons.specs.Notes.{note_of}
+use Rattle.pair_notes.specs.BodyGraph.{HasType}
+use Rattle.pair_notes.specs.Notes.{note_of}
 use Rattle.ephemerons.specs.Fixpoint.{Stage, stage, IsSettled}
 use Rattle.ephemerons.proofs.OnlyLooks.{ground_looked, looks_none}
 use Rattle.ephemerons.proofs.PairWords.{told_pair}

@@ -1,5 +1,5 @@
 use Rattle.std.proofs.Common.{◌≡◌, ℕ, ◌<◌, false, None, get_or}
-use Rattle.ephemerons.specs.Notes.{note_of}
+use Rattle.pair_notes.specs.Notes.{note_of}
 use Rattle.ephemerons.specs.Fixpoint.{IsGround, IsSettled, Looks, stage}
 use Rattle.ephemerons.proofs.walking.settle_pairs.Given as goal
 

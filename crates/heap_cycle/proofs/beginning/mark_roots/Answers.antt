@@ -8,7 +8,7 @@ use Rattle.page_words.specs.Seat.{IsQuiet}
 use Rattle.sweeper.specs.Sweeping.{cursor_at}
 use Rattle.nodes_in_words.specs.Nodes.{place_of}
 use Rattle.heap_objects.specs.Marks.{IsAtRest, HasMarking, HasMarks}
-use Rattle.heap_handles.specs.Region.{IsHandled}
+use Rattle.heap_roots.specs.Region.{IsHandled}
 use Rattle.heap_cycle.specs.declared.parts.Parts.{Parts}
 use Rattle.heap_cycle.specs.Changes.{begun_from}
 use Rattle.heap_cycle.specs.Parts.{state_of, IsReady}

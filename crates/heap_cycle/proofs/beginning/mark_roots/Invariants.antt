@@ -1,4 +1,4 @@
-use Rattle.heap_handles.specs.Region.{roots_in}
+use Rattle.heap_roots.specs.Region.{roots_in}
 use Rattle.heap_cycle.proofs.beginning.mark_roots.Given as goal
 
 abbrev pub ghost-begin : goal.ghost-begin

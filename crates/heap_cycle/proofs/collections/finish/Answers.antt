@@ -17,7 +17,7 @@ use Rattle.cross_thread_region.specs.Calls.{entry_of, first_pass, with_own}
 use Rattle.cross_thread_region.specs.Histories.{entries_of, slots_of}
 use Rattle.heap_objects.specs.Objects.{refused_of, told_of}
 use Rattle.heap_objects.specs.Refused.{IsToldTruly}
-use Rattle.heap_handles.specs.Stack.{StackView}
+use Rattle.heap_roots.specs.Stack.{StackView}
 use Rattle.heap_cycle.specs.declared.parts.Parts.{Parts}
 use Rattle.heap_cycle.specs.declared.shared.Shared.{Shared}
 use Rattle.heap_cycle.specs.Cycles.{pause_line}

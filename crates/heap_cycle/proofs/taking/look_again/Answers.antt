@@ -4,7 +4,7 @@ use Rattle.gc_graph.specs.State.{Node}
 use Rattle.cross_thread_region.specs.declared.chronicle.PlacedEntry.{PlacedEntry}
 use Rattle.cross_thread_region.specs.WeakReads.{weak_read_at}
 use Rattle.std.specs.Prelude.{List, Option, Some, None, length, ◌<◌, ◌≤◌}
-use Rattle.heap_handles.specs.Region.{IsHandled}
+use Rattle.heap_roots.specs.Region.{IsHandled}
 use Rattle.heap_objects.specs.Marks.{HasMarks}
 use Rattle.heap_objects.specs.Objects.{ObjectsView}
 use Rattle.heap_cycle.specs.Taking.{entries_between}

@@ -9,7 +9,7 @@ use Rattle.sweeper.specs.Sweeping.{cursor_at}
 use Rattle.heap_cycle.specs.declared.parts.Parts.{Parts}
 use Rattle.heap_objects.specs.Marking.{GreyView}
 use Rattle.heap_objects.specs.Objects.{ObjectsView}
-use Rattle.heap_handles.specs.Handles.{HandlesView}
+use Rattle.heap_roots.specs.Handles.{HandlesView}
 use Rattle.heap_cycle.specs.Parts.{counted, setup_of, state_of, unregistered, IsManned}
 use Rattle.heap_cycle.specs.Printed.{Printed, ran_lines}
 use Rattle.heap_cycle.specs.Views.{CycleView}

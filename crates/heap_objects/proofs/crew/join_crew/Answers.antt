@@ -6,11 +6,11 @@ use Rattle.mark_worklist.specs.declared.marking.Marking.{Marking}
 use Rattle.page_words.specs.Markers.{new_marker}
 use Rattle.marker_core.specs.SeatSteps.{seat_ended}
 use Rattle.page_words.specs.Seat.{SeatView, side, stopped, with_mutator}
-use Rattle.stealing_lists.specs.Families.{at, nobody}
-use Rattle.stealing_lists.specs.Joining.{AreAllShares, IsTaken, refused_by}
-use Rattle.stealing_lists.specs.Kept.{all-shares}
-use Rattle.stealing_lists.specs.Shares.{ShareState, IsSameShare}
-use Rattle.ephemerons.specs.Notes.{NotesState, no_notes, group_at}
+use Rattle.mark_worklist.specs.Families.{at, nobody}
+use Rattle.mark_worklist.specs.Joining.{AreAllShares, IsTaken, refused_by}
+use Rattle.mark_worklist.specs.Kept.{all-shares}
+use Rattle.mark_worklist.specs.Shares.{ShareState, IsSameShare}
+use Rattle.pair_notes.specs.Notes.{NotesState, no_notes, group_at}
 use Rattle.marker_crew.specs.Crews.{CrewState, Ending, HasDrained, Marker, joined_with_all}
 use Rattle.marker_crew.specs.Drains.{nothing_yet}
 use Rattle.heap_objects.specs.declared.marking.Grey.{Grey}

@@ -5,9 +5,9 @@ use Rattle.mark_worklist.specs.Lists.{as_own}
 use Rattle.mark_worklist.specs.declared.marking.Marking.{Marking}
 use Rattle.page_words.specs.Markers.{new_marker}
 use Rattle.page_words.specs.Seat.{SeatView}
-use Rattle.stealing_lists.specs.Families.{at, nobody}
-use Rattle.stealing_lists.specs.Shares.{ShareState}
-use Rattle.ephemerons.specs.Notes.{NotesState}
+use Rattle.mark_worklist.specs.Families.{at, nobody}
+use Rattle.mark_worklist.specs.Shares.{ShareState}
+use Rattle.pair_notes.specs.Notes.{NotesState}
 use Rattle.marker_crew.specs.Drains.{nothing_yet, AreTracedOrNoted}
 use Rattle.marker_crew.specs.Stages.{stage, WorksAs}
 use Rattle.heap_objects.specs.Crews.{IsStepped, TellsRisen}

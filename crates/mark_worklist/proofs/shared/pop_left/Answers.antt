@@ -1,5 +1,5 @@
 use Rattle.std.proofs.Common.{rules, sym, subst}
-use Rattle.stealing_lists.specs.Joining.{IsTaken}
+use Rattle.mark_worklist.specs.Joining.{IsTaken}
 use Rattle.mark_worklist.specs.Lists.{IsOneMore}
 use Rattle.mark_worklist.specs.Left.{IsLeftIn, IsLeftOn}
 use Rattle.mark_worklist.proofs.Without.{one_without}

@@ -1,5 +1,5 @@
 use Rattle.std.proofs.Common.{◌≡◌, ◌++◌, ℕ, List, length, sym, ap, ◌∙◌, subst}
-use Rattle.stealing_lists.specs.Joining.{IsTaken}
+use Rattle.mark_worklist.specs.Joining.{IsTaken}
 use Rattle.mark_worklist.specs.Left.{shares_in, left_on, IsLeftOn}
 use Rattle.mark_worklist.proofs.Without.{as_many_on, taken_on}
 use Rattle.mark_worklist.proofs.shared.take_in.Goals as goal

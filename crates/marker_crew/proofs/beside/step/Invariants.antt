@@ -1,5 +1,5 @@
 use Rattle.std.proofs.Common.{◌≡◌, ◌+◌, ◌≤◌, None, true, length}
-use Rattle.stealing_lists.specs.Shares.{taken_of}
+use Rattle.mark_worklist.specs.Shares.{taken_of}
 use Rattle.marker_crew.specs.Drains.{nothing_yet, AreTracedOrNoted}
 use Rattle.marker_crew.specs.Stages.{stage, WorksAs}
 use Rattle.marker_crew.proofs.beside.step.Given as goal

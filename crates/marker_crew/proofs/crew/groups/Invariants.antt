@@ -1,5 +1,5 @@
 use Rattle.std.proofs.Common.{◌≡◌, ◌≤◌, replicate, vec_capacity}
-use Rattle.ephemerons.specs.Notes.{no_notes}
+use Rattle.pair_notes.specs.Notes.{no_notes}
 use Rattle.marker_crew.proofs.crew.groups.Given as goal
 
 abbrev pub invariant-loop-group : goal.invariant-loop-group

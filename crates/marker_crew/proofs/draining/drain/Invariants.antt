@@ -1,5 +1,5 @@
 use Rattle.std.proofs.Common.{◌≡◌, ◌+◌, ◌≤◌, None, length}
-use Rattle.stealing_lists.specs.Shares.{taken_of}
+use Rattle.mark_worklist.specs.Shares.{taken_of}
 use Rattle.marker_crew.specs.Drains.{nothing_yet, AreDealtWith}
 use Rattle.marker_crew.specs.Stages.{stage, Works}
 use Rattle.marker_crew.proofs.draining.drain.Given as goal

@@ -1,7 +1,7 @@
 use Rattle.std.proofs.Common.{◌≡◌, ◌+◌, true, eqb, refl, sym, ◌∙◌, inl, subst}
 use Rattle.std.specs.List.{Contains}
 use Rattle.std.proofs.lemmas.List.Elements.{Contains-push}
-use Rattle.ephemerons.specs.InHand.{hand_over, traced_in}
+use Rattle.pair_notes.specs.InHand.{hand_over, traced_in}
 use Rattle.marker_crew.specs.declared.draining.Drained.{Drained}
 use Rattle.page_words.specs.Markers.{MarkerSeatView}
 use Rattle.marker_crew.specs.Stages.{Stage, stage, OnlyLooks}

@@ -3,8 +3,8 @@ use Rattle.type_table.specs.declared.traced.TracedWord.{TracedWord}
 use Rattle.type_table.specs.Types.{kinds_of as kinds_in}
 use Rattle.type_table.specs.TracedWords.{traced_words_of}
 use Rattle.gc_graph.specs.State.{ObjectType}
-use Rattle.ephemerons.specs.HandPath.{hand_last, told_length}
-use Rattle.ephemerons.specs.InHand.{traced_in}
+use Rattle.pair_notes.specs.HandPath.{hand_last, told_length}
+use Rattle.pair_notes.specs.InHand.{traced_in}
 use Rattle.marker_crew.specs.Stages.{stage}
 use Rattle.marker_crew.proofs.TracedWords.{at_each_word, at_next_word}
 use Rattle.marker_crew.proofs.Working.{Works-then}

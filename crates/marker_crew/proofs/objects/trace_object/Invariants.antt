@@ -1,6 +1,6 @@
 use Rattle.std.proofs.Common.{◌≡◌, drop}
-use Rattle.ephemerons.specs.InHand.{hand_over, traced_in}
-use Rattle.stealing_lists.specs.Shares.{taken_of}
+use Rattle.pair_notes.specs.InHand.{hand_over, traced_in}
+use Rattle.mark_worklist.specs.Shares.{taken_of}
 use Rattle.marker_crew.specs.Stages.{stage, Works}
 use Rattle.marker_crew.proofs.objects.trace_object.Given as goal
 

@@ -1,6 +1,6 @@
 use Rattle.std.proofs.Common.{◌≡◌, ◌+◌, length, sym, ap, ◌∙◌, subst, inl, inr, arith}
 use Rattle.page_words.specs.Seat.{Heap}
-use Rattle.stealing_lists.specs.Shares.{taken_of}
+use Rattle.mark_worklist.specs.Shares.{taken_of}
 use Rattle.marker_crew.specs.Crews.{Marker, HasDrained}
 use Rattle.marker_crew.proofs.runners.run.Goals as goal
 

@@ -1,6 +1,6 @@
 use Rattle.std.proofs.Common.{refl, sym, ap, ◌∙◌}
 use Rattle.page_words.specs.Markers.{MarkerSeatView}
-use Rattle.stealing_lists.specs.Kept.{share-then}
+use Rattle.mark_worklist.specs.Kept.{share-then}
 use Rattle.marker_crew.proofs.Claiming.{stop_looks}
 use Rattle.marker_crew.proofs.Shares.{found_none, then_found}
 use Rattle.marker_crew.proofs.Working.{looks_not, looks_then}

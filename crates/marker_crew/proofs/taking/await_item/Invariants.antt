@@ -1,5 +1,5 @@
 use Rattle.std.proofs.Common.{◌≡◌, MatchOption}
-use Rattle.stealing_lists.specs.Shares.{IsSameShare, put_of, taken_of}
+use Rattle.mark_worklist.specs.Shares.{IsSameShare, put_of, taken_of}
 use Rattle.marker_crew.specs.Drains.{IsIdle, IsTaken}
 use Rattle.marker_crew.specs.Stages.{OnlyLooks}
 use Rattle.marker_crew.proofs.taking.await_item.Given as goal

@@ -1,4 +1,4 @@
-use Rattle.stealing_lists.specs.Kept.{same-list}
+use Rattle.mark_worklist.specs.Kept.{same-list}
 use Rattle.stealing_trials.proofs.threads.own.Goals as goal
 
 pub loop-turn-init : goal.loop-turn-init

@@ -1,4 +1,4 @@
-use Rattle.stealing_lists.specs.Joining.{IsSameList}
+use Rattle.mark_worklist.specs.Joining.{IsSameList}
 use Rattle.stealing_trials.proofs.threads.own.Given as goal
 
 abbrev pub invariant-loop-turn : goal.invariant-loop-turn

@@ -1,6 +1,6 @@
 use Rattle.std.proofs.Common.{rules, ◌≡◌, [], ◌∷◌, get_or, sym, subst, ◌∙◌, ap}
 use Rattle.std.specs.List.{remove}
-use Rattle.stealing_lists.specs.Joining.{AreAllShares}
+use Rattle.mark_worklist.specs.Joining.{AreAllShares}
 use Rattle.stealing_trials.proofs.Two.{two-shares, none-left}
 use Rattle.stealing_trials.proofs.threads.run.Goals as goal
 

@@ -1,4 +1,4 @@
-use Rattle.stealing_lists.specs.Kept.{same-share, share-then}
+use Rattle.mark_worklist.specs.Kept.{same-share, share-then}
 use Rattle.stealing_trials.proofs.threads.work.Goals as goal
 
 pub loop-turn-init : goal.loop-turn-init

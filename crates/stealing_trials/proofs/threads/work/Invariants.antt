@@ -1,4 +1,4 @@
-use Rattle.stealing_lists.specs.Shares.{IsSameShare}
+use Rattle.mark_worklist.specs.Shares.{IsSameShare}
 use Rattle.stealing_trials.proofs.threads.work.Given as goal
 
 abbrev pub invariant-loop-turn : goal.invariant-loop-turn

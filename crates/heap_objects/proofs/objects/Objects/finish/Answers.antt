@@ -12,7 +12,7 @@ use Rattle.marker_core.specs.Bodies.{IsPlace}
 use Rattle.marker_core.specs.Bodies.{holds}
 use Rattle.nodes_in_words.specs.NodePlaces.{places_differ}
 use Rattle.nodes_in_words.specs.Nodes.{IsHeld, place_of}
-use Rattle.ephemerons.specs.Marking.{traced_count}
+use Rattle.pair_notes.specs.Marking.{traced_count}
 use Rattle.heap_objects.specs.Crews.{IsSameHeap, refusals_of_all}
 use Rattle.heap_objects.specs.Marking.{grey_of, refused_in}
 use Rattle.heap_objects.proofs.CrewStays.{crew_is}
@@ -21,8 +21,8 @@ use Rattle.page_words.specs.Seat.{SeatView, unlooked}
 use Rattle.persistent_slots.specs.Clearing.{taken}
 use Rattle.nodes_in_words.specs.KeptNodes.{slots_live, named_places, weak_are_places}
 use Rattle.nodes_in_words.specs.WeakNodes.{length-after}
-use Rattle.ephemerons.specs.Notes.{NotesState, group_at, refusals_in}
-use Rattle.stealing_lists.specs.Shares.{ShareState}
+use Rattle.pair_notes.specs.Notes.{NotesState, group_at, refusals_in}
+use Rattle.mark_worklist.specs.Shares.{ShareState}
 use Rattle.heap_objects.specs.declared.marking.Grey.{Grey}
 use Rattle.callback_table.specs.Table.{kinds_of}
 use Rattle.gc_graph.specs.May.{members}

@@ -5,7 +5,7 @@ use Rattle.mark_worklist.specs.Lists.{ListState}
 use Rattle.mark_worklist.specs.declared.marking.Marking.{Marking}
 use Rattle.page_words.specs.Markers.{new_marker}
 use Rattle.page_words.specs.Seat.{SeatView}
-use Rattle.stealing_lists.specs.Shares.{ShareState}
+use Rattle.mark_worklist.specs.Shares.{ShareState}
 use Rattle.heap_objects.specs.declared.marking.Grey.{Grey}
 use Rattle.heap_objects.specs.Crews.{Relists, lent_often}
 use Rattle.heap_objects.specs.Marking.{GreyView, grey_of}

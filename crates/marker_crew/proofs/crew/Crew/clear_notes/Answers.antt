@@ -1,7 +1,7 @@
 use Rattle.std.proofs.Common.{◌<◌, length, set, ap, ◌∙◌, arith}
 use Rattle.std.proofs.lemmas.List.{length-set}
 use Rattle.std.proofs.lemmas.List.Edits.{map_over_more}
-use Rattle.ephemerons.specs.Notes.{cleared}
+use Rattle.pair_notes.specs.Notes.{cleared}
 use Rattle.marker_crew.proofs.crew.Crew.clear_notes.Goals as goal
 
 pub loop-i-preserved : goal.loop-i-preserved

@@ -1,5 +1,5 @@
 use Rattle.std.proofs.Common.{◌≡◌, ◌++◌, map, take, drop, length, vec_capacity}
-use Rattle.ephemerons.specs.Notes.{cleared}
+use Rattle.pair_notes.specs.Notes.{cleared}
 use Rattle.marker_crew.proofs.crew.Crew.clear_notes.Given as goal
 
 abbrev pub invariant-loop-i : goal.invariant-loop-i

@@ -2,9 +2,9 @@ use Rattle.std.proofs.Common.{◌≡◌, ◌<◌, None, List, [], ◌∷◌, ◌
 use Rattle.std.specs.Arc.{arc_value}
 use Rattle.std.specs.List.{All, remove}
 use Rattle.std.proofs.lemmas.List.{length-append}
-use Rattle.ephemerons.specs.Notes.{NotesState}
+use Rattle.pair_notes.specs.Notes.{NotesState}
 use Rattle.page_words.specs.Markers.{MarkerSeatView}
-use Rattle.stealing_lists.specs.Shares.{ShareState}
+use Rattle.mark_worklist.specs.Shares.{ShareState}
 use Rattle.marker_crew.specs.Crews.{Marker, begun_with}
 use Rattle.marker_crew.specs.Runners.{began_as}
 use Rattle.marker_crew.proofs.Starting.{begun_more, own_stays, all_rest, first_less, second_less}

@@ -1,4 +1,0 @@
-use Rattle.heap_handles.proofs.handles.Handles.begin.Given as goal
-
-abbrev pub ghost-begin : goal.ghost-begin
-ghost-begin g a = g.roots

@@ -1,5 +1,0 @@
-use Rattle.std.proofs.Common.{replicate, None}
-use Rattle.heap_handles.proofs.slot_lists.null.Given as goal
-
-abbrev pub ghost-chosen : goal.ghost-chosen
-ghost-chosen a = replicate a.about.now None

@@ -1,5 +1,0 @@
-use Rattle.stealing_lists.proofs.Steps.{puts-one}
-use Rattle.stealing_lists.proofs.ends.OwnEnd.put.Goals as goal
-
-pub push_as-requires-clause-pushes : goal.push_as-requires-clause-pushes
-push_as-requires-clause-pushes c = puts-one _ _ _ c.self.invariant.1
