@@ -17,11 +17,11 @@ use Rattle.marker_core.specs.declared.states.Body.{Body}
 use Rattle.page_words.specs.Bodies.{kind_in}
 use Rattle.page_words.specs.Seat.{SeatView}
 use Rattle.weak_clearing.specs.Clearing.{MarkedHaveReferencesOf}
-use Rattle.nodes_in_words.specs.Nodes.{place_of, word_of, body_of, bodies_of, IsHeld, AreOfValid}
-use Rattle.nodes_in_words.specs.NodePlaces.{node_body, body_node, live_is_there}
-use Rattle.nodes_in_words.specs.NodeLives.{live_if_there, none_dead}
-use Rattle.nodes_in_words.specs.TypedNodes.{AreKnown, known_nodes}
-use Rattle.nodes_in_words.specs.ReferenceWords.{reference_word}
+use Rattle.prefinalizer_effects.specs.Nodes.{place_of, word_of, body_of, bodies_of, IsHeld, AreOfValid}
+use Rattle.prefinalizer_effects.specs.NodePlaces.{node_body, body_node, live_is_there}
+use Rattle.prefinalizer_effects.specs.NodeLives.{live_if_there, none_dead}
+use Rattle.prefinalizer_effects.specs.TypedNodes.{AreKnown, known_nodes}
+use Rattle.prefinalizer_effects.specs.ReferenceWords.{reference_word}
 use Rattle.atomic_pause.specs.Marking.{MarksReachable}
 
 -- a reference to a live node is one to its body

@@ -10,12 +10,12 @@ use Rattle.marker_core.specs.declared.states.Body.{Body}
 use Rattle.marker_core.specs.Bodies.{holds}
 use Rattle.marker_core.specs.SeatSteps.{unmarked_places}
 use Rattle.page_words.specs.Seat.{SeatView, side}
-use Rattle.nodes_in_words.specs.Places.{IsJudged, kept_of}
-use Rattle.nodes_in_words.specs.Nodes.{place_of, body_of, bodies_of, IsThere, IsHeld}
-use Rattle.nodes_in_words.specs.NodeChanges.{bodies-same, bodies-condemn}
-use Rattle.nodes_in_words.specs.NodePlaces.{node_body}
-use Rattle.nodes_in_words.specs.NodeLives.{life-condemn, place-condemn, there-condemn, live_if_there, dead_judged, none_dead}
-use Rattle.nodes_in_words.specs.KeptNodes.{has-kept}
+use Rattle.prefinalizer_effects.specs.PlacesInWords.{IsJudged, kept_of}
+use Rattle.prefinalizer_effects.specs.Nodes.{place_of, body_of, bodies_of, IsThere, IsHeld}
+use Rattle.prefinalizer_effects.specs.NodeChanges.{bodies-same, bodies-condemn}
+use Rattle.prefinalizer_effects.specs.NodePlaces.{node_body}
+use Rattle.prefinalizer_effects.specs.NodeLives.{life-condemn, place-condemn, there-condemn, live_if_there, dead_judged, none_dead}
+use Rattle.prefinalizer_effects.specs.KeptNodes.{has-kept}
 use Rattle.atomic_pause.specs.Marking.{MarksReachable}
 
 -- ---- a pause

@@ -11,8 +11,8 @@ use Rattle.marker_core.specs.declared.states.Body.{Body}
 use Rattle.marker_core.specs.Closed.{IsClosedOver}
 use Rattle.page_words.specs.Roles.{kind_lists}
 use Rattle.page_words.specs.Seat.{SeatView, IsView, ended}
-use Rattle.pair_notes.specs.Marking.{MarksOn, GrowsWithin, IsOver, traced_count}
-use Rattle.pair_notes.specs.Notes.{NotesState}
+use Rattle.ephemerons.specs.Marking.{MarksOn, GrowsWithin, IsOver, traced_count}
+use Rattle.ephemerons.specs.Notes.{NotesState}
 use Rattle.ephemerons.specs.UnderWay.{IsReadyToEnd}
 use Rattle.ephemerons.specs.LookedAt.{LooksWithin}
 use Rattle.ephemerons.specs.LookedPlaces.{lookable_yet}

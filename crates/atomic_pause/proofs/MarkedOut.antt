@@ -6,7 +6,7 @@ use Rattle.marker_core.specs.Bodies.{holds}
 use Rattle.page_words.specs.Seat.{SeatView}
 use Rattle.cross_thread_region.specs.declared.chronicle.PlacedEntry.{PlacedEntry}
 use Rattle.cross_thread_region.specs.Histories.{strong_place}
-use Rattle.pair_notes.specs.Notes.{NotesState}
+use Rattle.ephemerons.specs.Notes.{NotesState}
 use Rattle.ephemerons.specs.LookedAt.{IsLookedAt, LooksOnlyAt, LooksWithin, AreHoldersMarked}
 use Rattle.ephemerons.specs.LookedPlaces.{looked_nowhere, looked_then, looked_as}
 use Rattle.atomic_pause.specs.Marking.{IsSharedPlace}

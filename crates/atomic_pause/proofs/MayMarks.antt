@@ -3,7 +3,7 @@ use Rattle.std.proofs.Common.{◌≡◌, ℕ, List, refl, ap, ◌∙◌, inl, in
 use Rattle.gc_graph.specs.State.{ObjectType}
 use Rattle.mark_worklist.specs.declared.marking.Marking.{Marking}
 use Rattle.page_words.specs.Seat.{SeatView}
-use Rattle.pair_notes.specs.Notes.{NotesState}
+use Rattle.ephemerons.specs.Notes.{NotesState}
 use Rattle.ephemerons.specs.UnderWay.{IsReadyToEnd}
 use Rattle.ephemerons.specs.Fixpoint.{ListsMarks, mode_of}
 use Rattle.ephemerons.specs.ListedMarks.{ListsMarks-then, lists_looked}

@@ -18,16 +18,16 @@ use Rattle.mark_worklist.specs.declared.marking.Marking.{Marking}
 use Rattle.marker_core.specs.declared.states.Body.{Body}
 use Rattle.marker_core.specs.Bodies.{holds}
 use Rattle.page_words.specs.Seat.{SeatView, IsView}
-use Rattle.page_space.specs.Space.{SpaceView, IsSpaceOf}
+use Rattle.weak_clearing.specs.Space.{SpaceView, IsSpaceOf}
 use Rattle.ephemerons.specs.Fixpoint.{ListsMarks}
-use Rattle.pair_notes.specs.Marking.{traced_count}
+use Rattle.ephemerons.specs.Marking.{traced_count}
 use Rattle.prefinalizer_effects.specs.Prepared.{setup_of, IsPrepared}
-use Rattle.nodes_in_words.specs.Nodes.{place_of, bodies_of, IsHeld, AreOfValid}
-use Rattle.nodes_in_words.specs.Places.{kept_of}
-use Rattle.nodes_in_words.specs.Judgement.{nodes_after}
-use Rattle.nodes_in_words.specs.NodeBodies.{length-bodies}
-use Rattle.nodes_in_words.specs.NodeLives.{life-condemn, live-condemn, live_and_dead, none_dead}
-use Rattle.nodes_in_words.specs.WeakNodes.{life-after, place-after, length-after, live-after, count-stays}
+use Rattle.prefinalizer_effects.specs.Nodes.{place_of, bodies_of, IsHeld, AreOfValid}
+use Rattle.prefinalizer_effects.specs.PlacesInWords.{kept_of}
+use Rattle.prefinalizer_effects.specs.Judgement.{nodes_after}
+use Rattle.prefinalizer_effects.specs.NodeBodies.{length-bodies}
+use Rattle.prefinalizer_effects.specs.NodeLives.{life-condemn, live-condemn, live_and_dead, none_dead}
+use Rattle.prefinalizer_effects.specs.WeakNodes.{life-after, place-after, length-after, live-after, count-stays}
 use Rattle.cross_thread_region.specs.declared.chronicle.PlacedEntry.{PlacedEntry}
 use Rattle.cross_thread_region.specs.Histories.{strong_place}
 use Rattle.atomic_pause.specs.Marking.{IsScanned, IsSharedPlace, IsRootPlace, IsMayOrRoot, IsMarkedIn, MarksReachable, marked_count, with_may}

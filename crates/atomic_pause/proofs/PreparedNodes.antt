@@ -15,11 +15,11 @@ use Rattle.gc_graph.specs.ActionLaw.{AreTyped}
 use Rattle.gc_graph.specs.Condemning.{length-condemn, clear_typed}
 use Rattle.gc_graph.specs.NodeNumbers.{there_below}
 use Rattle.prefinalizer_effects.specs.Prepared.{NamesThere, AllNameThere}
-use Rattle.nodes_in_words.specs.Judgement.{nodes_after}
-use Rattle.nodes_in_words.specs.Nodes.{IsThere}
-use Rattle.nodes_in_words.specs.NodeLives.{life-condemn, object-condemn, live_if_there, there-condemn, still_there}
-use Rattle.nodes_in_words.specs.TypedNodes.{AreKnown}
-use Rattle.nodes_in_words.specs.WeakNodes.{life-after, length-after}
+use Rattle.prefinalizer_effects.specs.Judgement.{nodes_after}
+use Rattle.prefinalizer_effects.specs.Nodes.{IsThere}
+use Rattle.prefinalizer_effects.specs.NodeLives.{life-condemn, object-condemn, live_if_there, there-condemn, still_there}
+use Rattle.prefinalizer_effects.specs.TypedNodes.{AreKnown}
+use Rattle.prefinalizer_effects.specs.WeakNodes.{life-after, length-after}
 
 -- ---- clearing keeps the kinds of values, and what holds of them and of null
 

@@ -22,13 +22,13 @@ use Rattle.marker_core.specs.Closed.{IsClosedOver}
 use Rattle.page_words.specs.PlaceTests.{place_of_test}
 use Rattle.page_words.specs.Roles.{kind_lists}
 use Rattle.page_words.specs.Seat.{SeatView, IsView}
-use Rattle.nodes_in_words.specs.Nodes.{place_of, body_of, bodies_of, IsThere, IsHeld, AreOfValid}
-use Rattle.nodes_in_words.specs.Places.{kept_of}
-use Rattle.nodes_in_words.specs.AmongNodes.{IsAmong, among_cases, among_left, among_right, filter_holds, filter_passes}
-use Rattle.nodes_in_words.specs.NodePlaces.{live_is_there, node_body, body_node, same_node}
-use Rattle.nodes_in_words.specs.NodeLives.{live_if_there, none_dead}
-use Rattle.nodes_in_words.specs.ClosedPlaces.{reached_place, reached_from, reached_some, kept_closed, places_closed}
-use Rattle.nodes_in_words.specs.KeptNodes.{kept_parts, kept_from, kept_low, slot_of_root, slot_place, slot_live, refers_within}
+use Rattle.prefinalizer_effects.specs.Nodes.{place_of, body_of, bodies_of, IsThere, IsHeld, AreOfValid}
+use Rattle.prefinalizer_effects.specs.PlacesInWords.{kept_of}
+use Rattle.prefinalizer_effects.specs.AmongNodes.{IsAmong, among_cases, among_left, among_right, filter_holds, filter_passes}
+use Rattle.prefinalizer_effects.specs.NodePlaces.{live_is_there, node_body, body_node, same_node}
+use Rattle.prefinalizer_effects.specs.NodeLives.{live_if_there, none_dead}
+use Rattle.prefinalizer_effects.specs.ClosedPlaces.{reached_place, reached_from, reached_some, kept_closed, places_closed}
+use Rattle.prefinalizer_effects.specs.KeptNodes.{kept_parts, kept_from, kept_low, slot_of_root, slot_place, slot_live, refers_within}
 use Rattle.atomic_pause.specs.Marking.{HoldsRoots, IsHitPlace, IsScanned, IsSharedPlace, IsOtherRoot, MarksReachable}
 use Rattle.atomic_pause.specs.Pausing.{NamePlaces, IsMayWithin, IsKeptBetween, IsPausable, hits_at, hits_in, shared_roots}
 use Rattle.atomic_pause.specs.MembersOf.{member_among, among_member, member_below}

@@ -16,11 +16,11 @@ use Rattle.cross_thread_region.specs.Calls.{RegionView, PassView, IsReady, histo
 use Rattle.cross_thread_region.specs.Pauses.{paused, dying_of}
 use Rattle.cross_thread_region.specs.PlacedNodes.{named_is_target, strong_slot_of, weak_slot_of}
 use Rattle.cross_thread_region.specs.DyingSlots.{dying_are_dead}
-use Rattle.nodes_in_words.specs.Nodes.{place_of, body_of, IsHeld}
-use Rattle.nodes_in_words.specs.Places.{kept_of}
-use Rattle.nodes_in_words.specs.Judgement.{nodes_after}
-use Rattle.nodes_in_words.specs.NodePlaces.{live_is_there, node_body}
-use Rattle.nodes_in_words.specs.WeakNodes.{life-after}
+use Rattle.prefinalizer_effects.specs.Nodes.{place_of, body_of, IsHeld}
+use Rattle.prefinalizer_effects.specs.PlacesInWords.{kept_of}
+use Rattle.prefinalizer_effects.specs.Judgement.{nodes_after}
+use Rattle.prefinalizer_effects.specs.NodePlaces.{live_is_there, node_body}
+use Rattle.prefinalizer_effects.specs.WeakNodes.{life-after}
 use Rattle.atomic_pause.specs.Pausing.{IsPausable, IsPausedRegion, dying_in}
 use Rattle.atomic_pause.proofs.WeakJudged.{tells_unmarked}
 

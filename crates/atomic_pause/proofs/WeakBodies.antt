@@ -16,9 +16,9 @@ use Rattle.type_table.specs.Layouts.{kinds_of_words}
 use Rattle.marker_core.specs.declared.states.Body.{Body}
 use Rattle.marker_core.specs.Bodies.{holds}
 use Rattle.weak_clearing.specs.Clearing.{names_unmarked, clear_weak, clear_words, clear_body, clear_pair_words, clear_pairs_of}
-use Rattle.nodes_in_words.specs.Nodes.{word_of, body_of, bodies_from}
-use Rattle.nodes_in_words.specs.NodeBodies.{bodies-there, bodies-gone}
-use Rattle.nodes_in_words.specs.WeakNodes.{life-clear}
+use Rattle.prefinalizer_effects.specs.Nodes.{word_of, body_of, bodies_from}
+use Rattle.prefinalizer_effects.specs.NodeBodies.{bodies-there, bodies-gone}
+use Rattle.prefinalizer_effects.specs.WeakNodes.{life-clear}
 
 -- ---- the values of a live node
 

@@ -18,17 +18,17 @@ use Rattle.type_table.specs.Layouts.{kinds_of_words}
 use Rattle.marker_core.specs.declared.states.Body.{Body}
 use Rattle.marker_core.specs.Bodies.{IsPlace, holds}
 use Rattle.page_words.specs.Seat.{SeatView, OnlyLooked}
-use Rattle.page_space.specs.Space.{SpaceView, IsSpaceOf, IsSpaceIn, extents_of_bodies}
+use Rattle.weak_clearing.specs.Space.{SpaceView, IsSpaceOf, IsSpaceIn, extents_of_bodies}
 use Rattle.weak_clearing.specs.Clearing.{clear_words, clear_body, with_weak_cleared, clear_pair_words, clear_pairs_of, with_pairs_cleared}
-use Rattle.nodes_in_words.specs.Nodes.{AreOfValid, place_of, word_of, IsHeld}
-use Rattle.nodes_in_words.specs.Places.{IsJudged, kept_of, places_of}
-use Rattle.nodes_in_words.specs.Judgement.{nodes_after}
-use Rattle.nodes_in_words.specs.NodeChanges.{bodies-same}
-use Rattle.nodes_in_words.specs.NodeLives.{life-condemn, object-condemn, place-condemn, there-condemn, live_if_there, dead_judged, none_dead}
-use Rattle.nodes_in_words.specs.TypedNodes.{AreKnown, known_nodes}
-use Rattle.nodes_in_words.specs.KeptNodes.{has-kept, slots_live}
-use Rattle.nodes_in_words.specs.WeakNodes.{life-after, place-after}
-use Rattle.nodes_in_words.specs.ChangedBodies.{KeepsExtents, same_extents, judged_changed}
+use Rattle.prefinalizer_effects.specs.Nodes.{AreOfValid, place_of, word_of, IsHeld}
+use Rattle.prefinalizer_effects.specs.PlacesInWords.{IsJudged, kept_of, places_of}
+use Rattle.prefinalizer_effects.specs.Judgement.{nodes_after}
+use Rattle.prefinalizer_effects.specs.NodeChanges.{bodies-same}
+use Rattle.prefinalizer_effects.specs.NodeLives.{life-condemn, object-condemn, place-condemn, there-condemn, live_if_there, dead_judged, none_dead}
+use Rattle.prefinalizer_effects.specs.TypedNodes.{AreKnown, known_nodes}
+use Rattle.prefinalizer_effects.specs.KeptNodes.{has-kept, slots_live}
+use Rattle.prefinalizer_effects.specs.WeakNodes.{life-after, place-after}
+use Rattle.prefinalizer_effects.specs.ChangedBodies.{KeepsExtents, same_extents, judged_changed}
 use Rattle.atomic_pause.specs.Marking.{MarksReachable}
 use Rattle.atomic_pause.proofs.HeldNodes.{held_judged}
 use Rattle.atomic_pause.proofs.WeakBodies.{TellsUnmarked, Clears, cleared_both, cleared_words, clear_all, bodies_cleared}

@@ -9,7 +9,7 @@ use Rattle.marker_core.specs.Closed.{IsClosedOver}
 use Rattle.marker_core.specs.SeatSteps.{unmarked_places}
 use Rattle.page_words.specs.Roles.{kind_lists}
 use Rattle.page_words.specs.Seat.{SeatView, side}
-use Rattle.page_space.specs.Space.{HoldsAddress}
+use Rattle.weak_clearing.specs.Space.{HoldsAddress}
 
 -- a word of the stack is an address of a word of the body at the place
 abbrev pub IsHitPlace : List Body → List ℕ → ℕ → Type 0

@@ -4,7 +4,7 @@ use Rattle.std.proofs.lemmas.Bool.{true≢false, or_cases, or_left, or_right, eq
 use Rattle.std.specs.List.{list_any}
 use Rattle.gc_graph.specs.Graph.{IsIn}
 use Rattle.gc_graph.specs.May.{members, members_from}
-use Rattle.nodes_in_words.specs.AmongNodes.{IsAmong}
+use Rattle.prefinalizer_effects.specs.AmongNodes.{IsAmong}
 
 in_members : (k : ℕ) (set : List Bool) (n : ℕ) → IsIn set n → IsAmong (members_from k set) (k + n)
 in_members k [] n is = absurd (true≢false (sym is))

@@ -16,9 +16,9 @@ use Rattle.cross_thread_region.specs.Histories.{slots_of, is_started, IsPlacedBy
 use Rattle.callback_table.specs.Registry.{registrations_of, pairs_run, entries_left, RegistryView}
 use Rattle.marker_core.specs.Bodies.{holds}
 use Rattle.page_words.specs.Seat.{SeatView}
-use Rattle.nodes_in_words.specs.Nodes.{place_of}
-use Rattle.nodes_in_words.specs.Places.{places_of}
-use Rattle.nodes_in_words.specs.Judgement.{nodes_after}
+use Rattle.prefinalizer_effects.specs.Nodes.{place_of}
+use Rattle.prefinalizer_effects.specs.PlacesInWords.{places_of}
+use Rattle.prefinalizer_effects.specs.Judgement.{nodes_after}
 
 -- the slots name live nodes, and these are the places of what they name
 pub record NamePlaces (nodes : List Node) (slots places : List (Option ℕ)) : Type 0 where

@@ -7,16 +7,15 @@ ghost use Rattle.gc_graph.specs.declared.kind.Kind.TheVariants.{Pair};
 ghost use Rattle.marker_core.specs.Bodies.{IsPlace};
 ghost use Rattle.marker_core.specs.Bodies.{holds};
 ghost use Rattle.page_words.specs.Seat.{OnlyLooked};
-ghost use Rattle.page_space.specs.Space.{IsSeatOf};
+ghost use Rattle.weak_clearing.specs.Space.{IsSeatOf};
 ghost use Rattle.persistent_slots.specs.Clearing.{taken};
 ghost use Rattle.weak_clearing.specs.Clearing.{MarkedHaveWeakReferences, with_weak_cleared};
 ghost use Rattle.weak_clearing.specs.Clearing.{MarkedHaveReferencesOf, with_pairs_cleared};
 
-use page_space::Space;
 use page_words::MutatorSeat;
 use persistent_slots::Slots;
 use type_table::TypeTable;
-use weak_clearing::{clear_fields, clear_pairs, clear_slots};
+use weak_clearing::{Space, clear_fields, clear_pairs, clear_slots};
 
 /// Sets to null the weak slots whose object is not marked, and of marked objects the weak fields
 /// whose object is not, and the pairs whose key is not.

@@ -3,21 +3,20 @@
 
 ghost use Rattle.std.specs.Prelude.{◌≡◌, ◌<◌, ◌+◌, ℕ, true, false, [], length};
 ghost use Rattle.mark_worklist.specs.Refusals.{TellsRefused, refusals_of};
-ghost use Rattle.page_space.specs.Space.{IsSeatOf};
-ghost use Rattle.pair_notes.specs.BodyGraph.{PlacesDiffer};
-ghost use Rattle.pair_notes.specs.Marking.{traced_count};
+ghost use Rattle.weak_clearing.specs.Space.{IsSeatOf};
+ghost use Rattle.ephemerons.specs.BodyGraph.{PlacesDiffer};
+ghost use Rattle.ephemerons.specs.Marking.{traced_count};
 ghost use Rattle.ephemerons.specs.Fixpoint.{IsUnrefused};
 ghost use Rattle.ephemerons.specs.LookedAt.{AreHoldersMarked, LooksWithin};
-ghost use Rattle.pair_notes.specs.Notes.{group_at, refusals_in};
+ghost use Rattle.ephemerons.specs.Notes.{group_at, refusals_in};
 ghost use Rattle.ephemerons.specs.UnderWay.{IsReadyToEnd};
 ghost use Rattle.atomic_pause.specs.Marking.{IsMarkedIn, MarksReachable, marked_count};
 
-use ephemerons::fixpoint;
-use pair_notes::Pairs;
+use ephemerons::{Pairs, fixpoint};
 use mark_worklist::Marking;
-use page_space::Space;
 use page_words::MutatorSeat;
 use type_table::TypeTable;
+use weak_clearing::Space;
 
 /// Traces all that is marked and marks what that asks for, until nothing is grey and what is marked
 /// is closed, and ends marking: what is not marked is dead. Answers how many objects it traced. It

@@ -2,12 +2,12 @@
 
 ghost use Rattle.std.specs.Prelude.{◌≡◌};
 ghost use Rattle.marker_core.specs.Bodies.{holds};
-ghost use Rattle.nodes_in_words.specs.Places.{kept_of};
-ghost use Rattle.nodes_in_words.specs.Judgement.{nodes_after};
+ghost use Rattle.prefinalizer_effects.specs.PlacesInWords.{kept_of};
+ghost use Rattle.prefinalizer_effects.specs.Judgement.{nodes_after};
 
 use ghost_values::GhostValue;
-use nodes_in_words::NodeLists;
 use page_words::MutatorSeat;
+use prefinalizer_effects::NodeLists;
 
 /// What a judgement looks at.
 #[derive(Drop)]

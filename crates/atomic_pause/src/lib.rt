@@ -35,6 +35,8 @@ mod prefinalizing;
 mod region_clearing;
 mod roots;
 
+pub use ephemerons::trace_listed;
 pub use parts::{Parts, PauseResult};
 pub use pausing::pause;
+pub use prefinalizer_effects::NodeLists;
 pub use roots::{visit_slots, visit_told};

@@ -4,13 +4,13 @@ ghost use Rattle.std.specs.Prelude.{◌≡◌, ◌+◌, ℕ, true, false, [], So
 ghost use Rattle.std.specs.Option.{ForSome};
 ghost use Rattle.mark_worklist.specs.Refusals.{TellsRefused, refusals_of};
 ghost use Rattle.marker_core.specs.Bodies.{IsPlace, holds};
-ghost use Rattle.page_space.specs.Space.{IsSpaceOf};
+ghost use Rattle.weak_clearing.specs.Space.{IsSpaceOf};
 ghost use Rattle.cross_thread_region.specs.Histories.{strong_place};
-ghost use Rattle.pair_notes.specs.BodyGraph.{PlacesDiffer};
-ghost use Rattle.pair_notes.specs.Marking.{traced_count};
+ghost use Rattle.ephemerons.specs.BodyGraph.{PlacesDiffer};
+ghost use Rattle.ephemerons.specs.Marking.{traced_count};
 ghost use Rattle.ephemerons.specs.Fixpoint.{IsUnrefused};
 ghost use Rattle.ephemerons.specs.LookedAt.{AreHoldersMarked, LooksWithin};
-ghost use Rattle.pair_notes.specs.Notes.{group_at, refusals_in};
+ghost use Rattle.ephemerons.specs.Notes.{group_at, refusals_in};
 ghost use Rattle.ephemerons.specs.UnderWay.{IsReadyToEnd};
 ghost use Rattle.atomic_pause.specs.Marking.{IsRootPlace, IsMayOrRoot, MarksReachable};
 ghost use Rattle.atomic_pause.specs.Marking.{marked_count};
@@ -18,12 +18,12 @@ ghost use Rattle.atomic_pause.specs.Marking.{marked_count};
 use crate::closing::close;
 use crate::roots::{scan_stack, visit_region, visit_slots};
 use cross_thread_region::HeldRegion;
-use pair_notes::Pairs;
+use ephemerons::Pairs;
 use mark_worklist::Marking;
-use page_space::Space;
 use page_words::MutatorSeat;
 use persistent_slots::Slots;
 use type_table::TypeTable;
+use weak_clearing::Space;
 
 /// Marks what the roots reach, and what is marked already leads to, and ends marking: what is not
 /// marked is dead. Answers how many objects it traced. `early` tells how many headers had been

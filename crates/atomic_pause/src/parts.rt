@@ -4,11 +4,11 @@ use callback_table::{CallbackTable, Registry};
 use cross_thread_region::{Pass, Region};
 use ghost_values::GhostValue;
 use mark_worklist::Marking;
-use nodes_in_words::NodeLists;
-use page_space::Space;
 use page_words::MutatorSeat;
 use persistent_slots::Slots;
+use prefinalizer_effects::NodeLists;
 use type_table::TypeTable;
+use weak_clearing::Space;
 
 /// The parts of a heap that a pause works on, each lent by its owner.
 ///

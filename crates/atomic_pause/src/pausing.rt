@@ -10,14 +10,14 @@ ghost use Rattle.callback_table.specs.Registry.{IsRegistered};
 ghost use Rattle.callback_table.specs.Table.{kinds_of};
 ghost use Rattle.mark_worklist.specs.Refusals.{TellsRefused, refusals_of};
 ghost use Rattle.marker_core.specs.Bodies.{IsPlace, holds};
-ghost use Rattle.page_space.specs.Space.{IsSpaceOf, extents_of_bodies};
+ghost use Rattle.weak_clearing.specs.Space.{IsSpaceOf, extents_of_bodies};
 ghost use Rattle.persistent_slots.specs.Clearing.{taken};
-ghost use Rattle.pair_notes.specs.Marking.{traced_count};
+ghost use Rattle.ephemerons.specs.Marking.{traced_count};
 ghost use Rattle.ephemerons.specs.UnderWay.{IsReadyToEnd};
 ghost use Rattle.ephemerons.specs.Fixpoint.{IsUnrefused};
-ghost use Rattle.pair_notes.specs.Notes.{group_at, refusals_in};
-ghost use Rattle.nodes_in_words.specs.Nodes.{AreOfValid, IsHeld};
-ghost use Rattle.nodes_in_words.specs.Places.{places_of};
+ghost use Rattle.ephemerons.specs.Notes.{group_at, refusals_in};
+ghost use Rattle.prefinalizer_effects.specs.Nodes.{AreOfValid, IsHeld};
+ghost use Rattle.prefinalizer_effects.specs.PlacesInWords.{places_of};
 ghost use Rattle.prefinalizer_effects.specs.Prepared.{setup_of, IsPrepared};
 ghost use Rattle.atomic_pause.specs.Pausing.{NamePlaces, IsMayWithin, hits_in, IsPaused};
 ghost use Rattle.atomic_pause.specs.Pausing.{IsPausable, IsPausedRegion, shared_roots};
@@ -31,7 +31,7 @@ use crate::marking::mark_out;
 use crate::parts::{Parts, PauseResult};
 use crate::prefinalizing::prefinalise;
 use crate::region_clearing::clear_region;
-use pair_notes::Pairs;
+use ephemerons::Pairs;
 
 /// Keeps what the roots reach and condemns the other objects. The roots are what the strong slots
 /// name, those of the region too, and, unless the pause is precise, the objects with a word at an

@@ -7,16 +7,15 @@ ghost use Rattle.gc_graph.specs.Pause.{run_order, prefinalised};
 ghost use Rattle.callback_table.specs.Registry.{IsRegistered, registrations_of};
 ghost use Rattle.callback_table.specs.Registry.{pairs_run, entries_left};
 ghost use Rattle.callback_table.specs.Table.{kinds_of};
-ghost use Rattle.page_space.specs.Space.{extents_of_bodies};
+ghost use Rattle.weak_clearing.specs.Space.{extents_of_bodies};
 ghost use Rattle.prefinalizer_effects.specs.Prepared.{IsPrepared};
 
 use callback_table::{CallbackTable, Registry};
 use ghost_values::GhostValue;
-use nodes_in_words::NodeLists;
-use page_space::Space;
 use page_words::MutatorSeat;
-use prefinalizer_effects::PausedBodies;
+use prefinalizer_effects::{NodeLists, PausedBodies};
 use type_table::TypeTable;
+use weak_clearing::Space;
 
 /// Runs the prefinalizers of the dead objects, from the last that was registered to the first, and
 /// takes them away.

@@ -8,16 +8,15 @@ ghost use Rattle.gc_graph.specs.History.{NamesWeakSlots};
 ghost use Rattle.gc_graph.specs.Pause.{clear_slot};
 ghost use Rattle.marker_core.specs.Bodies.{IsPlace, holds};
 ghost use Rattle.page_words.specs.Seat.{OnlyLooked};
-ghost use Rattle.page_space.specs.Space.{IsSeatOf};
+ghost use Rattle.weak_clearing.specs.Space.{IsSeatOf};
 ghost use Rattle.cross_thread_region.specs.Histories.{slots_of, told, weak_place};
 ghost use Rattle.cross_thread_region.specs.Calls.{Begins, IsReady, given_back, history_of};
 ghost use Rattle.cross_thread_region.specs.Pauses.{paused, dying_of};
 
 use crate::roots::SHARED;
 use cross_thread_region::{HeldRegion, Pass, Region};
-use page_space::Space;
 use page_words::MutatorSeat;
-use weak_clearing::is_marked;
+use weak_clearing::{Space, is_marked};
 
 /// Sets to null the weak slots of the region whose object is not marked, and gives the region its
 /// history back.

@@ -5,7 +5,7 @@ ghost use Rattle.std.specs.Prelude.{◌≡◌, ◌⊎◌, ◌+◌, ℕ, true, Co
 ghost use Rattle.std.specs.Option.{ForSome};
 ghost use Rattle.marker_core.specs.Bodies.{IsPlace};
 ghost use Rattle.marker_core.specs.Bodies.{holds};
-ghost use Rattle.page_space.specs.Space.{IsSeatOf, IsSpaceOf, HoldsAddress};
+ghost use Rattle.weak_clearing.specs.Space.{IsSeatOf, IsSpaceOf, HoldsAddress};
 ghost use Rattle.page_words.specs.Seat.{OnlyLooked};
 ghost use Rattle.ephemerons.specs.Fixpoint.{ListsMarks};
 ghost use Rattle.ephemerons.specs.LookedAt.{LooksOnlyAt};
@@ -15,9 +15,9 @@ ghost use Rattle.atomic_pause.specs.Marking.{IsHitPlace, IsScanned, IsSharedPlac
 use cross_thread_region::HeldRegion;
 use ephemerons::mark;
 use mark_worklist::Marking;
-use page_space::Space;
 use page_words::{Bodywords, MutatorSeat, WeakRead};
 use persistent_slots::Slots;
+use weak_clearing::Space;
 
 /// How many slots a region has.
 pub(crate) const SHARED: u32 = 32;

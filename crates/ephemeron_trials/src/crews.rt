@@ -5,15 +5,15 @@ ghost use Rattle.page_words.specs.Markers.{new_marker};
 
 use crate::draining::marked;
 use crate::small_heap::{HOLDER, OTHER, one_type};
-use pair_notes::Pairs;
+use mark_worklist::{SharedList, Tally};
 use marker_crew::{Crew, CrewResult, Drained, FreeGate, Gate, step_beside};
 use page_words::{MarkerSeat, MutatorSeat, Words};
+use pair_notes::Pairs;
 use std::alloc::Global;
 use std::sync::Arc;
 use std::sync::atomic::{AtomicU64, Ordering};
 use std::thread;
 use std::thread::Threads;
-use mark_worklist::{SharedList, Tally};
 
 /// So often a thread looks whether another one came.
 const TURNS: u32 = 1 << 24;

@@ -6,15 +6,15 @@ ghost use Rattle.page_space.specs.Space.{IsSeatOf};
 ghost use Rattle.ephemeron_trials.specs.SmallHeap.{pair_then_strong, IsEither};
 
 use crate::small_heap::{HOLDER, OTHER, made, one_type, write};
-use pair_notes::Pairs;
+use mark_worklist::{Share, SharedList};
 use marker_crew::{Drained, FreeGate, drain};
 use page_space::Space;
 use page_words::{Bodywords, MarkerSeat, MutatorSeat, Words};
+use pair_notes::Pairs;
 use std::alloc::Global;
 use std::test::Fail;
 use std::thread;
 use std::thread::Threads;
-use mark_worklist::{Share, SharedList};
 use type_table::TypeTable;
 
 /// So often two markers drain the lists of a new heap.

@@ -8,10 +8,10 @@ ghost use Rattle.ephemeron_trials.specs.SmallHeap.{IsEitherPlace, IsEitherPair};
 
 use crate::small_heap::{HOLDER, OTHER, made, one_type, write};
 use ephemerons::{claim, fixpoint, trace};
-use pair_notes::Pairs;
 use mark_worklist::{Marking, Worklist};
 use page_space::Space;
 use page_words::{Bodywords, MutatorSeat};
+use pair_notes::Pairs;
 use std::alloc::Global;
 use type_table::TypeTable;
 

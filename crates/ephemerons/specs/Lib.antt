@@ -8,3 +8,7 @@ pub mod Accounted
 pub mod UnderWayStays
 pub mod ReadyStays
 pub mod LookedPlaces
+-- Words of the crates below that the crates above name too.
+pub use Rattle.pair_notes.specs.BodyGraph
+pub use Rattle.pair_notes.specs.Marking
+pub use Rattle.pair_notes.specs.Notes

@@ -14,11 +14,11 @@ ghost use Rattle.ephemerons.specs.Fixpoint.{Works, mode_of, stage, weight};
 ghost use Rattle.ephemerons.specs.LookedAt.{AreHoldersMarked, LooksWithin, LooksOnward};
 
 use crate::draining::{drain, drain_if_pairless};
-use pair_notes::Pairs;
 use crate::settling::settle_notes;
 use crate::walking::walk_heap;
 use mark_worklist::Marking;
 use page_words::{Bodywords, MutatorSeat};
+use pair_notes::Pairs;
 use type_table::TypeTable;
 
 /// Traces all that is marked, and marks what that asks for, until nothing is grey and what is

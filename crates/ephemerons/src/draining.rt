@@ -6,11 +6,11 @@ ghost use Rattle.ephemerons.specs.Fixpoint.{IsGround, Works, stage, weight};
 ghost use Rattle.ephemerons.specs.LookedAt.{LooksOnward};
 
 use crate::marks::next_listed;
-use pair_notes::Pairs;
 use crate::settling::settle_under;
 use crate::tracing::{trace_grey, trace_pairless};
 use mark_worklist::Marking;
 use page_words::{Bodywords, MutatorSeat};
+use pair_notes::Pairs;
 use type_table::TypeTable;
 
 /// A list is short where it has less than one object for so many notes.

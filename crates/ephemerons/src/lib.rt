@@ -39,5 +39,6 @@ mod walking;
 
 pub use closing::fixpoint;
 pub use marks::mark;
+pub use pair_notes::Pairs;
 pub use stepping::trace_listed;
 pub use tracing::{claim, trace};

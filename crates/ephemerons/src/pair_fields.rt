@@ -17,11 +17,11 @@ ghost use Rattle.ephemerons.specs.LookedAt.{LooksWithin};
 ghost use Rattle.ephemerons.specs.Fixpoint.{ListsMarks};
 
 use crate::marks::list_held;
-use pair_notes::Pairs;
 use crate::strong_fields::trace_target;
 use mark_worklist::Marking;
 use object_headers::place_in;
 use page_words::{Bodywords, MutatorSeat, Tracing, has_mark};
+use pair_notes::Pairs;
 
 /// Marks and lists the value of the pair in hand where the key is marked, and notes the pair
 /// otherwise. A pair without a key asks for nothing.

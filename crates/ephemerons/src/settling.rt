@@ -10,10 +10,10 @@ ghost use Rattle.ephemerons.specs.Fixpoint.{IsGround, IsSettled, Looks, Works, s
 ghost use Rattle.ephemerons.specs.LookedAt.{LooksOnward};
 
 use crate::marks::{is_marked, mark_reference, names_marked, word_of};
-use pair_notes::{Note, Pairs};
 use crate::tracing::trace_grey;
 use mark_worklist::Marking;
 use page_words::{Bodywords, MutatorSeat};
+use pair_notes::{Note, Pairs};
 use type_table::TypeTable;
 
 /// Settles each note of each group. True where one asked for work.

@@ -14,11 +14,11 @@ ghost use Rattle.ephemerons.specs.Fixpoint.{IsGround, Works, mode_of, stage, wit
 
 use crate::draining::has_pairs;
 use crate::marks::{list_held, next_listed};
-use pair_notes::Pairs;
 use crate::strong_fields::trace_strong;
 use crate::tracing::{claim, trace_fields};
 use mark_worklist::Marking;
 use page_words::{Bodywords, MutatorSeat};
+use pair_notes::Pairs;
 use type_table::TypeTable;
 
 /// Traces objects from the list, at most so many. Answers how many: fewer only where the list came

@@ -19,12 +19,12 @@ ghost use Rattle.ephemerons.specs.Fixpoint.{IsGround, Looks, Works, stage};
 ghost use Rattle.ephemerons.specs.LookedAt.{LooksOnlyAt, LooksWithin, LooksOnward};
 
 use crate::marks::{list_held, type_of};
-use pair_notes::Pairs;
 use crate::pair_fields::trace_pair;
 use crate::strong_fields::{trace_strong, trace_strong_word};
 use mark_worklist::Marking;
 use object_headers::{Header, with_traced};
 use page_words::{Bodywords, MutatorSeat, Reading, has_mark};
+use pair_notes::Pairs;
 use type_table::{TracedWord, TypeTable};
 
 /// Traces an object that this seat claimed, and that is in hand as the claim left it: marks and

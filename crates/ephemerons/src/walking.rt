@@ -10,11 +10,11 @@ ghost use Rattle.ephemerons.specs.Fixpoint.{Works, stage, weight};
 
 use crate::draining::drain;
 use crate::marks::type_of;
-use pair_notes::Pairs;
 use crate::settling::settle_pair;
 use crate::tracing::trace_grey;
 use mark_worklist::Marking;
 use page_words::{Bodywords, MutatorSeat};
+use pair_notes::Pairs;
 use type_table::TypeTable;
 
 /// Drains the list and looks at all objects, until neither asks for more.

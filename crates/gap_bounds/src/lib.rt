@@ -33,3 +33,4 @@ mod gaps;
 pub use bounds::GROUP_WORDS;
 pub use classes::{Class, class_of};
 pub use gaps::Gaps;
+pub use page_words::{BLOCK_WORDS, Bodywords, MutatorSeat, Reading, Reason, TypeTable, Words};

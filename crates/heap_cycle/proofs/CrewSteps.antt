@@ -7,9 +7,9 @@ use Rattle.gc_graph.specs.State.{Setup, Node}
 use Rattle.cross_thread_region.specs.declared.chronicle.PlacedEntry.{PlacedEntry}
 use Rattle.marker_core.specs.Bodies.{holds}
 use Rattle.sweeper.specs.Sweeping.{cursor_at}
-use Rattle.nodes_in_words.specs.Nodes.{place_of}
-use Rattle.heap_objects.specs.Marks.{HasMarking, HasMarks}
-use Rattle.heap_objects.specs.Objects.{ObjectsView, setup_of_objects, StaysAt}
+use Rattle.heap_roots.specs.Nodes.{place_of}
+use Rattle.heap_roots.specs.Marks.{HasMarking, HasMarks}
+use Rattle.heap_roots.specs.Objects.{ObjectsView, setup_of_objects, StaysAt}
 use Rattle.heap_cycle.specs.declared.parts.Parts.{Parts}
 use Rattle.heap_cycle.specs.Cycles.{AreSlotsMarked, HasManned}
 use Rattle.heap_cycle.specs.Parts.{setup_of, state_of, AreTied}

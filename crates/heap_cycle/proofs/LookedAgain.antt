@@ -15,8 +15,8 @@ use Rattle.cross_thread_region.specs.Histories.{entries_of, slots_of, places_of}
 use Rattle.cross_thread_region.specs.PlacedNodes.{named_is_target}
 use Rattle.cross_thread_region.specs.WeakReads.{read_from, weak_read_at, entry_read}
 use Rattle.heap_roots.specs.Region.{IsHandled}
-use Rattle.heap_objects.specs.Marks.{HasMarks}
-use Rattle.heap_objects.specs.Objects.{ObjectsView, IsLiveAt}
+use Rattle.heap_roots.specs.Marks.{HasMarks}
+use Rattle.heap_roots.specs.Objects.{ObjectsView, IsLiveAt}
 use Rattle.heap_cycle.specs.Taking.{entries_between}
 use Rattle.heap_cycle.specs.Took.{took_append, took_is}
 use Rattle.heap_cycle.proofs.OthersTaken.{ReadsAt, reads_at, reads_none, take_on}

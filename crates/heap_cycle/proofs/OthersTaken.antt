@@ -19,7 +19,7 @@ use Rattle.gc_graph.specs.ValidLaw.{StepKeepsValid}
 use Rattle.cross_thread_region.specs.declared.chronicle.PlacedEntry.{PlacedEntry}
 use Rattle.cross_thread_region.specs.Histories.{entries_of, slots_of, place_if, is_started, IsPlacedBy}
 use Rattle.cross_thread_region.specs.WeakReads.{read_from}
-use Rattle.nodes_in_words.specs.Nodes.{place_of}
+use Rattle.heap_roots.specs.Nodes.{place_of}
 use Rattle.heap_roots.specs.Region.{IsHandled}
 use Rattle.heap_cycle.specs.declared.parts.Parts.{Parts}
 use Rattle.heap_cycle.specs.declared.shared.Shared.{Shared}

@@ -5,7 +5,7 @@ use Rattle.gc_graph.specs.declared.region.Op.{Op}
 use Rattle.gc_graph.specs.Outcomes.{took}
 use Rattle.gc_graph.specs.History.{node_of, region_slot}
 use Rattle.gc_graph.specs.State.{Node, State}
-use Rattle.nodes_in_words.specs.Nodes.{place_of}
+use Rattle.heap_roots.specs.Nodes.{place_of}
 use Rattle.std.specs.Prelude.{Option, Some, None, option_map}
 use Rattle.cross_thread_region.specs.declared.chronicle.PlacedEntry.{PlacedEntry}
 use Rattle.cross_thread_region.specs.Calls.{entry_of, first_pass, with_own}

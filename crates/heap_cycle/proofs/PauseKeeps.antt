@@ -15,10 +15,10 @@ use Rattle.gc_graph.specs.CycleSteps.{is_stack_refused}
 use Rattle.gc_graph.specs.May.{members, address_of, has_word, is_hit, hits_of, hits_for}
 use Rattle.gc_graph.specs.Pause.{IsKept}
 use Rattle.gc_graph.specs.Valid.{AreLive, IsThere, IsMay}
-use Rattle.atomic_pause.specs.MembersOf.{member_among, among_member}
-use Rattle.atomic_pause.specs.Pausing.{IsKeptBetween, hits_at, hits_in}
-use Rattle.nodes_in_words.specs.AmongNodes.{IsAmong, among_cases, among_left, among_right, filter_holds, filter_passes}
-use Rattle.nodes_in_words.specs.NodePlaces.{live_is_there}
+use Rattle.heap_roots.specs.MembersOf.{member_among, among_member}
+use Rattle.heap_roots.specs.Pausing.{IsKeptBetween, hits_at, hits_in}
+use Rattle.heap_roots.specs.AmongNodes.{IsAmong, among_cases, among_left, among_right, filter_holds, filter_passes}
+use Rattle.heap_roots.specs.NodePlaces.{live_is_there}
 use Rattle.heap_roots.specs.Stack.{StackView, PointsInside, HoldsWords, is_precise}
 use Rattle.gc_graph.specs.Members.{below_ranged, any_member}
 use Rattle.gc_graph.specs.NodeNumbers.{there_below}

@@ -18,23 +18,23 @@ use Rattle.gc_graph.specs.Outcomes.{owner_entry}
 use Rattle.gc_graph.specs.Sweep.{pages_swept_in}
 use Rattle.gc_graph.specs.CycleSteps.{IsPause, is_marking, is_stack_refused}
 use Rattle.callback_table.specs.Registry.{RegistryView, registration_of, registrations_of}
-use Rattle.atomic_pause.specs.Pausing.{IsPaused, hits_in}
+use Rattle.heap_roots.specs.Pausing.{IsPaused, hits_in}
 use Rattle.sweeper.specs.Sweeping.{SweepView, cursor_at}
-use Rattle.nodes_in_words.specs.Places.{places_of, IsJudged}
-use Rattle.nodes_in_words.specs.Judgement.{nodes_after}
-use Rattle.nodes_in_words.specs.Nodes.{place_of}
-use Rattle.nodes_in_words.specs.WeakNodes.{life-after, place-after, length-after, live-after, dead-after, count-stays}
-use Rattle.nodes_in_words.specs.KeptNodes.{refers_within}
+use Rattle.heap_roots.specs.PlacesInWords.{places_of, IsJudged}
+use Rattle.heap_roots.specs.Judgement.{nodes_after}
+use Rattle.heap_roots.specs.Nodes.{place_of}
+use Rattle.heap_roots.specs.WeakNodes.{life-after, place-after, length-after, live-after, dead-after, count-stays}
+use Rattle.heap_roots.specs.KeptNodes.{refers_within}
 use Rattle.cross_thread_region.specs.declared.chronicle.PlacedEntry.{PlacedEntry}
 use Rattle.cross_thread_region.specs.Histories.{slots_of}
 use Rattle.heap_roots.specs.Handles.{HandlesView}
 use Rattle.heap_roots.specs.Region.{HasPauseEntry}
 use Rattle.heap_roots.specs.Stack.{HoldsWords, is_precise}
 use Rattle.heap_roots.specs.StackWords.{words_held}
-use Rattle.heap_objects.specs.declared.pausing.Finished.{Finished}
-use Rattle.heap_objects.specs.Marks.{IsAtRest, HasMarks}
-use Rattle.heap_objects.specs.Objects.{ObjectsView, setup_of_objects, refused_of, StaysAt}
-use Rattle.heap_objects.specs.Refused.{IsToldTruly}
+use Rattle.heap_roots.specs.Finished.{Finished}
+use Rattle.heap_roots.specs.Marks.{IsAtRest, HasMarks}
+use Rattle.heap_roots.specs.Objects.{ObjectsView, setup_of_objects, refused_of, StaysAt}
+use Rattle.heap_roots.specs.Refused.{IsToldTruly}
 use Rattle.heap_cycle.specs.declared.parts.Parts.{Parts}
 use Rattle.heap_cycle.specs.Changes.{taken_own, paused_from}
 use Rattle.heap_cycle.specs.Cycles.{HasPaused, pause_line}

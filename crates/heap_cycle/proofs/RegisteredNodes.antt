@@ -7,7 +7,7 @@ use Rattle.callback_table.specs.Registry.{IsRegistered}
 use Rattle.heap_cycle.specs.declared.parts.Parts.{Parts}
 use Rattle.heap_cycle.specs.Views.{IsPlaced}
 use Rattle.heap_cycle.specs.Parts.{IsReady}
-use Rattle.nodes_in_words.specs.NodePlaces.{live_is_there}
+use Rattle.heap_roots.specs.NodePlaces.{live_is_there}
 use Rattle.heap_cycle.specs.Registrations.{live_entries}
 use Rattle.gc_graph.specs.NodeNumbers.{there_below}
 

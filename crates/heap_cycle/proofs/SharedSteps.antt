@@ -16,8 +16,8 @@ use Rattle.cross_thread_region.specs.Calls.{entry_of, first_pass, with_own}
 use Rattle.cross_thread_region.specs.Histories.{entries_of, slots_of, is_started, IsPlacedBy}
 use Rattle.cross_thread_region.specs.NextEntries.{slots_next, started_next}
 use Rattle.cross_thread_region.specs.PlacedNodes.{placed_next}
-use Rattle.heap_objects.specs.SweptNodes.{place-finalised}
-use Rattle.nodes_in_words.specs.Nodes.{place_of}
+use Rattle.heap_roots.specs.SweptNodes.{place-finalised}
+use Rattle.heap_roots.specs.Nodes.{place_of}
 use Rattle.heap_cycle.specs.declared.parts.Parts.{Parts}
 use Rattle.heap_roots.specs.Region.{IsHandled}
 use Rattle.gc_graph.specs.Valid.{AreLive, region_targets}

@@ -21,8 +21,8 @@ use Rattle.gc_graph.specs.Sweep.{SweepsInPhase, SweepsToEnd}
 use Rattle.gc_graph.specs.Valid.{IsValid}
 use Rattle.gc_graph.specs.ValidLaw.{StepKeepsValid}
 use Rattle.sweeper.specs.Sweeping.{cursor_at}
-use Rattle.heap_objects.specs.Marks.{HasMarking, HasMarks}
-use Rattle.heap_objects.specs.Objects.{ObjectsView, HaveCallbacks, setup_of_objects, StaysAt}
+use Rattle.heap_roots.specs.Marks.{HasMarking, HasMarks}
+use Rattle.heap_roots.specs.Objects.{ObjectsView, HaveCallbacks, setup_of_objects, StaysAt}
 use Rattle.heap_cycle.specs.declared.parts.Parts.{Parts}
 use Rattle.heap_cycle.specs.Changes.{begun_from}
 use Rattle.heap_cycle.specs.Cycles.{started_state}

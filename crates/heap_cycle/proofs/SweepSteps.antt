@@ -22,15 +22,15 @@ use Rattle.callback_table.specs.declared.registry.Registered.{Registered}
 use Rattle.callback_table.specs.Registry.{registrations_of}
 use Rattle.sweeper.specs.Sweeping.{SweepView, cursor_at}
 use Rattle.heap_cycle.specs.Changes.{SweepsParts}
-use Rattle.heap_objects.specs.Finalising.{IsSweptTo}
-use Rattle.heap_objects.specs.Marking.{GreyView}
-use Rattle.heap_objects.specs.Marks.{IsAtRest, HasMarks}
+use Rattle.heap_roots.specs.Finalising.{IsSweptTo}
+use Rattle.heap_roots.specs.Marking.{GreyView}
+use Rattle.heap_roots.specs.Marks.{IsAtRest, HasMarks}
 use Rattle.heap_cycle.specs.Finalising.{SweepsOn}
-use Rattle.heap_objects.specs.Objects.{HaveCallbacks, ObjectsView, StaysAt}
+use Rattle.heap_roots.specs.Objects.{HaveCallbacks, ObjectsView, StaysAt}
 use Rattle.heap_cycle.specs.declared.parts.Parts.{Parts}
 use Rattle.heap_cycle.specs.Views.{CycleView, IsSweepOf}
 use Rattle.heap_cycle.specs.Parts.{setup_of, state_of, IsReady}
-use Rattle.heap_objects.specs.SweptNodes.{place-finalised, size-finalised}
+use Rattle.heap_roots.specs.SweptNodes.{place-finalised, size-finalised}
 use Rattle.heap_cycle.proofs.PlacementSteps.{sweeps_nothing}
 use Rattle.heap_cycle.specs.Ties.{tied_nodes}
 

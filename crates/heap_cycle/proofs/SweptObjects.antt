@@ -7,9 +7,9 @@ use Rattle.gc_graph.specs.State.{Shape}
 use Rattle.gc_graph.specs.Sweep.{finalise, phase_at, AreDeadInOrder}
 use Rattle.page_words.specs.Seat.{IsQuiet}
 use Rattle.heap_cycle.specs.Changes.{swept_to, SweepsParts}
-use Rattle.heap_objects.specs.Finalising.{IsSweptTo, FinalisesBelow}
-use Rattle.heap_objects.specs.Marks.{IsAtRest, HasMarks}
-use Rattle.heap_objects.specs.Objects.{ObjectsView, setup_of_objects}
+use Rattle.heap_roots.specs.Finalising.{IsSweptTo, FinalisesBelow}
+use Rattle.heap_roots.specs.Marks.{IsAtRest, HasMarks}
+use Rattle.heap_roots.specs.Objects.{ObjectsView, setup_of_objects}
 use Rattle.heap_cycle.specs.Views.{CycleView}
 
 -- ---- the phase

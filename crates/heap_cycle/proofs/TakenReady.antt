@@ -5,8 +5,8 @@ use Rattle.gc_graph.specs.Outcomes.{took}
 use Rattle.gc_graph.specs.State.{State}
 use Rattle.gc_graph.specs.Valid.{IsValid}
 use Rattle.sweeper.specs.Sweeping.{cursor_at}
-use Rattle.heap_objects.specs.Marks.{HasMarks}
-use Rattle.heap_objects.specs.Objects.{ObjectsView}
+use Rattle.heap_roots.specs.Marks.{HasMarks}
+use Rattle.heap_roots.specs.Objects.{ObjectsView}
 use Rattle.heap_cycle.specs.declared.parts.Parts.{Parts}
 use Rattle.heap_cycle.specs.Parts.{setup_of, state_of, AreTied, IsReady}
 use Rattle.heap_cycle.specs.Ties.{tied_nodes}

@@ -28,13 +28,13 @@ use Rattle.cross_thread_region.specs.Histories.{entries_of, slots_of, place_at, 
 use Rattle.cross_thread_region.specs.PlacedNodes.{named_is_target, strong_is_target}
 use Rattle.page_words.specs.Seat.{SeatView}
 use Rattle.sweeper.specs.Sweeping.{cursor_at}
-use Rattle.nodes_in_words.specs.AmongNodes.{IsAmong, among_cases, among_left, among_right}
-use Rattle.nodes_in_words.specs.KeptNodes.{refers_within}
-use Rattle.nodes_in_words.specs.NodePlaces.{live_is_there}
-use Rattle.nodes_in_words.specs.Nodes.{place_of}
-use Rattle.atomic_pause.specs.MembersOf.{member_among, among_member}
-use Rattle.heap_objects.specs.Marks.{HasMarking, HasMarks, IsMayOf}
-use Rattle.heap_objects.specs.Objects.{ObjectsView, IsLiveAt}
+use Rattle.heap_roots.specs.AmongNodes.{IsAmong, among_cases, among_left, among_right}
+use Rattle.heap_roots.specs.KeptNodes.{refers_within}
+use Rattle.heap_roots.specs.NodePlaces.{live_is_there}
+use Rattle.heap_roots.specs.Nodes.{place_of}
+use Rattle.heap_roots.specs.MembersOf.{member_among, among_member}
+use Rattle.heap_roots.specs.Marks.{HasMarking, HasMarks, IsMayOf}
+use Rattle.heap_roots.specs.Objects.{ObjectsView, IsLiveAt}
 use Rattle.heap_cycle.specs.declared.parts.Parts.{Parts}
 use Rattle.heap_cycle.specs.Changes.{taken_own}
 use Rattle.heap_cycle.specs.KeptRoots.{may_of, marking_of}

@@ -22,7 +22,7 @@ use Rattle.cross_thread_region.specs.Histories.{entries_of, is_started, slots_of
 use Rattle.thread_queues.specs.declared.totals.Totals.{Totals}
 use Rattle.thread_queues.specs.Going.{HaveGone}
 use Rattle.thread_queues.specs.Queues.{QueuesView, queue_in, queues_left, threads_in}
-use Rattle.nodes_in_words.specs.Nodes.{place_of}
+use Rattle.heap_roots.specs.Nodes.{place_of}
 use Rattle.heap_cycle.specs.declared.parts.Parts.{Parts}
 use Rattle.heap_cycle.specs.declared.shared.Shared.{Shared}
 use Rattle.heap_cycle.specs.Changes.{going}

@@ -11,10 +11,10 @@ use Rattle.gc_graph.specs.ValidLaw.{StepKeepsValid}
 use Rattle.page_space.specs.Space.{FitsBetween}
 use Rattle.sweeper.specs.Sweeping.{SweepView, cursor_at}
 use Rattle.heap_cycle.specs.Changes.{SweepsParts}
-use Rattle.heap_objects.specs.Finalising.{AreFewTold}
+use Rattle.heap_roots.specs.Finalising.{AreFewTold}
 use Rattle.heap_cycle.specs.Finalising.{IsSearched}
 use Rattle.heap_cycle.specs.declared.parts.Parts.{Parts}
-use Rattle.heap_objects.specs.Objects.{ObjectsView}
+use Rattle.heap_roots.specs.Objects.{ObjectsView}
 use Rattle.heap_cycle.specs.Views.{CycleView}
 use Rattle.heap_cycle.specs.Parts.{setup_of, state_of, unregistered, IsReady}
 use Rattle.heap_cycle.proofs.PlacementSteps.{found_at_once, search_begins, search_goes_on, found_in_page, found_empty}

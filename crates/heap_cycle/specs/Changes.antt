@@ -12,9 +12,9 @@ use Rattle.gc_graph.specs.RegionSteps.{threads_with_orders}
 use Rattle.gc_graph.specs.State.{State, Node, graph_of, roots_of}
 use Rattle.callback_table.specs.declared.registry.Registered.{Registered}
 use Rattle.callback_table.specs.Registry.{placed_at}
-use Rattle.heap_objects.specs.Finalising.{FinalisesBelow}
-use Rattle.heap_objects.specs.Marks.{HasMarks}
-use Rattle.heap_objects.specs.Objects.{ObjectsView, setup_of_objects}
+use Rattle.heap_roots.specs.Finalising.{FinalisesBelow}
+use Rattle.heap_roots.specs.Marks.{HasMarks}
+use Rattle.heap_roots.specs.Objects.{ObjectsView, setup_of_objects}
 use Rattle.heap_cycle.specs.Views.{CycleView}
 
 -- the last registrations, so many of them, got this place

@@ -14,10 +14,10 @@ use Rattle.gc_graph.specs.CycleSteps.{IsPause, IsStart}
 use Rattle.mark_worklist.specs.Lists.{last_count}
 use Rattle.marker_core.specs.Bodies.{holds}
 use Rattle.heap_roots.specs.Region.{HasPauseEntry}
-use Rattle.heap_objects.specs.Refused.{RefusalsTold, IsToldTruly}
-use Rattle.heap_objects.specs.declared.pausing.Finished.{Finished}
-use Rattle.heap_objects.specs.Crews.{IsIdleOrLong}
-use Rattle.heap_objects.specs.Objects.{refused_of}
+use Rattle.heap_roots.specs.Refused.{RefusalsTold, IsToldTruly}
+use Rattle.heap_roots.specs.Finished.{Finished}
+use Rattle.heap_roots.specs.Crews.{IsIdleOrLong}
+use Rattle.heap_roots.specs.Objects.{refused_of}
 use Rattle.heap_cycle.specs.declared.parts.Parts.{Parts}
 use Rattle.heap_cycle.specs.Changes.{taken_own}
 use Rattle.heap_cycle.specs.Region.{HasRegion, made}

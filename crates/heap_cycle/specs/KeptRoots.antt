@@ -6,10 +6,10 @@ use Rattle.gc_graph.specs.State.{IsLive, roots_of, slot_targets, stack_targets, 
 use Rattle.gc_graph.specs.Valid.{IsMay, HasMay}
 use Rattle.marker_core.specs.Bodies.{holds}
 use Rattle.sweeper.specs.Sweeping.{cursor_at}
-use Rattle.nodes_in_words.specs.AmongNodes.{IsAmong, among_left}
-use Rattle.nodes_in_words.specs.KeptNodes.{place_slot, root_of_slot, slot_live}
-use Rattle.nodes_in_words.specs.Nodes.{place_of}
-use Rattle.heap_objects.specs.Marks.{HasMarking, HasMarks}
+use Rattle.heap_roots.specs.AmongNodes.{IsAmong, among_left}
+use Rattle.heap_roots.specs.KeptNodes.{place_slot, root_of_slot, slot_live}
+use Rattle.heap_roots.specs.Nodes.{place_of}
+use Rattle.heap_roots.specs.Marks.{HasMarking, HasMarks}
 use Rattle.heap_cycle.specs.declared.parts.Parts.{Parts}
 use Rattle.heap_cycle.specs.Parts.{state_of, IsReady}
 

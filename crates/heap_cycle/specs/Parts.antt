@@ -7,14 +7,14 @@ use Rattle.gc_graph.specs.Valid.{IsValid}
 use Rattle.gc_graph.specs.Outcomes.{answered}
 use Rattle.callback_table.specs.Registry.{registered, registrations_of}
 use Rattle.sweeper.specs.Sweeping.{cursor_at}
-use Rattle.nodes_in_words.specs.Places.{places_of}
+use Rattle.heap_roots.specs.PlacesInWords.{places_of}
 use Rattle.heap_cycle.specs.declared.parts.Parts.{Parts}
-use Rattle.heap_objects.specs.Objects.{HaveCallbacks, setup_of_objects}
+use Rattle.heap_roots.specs.Objects.{HaveCallbacks, setup_of_objects}
 use Rattle.heap_roots.specs.Stack.{HoldsWords}
 use Rattle.heap_cycle.specs.Views.{IsSweepOf, IsPlaced}
 use Rattle.heap_cycle.specs.Walks.{IsWalkTold}
-use Rattle.heap_objects.specs.Marks.{HasMarks}
-use Rattle.heap_objects.specs.Objects.{told_of}
+use Rattle.heap_roots.specs.Marks.{HasMarks}
+use Rattle.heap_roots.specs.Objects.{told_of}
 
 -- what was set up
 abbrev pub setup_of : Parts → Setup

@@ -8,20 +8,20 @@ use Rattle.gc_graph.specs.declared.phase.Phase.{Phase}
 use Rattle.gc_graph.specs.declared.phase.Phase.TheVariants.{Idle, Marking, Sweeping}
 use Rattle.gc_graph.specs.CycleSteps.{is_marking}
 use Rattle.gc_graph.specs.State.{Setup, Node, IsLive, slot_targets}
-use Rattle.marker_crew.specs.Crews.{Marker}
+use Rattle.heap_roots.specs.MarkerCrews.{Marker}
 use Rattle.gc_graph.specs.Valid.{AreLive}
 use Rattle.callback_table.specs.declared.registry.Registered.{Registered}
 use Rattle.sweeper.specs.Sweeping.{cursor_at}
-use Rattle.nodes_in_words.specs.Nodes.{place_of, AreOfValid}
-use Rattle.nodes_in_words.specs.Places.{places_of}
-use Rattle.heap_objects.specs.Objects.{IsLiveAt, ObjectsView, setup_of_objects, StaysAt}
+use Rattle.heap_roots.specs.Nodes.{place_of, AreOfValid}
+use Rattle.heap_roots.specs.PlacesInWords.{places_of}
+use Rattle.heap_roots.specs.Objects.{IsLiveAt, ObjectsView, setup_of_objects, StaysAt}
 use Rattle.heap_cycle.specs.declared.parts.Parts.{Parts}
 use Rattle.heap_cycle.specs.Views.{CycleView, IsPlaced, IsSweepOf}
-use Rattle.heap_objects.specs.Marking.{GreyView}
-use Rattle.heap_objects.specs.Marks.{HasMarking, HasMarks}
+use Rattle.heap_roots.specs.Marking.{GreyView}
+use Rattle.heap_roots.specs.Marks.{HasMarking, HasMarks}
 use Rattle.heap_cycle.specs.Parts.{setup_of, state_of, counted, AreTied, IsManned, IsReady}
 use Rattle.heap_roots.specs.Handles.{put_in, copied_in, weakened_in, popped_in}
-use Rattle.nodes_in_words.specs.KeptNodes.{slots_live}
+use Rattle.heap_roots.specs.KeptNodes.{slots_live}
 use Rattle.heap_roots.specs.StackWords.{words_held, words_popped}
 
 pub valid_nodes : (s : Parts) → IsReady s → AreOfValid (setup_of s) s.objects.nodes

@@ -5,7 +5,7 @@ use Rattle.gc_graph.specs.State.{Shape, State, Node}
 use Rattle.gc_graph.specs.Sweep.{pages_swept_in}
 use Rattle.callback_table.specs.declared.registry.Registered.{Registered}
 use Rattle.sweeper.specs.Sweeping.{SweepView}
-use Rattle.nodes_in_words.specs.Nodes.{place_of}
+use Rattle.heap_roots.specs.Nodes.{place_of}
 
 -- the collection cycle: its phase, how far its sweep has come, the prefinalizers that are registered, with the places of their
 -- objects, those that the last pause ran, each the number of its object and that of its callback, and what no other part holds

@@ -5,7 +5,7 @@ use Rattle.gc_graph.specs.declared.line.Line.TheVariants as L
 use Rattle.gc_graph.specs.declared.phase.Phase.{Phase}
 use Rattle.gc_graph.specs.declared.phase.Phase.TheVariants.{Idle, Marking, Sweeping}
 use Rattle.gc_graph.specs.CycleSteps.{is_marking}
-use Rattle.heap_objects.specs.Refused.{RefusedCounts, RefusalsTold, IsToldTruly}
+use Rattle.heap_roots.specs.Refused.{RefusedCounts, RefusalsTold, IsToldTruly}
 
 -- how much had been refused when the cycle began that a pause ends: the open one, or else one that begins with the command
 abbrev pub refused_before : Phase → RefusalsTold → RefusedCounts

@@ -7,9 +7,9 @@ ghost use Rattle.gc_graph.specs.declared.phase.Phase.TheVariants.{Idle, Marking}
 ghost use Rattle.gc_graph.specs.CycleSteps.{is_marking};
 ghost use Rattle.cross_thread_region.specs.Histories.{slots_of, strong_told, is_started};
 ghost use Rattle.cross_thread_region.specs.Histories.{IsPlacedBy};
-ghost use Rattle.nodes_in_words.specs.Nodes.{place_of};
+ghost use Rattle.heap_roots.specs.Nodes.{place_of};
 ghost use Rattle.page_space.specs.Pages.{word_count};
-ghost use Rattle.heap_objects.specs.Objects.{refused_of};
+ghost use Rattle.heap_roots.specs.Objects.{refused_of};
 ghost use Rattle.heap_cycle.specs.Cycles.{started_state, HasBegun, AreSlotsMarked};
 ghost use Rattle.heap_cycle.specs.Parts.{setup_of, state_of, IsReady};
 ghost use Rattle.heap_cycle.specs.Region.{HasRegion};

@@ -24,9 +24,7 @@ use crate::states;
 use crate::taking::take_others;
 use callback_table::CallbackTable;
 use gc_graph::{Line, Phase, Refusal, Want};
-use heap_roots::RegionHandles;
-use heap_objects::Finished;
-use marker_crew::Gate;
+use heap_roots::{Finished, Gate, RegionHandles};
 use std::sync::Arc;
 use std::thread::Threads;
 

@@ -3,13 +3,12 @@
 
 ghost use Rattle.std.specs.Prelude.{◌≡◌, [], MatchOption};
 ghost use Rattle.gc_graph.specs.declared.phase.Phase.TheVariants.{Marking};
-ghost use Rattle.heap_objects.specs.Crews.{AreListsFor};
+ghost use Rattle.heap_roots.specs.Crews.{AreListsFor};
 ghost use Rattle.heap_cycle.specs.Cycles.{HasManned};
 ghost use Rattle.heap_cycle.specs.Parts.{setup_of, AreTied};
 
 use crate::parts::Parts;
-use heap_objects::CrewLists;
-use marker_crew::Gate;
+use heap_roots::{CrewLists, Gate};
 use std::sync::Arc;
 use std::thread::Threads;
 

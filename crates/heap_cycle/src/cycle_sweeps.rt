@@ -6,16 +6,16 @@ ghost use Rattle.gc_graph.specs.State.{Shape};
 ghost use Rattle.gc_graph.specs.Sweep.{phase_at};
 ghost use Rattle.page_space.specs.Pages.{word_count};
 ghost use Rattle.sweeper.specs.Sweeping.{cursor_at};
-ghost use Rattle.nodes_in_words.specs.Nodes.{AreOfValid};
-ghost use Rattle.heap_objects.specs.Finalising.{IsSweptTo, AreFewTold};
-ghost use Rattle.heap_objects.specs.Marks.{IsAtRest};
-ghost use Rattle.heap_objects.specs.Objects.{setup_of_objects};
+ghost use Rattle.heap_roots.specs.Nodes.{AreOfValid};
+ghost use Rattle.heap_roots.specs.Finalising.{IsSweptTo, AreFewTold};
+ghost use Rattle.heap_roots.specs.Marks.{IsAtRest};
+ghost use Rattle.heap_roots.specs.Objects.{setup_of_objects};
 ghost use Rattle.heap_cycle.specs.Changes.{SweepsParts};
 
 use crate::cycle::Cycle;
 use crate::states;
 use gc_graph::Phase;
-use heap_objects::Objects;
+use heap_roots::Objects;
 
 impl Cycle {
     /// How many pages are swept: all of them where no sweep is open.

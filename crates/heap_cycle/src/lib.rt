@@ -43,6 +43,9 @@ mod threads;
 pub use collections::{collect, finish, start, step};
 pub use crew::dismiss;
 pub use cycle::{Counts, Cycle};
+pub use heap_roots::{
+    Content, Field, FreeGate, Gate, Handles, Objects, PairContent, Part, Pushed, Wanted,
+};
 pub use outcome::Outcome;
 pub use parts::Parts;
 pub use placement::place_for;

@@ -1,8 +1,7 @@
 // The parts of a heap, which commands take together.
 
 use crate::cycle::Cycle;
-use heap_roots::Handles;
-use heap_objects::Objects;
+use heap_roots::{Handles, Objects};
 
 /// The parts of a heap. Each has a model, and contracts see what each of them is.
 #[derive(Drop)]

@@ -3,7 +3,7 @@
 
 ghost use Rattle.std.specs.Prelude.{◌≡◌, MatchOption, IfSome};
 ghost use Rattle.gc_graph.specs.May.{weakly_read};
-ghost use Rattle.heap_objects.specs.Objects.{IsLiveAt};
+ghost use Rattle.heap_roots.specs.Objects.{IsLiveAt};
 ghost use Rattle.heap_cycle.specs.Parts.{setup_of, state_of, AreTied, IsReady};
 
 use crate::parts::Parts;

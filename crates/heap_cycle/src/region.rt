@@ -10,9 +10,9 @@ ghost use Rattle.gc_graph.specs.May.{may_with_read};
 ghost use Rattle.gc_graph.specs.Outcomes.{took};
 ghost use Rattle.gc_graph.specs.State.{graph_of};
 ghost use Rattle.cross_thread_region.specs.Histories.{entries_of};
-ghost use Rattle.nodes_in_words.specs.Nodes.{place_of, AreOfValid};
-ghost use Rattle.heap_objects.specs.Marks.{HasMarks};
-ghost use Rattle.heap_objects.specs.Objects.{IsLiveAt, setup_of_objects};
+ghost use Rattle.heap_roots.specs.Nodes.{place_of, AreOfValid};
+ghost use Rattle.heap_roots.specs.Marks.{HasMarks};
+ghost use Rattle.heap_roots.specs.Objects.{IsLiveAt, setup_of_objects};
 ghost use Rattle.heap_cycle.specs.Parts.{state_of, IsReady};
 ghost use Rattle.heap_cycle.specs.Shared.{ahead_of, HasShared, HasTaken};
 
@@ -21,7 +21,7 @@ use crate::shared::Shared;
 use crate::states;
 use crate::taking::take_others;
 use gc_graph::{NoMemory, Op};
-use heap_objects::Objects;
+use heap_roots::Objects;
 
 /// A slot of the region becomes strong for the node with this number, which has this place. Want of
 /// memory is free.

@@ -14,8 +14,7 @@ ghost use Rattle.heap_cycle.specs.Taking.{entries_between};
 use crate::parts::Parts;
 use gc_graph::{Op, Order, Phase};
 use ghost_values::GhostValue;
-use heap_roots::RegionHandles;
-use heap_objects::Objects;
+use heap_roots::{Objects, RegionHandles};
 use std::marker::Model;
 
 /// A state of the graph. It is never made.

@@ -6,16 +6,15 @@ ghost use Rattle.gc_graph.specs.State.{State};
 ghost use Rattle.gc_graph.specs.Valid.{IsValid};
 ghost use Rattle.cross_thread_region.specs.Histories.{slots_of};
 ghost use Rattle.heap_roots.specs.Region.{IsHandled};
-ghost use Rattle.heap_objects.specs.Marks.{HasMarks};
-ghost use Rattle.heap_objects.specs.Objects.{setup_of_objects};
+ghost use Rattle.heap_roots.specs.Marks.{HasMarks};
+ghost use Rattle.heap_roots.specs.Objects.{setup_of_objects};
 ghost use Rattle.heap_cycle.specs.Parts.{setup_of, state_of, IsReady};
 ghost use Rattle.heap_cycle.specs.Taking.{entries_between};
-ghost use Rattle.nodes_in_words.specs.Nodes.{AreOfValid};
+ghost use Rattle.heap_roots.specs.Nodes.{AreOfValid};
 
 use crate::parts::Parts;
 use crate::states;
-use heap_roots::RegionHandles;
-use heap_objects::Objects;
+use heap_roots::{Objects, RegionHandles};
 
 /// Takes these entries of the history, which are of threads: while marking goes on, what they read
 /// from weak slots may be kept.

@@ -14,17 +14,17 @@ use Rattle.gc_graph.specs.State.{State, Node, node_at, IsLive}
 use Rattle.gc_graph.specs.Fields.{content_of, field_count, kind_of_field, with_value, is_reference, is_weak, is_plain}
 use Rattle.gc_graph.specs.Outcomes.{answered, slot_at}
 use Rattle.gc_graph.specs.ObjectSteps.{StepGet, StepWord, IsChanged, IsNumber, IsRead, first_word}
-use Rattle.heap_objects.specs.declared.field.Field.{Field}
-use Rattle.heap_objects.specs.declared.field.Wanted.{Wanted}
-use Rattle.nodes_in_words.specs.Nodes.{place_of, word_of}
-use Rattle.heap_objects.specs.Fields.{allows, field_of, IsFieldOf, IsFieldAt, value_in, IsLiveReference}
+use Rattle.heap_cycle.specs.Field.{Field}
+use Rattle.heap_cycle.specs.Wanted.{Wanted}
+use Rattle.heap_cycle.specs.Nodes.{place_of, word_of}
+use Rattle.heap_cycle.specs.Fields.{allows, field_of, IsFieldOf, IsFieldAt, value_in, IsLiveReference}
 use Rattle.heap_engine.specs.FieldSteps.{StepWrite, HasRead}
 use Rattle.heap_engine.proofs.SlotReads.{live_names, slot_read}
-use Rattle.heap_objects.specs.Objects.{target_in, written_in, ObjectsView}
-use Rattle.heap_roots.specs.Handles.{slot_word, put_in, HandlesView}
+use Rattle.heap_cycle.specs.Objects.{target_in, written_in, ObjectsView}
+use Rattle.heap_cycle.specs.Handles.{slot_word, put_in, HandlesView}
 use Rattle.heap_cycle.specs.declared.parts.Parts.{Parts}
 use Rattle.heap_cycle.specs.Parts.{setup_of, state_of, IsReady}
-use Rattle.heap_objects.specs.FieldReads.{holds_reference}
+use Rattle.heap_cycle.specs.FieldReads.{holds_reference}
 use Rattle.heap_cycle.specs.Ties.{valid_nodes, slot_live}
 
 -- the field that was asked for: the slot's node has it, and its kind passes the test

@@ -12,14 +12,14 @@ use Rattle.gc_graph.specs.ValidLaw.{EmptyIsValid}
 use Rattle.cross_thread_region.specs.Histories.{slots_of}
 use Rattle.cross_thread_region.specs.PlacedNodes.{named_is_target}
 use Rattle.page_words.specs.Seat.{Heap, empty_view}
-use Rattle.nodes_in_words.specs.Places.{places_of}
-use Rattle.heap_objects.specs.Objects.{HaveCallbacks, ObjectsView}
-use Rattle.pair_notes.specs.Notes.{NotesState, no_notes}
-use Rattle.heap_objects.specs.Marking.{IsCleared, no_grey, refused_in}
-use Rattle.heap_objects.specs.Refused.{none_refused}
-use Rattle.heap_roots.specs.Stack.{empty_stack}
+use Rattle.heap_cycle.specs.PlacesInWords.{places_of}
+use Rattle.heap_cycle.specs.Objects.{HaveCallbacks, ObjectsView}
+use Rattle.heap_cycle.specs.Notes.{NotesState, no_notes}
+use Rattle.heap_cycle.specs.Marking.{IsCleared, no_grey, refused_in}
+use Rattle.heap_cycle.specs.Refused.{none_refused}
+use Rattle.heap_cycle.specs.Stack.{empty_stack}
 use Rattle.heap_cycle.specs.declared.parts.Parts.{Parts}
-use Rattle.heap_roots.specs.Handles.{HandlesView}
+use Rattle.heap_cycle.specs.Handles.{HandlesView}
 use Rattle.heap_cycle.specs.Views.{CycleView}
 use Rattle.heap_cycle.specs.Parts.{setup_of, state_of, IsManned, IsReady}
 use Rattle.heap_cycle.specs.Ties.{manned_calm}

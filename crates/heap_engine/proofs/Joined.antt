@@ -3,9 +3,9 @@ use Rattle.std.proofs.Common.{◌≡◌, ◌+◌, ◌<◌, ℕ, List, Bool, leng
 use Rattle.gc_graph.specs.declared.line.Line.{Line}
 use Rattle.gc_graph.specs.State.{Setup, State}
 use Rattle.gc_graph.specs.Valid.{IsValid}
-use Rattle.sweeper.specs.Sweeping.{cursor_at}
-use Rattle.heap_objects.specs.Marks.{HasMarks}
-use Rattle.heap_objects.specs.Objects.{HaveCallbacks, told_of}
+use Rattle.heap_cycle.specs.Sweeping.{cursor_at}
+use Rattle.heap_cycle.specs.Marks.{HasMarks}
+use Rattle.heap_cycle.specs.Objects.{HaveCallbacks, told_of}
 use Rattle.heap_cycle.specs.declared.parts.Parts.{Parts}
 use Rattle.heap_cycle.specs.Parts.{counted, setup_of, state_of, AreTied, IsFrame, IsManned, IsReady}
 use Rattle.heap_cycle.specs.Ties.{tied_counted}

@@ -15,17 +15,17 @@ use Rattle.gc_graph.specs.Valid.{HasMay}
 use Rattle.object_headers.specs.Offsets.{reference_to}
 use Rattle.marker_core.specs.Bodies.{holds, place_named}
 use Rattle.page_words.specs.Seat.{SeatView}
-use Rattle.sweeper.specs.Sweeping.{cursor_at}
-use Rattle.member_fields.specs.Barrier.{MayKeep, MayKeepNamed}
-use Rattle.nodes_in_words.specs.AmongNodes.{IsAmong, among_left}
-use Rattle.nodes_in_words.specs.KeptNodes.{root_of_slot}
-use Rattle.nodes_in_words.specs.Nodes.{place_of}
-use Rattle.heap_objects.specs.declared.field.Wanted.{Wanted}
-use Rattle.heap_objects.specs.declared.field.Wanted.TheVariants.{References, Numbers, Pairs}
-use Rattle.heap_objects.specs.Fields.{allows}
-use Rattle.heap_objects.specs.Marks.{HasMarks}
-use Rattle.heap_objects.specs.Objects.{ObjectsView}
-use Rattle.heap_roots.specs.Handles.{slot_word, slot_part}
+use Rattle.heap_cycle.specs.Sweeping.{cursor_at}
+use Rattle.heap_cycle.specs.Barrier.{MayKeep, MayKeepNamed}
+use Rattle.heap_cycle.specs.AmongNodes.{IsAmong, among_left}
+use Rattle.heap_cycle.specs.KeptNodes.{root_of_slot}
+use Rattle.heap_cycle.specs.Nodes.{place_of}
+use Rattle.heap_cycle.specs.Wanted.{Wanted}
+use Rattle.heap_cycle.specs.Wanted.TheVariants.{References, Numbers, Pairs}
+use Rattle.heap_cycle.specs.Fields.{allows}
+use Rattle.heap_cycle.specs.Marks.{HasMarks}
+use Rattle.heap_cycle.specs.Objects.{ObjectsView}
+use Rattle.heap_cycle.specs.Handles.{slot_word, slot_part}
 use Rattle.heap_cycle.specs.declared.parts.Parts.{Parts}
 use Rattle.heap_cycle.specs.Parts.{state_of, IsReady}
 use Rattle.heap_cycle.specs.Ties.{slot_place, slot_live}

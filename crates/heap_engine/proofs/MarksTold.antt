@@ -18,13 +18,13 @@ use Rattle.gc_graph.specs.Valid.{AreLive, IsValid, region_targets}
 use Rattle.cross_thread_region.specs.declared.chronicle.PlacedEntry.{PlacedEntry}
 use Rattle.cross_thread_region.specs.PlacedNodes.{strong_target_placed, strong_target_is_target}
 use Rattle.marker_core.specs.Bodies.{holds}
-use Rattle.sweeper.specs.Sweeping.{cursor_at}
-use Rattle.nodes_in_words.specs.AmongNodes.{among_cases}
-use Rattle.nodes_in_words.specs.KeptNodes.{slot_of_root, slot_live, kept_parts, kept_from}
-use Rattle.nodes_in_words.specs.Nodes.{place_of}
-use Rattle.nodes_in_words.specs.Places.{kept_of}
-use Rattle.heap_objects.specs.Marks.{HasMarks, HasMarking}
-use Rattle.heap_objects.specs.Objects.{told_of}
+use Rattle.heap_cycle.specs.Sweeping.{cursor_at}
+use Rattle.heap_cycle.specs.AmongNodes.{among_cases}
+use Rattle.heap_cycle.specs.KeptNodes.{slot_of_root, slot_live, kept_parts, kept_from}
+use Rattle.heap_cycle.specs.Nodes.{place_of}
+use Rattle.heap_cycle.specs.PlacesInWords.{kept_of}
+use Rattle.heap_cycle.specs.Marks.{HasMarks, HasMarking}
+use Rattle.heap_cycle.specs.Objects.{told_of}
 use Rattle.heap_cycle.specs.declared.parts.Parts.{Parts}
 use Rattle.heap_cycle.specs.Cycles.{AreSlotsMarked, IsNoneGrey, HasNoRefusedPush}
 use Rattle.heap_cycle.specs.KeptRoots.{marking_of}

@@ -14,22 +14,22 @@ use Rattle.gc_graph.specs.Outcomes.{answered, finalise_lines, with_slot}
 use Rattle.gc_graph.specs.ObjectSteps.{StepNew, with_new, registrations_for}
 use Rattle.callback_table.specs.declared.registry.Registered.{Registered}
 use Rattle.callback_table.specs.Registry.{registrations_of, registered}
-use Rattle.sweeper.specs.Sweeping.{cursor_at}
-use Rattle.nodes_in_words.specs.Nodes.{place_of}
-use Rattle.nodes_in_words.specs.Places.{places_of}
-use Rattle.heap_roots.specs.Stack.{HoldsWords}
-use Rattle.heap_objects.specs.Objects.{with_made, ObjectsView, setup_of_objects, StaysAt}
-use Rattle.heap_roots.specs.Handles.{put_in, HandlesView}
+use Rattle.heap_cycle.specs.Sweeping.{cursor_at}
+use Rattle.heap_cycle.specs.Nodes.{place_of}
+use Rattle.heap_cycle.specs.PlacesInWords.{places_of}
+use Rattle.heap_cycle.specs.Stack.{HoldsWords}
+use Rattle.heap_cycle.specs.Objects.{with_made, ObjectsView, setup_of_objects, StaysAt}
+use Rattle.heap_cycle.specs.Handles.{put_in, HandlesView}
 use Rattle.heap_cycle.specs.declared.parts.Parts.{Parts}
 use Rattle.heap_cycle.specs.Views.{CycleView, IsPlaced, IsSweepOf}
-use Rattle.heap_objects.specs.Marking.{GreyView}
-use Rattle.heap_objects.specs.Marks.{HasMarks}
+use Rattle.heap_cycle.specs.Marking.{GreyView}
+use Rattle.heap_cycle.specs.Marks.{HasMarks}
 use Rattle.heap_cycle.specs.Parts.{setup_of, state_of, counted, AreTied, IsReady, registered_in}
-use Rattle.nodes_in_words.specs.KeptNodes.{slots_live}
+use Rattle.heap_cycle.specs.KeptNodes.{slots_live}
 use Rattle.heap_cycle.specs.Registrations.{registrations_join, live_entries}
-use Rattle.heap_objects.specs.NewNodes.{place-old, stays-old, node-new}
-use Rattle.nodes_in_words.specs.NodePlaces.{live_is_there}
-use Rattle.heap_roots.specs.StackWords.{words_held}
+use Rattle.heap_cycle.specs.NewNodes.{place-old, stays-old, node-new}
+use Rattle.heap_cycle.specs.NodePlaces.{live_is_there}
+use Rattle.heap_cycle.specs.StackWords.{words_held}
 use Rattle.gc_graph.specs.NodeNumbers.{there_below}
 
 -- the cycle once the new node is registered, and may be kept where marking goes on

@@ -6,7 +6,7 @@ use Rattle.gc_graph.specs.declared.line.Line.{Line}
 use Rattle.gc_graph.specs.declared.line.Line.TheVariants as L
 use Rattle.gc_graph.specs.declared.phase.Phase.{Phase}
 use Rattle.gc_graph.specs.Outcomes.{finalise_lines}
-use Rattle.heap_objects.specs.Refused.{RefusalsTold}
+use Rattle.heap_cycle.specs.Refused.{RefusalsTold}
 use Rattle.heap_cycle.specs.Walks.{GoesOnTelling, IsWalkTold, IsWalkToldIn}
 use Rattle.heap_cycle.specs.Printed.{Printed, ran_lines, lines_with, later_lines, outcome_lines, finalised_in, TellsNode, TellsThoseThatRan}
 use Rattle.heap_engine.specs.Ended.{last_line, IsEnded}

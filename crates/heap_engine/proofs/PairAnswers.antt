@@ -9,18 +9,18 @@ use Rattle.gc_graph.specs.State.{State, Node, node_at, IsLive}
 use Rattle.gc_graph.specs.Fields.{with_value, is_pair}
 use Rattle.gc_graph.specs.Outcomes.{answered, slot_at}
 use Rattle.gc_graph.specs.ObjectSteps.{IsChanged, IsRead, first_word, part_of}
-use Rattle.nodes_in_words.specs.Nodes.{place_of, word_of}
-use Rattle.heap_objects.specs.declared.field.Field.{Field}
-use Rattle.heap_objects.specs.declared.field.Part.{Part}
-use Rattle.heap_objects.specs.Fields.{part_in, IsLiveReference, ArePartsOf}
+use Rattle.heap_cycle.specs.Nodes.{place_of, word_of}
+use Rattle.heap_cycle.specs.Field.{Field}
+use Rattle.heap_cycle.specs.Part.{Part}
+use Rattle.heap_cycle.specs.Fields.{part_in, IsLiveReference, ArePartsOf}
 use Rattle.heap_engine.specs.FieldSteps.{StepPart, StepWholePair, HasRead}
 use Rattle.heap_engine.proofs.SlotReads.{live_names, slot_read}
-use Rattle.heap_objects.specs.Objects.{target_in, paired_in, ObjectsView}
-use Rattle.heap_roots.specs.Handles.{put_in, HandlesView, slot_part}
+use Rattle.heap_cycle.specs.Objects.{target_in, paired_in, ObjectsView}
+use Rattle.heap_cycle.specs.Handles.{put_in, HandlesView, slot_part}
 use Rattle.heap_cycle.specs.declared.parts.Parts.{Parts}
 use Rattle.heap_cycle.specs.Parts.{setup_of, state_of, IsReady}
 use Rattle.heap_engine.proofs.FieldAnswers.{Found, field_kind, asked}
-use Rattle.heap_objects.specs.PairFields.{pair_is, holds_part}
+use Rattle.heap_cycle.specs.PairFields.{pair_is, holds_part}
 use Rattle.heap_cycle.specs.Ties.{valid_nodes}
 
 -- the node with both words of the pair written

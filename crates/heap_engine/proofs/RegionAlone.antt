@@ -17,7 +17,7 @@ use Rattle.cross_thread_region.specs.declared.chronicle.PlacedEntry.{PlacedEntry
 use Rattle.cross_thread_region.specs.Calls.{Begins}
 use Rattle.cross_thread_region.specs.Histories.{entries_of, slots_of}
 use Rattle.cross_thread_region.specs.PlacedNodes.{placed_as}
-use Rattle.nodes_in_words.specs.Nodes.{place_of}
+use Rattle.heap_cycle.specs.Nodes.{place_of}
 use Rattle.heap_cycle.specs.declared.parts.Parts.{Parts}
 use Rattle.heap_cycle.specs.Parts.{setup_of, state_of, IsReady}
 use Rattle.heap_cycle.specs.Region.{HasRegion, made}

@@ -13,8 +13,8 @@ use Rattle.gc_graph.specs.Outcomes.{answered, took, with_slot, IsRefused}
 use Rattle.gc_graph.specs.RegionSteps.{IsExported, IsImported, StepExport, StepImport, line_of_content}
 use Rattle.gc_graph.specs.State.{Node, State}
 use Rattle.cross_thread_region.specs.Histories.{entries_of}
-use Rattle.nodes_in_words.specs.Nodes.{place_of}
-use Rattle.heap_roots.specs.Handles.{HandlesView, put_in}
+use Rattle.heap_cycle.specs.Nodes.{place_of}
+use Rattle.heap_cycle.specs.Handles.{HandlesView, put_in}
 use Rattle.heap_cycle.specs.declared.parts.Parts.{Parts}
 use Rattle.heap_cycle.specs.Parts.{state_of}
 use Rattle.heap_cycle.specs.Region.{made}

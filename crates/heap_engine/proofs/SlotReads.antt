@@ -11,11 +11,11 @@ use Rattle.gc_graph.specs.Fields.{content_of, target_of}
 use Rattle.gc_graph.specs.May.{weakly_read}
 use Rattle.gc_graph.specs.Outcomes.{answered, with_slot}
 use Rattle.gc_graph.specs.ObjectSteps.{IsRead}
-use Rattle.nodes_in_words.specs.Nodes.{place_of}
-use Rattle.heap_objects.specs.Fields.{IsLiveReference}
-use Rattle.heap_objects.specs.Objects.{target_in, told_of, IsLiveAt}
-use Rattle.heap_objects.specs.Refused.{RefusalsTold}
-use Rattle.heap_roots.specs.Handles.{put_in, HandlesView}
+use Rattle.heap_cycle.specs.Nodes.{place_of}
+use Rattle.heap_cycle.specs.Fields.{IsLiveReference}
+use Rattle.heap_cycle.specs.Objects.{target_in, told_of, IsLiveAt}
+use Rattle.heap_cycle.specs.Refused.{RefusalsTold}
+use Rattle.heap_cycle.specs.Handles.{put_in, HandlesView}
 use Rattle.heap_cycle.specs.declared.parts.Parts.{Parts}
 use Rattle.heap_cycle.specs.Parts.{setup_of, state_of, counted, AreTied, IsFrame}
 use Rattle.heap_cycle.specs.Ties.{manned_grey, tied_slot}

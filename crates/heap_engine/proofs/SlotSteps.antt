@@ -6,8 +6,8 @@ use Rattle.gc_graph.specs.declared.line.Line.TheVariants as L
 use Rattle.gc_graph.specs.Fields.{content_of}
 use Rattle.gc_graph.specs.Outcomes.{answered}
 use Rattle.gc_graph.specs.HandleSteps.{StepRead}
-use Rattle.nodes_in_words.specs.Nodes.{place_of}
-use Rattle.heap_roots.specs.Handles.{put_in, HandlesView}
+use Rattle.heap_cycle.specs.Nodes.{place_of}
+use Rattle.heap_cycle.specs.Handles.{put_in, HandlesView}
 use Rattle.heap_cycle.specs.declared.parts.Parts.{Parts}
 use Rattle.heap_cycle.specs.Parts.{state_of}
 use Rattle.heap_engine.specs.FieldSteps.{HasRead}

@@ -11,12 +11,12 @@ use Rattle.gc_graph.specs.State.{State, StackWord, node_at, size_of}
 use Rattle.gc_graph.specs.State.StackWord.{Pointer, Number}
 use Rattle.gc_graph.specs.Outcomes.{answered, IsRefused, slot_at, with_slot}
 use Rattle.gc_graph.specs.HandleSteps.{IsPushed, IsPeeked, StepPush, StepPeek}
-use Rattle.heap_objects.specs.Objects.{IsLiveAt}
-use Rattle.heap_roots.specs.Stack.{StackView, pointed_place}
+use Rattle.heap_cycle.specs.Objects.{IsLiveAt}
+use Rattle.heap_cycle.specs.Stack.{StackView, pointed_place}
 use Rattle.heap_cycle.specs.declared.parts.Parts.{Parts}
-use Rattle.heap_roots.specs.Handles.{HandlesView}
+use Rattle.heap_cycle.specs.Handles.{HandlesView}
 use Rattle.heap_cycle.specs.Parts.{state_of, AreTied, IsReady}
-use Rattle.heap_roots.specs.StackWords.{pointer_at, number_in, no_word}
+use Rattle.heap_cycle.specs.StackWords.{pointer_at, number_in, no_word}
 
 -- ---- a pointer is pushed, or refused for its offset
 

@@ -4,11 +4,11 @@ use Rattle.std.proofs.lemmas.Bool.{true≢false}
 use Rattle.gc_graph.specs.declared.phase.Phase.{Phase}
 use Rattle.gc_graph.specs.declared.phase.Phase.TheVariants.{Idle, Marking, Sweeping}
 use Rattle.gc_graph.specs.CycleSteps.{is_marking}
-use Rattle.sweeper.specs.Sweeping.{cursor_at}
-use Rattle.heap_objects.specs.Marking.{GreyView}
-use Rattle.heap_objects.specs.Marks.{HasMarks, IsTellingOn}
-use Rattle.heap_objects.specs.Objects.{ObjectsView, told_of}
-use Rattle.heap_objects.specs.Refused.{RefusalsTold}
+use Rattle.heap_cycle.specs.Sweeping.{cursor_at}
+use Rattle.heap_cycle.specs.Marking.{GreyView}
+use Rattle.heap_cycle.specs.Marks.{HasMarks, IsTellingOn}
+use Rattle.heap_cycle.specs.Objects.{ObjectsView, told_of}
+use Rattle.heap_cycle.specs.Refused.{RefusalsTold}
 use Rattle.heap_cycle.specs.declared.parts.Parts.{Parts}
 use Rattle.heap_cycle.specs.Parts.{AreTied}
 use Rattle.heap_cycle.specs.Walks.{GoesOnTelling}

@@ -23,7 +23,7 @@ use Rattle.gc_graph.specs.RegionSteps.Answer.{Replied, Told}
 use Rattle.gc_graph.specs.State.{State}
 use Rattle.cross_thread_region.specs.Calls.{Begins}
 use Rattle.cross_thread_region.specs.Histories.{entries_of}
-use Rattle.heap_objects.specs.Refused.{RefusalsTold}
+use Rattle.heap_cycle.specs.Refused.{RefusalsTold}
 use Rattle.heap_cycle.specs.declared.shared.Shared.{Shared}
 use Rattle.heap_cycle.specs.Printed.{Printed, TellsNode, finalised_in, later_lines, outcome_lines, ran_lines}
 use Rattle.heap_cycle.specs.Shared.{HasThreads, HaveAnswered, IsTold, ahead_of, joined_shared, taken_of, told_lines}

@@ -7,11 +7,11 @@ use Rattle.gc_graph.specs.Fields.{value_at, with_value, is_pair}
 use Rattle.gc_graph.specs.May.{read_node}
 use Rattle.gc_graph.specs.ObjectSteps.{AtField, IsChanged, IsRead, first_word}
 use Rattle.page_words.specs.Seat.{SeatView}
-use Rattle.member_fields.specs.Barrier.{MayKeepNamed}
-use Rattle.heap_objects.specs.declared.field.Part.{Part}
-use Rattle.heap_objects.specs.declared.field.Wanted.{Wanted}
-use Rattle.heap_objects.specs.declared.field.Wanted.TheVariants.{References, Numbers, Pairs}
-use Rattle.heap_objects.specs.Fields.{allows, part_word}
+use Rattle.heap_cycle.specs.Barrier.{MayKeepNamed}
+use Rattle.heap_cycle.specs.Part.{Part}
+use Rattle.heap_cycle.specs.Wanted.{Wanted}
+use Rattle.heap_cycle.specs.Wanted.TheVariants.{References, Numbers, Pairs}
+use Rattle.heap_cycle.specs.Fields.{allows, part_word}
 use Rattle.heap_cycle.specs.declared.parts.Parts.{Parts}
 use Rattle.heap_cycle.specs.Parts.{setup_of, state_of, AreTied}
 

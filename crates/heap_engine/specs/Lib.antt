@@ -5,3 +5,5 @@ pub mod Alone
 pub mod Ended
 pub mod Sound
 pub mod Acted
+-- Words of the crates below that the crates above name too.
+pub use Rattle.heap_cycle.specs.Objects

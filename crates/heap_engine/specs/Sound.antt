@@ -5,11 +5,11 @@ use Rattle.gc_graph.specs.ThreadLaw.{IsCounted}
 use Rattle.marker_core.specs.Bodies.{holds}
 use Rattle.page_space.specs.Pages.{word_count}
 use Rattle.cross_thread_region.specs.Histories.{entries_of}
-use Rattle.nodes_in_words.specs.Places.{kept_of}
+use Rattle.heap_cycle.specs.PlacesInWords.{kept_of}
 use Rattle.mark_worklist.specs.Families.{at}
 use Rattle.mark_worklist.specs.Shares.{taken_of as items_taken}
-use Rattle.heap_objects.specs.Marking.{GreyView}
-use Rattle.heap_objects.specs.Objects.{told_of}
+use Rattle.heap_cycle.specs.Marking.{GreyView}
+use Rattle.heap_cycle.specs.Objects.{told_of}
 use Rattle.heap_engine.specs.declared.heap_core.Core.TheInside.{Inside}
 use Rattle.heap_engine.specs.View.{View}
 use Rattle.heap_cycle.specs.Printed.{Printed, outcome_lines, IsOutcome}

@@ -5,7 +5,7 @@ use Rattle.gc_graph.specs.declared.command.Command.TheVariants as C
 use Rattle.gc_graph.specs.declared.line.Line.{Line}
 use Rattle.gc_graph.specs.declared.region.Entry.{Entry}
 use Rattle.gc_graph.specs.State.{Setup, State}
-use Rattle.heap_objects.specs.Refused.{RefusalsTold, none_refused}
+use Rattle.heap_cycle.specs.Refused.{RefusalsTold, none_refused}
 
 -- what was set up, the state of the graph, whether each node is marked and whether it is traced, the region's history as far as
 -- commands have taken it, the entries that threads made after that, the state just before threads went last, the lines of the last

@@ -25,8 +25,7 @@ use crate::shared::{export, import};
 use crate::threads::{at, go};
 use callback_table::CallbackTable;
 use gc_graph::Command;
-use heap_cycle::{Outcome, Parts, Shared, collect, finish, start};
-use marker_crew::Gate;
+use heap_cycle::{Gate, Outcome, Parts, Shared, collect, finish, start};
 use std::sync::Arc;
 use std::thread::Threads;
 

@@ -8,15 +8,14 @@ ghost use Rattle.gc_graph.specs.declared.line.Refusal.TheVariants as R;
 ghost use Rattle.gc_graph.specs.Fields.{content_of, is_weak};
 ghost use Rattle.gc_graph.specs.Outcomes.{answered, slot_at};
 ghost use Rattle.gc_graph.specs.ObjectSteps.{StepSet, StepGet, StepPut, StepWord};
-ghost use Rattle.nodes_in_words.specs.Nodes.{place_of, word_of};
-ghost use Rattle.heap_objects.specs.Fields.{allows, IsFieldAt, Suits};
-ghost use Rattle.heap_objects.specs.Objects.{IsLiveAt};
+ghost use Rattle.heap_cycle.specs.Nodes.{place_of, word_of};
+ghost use Rattle.heap_cycle.specs.Fields.{allows, IsFieldAt, Suits};
+ghost use Rattle.heap_cycle.specs.Objects.{IsLiveAt};
 ghost use Rattle.heap_engine.specs.FieldSteps.{StepWrite, IsKeptIn, HasRead};
 ghost use Rattle.heap_cycle.specs.Parts.{state_of, counted, IsReady, IsFrame};
 
 use gc_graph::{Kind, Line, Refusal};
-use heap_cycle::{Parts, read_weakly};
-use heap_objects::{Content, Field, Wanted};
+use heap_cycle::{Content, Field, Parts, Wanted, read_weakly};
 
 /// Field f of slot p's object gets what slot q holds. The field is a strong or a weak one.
 pub fn set(parts: &mut Parts, p: u32, f: u32, q: u32) -> Line

@@ -11,14 +11,14 @@ ghost use Rattle.gc_graph.specs.Lawful.{IsAllowed, IsEndLine, summary_line};
 ghost use Rattle.gc_graph.specs.Shapes.{IsShape};
 ghost use Rattle.callback_table.specs.Table.{kinds_of};
 ghost use Rattle.heap_engine.specs.Acted.{IsActed};
-ghost use Rattle.heap_objects.specs.Objects.{HaveCallbacks};
+ghost use Rattle.heap_cycle.specs.Objects.{HaveCallbacks};
 ghost use Rattle.heap_engine.specs.View.{no_refusals, IsClosed};
 ghost use Rattle.heap_cycle.specs.Printed.{finalised_in, TellsNode};
 
 use crate::heap_core::Core;
 use callback_table::CallbackTable;
 use gc_graph::{Command, Line, NoMemory};
-use marker_crew::Gate;
+use heap_cycle::Gate;
 use std::alloc::Global;
 use std::sync::Arc;
 use std::thread::Threads;

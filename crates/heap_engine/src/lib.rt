@@ -40,3 +40,4 @@ mod threads;
 mod totals;
 
 pub use heap::{Config, Heap};
+pub use heap_cycle::{FreeGate, Gate};

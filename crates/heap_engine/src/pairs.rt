@@ -3,16 +3,15 @@
 ghost use Rattle.std.specs.Prelude.{◌≡◌, ◌<◌, [], ◌∷◌, None};
 ghost use Rattle.gc_graph.specs.Outcomes.{answered, slot_at};
 ghost use Rattle.gc_graph.specs.ObjectSteps.{StepPair, StepKey, StepVal};
-ghost use Rattle.member_fields.specs.Barrier.{MayKeepNamed};
-ghost use Rattle.nodes_in_words.specs.Nodes.{place_of, word_of};
-ghost use Rattle.heap_objects.specs.Fields.{ArePartsOf};
+ghost use Rattle.heap_cycle.specs.Barrier.{MayKeepNamed};
+ghost use Rattle.heap_cycle.specs.Nodes.{place_of, word_of};
+ghost use Rattle.heap_cycle.specs.Fields.{ArePartsOf};
 ghost use Rattle.heap_engine.specs.FieldSteps.{StepPart, StepWholePair};
 ghost use Rattle.heap_cycle.specs.Parts.{state_of, counted, IsReady, IsFrame};
 
 use crate::fields::{field_of, line_of};
 use gc_graph::Line;
-use heap_cycle::{Parts, read_weakly};
-use heap_objects::{Content, PairContent, Part, Wanted};
+use heap_cycle::{Content, PairContent, Part, Parts, Wanted, read_weakly};
 
 /// The pair that is field f of slot p's object gets what slot k holds as its key and what slot v
 /// holds as its value, and becomes null where either slot is.

@@ -4,8 +4,8 @@ ghost use Rattle.std.specs.Prelude.{◌≡◌, ◌<◌, [], ◌∷◌, None};
 ghost use Rattle.std.specs.Prelude.{IfSome, option_map, slice_index_or};
 ghost use Rattle.gc_graph.specs.Outcomes.{answered};
 ghost use Rattle.gc_graph.specs.HandleSteps.{StepCopy, StepDrop, StepWeak, StepRead};
-ghost use Rattle.nodes_in_words.specs.Nodes.{place_of};
-ghost use Rattle.heap_objects.specs.Objects.{IsLiveAt};
+ghost use Rattle.heap_cycle.specs.Nodes.{place_of};
+ghost use Rattle.heap_cycle.specs.Objects.{IsLiveAt};
 ghost use Rattle.heap_cycle.specs.Parts.{state_of, counted, IsReady, IsFrame};
 
 use crate::fields::line_of;

@@ -5,12 +5,11 @@ ghost use Rattle.std.specs.Prelude.{◌≡◌, ◌<◌, [], ◌∷◌};
 ghost use Rattle.gc_graph.specs.May.{address_of};
 ghost use Rattle.gc_graph.specs.Outcomes.{answered};
 ghost use Rattle.gc_graph.specs.HandleSteps.{IsPushed, StepPush, StepPushPlain, StepPop, StepPeek};
-ghost use Rattle.heap_roots.specs.Stack.{pointed_place, PointsInside};
+ghost use Rattle.heap_cycle.specs.Stack.{pointed_place, PointsInside};
 ghost use Rattle.heap_cycle.specs.Parts.{state_of, counted, IsReady, IsFrame};
 
 use gc_graph::{Line, Refusal};
-use heap_cycle::Parts;
-use heap_roots::Pushed;
+use heap_cycle::{Parts, Pushed};
 
 /// Pushes a pointer to the word at an offset of slot p's object.
 pub fn push(parts: &mut Parts, p: u32, offset: u32) -> Line

@@ -5,11 +5,11 @@ use Rattle.std.proofs.lemmas.List.Elements.{All-get_or, All-head, All-tail}
 use Rattle.std.proofs.lemmas.List.Sums.{sum_by-cons}
 use Rattle.mark_worklist.specs.declared.marking.Marking.{Marking}
 use Rattle.page_words.specs.Seat.{SeatView, IsAlone, IsView}
-use Rattle.pair_notes.specs.declared.notes.Note.{Note}
-use Rattle.ephemerons.specs.Accounted.{under_way_is_ready}
-use Rattle.ephemerons.specs.Fixpoint.{IsUnrefused}
-use Rattle.pair_notes.specs.Notes.{NotesState, no_notes, group_at, IsNotedIn}
-use Rattle.ephemerons.specs.UnderWay.{IsReadyToEnd, IsUnderWay}
+use Rattle.marker_crew.specs.Note.{Note}
+use Rattle.atomic_pause.specs.Accounted.{under_way_is_ready}
+use Rattle.atomic_pause.specs.Fixpoint.{IsUnrefused}
+use Rattle.marker_crew.specs.Notes.{NotesState, no_notes, group_at, IsNotedIn}
+use Rattle.atomic_pause.specs.UnderWay.{IsReadyToEnd, IsUnderWay}
 use Rattle.marker_crew.specs.Crews.{Marker}
 use Rattle.heap_objects.specs.Crews.{refusals_of_all}
 use Rattle.heap_objects.specs.Marking.{GreyView, IsCleared, notes_in}

@@ -11,13 +11,13 @@ use Rattle.mark_worklist.specs.declared.marking.Marking.{Marking}
 use Rattle.marker_core.specs.declared.states.Body.{Body}
 use Rattle.page_words.specs.Seat.{SeatView}
 use Rattle.mark_worklist.specs.Shares.{ShareState}
-use Rattle.pair_notes.specs.declared.notes.Note.{Note}
-use Rattle.pair_notes.specs.BodyGraph.{HasPair}
-use Rattle.pair_notes.specs.Fields.{field_at_offset}
-use Rattle.ephemerons.specs.Fixpoint.{Mode, mode_of}
-use Rattle.pair_notes.specs.Marking.{MarksOn, traced_count}
-use Rattle.pair_notes.specs.Notes.{NotesState, no_notes, group_at, refusals_in}
-use Rattle.ephemerons.specs.UnderWay.{IsUnderWay}
+use Rattle.marker_crew.specs.Note.{Note}
+use Rattle.marker_crew.specs.BodyGraph.{HasPair}
+use Rattle.marker_crew.specs.Fields.{field_at_offset}
+use Rattle.atomic_pause.specs.Fixpoint.{Mode, mode_of}
+use Rattle.marker_crew.specs.Marking.{MarksOn, traced_count}
+use Rattle.marker_crew.specs.Notes.{NotesState, no_notes, group_at, refusals_in}
+use Rattle.atomic_pause.specs.UnderWay.{IsUnderWay}
 use Rattle.marker_crew.specs.Crews.{Marker}
 use Rattle.heap_objects.specs.declared.marking.Grey.{Grey}
 use Rattle.heap_objects.specs.Crews.{IsStepped}

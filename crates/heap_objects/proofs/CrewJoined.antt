@@ -22,14 +22,14 @@ use Rattle.page_words.specs.Seat.{SeatView, IsView}
 use Rattle.mark_worklist.specs.Families.{at, nobody, IsFresh}
 use Rattle.mark_worklist.specs.Joining.{IsTaken, put_by, taken_by, refused_by}
 use Rattle.mark_worklist.specs.Shares.{ShareState, put_of, taken_of, times}
-use Rattle.pair_notes.specs.declared.notes.Note.{Note}
-use Rattle.pair_notes.specs.BodyGraph.{HasPair, PlacesDiffer}
-use Rattle.pair_notes.specs.BodyLeads.{role_of_offset}
-use Rattle.pair_notes.specs.Fields.{field_at_offset}
-use Rattle.ephemerons.specs.Fixpoint.{IsUnrefused}
-use Rattle.pair_notes.specs.Marking.{traced_count}
-use Rattle.pair_notes.specs.Notes.{NotesState, no_notes, note_of, group_at, IsNote, IsNotedIn, HasPairsNoted, refusals_in}
-use Rattle.ephemerons.specs.UnderWay.{IsReadyToEnd, IsUnderWay}
+use Rattle.marker_crew.specs.Note.{Note}
+use Rattle.marker_crew.specs.BodyGraph.{HasPair, PlacesDiffer}
+use Rattle.marker_crew.specs.BodyLeads.{role_of_offset}
+use Rattle.marker_crew.specs.Fields.{field_at_offset}
+use Rattle.atomic_pause.specs.Fixpoint.{IsUnrefused}
+use Rattle.marker_crew.specs.Marking.{traced_count}
+use Rattle.marker_crew.specs.Notes.{NotesState, no_notes, note_of, group_at, IsNote, IsNotedIn, HasPairsNoted, refusals_in}
+use Rattle.atomic_pause.specs.UnderWay.{IsReadyToEnd, IsUnderWay}
 use Rattle.marker_crew.specs.Crews.{Marker, Ending, HasDrained, joined_with_all}
 use Rattle.marker_crew.specs.Drains.{nothing_yet}
 use Rattle.heap_objects.specs.declared.marking.Grey.{Grey}

@@ -15,8 +15,8 @@ use Rattle.page_words.specs.Seat.{SeatView}
 use Rattle.mark_worklist.specs.Families.{at, nobody}
 use Rattle.mark_worklist.specs.Joining.{AreFresh}
 use Rattle.mark_worklist.specs.Shares.{ShareState, put_of, taken_of}
-use Rattle.pair_notes.specs.Notes.{NotesState, group_at}
-use Rattle.ephemerons.specs.UnderWay.{IsUnderWay}
+use Rattle.marker_crew.specs.Notes.{NotesState, group_at}
+use Rattle.atomic_pause.specs.UnderWay.{IsUnderWay}
 use Rattle.marker_crew.specs.Crews.{CrewState, Marker, begun_with, started_with}
 use Rattle.heap_objects.specs.declared.marking.Grey.{Grey}
 use Rattle.heap_objects.specs.Crews.{Relists, lent_often}

@@ -21,12 +21,12 @@ use Rattle.mark_worklist.specs.Families.{at, nobody}
 use Rattle.mark_worklist.specs.Joining.{IsSameList}
 use Rattle.mark_worklist.specs.Kept.{list-then}
 use Rattle.mark_worklist.specs.Shares.{ShareState, IsSameShare, put_of, taken_of}
-use Rattle.pair_notes.specs.declared.notes.Note.{Note}
-use Rattle.pair_notes.specs.BodyGraph.{HasPair, PlacesDiffer}
-use Rattle.pair_notes.specs.BodyLeads.{offset_told}
-use Rattle.pair_notes.specs.Marking.{traced_count}
-use Rattle.pair_notes.specs.Notes.{NotesState, note_of, refusals_in}
-use Rattle.ephemerons.specs.UnderWay.{IsUnderWay}
+use Rattle.marker_crew.specs.Note.{Note}
+use Rattle.marker_crew.specs.BodyGraph.{HasPair, PlacesDiffer}
+use Rattle.marker_crew.specs.BodyLeads.{offset_told}
+use Rattle.marker_crew.specs.Marking.{traced_count}
+use Rattle.marker_crew.specs.Notes.{NotesState, note_of, refusals_in}
+use Rattle.atomic_pause.specs.UnderWay.{IsUnderWay}
 use Rattle.marker_crew.specs.Crews.{Marker}
 use Rattle.marker_crew.specs.declared.draining.Drained.{Drained}
 use Rattle.marker_crew.specs.Drains.{nothing_yet, AreTracedOrNoted}

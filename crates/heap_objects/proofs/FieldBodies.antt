@@ -9,9 +9,9 @@ use Rattle.gc_graph.specs.Fields.{with_value}
 use Rattle.marker_core.specs.Bodies.{end_of, with_word, has_field}
 use Rattle.marker_core.specs.declared.states.Body.{Body}
 use Rattle.page_words.specs.Seat.{SeatView, IsView}
-use Rattle.nodes_in_words.specs.Nodes.{place_of, word_of, body_of, bodies_from, bodies_of, IsThere}
-use Rattle.nodes_in_words.specs.NodeBodies.{bodies-there, bodies-gone}
-use Rattle.nodes_in_words.specs.NodePlaces.{node_body}
+use Rattle.atomic_pause.specs.Nodes.{place_of, word_of, body_of, bodies_from, bodies_of, IsThere}
+use Rattle.atomic_pause.specs.NodeBodies.{bodies-there, bodies-gone}
+use Rattle.atomic_pause.specs.NodePlaces.{node_body}
 use Rattle.heap_objects.specs.FieldNodes.{with_field, size_field}
 
 -- ---- the place stays

@@ -17,11 +17,11 @@ use Rattle.page_words.specs.Seat.{SeatView, IsView, rewritten}
 use Rattle.gc_graph.specs.Placement.{extents_of}
 use Rattle.page_space.specs.Occupying.{Occupies, IsNewNumber, least_size, new_body}
 use Rattle.page_space.specs.Space.{extents_of_bodies}
-use Rattle.nodes_in_words.specs.Nodes.{place_of, word_of, body_of, bodies_of, IsThere, IsHeld}
-use Rattle.nodes_in_words.specs.TypedNodes.{AreKnown, NamesBelow, new_words}
-use Rattle.nodes_in_words.specs.NodePlaces.{body_node}
-use Rattle.nodes_in_words.specs.NodeBodies.{bodies-push, extents-bodies}
-use Rattle.nodes_in_words.specs.NodeChanges.{AgreeOn, AgreeIn, bodies-places, bodies-same}
+use Rattle.atomic_pause.specs.Nodes.{place_of, word_of, body_of, bodies_of, IsThere, IsHeld}
+use Rattle.atomic_pause.specs.TypedNodes.{AreKnown, NamesBelow, new_words}
+use Rattle.atomic_pause.specs.NodePlaces.{body_node}
+use Rattle.atomic_pause.specs.NodeBodies.{bodies-push, extents-bodies}
+use Rattle.atomic_pause.specs.NodeChanges.{AgreeOn, AgreeIn, bodies-places, bodies-same}
 use Rattle.heap_objects.specs.FieldNodes.{with_field, place-field, life-field}
 use Rattle.heap_objects.proofs.FieldBodies.{bodies_stored}
 use Rattle.heap_objects.specs.NewNodes.{node-old, node-new, place-old}

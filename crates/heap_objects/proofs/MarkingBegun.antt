@@ -15,12 +15,12 @@ use Rattle.marker_core.specs.Laws.{IsLeastOver}
 use Rattle.mark_worklist.specs.Shares.{ShareState}
 use Rattle.page_words.specs.Roles.{kind_lists}
 use Rattle.page_words.specs.Seat.{SeatView, IsView, IsQuiet, IsAlone, begun}
-use Rattle.ephemerons.specs.Fixpoint.{ListsMarks, Mode}
-use Rattle.pair_notes.specs.Marking.{traced_count}
-use Rattle.ephemerons.specs.UnderWay.{IsUnderWay}
-use Rattle.ephemerons.specs.UnderWayStays.{under_way_marked}
-use Rattle.nodes_in_words.specs.AmongNodes.{IsAmong}
-use Rattle.nodes_in_words.specs.Nodes.{place_of, IsHeld, AreOfValid}
+use Rattle.atomic_pause.specs.Fixpoint.{ListsMarks, Mode}
+use Rattle.marker_crew.specs.Marking.{traced_count}
+use Rattle.atomic_pause.specs.UnderWay.{IsUnderWay}
+use Rattle.atomic_pause.specs.UnderWayStays.{under_way_marked}
+use Rattle.atomic_pause.specs.AmongNodes.{IsAmong}
+use Rattle.atomic_pause.specs.Nodes.{place_of, IsHeld, AreOfValid}
 use Rattle.heap_objects.specs.Marking.{GreyView, IsClear, refused_in, notes_in}
 use Rattle.heap_objects.specs.Marks.{IsMayOf, IsHome, IsOut, HasMarking}
 use Rattle.heap_objects.proofs.CrewStays.{crew_told}

@@ -14,10 +14,10 @@ use Rattle.mark_worklist.specs.declared.marking.Marking.{Marking as MarkingState
 use Rattle.page_words.specs.Seat.{SeatView, IsView, IsQuiet, rewritten}
 use Rattle.page_words.specs.WrittenBodies.{same_place}
 use Rattle.page_space.specs.Occupying.{Occupies}
-use Rattle.pair_notes.specs.Marking.{traced_count}
-use Rattle.pair_notes.specs.Notes.{NotesState}
-use Rattle.ephemerons.specs.UnderWay.{IsUnderWay}
-use Rattle.nodes_in_words.specs.Nodes.{place_of}
+use Rattle.marker_crew.specs.Marking.{traced_count}
+use Rattle.marker_crew.specs.Notes.{NotesState}
+use Rattle.atomic_pause.specs.UnderWay.{IsUnderWay}
+use Rattle.atomic_pause.specs.Nodes.{place_of}
 use Rattle.heap_objects.specs.Finalising.{IsSweptTo}
 use Rattle.heap_objects.specs.Marking.{GreyView}
 use Rattle.heap_objects.specs.Marks.{HasCrew, IsAtRest, IsMayOf, HasMarking, HasMarks}

@@ -17,8 +17,8 @@ use Rattle.marker_core.specs.Bodies.{holds, IsPlace}
 use Rattle.page_words.specs.BodyPlaces.{same_body}
 use Rattle.page_words.specs.Seat.{SeatView, IsView}
 use Rattle.page_space.specs.Occupying.{Occupies, IsNewNumber}
-use Rattle.nodes_in_words.specs.Nodes.{place_of, bodies_of}
-use Rattle.nodes_in_words.specs.NodePlaces.{live_is_there, node_body}
+use Rattle.atomic_pause.specs.Nodes.{place_of, bodies_of}
+use Rattle.atomic_pause.specs.NodePlaces.{live_is_there, node_body}
 use Rattle.heap_objects.specs.Marking.{GreyView}
 use Rattle.heap_objects.specs.Marks.{IsMayOf, HasMarks}
 use Rattle.heap_objects.specs.NewNodes.{node-old, node-new, place-old}

@@ -10,7 +10,7 @@ use Rattle.marker_core.specs.Laws.{IsLeastOver}
 use Rattle.marker_core.specs.Bodies.{holds}
 use Rattle.page_words.specs.Roles.{kind_lists}
 use Rattle.page_words.specs.Seat.{SeatView, IsView, IsQuiet, loaded}
-use Rattle.nodes_in_words.specs.Nodes.{place_of, IsHeld, AreOfValid}
+use Rattle.atomic_pause.specs.Nodes.{place_of, IsHeld, AreOfValid}
 use Rattle.heap_objects.specs.Finalising.{IsSweptTo}
 use Rattle.heap_objects.specs.Marking.{GreyView}
 use Rattle.heap_objects.specs.Marks.{IsMayOf, HasMarks}

@@ -8,7 +8,7 @@ use Rattle.mark_worklist.specs.Told.{told_then}
 use Rattle.marker_core.specs.declared.states.Body.{Body}
 use Rattle.marker_core.specs.Bodies.{holds}
 use Rattle.page_words.specs.Seat.{SeatView}
-use Rattle.pair_notes.specs.Marking.{traced_count}
+use Rattle.marker_crew.specs.Marking.{traced_count}
 use Rattle.heap_objects.specs.Crews.{IsStepped}
 use Rattle.heap_objects.specs.Marking.{GreyView, pushes_in, notes_in}
 use Rattle.heap_objects.specs.Marks.{HasCrew, HasMarking}

@@ -10,9 +10,9 @@ use Rattle.mark_worklist.specs.Told.{told_then}
 use Rattle.marker_core.specs.declared.states.Body.{Body}
 use Rattle.marker_core.specs.Bodies.{holds}
 use Rattle.page_words.specs.Seat.{SeatView, IsQuiet, unlooked}
-use Rattle.pair_notes.specs.Marking.{traced_count}
+use Rattle.marker_crew.specs.Marking.{traced_count}
 use Rattle.member_fields.specs.Barrier.{HasBarrier}
-use Rattle.nodes_in_words.specs.Nodes.{place_of, IsHeld}
+use Rattle.atomic_pause.specs.Nodes.{place_of, IsHeld}
 use Rattle.heap_objects.specs.Finalising.{IsSweptTo}
 use Rattle.heap_objects.specs.Marking.{GreyView, IsClear, pushes_in}
 use Rattle.heap_objects.specs.Marks.{HasMarks}

@@ -12,11 +12,11 @@ use Rattle.marker_core.specs.Bodies.{holds}
 use Rattle.page_words.specs.Seat.{SeatView}
 use Rattle.page_space.specs.Pages.{is_between}
 use Rattle.sweeper.specs.Sweeping.{IsClearBelow, Sweeps, AreDeadSerials, IsDeadIn, no_body, outside, is_dead_in}
-use Rattle.nodes_in_words.specs.Nodes.{place_of, body_of, bodies_from, IsThere, IsHeld}
-use Rattle.nodes_in_words.specs.NodeBodies.{bodies-there, bodies-gone}
-use Rattle.nodes_in_words.specs.NodeChanges.{bodies-same}
-use Rattle.nodes_in_words.specs.NodePlaces.{node_body, body_node}
-use Rattle.nodes_in_words.specs.NodeLives.{is_dead_life}
+use Rattle.atomic_pause.specs.Nodes.{place_of, body_of, bodies_from, IsThere, IsHeld}
+use Rattle.atomic_pause.specs.NodeBodies.{bodies-there, bodies-gone}
+use Rattle.atomic_pause.specs.NodeChanges.{bodies-same}
+use Rattle.atomic_pause.specs.NodePlaces.{node_body, body_node}
+use Rattle.atomic_pause.specs.NodeLives.{is_dead_life}
 use Rattle.heap_objects.specs.Finalising.{FinalisesBelow}
 use Rattle.heap_objects.specs.SweptNodes.{life_below, finalise_is, place-finalised, life-finalised}
 use Rattle.sweeper.specs.OutsidePlaces.{outside_holds}

@@ -6,8 +6,8 @@ use Rattle.gc_graph.specs.State.{Node, node_at, no_node, is_there, is_dead}
 use Rattle.gc_graph.specs.Fields.{with_value}
 use Rattle.marker_core.specs.Bodies.{with_word, holds}
 use Rattle.page_words.specs.Seat.{SeatView, IsView, rewritten}
-use Rattle.nodes_in_words.specs.Nodes.{place_of, word_of, bodies_from, bodies_of, IsThere, IsHeld}
-use Rattle.nodes_in_words.specs.NodeChanges.{bodies-same, place_set, life_set}
+use Rattle.atomic_pause.specs.Nodes.{place_of, word_of, bodies_from, bodies_of, IsThere, IsHeld}
+use Rattle.atomic_pause.specs.NodeChanges.{bodies-same, place_set, life_set}
 use Rattle.heap_objects.specs.FieldNodes.{with_field, place-field, life-field, pair_node, with_pair}
 use Rattle.heap_objects.proofs.FieldBodies.{IsElsewhere, bodies-field, only_there, bodies_stored}
 use Rattle.gc_graph.specs.NodeNumbers.{there_below}

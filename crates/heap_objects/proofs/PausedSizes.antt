@@ -10,11 +10,11 @@ use Rattle.gc_graph.specs.Placement.{Extent}
 use Rattle.marker_core.specs.declared.states.Body.{Body}
 use Rattle.page_words.specs.Seat.{SeatView, IsView}
 use Rattle.page_space.specs.Space.{extent_of, extents_of_bodies}
-use Rattle.nodes_in_words.specs.Nodes.{place_of, body_of, bodies_of, IsThere}
-use Rattle.nodes_in_words.specs.Judgement.{nodes_after}
-use Rattle.nodes_in_words.specs.NodeLives.{life-condemn, still_there}
-use Rattle.nodes_in_words.specs.NodePlaces.{live_is_there, node_body, body_node, same_node}
-use Rattle.nodes_in_words.specs.WeakNodes.{life-after, place-after}
+use Rattle.atomic_pause.specs.Nodes.{place_of, body_of, bodies_of, IsThere}
+use Rattle.atomic_pause.specs.Judgement.{nodes_after}
+use Rattle.atomic_pause.specs.NodeLives.{life-condemn, still_there}
+use Rattle.atomic_pause.specs.NodePlaces.{live_is_there, node_body, body_node, same_node}
+use Rattle.atomic_pause.specs.WeakNodes.{life-after, place-after}
 use Rattle.gc_graph.specs.Members.{Contains-map, Contains-map_some}
 
 -- where the bodies lie as they lay, a node that is there before and after has the size that it had

@@ -11,12 +11,12 @@ use Rattle.marker_core.specs.Laws.{IsLeastOver}
 use Rattle.page_words.specs.PlaceTests.{test_of_place}
 use Rattle.page_words.specs.Roles.{kind_lists}
 use Rattle.page_words.specs.Seat.{SeatView, IsView}
-use Rattle.nodes_in_words.specs.AmongNodes.{IsAmong}
-use Rattle.nodes_in_words.specs.ClosedPlaces.{reached_place, reached_from, reached_some, kept_closed, places_closed}
-use Rattle.nodes_in_words.specs.KeptNodes.{kept_parts, kept_from, refers_within}
-use Rattle.nodes_in_words.specs.NodePlaces.{live_is_there, node_body, same_node}
-use Rattle.nodes_in_words.specs.Nodes.{place_of, body_of, bodies_of, AreOfValid}
-use Rattle.nodes_in_words.specs.Places.{kept_of}
+use Rattle.atomic_pause.specs.AmongNodes.{IsAmong}
+use Rattle.atomic_pause.specs.ClosedPlaces.{reached_place, reached_from, reached_some, kept_closed, places_closed}
+use Rattle.atomic_pause.specs.KeptNodes.{kept_parts, kept_from, refers_within}
+use Rattle.atomic_pause.specs.NodePlaces.{live_is_there, node_body, same_node}
+use Rattle.atomic_pause.specs.Nodes.{place_of, body_of, bodies_of, AreOfValid}
+use Rattle.atomic_pause.specs.PlacesInWords.{kept_of}
 
 module _ (setup : Setup) (nodes : List Node) (v : SeatView) (view : IsView v) (valid : AreOfValid setup nodes) (held : v.bodies ≡ bodies_of nodes) where
   -- the roots of the nodes and those of the places name the same, up to what the roots of the nodes reach anyway

@@ -8,8 +8,8 @@ use Rattle.std.proofs.lemmas.List.Folds.{list_any_at, list_any_none}
 use Rattle.std.proofs.lemmas.List.Sums.{sum_by-cons}
 use Rattle.mark_worklist.specs.declared.marking.Marking.{Marking}
 use Rattle.mark_worklist.specs.Shares.{ShareState}
-use Rattle.ephemerons.specs.Fixpoint.{IsUnrefused}
-use Rattle.pair_notes.specs.Notes.{NotesState, no_notes, group_at}
+use Rattle.atomic_pause.specs.Fixpoint.{IsUnrefused}
+use Rattle.marker_crew.specs.Notes.{NotesState, no_notes, group_at}
 use Rattle.marker_crew.specs.Crews.{Marker}
 use Rattle.heap_objects.specs.declared.marking.Grey.{Grey}
 use Rattle.heap_objects.specs.Marking.{grey_of, refused_in}

@@ -7,9 +7,9 @@ use Rattle.gc_graph.specs.Sweep.{finalise}
 use Rattle.page_words.specs.Seat.{SeatView}
 use Rattle.page_space.specs.Space.{SpaceView}
 use Rattle.sweeper.specs.Sweeping.{SweepView, cursor_at, MaySweep, Sweeps}
-use Rattle.nodes_in_words.specs.Nodes.{IsHeld, AreOfValid}
-use Rattle.nodes_in_words.specs.NodePlaces.{serials_fit}
-use Rattle.nodes_in_words.specs.DeadUnnamed.{dead_unnamed}
+use Rattle.atomic_pause.specs.Nodes.{IsHeld, AreOfValid}
+use Rattle.atomic_pause.specs.NodePlaces.{serials_fit}
+use Rattle.atomic_pause.specs.DeadUnnamed.{dead_unnamed}
 use Rattle.heap_objects.specs.declared.marking.Grey.{Grey}
 use Rattle.heap_objects.specs.Finalising.{IsSweptTo, FinalisesBelow}
 use Rattle.heap_objects.specs.Objects.{AreObjects}

@@ -5,8 +5,8 @@ use Rattle.gc_graph.specs.Members.{in_from_holds, holds_from, Contains-map}
 use Rattle.gc_graph.specs.State.{Node, node_at}
 use Rattle.marker_core.specs.Bodies.{IsPlace, holds}
 use Rattle.page_words.specs.Seat.{SeatView}
-use Rattle.nodes_in_words.specs.NodePlaces.{live_is_there, node_body}
-use Rattle.nodes_in_words.specs.Nodes.{place_of, body_of, bodies_of}
+use Rattle.atomic_pause.specs.NodePlaces.{live_is_there, node_body}
+use Rattle.atomic_pause.specs.Nodes.{place_of, body_of, bodies_of}
 use Rattle.heap_objects.specs.Marks.{TellsRoots}
 
 -- a told place is that of a body

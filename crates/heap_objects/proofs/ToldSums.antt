@@ -4,7 +4,7 @@ use Rattle.std.specs.List.{list_any}
 use Rattle.std.proofs.lemmas.Bool.{cases_lt, or_cases, or_left, or_right}
 use Rattle.std.proofs.lemmas.List.Sums.{sum_by-cons}
 use Rattle.mark_worklist.specs.Refusals.{Refusals, TellsRefused}
-use Rattle.pair_notes.specs.Notes.{NotesState, group_at, refusals_in}
+use Rattle.marker_crew.specs.Notes.{NotesState, group_at, refusals_in}
 use Rattle.heap_objects.specs.Crews.{refusals_of_all}
 
 -- as many more were refused before

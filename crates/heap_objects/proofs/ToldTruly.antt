@@ -4,7 +4,7 @@ use Rattle.std.specs.List.{list_any, sum_by}
 use Rattle.std.proofs.lemmas.Bool.{true≢false, cases_Bool}
 use Rattle.mark_worklist.specs.declared.marking.Marking.{Marking}
 use Rattle.mark_worklist.specs.Refusals.{Refusals, TellsRefused}
-use Rattle.pair_notes.specs.Notes.{NotesState}
+use Rattle.marker_crew.specs.Notes.{NotesState}
 use Rattle.heap_objects.specs.Refused.{RefusedCounts, MayHaveRisen, IsToldTruly}
 use Rattle.heap_objects.specs.Crews.{refusals_of_all}
 

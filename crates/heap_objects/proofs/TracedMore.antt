@@ -11,7 +11,7 @@ use Rattle.gc_graph.specs.Members.{Contains-cons_cases}
 use Rattle.marker_core.specs.declared.states.Body.{Body}
 use Rattle.marker_core.specs.Bodies.{IsPlace, holds}
 use Rattle.marker_core.specs.Views.{times}
-use Rattle.pair_notes.specs.BodyGraph.{PlacesDiffer}
+use Rattle.marker_crew.specs.BodyGraph.{PlacesDiffer}
 
 -- ---- one list and another
 

@@ -3,8 +3,8 @@ use Rattle.std.proofs.Common.{ℕ, List, Bool}
 use Rattle.gc_graph.specs.State.{Node}
 use Rattle.mark_worklist.specs.declared.marking.Marking.{Marking}
 use Rattle.page_words.specs.Seat.{SeatView, IsStill, IsQuiet, unlooked}
-use Rattle.pair_notes.specs.Notes.{NotesState}
-use Rattle.ephemerons.specs.UnderWay.{IsUnderWay}
+use Rattle.marker_crew.specs.Notes.{NotesState}
+use Rattle.atomic_pause.specs.UnderWay.{IsUnderWay}
 use Rattle.sweeper.specs.Sweeping.{IsClearBelow}
 use Rattle.heap_objects.specs.Finalising.{IsSweptTo}
 use Rattle.heap_objects.specs.Marks.{IsMayOf}

@@ -23,9 +23,9 @@ use Rattle.page_words.specs.Roles.{kind_lists}
 use Rattle.page_words.specs.Seat.{SeatView, IsStill, rewritten, marked_at}
 use Rattle.page_words.specs.WrittenBodies.{by_word, same_place}
 use Rattle.page_space.specs.Occupying.{Occupies}
-use Rattle.pair_notes.specs.BodyGraph.{HasPair, pair_offsets}
-use Rattle.pair_notes.specs.Notes.{NotesState}
-use Rattle.ephemerons.specs.UnderWay.{IsUnderWay, ListsGrey}
+use Rattle.marker_crew.specs.BodyGraph.{HasPair, pair_offsets}
+use Rattle.marker_crew.specs.Notes.{NotesState}
+use Rattle.atomic_pause.specs.UnderWay.{IsUnderWay, ListsGrey}
 use Rattle.heap_objects.specs.Crews.{PutsOn}
 use Rattle.member_fields.specs.Barrier.{HasBarrier, asks_for_mark, target_marked}
 

@@ -15,13 +15,13 @@ use Rattle.marker_core.specs.Laws.{IsLeastOver}
 use Rattle.page_words.specs.PlaceTests.{place_of_test}
 use Rattle.page_words.specs.Roles.{kind_lists}
 use Rattle.page_words.specs.Seat.{SeatView, IsView}
-use Rattle.nodes_in_words.specs.AmongNodes.{IsAmong, among_left}
-use Rattle.nodes_in_words.specs.ClosedPlaces.{kept_closed}
-use Rattle.nodes_in_words.specs.KeptNodes.{kept_parts, kept_from, refers_within}
-use Rattle.nodes_in_words.specs.NodeLives.{live_if_there, none_dead}
-use Rattle.nodes_in_words.specs.NodePlaces.{live_is_there, body_node}
-use Rattle.nodes_in_words.specs.Nodes.{place_of, IsHeld, AreOfValid}
-use Rattle.nodes_in_words.specs.Places.{kept_of}
+use Rattle.atomic_pause.specs.AmongNodes.{IsAmong, among_left}
+use Rattle.atomic_pause.specs.ClosedPlaces.{kept_closed}
+use Rattle.atomic_pause.specs.KeptNodes.{kept_parts, kept_from, refers_within}
+use Rattle.atomic_pause.specs.NodeLives.{live_if_there, none_dead}
+use Rattle.atomic_pause.specs.NodePlaces.{live_is_there, body_node}
+use Rattle.atomic_pause.specs.Nodes.{place_of, IsHeld, AreOfValid}
+use Rattle.atomic_pause.specs.PlacesInWords.{kept_of}
 use Rattle.atomic_pause.specs.MembersOf.{member_among, among_member}
 use Rattle.heap_objects.specs.Marks.{IsMayOf}
 use Rattle.heap_objects.proofs.PlacesReached.{HaveSameRoots, place_reached}

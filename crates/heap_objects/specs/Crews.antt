@@ -9,9 +9,9 @@ use Rattle.page_words.specs.Seat.{SeatView}
 use Rattle.mark_worklist.specs.Families.{at}
 use Rattle.mark_worklist.specs.Joining.{IsSameList}
 use Rattle.mark_worklist.specs.Shares.{put_of, taken_of}
-use Rattle.pair_notes.specs.Marking.{traced_count}
-use Rattle.pair_notes.specs.Notes.{NotesState}
-use Rattle.ephemerons.specs.UnderWay.{IsReadyToEnd, IsUnderWay}
+use Rattle.marker_crew.specs.Marking.{traced_count}
+use Rattle.marker_crew.specs.Notes.{NotesState}
+use Rattle.atomic_pause.specs.UnderWay.{IsReadyToEnd, IsUnderWay}
 use Rattle.heap_objects.specs.declared.crew.CrewLists.{CrewLists}
 use Rattle.heap_objects.specs.declared.marking.Grey.{Grey}
 use Rattle.heap_objects.specs.Marking.{GreyView, pushes_in, notes_in}

@@ -4,9 +4,9 @@ use Rattle.std.proofs.lemmas.List.{length-set}
 use Rattle.gc_graph.specs.declared.kind.Value.{Value}
 use Rattle.gc_graph.specs.State.{Node, node_at, size_of}
 use Rattle.gc_graph.specs.Fields.{word_of_field, with_value}
-use Rattle.nodes_in_words.specs.Nodes.{place_of}
+use Rattle.atomic_pause.specs.Nodes.{place_of}
 use Rattle.heap_objects.specs.Objects.{written_in, paired_in, StaysAt}
-use Rattle.nodes_in_words.specs.NodeChanges.{place_set}
+use Rattle.atomic_pause.specs.NodeChanges.{place_set}
 
 -- word f of node n got the value
 abbrev pub with_field : List Node → ℕ → ℕ → Value → List Node

@@ -21,15 +21,15 @@ use Rattle.page_words.specs.Seat.{SeatView}
 use Rattle.page_space.specs.Space.{IsHeaderOf}
 use Rattle.member_fields.specs.Words.{HasWord}
 use Rattle.heap_objects.specs.declared.field.Field.{Field}
-use Rattle.nodes_in_words.specs.Nodes.{place_of, body_of, bodies_of, AreOfValid}
+use Rattle.atomic_pause.specs.Nodes.{place_of, body_of, bodies_of, AreOfValid}
 use Rattle.heap_objects.specs.Fields.{field_of, IsFieldOf, IsFieldAt}
 use Rattle.heap_objects.specs.Objects.{IsLiveAt}
-use Rattle.nodes_in_words.specs.NodePlaces.{live_is_there, node_body}
+use Rattle.atomic_pause.specs.NodePlaces.{live_is_there, node_body}
 use Rattle.type_table.specs.FieldLaw.{FieldsStandApart}
-use Rattle.nodes_in_words.specs.TypedNodes.{AreKnown, known_nodes}
-use Rattle.nodes_in_words.specs.FieldKinds.{some_words, word_below}
+use Rattle.atomic_pause.specs.TypedNodes.{AreKnown, known_nodes}
+use Rattle.atomic_pause.specs.FieldKinds.{some_words, word_below}
 use Rattle.gc_graph.specs.NodeNumbers.{live_below}
-use Rattle.nodes_in_words.specs.KeptNodes.{live_typed}
+use Rattle.atomic_pause.specs.KeptNodes.{live_typed}
 
 pub live_place : (nodes : List Node) (v : SeatView) (n place : ℕ) → v.bodies ≡ bodies_of nodes → IsLiveAt nodes n place → IsPlace v.bodies place
 live_place nodes v n place held at = (body_of (place_of nodes) n (node_at nodes n), node_body nodes v n held (live_is_there nodes n at.0), at.1)

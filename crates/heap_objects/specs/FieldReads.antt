@@ -21,15 +21,15 @@ use Rattle.member_fields.specs.Words.{IsWordIn}
 use Rattle.heap_objects.specs.declared.field.Field.{Field}
 use Rattle.heap_objects.specs.declared.field.Wanted.{Wanted}
 use Rattle.heap_objects.specs.declared.field.Wanted.TheVariants.{References, Numbers, Pairs}
-use Rattle.nodes_in_words.specs.Nodes.{place_of, word_of, body_of, bodies_of, AreOfValid}
+use Rattle.atomic_pause.specs.Nodes.{place_of, word_of, body_of, bodies_of, AreOfValid}
 use Rattle.heap_objects.specs.Fields.{allows, IsFieldOf, value_in, IsLiveReference, Suits, TakesValue, TakesWord}
 use Rattle.heap_objects.specs.Objects.{IsReferenceTo, target_in}
-use Rattle.nodes_in_words.specs.NodePlaces.{live_is_there, node_body}
-use Rattle.nodes_in_words.specs.TypedNodes.{known_nodes}
-use Rattle.nodes_in_words.specs.FieldKinds.{IsOfKind, value_of_kind}
+use Rattle.atomic_pause.specs.NodePlaces.{live_is_there, node_body}
+use Rattle.atomic_pause.specs.TypedNodes.{known_nodes}
+use Rattle.atomic_pause.specs.FieldKinds.{IsOfKind, value_of_kind}
 use Rattle.heap_objects.specs.FieldPlaces.{word_low}
 use Rattle.gc_graph.specs.NodeNumbers.{live_below}
-use Rattle.nodes_in_words.specs.KeptNodes.{live_typed}
+use Rattle.atomic_pause.specs.KeptNodes.{live_typed}
 
 -- ---- what may go into a field
 

@@ -17,7 +17,7 @@ use Rattle.heap_objects.specs.declared.field.Part.{Part}
 use Rattle.heap_objects.specs.declared.field.Part.TheVariants as P
 use Rattle.heap_objects.specs.declared.field.Wanted.{Wanted}
 use Rattle.heap_objects.specs.declared.field.Wanted.TheVariants.{References, Numbers, Pairs}
-use Rattle.nodes_in_words.specs.Nodes.{place_of}
+use Rattle.atomic_pause.specs.Nodes.{place_of}
 
 -- `set` and `get` speak of strong and weak fields, `put` and `word` of plain ones, `pair`, `key` and `val` of pairs
 abbrev pub allows : Wanted → Kind → Bool

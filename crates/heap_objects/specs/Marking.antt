@@ -3,7 +3,7 @@ use Rattle.std.specs.Prelude.{◌≡◌, ℕ, ◌+◌, false, true, List, [], Al
 use Rattle.mark_worklist.specs.Lists.{no_items}
 use Rattle.mark_worklist.specs.Refusals.{Refusals}
 use Rattle.mark_worklist.specs.declared.marking.Marking.{Marking}
-use Rattle.pair_notes.specs.Notes.{NotesState, no_notes, group_at}
+use Rattle.marker_crew.specs.Notes.{NotesState, no_notes, group_at}
 use Rattle.marker_crew.specs.Crews.{Marker}
 use Rattle.heap_objects.specs.declared.marking.Grey.{Grey}
 use Rattle.heap_objects.specs.Refused.{RefusedCounts, none_refused}

@@ -11,13 +11,13 @@ use Rattle.mark_worklist.specs.Shares.{ShareState, put_of, taken_of}
 use Rattle.marker_core.specs.Bodies.{holds}
 use Rattle.page_words.specs.Markers.{new_marker}
 use Rattle.page_words.specs.Seat.{SeatView, IsQuiet}
-use Rattle.pair_notes.specs.declared.notes.Note.{Note}
-use Rattle.pair_notes.specs.Marking.{traced_count}
-use Rattle.pair_notes.specs.Notes.{note_of}
-use Rattle.ephemerons.specs.UnderWay.{IsUnderWay}
+use Rattle.marker_crew.specs.Note.{Note}
+use Rattle.marker_crew.specs.Marking.{traced_count}
+use Rattle.marker_crew.specs.Notes.{note_of}
+use Rattle.atomic_pause.specs.UnderWay.{IsUnderWay}
 use Rattle.marker_crew.specs.Crews.{Marker}
-use Rattle.nodes_in_words.specs.AmongNodes.{IsAmong}
-use Rattle.nodes_in_words.specs.Nodes.{place_of}
+use Rattle.atomic_pause.specs.AmongNodes.{IsAmong}
+use Rattle.atomic_pause.specs.Nodes.{place_of}
 use Rattle.atomic_pause.specs.Pausing.{NamePlaces}
 use Rattle.heap_objects.specs.Finalising.{IsSweptTo}
 use Rattle.heap_objects.specs.Marking.{GreyView, IsClear, IsCleared, pushes_in, notes_in}

@@ -2,7 +2,7 @@
 use Rattle.std.proofs.Common.{◌≡◌, ℕ, ◌<◌, List, [], ◌∷◌, ◌++◌, length, refl, ap}
 use Rattle.std.proofs.lemmas.List.{get_or_append_left, get_or_push}
 use Rattle.gc_graph.specs.State.{Node, node_at, no_node, size_of}
-use Rattle.nodes_in_words.specs.Nodes.{place_of}
+use Rattle.atomic_pause.specs.Nodes.{place_of}
 use Rattle.heap_objects.specs.Objects.{StaysAt}
 
 pub node-old : (nodes : List Node) (x : Node) (n : ℕ) → n < length nodes → node_at (nodes ++ x ∷ []) n ≡ node_at nodes n

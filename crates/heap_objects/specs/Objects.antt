@@ -6,7 +6,7 @@ use Rattle.gc_graph.specs.State.{Shape, Setup, ObjectType, Node, node_at, size_o
 use Rattle.gc_graph.specs.Fields.{word_of_field, with_value, target_of, new_node}
 use Rattle.page_words.specs.Seat.{SeatView, IsStill}
 use Rattle.page_space.specs.Space.{SpaceView, IsSpaceOf}
-use Rattle.nodes_in_words.specs.Nodes.{place_of, word_of, IsHeld}
+use Rattle.atomic_pause.specs.Nodes.{place_of, word_of, IsHeld}
 use Rattle.heap_objects.specs.declared.marking.Grey.{Grey}
 use Rattle.heap_objects.specs.Fields.{IsLiveReference}
 use Rattle.heap_objects.specs.Marking.{GreyView, refused_in}

@@ -22,14 +22,14 @@ use Rattle.member_fields.specs.Words.{HasPair, IsWordIn}
 use Rattle.heap_objects.specs.declared.field.Field.{Field}
 use Rattle.heap_objects.specs.declared.field.Part.{Part}
 use Rattle.heap_objects.specs.declared.field.Part.TheVariants as P
-use Rattle.nodes_in_words.specs.Nodes.{place_of, word_of, body_of, bodies_of, AreOfValid}
+use Rattle.atomic_pause.specs.Nodes.{place_of, word_of, body_of, bodies_of, AreOfValid}
 use Rattle.heap_objects.specs.Fields.{IsFieldOf, part_word, part_in, IsLiveReference, ArePartsOf}
 use Rattle.heap_objects.specs.Objects.{IsReferenceTo}
-use Rattle.nodes_in_words.specs.NodePlaces.{live_is_there, node_body}
-use Rattle.nodes_in_words.specs.TypedNodes.{known_nodes}
-use Rattle.nodes_in_words.specs.FieldKinds.{first_word, IsOfKind, value_of_kind}
+use Rattle.atomic_pause.specs.NodePlaces.{live_is_there, node_body}
+use Rattle.atomic_pause.specs.TypedNodes.{known_nodes}
+use Rattle.atomic_pause.specs.FieldKinds.{first_word, IsOfKind, value_of_kind}
 use Rattle.heap_objects.specs.FieldReads.{named}
-use Rattle.nodes_in_words.specs.KeptNodes.{live_typed}
+use Rattle.atomic_pause.specs.KeptNodes.{live_typed}
 
 -- ---- where a pair is
 

@@ -2,7 +2,7 @@
 use Rattle.std.proofs.Common.{◌≡◌, ℕ, Bool, true, false, List, map, refl, ap, ◌∙◌, cond, ltb}
 use Rattle.gc_graph.specs.State.{Node, Life, node_at, size_of}
 use Rattle.gc_graph.specs.Sweep.{buried, finalise}
-use Rattle.nodes_in_words.specs.Nodes.{place_of}
+use Rattle.atomic_pause.specs.Nodes.{place_of}
 use Rattle.gc_graph.specs.FinalisedNodes.{finalised_at}
 
 -- the life of a node there, afterwards

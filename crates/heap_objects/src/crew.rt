@@ -6,8 +6,8 @@ ghost use Rattle.std.specs.Prelude.{[], length, replicate, vec_capacity, IfOk, M
 ghost use Rattle.mark_worklist.specs.Refusals.{TellsRefused};
 ghost use Rattle.page_space.specs.Space.{IsSeatOf};
 ghost use Rattle.page_words.specs.Markers.{new_marker};
-ghost use Rattle.pair_notes.specs.BodyGraph.{PlacesDiffer};
-ghost use Rattle.ephemerons.specs.UnderWay.{IsUnderWay};
+ghost use Rattle.marker_crew.specs.BodyGraph.{PlacesDiffer};
+ghost use Rattle.atomic_pause.specs.UnderWay.{IsUnderWay};
 ghost use Rattle.marker_crew.specs.Crews.{IsCrew};
 ghost use Rattle.heap_objects.specs.Crews.{AreListsFor, Relists, IsJoined, lent_often};
 ghost use Rattle.heap_objects.specs.Marking.{grey_of, pushes_in, notes_in};

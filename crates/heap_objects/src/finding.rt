@@ -8,7 +8,7 @@ ghost use Rattle.gc_graph.specs.May.{may_with_new};
 ghost use Rattle.gc_graph.specs.Placement.{IsLowest, IsNowhere, StartsEmptyRun, extents_of};
 ghost use Rattle.marker_core.specs.Bodies.{holds};
 ghost use Rattle.page_space.specs.Space.{FitsBetween, IsFreePlace};
-ghost use Rattle.nodes_in_words.specs.Nodes.{AreOfValid};
+ghost use Rattle.atomic_pause.specs.Nodes.{AreOfValid};
 ghost use Rattle.heap_objects.specs.Objects.{with_made};
 ghost use Rattle.heap_objects.specs.Objects.{setup_of_objects};
 ghost use Rattle.heap_objects.specs.Marks.{HasMarks};

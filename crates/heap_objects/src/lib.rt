@@ -42,6 +42,7 @@ mod steps;
 pub use content::{Content, Values};
 pub use crew::CrewLists;
 pub use field::{Field, Part, Wanted};
+pub use marker_crew::{FreeGate, Gate};
 pub use names::Names;
 pub use objects::Objects;
 pub use pair_fields::PairContent;

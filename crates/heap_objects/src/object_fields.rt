@@ -11,7 +11,7 @@ ghost use Rattle.gc_graph.specs.State.{graph_of};
 ghost use Rattle.member_fields.specs.Barrier.{MayKeep, MayKeepNamed};
 ghost use Rattle.heap_objects.specs.Fields.{allows, IsFieldAt, IsFieldOf, value_in, TakesValue};
 ghost use Rattle.heap_objects.specs.Objects.{IsLiveAt};
-ghost use Rattle.nodes_in_words.specs.Nodes.{AreOfValid, word_of, place_of};
+ghost use Rattle.atomic_pause.specs.Nodes.{AreOfValid, word_of, place_of};
 ghost use Rattle.heap_objects.specs.Objects.{IsReferenceTo, target_in, written_in};
 ghost use Rattle.heap_objects.specs.Objects.{setup_of_objects};
 ghost use Rattle.heap_objects.specs.Marks.{HasMarks, IsTellingOn};

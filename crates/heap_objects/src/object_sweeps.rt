@@ -4,7 +4,7 @@ ghost use Rattle.std.specs.Prelude.{◌≡◌, ℕ, ◌+◌, ◌*◌, ◌<◌, �
 ghost use Rattle.page_words.specs.Seat.{IsQuiet};
 ghost use Rattle.page_space.specs.Pages.{word_count};
 ghost use Rattle.sweeper.specs.Sweeping.{cursor_at, dead_between};
-ghost use Rattle.nodes_in_words.specs.Nodes.{AreOfValid};
+ghost use Rattle.atomic_pause.specs.Nodes.{AreOfValid};
 ghost use Rattle.heap_objects.specs.Finalising.{IsSweptTo, FinalisesBelow, AreFewTold};
 ghost use Rattle.heap_objects.specs.Marks.{IsAtRest};
 ghost use Rattle.heap_objects.specs.Objects.{setup_of_objects};

@@ -14,10 +14,10 @@ ghost use Rattle.heap_objects.specs.Marking.{no_grey};
 
 use crate::kinds::{self, Kinds};
 use crate::marking::Grey;
+use atomic_pause::NodeLists;
 use callback_table::CallbackTable;
 use gc_graph::NoMemory;
 use ghost_values::GhostValue;
-use nodes_in_words::NodeLists;
 use page_space::Space;
 use page_words::MutatorSeat;
 use std::alloc::Global;
@@ -95,7 +95,7 @@ impl Objects {
             types,
             kinds: kinds::of(callbacks),
             made: 0,
-            nodes: nodes_in_words::none(),
+            nodes: NodeLists::none(),
             grey: Grey::new(alloc, markers)?,
         })
     }

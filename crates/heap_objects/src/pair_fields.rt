@@ -7,7 +7,7 @@ ghost use Rattle.gc_graph.specs.declared.phase.Phase.{Phase};
 ghost use Rattle.gc_graph.specs.Fields.{is_pair};
 ghost use Rattle.heap_objects.specs.Fields.{IsFieldOf, part_in, ArePartsOf};
 ghost use Rattle.heap_objects.specs.Objects.{target_in, paired_in};
-ghost use Rattle.nodes_in_words.specs.Nodes.{AreOfValid, word_of, place_of};
+ghost use Rattle.atomic_pause.specs.Nodes.{AreOfValid, word_of, place_of};
 ghost use Rattle.heap_objects.specs.Objects.{setup_of_objects};
 ghost use Rattle.heap_objects.specs.Marks.{HasMarks, IsTellingOn};
 ghost use Rattle.member_fields.specs.Barrier.{MayKeep, MayKeepNamed};

@@ -3,14 +3,14 @@
 ghost use Rattle.std.specs.Prelude.{◌≡◌, ◌<◌, ◌≤◌, [], false, length};
 ghost use Rattle.mark_worklist.specs.Refusals.{TellsRefused};
 ghost use Rattle.page_space.specs.Space.{IsSeatOf};
-ghost use Rattle.pair_notes.specs.BodyGraph.{PlacesDiffer};
-ghost use Rattle.ephemerons.specs.UnderWay.{IsUnderWay};
+ghost use Rattle.marker_crew.specs.BodyGraph.{PlacesDiffer};
+ghost use Rattle.atomic_pause.specs.UnderWay.{IsUnderWay};
 ghost use Rattle.heap_objects.specs.Crews.{IsIdleOrLong, IsStepped};
 ghost use Rattle.heap_objects.specs.Marking.{grey_of, pushes_in};
 ghost use Rattle.heap_objects.specs.Marks.{HasCrew};
 
 use crate::marking::{Grey, tell_refused};
-use ephemerons::trace_listed;
+use atomic_pause::trace_listed;
 use marker_crew::step_beside as trace_beside;
 use page_space::Space;
 use page_words::MutatorSeat;

@@ -8,7 +8,7 @@ use Rattle.gc_graph.specs.Valid.{AreLive, region_targets}
 use Rattle.cross_thread_region.specs.declared.chronicle.PlacedEntry.{PlacedEntry}
 use Rattle.cross_thread_region.specs.Calls.{RegionView, PassView, IsReady, history_of, with_own}
 use Rattle.cross_thread_region.specs.Histories.{slots_of, IsPlacedBy}
-use Rattle.nodes_in_words.specs.Nodes.{place_of}
+use Rattle.heap_objects.specs.Nodes.{place_of}
 use Rattle.heap_roots.specs.Handles.{HandlesView}
 
 -- the region has 32 slots, and the pass is its first one, which has seen all of the history, and none that was split off it is out

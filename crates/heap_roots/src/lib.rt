@@ -27,5 +27,8 @@ mod stack;
 mod stack_words;
 
 pub use handles::Handles;
+pub use heap_objects::{
+    Content, CrewLists, Field, Finished, FreeGate, Gate, Objects, PairContent, Part, Wanted,
+};
 pub use region::RegionHandles;
 pub use stack::{Pushed, Stack};

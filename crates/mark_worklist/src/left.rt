@@ -3,9 +3,9 @@
 ghost use Rattle.std.specs.Prelude.{◌≡◌, []};
 ghost use Rattle.mark_worklist.specs.Left.{left_on, without};
 
+use crate::lists::SharedList;
 use ghost_values::GhostValue;
 use std::marker::Model;
-use crate::lists::SharedList;
 
 /// A list of addresses. It is never made.
 #[derive(Drop)]

@@ -11,9 +11,9 @@ ghost use Rattle.mark_worklist.specs.Lists.{last_count, IsOneMore};
 ghost use Rattle.mark_worklist.specs.Left.{shares_in, IsLeftIn};
 
 use crate::left::{Addresses, left_on, without};
-use ghost_values::GhostValue;
 use crate::lists::{SharedList, Tally};
 use crate::share::{Refused, Share};
+use ghost_values::GhostValue;
 
 /// Puts an address on the owner's share, while others are out.
 #[inline(never)]

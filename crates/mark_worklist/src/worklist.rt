@@ -10,13 +10,13 @@ ghost use Rattle.mark_worklist.specs.Lists.{no_items, as_own, IsShared, IsPushed
 ghost use Rattle.mark_worklist.specs.Lists.{refused_once, last_count};
 
 use crate::left::{Addresses, none};
+use crate::lists::{SharedList, Tally};
+use crate::share::{Refused, Share};
 use crate::shared::{pop_left, push_out, take_in};
 use gc_graph::NoMemory;
 use ghost_values::GhostValue;
 use std::alloc::Global;
 use std::marker::Model;
-use crate::lists::{SharedList, Tally};
-use crate::share::{Refused, Share};
 
 /// A list of addresses. It takes memory as it grows, and keeps it. The order in which addresses are
 /// popped is free: here the last one is the first, and a list from which others take addresses too

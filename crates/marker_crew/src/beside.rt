@@ -10,9 +10,9 @@ use crate::draining::Drained;
 use crate::gate::{FreeGate, Manner};
 use crate::items::deal_with;
 use crate::taking::next_item;
-use pair_notes::Pairs;
-use page_words::{MarkerSeat, MutatorSeat, Words};
 use mark_worklist::Share;
+use page_words::{MarkerSeat, MutatorSeat, Words};
+use pair_notes::Pairs;
 use type_table::TypeTable;
 
 /// So many items one step takes at most.

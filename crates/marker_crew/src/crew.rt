@@ -11,15 +11,15 @@ ghost use Rattle.marker_crew.specs.Lending.{LendsOwn, LendsNotes};
 use crate::endings::{Begun, Ended};
 use crate::gate::Gate;
 use crate::runners::{Runner, started, wait_for};
-use pair_notes::Pairs;
 use gc_graph::NoMemory;
+use mark_worklist::Share;
 use page_words::{MarkerSeat, MutatorSeat, Words};
+use pair_notes::Pairs;
 use std::alloc::Global;
 use std::marker::Model;
 use std::mem;
 use std::sync::Arc;
 use std::thread::Threads;
-use mark_worklist::Share;
 use type_table::TypeTable;
 
 /// What the drains of a crew tell together: how many objects were claimed and traced, and whether a

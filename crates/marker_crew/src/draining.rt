@@ -8,9 +8,9 @@ ghost use Rattle.marker_crew.specs.Drains.{nothing_yet, AreDealtWith, IsIdle};
 use crate::gate::{Gate, Manner};
 use crate::items::deal_with;
 use crate::taking::await_item;
-use pair_notes::Pairs;
-use page_words::{MarkerSeat, Words};
 use mark_worklist::Share;
+use page_words::{MarkerSeat, Words};
+use pair_notes::Pairs;
 use type_table::TypeTable;
 
 /// What a drain tells: how many objects it claimed and traced, whether more may be left to do, and

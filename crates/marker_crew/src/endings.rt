@@ -4,12 +4,12 @@ ghost use Rattle.std.specs.Prelude.{◌≡◌};
 ghost use Rattle.marker_crew.specs.Crews.{HasDrained};
 
 use crate::draining::Drained;
-use pair_notes::Pairs;
+use mark_worklist::Share;
 use page_words::MarkerSeat;
+use pair_notes::Pairs;
 use std::marker::Model;
 use std::snapshot::Snapshot;
 use std::thread::Promise;
-use mark_worklist::Share;
 
 /// What a marker begins with.
 #[derive(Drop)]

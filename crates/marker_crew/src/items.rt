@@ -9,10 +9,10 @@ use crate::draining::Drained;
 use crate::gate::{AFTER_OBJECT, BEFORE_CLAIM, Gate, Manner};
 use crate::objects::{has_traced, trace_object};
 use crate::recording::{note, note_traced};
-use pair_notes::Pairs;
+use mark_worklist::Share;
 use object_headers::Header;
 use page_words::{MarkerSeat, Words, has_mark};
-use mark_worklist::Share;
+use pair_notes::Pairs;
 use type_table::TypeTable;
 
 /// Claims and traces the object at a place that was taken from a list. Where none is found there, or

@@ -11,10 +11,10 @@ ghost use Rattle.marker_crew.specs.Hands.{IsAtTarget, IsAtWord, moved_on};
 
 use crate::draining::Drained;
 use crate::recording::{list, note};
-use pair_notes::Pairs;
+use mark_worklist::Share;
 use object_headers::{place_in, with_traced};
 use page_words::{MarkerSeat, Words, has_mark};
-use mark_worklist::Share;
+use pair_notes::Pairs;
 use type_table::{TracedWord, TypeTable};
 
 /// Traces the object in hand, of a type, which this seat has claimed.

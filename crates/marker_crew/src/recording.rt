@@ -5,8 +5,8 @@ ghost use Rattle.mark_worklist.specs.Shares.{ShareState, last_count};
 ghost use Rattle.marker_crew.specs.Stages.{Lists, Notes};
 
 use crate::draining::Drained;
-use pair_notes::Pairs;
 use mark_worklist::Share;
+use pair_notes::Pairs;
 
 /// Puts a marked place on the share's list, or tells that memory was wanting.
 pub(crate) fn list(share: &mut Share, drained: &mut Drained, place: u32)

@@ -5,9 +5,9 @@ ghost use Rattle.mark_worklist.specs.Shares.{IsSameShare, put_of, taken_of};
 ghost use Rattle.marker_crew.specs.Drains.{IsIdle, IsTaken};
 ghost use Rattle.marker_crew.specs.Stages.{OnlyLooks};
 
+use mark_worklist::Share;
 use page_words::{MarkerSeat, Words};
 use std::hint;
-use mark_worklist::Share;
 
 /// So often a marker that finds nothing looks again before it ends: the others may still put more.
 const LOOKS: u32 = 4096;

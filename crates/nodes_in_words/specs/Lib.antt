@@ -18,3 +18,5 @@ pub mod DeadUnnamed
 pub mod WholePairs
 pub mod ChangedBodies
 pub mod LookedNodes
+-- Words of the crates below that the crates above name too.
+pub use Rattle.page_space.specs.Space

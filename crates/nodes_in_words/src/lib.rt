@@ -15,4 +15,5 @@
 
 mod lists;
 
-pub use lists::{NodeLists, none};
+pub use lists::NodeLists;
+pub use page_space::Space;

@@ -20,9 +20,11 @@ impl Model for NodeLists {
     ghost view = { λ nodes. [] };
 }
 
-/// No nodes.
-pub fn none() -> GhostValue<NodeLists>
-    ensures { result.value ≡ [] }
-{
-    GhostValue::chosen(&0u8)
+impl NodeLists {
+    /// No nodes.
+    pub fn none() -> GhostValue<NodeLists>
+        ensures { result.value ≡ [] }
+    {
+        GhostValue::chosen(&0u8)
+    }
 }

@@ -9,7 +9,7 @@ use Rattle.gc_graph.specs.Placement.{Extent, HasWord, bucket_of}
 use Rattle.page_space.specs.Pages.{is_between, is_in_page, word_count}
 use Rattle.gap_bounds.specs.Gaps.{GapTable, least_of, IsGap, HasClass, KnowsGaps}
 use Rattle.gap_bounds.specs.Changes.{GapsOpenedIn, GapsTaken, HadClasses}
-use Rattle.page_words.specs.Seat.{SeatView}
+use Rattle.gap_bounds.specs.Seat.{SeatView}
 use Rattle.page_space.specs.Space.{SpaceView, IsSpaceOver, IsSpaceOf, extents_of_bodies, heap_of}
 use Rattle.page_space.specs.Opening.{without_place}
 use Rattle.page_space.proofs.PageSpan.{page_of, page_inside, in_page_from, in_page_word}

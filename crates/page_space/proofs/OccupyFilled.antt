@@ -4,11 +4,11 @@ use Rattle.std.specs.List.{Contains, filter}
 use Rattle.std.proofs.lemmas.Bool.{and_parts, leb-true, ltb-true, ne_eqb, cond-true, cond-false, cases_lt, cases_Bool, false_from_ne_true, both_ways, and_from, le-leb, lt-ltb, not_from_false, not-true}
 use Rattle.std.proofs.lemmas.List.{length-map, length-replicate, get_or-replicate}
 use Rattle.object_headers.specs.Layout.{header_word}
-use Rattle.marker_core.specs.SeatLaws.{IsReady}
+use Rattle.gap_bounds.specs.SeatLaws.{IsReady}
 use Rattle.gc_graph.specs.State.{ObjectType}
-use Rattle.page_words.specs.Seat.{SeatView, side, filled_with, published}
-use Rattle.marker_core.specs.Bodies.{end_of, has_word, in_body, IsInBody}
-use Rattle.marker_core.specs.declared.states.Body.{Body}
+use Rattle.gap_bounds.specs.Seat.{SeatView, side, filled_with, published}
+use Rattle.gap_bounds.specs.Bodies.{end_of, has_word, in_body, IsInBody}
+use Rattle.gap_bounds.specs.Body.{Body}
 use Rattle.page_space.specs.Occupying.{HasNulls, IsNewNumber, IsRoom, Occupies, least_size, new_body, nulled}
 use Rattle.gc_graph.specs.Members.{Contains-cons, Contains-head, any_member, stays_in}
 

@@ -6,16 +6,16 @@ use Rattle.std.proofs.lemmas.Bool.{cases_lt}
 use Rattle.std.proofs.Math.Nat.{mul-le-mul_right}
 use Rattle.gc_graph.specs.Placement.{Extent, bucket_of}
 use Rattle.gc_graph.specs.PlacementLaw.{TakesPages}
-use Rattle.marker_core.specs.Bodies.{IsPlace, end_of}
-use Rattle.marker_core.specs.declared.states.Body.{Body}
-use Rattle.page_words.specs.Seat.{SeatView, IsView}
+use Rattle.gap_bounds.specs.Bodies.{IsPlace, end_of}
+use Rattle.gap_bounds.specs.Body.{Body}
+use Rattle.gap_bounds.specs.Seat.{SeatView, IsView}
 use Rattle.page_space.specs.Pages.{is_in_page}
 use Rattle.page_space.specs.Space.{SpaceView, IsSpaceOver, HoldsAddress, HasNoStart, IsLastStart, extent_of, extents_of_bodies}
 use Rattle.page_space.proofs.PageSpan.{page_of, page_is, in_page_from}
 use Rattle.gap_bounds.specs.Spans.{between_parts}
 use Rattle.gc_graph.specs.PageNumbers.{next_page, same_page, small_bucket, large_bucket}
 use Rattle.page_space.proofs.PlaceBodies.{body_of_extent}
-use Rattle.page_words.specs.BodyPlaces.{two_words}
+use Rattle.gap_bounds.specs.BodyPlaces.{two_words}
 use Rattle.gc_graph.specs.Members.{Contains-map}
 use Rattle.page_space.proofs.UsedPages.{some_counted, counted_some}
 

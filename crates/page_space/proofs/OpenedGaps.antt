@@ -5,9 +5,9 @@ use Rattle.std.proofs.lemmas.Bool.{cases_eq, cases_lt}
 use Rattle.gc_graph.specs.State.{Shape}
 use Rattle.gc_graph.specs.Shapes.{IsShape}
 use Rattle.gc_graph.specs.Placement.{Extent, IsTaken}
-use Rattle.marker_core.specs.Bodies.{end_of, IsPlace}
-use Rattle.marker_core.specs.declared.states.Body.{Body}
-use Rattle.page_words.specs.Seat.{SeatView, IsView}
+use Rattle.gap_bounds.specs.Bodies.{end_of, IsPlace}
+use Rattle.gap_bounds.specs.Body.{Body}
+use Rattle.gap_bounds.specs.Seat.{SeatView, IsView}
 use Rattle.gap_bounds.specs.Gaps.{IsGap}
 use Rattle.gap_bounds.specs.Changes.{GapsOpened}
 use Rattle.page_space.specs.Pages.{word_count}
@@ -16,7 +16,7 @@ use Rattle.page_space.specs.Opening.{IsEdgeBefore, IsEndAfter, without_place}
 use Rattle.page_space.proofs.PageSpan.{page_of, page_is, page_inside}
 use Rattle.gc_graph.specs.PageNumbers.{same_page}
 use Rattle.page_space.proofs.PlaceBodies.{body_of_extent}
-use Rattle.page_words.specs.BodyPlaces.{two_words, whole_body}
+use Rattle.gap_bounds.specs.BodyPlaces.{two_words, whole_body}
 use Rattle.gc_graph.specs.Members.{Contains-map}
 use Rattle.page_space.proofs.Extents.{contains_filter}
 use Rattle.page_space.proofs.SeatExtents.{seat_apart}

@@ -5,9 +5,9 @@ use Rattle.gc_graph.specs.Placement.{Extent, IsTaken}
 use Rattle.gc_graph.specs.Members.{Contains-map, Contains-map_some}
 use Rattle.object_headers.specs.Layout.{bit_of, header_word, IsHeaderWord}
 use Rattle.object_headers.specs.declared.header.Header.{Header}
-use Rattle.marker_core.specs.Bodies.{IsInBody}
-use Rattle.marker_core.specs.declared.states.Body.{Body}
-use Rattle.page_words.specs.Seat.{SeatView}
+use Rattle.gap_bounds.specs.Bodies.{IsInBody}
+use Rattle.gap_bounds.specs.Body.{Body}
+use Rattle.gap_bounds.specs.Seat.{SeatView}
 use Rattle.page_space.specs.Space.{extent_of, extents_of_bodies, IsHeaderOf}
 
 pub taken_by_body : (bodies : List Body) (a : ℕ) → IsInBody bodies a → IsTaken (extents_of_bodies bodies) a

@@ -5,8 +5,8 @@ use Rattle.std.specs.Option.{IfNone}
 use Rattle.std.proofs.lemmas.Bool.{cases_order, cases_lt, cases_Bool, ltb-true, le-leb}
 use Rattle.gc_graph.specs.State.{Shape}
 use Rattle.gc_graph.specs.Placement.{Extent, PageHasBucket, IsLowest, IsNowhere, bucket_of}
-use Rattle.marker_core.specs.Bodies.{end_of}
-use Rattle.marker_core.specs.declared.states.Body.{Body}
+use Rattle.gap_bounds.specs.Bodies.{end_of}
+use Rattle.gap_bounds.specs.Body.{Body}
 use Rattle.page_space.specs.Pages.{is_in_page}
 use Rattle.page_space.specs.Space.{SpaceView, IsSpaceOver, FitsIn, FitsBetween, HoldsWhole, extent_of, extents_of_bodies}
 use Rattle.gap_bounds.specs.Gaps.{IsGap, IsClassOf, least_of}

@@ -3,9 +3,9 @@ use Rattle.std.proofs.Common.{◌≡◌, ℕ, not, List, [], ◌∷◌, map, ref
 use Rattle.std.specs.List.{Contains, filter}
 use Rattle.std.proofs.lemmas.Bool.{cases_Bool}
 use Rattle.gc_graph.specs.Placement.{Extent, HasWord}
-use Rattle.marker_core.specs.Bodies.{with_word}
-use Rattle.marker_core.specs.declared.states.Body.{Body}
-use Rattle.page_words.specs.Seat.{Heap, SeatView, IsView}
+use Rattle.gap_bounds.specs.Bodies.{with_word}
+use Rattle.gap_bounds.specs.Body.{Body}
+use Rattle.gap_bounds.specs.Seat.{Heap, SeatView, IsView}
 use Rattle.page_space.specs.Space.{SpaceView, IsSpaceIn, IsSpaceOf, extent_of, extents_of_bodies}
 use Rattle.page_space.proofs.PlaceBodies.{body_of_extent}
 use Rattle.page_space.proofs.Extents.{others}

@@ -6,9 +6,9 @@ use Rattle.std.proofs.lemmas.Bool.{cases_lt}
 use Rattle.std.proofs.lemmas.Nat.{shr-shr, shr_below, shr_high, and_mask, mod_below, pow_pos}
 use Rattle.std.proofs.lemmas.Nat.Bits.{bit_at-zero, bit_at_above, bit_at-trailing_zeros, bit_at_and, bit_at_ones, bit_at-lt, ones_shr}
 use Rattle.std.proofs.Math.Nat.{pow-succ', pow-le-pow_right}
-use Rattle.marker_core.specs.Bodies.{IsPlace}
-use Rattle.marker_core.specs.Layout.{bitmap_at}
-use Rattle.page_words.specs.Seat.{SeatView, IsWordAt}
+use Rattle.gap_bounds.specs.Bodies.{IsPlace}
+use Rattle.gap_bounds.specs.Layout.{bitmap_at}
+use Rattle.gap_bounds.specs.Seat.{SeatView, IsWordAt}
 use Rattle.page_space.specs.Space.{HasNoStart, IsLastStart}
 
 -- the bit of the word at the address that is i words on, in the word shifted down to the address

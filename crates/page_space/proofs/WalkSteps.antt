@@ -4,14 +4,14 @@ use Rattle.std.specs.List.{Contains}
 use Rattle.std.proofs.lemmas.Bool.{cases_lt}
 use Rattle.gc_graph.specs.State.{Shape}
 use Rattle.gc_graph.specs.Placement.{IsTaken}
-use Rattle.marker_core.specs.Bodies.{end_of, IsPlace, IsInBody}
-use Rattle.marker_core.specs.declared.states.Body.{Body}
-use Rattle.page_words.specs.Seat.{SeatView, IsView}
+use Rattle.gap_bounds.specs.Bodies.{end_of, IsPlace, IsInBody}
+use Rattle.gap_bounds.specs.Body.{Body}
+use Rattle.gap_bounds.specs.Seat.{SeatView, IsView}
 use Rattle.page_space.specs.Space.{HasNoStart, HoldsWhole, extents_of_bodies}
 use Rattle.gap_bounds.specs.Gaps.{IsGap}
 use Rattle.page_space.specs.Walks.{IsEdge}
 use Rattle.page_space.proofs.PlaceBodies.{body_of_taken, taken_by_body}
-use Rattle.page_words.specs.BodyPlaces.{two_words}
+use Rattle.gap_bounds.specs.BodyPlaces.{two_words}
 
 -- an object that begins in the words of another one is that one
 pub one_in : (v : SeatView) (b c : Body) → IsView v → Contains v.bodies b → Contains v.bodies c → c.place ≤ b.place → b.place < end_of c → b ≡ c

@@ -1,10 +1,10 @@
 -- A new object in free words.
 use Rattle.std.specs.Prelude.{◌≡◌, ◌≢◌, ℕ, zero, suc, ◌+◌, ◌-◌, ◌<◌, ◌≤◌, List, [], ◌∷◌, ◌++◌, replicate, Contains}
 use Rattle.object_headers.specs.Offsets.{first_field}
-use Rattle.marker_core.specs.Bodies.{IsInBody, kinds_of, word_count}
-use Rattle.marker_core.specs.declared.states.Body.{Body}
-use Rattle.page_words.specs.Roles.{kind_lists}
-use Rattle.page_words.specs.Seat.{SeatView, filled_with, published}
+use Rattle.gap_bounds.specs.Bodies.{IsInBody, kinds_of, word_count}
+use Rattle.gap_bounds.specs.Body.{Body}
+use Rattle.gap_bounds.specs.Roles.{kind_lists}
+use Rattle.gap_bounds.specs.Seat.{SeatView, filled_with, published}
 
 -- words of the heap from a that belong to no object
 pub record IsRoom (v : SeatView) (size a : ℕ) : Type 0 where

@@ -2,8 +2,8 @@
 use Rattle.std.specs.Prelude.{◌≡◌, ◌⊎◌, ℕ, ◌+◌, ◌*◌, ◌<◌, ◌≤◌, ◌==◌, not, List, filter, Contains}
 use Rattle.gc_graph.specs.State.{Shape}
 use Rattle.gc_graph.specs.Placement.{Extent}
-use Rattle.marker_core.specs.Bodies.{end_of, IsPlace}
-use Rattle.marker_core.specs.declared.states.Body.{Body}
+use Rattle.gap_bounds.specs.Bodies.{end_of, IsPlace}
+use Rattle.gap_bounds.specs.Body.{Body}
 
 -- the extents but for that at the place
 abbrev pub without_place : List Extent → ℕ → List Extent

@@ -4,11 +4,11 @@ use Rattle.gc_graph.specs.State.{Shape}
 use Rattle.gc_graph.specs.Placement.{Extent, IsRun, UsesPage, IsEmptyPage, Fits, StartsEmptyRun, bucket_of}
 use Rattle.gc_graph.specs.PlacementLaw.{LiesInPage, TakesPages}
 use Rattle.object_headers.specs.declared.header.Header.{Header}
-use Rattle.marker_core.specs.Bodies.{end_of, IsPlace, holds}
-use Rattle.marker_core.specs.declared.states.Body.{Body}
-use Rattle.marker_core.specs.SeatFacts.{IsTold}
+use Rattle.gap_bounds.specs.Bodies.{end_of, IsPlace, holds}
+use Rattle.gap_bounds.specs.Body.{Body}
+use Rattle.gap_bounds.specs.SeatFacts.{IsTold}
 use Rattle.atomic_table.specs.Seated.{TableId}
-use Rattle.page_words.specs.Seat.{Heap, SeatView, block_words}
+use Rattle.gap_bounds.specs.Seat.{Heap, SeatView, block_words}
 use Rattle.page_space.specs.Pages.{PageTable, word_count, first_page, is_in_page, free_words}
 use Rattle.gap_bounds.specs.Gaps.{GapTable, KnowsGaps}
 

@@ -3,7 +3,7 @@ use Rattle.std.specs.Prelude.{◌≡◌, ◌*◌, length}
 use Rattle.gc_graph.specs.State.{Shape}
 use Rattle.gc_graph.specs.Shapes.{IsShape}
 use Rattle.std.specs.Arc.{arc_value}
-use Rattle.page_words.specs.Seat.{block_words}
+use Rattle.gap_bounds.specs.Seat.{block_words}
 use Rattle.page_space.specs.Pages.{word_count}
 use Rattle.page_space.specs.declared.space.Space.TheInside.{Inside}
 

@@ -2,9 +2,9 @@
 use Rattle.std.specs.Prelude.{ℕ, ◌+◌, ◌*◌, ◌/◌, ◌<◌, ◌≤◌, List, Contains}
 use Rattle.gc_graph.specs.State.{Shape}
 use Rattle.gc_graph.specs.Placement.{Extent}
-use Rattle.marker_core.specs.Bodies.{end_of}
-use Rattle.marker_core.specs.declared.states.Body.{Body}
-use Rattle.page_words.specs.Seat.{block_words}
+use Rattle.gap_bounds.specs.Bodies.{end_of}
+use Rattle.gap_bounds.specs.Body.{Body}
+use Rattle.gap_bounds.specs.Seat.{block_words}
 use Rattle.gap_bounds.specs.Gaps.{IsGap}
 
 -- where the block of an address ends

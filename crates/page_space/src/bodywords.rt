@@ -1,7 +1,7 @@
 // The words of a space, to whoever reads and writes fields, marks or traces.
 
 use crate::space::Space;
-use page_words::{Bodywords, MutatorSeat, Reason};
+use gap_bounds::{Bodywords, MutatorSeat, Reason};
 
 impl Bodywords for Space {
     ghost use Rattle.page_space.specs.Space.{heap_of};

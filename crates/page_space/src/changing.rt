@@ -3,16 +3,16 @@
 ghost use Rattle.std.specs.Prelude.{◌≡◌, ℕ, ◌+◌, ◌-◌, ◌^◌, ◌<◌, ◌≤◌, false, true};
 ghost use Rattle.std.specs.Prelude.{length, Contains};
 ghost use Rattle.object_headers.specs.Offsets.{first_field};
-ghost use Rattle.marker_core.specs.declared.states.Body.{Body};
-ghost use Rattle.marker_core.specs.Bodies.{IsInBody, holds};
-ghost use Rattle.page_words.specs.Seat.{IsUnnamed, OnlyLooked, retracted};
+ghost use Rattle.gap_bounds.specs.Body.{Body};
+ghost use Rattle.gap_bounds.specs.Bodies.{IsInBody, holds};
+ghost use Rattle.gap_bounds.specs.Seat.{IsUnnamed, OnlyLooked, retracted};
 ghost use Rattle.page_space.specs.Space.{IsSeatOf, IsSpaceOf, IsFreePlace, extents_of_bodies};
 ghost use Rattle.page_space.specs.Occupying.{IsRoom, HasNulls, Occupies, IsNewNumber, least_size};
 ghost use Rattle.page_space.specs.Occupying.{new_body, nulled};
 
 use crate::space::{Space, bucket_of};
+use gap_bounds::{MutatorSeat, Words};
 use object_headers::{FIRST_FIELD, Header, SERIAL};
-use page_words::{MutatorSeat, Words};
 
 impl Space {
     /// Writes an object whose fields are null to a free place, and publishes it.

@@ -3,14 +3,14 @@
 
 ghost use Rattle.std.specs.Prelude.{◌≡◌, ℕ, ◌+◌, ◌*◌, ◌<◌, ◌≤◌, Some, IfSome, IfNone};
 ghost use Rattle.gc_graph.specs.Placement.{IsNowhere};
-ghost use Rattle.marker_core.specs.Bodies.{IsPlace};
-ghost use Rattle.page_words.specs.Seat.{OnlyLooked, block_words};
+ghost use Rattle.gap_bounds.specs.Bodies.{IsPlace};
+ghost use Rattle.gap_bounds.specs.Seat.{OnlyLooked, block_words};
 ghost use Rattle.page_space.specs.Pages.{word_count};
 ghost use Rattle.page_space.specs.Space.{IsSeatOf, IsSpaceOf, HoldsAddress};
 ghost use Rattle.page_space.specs.Space.{HasNoStart, IsLastStart};
 
 use crate::space::{LARGE, Space};
-use page_words::{BLOCK_WORDS, MutatorSeat, Reading};
+use gap_bounds::{BLOCK_WORDS, MutatorSeat, Reading};
 
 impl Space {
     /// The place of the object that has the word at an address, which may be any number.

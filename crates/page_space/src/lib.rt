@@ -43,4 +43,5 @@ mod space;
 mod table;
 mod walking;
 
+pub use gap_bounds::MutatorSeat;
 pub use space::Space;

@@ -2,16 +2,16 @@
 // was known of the page holds no longer: to look further would cost more than it saves.
 
 ghost use Rattle.std.specs.Prelude.{◌≡◌, ◌+◌, ◌*◌, ◌/◌, ◌<◌, ◌≤◌, IfSome, Contains};
-ghost use Rattle.marker_core.specs.Bodies.{IsPlace};
+ghost use Rattle.gap_bounds.specs.Bodies.{IsPlace};
 ghost use Rattle.gap_bounds.specs.Gaps.{KnowsGaps};
-ghost use Rattle.page_words.specs.Seat.{OnlyLooked};
+ghost use Rattle.gap_bounds.specs.Seat.{OnlyLooked};
 ghost use Rattle.gap_bounds.specs.Changes.{GapsOpened};
 ghost use Rattle.page_space.specs.Pages.{word_count};
 ghost use Rattle.page_space.specs.Space.{IsSeatOf, IsSpaceOf, extents_of_bodies};
 ghost use Rattle.page_space.specs.Opening.{IsEdgeBefore, IsEndAfter, without_place};
 
 use crate::space::Space;
-use page_words::{BLOCK_WORDS, MutatorSeat};
+use gap_bounds::{BLOCK_WORDS, MutatorSeat};
 
 /// So many blocks before an object, and so many words after it, are near.
 const NEAR_BLOCKS: u32 = 4;

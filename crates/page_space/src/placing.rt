@@ -4,14 +4,13 @@ ghost use Rattle.std.specs.Prelude.{◌≡◌, ℕ, ◌+◌, ◌*◌, ◌/◌, �
 ghost use Rattle.std.specs.Prelude.{◌↔◌, IsTrue, IfSome, IfNone, unwrap_or};
 ghost use Rattle.gc_graph.specs.Placement.{StartsEmptyRun, IsPageCount, PageHasBucket};
 ghost use Rattle.gc_graph.specs.Placement.{UsesPage, IsLowest, IsNowhere};
-ghost use Rattle.page_words.specs.Seat.{OnlyLooked};
+ghost use Rattle.gap_bounds.specs.Seat.{OnlyLooked};
 ghost use Rattle.page_space.specs.Space.{IsSpaceOf, FitsBetween, FitsIn, SinceEmpty};
 ghost use Rattle.page_space.specs.Space.{IsFreePlace, extents_of_bodies};
 ghost use Rattle.gap_bounds.specs.Gaps.{IsGap, IsClassOf, HasClass, class_count, least_of, is_known};
 
 use crate::space::{Space, bucket_of};
-use gap_bounds::{Class, class_of};
-use page_words::MutatorSeat;
+use gap_bounds::{Class, MutatorSeat, class_of};
 
 impl Space {
     /// The lowest address at which the size fits in a page of its bucket, from page `from` up to,

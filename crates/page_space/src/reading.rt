@@ -3,17 +3,17 @@
 ghost use Rattle.std.specs.Prelude.{◌≡◌, ◌+◌, ◌*◌, ◌/◌, ◌^◌, ◌<◌, [], ◌∷◌, ◌++◌};
 ghost use Rattle.std.specs.Prelude.{◌≤◌, ◌↔◌, IsTrue, IfSome, IfNone, Contains, All};
 ghost use Rattle.gc_graph.specs.Placement.{IsLowest, IsNowhere};
-ghost use Rattle.marker_core.specs.Bodies.{IsPlace};
-ghost use Rattle.marker_core.specs.declared.states.Body.{Body};
-ghost use Rattle.page_words.specs.Seat.{OnlyLooked, IsPlaceFrom, block_words};
+ghost use Rattle.gap_bounds.specs.Bodies.{IsPlace};
+ghost use Rattle.gap_bounds.specs.Body.{Body};
+ghost use Rattle.gap_bounds.specs.Seat.{OnlyLooked, IsPlaceFrom, block_words};
 ghost use Rattle.page_space.specs.Pages.{word_count};
 ghost use Rattle.page_space.specs.Space.{IsSeatOf, HasNoStart, IsHeaderOf};
 ghost use Rattle.page_space.specs.Space.{IsLastStart, AreStartsOf};
 ghost use Rattle.page_space.specs.Walks.{block_end};
 
 use crate::space::Space;
+use gap_bounds::{BLOCK_WORDS, MutatorSeat, Reading};
 use object_headers::{Header, SERIAL};
-use page_words::{BLOCK_WORDS, MutatorSeat, Reading};
 
 impl Space {
     /// The lowest place that is not below an address.

@@ -3,14 +3,14 @@
 
 ghost use Rattle.std.specs.Prelude.{◌≡◌, ℕ, ◌+◌, ◌*◌, ◌/◌, ◌<◌, ◌≤◌, true, IfSome, IfNone};
 ghost use Rattle.gc_graph.specs.Placement.{IsLowest, IsNowhere};
-ghost use Rattle.page_words.specs.Seat.{OnlyLooked};
+ghost use Rattle.gap_bounds.specs.Seat.{OnlyLooked};
 ghost use Rattle.page_space.specs.Space.{IsSpaceOf, HoldsWhole, extents_of_bodies};
 ghost use Rattle.gap_bounds.specs.Gaps.{is_known};
 ghost use Rattle.page_space.specs.Walks.{BeginsBetween};
 
 use crate::space::Space;
 use crate::walking::Walk;
-use page_words::{BLOCK_WORDS, MutatorSeat};
+use gap_bounds::{BLOCK_WORDS, MutatorSeat};
 
 impl Space {
     /// The lowest gap of the size that begins from an address of a page on, whose objects all lie in

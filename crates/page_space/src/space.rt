@@ -4,19 +4,17 @@ ghost use Rattle.std.specs.Prelude.{◌≡◌, ℕ, ◌*◌, ◌<◌};
 ghost use Rattle.std.specs.Prelude.{◌↔◌, IfOk, Some, None, length, sum_by};
 ghost use Rattle.gc_graph.specs.Placement.{PageHasBucket, IsEmptyPage, IsUsedPages, bucket_of};
 ghost use Rattle.gc_graph.specs.Shapes.{IsShape};
-ghost use Rattle.page_words.specs.Seat.{SeatView, empty_view, stored};
+ghost use Rattle.gap_bounds.specs.Seat.{SeatView, empty_view, stored};
 ghost use Rattle.page_space.specs.Pages.{word_count};
 ghost use Rattle.std.specs.Arc.{arc_value};
 ghost use Rattle.page_space.specs.Space.{IsSpaceOf, extents_of_bodies, heap_of};
 
 use crate::table::Table;
-use gap_bounds::{GROUP_WORDS, Gaps};
+use gap_bounds::{GROUP_WORDS, Gaps, MutatorSeat, TypeTable, Words};
 use gc_graph::NoMemory;
-use page_words::{MutatorSeat, Words};
 use std::alloc::Global;
 use std::marker::Model;
 use std::sync::Arc;
-use type_table::TypeTable;
 
 /// The bucket of large objects.
 pub(crate) const LARGE: u32 = 4;

@@ -2,18 +2,17 @@
 
 ghost use Rattle.std.specs.Prelude.{◌≡◌, ℕ, ◌+◌, ◌*◌, ◌/◌, ◌<◌, ◌≤◌, IfSome, IfNone, min};
 ghost use Rattle.gc_graph.specs.Placement.{IsLowest, IsNowhere};
-ghost use Rattle.marker_core.specs.Bodies.{IsInBody};
-ghost use Rattle.page_words.specs.Seat.{OnlyLooked, block_words};
+ghost use Rattle.gap_bounds.specs.Bodies.{IsInBody};
+ghost use Rattle.gap_bounds.specs.Seat.{OnlyLooked, block_words};
 ghost use Rattle.gap_bounds.specs.Changes.{HasGroups};
 ghost use Rattle.page_space.specs.Pages.{word_count};
 ghost use Rattle.page_space.specs.Space.{IsSeatOf, HoldsWhole, extents_of_bodies};
-ghost use Rattle.page_words.specs.Seat.{IsPlaceFrom};
+ghost use Rattle.gap_bounds.specs.Seat.{IsPlaceFrom};
 ghost use Rattle.page_space.specs.Space.{HasNoStart};
 ghost use Rattle.page_space.specs.Walks.{IsEdge, BeginsBetween};
 
 use crate::space::Space;
-use gap_bounds::GROUP_WORDS;
-use page_words::{BLOCK_WORDS, MutatorSeat};
+use gap_bounds::{BLOCK_WORDS, GROUP_WORDS, MutatorSeat};
 
 /// How far a walk has come, and the longest gap that it passed.
 #[derive(Drop)]

@@ -44,4 +44,5 @@ pub use markers::MarkerSeat;
 pub use marking::has_mark;
 pub use mutator::MutatorSeat;
 pub use reasons::{Reading, Reason, Tracing, WeakRead};
+pub use type_table::TypeTable;
 pub use words::{BLOCK_WORDS, Words};

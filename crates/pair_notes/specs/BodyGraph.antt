@@ -8,9 +8,9 @@ use Rattle.gc_graph.specs.Graph.{Object}
 use Rattle.gc_graph.specs.State.{ObjectType, no_type}
 use Rattle.gc_graph.specs.Fields.{field_words}
 use Rattle.object_headers.specs.Offsets.{first_field}
-use Rattle.type_table.specs.Types.{kinds_of, offsets_of_kind}
-use Rattle.marker_core.specs.Bodies.{IsReference}
-use Rattle.marker_core.specs.declared.states.Body.{Body}
+use Rattle.page_words.specs.Types.{kinds_of, offsets_of_kind}
+use Rattle.page_words.specs.MachineBodies.{IsReference}
+use Rattle.page_words.specs.Body.{Body}
 
 -- no two bodies have one place
 abbrev pub PlacesDiffer : List Body → Type 0

@@ -8,10 +8,10 @@ use Rattle.gc_graph.specs.declared.kind.Kind.TheVariants.{Strong, Pair}
 use Rattle.gc_graph.specs.Fields.{is_plain}
 use Rattle.gc_graph.specs.Leading.{IsLed}
 use Rattle.gc_graph.specs.State.{ObjectType, no_type}
-use Rattle.type_table.specs.Types.{kinds_of as kinds_in, offsets_of_kind}
-use Rattle.marker_core.specs.Bodies.{role_at, role_in}
-use Rattle.marker_core.specs.Closed.{IsClosedOver}
-use Rattle.marker_core.specs.declared.states.Body.{Body}
+use Rattle.page_words.specs.Types.{kinds_of as kinds_in, offsets_of_kind}
+use Rattle.page_words.specs.MachineBodies.{role_at, role_in}
+use Rattle.page_words.specs.Closed.{IsClosedOver}
+use Rattle.page_words.specs.Body.{Body}
 use Rattle.page_words.specs.Roles.{kind_lists, kinds_fit, words_before, first_role, role_of_field, field_of_role}
 use Rattle.pair_notes.specs.BodyGraph.{strong_offsets, pair_offsets, word_at, object_in}
 use Rattle.pair_notes.specs.Fields.{NamesIn, first_of, field_at_offset, offset_of_field, field_of_strong, strong_of_field}

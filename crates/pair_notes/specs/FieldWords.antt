@@ -5,12 +5,12 @@ use Rattle.std.proofs.lemmas.Bool.{eq-eqb}
 use Rattle.gc_graph.specs.declared.kind.Kind.{Kind}
 use Rattle.gc_graph.specs.declared.kind.Kind.TheVariants.{Strong, Pair}
 use Rattle.gc_graph.specs.Fields.{words_of_kind}
-use Rattle.type_table.specs.Types.{kinds_of as kinds_in, offsets_of_kind}
-use Rattle.marker_core.specs.declared.states.Body.{Body}
-use Rattle.marker_core.specs.declared.states.Part.{Part}
-use Rattle.marker_core.specs.declared.states.Part.TheVariants.{Read, Value}
-use Rattle.marker_core.specs.Bodies.{word_count, IsPlace}
-use Rattle.marker_core.specs.Hands.{part_found}
+use Rattle.page_words.specs.Types.{kinds_of as kinds_in, offsets_of_kind}
+use Rattle.page_words.specs.Body.{Body}
+use Rattle.page_words.specs.Part.{Part}
+use Rattle.page_words.specs.Part.TheVariants.{Read, Value}
+use Rattle.page_words.specs.MachineBodies.{word_count, IsPlace}
+use Rattle.page_words.specs.Hands.{part_found}
 use Rattle.page_words.specs.BodyPlaces.{whole_body, same_body, no_place_within}
 use Rattle.page_words.specs.Roles.{kinds_fit, word_count_is}
 use Rattle.page_words.specs.Seat.{SeatView, IsView, IsWordAt}

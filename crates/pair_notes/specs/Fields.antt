@@ -7,10 +7,10 @@ use Rattle.gc_graph.specs.declared.kind.Kind.{Kind}
 use Rattle.gc_graph.specs.declared.kind.Kind.TheVariants.{Strong, Weak, Pair, Plain}
 use Rattle.gc_graph.specs.Graph.{strong_targets}
 use Rattle.gc_graph.specs.Fields.{words_of_kind, field_words}
-use Rattle.type_table.specs.Types.{offset_of, is_kind, is_field, offsets_of_kind}
+use Rattle.page_words.specs.Types.{offset_of, is_kind, is_field, offsets_of_kind}
 use Rattle.pair_notes.specs.BodyGraph.{values_in}
 use Rattle.gc_graph.specs.Members.{Contains-cons_cases, Contains-cons, Contains-head, Contains-map, Contains-map_some, was_in, has_passed, stays_in, in_range, to_range}
-use Rattle.type_table.specs.KindLaws.{same_kind, kind_itself}
+use Rattle.page_words.specs.KindLaws.{same_kind, kind_itself}
 
 -- the number of the first word of a declared field
 abbrev pub first_of : List Kind → ℕ → ℕ

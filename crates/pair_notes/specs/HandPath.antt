@@ -7,14 +7,14 @@ use Rattle.std.proofs.lemmas.List.{drop_more, drop_all, length-map}
 use Rattle.gc_graph.specs.declared.kind.Kind.{Kind}
 use Rattle.gc_graph.specs.declared.kind.Kind.TheVariants.{Strong, Weak, Pair, Plain}
 use Rattle.gc_graph.specs.State.{ObjectType}
-use Rattle.marker_core.specs.declared.states.Hand.{Hand}
-use Rattle.marker_core.specs.declared.states.Part.{Part}
-use Rattle.marker_core.specs.declared.states.Part.TheVariants.{Read}
-use Rattle.marker_core.specs.Bodies.{kinds_of}
-use Rattle.type_table.specs.Types.{kinds_of as kinds_in}
-use Rattle.type_table.specs.TracedWords.{traced_words_of, offset_in}
-use Rattle.type_table.specs.declared.traced.TracedWord.{TracedWord}
-use Rattle.marker_core.specs.Hands.{traced_offsets, hand_past, hand_moved, each_hand}
+use Rattle.page_words.specs.Hand.{Hand}
+use Rattle.page_words.specs.Part.{Part}
+use Rattle.page_words.specs.Part.TheVariants.{Read}
+use Rattle.page_words.specs.MachineBodies.{kinds_of}
+use Rattle.page_words.specs.Types.{kinds_of as kinds_in}
+use Rattle.page_words.specs.TracedWords.{traced_words_of, offset_in}
+use Rattle.page_words.specs.TracedWord.{TracedWord}
+use Rattle.page_words.specs.Hands.{traced_offsets, hand_past, hand_moved, each_hand}
 use Rattle.page_words.specs.Roles.{kind_lists, kinds_fit, traced_fit}
 use Rattle.page_words.specs.Seat.{SeatView}
 use Rattle.pair_notes.specs.InHand.{IsPast, hand_over, traced_in, moved_on}

@@ -2,14 +2,14 @@
 use Rattle.std.specs.Prelude.{◌≡◌, ℕ, true, false, List, [], ◌∷◌, ◌++◌, Option, Some, None, Contains}
 use Rattle.gc_graph.specs.State.{ObjectType}
 use Rattle.object_headers.specs.Offsets.{first_field, reference_to}
-use Rattle.type_table.specs.declared.traced.TracedWord.{TracedWord}
-use Rattle.type_table.specs.declared.traced.TracedWord.TheVariants.{StrongAt, PairAt}
-use Rattle.marker_core.specs.declared.states.Body.{Body}
-use Rattle.marker_core.specs.declared.states.Hand.{Hand}
-use Rattle.marker_core.specs.declared.states.Part.{Part}
-use Rattle.marker_core.specs.declared.states.Part.TheVariants.{Read, Mark}
-use Rattle.marker_core.specs.Bodies.{kinds_of, holds}
-use Rattle.marker_core.specs.Hands.{traced_offsets, hand_past, hand_moved, part_found, role_at_hand, wants_word, each_hand}
+use Rattle.page_words.specs.TracedWord.{TracedWord}
+use Rattle.page_words.specs.TracedWord.TheVariants.{StrongAt, PairAt}
+use Rattle.page_words.specs.Body.{Body}
+use Rattle.page_words.specs.Hand.{Hand}
+use Rattle.page_words.specs.Part.{Part}
+use Rattle.page_words.specs.Part.TheVariants.{Read, Mark}
+use Rattle.page_words.specs.MachineBodies.{kinds_of, holds}
+use Rattle.page_words.specs.Hands.{traced_offsets, hand_past, hand_moved, part_found, role_at_hand, wants_word, each_hand}
 use Rattle.page_words.specs.Roles.{kind_lists}
 use Rattle.page_words.specs.Seat.{SeatView, IsAlone}
 use Rattle.pair_notes.specs.BodyGraph.{strong_offsets, pair_offsets}

@@ -1,9 +1,9 @@
 -- What marking may change, what it may mark, and how it ends.
 use Rattle.std.specs.Prelude.{◌≡◌, ℕ, ◌+◌, Bool, true, List, [], None, Contains, count_by}
 use Rattle.gc_graph.specs.State.{ObjectType}
-use Rattle.marker_core.specs.declared.states.Body.{Body}
-use Rattle.marker_core.specs.Bodies.{holds}
-use Rattle.marker_core.specs.Closed.{IsClosedOver}
+use Rattle.page_words.specs.Body.{Body}
+use Rattle.page_words.specs.MachineBodies.{holds}
+use Rattle.page_words.specs.Closed.{IsClosedOver}
 use Rattle.page_words.specs.Roles.{kind_lists}
 use Rattle.page_words.specs.Seat.{SeatView}
 use Rattle.pair_notes.specs.BodyGraph.{strong_offsets, word_at}

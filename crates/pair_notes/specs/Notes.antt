@@ -3,8 +3,8 @@ use Rattle.std.specs.Prelude.{◌≡◌, ◌⊎◌, ℕ, ◌+◌, ◌<◌, Bool,
 use Rattle.gc_graph.specs.State.{ObjectType}
 use Rattle.mark_worklist.specs.Lists.{one_counted}
 use Rattle.mark_worklist.specs.Refusals.{Refusals, TellsRefused}
-use Rattle.marker_core.specs.Bodies.{IsPlace, holds}
-use Rattle.marker_core.specs.declared.states.Body.{Body}
+use Rattle.page_words.specs.MachineBodies.{IsPlace, holds}
+use Rattle.page_words.specs.Body.{Body}
 use Rattle.page_words.specs.Seat.{SeatView}
 use Rattle.pair_notes.specs.BodyGraph.{HasPair, pair_offsets, word_at}
 use Rattle.pair_notes.specs.declared.notes.Note.{Note}

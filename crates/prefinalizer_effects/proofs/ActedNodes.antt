@@ -17,7 +17,7 @@ use Rattle.gc_graph.specs.ActionLaw.{HaveStayed}
 use Rattle.gc_graph.specs.State.{ObjectType}
 use Rattle.marker_core.specs.declared.states.Body.{Body}
 use Rattle.page_words.specs.Seat.{SeatView, OnlyLooked}
-use Rattle.page_space.specs.Space.{extents_of_bodies}
+use Rattle.nodes_in_words.specs.Space.{extents_of_bodies}
 use Rattle.prefinalizer_effects.specs.Acting as words
 use Rattle.nodes_in_words.specs.Nodes.{IsThere}
 use Rattle.prefinalizer_effects.specs.Prepared.{NamesThere, AllNameThere}

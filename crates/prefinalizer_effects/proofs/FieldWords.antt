@@ -19,7 +19,7 @@ use Rattle.page_words.specs.Bodies.{kind_in}
 use Rattle.page_words.specs.BodyPlaces.{whole_body}
 use Rattle.page_words.specs.Roles.{kind_lists}
 use Rattle.page_words.specs.Seat.{SeatView, IsView}
-use Rattle.page_space.specs.Space.{IsHeaderOf}
+use Rattle.nodes_in_words.specs.Space.{IsHeaderOf}
 use Rattle.member_fields.specs.Words.{HasWord, HasPair, IsWordIn}
 use Rattle.prefinalizer_effects.specs.Acting.{IsTyped, AreTyped, AreLinked, extra_in, field_count}
 use Rattle.prefinalizer_effects.specs.Places.{IsFound, HasFoundWord, HasFoundPair}

@@ -1,7 +1,7 @@
 -- What stays of the parts that are lent while prefinalizers run.
 use Rattle.std.specs.Prelude.{◌≡◌}
 use Rattle.gc_graph.specs.ActionLaw.{HaveStayed}
-use Rattle.page_space.specs.Space.{extents_of_bodies}
+use Rattle.nodes_in_words.specs.Space.{extents_of_bodies}
 use Rattle.prefinalizer_effects.specs.declared.paused.PausedBodies.{PausedBodies}
 
 -- the same parts are lent, and the objects lie where they lay and live if they lived

@@ -3,7 +3,7 @@
 use Rattle.std.proofs.Common.{List, ap, ◌∙◌, sym, subst}
 use Rattle.gc_graph.specs.State.{ObjectType, Node}
 use Rattle.page_words.specs.Seat.{SeatView, OnlyLooked}
-use Rattle.page_space.specs.Space.{SpaceView, IsSpaceOf}
+use Rattle.nodes_in_words.specs.Space.{SpaceView, IsSpaceOf}
 use Rattle.nodes_in_words.specs.LookedNodes.{held_looked}
 use Rattle.nodes_in_words.specs.Places.{IsJudged}
 use Rattle.prefinalizer_effects.specs.Prepared.{IsPrepared}

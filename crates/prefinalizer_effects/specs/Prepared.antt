@@ -6,7 +6,7 @@ use Rattle.gc_graph.specs.declared.kind.Value.TheVariants.{Null, Ref, Word}
 use Rattle.gc_graph.specs.State.{Setup, ObjectType, Node, node_at}
 use Rattle.gc_graph.specs.ActionLaw.{AreTyped}
 use Rattle.page_words.specs.Seat.{SeatView}
-use Rattle.page_space.specs.Space.{SpaceView, IsSpaceOf}
+use Rattle.nodes_in_words.specs.Space.{SpaceView, IsSpaceOf}
 use Rattle.nodes_in_words.specs.Nodes.{IsThere, IsHeld}
 use Rattle.nodes_in_words.specs.Places.{IsJudged}
 

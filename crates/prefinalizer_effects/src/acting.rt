@@ -5,14 +5,14 @@ ghost use Rattle.std.specs.Prelude.{◌≡◌, false, Contains};
 ghost use Rattle.marker_core.specs.Bodies.{IsPlace};
 ghost use Rattle.marker_core.specs.declared.states.Body.{Body};
 ghost use Rattle.page_words.specs.Seat.{OnlyLooked};
-ghost use Rattle.page_space.specs.Space.{IsSeatOf};
+ghost use Rattle.nodes_in_words.specs.Space.{IsSeatOf};
 ghost use Rattle.prefinalizer_effects.specs.Acting.{AreTyped, AreLinked, acted};
 ghost use Rattle.prefinalizer_effects.specs.Acting.{changed_at, cleared_at, added_at};
 
 use crate::fields::{field_in, linked_from};
 use gc_graph::{Action, Kind};
 use member_fields::{clear_pair, get_word, put_word, set_weak};
-use page_space::Space;
+use nodes_in_words::Space;
 use page_words::MutatorSeat;
 use type_table::{TypeTable, fields_stand_apart};
 

@@ -4,14 +4,14 @@ ghost use Rattle.std.specs.Prelude.{◌≡◌, Contains, IfSome};
 ghost use Rattle.marker_core.specs.Bodies.{IsPlace};
 ghost use Rattle.marker_core.specs.declared.states.Body.{Body};
 ghost use Rattle.page_words.specs.Seat.{OnlyLooked};
-ghost use Rattle.page_space.specs.Space.{IsSeatOf};
+ghost use Rattle.nodes_in_words.specs.Space.{IsSeatOf};
 ghost use Rattle.prefinalizer_effects.specs.Acting.{AreTyped, AreLinked, linked};
 ghost use Rattle.prefinalizer_effects.specs.Places.{IsFound, HasFoundWord, HasFoundPair};
 
 use gc_graph::Kind;
 use member_fields::get;
+use nodes_in_words::Space;
 use object_headers::place_in;
-use page_space::Space;
 use page_words::MutatorSeat;
 use type_table::{TypeTable, fields_stand_apart};
 

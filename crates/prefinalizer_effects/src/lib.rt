@@ -30,5 +30,6 @@ mod paused;
 mod shown;
 
 pub use acting::apply;
+pub use nodes_in_words::NodeLists;
 pub use paused::PausedBodies;
 pub use shown::shown_words;

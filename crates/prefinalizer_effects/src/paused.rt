@@ -8,14 +8,13 @@ ghost use Rattle.gc_graph.specs.Pause.{is_dead_at};
 ghost use Rattle.gc_graph.specs.State.{node_at};
 ghost use Rattle.callback_table.specs.Bodies.{IsNodePlace, StandsAt};
 ghost use Rattle.page_words.specs.Seat.{OnlyLooked};
-ghost use Rattle.page_space.specs.Space.{extents_of_bodies};
+ghost use Rattle.nodes_in_words.specs.Space.{extents_of_bodies};
 ghost use Rattle.prefinalizer_effects.specs.Prepared.{IsPrepared};
 
 use crate::{acted_nodes, acting, shown};
 use callback_table::{Action, Bodies};
 use ghost_values::GhostValue;
-use nodes_in_words::NodeLists;
-use page_space::Space;
+use nodes_in_words::{NodeLists, Space};
 use page_words::MutatorSeat;
 use type_table::TypeTable;
 

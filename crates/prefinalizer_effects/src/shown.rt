@@ -4,13 +4,13 @@ ghost use Rattle.std.specs.Prelude.{◌≡◌, ℕ, ◌≤◌, Contains, take, s
 ghost use Rattle.marker_core.specs.Bodies.{IsPlace};
 ghost use Rattle.marker_core.specs.declared.states.Body.{Body};
 ghost use Rattle.page_words.specs.Seat.{OnlyLooked};
-ghost use Rattle.page_space.specs.Space.{IsSeatOf};
+ghost use Rattle.nodes_in_words.specs.Space.{IsSeatOf};
 ghost use Rattle.prefinalizer_effects.specs.Shown as spec;
 ghost use Rattle.prefinalizer_effects.specs.Acting.{AreTyped};
 
 use gc_graph::Kind;
+use nodes_in_words::Space;
 use object_headers::FIRST_FIELD;
-use page_space::Space;
 use page_words::{MutatorSeat, Reading};
 use type_table::{TypeTable, fields_stand_apart};
 

@@ -10,7 +10,7 @@ use Rattle.gc_graph.specs.Script.{Script, IsScript}
 use Rattle.gc_graph.specs.ScriptLaw.{ScriptsAreInRanges}
 use Rattle.type_table.specs.declared.faults.TypeFault.TheVariants.{TooManyFields, NoCallback}
 use Rattle.type_table.specs.Faults.{AreGoodTypes, IsTypeFault, is_too_wide, names_none}
-use Rattle.heap_objects.specs.Objects.{HaveCallbacks}
+use Rattle.heap_engine.specs.Objects.{HaveCallbacks}
 use Rattle.script_generator.specs.Generated.{generated}
 use Rattle.script_generator.specs.GeneratedLaw.{GeneratedIsInRanges}
 use Rattle.script_run.specs.Setting.{IsRunnable}

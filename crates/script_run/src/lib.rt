@@ -34,5 +34,6 @@ mod status;
 
 pub use adapters::{StdinSource, StdoutSink};
 pub use callbacks::{Ran, run_program};
+pub use heap_engine::{FreeGate, Gate};
 pub use one_run::run;
 pub use status::{Ending, Status, end};

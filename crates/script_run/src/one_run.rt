@@ -17,11 +17,10 @@ use super::own_heap::run_script;
 use super::status::Status;
 use callback_table::CallbackTable;
 use command_line::{Generated, Options, options_of};
-use heap_engine::Heap;
+use heap_engine::{Gate, Heap};
 use heap_script::{
     NoMemory, ReadError, Script, ScriptFault, Sink, Source, read_script, read_whole,
 };
-use marker_crew::Gate;
 use script_generator::generate;
 use std::alloc::Global;
 use std::sync::Arc;

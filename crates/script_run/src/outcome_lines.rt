@@ -14,9 +14,8 @@ ghost use Rattle.heap_engine.specs.Acted.{IsActed};
 ghost use Rattle.script_run.specs.Printed.{IsPrintedRun, IsPartRun};
 
 use gc_graph::{Command, Line};
-use heap_engine::Heap;
+use heap_engine::{Gate, Heap};
 use heap_script::{Failed, Pieces, Sink};
-use marker_crew::Gate;
 use std::thread::Threads;
 
 /// Does the commands in order, and prints each outcome.

@@ -15,9 +15,8 @@ ghost use Rattle.script_run.specs.Headline.{IsTold};
 
 use super::outcome_lines::print_all;
 use gc_graph::{Command, Line};
-use heap_engine::Heap;
+use heap_engine::{Gate, Heap};
 use heap_script::{Failed, Pieces, Sink};
-use marker_crew::Gate;
 use std::thread::Threads;
 
 /// Does the commands of a script on a new heap, which has so many types, prints the report or the

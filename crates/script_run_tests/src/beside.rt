@@ -3,7 +3,7 @@
 use super::gated::{text_of, words_of, writes_one_of, written_by};
 use super::lawful::count_of;
 use heap_script::NoMemory;
-use marker_crew::{FreeGate, Gate};
+use script_run::{FreeGate, Gate};
 use std::alloc::Global;
 use std::sync::Arc;
 use std::sync::atomic::{AtomicU64, Ordering};

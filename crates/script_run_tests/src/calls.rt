@@ -5,7 +5,7 @@ ghost use Rattle.gc_graph.specs.Actions.{action_of};
 
 use callback_table::{Action, ActionKind, Callback, CallbackTable};
 use heap_script::{ListSink, ListSource, NoMemory};
-use marker_crew::FreeGate;
+use script_run::FreeGate;
 use script_run::{Status, run};
 use std::alloc::Global;
 use std::sync::Arc;

@@ -1,6 +1,6 @@
 // A gate that holds everybody for drawn times.
 
-use marker_crew::Gate;
+use script_run::Gate;
 use std::sync::atomic::{AtomicU64, Ordering};
 use std::thread;
 

@@ -2,7 +2,7 @@
 
 use callback_table::CallbackTable;
 use heap_script::{ListSink, ListSource, NoMemory};
-use marker_crew::Gate;
+use script_run::Gate;
 use script_run::{Status, run};
 use std::alloc::{AllocError, Global};
 use std::str;

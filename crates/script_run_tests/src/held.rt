@@ -4,7 +4,7 @@ use super::gated::{text_of, words_of, written_by};
 use super::lawful::line_of;
 use super::rows::number_at;
 use heap_script::NoMemory;
-use marker_crew::Gate;
+use script_run::Gate;
 use std::alloc::Global;
 use std::sync::Arc;
 use std::sync::atomic::{AtomicU64, Ordering};

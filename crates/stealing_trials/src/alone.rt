@@ -1,8 +1,8 @@
 // Each call by one thread, on lists whose items are known.
 
 use gc_graph::NoMemory;
-use std::alloc::Global;
 use mark_worklist::{Refused, SharedList};
+use std::alloc::Global;
 
 /// Whether the first item put is the first that is popped and stolen, and lists without items are idle
 /// once a pop and a steal found nothing.

@@ -6,10 +6,10 @@ ghost use Rattle.mark_worklist.specs.Shares.{IsSameShare};
 ghost use Rattle.mark_worklist.specs.Joining.{AreAllShares, IsSameList};
 
 use gc_graph::NoMemory;
+use mark_worklist::{Share, SharedList};
 use std::alloc::Global;
 use std::thread;
 use std::thread::Threads;
-use mark_worklist::{Share, SharedList};
 
 /// How many items each puts.
 const ITEMS: u32 = 3000;

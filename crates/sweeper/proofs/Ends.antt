@@ -5,7 +5,7 @@ use Rattle.std.proofs.lemmas.Bool.{true≢false, cases_lt, and_right, or_left, e
 use Rattle.gc_graph.specs.Placement.{Extent}
 use Rattle.marker_core.specs.Bodies.{IsPlace, holds}
 use Rattle.marker_core.specs.declared.states.Body.{Body}
-use Rattle.page_words.specs.Seat.{SeatView, IsView, IsQuiet}
+use Rattle.page_space.specs.Seat.{SeatView, IsView, IsQuiet}
 use Rattle.page_space.specs.Pages.{word_count, is_between}
 use Rattle.page_space.specs.Space.{SpaceView, IsSpaceOf, extent_of}
 use Rattle.sweeper.specs.Sweeping.{IsClearBelow, is_dead_in, swept_in, all_swept, dead_between, outside}
@@ -13,7 +13,7 @@ use Rattle.sweeper.proofs.Filters.{filter_same}
 use Rattle.sweeper.proofs.Places.{between, outside_none}
 use Rattle.sweeper.proofs.Sweeping.{changed_same, unmarked_without_body, untraced_without_body, undead_without_body}
 use Rattle.sweeper.proofs.Counts.{count_half}
-use Rattle.page_words.specs.BodyPlaces.{body_below, place_below, no_place_beyond}
+use Rattle.page_space.specs.BodyPlaces.{body_below, place_below, no_place_beyond}
 
 -- a list that holds no place is empty
 holds_nothing : (places : List ℕ) → ((x : ℕ) → holds places x ≡ false) → places ≡ []

@@ -6,7 +6,7 @@ use Rattle.std.proofs.lemmas.List.{length_push}
 use Rattle.std.proofs.lemmas.List.Elements.{All-filter, filter_agree}
 use Rattle.marker_core.specs.Bodies.{IsPlace, holds, without}
 use Rattle.marker_core.specs.declared.states.Body.{Body}
-use Rattle.page_words.specs.Seat.{SeatView, IsView, OnlyLooked, unlooked, unmarked_at, retracted}
+use Rattle.page_space.specs.Seat.{SeatView, IsView, OnlyLooked, unlooked, unmarked_at, retracted}
 use Rattle.page_space.specs.Pages.{is_between}
 use Rattle.page_space.specs.Space.{HasNoStart}
 use Rattle.sweeper.specs.OutsidePlaces.{outside_holds}
@@ -16,7 +16,7 @@ use Rattle.gc_graph.specs.Members.{was_in, has_passed}
 use Rattle.sweeper.proofs.Places.{between, before, behind, later, is_first, is_last, outside_on, outside_all, outside_one, outside_behind, outside_before, outside_between, only}
 use Rattle.sweeper.proofs.Serials.{serials_none, serials_kept, serials_one, serials_on, serials_looked}
 use Rattle.sweeper.proofs.Counts.{count_less, count_fewer, count_some}
-use Rattle.page_words.specs.BodyPlaces.{two_words, same_body}
+use Rattle.page_space.specs.BodyPlaces.{two_words, same_body}
 
 -- ---- what holds at no body's place holds nowhere
 

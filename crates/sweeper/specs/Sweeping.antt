@@ -3,7 +3,7 @@ use Rattle.std.specs.Prelude.{◌≡◌, ℕ, ◌+◌, ◌*◌, ◌^◌, ◌<◌
 use Rattle.gc_graph.specs.State.{Shape}
 use Rattle.marker_core.specs.declared.states.Body.{Body}
 use Rattle.marker_core.specs.Bodies.{holds}
-use Rattle.page_words.specs.Seat.{SeatView, IsUnnamed, OnlyLooked}
+use Rattle.page_space.specs.Seat.{SeatView, IsUnnamed, OnlyLooked}
 use Rattle.page_space.specs.Pages.{is_between}
 use Rattle.page_space.specs.Space.{SpaceView, IsSpaceOf}
 

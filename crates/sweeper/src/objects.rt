@@ -9,8 +9,7 @@ ghost use Rattle.page_space.specs.Pages.{word_count};
 ghost use Rattle.page_space.specs.Space.{IsSpaceOf, HasNoStart};
 ghost use Rattle.sweeper.specs.Sweeping.{IsJudgedFrom, DeadAreUnnamed, Sweeps, dead_between};
 
-use page_space::Space;
-use page_words::MutatorSeat;
+use page_space::{MutatorSeat, Space};
 
 /// Sweeps the objects whose places lie from an address up to, and without, `until`.
 pub fn sweep_objects(

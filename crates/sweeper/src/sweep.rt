@@ -1,15 +1,14 @@
 // A sweep, page by page.
 
 ghost use Rattle.std.specs.Prelude.{◌≡◌, ℕ, ◌+◌, ◌*◌, ◌<◌, ◌≤◌, length, vec_capacity};
-ghost use Rattle.page_words.specs.Seat.{IsQuiet, OnlyLooked};
+ghost use Rattle.page_space.specs.Seat.{IsQuiet, OnlyLooked};
 ghost use Rattle.page_space.specs.Pages.{word_count};
 ghost use Rattle.page_space.specs.Space.{IsSpaceOf};
 ghost use Rattle.sweeper.specs.Sweeping.{cursor_at, dead_between, MaySweep, IsClearBelow};
 ghost use Rattle.sweeper.specs.Sweeping.{Sweeps, all_swept};
 
 use crate::objects::sweep_objects;
-use page_space::Space;
-use page_words::MutatorSeat;
+use page_space::{MutatorSeat, Space};
 use std::marker::Model;
 
 /// How far a sweep has come: pages are swept in their order, and those below the cursor are.

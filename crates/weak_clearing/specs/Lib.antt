@@ -1,2 +1,4 @@
 pub mod Clearing
 pub mod Steps
+-- Words of the crates below that the crates above name too.
+pub use Rattle.page_space.specs.Space

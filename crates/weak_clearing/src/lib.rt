@@ -27,5 +27,6 @@ mod weak_handles;
 
 pub use fields::clear_fields;
 pub use marks::is_marked;
+pub use page_space::Space;
 pub use pairs::clear_pairs;
 pub use slots::clear_slots;

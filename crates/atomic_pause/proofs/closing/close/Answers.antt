@@ -3,7 +3,7 @@ use Rattle.marker_core.specs.Bodies.{holds}
 use Rattle.marker_core.specs.Closed.{IsClosedOver}
 use Rattle.page_words.specs.Seat.{SeatView, ended}
 use Rattle.page_words.specs.Roles.{kind_lists}
-use Rattle.pair_notes.specs.Marking.{IsOver}
+use Rattle.ephemerons.specs.Marking.{IsOver}
 use Rattle.ephemerons.specs.Fixpoint.{IsUnrefused}
 use Rattle.atomic_pause.proofs.MarkEnds.{walked_or_listed, unwalked, kept_are_counted, marks_reachable, looks_ended}
 use Rattle.atomic_pause.proofs.closing.close.Goals as goal

@@ -1,5 +1,5 @@
 use Rattle.std.proofs.Common.{◌≡◌, ℕ, ◌<◌, false}
-use Rattle.pair_notes.specs.Notes.{group_at}
+use Rattle.ephemerons.specs.Notes.{group_at}
 use Rattle.atomic_pause.proofs.closing.is_refused.Given as goal
 
 abbrev pub invariant-loop-group : goal.invariant-loop-group

@@ -1,6 +1,6 @@
 use Rattle.marker_core.specs.Bodies.{holds}
-use Rattle.nodes_in_words.specs.Judgement.{nodes_after}
-use Rattle.nodes_in_words.specs.Places.{kept_of}
+use Rattle.prefinalizer_effects.specs.Judgement.{nodes_after}
+use Rattle.prefinalizer_effects.specs.PlacesInWords.{kept_of}
 use Rattle.atomic_pause.proofs.judging.judged.Given as goal
 
 abbrev pub ghost-chosen : goal.ghost-chosen

@@ -1,8 +1,8 @@
 use Rattle.std.proofs.Common.{◌≡◌, ◌+◌, ℕ, true, sym, ap, ◌∙◌, subst}
 use Rattle.marker_core.specs.Bodies.{IsPlace, holds}
 use Rattle.page_words.specs.Seat.{SeatView}
-use Rattle.pair_notes.specs.BodyGraph.{PlacesDiffer}
-use Rattle.pair_notes.specs.Marking.{traced_count}
+use Rattle.ephemerons.specs.BodyGraph.{PlacesDiffer}
+use Rattle.ephemerons.specs.Marking.{traced_count}
 use Rattle.ephemerons.specs.UnderWay.{IsReadyToEnd}
 use Rattle.ephemerons.specs.Fixpoint.{Mode}
 use Rattle.atomic_pause.proofs.MayMarks.{roots_mode, roots_ready}

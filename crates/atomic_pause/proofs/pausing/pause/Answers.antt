@@ -12,12 +12,12 @@ use Rattle.callback_table.specs.Table.{kinds_of}
 use Rattle.marker_core.specs.Bodies.{IsPlace, holds}
 use Rattle.marker_core.specs.declared.states.Body.{Body}
 use Rattle.page_words.specs.Seat.{SeatView}
-use Rattle.page_space.specs.Space.{extents_of_bodies}
+use Rattle.weak_clearing.specs.Space.{extents_of_bodies}
 use Rattle.prefinalizer_effects.specs.Prepared.{setup_of, IsPrepared}
 use Rattle.prefinalizer_effects.specs.LookedObjects.{prepared_looked}
-use Rattle.nodes_in_words.specs.Places.{kept_of}
-use Rattle.nodes_in_words.specs.Judgement.{nodes_after}
-use Rattle.nodes_in_words.specs.NodePlaces.{places_differ}
+use Rattle.prefinalizer_effects.specs.PlacesInWords.{kept_of}
+use Rattle.prefinalizer_effects.specs.Judgement.{nodes_after}
+use Rattle.prefinalizer_effects.specs.NodePlaces.{places_differ}
 use Rattle.atomic_pause.specs.Marking.{IsOtherRoot, IsRootPlace, IsMayOrRoot, MarksReachable, marked_count}
 use Rattle.atomic_pause.specs.Pausing.{IsKeptBetween}
 use Rattle.atomic_pause.proofs.BodyReferences.{alive_marked, marked_references}

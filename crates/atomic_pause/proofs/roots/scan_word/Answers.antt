@@ -2,7 +2,7 @@ use Rattle.std.proofs.Common.{◌≡◌, ℕ, true, sym, ap, ◌∙◌, subst, a
 use Rattle.marker_core.specs.declared.states.Body.{Body}
 use Rattle.marker_core.specs.Bodies.{holds}
 use Rattle.page_words.specs.Seat.{SeatView, IsView}
-use Rattle.page_space.specs.Space.{HoldsAddress}
+use Rattle.weak_clearing.specs.Space.{HoldsAddress}
 use Rattle.ephemerons.specs.Fixpoint.{ListsMarks}
 use Rattle.ephemerons.specs.ListedMarks.{ListsMarks-then, lists_looked}
 use Rattle.atomic_pause.specs.Marking.{with_may}

@@ -2,7 +2,7 @@ use Rattle.std.proofs.Common.{◌≡◌, ◌<◌, List, length, get_or, inl, inr
 use Rattle.gc_graph.specs.Members.{Contains-take_more_cases, Contains-take_more_old, Contains-take_more_new}
 use Rattle.marker_core.specs.declared.states.Body.{Body}
 use Rattle.page_words.specs.Seat.{Heap, SeatView}
-use Rattle.page_space.specs.Space.{HoldsAddress, IsSpaceIn, extents_of_bodies}
+use Rattle.weak_clearing.specs.Space.{HoldsAddress, IsSpaceIn, extents_of_bodies}
 use Rattle.ephemerons.specs.Fixpoint.{Mode}
 use Rattle.atomic_pause.proofs.MayMarks.{scans_then, scans_none}
 use Rattle.atomic_pause.proofs.roots.scan_words.Goals as goal

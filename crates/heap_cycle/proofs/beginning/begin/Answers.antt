@@ -15,8 +15,8 @@ use Rattle.gc_graph.specs.ValidLaw.{StepKeepsValid}
 use Rattle.cross_thread_region.specs.declared.chronicle.PlacedEntry.{PlacedEntry}
 use Rattle.cross_thread_region.specs.Calls.{entry_of, first_pass, with_own}
 use Rattle.cross_thread_region.specs.Histories.{entries_of}
-use Rattle.heap_objects.specs.Marking.{GreyView}
-use Rattle.heap_objects.specs.Objects.{ObjectsView, refused_of, setup_of_objects}
+use Rattle.heap_roots.specs.Marking.{GreyView}
+use Rattle.heap_roots.specs.Objects.{ObjectsView, refused_of, setup_of_objects}
 use Rattle.heap_cycle.specs.declared.parts.Parts.{Parts}
 use Rattle.heap_cycle.specs.declared.shared.Shared.{Shared}
 use Rattle.heap_cycle.specs.Cycles.{AreSlotsMarked}

@@ -6,8 +6,8 @@ use Rattle.gc_graph.specs.State.{Node, graph_of, slot_targets, stack_targets, st
 use Rattle.gc_graph.specs.Valid.{AreLive, region_targets}
 use Rattle.page_words.specs.Seat.{IsQuiet}
 use Rattle.sweeper.specs.Sweeping.{cursor_at}
-use Rattle.nodes_in_words.specs.Nodes.{place_of}
-use Rattle.heap_objects.specs.Marks.{IsAtRest, HasMarking, HasMarks}
+use Rattle.heap_roots.specs.Nodes.{place_of}
+use Rattle.heap_roots.specs.Marks.{IsAtRest, HasMarking, HasMarks}
 use Rattle.heap_roots.specs.Region.{IsHandled}
 use Rattle.heap_cycle.specs.declared.parts.Parts.{Parts}
 use Rattle.heap_cycle.specs.Changes.{begun_from}

@@ -12,8 +12,8 @@ use Rattle.gc_graph.specs.Pause.{dying_slots}
 use Rattle.gc_graph.specs.State.{Setup}
 use Rattle.cross_thread_region.specs.declared.chronicle.PlacedEntry.{PlacedEntry}
 use Rattle.cross_thread_region.specs.Histories.{slots_of}
-use Rattle.heap_objects.specs.Objects.{refused_of, told_of}
-use Rattle.heap_objects.specs.Refused.{IsToldTruly, RefusalsTold}
+use Rattle.heap_roots.specs.Objects.{refused_of, told_of}
+use Rattle.heap_roots.specs.Refused.{IsToldTruly, RefusalsTold}
 use Rattle.heap_roots.specs.Stack.{StackView}
 use Rattle.heap_cycle.specs.declared.parts.Parts.{Parts}
 use Rattle.heap_cycle.specs.declared.shared.Shared.{Shared}

@@ -15,8 +15,8 @@ use Rattle.gc_graph.specs.State.{Setup, State}
 use Rattle.cross_thread_region.specs.declared.chronicle.PlacedEntry.{PlacedEntry}
 use Rattle.cross_thread_region.specs.Calls.{entry_of, first_pass, with_own}
 use Rattle.cross_thread_region.specs.Histories.{entries_of, slots_of}
-use Rattle.heap_objects.specs.Objects.{refused_of, told_of}
-use Rattle.heap_objects.specs.Refused.{IsToldTruly}
+use Rattle.heap_roots.specs.Objects.{refused_of, told_of}
+use Rattle.heap_roots.specs.Refused.{IsToldTruly}
 use Rattle.heap_roots.specs.Stack.{StackView}
 use Rattle.heap_cycle.specs.declared.parts.Parts.{Parts}
 use Rattle.heap_cycle.specs.declared.shared.Shared.{Shared}

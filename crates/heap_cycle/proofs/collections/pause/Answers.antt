@@ -3,7 +3,7 @@ use Rattle.gc_graph.specs.State.{RegionSlot, slot_targets, strong_region_targets
 use Rattle.gc_graph.specs.May.{members}
 use Rattle.gc_graph.specs.declared.phase.Phase.TheVariants.{Sweeping}
 use Rattle.callback_table.specs.Registry.{RegistryView, IsRegistered}
-use Rattle.atomic_pause.specs.Pausing.{IsPaused, hits_in}
+use Rattle.heap_roots.specs.Pausing.{IsPaused, hits_in}
 use Rattle.cross_thread_region.specs.Histories.{slots_of}
 use Rattle.heap_roots.specs.Stack.{is_precise}
 use Rattle.heap_cycle.specs.declared.parts.Parts.{Parts}

@@ -2,7 +2,7 @@ use Rattle.std.proofs.Common.{◌≡◌, [], length, ap, ◌∙◌, arith}
 use Rattle.page_space.specs.Pages.{word_count}
 use Rattle.sweeper.specs.Sweeping.{cursor_at}
 use Rattle.heap_cycle.specs.declared.parts.Parts.{Parts}
-use Rattle.heap_objects.specs.Finalising.{AreFewTold}
+use Rattle.heap_roots.specs.Finalising.{AreFewTold}
 use Rattle.heap_cycle.specs.Parts.{unregistered}
 use Rattle.heap_cycle.specs.Printed.{Printed}
 use Rattle.heap_cycle.proofs.WayToPlace.{placed_at_once, between_low, placed_last}

@@ -2,11 +2,11 @@ use Rattle.std.proofs.Common.{◌≡◌, ◌+◌, ◌*◌, ◌<◌, length, refl
 use Rattle.gc_graph.specs.State.{Setup}
 use Rattle.sweeper.specs.Sweeping.{SweepView, cursor_at}
 use Rattle.heap_cycle.specs.declared.parts.Parts.{Parts}
-use Rattle.heap_objects.specs.Finalising.{AreFewTold}
+use Rattle.heap_roots.specs.Finalising.{AreFewTold}
 use Rattle.heap_cycle.specs.Finalising.{IsSearched}
 use Rattle.heap_cycle.specs.Parts.{state_of, unregistered}
 use Rattle.heap_cycle.specs.Ties.{valid_nodes}
-use Rattle.heap_objects.specs.Objects.{ObjectsView}
+use Rattle.heap_roots.specs.Objects.{ObjectsView}
 use Rattle.heap_cycle.proofs.SweepSteps.{still_open, marks_open}
 use Rattle.heap_cycle.proofs.WayToPlace.{between_low, begins, page_made, page_ready, page_placed, page_goes_on}
 use Rattle.heap_cycle.proofs.placement.sweep_until_found.Goals as goal

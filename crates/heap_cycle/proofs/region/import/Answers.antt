@@ -9,8 +9,8 @@ use Rattle.cross_thread_region.specs.declared.chronicle.PlacedEntry.{PlacedEntry
 use Rattle.cross_thread_region.specs.Calls.{entry_of, first_pass, with_own}
 use Rattle.cross_thread_region.specs.Histories.{target_of, IsPlacedBy}
 use Rattle.sweeper.specs.Sweeping.{cursor_at}
-use Rattle.nodes_in_words.specs.Nodes.{place_of}
-use Rattle.heap_objects.specs.Marks.{HasMarks}
+use Rattle.heap_roots.specs.Nodes.{place_of}
+use Rattle.heap_roots.specs.Marks.{HasMarks}
 use Rattle.heap_cycle.specs.declared.parts.Parts.{Parts}
 use Rattle.heap_cycle.specs.declared.shared.Shared.{Shared}
 use Rattle.heap_cycle.specs.Parts.{state_of}

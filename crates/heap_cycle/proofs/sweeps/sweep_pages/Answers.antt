@@ -8,7 +8,7 @@ use Rattle.page_space.specs.Pages.{word_count}
 use Rattle.sweeper.specs.Sweeping.{SweepView, cursor_at}
 use Rattle.heap_cycle.specs.declared.parts.Parts.{Parts}
 use Rattle.heap_cycle.specs.Finalising.{SweepsOn}
-use Rattle.heap_objects.specs.Finalising.{AreFewTold}
+use Rattle.heap_roots.specs.Finalising.{AreFewTold}
 use Rattle.heap_cycle.specs.Parts.{state_of}
 use Rattle.heap_cycle.specs.Ties.{manned_grey, valid_nodes}
 use Rattle.heap_cycle.proofs.SweepSteps.{parts_sweep, parts_ready, still_open, sweep_joined, nothing_swept}

@@ -1,6 +1,6 @@
 use Rattle.std.proofs.Common.{◌≡◌, ◌+◌, [], vec_capacity}
 use Rattle.sweeper.specs.Sweeping.{cursor_at}
-use Rattle.heap_objects.specs.Finalising.{AreFewTold}
+use Rattle.heap_roots.specs.Finalising.{AreFewTold}
 use Rattle.heap_cycle.specs.Finalising.{SweepsOn}
 use Rattle.heap_cycle.specs.Parts.{setup_of, state_of, IsReady}
 use Rattle.heap_cycle.proofs.sweeps.sweep_pages.Given as goal

@@ -5,8 +5,8 @@ use Rattle.cross_thread_region.specs.declared.chronicle.PlacedEntry.{PlacedEntry
 use Rattle.cross_thread_region.specs.WeakReads.{weak_read_at}
 use Rattle.std.specs.Prelude.{List, Option, Some, None, length, ◌<◌, ◌≤◌}
 use Rattle.heap_roots.specs.Region.{IsHandled}
-use Rattle.heap_objects.specs.Marks.{HasMarks}
-use Rattle.heap_objects.specs.Objects.{ObjectsView}
+use Rattle.heap_roots.specs.Marks.{HasMarks}
+use Rattle.heap_roots.specs.Objects.{ObjectsView}
 use Rattle.heap_cycle.specs.Taking.{entries_between}
 use Rattle.heap_cycle.proofs.LookedAgain.{live_read, looked, no_look}
 use Rattle.heap_cycle.proofs.taking.look_again.Goals as goal

@@ -2,7 +2,7 @@ use Rattle.std.proofs.Common.{◌≡◌, ℕ, take}
 use Rattle.gc_graph.specs.Outcomes.{took}
 use Rattle.gc_graph.specs.State.{State}
 use Rattle.cross_thread_region.specs.Histories.{slots_of}
-use Rattle.heap_objects.specs.Marks.{HasMarks}
+use Rattle.heap_roots.specs.Marks.{HasMarks}
 use Rattle.heap_cycle.specs.Taking.{entries_between}
 use Rattle.heap_cycle.proofs.taking.look_again.Given as goal
 

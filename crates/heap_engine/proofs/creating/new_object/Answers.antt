@@ -5,11 +5,11 @@ use Rattle.gc_graph.specs.State.{Setup, Shape}
 use Rattle.gc_graph.specs.Fields.{new_node, size_of_type}
 use Rattle.gc_graph.specs.May.{may_with_new}
 use Rattle.gc_graph.specs.Outcomes.{finalise_lines}
-use Rattle.sweeper.specs.Sweeping.{cursor_at}
+use Rattle.heap_cycle.specs.Sweeping.{cursor_at}
 use Rattle.heap_cycle.specs.declared.parts.Parts.{Parts}
-use Rattle.heap_objects.specs.Marking.{GreyView}
-use Rattle.heap_objects.specs.Objects.{ObjectsView}
-use Rattle.heap_roots.specs.Handles.{HandlesView}
+use Rattle.heap_cycle.specs.Marking.{GreyView}
+use Rattle.heap_cycle.specs.Objects.{ObjectsView}
+use Rattle.heap_cycle.specs.Handles.{HandlesView}
 use Rattle.heap_cycle.specs.Parts.{counted, setup_of, state_of, unregistered, IsManned}
 use Rattle.heap_cycle.specs.Printed.{Printed, ran_lines}
 use Rattle.heap_cycle.specs.Views.{CycleView}

@@ -1,7 +1,7 @@
 use Rattle.std.proofs.Common.{◌≡◌, Err, sym, subst}
 use Rattle.std.specs.Prelude.{MatchOption}
 use Rattle.gc_graph.specs.declared.line.Refusal.TheVariants as R
-use Rattle.heap_objects.specs.Fields.{allows, IsFieldAt}
+use Rattle.heap_cycle.specs.Fields.{allows, IsFieldAt}
 use Rattle.heap_cycle.specs.Ties.{slot_names}
 use Rattle.heap_engine.proofs.fields.field_of.Goals as goal
 

@@ -1,8 +1,8 @@
 use Rattle.std.proofs.Common.{◌≡◌, ℕ, IfSome, sym, ap, ◌∙◌, subst}
 use Rattle.gc_graph.specs.Fields.{target_of, is_reference, is_weak}
 use Rattle.heap_cycle.specs.declared.parts.Parts.{Parts}
-use Rattle.heap_objects.specs.Fields.{value_in}
-use Rattle.heap_objects.specs.Objects.{target_in, IsLiveAt, ObjectsView}
+use Rattle.heap_cycle.specs.Fields.{value_in}
+use Rattle.heap_cycle.specs.Objects.{target_in, IsLiveAt, ObjectsView}
 use Rattle.heap_engine.specs.FieldSteps.{HasRead}
 use Rattle.heap_engine.proofs.FieldAnswers.{Found, found, field_kind, read_live, step_get}
 use Rattle.heap_engine.proofs.SlotReads.{target_live, read_frame}

@@ -1,6 +1,6 @@
 use Rattle.std.proofs.Common.{None, get_or, sym, subst, ◌∙◌, ap}
-use Rattle.heap_objects.specs.Fields.{IsLiveReference}
-use Rattle.heap_roots.specs.Handles.{slot_word}
+use Rattle.heap_cycle.specs.Fields.{IsLiveReference}
+use Rattle.heap_cycle.specs.Handles.{slot_word}
 use Rattle.heap_cycle.specs.Ties.{slot_place, slot_live}
 use Rattle.heap_engine.proofs.FieldAnswers.{content_live, content_word}
 use Rattle.heap_engine.proofs.KeptSlots.{content_kept}

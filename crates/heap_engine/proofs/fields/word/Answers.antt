@@ -1,7 +1,7 @@
 use Rattle.std.proofs.Common.{ap, ◌∙◌}
 use Rattle.gc_graph.specs.Fields.{is_plain}
 use Rattle.heap_cycle.specs.declared.parts.Parts.{Parts}
-use Rattle.heap_objects.specs.Objects.{ObjectsView}
+use Rattle.heap_cycle.specs.Objects.{ObjectsView}
 use Rattle.heap_engine.proofs.FieldAnswers.{Found, found, field_kind, step_word}
 use Rattle.heap_cycle.specs.Ties.{valid_nodes}
 use Rattle.heap_engine.proofs.fields.word.Goals as goal

@@ -1,16 +1,16 @@
 use Rattle.std.proofs.Common.{◌≡◌, List, None, get_or, length, refl, sym, ap, ◌∙◌, subst}
 use Rattle.gc_graph.specs.State.{Node}
-use Rattle.sweeper.specs.Sweeping.{cursor_at}
+use Rattle.heap_cycle.specs.Sweeping.{cursor_at}
 use Rattle.heap_cycle.specs.declared.parts.Parts.{Parts}
-use Rattle.member_fields.specs.Barrier.{MayKeep}
-use Rattle.heap_objects.specs.declared.field.Field.{Field}
-use Rattle.heap_objects.specs.Fields.{allows}
-use Rattle.heap_objects.specs.Objects.{written_in, ObjectsView, StaysAt}
+use Rattle.heap_cycle.specs.Barrier.{MayKeep}
+use Rattle.heap_cycle.specs.Field.{Field}
+use Rattle.heap_cycle.specs.Fields.{allows}
+use Rattle.heap_cycle.specs.Objects.{written_in, ObjectsView, StaysAt}
 use Rattle.heap_engine.proofs.FieldAnswers.{Found, found, field_kind, step_write}
 use Rattle.heap_engine.proofs.KeptSlots.{slot_kept, write_kept}
 use Rattle.heap_engine.proofs.Tellings.{tells_on}
-use Rattle.heap_objects.specs.FieldNodes.{stays-written, length-written}
-use Rattle.heap_objects.specs.FieldReads.{takes_suited}
+use Rattle.heap_cycle.specs.FieldNodes.{stays-written, length-written}
+use Rattle.heap_cycle.specs.FieldReads.{takes_suited}
 use Rattle.heap_cycle.specs.Ties.{manned_running, valid_nodes, tied_fields}
 use Rattle.heap_engine.proofs.fields.write.Goals as goal
 

@@ -2,8 +2,8 @@ use Rattle.std.proofs.Common.{◌≡◌, ℕ, List, Option, None, get_or, sym, �
 use Rattle.gc_graph.specs.declared.kind.Value.{Value}
 use Rattle.gc_graph.specs.State.{Node}
 use Rattle.gc_graph.specs.ObjectSteps.{part_of}
-use Rattle.nodes_in_words.specs.Nodes.{place_of, word_of}
-use Rattle.heap_roots.specs.Handles.{slot_part}
+use Rattle.heap_cycle.specs.Nodes.{place_of, word_of}
+use Rattle.heap_cycle.specs.Handles.{slot_part}
 use Rattle.heap_cycle.specs.declared.parts.Parts.{Parts}
 use Rattle.heap_cycle.specs.Parts.{IsReady}
 use Rattle.heap_cycle.specs.Ties.{slot_place, slot_live}

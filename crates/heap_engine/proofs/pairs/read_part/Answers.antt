@@ -1,8 +1,8 @@
 use Rattle.std.proofs.Common.{◌≡◌, ℕ, true, IfSome, sym, ap, ◌∙◌, subst}
 use Rattle.gc_graph.specs.Fields.{target_of, is_pair}
 use Rattle.heap_cycle.specs.declared.parts.Parts.{Parts}
-use Rattle.heap_objects.specs.Fields.{part_in}
-use Rattle.heap_objects.specs.Objects.{target_in, IsLiveAt, ObjectsView}
+use Rattle.heap_cycle.specs.Fields.{part_in}
+use Rattle.heap_cycle.specs.Objects.{target_in, IsLiveAt, ObjectsView}
 use Rattle.heap_engine.specs.FieldSteps.{HasRead}
 use Rattle.heap_engine.proofs.FieldAnswers.{Found, found, field_kind}
 use Rattle.heap_engine.proofs.PairAnswers.{part_live, step_part}

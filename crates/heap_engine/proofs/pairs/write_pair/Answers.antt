@@ -2,16 +2,16 @@ use Rattle.std.proofs.Common.{◌≡◌, ℕ, List, Option, None, get_or, length
 use Rattle.gc_graph.specs.declared.kind.Value.{Value}
 use Rattle.gc_graph.specs.State.{Node}
 use Rattle.gc_graph.specs.Fields.{is_pair}
-use Rattle.sweeper.specs.Sweeping.{cursor_at}
+use Rattle.heap_cycle.specs.Sweeping.{cursor_at}
 use Rattle.heap_cycle.specs.declared.parts.Parts.{Parts}
-use Rattle.member_fields.specs.Barrier.{MayKeep}
-use Rattle.heap_objects.specs.declared.field.Field.{Field}
-use Rattle.heap_objects.specs.Objects.{paired_in, ObjectsView, StaysAt}
+use Rattle.heap_cycle.specs.Barrier.{MayKeep}
+use Rattle.heap_cycle.specs.Field.{Field}
+use Rattle.heap_cycle.specs.Objects.{paired_in, ObjectsView, StaysAt}
 use Rattle.heap_engine.proofs.FieldAnswers.{Found, found, field_kind}
 use Rattle.heap_engine.proofs.PairAnswers.{step_pair}
 use Rattle.heap_engine.proofs.KeptSlots.{slot_kept}
 use Rattle.heap_engine.proofs.Tellings.{tells_on}
-use Rattle.heap_objects.specs.FieldNodes.{stays-paired, length-paired}
+use Rattle.heap_cycle.specs.FieldNodes.{stays-paired, length-paired}
 use Rattle.heap_cycle.specs.Ties.{manned_running, valid_nodes, tied_fields}
 use Rattle.heap_engine.proofs.pairs.write_pair.Goals as goal
 

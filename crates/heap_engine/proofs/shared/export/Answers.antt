@@ -1,6 +1,6 @@
 use Rattle.std.proofs.Common.{◌≡◌, ℕ, ◌+◌, get_or, None, Some, sym, ap, ◌∙◌, subst}
 use Rattle.gc_graph.specs.declared.region.Op.TheVariants as O
-use Rattle.heap_objects.specs.Objects.{IsLiveAt}
+use Rattle.heap_cycle.specs.Objects.{IsLiveAt}
 use Rattle.heap_cycle.specs.declared.parts.Parts.{Parts}
 use Rattle.heap_cycle.specs.Shared.{HasTaken}
 use Rattle.heap_cycle.specs.Ties.{manned_grey, slot_names, tied_counted}

@@ -1,5 +1,5 @@
 use Rattle.std.proofs.Common.{None, refl, sym, subst}
-use Rattle.heap_roots.specs.Handles.{HandlesView}
+use Rattle.heap_cycle.specs.Handles.{HandlesView}
 use Rattle.heap_cycle.specs.Parts.{AreTied, counted}
 use Rattle.heap_cycle.specs.Ties.{tied_slot}
 use Rattle.heap_engine.proofs.slots.drop_slot.Goals as goal

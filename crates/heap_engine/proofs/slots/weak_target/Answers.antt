@@ -1,6 +1,6 @@
 use Rattle.std.proofs.Common.{ℕ, ◌≡◌, None, get_or, Some, option_map, sym, ap, ◌∙◌, subst}
-use Rattle.nodes_in_words.specs.Nodes.{place_of}
-use Rattle.heap_objects.specs.Objects.{IsLiveAt}
+use Rattle.heap_cycle.specs.Nodes.{place_of}
+use Rattle.heap_cycle.specs.Objects.{IsLiveAt}
 use Rattle.heap_cycle.specs.Ties.{weak_slot_names}
 use Rattle.heap_engine.proofs.slots.weak_target.Goals as goal
 

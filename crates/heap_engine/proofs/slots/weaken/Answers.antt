@@ -1,5 +1,5 @@
 use Rattle.std.proofs.Common.{refl, sym, subst}
-use Rattle.heap_roots.specs.Handles.{HandlesView}
+use Rattle.heap_cycle.specs.Handles.{HandlesView}
 use Rattle.heap_cycle.specs.Parts.{AreTied, counted}
 use Rattle.heap_cycle.specs.Ties.{tied_weak}
 use Rattle.heap_engine.proofs.slots.weaken.Goals as goal

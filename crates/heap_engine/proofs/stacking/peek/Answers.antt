@@ -1,9 +1,9 @@
 use Rattle.std.proofs.Common.{◌≡◌, [], ◌∷◌, Some, refl, sym, ap, ◌∙◌, subst}
 use Rattle.gc_graph.specs.declared.line.Line.TheVariants as L
 use Rattle.gc_graph.specs.Outcomes.{answered, with_slot}
-use Rattle.nodes_in_words.specs.Nodes.{place_of}
+use Rattle.heap_cycle.specs.Nodes.{place_of}
 use Rattle.heap_cycle.specs.declared.parts.Parts.{Parts}
-use Rattle.heap_roots.specs.Handles.{HandlesView}
+use Rattle.heap_cycle.specs.Handles.{HandlesView}
 use Rattle.heap_cycle.specs.Parts.{state_of, counted, AreTied}
 use Rattle.heap_engine.proofs.StackSteps.{word_points, peek_pointer, peek_number, peek_none}
 use Rattle.heap_cycle.specs.Ties.{tied_slot}

@@ -1,5 +1,5 @@
 use Rattle.std.proofs.Common.{refl, sym, subst}
-use Rattle.heap_roots.specs.Handles.{HandlesView}
+use Rattle.heap_cycle.specs.Handles.{HandlesView}
 use Rattle.heap_cycle.specs.Parts.{counted, AreTied}
 use Rattle.heap_cycle.specs.Ties.{tied_pop}
 use Rattle.heap_engine.proofs.stacking.pop.Goals as goal

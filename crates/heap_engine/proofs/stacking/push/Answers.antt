@@ -4,7 +4,7 @@ use Rattle.gc_graph.specs.State.StackWord.{Pointer}
 use Rattle.gc_graph.specs.Outcomes.{answered}
 use Rattle.gc_graph.specs.HandleSteps.{IsPushed}
 use Rattle.heap_cycle.specs.declared.parts.Parts.{Parts}
-use Rattle.heap_roots.specs.Stack.{pointer_into, PointsInside}
+use Rattle.heap_cycle.specs.Stack.{pointer_into, PointsInside}
 use Rattle.heap_cycle.specs.Parts.{state_of}
 use Rattle.heap_engine.proofs.StackSteps.{push_within, push_past}
 use Rattle.heap_cycle.specs.Ties.{slot_names}

@@ -2,8 +2,8 @@ use Rattle.std.proofs.Common.{◌≡◌, ◌+◌, ◌<◌, Bool, List, [], ◌�
 use Rattle.std.proofs.lemmas.Bool.{eqb-true}
 use Rattle.mark_worklist.specs.Refusals.{Refusals, TellsRefused}
 use Rattle.page_words.specs.Seat.{SeatView}
-use Rattle.pair_notes.specs.Marking.{traced_count}
-use Rattle.pair_notes.specs.Notes.{NotesState}
+use Rattle.marker_crew.specs.Marking.{traced_count}
+use Rattle.marker_crew.specs.Notes.{NotesState}
 use Rattle.marker_crew.specs.Crews.{Marker}
 use Rattle.heap_objects.specs.Marking.{GreyView, grey_of}
 use Rattle.heap_objects.proofs.AloneJoined.{ready_alone, groups_alone, told_alone}

@@ -10,7 +10,7 @@ use Rattle.mark_worklist.specs.Families.{at, nobody}
 use Rattle.mark_worklist.specs.Joining.{AreAllShares, IsTaken, refused_by}
 use Rattle.mark_worklist.specs.Kept.{all-shares}
 use Rattle.mark_worklist.specs.Shares.{ShareState, IsSameShare}
-use Rattle.pair_notes.specs.Notes.{NotesState, no_notes, group_at}
+use Rattle.marker_crew.specs.Notes.{NotesState, no_notes, group_at}
 use Rattle.marker_crew.specs.Crews.{CrewState, Ending, HasDrained, Marker, joined_with_all}
 use Rattle.marker_crew.specs.Drains.{nothing_yet}
 use Rattle.heap_objects.specs.declared.marking.Grey.{Grey}

@@ -2,7 +2,7 @@ use Rattle.std.proofs.Common.{◌≡◌, ℕ, ◌+◌, ◌<◌, false, List, [],
 use Rattle.std.specs.List.{All}
 use Rattle.std.proofs.lemmas.List.{length-map}
 use Rattle.std.proofs.lemmas.List.Elements.{All-cons}
-use Rattle.pair_notes.specs.Notes.{NotesState, cleared, group_at}
+use Rattle.marker_crew.specs.Notes.{NotesState, cleared, group_at}
 use Rattle.mark_worklist.specs.declared.marking.Marking.{Marking}
 use Rattle.marker_crew.specs.Crews.{CrewState}
 use Rattle.heap_objects.specs.declared.marking.Grey.{Grey}

@@ -1,10 +1,10 @@
 use Rattle.std.proofs.Common.{◌≡◌, sym, ◌∙◌, subst}
 use mathlib.Core.Logic.{◌⊎◌}
-use Rattle.pair_notes.specs.declared.notes.Note.{Note}
+use Rattle.marker_crew.specs.Note.{Note}
 use Rattle.std.specs.List.{Contains}
 use Rattle.mark_worklist.specs.Refusals.{TellsRefused}
-use Rattle.pair_notes.specs.BodyGraph.{HasPair}
-use Rattle.pair_notes.specs.Notes.{NotesState, refusals_in}
+use Rattle.marker_crew.specs.BodyGraph.{HasPair}
+use Rattle.marker_crew.specs.Notes.{NotesState, refusals_in}
 use Rattle.heap_objects.specs.Crews.{IsStepped}
 use Rattle.heap_objects.specs.Marking.{GreyView, grey_of}
 use Rattle.heap_objects.proofs.AloneSteps.{own_is, grey_stepped, has_stepped_alone}

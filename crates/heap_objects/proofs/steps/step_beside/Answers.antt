@@ -7,7 +7,7 @@ use Rattle.page_words.specs.Markers.{new_marker}
 use Rattle.page_words.specs.Seat.{SeatView}
 use Rattle.mark_worklist.specs.Families.{at, nobody}
 use Rattle.mark_worklist.specs.Shares.{ShareState}
-use Rattle.pair_notes.specs.Notes.{NotesState}
+use Rattle.marker_crew.specs.Notes.{NotesState}
 use Rattle.marker_crew.specs.Drains.{nothing_yet, AreTracedOrNoted}
 use Rattle.marker_crew.specs.Stages.{stage, WorksAs}
 use Rattle.heap_objects.specs.Crews.{IsStepped, TellsRisen}

@@ -1,6 +1,6 @@
 use Rattle.std.proofs.Common.{◌≡◌, ◌-◌, ap, ◌∙◌, sym, subst, arith}
-use Rattle.marker_core.specs.Bodies.{IsInBody}
-use Rattle.page_words.specs.Seat.{SeatView}
+use Rattle.gap_bounds.specs.Bodies.{IsInBody}
+use Rattle.gap_bounds.specs.Seat.{SeatView}
 use Rattle.page_space.specs.Occupying.{nulled}
 use Rattle.page_space.proofs.OccupyFilled.{nulled_none, nulled_next, only_nulled}
 use Rattle.page_space.proofs.changing.fill_nulls.Goals as goal

@@ -1,7 +1,7 @@
 use Rattle.std.proofs.Common.{◌≡◌, length, ◌∙◌, sym, subst}
 use Rattle.type_table.specs.Faults.{AreGoodTypes}
 use Rattle.callback_table.specs.Table.{kinds_of}
-use Rattle.heap_objects.specs.Objects.{HaveCallbacks}
+use Rattle.heap_engine.specs.Objects.{HaveCallbacks}
 use Rattle.script_run.proofs.Runnable.{have_callbacks, types_are_good}
 use Rattle.script_run.proofs.own_heap.run_script.Goals as goal
 

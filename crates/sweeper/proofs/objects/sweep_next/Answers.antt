@@ -1,6 +1,6 @@
 use Rattle.std.proofs.Common.{rules, ◌≡◌, ℕ, ◌+◌, ◌<◌, ◌≤◌, ◌^◌, List, not, length, vec_capacity, subst, sym, arith}
 use Rattle.marker_core.specs.Bodies.{IsPlace, holds}
-use Rattle.page_words.specs.Seat.{SeatView}
+use Rattle.page_space.specs.Seat.{SeatView}
 use Rattle.page_space.specs.Space.{HasNoStart}
 use Rattle.sweeper.specs.Sweeping.{DeadAreUnnamed, Sweeps, dead_between}
 use Rattle.sweeper.proofs.Sweeping.{nothing, sweeps_on, start_stays, part_dead}

@@ -1,6 +1,6 @@
 use Rattle.std.proofs.Common.{◌≡◌, ◌+◌, ◌≤◌, true, not, arith, subst, sym, ap, ◌∙◌}
 use Rattle.marker_core.specs.Bodies.{IsPlace, holds}
-use Rattle.page_words.specs.Seat.{SeatView, IsUnnamed, OnlyLooked, unlooked, unmarked_at, retracted}
+use Rattle.page_space.specs.Seat.{SeatView, IsUnnamed, OnlyLooked, unlooked, unmarked_at, retracted}
 use Rattle.sweeper.specs.Sweeping.{Sweeps, dead_between}
 use Rattle.sweeper.proofs.Sweeping.{one_kept, one_gone, alone, dead_here, sweeps_looked}
 use Rattle.sweeper.proofs.objects.sweep_object.Goals as goal

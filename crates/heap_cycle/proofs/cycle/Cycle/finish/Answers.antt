@@ -2,7 +2,7 @@ use Rattle.std.proofs.Common.{◌≡◌, refl, ap, ◌∙◌}
 use Rattle.gc_graph.specs.declared.phase.Phase.TheVariants.{Idle}
 use Rattle.sweeper.specs.Sweeping.{SweepView, cursor_at}
 use Rattle.heap_cycle.specs.Changes.{swept_to, SweepsParts}
-use Rattle.heap_objects.specs.Objects.{ObjectsView}
+use Rattle.heap_roots.specs.Objects.{ObjectsView}
 use Rattle.heap_cycle.specs.Views.{CycleView}
 use Rattle.heap_cycle.proofs.SweptObjects.{over_at, parts_swept}
 use Rattle.heap_cycle.proofs.cycle.Cycle.finish.Goals as goal

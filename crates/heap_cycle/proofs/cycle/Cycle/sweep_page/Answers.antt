@@ -3,9 +3,9 @@ use Rattle.gc_graph.specs.State.{Setup}
 use Rattle.gc_graph.specs.Sweep.{phase_at}
 use Rattle.sweeper.specs.Sweeping.{SweepView, cursor_at}
 use Rattle.heap_cycle.specs.Changes.{swept_to, SweepsParts}
-use Rattle.heap_objects.specs.Objects.{ObjectsView}
+use Rattle.heap_roots.specs.Objects.{ObjectsView}
 use Rattle.heap_cycle.specs.Views.{CycleView}
-use Rattle.heap_objects.specs.Marks.{HasMarks}
+use Rattle.heap_roots.specs.Marks.{HasMarks}
 use Rattle.heap_cycle.proofs.SweptObjects.{marks_at, parts_swept}
 use Rattle.heap_cycle.proofs.cycle.Cycle.sweep_page.Goals as goal
 

@@ -5,8 +5,8 @@ use Rattle.callback_table.specs.Table.{kinds_of}
 use Rattle.marker_core.specs.Bodies.{holds}
 use Rattle.cross_thread_region.specs.Histories.{entries_of}
 use Rattle.page_words.specs.Seat.{Heap}
-use Rattle.nodes_in_words.specs.Places.{kept_of}
-use Rattle.heap_objects.specs.Objects.{told_of}
+use Rattle.heap_cycle.specs.PlacesInWords.{kept_of}
+use Rattle.heap_cycle.specs.Objects.{told_of}
 use Rattle.heap_cycle.specs.declared.parts.Parts.{Parts}
 use Rattle.heap_cycle.specs.declared.shared.Shared.{Shared}
 use Rattle.heap_cycle.specs.Parts.{state_of}

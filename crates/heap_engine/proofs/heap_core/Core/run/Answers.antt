@@ -15,10 +15,10 @@ use Rattle.gc_graph.specs.ThreadLaw.{IsCounted}
 use Rattle.gc_graph.specs.Valid.{IsValid}
 use Rattle.cross_thread_region.specs.Histories.{entries_of}
 use Rattle.marker_core.specs.Bodies.{holds}
-use Rattle.nodes_in_words.specs.Places.{kept_of}
-use Rattle.heap_objects.specs.Crews.{IsIdleOrLong}
-use Rattle.heap_objects.specs.Objects.{HaveCallbacks, told_of}
-use Rattle.heap_objects.specs.Refused.{RefusalsTold}
+use Rattle.heap_cycle.specs.PlacesInWords.{kept_of}
+use Rattle.heap_cycle.specs.Crews.{IsIdleOrLong}
+use Rattle.heap_cycle.specs.Objects.{HaveCallbacks, told_of}
+use Rattle.heap_cycle.specs.Refused.{RefusalsTold}
 use Rattle.heap_cycle.specs.declared.parts.Parts.{Parts}
 use Rattle.heap_cycle.specs.declared.shared.Shared.{Shared}
 use Rattle.heap_cycle.specs.Cycles.{AreSlotsMarked, HasNoRefusedPush}

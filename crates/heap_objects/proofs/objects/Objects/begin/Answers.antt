@@ -8,11 +8,11 @@ use Rattle.gc_graph.specs.State.{Setup, Node, IsLive}
 use Rattle.marker_core.specs.Bodies.{IsPlace, holds}
 use Rattle.page_words.specs.PlaceTests.{test_of_place}
 use Rattle.page_words.specs.Seat.{SeatView, IsAlone, IsQuiet, IsView}
-use Rattle.nodes_in_words.specs.AmongNodes.{IsAmong}
-use Rattle.nodes_in_words.specs.KeptNodes.{slots_live, named_places, place_slot, root_of_slot}
-use Rattle.nodes_in_words.specs.Nodes.{place_of, bodies_of}
-use Rattle.nodes_in_words.specs.WholePairs.{pairs_whole}
-use Rattle.ephemerons.specs.ListedMarks.{ListsMarks-then}
+use Rattle.atomic_pause.specs.AmongNodes.{IsAmong}
+use Rattle.atomic_pause.specs.KeptNodes.{slots_live, named_places, place_slot, root_of_slot}
+use Rattle.atomic_pause.specs.Nodes.{place_of, bodies_of}
+use Rattle.atomic_pause.specs.WholePairs.{pairs_whole}
+use Rattle.atomic_pause.specs.ListedMarks.{ListsMarks-then}
 use Rattle.heap_objects.specs.Marking.{grey_of}
 use Rattle.heap_objects.proofs.MarkingBegun.{raised, has_begun}
 use Rattle.heap_objects.proofs.ToldRoots.{told_place, told_root}

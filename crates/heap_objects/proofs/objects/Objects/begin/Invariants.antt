@@ -1,5 +1,5 @@
 use Rattle.std.proofs.Common.{map}
-use Rattle.nodes_in_words.specs.Nodes.{place_of}
+use Rattle.atomic_pause.specs.Nodes.{place_of}
 use Rattle.heap_objects.proofs.objects.Objects.begin.Given as goal
 
 abbrev pub ghost-keep_reached : goal.ghost-keep_reached

@@ -1,6 +1,6 @@
 use Rattle.std.proofs.Common.{◌≡◌, ◌<◌, List, length, not, eqb, true, sym, ap, ◌∙◌, inl, inr, arith}
 use Rattle.std.proofs.lemmas.Bool.{true≢false, cases_lt, eq-eqb}
-use Rattle.nodes_in_words.specs.NodePlaces.{places_differ}
+use Rattle.atomic_pause.specs.NodePlaces.{places_differ}
 use Rattle.marker_crew.specs.Crews.{Marker}
 use Rattle.heap_objects.specs.Marking.{grey_of}
 use Rattle.heap_objects.proofs.CrewStays.{crew_is}

@@ -1,6 +1,6 @@
 use Rattle.std.proofs.Common.{ap, ◌∙◌, length}
-use Rattle.nodes_in_words.specs.Nodes.{place_of}
-use Rattle.nodes_in_words.specs.NodeBodies.{length-bodies}
+use Rattle.atomic_pause.specs.Nodes.{place_of}
+use Rattle.atomic_pause.specs.NodeBodies.{length-bodies}
 use Rattle.heap_objects.proofs.objects.Objects.count.Goals as goal
 
 pub returns : goal.returns

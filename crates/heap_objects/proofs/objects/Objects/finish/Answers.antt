@@ -10,18 +10,18 @@ use Rattle.mark_worklist.specs.Refusals.{TellsRefused, refusals_of}
 use Rattle.mark_worklist.specs.Told.{told_then}
 use Rattle.marker_core.specs.Bodies.{IsPlace}
 use Rattle.marker_core.specs.Bodies.{holds}
-use Rattle.nodes_in_words.specs.NodePlaces.{places_differ}
-use Rattle.nodes_in_words.specs.Nodes.{IsHeld, place_of}
-use Rattle.pair_notes.specs.Marking.{traced_count}
+use Rattle.atomic_pause.specs.NodePlaces.{places_differ}
+use Rattle.atomic_pause.specs.Nodes.{IsHeld, place_of}
+use Rattle.marker_crew.specs.Marking.{traced_count}
 use Rattle.heap_objects.specs.Crews.{IsSameHeap, refusals_of_all}
 use Rattle.heap_objects.specs.Marking.{grey_of, refused_in}
 use Rattle.heap_objects.proofs.CrewStays.{crew_is}
 use Rattle.heap_objects.proofs.MarksStepped.{traced_few}
 use Rattle.page_words.specs.Seat.{SeatView, unlooked}
 use Rattle.persistent_slots.specs.Clearing.{taken}
-use Rattle.nodes_in_words.specs.KeptNodes.{slots_live, named_places, weak_are_places}
-use Rattle.nodes_in_words.specs.WeakNodes.{length-after}
-use Rattle.pair_notes.specs.Notes.{NotesState, group_at, refusals_in}
+use Rattle.atomic_pause.specs.KeptNodes.{slots_live, named_places, weak_are_places}
+use Rattle.atomic_pause.specs.WeakNodes.{length-after}
+use Rattle.marker_crew.specs.Notes.{NotesState, group_at, refusals_in}
 use Rattle.mark_worklist.specs.Shares.{ShareState}
 use Rattle.heap_objects.specs.declared.marking.Grey.{Grey}
 use Rattle.callback_table.specs.Table.{kinds_of}

@@ -9,9 +9,9 @@ use Rattle.gc_graph.specs.Fields.{new_node, size_of_type}
 use Rattle.gc_graph.specs.Placement.{Extent}
 use Rattle.page_space.specs.Occupying.{Occupies, IsNewNumber, least_size, new_body}
 use Rattle.page_space.specs.Space.{IsFreePlace}
-use Rattle.nodes_in_words.specs.Nodes.{IsHeld}
+use Rattle.atomic_pause.specs.Nodes.{IsHeld}
 use Rattle.heap_objects.specs.Objects.{with_made}
-use Rattle.nodes_in_words.specs.TypedNodes.{known_nodes}
+use Rattle.atomic_pause.specs.TypedNodes.{known_nodes}
 use Rattle.heap_objects.proofs.HeldNodes.{room_for_fields, next_is_new, held_made, extents_held}
 use Rattle.heap_objects.proofs.MarksMade.{marks_made}
 use Rattle.heap_objects.proofs.MarksStored.{view_in}

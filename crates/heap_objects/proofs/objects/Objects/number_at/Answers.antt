@@ -1,7 +1,7 @@
 use Rattle.std.proofs.Common.{List}
 use Rattle.gc_graph.specs.State.{Node, node_at}
-use Rattle.nodes_in_words.specs.Nodes.{place_of, body_of}
-use Rattle.nodes_in_words.specs.NodePlaces.{live_is_there, node_body, serials_fit}
+use Rattle.atomic_pause.specs.Nodes.{place_of, body_of}
+use Rattle.atomic_pause.specs.NodePlaces.{live_is_there, node_body, serials_fit}
 use Rattle.heap_objects.proofs.objects.Objects.number_at.Goals as goal
 
 pub serial_at-requires-clause-start : goal.serial_at-requires-clause-start

@@ -1,8 +1,8 @@
 use Rattle.std.proofs.Common.{List}
 use Rattle.gc_graph.specs.State.{Node, node_at}
-use Rattle.nodes_in_words.specs.Nodes.{place_of, body_of}
+use Rattle.atomic_pause.specs.Nodes.{place_of, body_of}
 use Rattle.heap_objects.specs.FieldPlaces.{live_place}
-use Rattle.nodes_in_words.specs.NodePlaces.{live_is_there, node_body}
+use Rattle.atomic_pause.specs.NodePlaces.{live_is_there, node_body}
 use Rattle.heap_objects.proofs.objects.Objects.size_at.Goals as goal
 
 pub header_at-requires-clause-start : goal.header_at-requires-clause-start

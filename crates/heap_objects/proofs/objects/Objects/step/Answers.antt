@@ -2,8 +2,8 @@ use Rattle.std.specs.Arc.{arc_value}
 use Rattle.std.proofs.Common.{◌≡◌, ◌+◌, ℕ, List, sym, ap, subst, arith}
 use Rattle.gc_graph.specs.State.{Node}
 use Rattle.page_words.specs.Seat.{SeatView}
-use Rattle.pair_notes.specs.Marking.{traced_count}
-use Rattle.nodes_in_words.specs.NodePlaces.{places_differ}
+use Rattle.marker_crew.specs.Marking.{traced_count}
+use Rattle.atomic_pause.specs.NodePlaces.{places_differ}
 use Rattle.heap_objects.specs.Marking.{GreyView, grey_of}
 use Rattle.heap_objects.specs.Marks.{HasMarking}
 use Rattle.heap_objects.proofs.MarksStored.{view_in}

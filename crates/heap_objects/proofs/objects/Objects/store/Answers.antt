@@ -7,11 +7,11 @@ use Rattle.type_table.specs.Types.{is_kind}
 use Rattle.page_words.specs.Seat.{SeatView, rewritten}
 use Rattle.page_space.specs.Space.{extents_of_bodies}
 use Rattle.heap_objects.specs.declared.field.Field.{Field}
-use Rattle.nodes_in_words.specs.Nodes.{place_of, word_of, IsHeld}
+use Rattle.atomic_pause.specs.Nodes.{place_of, word_of, IsHeld}
 use Rattle.heap_objects.specs.Marking.{grey_of}
 use Rattle.heap_objects.specs.Fields.{TakesWord, kept_word}
 use Rattle.heap_objects.specs.Objects.{written_in}
-use Rattle.nodes_in_words.specs.NodePlaces.{live_is_there}
+use Rattle.atomic_pause.specs.NodePlaces.{live_is_there}
 use Rattle.heap_objects.specs.FieldNodes.{with_field, length-field, place-field, life-field}
 use Rattle.heap_objects.specs.FieldPlaces.{has_word, word_low}
 use Rattle.heap_objects.specs.FieldReads.{takes_word}

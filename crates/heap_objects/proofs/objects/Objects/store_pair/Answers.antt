@@ -7,12 +7,12 @@ use Rattle.marker_core.specs.Bodies.{IsReference}
 use Rattle.page_words.specs.Seat.{SeatView, rewritten}
 use Rattle.page_space.specs.Space.{extents_of_bodies}
 use Rattle.heap_objects.specs.declared.field.Field.{Field}
-use Rattle.nodes_in_words.specs.Nodes.{place_of, word_of, IsHeld}
+use Rattle.atomic_pause.specs.Nodes.{place_of, word_of, IsHeld}
 use Rattle.member_fields.specs.Barrier.{HasBarrier}
-use Rattle.nodes_in_words.specs.NodeChanges.{place_set, life_set}
+use Rattle.atomic_pause.specs.NodeChanges.{place_set, life_set}
 use Rattle.heap_objects.specs.Marking.{grey_of}
 use Rattle.heap_objects.specs.Objects.{paired_in}
-use Rattle.nodes_in_words.specs.NodePlaces.{live_is_there}
+use Rattle.atomic_pause.specs.NodePlaces.{live_is_there}
 use Rattle.heap_objects.specs.FieldReads.{value_is_reference}
 use Rattle.heap_objects.specs.FieldNodes.{with_pair, pair_node, length-pair}
 use Rattle.heap_objects.proofs.PairBodies.{held_paired}

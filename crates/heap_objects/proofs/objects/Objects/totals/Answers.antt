@@ -3,8 +3,8 @@ use Rattle.std.specs.List.{sum_by}
 use Rattle.gc_graph.specs.Placement.{IsUsedPages}
 use Rattle.marker_core.specs.declared.states.Body.{Body}
 use Rattle.page_space.specs.Space.{extents_of_bodies}
-use Rattle.nodes_in_words.specs.Nodes.{place_of}
-use Rattle.nodes_in_words.specs.NodeBodies.{extents-bodies, length-bodies, used-bodies}
+use Rattle.atomic_pause.specs.Nodes.{place_of}
+use Rattle.atomic_pause.specs.NodeBodies.{extents-bodies, length-bodies, used-bodies}
 use Rattle.heap_objects.proofs.objects.Objects.totals.Goals as goal
 
 pub returns-clause-objects : goal.returns-clause-objects

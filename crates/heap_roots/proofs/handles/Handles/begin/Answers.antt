@@ -3,7 +3,7 @@ use Rattle.gc_graph.specs.State.{Node}
 use Rattle.gc_graph.specs.Valid.{AreLive}
 use Rattle.cross_thread_region.specs.declared.chronicle.PlacedEntry.{PlacedEntry}
 use Rattle.cross_thread_region.specs.PlacedNodes.{strong_is_told, strong_place_below}
-use Rattle.nodes_in_words.specs.AmongNodes.{IsAmong}
+use Rattle.heap_objects.specs.AmongNodes.{IsAmong}
 use Rattle.std.specs.Prelude.{Contains, ◌+◌}
 use Rattle.heap_objects.specs.Marks.{NameRoots, TellsRoots}
 use Rattle.heap_roots.specs.Handles.{HandlesView}

@@ -1,6 +1,6 @@
 use Rattle.std.proofs.Common.{rules, ◌≡◌, ap, ◌∙◌, sym}
-use Rattle.marker_core.specs.SeatLaws.{IsReady}
-use Rattle.page_words.specs.Seat.{side}
+use Rattle.gap_bounds.specs.SeatLaws.{IsReady}
+use Rattle.gap_bounds.specs.Seat.{side}
 use Rattle.page_space.specs.Space.{IsSeatOf, heap_of}
 use Rattle.page_space.proofs.bodywords.SpaceBodywords.publish.Goals as goal
 

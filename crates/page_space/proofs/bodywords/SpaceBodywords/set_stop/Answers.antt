@@ -1,5 +1,5 @@
 use Rattle.std.proofs.Common.{rules, ap, ◌∙◌, sym}
-use Rattle.page_words.specs.Seat.{MaySetStop}
+use Rattle.gap_bounds.specs.Seat.{MaySetStop}
 use Rattle.page_space.specs.Space.{IsSeatOf, heap_of}
 use Rattle.page_space.proofs.bodywords.SpaceBodywords.set_stop.Goals as goal
 

@@ -1,9 +1,9 @@
 use Rattle.std.proofs.Common.{◌≡◌, ◌+◌, ◌*◌, ◌<◌, ◌≤◌, ◌⊎◌, ap, inl, inr, arith}
 use Rattle.std.proofs.lemmas.Bool.{cases_lt}
-use Rattle.marker_core.specs.Bodies.{IsPlace, end_of}
-use Rattle.marker_core.specs.declared.states.Body.{Body}
+use Rattle.gap_bounds.specs.Bodies.{IsPlace, end_of}
+use Rattle.gap_bounds.specs.Body.{Body}
 use Rattle.page_space.proofs.PlaceBodies.{tells_size}
-use Rattle.page_words.specs.BodyPlaces.{two_words}
+use Rattle.gap_bounds.specs.BodyPlaces.{two_words}
 use Rattle.page_space.proofs.WalkSteps.{edge_after_last, edge_of_page}
 use Rattle.page_space.proofs.space.Space.edge_from.Goals as goal
 

@@ -2,7 +2,7 @@ use Rattle.std.proofs.Common.{◌≡◌, ℕ, ◌+◌, ◌*◌, ◌/◌, ◌<◌
 use Rattle.std.proofs.lemmas.Bool.{cases_lt}
 use Rattle.gc_graph.specs.Placement.{PageHasBucket, IsNowhere, bucket_of}
 use Rattle.gap_bounds.specs.Gaps.{HasClass, least_of}
-use Rattle.page_words.specs.Seat.{SeatView}
+use Rattle.gap_bounds.specs.Seat.{SeatView}
 use Rattle.page_space.specs.Space.{IsSpaceOf, FitsIn, extents_of_bodies}
 use Rattle.page_space.proofs.PageSpan.{page_of}
 use Rattle.gc_graph.specs.PageNumbers.{page_before}

@@ -1,6 +1,6 @@
 use Rattle.std.proofs.Common.{◌≡◌, ℕ, ◌<◌, ◌≤◌}
 use Rattle.gc_graph.specs.Placement.{IsNowhere}
-use Rattle.page_words.specs.Seat.{OnlyLooked}
+use Rattle.gap_bounds.specs.Seat.{OnlyLooked}
 use Rattle.page_space.specs.Space.{IsSpaceOf, FitsIn}
 use Rattle.page_space.proofs.space.Space.find.Given as goal
 

@@ -1,7 +1,7 @@
 use Rattle.std.proofs.Common.{◌≡◌, ◌⊎◌, ℕ, ◌+◌, ◌*◌, ◌/◌, ◌≤◌, inl, inr, get_or, ap, ◌∙◌, sym, subst, arith}
 use Rattle.std.proofs.lemmas.Bool.{cases_lt, true≢false}
 use Rattle.gc_graph.specs.Placement.{PageHasBucket, bucket_of}
-use Rattle.page_words.specs.Seat.{SeatView, unlooked}
+use Rattle.gap_bounds.specs.Seat.{SeatView, unlooked}
 use Rattle.gap_bounds.specs.Gaps.{IsGap, IsClassOf, HasClass, least_of}
 use Rattle.page_space.specs.Space.{SpaceView, IsSpaceOf, HoldsWhole, FitsIn, extents_of_bodies}
 use Rattle.page_space.specs.Walks.{BeginsBetween}

@@ -2,10 +2,10 @@ use Rattle.std.proofs.Common.{rules, ◌≡◌, ℕ, ◌+◌, ◌-◌, ◌^◌, 
 use Rattle.std.specs.Arc.{arc_value}
 use Rattle.std.specs.List.{Contains, filter, sum_by}
 use Rattle.gc_graph.specs.Placement.{Extent}
-use Rattle.marker_core.specs.Bodies.{IsPlace, holds}
-use Rattle.marker_core.specs.declared.states.Body.{Body}
-use Rattle.page_words.specs.Seat.{SeatView, IsView, IsUnnamed, OnlyLooked}
-use Rattle.page_words.specs.BodyPlaces.{two_words, within_heap}
+use Rattle.gap_bounds.specs.Bodies.{IsPlace, holds}
+use Rattle.gap_bounds.specs.Body.{Body}
+use Rattle.gap_bounds.specs.Seat.{SeatView, IsView, IsUnnamed, OnlyLooked}
+use Rattle.gap_bounds.specs.BodyPlaces.{two_words, within_heap}
 use Rattle.gap_bounds.specs.Gaps.{KnowsGaps}
 use Rattle.page_space.specs.Pages.{word_count}
 use Rattle.page_space.specs.Space.{heap_of, SpaceView, IsSpaceOver, extent_of, extents_of_bodies}

@@ -1,6 +1,6 @@
 use Rattle.std.proofs.Common.{ℕ, ◌+◌, ◌*◌, ◌/◌, ◌^◌, ◌<◌, ◌≤◌, ap, rules, arith}
 use Rattle.gc_graph.specs.PageNumbers.{page_before}
-use Rattle.page_words.specs.Seat.{SeatView}
+use Rattle.gap_bounds.specs.Seat.{SeatView}
 use Rattle.page_space.proofs.OpenedGaps.{seated, gaps_opened}
 use Rattle.page_space.proofs.space.Space.gap_around.Goals as goal
 

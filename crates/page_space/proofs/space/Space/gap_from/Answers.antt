@@ -1,7 +1,7 @@
 use Rattle.std.proofs.Common.{◌≡◌, ◌+◌, ◌*◌, Bool, false, get_or, List, refl, ap, ◌∙◌, sym, subst, inl, inr, arith}
 use Rattle.std.proofs.lemmas.Bool.{cases_lt}
 use Rattle.gc_graph.specs.State.{Shape}
-use Rattle.page_words.specs.Seat.{SeatView, OnlyLooked}
+use Rattle.gap_bounds.specs.Seat.{SeatView, OnlyLooked}
 use Rattle.gap_bounds.specs.Gaps.{IsGap, bound_at}
 use Rattle.page_space.specs.Space.{IsSpaceOf, HoldsWhole, extents_of_bodies}
 use Rattle.gc_graph.specs.PageNumbers.{page_before}

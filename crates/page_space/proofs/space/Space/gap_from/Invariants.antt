@@ -1,6 +1,6 @@
 use Rattle.std.proofs.Common.{◌≡◌, ◌+◌, ◌-◌, ◌*◌, ◌≤◌}
 use Rattle.gc_graph.specs.Placement.{IsNowhere}
-use Rattle.page_words.specs.Seat.{OnlyLooked}
+use Rattle.gap_bounds.specs.Seat.{OnlyLooked}
 use Rattle.page_space.specs.Space.{IsSpaceOf, extents_of_bodies}
 use Rattle.page_space.specs.Walks.{BeginsBetween}
 use Rattle.page_space.proofs.space.Space.gap_from.Given as goal

@@ -1,6 +1,6 @@
 use Rattle.std.proofs.Common.{get_or, ap, sym, subst, arith}
 use Rattle.gc_graph.specs.State.{Shape}
-use Rattle.page_words.specs.Seat.{SeatView}
+use Rattle.gap_bounds.specs.Seat.{SeatView}
 use Rattle.gap_bounds.specs.Gaps.{IsGap}
 use Rattle.page_space.specs.Space.{IsSpaceOf, HoldsWhole, extents_of_bodies}
 use Rattle.page_space.proofs.space.Space.gap_in.Goals as goal

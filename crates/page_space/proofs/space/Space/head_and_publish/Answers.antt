@@ -1,8 +1,8 @@
 use Rattle.std.proofs.Common.{◌≡◌, ℕ, length, ◌+◌, ◌-◌, ◌^◌, ◌<◌, ◌≤◌, true, false, ap, ◌∙◌, sym, subst, arith, rules}
-use Rattle.marker_core.specs.Bodies.{IsInBody}
+use Rattle.gap_bounds.specs.Bodies.{IsInBody}
 use Rattle.object_headers.specs.Layout.{header_word}
-use Rattle.marker_core.specs.SeatLaws.{IsReady}
-use Rattle.page_words.specs.Seat.{SeatView, side, filled_with, published}
+use Rattle.gap_bounds.specs.SeatLaws.{IsReady}
+use Rattle.gap_bounds.specs.Seat.{SeatView, side, filled_with, published}
 use Rattle.page_space.specs.Pages.{word_count}
 use Rattle.page_space.specs.Space.{IsSeatOf, heap_of}
 use Rattle.page_space.specs.Occupying.{HasNulls, IsNewNumber, IsRoom, least_size, new_body}

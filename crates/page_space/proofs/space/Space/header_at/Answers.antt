@@ -1,16 +1,16 @@
 use Rattle.std.proofs.Common.{◌≡◌, ◌≤◌, ap, refl, subst, sym, arith}
 use Rattle.std.specs.List.{Contains}
 use Rattle.object_headers.specs.Layout.{IsHeaderWord}
-use Rattle.marker_core.specs.declared.states.Body.{Body}
-use Rattle.marker_core.specs.Matching.{IsWhole}
-use Rattle.marker_core.specs.Layout.{has_mark, has_traced}
-use Rattle.marker_core.specs.SeatFacts.{IsTold, IsHeaderAt}
-use Rattle.page_words.specs.Seat.{Heap, side}
-use Rattle.page_words.specs.Roles.{kind_lists}
-use Rattle.marker_core.specs.Bodies.{holds}
+use Rattle.gap_bounds.specs.Body.{Body}
+use Rattle.gap_bounds.specs.Matching.{IsWhole}
+use Rattle.gap_bounds.specs.Layout.{has_mark, has_traced}
+use Rattle.gap_bounds.specs.SeatFacts.{IsTold, IsHeaderAt}
+use Rattle.gap_bounds.specs.Seat.{Heap, side}
+use Rattle.gap_bounds.specs.Roles.{kind_lists}
+use Rattle.gap_bounds.specs.Bodies.{holds}
 use Rattle.page_space.specs.Space.{IsHeaderOf}
 use Rattle.page_space.proofs.PlaceBodies.{tells_size, header_is_one}
-use Rattle.page_words.specs.BodyPlaces.{small_type, two_words, whole_body}
+use Rattle.gap_bounds.specs.BodyPlaces.{small_type, two_words, whole_body}
 use Rattle.page_space.proofs.space.Space.header_at.Goals as goal
 use Rattle.page_space.proofs.space.Space.header_at.Goals.{After-read_unchecked}
 

@@ -1,7 +1,7 @@
 use Rattle.std.proofs.Common.{◌≡◌, ◌+◌, ◌/◌, refl, ap, ◌∙◌, sym, arith}
 use Rattle.page_space.specs.Space.{heap_of}
-use Rattle.page_words.specs.Seat.{Heap}
-use Rattle.page_words.specs.BodyPlaces.{no_place_beyond}
+use Rattle.gap_bounds.specs.Seat.{Heap}
+use Rattle.gap_bounds.specs.BodyPlaces.{no_place_beyond}
 use Rattle.page_space.specs.Pages.{word_count}
 use Rattle.page_space.proofs.space.Space.is_start.Goals as goal
 

@@ -1,8 +1,8 @@
 use Rattle.std.proofs.Common.{◌≡◌, ℕ, ◌+◌, ◌-◌, ◌*◌, ◌/◌, ◌%◌, ◌^◌, ◌<◌, ◌≤◌, refl, ap, ◌∙◌, sym, subst, inl, inr, arith}
 use Rattle.page_space.specs.Space.{heap_of}
 use Rattle.std.proofs.lemmas.Bool.{cases_lt}
-use Rattle.page_words.specs.BodyPlaces.{no_place_beyond}
-use Rattle.page_words.specs.Seat.{Heap, SeatView, IsView, IsWordAt}
+use Rattle.gap_bounds.specs.BodyPlaces.{no_place_beyond}
+use Rattle.gap_bounds.specs.Seat.{Heap, SeatView, IsView, IsWordAt}
 use Rattle.page_space.specs.Pages.{word_count}
 use Rattle.page_space.proofs.StartBits.{IsBitsAt, IsLastPlace, no_bits, highest_bit}
 use Rattle.page_space.proofs.space.Space.last_start.Goals as goal

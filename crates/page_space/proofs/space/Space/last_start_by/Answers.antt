@@ -1,8 +1,8 @@
 use Rattle.std.proofs.Common.{◌≡◌, ◌+◌, ◌*◌, ◌/◌, ◌%◌, ap, ◌∙◌, sym, inl, inr, refl, arith}
-use Rattle.page_words.specs.Seat.{Heap}
+use Rattle.gap_bounds.specs.Seat.{Heap}
 use Rattle.std.proofs.lemmas.Bool.{cases_lt}
 use Rattle.std.proofs.lemmas.Option.{IfSome_then}
-use Rattle.page_words.specs.BodyPlaces.{no_place_beyond}
+use Rattle.gap_bounds.specs.BodyPlaces.{no_place_beyond}
 use Rattle.page_space.specs.Pages.{word_count}
 use Rattle.page_space.specs.Space.{heap_of, HasNoStart}
 use Rattle.page_space.proofs.PlaceFound.{if_none_then}

@@ -1,5 +1,5 @@
 use Rattle.std.proofs.Common.{refl}
-use Rattle.page_words.specs.Seat.{stored}
+use Rattle.gap_bounds.specs.Seat.{stored}
 use Rattle.page_space.proofs.SeatExtents.{lasts, stored_keeps}
 use Rattle.page_space.proofs.space.Space.lasts_while_objects_stay.Goals as goal
 

@@ -1,6 +1,6 @@
 use Rattle.std.proofs.Common.{◌≡◌, ℕ, ◌+◌, ◌*◌, ◌<◌, ◌≤◌, length, ap, ◌∙◌, sym, subst, inl, inr, arith}
 use Rattle.std.proofs.lemmas.Bool.{cases_lt}
-use Rattle.page_words.specs.Seat.{SeatView, OnlyLooked}
+use Rattle.gap_bounds.specs.Seat.{SeatView, OnlyLooked}
 use Rattle.gap_bounds.specs.Gaps.{IsGap}
 use Rattle.page_space.specs.Pages.{word_count}
 use Rattle.page_space.specs.Space.{SpaceView, HoldsWhole, extents_of_bodies}

@@ -1,11 +1,11 @@
 use Rattle.std.proofs.Common.{◌≡◌, ap, ◌∙◌, sym, inl, inr, arith}
 use Rattle.page_space.specs.Space.{heap_of}
-use Rattle.page_words.specs.Seat.{Heap}
+use Rattle.gap_bounds.specs.Seat.{Heap}
 use Rattle.std.proofs.lemmas.Bool.{cases_lt}
-use Rattle.marker_core.specs.Matching.{IsWhole}
-use Rattle.page_words.specs.Roles.{kind_lists}
+use Rattle.gap_bounds.specs.Matching.{IsWhole}
+use Rattle.gap_bounds.specs.Roles.{kind_lists}
 use Rattle.page_space.specs.Pages.{word_count}
-use Rattle.page_words.specs.BodyPlaces.{two_words, whole_body}
+use Rattle.gap_bounds.specs.BodyPlaces.{two_words, whole_body}
 use Rattle.page_space.proofs.space.Space.lowest_from.Goals as goal
 use Rattle.page_space.proofs.space.Space.lowest_from.Goals.{In-loop-at}
 

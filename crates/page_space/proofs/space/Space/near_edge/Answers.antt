@@ -1,7 +1,7 @@
 use Rattle.std.proofs.Common.{◌≡◌, ◌+◌, ◌-◌, ◌*◌, ◌<◌, ◌≤◌, ap, inl, inr, arith}
 use Rattle.std.proofs.lemmas.Bool.{cases_lt}
-use Rattle.marker_core.specs.Bodies.{IsPlace, end_of}
-use Rattle.marker_core.specs.declared.states.Body.{Body}
+use Rattle.gap_bounds.specs.Bodies.{IsPlace, end_of}
+use Rattle.gap_bounds.specs.Body.{Body}
 use Rattle.page_space.proofs.PlaceBodies.{tells_size}
 use Rattle.page_space.proofs.WalkSteps.{one_in}
 use Rattle.page_space.proofs.space.Space.near_edge.Goals as goal

@@ -2,7 +2,7 @@ use Rattle.std.proofs.Common.{◌≡◌, ℕ, ◌*◌, [], length, refl, ap, ◌
 use Rattle.std.proofs.lemmas.List.{length-replicate}
 use Rattle.std.specs.Arc.{arc_value}
 use Rattle.gc_graph.specs.State.{Shape}
-use Rattle.page_words.specs.Seat.{Heap}
+use Rattle.gap_bounds.specs.Seat.{Heap}
 use Rattle.page_space.specs.Space.{IsSpaceOf, SpaceView}
 use Rattle.page_space.proofs.Bounds.{empty_space}
 use Rattle.page_space.proofs.Shapes.{shape_words}

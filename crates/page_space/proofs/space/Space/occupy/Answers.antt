@@ -3,7 +3,7 @@ use Rattle.std.specs.Arc.{arc_value}
 use Rattle.std.proofs.lemmas.Bool.{eq-eqb}
 use Rattle.std.proofs.lemmas.List.{map_push}
 use Rattle.gc_graph.specs.Placement.{Extent}
-use Rattle.page_words.specs.Seat.{Heap}
+use Rattle.gap_bounds.specs.Seat.{Heap}
 use Rattle.page_space.specs.Pages.{is_in_page}
 use Rattle.page_space.specs.Space.{heap_of, SpaceView, IsSpaceOver, IsFreePlace, extent_of, extents_of_bodies}
 use Rattle.page_space.specs.Occupying.{new_body}

@@ -1,8 +1,8 @@
 use Rattle.std.proofs.Common.{rules, ◌≡◌, ◌+◌, ◌^◌, ◌<◌, refl, sym, subst, arith}
 use Rattle.std.proofs.lemmas.List.Elements.{All-contains}
-use Rattle.marker_core.specs.Bodies.{IsPlace}
-use Rattle.marker_core.specs.declared.states.Body.{Body}
-use Rattle.page_words.specs.BodyPlaces.{two_words, no_place_within}
+use Rattle.gap_bounds.specs.Bodies.{IsPlace}
+use Rattle.gap_bounds.specs.Body.{Body}
+use Rattle.gap_bounds.specs.BodyPlaces.{two_words, no_place_within}
 use Rattle.page_space.proofs.space.Space.serial_at.Goals as goal
 
 pub overflow_cast-result : goal.overflow_cast-result

@@ -1,6 +1,6 @@
 use Rattle.std.proofs.Common.{◌≡◌, ◌∙◌, subst, inl, inr, arith}
 use Rattle.std.proofs.lemmas.Bool.{cases_lt}
-use Rattle.marker_core.specs.Bodies.{IsPlace}
+use Rattle.gap_bounds.specs.Bodies.{IsPlace}
 use Rattle.page_space.proofs.space.Space.start_from.Goals as goal
 
 pub returns-in-Some-clause-none : goal.returns-in-Some-clause-none

@@ -1,9 +1,9 @@
 use Rattle.std.proofs.Common.{◌≡◌, ◌+◌, ◌/◌, ◌%◌, ◌^◌, ap, ◌∙◌, sym, refl, arith}
 use Rattle.page_space.specs.Space.{heap_of}
-use Rattle.page_words.specs.Seat.{Heap}
+use Rattle.gap_bounds.specs.Seat.{Heap}
 use Rattle.std.specs.Int.{trailing_zeros}
 use mir.Syntax.{w64}
-use Rattle.page_words.specs.BodyPlaces.{no_place_beyond}
+use Rattle.gap_bounds.specs.BodyPlaces.{no_place_beyond}
 use Rattle.page_space.specs.Pages.{word_count}
 use Rattle.page_space.proofs.StartBits.{IsBitsAt, IsNextPlace, no_bits, lowest_bit}
 use Rattle.page_space.proofs.space.Space.start_in_block.Goals as goal

@@ -1,6 +1,6 @@
 use Rattle.std.proofs.Common.{◌≡◌, arith}
-use Rattle.marker_core.specs.Bodies.{IsPlace}
-use Rattle.marker_core.specs.declared.states.Body.{Body}
+use Rattle.gap_bounds.specs.Bodies.{IsPlace}
+use Rattle.gap_bounds.specs.Body.{Body}
 use Rattle.page_space.proofs.PlaceBodies.{tells_size}
 use Rattle.page_space.proofs.space.Space.start_of.Goals as goal
 

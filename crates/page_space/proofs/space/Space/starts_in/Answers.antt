@@ -1,9 +1,9 @@
 use Rattle.std.proofs.Common.{◌≡◌, ℕ, ◌+◌, ◌*◌, ◌%◌, refl, ap, ◌∙◌, sym, arith}
 use Rattle.page_space.specs.Space.{heap_of}
 use Rattle.std.specs.Int.{bit_at}
-use Rattle.marker_core.specs.Layout.{bitmap_at}
-use Rattle.page_words.specs.BodyPlaces.{no_place_beyond}
-use Rattle.page_words.specs.Seat.{Heap, IsWordAt}
+use Rattle.gap_bounds.specs.Layout.{bitmap_at}
+use Rattle.gap_bounds.specs.BodyPlaces.{no_place_beyond}
+use Rattle.gap_bounds.specs.Seat.{Heap, IsWordAt}
 use Rattle.page_space.specs.Pages.{word_count}
 use Rattle.page_space.proofs.space.Space.starts_in.Goals as goal
 

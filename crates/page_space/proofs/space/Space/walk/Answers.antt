@@ -1,12 +1,12 @@
 use Rattle.std.proofs.Common.{◌≡◌, ℕ, ◌+◌, ◌*◌, ◌<◌, ◌≤◌, ap, ◌∙◌, inl, inr, arith}
 use Rattle.std.proofs.lemmas.Bool.{cases_lt}
-use Rattle.marker_core.specs.Bodies.{IsPlace, end_of}
-use Rattle.marker_core.specs.declared.states.Body.{Body}
+use Rattle.gap_bounds.specs.Bodies.{IsPlace, end_of}
+use Rattle.gap_bounds.specs.Body.{Body}
 use Rattle.page_space.specs.Space.{HasNoStart, extents_of_bodies}
 use Rattle.gap_bounds.specs.Gaps.{IsGap}
 use Rattle.page_space.proofs.PlaceBodies.{tells_size}
-use Rattle.page_words.specs.Seat.{SeatView, unlooked}
-use Rattle.page_words.specs.BodyPlaces.{two_words}
+use Rattle.gap_bounds.specs.Seat.{SeatView, unlooked}
+use Rattle.gap_bounds.specs.BodyPlaces.{two_words}
 use Rattle.page_space.proofs.Shapes.{shape_words}
 use Rattle.page_space.proofs.WalkSteps.{edge_moves, gap_here, gap_ends}
 use Rattle.page_space.proofs.space.Space.walk.Goals as goal

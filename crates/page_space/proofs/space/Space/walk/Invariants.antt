@@ -1,5 +1,5 @@
 use Rattle.std.proofs.Common.{ℕ, ◌+◌, ◌-◌, ◌*◌, ◌<◌, ◌≤◌}
-use Rattle.page_words.specs.Seat.{OnlyLooked}
+use Rattle.gap_bounds.specs.Seat.{OnlyLooked}
 use Rattle.page_space.specs.Space.{extents_of_bodies}
 use Rattle.gap_bounds.specs.Gaps.{IsGap}
 use Rattle.page_space.specs.Walks.{IsEdge}

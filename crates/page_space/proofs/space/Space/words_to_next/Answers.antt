@@ -1,7 +1,7 @@
 use Rattle.std.proofs.Common.{◌≡◌, ◌+◌, ◌-◌, subst, sym, arith}
 use Rattle.gc_graph.specs.Placement.{IsLowest}
-use Rattle.marker_core.specs.Bodies.{IsPlace}
-use Rattle.page_words.specs.Seat.{IsPlaceFrom}
+use Rattle.gap_bounds.specs.Bodies.{IsPlace}
+use Rattle.gap_bounds.specs.Seat.{IsPlaceFrom}
 use Rattle.page_space.proofs.space.Space.words_to_next.Goals as goal
 
 pub returns-in-Some-clause-found : goal.returns-in-Some-clause-found

@@ -1,8 +1,8 @@
 use Rattle.std.proofs.Common.{◌≡◌, ◌+◌, ◌-◌, ◌≤◌, ◌<◌, List, length, ◌∙◌, refl, ap, sym, subst, arith}
 use Rattle.gc_graph.specs.State.{ObjectType}
-use Rattle.marker_core.specs.Bodies.{IsInBody}
-use Rattle.marker_core.specs.declared.states.Body.{Body}
-use Rattle.page_words.specs.Seat.{SeatView}
+use Rattle.gap_bounds.specs.Bodies.{IsInBody}
+use Rattle.gap_bounds.specs.Body.{Body}
+use Rattle.gap_bounds.specs.Seat.{SeatView}
 use Rattle.page_space.specs.Occupying.{HasNulls, IsNewNumber, least_size, new_body, nulled}
 use Rattle.page_space.proofs.OccupyFilled.{nulls_filled, only_nulled, nulls_inside, occupies_before}
 use Rattle.page_space.proofs.space.Space.write_object.Goals as goal

@@ -1,7 +1,7 @@
 use Rattle.std.proofs.Common.{rules, Vec, Global, ◌≡◌, ℕ, ◌+◌, ◌<◌, ◌%◌, ◌^◌, List, length, ◌∙◌, sym, ap, subst, refl, inl, inr, arith}
 use Rattle.std.specs.List.{Contains}
 use Rattle.std.proofs.lemmas.List.Elements.{Contains-get_or}
-use Rattle.marker_core.specs.Bodies.{IsPlace}
+use Rattle.page_words.specs.MachineBodies.{IsPlace}
 use Rattle.page_words.specs.Seat.{SeatView, IsView, unlooked}
 use Rattle.pair_notes.specs.declared.notes.Note.{Note}
 use Rattle.pair_notes.specs.Notes.{NotesState, IsNote}

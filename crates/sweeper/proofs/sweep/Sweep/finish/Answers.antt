@@ -1,7 +1,7 @@
 use Rattle.std.proofs.Common.{rules, ◌≡◌, ℕ, ◌+◌, ◌-◌, ◌*◌, ◌^◌, ◌<◌, ◌≤◌, refl, length, vec_capacity, subst, sym, ap, ◌∙◌, arith}
 use Rattle.std.proofs.Math.Nat.{mul-le-mul_right}
 use Rattle.gc_graph.specs.State.{Shape}
-use Rattle.page_words.specs.Seat.{unlooked}
+use Rattle.page_space.specs.Seat.{unlooked}
 use Rattle.page_space.specs.Pages.{word_count}
 use Rattle.sweeper.specs.Sweeping.{SweepView, cursor_at, dead_between, swept_in, Sweeps}
 use Rattle.sweeper.proofs.Sweeping.{nothing, sweeps_on, part_dead}
