@@ -20,6 +20,8 @@ mod crews;
 #[cfg(test)]
 mod draining;
 #[cfg(test)]
+mod keys;
+#[cfg(test)]
 mod small_heap;
 #[cfg(test)]
 mod tracing;

@@ -4,7 +4,7 @@
 //! with tests is proved a second time with them.
 //!
 //! The parts, each named for what it tries: `graphs` (`gc_graph`: whether a set holds the roots and
-//! is closed), `types` (`type_table`), `callbacks` (`callback_table`), `keys` (`pair_notes`), `lists`
+//! is closed), `types` (`type_table`), `callbacks` (`callback_table`), `lists`
 //! (`mark_worklist`), `headers` (`object_headers`), `slots` (`persistent_slots`).
 //!
 //! What is proved: that the tests are safe and call only what they may.
@@ -18,8 +18,6 @@ mod callbacks;
 mod graphs;
 #[cfg(test)]
 mod headers;
-#[cfg(test)]
-mod keys;
 #[cfg(test)]
 mod lists;
 #[cfg(test)]
