@@ -1,13 +1,13 @@
 // The mutator lends views to markers, and takes them back.
 
-ghost use Rattle.std.specs.Prelude.{◌≡◌, ◌+◌, ◌++◌, ◌<◌, ◌&&◌, true, OnOk};
+ghost use Rattle.std.specs.Prelude.{◌≡◌, ◌+◌, ◌-◌, ◌++◌, ◌<◌, ◌&&◌, true, OnOk};
 ghost use Rattle.std.specs.Prelude.{slice_set};
 ghost use Rattle.marker_core.specs.Views.{fresh_view, spent_view, view_at};
 ghost use Rattle.marker_core.specs.CycleSteps.{can_split, split, can_join, joined};
 ghost use Rattle.std.specs.Option.{is_none};
 
 use gc_graph::NoMemory;
-use marker_core::{CoreState, List, MarkerView};
+use marker_core::{CoreState, List, MarkerView, MutatorView};
 use std::alloc::Global;
 use std::mem;
 
@@ -76,15 +76,29 @@ fn append<T: Copy + Drop>(list: &mut List<T>, more: &[T]) -> Result<(), NoMemory
     Ok(())
 }
 
+/// What a marker's view found comes to the mutator, which has one view less out.
+fn take_in(mutator: &mut MutatorView, v: &MarkerView) -> Result<(), NoMemory>
+    ensures { OnOk result (mutator.new ≡ record mutator.old {
+      marked = mutator.old.marked ++ v.now.marked;
+      traced = mutator.old.traced ++ v.now.traced;
+      noted = mutator.old.noted ++ v.now.noted;
+      done = mutator.old.done ++ v.now.done;
+      missed = mutator.old.missed ++ v.now.missed;
+      lent = mutator.old.lent - 1;
+    }) }
+{
+    append(&mut mutator.marked, v.marked.as_slice())?;
+    append(&mut mutator.traced, v.traced.as_slice())?;
+    append(&mut mutator.noted, v.noted.as_slice())?;
+    append(&mut mutator.done, v.done.as_slice())?;
+    append(&mut mutator.missed, v.missed.as_slice())?;
+    mutator.lent = mutator.lent.saturating_sub(1);
+    Ok(())
+}
+
 pub fn join(alloc: Global, s: &mut CoreState, marker: u32) -> Result<(), NoMemory>
     ensures { OnOk result (s.new ≡ joined s.old marker) }
 {
     let v = take_view(alloc, &mut s.markers, marker);
-    append(&mut s.mutator.marked, v.marked.as_slice())?;
-    append(&mut s.mutator.traced, v.traced.as_slice())?;
-    append(&mut s.mutator.noted, v.noted.as_slice())?;
-    append(&mut s.mutator.done, v.done.as_slice())?;
-    append(&mut s.mutator.missed, v.missed.as_slice())?;
-    s.mutator.lent = s.mutator.lent.saturating_sub(1);
-    Ok(())
+    take_in(&mut s.mutator, &v)
 }
