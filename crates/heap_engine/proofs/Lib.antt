@@ -1,6 +1,7 @@
 pub mod StackSteps
 pub mod OutcomeLines
 pub mod StepLines
+pub mod LastLines
 pub mod MarksTold
 pub mod Tellings
 pub mod KeptSlots

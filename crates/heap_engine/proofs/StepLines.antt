@@ -30,7 +30,7 @@ use Rattle.heap_cycle.specs.Printed.{Printed, ran_lines, lines_with, TellsNode}
 -- ---- what a command doesn't answer
 
 -- the line tells a finalised node, a prefinalizer, or the start or a step of a cycle
-abbrev TellsOther : Line → Type 0
+abbrev pub TellsOther : Line → Type 0
 TellsOther (L.Finalise k) = ⊤
 TellsOther (L.Prefinalise k c) = ⊤
 TellsOther L.Started = ⊤
@@ -38,28 +38,28 @@ TellsOther (L.Step t done) = ⊤
 TellsOther _ = ⊥
 
 -- all of these but a start
-abbrev TellsNoStart : Line → Type 0
+abbrev pub TellsNoStart : Line → Type 0
 TellsNoStart L.Started = ⊥
 TellsNoStart line = TellsOther line
 
 -- all of these but a step
-abbrev TellsNoStep : Line → Type 0
+abbrev pub TellsNoStep : Line → Type 0
 TellsNoStep (L.Step t done) = ⊥
 TellsNoStep line = TellsOther line
 
 -- the line isn't the one that the command answers: only `gc start` tells a start, and only `gc step` a step
-abbrev IsNoAnswer : Command → Line → Type 0
+abbrev pub IsNoAnswer : Command → Line → Type 0
 IsNoAnswer C.GcStart = TellsNoStart
 IsNoAnswer (C.GcStep n) = TellsNoStep
 IsNoAnswer _ = TellsOther
 
 -- finalised nodes, a line that is none of these, and others
-record HasLine (Other : Line → Type 0) (lines : List Line) : Type 0 where
-  numbers : List ℕ
-  line : Line
-  others : List Line
-  lines_are : lines ≡ finalise_lines numbers ++ line ∷ others
-  plain : Other line → ⊥
+pub record HasLine (Other : Line → Type 0) (lines : List Line) : Type 0 where
+  pub numbers : List ℕ
+  pub line : Line
+  pub others : List Line
+  pub lines_are : lines ≡ finalise_lines numbers ++ line ∷ others
+  pub plain : Other line → ⊥
 
 abbrev HasPlain : List Line → Type 0
 HasPlain lines = HasLine TellsOther lines
@@ -208,7 +208,7 @@ imports old x p piece lines new (inr made) = tells_content (node_of (region_slot
 
 -- ---- every command
 
-step_has : (setup : Setup) (old : State) (command : Command) (piece : List Entry) (lines : List Line) (new : State) → (command ≡ C.ThreadsJoin → ⊥) → Step setup old command piece lines new
+pub step_has : (setup : Setup) (old : State) (command : Command) (piece : List Entry) (lines : List Line) (new : State) → (command ≡ C.ThreadsJoin → ⊥) → Step setup old command piece lines new
     → HasLine (IsNoAnswer command) lines
 step_has setup old (C.New p t e) piece lines new other is = makes setup old p t e lines new is.1
 step_has setup old (C.Set p f q) piece lines new other is = sets old p f (content_of (slot_at old q)) lines new is.1
@@ -250,84 +250,3 @@ step_has setup old (C.At j order) piece lines new other is = elim is.1 [ inl mem
 step_has setup old C.ThreadsGo piece lines new other is =
     elim is.1 [ inl memory ↦ alone L.Memory lines memory.0 (λ node. node) | inr done ↦ alone (L.Going (length (threads_with_orders old))) lines done.0 (λ node. node) ]
 step_has setup old C.ThreadsJoin piece lines new other is = absurd (other refl)
-
--- ---- which line that is
-
-wider_other : (line : Line) → TellsNode line → TellsOther line
-wider_other (L.Finalise k) node = tt
-wider_other (L.Prefinalise k c) node = tt
-wider_other _ node = absurd node
-
-wider_start : (line : Line) → TellsNode line → TellsNoStart line
-wider_start (L.Finalise k) node = tt
-wider_start (L.Prefinalise k c) node = tt
-wider_start _ node = absurd node
-
-wider_step : (line : Line) → TellsNode line → TellsNoStep line
-wider_step (L.Finalise k) node = tt
-wider_step (L.Prefinalise k c) node = tt
-wider_step _ node = absurd node
-
--- no command answers a line that tells a node
-wider : (command : Command) (line : Line) → TellsNode line → IsNoAnswer command line
-wider C.GcStart = wider_start
-wider (C.GcStep n) = wider_step
-wider _ = wider_other
-
-module _ (Other : Line → Type 0) (wide : (line : Line) → TellsNode line → Other line) where
-  -- no prefinalizer's line is another that tells no node
-  among_ran : (numbers : List ℕ) (x : Line) (others : List Line) (runs : Bool) (ran : List (ℕ × ℕ)) → ran_lines runs ran ≡ finalise_lines numbers ++ x ∷ others → (Other x → ⊥) → ⊥
-  among_ran [] x others false ran is plain = cc
-  among_ran [] x others true [] is plain = cc
-  among_ran [] x others true (r ∷ ran) is plain = (let first : L.Prefinalise r.0 r.1 ≡ x = cc in plain (wide x (subst TellsNode first tt)))
-  among_ran (n ∷ numbers) x others false ran is plain = cc
-  among_ran (n ∷ numbers) x others true [] is plain = cc
-  among_ran (n ∷ numbers) x others true (r ∷ ran) is plain = cc
-
-  -- after the finalised nodes comes the line that tells no node
-  first_plain : (told numbers : List ℕ) (last x : Line) (others : List Line) (runs : Bool) (ran : List (ℕ × ℕ))
-      → finalise_lines told ++ last ∷ ran_lines runs ran ≡ finalise_lines numbers ++ x ∷ others → (Other x → ⊥) → Other last → ⊥
-  first_plain [] [] last x others runs ran is plain = (let same : last ≡ x = cc in λ other. plain (subst Other same other))
-  first_plain [] (n ∷ numbers) last x others runs ran is plain =
-      (let rest : ran_lines runs ran ≡ finalise_lines numbers ++ x ∷ others = cc in λ other. among_ran numbers x others runs ran rest plain)
-  first_plain (m ∷ told) [] last x others runs ran is plain = (let same : L.Finalise m ≡ x = cc in λ other. plain (wide x (subst TellsNode same tt)))
-  first_plain (m ∷ told) (n ∷ numbers) last x others runs ran is plain =
-      (let rest : finalise_lines told ++ last ∷ ran_lines runs ran ≡ finalise_lines numbers ++ x ∷ others = cc in
-      first_plain told numbers last x others runs ran rest plain)
-
-answers : (command : Command) → (command ≡ C.GcStart) ⊎ (((n : ℕ) × (command ≡ C.GcStep n)) ⊎ ((line : Line) → TellsOther line → IsNoAnswer command line))
-answers C.GcStart = inl refl
-answers (C.GcStep n) = inr (inl (n, refl))
-answers _ = inr (inr (λ line other. other))
-
-module _
-    (setup : Setup) (old : State) (command : Command) (piece : List Entry) (o : Printed) (ran : List (ℕ × ℕ)) (last : Line) (new : State)
-    (other : command ≡ C.ThreadsJoin → ⊥) (is : Step setup old command piece (lines_with o ran last) new) where
-  last_answers : IsNoAnswer command last → ⊥
-  last_answers =
-      (let has : HasLine (IsNoAnswer command) (lines_with o ran last) = step_has setup old command piece (lines_with o ran last) new other is in
-      first_plain (IsNoAnswer command) (wider command) o.numbers has.numbers last has.line has.others o.prefinalises ran has.lines_are has.plain)
-
-  -- the line of a command's outcome after those of the finalised nodes tells no node
-  pub last_plain : TellsNode last → ⊥
-  last_plain node = last_answers (wider command last node)
-
-  -- only a start tells that a cycle was started
-  pub started_by : last ≡ L.Started → command ≡ C.GcStart
-  started_by told = elim (answers command) [
-    | inl start ↦ start
-    | inr other ↦ elim other [
-      | inl step ↦ absurd (last_answers (subst (IsNoAnswer command) (sym told) (subst (λ (c : Command). IsNoAnswer c L.Started) (sym step.1) tt)))
-      | inr none ↦ absurd (last_answers (none last (subst TellsOther (sym told) tt)))
-    ]
-  ]
-
-  -- and only a step how many objects it traced
-  pub stepped_by : (t : ℕ) (done : Bool) → last ≡ L.Step t done → (n : ℕ) × (command ≡ C.GcStep n)
-  stepped_by t done told = elim (answers command) [
-    | inl start ↦ absurd (last_answers (subst (IsNoAnswer command) (sym told) (subst (λ (c : Command). IsNoAnswer c (L.Step t done)) (sym start) tt)))
-    | inr other ↦ elim other [
-      | inl step ↦ step
-      | inr none ↦ absurd (last_answers (none last (subst TellsOther (sym told) tt)))
-    ]
-  ]

@@ -32,7 +32,7 @@ use Rattle.heap_engine.specs.Ended.{last_line}
 use Rattle.heap_engine.proofs.OutcomeLines.{ended_lines, walk_in_lines}
 use Rattle.heap_engine.proofs.RegionAlone.{made_behind}
 use Rattle.heap_engine.proofs.MarksTold.{all_lent, all_traced, roots_marked, some_run, started_last, stepped_last, still_marking, was_marking}
-use Rattle.heap_engine.proofs.StepLines.{last_plain, started_by, stepped_by}
+use Rattle.heap_engine.proofs.LastLines.{last_plain, started_by, stepped_by}
 use Rattle.heap_engine.proofs.ThreadsTold.{has_begun, none_ahead, totals_after}
 use Rattle.heap_engine.specs.Going.{AreTotalsOf, HasTold}
 use Rattle.heap_engine.proofs.ThreadsKept.{shared_quiet, told_quiet}
