@@ -1,4 +1,4 @@
--- What has to be believed for the headline, in reading order.
+-- What has to be believed for the headline, in reading order; but Shapes and Sections serve contracts alone.
 pub mod Graph
 pub mod Reach
 pub mod State

@@ -1,4 +1,4 @@
--- What has to be believed for the headline, in reading order.
+-- What contracts cite.
 pub mod Scripts
 -- What the crate's own code cites.
 pub mod Past

@@ -1,2 +1,2 @@
--- What has to be believed for the headline, in reading order.
+-- What contracts cite.
 pub mod Pieces

@@ -1,4 +1,4 @@
--- What has to be believed for the headline, in reading order.
+-- What has to be believed, in reading order; but Callbacks and Statuses are of the program around `run`.
 pub mod Callbacks
 pub mod Setting
 pub mod Printed
