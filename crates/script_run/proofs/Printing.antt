@@ -1,6 +1,6 @@
 -- Runs that are printed command by command.
 use Rattle.std.proofs.Common.{◌≡◌, ℕ, suc, ◌+◌, ◌<◌, List, [], ◌∷◌, ◌++◌, length, take, drop, get_or, Bool, false, Option, refl, sym, ap, ◌∙◌, subst, arith}
-use Rattle.std.proofs.lemmas.List.{append-nil, map-append}
+use Rattle.std.proofs.lemmas.List.{append-nil, map-append, drop_all}
 use Rattle.std.proofs.lemmas.Grind.{flat_map-append}
 use Rattle.std.proofs.Math.Seq.{drop-cons}
 use Rattle.gc_graph.specs.declared.command.Command.{Command}
@@ -77,6 +77,10 @@ sections_after commands i d mid heap lines law low are acted =
     subst (λ (awaiting : Bool). AreInSections awaiting (drop (i + 1) commands)) (sym left.awaiting)
     (subst (λ n. AreInSections (awaiting_after mid.state.awaiting (get_or commands i d)) (drop n commands)) next
     (subst (AreInSections mid.state.awaiting) (drop-cons commands i d low) are).1)
+
+-- behind the last command no join is awaited
+pub none_awaited : (commands : List Command) (i : ℕ) (awaiting : Bool) → length commands ≡ i → AreInSections awaiting (drop i commands) → awaiting ≡ false
+none_awaited commands i awaiting end are = subst (AreInSections awaiting) (drop_all i commands (omega arith)) are
 
 -- so they are before the first
 pub sections_none : (commands : List Command) (heap : View) → heap.state ≡ empty_state → AreInSections false commands

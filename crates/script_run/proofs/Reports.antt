@@ -34,9 +34,9 @@ end_of kinds plan script x y old mid end has ended = subst (λ s. IsEndLine s mi
 
 whole_run : (kinds : List ActionKind) (plan : Plan) (script : Script) (w x y z : Option (List ℕ)) (old mid heap : View) (end : Line)
     → Grew w x (lines_bytes (type_lines 0 script.types)) → HasPrinted kinds plan script x y old mid → mid.state.ordinal ≡ length script.commands
-    → IsEndLine mid.setup mid.state end → IsClosed mid heap → Grew y z (line_bytes end)
+    → mid.ahead ≡ [] → IsEndLine mid.setup mid.state end → IsClosed mid heap → Grew y z (line_bytes end)
     → IsWholeRun false kinds plan script w z heap
-whole_run kinds plan script w x y z old mid heap end types has count ended is last =
+whole_run kinds plan script w x y z old mid heap end types has count none ended is last =
     let run = run_of kinds plan script x y old mid has in
     subst (λ (h : View). IsWholeRun false kinds plan script w z h) (sym is) (record {
       outcomes = run.outcomes;
@@ -45,6 +45,7 @@ whole_run kinds plan script w x y z old mid heap end types has count ended is la
       lawful = run.ran.lawful;
       state = run.ran.last;
       taken = refl;
+      ahead = none;
       printed = record {
         end = end;
         counted = subst (λ (s : State). IsEndLine (setup_of kinds plan script.types) s end) run.ran.last (end_of kinds plan script x y old mid end has ended);
@@ -111,9 +112,9 @@ cut_in_end kinds plan script w x y z old mid end types has ended last =
 
 pub told_at_end : {T E : Type 0} (kinds : List ActionKind) (plan : Plan) (script : Script) (w x y z : Option (List ℕ)) (old mid heap : View) (end : Line) (result : Result T E)
     → Grew w x (lines_bytes (type_lines 0 script.types)) → HasPrinted kinds plan script x y old mid → mid.state.ordinal ≡ length script.commands
-    → IsEndLine mid.setup mid.state end → IsClosed mid heap → Writes y z (line_bytes end) result
+    → mid.ahead ≡ [] → IsEndLine mid.setup mid.state end → IsClosed mid heap → Writes y z (line_bytes end) result
     → IsTold false kinds plan script w z heap result
-told_at_end kinds plan script w x y z old mid heap end (Ok u) types has count ended is last =
-    whole_run kinds plan script w x y z old mid heap end types has count ended is last
-told_at_end kinds plan script w x y z old mid heap end (Err e) types has count ended is last =
+told_at_end kinds plan script w x y z old mid heap end (Ok u) types has count none ended is last =
+    whole_run kinds plan script w x y z old mid heap end types has count none ended is last
+told_at_end kinds plan script w x y z old mid heap end (Err e) types has count none ended is last =
     cut_in_end kinds plan script w x y z old mid end types has ended last

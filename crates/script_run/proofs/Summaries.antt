@@ -47,6 +47,7 @@ pub record HasSummed (kinds : List ActionKind) (plan : Plan) (script : Script) (
   pub same : mid.setup ≡ old.setup
   pub ran : HasRunAll old.setup script.commands mid
   pub count : mid.state.ordinal ≡ length script.commands
+  pub ahead : mid.ahead ≡ []
 
 line_of : (mid : View) (outcomes : List Outcome) → mid.state ≡ last_state empty_state outcomes
     → line_bytes (summary_line mid.state) ≡ line_bytes (summary_line (last_state empty_state outcomes))
@@ -68,6 +69,7 @@ told_in_summary kinds plan script y z old mid heap (Ok u) has is written =
       lawful = ran.1.lawful;
       state = ran.1.last;
       taken = refl;
+      ahead = has.ahead;
       printed = line_of mid ran.0 ran.1.last;
       written = written;
       setup = has.same ∙ has.setup;

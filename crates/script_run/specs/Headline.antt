@@ -35,8 +35,8 @@ IsPrinted true setup script outcomes text = text ≡ line_bytes (summary_line (l
 
 -- ---- one script
 
--- a lawful run of the whole script led to this heap, which is closed and has taken the history of that run, and what is printed of
--- the run was written
+-- a lawful run of the whole script led to this heap, which is closed and has taken the history of that run, behind which its region
+-- has no further entry, and what is printed of the run was written
 pub record IsWholeRun (summary : Bool) (kinds : List ActionKind) (plan : Plan) (script : Script) (before after : Option (List ℕ)) (heap : View) : Type 0 where
   pub outcomes : List Outcome
   pub history : List Entry
@@ -44,6 +44,7 @@ pub record IsWholeRun (summary : Bool) (kinds : List ActionKind) (plan : Plan) (
   pub lawful : IsLawful (setup_of kinds plan script.types) script.commands outcomes history
   pub state : heap.state ≡ last_state empty_state outcomes
   pub taken : heap.history ≡ history
+  pub ahead : heap.ahead ≡ []
   pub printed : IsPrinted summary (setup_of kinds plan script.types) script outcomes text
   pub written : Grew before after text
   pub setup : heap.setup ≡ setup_of kinds plan script.types

@@ -95,11 +95,13 @@ fn run_commands<'a, R: Threads, K: Sink, G: Gate + Send + Sync + 'static>(
     requires types { types ≡ length heap.core.setup.types }
     requires start { heap.core.state ≡ empty_state }
     requires fresh { heap.core.history ≡ [] }
+    requires calm { heap.core.ahead ≡ [] }
     requires opened { heap.core.closed ≡ false }
     requires empty { pieces.old ≡ no_pieces }
     ensures answer { RunsScript heap.entry.core.setup.callbacks summary
         (plan_of heap.entry.core.setup) (script_on heap.entry.core.setup commands.now)
         (K.written sink.old) (K.written sink.new) (option_map (λ heap. heap.core) kept.new) result }
+    ensures begun { ¬ (result ≡ Status.NoMemory) }
     ensures fault { result ≡ Status.WriteFault → Rose (K.faults sink.old) (K.faults sink.new) }
     ensures later { K.faults sink.old ≤ K.faults sink.new }
     ensures steady { ¬ (result ≡ Status.WriteFault) → K.faults sink.new ≡ K.faults sink.old }

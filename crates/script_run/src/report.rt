@@ -35,6 +35,7 @@ pub(crate) fn print_run<R: Threads, K: Sink, G: Gate + Send + Sync + 'static>(
     requires types { types ≡ length heap.old.core.setup.types }
     requires start { heap.old.core.state ≡ empty_state }
     requires fresh { heap.old.core.history ≡ [] }
+    requires calm { heap.old.core.ahead ≡ [] }
     requires opened { heap.old.core.closed ≡ false }
     requires empty { pieces.old ≡ no_pieces }
     ensures told { IsTold summary heap.old.core.setup.callbacks (plan_of heap.old.core.setup)
@@ -62,6 +63,7 @@ fn print_report<R: Threads, K: Sink, G: Gate + Send + Sync + 'static>(
     requires types { types ≡ length heap.old.core.setup.types }
     requires start { heap.old.core.state ≡ empty_state }
     requires fresh { heap.old.core.history ≡ [] }
+    requires calm { heap.old.core.ahead ≡ [] }
     requires opened { heap.old.core.closed ≡ false }
     requires empty { pieces.old ≡ no_pieces }
     ensures told { IsTold false heap.old.core.setup.callbacks (plan_of heap.old.core.setup)
@@ -93,6 +95,7 @@ fn print_summary<R: Threads, K: Sink, G: Gate + Send + Sync + 'static>(
         (script_on heap.old.core.setup commands.now) }
     requires start { heap.old.core.state ≡ empty_state }
     requires fresh { heap.old.core.history ≡ [] }
+    requires calm { heap.old.core.ahead ≡ [] }
     requires opened { heap.old.core.closed ≡ false }
     requires empty { pieces.old ≡ no_pieces }
     ensures told { IsTold true heap.old.core.setup.callbacks (plan_of heap.old.core.setup)
@@ -114,6 +117,7 @@ fn do_all<R: Threads, G: Gate + Send + Sync + 'static>(
 )
     requires start { heap.old.core.state ≡ empty_state }
     requires fresh { heap.old.core.history ≡ [] }
+    requires calm { heap.old.core.ahead ≡ [] }
     requires opened { heap.old.core.closed ≡ false }
     requires allowed { All (IsAllowed (length heap.old.core.setup.types)) commands.now }
     requires few { length commands.now ≤ 1000000 }
@@ -121,6 +125,7 @@ fn do_all<R: Threads, G: Gate + Send + Sync + 'static>(
     ensures done { HasRunAll heap.old.core.setup commands.now heap.new.core }
     ensures setup { heap.new.core.setup ≡ heap.old.core.setup }
     ensures count { heap.new.core.state.ordinal ≡ length commands.now }
+    ensures joined { heap.new.core.ahead ≡ [] }
 {
     gc_graph::runs_are_replayed();
     gc_graph::steps_leave_threads();

@@ -31,4 +31,4 @@ returns-clause-told g c =
     taken_on _ _ _ (taken_on _ _ _ c.print_types.ensures.taken c.print_all.ensures.taken) c.print_end.ensures.taken in
     told_at_last false _ _ _ _ _ c.args.pieces.now c.print_end.new.pieces _ c.print_end.result c.requires.empty c.print_end.ensures.empty taken
     (told_at_end c.args.heap.now.core.setup.callbacks (plan_of c.args.heap.now.core.setup) (script_on c.args.heap.now.core.setup c.args.commands.now) _ _ _ _ c.args.heap.now.core c.print_all.new.heap.core _ c.close-end.result c.print_end.result
-    (rw (counted_are_types c.args.heap.now.core.setup.types c.args.types c.requires.types) at c.in-Ok.ensures.bytes) run count c.close-end.ensures.line c.close-end.ensures.closed c.print_end.ensures.bytes)
+    (rw (counted_are_types c.args.heap.now.core.setup.types c.args.types c.requires.types) at c.in-Ok.ensures.bytes) run count c.in-Ok-print_all.ensures.joined c.close-end.ensures.line c.close-end.ensures.closed c.print_end.ensures.bytes)

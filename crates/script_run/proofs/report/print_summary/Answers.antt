@@ -13,7 +13,7 @@ returns-clause-told g c =
     told_at_last true _ _ _ _ _ c.args.pieces.now c.print_end.new.pieces _ c.print_end.result c.requires.empty c.print_end.ensures.empty c.print_end.ensures.taken
     (told_in_summary c.args.heap.now.core.setup.callbacks (plan_of c.args.heap.now.core.setup) (script_on c.args.heap.now.core.setup c.args.commands.now) _ _
     c.args.heap.now.core c.do_all.new.heap.core _ c.print_end.result
-    (record { setup = refl; same = c.do_all.ensures.setup; ran = c.do_all.ensures.done; count = c.do_all.ensures.count })
+    (record { setup = refl; same = c.do_all.ensures.setup; ran = c.do_all.ensures.done; count = c.do_all.ensures.count; ahead = c.do_all.ensures.joined })
     c.close-end.ensures.closed
     (subst (λ (line : Line). Writes (with_held (g.K.Sink.written c.args.sink.now) c.args.pieces.now) (with_held (g.K.Sink.written c.print_end.new.sink) c.print_end.new.pieces) (line_bytes line) c.print_end.result)
     c.summary-line.ensures c.print_end.ensures.bytes))
