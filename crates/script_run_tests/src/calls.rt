@@ -5,8 +5,7 @@ ghost use Rattle.gc_graph.specs.Actions.{action_of};
 
 use callback_table::{Action, ActionKind, Callback, CallbackTable};
 use heap_script::{ListSink, ListSource, NoMemory};
-use script_run::FreeGate;
-use script_run::{Status, run};
+use script_run::{FreeGate, Status, run};
 use std::alloc::Global;
 use std::sync::Arc;
 use std::sync::atomic::{AtomicU64, Ordering};

@@ -2,8 +2,7 @@
 
 use callback_table::CallbackTable;
 use heap_script::{ListSink, ListSource, NoMemory};
-use script_run::Gate;
-use script_run::{Status, run};
+use script_run::{Gate, Status, run};
 use std::alloc::{AllocError, Global};
 use std::str;
 use std::sync::Arc;
