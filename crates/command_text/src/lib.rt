@@ -11,7 +11,7 @@
 //! lowest reason that its words give. `specs/PlainForms.antt` has a lemma for the crates above, which
 //! can't cite a crate's proofs.
 //!
-//! What is only tested or not said: how long a call takes. The tests stand in `heap_script_tests`.
+//! What is only tested or not said: how long a call takes. The tests stand in `run_trials`.
 #![tactic(auto)]
 
 mod command_lines;

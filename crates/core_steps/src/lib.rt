@@ -13,7 +13,7 @@
 //! the first step that isn't allowed; each test and each change is that of the definitions.
 //!
 //! What is only tested or not said: `after` is as fast as tests need it, and answers want of memory
-//! at will. `core_schedules` runs it on schedules that were worked out by hand.
+//! at will. `words_trials` runs it on schedules that were worked out by hand.
 #![tactic(auto)]
 
 mod bodies;

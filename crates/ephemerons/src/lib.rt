@@ -1,12 +1,13 @@
-//! # Ephemeron pairs, and the owner's tracing
+//! # The owner's tracing
 //!
-//! What it is: marking from object to object over the words of a heap. A strong field marks what it
-//! names; a pair marks its value once its key is marked (`include/cppgc/ephemeron-pair.h`).
+//! What it is: marking from object to object over the words of a heap, by its owner. A strong field
+//! marks what it names; a pair marks its value once its key is marked
+//! (`include/cppgc/ephemeron-pair.h`). Below are `page_words`, and `pair_notes` with the notes of
+//! pairs whose key was not marked yet.
 //!
-//! The parts: `Pairs` (notes of pairs whose key was not marked yet, and of objects that may still
-//! have to be traced), `mark` (one object, as a root does it), `claim` and `trace` (one object),
+//! The parts: `mark` (one object, as a root does it), `claim` and `trace` (one object),
 //! `trace_listed` (so many objects of the list), `fixpoint` (all that is marked, until nothing asks
-//! for more). Below is `page_words`.
+//! for more).
 //!
 //! An object is claimed, and traced to its end before the next one is. Meanwhile it is in the step
 //! machine's hand: its strong fields and pairs are read in the order of their offsets, and what a
@@ -24,7 +25,7 @@
 //! that so. What is marked is something that the cycle may keep.
 //!
 //! What is only tested or not said: how long it takes. That tracing can succeed is tested in
-//! `ephemeron_trials`, and that the tree over keys tells all notes of a key in `part_tests`.
+//! `marking_trials`.
 #![tactic(auto)]
 
 mod closing;

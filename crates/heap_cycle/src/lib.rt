@@ -17,9 +17,9 @@
 //! stack and registrations hold the places of their nodes, and the marks are those of the phase. A
 //! start marks what the strong slots name, those of the region too, and starts the heap's markers,
 //! which run until the pause joins them. A step that is done leaves nothing grey unless a push was
-//! refused, or beside markers has found all lists empty. A place for a new object is the one that the
-//! graph's placement says. A pause line tells truly whether the heap was walked, and how many objects
-//! the markers traced.
+//! refused; beside markers the owner's last pop and steal found nothing, or it took 2^32 - 1 items. A
+//! place for a new object is the one that the graph's placement says. A pause line tells truly whether
+//! the heap was walked, and how many objects the markers traced.
 //!
 //! What is only tested or not said: that memory suffices, and how long a command takes.
 #![tactic(auto)]

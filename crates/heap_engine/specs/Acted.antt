@@ -15,7 +15,7 @@ use Rattle.heap_engine.specs.Going.{AreTotalsOf}
 use Rattle.heap_engine.specs.View.{View, going_after}
 
 -- a step that is done: without markers each marked node is traced, unless a push was refused in the cycle; and beside markers the
--- owner found all lists empty at its end, or took so many items that it was ended
+-- owner's last pop and steal found nothing, or it took so many items that it was ended
 pub record IsStepDone (old new : View) : Type 0 where
   pub alone : old.setup.markers ≡ 0 → HasNoRefusedPush new.refusals → IsWithin new.marked new.traced
   pub beside : 0 < old.setup.markers → (new.idle ≡ true) ⊎ (new.taken ≡ old.taken + (2 ^ 32 - 1))

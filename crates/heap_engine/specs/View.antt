@@ -10,7 +10,7 @@ use Rattle.heap_cycle.specs.Refused.{RefusalsTold, none_refused}
 -- what was set up, the state of the graph, whether each node is marked and whether it is traced, the region's history as far as
 -- commands have taken it, the entries that threads made after that, the state just before threads went last, the lines of the last
 -- outcome and the piece of the history that it took, how many pushes and notes were refused until now and until marking began, how
--- many seats are lent to markers, whether the owner found its lists empty last, how many items it took from lists with shares, and
+-- many seats are lent to markers, whether the owner's last pop and steal found nothing, how many items it took from lists with shares, and
 -- whether the heap was closed
 pub record View : Type 0 where
   pub setup : Setup

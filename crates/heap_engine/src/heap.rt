@@ -42,7 +42,8 @@ pub struct Config {
 }
 
 /// A heap, with the callbacks of its program. It belongs to one thread (`include/cppgc/heap.h`), beside
-/// which its markers have threads of their own while marking goes on; all of them pass the gate.
+/// which its markers have threads of their own while marking goes on; all of them pass the gate. It is
+/// closed before it is let go, since a marker whose heap is gone goes on by itself.
 #[derive(Drop)]
 pub struct Heap<'a, G> {
     callbacks: &'a CallbackTable,

@@ -11,7 +11,7 @@
 //! fault names the first line that has one and the lowest reason that it has.
 //!
 //! What is only tested or not said: that memory suffices, and how long a call takes. The tests stand
-//! in `heap_script_tests`.
+//! in `run_trials`.
 #![tactic(auto)]
 
 mod letters;

@@ -31,7 +31,7 @@
 //! their bit and no other, of any word. Place and reference tell each other.
 //!
 //! What is only tested or not said: that the tables are what a reader expects is tested in
-//! `part_tests`, on a few words that were worked out by hand.
+//! `parts_trials`, on a few words that were worked out by hand.
 #![tactic(auto)]
 
 mod bits;

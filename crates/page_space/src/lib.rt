@@ -28,7 +28,7 @@
 //! has it.
 //!
 //! What is only tested or not said: that `Space::new` succeeds where there is memory, and what is
-//! found in heaps of a few pages, is tested in `page_trials`. How long a search takes is not said;
+//! found in heaps of a few pages, is tested in `words_trials`. How long a search takes is not said;
 //! `bench` measures it.
 #![tactic(auto)]
 

@@ -23,7 +23,7 @@
 //! true of every state (`IsCore`). No call waits.
 //!
 //! What is only tested or not said: that `Words::new` succeeds where there is memory, and where the
-//! stop word is, is tested in `page_trials`. A word that belongs to no object and was not filled may
+//! stop word is, is tested in `words_trials`. A word that belongs to no object and was not filled may
 //! be anything. Nothing is said of when a marker comes to its end.
 #![tactic(auto)]
 

@@ -12,7 +12,7 @@
 //! under the key, and to bring notes into it changes nothing but what was looked at.
 //!
 //! What is only tested or not said: that the index tells all notes of a key, and no other after the
-//! first. It is a hint: whoever asks looks at each note again.
+//! first, is tested in `marking_trials`. It is a hint: whoever asks looks at each note again.
 #![tactic(auto)]
 
 mod index;

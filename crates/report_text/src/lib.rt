@@ -9,7 +9,7 @@
 //! it was written, and of text that is held back the rest is still held.
 //!
 //! What is only tested or not said: that memory suffices, and where one piece ends and the next
-//! begins. The tests stand in `heap_script_tests`.
+//! begins. The tests stand in `run_trials`.
 #![tactic(auto)]
 
 mod line_text;

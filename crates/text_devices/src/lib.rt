@@ -11,7 +11,7 @@
 //! stood. A device in memory fails at the listed calls, and where its room ends, and nowhere else.
 //!
 //! What is only tested or not said: that memory suffices, and where one piece ends and the next
-//! begins. The tests stand in `heap_script_tests`.
+//! begins. The tests stand in `run_trials`.
 #![tactic(auto)]
 
 mod devices;
