@@ -1,9 +1,8 @@
 // Runs beside 1 to 8 markers, whom a gate holds for drawn times, as it holds the owner.
 
 use super::drawn::Drawn;
-use super::gated::{text_of, words_of, writes_one_of, written_by};
 use super::lawful::{Trial, is_lawful};
-use heap_script::NoMemory;
+use super::runs::{STEADY, run_of, writes_one_of};
 use std::alloc::Global;
 use std::sync::Arc;
 use std::thread;
@@ -12,7 +11,17 @@ use std::thread::Threads;
 /// So many runs of each script, with 1 to 8 markers in turn.
 const RUNS: u32 = 200;
 
-const MARKERS: &str = "1 2 3 4 5 6 7 8";
+/// The words of the runs in turn.
+const WORDS: &str = "\
+--pages 4 --page-words 256 --markers 1
+--pages 4 --page-words 256 --markers 2
+--pages 4 --page-words 256 --markers 3
+--pages 4 --page-words 256 --markers 4
+--pages 4 --page-words 256 --markers 5
+--pages 4 --page-words 256 --markers 6
+--pages 4 --page-words 256 --markers 7
+--pages 4 --page-words 256 --markers 8
+";
 
 /// Node 0 has 1, and 1 has 2. Beside the markers 0 gets the new node 4 too, and loses 1. Nothing has
 /// node 3.
@@ -108,25 +117,35 @@ end objects 2 used 6 pages 1
 ";
 
 /// Whether the run of this seed is done, and its report is lawful.
-fn is_right<R: Threads>(
+fn is_right<R: Threads>(rt: &R, alloc: Global, words: &str, seed: u32, trial: &Trial) -> bool {
+    match Arc::new(alloc, Drawn::new(u64::from(seed))) {
+        Ok(gate) => is_lawful_behind(rt, alloc, words, trial, &gate),
+        Err(_) => false,
+    }
+}
+
+fn is_lawful_behind<R: Threads>(
     rt: &R,
     alloc: Global,
-    markers: &str,
-    seed: u32,
+    words: &str,
     trial: &Trial,
-) -> Result<bool, NoMemory> {
-    let gate = Arc::new(alloc, Drawn::new(u64::from(seed)))?;
-    let mut words = words_of(alloc, "--pages 4 --page-words 256 --markers")?;
-    words.push(String::from_str(alloc, markers)?)?;
-    let written = written_by(rt, alloc, &words, trial.script.as_bytes(), &gate, 10_000)?;
-    Ok(is_lawful(trial, text_of(&written)))
+    gate: &Arc<Drawn>,
+) -> bool {
+    match run_of(alloc, words, trial.script.as_bytes(), STEADY) {
+        Ok(mut run) => is_lawful(trial, run.report_behind(rt, alloc, gate)),
+        Err(_) => false,
+    }
+}
+
+/// The words of the run of this seed.
+fn words_at(seed: u32) -> &'static str {
+    WORDS.lines().nth((seed % 8) as usize).unwrap_or("")
 }
 
 /// The first seed whose run isn't as it has to be.
 fn first_wrong<R: Threads>(rt: &R, alloc: Global, trial: &Trial) -> Option<u32> {
     for seed in 0..RUNS {
-        let markers = MARKERS.split(' ').nth((seed % 8) as usize).unwrap_or("");
-        if !is_right(rt, alloc, markers, seed, trial).unwrap_or(false) {
+        if !is_right(rt, alloc, words_at(seed), seed, trial) {
             return Some(seed);
         }
     }
@@ -161,11 +180,12 @@ fn weak_handles_read_beside_markers_are_lawful(rt: HostRuntime) {
 /// The first seed of which two runs at once, on threads of their own and with two markers each, aren't
 /// both as they have to be.
 fn first_wrong_of_two<R: Threads + Sync>(rt: &R, alloc: Global) -> Option<u32> {
+    let words = words_at(1);
     for seed in 0..RUNS {
         let (one, other) = thread::join(
             rt,
-            || is_right(rt, alloc, "2", seed, &BRANCHES).unwrap_or(false),
-            || is_right(rt, alloc, "2", seed, &PAIRED).unwrap_or(false),
+            || is_right(rt, alloc, words, seed, &BRANCHES),
+            || is_right(rt, alloc, words, seed, &PAIRED),
         );
         if !(one && other) {
             return Some(seed);
@@ -179,16 +199,25 @@ fn two_heaps_have_markers_at_once(rt: HostRuntime) {
     assert_eq!(rt; first_wrong_of_two(&rt, rt.alloc()), None);
 }
 
-/// Whether the script that ends beside markers has its report.
-fn ends_well<R: Threads>(rt: &R, alloc: Global, words: &str, seed: u64) -> Result<bool, NoMemory> {
-    let gate = Arc::new(alloc, Drawn::new(seed))?;
-    writes_one_of(rt, alloc, words, UNFINISHED, &gate, UNFINISHED_REPORT)
+/// Whether the script that ends beside four markers has its report.
+fn ends_well<R: Threads>(rt: &R, alloc: Global, seed: u32) -> bool {
+    match Arc::new(alloc, Drawn::new(u64::from(seed))) {
+        Ok(gate) => writes_one_of(rt, alloc, words_at(3), UNFINISHED, &gate, UNFINISHED_REPORT),
+        Err(_) => false,
+    }
+}
+
+/// The first seed whose run of that script has another one.
+fn first_wrong_end<R: Threads>(rt: &R, alloc: Global) -> Option<u32> {
+    for seed in 0..RUNS {
+        if !ends_well(rt, alloc, seed) {
+            return Some(seed);
+        }
+    }
+    None
 }
 
 #[test]
 fn script_ends_while_markers_are_at_work(rt: HostRuntime) {
-    for seed in 0..RUNS {
-        let words = "--pages 4 --page-words 256 --markers 4";
-        assert!(rt; ends_well(&rt, rt.alloc(), words, u64::from(seed)).unwrap_or(false));
-    }
+    assert_eq!(rt; first_wrong_end(&rt, rt.alloc()), None);
 }

@@ -1,6 +1,6 @@
 // The first fault of a script, by hand from the grammar.
 
-use super::cases::first_wrong;
+use super::fault_cases::first_wrong;
 
 // Whole scripts. The first line is the header; the last line may be cut off; types come before
 // commands; letters, callbacks, bytes and lines have limits, and long words are read whole.

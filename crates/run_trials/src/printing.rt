@@ -1,9 +1,9 @@
 // The text of each line of a report, by hand from the report's forms.
 
-use super::devices::sink_with;
+use super::held_text::{Printer, printer_with};
 use gc_graph::{Entry, Line, Op, Refusal, Reply};
-use heap_script::{ListSink, Pieces, print_line};
-use std::test::Fail;
+use heap_script::{ListSink, print_line};
+use std::alloc::Global;
 
 const TEXTS: &str = "\
 type 0
@@ -145,15 +145,27 @@ fn entry(thread: u32, op: Op, reply: Reply) -> Line {
     Line::Entry(Entry { thread, op, reply })
 }
 
-/// Whether the line comes out as wanted, with its end, where it is held back and where it is written
-/// at once.
-fn is_printed(line: &Line, pieces: &mut Pieces, sink: &mut ListSink, wanted: &str) -> bool {
-    let start = sink.bytes().len();
-    pieces.print(line, sink).is_ok()
-        && sink.bytes().len() == start
-        && pieces.hand_down(sink).is_ok()
-        && has_taken(sink, start, wanted)
-        && is_written(line, sink, wanted)
+impl Printer {
+    /// Whether the line comes out as wanted, with its end, where it is held back and where it is
+    /// written at once.
+    fn prints(&mut self, line: &Line, wanted: &str) -> bool {
+        let start = self.sink.bytes().len();
+        self.pieces.print(line, &mut self.sink).is_ok()
+            && self.sink.bytes().len() == start
+            && self.pieces.hand_down(&mut self.sink).is_ok()
+            && has_taken(&self.sink, start, wanted)
+            && is_written(line, &mut self.sink, wanted)
+    }
+
+    /// The place of the first line that comes out otherwise.
+    fn first_wrong(&mut self) -> Option<u32> {
+        for (wanted, place) in TEXTS.lines().zip(0u32..) {
+            if !self.prints(&line_at(place), wanted) {
+                return Some(place);
+            }
+        }
+        None
+    }
 }
 
 fn is_written(line: &Line, sink: &mut ListSink, wanted: &str) -> bool {
@@ -167,20 +179,14 @@ fn has_taken(sink: &ListSink, start: usize, wanted: &str) -> bool {
     taken.strip_suffix(b"\n") == Some(wanted.as_bytes())
 }
 
-/// The place of the first line that comes out otherwise.
-fn first_wrong(pieces: &mut Pieces, sink: &mut ListSink) -> Option<u32> {
-    for (wanted, place) in TEXTS.lines().zip(0u32..) {
-        if !is_printed(&line_at(place), pieces, sink, wanted) {
-            return Some(place);
-        }
+fn first_wrong(alloc: Global) -> Option<u32> {
+    match printer_with(alloc, 5, 0, 4000) {
+        Ok(mut printer) => printer.first_wrong(),
+        Err(_) => Some(u32::MAX),
     }
-    None
 }
 
 #[test]
-fn report_lines_are_printed(rt: HostRuntime) -> Result<(), Fail> {
-    let mut sink = sink_with(rt.alloc(), 5, 0, 4000)?;
-    let mut pieces = Pieces::new(rt.alloc())?;
-    assert_eq!(rt; first_wrong(&mut pieces, &mut sink), None);
-    Ok(())
+fn report_lines_are_printed(rt: HostRuntime) {
+    assert_eq!(rt; first_wrong(rt.alloc()), None);
 }

@@ -1,9 +1,8 @@
 // Markers that a gate holds once, at a point at which what they have read may change.
 
-use super::gated::{text_of, words_of, written_by};
 use super::lawful::line_of;
 use super::rows::number_at;
-use heap_script::NoMemory;
+use super::runs::{STEADY, run_of};
 use script_run::Gate;
 use std::alloc::Global;
 use std::sync::Arc;
@@ -109,16 +108,18 @@ fn is_lawful(held: &Held, report: &str) -> bool {
 }
 
 /// Whether the run behind the gate is done, and its report lawful.
-fn is_right<R: Threads>(
-    rt: &R,
-    alloc: Global,
-    held: &Held,
-    gate: HeldOnce,
-) -> Result<bool, NoMemory> {
-    let gate = Arc::new(alloc, gate)?;
-    let words = words_of(alloc, held.words)?;
-    let written = written_by(rt, alloc, &words, held.script, &gate, 10_000)?;
-    Ok(is_lawful(held, text_of(&written)))
+fn is_right<R: Threads>(rt: &R, alloc: Global, held: &Held, gate: HeldOnce) -> bool {
+    match Arc::new(alloc, gate) {
+        Ok(gate) => is_lawful_behind(rt, alloc, held, &gate),
+        Err(_) => false,
+    }
+}
+
+fn is_lawful_behind<R: Threads>(rt: &R, alloc: Global, held: &Held, gate: &Arc<HeldOnce>) -> bool {
+    match run_of(alloc, held.words, held.script, STEADY) {
+        Ok(mut run) => is_lawful(held, run.report_behind(rt, alloc, gate)),
+        Err(_) => false,
+    }
 }
 
 #[test]
@@ -135,7 +136,7 @@ fn node_moved_beside_a_held_marker_is_kept(rt: HostRuntime) {
         },
         11,
     );
-    assert!(rt; is_right(&rt, rt.alloc(), &MOVED, gate).unwrap_or(false));
+    assert!(rt; is_right(&rt, rt.alloc(), &MOVED, gate));
 }
 
 #[test]
@@ -151,5 +152,5 @@ fn value_read_beside_a_held_marker_is_kept(rt: HostRuntime) {
         },
         1,
     );
-    assert!(rt; is_right(&rt, rt.alloc(), &READ, gate).unwrap_or(false));
+    assert!(rt; is_right(&rt, rt.alloc(), &READ, gate));
 }

@@ -17,27 +17,25 @@ pub(crate) fn first_wrong(alloc: Global, before: &str, table: &str) -> Option<u3
 }
 
 fn is_right(alloc: Global, before: &str, case: &str) -> bool {
+    let mut script = Vec::new(alloc);
     match case.rsplit_once('|') {
-        Some((parts, wanted)) => match script_of(alloc, before, parts) {
-            Ok(script) => has_fault(alloc, &script, wanted),
-            Err(_) => false,
-        },
+        Some((parts, wanted)) => {
+            add_script(&mut script, before, parts).is_ok() && has_fault(alloc, &script, wanted)
+        }
         None => false,
     }
 }
 
-fn script_of(alloc: Global, before: &str, parts: &str) -> Result<Vec<u8>, AllocError> {
-    let mut script = Vec::new(alloc);
+fn add_script(script: &mut Vec<u8>, before: &str, parts: &str) -> Result<(), AllocError> {
     let mut parts = parts.split('|');
-    add_lines(&mut script, before)?;
-    add_lines(&mut script, parts.next().unwrap_or(""))?;
+    add_lines(script, before)?;
+    add_lines(script, parts.next().unwrap_or(""))?;
     let piece = parts.next().unwrap_or("");
     let count = parts.next().unwrap_or("").as_bytes();
     for _turn in 0..number_below(16_777_216, count).unwrap_or(0) {
-        add_lines(&mut script, piece)?;
+        add_lines(script, piece)?;
     }
-    add_lines(&mut script, parts.next().unwrap_or(""))?;
-    Ok(script)
+    add_lines(script, parts.next().unwrap_or(""))
 }
 
 fn add_lines(script: &mut Vec<u8>, text: &str) -> Result<(), AllocError> {

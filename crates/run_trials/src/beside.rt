@@ -1,13 +1,11 @@
 // Markers beside the owner: a schedule that a gate makes, and runs in which they take turns as they come.
 
-use super::gated::{text_of, words_of, writes_one_of, written_by};
 use super::lawful::count_of;
-use heap_script::NoMemory;
+use super::runs::{STEADY, run_of, writes_one_of};
 use script_run::{FreeGate, Gate};
 use std::alloc::Global;
 use std::sync::Arc;
 use std::sync::atomic::{AtomicU64, Ordering};
-use std::test::Fail;
 use std::thread;
 use std::thread::Threads;
 
@@ -140,76 +138,72 @@ impl HeldInTurn {
 }
 
 /// Whether the turns were kept, and the run wrote one of the reports.
-fn is_held_in_turn<R: Threads>(
-    rt: &R,
-    alloc: Global,
-    script: &[u8],
-    reports: &str,
-) -> Result<bool, NoMemory> {
-    let gate = Arc::new(
-        alloc,
-        HeldInTurn {
-            begun: AtomicU64::new(0),
-            answered: AtomicU64::new(0),
-            traced: AtomicU64::new(0),
-            given_up: AtomicU64::new(0),
-        },
-    )?;
-    let words = "--pages 4 --page-words 256 --markers 1";
-    let right = writes_one_of(rt, alloc, words, script, &gate, reports)?;
-    Ok(right && gate.given_up.load(Ordering::SeqCst) == 0)
-}
-
-/// Whether a run in which nobody is held has written one of the reports.
-fn is_right<R: Threads>(
-    rt: &R,
-    alloc: Global,
-    words: &str,
-    script: &[u8],
-    reports: &str,
-) -> Result<bool, NoMemory> {
-    let gate = Arc::new(alloc, FreeGate)?;
-    writes_one_of(rt, alloc, words, script, &gate, reports)
+fn is_held_in_turn<R: Threads>(rt: &R, alloc: Global, script: &[u8], reports: &str) -> bool {
+    let gate = HeldInTurn {
+        begun: AtomicU64::new(0),
+        answered: AtomicU64::new(0),
+        traced: AtomicU64::new(0),
+        given_up: AtomicU64::new(0),
+    };
+    match Arc::new(alloc, gate) {
+        Ok(gate) => {
+            let words = "--pages 4 --page-words 256 --markers 1";
+            writes_one_of(rt, alloc, words, script, &gate, reports)
+                && gate.given_up.load(Ordering::SeqCst) == 0
+        }
+        Err(_) => false,
+    }
 }
 
 #[test]
 fn marker_traces_while_the_owner_goes_on(rt: HostRuntime) {
-    let right = is_held_in_turn(&rt, rt.alloc(), WRITTEN_WHILE_MARKING, WRITTEN_REPORTS);
-    assert!(rt; right.unwrap_or(false));
+    assert!(rt; is_held_in_turn(&rt, rt.alloc(), WRITTEN_WHILE_MARKING, WRITTEN_REPORTS));
 }
 
 #[test]
 fn script_may_end_before_the_marker_has_claimed(rt: HostRuntime) {
-    let right = is_held_in_turn(&rt, rt.alloc(), ENDED_WHILE_MARKING, ENDED_REPORT);
-    assert!(rt; right.unwrap_or(false));
+    assert!(rt; is_held_in_turn(&rt, rt.alloc(), ENDED_WHILE_MARKING, ENDED_REPORT));
+}
+
+/// Whether a run in which nobody is held has written one of the reports.
+fn is_right<R: Threads>(rt: &R, alloc: Global, words: &str, script: &[u8], reports: &str) -> bool {
+    match Arc::new(alloc, FreeGate) {
+        Ok(gate) => writes_one_of(rt, alloc, words, script, &gate, reports),
+        Err(_) => false,
+    }
 }
 
 #[test]
 fn weak_read_beside_two_markers_is_lawful(rt: HostRuntime) {
     let words = "--pages 4 --page-words 256 --markers 2";
-    let right = is_right(&rt, rt.alloc(), words, READ_WEAKLY, READ_REPORTS);
-    assert!(rt; right.unwrap_or(false));
-}
-
-/// How many of the pauses of the generated script tell that nobody walked, of how many pauses.
-fn pauses_without_a_walk<R: Threads>(rt: &R, alloc: Global) -> Result<(u32, u32), NoMemory> {
-    let gate = Arc::new(alloc, FreeGate)?;
-    let words = words_of(alloc, "--generate 1 --count 2000 --markers 4")?;
-    let written = written_by(rt, alloc, &words, b"", &gate, 1_000_000)?;
-    let report = text_of(&written);
-    let still = count_of(report, "pause ", " walked 0");
-    Ok((still, count_of(report, "pause ", "")))
-}
-
-#[test]
-fn no_pause_walks_beside_four_markers(rt: HostRuntime) {
-    let pauses = pauses_without_a_walk(&rt, rt.alloc()).unwrap_or((0, 0));
-    assert_eq!(rt; pauses, (19, 19));
+    assert!(rt; is_right(&rt, rt.alloc(), words, READ_WEAKLY, READ_REPORTS));
 }
 
 #[test]
 fn summary_is_the_same_whatever_four_markers_do(rt: HostRuntime) {
     let words = "--generate 1 --count 2000 --summary --markers 4";
-    let right = is_right(&rt, rt.alloc(), words, b"", GENERATED);
-    assert!(rt; right.unwrap_or(false));
+    assert!(rt; is_right(&rt, rt.alloc(), words, b"", GENERATED));
+}
+
+/// Whether the generated script has 19 pauses, and each tells that nobody walked.
+fn has_no_walk<R: Threads>(rt: &R, alloc: Global, gate: &Arc<FreeGate>) -> bool {
+    match run_of(alloc, "--generate 1 --count 2000 --markers 4", b"", STEADY) {
+        Ok(mut run) => {
+            let report = run.report_behind(rt, alloc, gate);
+            count_of(report, "pause ", "") == 19 && count_of(report, "pause ", " walked 0") == 19
+        }
+        Err(_) => false,
+    }
+}
+
+fn pauses_walk_nowhere<R: Threads>(rt: &R, alloc: Global) -> bool {
+    match Arc::new(alloc, FreeGate) {
+        Ok(gate) => has_no_walk(rt, alloc, &gate),
+        Err(_) => false,
+    }
+}
+
+#[test]
+fn no_pause_walks_beside_four_markers(rt: HostRuntime) {
+    assert!(rt; pauses_walk_nowhere(&rt, rt.alloc()));
 }

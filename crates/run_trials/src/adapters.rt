@@ -2,7 +2,7 @@
 // or take nothing. The adapters tell no bytes, so these tests alone show which bytes they pass on.
 
 use super::rows::{number_at, status_at};
-use super::trial::{REPORT, SCRIPT, written_of};
+use super::runs::{PLAIN, is_start};
 use script_run::{Status, StdinSource, StdoutSink, run_program};
 use std::alloc::Global;
 use std::io;
@@ -82,35 +82,35 @@ const STREAMS: &str = "\
 /// Whether the script's run ends as the row says. `bad_read` takes the place of a reader's call that
 /// the row names.
 fn is_right<R: Threads>(rt: &R, alloc: Global, row: &str, bad_read: u32) -> bool {
-    let source = StdinSource::over(Trickle {
-        bytes: SCRIPT,
+    let mut reader = Trickle {
+        bytes: PLAIN.script,
         at: 0,
         most: number_at(row, 0) as usize,
         bad: bad_read,
         calls: 0,
-    });
-    let mut sink = Drip {
+    };
+    let mut writer = Drip {
         taken: Vec::new(alloc),
         most: number_at(row, 2) as usize,
         bad: number_at(row, 3),
         idle: number_at(row, 4),
         calls: 0,
     };
-    let status = status_over(rt, alloc, source, &mut sink);
-    status == status_at(row, 5)
-        && written_of(&sink.taken, REPORT) == Some(number_at(row, 6) as usize)
+    ends_so(rt, alloc, &mut reader, &mut writer, status_at(row, 5))
+        && is_start(&writer.taken, PLAIN.report, number_at(row, 6) as usize)
 }
 
-fn status_over<R: Threads>(
+fn ends_so<R: Threads>(
     rt: &R,
     alloc: Global,
-    source: StdinSource<Trickle<'_>>,
-    sink: &mut Drip,
-) -> Status {
-    let mut source = source;
-    match run_program(rt, alloc, &[], &mut source, &mut StdoutSink::over(sink)) {
-        Ok(ran) => ran.status,
-        Err(_) => Status::NoMemory,
+    reader: &mut Trickle<'_>,
+    writer: &mut Drip,
+    status: Status,
+) -> bool {
+    let mut source = StdinSource::over(reader);
+    match run_program(rt, alloc, &[], &mut source, &mut StdoutSink::over(writer)) {
+        Ok(ran) => ran.status == status,
+        Err(_) => false,
     }
 }
 

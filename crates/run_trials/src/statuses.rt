@@ -30,10 +30,13 @@ fn status_at(place: u32) -> Status {
 
 fn is_right(alloc: Global, status: Status, exit_status: &str, message: &str) -> bool {
     let mut errors = Vec::new(alloc);
-    let ending = end(status, &mut errors);
+    is_told(&mut errors, status, exit_status) && is_text(&errors, message)
+}
+
+fn is_told(errors: &mut Vec<u8>, status: Status, exit_status: &str) -> bool {
+    let ending = end(status, errors);
     ending.told.is_ok()
         && number_below(256, exit_status.as_bytes()) == Some(u32::from(ending.exit_status))
-        && is_text(&errors, message)
 }
 
 fn is_text(bytes: &[u8], wanted: &str) -> bool {

@@ -1,7 +1,7 @@
 // Input at the limits, and one past them: 16,777,216 bytes and 1,000,000 lines.
 
 use super::rows::{number_at, status_at};
-use super::trial::{STEADY, expected, outcome_of};
+use super::runs::{Case, STEADY, comes_out};
 use std::alloc::{AllocError, Global};
 use std::thread::Threads;
 
@@ -14,29 +14,28 @@ const PADDED: &str = "\
 ";
 
 // The header and so many bytes more.
-fn padded(alloc: Global, byte: u8, more: u32) -> Result<Vec<u8>, AllocError> {
-    let mut script = Vec::from_slice(alloc, b"oilpan 1\n")?;
+fn add_padded(script: &mut Vec<u8>, byte: u8, more: u32) -> Result<(), AllocError> {
+    script.extend_from_slice(b"oilpan 1\n")?;
     for _turn in 0..more {
         script.push(byte)?;
     }
-    Ok(script)
+    Ok(())
 }
 
 fn is_right<R: Threads>(rt: &R, alloc: Global, row: &str) -> bool {
     let byte = if number_at(row, 0) == 10 { b'\n' } else { b' ' };
-    let wanted = expected(status_at(row, 2), number_at(row, 3) as usize);
-    match padded(alloc, byte, number_at(row, 1)) {
-        Ok(script) => {
-            outcome_of(
-                rt,
-                alloc,
-                &script,
-                b"end objects 0 used 0 pages 0\n",
-                STEADY,
-            ) == wanted
-        }
-        Err(_) => false,
-    }
+    let mut script = Vec::new(alloc);
+    add_padded(&mut script, byte, number_at(row, 1)).is_ok() && ends_so(rt, alloc, &script, row)
+}
+
+fn ends_so<R: Threads>(rt: &R, alloc: Global, script: &[u8], row: &str) -> bool {
+    let case = Case {
+        words: "",
+        script,
+        report: b"end objects 0 used 0 pages 0\n",
+    };
+    let written = number_at(row, 3) as usize;
+    comes_out(rt, alloc, case, STEADY, status_at(row, 2), written)
 }
 
 /// The number of the first row of which something else comes, counted from 1.

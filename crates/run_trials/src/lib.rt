@@ -1,0 +1,43 @@
+//! # Trials of scripts, reports and runs
+//!
+//! What it is: the tests of `script_run`, of `heap_script` and of the crates of text below it that no
+//! file of a case can hold, and nothing else. They stand in a crate of their own, so that no other
+//! crate waits for them.
+#![tactic(auto)]
+
+#[cfg(test)]
+mod adapters;
+#[cfg(test)]
+mod beside;
+#[cfg(test)]
+mod callback_calls;
+#[cfg(test)]
+mod drawn;
+#[cfg(test)]
+mod failing_devices;
+#[cfg(test)]
+mod fault_cases;
+#[cfg(test)]
+mod faults;
+#[cfg(test)]
+mod held;
+#[cfg(test)]
+mod held_text;
+#[cfg(test)]
+mod lawful;
+#[cfg(test)]
+mod limits;
+#[cfg(test)]
+mod pieces;
+#[cfg(test)]
+mod printing;
+#[cfg(test)]
+mod reading;
+#[cfg(test)]
+mod rows;
+#[cfg(test)]
+mod runs;
+#[cfg(test)]
+mod schedules;
+#[cfg(test)]
+mod statuses;
