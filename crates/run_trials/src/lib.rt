@@ -3,6 +3,15 @@
 //! What it is: the tests of `script_run`, of `heap_script` and of the crates of text below it that no
 //! file of a case can hold, and nothing else. They stand in a crate of their own, so that no other
 //! crate waits for them.
+//!
+//! The parts, each named for what it tries. Of text: `held_text`, `adapters`, `reading`, `printing`,
+//! `pieces`, `faults` with `fault_cases`. Of runs: `runs`, `statuses`, `limits`, `callback_calls`,
+//! `failing_devices`. Of markers: `held`, `schedules` with the gate `drawn`, and `beside`; `lawful` says
+//! what a report beside markers may say. `rows` reads the tables of the others.
+//!
+//! What is proved: that the tests are safe and call only what they may.
+//!
+//! What is only tested or not said: each expected value was worked out by hand.
 #![tactic(auto)]
 
 #[cfg(test)]
