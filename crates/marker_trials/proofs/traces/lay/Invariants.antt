@@ -1,5 +1,0 @@
-use Rattle.marker_trials.specs.Objects.{holder_at}
-use Rattle.marker_trials.proofs.traces.lay.Given as goal
-
-abbrev pub ghost-publish : goal.ghost-publish
-ghost-publish a = holder_at a.a

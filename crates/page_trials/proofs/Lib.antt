@@ -1,3 +1,0 @@
-pub mod NoFields
-pub mod AgedHeaps
-pub mod EndSteps

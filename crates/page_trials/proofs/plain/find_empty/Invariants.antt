@@ -1,5 +1,0 @@
-use Rattle.page_words.specs.Seat.{OnlyLooked}
-use Rattle.page_trials.proofs.plain.find_empty.Given as goal
-
-abbrev pub invariant-loop-page : goal.invariant-loop-page
-invariant-loop-page l = OnlyLooked l.fn.seat l.seat

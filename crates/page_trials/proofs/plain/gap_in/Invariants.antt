@@ -1,5 +1,0 @@
-use Rattle.page_words.specs.Seat.{OnlyLooked}
-use Rattle.page_trials.proofs.plain.gap_in.Given as goal
-
-abbrev pub invariant-loop-a : goal.invariant-loop-a
-invariant-loop-a l = OnlyLooked l.fn.seat l.seat

@@ -1,0 +1,220 @@
+// What the threads of a script are answered.
+
+ghost use Rattle.std.specs.Prelude.{◌≡◌, IfOk, OnOk, false, true};
+ghost use Rattle.thread_queues.specs.Going.{HasSeenAll};
+
+use cross_thread_region::{Pass, Region};
+use gc_graph::{Entry, Line, NoMemory, Op, Order, Reply};
+use std::alloc::Global;
+use thread_queues::{ThreadQueues, Totals};
+
+const EARLY: Totals = Totals {
+    ordinal: 12,
+    objects: 3,
+    used: 9,
+    finalised: 2,
+};
+
+const LATE: Totals = Totals {
+    ordinal: 20,
+    objects: 1,
+    used: 4,
+    finalised: 4,
+};
+
+/// What all threads are answered: thread 1 has two orders, and each other one.
+const ALL: &str = "\
+1 done
+1 done
+2 done
+3 node 3
+4 done
+5 totals 12 3 9 2
+6 null
+7 done
+8 node 3
+";
+
+/// A region whose slot 0 is strong for node 3, with its first pass, and queues without orders.
+fn made(alloc: Global) -> Result<(Region, Pass, ThreadQueues), NoMemory>
+    ensures pass { IfOk result (λ made. HasSeenAll made.0 made.1 0) }
+    ensures joined { IfOk result (λ made. made.2.awaiting ≡ false) }
+{
+    let (mut region, mut pass) = Region::new(alloc, 32)?;
+    region.export(&mut pass, 0, 3, 30);
+    let queues = ThreadQueues::new(alloc)?;
+    Ok((region, pass, queues))
+}
+
+/// Each thread has an order, and thread 1 has another one before the others begin.
+fn queue_for_all(queues: &mut ThreadQueues) -> Result<(), NoMemory>
+    requires { queues.old.awaiting ≡ false }
+    ensures { OnOk result (queues.new.awaiting ≡ false) }
+{
+    queues.queue(8, Order::Upgrade { from: 31, into: 0 })?;
+    queues.queue(7, Order::Copy { from: 2, into: 31 })?;
+    queues.queue(6, Order::Upgrade { from: 0, into: 3 })?;
+    queues.queue(5, Order::Totals)?;
+    queues.queue(4, Order::Clear { slot: 0 })?;
+    queues.queue(3, Order::Upgrade { from: 1, into: 2 })?;
+    queues.queue(2, Order::Weaken { slot: 1 })?;
+    queues.queue(1, Order::Copy { from: 0, into: 1 })?;
+    queues.queue(1, Order::Weaken { slot: 30 })
+}
+
+/// Whether the replies are those of the lines. A line has a thread and its reply, or the totals that
+/// it was told.
+fn are_told(replies: &[Line], wanted: &str) -> bool {
+    let mut lines = wanted.lines();
+    for reply in replies {
+        match lines.next() {
+            Some(line) if is_told(*reply, line) => {}
+            _ => return false,
+        }
+    }
+    lines.next().is_none()
+}
+
+fn is_told(reply: Line, line: &str) -> bool {
+    match reply {
+        Line::Reply { j, reply } => u64::from(j) == number_at(line, 0) && is_reply(reply, line),
+        Line::ReplyTotals { j, o, n, u, f } => {
+            u64::from(j) == number_at(line, 0)
+                && word_at(line, 1) == "totals"
+                && o == number_at(line, 2)
+                && n == number_at(line, 3)
+                && u == number_at(line, 4)
+                && f == number_at(line, 5)
+        }
+        _ => false,
+    }
+}
+
+fn is_reply(reply: Reply, line: &str) -> bool {
+    match reply {
+        Reply::Done => word_at(line, 1) == "done",
+        Reply::Node(node) => { word_at(line, 1) == "node" && u64::from(node) == number_at(line, 2) }
+        Reply::Null => word_at(line, 1) == "null",
+        Reply::NoMemory => false,
+    }
+}
+
+fn word_at(line: &str, place: usize) -> &str {
+    line.split(' ').nth(place).unwrap_or("")
+}
+
+/// The number at this place of the line; without one, none that is told.
+fn number_at(line: &str, place: usize) -> u64 {
+    word_at(line, place).parse::<u64>().unwrap_or(u64::MAX)
+}
+
+/// Whether entry 6 is that of thread 4, which cleared slot 0 after the export and five others.
+fn fourth_cleared(region: &Region, pass: &mut Pass) -> bool
+    requires { HasSeenAll region.now pass.old 0 }
+{
+    region.entries(pass) == 9
+        && matches!(
+            region.entry(pass, 5),
+            Entry {
+                thread: 4,
+                op: Op::Clear { slot: 0 },
+                reply: Reply::Done,
+            }
+        )
+}
+
+fn answers_all(region: &mut Region, pass: &mut Pass, queues: &mut ThreadQueues) -> bool
+    requires pass { HasSeenAll region.old pass.old 0 }
+    requires joined { queues.old.awaiting ≡ false }
+{
+    if queue_for_all(queues).is_err() {
+        return false;
+    }
+    let went = queues.go(region, pass, EARLY);
+    let told = are_told(queues.replies(), ALL);
+    let entered = fourth_cleared(region, pass);
+    went == 8 && told && entered && queues.join() == 8
+}
+
+fn all_are_answered(alloc: Global) -> bool {
+    match made(alloc) {
+        Ok((mut region, mut pass, mut queues)) => {
+            answers_all(&mut region, &mut pass, &mut queues)
+        }
+        Err(_) => false,
+    }
+}
+
+#[test]
+fn threads_are_answered_one_after_the_other(rt: HostRuntime) {
+    assert!(rt; all_are_answered(rt.alloc()));
+}
+
+/// A section of threads 2 and 5.
+fn two_go(region: &mut Region, pass: &mut Pass, queues: &mut ThreadQueues) -> Result<bool, NoMemory>
+    requires pass { HasSeenAll region.old pass.old 0 }
+    requires joined { queues.old.awaiting ≡ false }
+    ensures pass { HasSeenAll region.new pass.new 0 }
+    ensures joined { OnOk result (queues.new.awaiting ≡ false) }
+{
+    queues.queue(5, Order::Clear { slot: 0 })?;
+    queues.queue(2, Order::Totals)?;
+    let two = queues.go(region, pass, EARLY) == 2;
+    let told = are_told(queues.replies(), "2 totals 12 3 9 2\n5 done\n");
+    let awaits = queues.awaits();
+    let joined = queues.join() == 2;
+    Ok(two && told && awaits && joined)
+}
+
+/// After it, a section of thread 2 alone.
+fn one_goes(
+    region: &mut Region,
+    pass: &mut Pass,
+    queues: &mut ThreadQueues,
+) -> Result<bool, NoMemory>
+    requires pass { HasSeenAll region.old pass.old 0 }
+    requires joined { queues.old.awaiting ≡ false }
+    ensures pass { HasSeenAll region.new pass.new 0 }
+    ensures joined { OnOk result (queues.new.awaiting ≡ false) }
+{
+    queues.queue(2, Order::Upgrade { from: 0, into: 1 })?;
+    queues.queue(2, Order::Totals)?;
+    let one = queues.go(region, pass, LATE) == 1;
+    let told = are_told(queues.replies(), "2 null\n2 totals 20 1 4 4\n");
+    let joined = queues.join() == 1;
+    Ok(one && told && joined)
+}
+
+/// And one of none.
+fn none_goes(region: &mut Region, pass: &mut Pass, queues: &mut ThreadQueues) -> bool
+    requires pass { HasSeenAll region.old pass.old 0 }
+    requires joined { queues.old.awaiting ≡ false }
+{
+    let none = queues.go(region, pass, LATE) == 0;
+    let silent = queues.replies().is_empty();
+    let still = queues.join() == 0;
+    none && silent && still && !queues.awaits()
+}
+
+fn go_in_turn(region: &mut Region, pass: &mut Pass, queues: &mut ThreadQueues) -> bool
+    requires pass { HasSeenAll region.old pass.old 0 }
+    requires joined { queues.old.awaiting ≡ false }
+{
+    matches!(two_go(region, pass, queues), Ok(true))
+        && matches!(one_goes(region, pass, queues), Ok(true))
+        && none_goes(region, pass, queues)
+}
+
+fn sections(alloc: Global) -> bool {
+    match made(alloc) {
+        Ok((mut region, mut pass, mut queues)) => {
+            go_in_turn(&mut region, &mut pass, &mut queues)
+        }
+        Err(_) => false,
+    }
+}
+
+#[test]
+fn sections_are_told_each_for_itself(rt: HostRuntime) {
+    assert!(rt; sections(rt.alloc()));
+}

@@ -1,0 +1,4 @@
+pub mod NoFields
+pub mod AgedHeaps
+pub mod EndSteps
+pub mod TwoObjects

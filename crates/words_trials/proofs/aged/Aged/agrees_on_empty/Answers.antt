@@ -1,0 +1,13 @@
+use Rattle.std.proofs.Common.{ap, ◌∙◌, sym, subst}
+use Rattle.page_words.specs.Seat.{SeatView, OnlyLooked, unlooked}
+use Rattle.page_space.specs.Space.{SpaceView, IsSpaceOf}
+use Rattle.words_trials.proofs.AgedHeaps.{IsAged, aged_still}
+use Rattle.words_trials.proofs.aged.Aged.agrees_on_empty.Goals as goal
+
+pub invariant_of-self : goal.invariant_of-self
+invariant_of-self c =
+    let same : OnlyLooked c.self.inside.seat c.find_empty.new.seat = c.find_empty.ensures ∙ ap unlooked c.find_empty-found.ensures.view in
+    subst (λ (s : SpaceView). IsAged s c.find_empty.new.seat c.self.inside.dead.items c.self.inside.young.items c.self.inside.next)
+    (sym c.find_empty-found.ensures.same)
+    (aged_still c.self.inside.space c.self.inside.space c.self.inside.seat c.find_empty.new.seat c.self.inside.dead.items c.self.inside.young.items
+    c.self.inside.next same (subst (λ (v : SeatView). IsSpaceOf c.self.inside.space v) (sym same) c.self.invariant.0) c.self.invariant)

@@ -1,0 +1,5 @@
+use Rattle.page_words.specs.Seat.{OnlyLooked}
+use Rattle.words_trials.proofs.plain.find_empty.Given as goal
+
+abbrev pub invariant-loop-page : goal.invariant-loop-page
+invariant-loop-page l = OnlyLooked l.fn.seat l.seat
