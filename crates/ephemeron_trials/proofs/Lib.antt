@@ -1,2 +1,0 @@
-pub mod SmallHeap
-pub mod NewSeats

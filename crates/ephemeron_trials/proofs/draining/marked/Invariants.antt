@@ -1,5 +1,0 @@
-use Rattle.std.proofs.Common.{[], ◌∷◌}
-use Rattle.ephemeron_trials.proofs.draining.marked.Given as goal
-
-abbrev pub ghost-set_stop : goal.ghost-set_stop
-ghost-set_stop a = 0 ∷ 256 ∷ []

@@ -1,2 +1,0 @@
-pub mod Young
-pub mod UnderWay

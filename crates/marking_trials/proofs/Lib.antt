@@ -1,0 +1,4 @@
+pub mod SmallHeap
+pub mod NewSeats
+pub mod Young
+pub mod UnderWay

@@ -1,0 +1,3 @@
+pub mod SmallHeap
+pub mod Seats
+pub mod ThreeObjects
