@@ -5,4 +5,4 @@ use Rattle.marking_trials.proofs.draining.drained_by_two.Goals as goal
 
 pub is_other_marked-requires-clause-other : goal.is_other_marked-requires-clause-other
 is_other_marked-requires-clause-other g c =
-    subst (λ bs. IsPlace bs 256) (sym (ap (λ (v : SeatView). v.bodies) c.join.ensures.view)) c.two_markers.ensures.marking.other
+    subst (λ bs. IsPlace bs 256) (sym (ap (λ (v : SeatView). v.bodies) c.join.ensures.view)) c.two_markers-list.ensures.marking.other

@@ -1,4 +1,4 @@
-use Rattle.std.proofs.Common.{◌≡◌, true, List, length, refl, not, sym, ap, ◌∙◌, subst, inl, inr, arith}
+use Rattle.std.proofs.Common.{◌≡◌, true, List, length, refl, not, sym, ap, ◌∙◌, subst, inl, inr, arith, rules}
 use Rattle.gc_graph.specs.State.{ObjectType}
 use Rattle.mark_worklist.specs.Lists.{ListState}
 use Rattle.pair_notes.specs.BodyGraph.{HasPair}
@@ -7,8 +7,12 @@ use Rattle.pair_notes.specs.Notes.{NotesState}
 use Rattle.marking_trials.specs.SmallHeap.{two_bodies}
 use Rattle.marker_core.specs.Bodies.{IsPlace, is_place}
 use Rattle.page_words.specs.Seat.{SeatView}
-use Rattle.marking_trials.proofs.SmallHeap.{holder_there, place_either, pair_either, small_traced}
+use Rattle.marking_trials.proofs.SmallHeap.{holder_there, pairs_whole, place_either, pair_either, small_traced}
 use Rattle.marking_trials.proofs.tracing.trace_first.Goals as goal
+
+pub set_stop-requires : goal.set_stop-requires
+set_stop-requires c =
+    (search rules, (c.write.ensures.small.quiet, pairs_whole c.write.new.seat c.args.key c.args.value c.args.strong c.write.ensures.small c.requires.pair))
 
 pub mark-requires-clause-place : goal.mark-requires-clause-place
 mark-requires-clause-place c =
