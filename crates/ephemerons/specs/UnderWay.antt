@@ -37,7 +37,7 @@ pub record IsUnderWay (v : SeatView) (marking : Marking) (notes : NotesState) : 
   pub recorded : notes.overflow ≡ false → (pair : ℕ × ℕ) → Contains v.noted pair → Contains notes.notes (note_from pair)
 
 -- marking can be brought to its end: it goes on, and the owner is alone with the whole list; what is listed is marked, and each
--- note is of an object or a pair of one; and list and notes account for all that is left to do, unless something was refused
+-- note is of a marked object or a pair of one; and list and notes account for all that is left to do, unless something was refused
 pub record IsReadyToEnd (types : List ObjectType) (v : SeatView) (marking : Marking) (groups : List NotesState) : Type 0 where
   pub on : v.on ≡ true
   pub told : marking.on ≡ true
@@ -45,5 +45,6 @@ pub record IsReadyToEnd (types : List ObjectType) (v : SeatView) (marking : Mark
   pub whole : marking.list.whole ≡ true
   pub listed : (p : ℕ) → Contains marking.list.items p → holds v.marked p ≡ true
   pub noted : (note : Note) → IsNotedIn groups note → IsNote types v.bodies note
+  pub holders : (note : Note) → IsNotedIn groups note → holds v.marked note.holder ≡ true
   pub accounted : IsUnrefused marking.overflow groups → IsAccounted types None v marking.list.items groups
   pub own : 0 < length groups
