@@ -1,20 +1,13 @@
 -- Which headers a precise pause looks at until marking ends.
 use Rattle.std.proofs.Common.{◌≡◌, ℕ, true, List, Some, inl}
-use Rattle.std.specs.List.{Contains}
 use Rattle.gc_graph.specs.State.{ObjectType}
 use Rattle.marker_core.specs.Bodies.{holds}
 use Rattle.page_words.specs.Seat.{SeatView}
 use Rattle.cross_thread_region.specs.declared.chronicle.PlacedEntry.{PlacedEntry}
 use Rattle.cross_thread_region.specs.Histories.{strong_place}
-use Rattle.ephemerons.specs.Notes.{NotesState}
-use Rattle.ephemerons.specs.LookedAt.{IsLookedAt, LooksOnlyAt, LooksWithin, AreHoldersMarked}
+use Rattle.ephemerons.specs.LookedAt.{IsLookedAt, LooksOnlyAt, LooksWithin}
 use Rattle.ephemerons.specs.LookedPlaces.{looked_nowhere, looked_then, looked_as}
 use Rattle.atomic_pause.specs.Marking.{IsSharedPlace}
-
--- the holders are marked yet where roots were marked and listed
-pub holders_out : (v w : SeatView) (list after : List ℕ) (groups : List NotesState) → ((p : ℕ) → holds v.marked p ≡ true → holds w.marked p ≡ true)
-    → ((p : ℕ) → Contains after p → holds w.marked p ≡ true) → AreHoldersMarked v list groups → AreHoldersMarked w after groups
-holders_out v w list after groups more listed held = record { listed = listed; noted = λ note there. more note.holder (held.noted note there) }
 
 -- the strong slots are visited (u), then those of the region (r) and no stack (w), and marking is brought to its end (y)
 pub looked_out : (types : List ObjectType) (history : List PlacedEntry) (v u r w y : SeatView) → u.looked ≡ v.looked

@@ -48,6 +48,7 @@ ready_whatever types u m groups may h = record {
   whole = h.whole;
   listed = h.listed;
   noted = h.noted;
+  holders = h.holders;
   accounted = λ fine. (let known = h.accounted fine in record { grey = known.grey; pairs = known.pairs });
   own = h.own;
 }

@@ -7,7 +7,7 @@ ghost use Rattle.weak_clearing.specs.Space.{IsSeatOf};
 ghost use Rattle.ephemerons.specs.BodyGraph.{PlacesDiffer};
 ghost use Rattle.ephemerons.specs.Marking.{traced_count};
 ghost use Rattle.ephemerons.specs.Fixpoint.{IsUnrefused};
-ghost use Rattle.ephemerons.specs.LookedAt.{AreHoldersMarked, LooksWithin};
+ghost use Rattle.ephemerons.specs.LookedAt.{LooksWithin};
 ghost use Rattle.ephemerons.specs.Notes.{group_at, refusals_in};
 ghost use Rattle.ephemerons.specs.UnderWay.{IsReadyToEnd};
 ghost use Rattle.atomic_pause.specs.Marking.{IsMarkedIn, MarksReachable, marked_count};
@@ -44,7 +44,6 @@ pub fn close(
     ensures notes_told { (i : ℕ) → TellsRefused
         (refusals_in (group_at notes.old i)) (refusals_in (group_at notes.new i)) }
     ensures looked { IsUnrefused marking.new.overflow notes.new
-        → AreHoldersMarked seat.old marking.old.list.items notes.old
         → LooksWithin types.now seat.old seat.new }
     ensures early { seat.new.early ≡ length seat.new.looked }
 {

@@ -9,7 +9,7 @@ ghost use Rattle.cross_thread_region.specs.Histories.{strong_place};
 ghost use Rattle.ephemerons.specs.BodyGraph.{PlacesDiffer};
 ghost use Rattle.ephemerons.specs.Marking.{traced_count};
 ghost use Rattle.ephemerons.specs.Fixpoint.{IsUnrefused};
-ghost use Rattle.ephemerons.specs.LookedAt.{AreHoldersMarked, LooksWithin};
+ghost use Rattle.ephemerons.specs.LookedAt.{LooksWithin};
 ghost use Rattle.ephemerons.specs.Notes.{group_at, refusals_in};
 ghost use Rattle.ephemerons.specs.UnderWay.{IsReadyToEnd};
 ghost use Rattle.atomic_pause.specs.Marking.{IsRootPlace, IsMayOrRoot, MarksReachable};
@@ -60,7 +60,6 @@ pub fn mark_out(
     ensures notes_told { (i : ℕ) → TellsRefused
         (refusals_in (group_at notes.old i)) (refusals_in (group_at notes.new i)) }
     ensures looked { precise ≡ true → IsUnrefused marking.new.overflow notes.new
-        → AreHoldersMarked seat.old marking.old.list.items notes.old
         → LooksWithin types.now seat.old seat.new }
     ensures early { seat.new.early ≡ length seat.new.looked }
 {

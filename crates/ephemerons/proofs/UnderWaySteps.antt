@@ -6,7 +6,7 @@ use Rattle.std.specs.List.{Contains}
 use Rattle.std.proofs.lemmas.Bool.{true≢false, cases_Bool}
 use Rattle.std.proofs.lemmas.List.{length_push}
 use Rattle.std.proofs.lemmas.List.Elements.{Contains-append_left, Contains-append_right, Contains-append_cases, Contains-push, Contains-push_cases}
-use Rattle.gc_graph.specs.Members.{Contains-map, pushed_is_held}
+use Rattle.gc_graph.specs.Members.{Contains-map, Contains-map_some, pushed_is_held}
 use Rattle.gc_graph.specs.State.{ObjectType}
 use Rattle.type_table.specs.declared.traced.TracedWord.{TracedWord}
 use Rattle.mark_worklist.specs.Lists.{IsOneMore}
@@ -21,8 +21,8 @@ use Rattle.pair_notes.specs.BodyGraph.{HasPair}
 use Rattle.pair_notes.specs.Notes.{NotesState, IsNotedIn, IsNote, group_at, note_of, refusals_in}
 use Rattle.pair_notes.specs.InHand.{OnlyLooks}
 use Rattle.ephemerons.specs.Traces.{Traces, note_from}
-use Rattle.ephemerons.specs.UnderWay.{IsUnderWay}
-use Rattle.ephemerons.specs.UnderWayStays.{pair_same, unshared_before}
+use Rattle.ephemerons.specs.UnderWay.{IsOfTraced, IsUnderWay}
+use Rattle.ephemerons.specs.UnderWayStays.{holder_yet, pair_same, unshared_before}
 use Rattle.ephemerons.specs.Fixpoint.{IsGround, Mode, Works, IsListed, IsStillHeld, mode_of, stage, with_held}
 use Rattle.ephemerons.proofs.Ends.{few_untraced}
 use Rattle.ephemerons.proofs.GreySteps.{ReadsFields, was_traced}
@@ -70,6 +70,7 @@ moved_under_way v m n x mode overflow back there h = record {
   ];
   unshared = λ none fine p marked white. there fine p (h.unshared (unshared_before m n mode none) (overflow fine) p marked white);
   noted = h.noted;
+  holders = h.holders;
   recorded = h.recorded;
 }
 
@@ -157,9 +158,12 @@ module _ (types : List ObjectType) (v u w : SeatView) (m n : Marking) (x y : Not
   still_marked : (p : ℕ) → holds v.marked p ≡ true → holds w.marked p ≡ true
   still_marked p h = r.marks.marked p (subst (λ l. holds l p ≡ true) (sym (ap (λ (z : SeatView). z.marked) r.claimed)) h)
 
+  still_traced : (p : ℕ) → holds v.traced p ≡ true → holds w.traced p ≡ true
+  still_traced p old = subst (λ l. holds l p ≡ true) (sym traced_is) (holds_push_old v.traced a p old)
+
   was_white : (p : ℕ) → holds w.traced p ≡ false → holds v.traced p ≡ false
   was_white p white = elim (cases_Bool (holds v.traced p)) [
-    | inl old ↦ absurd (true≢false (sym (subst (λ l. holds l p ≡ true) (sym traced_is) (holds_push_old v.traced a p old)) ∙ white))
+    | inl old ↦ absurd (true≢false (sym (still_traced p old) ∙ white))
     | inr fine ↦ fine
   ]
 
@@ -173,8 +177,8 @@ module _ (types : List ObjectType) (v u w : SeatView) (m n : Marking) (x y : Not
     | inr here ↦ absurd (true≢false (sym (own_traced p here) ∙ white))
   ]
 
-  -- the new notes are of pairs, and what the hand noted is among them
-  pub noted_under_way : ((note : Note) → Contains y.notes note → Contains x.notes note ⊎ HasPair v.types v.bodies note.holder note.word)
+  -- the new notes are of pairs of traced objects, and what the hand noted is among them
+  pub noted_under_way : ((note : Note) → Contains y.notes note → Contains x.notes note ⊎ IsOfTraced w.types w note)
       → (y.overflow ≡ false → (pair : ℕ × ℕ) → Contains w.noted pair → Contains y.notes (note_from pair)) → IsUnderWay v (with_held (Some a) m) x
       → IsUnderWay w n y
   noted_under_way noted recorded h = record {
@@ -197,17 +201,40 @@ module _ (types : List ObjectType) (v u w : SeatView) (m n : Marking) (x y : Not
           (h.unshared (unshared_before m n r.marks.mode none) (r.marks.overflow fine) p (was_marked p old) (was_white p white))
       | inr listed ↦ listed
     ];
-    noted = λ note there. pair_same v w note types_are bodies_are (elim (noted note there) [ inl before ↦ h.noted note before | inr pair ↦ inr pair ]);
+    noted = λ note there.
+        elim (noted note there) [ inl before ↦ pair_same v w note types_are bodies_are (h.noted note before) | inr new ↦ inr new.0 ];
+    holders = λ note there.
+        elim (noted note there) [ inl before ↦ holder_yet v w note still_traced (h.holders note before) | inr new ↦ inr new.1 ];
     recorded = recorded;
   }
 
   module _ (ty : ℕ) (words : List TracedWord) (noted : u.noted ≡ v.noted) (told : Traces u x w y a words) where
+    -- what is noted of the words is of pairs of this object
+    noted_of_this : (note : Note) → Contains told.notes.made note → a ≡ note.holder
+    noted_of_this note new =
+        let from = Contains-map_some note_from told.pairs note (told.notes.some note new) in
+        let there : Contains u.bodies r.place.0 = subst (λ bs. Contains bs r.place.0) (sym (ap (λ (z : SeatView). z.bodies) r.claimed)) r.place.1 in
+        sym r.place.2 ∙ sym (told.waiting r.place.0 from.0 there r.place.2 from.1).holder ∙ ap (λ (n : Note). n.holder) from.2
+
+    pub grey_noted : (note : Note) → Contains y.notes note → Contains x.notes note ⊎ IsOfTraced types w note
+    grey_noted note there =
+        elim (Contains-append_cases x.notes told.notes.made note (subst (λ l. Contains l note) told.notes.notes there)) [
+          | inl old ↦ inl old
+          | inr new ↦ elim (r.notes.pairs note there) [
+            | inl old ↦ inl old
+            | inr pair ↦ inr (
+              subst (λ bs. HasPair types bs note.holder note.word) (sym bodies_are) pair,
+              own_traced note.holder (noted_of_this note new),
+            )
+          ]
+        ]
+
     pub grey_under_way : v.types ≡ types → IsUnderWay v (with_held (Some a) m) x → IsUnderWay w n y
     grey_under_way known h =
         noted_under_way
-        (λ note there. elim (r.notes.pairs note there) [
+        (λ note there. elim (grey_noted note there) [
           | inl old ↦ inl old
-          | inr pair ↦ inr (subst (λ (ts : List ObjectType). HasPair ts v.bodies note.holder note.word) (sym known) pair)
+          | inr new ↦ inr (subst (λ (ts : List ObjectType). IsOfTraced ts w note) (sym (types_are ∙ known)) new)
         ])
         (λ fine pair there.
         elim (Contains-append_cases v.noted told.pairs pair (subst (λ l. Contains l pair) (told.noted ∙ ap (λ l. l ++ told.pairs) noted) there)) [
@@ -252,5 +279,6 @@ black_under_way v w m x a looks black h =
       unshared = λ none fine p marked white.
           listed p marked white (h.unshared none fine p (subst (λ l. holds l p ≡ true) marks marked) (subst (λ l. holds l p ≡ false) traces white));
       noted = λ note there. pair_same v w note (ap (λ (z : SeatView). z.types) looks.marks) (ap (λ (z : SeatView). z.bodies) looks.marks) (h.noted note there);
+      holders = λ note there. holder_yet v w note (λ p is. subst (λ l. holds l p ≡ true) (sym traces) is) (h.holders note there);
       recorded = λ fine pair there. h.recorded fine pair (subst (λ l. Contains l pair) looks.noted there);
     }

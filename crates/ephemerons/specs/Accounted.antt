@@ -6,7 +6,7 @@ use Rattle.gc_graph.specs.State.{ObjectType}
 use Rattle.gc_graph.specs.declared.kind.Kind.TheVariants.{Pair}
 use Rattle.type_table.specs.Types.{kinds_of as kinds_in}
 use Rattle.mark_worklist.specs.declared.marking.Marking.{Marking}
-use Rattle.marker_core.specs.Bodies.{holds, word_in, IsPlace}
+use Rattle.marker_core.specs.Bodies.{holds, word_in}
 use Rattle.page_words.specs.Seat.{SeatView, IsAlone, IsView}
 use Rattle.pair_notes.specs.declared.notes.Note.{Note}
 use Rattle.pair_notes.specs.BodyGraph.{HasPair}
@@ -50,7 +50,7 @@ module _ (v : SeatView) (m : Marking) (x : NotesState) (view : IsView v) (h : Is
   in_the_group note (suc i, low, there) = absurd (omega (arith, low))
 
   pub under_way_is_ready : (types : List ObjectType) → v.types ≡ types → m.list.whole ≡ true
-      → ((note : Note) → Contains x.notes note → note.word ≡ 0 → IsPlace v.bodies note.holder) → IsReadyToEnd types v m (x ∷ [])
+      → ((note : Note) → Contains x.notes note → note.word ≡ 0 → holds v.marked note.holder ≡ true) → IsReadyToEnd types v m (x ∷ [])
   under_way_is_ready types known whole objects = record {
     on = h.on;
     told = h.told;
@@ -59,8 +59,13 @@ module _ (v : SeatView) (m : Marking) (x : NotesState) (view : IsView v) (h : Is
     listed = h.listed;
     noted = λ note there.
         elim (h.noted note (in_the_group note there)) [
-          | inl itself ↦ inl (itself, objects note (in_the_group note there) itself)
+          | inl itself ↦ inl (itself, view.marked_are_bodies note.holder (objects note (in_the_group note there) itself))
           | inr pair ↦ inr (subst (λ (ts : List ObjectType). HasPair ts v.bodies note.holder note.word) known pair)
+        ];
+    holders = λ note there.
+        elim (h.holders note (in_the_group note there)) [
+          | inl itself ↦ objects note (in_the_group note there) itself
+          | inr traced ↦ view.traced_are_marked alone.none_lent note.holder traced
         ];
     accounted = under_way_is_accounted types known;
     own = omega arith;

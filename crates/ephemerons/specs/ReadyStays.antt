@@ -39,6 +39,7 @@ ready_marked types v w m n groups x h = record {
   whole = ap (λ (o : Mode). o.whole) x.mode ∙ h.whole;
   listed = λ p there. elim (x.listed p there) [ inl before ↦ x.marked p (h.listed p before) | inr fresh ↦ fresh.marked ];
   noted = λ note there. subst (λ (bs : List Body). IsNote types bs note) (sym (ap (λ (z : SeatView). z.bodies) x.view)) (h.noted note there);
+  holders = λ note there. x.marked note.holder (h.holders note there);
   accounted = λ fine. marks_accounted types v w m n groups x fine.pushes (h.accounted (record { pushes = x.overflow fine.pushes; notes = fine.notes }));
   own = h.own;
 }

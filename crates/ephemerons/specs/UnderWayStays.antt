@@ -1,5 +1,5 @@
 -- Marking stays under way where objects were marked and listed, and where nothing that it looks at has changed.
-use Rattle.std.proofs.Common.{◌≡◌, true, false, List, [], ◌∷◌, length, refl, ap, ◌∙◌, sym, subst, inl, inr, arith}
+use Rattle.std.proofs.Common.{◌≡◌, ℕ, true, false, List, [], ◌∷◌, length, refl, ap, ◌∙◌, sym, subst, inl, inr, arith}
 use mathlib.Core.Logic.{◌⊎◌}
 use Rattle.std.specs.List.{Contains}
 use Rattle.gc_graph.specs.State.{ObjectType}
@@ -41,6 +41,11 @@ pair_same u v note types bodies is = elim is [
       (subst (λ bs. HasPair u.types bs note.holder note.word) (sym bodies) pair))
 ]
 
+-- the holder is traced yet where more is traced
+pub holder_yet : (u v : SeatView) (note : Note) → ((p : ℕ) → holds u.traced p ≡ true → holds v.traced p ≡ true)
+    → (note.word ≡ 0) ⊎ (holds u.traced note.holder ≡ true) → (note.word ≡ 0) ⊎ (holds v.traced note.holder ≡ true)
+holder_yet u v note more is = elim is [ inl itself ↦ inl itself | inr traced ↦ inr (more note.holder traced) ]
+
 -- objects were marked and listed
 pub under_way_marked : (u v : SeatView) (m n : Marking) (x : NotesState) → ListsMarks u m v n → v.noted ≡ u.noted → IsUnderWay u m x → IsUnderWay v n x
 under_way_marked u v m n x marks noted h = record {
@@ -58,6 +63,7 @@ under_way_marked u v m n x marks noted h = record {
   unshared = λ none. grey_marked u v m n marks (h.unshared (unshared_before m n marks.mode none));
   noted = λ note there.
       pair_same u v note (ap (λ (z : SeatView). z.types) marks.view) (ap (λ (z : SeatView). z.bodies) marks.view) (h.noted note there);
+  holders = λ note there. holder_yet u v note (λ p is. subst (λ l. holds l p ≡ true) (sym marks.traced) is) (h.holders note there);
   recorded = λ fine pair there. h.recorded fine pair (subst (λ l. Contains l pair) noted there);
 }
 
@@ -82,5 +88,6 @@ under_way_same u v m x same h = record {
   unshared = λ none fine p marked white.
       h.unshared none fine p (subst (λ l. holds l p ≡ true) same.marked marked) (subst (λ l. holds l p ≡ false) same.traced white);
   noted = λ note there. pair_same u v note same.types same.bodies (h.noted note there);
+  holders = λ note there. holder_yet u v note (λ p is. subst (λ l. holds l p ≡ true) (sym same.traced) is) (h.holders note there);
   recorded = λ fine pair there. h.recorded fine pair (subst (λ l. Contains l pair) same.noted there);
 }

@@ -6,10 +6,10 @@ ghost use Rattle.mark_worklist.specs.Refusals.{TellsRefused, refusals_of};
 ghost use Rattle.marker_core.specs.Bodies.{IsPlace};
 ghost use Rattle.page_words.specs.Seat.{IsAlone};
 ghost use Rattle.pair_notes.specs.declared.notes.Note.{Note};
-ghost use Rattle.pair_notes.specs.BodyGraph.{HasPair, PlacesDiffer, HaveNoPairs};
+ghost use Rattle.pair_notes.specs.BodyGraph.{PlacesDiffer, HaveNoPairs};
 ghost use Rattle.pair_notes.specs.Marking.{MarksOn, traced_count};
 ghost use Rattle.pair_notes.specs.Notes.{refusals_in};
-ghost use Rattle.ephemerons.specs.UnderWay.{IsUnderWay};
+ghost use Rattle.ephemerons.specs.UnderWay.{IsOfTraced, IsUnderWay};
 ghost use Rattle.ephemerons.specs.Fixpoint.{IsGround, Works, mode_of, stage, with_held};
 
 use crate::draining::has_pairs;
@@ -42,7 +42,7 @@ pub fn trace_listed<B: Bodywords>(
     ensures alone { IsAlone seat.new }
     ensures mode { mode_of marking.new ≡ mode_of marking.old }
     ensures noted { (note : Note) → Contains notes.new.notes note → Contains notes.old.notes note
-        ⊎ HasPair types.now seat.old.bodies note.holder note.word }
+        ⊎ IsOfTraced types.now seat.new note }
     ensures kept { MarksOn seat.old seat.new }
     ensures counted { PlacesDiffer seat.old.bodies
         → traced_count seat.new ≡ traced_count seat.old + result }
@@ -75,7 +75,7 @@ fn step_with_notes<B: Bodywords>(
         (stage seat.new marking.new (notes.new ∷ []) result) }
     ensures under_way { IsUnderWay seat.new marking.new notes.new }
     ensures noted { (note : Note) → Contains notes.new.notes note → Contains notes.old.notes note
-        ⊎ HasPair types.now seat.old.bodies note.holder note.word }
+        ⊎ IsOfTraced types.now seat.new note }
     ensures most { result ≤ most }
     ensures done { result < most → marking.new.list.items ≡ [] }
 {
@@ -110,7 +110,7 @@ fn trace_taken<B: Bodywords>(
         (stage seat.new marking.new (notes.new ∷ []) traced.new) }
     ensures under_way { IsUnderWay seat.new marking.new notes.new }
     ensures noted { (note : Note) → Contains notes.new.notes note → Contains notes.old.notes note
-        ⊎ HasPair types.now seat.old.bodies note.holder note.word }
+        ⊎ IsOfTraced types.now seat.new note }
     ensures one { traced.new ≤ traced.old + 1 }
 {
     seat.bodies_lie_apart();

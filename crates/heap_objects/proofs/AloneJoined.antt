@@ -44,6 +44,7 @@ module _ (x : NotesState) (others : List NotesState) (cleared : All IsCleared ot
     whole = h.whole;
     listed = h.listed;
     noted = λ note there. h.noted note (in_first note there);
+    holders = λ note there. h.holders note (in_first note there);
     accounted = λ fine. (let is = h.accounted (first_unrefused m.overflow fine) in record {
       grey = λ p marked white. elim (is.grey p marked white) [
         | inl taken ↦ inl taken

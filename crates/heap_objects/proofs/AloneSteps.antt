@@ -17,7 +17,7 @@ use Rattle.marker_crew.specs.Fields.{field_at_offset}
 use Rattle.atomic_pause.specs.Fixpoint.{Mode, mode_of}
 use Rattle.marker_crew.specs.Marking.{MarksOn, traced_count}
 use Rattle.marker_crew.specs.Notes.{NotesState, no_notes, group_at, refusals_in}
-use Rattle.atomic_pause.specs.UnderWay.{IsUnderWay}
+use Rattle.atomic_pause.specs.UnderWay.{IsOfTraced, IsUnderWay}
 use Rattle.marker_crew.specs.Crews.{Marker}
 use Rattle.heap_objects.specs.declared.marking.Grey.{Grey}
 use Rattle.heap_objects.specs.Crews.{IsStepped}
@@ -53,7 +53,7 @@ empty_of (s ∷ shares) none = absurd (omega (arith, none))
 
 pub has_stepped_alone : (types : List ObjectType) (v w : SeatView) (g : GreyView) (m : Marking) (x : NotesState) (n : ℕ) → g.running ≡ [] → HasCrew v g → IsUnderWay w m x
     → MarksOn v w → mode_of m ≡ mode_of g.marking
-    → ((note : Note) → Contains x.notes note → Contains g.notes.notes note ⊎ HasPair types v.bodies note.holder note.word)
+    → ((note : Note) → Contains x.notes note → Contains g.notes.notes note ⊎ IsOfTraced types w note)
     → traced_count w ≡ traced_count v + n → TellsRefused (refusals_of g.marking) (refusals_of m) → TellsRefused (refusals_in g.notes) (refusals_in x)
     → IsStepped v g w (record g { marking = m; notes = x }) n
 has_stepped_alone types v w g m x n calm crew way kept mode noted counted pushes notes =
@@ -68,7 +68,7 @@ has_stepped_alone types v w g m x n calm crew way kept mode noted counted pushes
           unshared = λ no_markers. empty_of m.list.shares (ap (λ (o : Mode). o.shares) mode ∙ ap length (home.unshared no_markers));
           paired = λ note there itself. elim (noted note there) [
             | inl before ↦ home.paired note before itself
-            | inr pair ↦ pair_behind types v.bodies note.holder note.word pair itself
+            | inr pair ↦ pair_behind types w.bodies note.holder note.word pair.0 itself
           ];
           others = home.others;
           many = home.many;

@@ -383,6 +383,24 @@ module _ (v : SeatView) (g : GreyView) (ends : List Ending) (w : SeatView) (n : 
         ]
       ]
 
+  traced_is_marked : (p : ℕ) → holds w.traced p ≡ true → holds w.marked p ≡ true
+  traced_is_marked p traced = view.traced_are_marked lent p traced
+
+  holders : (note : Note) → IsNotedIn groups note → holds w.marked note.holder ≡ true
+  holders note (zero, low, there) = elim (way.holders note there) [
+    | inl itself ↦ put_is_marked note.holder (taken_is_put note.holder (taken_by_own note.holder (out.lone note there itself)))
+    | inr traced ↦ traced_is_marked note.holder (traced_before note.holder traced)
+  ]
+  holders note (suc k, low, there) =
+      let below : k < length ends = omega (arith, low, length-map ends (λ (e : Ending). e.notes)) in
+      elim ((drained k below).works.notes note (subst (λ (x : NotesState). Contains x.notes note) (group_of k below) there)) [
+        | inl before ↦ absurd (none_in (began k).notes.notes note (new k below).notes.none_noted before)
+        | inr new ↦ elim new [
+          | inl pair ↦ traced_is_marked note.holder (traced_by note.holder k below pair.1)
+          | inr itself ↦ put_is_marked note.holder (taken_is_put note.holder (taken_by_end note.holder k below itself.1.0))
+        ]
+      ]
+
   same_types : w.types ≡ v.types
   same_types = ap (λ (x : SeatView). x.types) is
 
@@ -398,6 +416,7 @@ module _ (v : SeatView) (g : GreyView) (ends : List Ending) (w : SeatView) (n : 
     whole = whole;
     listed = λ p there. put_is_marked p (left_is_put p there);
     noted = noted;
+    holders = holders;
     accounted = λ fine. record { grey = λ p marked white. inr (grey fine p marked white); pairs = pairs fine };
     own = omega arith;
   })

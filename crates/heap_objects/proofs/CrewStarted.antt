@@ -139,6 +139,7 @@ module _ (v : SeatView) (g : GreyView) (list : ListState) (shares : List ShareSt
       ];
       unshared = λ none. absurd (omega (arith, (r.puts.family shared.whole there).as_many, one, ap length none));
       noted = way.noted;
+      holders = way.holders;
       recorded = way.recorded;
     }
 

@@ -27,6 +27,7 @@ use Rattle.marker_crew.specs.BodyLeads.{offset_told}
 use Rattle.marker_crew.specs.Marking.{traced_count}
 use Rattle.marker_crew.specs.Notes.{NotesState, note_of, refusals_in}
 use Rattle.atomic_pause.specs.UnderWay.{IsUnderWay}
+use Rattle.atomic_pause.specs.UnderWayStays.{holder_yet}
 use Rattle.marker_crew.specs.Crews.{Marker}
 use Rattle.marker_crew.specs.declared.draining.Drained.{Drained}
 use Rattle.marker_crew.specs.Drains.{nothing_yet, AreTracedOrNoted}
@@ -162,6 +163,12 @@ module _ (v : SeatView) (g : GreyView) (m : MarkerSeatView) (k : ShareState) (o 
     ]
   ]
 
+  holders : (note : Note) → Contains o.notes note → (note.word ≡ 0) ⊎ (holds w.traced note.holder ≡ true)
+  holders note there = elim (works.notes note there) [
+    | inl before ↦ holder_yet v w note traced_before (way.holders note before)
+    | inr new ↦ elim new [ inl pair ↦ inr (traced_now note.holder pair.1) | inr itself ↦ inl itself.0 ]
+  ]
+
   recorded : o.overflow ≡ false → (pair : ℕ × ℕ) → Contains w.noted pair → Contains o.notes (note_of pair.0 pair.1)
   recorded none pair there = elim (Contains-append_cases v.noted m.noted pair (subst (λ l. Contains l pair) noted_is there)) [
     | inl before ↦ works.later.notes (note_of pair.0 pair.1) (way.recorded (notes_before none) pair before)
@@ -177,6 +184,7 @@ module _ (v : SeatView) (g : GreyView) (m : MarkerSeatView) (k : ShareState) (o 
     grey = grey;
     unshared = λ none. absurd (omega (arith, one, length-set g.marking.list.shares 0 k, ap length (sym (ap (λ (l : ListState). l.shares) list) ∙ none)));
     noted = noted;
+    holders = holders;
     recorded = recorded;
   }
 

@@ -51,6 +51,7 @@ module _ (setup : Setup) (nodes : List Node) (v u w : SeatView) (g : GreyView) (
     grey = λ fine unrefused p marked white. absurd (true≢false (sym marked ∙ ap (λ l. holds l p) quiet.marked));
     unshared = λ none fine p marked white. absurd (true≢false (sym marked ∙ ap (λ l. holds l p) quiet.marked));
     noted = λ note there. absurd (omega (arith, (subst (λ l. Contains l note) clear.own.none_noted there).1));
+    holders = λ note there. absurd (omega (arith, (subst (λ l. Contains l note) clear.own.none_noted there).1));
     recorded = λ fine pair there. absurd (omega (arith, (subst (λ l. Contains l pair) (view.none_noted quiet.off) there).1));
   }
 

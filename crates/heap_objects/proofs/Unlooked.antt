@@ -42,6 +42,7 @@ way_is v m notes x = record {
   grey = x.grey;
   unshared = x.unshared;
   noted = x.noted;
+  holders = x.holders;
   recorded = x.recorded;
 }
 
@@ -54,6 +55,7 @@ way_told v m notes x = record {
   grey = x.grey;
   unshared = x.unshared;
   noted = x.noted;
+  holders = x.holders;
   recorded = x.recorded;
 }
 

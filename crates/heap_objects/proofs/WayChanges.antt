@@ -26,6 +26,7 @@ use Rattle.page_space.specs.Occupying.{Occupies}
 use Rattle.marker_crew.specs.BodyGraph.{HasPair, pair_offsets}
 use Rattle.marker_crew.specs.Notes.{NotesState}
 use Rattle.atomic_pause.specs.UnderWay.{IsUnderWay, ListsGrey}
+use Rattle.atomic_pause.specs.UnderWayStays.{holder_yet}
 use Rattle.heap_objects.specs.Crews.{PutsOn}
 use Rattle.member_fields.specs.Barrier.{HasBarrier, asks_for_mark, target_marked}
 
@@ -108,6 +109,7 @@ way_on old new m n x leaves lists way = record {
   ];
   unshared = λ none. grey_on old new m n leaves lists (way.unshared (lists.puts.unshared none));
   noted = λ note there. elim (way.noted note there) [ inl itself ↦ inl itself | inr pair ↦ inr (leaves.pairs note.holder note.word pair) ];
+  holders = λ note there. holder_yet old new note (λ p is. ap (λ l. holds l p) leaves.traced ∙ is) (way.holders note there);
   recorded = λ fine pair there. way.recorded fine pair (subst (λ l. Contains l pair) leaves.noted there);
 }
 

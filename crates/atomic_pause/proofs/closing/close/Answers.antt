@@ -51,11 +51,11 @@ returns-clause-traced c =
     c.bodies_lie_apart-2.ensures c.fixpoint-traced.ensures.alone.none_lent (over c) (c.fixpoint-traced.ensures.counted c.requires.differ) (ends c)
 
 pub returns-clause-looked : goal.returns-clause-looked
-returns-clause-looked c fine held =
+returns-clause-looked c fine =
     looks_ended c.args.types.now c.args.seat.now c.fixpoint-traced.new.seat c.set_stop.new.seat (ends c)
     (c.fixpoint-traced.ensures.looked
     (unwalked c.is_refused-walk.result (IsUnrefused c.args.marking.now.overflow c.args.notes.now) c.is_refused-walk.ensures.walked
-    (c.fixpoint-traced.ensures.refused fine)) fine held)
+    (c.fixpoint-traced.ensures.refused fine)) fine (record { listed = c.requires.ready.listed; noted = c.requires.ready.holders }))
 
 pub returns-clause-early : goal.returns-clause-early
 returns-clause-early c = ap (λ (v : SeatView). v.early) (ends c) ∙ sym (ap (λ (v : SeatView). length v.looked) (ends c))

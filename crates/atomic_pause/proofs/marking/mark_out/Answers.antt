@@ -1,12 +1,11 @@
-use Rattle.std.proofs.Common.{◌≡◌, ◌+◌, ℕ, true, sym, ap, ◌∙◌, subst}
-use Rattle.marker_core.specs.Bodies.{IsPlace, holds}
+use Rattle.std.proofs.Common.{◌≡◌, ◌+◌, ℕ, sym, ap, ◌∙◌, subst}
+use Rattle.marker_core.specs.Bodies.{IsPlace}
 use Rattle.page_words.specs.Seat.{SeatView}
 use Rattle.ephemerons.specs.BodyGraph.{PlacesDiffer}
 use Rattle.ephemerons.specs.Marking.{traced_count}
-use Rattle.ephemerons.specs.UnderWay.{IsReadyToEnd}
 use Rattle.ephemerons.specs.Fixpoint.{Mode}
 use Rattle.atomic_pause.proofs.MayMarks.{roots_mode, roots_ready}
-use Rattle.atomic_pause.proofs.MarkedOut.{holders_out, looked_out}
+use Rattle.atomic_pause.proofs.MarkedOut.{looked_out}
 use Rattle.atomic_pause.proofs.PausedNodes.{roots_marked, traced_so_far}
 use Rattle.atomic_pause.proofs.marking.mark_out.Goals as goal
 
@@ -77,15 +76,8 @@ returns-clause-shares c =
     c.visit_slots.new.marking c.visit_region.new.marking c.scan_stack.new.marking c.visit_slots.ensures.marks c.visit_region.ensures.marks c.scan_stack.ensures.marks)
 
 pub returns-clause-looked : goal.returns-clause-looked
-returns-clause-looked c precise fine held =
-    let more : (p : ℕ) → holds c.args.seat.now.marked p ≡ true → holds c.scan_stack.new.seat.marked p ≡ true = λ p is.
-    c.scan_stack.ensures.marks.marked p (c.visit_region.ensures.marks.marked p (c.visit_slots.ensures.marks.marked p is)) in
-    let ready : IsReadyToEnd c.args.types.now c.scan_stack.new.seat c.scan_stack.new.marking c.args.notes.now =
-    roots_ready c.args.types.now c.args.seat.now c.visit_slots.new.seat c.visit_region.new.seat c.scan_stack.new.seat c.args.marking.now
-    c.visit_slots.new.marking c.visit_region.new.marking c.scan_stack.new.marking c.args.notes.now c.visit_slots.ensures.marks
-    c.visit_region.ensures.marks c.scan_stack.ensures.marks c.requires.ready in
+returns-clause-looked c precise fine =
     looked_out c.args.types.now c.args.held.now c.args.seat.now c.visit_slots.new.seat c.visit_region.new.seat c.scan_stack.new.seat c.close.new.seat
     c.visit_slots.ensures.looked c.visit_region.ensures.looked (c.scan_stack.ensures.looked precise) c.visit_region.ensures.roots
     c.scan_stack.ensures.marks.marked c.close.ensures.over.roots
-    (c.close.ensures.looked fine
-    (holders_out c.args.seat.now c.scan_stack.new.seat c.args.marking.now.list.items c.scan_stack.new.marking.list.items c.args.notes.now more ready.listed held))
+    (c.close.ensures.looked fine)

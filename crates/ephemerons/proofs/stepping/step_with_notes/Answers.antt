@@ -1,4 +1,4 @@
-use Rattle.std.proofs.Common.{[], ◌∷◌, None, refl, subst, inl, inr, arith}
+use Rattle.std.proofs.Common.{[], ◌∷◌, None, refl, sym, subst, inl, inr, arith}
 use Rattle.mark_worklist.specs.Refusals.{refusals_of}
 use Rattle.pair_notes.specs.BodyGraph.{HasPair}
 use Rattle.ephemerons.specs.Fixpoint.{mode_of, stage}
@@ -38,8 +38,14 @@ loop-traced-preserved g c = record {
       (mode_popped c.loop-traced.marking c.pop.new.self c.loop-traced.invariant.ground.whole c.pop.ensures.whole c.pop.ensures.shares) c.trace_taken.ensures.works);
   under_way = c.trace_taken.ensures.under_way;
   noted = λ note there. elim (c.trace_taken.ensures.noted note there) [
-    | inl before ↦ c.loop-traced.invariant.noted note before
-    | inr pair ↦ inr (subst (λ bs. HasPair c.args.types.now bs note.holder note.word) c.loop-traced.invariant.works.kept.bodies pair)
+    | inl before ↦ elim (c.loop-traced.invariant.noted note before) [
+      | inl first ↦ inl first
+      | inr later ↦ inr (
+        subst (λ bs. HasPair c.args.types.now bs note.holder note.word) (sym c.trace_taken.ensures.works.kept.bodies) later.0,
+        c.trace_taken.ensures.works.kept.traced note.holder later.1,
+      )
+    ]
+    | inr new ↦ inr new
   ];
   most = omega (arith, c.trace_taken.ensures.one, c.loop-traced-test.true);
 }

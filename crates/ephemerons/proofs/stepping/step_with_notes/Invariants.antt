@@ -1,8 +1,7 @@
 use Rattle.std.proofs.Common.{◌≤◌, ◌⊎◌, [], ◌∷◌, None}
 use Rattle.std.specs.List.{Contains}
 use Rattle.pair_notes.specs.declared.notes.Note.{Note}
-use Rattle.pair_notes.specs.BodyGraph.{HasPair}
-use Rattle.ephemerons.specs.UnderWay.{IsUnderWay}
+use Rattle.ephemerons.specs.UnderWay.{IsOfTraced, IsUnderWay}
 use Rattle.ephemerons.specs.Fixpoint.{IsGround, Works, stage, weight}
 use Rattle.ephemerons.proofs.stepping.step_with_notes.Given as goal
 
@@ -12,7 +11,7 @@ invariant-loop-traced g l = record {
   works :
       Works l.types None (stage l.initial.seat l.initial.marking (l.initial.notes ∷ []) l.initial.traced) (stage l.seat l.marking (l.notes ∷ []) l.traced);
   under_way : IsUnderWay l.seat l.marking l.notes;
-  noted : (note : Note) → Contains l.notes.notes note → Contains l.initial.notes.notes note ⊎ HasPair l.types l.initial.seat.bodies note.holder note.word;
+  noted : (note : Note) → Contains l.notes.notes note → Contains l.initial.notes.notes note ⊎ IsOfTraced l.types l.seat note;
   most : l.traced ≤ l.most;
 }
 

@@ -5,7 +5,7 @@ use Rattle.type_table.specs.TracedWords.{traced_words_of}
 use Rattle.page_words.specs.Seat.{SeatView, is_grey_at}
 use Rattle.pair_notes.specs.Notes.{NotesGrow}
 use Rattle.ephemerons.proofs.GreySteps.{ReadsFields, fewer_untraced, grey_ground, grey_works, black_ground, black_looks}
-use Rattle.ephemerons.proofs.UnderWaySteps.{grey_under_way, black_under_way}
+use Rattle.ephemerons.proofs.UnderWaySteps.{grey_noted, grey_under_way, black_under_way}
 use Rattle.ephemerons.proofs.stepping.trace_taken.Given as given
 use Rattle.ephemerons.proofs.stepping.trace_taken.Goals as goal
 
@@ -53,7 +53,10 @@ returns-in-Some-clause-under_way g c =
     c.trace_fields.ensures.told c.requires.ground.known c.requires.under_way
 
 pub returns-in-Some-clause-noted : goal.returns-in-Some-clause-noted
-returns-in-Some-clause-noted g c = (read g c).notes.pairs
+returns-in-Some-clause-noted g c =
+    grey_noted c.args.types.now c.args.seat.now c.claim.new.seat c.trace_fields.new.seat c.args.marking.now c.trace_fields.new.marking c.args.notes.now
+    c.trace_fields.new.notes c.args.place (read g c) c.in-Some.ty (traced_words_of (kinds_of c.args.types.now c.in-Some.ty)) c.in-Some.ensures.claimed.noted
+    c.trace_fields.ensures.told
 
 pub returns-in_default-clause-ground : goal.returns-in_default-clause-ground
 returns-in_default-clause-ground g c =

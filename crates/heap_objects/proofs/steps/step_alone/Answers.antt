@@ -3,8 +3,8 @@ use mathlib.Core.Logic.{◌⊎◌}
 use Rattle.marker_crew.specs.Note.{Note}
 use Rattle.std.specs.List.{Contains}
 use Rattle.mark_worklist.specs.Refusals.{TellsRefused}
-use Rattle.marker_crew.specs.BodyGraph.{HasPair}
 use Rattle.marker_crew.specs.Notes.{NotesState, refusals_in}
+use Rattle.atomic_pause.specs.UnderWay.{IsOfTraced}
 use Rattle.heap_objects.specs.Crews.{IsStepped}
 use Rattle.heap_objects.specs.Marking.{GreyView, grey_of}
 use Rattle.heap_objects.proofs.AloneSteps.{own_is, grey_stepped, has_stepped_alone}
@@ -24,6 +24,6 @@ returns-clause-stepped c =
     (sym (grey_stepped c.args.grey.now c.trace_listed.new.marking x c.requires.own))
     (has_stepped_alone c.args.types.now c.args.seat.now c.trace_listed.new.seat g c.trace_listed.new.marking x c.trace_listed.result c.requires.home c.requires.crew
     c.trace_listed.ensures.under_way c.trace_listed.ensures.kept c.trace_listed.ensures.mode
-    (subst (λ (y : NotesState). (note : Note) → Contains x.notes note → Contains y.notes note ⊎ HasPair c.args.types.now c.args.seat.now.bodies note.holder note.word) own c.trace_listed.ensures.noted)
+    (subst (λ (y : NotesState). (note : Note) → Contains x.notes note → Contains y.notes note ⊎ IsOfTraced c.args.types.now c.trace_listed.new.seat note) own c.trace_listed.ensures.noted)
     (c.trace_listed.ensures.counted c.requires.differ) c.trace_listed.ensures.told
     (subst (λ (y : NotesState). TellsRefused (refusals_in y) (refusals_in x)) own c.trace_listed.ensures.notes_told))
