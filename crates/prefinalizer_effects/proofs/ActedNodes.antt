@@ -150,6 +150,8 @@ pub record StayPut (old new : SeatView) : Type 0 where
   pub on : new.on ≡ old.on
   pub extents : extents_of_bodies new.bodies ≡ extents_of_bodies old.bodies
   pub judged : IsJudged old → IsJudged new
+  pub early : new.early ≡ old.early
+  pub marked : new.marked ≡ old.marked
 
 -- headers were looked at
 pub put_looked : (v w x : SeatView) → OnlyLooked w x → StayPut v w → StayPut v x
@@ -159,19 +161,23 @@ put_looked v w x same put = record {
   on = ap (λ (z : SeatView). z.on) same ∙ put.on;
   extents = ap (λ (z : SeatView). extents_of_bodies z.bodies) same ∙ put.extents;
   judged = λ is. subst IsJudged (sym same) (put.judged is);
+  early = ap (λ (z : SeatView). z.early) same ∙ put.early;
+  marked = ap (λ (z : SeatView). z.marked) same ∙ put.marked;
 }
 
 linked_put : (v : SeatView) (target : Option ℕ) (change : Body → Body) → KeepsExtents change → StayPut v (words.change_linked v target change)
-linked_put v None change keeps = record { heap = refl; types = refl; on = refl; extents = refl; judged = λ is. is }
+linked_put v None change keeps = record { heap = refl; types = refl; on = refl; extents = refl; judged = λ is. is; early = refl; marked = refl }
 linked_put v (Some place) change keeps = record {
   heap = refl;
   types = refl;
   on = refl;
   extents = same_extents (λ b. cond (eqb b.place place) (change b) b) (at_place place change keeps) v.bodies;
   judged = judged_changed (λ b. cond (eqb b.place place) (change b) b) (at_place place change keeps) v;
+  early = refl;
+  marked = refl;
 }
 
 pub acted_put : (v : SeatView) (dying : Body) (action : Action) → StayPut v (words.acted v dying action)
-acted_put v dying A.Nothing = record { heap = refl; types = refl; on = refl; extents = refl; judged = λ is. is }
+acted_put v dying A.Nothing = record { heap = refl; types = refl; on = refl; extents = refl; judged = λ is. is; early = refl; marked = refl }
 acted_put v dying (A.Clear link field) = linked_put v (words.linked v.types dying link) (words.cleared_at v.types field) (cleared_keeps v.types field)
 acted_put v dying (A.Add link field amount) = linked_put v (words.linked v.types dying link) (words.added_at v.types field amount) (added_keeps v.types field amount)

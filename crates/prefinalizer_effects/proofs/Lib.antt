@@ -1,3 +1,4 @@
+pub mod Looking
 pub mod FieldWords
 pub mod BodiesChanged
 pub mod BodiesKept

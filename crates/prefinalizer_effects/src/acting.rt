@@ -2,6 +2,7 @@
 // that no barrier is needed, and to clear adds no reference.
 
 ghost use Rattle.std.specs.Prelude.{◌≡◌, false, Contains};
+ghost use Rattle.std.specs.Io.{StartsWith};
 ghost use Rattle.marker_core.specs.Bodies.{IsPlace};
 ghost use Rattle.marker_core.specs.declared.states.Body.{Body};
 ghost use Rattle.page_words.specs.Seat.{OnlyLooked};
@@ -28,6 +29,7 @@ pub fn apply(space: &Space, types: &TypeTable, seat: &mut MutatorSeat, place: u3
         → OnlyLooked (acted seat.old b action) seat.new }
     ensures typed { AreTyped seat.new }
     ensures links { AreLinked seat.new }
+    ensures looked { StartsWith seat.new.looked seat.old.looked }
 {
     fields_stand_apart();
     match action {
@@ -56,7 +58,9 @@ fn clear(space: &Space, types: &TypeTable, seat: &mut MutatorSeat, place: u32, f
     requires types { types.now ≡ seat.old.types }
     requires typed { AreTyped seat.old }
     requires place { IsPlace seat.old.bodies place }
-    ensures { OnlyLooked (changed_at seat.old place (cleared_at seat.old.types field)) seat.new }
+    ensures changed { OnlyLooked
+        (changed_at seat.old place (cleared_at seat.old.types field)) seat.new }
+    ensures looked { StartsWith seat.new.looked seat.old.looked }
 {
     seat.bodies_lie_apart();
     match field_in(space, types, seat, place, field) {
@@ -82,8 +86,9 @@ fn add(
     requires types { types.now ≡ seat.old.types }
     requires typed { AreTyped seat.old }
     requires place { IsPlace seat.old.bodies place }
-    ensures { OnlyLooked
+    ensures changed { OnlyLooked
         (changed_at seat.old place (added_at seat.old.types field amount)) seat.new }
+    ensures looked { StartsWith seat.new.looked seat.old.looked }
 {
     seat.bodies_lie_apart();
     match field_in(space, types, seat, place, field) {

@@ -1,6 +1,7 @@
 // The fields of the object at a place, by their numbers.
 
 ghost use Rattle.std.specs.Prelude.{◌≡◌, Contains, IfSome};
+ghost use Rattle.std.specs.Io.{StartsWith};
 ghost use Rattle.marker_core.specs.Bodies.{IsPlace};
 ghost use Rattle.marker_core.specs.declared.states.Body.{Body};
 ghost use Rattle.page_words.specs.Seat.{OnlyLooked};
@@ -32,6 +33,7 @@ pub fn field_in(
     ensures word { HasFoundWord seat.old place result }
     ensures pair { HasFoundPair seat.old place result }
     ensures view { OnlyLooked seat.old seat.new }
+    ensures looked { StartsWith seat.new.looked seat.old.looked }
 {
     fields_stand_apart();
     seat.bodies_lie_apart();
@@ -58,6 +60,7 @@ pub fn linked_from(
         → result ≡ linked seat.old.types b link }
     ensures place { IfSome result (IsPlace seat.old.bodies) }
     ensures view { OnlyLooked seat.old seat.new }
+    ensures looked { StartsWith seat.new.looked seat.old.looked }
 {
     seat.bodies_lie_apart();
     match field_in(space, types, seat, place, link) {

@@ -18,7 +18,8 @@
 //! What is proved: exactly the shown words are told, and nothing changes; an action changes exactly
 //! the field that it names, of the object that is named, and no mark. Where there is no such field,
 //! one of another kind, or null in field `link`, nothing changes. What `PausedBodies` answers and
-//! does is what the definitions say of the nodes.
+//! does is what the definitions say of the nodes. What was looked at before a call stands first
+//! after it.
 //!
 //! What is only tested or not said: how long it takes. It looks at the words of the fields alone.
 #![tactic(auto)]

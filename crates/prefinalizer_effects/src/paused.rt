@@ -2,6 +2,7 @@
 // change words, and never store a reference, so that nothing comes to life again.
 
 ghost use Rattle.std.specs.Prelude.{◌≡◌, ℕ, ◌≤◌, not, take};
+ghost use Rattle.std.specs.Io.{StartsWith};
 ghost use Rattle.gc_graph.specs.Actions.{shown_words, acted};
 ghost use Rattle.gc_graph.specs.ActionLaw.{HaveStayed};
 ghost use Rattle.gc_graph.specs.Pause.{is_dead_at};
@@ -29,6 +30,7 @@ pub struct PausedBodies<'a> {
 
 impl<'a> Bodies for PausedBodies<'a> {
     ghost use Rattle.std.proofs.Common.{◌∙◌, refl};
+    ghost use Rattle.std.proofs.Transfers.{starts_with_of_eq, starts_with_trans};
     ghost use Rattle.gc_graph.specs.ActionLaw.{HaveStayed};
     ghost use Rattle.prefinalizer_effects.specs.Prepared.{IsPrepared};
     ghost use Rattle.prefinalizer_effects.specs.Lending.{KeepsObjects};
@@ -58,6 +60,9 @@ impl<'a> Bodies for PausedBodies<'a> {
       types = refl;
       stayed = record { count = refl; place = λ n. refl; life = λ n. refl };
       extents = refl;
+      looked = starts_with_of_eq o.seat.now.looked o.seat.now.looked refl;
+      early = refl;
+      marked = refl;
     } };
 
     ghost keeps_on = { λ first second third a b. record {
@@ -71,6 +76,10 @@ impl<'a> Bodies for PausedBodies<'a> {
         life = λ n. b.stayed.life n ∙ a.stayed.life n;
       };
       extents = b.extents ∙ a.extents;
+      looked = starts_with_trans
+          third.seat.now.looked second.seat.now.looked first.seat.now.looked b.looked a.looked;
+      early = b.early ∙ a.early;
+      marked = b.marked ∙ a.marked;
     } };
 }
 
@@ -87,6 +96,7 @@ fn is_marked(
     ensures mark { (n : ℕ) → StandsAt nodes.now.value place n
         → result ≡ not (is_dead_at nodes.now.value n) }
     ensures view { OnlyLooked seat.old seat.new }
+    ensures looked { StartsWith seat.new.looked seat.old.looked }
 {
     let _ = types;
     let _ = nodes;
@@ -109,6 +119,7 @@ fn show_words(
     ensures words { (n : ℕ) → StandsAt nodes.now.value place n
         → take result into.new ≡ shown_words (node_at nodes.now.value n) }
     ensures view { OnlyLooked seat.old seat.new }
+    ensures looked { StartsWith seat.new.looked seat.old.looked }
 {
     let _ = nodes;
     type_table::fields_stand_apart();
@@ -131,6 +142,9 @@ fn act_on(
     ensures ready { IsPrepared space.now types.now seat.new nodes.new.value }
     ensures stayed { HaveStayed nodes.old.value nodes.new.value }
     ensures extents { extents_of_bodies seat.new.bodies ≡ extents_of_bodies seat.old.bodies }
+    ensures looked { StartsWith seat.new.looked seat.old.looked }
+    ensures early { seat.new.early ≡ seat.old.early }
+    ensures marked { seat.new.marked ≡ seat.old.marked }
 {
     gc_graph::actions_leave_nodes();
     seat.bodies_lie_apart();

@@ -1,6 +1,7 @@
 // The words of a dying object as its prefinalizers are shown them (`include/cppgc/prefinalizer.h`).
 
 ghost use Rattle.std.specs.Prelude.{◌≡◌, ℕ, ◌≤◌, Contains, take, slice_index};
+ghost use Rattle.std.specs.Io.{StartsWith};
 ghost use Rattle.marker_core.specs.Bodies.{IsPlace};
 ghost use Rattle.marker_core.specs.declared.states.Body.{Body};
 ghost use Rattle.page_words.specs.Seat.{OnlyLooked};
@@ -32,6 +33,7 @@ pub fn shown_words(
         → take result into.new ≡ spec.shown_words seat.old.types b }
     ensures rest { (i : ℕ) → result ≤ i → slice_index into.new i ≡ slice_index into.old i }
     ensures view { OnlyLooked seat.old seat.new }
+    ensures looked { StartsWith seat.new.looked seat.old.looked }
 {
     fields_stand_apart();
     seat.bodies_lie_apart();

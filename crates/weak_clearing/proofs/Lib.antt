@@ -1,4 +1,5 @@
 pub mod Lists
+pub mod Looking
 pub mod HandleWords
 pub mod Words
 pub mod Lessened

@@ -2,6 +2,7 @@
 // marked holds is left as it is.
 
 ghost use Rattle.std.specs.Prelude.{◌≡◌, false};
+ghost use Rattle.std.specs.Io.{StartsWith};
 ghost use Rattle.page_words.specs.Seat.{OnlyLooked};
 ghost use Rattle.page_space.specs.Space.{IsSeatOf};
 ghost use Rattle.weak_clearing.specs.declared.weak_handles.WeakHandles.TheVariants.{Fields};
@@ -23,6 +24,7 @@ pub fn clear_fields(space: &Space, types: &TypeTable, seat: &mut MutatorSeat)
     requires types { types.now ≡ seat.old.types }
     requires references { MarkedHaveWeakReferences seat.old }
     ensures cleared { OnlyLooked (with_weak_cleared seat.old) seat.new }
+    ensures looked { StartsWith seat.new.looked seat.old.looked }
 {
     clear_handles(space, types, seat, WeakHandles::Fields);
 }
@@ -32,7 +34,8 @@ pub(crate) fn clear_field(space: &Space, seat: &mut MutatorSeat, holder: u32, wo
     requires heap { IsSeatOf space.now seat.old }
     requires off { seat.old.on ≡ false }
     requires field { HasHandle Fields seat.old holder word }
-    ensures { OnlyLooked (handle_cleared Fields seat.old holder word) seat.new }
+    ensures cleared { OnlyLooked (handle_cleared Fields seat.old holder word) seat.new }
+    ensures looked { StartsWith seat.new.looked seat.old.looked }
 {
     seat.bodies_lie_apart();
     let target = get(space, seat, holder, word);

@@ -12,7 +12,7 @@
 //! objects whose target is not marked become null, both words of exactly their pairs whose key is
 //! not marked, and exactly the slots whose object is not marked. No other word changes, of objects
 //! that are not marked none at all, and no mark. A pair is cleared by `member_fields::clear_pair`,
-//! which stores the value first.
+//! which stores the value first. What was looked at before a call stands first after it.
 //!
 //! What is only tested or not said: how long it takes. A type without weak fields, or without
 //! pairs, costs a look at the header of each of its objects.

@@ -1,6 +1,7 @@
 // Whether an object was marked.
 
 ghost use Rattle.std.specs.Prelude.{◌≡◌, false, IfSome, IfNone};
+ghost use Rattle.std.specs.Io.{StartsWith};
 ghost use Rattle.marker_core.specs.Bodies.{IsPlace, IsReference};
 ghost use Rattle.marker_core.specs.Bodies.{holds};
 ghost use Rattle.page_words.specs.Seat.{OnlyLooked};
@@ -19,6 +20,7 @@ pub(crate) fn is_to_unmarked(space: &Space, seat: &mut MutatorSeat, reference: u
     requires reference { IsReference seat.old.bodies reference }
     ensures names { result ≡ names_unmarked seat.old.marked reference }
     ensures view { OnlyLooked seat.old seat.new }
+    ensures looked { StartsWith seat.new.looked seat.old.looked }
 {
     seat.bodies_lie_apart();
     reference != 0 && !is_marked(space, seat, (reference - 1) as u32)
@@ -31,6 +33,7 @@ pub fn is_marked(space: &Space, seat: &mut MutatorSeat, place: u32) -> bool
     requires place { IsPlace seat.old.bodies place }
     ensures mark { result ≡ holds seat.old.marked place }
     ensures view { OnlyLooked seat.old seat.new }
+    ensures looked { StartsWith seat.new.looked seat.old.looked }
 {
     seat.bodies_lie_apart();
     has_mark(space.words().load::<Reading>(seat, place))
@@ -44,6 +47,7 @@ pub(crate) fn marked_type(space: &Space, seat: &mut MutatorSeat, place: u32) -> 
     ensures marked { IfSome result (IsMarkedOf seat.old place) }
     ensures unmarked { IfNone result (holds seat.old.marked place ≡ false) }
     ensures view { OnlyLooked seat.old seat.new }
+    ensures looked { StartsWith seat.new.looked seat.old.looked }
 {
     seat.bodies_lie_apart();
     let word = space.words().load::<Reading>(seat, place);

@@ -2,6 +2,7 @@
 // marked holds is left as it is.
 
 ghost use Rattle.std.specs.Prelude.{◌≡◌, false};
+ghost use Rattle.std.specs.Io.{StartsWith};
 ghost use Rattle.gc_graph.specs.declared.kind.Kind.TheVariants.{Pair};
 ghost use Rattle.page_words.specs.Seat.{OnlyLooked};
 ghost use Rattle.page_space.specs.Space.{IsSeatOf};
@@ -24,6 +25,7 @@ pub fn clear_pairs(space: &Space, types: &TypeTable, seat: &mut MutatorSeat)
     requires types { types.now ≡ seat.old.types }
     requires references { MarkedHaveReferencesOf Pair seat.old }
     ensures cleared { OnlyLooked (with_pairs_cleared seat.old) seat.new }
+    ensures looked { StartsWith seat.new.looked seat.old.looked }
 {
     clear_handles(space, types, seat, WeakHandles::Pairs);
 }
@@ -34,7 +36,8 @@ pub(crate) fn clear_pair(space: &Space, seat: &mut MutatorSeat, holder: u32, wor
     requires heap { IsSeatOf space.now seat.old }
     requires off { seat.old.on ≡ false }
     requires pair { HasHandle Pairs seat.old holder word }
-    ensures { OnlyLooked (handle_cleared Pairs seat.old holder word) seat.new }
+    ensures cleared { OnlyLooked (handle_cleared Pairs seat.old holder word) seat.new }
+    ensures looked { StartsWith seat.new.looked seat.old.looked }
 {
     seat.bodies_lie_apart();
     let (key, _value) = read_pair(space, seat, holder, word);

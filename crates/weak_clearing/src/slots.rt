@@ -2,6 +2,7 @@
 
 ghost use Rattle.std.specs.Prelude.{◌≡◌, ◌<◌, All, None, length, map, not, false};
 ghost use Rattle.std.specs.Prelude.{slice_index_or, slice_set};
+ghost use Rattle.std.specs.Io.{StartsWith};
 ghost use Rattle.std.specs.Option.{ForSome};
 ghost use Rattle.gc_graph.specs.Pause.{clear_slot};
 ghost use Rattle.page_words.specs.Seat.{OnlyLooked};
@@ -22,6 +23,7 @@ pub fn clear_slots(space: &Space, seat: &mut MutatorSeat, weak: &mut Slots)
     requires places { All (IsPlace seat.old.bodies) (taken weak.old) }
     ensures cleared { weak.new ≡ map (clear_slot (λ a. not (holds seat.old.marked a))) weak.old }
     ensures view { OnlyLooked seat.old seat.new }
+    ensures looked { StartsWith seat.new.looked seat.old.looked }
 {
     for i in 0..weak.len() {
         clear_at(space, seat, weak, i);
@@ -37,6 +39,7 @@ fn clear_at(space: &Space, seat: &mut MutatorSeat, weak: &mut Slots, i: u32)
     ensures cleared { weak.new ≡ slice_set weak.old i (clear_slot
         (λ a. not (holds seat.old.marked a)) (slice_index_or weak.old i None)) }
     ensures view { OnlyLooked seat.old seat.new }
+    ensures looked { StartsWith seat.new.looked seat.old.looked }
 {
     if let Some(place) = weak.get(i) {
         if !is_marked(space, seat, place) {

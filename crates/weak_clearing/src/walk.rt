@@ -1,6 +1,7 @@
 // From object to object, and from handle to handle of each.
 
 ghost use Rattle.std.specs.Prelude.{◌≡◌, ◌/◌, ◌<◌, false};
+ghost use Rattle.std.specs.Io.{StartsWith};
 ghost use Rattle.marker_core.specs.Bodies.{IsPlace};
 ghost use Rattle.page_words.specs.Seat.{OnlyLooked, block_words};
 ghost use Rattle.page_space.specs.Pages.{word_count};
@@ -25,7 +26,8 @@ pub fn clear_handles(space: &Space, types: &TypeTable, seat: &mut MutatorSeat, h
     requires off { seat.old.on ≡ false }
     requires types { types.now ≡ seat.old.types }
     requires references { MarkedHaveReferencesOf (kind_of_handles handles) seat.old }
-    ensures { OnlyLooked (all_cleared handles seat.old) seat.new }
+    ensures cleared { OnlyLooked (all_cleared handles seat.old) seat.new }
+    ensures looked { StartsWith seat.new.looked seat.old.looked }
 {
     if !handles.are_in(types) {
         return;
@@ -54,7 +56,8 @@ fn clear_block(
     requires references { MarkedHaveReferencesOf (kind_of_handles handles) seat.old }
     requires block { block < word_count space.now.shape / block_words }
     requires starts { AreStartsOf seat.old.bodies block starts }
-    ensures { OnlyLooked (block_cleared handles seat.old block) seat.new }
+    ensures cleared { OnlyLooked (block_cleared handles seat.old block) seat.new }
+    ensures looked { StartsWith seat.new.looked seat.old.looked }
 {
     seat.bodies_lie_apart();
     let mut left = starts;
@@ -78,7 +81,8 @@ fn clear_object(
     requires types { types.now ≡ seat.old.types }
     requires references { MarkedHaveReferencesOf (kind_of_handles handles) seat.old }
     requires start { IsPlace seat.old.bodies a }
-    ensures { OnlyLooked (body_cleared handles seat.old a) seat.new }
+    ensures cleared { OnlyLooked (body_cleared handles seat.old a) seat.new }
+    ensures looked { StartsWith seat.new.looked seat.old.looked }
 {
     if let Some(ty) = marked_type(space, seat, a) {
         clear_holder(space, types, seat, handles, a, ty);
@@ -99,7 +103,8 @@ fn clear_holder(
     requires types { types.now ≡ seat.old.types }
     requires references { MarkedHaveReferencesOf (kind_of_handles handles) seat.old }
     requires marked { IsMarkedOf seat.old holder ty }
-    ensures { OnlyLooked (body_cleared handles seat.old holder) seat.new }
+    ensures cleared { OnlyLooked (body_cleared handles seat.old holder) seat.new }
+    ensures looked { StartsWith seat.new.looked seat.old.looked }
 {
     seat.bodies_lie_apart();
     let words = handles.words_of(types, ty);
@@ -113,7 +118,8 @@ fn clear_handle(space: &Space, seat: &mut MutatorSeat, handles: WeakHandles, hol
     requires heap { IsSeatOf space.now seat.old }
     requires off { seat.old.on ≡ false }
     requires handle { HasHandle handles seat.old holder word }
-    ensures { OnlyLooked (handle_cleared handles seat.old holder word) seat.new }
+    ensures cleared { OnlyLooked (handle_cleared handles seat.old holder word) seat.new }
+    ensures looked { StartsWith seat.new.looked seat.old.looked }
 {
     match handles {
         WeakHandles::Fields => clear_field(space, seat, holder, word),

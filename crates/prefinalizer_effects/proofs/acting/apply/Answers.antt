@@ -2,6 +2,7 @@ use Rattle.std.proofs.Common.{ap, sym, ◌∙◌, subst}
 use Rattle.page_words.specs.Seat.{SeatView, OnlyLooked}
 use Rattle.prefinalizer_effects.specs.Acting.{AreTyped, AreLinked, cleared_at, added_at, changed_at}
 use Rattle.prefinalizer_effects.proofs.BodiesKept.{clearing_keeps, adding_keeps, typed_kept, links_kept}
+use Rattle.prefinalizer_effects.proofs.Looking.{looks_on}
 use Rattle.prefinalizer_effects.proofs.acting.apply.Goals as goal
 
 pub clear-requires-clause-typed : goal.clear-requires-clause-typed
@@ -12,12 +13,12 @@ add-requires-clause-typed c = subst AreTyped (sym c.linked_from-in-Add.ensures.v
 
 is_cleared : (c : goal.After-clear)
     → OnlyLooked (changed_at c.args.seat.now c.in-Some.named (cleared_at c.args.seat.now.types c.in-Clear.field)) c.clear.new.seat
-is_cleared c = c.clear.ensures ∙ ap (λ (v : SeatView). changed_at v c.in-Some.named (cleared_at v.types c.in-Clear.field)) c.linked_from.ensures.view
+is_cleared c = c.clear.ensures.changed ∙ ap (λ (v : SeatView). changed_at v c.in-Some.named (cleared_at v.types c.in-Clear.field)) c.linked_from.ensures.view
 
 is_added : (c : goal.After-add)
     → OnlyLooked (changed_at c.args.seat.now c.in-Some-linked_from.named (added_at c.args.seat.now.types c.in-Add.field c.in-Add.amount)) c.add.new.seat
 is_added c =
-    c.add.ensures
+    c.add.ensures.changed
     ∙ ap (λ (v : SeatView). changed_at v c.in-Some-linked_from.named (added_at v.types c.in-Add.field c.in-Add.amount)) c.linked_from-in-Add.ensures.view
 
 pub returns-in-Some-clause-typed : goal.returns-in-Some-clause-typed
@@ -51,3 +52,11 @@ returns-in-Some-linked_from-clause-links c =
 
 pub returns-in_default-linked_from-clause-typed : goal.returns-in_default-linked_from-clause-typed
 returns-in_default-linked_from-clause-typed c = subst AreTyped (sym c.linked_from-in-Add.ensures.view) c.requires.typed
+
+pub returns-in-Some-clause-looked : goal.returns-in-Some-clause-looked
+returns-in-Some-clause-looked c =
+    looks_on c.args.seat.now c.linked_from.new.seat c.clear.new.seat c.linked_from.ensures.looked c.clear.ensures.looked
+
+pub returns-in-Some-linked_from-clause-looked : goal.returns-in-Some-linked_from-clause-looked
+returns-in-Some-linked_from-clause-looked c =
+    looks_on c.args.seat.now c.linked_from-in-Add.new.seat c.add.new.seat c.linked_from-in-Add.ensures.looked c.add.ensures.looked

@@ -1,6 +1,7 @@
 use Rattle.std.proofs.Common.{◌-◌}
 use Rattle.prefinalizer_effects.specs.Places.{IsFound}
 use Rattle.prefinalizer_effects.proofs.FieldWords.{type_told, extra_told, field_told, type_known, size_least, found_words, found_pairs}
+use Rattle.prefinalizer_effects.proofs.Looking.{looks_at}
 use Rattle.prefinalizer_effects.proofs.fields.field_in.Goals as goal
 
 pub size_of-requires-clause-ty : goal.size_of-requires-clause-ty
@@ -34,3 +35,6 @@ returns-clause-word c = found_words c.args.seat.now c.args.place c.args.field c.
 
 pub returns-clause-pair : goal.returns-clause-pair
 returns-clause-pair c = found_pairs c.args.seat.now c.args.place c.args.field c.field_at.result c.fields_stand_apart.ensures c.requires.typed c.requires.place (is_found c)
+
+pub returns-clause-looked : goal.returns-clause-looked
+returns-clause-looked c = looks_at c.args.seat.now c.header_at-header.new.seat c.args.place c.header_at-header.ensures.looked

@@ -5,6 +5,7 @@ use Rattle.type_table.specs.Types.{is_kind}
 use Rattle.marker_core.specs.Bodies.{IsReference}
 use Rattle.member_fields.specs.Looked.{word_looked, word_from}
 use Rattle.prefinalizer_effects.proofs.FieldWords.{link_reference, reference_fits, names_place}
+use Rattle.prefinalizer_effects.proofs.Looking.{looks_same, looks_on}
 use Rattle.prefinalizer_effects.proofs.fields.linked_from.Goals as goal
 
 refers : (c : goal.After-get) → IsReference c.args.seat.now.bodies c.get.result
@@ -23,3 +24,7 @@ place_in-requires c = reference_fits c.args.seat.now c.get.result c.bodies_lie_a
 
 pub returns-in-Some-Strong-default-clause-place : goal.returns-in-Some-Strong-default-clause-place
 returns-in-Some-Strong-default-clause-place c = names_place c.args.seat.now.bodies c.get.result c.place_in.result (refers c.before) c.place_in.ensures
+
+pub returns-in-Some-Strong-default-clause-looked : goal.returns-in-Some-Strong-default-clause-looked
+returns-in-Some-Strong-default-clause-looked c =
+    looks_on c.args.seat.now c.field_in.new.seat c.get.new.seat c.field_in.ensures.looked (looks_same c.field_in.new.seat c.get.new.seat c.get.ensures.view)

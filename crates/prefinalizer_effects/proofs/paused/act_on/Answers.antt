@@ -18,6 +18,7 @@ use Rattle.gc_graph.specs.NodeNumbers.{there_below}
 use Rattle.prefinalizer_effects.proofs.PrefinalizerBodies.{held_acted}
 use Rattle.prefinalizer_effects.proofs.PreparedBodies.{bodies_typed, bodies_linked}
 use Rattle.prefinalizer_effects.proofs.StandingNodes.{stands_there, stands_body}
+use Rattle.prefinalizer_effects.proofs.Looking.{looks_same, looks_on}
 use Rattle.prefinalizer_effects.proofs.paused.act_on.Goals as goal
 
 pub serial_at-number-requires-clause-start : goal.serial_at-number-requires-clause-start
@@ -83,6 +84,17 @@ put c n stands =
 
 pub returns-clause-extents : goal.returns-clause-extents
 returns-clause-extents c = (put c c.requires.place.0 c.requires.place.1).extents
+
+pub returns-clause-looked : goal.returns-clause-looked
+returns-clause-looked c =
+    looks_on c.args.seat.now c.serial_at-number.new.seat c.apply.new.seat
+    (looks_same c.args.seat.now c.serial_at-number.new.seat c.serial_at-number.ensures.view) c.apply.ensures.looked
+
+pub returns-clause-early : goal.returns-clause-early
+returns-clause-early c = (put c c.requires.place.0 c.requires.place.1).early
+
+pub returns-clause-marked : goal.returns-clause-marked
+returns-clause-marked c = (put c c.requires.place.0 c.requires.place.1).marked
 
 pub returns-clause-nodes : goal.returns-clause-nodes
 returns-clause-nodes c = λ n stands. sym (nodes_left c n stands)

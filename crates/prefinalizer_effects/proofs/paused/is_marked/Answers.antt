@@ -6,6 +6,7 @@ use Rattle.page_words.specs.Seat.{SeatView}
 use Rattle.nodes_in_words.specs.Nodes.{place_of, body_of}
 use Rattle.nodes_in_words.specs.NodePlaces.{node_body}
 use Rattle.prefinalizer_effects.proofs.StandingNodes.{stands_there, stands_body, mark_tells}
+use Rattle.prefinalizer_effects.proofs.Looking.{looks_at}
 use Rattle.prefinalizer_effects.proofs.paused.is_marked.Goals as goal
 
 pub header_at-requires-clause-start : goal.header_at-requires-clause-start
@@ -22,3 +23,6 @@ returns-clause-mark c = (λ n stands.
     (c.header_at.ensures.header b (node_body nodes v n c.requires.ready.held.bodies (stands_there nodes c.args.place n stands)) at).mark.alone
     (c.bodies_lie_apart.ensures.at_rest ready.off).none_lent
     ∙ ap (holds v.marked) at ∙ mark_tells nodes v c.args.place n c.requires.ready.held ready.judged stands)
+
+pub returns-clause-looked : goal.returns-clause-looked
+returns-clause-looked c = looks_at c.args.seat.now c.header_at.new.seat c.args.place c.header_at.ensures.looked

@@ -10,6 +10,7 @@ use Rattle.marker_core.specs.Layout.{stop_at}
 use Rattle.page_words.specs.Seat.{SeatView}
 use Rattle.prefinalizer_effects.specs.Shown.{shown_of_kinds}
 use Rattle.prefinalizer_effects.proofs.FieldWords.{type_known, kinds_told, size_told, long_fields, fields_inside}
+use Rattle.prefinalizer_effects.proofs.Looking.{looks_at, looks_on, looks_read}
 use Rattle.prefinalizer_effects.proofs.WordsShown.{shown_length, word_shown, one_more_shown, first_words}
 use Rattle.type_table.specs.KindLaws.{length-kinds_of_words}
 use Rattle.prefinalizer_effects.proofs.shown.shown_words.Goals as goal
@@ -34,11 +35,20 @@ pub load-w-requires-clause-allowed : goal.load-w-requires-clause-allowed
 load-w-requires-clause-allowed c = le-leb (c.args.place + (2 + c.loop-i.i)) (stop_at c.loop-i.seat.count) (load-w-requires-clause-address c)
 
 pub loop-i-init : goal.loop-i-init
-loop-i-init c = record { view = c.header_at-ty.ensures.view; long = search rules; rest = λ k past. refl; front = λ b there at. refl }
+loop-i-init c = record {
+  view = c.header_at-ty.ensures.view;
+  looked = looks_at c.args.seat.now c.header_at-ty.new.seat c.args.place c.header_at-ty.ensures.looked;
+  long = search rules;
+  rest = λ k past. refl;
+  front = λ b there at. refl;
+}
 
 pub loop-i-preserved : goal.loop-i-preserved
 loop-i-preserved c = record {
   view = c.load-w.ensures.read refl ∙ c.loop-i.invariant.view;
+  looked =
+      looks_on c.args.seat.now c.loop-i.seat c.load-w.new.seat c.loop-i.invariant.looked
+      (looks_read c.loop-i.seat c.load-w.new.seat (c.args.place + (2 + c.loop-i.i)) c.load-w.result c.load-w.ensures.view);
   long = length-set c.loop-i.into c.loop-i.i c.shown.result ∙ c.loop-i.invariant.long;
   rest = λ k past.
       get_or-set_other c.loop-i.into c.loop-i.i k c.shown.result 0 (λ e. omega (arith, e, past)) ∙ c.loop-i.invariant.rest k (omega (arith, past));

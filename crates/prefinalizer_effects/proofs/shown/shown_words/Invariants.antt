@@ -1,4 +1,5 @@
 use Rattle.std.proofs.Common.{◌≡◌, ℕ, ◌≤◌, length, take, get_or}
+use Rattle.std.specs.Io.{StartsWith}
 use Rattle.std.specs.List.{Contains}
 use Rattle.type_table.specs.Types.{kinds_of}
 use Rattle.type_table.specs.Layouts.{kinds_of_words}
@@ -10,6 +11,7 @@ use Rattle.prefinalizer_effects.proofs.shown.shown_words.Given as goal
 abbrev pub invariant-loop-i : goal.invariant-loop-i
 invariant-loop-i l = record {
   view : OnlyLooked l.fn.seat l.seat;
+  looked : StartsWith l.seat.looked l.fn.seat.looked;
   long : length l.into ≡ 64;
   rest : (k : ℕ) → l.i ≤ k → get_or l.into k 0 ≡ get_or l.fn.into k 0;
   front : (b : Body) → Contains l.fn.seat.bodies b → b.place ≡ l.place

@@ -6,6 +6,7 @@ use Rattle.member_fields.specs.Words.{written}
 use Rattle.member_fields.specs.Looked.{word_looked}
 use Rattle.weak_clearing.specs.declared.weak_handles.WeakHandles.TheVariants.{Fields}
 use Rattle.weak_clearing.specs.Clearing.{names_unmarked}
+use Rattle.weak_clearing.proofs.Looking.{looks_as, looks_on, looks_from}
 use Rattle.weak_clearing.proofs.Words.{field_word, reads_reference, handle_stays, field_nulled}
 use Rattle.weak_clearing.proofs.fields.clear_field.Goals as goal
 
@@ -25,17 +26,27 @@ set_weak-requires-clause-field c =
 pub set_weak-requires-clause-target : goal.set_weak-requires-clause-target
 set_weak-requires-clause-target c = inl refl
 
-pub returns-then-is_to_unmarked : goal.returns-then-is_to_unmarked
-returns-then-is_to_unmarked c =
+pub returns-then-is_to_unmarked-clause-cleared : goal.returns-then-is_to_unmarked-clause-cleared
+returns-then-is_to_unmarked-clause-cleared c =
     let named : names_unmarked c.args.seat.now.marked c.get-target.result ≡ true =
     ap (λ (v : SeatView). names_unmarked v.marked c.get-target.result) (sym c.get-target.ensures.view) ∙ sym c.is_to_unmarked.ensures.names ∙ c.if-is_to_unmarked.true in
     ap unlooked c.set_weak.ensures.word
     ∙ ap (λ (v : SeatView). written v c.args.holder c.args.word 0) (c.is_to_unmarked.ensures.view ∙ ap unlooked c.get-target.ensures.view)
     ∙ ap unlooked (field_nulled c.args.seat.now c.args.holder c.args.word c.get-target.result c.get-target.ensures.word named)
 
-pub returns-else-is_to_unmarked : goal.returns-else-is_to_unmarked
-returns-else-is_to_unmarked c =
+pub returns-else-is_to_unmarked-clause-cleared : goal.returns-else-is_to_unmarked-clause-cleared
+returns-else-is_to_unmarked-clause-cleared c =
     let kept : names_unmarked c.args.seat.now.marked c.get-target.result ≡ false =
     ap (λ (v : SeatView). names_unmarked v.marked c.get-target.result) (sym c.get-target.ensures.view) ∙ sym c.is_to_unmarked.ensures.names ∙ c.if-is_to_unmarked.false in
     c.is_to_unmarked.ensures.view ∙ ap unlooked c.get-target.ensures.view
     ∙ ap unlooked (handle_stays c.args.seat.now c.args.holder c.args.word c.get-target.result c.get-target.ensures.word Fields kept)
+
+pub returns-then-is_to_unmarked-clause-looked : goal.returns-then-is_to_unmarked-clause-looked
+returns-then-is_to_unmarked-clause-looked c =
+    looks_on c.args.seat.now c.is_to_unmarked.new.seat c.set_weak.new.seat
+    (looks_from c.args.seat.now c.get-target.new.seat c.is_to_unmarked.new.seat c.get-target.ensures.view c.is_to_unmarked.ensures.looked)
+    (looks_as c.is_to_unmarked.new.seat c.set_weak.new.seat (ap (λ (v : SeatView). v.looked) c.set_weak.ensures.word))
+
+pub returns-else-is_to_unmarked-clause-looked : goal.returns-else-is_to_unmarked-clause-looked
+returns-else-is_to_unmarked-clause-looked c =
+    looks_from c.args.seat.now c.get-target.new.seat c.is_to_unmarked.new.seat c.get-target.ensures.view c.is_to_unmarked.ensures.looked

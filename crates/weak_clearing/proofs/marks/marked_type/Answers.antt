@@ -3,6 +3,7 @@ use Rattle.marker_core.specs.declared.states.Body.{Body}
 use Rattle.page_words.specs.BodyPlaces.{small_type}
 use Rattle.marker_core.specs.Bodies.{holds}
 use Rattle.page_words.specs.Seat.{SeatView}
+use Rattle.weak_clearing.proofs.Looking.{looks_read}
 use Rattle.weak_clearing.proofs.marks.marked_type.Goals as goal
 
 pub returns-then-has_mark-clause-marked : goal.returns-then-has_mark-clause-marked
@@ -25,3 +26,9 @@ returns-else-has_mark-clause-unmarked c =
     let place = c.requires.place in
     sym ((c.load-word.ensures.word.header place.0 place.1 place.2).mark.alone (c.bodies_lie_apart.ensures.at_rest c.requires.off).none_lent)
     ∙ sym c.has_mark.ensures ∙ c.if-has_mark.false
+
+pub returns-then-has_mark-clause-looked : goal.returns-then-has_mark-clause-looked
+returns-then-has_mark-clause-looked c = looks_read c.args.seat.now c.load-word.new.seat c.args.place c.load-word.result c.load-word.ensures.view
+
+pub returns-else-has_mark-clause-looked : goal.returns-else-has_mark-clause-looked
+returns-else-has_mark-clause-looked c = looks_read c.args.seat.now c.load-word.new.seat c.args.place c.load-word.result c.load-word.ensures.view

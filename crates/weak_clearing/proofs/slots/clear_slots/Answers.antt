@@ -4,6 +4,7 @@ use Rattle.gc_graph.specs.Pause.{clear_slot}
 use Rattle.marker_core.specs.Bodies.{IsPlace, holds}
 use Rattle.page_words.specs.Seat.{SeatView}
 use Rattle.weak_clearing.proofs.InTurn.{first_many, next_same, next_cleared, all_cleared, place_in_slot}
+use Rattle.weak_clearing.proofs.Looking.{looks_on}
 use Rattle.weak_clearing.proofs.slots.clear_slots.Goals as goal
 
 abbrev unmarked : SeatView → ℕ → Bool
@@ -31,6 +32,7 @@ loop-i-preserved c =
           ∙ ap (λ slots. set slots c.loop-i.i (clear_slot dead (get_or slots c.loop-i.i None))) c.loop-i.invariant.cleared
           ∙ next_cleared dead c.loop-i.i c.args.weak.now low;
       view = c.clear_at.ensures.view ∙ c.loop-i.invariant.view;
+      looked = looks_on c.args.seat.now c.loop-i.seat c.clear_at.new.seat c.loop-i.invariant.looked c.clear_at.ensures.looked;
     }
 
 pub returns-clause-cleared : goal.returns-clause-cleared

@@ -1,4 +1,4 @@
-use Rattle.std.proofs.Common.{◌≡◌, ℕ, ◌+◌, ◌*◌, ◌/◌, ◌%◌, ◌<◌, ◌≤◌, ◌^◌, bit_and, eqb, inl, inr, arith, ap, sym, ◌∙◌, subst, rules}
+use Rattle.std.proofs.Common.{◌≡◌, ℕ, ◌+◌, ◌*◌, ◌/◌, ◌%◌, ◌<◌, ◌≤◌, ◌^◌, bit_and, eqb, inl, inr, arith, refl, ap, sym, ◌∙◌, subst, rules}
 use Rattle.std.specs.Int.{bit_at, bit_not, trailing_zeros}
 use mir.Syntax.{w64}
 use Rattle.std.proofs.lemmas.Bool.{cases_eq}
@@ -10,6 +10,7 @@ use Rattle.weak_clearing.specs.Clearing.{MarkedHaveReferencesOf}
 use Rattle.weak_clearing.specs.Steps.{kind_of_handles, body_cleared}
 use Rattle.weak_clearing.proofs.BlockWalk.{is_passed, still_left, none_left, one_passed, not_next}
 use Rattle.weak_clearing.proofs.ObjectWalk.{where_references, where_place, where_none, where_same, where_after}
+use Rattle.weak_clearing.proofs.Looking.{looks_same, looks_on}
 use Rattle.weak_clearing.proofs.walk.clear_block.Goals as goal
 
 pub loop-left-init : goal.loop-left-init
@@ -17,6 +18,7 @@ loop-left-init c = record {
   cleared = ap unlooked (where_none c.args.handles c.args.seat.now (is_passed c.args.block c.args.starts) (λ b there. still_left c.args.block c.args.starts b.place (λ here.
       (c.requires.starts (b.place % 64) (omega arith)).1
       (let at : b.place ≡ 64 * c.args.block + b.place % 64 = omega (arith, here) in (b, there, at)))));
+  looked = looks_same c.args.seat.now c.args.seat.now refl;
   starts = λ i few set. set;
 }
 
@@ -72,19 +74,20 @@ loop-left-preserved c =
     let others = bit_at_clear_other w64 left start low.0 in
     record {
       cleared =
-          c.clear_object.ensures
+          c.clear_object.ensures.cleared
           ∙ ap (λ (v : SeatView). body_cleared c.args.handles v (64 * c.args.block + start)) c.loop-left.invariant.cleared
           ∙ ap unlooked (where_after c.args.handles c.args.seat.now (is_passed c.args.block left) (λ a. eqb a (64 * c.args.block + start)) (is_passed c.args.block (rest_of left start))
           (λ a. not_next c.args.block left start a low.0 low.1)
           (λ a. one_passed c.args.block left (rest_of left start) start a low.0 low.1 clear others));
+      looked = looks_on c.args.seat.now c.loop-left.seat c.clear_object.new.seat c.loop-left.invariant.looked c.clear_object.ensures.looked;
       starts = λ i few set. elim (cases_eq i start) [
         | inl here ↦ absurd (omega (arith, set, clear, ap (bit_at (rest_of left start)) here))
         | inr other ↦ c.loop-left.invariant.starts i few (sym (others i few other) ∙ set)
       ];
     }
 
-pub returns : goal.returns
-returns c =
+pub returns-clause-cleared : goal.returns-clause-cleared
+returns-clause-cleared c =
     c.loop-left.invariant.cleared
     ∙ ap unlooked (where_same c.args.handles c.args.seat.now (is_passed c.args.block c.loop-left.left) (λ a. eqb (a / 64) c.args.block)
     (λ a. sym (none_left c.args.block c.loop-left.left a (λ i. ap (λ n. bit_at n i) c.loop-left-test.false ∙ bit_at-zero i))))

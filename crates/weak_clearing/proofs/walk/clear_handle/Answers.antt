@@ -8,7 +8,7 @@ pub clear_field-requires-clause-field : goal.clear_field-requires-clause-field
 clear_field-requires-clause-field c =
     subst (λ (handles : WeakHandles). HasHandle handles c.args.seat.now c.args.holder c.args.word) c.in-Fields.is c.requires.handle
 
-pub returns-in-Fields : goal.returns-in-Fields
-returns-in-Fields c =
-    c.clear_field.ensures
+pub returns-in-Fields-clause-cleared : goal.returns-in-Fields-clause-cleared
+returns-in-Fields-clause-cleared c =
+    c.clear_field.ensures.cleared
     ∙ ap (λ (handles : WeakHandles). unlooked (handle_cleared handles c.args.seat.now c.args.holder c.args.word)) (sym c.in-Fields.is)
