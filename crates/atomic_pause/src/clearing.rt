@@ -2,6 +2,7 @@
 // object goes.
 
 ghost use Rattle.std.specs.Prelude.{◌≡◌, false, All, map, not};
+ghost use Rattle.std.specs.Io.{StartsWith};
 ghost use Rattle.gc_graph.specs.Pause.{clear_slot};
 ghost use Rattle.gc_graph.specs.declared.kind.Kind.TheVariants.{Pair};
 ghost use Rattle.marker_core.specs.Bodies.{IsPlace};
@@ -28,6 +29,7 @@ pub fn clear_weak(space: &Space, types: &TypeTable, seat: &mut MutatorSeat, weak
     requires places { All (IsPlace seat.old.bodies) (taken weak.old) }
     ensures slots { weak.new ≡ map (clear_slot (λ a. not (holds seat.old.marked a))) weak.old }
     ensures fields { OnlyLooked (with_pairs_cleared (with_weak_cleared seat.old)) seat.new }
+    ensures looked { StartsWith seat.new.looked seat.old.looked }
 {
     clear_slots(space, seat, weak);
     // Weak fields first: a pair's words are then still as they were.

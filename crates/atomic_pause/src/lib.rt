@@ -19,7 +19,7 @@
 //! nodes run, the last that was registered first, and nothing comes to life again. A precise pause
 //! doesn't look at the stack. It needs no memory and can't fail. Until marking ends, a precise pause
 //! to which no memory was refused looks at no headers but those of kept objects and of keys of their
-//! pairs (`mark_out`).
+//! pairs.
 //!
 //! What is only tested or not said: how long it takes, and which headers weak clearing and
 //! prefinalizers look at once marking has ended.

@@ -19,6 +19,7 @@ ghost use Rattle.ephemerons.specs.Notes.{group_at, refusals_in};
 ghost use Rattle.prefinalizer_effects.specs.Nodes.{AreOfValid, IsHeld};
 ghost use Rattle.prefinalizer_effects.specs.PlacesInWords.{places_of};
 ghost use Rattle.prefinalizer_effects.specs.Prepared.{setup_of, IsPrepared};
+ghost use Rattle.atomic_pause.specs.Marking.{LooksEarlyWithin};
 ghost use Rattle.atomic_pause.specs.Pausing.{NamePlaces, IsMayWithin, hits_in, IsPaused};
 ghost use Rattle.atomic_pause.specs.Pausing.{IsPausable, IsPausedRegion, shared_roots};
 ghost use Rattle.atomic_pause.specs.Left.{seat_left, nodes_left, marking_left};
@@ -91,6 +92,10 @@ pub fn pause(parts: Parts, notes: &mut [Pairs], stack: &[u64], precise: bool) ->
         IsUnrefused (marking_left parts.exit).now.overflow notes.new → ⊥ }
     ensures whole { result.walked ≡ false →
         IsUnrefused (marking_left parts.exit).now.overflow notes.new }
+    ensures looked { precise ≡ true
+        → IsUnrefused (marking_left parts.exit).now.overflow notes.new
+        → LooksEarlyWithin parts.entry.types.now parts.entry.seat.now
+        (seat_left parts.exit).now }
     ensures told { TellsRefused (refusals_of parts.entry.marking.now)
         (refusals_of (marking_left parts.exit).now) }
     ensures notes_told { (i : ℕ) → TellsRefused

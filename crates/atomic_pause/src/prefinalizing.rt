@@ -2,6 +2,7 @@
 // change words, and never store a reference, so that nothing comes to life again.
 
 ghost use Rattle.std.specs.Prelude.{◌≡◌, All, length};
+ghost use Rattle.std.specs.Io.{StartsWith};
 ghost use Rattle.gc_graph.specs.ActionLaw.{HaveStayed};
 ghost use Rattle.gc_graph.specs.Pause.{run_order, prefinalised};
 ghost use Rattle.callback_table.specs.Registry.{IsRegistered, registrations_of};
@@ -37,6 +38,9 @@ pub fn prefinalise(
     ensures ready { IsPrepared space.now types.now seat.new nodes.new.value }
     ensures stayed { HaveStayed nodes.old.value nodes.new.value }
     ensures extents { extents_of_bodies seat.new.bodies ≡ extents_of_bodies seat.old.bodies }
+    ensures looked { StartsWith seat.new.looked seat.old.looked }
+    ensures early { seat.new.early ≡ seat.old.early }
+    ensures marked { seat.new.marked ≡ seat.old.marked }
 {
     let mut bodies = PausedBodies {
         seat,

@@ -2,6 +2,7 @@
 // with the pause's entry.
 
 ghost use Rattle.std.specs.Prelude.{◌≡◌, ◌<◌, ◌+◌, ◌==◌, ℕ, true, false, not, Some, None, Contains};
+ghost use Rattle.std.specs.Io.{StartsWith};
 ghost use Rattle.std.specs.List.{list_any};
 ghost use Rattle.std.specs.Option.{ForSome};
 ghost use Rattle.gc_graph.specs.History.{NamesWeakSlots};
@@ -40,6 +41,7 @@ pub fn clear_region(
     ensures weak { NamesWeakSlots (dying_of (λ a. not (holds seat.old.marked a)) held)
         (slots_of held) }
     ensures view { OnlyLooked seat.old seat.new }
+    ensures looked { StartsWith seat.new.looked seat.old.looked }
 {
     // The marks first: what the test of `pause_end` could change would be unknown after the call.
     let dead = dead_places(space, seat, &held);
@@ -61,6 +63,7 @@ fn dead_places(space: &Space, seat: &mut MutatorSeat, held: &HeldRegion) -> [u32
         → Contains result (p + 1) }
     ensures only { (p : ℕ) → Contains result (p + 1) → holds seat.old.marked p ≡ false }
     ensures view { OnlyLooked seat.old seat.new }
+    ensures looked { StartsWith seat.new.looked seat.old.looked }
 {
     let mut dead = [0; 32];
     for i in 0..SHARED {
@@ -76,6 +79,7 @@ fn dead_place(space: &Space, seat: &mut MutatorSeat, held: &HeldRegion, i: u32) 
     requires place { ForSome (weak_place held.now i) (IsPlace seat.old.bodies) }
     ensures dead { result ≡ told (clear_slot (holds seat.old.marked) (weak_place held.now i)) }
     ensures view { OnlyLooked seat.old seat.new }
+    ensures looked { StartsWith seat.new.looked seat.old.looked }
 {
     seat.bodies_lie_apart();
     match held.weak(i) {

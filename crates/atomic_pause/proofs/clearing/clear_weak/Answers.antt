@@ -1,4 +1,5 @@
 use Rattle.std.proofs.Common.{refl, sym, ap, ◌∙◌, subst}
+use Rattle.std.proofs.Transfers.{starts_with_trans}
 use Rattle.gc_graph.specs.declared.kind.Kind.TheVariants.{Pair}
 use Rattle.page_words.specs.Seat.{SeatView, OnlyLooked}
 use Rattle.weak_clearing.specs.Clearing.{MarkedHaveReferencesOf, MarkedHaveWeakReferences, with_weak_cleared, with_pairs_cleared}
@@ -22,3 +23,9 @@ pub returns-clause-fields : goal.returns-clause-fields
 returns-clause-fields c =
     c.clear_pairs.ensures.cleared
     ∙ ap with_pairs_cleared (fields_cleared c.args.seat.now c.clear_slots.new.seat c.clear_fields.new.seat c.clear_slots.ensures.view c.clear_fields.ensures.cleared)
+
+pub returns-clause-looked : goal.returns-clause-looked
+returns-clause-looked c =
+    starts_with_trans c.clear_pairs.new.seat.looked c.clear_fields.new.seat.looked c.args.seat.now.looked c.clear_pairs.ensures.looked
+    (starts_with_trans c.clear_fields.new.seat.looked c.clear_slots.new.seat.looked c.args.seat.now.looked c.clear_fields.ensures.looked
+    c.clear_slots.ensures.looked)

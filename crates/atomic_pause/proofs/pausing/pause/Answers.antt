@@ -1,4 +1,5 @@
 use Rattle.std.proofs.Common.{arith, ◌+◌, ◌<◌, ◌≤◌, ◌^◌, rules, ◌≡◌, ℕ, Bool, List, ◌++◌, length, get_or, refl, sym, ap, ◌∙◌, subst}
+use Rattle.std.proofs.Transfers.{starts_with_trans}
 use Rattle.std.specs.List.{All}
 use Rattle.gc_graph.specs.State.{Node, slot_targets}
 use Rattle.gc_graph.specs.May.{members}
@@ -20,6 +21,7 @@ use Rattle.prefinalizer_effects.specs.Judgement.{nodes_after}
 use Rattle.prefinalizer_effects.specs.NodePlaces.{places_differ}
 use Rattle.atomic_pause.specs.Marking.{IsOtherRoot, IsRootPlace, IsMayOrRoot, MarksReachable, marked_count}
 use Rattle.atomic_pause.specs.Pausing.{IsKeptBetween}
+use Rattle.atomic_pause.proofs.MarkedOut.{looked_early}
 use Rattle.atomic_pause.proofs.BodyReferences.{alive_marked, marked_references}
 use Rattle.atomic_pause.proofs.PausedNodes.{few_kept, none_missing, prepared, paused_is, registered_after, kept_count, dead_left}
 use Rattle.atomic_pause.proofs.ReachedNodes.{has_marked, others_at, other_roots, roots_with, roots_with_others, keeps_between}
@@ -189,3 +191,16 @@ pub returns-clause-dead : goal.returns-clause-dead
 returns-clause-dead g c =
     dead_left c.prefinalise.new.nodes.value c.prefinalise.new.seat c.objects.result (c.args.parts.traced + c.mark_out-more.result) c.prefinalise.ensures.ready.held
     (c.objects.ensures c.prefinalise.new.seat c.prefinalise.ensures.ready.laid) (live g c)
+
+pub returns-clause-looked : goal.returns-clause-looked
+returns-clause-looked g c = λ precise fine.
+    let w : SeatView = c.mark_out-more.new.seat in
+    let x : SeatView = c.clear_weak.new.seat in
+    let y : SeatView = c.clear_region.new.seat in
+    let z : SeatView = c.prefinalise.new.seat in
+    looked_early c.args.parts.types.now c.args.parts.seat.now w z (marks g c).bodies c.mark_out-more.ensures.early
+    (starts_with_trans z.looked y.looked w.looked c.prefinalise.ensures.looked
+    (starts_with_trans y.looked x.looked w.looked c.clear_region.ensures.looked c.clear_weak.ensures.looked))
+    (c.prefinalise.ensures.early ∙ ap (λ (u : SeatView). u.early) (c.clear_region.ensures.view ∙ c.clear_weak.ensures.fields))
+    (c.prefinalise.ensures.marked ∙ ap (λ (u : SeatView). u.marked) (c.clear_region.ensures.view ∙ c.clear_weak.ensures.fields))
+    (c.mark_out-more.ensures.looked precise fine)

@@ -1,4 +1,5 @@
 use Rattle.std.proofs.Common.{◌≡◌, ◌<◌, ◌+◌, ℕ, zero, suc, length, get_or, replicate, refl, ◌∙◌, arith}
+use Rattle.std.proofs.Transfers.{starts_with_of_eq}
 use Rattle.std.proofs.lemmas.List.{get_or_default}
 use Rattle.cross_thread_region.specs.PlacedNodes.{weak_place_below}
 use Rattle.atomic_pause.proofs.region_clearing.dead_places.Goals as goal
@@ -12,6 +13,7 @@ pub loop-i-init : goal.loop-i-init
 loop-i-init c = record {
   len = refl;
   view = refl;
+  looked = starts_with_of_eq c.args.seat.now.looked c.args.seat.now.looked refl;
   told = λ x p low is unmarked. absurd (omega (arith, low));
   only = λ x p is. absurd (none_told 32 x p is);
 }
