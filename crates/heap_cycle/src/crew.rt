@@ -36,6 +36,7 @@ pub(crate) fn man<R: Threads, G: Gate + Send + Sync + 'static>(
 pub fn dismiss<R: Threads>(rt: &R, parts: &mut Parts)
     requires tied { AreTied parts.old }
     ensures stopped { parts.new.objects.grey.running ≡ [] }
+    ensures lent { parts.new.objects.seat.lent ≡ 0 }
     ensures nodes { parts.new.objects.nodes ≡ parts.old.objects.nodes }
     ensures setup { setup_of parts.new ≡ setup_of parts.old }
     ensures others { parts.new ≡ record parts.old { objects = parts.new.objects } }

@@ -47,13 +47,13 @@ pub record IsOfJoin (o : Printed) : Type 0 where
   pub last : o.last ≡ Some line
   pub numbers : o.numbers ≡ []
 
--- while the heap isn't closed the parts are ready, with the markers that ought to run, and once it is closed none runs; the region is
--- theirs, with its threads, whose replies tell the totals just before they went; the outcome is one of a command, and has room for
--- all nodes that a sweep can finalise; and what is counted stays within bounds
+-- while the heap isn't closed the parts are ready, with the markers that ought to run, and once it is closed none runs and no seat
+-- is lent; the region is theirs, with its threads, whose replies tell the totals just before they went; the outcome is one of a
+-- command, and has room for all nodes that a sweep can finalise; and what is counted stays within bounds
 pub record IsSound (h : Inside) : Type 0 where
   pub ready : h.closed ≡ false → IsReady h.parts
   pub manned : h.closed ≡ false → IsManned h.parts
-  pub joined_at_last : h.closed ≡ true → h.parts.objects.grey.running ≡ []
+  pub joined_at_last : h.closed ≡ true → (h.parts.objects.grey.running ≡ []) × (h.parts.objects.seat.lent ≡ 0)
   pub most : h.parts.cycle.rest.ordinal ≤ 1000000
   pub made : length h.parts.objects.nodes ≤ h.parts.cycle.rest.ordinal
   pub shared : HasShared h.parts h.shared

@@ -37,7 +37,8 @@ abbrev pub going_after : Command → State → State → State
 going_after C.ThreadsGo before going = before
 going_after _ before going = going
 
--- the heap was closed: its markers are joined, and nothing else has changed but what is known of marks and refusals
+-- the heap was closed: its markers are joined, so that no seat is lent, and nothing else has changed but what is known of marks
+-- and refusals
 abbrev pub IsClosed : View → View → Type 0
 IsClosed old new =
     new
@@ -46,7 +47,7 @@ IsClosed old new =
       marked = new.marked;
       traced = new.traced;
       refusals = new.refusals;
-      lent = new.lent;
+      lent = 0;
       idle = new.idle;
       taken = new.taken;
     }

@@ -85,6 +85,10 @@ pub record HasMarking (may : List Bool) (o : ObjectsView) : Type 0 where
   pub pushes_told : TellsRefused (record { told = false; count = o.grey.since.pushes }) (pushes_in o.grey)
   pub notes_told : TellsRefused (record { told = false; count = o.grey.since.notes }) (notes_in o.grey)
 
+-- marking goes on, or nothing is left of it
+abbrev pub GoesOnOrRests : ObjectsView → Type 0
+GoesOnOrRests o = ((may : List Bool) × HasMarking may o) ⊎ IsAtRest o
+
 -- nothing is marked while the heap is idle; while marking goes on, these nodes may be kept; in an open sweep nothing is marked
 -- below the address up to which all is swept, and from there on each object is marked or dead
 abbrev pub HasMarks : Phase → ℕ → List Bool → ObjectsView → Type 0

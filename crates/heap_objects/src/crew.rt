@@ -11,7 +11,7 @@ ghost use Rattle.atomic_pause.specs.UnderWay.{IsUnderWay};
 ghost use Rattle.marker_crew.specs.Crews.{IsCrew};
 ghost use Rattle.heap_objects.specs.Crews.{AreListsFor, Relists, IsJoined, lent_often};
 ghost use Rattle.heap_objects.specs.Marking.{grey_of, pushes_in, notes_in};
-ghost use Rattle.heap_objects.specs.Marks.{HasCrew, HasMarking};
+ghost use Rattle.heap_objects.specs.Marks.{GoesOnOrRests, HasCrew, HasMarking};
 ghost use Rattle.heap_objects.specs.Objects.{setup_of_objects};
 
 use crate::marking::{Grey, refused_pushes, tell_refused};
@@ -91,11 +91,12 @@ impl Objects {
             .start(rt, words, &self.types, seats, shares, gate);
     }
 
-    /// Stops the heap's markers where they run, and joins them. It is called before the heap is let go.
+    /// Stops the heap's markers where they run, and joins them, so that no seat is lent any more. It is
+    /// called before the heap is let go.
     pub fn close<R: Threads>(&mut self, rt: &R)
-        requires marks { 0 < length self.old.grey.running
-            → (may : List Bool) × HasMarking may self.old }
+        requires marks { GoesOnOrRests self.old }
         ensures stopped { self.new.grey.running ≡ [] }
+        ensures lent { self.new.seat.lent ≡ 0 }
         ensures nodes { self.new.nodes ≡ self.old.nodes }
         ensures setup { setup_of_objects self.new ≡ setup_of_objects self.old }
     {

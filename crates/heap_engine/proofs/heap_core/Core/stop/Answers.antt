@@ -13,7 +13,12 @@ use Rattle.heap_engine.proofs.Closing.{closed_shared, closed_state}
 use Rattle.heap_engine.proofs.heap_core.Core.stop.Goals as goal
 
 pub returns-then-self : goal.returns-then-self
-returns-then-self g c = record { closed = rw (← c.self.view_is) (ap (λ b. record (view_of c.self.inside) { closed = b }) c.if-self.true) }
+returns-then-self g c =
+    record {
+      closed = rw (← c.self.view_is)
+          (ap (λ b. record (view_of c.self.inside) { closed = b }) c.if-self.true
+          ∙ ap (λ n. record (view_of c.self.inside) { closed = true; lent = n }) (c.self.invariant.joined_at_last c.if-self.true).1);
+    }
 
 pub dismiss-requires : goal.dismiss-requires
 dismiss-requires g c = record { tied = (c.self.invariant.ready c.if-self.false).tied }
@@ -26,7 +31,7 @@ invariant_of-self g c =
     record {
       ready = λ goes. absurd (true≢false goes);
       manned = λ goes. absurd (true≢false goes);
-      joined_at_last = λ closed. c.dismiss.ensures.stopped;
+      joined_at_last = λ closed. (c.dismiss.ensures.stopped, c.dismiss.ensures.lent);
       most = omega (arith, c.self.invariant.most, ap (λ (p : Parts). p.cycle.rest.ordinal) others);
       made = omega (arith, c.self.invariant.made, ap (λ (p : Parts). p.cycle.rest.ordinal) others, ap length c.dismiss.ensures.nodes);
       shared = closed_shared s t others c.dismiss.ensures.nodes c.self.inside.shared c.self.invariant.shared;
@@ -50,5 +55,6 @@ returns g c = record {
       rw (← c.self.view_is)
       (ap (λ u. build u (state_of t) t.cycle.ran) c.dismiss.ensures.setup
       ∙ ap (λ st. build (setup_of s) st t.cycle.ran) (closed_state s t others c.dismiss.ensures.nodes)
-      ∙ ap (build (setup_of s) (state_of s)) (ap (λ (p : Parts). p.cycle.ran) others)));
+      ∙ ap (build (setup_of s) (state_of s)) (ap (λ (p : Parts). p.cycle.ran) others)
+      ∙ ap (λ n. record (build (setup_of s) (state_of s) s.cycle.ran) { lent = n }) c.dismiss.ensures.lent));
 }
