@@ -54,6 +54,7 @@ whole_run kinds plan script w x y z old mid heap end types has count none ended 
       written = grew w y z _ _ (grew w x y _ _ types run.written) last;
       setup = has.same ∙ has.setup;
       closed = refl;
+      joined = refl;
       count = count;
     })
 

@@ -74,6 +74,7 @@ told_in_summary kinds plan script y z old mid heap (Ok u) has is written =
       written = written;
       setup = has.same ∙ has.setup;
       closed = refl;
+      joined = refl;
       count = has.count;
     })
 told_in_summary kinds plan script y z old mid heap (Err e) has is written =

@@ -35,8 +35,8 @@ IsPrinted true setup script outcomes text = text ≡ line_bytes (summary_line (l
 
 -- ---- one script
 
--- a lawful run of the whole script led to this heap, which is closed and has taken the history of that run, behind which its region
--- has no further entry, and what is printed of the run was written
+-- a lawful run of the whole script led to this heap, which is closed, with all markers joined, and has taken the history of that
+-- run, behind which its region has no further entry, and what is printed of the run was written
 pub record IsWholeRun (summary : Bool) (kinds : List ActionKind) (plan : Plan) (script : Script) (before after : Option (List ℕ)) (heap : View) : Type 0 where
   pub outcomes : List Outcome
   pub history : List Entry
@@ -49,6 +49,7 @@ pub record IsWholeRun (summary : Bool) (kinds : List ActionKind) (plan : Plan) (
   pub written : Grew before after text
   pub setup : heap.setup ≡ setup_of kinds plan script.types
   pub closed : heap.closed ≡ true
+  pub joined : heap.lent ≡ 0
   pub count : heap.state.ordinal ≡ length script.commands
 
 -- a beginning of the report of a lawful run of the first commands was written

@@ -78,7 +78,7 @@ pub(crate) fn run_script<'a, R: Threads, K: Sink, G: Gate + Send + Sync + 'stati
 }
 
 /// Runs commands on a new heap, which has so many types, and keeps it once all is printed. After a
-/// failed write its markers are joined before it is let go.
+/// failed write it is let go: its markers were joined by then.
 fn run_commands<'a, R: Threads, K: Sink, G: Gate + Send + Sync + 'static>(
     rt: &R,
     mut heap: Heap<'a, G>,
@@ -111,10 +111,7 @@ fn run_commands<'a, R: Threads, K: Sink, G: Gate + Send + Sync + 'static>(
             keep(heap, kept);
             Status::Done
         }
-        Err(_) => {
-            let _end = heap.close(rt);
-            Status::WriteFault
-        }
+        Err(_) => Status::WriteFault,
     }
 }
 

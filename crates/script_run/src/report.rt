@@ -19,9 +19,43 @@ use heap_engine::{Gate, Heap};
 use heap_script::{Failed, Pieces, Sink};
 use std::thread::Threads;
 
-/// Does the commands of a script on a new heap, which has so many types, prints the report or the
-/// summary, and closes the heap.
+/// Does the commands of a script on a new heap, which has so many types, and prints the report or the
+/// summary. The heap is closed then, also after a failed write, so that no marker goes on.
 pub(crate) fn print_run<R: Threads, K: Sink, G: Gate + Send + Sync + 'static>(
+    rt: &R,
+    heap: &mut Heap<'_, G>,
+    summary: bool,
+    types: u32,
+    commands: &[Command],
+    pieces: &mut Pieces,
+    sink: &mut K,
+) -> Result<(), Failed>
+    requires runnable { IsRunnable (length heap.old.core.setup.callbacks)
+        (script_on heap.old.core.setup commands.now) }
+    requires types { types ≡ length heap.old.core.setup.types }
+    requires start { heap.old.core.state ≡ empty_state }
+    requires fresh { heap.old.core.history ≡ [] }
+    requires calm { heap.old.core.ahead ≡ [] }
+    requires opened { heap.old.core.closed ≡ false }
+    requires empty { pieces.old ≡ no_pieces }
+    ensures told { IsTold summary heap.old.core.setup.callbacks (plan_of heap.old.core.setup)
+        (script_on heap.old.core.setup commands.now)
+        (K.written sink.old) (K.written sink.new) heap.new.core result }
+    ensures closed { heap.new.core.closed ≡ true }
+    ensures joined { heap.new.core.lent ≡ 0 }
+    ensures cause { HasCause (K.faults sink.old) (K.faults sink.new) result }
+{
+    match print_wanted(rt, heap, summary, types, commands, pieces, sink) {
+        Ok(()) => Ok(()),
+        Err(failed) => {
+            let _end = heap.close(rt);
+            Err(failed)
+        }
+    }
+}
+
+/// Does the commands and prints what is wanted. Unless a write fails, the heap is closed then.
+fn print_wanted<R: Threads, K: Sink, G: Gate + Send + Sync + 'static>(
     rt: &R,
     heap: &mut Heap<'_, G>,
     summary: bool,
