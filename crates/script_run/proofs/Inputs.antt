@@ -1,5 +1,5 @@
 -- Input that was read, and the limits that it keeps.
-use Rattle.std.proofs.Common.{◌≡◌, ℕ, ◌≤◌, List, length, take, drop, Option, Some, None, ap, ◌∙◌, inl, inr, arith}
+use Rattle.std.proofs.Common.{◌≡◌, ℕ, ◌≤◌, List, length, take, drop, Option, Some, None, ap, ◌∙◌, subst, inl, inr, arith}
 use Rattle.std.specs.Prelude.{min}
 use Rattle.std.proofs.lemmas.List.{take_all, drop_all, length-take}
 use Rattle.std.proofs.lemmas.Bool.{cases_lt}
@@ -23,3 +23,9 @@ read_whole_of (Some old) new bytes read limits =
     let few : length bytes ≤ 16777216 = few_in_limits bytes limits in
     let all : bytes ≡ old = all_of old bytes read.0 few in
     (all, read.1 ∙ ap Some (ap (λ (b : List ℕ). drop (length b) old) all ∙ drop_all (length old) old (omega arith)))
+
+-- what was read of an input within the limits is all of it
+pub all_read : (left new : Option (List ℕ)) (bytes whole : List ℕ) → left ≡ Some whole → IsReadFrom left new 16777216 bytes → IsInLimits whole → bytes ≡ whole
+all_read left new bytes whole is read limits =
+    let from : IsReadFrom (Some whole) new 16777216 bytes = subst (λ (l : Option (List ℕ)). IsReadFrom l new 16777216 bytes) is read in
+    from.0 ∙ take_all 16777217 whole (omega (arith, few_in_limits whole limits))

@@ -7,4 +7,5 @@ pub mod Summaries
 pub mod Inputs
 pub mod Runnable
 pub mod Outcomes
+pub mod Complete
 mod Statuses

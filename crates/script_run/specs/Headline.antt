@@ -147,6 +147,12 @@ pub record IsFaultyInput (callbacks : ℕ) (old new : Option (List ℕ)) (line r
   pub limits : IsInLimits bytes
   pub fault : IsFault callbacks bytes line reason
 
+-- the words ask for options, and the input, where these need it, is a script
+pub record AskForScript (callbacks : ℕ) (words : List (List ℕ)) (left : Option (List ℕ)) : Type 0 where
+  pub options : Options
+  pub asked : options_asked words ≡ Some options
+  pub input : options.generated ≡ None → (bytes : List ℕ) × (script : Script) × (left ≡ Some bytes) × IsScript callbacks bytes script
+
 -- ---- a device that was let alone
 
 -- what it tells, and its count of faults, are as before

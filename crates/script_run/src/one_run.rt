@@ -1,6 +1,6 @@
 // One run of the program: from the bytes of a script to its report.
 
-ghost use Rattle.std.specs.Prelude.{◌≡◌, ◌↔◌, ℕ};
+ghost use Rattle.std.specs.Prelude.{◌≡◌, ◌↔◌, ◌⊎◌, ℕ};
 ghost use Rattle.std.specs.Prelude.{◌≤◌, [], length, map, string_bytes, None, MatchOption};
 ghost use Rattle.std.specs.Prelude.{option_map, Some, true, false};
 ghost use Rattle.callback_table.specs.Table.{kinds_of};
@@ -10,7 +10,7 @@ ghost use Rattle.command_line.specs.Options.{options_asked, AreInRanges};
 ghost use Rattle.script_generator.specs.Generated as made;
 ghost use Rattle.script_run.specs.Setting.{plan_asked};
 ghost use Rattle.script_run.specs.Headline.{RunsScript, RunsBytes, status_of_fault, IsUntouched};
-ghost use Rattle.script_run.specs.Headline.{IsDone, IsStopped, IsTooLongInput, IsFaultyInput};
+ghost use Rattle.script_run.specs.Headline.{AskForScript, IsDone, IsStopped, IsTooLongInput, IsFaultyInput};
 ghost use Rattle.script_run.specs.Headline.{reads_input, tells_of_input};
 
 use super::own_heap::run_script;
@@ -77,7 +77,12 @@ pub fn run<'a, R: Threads, S: Source, K: Sink, G: Gate + Send + Sync + 'static>(
     ensures silent { ¬ (result ≡ Status.Done) → ¬ (result ≡ Status.WriteFault) →
         Grew (K.written sink.old) (K.written sink.new) [] }
     ensures kept { ¬ (result ≡ Status.Done) → kept.new ≡ None }
+    ensures complete { AskForScript (length (kinds_of callbacks.now)) (map string_bytes words.now)
+        (S.left source.old) → ¬ Rose (S.faults source.old) (S.faults source.new) →
+        ¬ Rose (K.faults sink.old) (K.faults sink.new) →
+        (result ≡ Status.Done) ⊎ (result ≡ Status.NoMemory) }
 {
+    gc_graph::texts_are_judged();
     let options = match options_of(words) {
         Some(options) => options,
         None => return Status::Usage,

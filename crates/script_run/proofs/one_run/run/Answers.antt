@@ -1,6 +1,7 @@
-use Rattle.std.proofs.Common.{map, string_bytes, option_map, ap, sym, ◌∙◌, refl}
+use Rattle.std.proofs.Common.{map, string_bytes, option_map, ap, sym, ◌∙◌, refl, inr, rules}
 use Rattle.script_run.specs.Headline.{tells_of_input}
 use Rattle.script_run.proofs.Outcomes.{asks_input, answers_done, answers_stopped, answers_script, made_done, made_stopped, script_tells_no_input, none_of, of_kept}
+use Rattle.script_run.proofs.Complete.{script_is_done, input_is_done, refused_ask_nothing}
 use Rattle.script_run.proofs.one_run.run.Goals as goal
 
 -- ---- the input
@@ -25,6 +26,13 @@ returns-in-Ok-clause-script g c =
 pub returns-in-Ok-clause-input : goal.returns-in-Ok-clause-input
 returns-in-Ok-clause-input g c = λ tells. asks_input (map string_bytes c.args.words.now) c.in-Some.options
     (record { asked = sym c.options_of.ensures.asked ∙ c.in-Some.is; none = none_of c.in-Some.options.generated c.in_default.not-Some })
+
+pub returns-in-Ok-clause-complete : goal.returns-in-Ok-clause-complete
+returns-in-Ok-clause-complete g c =
+    λ asks read wrote. input_is_done _ (map string_bytes c.args.words.now) c.in-Some.options
+    (record { asked = sym c.options_of.ensures.asked ∙ c.in-Some.is; none = none_of c.in-Some.options.generated c.in_default.not-Some }) c.texts_are_judged.ensures _ _
+    (g.K.Sink.written c.args.sink.now) (g.K.Sink.written c.run_bytes.new.sink) (option_map (λ heap. heap.core) c.run_bytes.new.kept) _
+    (record { bytes = c.deref.result.now; read = (rw (← c.deref.ensures.value) at c.in-Ok.ensures.bytes); answer = c.run_bytes.ensures.answer }) asks (λ is. wrote (c.run_bytes.ensures.fault is))
 
 -- ---- the generated script
 
@@ -58,6 +66,10 @@ returns-in-Some-generated-clause-read_fault g c =
 pub returns-in-Some-generated-clause-source_untouched : goal.returns-in-Some-generated-clause-source_untouched
 returns-in-Some-generated-clause-source_untouched g c = λ none. record { told = refl; faults = refl }
 
+pub returns-in-Some-generated-clause-complete : goal.returns-in-Some-generated-clause-complete
+returns-in-Some-generated-clause-complete g c =
+    λ asks read wrote. script_is_done _ _ _ _ _ _ (option_map (λ heap. heap.core) c.run_generated.new.kept) _ c.run_generated.ensures.answer (λ is. wrote (c.run_generated.ensures.fault is))
+
 -- ---- refused words, and a read that failed
 
 pub returns-in-None-clause-usage : goal.returns-in-None-clause-usage
@@ -65,6 +77,16 @@ returns-in-None-clause-usage g c = ((λ is. sym c.options_of.ensures.asked ∙ c
 
 pub returns-in-None-clause-source_untouched : goal.returns-in-None-clause-source_untouched
 returns-in-None-clause-source_untouched g c = λ is. record { told = refl; faults = refl }
+
+pub returns-in-None-clause-complete : goal.returns-in-None-clause-complete
+returns-in-None-clause-complete g c =
+    λ asks read wrote. absurd (refused_ask_nothing _ (map string_bytes c.args.words.now) _ (sym c.options_of.ensures.asked ∙ c.in-None.is) asks)
+
+pub returns-in-Err-Fault-clause-complete : goal.returns-in-Err-Fault-clause-complete
+returns-in-Err-Fault-clause-complete g c = λ asks read wrote. absurd (read (search rules))
+
+pub returns-in-Err-Memory-clause-complete : goal.returns-in-Err-Memory-clause-complete
+returns-in-Err-Memory-clause-complete g c = λ asks read wrote. inr refl
 
 pub returns-in-Err-Fault-clause-no_read_failed : goal.returns-in-Err-Fault-clause-no_read_failed
 returns-in-Err-Fault-clause-no_read_failed g c = λ other. absurd (other refl)
