@@ -7,6 +7,7 @@ mod Shapes
 mod PageSpan
 mod Tables
 mod PlaceBodies
+mod FoundKept
 mod OccupyFilled
 mod PlaceFound
 mod EmptyRuns

@@ -119,6 +119,8 @@ head_occupies old new b a header serial at least is = record {
   hand = ap (λ (v : SeatView). v.hand) is;
   pending = ap (λ (v : SeatView). v.pending) is;
   lent = ap (λ (v : SeatView). v.lent) is;
+  done = ap (λ (v : SeatView). v.done) is;
+  missed = ap (λ (v : SeatView). v.missed) is;
 }
 
 -- what is filled in a body before it joins the others is nothing to it
@@ -138,6 +140,8 @@ occupies_before old mid new fs b rest inside joins = record {
   hand = joins.hand ∙ ap (λ (v : SeatView). v.hand) rest;
   pending = joins.pending ∙ ap (λ (v : SeatView). v.pending) rest;
   lent = joins.lent ∙ ap (λ (v : SeatView). v.lent) rest;
+  done = joins.done ∙ ap (λ (v : SeatView). v.done) rest;
+  missed = joins.missed ∙ ap (λ (v : SeatView). v.missed) rest;
 }
 
 -- ---- ready

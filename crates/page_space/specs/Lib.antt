@@ -5,6 +5,7 @@ pub mod Space
 pub mod SpaceFields
 pub mod Occupying
 pub mod Opening
+pub mod Found
 -- Words of the crates below that the crates above name too.
 pub use Rattle.gap_bounds.specs.BodyPlaces
 pub use Rattle.gap_bounds.specs.Seat

@@ -32,8 +32,8 @@ unfoldable pub nulled : SeatView → ℕ → ℕ → SeatView
 nulled v a zero = v
 nulled v a (suc n) = filled_with (nulled v a n) (a + n) 0
 
--- the body joined the others, words that were filled in it are no longer filled ones, and marks are as before; while marking goes on
--- it may be kept
+-- the body joined the others, and words that were filled in it are no longer filled ones; marks and what was found traced are as
+-- before, and while marking goes on it may be kept
 pub record Occupies (old new : SeatView) (b : Body) : Type 0 where
   pub heap : new.heap ≡ old.heap
   pub types : new.types ≡ old.types
@@ -48,3 +48,5 @@ pub record Occupies (old new : SeatView) (b : Body) : Type 0 where
   pub hand : new.hand ≡ old.hand
   pub pending : new.pending ≡ old.pending
   pub lent : new.lent ≡ old.lent
+  pub done : new.done ≡ old.done
+  pub missed : new.missed ≡ old.missed

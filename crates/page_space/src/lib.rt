@@ -25,7 +25,7 @@
 //! and `free` takes one away. After each of them small objects lie in one page, large ones share none,
 //! and the counts are right. No gap is longer than what is remembered says, so no answer depends on
 //! it. `start_of` answers the object that has the word, an inner one too, and none exactly where none
-//! has it.
+//! has it. What was found traced before `find`, `occupy` or `header_at` is still so after it.
 //!
 //! What is only tested or not said: that `Space::new` succeeds where there is memory, and what is
 //! found in heaps of a few pages, is tested in `words_trials`. How long a search takes is not said;

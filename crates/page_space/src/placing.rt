@@ -7,6 +7,7 @@ ghost use Rattle.gc_graph.specs.Placement.{UsesPage, IsLowest, IsNowhere};
 ghost use Rattle.gap_bounds.specs.Seat.{OnlyLooked};
 ghost use Rattle.page_space.specs.Space.{IsSpaceOf, FitsBetween, FitsIn, SinceEmpty};
 ghost use Rattle.page_space.specs.Space.{IsFreePlace, extents_of_bodies};
+ghost use Rattle.page_space.specs.Found.{KeepsFound};
 ghost use Rattle.gap_bounds.specs.Gaps.{IsGap, IsClassOf, HasClass, class_count, least_of, is_known};
 
 use crate::space::{Space, bucket_of};
@@ -29,6 +30,7 @@ impl Space {
         ensures space { IsSpaceOf self.new seat.new }
         ensures shape { self.new.shape ≡ self.old.shape }
         ensures view { OnlyLooked seat.old seat.new }
+        ensures done { KeepsFound seat.old seat.new }
     {
         self.shape_is_valid();
         if size > self.page_words / 2 {
@@ -124,6 +126,7 @@ impl Space {
         ensures space { IsSpaceOf self.new seat.new }
         ensures shape { self.new.shape ≡ self.old.shape }
         ensures view { OnlyLooked seat.old seat.new }
+        ensures done { KeepsFound seat.old seat.new }
     {
         self.shape_is_valid();
         let start = page * self.page_words;

@@ -10,6 +10,7 @@ ghost use Rattle.page_space.specs.Pages.{word_count};
 ghost use Rattle.page_space.specs.Space.{IsSeatOf, HasNoStart, IsHeaderOf};
 ghost use Rattle.page_space.specs.Space.{IsLastStart, AreStartsOf};
 ghost use Rattle.page_space.specs.Walks.{block_end};
+ghost use Rattle.page_space.specs.Found.{KeepsFound};
 
 use crate::space::Space;
 use gap_bounds::{BLOCK_WORDS, MutatorSeat, Reading};
@@ -137,6 +138,7 @@ impl Space {
         ensures inside { a + result.size ≤ word_count self.now.shape }
         ensures looked { seat.new.looked ≡ seat.old.looked ++ a ∷ [] }
         ensures view { OnlyLooked seat.old seat.new }
+        ensures done { KeepsFound seat.old seat.new }
     {
         seat.bodies_lie_apart();
         // An object starts here, so the word is a header.

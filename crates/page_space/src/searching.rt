@@ -7,6 +7,7 @@ ghost use Rattle.gap_bounds.specs.Seat.{OnlyLooked};
 ghost use Rattle.page_space.specs.Space.{IsSpaceOf, HoldsWhole, extents_of_bodies};
 ghost use Rattle.gap_bounds.specs.Gaps.{is_known};
 ghost use Rattle.page_space.specs.Walks.{BeginsBetween};
+ghost use Rattle.page_space.specs.Found.{KeepsFound};
 
 use crate::space::Space;
 use crate::walking::Walk;
@@ -39,6 +40,7 @@ impl Space {
         ensures space { IsSpaceOf self.new seat.new }
         ensures shape { self.new.shape ≡ self.old.shape }
         ensures view { OnlyLooked seat.old seat.new }
+        ensures done { KeepsFound seat.old seat.new }
     {
         self.learn(seat, page);
         if self.gaps.most(page) < size {
@@ -102,6 +104,7 @@ impl Space {
         ensures space { IsSpaceOf self.new seat.new }
         ensures shape { self.new.shape ≡ self.old.shape }
         ensures view { OnlyLooked seat.old seat.new }
+        ensures done { KeepsFound seat.old seat.new }
     {
         self.shape_is_valid();
         let end = (page + 1) * self.page_words;
@@ -137,6 +140,7 @@ impl Space {
         ensures space { IsSpaceOf self.new seat.new }
         ensures shape { self.new.shape ≡ self.old.shape }
         ensures view { OnlyLooked seat.old seat.new }
+        ensures done { KeepsFound seat.old seat.new }
     {
         self.shape_is_valid();
         let until = *at / BLOCK_WORDS * BLOCK_WORDS + BLOCK_WORDS;

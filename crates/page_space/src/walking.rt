@@ -10,6 +10,7 @@ ghost use Rattle.page_space.specs.Space.{IsSeatOf, HoldsWhole, extents_of_bodies
 ghost use Rattle.gap_bounds.specs.Seat.{IsPlaceFrom};
 ghost use Rattle.page_space.specs.Space.{HasNoStart};
 ghost use Rattle.page_space.specs.Walks.{IsEdge, BeginsBetween};
+ghost use Rattle.page_space.specs.Found.{KeepsFound};
 
 use crate::space::Space;
 use gap_bounds::{BLOCK_WORDS, GROUP_WORDS, MutatorSeat};
@@ -50,6 +51,7 @@ impl Space {
         ensures taken { (x : ℕ) → at ≤ x → x < result → IsInBody seat.old.bodies x }
         ensures edge { IsEdge seat.old.bodies result }
         ensures view { OnlyLooked seat.old seat.new }
+        ensures done { KeepsFound seat.old seat.new }
     {
         self.shape_is_valid();
         seat.bodies_lie_apart();
@@ -87,6 +89,7 @@ impl Space {
         ensures until { IfNone result (until ≤ walk.new.at) }
         ensures inside { walk.new.at ≤ (page + 1) * self.now.shape.page_words }
         ensures view { OnlyLooked seat.old seat.new }
+        ensures done { KeepsFound seat.old seat.new }
     {
         self.shape_is_valid();
         seat.bodies_lie_apart();

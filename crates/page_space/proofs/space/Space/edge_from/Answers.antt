@@ -5,6 +5,7 @@ use Rattle.gap_bounds.specs.Body.{Body}
 use Rattle.page_space.proofs.PlaceBodies.{tells_size}
 use Rattle.gap_bounds.specs.BodyPlaces.{two_words}
 use Rattle.page_space.proofs.WalkSteps.{edge_after_last, edge_of_page}
+use Rattle.page_space.proofs.FoundKept.{found_same}
 use Rattle.page_space.proofs.space.Space.edge_from.Goals as goal
 
 pub returns-in-Some-clause-taken : goal.returns-in-Some-clause-taken
@@ -50,3 +51,9 @@ returns-in-None-clause-edge c =
     let words : c.args.page * (64 * c.blocks-2.result) ≡ c.args.page * c.args.self.now.shape.page_words = ap (λ n. c.args.page * n) c.blocks-2.ensures in
     edge_of_page c.args.seat.now c.args.self.now.shape c.args.page c.args.at c.bodies_lie_apart.ensures c.requires.whole c.requires.first c.requires.address
     (λ p low high. c.in-None.ensures.none p (omega arith) (omega arith))
+
+pub returns-in-Some-clause-done : goal.returns-in-Some-clause-done
+returns-in-Some-clause-done c a there = c.header_at.ensures.done a (found_same c.last_start_by.ensures.view a there)
+
+pub returns-in-None-clause-done : goal.returns-in-None-clause-done
+returns-in-None-clause-done c a there = found_same c.last_start_by.ensures.view a there

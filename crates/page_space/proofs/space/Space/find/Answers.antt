@@ -14,6 +14,7 @@ use Rattle.page_space.proofs.space.Space.find.Goals as goal
 pub loop-page-init : goal.loop-page-init
 loop-page-init c = record {
   view = refl;
+  done = λ a there. there;
   space = c.requires.space;
   shape = refl;
   none = λ other low from a run.
@@ -56,6 +57,7 @@ loop-page-preserved c =
     let none = rw (ap (λ (v : SeatView). v.bodies) c.loop-page.invariant.view, c.loop-page.invariant.shape) at c.in_default.ensures.none in
     record {
       view = view;
+      done = λ a there. c.find_in.ensures.done a (c.loop-page.invariant.done a there);
       space = subst (IsSpaceOf c.find_in.new.self) view c.find_in.ensures.space;
       shape = c.find_in.ensures.shape ∙ c.loop-page.invariant.shape;
       none = below_more (λ other. c.args.from ≤ other → IsNowhere (FitsIn c.args.self.now.shape c.args.seat.now.bodies c.args.size other)) c.loop-page.page
@@ -74,3 +76,9 @@ returns-clause-none c =
           (uses_of_bucket now.shape (extents_of_bodies c.args.seat.now.bodies) other (bucket_of now.shape.page_words c.args.size) run.bucket) in
           omega (arith, some, c.top.ensures other above, ap (λ s. get_or s.table.objects other 0) c.self.view_is)))
     ])
+
+pub returns-in-Some-clause-done : goal.returns-in-Some-clause-done
+returns-in-Some-clause-done c a there = c.find_in.ensures.done a (c.loop-page.invariant.done a there)
+
+pub returns-clause-done : goal.returns-clause-done
+returns-clause-done c a there = c.loop-page.invariant.done a there

@@ -8,6 +8,7 @@ use Rattle.page_space.specs.Walks.{BeginsBetween}
 use Rattle.page_space.proofs.GapSearch.{lowest_of, nowhere_of, lowest_or}
 use Rattle.page_space.proofs.Shapes.{shape_words}
 use Rattle.page_space.proofs.PlaceFound.{run_of_gap, gap_of_run, page_holds_whole, bucket_of_class}
+use Rattle.page_space.proofs.FoundKept.{found_same}
 use Rattle.page_space.proofs.space.Space.find_in.Goals as goal
 use Rattle.page_space.proofs.space.Space.find_in.Goals.{After-pass_searched}
 
@@ -115,3 +116,9 @@ returns-clause-found c =
 
 pub returns-clause-none : goal.returns-clause-none
 returns-clause-none c = nowhere_of _ _ c.gap_in-found.result (begins c) (rw c.has_bucket.ensures.view at c.gap_in-found.ensures.none)
+
+pub returns-then-not-has_bucket-clause-done : goal.returns-then-not-has_bucket-clause-done
+returns-then-not-has_bucket-clause-done c a there = found_same c.pass.ensures.view a (found_same c.has_bucket.ensures.view a there)
+
+pub returns-clause-done : goal.returns-clause-done
+returns-clause-done c a there = found_same c.pass_searched.ensures.view a (c.gap_in-found.ensures.done a (found_same c.has_bucket.ensures.view a there))

@@ -24,6 +24,7 @@ loop-at-init c =
     let end : (c.args.page + 1) * c.self.inside.page_words ≡ (c.args.page + 1) * now.shape.page_words = ap (λ s. (c.args.page + 1) * s.shape.page_words) c.self.view_is in
     record {
       view = refl;
+      done = λ a there. there;
       space = c.requires.space;
       shape = refl;
       known = refl;
@@ -70,6 +71,7 @@ loop-at-preserved c =
     let vain = rw (ap (λ (v : SeatView). v.bodies) c.loop-at.invariant.view, c.loop-at.invariant.shape) at c.in_default.ensures.none in
     record {
       view = view;
+      done = λ a there. c.look.ensures.done a (c.loop-at.invariant.done a there);
       space = space;
       shape = same;
       known = known;
@@ -90,3 +92,9 @@ loop-at-preserved c =
             )
       ];
     }
+
+pub returns-in-Some-clause-done : goal.returns-in-Some-clause-done
+returns-in-Some-clause-done c a there = c.look.ensures.done a (c.loop-at.invariant.done a there)
+
+pub returns-clause-done : goal.returns-clause-done
+returns-clause-done c a there = c.loop-at.invariant.done a there

@@ -3,6 +3,7 @@ use Rattle.gc_graph.specs.State.{Shape}
 use Rattle.gap_bounds.specs.Seat.{SeatView}
 use Rattle.gap_bounds.specs.Gaps.{IsGap}
 use Rattle.page_space.specs.Space.{IsSpaceOf, HoldsWhole, extents_of_bodies}
+use Rattle.page_space.proofs.FoundKept.{found_same}
 use Rattle.page_space.proofs.space.Space.gap_in.Goals as goal
 
 pub returns-then-most-size-clause-none : goal.returns-then-most-size-clause-none
@@ -27,3 +28,12 @@ returns-in-Some-clause-found c = rw (c.learn.ensures.view, c.learn.ensures.shape
 
 pub returns-clause-none : goal.returns-clause-none
 returns-clause-none c = rw (c.learn.ensures.view, c.learn.ensures.shape) at c.in_default.ensures.none
+
+pub returns-then-most-size-clause-done : goal.returns-then-most-size-clause-done
+returns-then-most-size-clause-done c a there = found_same c.learn.ensures.view a there
+
+pub returns-in-Some-clause-done : goal.returns-in-Some-clause-done
+returns-in-Some-clause-done c a there = c.gap_from.ensures.done a (found_same c.learn.ensures.view a there)
+
+pub returns-clause-done : goal.returns-clause-done
+returns-clause-done c a there = found_same c.tighten.ensures.view a (c.gap_from.ensures.done a (found_same c.learn.ensures.view a there))

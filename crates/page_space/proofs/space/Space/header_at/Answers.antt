@@ -1,15 +1,16 @@
-use Rattle.std.proofs.Common.{◌≡◌, ◌≤◌, ap, refl, subst, sym, arith}
+use Rattle.std.proofs.Common.{◌≡◌, ◌≤◌, ◌&&◌, ap, refl, subst, sym, arith}
 use Rattle.std.specs.List.{Contains}
 use Rattle.object_headers.specs.Layout.{IsHeaderWord}
 use Rattle.gap_bounds.specs.Body.{Body}
 use Rattle.gap_bounds.specs.Matching.{IsWhole}
 use Rattle.gap_bounds.specs.Layout.{has_mark, has_traced}
 use Rattle.gap_bounds.specs.SeatFacts.{IsTold, IsHeaderAt}
-use Rattle.gap_bounds.specs.Seat.{Heap, side}
+use Rattle.gap_bounds.specs.Seat.{Heap, SeatView, side}
 use Rattle.gap_bounds.specs.Roles.{kind_lists}
-use Rattle.gap_bounds.specs.Bodies.{holds}
+use Rattle.gap_bounds.specs.Bodies.{holds, is_place}
 use Rattle.page_space.specs.Space.{IsHeaderOf}
 use Rattle.page_space.proofs.PlaceBodies.{tells_size, header_is_one}
+use Rattle.page_space.proofs.FoundKept.{one_more}
 use Rattle.gap_bounds.specs.BodyPlaces.{small_type, two_words, whole_body}
 use Rattle.page_space.proofs.space.Space.header_at.Goals as goal
 use Rattle.page_space.proofs.space.Space.header_at.Goals.{After-read_unchecked}
@@ -64,3 +65,9 @@ returns-clause-inside c =
     let at : start.0.place ≡ c.args.a = start.2 in
     let whole : IsWhole v.count (kind_lists v.types) start.0 = whole_body v c.bodies_lie_apart.ensures start.0 start.1 in
     omega (arith, at, tells_size v c.args.a c.read_unchecked.result (header_is c) start.0 start.1 start.2, whole.inside, ap (λ (h : Heap). h.count) c.requires.heap)
+
+pub returns-clause-done : goal.returns-clause-done
+returns-clause-done c a there =
+    let v = c.args.seat.now in
+    subst (λ (u : SeatView). Contains u.done a) (sym c.load.ensures.view)
+    (one_more (v.on && is_place v.bodies c.args.a && has_traced c.load.result) v.done c.args.a a there)

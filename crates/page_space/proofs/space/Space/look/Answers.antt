@@ -84,3 +84,9 @@ returns-clause-space c =
       | inr none ↦ omega arith
     ])
     (rw same c.requires.space.gaps)))
+
+pub returns-in-Some-clause-done : goal.returns-in-Some-clause-done
+returns-in-Some-clause-done c a there = c.walk.ensures.done a (c.edge_from.ensures.done a there)
+
+pub returns-clause-done : goal.returns-clause-done
+returns-clause-done c a there = c.walk.ensures.done a (c.edge_from.ensures.done a there)

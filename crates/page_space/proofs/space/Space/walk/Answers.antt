@@ -9,6 +9,7 @@ use Rattle.gap_bounds.specs.Seat.{SeatView, unlooked}
 use Rattle.gap_bounds.specs.BodyPlaces.{two_words}
 use Rattle.page_space.proofs.Shapes.{shape_words}
 use Rattle.page_space.proofs.WalkSteps.{edge_moves, gap_here, gap_ends}
+use Rattle.page_space.proofs.FoundKept.{found_same}
 use Rattle.page_space.proofs.space.Space.walk.Goals as goal
 use Rattle.page_space.proofs.space.Space.walk.Goals.{After-words_to_next, in_default-via-in-Some+else-gap-size, in_default-via-in-None+else-end-walk}
 
@@ -90,6 +91,7 @@ loop-walk-preserved c =
     let gap = λ (n x : ℕ). gap_ends c.args.seat.now c.args.self.now.shape n c.args.page next after x b c.bodies_lie_apart.ensures place.1 b_at (omega (arith, size_is)) in
     record {
       view = c.header_at.ensures.view ∙ ap unlooked c.words_to_next.ensures.view ∙ c.loop-walk.invariant.view;
+      done = λ x there. c.header_at.ensures.done x (found_same c.words_to_next.ensures.view x (c.loop-walk.invariant.done x there));
       low = omega (arith, c.loop-walk.invariant.low);
       inside = omega (arith, size_is);
       edge = edge_moves c.args.seat.now at next after b c.bodies_lie_apart.ensures c.loop-walk.invariant.edge none place.1 b_at found.0.0 (omega (arith, size_is));
@@ -114,3 +116,12 @@ returns-clause-none c a begins = c.loop-walk.invariant.none a begins.0 begins.1 
 
 pub returns-clause-longest : goal.returns-clause-longest
 returns-clause-longest c n a begins = c.loop-walk.invariant.longest n a begins.0 begins.1 begins.2
+
+pub returns-in_default-clause-done : goal.returns-in_default-clause-done
+returns-in_default-clause-done c a there = found_same c.words_to_next.ensures.view a (c.loop-walk.invariant.done a there)
+
+pub returns-in-None-clause-done : goal.returns-in-None-clause-done
+returns-in-None-clause-done c a there = found_same c.words_to_next.ensures.view a (c.loop-walk.invariant.done a there)
+
+pub returns-clause-done : goal.returns-clause-done
+returns-clause-done c a there = c.loop-walk.invariant.done a there
