@@ -14,7 +14,7 @@ use Rattle.page_words.specs.Markers.{MarkerSeatView}
 use Rattle.mark_worklist.specs.Kept.{same-share, share-then}
 use Rattle.mark_worklist.specs.Shares.{ShareState, IsSameShare, put_of, taken_of, last_count, more_counted}
 use Rattle.marker_crew.specs.declared.draining.Drained.{Drained}
-use Rattle.marker_crew.specs.Stages.{Stage, stage, Lists, Notes, Keeps, IsLater, HasCause, IsNoteOf, HasRisen, WorksAs, Works, OnlyLooks}
+use Rattle.marker_crew.specs.Stages.{Stage, stage, Lists, Notes, Keeps, IsLater, HasCause, IsNoteOf, HasRisen, Works, OnlyLooks}
 use Rattle.marker_crew.proofs.Shares.{same_pushed, same_refused}
 
 keeps_all : {X : Type 0} (old new : List X) → new ≡ old → Keeps old new
@@ -24,21 +24,21 @@ pub keeps_more : {X : Type 0} (old new more : List X) → new ≡ old ++ more �
 keeps_more old new more is x there = subst (λ xs. Contains xs x) (sym is) (Contains-append_left old more x there)
 
 -- a note keeps its cause
-cause_stays : (too : Bool) (s t : Stage) (a : ℕ) → IsLater s t → HasCause too s.seat a → HasCause too t.seat a
-cause_stays too s t a later why = elim why [
+cause_stays : (s t : Stage) (a : ℕ) → IsLater s t → HasCause s.seat a → HasCause t.seat a
+cause_stays s t a later why = elim why [
   | inl missed ↦ inl (later.missed a missed)
-  | inr other ↦ inr (elim other [ inl far ↦ inl (omega (arith, far, ap (λ h. h.count) later.heap)) | inr found ↦ inr (found.0, later.done a found.1) ])
+  | inr far ↦ inr (omega (arith, far, ap (λ h. h.count) later.heap))
 ]
 
-note_stays : (too : Bool) (s t : Stage) (note : Note) → IsLater s t → IsNoteOf too s.seat s.share note → IsNoteOf too t.seat t.share note
-note_stays too s t note later is = elim is [
+note_stays : (s t : Stage) (note : Note) → IsLater s t → IsNoteOf s.seat s.share note → IsNoteOf t.seat t.share note
+note_stays s t note later is = elim is [
   | inl pair ↦ inl (later.noted (note.holder, note.word) pair.0, later.traced note.holder pair.1)
-  | inr place ↦ inr (place.0, (later.taken note.holder place.1.0, cause_stays too s t note.holder later place.1.1))
+  | inr place ↦ inr (place.0, (later.taken note.holder place.1.0, cause_stays s t note.holder later place.1.1))
 ]
 
 -- ---- one work after another
 
-pub later_then : (s t u : Stage) → IsLater s t → IsLater t u → IsLater s u
+later_then : (s t u : Stage) → IsLater s t → IsLater t u → IsLater s u
 later_then s t u x y = record {
   heap = y.heap ∙ x.heap;
   types = y.types ∙ x.types;
@@ -61,11 +61,11 @@ risen_then a b c low high rose = elim rose [
 ]
 
 -- what isn't told at last was never told
-untold : (a b : Refusals) → TellsRefused a b → b.told ≡ false → a.told ≡ false
+pub untold : (a b : Refusals) → TellsRefused a b → b.told ≡ false → a.told ≡ false
 untold a b tells fine = elim (cases_Bool a.told) [ inl told ↦ absurd (true≢false (sym (tells.kept told) ∙ fine)) | inr not_so ↦ not_so ]
 
-pub works_then_as : (too : Bool) (s t u : Stage) → WorksAs too s t → WorksAs too t u → WorksAs too s u
-works_then_as too s t u x y = record {
+pub Works-then : (s t u : Stage) → Works s t → Works t u → Works s u
+Works-then s t u x y = record {
   later = later_then s t u x.later y.later;
   counted = omega (arith, x.counted, y.counted);
   listed = λ fine a there. elim (y.listed fine a there) [
@@ -81,7 +81,7 @@ works_then_as too s t u x y = record {
     | inr note ↦ inr note
   ];
   notes = λ note there. elim (y.notes note there) [
-    | inl before ↦ elim (x.notes note before) [ inl first ↦ inl first | inr is ↦ inr (note_stays too t u note y.later is) ]
+    | inl before ↦ elim (x.notes note before) [ inl first ↦ inl first | inr is ↦ inr (note_stays t u note y.later is) ]
     | inr is ↦ inr is
   ];
   refused_pushes = omega (arith, x.refused_pushes, y.refused_pushes);
@@ -99,38 +99,6 @@ works_then_as too s t u x y = record {
       | inr notes ↦ inr notes
     ])
   ];
-}
-
-pub Works-then : (s t u : Stage) → Works s t → Works t u → Works s u
-Works-then s t u x y = works_then_as false s t u x y
-
--- what a marker does may be done where what is found traced is noted too
-pub works_as : (too : Bool) (s t : Stage) → Works s t → WorksAs too s t
-works_as too s t x = record {
-  later = x.later;
-  counted = x.counted;
-  listed = x.listed;
-  put = x.put;
-  noted = x.noted;
-  notes = λ note there. elim (x.notes note there) [
-    | inl before ↦ inl before
-    | inr is ↦ inr (elim is [
-      | inl pair ↦ inl pair
-      | inr place ↦ inr (
-        place.0,
-        (
-          place.1.0,
-          elim place.1.1 [
-            | inl missed ↦ inl missed
-            | inr other ↦ inr (elim other [ inl far ↦ inl far | inr found ↦ absurd (true≢false (sym found.0)) ])
-          ],
-        ),
-      )
-    ])
-  ];
-  refused_pushes = x.refused_pushes;
-  notes_told = x.notes_told;
-  cause = x.cause;
 }
 
 -- ---- steps that mark, trace and note nothing
@@ -243,10 +211,10 @@ module _ (v w : MarkerSeatView) (h k : ShareState) (n : NotesState) (d e : Drain
 
 -- ---- a note
 
-module _ (too : Bool) (v w : MarkerSeatView) (h : ShareState) (n o : NotesState) (d e : Drained) (holder word : ℕ) (heap : w.heap ≡ v.heap) (types : w.types ≡ v.types)
+module _ (v w : MarkerSeatView) (h : ShareState) (n o : NotesState) (d e : Drained) (holder word : ℕ) (heap : w.heap ≡ v.heap) (types : w.types ≡ v.types)
     (marked : w.marked ≡ v.marked) (traced : w.traced ≡ v.traced) (new_pairs : List (ℕ × ℕ)) (pairs : w.noted ≡ v.noted ++ new_pairs)
     (only : (p offset : ℕ) → Contains new_pairs (p, offset) → (p ≡ holder) × (offset ≡ word)) (done : Keeps v.done w.done) (missed : Keeps v.missed w.missed)
-    (is_note : IsNoteOf too w h (note_of holder word)) (fits : n.refused ≤ last_count) where
+    (is_note : IsNoteOf w h (note_of holder word)) (fits : n.refused ≤ last_count) where
   later_note : Keeps n.notes o.notes → (e.overflow ≡ false → d.overflow ≡ false) → IsLater (stage v h n d) (stage w h o e)
   later_note kept overflow = record {
     heap = heap;
@@ -263,7 +231,7 @@ module _ (too : Bool) (v w : MarkerSeatView) (h : ShareState) (n o : NotesState)
     overflow = overflow;
   }
 
-  note_made : o ≡ noted n holder word → e ≡ d → WorksAs too (stage v h n d) (stage w h o e)
+  note_made : o ≡ noted n holder word → e ≡ d → Works (stage v h n d) (stage w h o e)
   note_made made same =
       let notes : o.notes ≡ n.notes ++ note_of holder word ∷ [] = ap (λ (x : NotesState). x.notes) made in
       record {
@@ -280,14 +248,14 @@ module _ (too : Bool) (v w : MarkerSeatView) (h : ShareState) (n o : NotesState)
         ];
         notes = λ note there. elim (Contains-push_cases n.notes (note_of holder word) note (subst (λ xs. Contains xs note) notes there)) [
           | inl before ↦ inl before
-          | inr is ↦ inr (subst (IsNoteOf too w h) is is_note)
+          | inr is ↦ inr (subst (IsNoteOf w h) is is_note)
         ];
         refused_pushes = omega arith;
         notes_told = subst (λ (x : NotesState). TellsRefused (refusals_in n) (refusals_in x)) (sym made) (told_same (refusals_in n));
         cause = λ told. inl (sym (ap (λ (x : Drained). x.overflow) same) ∙ told);
       }
 
-  note_refused : o ≡ overflowed n → e ≡ record d { overflow = true } → WorksAs too (stage v h n d) (stage w h o e)
+  note_refused : o ≡ overflowed n → e ≡ record d { overflow = true } → Works (stage v h n d) (stage w h o e)
   note_refused made told = record {
     later = later_note (keeps_all n.notes o.notes (ap (λ (x : NotesState). x.notes) made))
         (λ fine. absurd (true≢false (sym (ap (λ (x : Drained). x.overflow) told) ∙ fine)));
@@ -301,7 +269,7 @@ module _ (too : Bool) (v w : MarkerSeatView) (h : ShareState) (n o : NotesState)
     cause = λ is. inr (inr (ap (λ (x : NotesState). x.overflow) made));
   }
 
-  pub note_works : Notes n d holder word o e → WorksAs too (stage v h n d) (stage w h o e)
+  pub note_works : Notes n d holder word o e → Works (stage v h n d) (stage w h o e)
   note_works made = elim made [ inl done ↦ note_made done.0 done.1 | inr refused ↦ note_refused refused.0 refused.1 ]
 
 -- ---- a claim, which is counted
@@ -336,9 +304,9 @@ claim_works v w h n d e a heap types marked traced noted_same done missed counte
 
 -- ---- whether more is left to do is told last
 
-pub works_with_more_as : (too : Bool) (s : Stage) (v : MarkerSeatView) (h : ShareState) (n : NotesState) (d : Drained) (more : Bool)
-    → WorksAs too s (stage v h n d) → WorksAs too s (stage v h n (record d { more = more }))
-works_with_more_as too s v h n d more x = record {
+pub works_with_more : (s : Stage) (v : MarkerSeatView) (h : ShareState) (n : NotesState) (d : Drained) (more : Bool) → Works s (stage v h n d)
+    → Works s (stage v h n (record d { more = more }))
+works_with_more s v h n d more x = record {
   later = record {
     heap = x.later.heap;
     types = x.later.types;
@@ -362,10 +330,6 @@ works_with_more_as too s v h n d more x = record {
   notes_told = x.notes_told;
   cause = x.cause;
 }
-
-pub works_with_more : (s : Stage) (v : MarkerSeatView) (h : ShareState) (n : NotesState) (d : Drained) (more : Bool) → Works s (stage v h n d)
-    → Works s (stage v h n (record d { more = more }))
-works_with_more s v h n d more x = works_with_more_as false s v h n d more x
 
 -- an item was taken, and nothing else has changed
 pub take_works : (v : MarkerSeatView) (h k : ShareState) (n : NotesState) (d : Drained) → IsSameShare h k → put_of k ≡ put_of h → Keeps (taken_of h) (taken_of k)
@@ -406,39 +370,11 @@ pub no_pair : (holder word p offset : ℕ) → Contains {X = ℕ × ℕ} [] (p, 
 no_pair holder word p offset there = absurd (omega (arith, there.1))
 
 -- the place of an item was noted, with nothing else noted
-pub item_noted_as : (too : Bool) (v w : MarkerSeatView) (h : ShareState) (n o : NotesState) (d e : Drained) (a : ℕ) → OnlyLooks v w
-    → Contains (taken_of h) a → HasCause too w a → n.refused ≤ last_count → Notes n d a 0 o e → WorksAs too (stage v h n d) (stage w h o e)
-item_noted_as too v w h n o d e a looks took why fits made =
-    note_works too v w h n o d e a 0 looks.heap looks.types looks.marked looks.traced [] (looks.noted ∙ sym (append-nil v.noted)) (no_pair a 0) looks.done
+pub item_noted : (v w : MarkerSeatView) (h : ShareState) (n o : NotesState) (d e : Drained) (a : ℕ) → OnlyLooks v w
+    → Contains (taken_of h) a → HasCause w a → n.refused ≤ last_count → Notes n d a 0 o e → Works (stage v h n d) (stage w h o e)
+item_noted v w h n o d e a looks took why fits made =
+    note_works v w h n o d e a 0 looks.heap looks.types looks.marked looks.traced [] (looks.noted ∙ sym (append-nil v.noted)) (no_pair a 0) looks.done
     looks.missed (inr (refl, (took, why))) fits made
 
 pub looks_not : (v : MarkerSeatView) → OnlyLooks v v
 looks_not v = record { heap = refl; types = refl; marked = refl; traced = refl; noted = refl; done = λ a there. there; missed = λ a there. there }
-
--- an item that was found traced is noted too, or nothing is
-pub traced_noted : (too : Bool) (v w : MarkerSeatView) (h : ShareState) (n o : NotesState) (d e : Drained) (a : ℕ) → OnlyLooks v w
-    → Contains (taken_of h) a → Contains w.done a → n.refused ≤ last_count
-    → ((too ≡ true) × Notes n d a 0 o e) ⊎ ((too ≡ false) × (o ≡ n) × (e ≡ d)) → WorksAs too (stage v h n d) (stage w h o e)
-traced_noted too v w h n o d e a looks took found fits made = elim made [
-  | inl noted ↦ item_noted_as too v w h n o d e a looks took (inr (inr (noted.0, found))) fits noted.1
-  | inr same ↦ subst (λ (x : NotesState). WorksAs too (stage v h n d) (stage w h x e)) (sym same.1)
-      (subst (λ (x : Drained). WorksAs too (stage v h n d) (stage w h n x)) (sym same.2)
-      (works_as too (stage v h n d) (stage w h n d) (looks_work v w h n d looks)))
-]
-
-pub later_with_more : (v : MarkerSeatView) (h : ShareState) (n : NotesState) (d : Drained) (more : Bool)
-    → IsLater (stage v h n d) (stage v h n (record d { more = more }))
-later_with_more v h n d more = record {
-  heap = refl;
-  types = refl;
-  lists = same-share h;
-  marked = λ a there. there;
-  traced = λ a there. there;
-  noted = λ a there. there;
-  done = λ a there. there;
-  missed = λ a there. there;
-  put = λ a there. there;
-  taken = λ a there. there;
-  notes = λ a there. there;
-  overflow = λ fine. fine;
-}

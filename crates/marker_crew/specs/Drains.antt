@@ -2,7 +2,7 @@
 use Rattle.std.specs.Prelude.{◌≡◌, ◌⊎◌, ℕ, ◌+◌, true, false, length, Contains}
 use Rattle.mark_worklist.specs.Shares.{ShareState, taken_of}
 use Rattle.marker_crew.specs.declared.draining.Drained.{Drained}
-use Rattle.marker_crew.specs.Stages.{Stage, Keeps, IsDealtWith, IsTracedOrNoted}
+use Rattle.marker_crew.specs.Stages.{Stage, Keeps, IsDealtWith}
 
 -- a drain that has done nothing
 abbrev pub nothing_yet : Drained
@@ -22,7 +22,3 @@ pub record IsTaken (old : ShareState) (a : ℕ) (new : ShareState) : Type 0 wher
 -- each item that was taken since the share was this is dealt with
 abbrev pub AreDealtWith : ShareState → Stage → Type 0
 AreDealtWith before t = (a : ℕ) → Contains (taken_of t.share) a → Contains (taken_of before) a ⊎ IsDealtWith t a
-
--- each item that was taken since the share was this is traced by the seat or noted
-abbrev pub AreTracedOrNoted : ShareState → Stage → Type 0
-AreTracedOrNoted before t = (a : ℕ) → Contains (taken_of t.share) a → Contains (taken_of before) a ⊎ IsTracedOrNoted t a

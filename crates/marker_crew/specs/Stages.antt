@@ -1,5 +1,5 @@
 -- What a marker has while it drains, and what it makes of it.
-use Rattle.std.specs.Prelude.{◌≡◌, ◌⊎◌, ℕ, ◌+◌, ◌<◌, ◌≤◌, Bool, true, false, List, length, Contains}
+use Rattle.std.specs.Prelude.{◌≡◌, ◌⊎◌, ℕ, ◌+◌, ◌<◌, ◌≤◌, true, false, List, length, Contains}
 use Rattle.mark_worklist.specs.Refusals.{TellsRefused}
 use Rattle.pair_notes.specs.declared.notes.Note.{Note}
 use Rattle.pair_notes.specs.Notes.{NotesState, note_of, noted, overflowed, refusals_in}
@@ -66,27 +66,25 @@ pub record OnlyLooks (v w : MarkerSeatView) : Type 0 where
   pub done : Keeps v.done w.done
   pub missed : Keeps v.missed w.missed
 
--- why a place is noted alone: the seat missed it, or it isn't one of the heap; or, where what is found traced is noted too, the
--- seat found it traced
-abbrev pub HasCause : Bool → MarkerSeatView → ℕ → Type 0
-HasCause too v a = Contains v.missed a ⊎ ((v.count ≤ a) ⊎ ((too ≡ true) × Contains v.done a))
+-- why a place is noted alone: the seat missed it, or it isn't one of the heap
+abbrev pub HasCause : MarkerSeatView → ℕ → Type 0
+HasCause v a = Contains v.missed a ⊎ (v.count ≤ a)
 
 -- the note is of a pair that the seat noted, of an object that it traced; or it is of a place alone, which the share took, and
 -- has a cause
-abbrev pub IsNoteOf : Bool → MarkerSeatView → ShareState → Note → Type 0
-IsNoteOf too v h note =
+abbrev pub IsNoteOf : MarkerSeatView → ShareState → Note → Type 0
+IsNoteOf v h note =
     (Contains v.noted (note.holder, note.word) × Contains v.traced note.holder)
-    ⊎ ((note.word ≡ 0) × (Contains (taken_of h) note.holder × HasCause too v note.holder))
+    ⊎ ((note.word ≡ 0) × (Contains (taken_of h) note.holder × HasCause v note.holder))
 
 -- a count of what was refused has risen, or stands at its last value
 abbrev pub HasRisen : ℕ → ℕ → Type 0
 HasRisen old new = (old < new) ⊎ (last_count ≤ new)
 
--- the work of a drain between two stages, which notes what it finds traced too or doesn't: as many objects are traced as are
--- counted; unless something was refused, what the seat marked is put on its share's list; unless a note was, what it noted is in
--- the notes; what is put was marked; each note has its cause; and that something was refused comes to be told where a push or a
--- note was
-pub record WorksAs (too : Bool) (s t : Stage) : Type 0 where
+-- the work of a drain between two stages, of a marker's or of the owner's step: as many objects are traced as are counted; unless
+-- something was refused, what the seat marked is put on its share's list; unless a note was, what it noted is in the notes; what
+-- is put was marked; each note has its cause; and that something was refused comes to be told where a push or a note was
+pub record Works (s t : Stage) : Type 0 where
   pub later : IsLater s t
   pub counted : t.drained.traced + length s.seat.traced ≡ s.drained.traced + length t.seat.traced
   pub listed : t.drained.overflow ≡ false → (a : ℕ) → Contains t.seat.marked a → Contains s.seat.marked a ⊎ Contains (put_of t.share) a
@@ -94,29 +92,17 @@ pub record WorksAs (too : Bool) (s t : Stage) : Type 0 where
   pub noted :
       t.notes.overflow ≡ false → (p offset : ℕ) → Contains t.seat.noted (p, offset)
       → Contains s.seat.noted (p, offset) ⊎ Contains t.notes.notes (note_of p offset)
-  pub notes : (note : Note) → Contains t.notes.notes note → Contains s.notes.notes note ⊎ IsNoteOf too t.seat t.share note
+  pub notes : (note : Note) → Contains t.notes.notes note → Contains s.notes.notes note ⊎ IsNoteOf t.seat t.share note
   pub refused_pushes : s.share.refused ≤ t.share.refused
   pub notes_told : TellsRefused (refusals_in s.notes) (refusals_in t.notes)
   pub cause :
       t.drained.overflow ≡ true
       → (s.drained.overflow ≡ true) ⊎ (HasRisen s.share.refused t.share.refused ⊎ (t.notes.overflow ≡ true))
 
--- the work of a marker, which doesn't note what it finds traced
-abbrev pub Works : Stage → Stage → Type 0
-Works s t = WorksAs false s t
-
 -- ---- an item
 
--- unless something was refused, an item is traced by this seat, or found traced, or noted with word 0
+-- unless the notes tell that one was refused, an item is traced by this seat, or found traced, or noted with word 0, whether or not
+-- a push was refused
 abbrev pub IsDealtWith : Stage → ℕ → Type 0
 IsDealtWith t a =
-    t.drained.overflow ≡ false → Contains t.seat.traced a ⊎ (Contains t.seat.done a ⊎ Contains t.notes.notes (note_of a 0))
-
--- unless something was refused, an item is traced by this seat, or noted with word 0
-abbrev pub IsTracedOrNoted : Stage → ℕ → Type 0
-IsTracedOrNoted t a = t.drained.overflow ≡ false → Contains t.seat.traced a ⊎ Contains t.notes.notes (note_of a 0)
-
--- the first of these where what is found traced isn't noted, and the second where it is
-abbrev pub IsDealtWithAs : Bool → Stage → ℕ → Type 0
-IsDealtWithAs false t a = IsDealtWith t a
-IsDealtWithAs true t a = IsTracedOrNoted t a
+    t.notes.overflow ≡ false → Contains t.seat.traced a ⊎ (Contains t.seat.done a ⊎ Contains t.notes.notes (note_of a 0))

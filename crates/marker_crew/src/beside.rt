@@ -2,8 +2,8 @@
 
 ghost use Rattle.std.specs.Prelude.{◌≡◌, ◌⊎◌, ◌+◌, ◌-◌, ◌^◌, ◌≤◌, true, false, None, length};
 ghost use Rattle.mark_worklist.specs.Shares.{taken_of};
-ghost use Rattle.marker_crew.specs.Stages.{stage, WorksAs};
-ghost use Rattle.marker_crew.specs.Drains.{nothing_yet, AreTracedOrNoted, IsIdle};
+ghost use Rattle.marker_crew.specs.Stages.{stage, Works};
+ghost use Rattle.marker_crew.specs.Drains.{nothing_yet, AreDealtWith, IsIdle};
 ghost use Rattle.marker_crew.specs.Steps.{HasStepped};
 
 use crate::draining::Drained;
@@ -19,8 +19,7 @@ use type_table::TypeTable;
 const MOST_ITEMS: u32 = u32::MAX;
 
 /// Traces so many objects at most, of the items that it takes or steals, beside the markers of a crew
-/// or without any. It waits for no item, passes no gate and doesn't look at the stop word. An item
-/// that it finds traced it notes with word 0, since the mutator forgets what it looked at.
+/// or without any. It waits for no item, passes no gate and doesn't look at the stop word.
 pub fn step_beside(
     words: &Words,
     types: &TypeTable,
@@ -57,9 +56,9 @@ fn step(
     requires heap { seat.old.heap ≡ words.now }
     requires types { types.now ≡ seat.old.types }
     requires hand { seat.old.hand ≡ None }
-    ensures works { WorksAs true (stage seat.old share.old notes.old nothing_yet)
+    ensures works { Works (stage seat.old share.old notes.old nothing_yet)
         (stage seat.new share.new notes.new result) }
-    ensures taken { AreTracedOrNoted share.old (stage seat.new share.new notes.new result) }
+    ensures taken { AreDealtWith share.old (stage seat.new share.new notes.new result) }
     ensures hand { seat.new.hand ≡ None }
     ensures most { result.traced ≤ most }
     ensures done { result.more ≡ false → IsIdle share.new }
@@ -69,7 +68,6 @@ fn step(
     let manner = Manner {
         gate: &FreeGate,
         worker: 0,
-        too: true,
     };
     let mut drained = Drained {
         traced: 0,

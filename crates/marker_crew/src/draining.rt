@@ -48,11 +48,7 @@ pub fn drain<G: Gate>(
     ensures more { result.more ≡ true → (seat.new.halted ≡ true)
         ⊎ (length (taken_of share.new) ≡ length (taken_of share.old) + budget) }
 {
-    let manner = Manner {
-        gate,
-        worker,
-        too: false,
-    };
+    let manner = Manner { gate, worker };
     let mut drained = Drained {
         traced: 0,
         more: true,

@@ -21,12 +21,11 @@ impl Gate for FreeGate {
     }
 }
 
-/// How a worker drains: at which gate, and whether it notes what it finds traced too.
+/// How a worker drains: at which gate, and under which number.
 #[derive(Drop)]
 pub(crate) struct Manner<'a, G> {
     pub(crate) gate: &'a G,
     pub(crate) worker: u32,
-    pub(crate) too: bool,
 }
 
 impl<G: Gate> Manner<'_, G> {

@@ -3,12 +3,12 @@
 ghost use Rattle.std.specs.Prelude.{◌≡◌, ◌⊎◌, ◌<◌, ◌≤◌, ◌+◌, ◌^◌, true, None, Contains};
 ghost use Rattle.marker_core.specs.Bodies.{holds};
 ghost use Rattle.mark_worklist.specs.Shares.{ShareState, taken_of};
-ghost use Rattle.marker_crew.specs.Stages.{stage, WorksAs, IsDealtWithAs};
+ghost use Rattle.marker_crew.specs.Stages.{stage, Works, IsDealtWith};
 
 use crate::draining::Drained;
 use crate::gate::{AFTER_OBJECT, BEFORE_CLAIM, Gate, Manner};
 use crate::objects::{has_traced, trace_object};
-use crate::recording::{note, note_traced};
+use crate::recording::note;
 use mark_worklist::Share;
 use object_headers::Header;
 use page_words::{MarkerSeat, Words, has_mark};
@@ -17,7 +17,7 @@ use type_table::TypeTable;
 
 /// Claims and traces the object at a place that was taken from a list. Where none is found there, or
 /// one with neither mark nor traced bit, or one that changes before it is claimed and isn't traced
-/// then, the place is noted with word 0; and by some drains also where it is found traced.
+/// then, the place is noted with word 0.
 pub(crate) fn deal_with<G: Gate>(
     words: &Words,
     types: &TypeTable,
@@ -33,10 +33,9 @@ pub(crate) fn deal_with<G: Gate>(
     requires hand { seat.old.hand ≡ None }
     requires few { drained.old.traced + 1 < 2 ^ 32 }
     requires item { Contains (taken_of share.old) place }
-    ensures works { WorksAs manner.now.too (stage seat.old share.old notes.old drained.old)
+    ensures works { Works (stage seat.old share.old notes.old drained.old)
         (stage seat.new share.new notes.new drained.new) }
-    ensures dealt { IsDealtWithAs manner.now.too
-        (stage seat.new share.new notes.new drained.new) place }
+    ensures dealt { IsDealtWith (stage seat.new share.new notes.new drained.new) place }
     ensures taken { taken_of share.new ≡ taken_of share.old }
     ensures hand { seat.new.hand ≡ None }
     ensures most { drained.new.traced ≤ drained.old.traced + 1 }
@@ -65,17 +64,15 @@ fn trace_known<G: Gate>(
     requires known { holds seat.old.known place ≡ true }
     requires few { drained.old.traced + 1 < 2 ^ 32 }
     requires item { Contains (taken_of share.old) place }
-    ensures works { WorksAs manner.now.too (stage seat.old share.old notes.old drained.old)
+    ensures works { Works (stage seat.old share.old notes.old drained.old)
         (stage seat.new share.new notes.new drained.new) }
-    ensures dealt { IsDealtWithAs manner.now.too
-        (stage seat.new share.new notes.new drained.new) place }
+    ensures dealt { IsDealtWith (stage seat.new share.new notes.new drained.new) place }
     ensures taken { taken_of share.new ≡ taken_of share.old }
     ensures hand { seat.new.hand ≡ None }
     ensures most { drained.new.traced ≤ drained.old.traced + 1 }
 {
     let header = words.header(seat, place);
     if has_traced(header) {
-        note_traced(notes, drained, manner.too, place);
         return;
     }
     if !has_mark(header) {
@@ -89,18 +86,16 @@ fn trace_known<G: Gate>(
         trace_object(words, types, seat, share, notes, drained, place, ty);
         manner.pass(AFTER_OBJECT);
     } else {
-        look_again(words, seat, notes, drained, manner.too, place);
+        look_again(words, seat, notes, drained, place);
     }
 }
 
-/// Notes with word 0 the place of an object that could not be claimed, unless it is traced and the
-/// drain doesn't note such.
+/// Notes with word 0 the place of an object that could not be claimed, unless it is traced.
 fn look_again(
     words: &Words,
     seat: &mut MarkerSeat,
     notes: &mut Pairs,
     drained: &mut Drained,
-    too: bool,
     place: u32,
 )
     requires heap { seat.old.heap ≡ words.now }
@@ -108,16 +103,14 @@ fn look_again(
     requires known { holds seat.old.known place ≡ true }
     requires failed { Contains seat.old.done place ⊎ Contains seat.old.missed place }
     ensures works { (h : ShareState) → Contains (taken_of h) place
-        → WorksAs too (stage seat.old h notes.old drained.old)
+        → Works (stage seat.old h notes.old drained.old)
         (stage seat.new h notes.new drained.new) }
     ensures dealt { (h : ShareState)
-        → IsDealtWithAs too (stage seat.new h notes.new drained.new) place }
+        → IsDealtWith (stage seat.new h notes.new drained.new) place }
     ensures hand { seat.new.hand ≡ None }
     ensures count { drained.new.traced ≡ drained.old.traced }
 {
-    if has_traced(words.header(seat, place)) {
-        note_traced(notes, drained, too, place);
-    } else {
+    if !has_traced(words.header(seat, place)) {
         note(notes, drained, place, 0);
     }
 }

@@ -1,7 +1,7 @@
 // What a marker writes down: places on its share of the lists, and notes.
 
-ghost use Rattle.std.specs.Prelude.{◌≡◌, ◌⊎◌, ◌≤◌, true, false};
-ghost use Rattle.mark_worklist.specs.Shares.{ShareState, last_count};
+ghost use Rattle.std.specs.Prelude.{◌≤◌};
+ghost use Rattle.mark_worklist.specs.Shares.{last_count};
 ghost use Rattle.marker_crew.specs.Stages.{Lists, Notes};
 
 use crate::draining::Drained;
@@ -25,17 +25,5 @@ pub(crate) fn note(notes: &mut Pairs, drained: &mut Drained, holder: u32, word: 
 {
     if !notes.note(holder, word) {
         drained.overflow = true;
-    }
-}
-
-/// Notes an object that was found traced, where a drain notes such too.
-pub(crate) fn note_traced(notes: &mut Pairs, drained: &mut Drained, too: bool, place: u32)
-    ensures noted { ((too ≡ true) × Notes notes.old drained.old place 0 notes.new drained.new)
-        ⊎ ((too ≡ false) × (notes.new ≡ notes.old) × (drained.new ≡ drained.old)) }
-    ensures fits { notes.old.refused ≤ last_count }
-{
-    let _told = notes.refused();
-    if too {
-        note(notes, drained, place, 0);
     }
 }

@@ -182,7 +182,7 @@ fn steps_end_with_their_objects_or_the_list(rt: HostRuntime) {
         more: false,
         overflow: false,
     };
-    assert!(rt; stepped(rt.alloc()) == Some((one, two, 1)));
+    assert!(rt; stepped(rt.alloc()) == Some((one, two, 0)));
 }
 
 /// Holds the first marker before a claim until it may go.

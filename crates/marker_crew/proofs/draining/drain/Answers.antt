@@ -6,7 +6,7 @@ use Rattle.marker_crew.specs.Drains.{nothing_yet}
 use Rattle.marker_crew.specs.Stages.{Stage, stage, Works, OnlyLooks}
 use Rattle.marker_crew.proofs.Claiming.{stop_looks}
 use Rattle.marker_crew.proofs.Dealing.{all_dealt_stay, one_dealt}
-use Rattle.marker_crew.proofs.Working.{Works-then, looks_then, looks_work, take_works, works_with_more, later_then, later_with_more}
+use Rattle.marker_crew.proofs.Working.{Works-then, looks_then, looks_work, take_works, works_with_more}
 use Rattle.marker_crew.proofs.draining.drain.Goals as goal
 
 pub returns-then-stopped-clause-works : goal.returns-then-stopped-clause-works
@@ -30,8 +30,7 @@ returns-then-stopped-clause-taken g c =
     let u : MarkerSeatView = c.stopped.new.seat in
     let last : Stage = stage u h n (record d { more = true }) in
     all_dealt_stay c.args.share.now (stage v h n d) last
-    (later_then (stage v h n d) (stage u h n d) last (looks_work v u h n d (stop_looks v u c.stopped.result c.stopped.ensures.view)).later
-    (later_with_more u h n d true))
+    (works_with_more (stage v h n d) u h n d true (looks_work v u h n d (stop_looks v u c.stopped.result c.stopped.ensures.view)))
     refl c.loop-item.invariant.dealt
 
 pub returns-in_default-clause-works : goal.returns-in_default-clause-works
@@ -62,11 +61,11 @@ returns-in_default-clause-taken g c =
     let looks : OnlyLooks v u =
     looks_then v c.stopped.new.seat u (stop_looks v c.stopped.new.seat c.stopped.result c.stopped.ensures.view) c.await_item.ensures.looks in
     all_dealt_stay c.args.share.now (stage v h n d) last
-    (later_then (stage v h n d) (stage u h n d) last (looks_work v u h n d looks).later
-    (later_then (stage u h n d) (stage u k n d) last
+    (works_with_more (stage v h n d) u k n d false
+    (Works-then (stage v h n d) (stage u h n d) (stage u k n d) (looks_work v u h n d looks)
     (take_works u h k n d c.await_item.ensures.lists c.await_item.ensures.same.0
     (λ a there. subst (λ xs. Contains xs a) (sym c.in_default.ensures.taken.0) there)
-    c.await_item.ensures.same.1).later (later_with_more u k n d false)))
+    c.await_item.ensures.same.1)))
     c.in_default.ensures.taken.0 c.loop-item.invariant.dealt
 
 pub loop-item-preserved : goal.loop-item-preserved
@@ -87,7 +86,7 @@ loop-item-preserved g c =
     (take_works u h k n d c.await_item.ensures.lists c.await_item.ensures.same.0 c.in-Some.ensures.taken.kept c.await_item.ensures.same.1) c.deal_with.ensures.works) in
     record {
       works = Works-then s (stage v h n d) last c.loop-item.invariant.works works;
-      dealt = one_dealt c.args.share.now (stage v h n d) last k c.in-Some.place works.later c.loop-item.invariant.dealt c.in-Some.ensures.taken
+      dealt = one_dealt c.args.share.now (stage v h n d) last k c.in-Some.place works c.loop-item.invariant.dealt c.in-Some.ensures.taken
           c.deal_with.ensures.taken c.deal_with.ensures.dealt;
       hand = c.deal_with.ensures.hand;
       count = omega (arith, ap length c.deal_with.ensures.taken, c.in-Some.ensures.taken.count, c.loop-item.invariant.count);

@@ -74,7 +74,7 @@ returns-else-has_mark-clause-works c =
     let before : u.traced ≡ v.traced = ap (λ (s : MarkerSeatView). s.traced) c.read.ensures.view in
     Works-then (stage v h n d) (stage u h n d) (stage x h c.note.new.notes c.note.new.drained)
     (looks_work v u h n d (read_looks v u c.read.result c.read.ensures.view))
-    (note_works false u x h n c.note.new.notes d c.note.new.drained c.args.place c.args.offset (ap (λ (s : MarkerSeatView). s.heap) is)
+    (note_works u x h n c.note.new.notes d c.note.new.drained c.args.place c.args.offset (ap (λ (s : MarkerSeatView). s.heap) is)
     (ap (λ (s : MarkerSeatView). s.types) is) (ap (λ (s : MarkerSeatView). s.marked) is) traced ((c.args.place, c.args.offset) ∷ []) noted
     (one_pair c.args.place c.args.offset) (header_done u x c.in-Some.key c.header.result is) (header_missed u x c.in-Some.key c.header.result is)
     (inl (
