@@ -40,6 +40,11 @@ pub record HasNoRefusedPush (told : RefusalsTold) : Type 0 where
   pub same : told.now.pushes ≡ told.since.pushes
   pub seen : told.now.pushes < last_count
 
+-- no note was, as far as the count shows it
+pub record HasNoRefusedNote (told : RefusalsTold) : Type 0 where
+  pub same : told.now.notes ≡ told.since.notes
+  pub seen : told.now.notes < last_count
+
 -- the open sweep was ended, in which these nodes were finalised; what threads have done was taken, and the start entry, and then
 -- marking began
 pub record HasBegun (old : Parts) (before : Shared) (numbers : List ℕ) (new : Parts) (after : Shared) : Type 0 where

@@ -29,6 +29,7 @@ pub use Rattle.heap_roots.specs.Marks
 pub use Rattle.heap_roots.specs.NewNodes
 pub use Rattle.heap_roots.specs.NodePlaces
 pub use Rattle.heap_roots.specs.Nodes
+pub use Rattle.heap_roots.specs.Note
 pub use Rattle.heap_roots.specs.Notes
 pub use Rattle.heap_roots.specs.Objects
 pub use Rattle.heap_roots.specs.PairFields

@@ -23,14 +23,18 @@ use Rattle.heap_cycle.specs.AmongNodes.{among_cases}
 use Rattle.heap_cycle.specs.KeptNodes.{slot_of_root, slot_live, kept_parts, kept_from}
 use Rattle.heap_cycle.specs.Nodes.{place_of}
 use Rattle.heap_cycle.specs.PlacesInWords.{kept_of}
-use Rattle.heap_cycle.specs.Marks.{HasMarks, HasMarking}
-use Rattle.heap_cycle.specs.Objects.{told_of}
+use Rattle.heap_cycle.specs.Marks.{HasMarks, HasMarking, IsOut}
+use Rattle.heap_cycle.specs.Notes.{note_of}
+use Rattle.heap_cycle.specs.Objects.{ObjectsView, told_of}
 use Rattle.heap_cycle.specs.declared.parts.Parts.{Parts}
-use Rattle.heap_cycle.specs.Cycles.{AreSlotsMarked, IsNoneGrey, HasNoRefusedPush}
+use Rattle.heap_cycle.specs.Cycles.{AreSlotsMarked, IsNoneGrey, HasNoRefusedNote, HasNoRefusedPush}
 use Rattle.heap_cycle.specs.KeptRoots.{marking_of}
 use Rattle.heap_cycle.specs.Parts.{setup_of, state_of, AreTied, IsManned, IsReady}
 use Rattle.heap_cycle.specs.Printed.{Printed, ran_lines, lines_with}
 use Rattle.heap_cycle.specs.Region.{HasRegion}
+use Rattle.page_space.specs.Pages.{word_count}
+use Rattle.heap_engine.specs.Acted.{IsDealtWith}
+use Rattle.heap_engine.specs.Sound.{items_of}
 
 -- ---- which line tells it
 
@@ -138,3 +142,28 @@ all_lent s ready manned marking = (marking_of s ready marking).crew.lent ∙ man
 -- and where it has some, some run
 pub some_run : (s : Parts) → IsManned s → s.cycle.phase ≡ Marking → 0 < s.objects.grey.markers → 0 < length s.objects.grey.running
 some_run s manned marking some = omega (arith, some, manned marking)
+
+-- no note was refused where none is counted
+unrefused_notes : (may : List Bool) (o : ObjectsView) → HasMarking may o → HasNoRefusedNote (told_of o) → o.grey.notes.overflow ≡ false
+unrefused_notes may o has none = elim (cases_Bool o.grey.notes.overflow) [
+  | inl told ↦ elim (has.notes_told.only told) [
+    | inl before ↦ absurd (true≢false (sym before))
+    | inr count ↦ elim count [ inl more ↦ absurd (omega (arith, more, none.same)) | inr last ↦ absurd (omega (arith, last, none.seen)) ]
+  ]
+  | inr calm ↦ calm
+]
+
+-- then each item that the owner took beside markers is dealt with
+pub items_dealt : (s : Parts) → IsReady s → IsManned s → s.objects.seat.count ≡ word_count s.objects.shape → s.cycle.phase ≡ Marking → 0 < s.objects.grey.markers
+    → HasNoRefusedNote (told_of s.objects) → (p : ℕ) → Contains (items_of s.objects.seat s.objects.grey).taken p
+    → IsDealtWith (items_of s.objects.seat s.objects.grey) (word_count s.objects.shape) p
+items_dealt s ready manned words marking some none p took =
+    let has : HasMarking s.cycle.rest.may s.objects = marking_of s ready marking in
+    let out : IsOut s.objects.seat s.objects.grey = has.crew.out (some_run s manned marking some) in
+    elim (out.taken (unrefused_notes s.cycle.rest.may s.objects has none) p took) [
+      | inl traced ↦ inl (in_from_holds s.objects.seat.traced p traced)
+      | inr other ↦ inr (elim other [
+        | inl found ↦ inl found
+        | inr note ↦ inr (note, elim (out.lone (note_of p 0) note refl).1 [ inl missed ↦ inl missed | inr far ↦ inr (omega (arith, far, words)) ])
+      ])
+    ]

@@ -1,5 +1,5 @@
 -- What a command does to a heap.
-use Rattle.std.specs.Prelude.{◌≡◌, ◌⊎◌, ℕ, ◌+◌, ◌-◌, ◌^◌, ◌<◌, ◌++◌, true, false, [], ◌∷◌, length, Contains}
+use Rattle.std.specs.Prelude.{◌≡◌, ◌⊎◌, ℕ, ◌+◌, ◌-◌, ◌^◌, ◌<◌, ◌≤◌, ◌++◌, true, false, [], ◌∷◌, length, Contains}
 use Rattle.gc_graph.specs.declared.command.Command.{Command}
 use Rattle.gc_graph.specs.declared.command.Command.TheVariants as C
 use Rattle.gc_graph.specs.declared.line.Line.TheVariants as L
@@ -9,22 +9,31 @@ use Rattle.gc_graph.specs.Reach.{HoldsAll}
 use Rattle.gc_graph.specs.RegionSteps.{HasDoneFirst}
 use Rattle.gc_graph.specs.State.{slot_targets, strong_region_targets}
 use Rattle.gc_graph.specs.Step.{Step}
-use Rattle.heap_cycle.specs.Cycles.{HasNoRefusedPush}
+use Rattle.page_space.specs.Pages.{word_count}
+use Rattle.heap_cycle.specs.Cycles.{HasNoRefusedNote, HasNoRefusedPush}
+use Rattle.heap_cycle.specs.Notes.{note_of}
 use Rattle.heap_cycle.specs.Walks.{IsWalkToldIn}
 use Rattle.heap_engine.specs.Going.{AreTotalsOf}
-use Rattle.heap_engine.specs.View.{View, going_after}
+use Rattle.heap_engine.specs.View.{Items, View, going_after}
 
 -- a step that is done: without markers each marked node is traced, unless a push was refused in the cycle; and beside markers the
 -- owner's last pop and steal found nothing, or it took so many items that it was ended
 pub record IsStepDone (old new : View) : Type 0 where
   pub alone : old.setup.markers ≡ 0 → HasNoRefusedPush new.refusals → IsWithin new.marked new.traced
-  pub beside : 0 < old.setup.markers → (new.idle ≡ true) ⊎ (new.taken ≡ old.taken + (2 ^ 32 - 1))
+  pub beside : 0 < old.setup.markers → (new.idle ≡ true) ⊎ (length new.items.taken ≡ length old.items.taken + (2 ^ 32 - 1))
+
+-- an item is dealt with in a heap of so many words: the owner claimed the object there, or found it traced, or noted the place, where it
+-- found no marked object or which is none of the heap
+abbrev pub IsDealtWith : Items → ℕ → ℕ → Type 0
+IsDealtWith items words p =
+    Contains items.claimed p ⊎ (Contains items.found p ⊎ (Contains items.notes (note_of p 0) × (Contains items.missed p ⊎ (words ≤ p))))
 
 -- the command is a step to the new state, which takes this piece of the region's history and tells these lines, so many; one command
 -- more is counted, the piece follows the history, and the heap isn't closed; nothing is ahead where no join is awaited; a thread that
 -- runs has done the first of its orders, and the totals that a join tells are those just before the threads went; a pause line tells truly
 -- whether the heap was walked; where a cycle was started, what the strong slots name is marked, those of the region among them;
--- while marking goes on a seat is lent for each of the heap's markers; and a step tells truly that it is done
+-- while marking goes on a seat is lent for each of the heap's markers, and each item that the owner took beside them is dealt with unless
+-- a note was refused; and a step tells truly that it is done
 pub record IsActed (old new : View) (command : Command) (lines : ℕ) : Type 0 where
   pub step : Step old.setup old.state command new.piece new.lines new.state
   pub count : lines ≡ length new.lines
@@ -40,4 +49,7 @@ pub record IsActed (old new : View) (command : Command) (lines : ℕ) : Type 0 w
   pub started :
       Contains new.lines L.Started → HoldsAll new.marked (slot_targets new.state.slots ++ strong_region_targets new.state.region)
   pub lent : new.state.phase ≡ Marking → new.lent ≡ new.setup.markers
+  pub items :
+      new.state.phase ≡ Marking → 0 < new.setup.markers → HasNoRefusedNote new.refusals → (p : ℕ) → Contains new.items.taken p
+      → IsDealtWith new.items (word_count new.setup.shape) p
   pub done : (t : ℕ) → new.lines ≡ L.Step t true ∷ [] → IsStepDone old new

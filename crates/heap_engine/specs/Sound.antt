@@ -4,6 +4,7 @@ use Rattle.gc_graph.specs.declared.line.Line.{Line}
 use Rattle.gc_graph.specs.ThreadLaw.{IsCounted}
 use Rattle.marker_core.specs.Bodies.{holds}
 use Rattle.page_space.specs.Pages.{word_count}
+use Rattle.page_words.specs.Seat.{SeatView}
 use Rattle.cross_thread_region.specs.Histories.{entries_of}
 use Rattle.heap_cycle.specs.PlacesInWords.{kept_of}
 use Rattle.mark_worklist.specs.Families.{at}
@@ -11,16 +12,22 @@ use Rattle.mark_worklist.specs.Shares.{taken_of as items_taken}
 use Rattle.heap_cycle.specs.Marking.{GreyView}
 use Rattle.heap_cycle.specs.Objects.{told_of}
 use Rattle.heap_engine.specs.declared.heap_core.Core.TheInside.{Inside}
-use Rattle.heap_engine.specs.View.{View}
+use Rattle.heap_engine.specs.View.{Items, View}
 use Rattle.heap_cycle.specs.Printed.{Printed, outcome_lines, IsOutcome}
 use Rattle.heap_cycle.specs.Parts.{setup_of, state_of, IsManned, IsReady}
 use Rattle.heap_cycle.specs.Region.{made}
 use Rattle.heap_cycle.specs.Shared.{HasShared, ahead_of, taken_of, told_lines}
 use Rattle.heap_engine.specs.Going.{AreTotalsOf, HasTold}
 
--- how many items the owner took from lists with shares
-abbrev pub taken_in : GreyView → ℕ
-taken_in g = length (items_taken (at g.marking.list.shares 0))
+-- what the owner did with the items of lists with shares
+abbrev pub items_of : SeatView → GreyView → Items
+items_of v g = record {
+  taken = items_taken (at g.marking.list.shares 0);
+  claimed = v.traced;
+  found = g.found;
+  notes = g.notes.notes;
+  missed = v.missed;
+}
 
 -- a heap as its callers see it
 abbrev pub view_of : Inside → View
@@ -37,7 +44,7 @@ view_of h = record {
   refusals = told_of h.parts.objects;
   lent = h.parts.objects.seat.lent;
   idle = h.parts.objects.grey.marking.list.idle;
-  taken = taken_in h.parts.objects.grey;
+  items = items_of h.parts.objects.seat h.parts.objects.grey;
   closed = h.closed;
 }
 

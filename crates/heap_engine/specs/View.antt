@@ -5,13 +5,23 @@ use Rattle.gc_graph.specs.declared.command.Command.TheVariants as C
 use Rattle.gc_graph.specs.declared.line.Line.{Line}
 use Rattle.gc_graph.specs.declared.region.Entry.{Entry}
 use Rattle.gc_graph.specs.State.{Setup, State}
+use Rattle.heap_cycle.specs.Note.{Note}
 use Rattle.heap_cycle.specs.Refused.{RefusalsTold, none_refused}
+
+-- what the owner did with the items of lists with shares: the places that it took, those of the objects that it claimed, and markers that
+-- it joined, those of the objects that it found traced, the notes that it made, and the places where it found no marked object
+pub record Items : Type 0 where
+  pub taken : List ℕ
+  pub claimed : List ℕ
+  pub found : List ℕ
+  pub notes : List Note
+  pub missed : List ℕ
 
 -- what was set up, the state of the graph, whether each node is marked and whether it is traced, the region's history as far as
 -- commands have taken it, the entries that threads made after that, the state just before threads went last, the lines of the last
 -- outcome and the piece of the history that it took, how many pushes and notes were refused until now and until marking began, how
--- many seats are lent to markers, whether the owner's last pop and steal found nothing, how many items it took from lists with shares, and
--- whether the heap was closed
+-- many seats are lent to markers, whether the owner's last pop and steal found nothing, what it did with items, and whether the heap
+-- was closed
 pub record View : Type 0 where
   pub setup : Setup
   pub state : State
@@ -25,7 +35,7 @@ pub record View : Type 0 where
   pub refusals : RefusalsTold
   pub lent : ℕ
   pub idle : Bool
-  pub taken : ℕ
+  pub items : Items
   pub closed : Bool
 
 -- what a new heap tells of refusals: there were none
@@ -37,8 +47,8 @@ abbrev pub going_after : Command → State → State → State
 going_after C.ThreadsGo before going = before
 going_after _ before going = going
 
--- the heap was closed: its markers are joined, so that no seat is lent, and nothing else has changed but what is known of marks
--- and refusals
+-- the heap was closed: its markers are joined, so that no seat is lent, and nothing else has changed but what is known of marks,
+-- items and refusals
 abbrev pub IsClosed : View → View → Type 0
 IsClosed old new =
     new
@@ -49,5 +59,5 @@ IsClosed old new =
       refusals = new.refusals;
       lent = 0;
       idle = new.idle;
-      taken = new.taken;
+      items = new.items;
     }

@@ -164,6 +164,7 @@ impl Core {
             gate,
             command,
         );
+        self.parts.objects.seat_has_all_words();
         self.parts.cycle.count_command();
         self.outcome.count(self.parts.cycle.ran())
     }
@@ -181,6 +182,7 @@ impl Core {
         self.before = self.shared.history();
         self.outcome.begin();
         let count = heap_cycle::join(&mut self.parts, &mut self.shared);
+        self.parts.objects.seat_has_all_words();
         self.outcome.end(Line::Joined { m: count });
         self.parts.cycle.count_command();
         self.shared.told_count() + 1

@@ -34,7 +34,7 @@ use Rattle.marker_crew.specs.Crews.{Marker, Ending, HasDrained, joined_with_all}
 use Rattle.marker_crew.specs.Drains.{nothing_yet}
 use Rattle.heap_objects.specs.declared.marking.Grey.{Grey}
 use Rattle.heap_objects.specs.Crews.{IsJoined, IsSameHeap, refusals_of_all}
-use Rattle.heap_objects.specs.Marking.{GreyView, pushes_in, notes_in}
+use Rattle.heap_objects.specs.Marking.{GreyView, HasFound, pushes_in, notes_in}
 use Rattle.heap_objects.specs.Marks.{HasCrew, IsNew, IsOut}
 use Rattle.heap_objects.proofs.CrewStays.{has_shares}
 use Rattle.heap_objects.proofs.CrewSteps.{noted_pair}
@@ -58,7 +58,7 @@ module _ (v : SeatView) (g : GreyView) (ends : List Ending) (w : SeatView) (n : 
     (refused : n.list.refused ≡ min (refused_by (g.marking.list.shares ++ map (λ e. e.share) ends)) last_count)
     (kept : g.marking.overflow ≡ true → n.overflow ≡ true)
     (raised : n.list.refused ≢ g.marking.list.refused → n.overflow ≡ true)
-    (only : n.overflow ≡ true → (g.marking.overflow ≡ true) ⊎ (n.list.refused ≢ g.marking.list.refused)) where
+    (only : n.overflow ≡ true → (g.marking.overflow ≡ true) ⊎ (n.list.refused ≢ g.marking.list.refused)) (found : HasFound v g) where
   out : IsOut v g
   out = crew.out some
 
@@ -148,6 +148,12 @@ module _ (v : SeatView) (g : GreyView) (ends : List Ending) (w : SeatView) (n : 
       (view.marking is_on).done_are_traced lent p
       (ap (λ (x : SeatView). holds x.done p) is
       ∙ held_second v.done (flat_map (λ m. m.done) seats) p (holds_from (flat_map (λ m. m.done) seats) p (to_all (λ m. m.done) p k low there)))
+
+  -- and so was what the owner found
+  found_traced : (p : ℕ) → Contains g.found p → holds w.traced p ≡ true
+  found_traced p there =
+      (view.marking is_on).done_are_traced lent p
+      (ap (λ (x : SeatView). holds x.done p) is ∙ held_first v.done (flat_map (λ m. m.done) seats) p (holds_from v.done p (found some p there)))
 
   noted_by : (pair : ℕ × ℕ) (k : ℕ) → k < length ends → Contains (ended k).seat.noted pair → Contains w.noted pair
   noted_by pair k low there =
@@ -297,13 +303,16 @@ module _ (v : SeatView) (g : GreyView) (ends : List Ending) (w : SeatView) (n : 
 
     dealt : (p : ℕ) → holds w.traced p ≡ false → Contains (taken_by (g.marking.list.shares ++ shares)) p → IsNotedIn groups (note_of p 0)
     dealt p white there = elim (of_share taken_of p there) [
-      | inl own ↦ elim (out.taken pushes_fine notes_fine p own) [
+      | inl own ↦ elim (out.taken notes_fine p own) [
         | inl traced ↦ absurd (true≢false (sym (traced_before p traced) ∙ white))
-        | inr note ↦ own_noted (note_of p 0) note
+        | inr other ↦ elim other [
+          | inl was ↦ absurd (true≢false (sym (found_traced p was) ∙ white))
+          | inr note ↦ own_noted (note_of p 0) note
+        ]
       ]
       | inr (k, low, took) ↦ elim ((drained k low).taken p took) [
         | inl before ↦ absurd (none_taken k low p before)
-        | inr is ↦ elim (is (drain_fine k low)) [
+        | inr is ↦ elim (is (group_fine k low)) [
           | inl traced ↦ absurd (true≢false (sym (traced_by p k low traced) ∙ white))
           | inr other ↦ elim other [
             | inl done ↦ absurd (true≢false (sym (done_by p k low done) ∙ white))
@@ -370,7 +379,7 @@ module _ (v : SeatView) (g : GreyView) (ends : List Ending) (w : SeatView) (n : 
 
   noted : (note : Note) → IsNotedIn groups note → IsNote w.types w.bodies note
   noted note (zero, low, there) = elim (way.noted note there) [
-    | inl itself ↦ inl (itself, place_of_put note.holder (taken_is_put note.holder (taken_by_own note.holder (out.lone note there itself))))
+    | inl itself ↦ inl (itself, place_of_put note.holder (taken_is_put note.holder (taken_by_own note.holder (out.lone note there itself).0)))
     | inr pair ↦ inr (subst (λ (x : SeatView). HasPair x.types x.bodies note.holder note.word) (sym is) pair)
   ]
   noted note (suc k, low, there) =
@@ -388,7 +397,7 @@ module _ (v : SeatView) (g : GreyView) (ends : List Ending) (w : SeatView) (n : 
 
   holders : (note : Note) → IsNotedIn groups note → holds w.marked note.holder ≡ true
   holders note (zero, low, there) = elim (way.holders note there) [
-    | inl itself ↦ put_is_marked note.holder (taken_is_put note.holder (taken_by_own note.holder (out.lone note there itself)))
+    | inl itself ↦ put_is_marked note.holder (taken_is_put note.holder (taken_by_own note.holder (out.lone note there itself).0))
     | inr traced ↦ traced_is_marked note.holder (traced_before note.holder traced)
   ]
   holders note (suc k, low, there) =

@@ -68,6 +68,7 @@ started_as v g shares m = record g {
   marking = m;
   others = [];
   running = begun_with (replicate g.markers (new_marker v)) shares g.others;
+  found = [];
   earlier = (refused_in g).pushes;
 }
 
@@ -157,7 +158,7 @@ module _ (v : SeatView) (g : GreyView) (list : ListState) (shares : List ShareSt
       since = since;
       put = λ p at. elim (r.puts.item shared.whole there p at) [ inl never ↦ absurd (no_items p never) | inr put ↦ put ];
       marked = λ p at. way.listed p (put_listed p at);
-      taken = λ fine none p at. absurd (omega (arith, (subst (λ l. Contains l p) took_nothing at).1));
+      taken = λ none p at. absurd (omega (arith, (subst (λ l. Contains l p) took_nothing at).1));
       lone = λ note at itself. absurd (home.paired note at itself);
     }
 
@@ -202,10 +203,10 @@ took_alone [] = refl
 took_alone (x ∷ groups) = refl
 
 pub grey_started : (v : SeatView) (grey kept : Grey) (m : Marking) (seats : List MarkerSeatView) (shares : List ShareState)
-    → kept.marking ≡ m → kept.crew ≡ started_with grey.crew seats shares → kept.traced ≡ grey.traced → kept.since.value ≡ grey.since.value
+    → kept.marking ≡ m → kept.crew ≡ started_with grey.crew seats shares → kept.traced ≡ grey.traced → kept.found.value ≡ [] → kept.since.value ≡ grey.since.value
     → kept.earlier.value ≡ (refused_in (grey_of grey)).pushes → seats ≡ replicate grey.crew.markers (new_marker v)
     → grey_of kept ≡ started_as v (grey_of grey) shares m
-grey_started v grey kept m seats shares marking crew traced since earlier are =
+grey_started v grey kept m seats shares marking crew traced found since earlier are =
     ap (λ (x : Marking). record (grey_of kept) { marking = x }) marking
     ∙ ap (λ (x : CrewState). record (grey_of kept) { marking = m; notes = group_at x.notes 0; others = drop 1 x.notes; markers = x.markers; running = x.running }) crew
     ∙ ap₂ (λ (x : NotesState) (xs : List NotesState). record (grey_of kept) {
@@ -222,5 +223,6 @@ grey_started v grey kept m seats shares marking crew traced since earlier are =
       markers = grey.crew.markers;
       running = begun_with s shares (drop 1 grey.crew.notes);
     }) are
-    ∙ ap₂ (λ (n : ℕ) (s : RefusedCounts). record (started_as v (grey_of grey) shares m) { traced = n; since = s; earlier = kept.earlier.value }) traced since
+    ∙ ap₂ (λ (n : ℕ) (l : List ℕ). record (started_as v (grey_of grey) shares m) { traced = n; found = l; since = kept.since.value; earlier = kept.earlier.value }) traced found
+    ∙ ap (λ (s : RefusedCounts). record (started_as v (grey_of grey) shares m) { since = s; earlier = kept.earlier.value }) since
     ∙ ap (λ (n : ℕ). record (started_as v (grey_of grey) shares m) { earlier = n }) earlier

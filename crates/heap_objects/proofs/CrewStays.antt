@@ -1,11 +1,11 @@
 -- The crew stays where it is while the mutator goes on.
-use Rattle.std.proofs.Common.{◌≡◌, ◌<◌, true, false, length, sym, ap, ap₂, ◌∙◌, subst, inl, inr, arith}
+use Rattle.std.proofs.Common.{◌≡◌, ◌<◌, ◌≤◌, true, length, sym, ap, ap₂, ◌∙◌, subst, inl, inr, arith}
 use Rattle.std.specs.List.{Contains}
 use Rattle.std.proofs.lemmas.List.Elements.{All-weaker}
 use Rattle.mark_worklist.specs.declared.marking.Marking.{Marking}
 use Rattle.marker_core.specs.Bodies.{holds}
 use Rattle.page_words.specs.Markers.{new_marker}
-use Rattle.page_words.specs.Seat.{SeatView, unlooked}
+use Rattle.page_words.specs.Seat.{Heap, SeatView, unlooked}
 use Rattle.mark_worklist.specs.Kept.{list-then}
 use Rattle.heap_objects.specs.Marking.{GreyView}
 use Rattle.heap_objects.specs.Marks.{HasCrew, IsNew, IsOut}
@@ -19,7 +19,7 @@ same_marker v w heap types = ap₂ (λ h t. new_marker (record v { heap = h; typ
 pub has_shares : (v : SeatView) (g : GreyView) → IsOut v g → length g.marking.list.shares ≡ 1
 has_shares v g out = out.family.as_many ∙ out.fresh.alone
 
-module _ (v w : SeatView) (g : GreyView) (k : Marking) (leaves : Leaves v w) (puts : PutsOn g.marking.list k.list (λ p. holds w.marked p ≡ true)) (unrefused : k.overflow ≡ false → g.marking.overflow ≡ false) where
+module _ (v w : SeatView) (g : GreyView) (k : Marking) (leaves : Leaves v w) (puts : PutsOn g.marking.list k.list (λ p. holds w.marked p ≡ true)) where
   out_on : IsOut v g → IsOut w (record g { marking = k })
   out_on out =
       let one = has_shares v g out in
@@ -38,11 +38,17 @@ module _ (v w : SeatView) (g : GreyView) (k : Marking) (leaves : Leaves v w) (pu
         since = out.since;
         put = λ p there. elim (puts.item out.shared some p there) [ inl before ↦ puts.kept out.shared some p (out.put p before) | inr new ↦ new ];
         marked = λ p there. elim (puts.put out.shared some p there) [ inl before ↦ leaves.marked p (out.marked p before) | inr is ↦ is ];
-        taken = λ fine none p there. elim (out.taken (unrefused fine) none p (subst (λ l. Contains l p) (puts.taken out.shared some) there)) [
+        taken = λ none p there. elim (out.taken none p (subst (λ l. Contains l p) (puts.taken out.shared some) there)) [
           | inl traced ↦ inl (ap (λ l. holds l p) leaves.traced ∙ traced)
-          | inr noted ↦ inr noted
+          | inr other ↦ inr other
         ];
-        lone = λ note there itself. subst (λ l. Contains l note.holder) (sym (puts.taken out.shared some)) (out.lone note there itself);
+        lone = λ note there itself. (let was = out.lone note there itself in (
+          subst (λ l. Contains l note.holder) (sym (puts.taken out.shared some)) was.0,
+          elim was.1 [
+            | inl missed ↦ inl (subst (λ l. Contains l note.holder) (sym leaves.missed) missed)
+            | inr far ↦ inr (omega (arith, far, ap (λ (h : Heap). h.count) leaves.heap))
+          ],
+        ));
       }
 
   pub crew_on : HasCrew v g → HasCrew w (record g { marking = k })

@@ -1,10 +1,10 @@
 -- Marking is under way after a step that the owner did beside its markers.
-use Rattle.std.proofs.Common.{◌≡◌, ◌≢◌, ℕ, ◌+◌, ◌-◌, ◌<◌, ◌≤◌, true, false, ◌++◌, length, set, refl, sym, ap, ◌∙◌, subst, inl, inr, arith}
+use Rattle.std.proofs.Common.{◌≡◌, ◌≢◌, ℕ, ◌+◌, ◌-◌, ◌<◌, ◌≤◌, List, true, false, ◌++◌, length, set, refl, sym, ap, ◌∙◌, subst, inl, inr, arith}
 use mathlib.Core.Logic.{◌⊎◌}
 use Rattle.std.specs.List.{Contains, sum_by}
 use Rattle.std.proofs.lemmas.Bool.{true≢false, cases_lt, false_from_ne_true}
 use Rattle.std.proofs.lemmas.List.{get_or-set_same, length-set}
-use Rattle.std.proofs.lemmas.List.Elements.{All-weaker, Contains-append_cases, Contains-append_right}
+use Rattle.std.proofs.lemmas.List.Elements.{All-weaker, Contains-append_cases, Contains-append_left, Contains-append_right}
 use Rattle.gc_graph.specs.Members.{holds_from, in_from_holds}
 use Rattle.gc_graph.specs.declared.kind.Kind.TheVariants.{Pair}
 use Rattle.type_table.specs.Types.{kinds_of as kinds_in, offsets_of_kind}
@@ -16,7 +16,7 @@ use Rattle.marker_core.specs.Views.{times}
 use Rattle.marker_core.specs.Tracing.{IsPairAt}
 use Rattle.page_words.specs.Roles.{kind_lists}
 use Rattle.page_words.specs.Markers.{MarkerSeatView, lent_from, new_marker, joined_with}
-use Rattle.page_words.specs.Seat.{SeatView, IsStill, IsView}
+use Rattle.page_words.specs.Seat.{Heap, SeatView, IsStill, IsView}
 use Rattle.mark_worklist.specs.Families.{at, nobody}
 use Rattle.mark_worklist.specs.Joining.{IsSameList}
 use Rattle.mark_worklist.specs.Kept.{list-then}
@@ -30,10 +30,10 @@ use Rattle.atomic_pause.specs.UnderWay.{IsUnderWay}
 use Rattle.atomic_pause.specs.UnderWayStays.{holder_yet}
 use Rattle.marker_crew.specs.Crews.{Marker}
 use Rattle.marker_crew.specs.declared.draining.Drained.{Drained}
-use Rattle.marker_crew.specs.Drains.{nothing_yet, AreTracedOrNoted}
-use Rattle.marker_crew.specs.Stages.{stage, WorksAs}
+use Rattle.marker_crew.specs.Drains.{nothing_yet, AreDealtWith}
+use Rattle.marker_crew.specs.Stages.{stage, Works}
 use Rattle.heap_objects.specs.Crews.{IsSameHeap, IsStepped}
-use Rattle.heap_objects.specs.Marking.{GreyView, pushes_in}
+use Rattle.heap_objects.specs.Marking.{GreyView, HasFound, pushes_in}
 use Rattle.heap_objects.specs.Marks.{HasCrew, IsNew, IsOut}
 use Rattle.heap_objects.proofs.CrewStays.{has_shares}
 use Rattle.heap_objects.proofs.ToldSums.{told_behind}
@@ -57,12 +57,13 @@ module _ (v : SeatView) (g : GreyView) (m : MarkerSeatView) (k : ShareState) (o 
     (way : IsUnderWay v g.marking g.notes) (crew : HasCrew v g) (some : 0 < length g.running) (differ : PlacesDiffer v.bodies)
     (pushes_told : TellsRefused (record { told = false; count = g.since.pushes }) (pushes_in g))
     (seat : w ≡ joined_with (lent_from v) m) (view : IsView w)
-    (works : WorksAs true (stage (new_marker v) (at g.marking.list.shares 0) g.notes nothing_yet) (stage m k o d))
-    (taken : AreTracedOrNoted (at g.marking.list.shares 0) (stage m k o d))
+    (works : Works (stage (new_marker v) (at g.marking.list.shares 0) g.notes nothing_yet) (stage m k o d))
+    (taken : AreDealtWith (at g.marking.list.shares 0) (stage m k o d))
     (list : n.list ≡ as_own (set g.marking.list.shares 0 k)) (on : n.on ≡ g.marking.on)
     (overflow : (n.overflow ≡ false → g.marking.overflow ≡ false) × (g.marking.overflow ≡ true → n.overflow ≡ true))
     (raised : k.refused ≢ g.marking.list.refused → n.overflow ≡ true)
-    (only : n.overflow ≡ true → (g.marking.overflow ≡ true) ⊎ (k.refused ≢ g.marking.list.refused)) where
+    (only : n.overflow ≡ true → (g.marking.overflow ≡ true) ⊎ (k.refused ≢ g.marking.list.refused))
+    (had : HasFound v g) (found : List ℕ) (found_is : found ≡ w.done) where
   out : IsOut v g
   out = crew.out some
 
@@ -109,6 +110,23 @@ module _ (v : SeatView) (g : GreyView) (m : MarkerSeatView) (k : ShareState) (o 
 
   noted_now : (pair : ℕ × ℕ) → Contains m.noted pair → Contains w.noted pair
   noted_now pair there = subst (λ l. Contains l pair) (sym noted_is) (Contains-append_right v.noted m.noted pair there)
+
+  -- what the view found traced
+  found_before : (p : ℕ) → Contains g.found p → Contains found p
+  found_before p there = subst (λ l. Contains l p) (sym (found_is ∙ ap (λ (x : SeatView). x.done) seat)) (Contains-append_left v.done m.done p (had some p there))
+
+  found_now : (p : ℕ) → Contains m.done p → Contains found p
+  found_now p there = subst (λ l. Contains l p) (sym (found_is ∙ ap (λ (x : SeatView). x.done) seat)) (Contains-append_right v.done m.done p there)
+
+  -- what the view missed
+  missed_before : (p : ℕ) → Contains v.missed p → Contains w.missed p
+  missed_before p there = subst (λ l. Contains l p) (sym (ap (λ (x : SeatView). x.missed) seat)) (Contains-append_left v.missed m.missed p there)
+
+  missed_now : (p : ℕ) → Contains m.missed p → Contains w.missed p
+  missed_now p there = subst (λ l. Contains l p) (sym (ap (λ (x : SeatView). x.missed) seat)) (Contains-append_right v.missed m.missed p there)
+
+  count_is : w.count ≡ v.count
+  count_is = ap (λ (x : SeatView). x.count) seat
 
   put_is_marked : (p : ℕ) → Contains (put_of k) p → holds w.marked p ≡ true
   put_is_marked p there = elim (works.put p there) [ inl before ↦ marked_before p (out.marked p before) | inr now ↦ marked_now p now ]
@@ -196,26 +214,39 @@ module _ (v : SeatView) (g : GreyView) (m : MarkerSeatView) (k : ShareState) (o 
     first = subst (λ s. IsSameShare h s) (sym own_now) works.later.lists;
   }
 
-  lone : (note : Note) → Contains o.notes note → note.word ≡ 0 → Contains (taken_of k) note.holder
+  lone : (note : Note) → Contains o.notes note → note.word ≡ 0 → Contains (taken_of k) note.holder × (Contains w.missed note.holder ⊎ (w.count ≤ note.holder))
   lone note there itself = elim (works.notes note there) [
-    | inl before ↦ works.later.taken note.holder (out.lone note before itself)
+    | inl before ↦
+        (let was = out.lone note before itself in (
+          works.later.taken note.holder was.0,
+          elim was.1 [ inl missed ↦ inl (missed_before note.holder missed) | inr far ↦ inr (omega (arith, far, count_is)) ],
+        ))
     | inr new ↦ elim new [
       | inl pair ↦ absurd (noted_behind w view is_on note.holder note.word (noted_now (note.holder, note.word) pair.0) itself)
-      | inr is ↦ is.1.0
+      | inr is ↦ (
+        is.1.0,
+        elim is.1.1 [
+          | inl missed ↦ inl (missed_now note.holder missed)
+          | inr far ↦ inr (omega (arith, far, ap (λ (h : Heap). h.count) works.later.heap, count_is))
+        ],
+      )
     ]
   ]
 
-  dealt : n.overflow ≡ false → o.overflow ≡ false → (p : ℕ) → Contains (taken_of k) p → (holds w.traced p ≡ true) ⊎ Contains o.notes (note_of p 0)
-  dealt fine none p there = elim (taken p there) [
-    | inl before ↦ elim (out.taken (overflow.0 fine) (notes_before none) p before) [
+  dealt : o.overflow ≡ false → (p : ℕ) → Contains (taken_of k) p → (holds w.traced p ≡ true) ⊎ (Contains found p ⊎ Contains o.notes (note_of p 0))
+  dealt none p there = elim (taken p there) [
+    | inl before ↦ elim (out.taken (notes_before none) p before) [
       | inl traced ↦ inl (traced_before p traced)
-      | inr note ↦ inr (works.later.notes (note_of p 0) note)
+      | inr other ↦ inr (elim other [ inl was ↦ inl (found_before p was) | inr note ↦ inr (works.later.notes (note_of p 0) note) ])
     ]
-    | inr new ↦ elim (new (fine_drained fine none)) [ inl traced ↦ inl (traced_now p traced) | inr note ↦ inr note ]
+    | inr new ↦ elim (new none) [
+      | inl traced ↦ inl (traced_now p traced)
+      | inr other ↦ inr (elim other [ inl is ↦ inl (found_now p is) | inr note ↦ inr note ])
+    ]
   ]
 
   abbrev later : GreyView
-  later = record g { marking = n; notes = o }
+  later = record g { marking = n; notes = o; found = found }
 
   still_out : IsOut w later
   still_out = record {
@@ -230,8 +261,8 @@ module _ (v : SeatView) (g : GreyView) (m : MarkerSeatView) (k : ShareState) (o 
     since = out.since;
     put = λ p there. subst (λ s. Contains (put_of s) p) (sym own_now) (subst (λ l. Contains l p) items_now there);
     marked = λ p there. put_is_marked p (subst (λ s. Contains (put_of s) p) own_now there);
-    taken = λ fine none p there. dealt fine none p (subst (λ s. Contains (taken_of s) p) own_now there);
-    lone = λ note there itself. subst (λ s. Contains (taken_of s) note.holder) (sym own_now) (lone note there itself);
+    taken = λ none p there. dealt none p (subst (λ s. Contains (taken_of s) p) own_now there);
+    lone = λ note there itself. (let is = lone note there itself in (subst (λ s. Contains (taken_of s) note.holder) (sym own_now) is.0, is.1));
   }
 
   lent : w.lent ≡ length g.running
@@ -265,5 +296,6 @@ module _ (v : SeatView) (g : GreyView) (m : MarkerSeatView) (k : ShareState) (o 
     counted = counted;
     pushes = pushes;
     notes = told_behind (sum_by (λ (x : NotesState). x.refused) g.others + sum_by (λ (b : Marker). b.notes.refused) g.running) (refusals_in g.notes) (refusals_in o) works.notes_told;
+    found = λ is p there. subst (λ l. Contains l p) found_is there;
     rest = refl;
   }

@@ -71,7 +71,7 @@ swept_stored limit v a w swept = record {
 pub writes_one : (v : SeatView) (a w : ℕ) → Writes v (rewritten v a w)
 writes_one v a w = record {
   way = way_rewritten v a w;
-  crew = λ g. crew_on v (rewritten v a w) g g.marking (rewritten_leaves v a w) (puts_same g.marking.list (λ p. holds v.marked p ≡ true)) (λ fine. fine);
+  crew = λ g. crew_on v (rewritten v a w) g g.marking (rewritten_leaves v a w) (puts_same g.marking.list (λ p. holds v.marked p ≡ true));
   may = refl;
   on = refl;
   count = count_places (holds v.traced) a w v.bodies;

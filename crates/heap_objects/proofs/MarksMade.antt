@@ -98,7 +98,7 @@ module _ (shape left : Shape) (types : List ObjectType) (callbacks : List Action
     swept = λ rest swept. swept_told limit w (swept_made limit v w b is low (swept_is limit v swept));
     marking = λ h. record {
       under_way = way_told w g.marking g.notes (way_made v w b g.marking g.notes is (way_is v g.marking g.notes h.under_way));
-      crew = crew_told w g (crew_on v w g g.marking (made_leaves v w b is) (puts_same g.marking.list (λ p. holds w.marked p ≡ true)) (λ fine. fine) (crew_is v g h.crew));
+      crew = crew_told w g (crew_on v w g g.marking (made_leaves v w b is) (puts_same g.marking.list (λ p. holds w.marked p ≡ true)) (crew_is v g h.crew));
       may_is = may_told (nodes ++ x ∷ []) w (may ++ true ∷ []) (may_made v w b after is fresh nodes x may h.under_way.on held at alive (may_is nodes v may h.may_is));
       counted = traced_made v w b view (beside v w b after is fresh) is ∙ h.counted;
       pushes_told = h.pushes_told;

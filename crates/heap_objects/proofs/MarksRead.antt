@@ -32,6 +32,7 @@ read_leaves v a found = record {
   marked = λ p h. h;
   traced = refl;
   noted = refl;
+  missed = refl;
 }
 
 quiet_read : (v : SeatView) (a found : ℕ) → IsQuiet v → IsQuiet (loaded v a Weak found)
@@ -62,7 +63,7 @@ module _ (setup : Setup) (nodes : List Node) (v : SeatView) (g : GreyView) (view
     marking = λ h. record {
       under_way = way_told (loaded v a Weak found) g.marking g.notes
           (way_on v (loaded v a Weak found) g.marking g.marking g.notes (read_leaves v a found) (lists_same v (loaded v a Weak found) g.marking refl) (way_is v g.marking g.notes h.under_way));
-      crew = crew_told (loaded v a Weak found) g (crew_on v (loaded v a Weak found) g g.marking (read_leaves v a found) (puts_same g.marking.list (λ p. holds (loaded v a Weak found).marked p ≡ true)) (λ fine. fine) (crew_is v g h.crew));
+      crew = crew_told (loaded v a Weak found) g (crew_on v (loaded v a Weak found) g g.marking (read_leaves v a found) (puts_same g.marking.list (λ p. holds (loaded v a Weak found).marked p ≡ true)) (crew_is v g h.crew));
       may_is = may_told nodes (loaded v a Weak found) (Reach (graph_of nodes) (members may ++ n ∷ [])) (read_may may h.under_way.on (may_is nodes v may h.may_is));
       counted = h.counted;
       pushes_told = h.pushes_told;

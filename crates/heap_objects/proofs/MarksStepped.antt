@@ -26,10 +26,10 @@ pub has_stepped : (shape : Shape) (types : List ObjectType) (callbacks : List Ac
     → IsStepped v g w k n → HasMarking may (view_in shape types callbacks nodes v g)
     → HasMarking may (view_in shape types callbacks nodes w (record k { traced = g.traced + n }))
 has_stepped shape types callbacks nodes v w g k n may stepped h =
-    let now : GreyView = record g { marking = k.marking; notes = k.notes; traced = g.traced + n } in
+    let now : GreyView = record g { marking = k.marking; notes = k.notes; traced = g.traced + n; found = k.found } in
     subst (λ (x : GreyView). HasMarking may (view_in shape types callbacks nodes w (record x { traced = g.traced + n }))) (sym stepped.rest) (record {
       under_way = way_told w k.marking k.notes stepped.way;
-      crew = crew_told w now (counting w (record g { marking = k.marking; notes = k.notes }) (g.traced + n) (subst (HasCrew w) stepped.rest stepped.crew));
+      crew = crew_told w now (counting w (record g { marking = k.marking; notes = k.notes; found = k.found }) (g.traced + n) (subst (HasCrew w) stepped.rest stepped.crew));
       may_is = may_told nodes w may (may_same nodes nodes v w may refl (λ i. refl) (λ i. refl) stepped.same.may (may_is nodes v may h.may_is));
       counted = stepped.counted ∙ ap (λ i. i + n) h.counted;
       pushes_told = told_then (record { told = false; count = g.since.pushes }) (pushes_in g) (pushes_in now) h.pushes_told (subst (λ (x : GreyView). TellsRefused (pushes_in g) (pushes_in x)) stepped.rest stepped.pushes);

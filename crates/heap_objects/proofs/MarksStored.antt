@@ -54,7 +54,7 @@ module _ (shape : Shape) (types : List ObjectType) (callbacks : List ActionKind)
     swept = λ rest swept. swept_told limit w (subst (IsSweptTo limit) (sym (off rest.off).0) (writes.swept limit (swept_is limit v swept)));
     marking = λ h. record {
       under_way = way_told w k g.notes (way_stored t u w g.marking k g.notes barrier (writes.way g.marking g.notes (way_is v g.marking g.notes h.under_way)));
-      crew = crew_told w (record g { marking = k }) (crew_on u w g k (barrier_leaves t u w g.marking k barrier) (barrier_lists t u w g.marking k barrier).puts (barrier_lists t u w g.marking k barrier).overflow (writes.crew g (crew_is v g h.crew)));
+      crew = crew_told w (record g { marking = k }) (crew_on u w g k (barrier_leaves t u w g.marking k barrier) (barrier_lists t u w g.marking k barrier).puts (writes.crew g (crew_is v g h.crew)));
       may_is = may_told new w may (may_same old new v w may stay.long stay.place stay.life (stays.may ∙ writes.may) (may_is old v may h.may_is));
       counted = counted ∙ h.counted;
       pushes_told = told_then (record { told = false; count = g.since.pushes }) (pushes_in g) (pushes_in (record g { marking = k })) h.pushes_told (told_shifted g.earlier (refusals_of g.marking) (refusals_of k) barrier.told);

@@ -1,5 +1,5 @@
 -- The objects after a sweep up to an address.
-use Rattle.std.proofs.Common.{◌≡◌, ℕ, ◌≤◌, false, List, length, map, sym, ap, ◌∙◌, subst}
+use Rattle.std.proofs.Common.{◌≡◌, ℕ, ◌≤◌, false, List, [], length, map, sym, ap, ◌∙◌, subst, arith}
 use Rattle.std.proofs.lemmas.List.{length-map}
 use Rattle.gc_graph.specs.declared.action.ActionKind.{ActionKind}
 use Rattle.gc_graph.specs.State.{Shape, Setup, ObjectType, Node}
@@ -36,7 +36,7 @@ may_sweep space v types callbacks made grey nodes sweep is off pages marks few v
 module _ (space left : SpaceView) (v w : SeatView) (types : List ObjectType) (callbacks : List ActionKind) (made : ℕ) (grey : Grey) (nodes new : List Node) (sweep after : SweepView) (before told : List ℕ)
     (is : AreObjects space v types callbacks made nodes grey) (off : v.on ≡ false) (marks : IsSweptTo (cursor_at space.shape sweep) v)
     (swept : Sweeps (cursor_at space.shape sweep) (cursor_at space.shape after) v before w told) (shape : left.shape ≡ space.shape)
-    (nodes_are : new ≡ map (finalise (cursor_at left.shape after)) nodes) where
+    (nodes_are : new ≡ map (finalise (cursor_at left.shape after)) nodes) (calm : grey.crew.running ≡ []) where
   nodes_left : new ≡ map (finalise (cursor_at space.shape after)) nodes
   nodes_left = nodes_are ∙ ap (λ (s : Shape). map (finalise (cursor_at s after)) nodes) shape
 
@@ -55,6 +55,7 @@ module _ (space left : SpaceView) (v w : SeatView) (types : List ObjectType) (ca
     numbers_are = is.numbers_are ∙ sym (length-map nodes (finalise (cursor_at space.shape after))) ∙ sym (ap length nodes_left);
     told = is.told ∙ off ∙ sym may.off;
     own = is.own;
+    found = λ some. absurd (omega (arith, some, ap length calm));
   }
 
   pub finalised_nodes : FinalisesBelow (cursor_at space.shape after) nodes before told new

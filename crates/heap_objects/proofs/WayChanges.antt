@@ -54,6 +54,7 @@ pub record Leaves (old new : SeatView) : Type 0 where
   pub marked : (p : ℕ) → holds old.marked p ≡ true → holds new.marked p ≡ true
   pub traced : new.traced ≡ old.traced
   pub noted : new.noted ≡ old.noted
+  pub missed : new.missed ≡ old.missed
 
 -- the list and what is marked go together
 pub record ListsOn (old : SeatView) (before : Marking) (new : SeatView) (after : Marking) : Type 0 where
@@ -134,6 +135,7 @@ rewritten_leaves v a w = record {
   marked = λ p h. h;
   traced = refl;
   noted = refl;
+  missed = refl;
 }
 
 pub way_rewritten : (v : SeatView) (a w : ℕ) (m : Marking) (x : NotesState) → IsUnderWay v m x → IsUnderWay (rewritten v a w) m x
@@ -142,7 +144,18 @@ way_rewritten v a w m x = way_on v (rewritten v a w) m m x (rewritten_leaves v a
 -- ---- what was stored is marked
 
 marked_leaves : (v : SeatView) (p : ℕ) (was asked : Bool) → Leaves v (cond asked (marked_at v p was) v)
-marked_leaves v p was false = record { on = refl; still = λ still. still; lent = refl; heap = refl; types = refl; pairs = λ q offset h. h; marked = λ q h. h; traced = refl; noted = refl }
+marked_leaves v p was false = record {
+  on = refl;
+  still = λ still. still;
+  lent = refl;
+  heap = refl;
+  types = refl;
+  pairs = λ q offset h. h;
+  marked = λ q h. h;
+  traced = refl;
+  noted = refl;
+  missed = refl;
+}
 marked_leaves v p was true = record {
   on = refl;
   still = λ still. record {
@@ -156,6 +169,7 @@ marked_leaves v p was true = record {
   marked = λ q h. go was q h;
   traced = refl;
   noted = refl;
+  missed = refl;
 } where
   go : (b : Bool) (q : ℕ) → holds v.marked q ≡ true → holds (cond b v.marked (v.marked ++ p ∷ [])) q ≡ true
   go true q h = h
@@ -298,10 +312,11 @@ pub record HeapStays (old new : SeatView) : Type 0 where
   pub bodies : new.bodies ≡ old.bodies
   pub may : new.may ≡ old.may
   pub dead : new.dead ≡ old.dead
+  pub done : new.done ≡ old.done
 
 marked_stays : (v : SeatView) (p : ℕ) (was asked : Bool) → HeapStays v (cond asked (marked_at v p was) v)
-marked_stays v p was true = record { heap = refl; types = refl; bodies = refl; may = refl; dead = refl }
-marked_stays v p was false = record { heap = refl; types = refl; bodies = refl; may = refl; dead = refl }
+marked_stays v p was true = record { heap = refl; types = refl; bodies = refl; may = refl; dead = refl; done = refl }
+marked_stays v p was false = record { heap = refl; types = refl; bodies = refl; may = refl; dead = refl; done = refl }
 
 module _ (t : ℕ) (v w : SeatView) (m n : Marking) (barrier : HasBarrier t v m w n) where
   pub barrier_stays : HeapStays v w
@@ -335,6 +350,7 @@ made_leaves v w b is = record {
   marked = λ p h. ap (λ l. holds l p) is.marked ∙ h;
   traced = is.traced;
   noted = is.noted;
+  missed = is.missed;
 }
 
 pub way_made : (v w : SeatView) (b : Body) (m : Marking) (x : NotesState) → Occupies v w b → IsUnderWay v m x → IsUnderWay w m x

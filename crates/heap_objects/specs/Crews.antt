@@ -14,7 +14,7 @@ use Rattle.marker_crew.specs.Notes.{NotesState}
 use Rattle.atomic_pause.specs.UnderWay.{IsReadyToEnd, IsUnderWay}
 use Rattle.heap_objects.specs.declared.crew.CrewLists.{CrewLists}
 use Rattle.heap_objects.specs.declared.marking.Grey.{Grey}
-use Rattle.heap_objects.specs.Marking.{GreyView, pushes_in, notes_in}
+use Rattle.heap_objects.specs.Marking.{GreyView, HasFound, pushes_in, notes_in}
 use Rattle.heap_objects.specs.Marks.{HasCrew}
 
 -- there are markers: a list with as many shares, of which no call was made, and room for as many seats
@@ -80,8 +80,8 @@ pub record IsSameHeap (old new : SeatView) : Type 0 where
   pub dead : new.dead ≡ old.dead
   pub may : new.may ≡ old.may
 
--- the owner traced so many objects more: marking is under way as before, and that something was refused is told; all else of what
--- is kept of marking is the same
+-- the owner traced so many objects more: marking is under way as before, that something was refused is told, and what is told as
+-- found traced was found so; all else of what is kept of marking is the same
 pub record IsStepped (v : SeatView) (g : GreyView) (w : SeatView) (k : GreyView) (count : ℕ) : Type 0 where
   pub same : IsSameHeap v w
   pub way : IsUnderWay w k.marking k.notes
@@ -89,7 +89,8 @@ pub record IsStepped (v : SeatView) (g : GreyView) (w : SeatView) (k : GreyView)
   pub counted : traced_count w ≡ traced_count v + count
   pub pushes : TellsRefused (pushes_in g) (pushes_in k)
   pub notes : TellsRefused (notes_in g) (notes_in k)
-  pub rest : k ≡ record g { marking = k.marking; notes = k.notes }
+  pub found : HasFound w k
+  pub rest : k ≡ record g { marking = k.marking; notes = k.notes; found = k.found }
 
 -- whether notes of one of the groups were refused, and how many of all
 abbrev pub refusals_of_all : List NotesState → Refusals

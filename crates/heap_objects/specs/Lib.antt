@@ -22,5 +22,6 @@ pub use Rattle.atomic_pause.specs.Pausing
 pub use Rattle.atomic_pause.specs.PlacesInWords
 pub use Rattle.atomic_pause.specs.WeakNodes
 pub use Rattle.marker_crew.specs.Crews as MarkerCrews
+pub use Rattle.marker_crew.specs.Note
 pub use Rattle.marker_crew.specs.Notes
 pub use Rattle.member_fields.specs.Barrier

@@ -1,16 +1,17 @@
 -- What is kept of marking, while it goes on and between collections.
-use Rattle.std.specs.Prelude.{◌≡◌, ℕ, ◌+◌, false, true, List, [], All, drop, length, replicate, sum_by}
+use Rattle.std.specs.Prelude.{◌≡◌, ℕ, ◌+◌, ◌<◌, false, true, List, [], All, Contains, drop, length, replicate, sum_by}
 use Rattle.mark_worklist.specs.Lists.{no_items}
 use Rattle.mark_worklist.specs.Refusals.{Refusals}
 use Rattle.mark_worklist.specs.declared.marking.Marking.{Marking}
+use Rattle.page_words.specs.Seat.{SeatView}
 use Rattle.marker_crew.specs.Notes.{NotesState, no_notes, group_at}
 use Rattle.marker_crew.specs.Crews.{Marker}
 use Rattle.heap_objects.specs.declared.marking.Grey.{Grey}
 use Rattle.heap_objects.specs.Refused.{RefusedCounts, none_refused}
 
 -- what is kept of marking: the owner's marking state and notes of pairs, the notes that markers brought back, how many markers
--- the heap has, and those that run, as they began; how many objects the steps of the cycle traced; how much had been refused
--- when it began, and how many pushes on the lists of earlier cycles
+-- the heap has, and those that run, as they began; how many objects the steps of the cycle traced, and the places of those that they
+-- found traced beside markers; how much had been refused when it began, and how many pushes on the lists of earlier cycles
 pub record GreyView : Type 0 where
   pub marking : Marking
   pub notes : NotesState
@@ -18,6 +19,7 @@ pub record GreyView : Type 0 where
   pub markers : ℕ
   pub running : List Marker
   pub traced : ℕ
+  pub found : List ℕ
   pub since : RefusedCounts
   pub earlier : ℕ
 
@@ -30,6 +32,7 @@ grey_of grey = record {
   markers = grey.crew.markers;
   running = grey.crew.running;
   traced = grey.traced;
+  found = grey.found.value;
   since = grey.since.value;
   earlier = grey.earlier.value;
 }
@@ -43,6 +46,7 @@ no_grey markers = record {
   markers = markers;
   running = [];
   traced = 0;
+  found = [];
   since = none_refused;
   earlier = 0;
 }
@@ -61,6 +65,10 @@ pushes_in g = record { told = g.marking.overflow; count = (refused_in g).pushes 
 -- the refused notes, as the owner's group tells of them and all groups count them
 abbrev pub notes_in : GreyView → Refusals
 notes_in g = record { told = g.notes.overflow; count = (refused_in g).notes }
+
+-- while markers run, what is told as found traced the seat found so
+abbrev pub HasFound : SeatView → GreyView → Type 0
+HasFound v g = 0 < length g.running → (p : ℕ) → Contains g.found p → Contains v.done p
 
 -- nothing is noted in the group, and no note was refused
 pub record IsCleared (notes : NotesState) : Type 0 where

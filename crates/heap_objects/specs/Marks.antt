@@ -49,8 +49,9 @@ pub record IsNew (v : SeatView) (m : Marker) : Type 0 where
   pub notes : IsCleared m.notes
 
 -- markers run: each began with nothing, and with a share of the list that the owner has a share of too, which counts the pushes that
--- were refused. What is listed the owner put there, which is marked; and each item that it took is traced, or noted with word 0
--- unless something was refused, and nothing else is noted so
+-- were refused. What is listed the owner put there, which is marked. Unless a note was refused, each item that it took the owner claimed,
+-- or found traced, or noted with word 0. Nothing but such an item is noted so, and of none of these it found a marked object: it
+-- missed it, or it isn't a place of the heap
 pub record IsOut (v : SeatView) (g : GreyView) : Type 0 where
   pub many : length g.running ≡ g.markers
   pub shared : g.marking.list.whole ≡ false
@@ -64,10 +65,11 @@ pub record IsOut (v : SeatView) (g : GreyView) : Type 0 where
   pub put : (p : ℕ) → Contains g.marking.list.items p → Contains (put_of (at g.marking.list.shares 0)) p
   pub marked : (p : ℕ) → Contains (put_of (at g.marking.list.shares 0)) p → holds v.marked p ≡ true
   pub taken :
-      g.marking.overflow ≡ false → g.notes.overflow ≡ false → (p : ℕ) → Contains (taken_of (at g.marking.list.shares 0)) p
-      → (holds v.traced p ≡ true) ⊎ Contains g.notes.notes (note_of p 0)
+      g.notes.overflow ≡ false → (p : ℕ) → Contains (taken_of (at g.marking.list.shares 0)) p
+      → (holds v.traced p ≡ true) ⊎ (Contains g.found p ⊎ Contains g.notes.notes (note_of p 0))
   pub lone :
-      (note : Note) → Contains g.notes.notes note → note.word ≡ 0 → Contains (taken_of (at g.marking.list.shares 0)) note.holder
+      (note : Note) → Contains g.notes.notes note → note.word ≡ 0
+      → Contains (taken_of (at g.marking.list.shares 0)) note.holder × (Contains v.missed note.holder ⊎ (v.count ≤ note.holder))
 
 -- as many seats are lent as markers run, and these are at home or out
 pub record HasCrew (v : SeatView) (g : GreyView) : Type 0 where

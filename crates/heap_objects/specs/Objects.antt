@@ -9,7 +9,7 @@ use Rattle.page_space.specs.Space.{SpaceView, IsSpaceOf}
 use Rattle.atomic_pause.specs.Nodes.{place_of, word_of, IsHeld}
 use Rattle.heap_objects.specs.declared.marking.Grey.{Grey}
 use Rattle.heap_objects.specs.Fields.{IsLiveReference}
-use Rattle.heap_objects.specs.Marking.{GreyView, refused_in}
+use Rattle.heap_objects.specs.Marking.{GreyView, HasFound, grey_of, refused_in}
 use Rattle.heap_objects.specs.Refused.{RefusedCounts, RefusalsTold}
 
 -- the objects: the heap's shape and types, the kinds of its callbacks, the nodes, what is known of the words but for the
@@ -40,7 +40,8 @@ pub record HaveCallbacks (callbacks : ℕ) (types : List ObjectType) : Type 0 wh
   pub known : All (λ type. All (λ number. number < callbacks) type.prefinalizers) types
 
 -- the words hold the nodes, and the next number is the one that no node has; a header can name each type; nothing is in hand and
--- nothing waits for its mark; and the owner's state tells whether marking goes on, beside notes of its own
+-- nothing waits for its mark; the owner's state tells whether marking goes on, beside notes of its own; and what it tells as found
+-- traced the seat found so
 pub record AreObjects
     (space : SpaceView) (v : SeatView) (types : List ObjectType) (callbacks : List ActionKind) (made : ℕ) (nodes : List Node) (grey : Grey)
     : Type 0 where
@@ -53,6 +54,7 @@ pub record AreObjects
   pub numbers_are : made ≡ length nodes
   pub told : grey.marking.on ≡ v.on
   pub own : 0 < length grey.crew.notes
+  pub found : HasFound v (grey_of grey)
 
 -- ---- reading
 

@@ -10,11 +10,11 @@ ghost use Rattle.marker_crew.specs.BodyGraph.{PlacesDiffer};
 ghost use Rattle.atomic_pause.specs.UnderWay.{IsUnderWay};
 ghost use Rattle.marker_crew.specs.Crews.{IsCrew};
 ghost use Rattle.heap_objects.specs.Crews.{AreListsFor, Relists, IsJoined, lent_often};
-ghost use Rattle.heap_objects.specs.Marking.{grey_of, pushes_in, notes_in};
+ghost use Rattle.heap_objects.specs.Marking.{HasFound, grey_of, pushes_in, notes_in};
 ghost use Rattle.heap_objects.specs.Marks.{GoesOnOrRests, HasCrew, HasMarking};
 ghost use Rattle.heap_objects.specs.Objects.{setup_of_objects};
 
-use crate::marking::{Grey, refused_pushes, tell_refused};
+use crate::marking::{Grey, nowhere, refused_pushes, tell_refused};
 use crate::objects::Objects;
 use gc_graph::NoMemory;
 use mark_worklist::{Marking, Share, Worklist};
@@ -82,6 +82,7 @@ impl Objects {
             mut seats,
         } = lists;
         self.grey.earlier = refused_pushes(&self.grey);
+        self.grey.found = nowhere();
         let alone = mem::replace(&mut self.grey.marking.list, list);
         relist(&mut self.grey.marking, alone);
         let words = self.space.words();
@@ -126,6 +127,7 @@ pub(crate) fn gather<R: Threads>(
     requires notes { TellsRefused
         (record { told = false; count = (grey_of grey.old).since.notes })
         (notes_in (grey_of grey.old)) }
+    requires found { HasFound seat.old (grey_of grey.old) }
     ensures joined { IsJoined seat.old (grey_of grey.old) seat.new grey.new result }
     ensures none { grey.old.crew.running ≡ [] → result ≡ 0 }
 {
@@ -152,6 +154,7 @@ fn join_crew<R: Threads>(rt: &R, space: &Space, seat: &mut MutatorSeat, grey: &m
     requires notes { TellsRefused
         (record { told = false; count = (grey_of grey.old).since.notes })
         (notes_in (grey_of grey.old)) }
+    requires found { HasFound seat.old (grey_of grey.old) }
     ensures joined { IsJoined seat.old (grey_of grey.old) seat.new grey.new result }
 {
     space.words().set_stop(seat, true);

@@ -10,6 +10,7 @@ use gc_graph::NoMemory;
 use ghost_values::GhostValue;
 use mark_worklist::{Marking, Worklist};
 use marker_crew::Crew;
+use page_words::MutatorSeat;
 use std::alloc::Global;
 use std::marker::Model;
 
@@ -44,14 +45,30 @@ impl Model for Number {
     ghost view = { λ number. 0 };
 }
 
+/// Places. They are never made.
+#[derive(Drop)]
+pub struct Places {
+    none: u8,
+}
+
+impl Model for Places {
+    ghost use Rattle.std.specs.Prelude.{ℕ, List, []};
+
+    ghost Value = { List ℕ };
+
+    ghost view = { λ places. [] };
+}
+
 /// The marking state of the heap's owner, its markers with the notes of pairs, and how many objects the
-/// steps of this cycle have traced. Contracts alone see how much had been refused when marking began, and
-/// how many pushes on the lists of earlier cycles.
+/// steps of this cycle have traced. Contracts alone see which places the steps found traced beside
+/// markers, how much had been refused when marking began, and how many pushes on the lists of earlier
+/// cycles.
 #[derive(Drop)]
 pub struct Grey {
     pub(crate) marking: Marking,
     pub(crate) crew: Crew,
     pub(crate) traced: u32,
+    pub(crate) found: GhostValue<Places>,
     pub(crate) since: GhostValue<Counts>,
     pub(crate) earlier: GhostValue<Number>,
 }
@@ -72,6 +89,7 @@ impl Grey {
             },
             crew: Crew::new(alloc, markers)?,
             traced: 0,
+            found: nowhere(),
             since: none(),
             earlier: zero(),
         })
@@ -90,6 +108,20 @@ fn none() -> GhostValue<Counts>
     ensures { result.value ≡ none_refused }
 {
     GhostValue::chosen(&0u8)
+}
+
+/// No places.
+pub fn nowhere() -> GhostValue<Places>
+    ensures { result.value ≡ [] }
+{
+    GhostValue::chosen(&0u8)
+}
+
+/// The places of the objects that the seat found traced.
+pub fn found_traced(seat: &MutatorSeat) -> GhostValue<Places>
+    ensures { result.value ≡ seat.now.done }
+{
+    GhostValue::chosen(seat)
 }
 
 fn zero() -> GhostValue<Number>

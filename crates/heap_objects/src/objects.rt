@@ -114,6 +114,13 @@ impl Objects {
         self.space.shape_is_valid();
     }
 
+    /// The seat is one for as many words as the shape has. Whoever calls this has the law.
+    pub fn seat_has_all_words(&self)
+        ensures { self.now.seat.count ≡ word_count self.now.shape }
+    {
+        self.space.shape_is_valid();
+    }
+
     /// How many words the heap has.
     pub fn word_count(&self) -> u32
         ensures { result ≡ word_count self.now.shape }

@@ -6,10 +6,10 @@ ghost use Rattle.page_space.specs.Space.{IsSeatOf};
 ghost use Rattle.marker_crew.specs.BodyGraph.{PlacesDiffer};
 ghost use Rattle.atomic_pause.specs.UnderWay.{IsUnderWay};
 ghost use Rattle.heap_objects.specs.Crews.{IsIdleOrLong, IsStepped};
-ghost use Rattle.heap_objects.specs.Marking.{grey_of, pushes_in};
+ghost use Rattle.heap_objects.specs.Marking.{HasFound, grey_of, pushes_in};
 ghost use Rattle.heap_objects.specs.Marks.{HasCrew};
 
-use crate::marking::{Grey, tell_refused};
+use crate::marking::{Grey, found_traced, tell_refused};
 use atomic_pause::trace_listed;
 use marker_crew::step_beside as trace_beside;
 use page_space::Space;
@@ -33,6 +33,7 @@ pub(crate) fn step(
     requires pushes { TellsRefused
         (record { told = false; count = (grey_of grey.old).since.pushes })
         (pushes_in (grey_of grey.old)) }
+    requires found { HasFound seat.old (grey_of grey.old) }
     ensures stepped { IsStepped seat.old (grey_of grey.old) seat.new (grey_of grey.new) result }
     ensures own { length grey.new.crew.notes ≡ length grey.old.crew.notes }
     ensures most { result ≤ most }
@@ -97,6 +98,7 @@ fn step_beside(
     requires pushes { TellsRefused
         (record { told = false; count = (grey_of grey.old).since.pushes })
         (pushes_in (grey_of grey.old)) }
+    requires found { HasFound seat.old (grey_of grey.old) }
     ensures stepped { IsStepped seat.old (grey_of grey.old) seat.new (grey_of grey.new) result }
     ensures own { length grey.new.crew.notes ≡ length grey.old.crew.notes }
     ensures most { result ≤ most }
@@ -113,6 +115,7 @@ fn step_beside(
         most,
     );
     tell_refused(&mut grey.marking, refused);
+    grey.found = found_traced(seat);
     seat.bodies_lie_apart();
     drained.traced
 }

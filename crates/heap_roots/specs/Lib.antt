@@ -19,6 +19,7 @@ pub use Rattle.heap_objects.specs.MembersOf
 pub use Rattle.heap_objects.specs.NewNodes
 pub use Rattle.heap_objects.specs.NodePlaces
 pub use Rattle.heap_objects.specs.Nodes
+pub use Rattle.heap_objects.specs.Note
 pub use Rattle.heap_objects.specs.Notes
 pub use Rattle.heap_objects.specs.Objects
 pub use Rattle.heap_objects.specs.PairFields

@@ -99,7 +99,7 @@ returns g c =
             | inl before ↦ inl before
             | inr other ↦ inr (λ same. other (sym (ap (λ (l : ListState). l.refused) list) ∙ same ∙ sym c.refused-refused.ensures))
           ])
-          (omega (arith, c.refused-refused.ensures, c.refused-refused.type_inv)) after refl
+          c.requires.found (omega (arith, c.refused-refused.ensures, c.refused-refused.type_inv)) after refl
           (ap (λ (x : CrewState). x.notes) c.shares-shares.ensures.rest ∙ notes)
           (ap (λ (x : CrewState). x.running) c.shares-shares.ensures.rest ∙ joined.running)
           (ap (λ (x : CrewState). x.markers) c.shares-shares.ensures.rest ∙ joined.markers) refl refl refl);

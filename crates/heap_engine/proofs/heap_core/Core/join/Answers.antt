@@ -24,7 +24,7 @@ use Rattle.cross_thread_region.specs.Calls.{Begins}
 use Rattle.heap_engine.proofs.Joined.{ready_counted}
 use Rattle.heap_engine.proofs.OutcomeLines.{last_alone}
 use Rattle.heap_engine.proofs.RegionAlone.{made_behind}
-use Rattle.heap_engine.proofs.MarksTold.{all_lent}
+use Rattle.heap_engine.proofs.MarksTold.{all_lent, items_dealt}
 use Rattle.heap_engine.proofs.Tellings.{tells_same, told_by}
 use Rattle.heap_engine.proofs.ThreadsTold.{has_begun, joined_behind, none_ahead, none_started, not_stepped, told_joined, totals_joined, walk_joined}
 use Rattle.heap_engine.proofs.heap_core.Core.join.Goals as goal
@@ -151,6 +151,8 @@ returns c =
         started = λ there. absurd (none_started c.join-count.new.shared m replies
             (subst (λ ls. Contains (told_lines c.join-count.new.shared ++ ls) L.Started) (alone c) there));
         lent = λ marking. all_lent (record c.join-count.new.parts { cycle = c.count_command.new.self }) (ready c) (manned c) marking;
+        items = λ marking some none p took.
+            items_dealt (record c.join-count.new.parts { cycle = c.count_command.new.self }) (ready c) (manned c) c.seat_has_all_words.ensures marking some none p took;
         done = λ t is. absurd (not_stepped (told_lines c.join-count.new.shared) m t true (sym (ap (λ ls. told_lines c.join-count.new.shared ++ ls) (alone c)) ∙ is));
       };
     }

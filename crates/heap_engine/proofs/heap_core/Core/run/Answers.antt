@@ -31,7 +31,7 @@ use Rattle.heap_cycle.specs.Walks.{IsWalkToldIn}
 use Rattle.heap_engine.specs.Ended.{last_line}
 use Rattle.heap_engine.proofs.OutcomeLines.{ended_lines, walk_in_lines}
 use Rattle.heap_engine.proofs.RegionAlone.{made_behind}
-use Rattle.heap_engine.proofs.MarksTold.{all_lent, all_traced, roots_marked, some_run, started_last, stepped_last, still_marking, was_marking}
+use Rattle.heap_engine.proofs.MarksTold.{all_lent, all_traced, items_dealt, roots_marked, some_run, started_last, stepped_last, still_marking, was_marking}
 use Rattle.heap_engine.proofs.LastLines.{last_plain, started_by, stepped_by}
 use Rattle.heap_engine.proofs.ThreadsTold.{has_begun, none_ahead, totals_after}
 use Rattle.heap_engine.specs.Going.{AreTotalsOf, HasTold}
@@ -235,6 +235,8 @@ returns d c = record {
     walked = rw (← c.self.view_is, told_none d c) (walks d c);
     started = λ there. starts d c (subst (λ ls. Contains (ls ++ outcome_lines c.run.new.outcome c.count_command.new.self.ran) L.Started) (told_none d c) there);
     lent = λ marking. all_lent (record c.run.new.parts { cycle = c.count_command.new.self }) (ready d c) (manned d c) marking;
+    items = λ marking some none p took.
+        items_dealt (record c.run.new.parts { cycle = c.count_command.new.self }) (ready d c) (manned d c) c.seat_has_all_words.ensures marking some none p took;
     done = λ t is.
         (let found = traces d c t (sym (ap (λ ls. ls ++ outcome_lines c.run.new.outcome c.count_command.new.self.ran) (told_none d c)) ∙ is) in
         rw (← c.self.view_is) (record { alone = found.alone; beside = found.beside }));

@@ -36,13 +36,13 @@ pub invariant_of-self : goal.invariant_of-self
 invariant_of-self c =
     swept_objects c.self.inside.space c.page-swept.new.space c.self.inside.seat c.page-swept.new.seat (arc_value c.self.inside.types) c.self.inside.kinds.value c.self.inside.made c.self.inside.grey c.self.inside.nodes.value
     c.finalised.result.value c.args.sweep.now c.page-swept.new.self c.args.finalised.now.items c.page-swept.new.done.items c.self.invariant (rw (← c.self.view_is) at c.requires.rest).off (swept_is (cursor_at c.self.inside.space.shape c.args.sweep.now) c.self.inside.seat (rw (← c.self.view_is) at c.requires.marks))
-    c.page-swept.ensures.swept c.page-swept.ensures.shape c.finalised.ensures c.page-swept.ensures.sweeping
+    c.page-swept.ensures.swept c.page-swept.ensures.shape c.finalised.ensures (rw (← c.self.view_is) at c.requires.rest).clear.none_running c.page-swept.ensures.sweeping
 
 pub returns-clause-nodes : goal.returns-clause-nodes
 returns-clause-nodes c =
     rw (← c.self.view_is) (finalised_nodes c.self.inside.space c.page-swept.new.space c.self.inside.seat c.page-swept.new.seat (arc_value c.self.inside.types) c.self.inside.kinds.value c.self.inside.made c.self.inside.grey
     c.self.inside.nodes.value c.finalised.result.value c.args.sweep.now c.page-swept.new.self c.args.finalised.now.items c.page-swept.new.done.items c.self.invariant
-    (rw (← c.self.view_is) at c.requires.rest).off (swept_is (cursor_at c.self.inside.space.shape c.args.sweep.now) c.self.inside.seat (rw (← c.self.view_is) at c.requires.marks)) c.page-swept.ensures.swept c.page-swept.ensures.shape c.finalised.ensures)
+    (rw (← c.self.view_is) at c.requires.rest).off (swept_is (cursor_at c.self.inside.space.shape c.args.sweep.now) c.self.inside.seat (rw (← c.self.view_is) at c.requires.marks)) c.page-swept.ensures.swept c.page-swept.ensures.shape c.finalised.ensures (rw (← c.self.view_is) at c.requires.rest).clear.none_running)
 
 pub returns-clause-told : goal.returns-clause-told
 returns-clause-told c =

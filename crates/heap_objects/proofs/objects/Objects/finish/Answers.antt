@@ -166,6 +166,7 @@ invariant_of-self g c =
       numbers_are = c.self.invariant.numbers_are ∙ sym (paused.stayed.count ∙ length-after paused.kept nodes);
       told = c.clear.ensures.clear.off ∙ sym c.pause-result.ensures.ready.off;
       own = c.clear.ensures.own;
+      found = λ some. absurd (omega (arith, some, ap length c.clear.ensures.clear.none_running));
     }
 
 pub returns-clause-paused : goal.returns-clause-paused

@@ -2,6 +2,7 @@ use Rattle.std.specs.Arc.{arc_value}
 use Rattle.std.proofs.lemmas.Bool.{cases_Bool}
 use Rattle.marker_core.specs.Bodies.{holds}
 use Rattle.page_words.specs.Seat.{SeatView, IsView}
+use Rattle.std.specs.List.{Contains}
 use Rattle.std.proofs.Common.{◌≡◌, ◌<◌, ◌≤◌, ℕ, List, [], ◌∷◌, ◌++◌, Some, length, refl, sym, ap, ◌∙◌, subst, arith, inl, inr, false}
 use Rattle.std.proofs.lemmas.List.{length_push}
 use Rattle.gc_graph.specs.State.{Setup, ObjectType, Node}
@@ -73,6 +74,7 @@ invariant_of-self c =
       numbers_are = omega (arith, c.self.invariant.numbers_are, ap length new, length_push nodes (new_node setup c.args.t c.args.extra c.args.place));
       told = c.self.invariant.told ∙ sym occupies.on;
       own = c.self.invariant.own;
+      found = λ some p there. subst (λ l. Contains l p) (sym occupies.done) (c.self.invariant.found some p there);
     }
 
 pub returns-clause-marks : goal.returns-clause-marks

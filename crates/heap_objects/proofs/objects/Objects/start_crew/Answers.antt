@@ -22,7 +22,7 @@ returns-clause-marks g c =
     let nodes : List Node = c.self.inside.nodes.value in
     let m : Marking = c.relist.new.marking in
     let shares : List ShareState = c.args.lists.shares.items in
-    let kept : Grey = record { marking = m; crew = c.start.new.self; traced = grey.traced; since = grey.since; earlier = c.refused_pushes.result } in
+    let kept : Grey = record { marking = m; crew = c.start.new.self; traced = grey.traced; found = c.nowhere.result; since = grey.since; earlier = c.refused_pushes.result } in
     let calm : grey.crew.running ≡ [] = rw (← c.self.view_is) at c.requires.home in
     let relisted : Relists grey.marking.list.items [] (record grey.marking { list = c.args.lists.list }) m =
     subst (λ (l : ListState). Relists l.items [] (record grey.marking { list = c.args.lists.list }) m) c.replace-alone.ensures.value
@@ -30,7 +30,7 @@ returns-clause-marks g c =
     let lists = rw (← c.self.view_is) at c.requires.lists in
     rw (← c.self.view_is) (λ may h.
     subst (λ (k : GreyView). HasMarking may (view_in c.self.inside.space.shape (arc_value c.self.inside.types) c.self.inside.kinds.value nodes c.lend.new.seat k))
-    (sym (grey_started v grey kept m c.lend.new.seats.items shares refl c.start.ensures refl refl c.refused_pushes.ensures
+    (sym (grey_started v grey kept m c.lend.new.seats.items shares refl c.start.ensures refl c.nowhere.ensures refl c.refused_pushes.ensures
     (c.lend.ensures.seats ∙ ap (λ n. replicate n (new_marker v)) c.markers.ensures.value)))
     (subst (λ (w : SeatView). HasMarking may (view_in c.self.inside.space.shape (arc_value c.self.inside.types) c.self.inside.kinds.value nodes w (started_as v (grey_of grey) shares m)))
     (sym (c.lend.ensures.lent ∙ ap (λ n. lent_often n v) c.markers.ensures.value))
@@ -43,7 +43,7 @@ returns-clause-running g c =
     let grey : Grey = c.self.inside.grey in
     let m : Marking = c.relist.new.marking in
     let shares : List ShareState = c.args.lists.shares.items in
-    let kept : Grey = record { marking = m; crew = c.start.new.self; traced = grey.traced; since = grey.since; earlier = c.refused_pushes.result } in
+    let kept : Grey = record { marking = m; crew = c.start.new.self; traced = grey.traced; found = c.nowhere.result; since = grey.since; earlier = c.refused_pushes.result } in
     let calm : grey.crew.running ≡ [] = rw (← c.self.view_is) at c.requires.home in
     let relisted : Relists grey.marking.list.items [] (record grey.marking { list = c.args.lists.list }) m =
     subst (λ (l : ListState). Relists l.items [] (record grey.marking { list = c.args.lists.list }) m) c.replace-alone.ensures.value
@@ -51,6 +51,6 @@ returns-clause-running g c =
     let lists = rw (← c.self.view_is) at c.requires.lists in
     let marks = rw (← c.self.view_is) at c.requires.marks in
     rw (← c.self.view_is)
-    (ap (λ (k : GreyView). length k.running) (grey_started v grey kept m c.lend.new.seats.items shares refl c.start.ensures refl refl c.refused_pushes.ensures
+    (ap (λ (k : GreyView). length k.running) (grey_started v grey kept m c.lend.new.seats.items shares refl c.start.ensures refl c.nowhere.ensures refl c.refused_pushes.ensures
     (c.lend.ensures.seats ∙ ap (λ n. replicate n (new_marker v)) c.markers.ensures.value))
     ∙ many v (grey_of grey) c.args.lists.list shares m lists.some calm ((crew_is v (grey_of grey) marks.1.crew).home calm).many lists.shared relisted)

@@ -1,4 +1,5 @@
 use Rattle.std.specs.Arc.{arc_value}
+use Rattle.std.specs.List.{Contains}
 use Rattle.std.proofs.Common.{◌≡◌, ℕ, ◌+◌, ◌∙◌, List, length, sym, ap, subst, arith}
 use Rattle.gc_graph.specs.declared.kind.Value.{Value}
 use Rattle.gc_graph.specs.State.{Setup, Node, node_at}
@@ -67,6 +68,7 @@ invariant_of-self c =
       numbers_are = c.self.invariant.numbers_are ∙ sym (length-field nodes is.0 index x) ∙ ap length new;
       told = barrier_told target u c.write_field.new.seat c.self.inside.grey.marking c.write_field.new.marking c.write_field.ensures.barrier c.self.invariant.told;
       own = c.self.invariant.own;
+      found = λ some p there. subst (λ l. Contains l p) (sym stays.done) (c.self.invariant.found some p there);
     }
 
 pub returns-clause-marks : goal.returns-clause-marks

@@ -1,4 +1,5 @@
 use Rattle.std.specs.Arc.{arc_value}
+use Rattle.std.specs.List.{Contains}
 use Rattle.std.proofs.Common.{◌≡◌, ℕ, ◌+◌, ◌∙◌, List, length, refl, sym, ap, subst, arith}
 use Rattle.gc_graph.specs.declared.kind.Value.{Value}
 use Rattle.gc_graph.specs.State.{Setup, Node, node_at}
@@ -94,6 +95,7 @@ invariant_of-self c =
       numbers_are = c.self.invariant.numbers_are ∙ sym (length-pair nodes is.0 index k x) ∙ ap length new;
       told = barrier_told c.args.pair.now.value.word u c.set_pair.new.seat c.self.inside.grey.marking c.set_pair.new.marking barrier c.self.invariant.told;
       own = c.self.invariant.own;
+      found = λ some p there. subst (λ l. Contains l p) (sym stays.done) (c.self.invariant.found some p there);
     }
 
 pub returns-clause-marks : goal.returns-clause-marks
