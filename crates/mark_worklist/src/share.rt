@@ -8,6 +8,7 @@ ghost use Rattle.mark_worklist.specs.Shares.{MovedFrom, Stole, StoleNone, IsSame
 
 use crate::ends::{OtherEnd, OwnEnd};
 use std::marker::Model;
+use thiserror::Error;
 
 /// A list takes no more items once so many may have come onto it.
 const MOST_ITEMS: u64 = 1 << 60;
@@ -15,8 +16,9 @@ const MOST_ITEMS: u64 = 1 << 60;
 /// So many items a steal moves at most.
 const MOST_MOVED: u64 = 32;
 
-/// The item of a push that was refused.
-#[derive(Debug, Drop, PartialEq)]
+/// The item of a push that was refused, for want of memory or because too many came onto the list.
+#[derive(Debug, Drop, Error, PartialEq)]
+#[error("item {0} was refused")]
 pub struct Refused(pub u32);
 
 /// A list of its own, to which it pushes and from which it pops, and an end of each other list, from
