@@ -19,7 +19,8 @@
 //! walked. After a start each target of a strong slot is marked, and a seat is lent for each marker
 //! until the pause. After a step that is done no node is marked and untraced, unless a push was refused
 //! in the cycle; beside markers the owner's last pop and steal found nothing, or it took 2^32 - 1
-//! items. A heap that is closed has no marker that runs. A thread that runs has done the first of its
+//! items. Each item that it takes beside them it claims, finds traced or notes, unless a note was
+//! refused. A heap that is closed has no marker that runs. A thread that runs has done the first of its
 //! orders, and a join tells the totals of when the threads went.
 //!
 //! What is only tested or not said: that memory suffices, and how long a command takes.
