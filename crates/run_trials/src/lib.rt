@@ -6,8 +6,8 @@
 //!
 //! The parts, each named for what it tries. Of text: `held_text`, `adapters`, `reading`, `printing`,
 //! `pieces`, `faults` with `fault_cases`. Of runs: `runs`, `statuses`, `limits`, `callback_calls`,
-//! `failing_devices`. Of markers: `held`, `schedules` with the gate `drawn`, and `beside`; `lawful` says
-//! what a report beside markers may say. `rows` reads the tables of the others.
+//! `failing_devices`. Of markers: `held`, `joined`, `schedules` with the gate `drawn`, and `beside`;
+//! `lawful` says what a report beside markers may say. `rows` reads the tables of the others.
 //!
 //! What is proved: that the tests are safe and call only what they may.
 //!
@@ -32,6 +32,8 @@ mod faults;
 mod held;
 #[cfg(test)]
 mod held_text;
+#[cfg(test)]
+mod joined;
 #[cfg(test)]
 mod lawful;
 #[cfg(test)]
