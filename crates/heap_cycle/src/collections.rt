@@ -1,7 +1,7 @@
 // Collections (`include/cppgc/heap.h`): one is a cycle from its start through any number of steps to
 // its pause, or all of it in one command.
 
-ghost use Rattle.std.specs.Prelude.{◌≡◌, ◌*◌, ◌≤◌, ℕ, true, false, [], ◌∷◌};
+ghost use Rattle.std.specs.Prelude.{◌≡◌, ◌*◌, ◌≤◌, ◌<◌, ℕ, true, false, [], ◌∷◌, length};
 ghost use Rattle.gc_graph.specs.declared.line.Line.TheVariants as L;
 ghost use Rattle.gc_graph.specs.declared.phase.Phase.TheVariants.{Marking};
 ghost use Rattle.gc_graph.specs.Outcomes.{answered};
@@ -10,6 +10,7 @@ ghost use Rattle.gc_graph.specs.CycleSteps.{is_marking, is_stack_refused};
 ghost use Rattle.page_space.specs.Pages.{word_count};
 ghost use Rattle.callback_table.specs.Table.{kinds_of};
 ghost use Rattle.heap_cycle.specs.Cycles.{HasPaused, AreSlotsMarked, HasFoundAll, pause_line};
+ghost use Rattle.heap_roots.specs.Crews.{KeepsTaken};
 ghost use Rattle.heap_cycle.specs.Parts.{setup_of, state_of, counted, IsReady, IsFrame};
 ghost use Rattle.heap_cycle.specs.Region.{HasRegion};
 ghost use Rattle.heap_cycle.specs.Shared.{piece_of, taken_of, HasShared, MayTake};
@@ -76,6 +77,8 @@ pub fn step(parts: &mut Parts, n: u32) -> Line
     ensures step { StepGcStep (state_of parts.old) n (result ∷ []) (answered (state_of parts.new)) }
     ensures frame { IsFrame parts.old (counted parts.new) result }
     ensures done { (t : ℕ) → result ≡ L.Step t true → HasFoundAll parts.old parts.new }
+    ensures took { 0 < length parts.old.objects.grey.running
+        → KeepsTaken parts.old.objects.grey parts.new.objects.grey }
 {
     if !parts.cycle.is_marking() {
         return Line::Refused(Refusal::Phase);

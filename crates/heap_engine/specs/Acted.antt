@@ -33,7 +33,7 @@ IsDealtWith items words p =
 -- runs has done the first of its orders, and the totals that a join tells are those just before the threads went; a pause line tells truly
 -- whether the heap was walked; where a cycle was started, what the strong slots name is marked, those of the region among them;
 -- while marking goes on a seat is lent for each of the heap's markers, and each item that the owner took beside them is dealt with unless
--- a note was refused; and a step tells truly that it is done
+-- a note was refused; a step keeps those that were taken before, and tells truly that it is done
 pub record IsActed (old new : View) (command : Command) (lines : ℕ) : Type 0 where
   pub step : Step old.setup old.state command new.piece new.lines new.state
   pub count : lines ≡ length new.lines
@@ -52,4 +52,5 @@ pub record IsActed (old new : View) (command : Command) (lines : ℕ) : Type 0 w
   pub items :
       new.state.phase ≡ Marking → 0 < new.setup.markers → HasNoRefusedNote new.refusals → (p : ℕ) → Contains new.items.taken p
       → IsDealtWith new.items (word_count new.setup.shape) p
+  pub took : (n : ℕ) → command ≡ C.GcStep n → old.state.phase ≡ Marking → 0 < old.setup.markers → (p : ℕ) → Contains old.items.taken p → Contains new.items.taken p
   pub done : (t : ℕ) → new.lines ≡ L.Step t true ∷ [] → IsStepDone old new

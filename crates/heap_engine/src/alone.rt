@@ -1,6 +1,6 @@
 // The commands that leave the region as it is: on pages, fields, slots, pairs and the stack.
 
-ghost use Rattle.std.specs.Prelude.{◌≡◌, ℕ, ◌*◌, ◌≤◌, true, false, [], ◌∷◌, length, Some};
+ghost use Rattle.std.specs.Prelude.{◌≡◌, ℕ, ◌*◌, ◌≤◌, ◌<◌, true, false, [], ◌∷◌, length, Some};
 ghost use Rattle.gc_graph.specs.declared.command.Command.TheVariants as C;
 ghost use Rattle.gc_graph.specs.declared.line.Line.TheVariants as L;
 ghost use Rattle.gc_graph.specs.Lawful.{IsAllowed};
@@ -8,6 +8,7 @@ ghost use Rattle.gc_graph.specs.Outcomes.{answered};
 ghost use Rattle.gc_graph.specs.Step.{Step};
 ghost use Rattle.page_space.specs.Pages.{word_count};
 ghost use Rattle.heap_cycle.specs.Cycles.{HasFoundAll};
+ghost use Rattle.heap_cycle.specs.Crews.{KeepsTaken};
 ghost use Rattle.heap_cycle.specs.Parts.{setup_of, state_of, counted, IsReady, IsFrame};
 ghost use Rattle.heap_cycle.specs.Printed.{outcome_lines, TellsThoseThatRan};
 ghost use Rattle.heap_engine.specs.Alone.{leaves_region, is_on_pages, is_on_fields};
@@ -38,6 +39,8 @@ pub(crate) fn run_alone(parts: &mut Parts, outcome: &mut Outcome, command: &Comm
     ensures ran { TellsThoseThatRan outcome.new parts.new.cycle.ran }
     ensures done { (n t : ℕ) → command.now ≡ C.GcStep n → last_line outcome.new ≡ L.Step t true
         → HasFoundAll parts.old parts.new }
+    ensures took { (n : ℕ) → command.now ≡ C.GcStep n → 0 < length parts.old.objects.grey.running
+        → KeepsTaken parts.old.objects.grey parts.new.objects.grey }
     ensures room { outcome.new.room ≡ outcome.old.room }
 {
     match *command {
@@ -85,6 +88,8 @@ fn run_on_pages(parts: &mut Parts, outcome: &mut Outcome, command: &Command)
     ensures ran { TellsThoseThatRan outcome.new parts.new.cycle.ran }
     ensures done { (n t : ℕ) → command.now ≡ C.GcStep n → last_line outcome.new ≡ L.Step t true
         → HasFoundAll parts.old parts.new }
+    ensures took { (n : ℕ) → command.now ≡ C.GcStep n → 0 < length parts.old.objects.grey.running
+        → KeepsTaken parts.old.objects.grey parts.new.objects.grey }
     ensures room { outcome.new.room ≡ outcome.old.room }
 {
     match *command {

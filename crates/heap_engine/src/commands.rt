@@ -1,7 +1,7 @@
 // The commands: those that touch the region, and all others. What does a command is called where the
 // outcome is ended by its line, one function for a few commands, so that a line is copied once.
 
-ghost use Rattle.std.specs.Prelude.{◌≡◌, ℕ, ◌*◌, ◌≤◌, true, false, [], length};
+ghost use Rattle.std.specs.Prelude.{◌≡◌, ℕ, ◌*◌, ◌≤◌, ◌<◌, true, false, [], length};
 ghost use Rattle.gc_graph.specs.declared.command.Command.TheVariants as C;
 ghost use Rattle.gc_graph.specs.declared.line.Line.TheVariants as L;
 ghost use Rattle.gc_graph.specs.Lawful.{IsAllowed};
@@ -13,6 +13,7 @@ ghost use Rattle.cross_thread_region.specs.Calls.{Begins};
 ghost use Rattle.page_space.specs.Pages.{word_count};
 ghost use Rattle.callback_table.specs.Table.{kinds_of};
 ghost use Rattle.heap_cycle.specs.Cycles.{AreSlotsMarked, HasFoundAll};
+ghost use Rattle.heap_cycle.specs.Crews.{KeepsTaken};
 ghost use Rattle.heap_cycle.specs.Parts.{setup_of, state_of, counted, IsReady, IsFrame};
 ghost use Rattle.heap_cycle.specs.Printed.{outcome_lines, TellsThoseThatRan};
 ghost use Rattle.heap_cycle.specs.Shared.{piece_of, taken_of, HasShared};
@@ -66,6 +67,8 @@ pub(crate) fn run<R: Threads, G: Gate + Send + Sync + 'static>(
         → AreSlotsMarked parts.new (taken_of shared.new) }
     ensures done { (n t : ℕ) → command.now ≡ C.GcStep n → last_line outcome.new ≡ L.Step t true
         → HasFoundAll parts.old parts.new }
+    ensures took { (n : ℕ) → command.now ≡ C.GcStep n → 0 < length parts.old.objects.grey.running
+        → KeepsTaken parts.old.objects.grey parts.new.objects.grey }
     ensures room { outcome.new.room ≡ outcome.old.room }
 {
     parts.objects.shape_is_valid();
@@ -122,6 +125,8 @@ fn run_shared<R: Threads, G: Gate + Send + Sync + 'static>(
         → AreSlotsMarked parts.new (taken_of shared.new) }
     ensures done { (n t : ℕ) → command.now ≡ C.GcStep n → last_line outcome.new ≡ L.Step t true
         → HasFoundAll parts.old parts.new }
+    ensures took { (n : ℕ) → command.now ≡ C.GcStep n → 0 < length parts.old.objects.grey.running
+        → KeepsTaken parts.old.objects.grey parts.new.objects.grey }
     ensures room { outcome.new.room ≡ outcome.old.room }
 {
     gc_graph::steps_follow_the_history();

@@ -79,5 +79,6 @@ has_stepped_alone types v w g m x n calm crew way kept mode noted counted pushes
       pushes = told_shifted g.earlier (refusals_of g.marking) (refusals_of m) pushes;
       notes = told_behind (sum_by (λ (y : NotesState). y.refused) g.others + sum_by (λ (b : Marker). b.notes.refused) g.running) (refusals_in g.notes) (refusals_in x) notes;
       found = λ some. absurd (omega (arith, some, ap length calm));
+      took = λ some. absurd (omega (arith, some, ap length calm));
       rest = refl;
     }

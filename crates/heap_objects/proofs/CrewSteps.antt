@@ -297,5 +297,6 @@ module _ (v : SeatView) (g : GreyView) (m : MarkerSeatView) (k : ShareState) (o 
     pushes = pushes;
     notes = told_behind (sum_by (λ (x : NotesState). x.refused) g.others + sum_by (λ (b : Marker). b.notes.refused) g.running) (refusals_in g.notes) (refusals_in o) works.notes_told;
     found = λ is p there. subst (λ l. Contains l p) found_is there;
+    took = λ is p there. subst (λ s. Contains (taken_of s) p) (sym own_now) (works.later.taken p there);
     rest = refl;
   }

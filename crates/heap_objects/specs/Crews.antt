@@ -70,6 +70,10 @@ IsIdleOrLong old new =
     (new.marking.list.idle ≡ true)
     ⊎ (length (taken_of (at new.marking.list.shares 0)) ≡ length (taken_of (at old.marking.list.shares 0)) + (2 ^ 32 - 1))
 
+-- each item that the owner's share had taken stays taken
+abbrev pub KeepsTaken : GreyView → GreyView → Type 0
+KeepsTaken old new = (p : ℕ) → Contains (taken_of (at old.marking.list.shares 0)) p → Contains (taken_of (at new.marking.list.shares 0)) p
+
 -- the heap is the same, and what was marked or traced still is
 pub record IsSameHeap (old new : SeatView) : Type 0 where
   pub heap : new.heap ≡ old.heap
@@ -80,8 +84,8 @@ pub record IsSameHeap (old new : SeatView) : Type 0 where
   pub dead : new.dead ≡ old.dead
   pub may : new.may ≡ old.may
 
--- the owner traced so many objects more: marking is under way as before, that something was refused is told, and what is told as
--- found traced was found so; all else of what is kept of marking is the same
+-- the owner traced so many objects more: marking is under way as before, that something was refused is told, what is told as found
+-- traced was found so, and beside markers what was taken stays taken; all else of what is kept of marking is the same
 pub record IsStepped (v : SeatView) (g : GreyView) (w : SeatView) (k : GreyView) (count : ℕ) : Type 0 where
   pub same : IsSameHeap v w
   pub way : IsUnderWay w k.marking k.notes
@@ -90,6 +94,7 @@ pub record IsStepped (v : SeatView) (g : GreyView) (w : SeatView) (k : GreyView)
   pub pushes : TellsRefused (pushes_in g) (pushes_in k)
   pub notes : TellsRefused (notes_in g) (notes_in k)
   pub found : HasFound w k
+  pub took : 0 < length g.running → KeepsTaken g k
   pub rest : k ≡ record g { marking = k.marking; notes = k.notes; found = k.found }
 
 -- whether notes of one of the groups were refused, and how many of all

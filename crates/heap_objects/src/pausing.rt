@@ -18,7 +18,7 @@ ghost use Rattle.atomic_pause.specs.Nodes.{AreOfValid};
 ghost use Rattle.atomic_pause.specs.PlacesInWords.{places_of, IsJudged};
 ghost use Rattle.atomic_pause.specs.Pausing.{IsPaused, NamePlaces, hits_in};
 ghost use Rattle.atomic_pause.specs.Pausing.{IsPausable, IsPausedRegion, shared_roots};
-ghost use Rattle.heap_objects.specs.Crews.{IsIdleOrLong};
+ghost use Rattle.heap_objects.specs.Crews.{IsIdleOrLong, KeepsTaken};
 ghost use Rattle.heap_objects.specs.Marks.{IsAtRest, HasMarking, NameRoots, TellsRoots};
 ghost use Rattle.heap_objects.specs.Objects.{setup_of_objects, refused_of};
 ghost use Rattle.heap_objects.specs.Refused.{IsToldTruly};
@@ -94,6 +94,8 @@ impl Objects {
             → holds self.new.seat.marked p ≡ true → holds self.new.seat.traced p ≡ true }
         ensures idle { result < most → 0 < length self.old.grey.running
             → IsIdleOrLong self.old.grey self.new.grey }
+        ensures took { 0 < length self.old.grey.running
+            → KeepsTaken self.old.grey self.new.grey }
         ensures running { self.new.grey.running ≡ self.old.grey.running }
         ensures since { self.new.grey.since ≡ self.old.grey.since }
         ensures nodes { self.new.nodes ≡ self.old.nodes }

@@ -33,5 +33,6 @@ returns-in_default d c = record {
   ran = c.run_alone.ensures.ran;
   marked = λ is told. absurd (c.in_default.not-GcStart is);
   done = c.run_alone.ensures.done;
+  took = c.run_alone.ensures.took;
   room = c.run_alone.ensures.room;
 }

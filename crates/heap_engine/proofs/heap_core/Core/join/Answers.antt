@@ -153,6 +153,7 @@ returns c =
         lent = λ marking. all_lent (record c.join-count.new.parts { cycle = c.count_command.new.self }) (ready c) (manned c) marking;
         items = λ marking some none p took.
             items_dealt (record c.join-count.new.parts { cycle = c.count_command.new.self }) (ready c) (manned c) c.seat_has_all_words.ensures marking some none p took;
+        took = λ n is. (let never : C.ThreadsJoin ≡ C.GcStep n = is in cc);
         done = λ t is. absurd (not_stepped (told_lines c.join-count.new.shared) m t true (sym (ap (λ ls. told_lines c.join-count.new.shared ++ ls) (alone c)) ∙ is));
       };
     }

@@ -237,6 +237,7 @@ returns d c = record {
     lent = λ marking. all_lent (record c.run.new.parts { cycle = c.count_command.new.self }) (ready d c) (manned d c) marking;
     items = λ marking some none p took.
         items_dealt (record c.run.new.parts { cycle = c.count_command.new.self }) (ready d c) (manned d c) c.seat_has_all_words.ensures marking some none p took;
+    took = rw (← c.self.view_is) (λ n is marking some. c.run.ensures.took n is (some_run c.self.inside.parts (c.self.invariant.manned (opened d c)) marking some));
     done = λ t is.
         (let found = traces d c t (sym (ap (λ ls. ls ++ outcome_lines c.run.new.outcome c.count_command.new.self.ran) (told_none d c)) ∙ is) in
         rw (← c.self.view_is) (record { alone = found.alone; beside = found.beside }));
