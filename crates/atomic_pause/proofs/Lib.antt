@@ -1,5 +1,6 @@
 pub mod MarkEnds
 pub mod MarkedOut
+pub mod LookedNodes
 pub mod HeldNodes
 pub mod ReachedNodes
 pub mod BodyReferences

@@ -8,9 +8,8 @@ use Rattle.marker_core.specs.declared.states.Body.{Body}
 use Rattle.marker_core.specs.Closed.{IsClosedOver}
 use Rattle.marker_core.specs.SeatSteps.{unmarked_places}
 use Rattle.page_words.specs.Roles.{kind_lists}
-use Rattle.page_words.specs.Seat.{SeatView, side, with_bodies}
+use Rattle.page_words.specs.Seat.{SeatView, side}
 use Rattle.weak_clearing.specs.Space.{HoldsAddress}
-use Rattle.ephemerons.specs.LookedAt.{IsLookedAt}
 
 -- a word of the stack is an address of a word of the body at the place
 abbrev pub IsHitPlace : List Body → List ℕ → ℕ → Type 0
@@ -63,11 +62,10 @@ pub record MarksReachable (types : List ObjectType) (root may : ℕ → Type 0) 
   pub least : (test : ℕ → Bool) → IsClosedOver (kind_lists types) new.bodies test → HoldsRoots test may → (p : ℕ) → holds new.marked p ≡ true → test p ≡ true
   pub dead : new.dead ≡ unmarked_places (side new)
 
--- the headers that were looked at until marking ended are those of objects that are marked at the end, and of keys of pairs that
--- these held before; more headers were looked at after that
-pub record LooksEarlyWithin (types : List ObjectType) (old new : SeatView) : Type 0 where
+-- the headers that were looked at until marking ended are at such places; more headers were looked at after that
+pub record LooksEarlyAt (is_so : ℕ → Type 0) (old new : SeatView) : Type 0 where
   pub more : List ℕ
   pub rest : List ℕ
   pub grown : new.looked ≡ old.looked ++ more ++ rest
   pub early : new.early ≡ length (old.looked ++ more)
-  pub each : (p : ℕ) → Contains more p → IsLookedAt types (with_bodies new old.bodies) p
+  pub each : (p : ℕ) → Contains more p → is_so p

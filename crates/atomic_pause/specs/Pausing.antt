@@ -1,5 +1,5 @@
 -- What a pause does to the nodes: which it keeps, which it condemns, and what their prefinalizers do.
-use Rattle.std.specs.Prelude.{◌≡◌, ℕ, ◌<◌, Bool, true, false, List, [], length, filter, Option}
+use Rattle.std.specs.Prelude.{◌≡◌, ◌⊎◌, ℕ, ◌<◌, Bool, true, false, List, [], length, filter, Option}
 use Rattle.std.specs.List.{list_any, range_with_len}
 use Rattle.gc_graph.specs.declared.action.ActionKind.{ActionKind}
 use Rattle.gc_graph.specs.Graph.{has, IsClosed, IsWithin}
@@ -16,6 +16,7 @@ use Rattle.cross_thread_region.specs.Histories.{slots_of, is_started, IsPlacedBy
 use Rattle.callback_table.specs.Registry.{registrations_of, pairs_run, entries_left, RegistryView}
 use Rattle.marker_core.specs.Bodies.{holds}
 use Rattle.page_words.specs.Seat.{SeatView}
+use Rattle.prefinalizer_effects.specs.KeyNodes.{IsKeyIn}
 use Rattle.prefinalizer_effects.specs.Nodes.{place_of}
 use Rattle.prefinalizer_effects.specs.PlacesInWords.{places_of}
 use Rattle.prefinalizer_effects.specs.Judgement.{nodes_after}
@@ -55,6 +56,14 @@ pub record IsPaused (callbacks : List ActionKind) (least most : List ℕ) (old n
   pub stayed : HaveStayed (nodes_after kept old) new
   pub left : after.entries ≡ entries_left (condemn kept old) before.entries
   pub ran : after.ran ≡ pairs_run (condemn kept old) before.entries
+
+-- the node is kept, or it is the key of a pair of a kept node, as the fields were before
+abbrev pub IsKeptOrKey : List Node → List Node → ℕ → Type 0
+IsKeptOrKey old new m = IsLive new m ⊎ ((n : ℕ) × IsLive new n × IsKeyIn (node_at old n) m)
+
+-- a node is there that is kept, or the key of a pair of a kept one
+abbrev pub IsPlaceOfKept : List Node → List Node → ℕ → Type 0
+IsPlaceOfKept old new p = (m : ℕ) × (place_of old m ≡ p) × IsKeptOrKey old new m
 
 -- ---- the region
 

@@ -19,8 +19,9 @@ ghost use Rattle.ephemerons.specs.Notes.{group_at, refusals_in};
 ghost use Rattle.prefinalizer_effects.specs.Nodes.{AreOfValid, IsHeld};
 ghost use Rattle.prefinalizer_effects.specs.PlacesInWords.{places_of};
 ghost use Rattle.prefinalizer_effects.specs.Prepared.{setup_of, IsPrepared};
-ghost use Rattle.atomic_pause.specs.Marking.{LooksEarlyWithin};
-ghost use Rattle.atomic_pause.specs.Pausing.{NamePlaces, IsMayWithin, hits_in, IsPaused};
+ghost use Rattle.atomic_pause.specs.Marking.{LooksEarlyAt};
+ghost use Rattle.atomic_pause.specs.Pausing.{NamePlaces, IsMayWithin, hits_in};
+ghost use Rattle.atomic_pause.specs.Pausing.{IsPaused, IsPlaceOfKept};
 ghost use Rattle.atomic_pause.specs.Pausing.{IsPausable, IsPausedRegion, shared_roots};
 ghost use Rattle.atomic_pause.specs.Left.{seat_left, nodes_left, marking_left};
 ghost use Rattle.atomic_pause.specs.Left.{weak_left, registry_left, region_left, pass_left};
@@ -94,8 +95,9 @@ pub fn pause(parts: Parts, notes: &mut [Pairs], stack: &[u64], precise: bool) ->
         IsUnrefused (marking_left parts.exit).now.overflow notes.new }
     ensures looked { precise ≡ true
         → IsUnrefused (marking_left parts.exit).now.overflow notes.new
-        → LooksEarlyWithin parts.entry.types.now parts.entry.seat.now
-        (seat_left parts.exit).now }
+        → LooksEarlyAt
+        (IsPlaceOfKept parts.entry.nodes.now.value (nodes_left parts.exit).now.value)
+        parts.entry.seat.now (seat_left parts.exit).now }
     ensures told { TellsRefused (refusals_of parts.entry.marking.now)
         (refusals_of (marking_left parts.exit).now) }
     ensures notes_told { (i : ℕ) → TellsRefused
@@ -122,6 +124,7 @@ pub fn pause(parts: Parts, notes: &mut [Pairs], stack: &[u64], precise: bool) ->
     let more = mark_out(
         space, types, seat, marking, notes, strong, &held, stack, precise,
     );
+    seat.bodies_lie_apart();
     clear_weak(space, types, seat, weak);
     clear_region(space, seat, region, pass, held);
     *nodes = judged(nodes, seat);

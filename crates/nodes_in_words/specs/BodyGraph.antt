@@ -32,10 +32,10 @@ strong_renamed f (Pair ∷ kinds) (key ∷ []) = strong_renamed f kinds []
 strong_renamed f (Pair ∷ kinds) (key ∷ v ∷ values) = strong_renamed f kinds values
 
 -- both parts of a pair with other names
-abbrev both : (ℕ → ℕ) → ℕ × ℕ → ℕ × ℕ
+abbrev pub both : (ℕ → ℕ) → ℕ × ℕ → ℕ × ℕ
 both f p = (f p.0, f p.1)
 
-pairs_renamed : (f : ℕ → ℕ) (kinds : List Kind) (values : List Value) → pair_targets kinds (map (renamed f) values) ≡ map (both f) (pair_targets kinds values)
+pub pairs_renamed : (f : ℕ → ℕ) (kinds : List Kind) (values : List Value) → pair_targets kinds (map (renamed f) values) ≡ map (both f) (pair_targets kinds values)
 pairs_renamed f [] values = refl
 pairs_renamed f (Strong ∷ kinds) [] = refl
 pairs_renamed f (Weak ∷ kinds) [] = refl

@@ -18,5 +18,6 @@ pub mod DeadUnnamed
 pub mod WholePairs
 pub mod ChangedBodies
 pub mod LookedNodes
+pub mod KeyNodes
 -- Words of the crates below that the crates above name too.
 pub use Rattle.page_space.specs.Space

@@ -31,7 +31,7 @@ extra_told f (v ∷ values) plain =
     ∙ ap (λ xs. renamed f v ∷ xs) (extra_told f values (All-tail IsPlainWord v values plain))
 
 -- the words of values of these kinds stand for the values, with places in place of numbers
-values_told : (f : ℕ → ℕ) (bound : ℕ) (kinds : List Kind) (values : List Value) → HaveKinds bound kinds values → values_in kinds (map (word_of f) values) ≡ map (renamed f) values
+pub values_told : (f : ℕ → ℕ) (bound : ℕ) (kinds : List Kind) (values : List Value) → HaveKinds bound kinds values → values_in kinds (map (word_of f) values) ≡ map (renamed f) values
 values_told f bound [] values have = extra_told f values have
 values_told f bound (Strong ∷ kinds) [] have = absurd have
 values_told f bound (Weak ∷ kinds) [] have = absurd have

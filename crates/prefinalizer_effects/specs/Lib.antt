@@ -12,6 +12,7 @@ pub use Rattle.nodes_in_words.specs.DeadUnnamed
 pub use Rattle.nodes_in_words.specs.FieldKinds
 pub use Rattle.nodes_in_words.specs.Judgement
 pub use Rattle.nodes_in_words.specs.KeptNodes
+pub use Rattle.nodes_in_words.specs.KeyNodes
 pub use Rattle.nodes_in_words.specs.NodeBodies
 pub use Rattle.nodes_in_words.specs.NodeChanges
 pub use Rattle.nodes_in_words.specs.NodeLives

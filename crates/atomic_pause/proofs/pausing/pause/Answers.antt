@@ -20,7 +20,8 @@ use Rattle.prefinalizer_effects.specs.PlacesInWords.{kept_of}
 use Rattle.prefinalizer_effects.specs.Judgement.{nodes_after}
 use Rattle.prefinalizer_effects.specs.NodePlaces.{places_differ}
 use Rattle.atomic_pause.specs.Marking.{IsOtherRoot, IsRootPlace, IsMayOrRoot, MarksReachable, marked_count}
-use Rattle.atomic_pause.specs.Pausing.{IsKeptBetween}
+use Rattle.atomic_pause.specs.Pausing.{IsKeptBetween, IsPlaceOfKept}
+use Rattle.atomic_pause.proofs.LookedNodes.{looked_at_kept}
 use Rattle.atomic_pause.proofs.MarkedOut.{looked_early}
 use Rattle.atomic_pause.proofs.BodyReferences.{alive_marked, marked_references}
 use Rattle.atomic_pause.proofs.PausedNodes.{few_kept, none_missing, prepared, paused_is, registered_after, kept_count, dead_left}
@@ -193,14 +194,18 @@ returns-clause-dead g c =
     (c.objects.ensures c.prefinalise.new.seat c.prefinalise.ensures.ready.laid) (live g c)
 
 pub returns-clause-looked : goal.returns-clause-looked
+unfolding kept
 returns-clause-looked g c = λ precise fine.
+    let nodes : List Node = c.args.parts.nodes.now.value in
+    let v : SeatView = c.args.parts.seat.now in
     let w : SeatView = c.mark_out-more.new.seat in
     let x : SeatView = c.clear_weak.new.seat in
     let y : SeatView = c.clear_region.new.seat in
     let z : SeatView = c.prefinalise.new.seat in
-    looked_early c.args.parts.types.now c.args.parts.seat.now w z (marks g c).bodies c.mark_out-more.ensures.early
+    looked_early (IsPlaceOfKept nodes c.prefinalise.new.nodes.value) c.args.parts.types.now v w z c.mark_out-more.ensures.early
     (starts_with_trans z.looked y.looked w.looked c.prefinalise.ensures.looked
     (starts_with_trans y.looked x.looked w.looked c.clear_region.ensures.looked c.clear_weak.ensures.looked))
     (c.prefinalise.ensures.early ∙ ap (λ (u : SeatView). u.early) (c.clear_region.ensures.view ∙ c.clear_weak.ensures.fields))
-    (c.prefinalise.ensures.marked ∙ ap (λ (u : SeatView). u.marked) (c.clear_region.ensures.view ∙ c.clear_weak.ensures.fields))
+    (looked_at_kept (setup_of c.args.parts.space.now c.args.parts.types.now (kinds_of c.args.parts.callbacks.now)) nodes c.prefinalise.new.nodes.value v w c.requires.valid c.requires.held
+    c.requires.types (c.bodies_lie_apart.ensures.marking c.requires.ready.on).no_dead c.bodies_lie_apart-2.ensures (marks g c).bodies (stayed g c))
     (c.mark_out-more.ensures.looked precise fine)
