@@ -7,6 +7,7 @@ pub mod PausedSizes
 pub mod ToldTruly
 pub mod Refilled
 pub mod Unlooked
+pub mod Loaded
 pub mod WayChanges
 pub mod MarksKept
 pub mod PlacesReached

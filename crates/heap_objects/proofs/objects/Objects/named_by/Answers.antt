@@ -1,11 +1,13 @@
-use Rattle.std.proofs.Common.{◌≡◌, ℕ, ◌+◌, ◌<◌, List, sym, arith}
+use Rattle.std.specs.Arc.{arc_value}
+use Rattle.std.proofs.Common.{◌≡◌, ℕ, ◌+◌, ◌<◌, List, sym, subst, arith}
 use Rattle.std.proofs.lemmas.Bool.{le-leb}
 use Rattle.gc_graph.specs.declared.kind.Value.{Value}
 use Rattle.gc_graph.specs.State.{Node}
 use Rattle.marker_core.specs.Layout.{stop_at}
 use Rattle.page_words.specs.Seat.{SeatView}
-use Rattle.heap_objects.specs.Objects.{IsReferenceTo}
+use Rattle.heap_objects.specs.Objects.{AreObjects, IsReferenceTo}
 use Rattle.heap_objects.specs.FieldReads.{NamesNode, reads_null, reads_node, reference_fits, head_address, head_number, number_fits, reads_target}
+use Rattle.heap_objects.proofs.Loaded.{objects_read}
 use Rattle.heap_objects.proofs.objects.Objects.named_by.Goals as goal
 
 pub place_in-requires : goal.place_in-requires
@@ -60,3 +62,9 @@ pub returns-in-Some-clause-target : goal.returns-in-Some-clause-target
 returns-in-Some-clause-target c = rw (← c.self.view_is) (λ x is.
     let read = number_at c x is in
     reads_target c.self.inside.nodes.value c.self.inside.seat x c.args.reference read.0 c.in-Some.place c.load-number.result read.1 (sym c.in-Some.ensures) read.2)
+
+pub invariant_of-self : goal.invariant_of-self
+invariant_of-self c =
+    let o = c.self.inside in
+    subst (λ (u : SeatView). AreObjects o.space u (arc_value o.types) o.kinds.value o.made o.nodes.value o.grey) (sym c.load-number.ensures.view)
+    (objects_read o.space o.seat (arc_value o.types) o.kinds.value o.made o.nodes.value o.grey (c.in-Some.place + 1) c.load-number.result c.self.invariant)

@@ -10,6 +10,8 @@ use Rattle.page_words.specs.Seat.{SeatView, loaded}
 use Rattle.heap_objects.specs.FieldPlaces.{live_place}
 use Rattle.heap_objects.specs.Marking.{grey_of}
 use Rattle.heap_objects.specs.Marks.{HasMarks}
+use Rattle.heap_objects.specs.Objects.{AreObjects}
+use Rattle.heap_objects.proofs.Loaded.{objects_read_weakly}
 use Rattle.heap_objects.proofs.MarksRead.{marks_read}
 use Rattle.heap_objects.proofs.MarksStored.{view_in}
 use Rattle.heap_objects.proofs.objects.Objects.read_weakly.Goals as goal
@@ -19,6 +21,12 @@ load-requires-clause-allowed c =
     let v : SeatView = c.self.inside.seat in
     let at = rw (← c.self.view_is) at c.requires.place in
     test_of_place v.bodies c.args.place (live_place c.self.inside.nodes.value v at.0 c.args.place c.self.invariant.held.bodies at.1)
+
+pub invariant_of-self : goal.invariant_of-self
+invariant_of-self c =
+    let o = c.self.inside in
+    subst (λ (u : SeatView). AreObjects o.space u (arc_value o.types) o.kinds.value o.made o.nodes.value o.grey) (sym c.load.ensures.view)
+    (objects_read_weakly o.space o.seat (arc_value o.types) o.kinds.value o.made o.nodes.value o.grey c.args.place c.load.result c.self.invariant)
 
 pub returns-clause-marks : goal.returns-clause-marks
 returns-clause-marks c =
