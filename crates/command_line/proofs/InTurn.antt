@@ -3,11 +3,10 @@ use Rattle.std.proofs.Common.{◌≡◌, Bool, true, false, not, ◌&&◌, ◌||
 use Rattle.std.specs.Prelude.{option_and_then}
 use Rattle.std.specs.List.{list_any, list_all, fold}
 use Rattle.command_line.specs.declared.asked.Asked.{Asked}
-use Rattle.command_line.specs.declared.settings.Setting.{Setting}
-use Rattle.command_line.specs.declared.settings.Setting.TheVariants.{Pages, PageWords, Markers, Summary, Seed, Count}
+use Rattle.command_line.specs.Settings.{Setting}
+use Rattle.command_line.specs.Settings.Setting.{Pages, PageWords, Markers, Summary, Seed, Count}
 use Rattle.command_line.specs.Options.{same_option, each_once, nothing_asked, with_setting, options_from, options_set}
-use Rattle.command_line.specs.Asking.{is_asked}
-use Rattle.command_line.proofs.Pairs.{asked_after, same_option-sym, settings_commute}
+use Rattle.command_line.proofs.Pairs.{is_asked, asked_after, same_option-sym, settings_commute}
 
 -- settings one after the other, each of an option that nothing was asked of
 abbrev pub in_turn : Asked → List Setting → Option Asked

@@ -1,4 +1,14 @@
+pub mod Pairs
 pub mod InTurn
 pub mod Joining
-pub mod Pairs
-pub mod Splitting
+pub mod Built
+pub mod Said
+pub mod OneMore
+pub mod Uses
+pub mod Names
+pub mod Turns
+pub mod Meanings
+pub mod Walked
+pub mod Lone
+pub mod Parsed
+pub mod Answered

@@ -1,9 +1,18 @@
 -- Two settings.
-use Rattle.std.proofs.Common.{◌≡◌, false, ◌||◌, arith}
+use Rattle.std.proofs.Common.{◌≡◌, Bool, false, ◌||◌, is_some, arith}
 use Rattle.command_line.specs.declared.asked.Asked.{Asked}
-use Rattle.command_line.specs.declared.settings.Setting.{Setting}
+use Rattle.command_line.specs.Settings.{Setting}
+use Rattle.command_line.specs.Settings.Setting.{Pages, PageWords, Markers, Summary, Seed, Count}
 use Rattle.command_line.specs.Options.{same_option, with_setting}
-use Rattle.command_line.specs.Asking.{is_asked}
+
+-- the option of this setting was asked for
+abbrev pub is_asked : Asked → Setting → Bool
+is_asked asked (Pages n) = is_some asked.pages
+is_asked asked (PageWords n) = is_some asked.page_words
+is_asked asked (Markers n) = is_some asked.markers
+is_asked asked Summary = asked.summary
+is_asked asked (Seed n) = is_some asked.seed
+is_asked asked (Count n) = is_some asked.count
 
 pub asked_after : (a : Asked) (f s : Setting) → is_asked (with_setting a f) s ≡ (same_option f s || is_asked a s)
 asked_after a f s = grind arith

@@ -2,8 +2,7 @@
 use Rattle.std.specs.Prelude.{◌≡◌, ℕ, false, List, ◌∷◌, ◌++◌, codes}
 use Rattle.std.specs.List.{list_any}
 use Rattle.gc_graph.specs.Words.{is_text}
-use Rattle.command_line.specs.declared.settings.Setting.{Setting}
-use Rattle.command_line.specs.Settings.{is_equals, settings_of}
+use Rattle.command_line.specs.Settings.{Setting, is_equals, settings_of}
 use Rattle.command_line.specs.Options.{options_set}
 
 -- a name that isn't `--summary` makes with `=` and a value in one word what it makes with the value as the next word

@@ -4,4 +4,5 @@ pub mod Options
 -- Laws of these definitions.
 pub mod Laws
 -- What the crate's own code cites.
-pub mod Asking
+pub mod ClapRules
+pub mod Heard

@@ -6,9 +6,8 @@ use Rattle.gc_graph.specs.Shapes.{IsShape}
 use Rattle.command_line.specs.declared.asked.Asked.{Asked}
 use Rattle.command_line.specs.declared.options.Generated.{Generated}
 use Rattle.command_line.specs.declared.options.Options.{Options}
-use Rattle.command_line.specs.declared.settings.Setting.{Setting}
-use Rattle.command_line.specs.declared.settings.Setting.TheVariants.{Pages, PageWords, Markers, Summary, Seed, Count}
-use Rattle.command_line.specs.Settings.{most_markers, settings_of}
+use Rattle.command_line.specs.Settings.{Setting, most_markers, settings_of}
+use Rattle.command_line.specs.Settings.Setting.{Pages, PageWords, Markers, Summary, Seed, Count}
 
 -- two settings are of the same option
 abbrev pub same_option : Setting → Setting → Bool

@@ -1,13 +1,16 @@
-// What settings ask of each option.
+// What the matches of `clap` ask of each option.
 
-ghost use Rattle.std.specs.Prelude.{◌≡◌, IfSome};
-ghost use Rattle.command_line.specs.Options.{nothing_asked, with_setting, options_from, AreInRanges};
-ghost use Rattle.command_line.specs.Asking.{is_asked, IsInRange, IsAskedInRange};
+ghost use Rattle.std.specs.Prelude.{◌≡◌, IfSome, IfOk, ok_or};
+ghost use Rattle.clap.specs.Words.{found_of};
+ghost use Rattle.command_line.specs.declared.options.OptionsFault.TheVariants.{Usage};
+ghost use Rattle.command_line.specs.Options.{options_from, AreInRanges};
+ghost use Rattle.command_line.specs.Heard.{Heard, Holds, IsAskedInRange, asked_by, options_heard};
 
-use super::options::{Generated, Options};
-use super::settings::Setting;
+use super::options::{Generated, Options, OptionsFault};
+use super::ranges::{count_of, markers_of, page_size_of, pages_of, seed_of};
+use clap::ArgMatches;
 
-/// What was asked of each option so far.
+/// What was asked of each option.
 #[derive(Clone, Copy)]
 pub(crate) struct Asked {
     pub(crate) pages: Option<u32>,
@@ -18,55 +21,37 @@ pub(crate) struct Asked {
     pub(crate) count: Option<u32>,
 }
 
-const NOTHING: Asked = Asked {
-    pages: None,
-    page_words: None,
-    markers: None,
-    summary: false,
-    seed: None,
-    count: None,
-};
+/// The options that the matches ask for. Where they ask for none, the words are refused.
+pub(crate) fn options_in(matches: &ArgMatches) -> Result<Options, OptionsFault>
+    ensures options { (heard : Heard) → Holds (found_of matches.now) heard →
+        result ≡ ok_or (options_heard heard) Usage }
+    ensures ranges { IfOk result AreInRanges }
+{
+    match asked_in(matches) {
+        Some(asked) => asked.options().ok_or(OptionsFault::Usage),
+        None => Err(OptionsFault::Usage),
+    }
+}
+
+// What the matches ask for, where each value is one that its option may have.
+fn asked_in(matches: &ArgMatches) -> Option<Asked>
+    ensures asked { (heard : Heard) → Holds (found_of matches.now) heard →
+        result ≡ asked_by heard }
+    ensures range { IfSome result IsAskedInRange }
+{
+    Some(Asked {
+        pages: pages_of(matches.get_str("pages"))?,
+        page_words: page_size_of(matches.get_str("page-words"))?,
+        markers: markers_of(matches.get_str("markers"))?,
+        summary: matches.get_flag("summary"),
+        seed: seed_of(matches.get_str("generate"))?,
+        count: count_of(matches.get_str("count"))?,
+    })
+}
 
 impl Asked {
-    pub(crate) fn nothing() -> Asked
-        ensures asked { result ≡ nothing_asked }
-        ensures range { IsAskedInRange result }
-    {
-        NOTHING
-    }
-
-    /// Whether the option of this setting was asked for before.
-    pub(crate) fn has(&self, setting: Setting) -> bool
-        ensures { result ≡ is_asked self.now setting }
-    {
-        match setting {
-            Setting::Pages(_) => self.pages.is_some(),
-            Setting::PageWords(_) => self.page_words.is_some(),
-            Setting::Markers(_) => self.markers.is_some(),
-            Setting::Summary => self.summary,
-            Setting::Seed(_) => self.seed.is_some(),
-            Setting::Count(_) => self.count.is_some(),
-        }
-    }
-
-    pub(crate) fn take(&mut self, setting: Setting)
-        requires setting { IsInRange setting }
-        requires earlier { IsAskedInRange self.old }
-        ensures asked { self.new ≡ with_setting self.old setting }
-        ensures range { IsAskedInRange self.new }
-    {
-        match setting {
-            Setting::Pages(pages) => self.pages = Some(pages),
-            Setting::PageWords(words) => self.page_words = Some(words),
-            Setting::Markers(markers) => self.markers = Some(markers),
-            Setting::Summary => self.summary = true,
-            Setting::Seed(seed) => self.seed = Some(seed),
-            Setting::Count(count) => self.count = Some(count),
-        }
-    }
-
     /// The defaults with what was asked for.
-    pub(crate) fn options(&self) -> Option<Options>
+    fn options(&self) -> Option<Options>
         requires { IsAskedInRange self.now }
         ensures options { result ≡ options_from self.now }
         ensures ranges { IfSome result AreInRanges }

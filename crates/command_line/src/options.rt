@@ -1,10 +1,19 @@
 // The options of the program.
 
-ghost use Rattle.std.specs.Prelude.{◌≡◌, map, string_bytes, IfSome};
+ghost use Rattle.std.specs.Prelude.{◌≡◌, ◌↔◌, Some, None, true, map, string_bytes};
+ghost use Rattle.std.specs.Prelude.{IfOk, IfErr, IsErrOf};
+ghost use Rattle.std.specs.List.{list_any};
+ghost use Rattle.clap.specs.Words.{kind_of};
+ghost use Rattle.clap.specs.declared.error.kind.ErrorKind.TheVariants.{OutOfMemory};
+ghost use Rattle.command_line.specs.declared.options.OptionsFault.TheVariants.{NoMemory, Usage};
 ghost use Rattle.command_line.specs.Options.{options_asked, AreInRanges};
+ghost use Rattle.command_line.specs.ClapRules.{is_lone};
 
-use super::asked::Asked;
-use super::settings::first_setting;
+use super::asked::options_in;
+use super::rules::command;
+use clap::error::ErrorKind;
+use std::alloc::{AllocError, Global};
+use thiserror::Error;
 
 /// What the program is asked for.
 ///
@@ -31,20 +40,57 @@ pub struct Generated {
     pub count: u32,
 }
 
-/// The options that the words ask for.
-pub fn options_of(words: &[String]) -> Option<Options>
-    ensures asked { result ≡ options_asked (map string_bytes words.now) }
-    ensures ranges { IfSome result AreInRanges }
-{
-    let mut asked = Asked::nothing();
-    let mut rest = words;
-    while !rest.is_empty() {
-        let (setting, after) = first_setting(rest)?;
-        if asked.has(setting) {
-            return None;
-        }
-        asked.take(setting);
-        rest = after;
+/// Why there are no options.
+#[derive(Debug, PartialEq, Eq, Drop, Error)]
+pub enum OptionsFault {
+    /// The words are refused.
+    #[error("usage")]
+    Usage,
+    /// The allocator gave no memory to read them.
+    #[error("no memory")]
+    NoMemory,
+}
+
+impl From<AllocError> for OptionsFault {
+    ghost from_gives = { λ _ fault. fault ≡ NoMemory };
+
+    fn from(_refused: AllocError) -> OptionsFault {
+        OptionsFault::NoMemory
     }
-    asked.options()
+}
+
+impl From<clap::Error> for OptionsFault {
+    ghost from_gives = { λ error fault. (fault ≡ Usage) ↔ ¬ (kind_of error ≡ OutOfMemory) };
+
+    fn from(error: clap::Error) -> OptionsFault {
+        match error.kind() {
+            ErrorKind::OutOfMemory => OptionsFault::NoMemory,
+            _ => OptionsFault::Usage,
+        }
+    }
+}
+
+/// The options that the words ask for. When memory is wanting is free, also where the words are refused,
+/// but for two dashes alone.
+pub fn options_of(alloc: Global, words: &[String]) -> Result<Options, OptionsFault>
+    ensures asked { IfOk result (λ options.
+        options_asked (map string_bytes words.now) ≡ Some options) }
+    ensures refused { IfErr result (λ fault.
+        fault ≡ Usage → options_asked (map string_bytes words.now) ≡ None) }
+    ensures lone { list_any is_lone (map string_bytes words.now) ≡ true →
+        IsErrOf result Usage }
+    ensures ranges { IfOk result AreInRanges }
+{
+    if has_lone_dashes(words) {
+        return Err(OptionsFault::Usage);
+    }
+    let matches = command(alloc)?.try_get_matches_from(words)?;
+    options_in(&matches)
+}
+
+// Whether a word is `--`, which `clap` would take.
+fn has_lone_dashes(words: &[String]) -> bool
+    ensures { result ≡ list_any is_lone (map string_bytes words.now) }
+{
+    words.iter().any(|word| word.as_bytes() == b"--".as_slice())
 }

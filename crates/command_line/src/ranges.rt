@@ -1,54 +1,73 @@
-// The values that an option may have.
+// The values that an option may have. Each reader tells what was asked for, which is nothing where the
+// option has no text, and tells none where the text can't be read.
 
-ghost use Rattle.std.specs.Prelude.{◌≡◌, ◌≤◌, true, IfSome};
-ghost use Rattle.command_line.specs.Settings.{is_page_size, most_markers, number_within as within, page_size_of as size_of};
+ghost use Rattle.std.specs.Prelude.{◌≡◌, ◌≤◌, true, IfSome, option_map};
+ghost use Rattle.command_line.specs.Settings.{is_page_size, most_markers, number_in};
+ghost use Rattle.command_line.specs.Settings.{number_within as within, page_size_of as size_of};
+ghost use Rattle.command_line.specs.Heard.{read_by};
 
 use line_words::number;
 
 const MOST_MARKERS: u32 = 8;
 
-// The number from `least` to `most` that a word is.
-fn number_within(least: u32, most: u32, word: &[u8]) -> Option<u32>
-    ensures number { result ≡ within least most word.now }
-    ensures range { IfSome result (λ n. (least ≤ n) × (n ≤ most)) }
+// The number from `least` to `most` that a text is.
+fn number_within(least: u32, most: u32, text: Option<&str>) -> Option<Option<u32>>
+    ensures number { result ≡ read_by (within least most) (option_map (λ s. s.now) text.entry) }
+    ensures range { IfSome result (λ asked. IfSome asked (λ n. (least ≤ n) × (n ≤ most))) }
 {
-    match number(word) {
-        Some(value) if value >= u64::from(least) && value <= u64::from(most) => Some(value as u32),
+    let Some(text) = text else {
+        return Some(None);
+    };
+    match number(text.as_bytes()) {
+        Some(value) if value >= u64::from(least) && value <= u64::from(most) => {
+            Some(Some(value as u32))
+        }
         _ => None,
     }
 }
 
-/// The number of pages that a word is.
-pub(crate) fn pages_of(word: &[u8]) -> Option<u32>
-    ensures number { result ≡ within 1 1024 word.now }
-    ensures range { IfSome result (λ n. (1 ≤ n) × (n ≤ 1024)) }
+/// The number of pages that a text asks for.
+pub(crate) fn pages_of(text: Option<&str>) -> Option<Option<u32>>
+    ensures number { result ≡ read_by (within 1 1024) (option_map (λ s. s.now) text.entry) }
+    ensures range { IfSome result (λ asked. IfSome asked (λ n. (1 ≤ n) × (n ≤ 1024))) }
 {
-    number_within(1, 1024, word)
+    number_within(1, 1024, text)
 }
 
-/// The number of markers that a word is.
-pub(crate) fn markers_of(word: &[u8]) -> Option<u32>
-    ensures number { result ≡ within 0 most_markers word.now }
-    ensures range { IfSome result (λ n. n ≤ most_markers) }
+/// The number of markers that a text asks for.
+pub(crate) fn markers_of(text: Option<&str>) -> Option<Option<u32>>
+    ensures number { result ≡ read_by (within 0 most_markers) (option_map (λ s. s.now) text.entry) }
+    ensures range { IfSome result (λ asked. IfSome asked (λ n. n ≤ most_markers)) }
 {
-    number_within(0, MOST_MARKERS, word)
+    number_within(0, MOST_MARKERS, text)
 }
 
-/// The number of turns that a word is.
-pub(crate) fn count_of(word: &[u8]) -> Option<u32>
-    ensures number { result ≡ within 1 50000 word.now }
-    ensures range { IfSome result (λ n. (1 ≤ n) × (n ≤ 50000)) }
+/// The number of turns that a text asks for.
+pub(crate) fn count_of(text: Option<&str>) -> Option<Option<u32>>
+    ensures number { result ≡ read_by (within 1 50000) (option_map (λ s. s.now) text.entry) }
+    ensures range { IfSome result (λ asked. IfSome asked (λ n. (1 ≤ n) × (n ≤ 50000))) }
 {
-    number_within(1, 50_000, word)
+    number_within(1, 50_000, text)
 }
 
-/// The number of a page's words that a word is.
-pub(crate) fn page_size_of(word: &[u8]) -> Option<u32>
-    ensures number { result ≡ size_of word.now }
-    ensures power { IfSome result (λ n. is_page_size n ≡ true) }
+/// The seed that a text asks for.
+pub(crate) fn seed_of(text: Option<&str>) -> Option<Option<u64>>
+    ensures { result ≡ read_by number_in (option_map (λ s. s.now) text.entry) }
 {
-    match number_within(256, 16_384, word) {
-        Some(words @ (256 | 512 | 1024 | 2048 | 4096 | 8192 | 16_384)) => Some(words),
-        _ => None,
+    let Some(text) = text else {
+        return Some(None);
+    };
+    Some(Some(number(text.as_bytes())?))
+}
+
+/// The number of a page's words that a text asks for.
+pub(crate) fn page_size_of(text: Option<&str>) -> Option<Option<u32>>
+    ensures number { result ≡ read_by size_of (option_map (λ s. s.now) text.entry) }
+    ensures power { IfSome result (λ asked. IfSome asked (λ n. is_page_size n ≡ true)) }
+{
+    match number_within(256, 16_384, text)? {
+        Some(words @ (256 | 512 | 1024 | 2048 | 4096 | 8192 | 16_384)) => Some(Some(words)),
+        Some(_) => None,
+        None => Some(None),
     }
 }

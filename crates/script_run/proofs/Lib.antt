@@ -8,4 +8,5 @@ pub mod Inputs
 pub mod Runnable
 pub mod Outcomes
 pub mod Complete
+pub mod WithoutOptions
 mod Statuses

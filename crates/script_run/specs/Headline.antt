@@ -15,6 +15,8 @@ use Rattle.script_run.specs.declared.status.Status.{Status}
 use Rattle.script_run.specs.declared.status.Status.TheVariants as S
 use Rattle.command_line.specs.declared.options.Generated.{Generated}
 use Rattle.command_line.specs.declared.options.Options.{Options}
+use Rattle.command_line.specs.declared.options.OptionsFault.{OptionsFault}
+use Rattle.command_line.specs.declared.options.OptionsFault.TheVariants as O
 use Rattle.command_line.specs.Options.{options_asked}
 use Rattle.script_generator.specs.Generated.{generated}
 use Rattle.script_run.specs.Setting.{Plan, plan_asked, setup_of}
@@ -192,6 +194,11 @@ RunsBytes kinds options bytes before after kept (S.Script line reason) =
     (kept ≡ None) × Grew before after [] × IsInLimits bytes × IsFault (length kinds) bytes line reason
 RunsBytes kinds options bytes before after kept S.ReadFault = ⊥
 RunsBytes kinds options bytes before after kept S.Usage = ⊥
+
+-- refused words, or want of memory where they were read
+abbrev pub status_of_words : OptionsFault → Status
+status_of_words O.Usage = S.Usage
+status_of_words O.NoMemory = S.NoMemory
 
 -- want of memory, an input over its limits, of which line 0 is told, or the line that is refused
 abbrev pub status_of_fault : ScriptFault → Status

@@ -15,10 +15,12 @@
 //! printed of a lawful run of it, whose state and history the closed heap in `kept` has. The totals
 //! that threads were told are those just before they went, and a thread that was not joined has done
 //! the first of its orders. After a failed write a beginning of such a text was written, and after
-//! every other answer nothing. Too long, a faulty line and refused words are answered exactly where
-//! they are so, and a device's fault only where its count has risen; with any other answer no call of
-//! that device has failed. All of it holds however many markers the words ask for, and whatever they
-//! and the gate do. What the heap is asked is in the ranges that it wants: laws say so of every script. `run_with`, `run_commands` and `heap_engine`'s `Heap::act` are the way down.
+//! every other answer nothing. Too long and a faulty line are answered exactly where they are so. Usage
+//! is answered only where the words are refused, and such words give nothing but that or want of
+//! memory; a device's fault only where its count has risen, and with any other answer no call of that
+//! device has failed. All of it holds however many markers the words ask for, and whatever they and the
+//! gate do. What the heap is asked is in the ranges that it wants: laws say so of every script.
+//! `run_with`, `run_commands` and `heap_engine`'s `Heap::act` are the way down.
 //!
 //! What is only tested or not said: that memory suffices, where a piece of the report ends, and what
 //! the words and the standard streams give and take (the adapters tell no bytes).

@@ -1,6 +1,6 @@
 // One run of the program: from the bytes of a script to its report.
 
-ghost use Rattle.std.specs.Prelude.{◌≡◌, ◌↔◌, ◌⊎◌, ℕ};
+ghost use Rattle.std.specs.Prelude.{◌≡◌, ◌⊎◌, ℕ};
 ghost use Rattle.std.specs.Prelude.{◌≤◌, [], length, map, string_bytes, None, MatchOption};
 ghost use Rattle.std.specs.Prelude.{option_map, Some, true, false};
 ghost use Rattle.callback_table.specs.Table.{kinds_of};
@@ -9,14 +9,15 @@ ghost use Rattle.text_devices.specs.Devices.{Grew};
 ghost use Rattle.command_line.specs.Options.{options_asked, AreInRanges};
 ghost use Rattle.script_generator.specs.Generated as made;
 ghost use Rattle.script_run.specs.Setting.{plan_asked};
-ghost use Rattle.script_run.specs.Headline.{RunsScript, RunsBytes, status_of_fault, IsUntouched};
+ghost use Rattle.script_run.specs.Headline.{RunsScript, RunsBytes, IsUntouched};
+ghost use Rattle.script_run.specs.Headline.{status_of_fault, status_of_words};
 ghost use Rattle.script_run.specs.Headline.{AskForScript, IsDone, IsStopped, IsTooLongInput, IsFaultyInput};
 ghost use Rattle.script_run.specs.Headline.{reads_input, tells_of_input};
 
 use super::own_heap::run_script;
 use super::status::Status;
 use callback_table::CallbackTable;
-use command_line::{Generated, Options, options_of};
+use command_line::{Generated, Options, OptionsFault, options_of};
 use heap_engine::{Gate, Heap};
 use heap_script::{
     NoMemory, ReadError, Script, ScriptFault, Sink, Source, read_script, read_whole,
@@ -57,7 +58,9 @@ pub fn run<'a, R: Threads, S: Source, K: Sink, G: Gate + Send + Sync + 'static>(
     ensures script { (line reason : ℕ) → result ≡ Status.Script line reason →
         IsFaultyInput (length (kinds_of callbacks.now))
         (S.left source.old) (S.left source.new) line reason }
-    ensures usage { (result ≡ Status.Usage) ↔ (options_asked (map string_bytes words.now) ≡ None) }
+    ensures usage { result ≡ Status.Usage → options_asked (map string_bytes words.now) ≡ None }
+    ensures refused { options_asked (map string_bytes words.now) ≡ None →
+        (result ≡ Status.Usage) ⊎ (result ≡ Status.NoMemory) }
     ensures input { tells_of_input result ≡ true →
         reads_input (map string_bytes words.now) ≡ true }
     ensures source_untouched { reads_input (map string_bytes words.now) ≡ false → IsUntouched
@@ -83,9 +86,9 @@ pub fn run<'a, R: Threads, S: Source, K: Sink, G: Gate + Send + Sync + 'static>(
         (result ≡ Status.Done) ⊎ (result ≡ Status.NoMemory) }
 {
     gc_graph::texts_are_judged();
-    let options = match options_of(words) {
-        Some(options) => options,
-        None => return Status::Usage,
+    let options = match options_of(alloc, words) {
+        Ok(options) => options,
+        Err(fault) => return status_without_options(fault),
     };
     if let Some(asked) = options.generated {
         return run_generated(rt, alloc, options, asked, sink, callbacks, gate, kept);
@@ -149,6 +152,15 @@ fn run_generated<'a, R: Threads, K: Sink, G: Gate + Send + Sync + 'static>(
     match generate(alloc, asked.seed, asked.count) {
         Ok(script) => run_script(rt, alloc, options, script, sink, callbacks, gate, kept),
         Err(_) => Status::NoMemory,
+    }
+}
+
+fn status_without_options(fault: OptionsFault) -> Status
+    ensures { result ≡ status_of_words fault }
+{
+    match fault {
+        OptionsFault::Usage => Status::Usage,
+        OptionsFault::NoMemory => Status::NoMemory,
     }
 }
 
