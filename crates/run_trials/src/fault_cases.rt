@@ -38,14 +38,16 @@ fn add_script(script: &mut Vec<u8>, before: &str, parts: &str) -> Result<(), All
     add_lines(script, parts.next().unwrap_or(""))
 }
 
-fn add_lines(script: &mut Vec<u8>, text: &str) -> Result<(), AllocError> {
+/// Adds a text in which a slash is the end of a line.
+pub(crate) fn add_lines(script: &mut Vec<u8>, text: &str) -> Result<(), AllocError> {
     for byte in text.as_bytes() {
         script.push(if *byte == b'/' { b'\n' } else { *byte })?;
     }
     Ok(())
 }
 
-fn has_fault(alloc: Global, script: &[u8], wanted: &str) -> bool {
+/// Whether the script has this line and reason as its first fault, or `none`.
+pub(crate) fn has_fault(alloc: Global, script: &[u8], wanted: &str) -> bool {
     match read_script(alloc, script, 1) {
         Ok(_script) => wanted == "none",
         Err(fault) => is_fault(&fault, wanted),

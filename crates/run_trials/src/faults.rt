@@ -3,7 +3,8 @@
 use super::fault_cases::first_wrong;
 
 // Whole scripts. The first line is the header; the last line may be cut off; types come before
-// commands; letters, callbacks, bytes and lines have limits, and long words are read whole.
+// commands; letters, callbacks, bytes and lines have limits, and long words are read whole, also one
+// that is the whole input.
 const SCRIPTS: &str = "\
 |1 1
 /|1 1
@@ -39,9 +40,16 @@ oilpan 1/type SWEP pre 0/|s|70000||3 2
 oilpan 1/foo/|/|999998||2 2
 oilpan 1/foo/|/|999998| |0 8
 oilpan 1/|/|999999||none
+oilpan 1/|drop 0/|999999||none
+oilpan 1/|drop 0/|1000000||0 8
 oilpan 1/|/|999999|/|0 8
 oilpan 1| |16777208||none
 oilpan 1| |16777208| |0 8
+|o|16777215|o|1 1
+oilpan 1/|s|16777207||2 2
+oilpan 1/|s|16777207|s|0 8
+oilpan 1/drop |1|16777202||2 3
+oilpan 1/drop 0| |16777201||none
 ";
 
 #[test]

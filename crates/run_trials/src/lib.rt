@@ -5,9 +5,10 @@
 //! crate waits for them.
 //!
 //! The parts, each named for what it tries. Of text: `held_text`, `adapters`, `reading`, `printing`,
-//! `pieces`, `faults` with `fault_cases`. Of runs: `runs`, `statuses`, `limits`, `callback_calls`,
-//! `failing_devices`. Of markers: `held`, `joined`, `schedules` with the gate `drawn`, and `beside`;
-//! `lawful` says what a report beside markers may say. `rows` reads the tables of the others.
+//! `pieces`, `faults` and `bytes` with `fault_cases`. Of runs: `runs`, `statuses`, `limits`, `prefixes`,
+//! `callback_calls`, `failing_devices`. Of markers: `held`, `joined`, `schedules` with the gate `drawn`,
+//! and `beside`; `lawful` says what a report beside markers may say. `rows` reads the tables of the
+//! others.
 //!
 //! What is proved: that the tests are safe and call only what they may.
 //!
@@ -18,6 +19,8 @@
 mod adapters;
 #[cfg(test)]
 mod beside;
+#[cfg(test)]
+mod bytes;
 #[cfg(test)]
 mod callback_calls;
 #[cfg(test)]
@@ -40,6 +43,8 @@ mod lawful;
 mod limits;
 #[cfg(test)]
 mod pieces;
+#[cfg(test)]
+mod prefixes;
 #[cfg(test)]
 mod printing;
 #[cfg(test)]

@@ -1,4 +1,5 @@
-// Reports of more than one piece, on devices that fail at a call or have no more room.
+// Reports of more than one piece, on devices that fail at a call or have no more room, also while
+// markers are at work.
 
 use super::rows::number_at;
 use super::runs::{Case, Devices, comes_out};
@@ -37,25 +38,68 @@ const THIRTEEN_FIRST: &str = "\
 1000000 3 1000000 75042
 ";
 
-/// The header and one command with its answer, and then so many commands with an answer of three
-/// bytes.
+// The first six lines have 45 bytes. After 21,746 of three the first piece goes out with 65,283 bytes,
+// while the markers are at work. The last one has 9,791.
+const MARKED: &str = "\
+1000000 1 1000000 0
+1000000 2 1000000 65283
+1000000 3 1000000 75074
+1000000 0 65282 0
+1000000 0 75073 65283
+1000 1 1000000 0
+1000 66 1000000 65000
+1000 67 1000000 65283
+1000 76 1000000 74283
+1000 77 1000000 75074
+1 1 1000000 0
+1 2 1000000 1
+1 65283 1000000 65282
+1 65284 1000000 65283
+1 75074 1000000 75073
+";
+
+// A script of 1,000,000 lines.
+const WHOLE: &str = "\
+1000000 0 4000000 3000026
+";
+
+/// The words of a run; the header and its first lines with their answers, and then so many commands with
+/// an answer of three bytes; the end line.
 #[derive(Clone, Copy, Drop)]
 struct Long {
+    words: &'static str,
     start: &'static [u8],
     answer: &'static [u8],
     count: u32,
+    end: &'static [u8],
 }
 
 const ALL_THREES: Long = Long {
+    words: "",
     start: b"oilpan 1\ndrop 0\n",
     answer: b"ok\n",
     count: 29_999,
+    end: b"end objects 0 used 0 pages 0\n",
 };
 
 const ONE_THIRTEEN: Long = Long {
     start: b"oilpan 1\nset 0 0 0\n",
     answer: b"refused null\n",
     count: 25_000,
+    ..ALL_THREES
+};
+
+const MOST_LINES: Long = Long {
+    count: 999_998,
+    ..ALL_THREES
+};
+
+const BESIDE_MARKERS: Long = Long {
+    words: "--pages 4 --page-words 256 --markers 4",
+    start: b"oilpan 1\ntype S\nnew 0 0\nnew 1 0\nset 0 0 1\ndrop 1\ngc start\n",
+    answer: b"type 0\nnode 0 at 0\nnode 1 at 3\nok\nok\nstarted\n",
+    count: 25_000,
+    end: b"end objects 2 used 6 pages 1\n",
 };
 
 fn add_lines(text: &mut Vec<u8>, start: &[u8], line: &[u8], count: u32) -> Result<(), AllocError> {
@@ -69,7 +113,7 @@ fn add_lines(text: &mut Vec<u8>, start: &[u8], line: &[u8], count: u32) -> Resul
 fn add_both(script: &mut Vec<u8>, report: &mut Vec<u8>, long: &Long) -> Result<(), AllocError> {
     add_lines(script, long.start, b"drop 0\n", long.count)?;
     add_lines(report, long.answer, b"ok\n", long.count)?;
-    report.extend_from_slice(b"end objects 0 used 0 pages 0\n")
+    report.extend_from_slice(long.end)
 }
 
 /// The number of the first row of which something else comes, counted from 1; 0 where memory is
@@ -81,7 +125,7 @@ fn first_wrong<R: Threads>(rt: &R, alloc: Global, long: &Long, rows: &str) -> Op
         return Some(0);
     }
     let case = Case {
-        words: "",
+        words: long.words,
         script: &script,
         report: &report,
     };
@@ -120,4 +164,14 @@ fn long_report_goes_out_in_pieces_of_whole_lines(rt: HostRuntime) {
         first_wrong(&rt, rt.alloc(), &ONE_THIRTEEN, THIRTEEN_FIRST),
         None
     );
+}
+
+#[test]
+fn report_of_a_million_lines_goes_out_whole(rt: HostRuntime) {
+    assert_eq!(rt; first_wrong(&rt, rt.alloc(), &MOST_LINES, WHOLE), None);
+}
+
+#[test]
+fn nothing_more_is_written_after_a_write_that_fails_beside_markers(rt: HostRuntime) {
+    assert_eq!(rt; first_wrong(&rt, rt.alloc(), &BESIDE_MARKERS, MARKED), None);
 }

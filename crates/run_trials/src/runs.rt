@@ -117,11 +117,16 @@ pub(crate) fn is_start(bytes: &[u8], report: &[u8], count: usize) -> bool {
 }
 
 impl Run {
-    fn ends_so<R: Threads>(&mut self, rt: &R, alloc: Global, status: Status) -> bool {
+    /// Whether the run ends so, and keeps its heap exactly where it is done.
+    pub(crate) fn ends_so<R: Threads>(&mut self, rt: &R, alloc: Global, status: Status) -> bool {
         match run_program(rt, alloc, &self.words, &mut self.source, &mut self.sink) {
             Ok(ran) => ran.status == status && ran.is_kept == (status == Status::Done),
             Err(_) => false,
         }
+    }
+
+    pub(crate) fn has_written(&self) -> bool {
+        !self.sink.bytes().is_empty()
     }
 
     /// How the run behind the gate ends.

@@ -12,7 +12,7 @@ use std::thread::Threads;
 const RUNS: u32 = 200;
 
 /// The words of the runs in turn.
-const WORDS: &str = "\
+pub(crate) const WORDS: &str = "\
 --pages 4 --page-words 256 --markers 1
 --pages 4 --page-words 256 --markers 2
 --pages 4 --page-words 256 --markers 3
@@ -103,18 +103,28 @@ gc finish precise\nget 0 1 7\nread 1 8\ndrop 7\nsweep all\ngc now precise\nget 0
     end: "swept to 4\nend objects 2 used 8 pages 1\n",
 };
 
-/// The script ends while markers are at work.
-const UNFINISHED: &[u8] = b"oilpan 1\ntype S\nnew 0 0\nnew 1 0\nset 0 0 1\ngc start\ndrop 1\n";
+/// A script, with the words of its run, that writes the same whatever its markers do.
+struct Settled {
+    words: &'static str,
+    script: &'static [u8],
+    report: &'static str,
+}
 
-const UNFINISHED_REPORT: &str = "\
-type 0
-node 0 at 0
-node 1 at 3
-ok
-started
-ok
-end objects 2 used 6 pages 1
-";
+/// The script ends while markers are at work.
+const UNFINISHED: Settled = Settled {
+    words: "--pages 4 --page-words 256 --markers 4",
+    script: b"oilpan 1\ntype S\nnew 0 0\nnew 1 0\nset 0 0 1\ngc start\ndrop 1\n",
+    report: "type 0\nnode 0 at 0\nnode 1 at 3\nok\nstarted\nok\nend objects 2 used 6 pages 1\n",
+};
+
+/// Two threads upgrade one weak slot of the region, and clear the slots that they made.
+const UPGRADED: Settled = Settled {
+    words: "--pages 4 --page-words 256 --markers 4 --summary",
+    script: b"oilpan 1\ntype S\nnew 0 0\nexport 0 0\nat 1 weaken 0\nthreads go\nthreads join\n\
+at 1 upgrade 0 1\nat 1 clear 1\nat 2 upgrade 0 2\nat 2 clear 2\ndrop 0\nthreads go\n\
+gc now precise\nthreads join\ngc now precise\nsweep all\n",
+    report: "summary commands 15 cycles 2 objects 0 used 0 finalised 1 full 0\n",
+};
 
 /// Whether the run of this seed is done, and its report is lawful.
 fn is_right<R: Threads>(rt: &R, alloc: Global, words: &str, seed: u32, trial: &Trial) -> bool {
@@ -199,18 +209,25 @@ fn two_heaps_have_markers_at_once(rt: HostRuntime) {
     assert_eq!(rt; first_wrong_of_two(&rt, rt.alloc()), None);
 }
 
-/// Whether the script that ends beside four markers has its report.
-fn ends_well<R: Threads>(rt: &R, alloc: Global, seed: u32) -> bool {
+/// Whether the run of this seed writes what the script has to.
+fn is_settled<R: Threads>(rt: &R, alloc: Global, seed: u32, settled: &Settled) -> bool {
     match Arc::new(alloc, Drawn::new(u64::from(seed))) {
-        Ok(gate) => writes_one_of(rt, alloc, words_at(3), UNFINISHED, &gate, UNFINISHED_REPORT),
+        Ok(gate) => writes_one_of(
+            rt,
+            alloc,
+            settled.words,
+            settled.script,
+            &gate,
+            settled.report,
+        ),
         Err(_) => false,
     }
 }
 
-/// The first seed whose run of that script has another one.
-fn first_wrong_end<R: Threads>(rt: &R, alloc: Global) -> Option<u32> {
+/// The first seed whose run writes something else.
+fn first_unsettled<R: Threads>(rt: &R, alloc: Global, settled: &Settled) -> Option<u32> {
     for seed in 0..RUNS {
-        if !ends_well(rt, alloc, seed) {
+        if !is_settled(rt, alloc, seed, settled) {
             return Some(seed);
         }
     }
@@ -219,5 +236,10 @@ fn first_wrong_end<R: Threads>(rt: &R, alloc: Global) -> Option<u32> {
 
 #[test]
 fn script_ends_while_markers_are_at_work(rt: HostRuntime) {
-    assert_eq!(rt; first_wrong_end(&rt, rt.alloc()), None);
+    assert_eq!(rt; first_unsettled(&rt, rt.alloc(), &UNFINISHED), None);
+}
+
+#[test]
+fn slot_upgraded_by_two_threads_on_four_markers_has_one_summary(rt: HostRuntime) {
+    assert_eq!(rt; first_unsettled(&rt, rt.alloc(), &UPGRADED), None);
 }
