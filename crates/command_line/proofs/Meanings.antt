@@ -52,11 +52,6 @@ starts_less (suc (suc k)) (x ∷ []) e = refl
 starts_less (suc (suc k)) (x ∷ y ∷ w) e = e
 
 -- to `clap` it has no name after two dashes
-strip_two : (a b : Bool) (w : Text) → (a && b) ≡ false → option_and_then long_of_rest (option_and_then (λ v. cond b (Some w) None) (cond a (Some w) None)) ≡ None
-strip_two true true w e = absurd (true≢false e)
-strip_two true false w e = refl
-strip_two false b w e = refl
-
 strip_one : (a : Bool) → option_and_then long_of_rest (option_and_then (strip_byte 45) (cond a (Some []) None)) ≡ None
 strip_one true = refl
 strip_one false = refl

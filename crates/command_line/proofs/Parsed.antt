@@ -22,10 +22,6 @@ use Rattle.command_line.proofs.Walked.{fault_from, rows_from}
 -- ---- the defaults
 
 -- no rule but that of `--summary` has a default, so nothing is refused of the others
-option_default : (b : Bool) (rs : List Row) (rest : List Rule) → or_else (cond (b || true) [] []) (defaults_fault (cond b rs rs) rest) ≡ defaults_fault rs rest
-option_default true rs rest = refl
-option_default false rs rest = refl
-
 no_default : (name : Text) (rs : List Row) (rest : List Rule) → defaults_fault rs (filled_option name ∷ rest) ≡ defaults_fault rs rest
 unfolding defaults_fault
 no_default name rs rest = elim (has_row name rs) as (λ b. or_else (cond (b || true) [] []) (defaults_fault (cond b rs rs) rest) ≡ defaults_fault rs rest) [ true ↦ refl | false ↦ refl ]

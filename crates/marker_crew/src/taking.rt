@@ -5,15 +5,16 @@ ghost use Rattle.mark_worklist.specs.Shares.{IsSameShare, put_of, taken_of};
 ghost use Rattle.marker_crew.specs.Drains.{IsIdle, IsTaken};
 ghost use Rattle.marker_crew.specs.Stages.{OnlyLooks};
 
+use crossbeam_utils::Backoff;
 use mark_worklist::Share;
 use page_words::{MarkerSeat, Words};
-use std::hint;
 
-/// So often a marker that finds nothing looks again before it ends: the others may still put more.
-const LOOKS: u32 = 4096;
+/// So often a marker that finds nothing looks again at most, and waits longer each time: the others may still
+/// put more. The backoff is completed before.
+const LOOKS: u32 = 12;
 
-/// The next item, once there is one. None where the share is idle, and stayed so for long, or the stop
-/// word says to stop.
+/// The next item, once there is one. None where the share is idle, and stayed so for as long as a backoff
+/// lasts, or the stop word says to stop.
 pub(crate) fn await_item(words: &Words, seat: &mut MarkerSeat, share: &mut Share) -> Option<u32>
     requires heap { seat.old.heap ≡ words.now }
     ensures taken { MatchOption result
@@ -24,15 +25,16 @@ pub(crate) fn await_item(words: &Words, seat: &mut MarkerSeat, share: &mut Share
     ensures looks { OnlyLooks seat.old seat.new }
     ensures hand { seat.new.hand ≡ seat.old.hand }
 {
+    let backoff = Backoff::new();
     let mut found = next_item(share);
     for _look in 0..LOOKS {
-        if found.is_some() {
+        if found.is_some() || backoff.is_completed() {
             return found;
         }
         if words.stopped(seat) {
             return None;
         }
-        hint::spin_loop();
+        backoff.snooze();
         found = next_item(share);
     }
     found

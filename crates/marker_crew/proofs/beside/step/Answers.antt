@@ -1,4 +1,4 @@
-use Rattle.std.proofs.Common.{length, sym, ap, subst, true, false, arith}
+use Rattle.std.proofs.Common.{length, sym, ap, subst, false, arith}
 use Rattle.std.specs.List.{Contains}
 use Rattle.page_words.specs.Markers.{MarkerSeatView}
 use Rattle.marker_crew.specs.declared.draining.Drained.{Drained}
