@@ -46,6 +46,8 @@ mod CycleMoves
 mod ThreadLaws
 mod JoinLines
 mod JoinLaws
+mod TotalsLaws
+mod HeldLaws
 mod CommandLives
 mod OnceLaws
 mod MayRuns

@@ -40,6 +40,8 @@ pub mod HistoryLaw
 pub mod RegionLaw
 pub mod ThreadLaw
 pub mod JoinLaw
+pub mod TotalsLaw
+pub mod HeldLaw
 pub mod NumbersLaw
 pub mod SummaryLaw
 pub mod ScriptLaw

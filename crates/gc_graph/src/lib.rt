@@ -12,8 +12,8 @@
 //! stand in `specs/`, to be read in the order of `specs/Lib.antt`.
 //!
 //! What is proved: the laws of `reach`, `laws`, `laws_of_cycles`, `laws_of_lives`,
-//! `laws_of_marking`, `laws_of_regions`, `laws_of_reports`, `laws_of_sweeping` and
-//! `laws_of_threads`, each the contract of a function that does nothing, and that `reach_check` is
+//! `laws_of_marking`, `laws_of_regions`, `laws_of_reports`, `laws_of_sweeping`, `laws_of_threads` and
+//! `laws_of_totals`, each the contract of a function that does nothing, and that `reach_check` is
 //! true exactly where a set holds the roots and is closed. The laws of steps and runs ask for a heap
 //! that has a page.
 //!
@@ -34,6 +34,7 @@ mod laws_of_regions;
 mod laws_of_reports;
 mod laws_of_sweeping;
 mod laws_of_threads;
+mod laws_of_totals;
 mod line;
 mod members;
 mod memory;
@@ -65,6 +66,7 @@ pub use laws_of_threads::{
     entries_are_told_once, joins_tell_all, orders_wait_for_their_thread, steps_count,
     steps_leave_threads,
 };
+pub use laws_of_totals::{counts_tell_what_is_held, runs_count_commands, totals_are_of_their_time};
 pub use line::{Line, Refusal};
 pub use memory::NoMemory;
 pub use phase::Phase;
