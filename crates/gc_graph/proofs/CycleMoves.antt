@@ -64,7 +64,7 @@ sweep_in Sweeping shape old mid pages numbers count h =
       balance = λ b. count.there ∙ b ∙ sym count.whole;
     }
 
-sweep_moves : (shape : Shape) (old mid : State) (pages : ℕ) (numbers : List ℕ) → SweepsTo shape old pages numbers mid → Moves 0 old [] mid
+pub sweep_moves : (shape : Shape) (old mid : State) (pages : ℕ) (numbers : List ℕ) → SweepsTo shape old pages numbers mid → Moves 0 old [] mid
 sweep_moves shape old mid pages numbers h = sweep_in old.phase shape old mid pages numbers (swept_count shape old mid pages numbers h) h
 
 -- a sweep, and then one more move
@@ -135,7 +135,7 @@ new_answers setup old new p t e piece lines none h = elim h [
 
 -- ---- the cycle
 
-start_moves : (setup : Setup) (swept new : State) (piece : List Entry) → IsStart setup swept piece new → Moves 0 swept piece new
+pub start_moves : (setup : Setup) (swept new : State) (piece : List Entry) → IsStart setup swept piece new → Moves 0 swept piece new
 start_moves setup swept new piece start =
     let taken : Moves 0 swept piece (took swept piece) = took_moves swept piece in
     moved 0 swept (marking (took swept piece)) new piece start.after (record {

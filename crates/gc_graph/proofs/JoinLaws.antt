@@ -103,7 +103,7 @@ threads_with_orders_go setup old new piece lines m h e = elim h.1 [
 
 -- ---- joins
 
-parts_of : (j : ℕ) (answers : ℕ → List Answer) (js : List ℕ) (entries : List Entry) (m : ℕ)
+pub parts_of : (j : ℕ) (answers : ℕ → List Answer) (js : List ℕ) (entries : List Entry) (m : ℕ)
     → filter (is_answer_of j) (told answers js ++ map (λ entry. L.Entry entry) entries ++ L.Joined m ∷ []) ≡ filter (is_answer_of j) (told answers js)
 parts_of j answers js entries m =
     filter-append (is_answer_of j) (told answers js ++ map (λ entry. L.Entry entry) entries) (L.Joined m ∷ [])
@@ -112,7 +112,7 @@ parts_of j answers js entries m =
     ∙ ap (λ ls. filter (is_answer_of j) (told answers js) ++ ls) (none_of_entries j entries)
     ∙ append-nil (filter (is_answer_of j) (told answers js))
 
-join_entries : (old new : State) (piece : List Entry) (lines : List Line) → StepThreadsJoin old piece lines new → entries_in lines ≡ (took old piece).unprinted
+pub join_entries : (old new : State) (piece : List Entry) (lines : List Line) → StepThreadsJoin old piece lines new → entries_in lines ≡ (took old piece).unprinted
 join_entries old new piece lines h =
     let answers : List Line = told h.answers old.running in
     let entries : List Line = map (λ entry. L.Entry entry) (took old piece).unprinted in

@@ -47,6 +47,8 @@ mod ThreadLaws
 mod JoinLines
 mod JoinLaws
 mod TotalsLaws
+mod OrderLaws
+mod EntryMakers
 mod HeldLaws
 mod CommandLives
 mod OnceLaws

@@ -41,6 +41,7 @@ pub mod RegionLaw
 pub mod ThreadLaw
 pub mod JoinLaw
 pub mod TotalsLaw
+pub mod OrderLaw
 pub mod HeldLaw
 pub mod NumbersLaw
 pub mod SummaryLaw

@@ -6,6 +6,11 @@ ghost use Rattle.gc_graph.specs.JoinLaw.{
   OrdersWaitInOrder,
   ThreadsWithOrdersGo,
 };
+ghost use Rattle.gc_graph.specs.OrderLaw.{
+  EntriesAreOfTheirThreads,
+  JoinedDidTheirOrders,
+  RunningDoTheirOrders,
+};
 ghost use Rattle.gc_graph.specs.ThreadLaw.{StepsCount, StepsLeaveThreads};
 
 /// Threads run from a start of them to the next join. No other command than those on threads changes
@@ -34,4 +39,19 @@ pub fn joins_tell_all()
 /// The entries that a run has told and those that it has yet to tell are its history, in order.
 pub fn entries_are_told_once()
     ensures { EntriesAreToldOnce }
+{}
+
+/// The entries that a join tells of a thread do its orders in the order of its queue, each with the
+/// slots that the order says, but for those that were told totals or want of memory. Where a thread
+/// runs at the end of a lawful run, its entries that are not told yet do some of its orders, in
+/// their order.
+pub fn threads_do_their_orders()
+    ensures joined { JoinedDidTheirOrders }
+    ensures running { RunningDoTheirOrders }
+{}
+
+/// Each entry that a step takes is the owner's, and none that an order can say, or it is of a thread
+/// that runs, and one that an order can say.
+pub fn entries_are_of_their_threads()
+    ensures { EntriesAreOfTheirThreads }
 {}
