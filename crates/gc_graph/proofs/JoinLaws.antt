@@ -70,7 +70,7 @@ some_order (order ∷ orders) some = omega arith
 no_empty : (orders : List Order) → 0 < length orders → orders ≢ []
 no_empty orders some none = (let e = ap length none in omega (arith, e, some))
 
-started : (old : State) → AreStarted old (length (threads_with_orders old)) (record old { running = threads_with_orders old })
+pub started : (old : State) → AreStarted old (length (threads_with_orders old)) (record old { running = threads_with_orders old })
 started old = record {
   count = refl;
   threads = record {

@@ -50,6 +50,7 @@ mod TotalsLaws
 mod OrderLaws
 mod EntryMakers
 mod HeldLaws
+mod SlotsLaws
 mod CommandLives
 mod OnceLaws
 mod MayRuns

@@ -43,6 +43,7 @@ pub mod JoinLaw
 pub mod TotalsLaw
 pub mod OrderLaw
 pub mod HeldLaw
+pub mod SlotsLaw
 pub mod NumbersLaw
 pub mod SummaryLaw
 pub mod ScriptLaw

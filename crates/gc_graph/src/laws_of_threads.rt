@@ -11,6 +11,7 @@ ghost use Rattle.gc_graph.specs.OrderLaw.{
   JoinedDidTheirOrders,
   RunningDoTheirOrders,
 };
+ghost use Rattle.gc_graph.specs.SlotsLaw.{RunsKeepSlots};
 ghost use Rattle.gc_graph.specs.ThreadLaw.{StepsCount, StepsLeaveThreads};
 
 /// Threads run from a start of them to the next join. No other command than those on threads changes
@@ -54,4 +55,10 @@ pub fn threads_do_their_orders()
 /// that runs, and one that an order can say.
 pub fn entries_are_of_their_threads()
     ensures { EntriesAreOfTheirThreads }
+{}
+
+/// In each state of a run there are 256 strong slots, 64 weak ones and 32 of the region, and eight
+/// queues; the threads that run are of these eight, each once and in order.
+pub fn runs_keep_slots()
+    ensures { RunsKeepSlots }
 {}

@@ -64,7 +64,8 @@ pub use laws_of_reports::{lines_have_numbers, run_reads_back, summary_reads_back
 pub use laws_of_sweeping::{placed_in_last_page, placement_is_one, sweeps_go_by_pages};
 pub use laws_of_threads::{
     entries_are_of_their_threads, entries_are_told_once, joins_tell_all,
-    orders_wait_for_their_thread, steps_count, steps_leave_threads, threads_do_their_orders,
+    orders_wait_for_their_thread, runs_keep_slots, steps_count, steps_leave_threads,
+    threads_do_their_orders,
 };
 pub use laws_of_totals::{counts_tell_what_is_held, runs_count_commands, totals_are_of_their_time};
 pub use line::{Line, Refusal};
