@@ -51,6 +51,8 @@ mod OrderLaws
 mod EntryMakers
 mod HeldLaws
 mod SlotsLaws
+mod SweptPages
+mod LineOrders
 mod CommandLives
 mod OnceLaws
 mod MayRuns

@@ -35,6 +35,8 @@ pub mod CycleLaw
 pub mod RefusalLaw
 pub mod PlacementLaw
 pub mod SweepLaw
+pub mod SweptPagesLaw
+pub mod LineOrderLaw
 pub mod OnceLaw
 pub mod HistoryLaw
 pub mod RegionLaw

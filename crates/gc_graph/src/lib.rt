@@ -61,7 +61,10 @@ pub use laws_of_lives::{lives_end_once, nodes_stay_put};
 pub use laws_of_marking::{kept_is_accounted_for, precise_collection_is_exact};
 pub use laws_of_regions::{calls_change_their_slot, steps_follow_the_history};
 pub use laws_of_reports::{lines_have_numbers, run_reads_back, summary_reads_back};
-pub use laws_of_sweeping::{placed_in_last_page, placement_is_one, sweeps_go_by_pages};
+pub use laws_of_sweeping::{
+    finalised_are_told_first, placed_in_last_page, placement_is_one, sweeps_go_by_pages,
+    sweeps_tell_their_pages,
+};
 pub use laws_of_threads::{
     entries_are_of_their_threads, entries_are_told_once, joins_tell_all,
     orders_wait_for_their_thread, runs_keep_slots, steps_count, steps_leave_threads,
