@@ -42,6 +42,7 @@ pub mod HistoryLaw
 pub mod RegionLaw
 pub mod ThreadLaw
 pub mod JoinLaw
+pub mod LawfulLaw
 pub mod TotalsLaw
 pub mod OrderLaw
 pub mod HeldLaw

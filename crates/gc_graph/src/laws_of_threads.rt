@@ -6,6 +6,7 @@ ghost use Rattle.gc_graph.specs.JoinLaw.{
   OrdersWaitInOrder,
   ThreadsWithOrdersGo,
 };
+ghost use Rattle.gc_graph.specs.LawfulLaw.{LawfulHistoryIsTold};
 ghost use Rattle.gc_graph.specs.OrderLaw.{
   EntriesAreOfTheirThreads,
   JoinedDidTheirOrders,
@@ -40,6 +41,12 @@ pub fn joins_tell_all()
 /// The entries that a run has told and those that it has yet to tell are its history, in order.
 pub fn entries_are_told_once()
     ensures { EntriesAreToldOnce }
+{}
+
+/// The history of a lawful run is what its lines tell of it, and then what they have yet to tell; it
+/// is legal, and gives the slots of the region.
+pub fn lawful_history_is_told()
+    ensures { LawfulHistoryIsTold }
 {}
 
 /// The entries that a join tells of a thread do its orders in the order of its queue, each with the

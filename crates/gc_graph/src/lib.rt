@@ -66,7 +66,7 @@ pub use laws_of_sweeping::{
     sweeps_tell_their_pages,
 };
 pub use laws_of_threads::{
-    entries_are_of_their_threads, entries_are_told_once, joins_tell_all,
+    entries_are_of_their_threads, entries_are_told_once, joins_tell_all, lawful_history_is_told,
     orders_wait_for_their_thread, runs_keep_slots, steps_count, steps_leave_threads,
     threads_do_their_orders,
 };
