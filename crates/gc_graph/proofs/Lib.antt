@@ -49,6 +49,7 @@ mod JoinLaws
 mod TotalsLaws
 mod OrderLaws
 mod EntryMakers
+mod OwnEntries
 mod HeldLaws
 mod SlotsLaws
 mod SweptPages

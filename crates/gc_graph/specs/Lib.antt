@@ -45,6 +45,7 @@ pub mod JoinLaw
 pub mod LawfulLaw
 pub mod TotalsLaw
 pub mod OrderLaw
+pub mod OwnEntryLaw
 pub mod HeldLaw
 pub mod SlotsLaw
 pub mod NumbersLaw

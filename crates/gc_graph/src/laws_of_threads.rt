@@ -12,6 +12,7 @@ ghost use Rattle.gc_graph.specs.OrderLaw.{
   JoinedDidTheirOrders,
   RunningDoTheirOrders,
 };
+ghost use Rattle.gc_graph.specs.OwnEntryLaw.{StepsMakeOwnEntries};
 ghost use Rattle.gc_graph.specs.SlotsLaw.{RunsKeepSlots};
 ghost use Rattle.gc_graph.specs.ThreadLaw.{StepsCount, StepsLeaveThreads};
 
@@ -68,4 +69,10 @@ pub fn entries_are_of_their_threads()
 /// queues; the threads that run are of these eight, each once and in order.
 pub fn runs_keep_slots()
     ensures { RunsKeepSlots }
+{}
+
+/// An export, an import, a start and a pause each make one entry of the owner, after those of threads.
+/// A join takes entries of threads alone, and no other command takes any.
+pub fn steps_make_own_entries()
+    ensures { StepsMakeOwnEntries }
 {}

@@ -68,7 +68,7 @@ pub use laws_of_sweeping::{
 pub use laws_of_threads::{
     entries_are_of_their_threads, entries_are_told_once, joins_tell_all, lawful_history_is_told,
     orders_wait_for_their_thread, runs_keep_slots, steps_count, steps_leave_threads,
-    threads_do_their_orders,
+    steps_make_own_entries, threads_do_their_orders,
 };
 pub use laws_of_totals::{counts_tell_what_is_held, runs_count_commands, totals_are_of_their_time};
 pub use line::{Line, Refusal};
