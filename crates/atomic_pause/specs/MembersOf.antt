@@ -25,9 +25,11 @@ member_in k (true ∷ set) m h =
     ]
 member_in k (false ∷ set) m h = (let w = member_in (suc k) set m h in (suc w.0, omega (arith, w.1), w.2))
 
+-- a node of a set is in the list of its members
 pub member_among : (set : List Bool) (n : ℕ) → IsIn set n → IsAmong (members set) n
 member_among set n is = subst (IsAmong (members set)) (let e : 0 + n ≡ n = omega arith in e) (in_members 0 set n is)
 
+-- a node in the list of a set's members is in the set
 pub among_member : (set : List Bool) (n : ℕ) → IsAmong (members set) n → IsIn set n
 among_member set n h =
     let w = member_in 0 set n h in
