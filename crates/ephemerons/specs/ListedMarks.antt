@@ -19,6 +19,7 @@ fresh_before u v w l m p x fresh = record {
   marked = fresh.marked;
 }
 
+-- what was marked and listed in two goes, one after the other, was in one
 pub ListsMarks-then : (u v w : SeatView) (l m n : Marking) → ListsMarks u l v m → ListsMarks v m w n → ListsMarks u l w n
 ListsMarks-then u v w l m n x y = record {
   view = y.view ∙ x.view;

@@ -30,6 +30,7 @@ marks_accounted types v w m n groups x fine h = record {
       ];
 }
 
+-- marking that can be brought to its end still can be after objects were marked and listed
 pub ready_marked : (types : List ObjectType) (v w : SeatView) (m n : Marking) (groups : List NotesState) → ListsMarks v m w n
     → IsReadyToEnd types v m groups → IsReadyToEnd types w n groups
 ready_marked types v w m n groups x h = record {
