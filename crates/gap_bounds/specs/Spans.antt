@@ -4,14 +4,17 @@ use Rattle.std.proofs.lemmas.Bool.{cases_eq, cases_Bool, and_parts, and_from, le
 use Rattle.std.proofs.lemmas.List.{get_or-set_same, get_or-set_other}
 use Rattle.gap_bounds.specs.Gaps.{is_between}
 
+-- a number that the test puts between first and end is at least first and below end
 pub between_parts : (first end n : ℕ) → is_between first end n ≡ true → (first ≤ n) × (n < end)
 between_parts first end n h =
     let both = and_parts (leb first n) (ltb n end) h in
     (leb-true first n both.0, ltb-true n end both.1)
 
+-- a number that is at least first and below end is put between them by the test
 pub between_from : (first end n : ℕ) → first ≤ n → n < end → is_between first end n ≡ true
 between_from first end n low high = and_from (leb first n) (ltb n end) (le-leb first n low) (lt-ltb n end high)
 
+-- a number that isn't both at least first and below end isn't put between them by the test
 pub not_between : (first end n : ℕ) → (first ≤ n → n < end → ⊥) → is_between first end n ≡ false
 not_between first end n never =
     elim (cases_Bool (is_between first end n)) [
@@ -22,6 +25,7 @@ not_between first end n never =
 pub below_false : (first end n : ℕ) → first ≤ n → n < end → is_between first end n ≡ false → ⊥
 below_false first end n low high clear = true≢false (sym (between_from first end n low high) ∙ clear)
 
+-- where the end moves on by one, no number but the old end comes to lie between the two, or no longer does
 pub between_more : (first end n : ℕ) → (n ≡ end → ⊥) → is_between first (end + 1) n ≡ is_between first end n
 between_more first end n other =
     elim (cases_Bool (is_between first end n)) [
@@ -31,6 +35,7 @@ between_more first end n other =
       | inr clear ↦ not_between first (end + 1) n (λ low high. absurd (let never : n < end → ⊥ = (λ l. below_false first end n low l clear) in never (omega (arith, other)))) ∙ sym clear
     ]
 
+-- once the item at page has the value too, those from first through page have it, and the others what they had before
 pub values_more : (old mid new : List ℕ) (first page value : ℕ) → page < length mid → first ≤ page
     → ((q : ℕ) → get_or mid q 0 ≡ cond (is_between first page q) value (get_or old q 0)) → new ≡ set mid page value
     → (q : ℕ) → get_or new q 0 ≡ cond (is_between first (page + 1) q) value (get_or old q 0)
