@@ -10,15 +10,18 @@ use Rattle.gc_graph.specs.State.Life.{Gone}
 use Rattle.gc_graph.specs.Pause.{judged, condemn, names_dead, cleared_values, with_cleared, clear_node}
 use Rattle.gc_graph.specs.Valid.{HaveKinds, IsTyped, IsReferenceBelow, ArePaired}
 
+-- what is finalised stays so when it is judged, kept or not
 pub judged_gone : (flag : Bool) → judged flag Gone ≡ Gone
 judged_gone true = refl
 judged_gone false = refl
 
+-- condemning leaves as many nodes as there were
 pub length-condemn : (kept : List Bool) (nodes : List Node) → length (condemn kept nodes) ≡ length nodes
 length-condemn kept [] = refl
 length-condemn [] (node ∷ nodes) = ap suc (length-condemn [] nodes)
 length-condemn (flag ∷ kept) (node ∷ nodes) = ap suc (length-condemn kept nodes)
 
+-- clearing weak fields and pairs leaves as many values as there were
 pub length-cleared : (dead : ℕ → Bool) (kinds : List Kind) (values : List Value) → length (cleared_values dead kinds values) ≡ length values
 length-cleared dead [] values = refl
 length-cleared dead (Strong ∷ kinds) [] = refl
@@ -56,6 +59,7 @@ cleared_kinds bound dead (Pair ∷ kinds) (x ∷ y ∷ xs) h = (
   cleared_kinds bound dead kinds xs h.3,
 )
 
+-- a node that has the fields of its type and names only numbers below the bound still does once it is cleared
 pub clear_typed : (setup : Setup) (bound : ℕ) (dead : ℕ → Bool) (node : Node) → IsTyped setup bound node → IsTyped setup bound (clear_node dead node)
 clear_typed setup bound dead node t =
     cond_both (is_live node.life) (with_cleared dead node) node (IsTyped setup bound)

@@ -15,6 +15,7 @@ abbrev pub IsLed : (ℕ → Bool) → Object → ℕ → Type 0
 IsLed test o n =
     Contains (strong_targets o.kinds o.values) n ⊎ ((key : ℕ) × Contains (pair_targets o.kinds o.values) (key, n) × (test key ≡ true))
 
+-- a node that an object leads to is named by a strong field, or is the value of a pair whose key passes the test
 pub is_led : (test : ℕ → Bool) (o : Object) (n : ℕ) → leads_by test o n ≡ true → IsLed test o n
 is_led test o n leads =
     elim (or_cases (list_any (λ t. eqb t n) (strong_targets o.kinds o.values)) _ leads) [
@@ -25,6 +26,7 @@ is_led test o n leads =
           inr (w.0.0, subst (λ m. Contains (pair_targets o.kinds o.values) (w.0.0, m)) (eqb-true w.0.1 n both.1) w.1, both.0))
     ]
 
+-- an object leads to what its strong fields name, and to the value of each of its pairs whose key passes the test
 pub led_leads : (test : ℕ → Bool) (o : Object) (n : ℕ) → IsLed test o n → leads_by test o n ≡ true
 led_leads test o n led =
     elim led [
@@ -86,6 +88,7 @@ pair_named (Pair ∷ kinds) (Ref key ∷ Word w ∷ values) k n there = later (R
 pair_named (Pair ∷ kinds) (Null ∷ v ∷ values) k n there = later Null (v ∷ values) (later v values (pair_named kinds values k n there))
 pair_named (Pair ∷ kinds) (Word w ∷ v ∷ values) k n there = later (Word w) (v ∷ values) (later v values (pair_named kinds values k n there))
 
+-- what an object leads to is named in one of its values
 pub led_named : (test : ℕ → Bool) (o : Object) (n : ℕ) → IsLed test o n → Contains o.values (Ref n)
 led_named test o n led = elim led [
   | inl strong ↦ strong_named o.kinds o.values n strong
@@ -99,5 +102,6 @@ led_wider test other o n wider led = elim led [
   | inr pair ↦ inr (pair.0, pair.1, wider pair.0 (pair_named o.kinds o.values pair.0 n pair.1).0 pair.2)
 ]
 
+-- what stands where there is no object leads to no node
 pub nowhere : (test : ℕ → Bool) (q : ℕ) → IsLed test no_object q → ⊥
 nowhere test q led = elim led [ inl strong ↦ omega (arith, strong.1) | inr pair ↦ omega (arith, pair.1.1) ]

@@ -7,6 +7,7 @@ use Rattle.gc_graph.specs.State.{Node, no_node, node_at, graph_of, is_there, Lif
 use Rattle.gc_graph.specs.State.Life.{Live, Dead, Gone}
 use Rattle.gc_graph.specs.Valid.{IsThere}
 
+-- the object at a number in the graph of some nodes is that of the node with this number
 pub object_of_node : (nodes : List Node) (m : ℕ) → object_at (graph_of nodes) m ≡ (node_at nodes m).object
 object_of_node [] m = refl
 object_of_node (node ∷ nodes) zero = refl
@@ -34,6 +35,7 @@ not_gone_below nodes n there =
       | inr past ↦ absurd (there (ap (λ (x : Node). x.life) (get_or_past nodes n no_node past)))
     ]
 
+-- a live node has a number below the number of nodes
 pub live_below : (nodes : List Node) (n : ℕ) → IsLive nodes n → n < length nodes
 live_below nodes n live = not_gone_below nodes n (λ gone. gone_not_live _ gone live)
 
@@ -45,5 +47,6 @@ gone_not_there Live e f = cc
 gone_not_there Dead e f = cc
 gone_not_there Gone e f = cc
 
+-- a node that is there, live or dead, has a number below the number of nodes
 pub there_below : (nodes : List Node) (n : ℕ) → IsThere nodes n → n < length nodes
 there_below nodes n there = not_gone_below nodes n (λ gone. gone_not_there _ gone there)

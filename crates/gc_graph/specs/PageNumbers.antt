@@ -6,9 +6,11 @@ use Rattle.gc_graph.specs.Placement.{bucket_of}
 
 -- ---- pages
 
+-- the next page begins a page's words past the first word of this one
 pub next_page : (words page : ℕ) → (page + 1) * words ≡ page * words + words
 next_page words page = omega (arith, add-mul page 1 words, one-mul words)
 
+-- a page ends no later than one with a higher number begins
 pub page_before : (words page other : ℕ) → page < other → (page + 1) * words ≤ other * words
 page_before words page other l = mul-le-mul_right words (omega arith)
 
@@ -25,6 +27,7 @@ same_page words page other a first last first' last' =
 
 -- ---- buckets
 
+-- the bucket of a size of at most half a page isn't that of large objects
 pub small_bucket : (words size : ℕ) → size ≤ words / 2 → bucket_of words size ≡ 4 → ⊥
 small_bucket words size small =
     cond_both (nat_lt (words / 2) size) 4 (if nat_le 16 size then 3 else if nat_le 8 size then 2 else if nat_le 4 size then 1 else 0) (λ b. b ≡ 4 → ⊥)
@@ -35,6 +38,7 @@ small_bucket words size small =
     cond_both (nat_le 8 size) 2 (if nat_le 4 size then 1 else 0) (λ b. b ≡ 4 → ⊥) (λ t same. absurd (omega arith))
     (λ t. cond_both (nat_le 4 size) 1 0 (λ b. b ≡ 4 → ⊥) (λ t same. absurd (omega arith)) (λ t same. absurd (omega arith)))))
 
+-- the bucket of a size over half a page is that of large objects
 pub large_bucket : (words size : ℕ) → words / 2 < size → bucket_of words size ≡ 4
 large_bucket words size large =
     cond-true (nat_lt (words / 2) size) 4 (if nat_le 16 size then 3 else if nat_le 8 size then 2 else if nat_le 4 size then 1 else 0)

@@ -12,6 +12,7 @@ pub length-closed_times : (n : ℕ) (g : List Object) (s : List Bool) → length
 length-closed_times zero g s e = e
 length-closed_times (suc n) g s e = length-closing g (closed_times n g s)
 
+-- the reach of roots in a graph has as many flags as the graph has nodes
 pub reach_length : (g : List Object) (roots : List ℕ) → length (Reach g roots) ≡ length g
 unfolding Reach
 reach_length g roots =

@@ -16,12 +16,14 @@ digit_byte b h =
     and_from (not (b == 32)) (not (b == 10)) (not_from_false (b == 32) (ne_eqb b 32 (λ e. omega arith)))
     (not_from_false (b == 10) (ne_eqb b 10 (λ e. omega arith)))
 
+-- bytes that are all digits are all bytes of a word
 pub digits_are_word : (bytes : List ℕ) → list_all is_digit bytes ≡ true → list_all is_word_byte bytes ≡ true
 digits_are_word [] h = refl
 digits_are_word (b ∷ bytes) h =
     let both = and_parts (is_digit b) (list_all is_digit bytes) h in
     and_from (is_word_byte b) (list_all is_word_byte bytes) (digit_byte b both.0) (digits_are_word bytes both.1)
 
+-- one digit more at the end makes the value ten times as large, and adds its own
 pub value_after-push : (n : ℕ) (bytes : List ℕ) (b : ℕ) → value_after n (bytes ++ b ∷ []) ≡ value_after n bytes * 10 + (b - 48)
 value_after-push n [] b = refl
 value_after-push n (c ∷ bytes) b = value_after-push (n * 10 + (c - 48)) bytes b
