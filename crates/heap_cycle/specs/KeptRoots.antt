@@ -13,6 +13,7 @@ use Rattle.heap_roots.specs.Marks.{HasMarking, HasMarks}
 use Rattle.heap_cycle.specs.declared.parts.Parts.{Parts}
 use Rattle.heap_cycle.specs.Parts.{state_of, IsReady}
 
+-- where parts are ready and in the phase of marking, marking is under way in their objects, with what may be kept
 pub marking_of : (s : Parts) → IsReady s → s.cycle.phase ≡ Marking → HasMarking s.cycle.rest.may s.objects
 marking_of s ready marking =
     subst (λ ph. HasMarks ph (cursor_at s.objects.shape s.cycle.sweep) s.cycle.rest.may s.objects) marking ready.tied.marks

@@ -46,6 +46,7 @@ without_places : (n place : ℕ) (cs : List ℕ) → map registration_of (map (r
 without_places n place [] = refl
 without_places n place (c ∷ cs) = ap (λ rs. registration_for n c ∷ rs) (without_places n place cs)
 
+-- callbacks registered for a node after others add one registration each, without the node's place
 pub registrations_join : (n place : ℕ) (xs : List Registered) (cs : List ℕ)
     → registrations_of (xs ++ map (registered n place) cs) ≡ registrations_of xs ++ map (registration_for n) cs
 registrations_join n place xs cs =
@@ -53,6 +54,7 @@ registrations_join n place xs cs =
 
 -- ---- those of live nodes
 
+-- where the registrations of entries are all of live nodes, so are the entries
 pub live_entries : (nodes : List Node) (entries : List Registered) → All (λ r. IsLive nodes r.node) (registrations_of entries) → All (λ e. IsLive nodes e.node) entries
 live_entries nodes [] live = All-nil (λ (e : Registered). IsLive nodes e.node)
 live_entries nodes (e ∷ entries) live =

@@ -24,6 +24,7 @@ use Rattle.heap_roots.specs.Handles.{put_in, copied_in, weakened_in, popped_in}
 use Rattle.heap_roots.specs.KeptNodes.{slots_live}
 use Rattle.heap_roots.specs.StackWords.{words_held, words_popped}
 
+-- the nodes of parts that are ready are those of a valid state
 pub valid_nodes : (s : Parts) → IsReady s → AreOfValid (setup_of s) s.objects.nodes
 valid_nodes s ready = (state_of s, ready.valid, refl)
 
@@ -59,6 +60,7 @@ named_held nodes places slots p a held live is =
 pub slot_place : (s : Parts) (p : ℕ) → AreTied s → get_or s.handles.places p None ≡ option_map (place_of s.objects.nodes) (get_or s.handles.slots p None)
 slot_place s p tied = place_held s.objects.nodes s.handles.places s.handles.slots p tied.slots
 
+-- what a strong slot of parts that are ready names is live
 pub slot_live : (s : Parts) (p : ℕ) → IsReady s → ForSome (get_or s.handles.slots p None) (IsLive s.objects.nodes)
 slot_live s p ready = live_held s.objects.nodes s.handles.slots p ready.valid.slots
 
