@@ -14,8 +14,10 @@ own_as_many change l =
       | inr out ↦ ap {B = ℕ} (λ b. length (cond b l.shares other)) out ∙ length-set l.shares 0 (change (at l.shares 0))
     ]
 
+-- a push leaves a list as many shares as it had
 pub pushed_as_many : (old new : ListState) (a : ℕ) → IsPushed old a new → length new.shares ≡ length old.shares
 pushed_as_many old new a is = ap length is.shares ∙ own_as_many (λ s. pushed s a) old
 
+-- a refused push leaves a list as many shares as it had
 pub refused_as_many : (l : ListState) → length (refused_once l).shares ≡ length l.shares
 refused_as_many l = own_as_many refused_at l

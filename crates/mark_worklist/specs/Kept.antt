@@ -8,9 +8,11 @@ use Rattle.mark_worklist.specs.Shares.{ShareState, IsEven, IsSameShare}
 use Rattle.mark_worklist.specs.Families.{at, names_of, nobody, IsFresh, IsShareOf}
 use Rattle.mark_worklist.specs.Joining.{AreAllShares, AreFresh, IsSameList}
 
+-- where nothing is done, a share has the same lists, and is even if it was
 pub same-share : (s : ShareState) → IsSameShare s s
 same-share s = record { number = refl; own = refl; parts = refl; even = λ even. even; others = refl }
 
+-- where each of two changes leaves a share its lists, and even if it was, both together do
 pub share-then : (a b c : ShareState) → IsSameShare a b → IsSameShare b c → IsSameShare a c
 share-then a b c h k = record {
   number = k.number ∙ h.number;
@@ -28,9 +30,11 @@ none-moved (e ∷ ends) none = ap₂ (λ xs ys. xs ++ ys) (none 0 e (omega arith
 pub fresh-even : (s : ShareState) → IsFresh s → IsEven s
 fresh-even s h asked = ap (count_by asked) (h.brought ∙ sym (ap₂ (λ xs ys. xs ++ ys) h.moved (none-moved s.others h.moved_there)))
 
+-- where nothing is done, the owner's share has the same lists, and as many shares were taken in
 pub same-list : (l : List ShareState) → IsSameList l l
 same-list l = record { as_many = refl; first = same-share (at l 0) }
 
+-- where each of two changes leaves the owner's share its lists, and as many shares taken in, both together do
 pub list-then : (a b c : List ShareState) → IsSameList a b → IsSameList b c → IsSameList a c
 list-then a b c h k = record { as_many = k.as_many ∙ h.as_many; first = share-then (at a 0) (at b 0) (at c 0) h.first k.first }
 

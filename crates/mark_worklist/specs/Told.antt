@@ -4,6 +4,7 @@ use Rattle.std.proofs.lemmas.Bool.{cases_lt}
 use Rattle.mark_worklist.specs.Lists.{last_count, one_counted}
 use Rattle.mark_worklist.specs.Refusals.{Refusals, TellsRefused}
 
+-- where neither the flag of refusals nor their count changed, refusals are told rightly
 pub told_same : (a : Refusals) → TellsRefused a a
 told_same a = record { kept = λ h. h; no_fewer = omega arith; counted = λ more. absurd (omega (arith, more)); only = λ h. inl h }
 
@@ -12,6 +13,7 @@ pub told_once : (told : Bool) (count : ℕ) → count ≤ last_count
     → TellsRefused (record { told = told; count = count }) (record { told = true; count = one_counted count })
 told_once told count fits = record { kept = λ h. refl; no_fewer = search rules; counted = λ more. refl; only = λ h. inr (search rules) }
 
+-- refusals told rightly from one state to the next, and from that to a third, are from the first to the third
 pub told_then : (a b c : Refusals) → TellsRefused a b → TellsRefused b c → TellsRefused a c
 told_then a b c x y = record {
   kept = λ h. y.kept (x.kept h);
