@@ -17,6 +17,7 @@ use Rattle.marker_crew.specs.Crews.{Marker, Ending, HasDrained, begun_with, join
 
 -- ---- the markers that begin
 
+-- with as many shares and groups of notes as seats, as many markers begin as there are seats
 pub begun_many : (seats : List MarkerSeatView) (shares : List ShareState) (notes : List NotesState) → length shares ≡ length seats → length notes ≡ length seats
     → length (begun_with seats shares notes) ≡ length seats
 begun_many [] shares notes s n = refl
@@ -31,6 +32,7 @@ begun_seats (v ∷ seats) [] notes s n = absurd (omega (arith, s))
 begun_seats (v ∷ seats) (h ∷ shares) [] s n = absurd (omega (arith, n))
 begun_seats (v ∷ seats) (h ∷ shares) (o ∷ notes) s n = ap (λ xs. v ∷ xs) (begun_seats seats shares notes (omega (arith, s)) (omega (arith, n)))
 
+-- with as many shares and groups of notes as seats, the markers that begin have these shares, in their order
 pub begun_shares : (seats : List MarkerSeatView) (shares : List ShareState) (notes : List NotesState) → length shares ≡ length seats → length notes ≡ length seats
     → map (λ (m : Marker). m.share) (begun_with seats shares notes) ≡ shares
 begun_shares [] [] notes s n = refl
@@ -199,6 +201,7 @@ traced_counted (m ∷ began) (e ∷ ends) many each =
 
 -- ---- the share of each marker is still one of its family
 
+-- where each marker drained, each share still has the lists with which it began, and is even if it was
 pub same_shares : (began : List Marker) (ends : List Ending) → length ends ≡ length began
     → ((k : ℕ) (m : Marker) (e : Ending) → k < length ends → HasDrained (get_or began k m) (get_or ends k e))
     → (k : ℕ) → k < length began → IsSameShare (at (map (λ (m : Marker). m.share) began) k) (at (map (λ (e : Ending). e.share) ends) k)
