@@ -7,6 +7,7 @@ use Rattle.page_words.specs.Bodies.{IsKeyWord, kind_in}
 use Rattle.page_words.specs.Seat.{SeatView, OnlyLooked}
 use Rattle.member_fields.specs.Words.{HasWord, HasPair, IsWordIn}
 
+-- an object's field word of a kind that passes the test is still one where headers were looked at
 pub word_looked : (is_so : Kind → Bool) (v w : SeatView) (holder word : ℕ) → OnlyLooked v w → HasWord is_so v holder word → HasWord is_so w holder word
 word_looked is_so v w holder word same has = record {
   body = has.body;
@@ -17,6 +18,7 @@ word_looked is_so v w holder word same has = record {
   kind = ap (λ (x : SeatView). is_so (kind_in x.types has.body (word - 2))) same ∙ has.kind;
 }
 
+-- an object's pair is still one where headers were looked at
 pub pair_looked : (v w : SeatView) (holder word : ℕ) → OnlyLooked v w → HasPair v holder word → HasPair w holder word
 pair_looked v w holder word same has = record {
   body = has.body;
