@@ -11,6 +11,7 @@ use Rattle.nodes_in_words.specs.Places.{IsJudged}
 abbrev pub KeepsExtents : (Body → Body) → Type 0
 KeepsExtents change = (b : Body) → ((change b).place ≡ b.place) × ((change b).size ≡ b.size)
 
+-- a change that leaves bodies their places and sizes leaves the words in which they lie
 pub same_extents : (change : Body → Body) → KeepsExtents change → (bodies : List Body) → extents_of_bodies (map change bodies) ≡ extents_of_bodies bodies
 same_extents change keeps [] = refl
 same_extents change keeps (b ∷ bodies) =
@@ -19,6 +20,7 @@ same_extents change keeps (b ∷ bodies) =
     ∙ ap (λ s. record { place = b.place; size = s } ∷ extents_of_bodies (map change bodies)) is.1
     ∙ ap (λ es. record { place = b.place; size = b.size } ∷ es) (same_extents change keeps bodies)
 
+-- where each body is dead or marked, and not both, a change that leaves them their places and sizes leaves it so
 pub judged_changed : (change : Body → Body) → KeepsExtents change → (v : SeatView) → IsJudged v → IsJudged (with_bodies v (map change v.bodies))
 judged_changed change keeps v is b there =
     let from = Contains-map_some change v.bodies b there in

@@ -57,6 +57,7 @@ value_after_pair bound kinds f key v values has low =
     let next : suc (suc (first_word kinds f)) ≡ first_word (Pair ∷ kinds) (suc f) = omega (arith, sum_by-cons words_of_kind Pair (take f kinds)) in
     subst (λ n. IsOfKind bound (get_or kinds f Plain) (get_or (key ∷ v ∷ values) n Null)) next (has (omega (arith, low, next)))
 
+-- where values are of their fields' kinds, the first value of each field is of its kind, if it is there
 pub value_of_kind : (bound : ℕ) (kinds : List Kind) (f : ℕ) (values : List Value) → HaveKinds bound kinds values → HasOfKind bound kinds f values
 value_of_kind bound [] f values have = λ low. All-get_or IsPlainWord values (first_word [] f) Null low have
 value_of_kind bound (Strong ∷ kinds) f [] have = absurd have

@@ -10,10 +10,12 @@ use Rattle.marker_core.specs.declared.states.Body.{Body}
 use Rattle.page_space.specs.Space.{extents_of_bodies}
 use Rattle.nodes_in_words.specs.Nodes.{body_of, bodies_from, IsThere}
 
+-- where the first node is there, its body comes before those of the nodes after it
 pub bodies-there : (f : ℕ → ℕ) (k : ℕ) (x : Node) (nodes : List Node) → is_there x.life ≡ true
     → bodies_from f k (x ∷ nodes) ≡ body_of f k x ∷ bodies_from f (suc k) nodes
 bodies-there f k x nodes there = ap (λ b. cond b (body_of f k x ∷ bodies_from f (suc k) nodes) (bodies_from f (suc k) nodes)) there
 
+-- where the first node is finalised, the bodies are those of the nodes after it
 pub bodies-gone : (f : ℕ → ℕ) (k : ℕ) (x : Node) (nodes : List Node) → is_there x.life ≡ false
     → bodies_from f k (x ∷ nodes) ≡ bodies_from f (suc k) nodes
 bodies-gone f k x nodes gone = ap (λ b. cond b (body_of f k x ∷ bodies_from f (suc k) nodes) (bodies_from f (suc k) nodes)) gone

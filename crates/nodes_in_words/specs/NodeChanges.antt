@@ -49,6 +49,7 @@ bodies-places f g k (x ∷ nodes) same =
     ap (λ b. cond (is_there x.life) (b ∷ bodies_from f (suc k) nodes) (bodies_from f (suc k) nodes)) first
     ∙ ap (λ bs. cond (is_there x.life) (body_of g k x ∷ bs) bs) rest
 
+-- nodes have the same bodies by two maps from numbers to places that agree on every number
 pub bodies-same : (f g : ℕ → ℕ) (nodes : List Node) → ((n : ℕ) → f n ≡ g n) → bodies_from f 0 nodes ≡ bodies_from g 0 nodes
 bodies-same f g nodes same = bodies-places f g 0 nodes (λ i x low j v inside. agrees f g _ same)
 
@@ -71,6 +72,7 @@ bodies-condemn f k (flag ∷ kept) (x ∷ nodes) =
 
 -- ---- one node in place of another
 
+-- a node put in place of one that lies where it does leaves each node's place as it was
 pub place_set : (nodes : List Node) (n : ℕ) (y : Node) (m : ℕ) → y.place ≡ place_of nodes n → place_of (set nodes n y) m ≡ place_of nodes m
 place_set [] n y m is = refl
 place_set (x ∷ nodes) zero y zero is = is
@@ -78,6 +80,7 @@ place_set (x ∷ nodes) zero y (suc m) is = refl
 place_set (x ∷ nodes) (suc n) y zero is = refl
 place_set (x ∷ nodes) (suc n) y (suc m) is = place_set nodes n y m is
 
+-- a node put in place of one with the same life leaves each node's life as it was
 pub life_set : (nodes : List Node) (n : ℕ) (y : Node) (m : ℕ) → y.life ≡ (node_at nodes n).life → (node_at (set nodes n y) m).life ≡ (node_at nodes m).life
 life_set [] n y m is = refl
 life_set (x ∷ nodes) zero y zero is = is

@@ -30,12 +30,14 @@ node_body nodes v n held there =
     subst (λ bs. Contains bs (body_of (place_of nodes) n (node_at nodes n))) (sym held)
     (subst (λ m. Contains (bodies_of nodes) (body_of (place_of nodes) m (node_at nodes n))) (let e : 0 + n ≡ n = omega arith in e) (body_of_node (place_of nodes) 0 nodes n there))
 
+-- where the bodies are those of the nodes, each body is that of a node that is there
 pub body_node : (nodes : List Node) (v : SeatView) (b : Body) → v.bodies ≡ bodies_of nodes → Contains v.bodies b
     → (n : ℕ) × (n < length nodes) × IsThere nodes n × (b ≡ body_of (place_of nodes) n (node_at nodes n))
 body_node nodes v b held there =
     let w = node_of_body (place_of nodes) 0 nodes b (subst (λ bs. Contains bs b) held there) in
     (w.0, w.1, w.2, w.3 ∙ ap (λ m. body_of (place_of nodes) m (node_at nodes w.0)) (let e : 0 + w.0 ≡ w.0 = omega arith in e))
 
+-- where a view's bodies are those of the nodes, two nodes that are there and lie at one place are one
 pub same_node : (nodes : List Node) (v : SeatView) (n m : ℕ) → IsView v → v.bodies ≡ bodies_of nodes → IsThere nodes n → IsThere nodes m
     → place_of nodes n ≡ place_of nodes m → n ≡ m
 same_node nodes v n m view held n_there m_there same =
