@@ -9,6 +9,7 @@ use Rattle.marker_core.specs.Matching.{IsWhole}
 use Rattle.page_words.specs.Roles.{kind_lists}
 use Rattle.page_words.specs.Seat.{SeatView, IsView}
 
+-- each body is of one of the types, lies in the heap, and has room for header, serial number and the type's fields
 pub whole_body : (v : SeatView) → IsView v → (b : Body) → Contains v.bodies b → IsWhole v.count (kind_lists v.types) b
 whole_body v is b h = All-contains (IsWhole v.count (kind_lists v.types)) v.bodies b is.whole h
 
@@ -16,6 +17,7 @@ whole_body v is b h = All-contains (IsWhole v.count (kind_lists v.types)) v.bodi
 pub known_type : (v : SeatView) → IsView v → (b : Body) → Contains v.bodies b → b.ty < length v.types
 known_type v is b h = omega (arith, (whole_body v is b h).ty, length-map v.types (λ (type : ObjectType). type.kinds))
 
+-- a header has room for the number of a body's type: it is below 16384
 pub small_type : (v : SeatView) → IsView v → (b : Body) → Contains v.bodies b → b.ty < 16384
 small_type v is b h = omega (arith, is.few, known_type v is b h)
 
@@ -48,6 +50,7 @@ same_body v b c is hb hc same =
 pub body_below : (v : SeatView) (b : Body) → IsView v → Contains v.bodies b → b.place < v.count
 body_below v b is h = omega (arith, two_words v is b h, within_heap v is b h)
 
+-- the place of a body is an address of the heap
 pub place_below : (v : SeatView) (a : ℕ) → IsView v → IsPlace v.bodies a → a < v.count
 place_below v a is at = omega (arith, body_below v at.0 is at.1, at.2)
 
@@ -57,5 +60,6 @@ no_place_within v b i is h some low at =
     let same : i ≡ 0 = same_offset v is b at.0 h at.1 i 0 low (omega (arith, two_words v is at.0 at.1)) (omega (arith, at.2)) in
     omega (arith, same)
 
+-- no body has its place past the heap's last word
 pub no_place_beyond : (v : SeatView) (a : ℕ) → IsView v → v.count ≤ a → IsPlace v.bodies a → ⊥
 no_place_beyond v a is beyond at = omega (arith, place_below v a is at)

@@ -5,10 +5,12 @@ use Rattle.gc_graph.specs.Members.{any_member, any_from}
 use Rattle.marker_core.specs.declared.states.Body.{Body}
 use Rattle.marker_core.specs.Bodies.{end_of, has_word, is_place, in_body, IsPlace, IsInBody}
 
+-- an address that passes the test for places is the place of a body
 pub place_of_test : (bodies : List Body) (a : ℕ) → is_place bodies a ≡ true → IsPlace bodies a
 place_of_test bodies a is =
     let found = any_member (λ (b : Body). eqb b.place a) bodies is in (found.0, found.1, eqb-true found.0.place a found.2)
 
+-- the place of a body passes the test for places
 pub test_of_place : (bodies : List Body) (a : ℕ) → IsPlace bodies a → is_place bodies a ≡ true
 test_of_place bodies a at = any_from (λ (c : Body). eqb c.place a) bodies at.0 at.1 (eq-eqb at.0.place a at.2)
 

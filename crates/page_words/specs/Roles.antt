@@ -20,6 +20,7 @@ use Rattle.marker_core.specs.Hands.{traced_offsets}
 abbrev pub kind_lists : List ObjectType → List (List Kind)
 kind_lists types = map (λ type. type.kinds) types
 
+-- the kinds of a type's fields are the same in the step machine's lists and in the table of types
 pub kinds_fit : (types : List ObjectType) (ty : ℕ) → kinds_of (kind_lists types) ty ≡ kinds_in types ty
 kinds_fit types ty = elim (cases_lt ty (length types)) [
   | inl low ↦ get_or-map (λ (type : ObjectType). type.kinds) types ty no_type [] low
@@ -36,6 +37,7 @@ kind_of_role KeyWord = Pair
 kind_of_role ValueWord = Pair
 kind_of_role PlainWord = Plain
 
+-- the kind of the field to which a word belongs is that of the word's role, and past the fields both are plain
 pub kind_is_role : (kinds : List Kind) (i : ℕ) → get_or (kinds_of_words kinds) i Plain ≡ kind_of_role (role_at kinds i)
 kind_is_role [] i = refl
 kind_is_role (Strong ∷ kinds) zero = refl
@@ -75,6 +77,7 @@ words_before kinds field = field_words (take field kinds)
 words_more : (kind : Kind) (kinds : List Kind) (field : ℕ) → words_before (kind ∷ kinds) (suc field) ≡ words_of_kind kind + words_before kinds field
 words_more kind kinds field = sum_by-cons words_of_kind kind (take field kinds)
 
+-- the first word of a declared field has the role with which a field of its kind begins
 pub role_of_field : (kinds : List Kind) (field : ℕ) → field < length kinds → role_at kinds (words_before kinds field) ≡ first_role (kind_of kinds field)
 role_of_field [] field declared = absurd (omega arith)
 role_of_field (Strong ∷ kinds) zero declared = refl
@@ -137,6 +140,7 @@ one_later before kinds kind i j at found = (
 first_there : (first : Kind) (kinds : List Kind) (kind : Kind) → first_role first ≡ first_role kind → (field : ℕ) × IsFirstOf (first ∷ kinds) kind 0 field
 first_there first kinds kind e = (0, record { declared = omega arith; kind_is = one_kind first kind e; number = refl })
 
+-- a word with a role that begins fields of a kind that isn't plain is the first of a declared field of that kind
 pub field_of_role : (kinds : List Kind) (i : ℕ) (kind : Kind) → is_plain kind ≡ false → role_at kinds i ≡ first_role kind
     → (field : ℕ) × IsFirstOf kinds kind i field
 field_of_role [] i kind is e = absurd (begins_none kind is e)
@@ -152,6 +156,7 @@ field_of_role (Pair ∷ kinds) (suc (suc i)) kind is e = one_later Pair kinds ki
 
 -- ---- how many words the fields take
 
+-- fields of these kinds take as many words in the step machine's count as in the graph's
 pub word_count_is : (kinds : List Kind) → word_count kinds ≡ field_words kinds
 word_count_is [] = refl
 word_count_is (Strong ∷ kinds) = omega (arith, word_count_is kinds, sum_by-cons words_of_kind Strong kinds)
