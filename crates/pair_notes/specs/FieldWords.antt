@@ -31,6 +31,7 @@ field_there v b kind offset view here there =
     let fit = ap word_count (kinds_fit v.types b.ty) in
     (omega (arith, field.2), omega (arith, field.2, field_below kind kinds field.0 field.1, whole.room, whole.fields, words, fit))
 
+-- the address of a field word is one of the heap
 pub word_below : (v : SeatView) (holder offset : ℕ) → IsView v → HasWord v.bodies holder offset → holder + offset < v.count
 word_below v holder offset view has =
     let whole = whole_body v view has.0 has.1 in
@@ -51,16 +52,19 @@ read_word v holder offset w view has word b there at =
     let one : has.0 ≡ b = same_body v has.0 b view has.1 there (has.2 ∙ sym at) in
     word.field has.0 (offset - 2) has.1 has.4 (omega (arith, has.2, has.3)) ∙ ap (λ (x : Body). word_at x offset) one
 
+-- the word of a strong field is one of its object's field words
 pub strong_there : (v : SeatView) (holder offset : ℕ) → IsView v → HasStrong v.types v.bodies holder offset → HasWord v.bodies holder offset
 strong_there v holder offset view has =
     let there = field_there v has.0 Strong offset view has.1 has.3 in
     (has.0, has.1, has.2, there.0, omega (arith, there.0, there.1))
 
+-- the key of a pair is one of its object's field words
 pub key_there : (v : SeatView) (holder offset : ℕ) → IsView v → HasPair v.types v.bodies holder offset → HasWord v.bodies holder offset
 key_there v holder offset view has =
     let there = field_there v has.0 Pair offset view has.1 has.3 in
     (has.0, has.1, has.2, there.0, omega (arith, there.0, there.1))
 
+-- the value of a pair, the word after its key, is one of its object's field words
 pub value_there : (v : SeatView) (holder offset : ℕ) → IsView v → HasPair v.types v.bodies holder offset → HasWord v.bodies holder (offset + 1)
 value_there v holder offset view has =
     let there = field_there v has.0 Pair offset view has.1 has.3 in
@@ -68,9 +72,11 @@ value_there v holder offset view has =
 
 -- ---- in hand
 
+-- an object in hand at a strong word has a strong field at that offset
 pub strong_in_hand : (v : SeatView) (holder offset : ℕ) (part : Part) → IsAt strong_offsets v holder offset part → HasStrong v.types v.bodies holder offset
 strong_in_hand v holder offset part at = (at.body, at.there, at.place_is, at.among)
 
+-- an object in hand at a pair has a pair at that offset
 pub pair_in_hand : (v : SeatView) (holder offset : ℕ) (part : Part) → IsAt pair_offsets v holder offset part → HasPair v.types v.bodies holder offset
 pair_in_hand v holder offset part at = (at.body, at.there, at.place_is, at.among)
 

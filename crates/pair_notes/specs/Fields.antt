@@ -29,6 +29,7 @@ two_more kinds i = omega (arith, sum_by-cons words_of_kind Pair (take i kinds))
 
 -- ---- the offsets of the fields of a kind
 
+-- each offset of the fields of a kind is that of the first word of a declared field of this kind
 pub field_at_offset : (kind : Kind) (kinds : List Kind) (offset : ℕ) → Contains (offsets_of_kind kind kinds) offset
     → (i : ℕ) × IsFieldOf kind kinds i × (offset ≡ 2 + first_of kinds i)
 field_at_offset kind kinds offset there =

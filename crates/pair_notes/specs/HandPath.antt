@@ -114,9 +114,11 @@ hand_last offsets place ty n past = ap (hand_over place ty) (drop_all n offsets 
 
 -- ---- the offsets are those of the words that the table of types tells
 
+-- the offsets of a type's strong words and pairs are those of the traced words that the table tells, in their order
 pub told_offsets : (types : List ObjectType) (ty : ℕ) (told : List TracedWord) → told ≡ traced_words_of (kinds_in types ty) → traced_in types ty ≡ map offset_in told
 told_offsets types ty told is = ap (traced_offsets 2) (kinds_fit types ty) ∙ sym (traced_fit 2 (kinds_in types ty)) ∙ ap (map offset_in) (sym is)
 
+-- a type has as many strong words and pairs as the table tells traced words
 pub told_length : (types : List ObjectType) (ty : ℕ) (told : List TracedWord) → told ≡ traced_words_of (kinds_in types ty) → length (traced_in types ty) ≡ length told
 told_length types ty told is = ap length (told_offsets types ty told is) ∙ length-map told offset_in
 

@@ -72,6 +72,7 @@ field_of_pair (Pair ∷ kinds) k q (suc u ∷ suc w ∷ words) there =
       | inr later ↦ after_pair kinds (suc u) (suc w) words k q (field_of_pair kinds k q words later)
     ]
 
+-- a declared pair whose two words name objects is a pair edge with these as its key and its value
 pub pair_of_field : (kinds : List Kind) (k q i : ℕ) (words : List ℕ) → IsFieldOf Pair kinds i → get_or words (first_of kinds i + 0) 0 ≡ k + 1
     → get_or words (first_of kinds i + 1) 0 ≡ q + 1 → Contains (pair_targets kinds (values_in kinds words)) (k, q)
 pair_of_field [] k q i words field key value = absurd (omega (arith, field.low))
