@@ -8,6 +8,7 @@ use Rattle.nodes_in_words.specs.LookedNodes.{held_looked}
 use Rattle.nodes_in_words.specs.Places.{IsJudged}
 use Rattle.prefinalizer_effects.specs.Prepared.{IsPrepared}
 
+-- objects that are prepared for prefinalizers still are where headers were looked at
 pub prepared_looked : (space : SpaceView) (types : List ObjectType) (v w : SeatView) (nodes : List Node) → OnlyLooked v w
     → IsPrepared space types v nodes → IsPrepared space types w nodes
 prepared_looked space types v w nodes same ready = record {
