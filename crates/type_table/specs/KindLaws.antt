@@ -9,6 +9,7 @@ use Rattle.gc_graph.specs.Fields.{words_of_kind, field_words}
 use Rattle.type_table.specs.Types.{is_kind}
 use Rattle.type_table.specs.Layouts.{kinds_of_words}
 
+-- a kind that passes the test for a kind is that kind
 pub same_kind : (wanted kind : Kind) → is_kind wanted kind ≡ true → kind ≡ wanted
 same_kind Strong Strong is = refl
 same_kind Weak Weak is = refl
@@ -16,6 +17,7 @@ same_kind Pair Pair is = refl
 same_kind Plain Plain is = refl
 same_kind wanted kind is = absurd (true≢false (sym is))
 
+-- each kind passes the test for itself
 pub kind_itself : (kind : Kind) → is_kind kind kind ≡ true
 kind_itself Strong = refl
 kind_itself Weak = refl

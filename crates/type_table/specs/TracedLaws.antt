@@ -73,9 +73,11 @@ pairs_in_turn offset (Weak ∷ kinds) = pairs_in_turn (offset + 1) kinds
 pairs_in_turn offset (Pair ∷ kinds) = ap (λ xs. offset ∷ xs) (pairs_in_turn (offset + 2) kinds)
 pairs_in_turn offset (Plain ∷ kinds) = pairs_in_turn (offset + 1) kinds
 
+-- the offsets of the declared strong fields are those of the strong fields among the traced words, in their order
 pub strong_told : (kinds : List Kind) → offsets_of_kind Strong kinds ≡ strong_among (traced_words_of kinds)
 strong_told kinds = in_turn (is_kind Strong) 2 kinds ∙ strong_in_turn 2 kinds
 
+-- the offsets of the declared pairs are those of the pairs among the traced words, in their order
 pub pairs_told : (kinds : List Kind) → offsets_of_kind Pair kinds ≡ pairs_among (traced_words_of kinds)
 pairs_told kinds = in_turn (is_kind Pair) 2 kinds ∙ pairs_in_turn 2 kinds
 
@@ -85,6 +87,7 @@ all_strong [] none = refl
 all_strong (StrongAt offset ∷ words) none = ap (λ xs. offset ∷ xs) (all_strong words none)
 all_strong (PairAt offset ∷ words) none = absurd (omega (arith, ap length none))
 
+-- the offset of each strong field among traced words is one of their strong offsets
 pub strong_there : (words : List TracedWord) (offset : ℕ) → Contains words (StrongAt offset) → Contains (strong_among words) offset
 strong_there [] offset there = absurd (omega (arith, there.1))
 strong_there (StrongAt first ∷ words) offset there = elim (Contains-cons_cases (StrongAt first) words (StrongAt offset) there) [
@@ -96,6 +99,7 @@ strong_there (PairAt first ∷ words) offset there = elim (Contains-cons_cases (
   | inr later ↦ strong_there words offset later
 ]
 
+-- each of the strong offsets of traced words is that of a strong field among them
 pub strong_back : (words : List TracedWord) (offset : ℕ) → Contains (strong_among words) offset → Contains words (StrongAt offset)
 strong_back [] offset there = absurd (omega (arith, there.1))
 strong_back (StrongAt first ∷ words) offset there = elim (Contains-cons_cases first (strong_among words) offset there) [
@@ -104,6 +108,7 @@ strong_back (StrongAt first ∷ words) offset there = elim (Contains-cons_cases 
 ]
 strong_back (PairAt first ∷ words) offset there = Contains-cons (PairAt first) words (StrongAt offset) (strong_back words offset there)
 
+-- the offset of each pair among traced words is one of their pairs' offsets
 pub pair_there : (words : List TracedWord) (offset : ℕ) → Contains words (PairAt offset) → Contains (pairs_among words) offset
 pair_there [] offset there = absurd (omega (arith, there.1))
 pair_there (PairAt first ∷ words) offset there = elim (Contains-cons_cases (PairAt first) words (PairAt offset) there) [
@@ -115,6 +120,7 @@ pair_there (StrongAt first ∷ words) offset there = elim (Contains-cons_cases (
   | inr later ↦ pair_there words offset later
 ]
 
+-- each of the pairs' offsets of traced words is that of a pair among them
 pub pair_back : (words : List TracedWord) (offset : ℕ) → Contains (pairs_among words) offset → Contains words (PairAt offset)
 pair_back [] offset there = absurd (omega (arith, there.1))
 pair_back (PairAt first ∷ words) offset there = elim (Contains-cons_cases first (pairs_among words) offset there) [
