@@ -15,6 +15,7 @@ mod Follows
 mod Sound
 mod WeakReads
 mod NodeWrites
+mod FieldPlaces
 mod FieldWrites
 mod ValidCases
 mod ValidHandles
@@ -23,6 +24,11 @@ mod ValidWrites
 mod ValidReads
 mod Condemned
 mod Prefinalising
+mod AccessLaws
+mod HandleLaws
+mod StepFrames
+mod NewLaws
+mod FrameLaws
 mod ActionsStay
 mod MayBounds
 mod Since

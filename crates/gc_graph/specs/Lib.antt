@@ -28,6 +28,8 @@ pub mod Pages
 pub mod Valid
 pub mod ReadBack
 pub mod ValidLaw
+pub mod AccessLaw
+pub mod FrameLaw
 pub mod ActionLaw
 pub mod MayLaw
 pub mod CollectionLaw

@@ -11,11 +11,9 @@
 //! `Graph` and `reach_check`, by which a program checks a set of nodes; `laws`. The definitions
 //! stand in `specs/`, to be read in the order of `specs/Lib.antt`.
 //!
-//! What is proved: the laws of `reach`, `laws`, `laws_of_cycles`, `laws_of_lives`,
-//! `laws_of_marking`, `laws_of_regions`, `laws_of_reports`, `laws_of_sweeping`, `laws_of_threads` and
-//! `laws_of_totals`, each the contract of a function that does nothing, and that `reach_check` is
-//! true exactly where a set holds the roots and is closed. The laws of steps and runs ask for a heap
-//! that has a page.
+//! What is proved: the laws of `reach`, of `laws`, and of the files whose names begin with `laws_of`,
+//! each the contract of a function that does nothing, and that `reach_check` is true exactly where a
+//! set holds the roots and is closed. The laws of steps and runs ask for a heap that has a page.
 //!
 //! What is only tested or not said: the definitions are what a reader has to believe. The tests
 //! of the program compare them with reports that were written by hand.
@@ -27,6 +25,7 @@ mod command;
 mod graphs;
 mod kind;
 mod laws;
+mod laws_of_accesses;
 mod laws_of_cycles;
 mod laws_of_lives;
 mod laws_of_marking;
@@ -52,6 +51,9 @@ pub use laws::{
     memory_leaves_all, pages_have_one_bucket, pause_bounds_meet, placement_is_free,
     refused_leaves_all, replies_are_of_one_thread, report_reads_back, runs_are_replayed,
     scripts_are_in_ranges, step_keeps_valid, sweeps_finalise_dead, texts_are_judged,
+};
+pub use laws_of_accesses::{
+    new_objects_are_empty, slots_are_copied, steps_leave_the_rest, written_is_read_back,
 };
 pub use laws_of_cycles::{
     cycles_go_in_order, hits_are_kept, last_registered_runs_first, live_holders_are_cleared,

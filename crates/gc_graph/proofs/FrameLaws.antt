@@ -1,0 +1,375 @@
+-- What each command leaves alone.
+use Rattle.std.proofs.Common.{◌≡◌, ℕ, zero, suc, ◌+◌, nat_lt, Bool, true, List, [], ◌∷◌, length, get_or, set, Option, Some, None, refl, sym, ap, ◌∙◌, subst, inl, inr, arith}
+use Rattle.std.specs.List.{slice_get}
+use Rattle.std.proofs.lemmas.Bool.{cases_eq}
+use Rattle.std.proofs.lemmas.List.{get_or-set_same, get_or-set_other, get_or_append_left, length-set, length-map}
+use Rattle.gc_graph.specs.declared.command.Command.{Command}
+use Rattle.gc_graph.specs.declared.command.Command.TheVariants as C
+use Rattle.gc_graph.specs.declared.command.Want.{Want}
+use Rattle.gc_graph.specs.declared.kind.Kind.{Kind}
+use Rattle.gc_graph.specs.declared.kind.Kind.TheVariants.{Strong, Weak, Pair, Plain}
+use Rattle.gc_graph.specs.declared.kind.Value.{Value}
+use Rattle.gc_graph.specs.declared.kind.Value.TheVariants.{Null, Ref, Word}
+use Rattle.gc_graph.specs.declared.line.Line.{Line}
+use Rattle.gc_graph.specs.declared.line.Refusal.{Refusal}
+use Rattle.gc_graph.specs.declared.line.Refusal.TheVariants as R
+use Rattle.gc_graph.specs.declared.region.Entry.{Entry}
+use Rattle.gc_graph.specs.State.{Setup, State, StackWord, Node, no_node, node_at, size_of}
+use Rattle.gc_graph.specs.State.StackWord.{Pointer, Number}
+use Rattle.gc_graph.specs.Fields.{words_of_kind, kind_of_field, word_of_field, value_at, with_value, new_node, content_of, is_reference, is_weak, is_pair, is_plain}
+use Rattle.gc_graph.specs.May.{read_node}
+use Rattle.gc_graph.specs.Outcomes.{answered, IsRefused, took, slot_at, with_slot, weak_slot_at}
+use Rattle.gc_graph.specs.ObjectSteps.{AtField, first_word, with_node, with_new, part_of, IsChanged, StepNew, IsNumber, IsRead}
+use Rattle.gc_graph.specs.HandleSteps.{IsDone, pushed, IsPushed, IsPeeked}
+use Rattle.gc_graph.specs.CycleSteps.{IsPause, is_marking, is_sweeping, is_stack_refused, StepGcStart, StepGcFinish, StepGcNow, StepSweepTo}
+use Rattle.gc_graph.specs.RegionSteps.{StepExport, StepImport, StepThreadsJoin}
+use Rattle.gc_graph.specs.Step.{Step}
+use Rattle.gc_graph.specs.FrameLaw.{WritesSlot, WritesWeakSlot, WritesStack, WritesRegistrations, IsWordAt, WritesWord, LeavesRest, StepsLeaveRest, FieldsTakeTurns}
+use Rattle.gc_graph.proofs.StepCases.{match_option, match_bool, at_field}
+use Rattle.gc_graph.proofs.ValidCases.{IsFound, field_is}
+use Rattle.gc_graph.proofs.Shapes.{word_at, word_at_is}
+use Rattle.gc_graph.proofs.FieldWrites.{with_values}
+use Rattle.gc_graph.proofs.AccessLaws.{one_or_more, two_in_pair}
+use Rattle.gc_graph.proofs.StepFrames.{Keeps, keeps_same, keeps_more, keeps_read, keeps_took, keeps_start, keeps_sweep}
+
+module _ (old new : State) (command : Command) where
+  -- ---- one part is written
+
+  still : (x : State) → Keeps old x → new ≡ answered x → LeavesRest old command new
+  still x k e = subst (LeavesRest old command) (sym e) (record {
+    slots = λ z not. ap (λ slots. get_or slots z None) k.slots;
+    weak = λ z not. ap (λ slots. get_or slots z None) k.weak;
+    stack = λ not. k.stack;
+    registrations = λ not. k.registrations;
+    words = λ n w l not. ap (λ object. get_or object.values w Null) (k.objects n);
+    slot_count = ap length k.slots;
+    weak_count = ap length k.weak;
+  })
+
+  refused : (lines : List Line) (why : Refusal) → IsRefused why old lines new → LeavesRest old command new
+  refused lines why r = still old (keeps_same old) r.1
+
+  slotted : (x : State) (q : ℕ) (content : Option ℕ) → ((z : ℕ) → z ≡ q → WritesSlot command z) → Keeps old x
+      → new ≡ answered (with_slot x q content) → LeavesRest old command new
+  slotted x q content writes k e = subst (LeavesRest old command) (sym e) (record {
+    slots = λ z not. get_or-set_other x.slots q z content None (λ same. not (writes z same)) ∙ ap (λ slots. get_or slots z None) k.slots;
+    weak = λ z not. ap (λ slots. get_or slots z None) k.weak;
+    stack = λ not. k.stack;
+    registrations = λ not. k.registrations;
+    words = λ n w l not. ap (λ object. get_or object.values w Null) (k.objects n);
+    slot_count = length-set x.slots q content ∙ ap length k.slots;
+    weak_count = ap length k.weak;
+  })
+
+  weakly : (w : ℕ) (content : Option ℕ) → ((z : ℕ) → z ≡ w → WritesWeakSlot command z)
+      → new ≡ answered (record old { weak = set old.weak w content }) → LeavesRest old command new
+  weakly w content writes e = subst (LeavesRest old command) (sym e) (record {
+    slots = λ z not. refl;
+    weak = λ z not. get_or-set_other old.weak w z content None (λ same. not (writes z same));
+    stack = λ not. refl;
+    registrations = λ not. refl;
+    words = λ n w l not. refl;
+    slot_count = refl;
+    weak_count = length-set old.weak w content;
+  })
+
+  stacked : (stack : List StackWord) → WritesStack command → new ≡ answered (record old { stack = stack }) → LeavesRest old command new
+  stacked stack writes e = subst (LeavesRest old command) (sym e) (record {
+    slots = λ z not. refl;
+    weak = λ z not. refl;
+    stack = λ not. absurd (not writes);
+    registrations = λ not. refl;
+    words = λ n w l not. refl;
+    slot_count = refl;
+    weak_count = refl;
+  })
+
+  written : (n : ℕ) (values : List Value)
+      → ((w : ℕ) → (WritesWord old command n w → ⊥) → get_or values w Null ≡ value_at (node_at old.nodes n) w)
+      → new ≡ answered (with_node old n (with_values (node_at old.nodes n) values)) → LeavesRest old command new
+  written n values same e = subst (LeavesRest old command) (sym e) (record {
+    slots = λ z not. refl;
+    weak = λ z not. refl;
+    stack = λ not. refl;
+    registrations = λ not. refl;
+    words = λ m w l not. elim (cases_eq m n) [
+      | inl is ↦
+          ap (λ k. value_at (node_at (set old.nodes n (with_values (node_at old.nodes n) values)) k) w) is
+          ∙ ap (λ (x : Node). value_at x w) (get_or-set_same old.nodes n (with_values (node_at old.nodes n) values) no_node (omega (arith, is, l)))
+          ∙ same w (λ writes. not (subst (λ k. WritesWord old command k w) (sym is) writes))
+          ∙ ap (λ k. value_at (node_at old.nodes k) w) (sym is)
+      | inr other ↦
+          ap (λ (x : Node). value_at x w) (get_or-set_other old.nodes n m (with_values (node_at old.nodes n) values) no_node other)
+    ];
+    slot_count = refl;
+    weak_count = refl;
+  })
+
+  -- ---- fields
+
+  one_word : (p f n : ℕ) (value : Value) (lines : List Line) → ((w : ℕ) → IsWordAt old p f n w → WritesWord old command n w) → slot_at old p ≡ Some n
+      → IsChanged old n (with_value (node_at old.nodes n) (first_word old n f) value) lines new → LeavesRest old command new
+  one_word p f n value lines writes slot d =
+      let some = one_or_more (kind_of_field (node_at old.nodes n).object f) in
+      written n (set (node_at old.nodes n).object.values (first_word old n f) value)
+      (λ w not. get_or-set_other (node_at old.nodes n).object.values (first_word old n f) w value Null
+      (λ same. not (writes w (slot, (omega (arith, same), omega (arith, same, some)))))) d.1
+
+  two_words : (p f n : ℕ) (key value : Value) (lines : List Line) → ((w : ℕ) → IsWordAt old p f n w → WritesWord old command n w)
+      → IsFound is_pair old p f n
+      → IsChanged old n (with_value (with_value (node_at old.nodes n) (first_word old n f) key) (first_word old n f + 1) value) lines new
+      → LeavesRest old command new
+  two_words p f n key value lines writes found d =
+      let two = two_in_pair (kind_of_field (node_at old.nodes n).object f) found.allows in
+      let values : List Value = (node_at old.nodes n).object.values in
+      written n (set (set values (first_word old n f) key) (first_word old n f + 1) value)
+      (λ w not.
+      get_or-set_other (set values (first_word old n f) key) (first_word old n f + 1) w value Null
+      (λ same. not (writes w (found.slot, (omega (arith, same), omega (arith, same, two)))))
+      ∙ get_or-set_other values (first_word old n f) w key Null (λ same. not (writes w (found.slot, (omega (arith, same), omega (arith, same, two)))))) d.1
+
+  write_one : (allowed : Kind → Bool) (p f : ℕ) (value : Value) (lines : List Line) → ((n w : ℕ) → IsWordAt old p f n w → WritesWord old command n w)
+      → AtField allowed old p f lines new (λ n. IsChanged old n (with_value (node_at old.nodes n) (first_word old n f) value) lines new)
+      → LeavesRest old command new
+  write_one allowed p f value lines writes h =
+      field_is allowed old new p f lines (λ n. IsChanged old n (with_value (node_at old.nodes n) (first_word old n f) value) lines new) _
+      (λ n found d. one_word p f n value lines (writes n) found.slot d) (λ why r. refused lines why r) h
+
+  write_two : (p f : ℕ) (key value : Value) (lines : List Line) → ((n w : ℕ) → IsWordAt old p f n w → WritesWord old command n w)
+      → AtField is_pair old p f lines new
+      (λ n. IsChanged old n (with_value (with_value (node_at old.nodes n) (first_word old n f) key) (first_word old n f + 1) value) lines new)
+      → LeavesRest old command new
+  write_two p f key value lines writes h =
+      field_is is_pair old new p f lines
+      (λ n. IsChanged old n (with_value (with_value (node_at old.nodes n) (first_word old n f) key) (first_word old n f + 1) value) lines new) _
+      (λ n found d. two_words p f n key value lines (writes n) found d) (λ why r. refused lines why r) h
+
+  read : (weak : Bool) (value : Value) (q : ℕ) (lines : List Line) → ((z : ℕ) → z ≡ q → WritesSlot command z) → IsRead weak old value q lines new
+      → LeavesRest old command new
+  read weak Null q lines writes h = slotted old q None writes (keeps_same old) h.1
+  read weak (Ref n) q lines writes h = slotted (read_node weak old n) q (Some n) writes (keeps_read weak old n) h.1
+  read weak (Word w) q lines writes h = absurd h
+
+  fetch : (allowed : Kind → Bool) (p f q : ℕ) (weak : ℕ → Bool) (value : ℕ → Value) (lines : List Line) → ((z : ℕ) → z ≡ q → WritesSlot command z)
+      → AtField allowed old p f lines new (λ n. IsRead (weak n) old (value n) q lines new) → LeavesRest old command new
+  fetch allowed p f q weak value lines writes h =
+      at_field allowed old new p f lines (λ n. IsRead (weak n) old (value n) q lines new) _
+      (λ n d. read (weak n) (value n) q lines writes d) (λ why r. refused lines why r) h
+
+  number : (value : Value) (lines : List Line) → IsNumber old value lines new → LeavesRest old command new
+  number Null lines h = absurd h
+  number (Ref n) lines h = absurd h
+  number (Word w) lines h = still old (keeps_same old) h.1
+
+  -- ---- the stack
+
+  push : (word : StackWord) (lines : List Line) → WritesStack command → IsPushed old word lines new → LeavesRest old command new
+  push word lines writes h =
+      match_bool (nat_lt (length old.stack) 1024) (IsDone (pushed old word) lines new) (IsRefused R.Stack old lines new) _
+      (λ d. stacked (word ∷ old.stack) writes d.1) (λ r. refused lines R.Stack r) h
+
+  peek : (word : StackWord) (q : ℕ) (lines : List Line) → ((z : ℕ) → z ≡ q → WritesSlot command z) → IsPeeked old word q lines new
+      → LeavesRest old command new
+  peek (Pointer n o) q lines writes h = slotted old q (Some n) writes (keeps_same old) h.1
+  peek (Number w) q lines writes h = refused lines R.Kind h
+
+  -- ---- sweeps, new objects and pauses
+
+  sweep_to : (setup : Setup) (pages : ℕ) (lines : List Line) → StepSweepTo setup old pages lines new → LeavesRest old command new
+  sweep_to setup pages lines h =
+      match_bool (is_sweeping old.phase) _ _ _
+      (λ s. still s.swept (keeps_sweep setup.shape old s.swept pages s.numbers s.goes) s.after) (λ r. refused lines R.Phase r) h
+
+  made : (setup : Setup) (mid : State) (p t e a : ℕ) (content : Option ℕ) → ((z : ℕ) → z ≡ p → WritesSlot command z) → WritesRegistrations command
+      → Keeps old mid → new ≡ answered (with_slot (with_new setup mid t e a) p content) → LeavesRest old command new
+  made setup mid p t e a content writes registers k after = subst (LeavesRest old command) (sym after) (record {
+    slots = λ z not. get_or-set_other mid.slots p z content None (λ same. not (writes z same)) ∙ ap (λ slots. get_or slots z None) k.slots;
+    weak = λ z not. ap (λ slots. get_or slots z None) k.weak;
+    stack = λ not. k.stack;
+    registrations = λ not. absurd (not registers);
+    words = λ n w l not.
+        ap (λ (x : Node). value_at x w) (get_or_append_left mid.nodes (new_node setup t e a ∷ []) no_node n (omega (arith, l, k.count)))
+        ∙ ap (λ object. get_or object.values w Null) (k.objects n);
+    slot_count = length-set mid.slots p content ∙ ap length k.slots;
+    weak_count = ap length k.weak;
+  })
+
+  paused_rest : (setup : Setup) (markers : ℕ) (want : Want) (mid after : State) (piece : List Entry) (lines : List Line) → ((z : ℕ) → WritesWeakSlot command z)
+      → WritesRegistrations command → ((n w : ℕ) → WritesWord old command n w) → Keeps old mid → IsPause setup markers want mid piece lines after
+      → new ≡ answered after → LeavesRest old command new
+  paused_rest setup markers want mid after piece lines weak registers words k p e =
+      let taken : Keeps mid (took mid p.before) = keeps_took mid p.before in
+      subst (LeavesRest old command) (sym (e ∙ ap answered p.done.after)) (record {
+        slots = λ z not. ap (λ slots. get_or slots z None) (taken.slots ∙ k.slots);
+        weak = λ z not. absurd (not (weak z));
+        stack = λ not. taken.stack ∙ k.stack;
+        registrations = λ not. absurd (not registers);
+        words = λ n w l not. absurd (not (words n w));
+        slot_count = ap length (taken.slots ∙ k.slots);
+        weak_count = length-map (took mid p.before).weak _ ∙ ap length (taken.weak ∙ k.weak);
+      })
+
+  join : (piece : List Entry) (lines : List Line) → StepThreadsJoin old piece lines new → LeavesRest old command new
+  join piece lines h =
+      let k = keeps_took old piece in
+      still _ (record { slots = k.slots; weak = k.weak; stack = k.stack; registrations = k.registrations; count = k.count; objects = k.objects }) h.after
+
+-- ---- the longer commands
+
+new_leaves : (setup : Setup) (old new : State) (p t e : ℕ) (lines : List Line) → StepNew setup old p t e lines new → LeavesRest old (C.New p t e) new
+new_leaves setup old new p t e lines h = elim h [
+  | inl m ↦ still old new (C.New p t e) old (keeps_same old) m.1.1
+  | inr made_at ↦
+      let k : Keeps old made_at.mid = keeps_sweep setup.shape old made_at.mid made_at.placed.pages made_at.numbers made_at.placed.swept in
+      match_option made_at.place _ _ _
+      (λ full. still old new (C.New p t e) _
+      (record { slots = k.slots; weak = k.weak; stack = k.stack; registrations = k.registrations; count = k.count; objects = k.objects }) full.after)
+      (λ a d. made old new (C.New p t e) setup made_at.mid p t e a _ (λ z same. same) tt k d.after) made_at.done
+]
+
+start_leaves : (setup : Setup) (old new : State) (piece : List Entry) (lines : List Line) → StepGcStart setup old piece lines new → LeavesRest old C.GcStart new
+start_leaves setup old new piece lines h =
+    match_bool (is_marking old.phase) _ _ _ (λ r. refused old new C.GcStart lines R.Phase r.1)
+    (λ rest. elim rest [
+      | inl m ↦ still old new C.GcStart old (keeps_same old) m.1.1
+      | inr b ↦
+          still old new C.GcStart b.started
+          (keeps_more old b.swept b.started (keeps_sweep setup.shape old b.swept setup.shape.pages b.numbers b.ended)
+          (keeps_start setup b.swept b.started piece b.start)) b.after
+    ]) h
+
+finish_leaves : (setup : Setup) (want : Want) (old new : State) (piece : List Entry) (lines : List Line) → StepGcFinish setup want old piece lines new
+    → LeavesRest old (C.GcFinish want) new
+finish_leaves setup want old new piece lines h =
+    match_bool (is_marking old.phase) _ _ _
+    (λ rest. match_bool (is_stack_refused want old.stack) _ _ _ (λ r. refused old new (C.GcFinish want) lines R.Stack r.1)
+    (λ f. paused_rest old new (C.GcFinish want) setup setup.markers want old f.0 piece lines (λ z. tt) tt (λ n w. tt) (keeps_same old) f.1 f.2) rest)
+    (λ r. refused old new (C.GcFinish want) lines R.Phase r.1) h
+
+now_leaves : (setup : Setup) (want : Want) (old new : State) (piece : List Entry) (lines : List Line) → StepGcNow setup want old piece lines new
+    → LeavesRest old (C.GcNow want) new
+now_leaves setup want old new piece lines h =
+    match_bool (is_marking old.phase) _ _ _ (λ r. refused old new (C.GcNow want) lines R.Phase r.1)
+    (λ rest. match_bool (is_stack_refused want old.stack) _ _ _ (λ r. refused old new (C.GcNow want) lines R.Stack r.1)
+    (λ more. elim more [
+      | inl m ↦ still old new (C.GcNow want) old (keeps_same old) m.1.1
+      | inr c ↦
+          paused_rest old new (C.GcNow want) setup 0 want c.started c.paused c.second c.pause_lines (λ z. tt) tt (λ n w. tt)
+          (keeps_more old c.swept c.started (keeps_sweep setup.shape old c.swept setup.shape.pages c.numbers c.ended)
+          (keeps_start setup c.swept c.started c.first c.start)) c.pause c.after
+    ]) rest) h
+
+export_leaves : (old new : State) (p x : ℕ) (piece : List Entry) (lines : List Line) → StepExport old p x piece lines new → LeavesRest old (C.Export p x) new
+export_leaves old new p x piece lines h =
+    match_option (slot_at old p) _ _ _ (λ r. refused old new (C.Export p x) lines R.Null r.1)
+    (λ n done. elim done [
+      | inl m ↦ still old new (C.Export p x) old (keeps_same old) m.1.1
+      | inr e ↦ still old new (C.Export p x) (took old piece) (keeps_took old piece) e.after
+    ]) h
+
+import_leaves : (old new : State) (x p : ℕ) (piece : List Entry) (lines : List Line) → StepImport old x p piece lines new → LeavesRest old (C.Import x p) new
+import_leaves old new x p piece lines h = elim h [
+  | inl m ↦ still old new (C.Import x p) old (keeps_same old) m.1.1
+  | inr i ↦ slotted old new (C.Import x p) (took old piece) p _ (λ z same. same) (keeps_took old piece) i.after
+]
+
+unchanged : (old : State) (x : State) → x.slots ≡ old.slots → x.weak ≡ old.weak → x.stack ≡ old.stack → x.registrations ≡ old.registrations
+    → x.nodes ≡ old.nodes → Keeps old x
+unchanged old x a b c d e = record {
+  slots = a;
+  weak = b;
+  stack = c;
+  registrations = d;
+  count = ap length e;
+  objects = λ n. ap (λ nodes. (node_at nodes n).object) e;
+}
+
+-- ---- every command
+
+leaves : (setup : Setup) (old new : State) (command : Command) (piece : List Entry) (lines : List Line) → Step setup old command piece lines new
+    → LeavesRest old command new
+leaves setup old new (C.New p t e) piece lines h = new_leaves setup old new p t e lines h.1
+leaves setup old new (C.Set p f q) piece lines h =
+    write_one old new (C.Set p f q) is_reference p f (content_of (slot_at old q)) lines (λ n w at. at) h.1
+leaves setup old new (C.SetNull p f) piece lines h = write_one old new (C.SetNull p f) is_reference p f Null lines (λ n w at. at) h.1
+leaves setup old new (C.Pair p f k v) piece lines h =
+    write_two old new (C.Pair p f k v) p f (part_of (slot_at old k) (slot_at old v)) (part_of (slot_at old v) (slot_at old k)) lines (λ n w at. at) h.1
+leaves setup old new (C.PairNull p f) piece lines h = write_two old new (C.PairNull p f) p f Null Null lines (λ n w at. at) h.1
+leaves setup old new (C.Put p f w) piece lines h = write_one old new (C.Put p f w) is_plain p f (Word w) lines (λ n w at. at) h.1
+leaves setup old new (C.Word p f) piece lines h =
+    at_field is_plain old new p f lines (λ n. IsNumber old (value_at (node_at old.nodes n) (first_word old n f)) lines new) _
+    (λ n d. number old new (C.Word p f) (value_at (node_at old.nodes n) (first_word old n f)) lines d) (λ why r. refused old new (C.Word p f) lines why r) h.1
+leaves setup old new (C.Get p f q) piece lines h =
+    fetch old new (C.Get p f q) is_reference p f q (λ n. is_weak (kind_of_field (node_at old.nodes n).object f))
+    (λ n. value_at (node_at old.nodes n) (first_word old n f)) lines (λ z same. same) h.1
+leaves setup old new (C.Key p f q) piece lines h =
+    fetch old new (C.Key p f q) is_pair p f q (λ n. true) (λ n. value_at (node_at old.nodes n) (first_word old n f)) lines (λ z same. same) h.1
+leaves setup old new (C.Val p f q) piece lines h =
+    fetch old new (C.Val p f q) is_pair p f q (λ n. true) (λ n. value_at (node_at old.nodes n) (first_word old n f + 1)) lines (λ z same. same) h.1
+leaves setup old new (C.Copy p q) piece lines h = slotted old new (C.Copy p q) old q _ (λ z same. same) (keeps_same old) h.1.1
+leaves setup old new (C.Drop p) piece lines h = slotted old new (C.Drop p) old p None (λ z same. same) (keeps_same old) h.1.1
+leaves setup old new (C.Weak w p) piece lines h = weakly old new (C.Weak w p) w _ (λ z same. same) h.1.1
+leaves setup old new (C.Read w p) piece lines h = read old new (C.Read w p) true (content_of (weak_slot_at old w)) p lines (λ z same. same) h.1
+leaves setup old new (C.Push p o) piece lines h =
+    match_option (slot_at old p) _ _ _ (λ r. refused old new (C.Push p o) lines R.Null r)
+    (λ n m. match_bool (nat_lt o (size_of (node_at old.nodes n))) (IsPushed old (Pointer n o) lines new) (IsRefused R.Field old lines new) _
+    (λ d. push old new (C.Push p o) (Pointer n o) lines tt d) (λ r. refused old new (C.Push p o) lines R.Field r) m) h.1
+leaves setup old new (C.PushPlain n) piece lines h = push old new (C.PushPlain n) (Number n) lines tt h.1
+leaves setup old new C.Pop piece lines h =
+    match_bool (nat_lt 0 (length old.stack)) _ _ _ (λ d. stacked old new C.Pop _ tt d.1) (λ r. refused old new C.Pop lines R.Empty r) h.1
+leaves setup old new (C.Peek i q) piece lines h =
+    match_option (slice_get old.stack i) _ _ _ (λ r. refused old new (C.Peek i q) lines R.Empty r)
+    (λ word m. peek old new (C.Peek i q) word q lines (λ z same. same) m) h.1
+leaves setup old new C.GcStart piece lines h = start_leaves setup old new piece lines h
+leaves setup old new (C.GcStep n) piece lines h =
+    match_bool (is_marking old.phase) _ _ _ (λ t. still old new (C.GcStep n) _ (unchanged old _ refl refl refl refl refl) t.after)
+    (λ r. refused old new (C.GcStep n) lines R.Phase r) h.1
+leaves setup old new (C.GcFinish want) piece lines h = finish_leaves setup want old new piece lines h
+leaves setup old new (C.GcNow want) piece lines h = now_leaves setup want old new piece lines h
+leaves setup old new (C.Sweep n) piece lines h = sweep_to old new (C.Sweep n) setup _ lines h.1
+leaves setup old new C.SweepAll piece lines h = sweep_to old new C.SweepAll setup _ lines h.1
+leaves setup old new C.Stat piece lines h = still old new C.Stat old (keeps_same old) h.1.3
+leaves setup old new (C.Export p x) piece lines h = export_leaves old new p x piece lines h
+leaves setup old new (C.Import x p) piece lines h = import_leaves old new x p piece lines h
+leaves setup old new (C.At j order) piece lines h = elim h.1 [
+  | inl m ↦ still old new (C.At j order) old (keeps_same old) m.1
+  | inr d ↦ still old new (C.At j order) _ (unchanged old _ refl refl refl refl refl) d.1
+]
+leaves setup old new C.ThreadsGo piece lines h = elim h.1 [
+  | inl d ↦ still old new C.ThreadsGo _ (unchanged old _ refl refl refl refl refl) d.1
+  | inr d ↦ still old new C.ThreadsGo _ (unchanged old _ refl refl refl refl refl) d.1
+]
+leaves setup old new C.ThreadsJoin piece lines h = join old new C.ThreadsJoin piece lines h
+
+pub steps_leave_rest : StepsLeaveRest
+steps_leave_rest setup old command piece lines new h = leaves setup old new command piece lines h
+
+-- ---- the fields of an object
+
+next_word : (kinds : List Kind) (f : ℕ) → word_at kinds (suc f) ≡ word_at kinds f + words_of_kind (get_or kinds f Plain)
+next_word [] f = omega arith
+next_word (Strong ∷ []) zero = omega arith
+next_word (Weak ∷ []) zero = omega arith
+next_word (Pair ∷ []) zero = omega arith
+next_word (Plain ∷ []) zero = omega arith
+next_word (Strong ∷ kind ∷ kinds) zero = omega arith
+next_word (Weak ∷ kind ∷ kinds) zero = omega arith
+next_word (Pair ∷ kind ∷ kinds) zero = omega arith
+next_word (Plain ∷ kind ∷ kinds) zero = omega arith
+next_word (Strong ∷ kinds) (suc f) = omega (arith, next_word kinds f)
+next_word (Weak ∷ kinds) (suc f) = omega (arith, next_word kinds f)
+next_word (Pair ∷ kinds) (suc f) = omega (arith, next_word kinds f)
+next_word (Plain ∷ kinds) (suc f) = omega (arith, next_word kinds f)
+
+first_is_none : (kinds : List Kind) → word_at kinds 0 ≡ 0
+first_is_none [] = refl
+first_is_none (kind ∷ kinds) = refl
+
+pub fields_take_turns : FieldsTakeTurns
+fields_take_turns object = (
+  word_at_is object.kinds 0 ∙ first_is_none object.kinds,
+  λ f.
+      let next : f + 1 ≡ suc f = omega arith in
+      ap (word_of_field object) next ∙ word_at_is object.kinds (suc f) ∙ next_word object.kinds f
+      ∙ ap (λ k. k + words_of_kind (kind_of_field object f)) (sym (word_at_is object.kinds f)),
+)

@@ -1,0 +1,28 @@
+// The laws of the commands on objects and handles, as in laws.rt.
+
+ghost use Rattle.gc_graph.specs.AccessLaw.{NewObjectsAreEmpty, SlotsAreCopied, WrittenIsReadBack};
+ghost use Rattle.gc_graph.specs.FrameLaw.{FieldsTakeTurns, StepsLeaveRest};
+
+/// What was set, paired, put, weakly held, pushed or exported is what the next read of the same place
+/// gives.
+pub fn written_is_read_back()
+    ensures { WrittenIsReadBack }
+{}
+
+/// A copied slot holds what the other one held, and a dropped one nothing.
+pub fn slots_are_copied()
+    ensures { SlotsAreCopied }
+{}
+
+/// A new object has the next number, the fields of its type, and null or 0 in each word; its slot
+/// names it.
+pub fn new_objects_are_empty()
+    ensures { NewObjectsAreEmpty }
+{}
+
+/// A step changes no slot and no word but those that its command names, and pushes, pops and registers
+/// only where its command does.
+pub fn steps_leave_the_rest()
+    ensures rest { StepsLeaveRest }
+    ensures fields { FieldsTakeTurns }
+{}
