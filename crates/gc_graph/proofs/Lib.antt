@@ -29,6 +29,9 @@ mod HandleLaws
 mod StepFrames
 mod NewLaws
 mod FrameLaws
+mod Verdicts
+mod RefusalsExact
+mod FirstReasons
 mod ActionsStay
 mod MayBounds
 mod Since

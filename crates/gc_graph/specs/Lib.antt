@@ -35,6 +35,7 @@ pub mod MayLaw
 pub mod CollectionLaw
 pub mod CycleLaw
 pub mod RefusalLaw
+pub mod RefusalsExactLaw
 pub mod PlacementLaw
 pub mod SweepLaw
 pub mod SweptPagesLaw

@@ -6,6 +6,7 @@ ghost use Rattle.gc_graph.specs.MayLaw.{StartsHaveStarted, CollectionsHaveStarte
 ghost use Rattle.gc_graph.specs.PlacementLaw.{PagesHaveOneBucket, PlacementIsFree, SweepsFinaliseDead};
 ghost use Rattle.gc_graph.specs.ReadBack.{LinesReadBack, ReportReadsBack};
 ghost use Rattle.gc_graph.specs.RefusalLaw.{RefusedLeavesAll, MemoryLeavesAll, FullLeavesRest};
+ghost use Rattle.gc_graph.specs.RefusalsExactLaw.{RefusedForTheFirstReason};
 ghost use Rattle.gc_graph.specs.ScriptLaw.{TextsAreJudged, ScriptsAreInRanges};
 ghost use Rattle.gc_graph.specs.ValidLaw.{EmptyIsValid, StepKeepsValid};
 
@@ -44,6 +45,11 @@ pub fn pause_bounds_meet()
 /// A refused command changes nothing but the count of commands.
 pub fn refused_leaves_all()
     ensures { RefusedLeavesAll }
+{}
+
+/// A command is refused just where it has a reason to be, and for the first that it has.
+pub fn refused_for_the_first_reason()
+    ensures { RefusedForTheFirstReason }
 {}
 
 /// A command that answered `memory` may do so, and changes nothing but the count of commands. After
