@@ -94,7 +94,7 @@ steps_tell_what_is_left setup old new n piece lines count done h e =
 
 -- ---- the counts of a pause
 
-abbrev is_pause : Line → Bool
+abbrev pub is_pause : Line → Bool
 is_pause (L.Pause live dead crew traced walked) = true
 is_pause other = false
 
@@ -110,19 +110,19 @@ abbrev told_traced : Line → ℕ
 told_traced (L.Pause live dead crew traced walked) = traced
 told_traced other = 0
 
-abbrev IsOther : Line → Type 0
+abbrev pub IsOther : Line → Type 0
 IsOther line = is_pause line ≡ false
 
-others_finalised : (numbers : List ℕ) → All IsOther (finalise_lines numbers)
+pub others_finalised : (numbers : List ℕ) → All IsOther (finalise_lines numbers)
 others_finalised [] = All-nil IsOther
 others_finalised (n ∷ numbers) = All-cons IsOther (L.Finalise n) (finalise_lines numbers) refl (others_finalised numbers)
 
-others_run : (rs : List Registration) → All IsOther (prefinalise_lines rs)
+pub others_run : (rs : List Registration) → All IsOther (prefinalise_lines rs)
 others_run [] = All-nil IsOther
 others_run (r ∷ rs) = All-cons IsOther (L.Prefinalise r.node r.callback) (prefinalise_lines rs) refl (others_run rs)
 
 -- of lines of which one tells a pause, what tells a pause is that one
-the_one : (before after : List Line) (line told : Line) → All IsOther before → All IsOther after → is_pause told ≡ true
+pub the_one : (before after : List Line) (line told : Line) → All IsOther before → All IsOther after → is_pause told ≡ true
     → Contains (before ++ line ∷ after) told → line ≡ told
 the_one before after line told b a is there = elim (Contains-append_cases before (line ∷ after) told there) [
   | inl early ↦ absurd (true≢false (sym is ∙ All-contains IsOther before told b early))
@@ -157,7 +157,7 @@ counts setup markers want old new piece numbers lines whole live dead crew trace
     )
 
 -- one line that tells no pause
-no_pause : (lines : List Line) (line told : Line) → is_pause line ≡ false → is_pause told ≡ true → lines ≡ line ∷ [] → Contains lines told → ⊥
+pub no_pause : (lines : List Line) (line told : Line) → is_pause line ≡ false → is_pause told ≡ true → lines ≡ line ∷ [] → Contains lines told → ⊥
 no_pause lines line told other is e there =
     true≢false (sym is ∙ All-contains IsOther (line ∷ []) told (All-cons IsOther line [] other (All-nil IsOther)) (subst (λ ls. Contains ls told) e there))
 

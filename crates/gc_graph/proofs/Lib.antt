@@ -32,6 +32,8 @@ mod FrameLaws
 mod Verdicts
 mod RefusalsExact
 mod FirstReasons
+mod CountedLines
+mod PauseCounts
 mod ActionsStay
 mod MayBounds
 mod Since

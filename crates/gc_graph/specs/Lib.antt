@@ -34,6 +34,7 @@ pub mod ActionLaw
 pub mod MayLaw
 pub mod CollectionLaw
 pub mod CycleLaw
+pub mod CountsLaw
 pub mod RefusalLaw
 pub mod RefusalsExactLaw
 pub mod PlacementLaw

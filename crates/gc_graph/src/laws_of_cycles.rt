@@ -1,5 +1,6 @@
 // The laws of a collection's commands, as in laws.rt.
 
+ghost use Rattle.gc_graph.specs.CountsLaw.{PausesCountNodes, StepsCountLines};
 ghost use Rattle.gc_graph.specs.CycleLaw.{
   CyclesGoInOrder,
   StepsTellWhatIsLeft,
@@ -41,4 +42,15 @@ pub fn live_holders_are_cleared()
 /// Prefinalizers of dead nodes run, the last that was registered first.
 pub fn last_registered_runs_first()
     ensures { LastRegisteredRunsFirst }
+{}
+
+/// A step counts the lines that it tells: pauses, finalisations and full outcomes, and itself as one
+/// command.
+pub fn steps_count_their_lines()
+    ensures { StepsCountLines }
+{}
+
+/// The line of a pause tells how many nodes live after it, and how many it condemned.
+pub fn pauses_count_nodes()
+    ensures { PausesCountNodes }
 {}
