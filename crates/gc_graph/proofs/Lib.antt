@@ -34,6 +34,7 @@ mod RefusalsExact
 mod FirstReasons
 mod CountedLines
 mod PauseCounts
+mod ClearingLaws
 mod ActionsStay
 mod MayBounds
 mod Since

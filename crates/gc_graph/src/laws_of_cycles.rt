@@ -1,5 +1,6 @@
 // The laws of a collection's commands, as in laws.rt.
 
+ghost use Rattle.gc_graph.specs.ClearingLaw.{ClearsNothingElse};
 ghost use Rattle.gc_graph.specs.CountsLaw.{PausesCountNodes, StepsCountLines};
 ghost use Rattle.gc_graph.specs.CycleLaw.{
   CyclesGoInOrder,
@@ -37,6 +38,12 @@ pub fn hits_are_kept()
 /// Weak clearing leaves the fields of nodes that aren't live, which prefinalizers see.
 pub fn live_holders_are_cleared()
     ensures { ClearsLiveHolders }
+{}
+
+/// Of a live node weak clearing makes just the weak fields and pairs null that lose their node, and of
+/// the weak slots just those that name a dead node.
+pub fn weak_clearing_spares_the_live()
+    ensures { ClearsNothingElse }
 {}
 
 /// Prefinalizers of dead nodes run, the last that was registered first.

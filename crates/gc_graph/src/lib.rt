@@ -59,6 +59,7 @@ pub use laws_of_accesses::{
 pub use laws_of_cycles::{
     cycles_go_in_order, hits_are_kept, last_registered_runs_first, live_holders_are_cleared,
     pauses_count_nodes, pauses_count_once, steps_count_their_lines, steps_tell_what_is_left,
+    weak_clearing_spares_the_live,
 };
 pub use laws_of_lives::{lives_end_once, nodes_stay_put};
 pub use laws_of_marking::{kept_is_accounted_for, precise_collection_is_exact};
