@@ -287,8 +287,8 @@ module _ (old new : State) (lines : List Line) where
             (pause_raises setup 0 want c.started c.paused c.second c.pause_lines c.pause)) c.lines_are c.after
       ]) rest) h
 
-  export : (p x : ℕ) (piece : List Entry) → StepExport old p x piece lines new → AreCountedByLines old lines new
-  export p x piece h =
+  export_counts : (p x : ℕ) (piece : List Entry) → StepExport old p x piece lines new → AreCountedByLines old lines new
+  export_counts p x piece h =
       match_option (slot_at old p) _ _ _ (λ r. refused R.Null r.1)
       (λ n done. elim done [
         | inl m ↦ memory m.1
@@ -299,8 +299,8 @@ module _ (old new : State) (lines : List Line) where
   content_uncounted None = (refl, refl, refl)
   content_uncounted (Some n) = (refl, refl, refl)
 
-  import_ : (x p : ℕ) (piece : List Entry) → StepImport old x p piece lines new → AreCountedByLines old lines new
-  import_ x p piece h = elim h [
+  import_counts : (x p : ℕ) (piece : List Entry) → StepImport old x p piece lines new → AreCountedByLines old lines new
+  import_counts x p piece h = elim h [
     | inl m ↦ memory m.1
     | inr i ↦
         (let k = took_same old piece in
@@ -377,8 +377,8 @@ counts setup old new (C.GcNow want) piece lines h = gc_now old new lines setup w
 counts setup old new (C.Sweep n) piece lines h = sweep_to old new lines setup _ h.1
 counts setup old new C.SweepAll piece lines h = sweep_to old new lines setup _ h.1
 counts setup old new C.Stat piece lines h = like old new lines old _ (refl, refl, refl) refl refl refl refl h.1.2 h.1.3
-counts setup old new (C.Export p x) piece lines h = export old new lines p x piece h
-counts setup old new (C.Import x p) piece lines h = import_ old new lines x p piece h
+counts setup old new (C.Export p x) piece lines h = export_counts old new lines p x piece h
+counts setup old new (C.Import x p) piece lines h = import_counts old new lines x p piece h
 counts setup old new (C.At j order) piece lines h = elim h.1 [
   | inl m ↦ memory old new lines m
   | inr d ↦ like old new lines _ L.Queued (refl, refl, refl) refl refl refl refl d.0 d.1

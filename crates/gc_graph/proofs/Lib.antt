@@ -35,6 +35,7 @@ mod FirstReasons
 mod CountedLines
 mod PauseCounts
 mod ClearingLaws
+mod PrefinalizerLaws
 mod ActionsStay
 mod MayBounds
 mod Since

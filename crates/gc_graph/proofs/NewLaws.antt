@@ -27,7 +27,7 @@ none_placed [] = All-nil _
 none_placed (n ∷ numbers) = All-cons (λ line. is_placed line ≡ false) (L.Finalise n) (finalise_lines numbers) refl (none_placed numbers)
 
 -- the line that tells a place is the last one
-told_last : (numbers : List ℕ) (lines : List Line) (last : Line) (n a : ℕ) → lines ≡ finalise_lines numbers ++ last ∷ [] → Contains lines (L.Placed n a)
+pub told_last : (numbers : List ℕ) (lines : List Line) (last : Line) (n a : ℕ) → lines ≡ finalise_lines numbers ++ last ∷ [] → Contains lines (L.Placed n a)
     → last ≡ L.Placed n a
 told_last numbers lines last n a e c =
     elim (Contains-append_cases (finalise_lines numbers) (last ∷ []) (L.Placed n a) (subst (λ ls. Contains ls (L.Placed n a)) e c)) [
@@ -61,7 +61,7 @@ made_new setup old mid new p t e n a b numbers lines l kept made c =
       slot = slot_put new (with_new setup mid t e b) p (Some (length mid.nodes)) old.slots made.after kept.slots l ∙ ap (λ k. Some k) (sym number);
     }
 
-no_place : (told : Line) (n a : ℕ) → is_placed told ≡ false → told ≡ L.Placed n a → ⊥
+pub no_place : (told : Line) (n a : ℕ) → is_placed told ≡ false → told ≡ L.Placed n a → ⊥
 no_place told n a e is = true≢false (sym (ap is_placed is) ∙ e)
 
 pub new_objects_are_empty : NewObjectsAreEmpty

@@ -36,6 +36,7 @@ pub mod CollectionLaw
 pub mod CycleLaw
 pub mod CountsLaw
 pub mod ClearingLaw
+pub mod PrefinalizerLaw
 pub mod RefusalLaw
 pub mod RefusalsExactLaw
 pub mod PlacementLaw

@@ -29,6 +29,7 @@ mod laws_of_accesses;
 mod laws_of_cycles;
 mod laws_of_lives;
 mod laws_of_marking;
+mod laws_of_prefinalizers;
 mod laws_of_regions;
 mod laws_of_reports;
 mod laws_of_sweeping;
@@ -63,6 +64,7 @@ pub use laws_of_cycles::{
 };
 pub use laws_of_lives::{lives_end_once, nodes_stay_put};
 pub use laws_of_marking::{kept_is_accounted_for, precise_collection_is_exact};
+pub use laws_of_prefinalizers::{new_objects_are_registered, pauses_run_prefinalizers};
 pub use laws_of_regions::{calls_change_their_slot, steps_follow_the_history};
 pub use laws_of_reports::{lines_have_numbers, run_reads_back, summary_reads_back};
 pub use laws_of_sweeping::{

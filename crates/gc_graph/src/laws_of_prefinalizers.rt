@@ -1,0 +1,20 @@
+// The laws of prefinalizers in a run, as in laws.rt.
+
+ghost use Rattle.gc_graph.specs.PrefinalizerLaw.{
+  CallbacksMeetWhatIsLeft,
+  NewObjectsAreRegistered,
+  PausesRunThoseOfTheDead,
+};
+
+/// A new object's callbacks are registered behind the others, in the order of its type's list.
+pub fn new_objects_are_registered()
+    ensures { NewObjectsAreRegistered }
+{}
+
+/// A pause runs the callbacks of the dead, after it has cleared weak fields, and tells just these in
+/// their order; the others stay registered. Each acts on what those before it left, and is shown the
+/// words that they left.
+pub fn pauses_run_prefinalizers()
+    ensures runs { PausesRunThoseOfTheDead }
+    ensures meets { CallbacksMeetWhatIsLeft }
+{}
