@@ -24,39 +24,45 @@ use Rattle.gc_graph.specs.HandleSteps.{IsDone, pushed, IsPushed, IsPeeked}
 use Rattle.gc_graph.specs.CycleSteps.{IsPause, is_marking, is_sweeping, is_stack_refused, StepGcStart, StepGcFinish, StepGcNow, StepSweepTo}
 use Rattle.gc_graph.specs.RegionSteps.{StepExport, StepImport, StepThreadsJoin}
 use Rattle.gc_graph.specs.Step.{Step}
-use Rattle.gc_graph.specs.FrameLaw.{WritesSlot, WritesWeakSlot, WritesStack, WritesRegistrations, IsWordAt, WritesWord, LeavesRest, StepsLeaveRest, FieldsTakeTurns}
+use Rattle.gc_graph.specs.FrameLaw.{WritesSlot, WritesWeakSlot, WritesStack, WritesRegistrations, IsWordAt, WritesWord, MovesCycle, IsSameCycle, LeavesRest, StepsLeaveRest, FieldsTakeTurns}
 use Rattle.gc_graph.proofs.StepCases.{match_option, match_bool, at_field}
 use Rattle.gc_graph.proofs.ValidCases.{IsFound, field_is}
 use Rattle.gc_graph.proofs.Shapes.{word_at, word_at_is}
 use Rattle.gc_graph.proofs.FieldWrites.{with_values}
+use Rattle.gc_graph.proofs.NodeWrites.{node_after}
 use Rattle.gc_graph.proofs.AccessLaws.{one_or_more, two_in_pair}
-use Rattle.gc_graph.proofs.StepFrames.{Keeps, keeps_same, keeps_more, keeps_read, keeps_took, keeps_start, keeps_sweep}
+use Rattle.gc_graph.proofs.StepFrames.{Keeps, keeps_same, keeps_more, keeps_read, keeps_took, keeps_start, keeps_sweep, cycle_same, cycle_read, cycle_took}
 
 module _ (old new : State) (command : Command) where
   -- ---- one part is written
 
-  still : (x : State) → Keeps old x → new ≡ answered x → LeavesRest old command new
-  still x k e = subst (LeavesRest old command) (sym e) (record {
+  cycle_after : (x : State) → IsSameCycle old x → IsSameCycle old (answered x)
+  cycle_after x c = record { phase = c.phase; cursor = c.cursor; traced = c.traced; count = c.count; lives = c.lives }
+
+  still : (x : State) → Keeps old x → ((MovesCycle command → ⊥) → IsSameCycle old x) → new ≡ answered x → LeavesRest old command new
+  still x k c e = subst (LeavesRest old command) (sym e) (record {
     slots = λ z not. ap (λ slots. get_or slots z None) k.slots;
     weak = λ z not. ap (λ slots. get_or slots z None) k.weak;
     stack = λ not. k.stack;
     registrations = λ not. k.registrations;
     words = λ n w l not. ap (λ object. get_or object.values w Null) (k.objects n);
+    cycle = λ not. cycle_after x (c not);
     slot_count = ap length k.slots;
     weak_count = ap length k.weak;
   })
 
   refused : (lines : List Line) (why : Refusal) → IsRefused why old lines new → LeavesRest old command new
-  refused lines why r = still old (keeps_same old) r.1
+  refused lines why r = still old (keeps_same old) (λ not. cycle_same old) r.1
 
   slotted : (x : State) (q : ℕ) (content : Option ℕ) → ((z : ℕ) → z ≡ q → WritesSlot command z) → Keeps old x
-      → new ≡ answered (with_slot x q content) → LeavesRest old command new
-  slotted x q content writes k e = subst (LeavesRest old command) (sym e) (record {
+      → IsSameCycle old x → new ≡ answered (with_slot x q content) → LeavesRest old command new
+  slotted x q content writes k c e = subst (LeavesRest old command) (sym e) (record {
     slots = λ z not. get_or-set_other x.slots q z content None (λ same. not (writes z same)) ∙ ap (λ slots. get_or slots z None) k.slots;
     weak = λ z not. ap (λ slots. get_or slots z None) k.weak;
     stack = λ not. k.stack;
     registrations = λ not. k.registrations;
     words = λ n w l not. ap (λ object. get_or object.values w Null) (k.objects n);
+    cycle = λ not. record { phase = c.phase; cursor = c.cursor; traced = c.traced; count = c.count; lives = c.lives };
     slot_count = length-set x.slots q content ∙ ap length k.slots;
     weak_count = ap length k.weak;
   })
@@ -69,6 +75,7 @@ module _ (old new : State) (command : Command) where
     stack = λ not. refl;
     registrations = λ not. refl;
     words = λ n w l not. refl;
+    cycle = λ not. record { phase = refl; cursor = refl; traced = refl; count = refl; lives = λ n. refl };
     slot_count = refl;
     weak_count = length-set old.weak w content;
   })
@@ -80,6 +87,7 @@ module _ (old new : State) (command : Command) where
     stack = λ not. absurd (not writes);
     registrations = λ not. refl;
     words = λ n w l not. refl;
+    cycle = λ not. record { phase = refl; cursor = refl; traced = refl; count = refl; lives = λ n. refl };
     slot_count = refl;
     weak_count = refl;
   })
@@ -101,6 +109,15 @@ module _ (old new : State) (command : Command) where
       | inr other ↦
           ap (λ (x : Node). value_at x w) (get_or-set_other old.nodes n m (with_values (node_at old.nodes n) values) no_node other)
     ];
+    cycle = λ not. record {
+      phase = refl;
+      cursor = refl;
+      traced = refl;
+      count = length-set old.nodes n (with_values (node_at old.nodes n) values);
+      lives = λ m.
+          node_after (λ x. x.life ≡ (node_at old.nodes m).life) old.nodes n m (with_values (node_at old.nodes n) values)
+          (λ is. ap (λ k. (node_at old.nodes k).life) (sym is)) refl;
+    };
     slot_count = refl;
     weak_count = refl;
   })
@@ -146,8 +163,8 @@ module _ (old new : State) (command : Command) where
 
   read : (weak : Bool) (value : Value) (q : ℕ) (lines : List Line) → ((z : ℕ) → z ≡ q → WritesSlot command z) → IsRead weak old value q lines new
       → LeavesRest old command new
-  read weak Null q lines writes h = slotted old q None writes (keeps_same old) h.1
-  read weak (Ref n) q lines writes h = slotted (read_node weak old n) q (Some n) writes (keeps_read weak old n) h.1
+  read weak Null q lines writes h = slotted old q None writes (keeps_same old) (cycle_same old) h.1
+  read weak (Ref n) q lines writes h = slotted (read_node weak old n) q (Some n) writes (keeps_read weak old n) (cycle_read weak old n) h.1
   read weak (Word w) q lines writes h = absurd h
 
   fetch : (allowed : Kind → Bool) (p f q : ℕ) (weak : ℕ → Bool) (value : ℕ → Value) (lines : List Line) → ((z : ℕ) → z ≡ q → WritesSlot command z)
@@ -159,7 +176,7 @@ module _ (old new : State) (command : Command) where
   number : (value : Value) (lines : List Line) → IsNumber old value lines new → LeavesRest old command new
   number Null lines h = absurd h
   number (Ref n) lines h = absurd h
-  number (Word w) lines h = still old (keeps_same old) h.1
+  number (Word w) lines h = still old (keeps_same old) (λ not. cycle_same old) h.1
 
   -- ---- the stack
 
@@ -170,19 +187,19 @@ module _ (old new : State) (command : Command) where
 
   peek : (word : StackWord) (q : ℕ) (lines : List Line) → ((z : ℕ) → z ≡ q → WritesSlot command z) → IsPeeked old word q lines new
       → LeavesRest old command new
-  peek (Pointer n o) q lines writes h = slotted old q (Some n) writes (keeps_same old) h.1
+  peek (Pointer n o) q lines writes h = slotted old q (Some n) writes (keeps_same old) (cycle_same old) h.1
   peek (Number w) q lines writes h = refused lines R.Kind h
 
   -- ---- sweeps, new objects and pauses
 
-  sweep_to : (setup : Setup) (pages : ℕ) (lines : List Line) → StepSweepTo setup old pages lines new → LeavesRest old command new
-  sweep_to setup pages lines h =
+  sweep_to : (setup : Setup) (pages : ℕ) (lines : List Line) → MovesCycle command → StepSweepTo setup old pages lines new → LeavesRest old command new
+  sweep_to setup pages lines moves h =
       match_bool (is_sweeping old.phase) _ _ _
-      (λ s. still s.swept (keeps_sweep setup.shape old s.swept pages s.numbers s.goes) s.after) (λ r. refused lines R.Phase r) h
+      (λ s. still s.swept (keeps_sweep setup.shape old s.swept pages s.numbers s.goes) (λ not. absurd (not moves)) s.after) (λ r. refused lines R.Phase r) h
 
   made : (setup : Setup) (mid : State) (p t e a : ℕ) (content : Option ℕ) → ((z : ℕ) → z ≡ p → WritesSlot command z) → WritesRegistrations command
-      → Keeps old mid → new ≡ answered (with_slot (with_new setup mid t e a) p content) → LeavesRest old command new
-  made setup mid p t e a content writes registers k after = subst (LeavesRest old command) (sym after) (record {
+      → MovesCycle command → Keeps old mid → new ≡ answered (with_slot (with_new setup mid t e a) p content) → LeavesRest old command new
+  made setup mid p t e a content writes registers moves k after = subst (LeavesRest old command) (sym after) (record {
     slots = λ z not. get_or-set_other mid.slots p z content None (λ same. not (writes z same)) ∙ ap (λ slots. get_or slots z None) k.slots;
     weak = λ z not. ap (λ slots. get_or slots z None) k.weak;
     stack = λ not. k.stack;
@@ -190,14 +207,15 @@ module _ (old new : State) (command : Command) where
     words = λ n w l not.
         ap (λ (x : Node). value_at x w) (get_or_append_left mid.nodes (new_node setup t e a ∷ []) no_node n (omega (arith, l, k.count)))
         ∙ ap (λ object. get_or object.values w Null) (k.objects n);
+    cycle = λ not. absurd (not moves);
     slot_count = length-set mid.slots p content ∙ ap length k.slots;
     weak_count = ap length k.weak;
   })
 
   paused_rest : (setup : Setup) (markers : ℕ) (want : Want) (mid after : State) (piece : List Entry) (lines : List Line) → ((z : ℕ) → WritesWeakSlot command z)
-      → WritesRegistrations command → ((n w : ℕ) → WritesWord old command n w) → Keeps old mid → IsPause setup markers want mid piece lines after
+      → WritesRegistrations command → ((n w : ℕ) → WritesWord old command n w) → MovesCycle command → Keeps old mid → IsPause setup markers want mid piece lines after
       → new ≡ answered after → LeavesRest old command new
-  paused_rest setup markers want mid after piece lines weak registers words k p e =
+  paused_rest setup markers want mid after piece lines weak registers words moves k p e =
       let taken : Keeps mid (took mid p.before) = keeps_took mid p.before in
       subst (LeavesRest old command) (sym (e ∙ ap answered p.done.after)) (record {
         slots = λ z not. ap (λ slots. get_or slots z None) (taken.slots ∙ k.slots);
@@ -205,6 +223,7 @@ module _ (old new : State) (command : Command) where
         stack = λ not. taken.stack ∙ k.stack;
         registrations = λ not. absurd (not registers);
         words = λ n w l not. absurd (not (words n w));
+        cycle = λ not. absurd (not moves);
         slot_count = ap length (taken.slots ∙ k.slots);
         weak_count = length-map (took mid p.before).weak _ ∙ ap length (taken.weak ∙ k.weak);
       })
@@ -212,30 +231,32 @@ module _ (old new : State) (command : Command) where
   join : (piece : List Entry) (lines : List Line) → StepThreadsJoin old piece lines new → LeavesRest old command new
   join piece lines h =
       let k = keeps_took old piece in
-      still _ (record { slots = k.slots; weak = k.weak; stack = k.stack; registrations = k.registrations; count = k.count; objects = k.objects }) h.after
+      let c = cycle_took old piece in
+      still _ (record { slots = k.slots; weak = k.weak; stack = k.stack; registrations = k.registrations; count = k.count; objects = k.objects })
+      (λ not. record { phase = c.phase; cursor = c.cursor; traced = c.traced; count = c.count; lives = c.lives }) h.after
 
 -- ---- the longer commands
 
 new_leaves : (setup : Setup) (old new : State) (p t e : ℕ) (lines : List Line) → StepNew setup old p t e lines new → LeavesRest old (C.New p t e) new
 new_leaves setup old new p t e lines h = elim h [
-  | inl m ↦ still old new (C.New p t e) old (keeps_same old) m.1.1
+  | inl m ↦ still old new (C.New p t e) old (keeps_same old) (λ not. cycle_same old) m.1.1
   | inr made_at ↦
       let k : Keeps old made_at.mid = keeps_sweep setup.shape old made_at.mid made_at.placed.pages made_at.numbers made_at.placed.swept in
       match_option made_at.place _ _ _
       (λ full. still old new (C.New p t e) _
-      (record { slots = k.slots; weak = k.weak; stack = k.stack; registrations = k.registrations; count = k.count; objects = k.objects }) full.after)
-      (λ a d. made old new (C.New p t e) setup made_at.mid p t e a _ (λ z same. same) tt k d.after) made_at.done
+      (record { slots = k.slots; weak = k.weak; stack = k.stack; registrations = k.registrations; count = k.count; objects = k.objects }) (λ not. absurd (not tt)) full.after)
+      (λ a d. made old new (C.New p t e) setup made_at.mid p t e a _ (λ z same. same) tt tt k d.after) made_at.done
 ]
 
 start_leaves : (setup : Setup) (old new : State) (piece : List Entry) (lines : List Line) → StepGcStart setup old piece lines new → LeavesRest old C.GcStart new
 start_leaves setup old new piece lines h =
     match_bool (is_marking old.phase) _ _ _ (λ r. refused old new C.GcStart lines R.Phase r.1)
     (λ rest. elim rest [
-      | inl m ↦ still old new C.GcStart old (keeps_same old) m.1.1
+      | inl m ↦ still old new C.GcStart old (keeps_same old) (λ not. cycle_same old) m.1.1
       | inr b ↦
           still old new C.GcStart b.started
           (keeps_more old b.swept b.started (keeps_sweep setup.shape old b.swept setup.shape.pages b.numbers b.ended)
-          (keeps_start setup b.swept b.started piece b.start)) b.after
+          (keeps_start setup b.swept b.started piece b.start)) (λ not. absurd (not tt)) b.after
     ]) h
 
 finish_leaves : (setup : Setup) (want : Want) (old new : State) (piece : List Entry) (lines : List Line) → StepGcFinish setup want old piece lines new
@@ -243,7 +264,7 @@ finish_leaves : (setup : Setup) (want : Want) (old new : State) (piece : List En
 finish_leaves setup want old new piece lines h =
     match_bool (is_marking old.phase) _ _ _
     (λ rest. match_bool (is_stack_refused want old.stack) _ _ _ (λ r. refused old new (C.GcFinish want) lines R.Stack r.1)
-    (λ f. paused_rest old new (C.GcFinish want) setup setup.markers want old f.0 piece lines (λ z. tt) tt (λ n w. tt) (keeps_same old) f.1 f.2) rest)
+    (λ f. paused_rest old new (C.GcFinish want) setup setup.markers want old f.0 piece lines (λ z. tt) tt (λ n w. tt) tt (keeps_same old) f.1 f.2) rest)
     (λ r. refused old new (C.GcFinish want) lines R.Phase r.1) h
 
 now_leaves : (setup : Setup) (want : Want) (old new : State) (piece : List Entry) (lines : List Line) → StepGcNow setup want old piece lines new
@@ -252,9 +273,9 @@ now_leaves setup want old new piece lines h =
     match_bool (is_marking old.phase) _ _ _ (λ r. refused old new (C.GcNow want) lines R.Phase r.1)
     (λ rest. match_bool (is_stack_refused want old.stack) _ _ _ (λ r. refused old new (C.GcNow want) lines R.Stack r.1)
     (λ more. elim more [
-      | inl m ↦ still old new (C.GcNow want) old (keeps_same old) m.1.1
+      | inl m ↦ still old new (C.GcNow want) old (keeps_same old) (λ not. cycle_same old) m.1.1
       | inr c ↦
-          paused_rest old new (C.GcNow want) setup 0 want c.started c.paused c.second c.pause_lines (λ z. tt) tt (λ n w. tt)
+          paused_rest old new (C.GcNow want) setup 0 want c.started c.paused c.second c.pause_lines (λ z. tt) tt (λ n w. tt) tt
           (keeps_more old c.swept c.started (keeps_sweep setup.shape old c.swept setup.shape.pages c.numbers c.ended)
           (keeps_start setup c.swept c.started c.first c.start)) c.pause c.after
     ]) rest) h
@@ -263,14 +284,14 @@ export_leaves : (old new : State) (p x : ℕ) (piece : List Entry) (lines : List
 export_leaves old new p x piece lines h =
     match_option (slot_at old p) _ _ _ (λ r. refused old new (C.Export p x) lines R.Null r.1)
     (λ n done. elim done [
-      | inl m ↦ still old new (C.Export p x) old (keeps_same old) m.1.1
-      | inr e ↦ still old new (C.Export p x) (took old piece) (keeps_took old piece) e.after
+      | inl m ↦ still old new (C.Export p x) old (keeps_same old) (λ not. cycle_same old) m.1.1
+      | inr e ↦ still old new (C.Export p x) (took old piece) (keeps_took old piece) (λ not. cycle_took old piece) e.after
     ]) h
 
 import_leaves : (old new : State) (x p : ℕ) (piece : List Entry) (lines : List Line) → StepImport old x p piece lines new → LeavesRest old (C.Import x p) new
 import_leaves old new x p piece lines h = elim h [
-  | inl m ↦ still old new (C.Import x p) old (keeps_same old) m.1.1
-  | inr i ↦ slotted old new (C.Import x p) (took old piece) p _ (λ z same. same) (keeps_took old piece) i.after
+  | inl m ↦ still old new (C.Import x p) old (keeps_same old) (λ not. cycle_same old) m.1.1
+  | inr i ↦ slotted old new (C.Import x p) (took old piece) p _ (λ z same. same) (keeps_took old piece) (cycle_took old piece) i.after
 ]
 
 unchanged : (old : State) (x : State) → x.slots ≡ old.slots → x.weak ≡ old.weak → x.stack ≡ old.stack → x.registrations ≡ old.registrations
@@ -282,6 +303,15 @@ unchanged old x a b c d e = record {
   registrations = d;
   count = ap length e;
   objects = λ n. ap (λ nodes. (node_at nodes n).object) e;
+}
+
+unmoved : (old : State) (x : State) → x.phase ≡ old.phase → x.cursor ≡ old.cursor → x.traced ≡ old.traced → x.nodes ≡ old.nodes → IsSameCycle old x
+unmoved old x a b c d = record {
+  phase = a;
+  cursor = b;
+  traced = c;
+  count = ap length d;
+  lives = λ n. ap (λ nodes. (node_at nodes n).life) d;
 }
 
 -- ---- every command
@@ -306,8 +336,8 @@ leaves setup old new (C.Key p f q) piece lines h =
     fetch old new (C.Key p f q) is_pair p f q (λ n. true) (λ n. value_at (node_at old.nodes n) (first_word old n f)) lines (λ z same. same) h.1
 leaves setup old new (C.Val p f q) piece lines h =
     fetch old new (C.Val p f q) is_pair p f q (λ n. true) (λ n. value_at (node_at old.nodes n) (first_word old n f + 1)) lines (λ z same. same) h.1
-leaves setup old new (C.Copy p q) piece lines h = slotted old new (C.Copy p q) old q _ (λ z same. same) (keeps_same old) h.1.1
-leaves setup old new (C.Drop p) piece lines h = slotted old new (C.Drop p) old p None (λ z same. same) (keeps_same old) h.1.1
+leaves setup old new (C.Copy p q) piece lines h = slotted old new (C.Copy p q) old q _ (λ z same. same) (keeps_same old) (cycle_same old) h.1.1
+leaves setup old new (C.Drop p) piece lines h = slotted old new (C.Drop p) old p None (λ z same. same) (keeps_same old) (cycle_same old) h.1.1
 leaves setup old new (C.Weak w p) piece lines h = weakly old new (C.Weak w p) w _ (λ z same. same) h.1.1
 leaves setup old new (C.Read w p) piece lines h = read old new (C.Read w p) true (content_of (weak_slot_at old w)) p lines (λ z same. same) h.1
 leaves setup old new (C.Push p o) piece lines h =
@@ -322,22 +352,22 @@ leaves setup old new (C.Peek i q) piece lines h =
     (λ word m. peek old new (C.Peek i q) word q lines (λ z same. same) m) h.1
 leaves setup old new C.GcStart piece lines h = start_leaves setup old new piece lines h
 leaves setup old new (C.GcStep n) piece lines h =
-    match_bool (is_marking old.phase) _ _ _ (λ t. still old new (C.GcStep n) _ (unchanged old _ refl refl refl refl refl) t.after)
+    match_bool (is_marking old.phase) _ _ _ (λ t. still old new (C.GcStep n) _ (unchanged old _ refl refl refl refl refl) (λ not. absurd (not tt)) t.after)
     (λ r. refused old new (C.GcStep n) lines R.Phase r) h.1
 leaves setup old new (C.GcFinish want) piece lines h = finish_leaves setup want old new piece lines h
 leaves setup old new (C.GcNow want) piece lines h = now_leaves setup want old new piece lines h
-leaves setup old new (C.Sweep n) piece lines h = sweep_to old new (C.Sweep n) setup _ lines h.1
-leaves setup old new C.SweepAll piece lines h = sweep_to old new C.SweepAll setup _ lines h.1
-leaves setup old new C.Stat piece lines h = still old new C.Stat old (keeps_same old) h.1.3
+leaves setup old new (C.Sweep n) piece lines h = sweep_to old new (C.Sweep n) setup _ lines tt h.1
+leaves setup old new C.SweepAll piece lines h = sweep_to old new C.SweepAll setup _ lines tt h.1
+leaves setup old new C.Stat piece lines h = still old new C.Stat old (keeps_same old) (λ not. cycle_same old) h.1.3
 leaves setup old new (C.Export p x) piece lines h = export_leaves old new p x piece lines h
 leaves setup old new (C.Import x p) piece lines h = import_leaves old new x p piece lines h
 leaves setup old new (C.At j order) piece lines h = elim h.1 [
-  | inl m ↦ still old new (C.At j order) old (keeps_same old) m.1
-  | inr d ↦ still old new (C.At j order) _ (unchanged old _ refl refl refl refl refl) d.1
+  | inl m ↦ still old new (C.At j order) old (keeps_same old) (λ not. cycle_same old) m.1
+  | inr d ↦ still old new (C.At j order) _ (unchanged old _ refl refl refl refl refl) (λ not. unmoved old _ refl refl refl refl) d.1
 ]
 leaves setup old new C.ThreadsGo piece lines h = elim h.1 [
-  | inl d ↦ still old new C.ThreadsGo _ (unchanged old _ refl refl refl refl refl) d.1
-  | inr d ↦ still old new C.ThreadsGo _ (unchanged old _ refl refl refl refl refl) d.1
+  | inl d ↦ still old new C.ThreadsGo _ (unchanged old _ refl refl refl refl refl) (λ not. unmoved old _ refl refl refl refl) d.1
+  | inr d ↦ still old new C.ThreadsGo _ (unchanged old _ refl refl refl refl refl) (λ not. unmoved old _ refl refl refl refl) d.1
 ]
 leaves setup old new C.ThreadsJoin piece lines h = join old new C.ThreadsJoin piece lines h
 

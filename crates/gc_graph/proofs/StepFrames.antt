@@ -10,6 +10,7 @@ use Rattle.gc_graph.specs.May.{marking, read_node}
 use Rattle.gc_graph.specs.Sweep.{buried, finalise, SweepsInPhase, SweepsTo}
 use Rattle.gc_graph.specs.Outcomes.{with_entry, took}
 use Rattle.gc_graph.specs.CycleSteps.{IsStart}
+use Rattle.gc_graph.specs.FrameLaw.{IsSameCycle}
 use Rattle.gc_graph.specs.FinalisedNodes.{finalised_at}
 
 -- handles, stack and registrations are as before, and each node has its object
@@ -76,3 +77,18 @@ keeps_in Sweeping shape old new pages numbers h =
 
 pub keeps_sweep : (shape : Shape) (old new : State) (pages : ℕ) (numbers : List ℕ) → SweepsTo shape old pages numbers new → Keeps old new
 keeps_sweep shape old new pages numbers h = keeps_in old.phase shape old new pages numbers h
+
+-- ---- the cycle
+
+pub cycle_same : (s : State) → IsSameCycle s s
+cycle_same s = record { phase = refl; cursor = refl; traced = refl; count = refl; lives = λ n. refl }
+
+pub cycle_read : (weak : Bool) (s : State) (n : ℕ) → IsSameCycle s (read_node weak s n)
+cycle_read true s n = record { phase = refl; cursor = refl; traced = refl; count = refl; lives = λ n. refl }
+cycle_read false s n = cycle_same s
+
+pub cycle_took : (s : State) (entries : List Entry) → IsSameCycle s (took s entries)
+cycle_took s [] = cycle_same s
+cycle_took s (entry ∷ entries) =
+    let rest = cycle_took (with_entry s entry) entries in
+    record { phase = rest.phase; cursor = rest.cursor; traced = rest.traced; count = rest.count; lives = rest.lives }

@@ -1,4 +1,4 @@
--- The law of what a command leaves alone: other slots, other words of objects, the stack and the registrations.
+-- The law of what a command leaves alone: other slots, other words of objects, the stack, the registrations and the cycle.
 use Rattle.std.specs.Prelude.{◌≡◌, ℕ, ◌+◌, ◌<◌, ◌≤◌, List, length, Some, ⊤}
 use Rattle.gc_graph.specs.declared.command.Command.{Command}
 use Rattle.gc_graph.specs.declared.command.Command.TheVariants as C
@@ -65,7 +65,26 @@ WritesWord s (C.GcFinish want) n word = ⊤
 WritesWord s (C.GcNow want) n word = ⊤
 WritesWord s command n word = ⊥
 
+-- the commands of the cycle, and a new object, for which pages may be swept
+abbrev pub MovesCycle : Command → Type 0
+MovesCycle (C.New p t e) = ⊤
+MovesCycle C.GcStart = ⊤
+MovesCycle (C.GcStep n) = ⊤
+MovesCycle (C.GcFinish want) = ⊤
+MovesCycle (C.GcNow want) = ⊤
+MovesCycle (C.Sweep n) = ⊤
+MovesCycle C.SweepAll = ⊤
+MovesCycle command = ⊥
+
 -- ---- the law
+
+-- marking and sweeping are where they were, and each node lives on or is dead as it was
+pub record IsSameCycle (old new : State) : Type 0 where
+  pub phase : new.phase ≡ old.phase
+  pub cursor : new.cursor ≡ old.cursor
+  pub traced : new.traced ≡ old.traced
+  pub count : length new.nodes ≡ length old.nodes
+  pub lives : (n : ℕ) → (node_at new.nodes n).life ≡ (node_at old.nodes n).life
 
 -- all else stays, and there are as many slots as before
 pub record LeavesRest (old : State) (command : Command) (new : State) : Type 0 where
@@ -76,6 +95,7 @@ pub record LeavesRest (old : State) (command : Command) (new : State) : Type 0 w
   pub words :
       (n word : ℕ) → n < length old.nodes → (WritesWord old command n word → ⊥)
       → value_at (node_at new.nodes n) word ≡ value_at (node_at old.nodes n) word
+  pub cycle : (MovesCycle command → ⊥) → IsSameCycle old new
   pub slot_count : length new.slots ≡ length old.slots
   pub weak_count : length new.weak ≡ length old.weak
 

@@ -20,8 +20,8 @@ pub fn new_objects_are_empty()
     ensures { NewObjectsAreEmpty }
 {}
 
-/// A step changes no slot and no word but those that its command names, and pushes, pops and registers
-/// only where its command does.
+/// A step changes no slot and no word but those that its command names, and pushes, pops, registers and
+/// moves the cycle only where its command does. The fields of an object take its words in turn.
 pub fn steps_leave_the_rest()
     ensures rest { StepsLeaveRest }
     ensures fields { FieldsTakeTurns }
