@@ -36,6 +36,7 @@ mod CountedLines
 mod PauseCounts
 mod ClearingLaws
 mod PrefinalizerLaws
+mod AnswersLaws
 mod ActionsStay
 mod MayBounds
 mod Since

@@ -35,6 +35,7 @@ pub mod MayLaw
 pub mod CollectionLaw
 pub mod CycleLaw
 pub mod CountsLaw
+pub mod AnswersLaw
 pub mod ClearingLaw
 pub mod PrefinalizerLaw
 pub mod RefusalLaw

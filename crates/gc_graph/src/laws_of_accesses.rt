@@ -1,7 +1,13 @@
 // The laws of the commands on objects and handles, as in laws.rt.
 
 ghost use Rattle.gc_graph.specs.AccessLaw.{NewObjectsAreEmpty, SlotsAreCopied, WrittenIsReadBack};
+ghost use Rattle.gc_graph.specs.AnswersLaw.{CommandsAreAnsweredInKind};
 ghost use Rattle.gc_graph.specs.FrameLaw.{FieldsTakeTurns, StepsLeaveRest};
+
+/// A command is answered by lines of its own kind, and by one at least.
+pub fn commands_are_answered_in_kind()
+    ensures { CommandsAreAnsweredInKind }
+{}
 
 /// What was set, paired, put, weakly held, pushed or exported is what the next read of the same place
 /// gives.
