@@ -22,6 +22,8 @@ mod ValidHandles
 mod ValidRegion
 mod ValidWrites
 mod ValidReads
+mod Effects
+mod PlainSteps
 mod Condemned
 mod Prefinalising
 mod AccessLaws

@@ -41,7 +41,7 @@ in_of Idle may n h = tt
 in_of Marking may n h = h
 in_of Sweeping may n h = tt
 
-value_root : (s : State) (value : Value) → NamesLive s.nodes value → HeldIn s.phase s.may value → ValueRoot s value
+pub value_root : (s : State) (value : Value) → NamesLive s.nodes value → HeldIn s.phase s.may value → ValueRoot s value
 value_root s Null h k = tt
 value_root s (Ref n) h k = record { live = h; in_may = in_of s.phase s.may n k }
 value_root s (Word w) h k = tt
@@ -52,7 +52,7 @@ held_strong may kind value e h = subst (λ k. Suits (Held may) Anything Anything
 not_pair : (kind : Kind) → kind ≡ Strong → is_pair kind ≡ false
 not_pair kind e = ap is_pair e
 
-strong_held : (phase : Phase) (may : List Bool) (node : Node) (f : ℕ) → kind_of_field node.object f ≡ Strong → FollowsIn phase may node
+pub strong_held : (phase : Phase) (may : List Bool) (node : Node) (f : ℕ) → kind_of_field node.object f ≡ Strong → FollowsIn phase may node
     → HeldIn phase may (value_at node (word_of_field node.object f))
 strong_held Idle may node f e h = tt
 strong_held Sweeping may node f e h = tt
