@@ -1,11 +1,8 @@
 -- Each step's piece of the history is legal, and the region's slots follow it.
-use Rattle.std.proofs.Common.{◌≡◌, ℕ, ◌+◌, nat_lt, length, Bool, true, false, List, [], refl, sym, ap, ◌∙◌, subst, inl, inr}
+use Rattle.std.proofs.Common.{◌≡◌, ℕ, Bool, true, false, List, [], refl, sym, ap, ◌∙◌, subst, inl, inr}
 use Rattle.gc_graph.specs.declared.command.Command.{Command}
 use Rattle.gc_graph.specs.declared.command.Command.TheVariants as C
 use Rattle.gc_graph.specs.declared.command.Want.{Want}
-use Rattle.gc_graph.specs.declared.kind.Kind.{Kind}
-use Rattle.gc_graph.specs.declared.kind.Value.{Value}
-use Rattle.gc_graph.specs.declared.kind.Value.TheVariants.{Null, Ref, Word}
 use Rattle.gc_graph.specs.declared.line.Line.{Line}
 use Rattle.gc_graph.specs.declared.line.Refusal.{Refusal}
 use Rattle.gc_graph.specs.declared.line.Refusal.TheVariants as R
@@ -13,21 +10,18 @@ use Rattle.gc_graph.specs.declared.region.Entry.{Entry}
 use Rattle.gc_graph.specs.declared.region.Op.{Op}
 use Rattle.gc_graph.specs.declared.region.Op.TheVariants as O
 use Rattle.std.specs.Bool.{MatchBool}
-use Rattle.std.specs.List.{slice_get}
-use Rattle.gc_graph.specs.State.{Setup, State, StackWord, Node, node_at, size_of}
-use Rattle.gc_graph.specs.Fields.{kind_of_field, value_at, with_value, content_of, is_reference, is_weak, is_pair, is_plain}
-use Rattle.gc_graph.specs.State.StackWord.{Pointer, Number}
-use Rattle.gc_graph.specs.May.{read_node}
+use Rattle.gc_graph.specs.State.{Setup, State}
 use Rattle.gc_graph.specs.Sweep.{SweepsTo}
 use Rattle.gc_graph.specs.History.{IsLegalFrom, replayed, started_after, started_through}
-use Rattle.gc_graph.specs.Outcomes.{answered, IsRefused, IsMemory, took, slot_at, weak_slot_at}
-use Rattle.gc_graph.specs.ObjectSteps.{AtField, first_word, part_of, with_node, IsChanged, StepNew, StepWord, IsNumber, IsRead}
-use Rattle.gc_graph.specs.HandleSteps.{IsDone, pushed, IsPushed, IsPeeked}
+use Rattle.gc_graph.specs.Outcomes.{answered, IsRefused, IsMemory, took, slot_at}
+use Rattle.gc_graph.specs.ObjectSteps.{StepNew}
 use Rattle.gc_graph.specs.CycleSteps.{is_marking, is_sweeping, is_stack_refused, IsStart, IsBegun, StepGcStart, IsPause, StepGcFinish, IsCollection, StepGcNow, StepSweepTo}
 use Rattle.gc_graph.specs.RegionSteps.{TakesOwn, StepExport, StepImport, StepThreadsJoin}
 use Rattle.gc_graph.specs.Step.{Step}
 use Rattle.gc_graph.proofs.ValidRegion.{took_own}
-use Rattle.gc_graph.proofs.StepCases.{match_option, match_bool, at_field}
+use Rattle.gc_graph.proofs.StepCases.{match_option, match_bool}
+use Rattle.gc_graph.proofs.Effects.{with_effect, same_else, ComesOut}
+use Rattle.gc_graph.proofs.PlainSteps.{plain_step}
 use Rattle.gc_graph.specs.HistoryLaw.{Follows, StepsFollow}
 use Rattle.gc_graph.proofs.HistoryLaws.{quiet, follows-append, owned, took-region, took-phase, others_start_nothing, sweep_follows}
 
@@ -42,55 +36,11 @@ refused_follows old new piece lines why p h = from_state old new (answered old) 
 memory_follows : (old new : State) (piece : List Entry) (lines : List Line) → piece ≡ [] → IsMemory old lines new → Follows old piece new
 memory_follows old new piece lines p h = from_state old new (answered old) piece p h.1 refl refl
 
-read_region : (weak : Bool) (s : State) (n : ℕ) → (read_node weak s n).region ≡ s.region
-read_region true s n = refl
-read_region false s n = refl
-
-read_phase : (weak : Bool) (s : State) (n : ℕ) → (read_node weak s n).phase ≡ s.phase
-read_phase true s n = refl
-read_phase false s n = refl
-
-read_follows : (weak : Bool) (old new : State) (piece : List Entry) (value : Value) (q : ℕ) (lines : List Line) → piece ≡ [] → IsRead weak old value q lines new
-    → Follows old piece new
-read_follows weak old new piece Null q lines p h = from_state old new _ piece p h.1 refl refl
-read_follows weak old new piece (Ref n) q lines p h = from_state old new _ piece p h.1 (read_region weak old n) (read_phase weak old n)
-read_follows weak old new piece (Word w) q lines p h = absurd h
-
-changed_follows : (old new : State) (piece : List Entry) (n : ℕ) (node : Node) (lines : List Line) → piece ≡ [] → IsChanged old n node lines new → Follows old piece new
-changed_follows old new piece n node lines p h = from_state old new (answered (with_node old n node)) piece p h.1 refl refl
-
-number_follows : (old new : State) (piece : List Entry) (value : Value) (lines : List Line) → piece ≡ [] → IsNumber old value lines new → Follows old piece new
-number_follows old new piece Null lines p h = absurd h
-number_follows old new piece (Ref n) lines p h = absurd h
-number_follows old new piece (Word w) lines p h = from_state old new _ piece p h.1 refl refl
-
--- a write to a field, and a read of one
-write_follows : (allowed : Kind → Bool) (old new : State) (p f : ℕ) (piece : List Entry) (lines : List Line) (node : ℕ → Node) → piece ≡ []
-    → AtField allowed old p f lines new (λ n. IsChanged old n (node n) lines new) → Follows old piece new
-write_follows allowed old new p f piece lines node none h =
-    at_field allowed old new p f lines (λ n. IsChanged old n (node n) lines new) (Follows old piece new)
-    (λ n d. changed_follows old new piece n (node n) lines none d) (λ why r. refused_follows old new piece lines why none r) h
-
-fetch_follows : (allowed : Kind → Bool) (old new : State) (p f q : ℕ) (piece : List Entry) (lines : List Line) (weak : ℕ → Bool) (value : ℕ → Value) → piece ≡ []
-    → AtField allowed old p f lines new (λ n. IsRead (weak n) old (value n) q lines new) → Follows old piece new
-fetch_follows allowed old new p f q piece lines weak value none h =
-    at_field allowed old new p f lines (λ n. IsRead (weak n) old (value n) q lines new) (Follows old piece new)
-    (λ n d. read_follows (weak n) old new piece (value n) q lines none d) (λ why r. refused_follows old new piece lines why none r) h
-
-word_follows : (old new : State) (p f : ℕ) (piece : List Entry) (lines : List Line) → piece ≡ [] → StepWord old p f lines new → Follows old piece new
-word_follows old new p f piece lines none h =
-    at_field is_plain old new p f lines (λ n. IsNumber old (value_at (node_at old.nodes n) (first_word old n f)) lines new) (Follows old piece new)
-    (λ n d. number_follows old new piece (value_at (node_at old.nodes n) (first_word old n f)) lines none d)
-    (λ why r. refused_follows old new piece lines why none r) h
-
-pushed_follows : (old new : State) (piece : List Entry) (word : StackWord) (lines : List Line) → piece ≡ [] → IsPushed old word lines new → Follows old piece new
-pushed_follows old new piece word lines p h =
-    match_bool (nat_lt (length old.stack) 1024) (IsDone (pushed old word) lines new) (IsRefused R.Stack old lines new) (Follows old piece new)
-    (λ d. from_state old new _ piece p d.1 refl refl) (refused_follows old new piece lines R.Stack p) h
-
-peeked_follows : (old new : State) (piece : List Entry) (word : StackWord) (q : ℕ) (lines : List Line) → piece ≡ [] → IsPeeked old word q lines new → Follows old piece new
-peeked_follows old new piece (Pointer n o) q lines p h = from_state old new _ piece p h.1 refl refl
-peeked_follows old new piece (Number w) q lines p h = refused_follows old new piece lines _ p h
+-- a plain command
+plain_follows : (old new : State) (command : Command) (piece : List Entry) (lines : List Line) → ComesOut old command piece lines new → Follows old piece new
+plain_follows old new command piece lines c =
+    let same = same_else old c.effect in
+    from_state old new (answered (with_effect old c.effect)) piece c.none c.after (ap (λ (s : State). s.region) same) (ap (λ (s : State). s.phase) same)
 
 sweeps : (setup : Setup) (old mid : State) (pages : ℕ) (numbers : List ℕ) → SweepsTo setup.shape old pages numbers mid
     → (mid.region ≡ old.region) × (is_marking mid.phase ≡ is_marking old.phase)
@@ -239,38 +189,6 @@ join_follows old new piece lines h = record {
 pub step_follows : (setup : Setup) (old new : State) (command : Command) (piece : List Entry) (lines : List Line) → Step setup old command piece lines new
     → Follows old piece new
 step_follows setup old new (C.New p t e) piece lines h = new_follows setup old new p t e piece lines h.0 h.1
-step_follows setup old new (C.Set p f q) piece lines h =
-    write_follows is_reference old new p f piece lines (λ n. with_value (node_at old.nodes n) (first_word old n f) (content_of (slot_at old q))) h.0 h.1
-step_follows setup old new (C.SetNull p f) piece lines h =
-    write_follows is_reference old new p f piece lines (λ n. with_value (node_at old.nodes n) (first_word old n f) Null) h.0 h.1
-step_follows setup old new (C.Pair p f k v) piece lines h =
-    write_follows is_pair old new p f piece lines
-    (λ n. with_value (with_value (node_at old.nodes n) (first_word old n f) (part_of (slot_at old k) (slot_at old v))) (first_word old n f + 1) (part_of (slot_at old v) (slot_at old k)))
-    h.0 h.1
-step_follows setup old new (C.PairNull p f) piece lines h =
-    write_follows is_pair old new p f piece lines (λ n. with_value (with_value (node_at old.nodes n) (first_word old n f) Null) (first_word old n f + 1) Null) h.0 h.1
-step_follows setup old new (C.Put p f w) piece lines h =
-    write_follows is_plain old new p f piece lines (λ n. with_value (node_at old.nodes n) (first_word old n f) (Word w)) h.0 h.1
-step_follows setup old new (C.Word p f) piece lines h = word_follows old new p f piece lines h.0 h.1
-step_follows setup old new (C.Get p f q) piece lines h =
-    fetch_follows is_reference old new p f q piece lines (λ n. is_weak (kind_of_field (node_at old.nodes n).object f)) (λ n. value_at (node_at old.nodes n) (first_word old n f)) h.0 h.1
-step_follows setup old new (C.Key p f q) piece lines h =
-    fetch_follows is_pair old new p f q piece lines (λ n. true) (λ n. value_at (node_at old.nodes n) (first_word old n f)) h.0 h.1
-step_follows setup old new (C.Val p f q) piece lines h =
-    fetch_follows is_pair old new p f q piece lines (λ n. true) (λ n. value_at (node_at old.nodes n) (first_word old n f + 1)) h.0 h.1
-step_follows setup old new (C.Copy p q) piece lines h = from_state old new _ piece h.0 h.1.1 refl refl
-step_follows setup old new (C.Drop p) piece lines h = from_state old new _ piece h.0 h.1.1 refl refl
-step_follows setup old new (C.Weak w p) piece lines h = from_state old new _ piece h.0 h.1.1 refl refl
-step_follows setup old new (C.Read w p) piece lines h = read_follows true old new piece (content_of (weak_slot_at old w)) p lines h.0 h.1
-step_follows setup old new (C.Push p o) piece lines h =
-    match_option (slot_at old p) _ _ _ (λ r. refused_follows old new piece lines R.Null h.0 r)
-    (λ n m. match_bool (nat_lt o (size_of (node_at old.nodes n))) (IsPushed old (Pointer n o) lines new) (IsRefused R.Field old lines new) (Follows old piece new)
-    (λ d. pushed_follows old new piece (Pointer n o) lines h.0 d) (λ r. refused_follows old new piece lines R.Field h.0 r) m) h.1
-step_follows setup old new (C.PushPlain n) piece lines h = pushed_follows old new piece (Number n) lines h.0 h.1
-step_follows setup old new C.Pop piece lines h =
-    match_bool (nat_lt 0 (length old.stack)) _ _ _ (λ d. from_state old new _ piece h.0 d.1 refl refl) (refused_follows old new piece lines R.Empty h.0) h.1
-step_follows setup old new (C.Peek i q) piece lines h =
-    match_option (slice_get old.stack i) _ _ _ (refused_follows old new piece lines R.Empty h.0) (λ word m. peeked_follows old new piece word q lines h.0 m) h.1
 step_follows setup old new C.GcStart piece lines h = gc_start_follows setup old new piece lines h
 step_follows setup old new (C.GcStep n) piece lines h =
     match_bool (is_marking old.phase) _ _ _ (λ t. from_state old new _ piece h.0 t.after refl refl) (refused_follows old new piece lines R.Phase h.0) h.1
@@ -286,6 +204,7 @@ step_follows setup old new (C.At j order) piece lines h =
 step_follows setup old new C.ThreadsGo piece lines h =
     elim h.1 [ inl d ↦ from_state old new _ piece h.0 d.1 refl refl | inr d ↦ from_state old new _ piece h.0 d.1 refl refl ]
 step_follows setup old new C.ThreadsJoin piece lines h = join_follows old new piece lines h
+step_follows setup old new command piece lines h = plain_follows old new command piece lines (plain_step setup old new command piece lines refl h)
 
 pub steps_follow : StepsFollow
 steps_follow setup old command piece lines new h = step_follows setup old new command piece lines h
