@@ -1,23 +1,16 @@
 -- What a step that is none of threads leaves of them, and how it moves what is counted.
-use Rattle.std.proofs.Common.{◌≡◌, ℕ, ◌+◌, ◌≤◌, nat_lt, length, Bool, true, false, List, [], ◌∷◌, ◌++◌, Option, refl, sym, ap, ◌∙◌, subst, arith}
+use Rattle.std.proofs.Common.{◌≡◌, ℕ, ◌+◌, ◌≤◌, length, List, [], ◌∷◌, ◌++◌, refl, sym, ap, ◌∙◌, subst, arith}
 use Rattle.std.proofs.lemmas.List.{append_assoc, append-nil}
-use Rattle.gc_graph.specs.declared.kind.Kind.{Kind}
-use Rattle.gc_graph.specs.declared.kind.Value.{Value}
-use Rattle.gc_graph.specs.declared.kind.Value.TheVariants.{Null, Ref, Word}
+use Rattle.gc_graph.specs.declared.command.Command.{Command}
 use Rattle.gc_graph.specs.declared.line.Line.{Line}
 use Rattle.gc_graph.specs.declared.line.Refusal.{Refusal}
-use Rattle.gc_graph.specs.declared.line.Refusal.TheVariants as R
 use Rattle.gc_graph.specs.declared.region.Entry.{Entry}
-use Rattle.gc_graph.specs.State.{State, StackWord, Node, node_at, objects_of}
-use Rattle.gc_graph.specs.State.StackWord.{Pointer, Number}
-use Rattle.gc_graph.specs.Fields.{value_at, is_plain}
-use Rattle.gc_graph.specs.May.{read_node}
+use Rattle.gc_graph.specs.State.{State, node_at, objects_of}
 use Rattle.gc_graph.specs.Outcomes.{answered, IsRefused, IsMemory, with_entry, took}
-use Rattle.gc_graph.specs.ObjectSteps.{AtField, first_word, with_node, IsChanged, StepWord, IsNumber, IsRead}
-use Rattle.gc_graph.specs.HandleSteps.{IsDone, pushed, IsPushed, IsPeeked}
 use Rattle.gc_graph.specs.JoinLaw.{entries_in}
-use Rattle.gc_graph.proofs.StepCases.{match_bool, at_field}
+use Rattle.gc_graph.proofs.FieldWrites.{with_values}
 use Rattle.gc_graph.proofs.NodeCounts.{weights, SameCount, same_count, weights_written}
+use Rattle.gc_graph.proofs.Effects.{with_effect, told_by, same_else, nodes_by, ComesOut}
 
 -- each node is there, or counted as finalised
 abbrev pub IsBalanced : State → Type 0
@@ -134,63 +127,15 @@ refused_answers old new piece lines why p h = alike old new old piece lines (ap 
 pub memory_answers : (old new : State) (piece : List Entry) (lines : List Line) → piece ≡ [] → IsMemory old lines new → Answers old piece lines new
 memory_answers old new piece lines p h = alike old new old piece lines (ap entries_in h.0) p h.1 refl refl
 
-read_alike : (weak : Bool) (s : State) (n : ℕ) → IsAlike s (read_node weak s n)
-read_alike true s n = refl
-read_alike false s n = refl
-
-read_weights : (weak : Bool) (s : State) (n : ℕ) → weights (read_node weak s n).nodes ≡ weights s.nodes
-read_weights true s n = refl
-read_weights false s n = refl
-
-slotted_alike : (old s : State) (slots : List (Option ℕ)) → IsAlike old s → IsAlike old (record s { slots = slots })
-slotted_alike old s slots e = ap (λ (x : State). record x { slots = slots }) e
-
-pub read_answers : (weak : Bool) (old new : State) (piece : List Entry) (value : Value) (q : ℕ) (lines : List Line) → piece ≡ []
-    → IsRead weak old value q lines new → Answers old piece lines new
-read_answers weak old new piece Null q lines p h = alike old new _ piece lines (ap entries_in h.0) p h.1 refl refl
-read_answers weak old new piece (Ref n) q lines p h =
-    alike old new _ piece lines (ap entries_in h.0) p h.1 (slotted_alike old (read_node weak old n) _ (read_alike weak old n)) (read_weights weak old n)
-read_answers weak old new piece (Word w) q lines p h = absurd h
-
-number_answers : (old new : State) (piece : List Entry) (value : Value) (lines : List Line) → piece ≡ [] → IsNumber old value lines new → Answers old piece lines new
-number_answers old new piece Null lines p h = absurd h
-number_answers old new piece (Ref n) lines p h = absurd h
-number_answers old new piece (Word w) lines p h = alike old new old piece lines (ap entries_in h.0) p h.1 refl refl
-
--- a write to a field, and a read of one
-pub write_answers : (allowed : Kind → Bool) (old new : State) (p f : ℕ) (piece : List Entry) (lines : List Line) (node : ℕ → Node) → piece ≡ []
-    → ((n : ℕ) → (node n).life ≡ (node_at old.nodes n).life)
-    → AtField allowed old p f lines new (λ n. IsChanged old n (node n) lines new) → Answers old piece lines new
-write_answers allowed old new p f piece lines node none life h =
-    at_field allowed old new p f lines (λ n. IsChanged old n (node n) lines new) (Answers old piece lines new)
-    (λ n d. alike old new (with_node old n (node n)) piece lines (ap entries_in d.0) none d.1 refl (weights_written old.nodes n (node n) (life n)))
-    (λ why r. refused_answers old new piece lines why none r) h
-
-pub fetch_answers : (allowed : Kind → Bool) (old new : State) (p f q : ℕ) (piece : List Entry) (lines : List Line) (weak : ℕ → Bool) (value : ℕ → Value)
-    → piece ≡ [] → AtField allowed old p f lines new (λ n. IsRead (weak n) old (value n) q lines new) → Answers old piece lines new
-fetch_answers allowed old new p f q piece lines weak value none h =
-    at_field allowed old new p f lines (λ n. IsRead (weak n) old (value n) q lines new) (Answers old piece lines new)
-    (λ n d. read_answers (weak n) old new piece (value n) q lines none d) (λ why r. refused_answers old new piece lines why none r) h
-
-pub word_answers : (old new : State) (p f : ℕ) (piece : List Entry) (lines : List Line) → piece ≡ [] → StepWord old p f lines new → Answers old piece lines new
-word_answers old new p f piece lines none h =
-    at_field is_plain old new p f lines (λ n. IsNumber old (value_at (node_at old.nodes n) (first_word old n f)) lines new) (Answers old piece lines new)
-    (λ n d. number_answers old new piece (value_at (node_at old.nodes n) (first_word old n f)) lines none d)
-    (λ why r. refused_answers old new piece lines why none r) h
-
-pub done_answers : (old new x : State) (piece : List Entry) (lines : List Line) → piece ≡ [] → IsAlike old x → weights x.nodes ≡ weights old.nodes
-    → IsDone x lines new → Answers old piece lines new
-done_answers old new x piece lines p a w h = alike old new x piece lines (ap entries_in h.0) p h.1 a w
-
-pub pushed_answers : (old new : State) (piece : List Entry) (word : StackWord) (lines : List Line) → piece ≡ [] → IsPushed old word lines new → Answers old piece lines new
-pushed_answers old new piece word lines p h =
-    match_bool (nat_lt (length old.stack) 1024) (IsDone (pushed old word) lines new) (IsRefused R.Stack old lines new) (Answers old piece lines new)
-    (λ d. done_answers old new (pushed old word) piece lines p refl refl d) (refused_answers old new piece lines R.Stack p) h
-
-pub peeked_answers : (old new : State) (piece : List Entry) (word : StackWord) (q : ℕ) (lines : List Line) → piece ≡ [] → IsPeeked old word q lines new
+-- a plain command
+pub plain_answers : (old new : State) (command : Command) (piece : List Entry) (lines : List Line) → ComesOut old command piece lines new
     → Answers old piece lines new
-peeked_answers old new piece (Pointer n o) q lines p h = alike old new _ piece lines (ap entries_in h.0) p h.1 refl refl
-peeked_answers old new piece (Number w) q lines p h = refused_answers old new piece lines R.Kind p h
+plain_answers old new command piece lines c =
+    alike old new (with_effect old c.effect) piece lines
+    (ap entries_in c.lines_are ∙ told_by (λ told. entries_in (told ∷ []) ≡ []) (λ why. refl) refl refl (λ n. refl) (λ w. refl) c.effect)
+    c.none c.after (subst (IsAlike old) (sym (same_else old c.effect)) refl)
+    (nodes_by old (λ nodes. weights nodes ≡ weights old.nodes) refl
+    (λ n values size. weights_written old.nodes n (with_values (node_at old.nodes n) values) refl) c.effect)
 
 pub stat_answers : (old new : State) (piece : List Entry) (lines : List Line) → entries_in lines ≡ [] → piece ≡ [] → new ≡ answered old → Answers old piece lines new
 stat_answers old new piece lines quiet none e = alike old new old piece lines quiet none e refl refl

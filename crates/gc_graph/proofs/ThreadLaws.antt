@@ -1,26 +1,22 @@
 -- What each command leaves of the threads, and that what is counted stays in bounds.
-use Rattle.std.proofs.Common.{◌≡◌, ◌+◌, ◌≤◌, nat_lt, length, Bool, true, false, true≢false, List, [], ◌++◌, refl, sym, ap, ◌∙◌, subst, inl, inr, arith}
+use Rattle.std.proofs.Common.{◌≡◌, ◌+◌, ◌≤◌, Bool, true, false, true≢false, List, [], ◌++◌, refl, sym, ap, ◌∙◌, subst, inl, inr, arith}
 use mathlib.Core.Logic.{◌⊎◌}
-use Rattle.std.specs.List.{slice_get}
 use Rattle.std.proofs.lemmas.List.{append-nil}
 use Rattle.gc_graph.specs.declared.command.Command.{Command}
 use Rattle.gc_graph.specs.declared.command.Command.TheVariants as C
-use Rattle.gc_graph.specs.declared.kind.Value.TheVariants.{Null, Word}
 use Rattle.gc_graph.specs.declared.line.Line.{Line}
 use Rattle.gc_graph.specs.declared.line.Refusal.TheVariants as R
 use Rattle.gc_graph.specs.declared.region.Entry.{Entry}
-use Rattle.gc_graph.specs.State.{Setup, State, node_at, size_of}
-use Rattle.gc_graph.specs.State.StackWord.{Pointer, Number}
-use Rattle.gc_graph.specs.Fields.{kind_of_field, value_at, with_value, content_of, is_reference, is_weak, is_pair, is_plain}
-use Rattle.gc_graph.specs.Outcomes.{answered, took, slot_at, weak_slot_at}
-use Rattle.gc_graph.specs.ObjectSteps.{first_word, part_of}
+use Rattle.gc_graph.specs.State.{Setup, State}
+use Rattle.gc_graph.specs.Outcomes.{answered, took}
 use Rattle.gc_graph.specs.CycleSteps.{is_marking}
 use Rattle.gc_graph.specs.Sections.{awaiting_after}
 use Rattle.gc_graph.specs.Step.{Step}
 use Rattle.gc_graph.specs.ThreadLaw.{is_of_threads, LeavesThreads, StepsLeaveThreads, IsCounted, StepsCount}
 use Rattle.gc_graph.specs.JoinLaw.{entries_in}
-use Rattle.gc_graph.proofs.StepCases.{match_option, match_bool}
-use Rattle.gc_graph.proofs.StepMoves.{IsBalanced, Moves, Answers, took_moves, refused_answers, read_answers, write_answers, fetch_answers, word_answers, done_answers, pushed_answers, peeked_answers, stat_answers, traced_answers}
+use Rattle.gc_graph.proofs.StepCases.{match_bool}
+use Rattle.gc_graph.proofs.PlainSteps.{plain_step}
+use Rattle.gc_graph.proofs.StepMoves.{IsBalanced, Moves, Answers, took_moves, refused_answers, plain_answers, stat_answers, traced_answers}
 use Rattle.gc_graph.proofs.CycleMoves.{sweep_to_answers, new_answers, gc_start_answers, gc_finish_answers, gc_now_answers, export_answers, import_answers}
 
 -- ---- the commands that are none of threads
@@ -39,53 +35,6 @@ owners old new command piece lines none same answers = inl ((none, same), answer
 pub step_way : (setup : Setup) (old new : State) (command : Command) (piece : List Entry) (lines : List Line) → Step setup old command piece lines new
     → Way old command piece lines new
 step_way setup old new (C.New p t e) piece lines h = owners old new (C.New p t e) piece lines refl (λ b. refl) (new_answers setup old new p t e piece lines h.0 h.1)
-step_way setup old new (C.Set p f q) piece lines h =
-    owners old new (C.Set p f q) piece lines refl (λ b. refl)
-    (write_answers is_reference old new p f piece lines (λ n. with_value (node_at old.nodes n) (first_word old n f) (content_of (slot_at old q))) h.0 (λ n. refl) h.1)
-step_way setup old new (C.SetNull p f) piece lines h =
-    owners old new (C.SetNull p f) piece lines refl (λ b. refl)
-    (write_answers is_reference old new p f piece lines (λ n. with_value (node_at old.nodes n) (first_word old n f) Null) h.0 (λ n. refl) h.1)
-step_way setup old new (C.Pair p f k v) piece lines h =
-    owners old new (C.Pair p f k v) piece lines refl (λ b. refl)
-    (write_answers is_pair old new p f piece lines
-    (λ n. with_value (with_value (node_at old.nodes n) (first_word old n f) (part_of (slot_at old k) (slot_at old v))) (first_word old n f + 1) (part_of (slot_at old v) (slot_at old k)))
-    h.0 (λ n. refl) h.1)
-step_way setup old new (C.PairNull p f) piece lines h =
-    owners old new (C.PairNull p f) piece lines refl (λ b. refl)
-    (write_answers is_pair old new p f piece lines (λ n. with_value (with_value (node_at old.nodes n) (first_word old n f) Null) (first_word old n f + 1) Null) h.0
-    (λ n. refl) h.1)
-step_way setup old new (C.Put p f w) piece lines h =
-    owners old new (C.Put p f w) piece lines refl (λ b. refl)
-    (write_answers is_plain old new p f piece lines (λ n. with_value (node_at old.nodes n) (first_word old n f) (Word w)) h.0 (λ n. refl) h.1)
-step_way setup old new (C.Word p f) piece lines h = owners old new (C.Word p f) piece lines refl (λ b. refl) (word_answers old new p f piece lines h.0 h.1)
-step_way setup old new (C.Get p f q) piece lines h =
-    owners old new (C.Get p f q) piece lines refl (λ b. refl)
-    (fetch_answers is_reference old new p f q piece lines (λ n. is_weak (kind_of_field (node_at old.nodes n).object f)) (λ n. value_at (node_at old.nodes n) (first_word old n f))
-    h.0 h.1)
-step_way setup old new (C.Key p f q) piece lines h =
-    owners old new (C.Key p f q) piece lines refl (λ b. refl)
-    (fetch_answers is_pair old new p f q piece lines (λ n. true) (λ n. value_at (node_at old.nodes n) (first_word old n f)) h.0 h.1)
-step_way setup old new (C.Val p f q) piece lines h =
-    owners old new (C.Val p f q) piece lines refl (λ b. refl)
-    (fetch_answers is_pair old new p f q piece lines (λ n. true) (λ n. value_at (node_at old.nodes n) (first_word old n f + 1)) h.0 h.1)
-step_way setup old new (C.Copy p q) piece lines h = owners old new (C.Copy p q) piece lines refl (λ b. refl) (done_answers old new _ piece lines h.0 refl refl h.1)
-step_way setup old new (C.Drop p) piece lines h = owners old new (C.Drop p) piece lines refl (λ b. refl) (done_answers old new _ piece lines h.0 refl refl h.1)
-step_way setup old new (C.Weak w p) piece lines h = owners old new (C.Weak w p) piece lines refl (λ b. refl) (done_answers old new _ piece lines h.0 refl refl h.1)
-step_way setup old new (C.Read w p) piece lines h =
-    owners old new (C.Read w p) piece lines refl (λ b. refl) (read_answers true old new piece (content_of (weak_slot_at old w)) p lines h.0 h.1)
-step_way setup old new (C.Push p o) piece lines h =
-    owners old new (C.Push p o) piece lines refl (λ b. refl)
-    (match_option (slot_at old p) _ _ _ (λ r. refused_answers old new piece lines R.Null h.0 r)
-    (λ n m. match_bool (nat_lt o (size_of (node_at old.nodes n))) _ _ _
-    (λ d. pushed_answers old new piece (Pointer n o) lines h.0 d) (λ r. refused_answers old new piece lines R.Field h.0 r) m) h.1)
-step_way setup old new (C.PushPlain n) piece lines h =
-    owners old new (C.PushPlain n) piece lines refl (λ b. refl) (pushed_answers old new piece (Number n) lines h.0 h.1)
-step_way setup old new C.Pop piece lines h =
-    owners old new C.Pop piece lines refl (λ b. refl)
-    (match_bool (nat_lt 0 (length old.stack)) _ _ _ (λ d. done_answers old new _ piece lines h.0 refl refl d) (refused_answers old new piece lines R.Empty h.0) h.1)
-step_way setup old new (C.Peek i q) piece lines h =
-    owners old new (C.Peek i q) piece lines refl (λ b. refl)
-    (match_option (slice_get old.stack i) _ _ _ (refused_answers old new piece lines R.Empty h.0) (λ word m. peeked_answers old new piece word q lines h.0 m) h.1)
 step_way setup old new C.GcStart piece lines h = owners old new C.GcStart piece lines refl (λ b. refl) (gc_start_answers setup old new piece lines h)
 step_way setup old new (C.GcStep n) piece lines h =
     owners old new (C.GcStep n) piece lines refl (λ b. refl)
@@ -100,6 +49,8 @@ step_way setup old new (C.Import x p) piece lines h = owners old new (C.Import x
 step_way setup old new (C.At j order) piece lines h = inr refl
 step_way setup old new C.ThreadsGo piece lines h = inr refl
 step_way setup old new C.ThreadsJoin piece lines h = inr refl
+step_way setup old new command piece lines h =
+    owners old new command piece lines refl (λ b. refl) (plain_answers old new command piece lines (plain_step setup old new command piece lines refl h))
 
 -- ---- what is left of the threads
 
