@@ -1,30 +1,25 @@
 -- The lines of each command, in order: nodes that were finalised, and then the answer.
-use Rattle.std.proofs.Common.{◌≡◌, ℕ, ◌+◌, nat_lt, Bool, true, false, true≢false, List, [], ◌∷◌, ◌++◌, length, map, Option, None, Some, refl, sym, ◌∙◌, subst, inl, inr, All}
-use Rattle.std.specs.List.{slice_get}
+use Rattle.std.proofs.Common.{◌≡◌, ℕ, nat_lt, true, false, true≢false, List, [], ◌∷◌, ◌++◌, length, map, Option, None, Some, refl, sym, ◌∙◌, subst, inl, inr, All}
 use Rattle.std.proofs.lemmas.List.Elements.{All-nil, All-cons, All-append, All-map}
 use Rattle.gc_graph.specs.declared.command.Command.{Command}
 use Rattle.gc_graph.specs.declared.command.Command.TheVariants as C
 use Rattle.gc_graph.specs.declared.command.Want.{Want}
-use Rattle.gc_graph.specs.declared.kind.Kind.{Kind}
-use Rattle.gc_graph.specs.declared.kind.Value.{Value}
-use Rattle.gc_graph.specs.declared.kind.Value.TheVariants.{Null, Ref, Word}
 use Rattle.gc_graph.specs.declared.line.Line.{Line}
 use Rattle.gc_graph.specs.declared.line.Line.TheVariants as L
 use Rattle.gc_graph.specs.declared.line.Refusal.{Refusal}
 use Rattle.gc_graph.specs.declared.region.Entry.{Entry}
-use Rattle.gc_graph.specs.State.{Setup, State, StackWord, Registration, node_at, size_of}
-use Rattle.gc_graph.specs.State.StackWord.{Pointer, Number}
-use Rattle.gc_graph.specs.Fields.{kind_of_field, value_at, content_of, is_reference, is_weak, is_pair, is_plain}
-use Rattle.gc_graph.specs.Outcomes.{IsRefused, finalise_lines, slot_at, weak_slot_at, took}
+use Rattle.gc_graph.specs.State.{Setup, State, Registration}
+use Rattle.gc_graph.specs.Outcomes.{IsRefused, finalise_lines, slot_at, took}
 use Rattle.gc_graph.specs.Pause.{prefinalise_lines}
-use Rattle.gc_graph.specs.ObjectSteps.{AtField, first_word, StepNew, IsNumber, IsRead}
-use Rattle.gc_graph.specs.HandleSteps.{IsPushed, IsPeeked}
+use Rattle.gc_graph.specs.ObjectSteps.{StepNew}
 use Rattle.gc_graph.specs.CycleSteps.{IsPause, is_marking, is_sweeping, is_stack_refused, StepGcStart, StepGcFinish, StepGcNow, StepSweepTo}
 use Rattle.gc_graph.specs.RegionSteps.{Answer, reply_line, line_of_content, StepExport, StepImport, StepThreadsJoin}
 use Rattle.gc_graph.specs.RegionSteps.Answer.{Replied, Told}
 use Rattle.gc_graph.specs.Step.{Step}
 use Rattle.gc_graph.specs.LineOrderLaw.{tells_finalised, may_sweep, may_tell_more, AreFinalisedFirst, FinalisedAreToldFirst}
-use Rattle.gc_graph.proofs.StepCases.{match_option, match_bool, at_field}
+use Rattle.gc_graph.proofs.StepCases.{match_option, match_bool}
+use Rattle.gc_graph.proofs.Effects.{line_of_effect, told_by, ComesOut}
+use Rattle.gc_graph.proofs.PlainSteps.{plain_step}
 use Rattle.gc_graph.proofs.ThreadNumbers.{all_flat}
 
 abbrev IsOther : Line → Type 0
@@ -66,26 +61,9 @@ said_after command lines numbers answer sweeps other is = record {
 refused : (old new : State) (lines : List Line) (why : Refusal) → IsRefused why old lines new → Says lines
 refused old new lines why r = (L.Refused why, refl, r.0)
 
-fielded : (allowed : Kind → Bool) (old new : State) (p f : ℕ) (lines : List Line) (Done : ℕ → Type 0) → ((n : ℕ) → Done n → Says lines)
-    → AtField allowed old p f lines new Done → Says lines
-fielded allowed old new p f lines Done done h = at_field allowed old new p f lines Done (Says lines) done (λ why r. refused old new lines why r) h
-
-fetched : (weak : Bool) (old new : State) (value : Value) (q : ℕ) (lines : List Line) → IsRead weak old value q lines new → Says lines
-fetched weak old new Null q lines h = (L.Null, refl, h.0)
-fetched weak old new (Ref n) q lines h = (L.Node n, refl, h.0)
-fetched weak old new (Word w) q lines h = absurd h
-
-numbered : (old new : State) (value : Value) (lines : List Line) → IsNumber old value lines new → Says lines
-numbered old new Null lines h = absurd h
-numbered old new (Ref n) lines h = absurd h
-numbered old new (Word w) lines h = (L.Word w, refl, h.0)
-
-pushes : (old new : State) (word : StackWord) (lines : List Line) → IsPushed old word lines new → Says lines
-pushes old new word lines h = match_bool (nat_lt (length old.stack) 1024) _ _ (Says lines) (λ d. (L.Fine, refl, d.0)) (refused old new lines _) h
-
-peeked : (old new : State) (word : StackWord) (q : ℕ) (lines : List Line) → IsPeeked old word q lines new → Says lines
-peeked old new (Pointer n o) q lines h = (L.Node n, refl, h.0)
-peeked old new (Number w) q lines h = refused old new lines _ h
+plain : (old new : State) (command : Command) (piece : List Entry) (lines : List Line) → ComesOut old command piece lines new → Says lines
+plain old new command piece lines c =
+    (line_of_effect c.effect, told_by IsOther (λ why. refl) refl refl (λ n. refl) (λ w. refl) c.effect, c.lines_are)
 
 content_other : (content : Option ℕ) → IsOther (line_of_content content)
 content_other None = refl
@@ -187,32 +165,6 @@ join_lines old new piece lines h =
 
 one_line : (setup : Setup) (old new : State) (command : Command) (piece : List Entry) (lines : List Line) → may_sweep command ≡ false
     → may_tell_more command ≡ false → Step setup old command piece lines new → Says lines
-one_line setup old new (C.Set p f q) piece lines a b h = fielded is_reference old new p f lines _ (λ n d. (L.Fine, refl, d.0)) h.1
-one_line setup old new (C.SetNull p f) piece lines a b h = fielded is_reference old new p f lines _ (λ n d. (L.Fine, refl, d.0)) h.1
-one_line setup old new (C.Pair p f k v) piece lines a b h = fielded is_pair old new p f lines _ (λ n d. (L.Fine, refl, d.0)) h.1
-one_line setup old new (C.PairNull p f) piece lines a b h = fielded is_pair old new p f lines _ (λ n d. (L.Fine, refl, d.0)) h.1
-one_line setup old new (C.Put p f w) piece lines a b h = fielded is_plain old new p f lines _ (λ n d. (L.Fine, refl, d.0)) h.1
-one_line setup old new (C.Word p f) piece lines a b h =
-    fielded is_plain old new p f lines _ (λ n d. numbered old new (value_at (node_at old.nodes n) (first_word old n f)) lines d) h.1
-one_line setup old new (C.Get p f q) piece lines a b h =
-    fielded is_reference old new p f lines _
-    (λ n d. fetched (is_weak (kind_of_field (node_at old.nodes n).object f)) old new (value_at (node_at old.nodes n) (first_word old n f)) q lines d) h.1
-one_line setup old new (C.Key p f q) piece lines a b h =
-    fielded is_pair old new p f lines _ (λ n d. fetched true old new (value_at (node_at old.nodes n) (first_word old n f)) q lines d) h.1
-one_line setup old new (C.Val p f q) piece lines a b h =
-    fielded is_pair old new p f lines _ (λ n d. fetched true old new (value_at (node_at old.nodes n) (first_word old n f + 1)) q lines d) h.1
-one_line setup old new (C.Copy p q) piece lines a b h = (L.Fine, refl, h.1.0)
-one_line setup old new (C.Drop p) piece lines a b h = (L.Fine, refl, h.1.0)
-one_line setup old new (C.Weak w p) piece lines a b h = (L.Fine, refl, h.1.0)
-one_line setup old new (C.Read w p) piece lines a b h = fetched true old new (content_of (weak_slot_at old w)) p lines h.1
-one_line setup old new (C.Push p o) piece lines a b h =
-    match_option (slot_at old p) _ _ (Says lines) (refused old new lines _)
-    (λ n m. match_bool (nat_lt o (size_of (node_at old.nodes n))) _ _ (Says lines) (λ d. pushes old new (Pointer n o) lines d) (refused old new lines _) m) h.1
-one_line setup old new (C.PushPlain n) piece lines a b h = pushes old new (Number n) lines h.1
-one_line setup old new C.Pop piece lines a b h =
-    match_bool (nat_lt 0 (length old.stack)) _ _ (Says lines) (λ d. (L.Fine, refl, d.0)) (refused old new lines _) h.1
-one_line setup old new (C.Peek i q) piece lines a b h =
-    match_option (slice_get old.stack i) _ _ (Says lines) (refused old new lines _) (λ word m. peeked old new word q lines m) h.1
 one_line setup old new (C.GcStep n) piece lines a b h =
     match_bool (is_marking old.phase) _ _ (Says lines) (λ t. (L.Step t.count (nat_lt t.count n), refl, t.lines_are)) (refused old new lines _) h.1
 one_line setup old new C.Stat piece lines a b h = (_, refl, h.1.2)
@@ -224,7 +176,12 @@ one_line setup old new C.ThreadsGo piece lines a b h =
     elim h.1 [ inl memory ↦ (L.Memory, refl, memory.0) | inr d ↦ (_, refl, d.0) ]
 one_line setup old new (C.GcFinish want) piece lines a b h = absurd (true≢false b)
 one_line setup old new C.ThreadsJoin piece lines a b h = absurd (true≢false b)
-one_line setup old new command piece lines a b h = absurd (true≢false a)
+one_line setup old new (C.New p t e) piece lines a b h = absurd (true≢false a)
+one_line setup old new C.GcStart piece lines a b h = absurd (true≢false a)
+one_line setup old new (C.GcNow want) piece lines a b h = absurd (true≢false a)
+one_line setup old new (C.Sweep n) piece lines a b h = absurd (true≢false a)
+one_line setup old new C.SweepAll piece lines a b h = absurd (true≢false a)
+one_line setup old new command piece lines a b h = plain old new command piece lines (plain_step setup old new command piece lines refl h)
 
 pub finalised_are_told_first : FinalisedAreToldFirst
 finalised_are_told_first setup old new (C.New p t e) piece lines h = new_lines setup old new p t e lines h.1
