@@ -1,14 +1,11 @@
 -- Each count goes up by the lines that tell of it.
-use Rattle.std.proofs.Common.{◌≡◌, ℕ, ◌+◌, nat_lt, Bool, true, false, List, [], ◌∷◌, ◌++◌, length, map, Option, Some, None, refl, sym, ap, ◌∙◌, subst, inl, inr, arith, All, if◌then◌else◌}
-use Rattle.std.specs.List.{slice_get, flat_map, count_by}
+use Rattle.std.proofs.Common.{◌≡◌, ℕ, ◌+◌, Bool, true, false, List, [], ◌∷◌, ◌++◌, length, map, Option, Some, None, refl, sym, ap, ◌∙◌, subst, inl, inr, arith, All, if◌then◌else◌}
+use Rattle.std.specs.List.{flat_map, count_by}
 use Rattle.std.proofs.lemmas.List.Sums.{sum_by-cons, sum_by-append}
 use Rattle.std.proofs.lemmas.List.Elements.{All-nil, All-cons, All-head, All-tail, All-append}
 use Rattle.gc_graph.specs.declared.command.Command.{Command}
 use Rattle.gc_graph.specs.declared.command.Command.TheVariants as C
 use Rattle.gc_graph.specs.declared.command.Want.{Want}
-use Rattle.gc_graph.specs.declared.kind.Kind.{Kind}
-use Rattle.gc_graph.specs.declared.kind.Value.{Value}
-use Rattle.gc_graph.specs.declared.kind.Value.TheVariants.{Null, Ref, Word}
 use Rattle.gc_graph.specs.declared.line.Line.{Line}
 use Rattle.gc_graph.specs.declared.line.Line.TheVariants as L
 use Rattle.gc_graph.specs.declared.line.Refusal.{Refusal}
@@ -16,22 +13,20 @@ use Rattle.gc_graph.specs.declared.line.Refusal.TheVariants as R
 use Rattle.gc_graph.specs.declared.phase.Phase.{Phase}
 use Rattle.gc_graph.specs.declared.phase.Phase.TheVariants.{Idle, Marking, Sweeping}
 use Rattle.gc_graph.specs.declared.region.Entry.{Entry}
-use Rattle.gc_graph.specs.State.{Setup, Shape, State, StackWord, Registration, Node, node_at, size_of}
-use Rattle.gc_graph.specs.State.StackWord.{Pointer, Number}
-use Rattle.gc_graph.specs.Fields.{kind_of_field, value_at, with_value, content_of, is_reference, is_weak, is_pair, is_plain}
+use Rattle.gc_graph.specs.State.{Setup, Shape, State, Registration, Node}
 use Rattle.gc_graph.specs.History.{node_of, region_slot}
-use Rattle.gc_graph.specs.May.{read_node}
 use Rattle.gc_graph.specs.Sweep.{SweepsInPhase, SweepsTo}
-use Rattle.gc_graph.specs.Outcomes.{answered, IsRefused, finalise_lines, with_entry, took, slot_at, weak_slot_at}
+use Rattle.gc_graph.specs.Outcomes.{answered, IsRefused, finalise_lines, with_entry, took, slot_at}
 use Rattle.gc_graph.specs.Pause.{live_count, dead_count, run_order, prefinalise_lines, condemn, paused}
-use Rattle.gc_graph.specs.ObjectSteps.{AtField, first_word, part_of, IsChanged, StepNew, IsNumber, IsRead}
-use Rattle.gc_graph.specs.HandleSteps.{IsDone, pushed, IsPushed, IsPeeked}
+use Rattle.gc_graph.specs.ObjectSteps.{StepNew}
 use Rattle.gc_graph.specs.CycleSteps.{IsStart, IsPause, is_marking, is_sweeping, is_stack_refused, StepGcStart, StepGcFinish, StepGcNow, StepSweepTo}
 use Rattle.gc_graph.specs.RegionSteps.{Answer, reply_line, line_of_content, StepExport, StepImport, StepThreadsJoin}
 use Rattle.gc_graph.specs.RegionSteps.Answer.{Replied, Told}
 use Rattle.gc_graph.specs.Step.{Step}
 use Rattle.gc_graph.specs.CountsLaw.{tells_pause, tells_finalisation, tells_full, AreCountedByLines, StepsCountLines}
-use Rattle.gc_graph.proofs.StepCases.{match_option, match_bool, at_field}
+use Rattle.gc_graph.proofs.StepCases.{match_option, match_bool}
+use Rattle.gc_graph.proofs.Effects.{line_of_effect, with_effect, told_by, same_else, ComesOut}
+use Rattle.gc_graph.proofs.PlainSteps.{plain_step}
 
 -- ---- lines that tell of no count
 
@@ -190,40 +185,14 @@ module _ (old new : State) (lines : List Line) where
   memory : (lines ≡ L.Memory ∷ []) × (new ≡ answered old) → AreCountedByLines old lines new
   memory m = plain old L.Memory (refl, refl, refl) (same old) m.0 m.1
 
-  read_same : (weak : Bool) (n : ℕ) → SameCounts old (read_node weak old n)
-  read_same true n = record { ordinal = refl; pauses = refl; finalised = refl; full = refl }
-  read_same false n = same old
-
-  read : (weak : Bool) (value : Value) (q : ℕ) → IsRead weak old value q lines new → AreCountedByLines old lines new
-  read weak Null q h = like _ L.Null (refl, refl, refl) refl refl refl refl h.0 h.1
-  read weak (Ref n) q h =
-      (let k = read_same weak n in like _ (L.Node n) (refl, refl, refl) k.ordinal k.pauses k.finalised k.full h.0 h.1)
-  read weak (Word w) q h = absurd h
-
-  number : (value : Value) → IsNumber old value lines new → AreCountedByLines old lines new
-  number Null h = absurd h
-  number (Ref n) h = absurd h
-  number (Word w) h = plain old (L.Word w) (refl, refl, refl) (same old) h.0 h.1
-
-  write : (allowed : Kind → Bool) (p f : ℕ) (node : ℕ → Node) → AtField allowed old p f lines new (λ n. IsChanged old n (node n) lines new)
-      → AreCountedByLines old lines new
-  write allowed p f node h =
-      at_field allowed old new p f lines (λ n. IsChanged old n (node n) lines new) _
-      (λ n d. like _ L.Fine (refl, refl, refl) refl refl refl refl d.0 d.1) (λ why r. refused why r) h
-
-  fetch : (allowed : Kind → Bool) (p f q : ℕ) (weak : ℕ → Bool) (value : ℕ → Value)
-      → AtField allowed old p f lines new (λ n. IsRead (weak n) old (value n) q lines new) → AreCountedByLines old lines new
-  fetch allowed p f q weak value h =
-      at_field allowed old new p f lines (λ n. IsRead (weak n) old (value n) q lines new) _ (λ n d. read (weak n) (value n) q d) (λ why r. refused why r) h
-
-  push : (word : StackWord) → IsPushed old word lines new → AreCountedByLines old lines new
-  push word h =
-      match_bool (nat_lt (length old.stack) 1024) (IsDone (pushed old word) lines new) (IsRefused R.Stack old lines new) _
-      (λ d. like _ L.Fine (refl, refl, refl) refl refl refl refl d.0 d.1) (λ r. refused R.Stack r) h
-
-  peek : (word : StackWord) (q : ℕ) → IsPeeked old word q lines new → AreCountedByLines old lines new
-  peek (Pointer n o) q h = like _ (L.Node n) (refl, refl, refl) refl refl refl refl h.0 h.1
-  peek (Number w) q h = refused R.Kind h
+  -- a plain command
+  comes_out : (command : Command) (piece : List Entry) → ComesOut old command piece lines new → AreCountedByLines old lines new
+  comes_out command piece c =
+      let alike = same_else old c.effect in
+      like (with_effect old c.effect) (line_of_effect c.effect)
+      (told_by IsUncounted (λ why. (refl, refl, refl)) (refl, refl, refl) (refl, refl, refl) (λ n. (refl, refl, refl)) (λ w. (refl, refl, refl)) c.effect)
+      (ap (λ (s : State). s.ordinal) alike) (ap (λ (s : State). s.pauses) alike) (ap (λ (s : State). s.finalised) alike)
+      (ap (λ (s : State). s.full) alike) c.lines_are c.after
 
   -- finalisations, and then one line
   after_sweep : (shape : Shape) (mid x : State) (pages : ℕ) (numbers : List ℕ) (last : List Line) → SweepsTo shape old pages numbers mid
@@ -338,37 +307,6 @@ join_counts old new piece lines h =
 counts : (setup : Setup) (old new : State) (command : Command) (piece : List Entry) (lines : List Line) → Step setup old command piece lines new
     → AreCountedByLines old lines new
 counts setup old new (C.New p t e) piece lines h = new_counts old new lines setup p t e h.1
-counts setup old new (C.Set p f q) piece lines h =
-    write old new lines is_reference p f (λ n. with_value (node_at old.nodes n) (first_word old n f) (content_of (slot_at old q))) h.1
-counts setup old new (C.SetNull p f) piece lines h = write old new lines is_reference p f (λ n. with_value (node_at old.nodes n) (first_word old n f) Null) h.1
-counts setup old new (C.Pair p f k v) piece lines h =
-    write old new lines is_pair p f
-    (λ n. with_value (with_value (node_at old.nodes n) (first_word old n f) (part_of (slot_at old k) (slot_at old v))) (first_word old n f + 1) (part_of (slot_at old v) (slot_at old k)))
-    h.1
-counts setup old new (C.PairNull p f) piece lines h =
-    write old new lines is_pair p f (λ n. with_value (with_value (node_at old.nodes n) (first_word old n f) Null) (first_word old n f + 1) Null) h.1
-counts setup old new (C.Put p f w) piece lines h = write old new lines is_plain p f (λ n. with_value (node_at old.nodes n) (first_word old n f) (Word w)) h.1
-counts setup old new (C.Word p f) piece lines h =
-    at_field is_plain old new p f lines (λ n. IsNumber old (value_at (node_at old.nodes n) (first_word old n f)) lines new) _
-    (λ n d. number old new lines (value_at (node_at old.nodes n) (first_word old n f)) d) (λ why r. refused old new lines why r) h.1
-counts setup old new (C.Get p f q) piece lines h =
-    fetch old new lines is_reference p f q (λ n. is_weak (kind_of_field (node_at old.nodes n).object f)) (λ n. value_at (node_at old.nodes n) (first_word old n f)) h.1
-counts setup old new (C.Key p f q) piece lines h = fetch old new lines is_pair p f q (λ n. true) (λ n. value_at (node_at old.nodes n) (first_word old n f)) h.1
-counts setup old new (C.Val p f q) piece lines h = fetch old new lines is_pair p f q (λ n. true) (λ n. value_at (node_at old.nodes n) (first_word old n f + 1)) h.1
-counts setup old new (C.Copy p q) piece lines h = like old new lines _ L.Fine (refl, refl, refl) refl refl refl refl h.1.0 h.1.1
-counts setup old new (C.Drop p) piece lines h = like old new lines _ L.Fine (refl, refl, refl) refl refl refl refl h.1.0 h.1.1
-counts setup old new (C.Weak w p) piece lines h = like old new lines _ L.Fine (refl, refl, refl) refl refl refl refl h.1.0 h.1.1
-counts setup old new (C.Read w p) piece lines h = read old new lines true (content_of (weak_slot_at old w)) p h.1
-counts setup old new (C.Push p o) piece lines h =
-    match_option (slot_at old p) _ _ _ (λ r. refused old new lines R.Null r)
-    (λ n m. match_bool (nat_lt o (size_of (node_at old.nodes n))) (IsPushed old (Pointer n o) lines new) (IsRefused R.Field old lines new) _
-    (λ d. push old new lines (Pointer n o) d) (λ r. refused old new lines R.Field r) m) h.1
-counts setup old new (C.PushPlain n) piece lines h = push old new lines (Number n) h.1
-counts setup old new C.Pop piece lines h =
-    match_bool (nat_lt 0 (length old.stack)) _ _ _ (λ d. like old new lines _ L.Fine (refl, refl, refl) refl refl refl refl d.0 d.1)
-    (λ r. refused old new lines R.Empty r) h.1
-counts setup old new (C.Peek i q) piece lines h =
-    match_option (slice_get old.stack i) _ _ _ (λ r. refused old new lines R.Empty r) (λ word m. peek old new lines word q m) h.1
 counts setup old new C.GcStart piece lines h = gc_start old new lines setup piece h
 counts setup old new (C.GcStep n) piece lines h =
     match_bool (is_marking old.phase) _ _ _ (λ t. like old new lines _ _ (refl, refl, refl) refl refl refl refl t.lines_are t.after) (λ r. refused old new lines R.Phase r) h.1
@@ -388,6 +326,7 @@ counts setup old new C.ThreadsGo piece lines h = elim h.1 [
   | inr d ↦ like old new lines _ _ (refl, refl, refl) refl refl refl refl d.0 d.1
 ]
 counts setup old new C.ThreadsJoin piece lines h = join_counts old new piece lines h
+counts setup old new command piece lines h = comes_out old new lines command piece (plain_step setup old new command piece lines refl h)
 
 pub steps_count_lines : StepsCountLines
 steps_count_lines setup old command piece lines new h = counts setup old new command piece lines h
