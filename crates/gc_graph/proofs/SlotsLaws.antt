@@ -1,26 +1,18 @@
 -- Each step leaves as many slots and queues as there were, and the threads that run in order.
-use Rattle.std.proofs.Common.{◌≡◌, ℕ, zero, suc, ◌+◌, ◌-◌, nat_lt, Bool, true, false, List, [], ◌∷◌, length, take, Option, None, Some, refl, sym, ap, ◌∙◌, subst, inl, inr, arith}
-use Rattle.std.specs.List.{slice_get}
+use Rattle.std.proofs.Common.{◌≡◌, ℕ, zero, suc, ◌-◌, true, false, List, [], ◌∷◌, length, take, Option, None, Some, refl, sym, ap, ◌∙◌, subst, inl, inr, arith}
 use Rattle.std.proofs.lemmas.List.{length-map, length-set}
 use Rattle.gc_graph.specs.declared.command.Command.{Command}
 use Rattle.gc_graph.specs.declared.command.Command.TheVariants as C
 use Rattle.gc_graph.specs.declared.command.Order.{Order}
 use Rattle.gc_graph.specs.declared.command.Want.{Want}
-use Rattle.gc_graph.specs.declared.kind.Kind.{Kind}
-use Rattle.gc_graph.specs.declared.kind.Value.{Value}
-use Rattle.gc_graph.specs.declared.kind.Value.TheVariants.{Null, Ref, Word}
 use Rattle.gc_graph.specs.declared.line.Line.{Line}
 use Rattle.gc_graph.specs.declared.phase.Phase.{Phase}
 use Rattle.gc_graph.specs.declared.phase.Phase.TheVariants.{Idle, Marking, Sweeping}
 use Rattle.gc_graph.specs.declared.region.Entry.{Entry}
-use Rattle.gc_graph.specs.State.{Setup, Shape, State, StackWord, node_at, size_of, empty_state}
-use Rattle.gc_graph.specs.State.StackWord.{Pointer, Number}
-use Rattle.gc_graph.specs.Fields.{kind_of_field, value_at, content_of, is_reference, is_weak, is_pair, is_plain}
-use Rattle.gc_graph.specs.May.{read_node}
+use Rattle.gc_graph.specs.State.{Setup, Shape, State, empty_state}
 use Rattle.gc_graph.specs.Sweep.{SweepsInPhase}
-use Rattle.gc_graph.specs.Outcomes.{with_entry, took, slot_at, with_slot, weak_slot_at}
-use Rattle.gc_graph.specs.ObjectSteps.{AtField, first_word, StepNew, IsNumber, IsRead}
-use Rattle.gc_graph.specs.HandleSteps.{IsPushed, IsPeeked}
+use Rattle.gc_graph.specs.Outcomes.{answered, with_entry, took, slot_at, with_slot}
+use Rattle.gc_graph.specs.ObjectSteps.{StepNew}
 use Rattle.gc_graph.specs.CycleSteps.{IsStart, IsPause, is_marking, is_sweeping, is_stack_refused, StepGcStart, StepGcFinish, StepGcNow, StepSweepTo}
 use Rattle.gc_graph.specs.RegionSteps.{StepExport, StepImport}
 use Rattle.gc_graph.specs.Step.{Step}
@@ -29,7 +21,10 @@ use Rattle.gc_graph.specs.Replays.{replayed_length}
 use Rattle.gc_graph.specs.JoinLaw.{AreThreads}
 use Rattle.gc_graph.specs.ThreadLaw.{is_of_threads}
 use Rattle.gc_graph.specs.SlotsLaw.{HasAllSlots, RunsKeepSlots}
-use Rattle.gc_graph.proofs.StepCases.{match_option, match_bool, at_field}
+use Rattle.gc_graph.proofs.StepCases.{match_option, match_bool}
+use Rattle.gc_graph.proofs.Effects.{Effect, with_effect, ComesOut}
+use Rattle.gc_graph.proofs.Effects.Effect.{Fills, Empties, Gets, Weakens}
+use Rattle.gc_graph.proofs.PlainSteps.{plain_step}
 use Rattle.gc_graph.proofs.StepFollows.{step_follows}
 use Rattle.gc_graph.proofs.ThreadLaws.{step_way}
 use Rattle.gc_graph.proofs.JoinLaws.{started}
@@ -52,32 +47,17 @@ then_slotted old s p content h = then old s (with_slot s p content) h (slotted s
 
 -- ---- what leaves the slots alone, or writes one
 
-read_keeps : (weak : Bool) (s : State) (n : ℕ) → Keeps s (read_node weak s n)
-read_keeps true s n = (refl, refl)
-read_keeps false s n = (refl, refl)
+-- a plain command
+effect_keeps : (old : State) (effect : Effect) → Keeps old (with_effect old effect)
+effect_keeps old (Fills q content) = slotted old q content
+effect_keeps old (Empties q) = slotted old q None
+effect_keeps old (Gets true q n) = slotted old q (Some n)
+effect_keeps old (Gets false q n) = slotted old q (Some n)
+effect_keeps old (Weakens w content) = (refl, length-set old.weak w content)
+effect_keeps old effect = (refl, refl)
 
-fetched : (weak : Bool) (old new : State) (value : Value) (q : ℕ) (lines : List Line) → IsRead weak old value q lines new → Keeps old new
-fetched weak old new Null q lines h = from old _ new h.1 (slotted old q None)
-fetched weak old new (Ref n) q lines h =
-    from old _ new h.1 (then_slotted old (read_node weak old n) q (Some n) (read_keeps weak old n))
-fetched weak old new (Word w) q lines h = absurd h
-
-numbered : (old new : State) (value : Value) (lines : List Line) → IsNumber old value lines new → Keeps old new
-numbered old new Null lines h = absurd h
-numbered old new (Ref n) lines h = absurd h
-numbered old new (Word w) lines h = from old _ new h.1 (refl, refl)
-
-fielded : (allowed : Kind → Bool) (old new : State) (p f : ℕ) (lines : List Line) (Done : ℕ → Type 0) → ((n : ℕ) → Done n → Keeps old new)
-    → AtField allowed old p f lines new Done → Keeps old new
-fielded allowed old new p f lines Done done h = at_field allowed old new p f lines Done (Keeps old new) done (λ why r. from old _ new r.1 (refl, refl)) h
-
-pushed_keeps : (old new : State) (word : StackWord) (lines : List Line) → IsPushed old word lines new → Keeps old new
-pushed_keeps old new word lines h =
-    match_bool (nat_lt (length old.stack) 1024) _ _ (Keeps old new) (λ d. from old _ new d.1 (refl, refl)) (λ r. from old _ new r.1 (refl, refl)) h
-
-peeked_keeps : (old new : State) (word : StackWord) (q : ℕ) (lines : List Line) → IsPeeked old word q lines new → Keeps old new
-peeked_keeps old new (Pointer n o) q lines h = from old _ new h.1 (slotted old q (Some n))
-peeked_keeps old new (Number w) q lines h = from old _ new h.1 (refl, refl)
+plain_keeps : (old new : State) (command : Command) (piece : List Entry) (lines : List Line) → ComesOut old command piece lines new → Keeps old new
+plain_keeps old new command piece lines c = from old (answered (with_effect old c.effect)) new c.after (effect_keeps old c.effect)
 
 swept_keeps : (phase : Phase) (shape : Shape) (old mid : State) (pages : ℕ) (numbers : List ℕ) → SweepsInPhase phase shape old pages numbers mid → Keeps old mid
 swept_keeps Idle shape old mid pages numbers h = from old old mid h.1 (refl, refl)
@@ -164,33 +144,6 @@ import_keeps old new x p piece lines h = elim h [
 
 keeps : (setup : Setup) (old new : State) (command : Command) (piece : List Entry) (lines : List Line) → Step setup old command piece lines new → Keeps old new
 keeps setup old new (C.New p t e) piece lines h = new_keeps setup old new p t e lines h.1
-keeps setup old new (C.Set p f q) piece lines h = fielded is_reference old new p f lines _ (λ n d. from old _ new d.1 (refl, refl)) h.1
-keeps setup old new (C.SetNull p f) piece lines h = fielded is_reference old new p f lines _ (λ n d. from old _ new d.1 (refl, refl)) h.1
-keeps setup old new (C.Pair p f k v) piece lines h = fielded is_pair old new p f lines _ (λ n d. from old _ new d.1 (refl, refl)) h.1
-keeps setup old new (C.PairNull p f) piece lines h = fielded is_pair old new p f lines _ (λ n d. from old _ new d.1 (refl, refl)) h.1
-keeps setup old new (C.Put p f w) piece lines h = fielded is_plain old new p f lines _ (λ n d. from old _ new d.1 (refl, refl)) h.1
-keeps setup old new (C.Word p f) piece lines h =
-    fielded is_plain old new p f lines _ (λ n d. numbered old new (value_at (node_at old.nodes n) (first_word old n f)) lines d) h.1
-keeps setup old new (C.Get p f q) piece lines h =
-    fielded is_reference old new p f lines _
-    (λ n d. fetched (is_weak (kind_of_field (node_at old.nodes n).object f)) old new (value_at (node_at old.nodes n) (first_word old n f)) q lines d) h.1
-keeps setup old new (C.Key p f q) piece lines h =
-    fielded is_pair old new p f lines _ (λ n d. fetched true old new (value_at (node_at old.nodes n) (first_word old n f)) q lines d) h.1
-keeps setup old new (C.Val p f q) piece lines h =
-    fielded is_pair old new p f lines _ (λ n d. fetched true old new (value_at (node_at old.nodes n) (first_word old n f + 1)) q lines d) h.1
-keeps setup old new (C.Copy p q) piece lines h = from old _ new h.1.1 (slotted old q _)
-keeps setup old new (C.Drop p) piece lines h = from old _ new h.1.1 (slotted old p None)
-keeps setup old new (C.Weak w p) piece lines h = from old _ new h.1.1 (refl, length-set old.weak w _)
-keeps setup old new (C.Read w p) piece lines h = fetched true old new (content_of (weak_slot_at old w)) p lines h.1
-keeps setup old new (C.Push p o) piece lines h =
-    match_option (slot_at old p) _ _ _ (λ r. from old _ new r.1 (refl, refl))
-    (λ n m. match_bool (nat_lt o (size_of (node_at old.nodes n))) _ _ (Keeps old new) (λ d. pushed_keeps old new (Pointer n o) lines d)
-    (λ r. from old _ new r.1 (refl, refl)) m) h.1
-keeps setup old new (C.PushPlain n) piece lines h = pushed_keeps old new (Number n) lines h.1
-keeps setup old new C.Pop piece lines h =
-    match_bool (nat_lt 0 (length old.stack)) _ _ (Keeps old new) (λ d. from old _ new d.1 (refl, refl)) (λ r. from old _ new r.1 (refl, refl)) h.1
-keeps setup old new (C.Peek i q) piece lines h =
-    match_option (slice_get old.stack i) _ _ _ (λ r. from old _ new r.1 (refl, refl)) (λ word m. peeked_keeps old new word q lines m) h.1
 keeps setup old new C.GcStart piece lines h = gc_start_keeps setup old new piece lines h
 keeps setup old new (C.GcStep n) piece lines h =
     match_bool (is_marking old.phase) _ _ (Keeps old new) (λ t. from old _ new t.after (refl, refl)) (λ r. from old _ new r.1 (refl, refl)) h.1
@@ -205,6 +158,7 @@ keeps setup old new (C.At j order) piece lines h =
     elim h.1 [ inl memory ↦ from old _ new memory.1 (refl, refl) | inr d ↦ from old _ new d.1 (refl, refl) ]
 keeps setup old new C.ThreadsGo piece lines h = elim h.1 [ inl d ↦ from old _ new d.1 (refl, refl) | inr d ↦ from old _ new d.1 (refl, refl) ]
 keeps setup old new C.ThreadsJoin piece lines h = from old _ new h.after (took_keeps old piece)
+keeps setup old new command piece lines h = plain_keeps old new command piece lines (plain_step setup old new command piece lines refl h)
 
 -- ---- queues, and the threads that run
 
