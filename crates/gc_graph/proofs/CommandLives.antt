@@ -1,45 +1,41 @@
 -- What the lines of each command tell of nodes' lives, command by command.
-use Rattle.std.proofs.Common.{◌≡◌, ℕ, ◌+◌, ◌<◌, ◌≤◌, nat_lt, Bool, true, false, List, [], ◌∷◌, ◌++◌, length, map, drop, All, Option, None, refl, sym, ap, ◌∙◌, subst, inl, inr, arith}
+use Rattle.std.proofs.Common.{◌≡◌, ℕ, ◌+◌, ◌<◌, ◌≤◌, nat_lt, Bool, true, false, List, [], ◌∷◌, ◌++◌, length, map, All, refl, sym, ap, ◌∙◌, subst, inl, inr, arith}
 use mathlib.Core.Logic.{◌⊎◌}
-use Rattle.std.specs.List.{flat_map, slice_get}
+use Rattle.std.specs.List.{flat_map}
 use Rattle.std.proofs.lemmas.List.{get_or_append_left, get_or_push, length_push}
 use Rattle.std.proofs.lemmas.List.Elements.{All-nil, All-cons, All-append}
 use Rattle.gc_graph.specs.declared.command.Command.{Command}
 use Rattle.gc_graph.specs.declared.command.Command.TheVariants as C
 use Rattle.gc_graph.specs.declared.command.Want.{Want}
-use Rattle.gc_graph.specs.declared.kind.Kind.{Kind}
-use Rattle.gc_graph.specs.declared.kind.Value.{Value}
-use Rattle.gc_graph.specs.declared.kind.Value.TheVariants.{Null, Ref, Word}
 use Rattle.gc_graph.specs.declared.line.Line.{Line}
 use Rattle.gc_graph.specs.declared.line.Line.TheVariants as L
 use Rattle.gc_graph.specs.declared.line.Refusal.{Refusal}
 use Rattle.gc_graph.specs.declared.line.Refusal.TheVariants as R
 use Rattle.gc_graph.specs.declared.region.Entry.{Entry}
-use Rattle.gc_graph.specs.State.{Setup, State, Node, no_node, node_at, size_of, Life, is_there, IsLive, IsDead, StackWord, RegionSlot, Registration}
+use Rattle.gc_graph.specs.State.{Setup, State, Node, no_node, node_at, Life, is_there, IsLive, IsDead, RegionSlot, Registration}
 use Rattle.gc_graph.specs.State.Life.{Live, Dead, Gone}
-use Rattle.gc_graph.specs.State.StackWord.{Pointer, Number}
 use Rattle.gc_graph.specs.State.RegionSlot.{Vacant, StrongTo, WeakTo}
 use Rattle.gc_graph.specs.Graph.{has}
-use Rattle.gc_graph.specs.Fields.{new_node, content_of, with_value, kind_of_field, value_at, is_reference, is_weak, is_pair, is_plain}
+use Rattle.gc_graph.specs.Fields.{new_node}
 use Rattle.gc_graph.specs.May.{read_node}
 use Rattle.gc_graph.specs.Pause.{judged, condemn, run_order, prefinalise_lines, paused}
 use Rattle.gc_graph.specs.History.{node_of, region_slot}
-use Rattle.gc_graph.specs.Outcomes.{answered, IsRefused, IsMemory, finalise_lines, slot_at, weak_slot_at, took}
-use Rattle.gc_graph.specs.ObjectSteps.{AtField, first_word, part_of, with_node, IsChanged, StepSet, StepPair, StepPut, StepNew, StepWord, IsNumber, IsRead, IsMade}
-use Rattle.gc_graph.specs.HandleSteps.{IsDone, pushed, IsPushed, StepPush, StepPop, IsPeeked, StepPeek}
+use Rattle.gc_graph.specs.Outcomes.{answered, IsRefused, IsMemory, finalise_lines, slot_at, took}
+use Rattle.gc_graph.specs.ObjectSteps.{StepNew, IsMade}
 use Rattle.gc_graph.specs.CycleSteps.{is_marking, is_sweeping, is_stack_refused, IsStart, StepGcStart, StepGcStep, IsPause, StepGcFinish, IsCollection, StepGcNow, StepSweepTo}
 use Rattle.gc_graph.specs.RegionSteps.{Answer, queued, threads_with_orders, reply_line, line_of_content, IsImported, StepExport, StepImport, StepThreadsJoin}
 use Rattle.gc_graph.specs.RegionSteps.Answer.{Replied, Told}
 use Rattle.gc_graph.specs.Step.{Step}
 use Rattle.gc_graph.proofs.StepCases.{match_option, match_bool}
-use Rattle.gc_graph.proofs.Sound.{WordNames, IsSound}
+use Rattle.gc_graph.proofs.Sound.{IsSound}
 use Rattle.gc_graph.proofs.NodeWrites.{IsLikeNode, like_same, LookSame, look_same, look_written}
-use Rattle.gc_graph.proofs.FieldWrites.{with_pair, one_like, pair_like}
+use Rattle.gc_graph.proofs.FieldWrites.{with_values, like_with}
+use Rattle.gc_graph.proofs.Effects.{Effect, line_of_effect, with_effect, IsReadable, Fits, nodes_by}
+use Rattle.gc_graph.proofs.Effects.Effect.{Gets}
+use Rattle.gc_graph.proofs.PlainSteps.{plain_step}
 use Rattle.gc_graph.specs.Condemning.{length-condemn}
 use Rattle.gc_graph.proofs.Condemned.{condemned_at}
-use Rattle.gc_graph.proofs.ValidCases.{option_is, bool_is, field_is}
-use Rattle.gc_graph.proofs.ValidHandles.{Root, slot_names, slot_is_root, ValueLive, content_live, IfWord, word_names}
-use Rattle.gc_graph.proofs.ValidReads.{names_at, value_live}
+use Rattle.gc_graph.proofs.ValidCases.{bool_is}
 use Rattle.gc_graph.proofs.ValidRegion.{Shares, shared_at, others_sound, took_nodes}
 use Rattle.gc_graph.proofs.ValidPause.{order, look}
 use Rattle.gc_graph.proofs.ValidSweeps.{sweeps_sound, ended_phase}
@@ -70,9 +66,6 @@ refused_tells old new lines why h = quiet_still old new (answered old) lines (L.
 memory_tells : (old new : State) (lines : List Line) → IsMemory old lines new → Tells old lines new
 memory_tells old new lines h = quiet_still old new (answered old) lines L.Memory refl h.0 h.1 refl
 
-done_tells : (old new x : State) (lines : List Line) → x.nodes ≡ old.nodes → IsDone x lines new → Tells old lines new
-done_tells old new x lines nodes h = quiet_still old new (answered x) lines L.Fine refl h.0 h.1 nodes
-
 -- ---- reads
 
 no_finalisation : (n m : ℕ) → L.Node n ≡ L.Finalise m → ⊥
@@ -94,52 +87,18 @@ read_nodes : (weak : Bool) (s : State) (n : ℕ) → (read_node weak s n).nodes 
 read_nodes true s n = refl
 read_nodes false s n = refl
 
-read_tells : (weak : Bool) (old new : State) (value : Value) (q : ℕ) (lines : List Line) → ValueLive old value → IsRead weak old value q lines new
-    → Tells old lines new
-read_tells weak old new Null q lines live h = quiet_still old new _ lines L.Null refl h.0 h.1 refl
-read_tells weak old new (Ref n) q lines live h = node_tells old new lines n live h.0 (ap (λ (s : State). s.nodes) h.1 ∙ read_nodes weak old n)
-read_tells weak old new (Word w) q lines live h = absurd h
+live_of : (weak : Bool) (s : State) (n : ℕ) → IsReadable weak s n → IsLive s.nodes n
+live_of true s n h = h
+live_of false s n h = h.live
 
-fetch_tells : (setup : Setup) (allowed : Kind → Bool) (old new : State) (p f q : ℕ) (lines : List Line) (weak : ℕ → Bool) (word : ℕ → ℕ) → IsSound setup old
-    → AtField allowed old p f lines new (λ n. IsRead (weak n) old (value_at (node_at old.nodes n) (word n)) q lines new) → Tells old lines new
-fetch_tells setup allowed old new p f q lines weak word g h =
-    field_is allowed old new p f lines _ (Tells old lines new)
-    (λ n found d.
-    read_tells (weak n) old new (value_at (node_at old.nodes n) (word n)) q lines
-    (value_live old (value_at (node_at old.nodes n) (word n)) (names_at setup old n (word n) g (slot_is_root setup old p n g found.slot))) d)
-    (λ why r. refused_tells old new lines why r) h
-
-number_tells : (old new : State) (value : Value) (lines : List Line) → IsNumber old value lines new → Tells old lines new
-number_tells old new Null lines h = absurd h
-number_tells old new (Ref n) lines h = absurd h
-number_tells old new (Word w) lines h = quiet_still old new _ lines (L.Word w) refl h.0 h.1 refl
-
--- ---- writes
-
-write_tells : (allowed : Kind → Bool) (old new : State) (p f : ℕ) (lines : List Line) (node : ℕ → Node)
-    → ((n : ℕ) → IsLikeNode (node_at old.nodes n) (node n)) → AtField allowed old p f lines new (λ n. IsChanged old n (node n) lines new) → Tells old lines new
-write_tells allowed old new p f lines node like h =
-    field_is allowed old new p f lines _ (Tells old lines new)
-    (λ n found d. quiet_step old new (answered (with_node old n (node n))) lines L.Fine refl d.0 d.1 (look_written old.nodes n (node n) (like n)))
-    (λ why r. refused_tells old new lines why r) h
-
--- ---- handles
-
-pushed_tells : (old new : State) (word : StackWord) (lines : List Line) → IsPushed old word lines new → Tells old lines new
-pushed_tells old new word lines h =
-    match_bool (nat_lt (length old.stack) 1024) _ _ (Tells old lines new) (λ d. done_tells old new (pushed old word) lines refl d)
-    (refused_tells old new lines R.Stack) h
-
-peeked_tells : (old new : State) (word : StackWord) (q : ℕ) (lines : List Line) → WordNames (Root old) word → IsPeeked old word q lines new
-    → Tells old lines new
-peeked_tells old new (Pointer n offset) q lines names h = node_tells old new lines n names.live h.0 (ap (λ (s : State). s.nodes) h.1)
-peeked_tells old new (Number w) q lines names h = refused_tells old new lines R.Kind h
-
-peek_tells : (setup : Setup) (old new : State) (i q : ℕ) (lines : List Line) → IsSound setup old → StepPeek old i q lines new → Tells old lines new
-peek_tells setup old new i q lines g h =
-    option_is (slice_get old.stack i) _ _ (Tells old lines new) (refused_tells old new lines R.Empty)
-    (λ word is d.
-    peeked_tells old new word q lines (subst (IfWord (WordNames (Root old))) is (word_names (WordNames (Root old)) old.stack i g.stack)) d) h
+effect_tells : (setup : Setup) (old new : State) (command : Command) (lines : List Line) (effect : Effect) → IsSound setup old
+    → Fits old command lines effect → lines ≡ line_of_effect effect ∷ [] → new ≡ answered (with_effect old effect) → Tells old lines new
+effect_tells setup old new command lines (Gets weak q n) g fits is after =
+    node_tells old new lines n (live_of weak old n (fits.node setup g)) is (ap (λ (s : State). s.nodes) after ∙ read_nodes weak old n)
+effect_tells setup old new command lines effect g fits is after =
+    quiet_step old new (answered (with_effect old effect)) lines (line_of_effect effect) refl is after
+    (nodes_by old (LookSame old.nodes) (look_same old.nodes)
+    (λ n values size. look_written old.nodes n (with_values (node_at old.nodes n) values) (like_with (node_at old.nodes n) values size)) effect)
 
 -- ---- a sweep, and one line
 
@@ -401,67 +360,14 @@ join_tells old new piece lines h =
 
 -- ---- every command
 
-push_tells : (old new : State) (p offset : ℕ) (lines : List Line) → StepPush old p offset lines new → Tells old lines new
-push_tells old new p offset lines h =
-    match_option (slot_at old p) _ _ (Tells old lines new) (refused_tells old new lines R.Null)
-    (λ n d. match_bool (nat_lt offset (size_of (node_at old.nodes n))) _ _ (Tells old lines new) (pushed_tells old new (Pointer n offset) lines)
-    (refused_tells old new lines R.Field) d) h
-
-pop_tells : (old new : State) (lines : List Line) → StepPop old lines new → Tells old lines new
-pop_tells old new lines h =
-    match_bool (nat_lt 0 (length old.stack)) _ _ (Tells old lines new) (done_tells old new (record old { stack = drop 1 old.stack }) lines refl)
-    (refused_tells old new lines R.Empty) h
-
 gc_step_tells : (old new : State) (n : ℕ) (lines : List Line) → StepGcStep old n lines new → Tells old lines new
 gc_step_tells old new n lines h =
     match_bool (is_marking old.phase) _ _ (Tells old lines new)
     (λ d. quiet_still old new _ lines (L.Step d.count (nat_lt d.count n)) refl d.lines_are d.after refl) (refused_tells old new lines R.Phase) h
 
-set_tells : (old new : State) (p f : ℕ) (value : Value) (lines : List Line) → StepSet old p f value lines new → Tells old lines new
-set_tells old new p f value lines h =
-    write_tells is_reference old new p f lines (λ n. with_value (node_at old.nodes n) (first_word old n f) value)
-    (λ n. one_like (node_at old.nodes n) (first_word old n f) value) h
-
-pair_tells : (old new : State) (p f : ℕ) (key value : Option ℕ) (lines : List Line) → StepPair old p f key value lines new → Tells old lines new
-pair_tells old new p f key value lines h =
-    write_tells is_pair old new p f lines (λ n. with_pair (node_at old.nodes n) (first_word old n f) (part_of key value) (part_of value key))
-    (λ n. pair_like (node_at old.nodes n) (first_word old n f) (part_of key value) (part_of value key)) h
-
-put_tells : (old new : State) (p f w : ℕ) (lines : List Line) → StepPut old p f w lines new → Tells old lines new
-put_tells old new p f w lines h =
-    write_tells is_plain old new p f lines (λ n. with_value (node_at old.nodes n) (first_word old n f) (Word w))
-    (λ n. one_like (node_at old.nodes n) (first_word old n f) (Word w)) h
-
-word_tells : (old new : State) (p f : ℕ) (lines : List Line) → StepWord old p f lines new → Tells old lines new
-word_tells old new p f lines h =
-    field_is is_plain old new p f lines _ (Tells old lines new)
-    (λ n found d. number_tells old new (value_at (node_at old.nodes n) (first_word old n f)) lines d) (λ why r. refused_tells old new lines why r) h
-
 pub step_tells : (setup : Setup) (old new : State) (command : Command) (piece : List Entry) (lines : List Line) → IsSound setup old → IsSound setup new
     → Step setup old command piece lines new → StepTells old.nodes lines new.nodes
 step_tells setup old new (C.New p t e) piece lines g k h = new_tells setup old new p t e lines k h.1
-step_tells setup old new (C.Set p f q) piece lines g k h = set_tells old new p f (content_of (slot_at old q)) lines h.1
-step_tells setup old new (C.SetNull p f) piece lines g k h = set_tells old new p f Null lines h.1
-step_tells setup old new (C.Pair p f x y) piece lines g k h = pair_tells old new p f (slot_at old x) (slot_at old y) lines h.1
-step_tells setup old new (C.PairNull p f) piece lines g k h = pair_tells old new p f None None lines h.1
-step_tells setup old new (C.Put p f n) piece lines g k h = put_tells old new p f n lines h.1
-step_tells setup old new (C.Word p f) piece lines g k h = word_tells old new p f lines h.1
-step_tells setup old new (C.Get p f q) piece lines g k h =
-    fetch_tells setup is_reference old new p f q lines (λ n. is_weak (kind_of_field (node_at old.nodes n).object f)) (λ n. first_word old n f) g h.1
-step_tells setup old new (C.Key p f q) piece lines g k h =
-    fetch_tells setup is_pair old new p f q lines (λ n. true) (λ n. first_word old n f) g h.1
-step_tells setup old new (C.Val p f q) piece lines g k h =
-    fetch_tells setup is_pair old new p f q lines (λ n. true) (λ n. first_word old n f + 1) g h.1
-step_tells setup old new (C.Copy p q) piece lines g k h = done_tells old new _ lines refl h.1
-step_tells setup old new (C.Drop p) piece lines g k h = done_tells old new _ lines refl h.1
-step_tells setup old new (C.Weak w p) piece lines g k h = done_tells old new _ lines refl h.1
-step_tells setup old new (C.Read w p) piece lines g k h =
-    read_tells true old new (content_of (weak_slot_at old w)) p lines
-    (content_live old (weak_slot_at old w) (slot_names (IsLive old.nodes) old.weak w g.weak)) h.1
-step_tells setup old new (C.Push p o) piece lines g k h = push_tells old new p o lines h.1
-step_tells setup old new (C.PushPlain n) piece lines g k h = pushed_tells old new (Number n) lines h.1
-step_tells setup old new C.Pop piece lines g k h = pop_tells old new lines h.1
-step_tells setup old new (C.Peek i q) piece lines g k h = peek_tells setup old new i q lines g h.1
 step_tells setup old new C.GcStart piece lines g k h = gc_start_tells setup old new piece lines h
 step_tells setup old new (C.GcStep n) piece lines g k h = gc_step_tells old new n lines h.1
 step_tells setup old new (C.GcFinish want) piece lines g k h = gc_finish_tells setup want old new piece lines g h
@@ -482,3 +388,5 @@ step_tells setup old new C.ThreadsGo piece lines g k h =
       | inr d ↦ quiet_still old new _ lines (L.Going (length (threads_with_orders old))) refl d.0 d.1 refl
     ]
 step_tells setup old new C.ThreadsJoin piece lines g k h = join_tells old new piece lines h
+step_tells setup old new command piece lines g k h =
+    let c = plain_step setup old new command piece lines refl h in effect_tells setup old new command lines c.effect g c.fits c.lines_are c.after
