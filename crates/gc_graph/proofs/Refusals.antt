@@ -1,31 +1,28 @@
 -- Each step is a refusal, a want of memory, or has something else to say.
-use Rattle.std.proofs.Common.{◌≡◌, ℕ, ◌+◌, nat_lt, length, map, Bool, true, false, List, [], ◌∷◌, ◌++◌, Option, Some, None, refl, sym, ap, ◌∙◌, inl, inr, append_assoc}
+use Rattle.std.proofs.Common.{◌≡◌, ℕ, length, map, Bool, true, false, List, [], ◌∷◌, ◌++◌, Option, Some, None, refl, sym, ap, ◌∙◌, inl, inr, append_assoc}
 use mathlib.Core.Logic.{◌⊎◌}
-use Rattle.std.specs.List.{slice_get, flat_map}
+use Rattle.std.specs.List.{flat_map}
 use Rattle.gc_graph.specs.declared.command.Command.{Command}
 use Rattle.gc_graph.specs.declared.command.Command.TheVariants as C
 use Rattle.gc_graph.specs.declared.command.Want.{Want}
-use Rattle.gc_graph.specs.declared.kind.Kind.{Kind}
-use Rattle.gc_graph.specs.declared.kind.Value.{Value}
-use Rattle.gc_graph.specs.declared.kind.Value.TheVariants.{Null, Ref, Word}
 use Rattle.gc_graph.specs.declared.line.Line.{Line}
 use Rattle.gc_graph.specs.declared.line.Line.TheVariants as L
 use Rattle.gc_graph.specs.declared.line.Refusal.{Refusal}
 use Rattle.gc_graph.specs.declared.line.Refusal.TheVariants as R
 use Rattle.gc_graph.specs.declared.region.Entry.{Entry}
-use Rattle.gc_graph.specs.State.{Setup, State, StackWord, Node, node_at, size_of}
-use Rattle.gc_graph.specs.State.StackWord.{Pointer, Number}
-use Rattle.gc_graph.specs.Fields.{kind_of_field, value_at, with_value, content_of, is_reference, is_weak, is_pair, is_plain}
+use Rattle.gc_graph.specs.State.{Setup, State}
 use Rattle.gc_graph.specs.History.{node_of, region_slot}
-use Rattle.gc_graph.specs.Outcomes.{answered, IsRefused, IsMemory, finalise_lines, took, slot_at, weak_slot_at}
-use Rattle.gc_graph.specs.ObjectSteps.{AtField, first_word, part_of, IsChanged, StepNew, StepWord, IsNumber, IsRead}
-use Rattle.gc_graph.specs.HandleSteps.{IsDone, pushed, IsPushed, IsPeeked}
+use Rattle.gc_graph.specs.Outcomes.{answered, IsRefused, IsMemory, finalise_lines, took, slot_at}
+use Rattle.gc_graph.specs.ObjectSteps.{StepNew}
 use Rattle.gc_graph.specs.CycleSteps.{is_marking, is_sweeping, is_stack_refused, StepGcStart, StepGcFinish, StepGcNow, StepSweepTo}
 use Rattle.gc_graph.specs.RegionSteps.{Answer, reply_line, line_of_content, StepExport, StepImport, StepThreadsJoin}
 use Rattle.gc_graph.specs.RegionSteps.Answer.{Replied, Told}
 use Rattle.gc_graph.specs.RefusalLaw.{RefusedLeavesAll, MemoryLeavesAll, MayWantMemory, IsLeftAlone, told_to_go}
 use Rattle.gc_graph.specs.Step.{Step}
-use Rattle.gc_graph.proofs.StepCases.{match_option, match_bool, at_field}
+use Rattle.gc_graph.proofs.StepCases.{match_option, match_bool}
+use Rattle.gc_graph.proofs.Effects.{Effect, line_of_effect, with_effect}
+use Rattle.gc_graph.proofs.Effects.Effect.{Refuses as Refusing}
+use Rattle.gc_graph.proofs.PlainSteps.{plain_step}
 
 -- a line that is no refusal and no want of memory
 abbrev says : Line → Bool
@@ -65,36 +62,11 @@ module _ (setup : Setup) (command : Command) (old new : State) (piece : List Ent
   memory : MayWantMemory setup command → told_to_go command old ≡ old → piece ≡ [] → IsMemory old lines new → Kinds setup command old piece lines new
   memory may still p h = inr (inl (record { line = h.0; left = record { wanted = may; taken = p; after = h.1 ∙ ap answered (sym still) } }))
 
-  read : (weak : Bool) (value : Value) (q : ℕ) → IsRead weak old value q lines new → Kinds setup command old piece lines new
-  read weak Null q h = spoken L.Null [] refl h.0
-  read weak (Ref n) q h = spoken (L.Node n) [] refl h.0
-  read weak (Word w) q h = absurd h
-
-  number : (value : Value) → IsNumber old value lines new → Kinds setup command old piece lines new
-  number Null h = absurd h
-  number (Ref n) h = absurd h
-  number (Word w) h = spoken (L.Word w) [] refl h.0
-
-  write_at : (allowed : Kind → Bool) (p f : ℕ) (node : ℕ → Node) → piece ≡ [] → AtField allowed old p f lines new (λ n. IsChanged old n (node n) lines new)
+  -- a plain command
+  effect_kinds : (effect : Effect) → piece ≡ [] → lines ≡ line_of_effect effect ∷ [] → new ≡ answered (with_effect old effect)
       → Kinds setup command old piece lines new
-  write_at allowed p f node none h =
-      at_field allowed old new p f lines (λ n. IsChanged old n (node n) lines new) (Kinds setup command old piece lines new)
-      (λ n d. spoken L.Fine [] refl d.0) (λ why r. refused why none r) h
-
-  fetch_at : (allowed : Kind → Bool) (p f q : ℕ) (weak : ℕ → Bool) (value : ℕ → Value) → piece ≡ []
-      → AtField allowed old p f lines new (λ n. IsRead (weak n) old (value n) q lines new) → Kinds setup command old piece lines new
-  fetch_at allowed p f q weak value none h =
-      at_field allowed old new p f lines (λ n. IsRead (weak n) old (value n) q lines new) (Kinds setup command old piece lines new)
-      (λ n d. read (weak n) (value n) q d) (λ why r. refused why none r) h
-
-  push_at : (word : StackWord) → piece ≡ [] → IsPushed old word lines new → Kinds setup command old piece lines new
-  push_at word none h =
-      match_bool (nat_lt (length old.stack) 1024) (IsDone (pushed old word) lines new) (IsRefused R.Stack old lines new) (Kinds setup command old piece lines new)
-      (λ d. spoken L.Fine [] refl d.0) (λ r. refused R.Stack none r) h
-
-  peek_at : (word : StackWord) (q : ℕ) → piece ≡ [] → IsPeeked old word q lines new → Kinds setup command old piece lines new
-  peek_at (Pointer n o) q none h = spoken (L.Node n) [] refl h.0
-  peek_at (Number w) q none h = refused R.Kind none h
+  effect_kinds (Refusing why) none is after = refused why none (is, after)
+  effect_kinds effect none is after = spoken (line_of_effect effect) [] refl is
 
   sweep_at : (pages : ℕ) → piece ≡ [] → StepSweepTo setup old pages lines new → Kinds setup command old piece lines new
   sweep_at pages none h =
@@ -130,12 +102,6 @@ new_kinds setup old new p t e piece lines none h = elim h [
       (λ a done. after_finalised setup (C.New p t e) old new piece lines made.numbers (L.Placed (length made.mid.nodes) a) [] refl done.lines_are)
       made.done
 ]
-
-word_kinds : (setup : Setup) (old new : State) (p f : ℕ) (piece : List Entry) (lines : List Line) → piece ≡ [] → StepWord old p f lines new
-    → Kinds setup (C.Word p f) old piece lines new
-word_kinds setup old new p f piece lines none h =
-    at_field is_plain old new p f lines (λ n. IsNumber old (value_at (node_at old.nodes n) (first_word old n f)) lines new) (Kinds setup (C.Word p f) old piece lines new)
-    (λ n d. number setup (C.Word p f) old new piece lines (value_at (node_at old.nodes n) (first_word old n f)) d) (λ why r. refused setup (C.Word p f) old new piece lines why none r) h
 
 start_kinds : (setup : Setup) (old new : State) (piece : List Entry) (lines : List Line) → StepGcStart setup old piece lines new
     → Kinds setup C.GcStart old piece lines new
@@ -193,41 +159,6 @@ join_kinds setup old new piece lines h =
 step_kinds : (setup : Setup) (old new : State) (command : Command) (piece : List Entry) (lines : List Line) → Step setup old command piece lines new
     → Kinds setup command old piece lines new
 step_kinds setup old new (C.New p t e) piece lines h = new_kinds setup old new p t e piece lines h.0 h.1
-step_kinds setup old new (C.Set p f q) piece lines h =
-    write_at setup _ old new piece lines is_reference p f (λ n. with_value (node_at old.nodes n) (first_word old n f) (content_of (slot_at old q))) h.0 h.1
-step_kinds setup old new (C.SetNull p f) piece lines h =
-    write_at setup _ old new piece lines is_reference p f (λ n. with_value (node_at old.nodes n) (first_word old n f) Null) h.0 h.1
-step_kinds setup old new (C.Pair p f k v) piece lines h =
-    write_at setup _ old new piece lines is_pair p f
-    (λ n. with_value (with_value (node_at old.nodes n) (first_word old n f) (part_of (slot_at old k) (slot_at old v))) (first_word old n f + 1) (part_of (slot_at old v) (slot_at old k)))
-    h.0 h.1
-step_kinds setup old new (C.PairNull p f) piece lines h =
-    write_at setup _ old new piece lines is_pair p f (λ n. with_value (with_value (node_at old.nodes n) (first_word old n f) Null) (first_word old n f + 1) Null) h.0 h.1
-step_kinds setup old new (C.Put p f w) piece lines h =
-    write_at setup _ old new piece lines is_plain p f (λ n. with_value (node_at old.nodes n) (first_word old n f) (Word w)) h.0 h.1
-step_kinds setup old new (C.Word p f) piece lines h = word_kinds setup old new p f piece lines h.0 h.1
-step_kinds setup old new (C.Get p f q) piece lines h =
-    fetch_at setup _ old new piece lines is_reference p f q (λ n. is_weak (kind_of_field (node_at old.nodes n).object f)) (λ n. value_at (node_at old.nodes n) (first_word old n f)) h.0 h.1
-step_kinds setup old new (C.Key p f q) piece lines h =
-    fetch_at setup _ old new piece lines is_pair p f q (λ n. true) (λ n. value_at (node_at old.nodes n) (first_word old n f)) h.0 h.1
-step_kinds setup old new (C.Val p f q) piece lines h =
-    fetch_at setup _ old new piece lines is_pair p f q (λ n. true) (λ n. value_at (node_at old.nodes n) (first_word old n f + 1)) h.0 h.1
-step_kinds setup old new (C.Copy p q) piece lines h = spoken setup _ old new piece lines L.Fine [] refl h.1.0
-step_kinds setup old new (C.Drop p) piece lines h = spoken setup _ old new piece lines L.Fine [] refl h.1.0
-step_kinds setup old new (C.Weak w p) piece lines h = spoken setup _ old new piece lines L.Fine [] refl h.1.0
-step_kinds setup old new (C.Read w p) piece lines h = read setup _ old new piece lines true (content_of (weak_slot_at old w)) p h.1
-step_kinds setup old new (C.Push p o) piece lines h =
-    match_option (slot_at old p) _ _ _ (λ r. refused setup (C.Push p o) old new piece lines R.Null h.0 r)
-    (λ n m. match_bool (nat_lt o (size_of (node_at old.nodes n))) (IsPushed old (Pointer n o) lines new) (IsRefused R.Field old lines new)
-    (Kinds setup (C.Push p o) old piece lines new)
-    (λ d. push_at setup (C.Push p o) old new piece lines (Pointer n o) h.0 d) (λ r. refused setup (C.Push p o) old new piece lines R.Field h.0 r) m) h.1
-step_kinds setup old new (C.PushPlain n) piece lines h = push_at setup _ old new piece lines (Number n) h.0 h.1
-step_kinds setup old new C.Pop piece lines h =
-    match_bool (nat_lt 0 (length old.stack)) _ _ _ (λ d. spoken setup C.Pop old new piece lines L.Fine [] refl d.0)
-    (λ r. refused setup C.Pop old new piece lines R.Empty h.0 r) h.1
-step_kinds setup old new (C.Peek i q) piece lines h =
-    match_option (slice_get old.stack i) _ _ _ (λ r. refused setup (C.Peek i q) old new piece lines R.Empty h.0 r)
-    (λ word m. peek_at setup (C.Peek i q) old new piece lines word q h.0 m) h.1
 step_kinds setup old new C.GcStart piece lines h = start_kinds setup old new piece lines h
 step_kinds setup old new (C.GcStep n) piece lines h =
     match_bool (is_marking old.phase) _ _ _ (λ t. spoken setup (C.GcStep n) old new piece lines _ [] refl t.lines_are)
@@ -248,6 +179,8 @@ step_kinds setup old new C.ThreadsGo piece lines h = elim h.1 [
   | inr d ↦ spoken setup C.ThreadsGo old new piece lines _ [] refl d.0
 ]
 step_kinds setup old new C.ThreadsJoin piece lines h = join_kinds setup old new piece lines h
+step_kinds setup old new command piece lines h =
+    let c = plain_step setup old new command piece lines refl h in effect_kinds setup command old new piece lines c.effect c.none c.lines_are c.after
 
 pub refused_leaves_all : RefusedLeavesAll
 refused_leaves_all setup old new command piece lines why step e = elim (step_kinds setup old new command piece lines step) [
