@@ -1,6 +1,5 @@
 -- What each command leaves alone.
-use Rattle.std.proofs.Common.{◌≡◌, ℕ, zero, suc, ◌+◌, nat_lt, Bool, true, List, [], ◌∷◌, length, get_or, set, Option, Some, None, refl, sym, ap, ◌∙◌, subst, inl, inr, arith}
-use Rattle.std.specs.List.{slice_get}
+use Rattle.std.proofs.Common.{◌≡◌, ℕ, zero, suc, ◌+◌, Bool, List, [], ◌∷◌, length, get_or, set, Option, Some, None, refl, sym, ap, ◌∙◌, subst, inl, inr, arith}
 use Rattle.std.proofs.lemmas.Bool.{cases_eq}
 use Rattle.std.proofs.lemmas.List.{get_or-set_same, get_or-set_other, get_or_append_left, length-set, length-map}
 use Rattle.gc_graph.specs.declared.command.Command.{Command}
@@ -9,26 +8,26 @@ use Rattle.gc_graph.specs.declared.command.Want.{Want}
 use Rattle.gc_graph.specs.declared.kind.Kind.{Kind}
 use Rattle.gc_graph.specs.declared.kind.Kind.TheVariants.{Strong, Weak, Pair, Plain}
 use Rattle.gc_graph.specs.declared.kind.Value.{Value}
-use Rattle.gc_graph.specs.declared.kind.Value.TheVariants.{Null, Ref, Word}
+use Rattle.gc_graph.specs.declared.kind.Value.TheVariants.{Null, Word}
 use Rattle.gc_graph.specs.declared.line.Line.{Line}
 use Rattle.gc_graph.specs.declared.line.Refusal.{Refusal}
 use Rattle.gc_graph.specs.declared.line.Refusal.TheVariants as R
 use Rattle.gc_graph.specs.declared.region.Entry.{Entry}
-use Rattle.gc_graph.specs.State.{Setup, State, StackWord, Node, no_node, node_at, size_of}
-use Rattle.gc_graph.specs.State.StackWord.{Pointer, Number}
-use Rattle.gc_graph.specs.Fields.{words_of_kind, kind_of_field, word_of_field, value_at, with_value, new_node, content_of, is_reference, is_weak, is_pair, is_plain}
+use Rattle.gc_graph.specs.State.{Setup, State, StackWord, Node, no_node, node_at}
+use Rattle.gc_graph.specs.Fields.{words_of_kind, kind_of_field, word_of_field, value_at, with_value, new_node, content_of, is_reference, is_pair, is_plain}
 use Rattle.gc_graph.specs.May.{read_node}
-use Rattle.gc_graph.specs.Outcomes.{answered, IsRefused, took, slot_at, with_slot, weak_slot_at}
-use Rattle.gc_graph.specs.ObjectSteps.{AtField, first_word, with_node, with_new, part_of, IsChanged, StepNew, IsNumber, IsRead}
-use Rattle.gc_graph.specs.HandleSteps.{IsDone, pushed, IsPushed, IsPeeked}
+use Rattle.gc_graph.specs.Outcomes.{answered, IsRefused, took, slot_at, with_slot}
+use Rattle.gc_graph.specs.ObjectSteps.{first_word, with_node, with_new, part_of, StepNew}
 use Rattle.gc_graph.specs.CycleSteps.{IsPause, is_marking, is_sweeping, is_stack_refused, StepGcStart, StepGcFinish, StepGcNow, StepSweepTo}
 use Rattle.gc_graph.specs.RegionSteps.{StepExport, StepImport, StepThreadsJoin}
 use Rattle.gc_graph.specs.Step.{Step}
-use Rattle.gc_graph.specs.FrameLaw.{WritesSlot, WritesWeakSlot, WritesStack, WritesRegistrations, IsWordAt, WritesWord, MovesCycle, IsSameCycle, LeavesRest, StepsLeaveRest, FieldsTakeTurns}
-use Rattle.gc_graph.proofs.StepCases.{match_option, match_bool, at_field}
-use Rattle.gc_graph.proofs.ValidCases.{IsFound, field_is}
+use Rattle.gc_graph.specs.FrameLaw.{WritesSlot, WritesWeakSlot, WritesStack, WritesRegistrations, WritesWord, MovesCycle, IsSameCycle, LeavesRest, StepsLeaveRest, FieldsTakeTurns}
+use Rattle.gc_graph.proofs.StepCases.{match_option, match_bool}
 use Rattle.gc_graph.proofs.Shapes.{word_at, word_at_is}
-use Rattle.gc_graph.proofs.FieldWrites.{with_values}
+use Rattle.gc_graph.proofs.FieldWrites.{with_pair, with_values}
+use Rattle.gc_graph.proofs.Effects.{Effect, with_effect, WritesField, Fits}
+use Rattle.gc_graph.proofs.Effects.Effect.{Refuses, Tells, Fills, Empties, Gets, Weakens, Stacks, Sets, Puts, Pairs}
+use Rattle.gc_graph.proofs.PlainSteps.{plain_step}
 use Rattle.gc_graph.proofs.NodeWrites.{node_after}
 use Rattle.gc_graph.proofs.AccessLaws.{one_or_more, two_in_pair}
 use Rattle.gc_graph.proofs.StepFrames.{Keeps, keeps_same, keeps_more, keeps_read, keeps_took, keeps_start, keeps_sweep, cycle_same, cycle_read, cycle_took}
@@ -122,73 +121,42 @@ module _ (old new : State) (command : Command) where
     weak_count = refl;
   })
 
-  -- ---- fields
+  -- ---- plain commands
 
-  one_word : (p f n : ℕ) (value : Value) (lines : List Line) → ((w : ℕ) → IsWordAt old p f n w → WritesWord old command n w) → slot_at old p ≡ Some n
-      → IsChanged old n (with_value (node_at old.nodes n) (first_word old n f) value) lines new → LeavesRest old command new
-  one_word p f n value lines writes slot d =
+  one_word : (allowed : Kind → Bool) (n f : ℕ) (value : Value) → WritesField allowed old command n f
+      → new ≡ answered (with_node old n (with_value (node_at old.nodes n) (first_word old n f) value)) → LeavesRest old command new
+  one_word allowed n f value writes e =
       let some = one_or_more (kind_of_field (node_at old.nodes n).object f) in
       written n (set (node_at old.nodes n).object.values (first_word old n f) value)
       (λ w not. get_or-set_other (node_at old.nodes n).object.values (first_word old n f) w value Null
-      (λ same. not (writes w (slot, (omega (arith, same), omega (arith, same, some)))))) d.1
+      (λ same. not (writes.words w (omega (arith, same), omega (arith, same, some))))) e
 
-  two_words : (p f n : ℕ) (key value : Value) (lines : List Line) → ((w : ℕ) → IsWordAt old p f n w → WritesWord old command n w)
-      → IsFound is_pair old p f n
-      → IsChanged old n (with_value (with_value (node_at old.nodes n) (first_word old n f) key) (first_word old n f + 1) value) lines new
-      → LeavesRest old command new
-  two_words p f n key value lines writes found d =
-      let two = two_in_pair (kind_of_field (node_at old.nodes n).object f) found.allows in
+  two_words : (n f : ℕ) (key value : Value) → WritesField is_pair old command n f
+      → new ≡ answered (with_node old n (with_pair (node_at old.nodes n) (first_word old n f) key value)) → LeavesRest old command new
+  two_words n f key value writes e =
+      let two = two_in_pair (kind_of_field (node_at old.nodes n).object f) writes.allows in
       let values : List Value = (node_at old.nodes n).object.values in
       written n (set (set values (first_word old n f) key) (first_word old n f + 1) value)
       (λ w not.
       get_or-set_other (set values (first_word old n f) key) (first_word old n f + 1) w value Null
-      (λ same. not (writes w (found.slot, (omega (arith, same), omega (arith, same, two)))))
-      ∙ get_or-set_other values (first_word old n f) w key Null (λ same. not (writes w (found.slot, (omega (arith, same), omega (arith, same, two)))))) d.1
+      (λ same. not (writes.words w (omega (arith, same), omega (arith, same, two))))
+      ∙ get_or-set_other values (first_word old n f) w key Null (λ same. not (writes.words w (omega (arith, same), omega (arith, same, two))))) e
 
-  write_one : (allowed : Kind → Bool) (p f : ℕ) (value : Value) (lines : List Line) → ((n w : ℕ) → IsWordAt old p f n w → WritesWord old command n w)
-      → AtField allowed old p f lines new (λ n. IsChanged old n (with_value (node_at old.nodes n) (first_word old n f) value) lines new)
-      → LeavesRest old command new
-  write_one allowed p f value lines writes h =
-      field_is allowed old new p f lines (λ n. IsChanged old n (with_value (node_at old.nodes n) (first_word old n f) value) lines new) _
-      (λ n found d. one_word p f n value lines (writes n) found.slot d) (λ why r. refused lines why r) h
+  filled : (x : State) (q : ℕ) (content : Option ℕ) → WritesSlot command q → Keeps old x → IsSameCycle old x
+      → new ≡ answered (with_slot x q content) → LeavesRest old command new
+  filled x q content writes k c e = slotted x q content (λ z same. subst (WritesSlot command) (sym same) writes) k c e
 
-  write_two : (p f : ℕ) (key value : Value) (lines : List Line) → ((n w : ℕ) → IsWordAt old p f n w → WritesWord old command n w)
-      → AtField is_pair old p f lines new
-      (λ n. IsChanged old n (with_value (with_value (node_at old.nodes n) (first_word old n f) key) (first_word old n f + 1) value) lines new)
-      → LeavesRest old command new
-  write_two p f key value lines writes h =
-      field_is is_pair old new p f lines
-      (λ n. IsChanged old n (with_value (with_value (node_at old.nodes n) (first_word old n f) key) (first_word old n f + 1) value) lines new) _
-      (λ n found d. two_words p f n key value lines (writes n) found d) (λ why r. refused lines why r) h
-
-  read : (weak : Bool) (value : Value) (q : ℕ) (lines : List Line) → ((z : ℕ) → z ≡ q → WritesSlot command z) → IsRead weak old value q lines new
-      → LeavesRest old command new
-  read weak Null q lines writes h = slotted old q None writes (keeps_same old) (cycle_same old) h.1
-  read weak (Ref n) q lines writes h = slotted (read_node weak old n) q (Some n) writes (keeps_read weak old n) (cycle_read weak old n) h.1
-  read weak (Word w) q lines writes h = absurd h
-
-  fetch : (allowed : Kind → Bool) (p f q : ℕ) (weak : ℕ → Bool) (value : ℕ → Value) (lines : List Line) → ((z : ℕ) → z ≡ q → WritesSlot command z)
-      → AtField allowed old p f lines new (λ n. IsRead (weak n) old (value n) q lines new) → LeavesRest old command new
-  fetch allowed p f q weak value lines writes h =
-      at_field allowed old new p f lines (λ n. IsRead (weak n) old (value n) q lines new) _
-      (λ n d. read (weak n) (value n) q lines writes d) (λ why r. refused lines why r) h
-
-  number : (value : Value) (lines : List Line) → IsNumber old value lines new → LeavesRest old command new
-  number Null lines h = absurd h
-  number (Ref n) lines h = absurd h
-  number (Word w) lines h = still old (keeps_same old) (λ not. cycle_same old) h.1
-
-  -- ---- the stack
-
-  push : (word : StackWord) (lines : List Line) → WritesStack command → IsPushed old word lines new → LeavesRest old command new
-  push word lines writes h =
-      match_bool (nat_lt (length old.stack) 1024) (IsDone (pushed old word) lines new) (IsRefused R.Stack old lines new) _
-      (λ d. stacked (word ∷ old.stack) writes d.1) (λ r. refused lines R.Stack r) h
-
-  peek : (word : StackWord) (q : ℕ) (lines : List Line) → ((z : ℕ) → z ≡ q → WritesSlot command z) → IsPeeked old word q lines new
-      → LeavesRest old command new
-  peek (Pointer n o) q lines writes h = slotted old q (Some n) writes (keeps_same old) (cycle_same old) h.1
-  peek (Number w) q lines writes h = refused lines R.Kind h
+  effect_leaves : (lines : List Line) (effect : Effect) → Fits old command lines effect → new ≡ answered (with_effect old effect) → LeavesRest old command new
+  effect_leaves lines (Refuses why) fits e = still old (keeps_same old) (λ not. cycle_same old) e
+  effect_leaves lines (Tells w) fits e = still old (keeps_same old) (λ not. cycle_same old) e
+  effect_leaves lines (Fills q content) fits e = filled old q content fits.0 (keeps_same old) (cycle_same old) e
+  effect_leaves lines (Empties q) fits e = filled old q None fits (keeps_same old) (cycle_same old) e
+  effect_leaves lines (Gets weak q n) fits e = filled (read_node weak old n) q (Some n) fits.writes (keeps_read weak old n) (cycle_read weak old n) e
+  effect_leaves lines (Weakens w content) fits e = weakly w content (λ z same. subst (WritesWeakSlot command) (sym same) fits.0) e
+  effect_leaves lines (Stacks stack) fits e = stacked stack fits.0 e
+  effect_leaves lines (Sets n f content) fits e = one_word is_reference n f (content_of content) fits.0 e
+  effect_leaves lines (Puts n f w) fits e = one_word is_plain n f (Word w) fits.0 e
+  effect_leaves lines (Pairs n f key value) fits e = two_words n f (part_of key value) (part_of value key) fits.0 e
 
   -- ---- sweeps, new objects and pauses
 
@@ -319,37 +287,6 @@ unmoved old x a b c d = record {
 leaves : (setup : Setup) (old new : State) (command : Command) (piece : List Entry) (lines : List Line) → Step setup old command piece lines new
     → LeavesRest old command new
 leaves setup old new (C.New p t e) piece lines h = new_leaves setup old new p t e lines h.1
-leaves setup old new (C.Set p f q) piece lines h =
-    write_one old new (C.Set p f q) is_reference p f (content_of (slot_at old q)) lines (λ n w at. at) h.1
-leaves setup old new (C.SetNull p f) piece lines h = write_one old new (C.SetNull p f) is_reference p f Null lines (λ n w at. at) h.1
-leaves setup old new (C.Pair p f k v) piece lines h =
-    write_two old new (C.Pair p f k v) p f (part_of (slot_at old k) (slot_at old v)) (part_of (slot_at old v) (slot_at old k)) lines (λ n w at. at) h.1
-leaves setup old new (C.PairNull p f) piece lines h = write_two old new (C.PairNull p f) p f Null Null lines (λ n w at. at) h.1
-leaves setup old new (C.Put p f w) piece lines h = write_one old new (C.Put p f w) is_plain p f (Word w) lines (λ n w at. at) h.1
-leaves setup old new (C.Word p f) piece lines h =
-    at_field is_plain old new p f lines (λ n. IsNumber old (value_at (node_at old.nodes n) (first_word old n f)) lines new) _
-    (λ n d. number old new (C.Word p f) (value_at (node_at old.nodes n) (first_word old n f)) lines d) (λ why r. refused old new (C.Word p f) lines why r) h.1
-leaves setup old new (C.Get p f q) piece lines h =
-    fetch old new (C.Get p f q) is_reference p f q (λ n. is_weak (kind_of_field (node_at old.nodes n).object f))
-    (λ n. value_at (node_at old.nodes n) (first_word old n f)) lines (λ z same. same) h.1
-leaves setup old new (C.Key p f q) piece lines h =
-    fetch old new (C.Key p f q) is_pair p f q (λ n. true) (λ n. value_at (node_at old.nodes n) (first_word old n f)) lines (λ z same. same) h.1
-leaves setup old new (C.Val p f q) piece lines h =
-    fetch old new (C.Val p f q) is_pair p f q (λ n. true) (λ n. value_at (node_at old.nodes n) (first_word old n f + 1)) lines (λ z same. same) h.1
-leaves setup old new (C.Copy p q) piece lines h = slotted old new (C.Copy p q) old q _ (λ z same. same) (keeps_same old) (cycle_same old) h.1.1
-leaves setup old new (C.Drop p) piece lines h = slotted old new (C.Drop p) old p None (λ z same. same) (keeps_same old) (cycle_same old) h.1.1
-leaves setup old new (C.Weak w p) piece lines h = weakly old new (C.Weak w p) w _ (λ z same. same) h.1.1
-leaves setup old new (C.Read w p) piece lines h = read old new (C.Read w p) true (content_of (weak_slot_at old w)) p lines (λ z same. same) h.1
-leaves setup old new (C.Push p o) piece lines h =
-    match_option (slot_at old p) _ _ _ (λ r. refused old new (C.Push p o) lines R.Null r)
-    (λ n m. match_bool (nat_lt o (size_of (node_at old.nodes n))) (IsPushed old (Pointer n o) lines new) (IsRefused R.Field old lines new) _
-    (λ d. push old new (C.Push p o) (Pointer n o) lines tt d) (λ r. refused old new (C.Push p o) lines R.Field r) m) h.1
-leaves setup old new (C.PushPlain n) piece lines h = push old new (C.PushPlain n) (Number n) lines tt h.1
-leaves setup old new C.Pop piece lines h =
-    match_bool (nat_lt 0 (length old.stack)) _ _ _ (λ d. stacked old new C.Pop _ tt d.1) (λ r. refused old new C.Pop lines R.Empty r) h.1
-leaves setup old new (C.Peek i q) piece lines h =
-    match_option (slice_get old.stack i) _ _ _ (λ r. refused old new (C.Peek i q) lines R.Empty r)
-    (λ word m. peek old new (C.Peek i q) word q lines (λ z same. same) m) h.1
 leaves setup old new C.GcStart piece lines h = start_leaves setup old new piece lines h
 leaves setup old new (C.GcStep n) piece lines h =
     match_bool (is_marking old.phase) _ _ _ (λ t. still old new (C.GcStep n) _ (unchanged old _ refl refl refl refl refl) (λ not. absurd (not tt)) t.after)
@@ -370,6 +307,8 @@ leaves setup old new C.ThreadsGo piece lines h = elim h.1 [
   | inr d ↦ still old new C.ThreadsGo _ (unchanged old _ refl refl refl refl refl) (λ not. unmoved old _ refl refl refl refl) d.1
 ]
 leaves setup old new C.ThreadsJoin piece lines h = join old new C.ThreadsJoin piece lines h
+leaves setup old new command piece lines h =
+    let c = plain_step setup old new command piece lines refl h in effect_leaves old new command lines c.effect c.fits c.after
 
 pub steps_leave_rest : StepsLeaveRest
 steps_leave_rest setup old command piece lines new h = leaves setup old new command piece lines h
