@@ -1,26 +1,23 @@
--- The commands that read and write fields keep a state sound.
+-- A state stays sound where a field is written.
 use Rattle.std.proofs.Common.{◌≡◌, ℕ, ◌+◌, Bool, true, List, length, set, All, Option, Some, None, refl, sym, ◌∙◌}
 use Rattle.std.specs.Prelude.{⊤}
 use Rattle.std.proofs.lemmas.List.{length-set}
 use Rattle.std.proofs.lemmas.List.Elements.{All-set}
 use Rattle.gc_graph.specs.declared.kind.Value.{Value}
 use Rattle.gc_graph.specs.declared.kind.Value.TheVariants.{Null, Ref, Word}
-use Rattle.gc_graph.specs.declared.line.Line.{Line}
 use Rattle.gc_graph.specs.declared.phase.Phase.{Phase}
 use Rattle.gc_graph.specs.declared.phase.Phase.TheVariants.{Idle, Marking, Sweeping}
 use Rattle.gc_graph.specs.State.{Setup, State, Node, no_node, node_at}
 use Rattle.gc_graph.specs.Fields.{kind_of_field, word_of_field, with_value, content_of, is_reference, is_pair, is_plain}
 use Rattle.gc_graph.specs.Valid.{IsTyped, NamesLive, IsReferenceBelow, IsPlainWord, ArePaired}
-use Rattle.gc_graph.specs.Outcomes.{answered, slot_at}
-use Rattle.gc_graph.specs.ObjectSteps.{first_word, with_node, IsChanged, StepSet, part_of, StepPair, StepPut}
+use Rattle.gc_graph.specs.ObjectSteps.{first_word, with_node, part_of}
 use Rattle.gc_graph.proofs.Shapes.{IsPairBelow}
 use Rattle.gc_graph.proofs.Follows.{Anything, Held, Carries, Follows}
 use Rattle.gc_graph.proofs.Sound.{SlotNames, MayHas, MayFollows, IsSound}
 use Rattle.gc_graph.specs.NodeNumbers.{live_below}
 use Rattle.gc_graph.proofs.NodeWrites.{IsLikeNode, LookSame, live_after, look_written, heap_written, node_after, nodes_sound}
 use Rattle.gc_graph.proofs.FieldWrites.{with_pair, one_written, pair_written, suits_reference, suits_plain, one_typed, pair_typed, one_like, pair_like}
-use Rattle.gc_graph.proofs.ValidCases.{field_is, landed, refused_sound}
-use Rattle.gc_graph.proofs.ValidHandles.{Root, slot_root, slot_is_root}
+use Rattle.gc_graph.proofs.ValidHandles.{Root}
 
 -- ---- a write
 
@@ -46,20 +43,16 @@ follows_written Marking nodes may n node look h f = record {
 }
 
 -- what a written node must be
-record IsFit (setup : Setup) (s : State) (n : ℕ) (node : Node) : Type 0 where
+pub record IsFit (setup : Setup) (s : State) (n : ℕ) (node : Node) : Type 0 where
   like : IsLikeNode (node_at s.nodes n) node
   typed : IsTyped setup (length s.nodes) node
   names : All (NamesLive s.nodes) node.object.values
   follows : FollowsIn s.phase s.may node
 
-fit_sound : (setup : Setup) (s : State) (n : ℕ) (node : Node) → IsSound setup s → IsFit setup s n node → IsSound setup (with_node s n node)
+pub fit_sound : (setup : Setup) (s : State) (n : ℕ) (node : Node) → IsSound setup s → IsFit setup s n node → IsSound setup (with_node s n node)
 fit_sound setup s n node g fit =
     nodes_sound setup s (set s.nodes n node) g (heap_written setup s.nodes n node g.heap fit.like fit.typed (λ live. fit.names))
     (look_written s.nodes n node fit.like) (follows_written s.phase s.nodes s.may n node (look_written s.nodes n node fit.like) g.may fit.follows)
-
-changed_sound : (setup : Setup) (old new : State) (n : ℕ) (node : Node) (lines : List Line) → IsSound setup old → IsFit setup old n node
-    → IsChanged old n node lines new → IsSound setup new
-changed_sound setup old new n node lines g fit h = landed setup new (answered (with_node old n node)) h.1 (fit_sound setup old n node g fit)
 
 typed_root : (setup : Setup) (s : State) (n : ℕ) → IsSound setup s → Root s n → IsTyped setup (length s.nodes) (node_at s.nodes n)
 typed_root setup s n g root = g.heap.typed n no_node (live_below s.nodes n root.live)
@@ -67,7 +60,7 @@ typed_root setup s n g root = g.heap.typed n no_node (live_below s.nodes n root.
 -- ---- values from slots
 
 -- null, or a root
-abbrev FromSlot : State → Value → Type 0
+abbrev pub FromSlot : State → Value → Type 0
 FromSlot s Null = ⊤
 FromSlot s (Ref n) = Root s n
 FromSlot s (Word w) = ⊥
@@ -103,7 +96,7 @@ held_from s Null h = held_null s.phase s.may
 held_from s (Ref n) h = held_ref s.phase s.may n h.in_may
 held_from s (Word w) h = absurd h
 
-from_content : (s : State) (content : Option ℕ) → SlotNames (Root s) content → FromSlot s (content_of content)
+pub from_content : (s : State) (content : Option ℕ) → SlotNames (Root s) content → FromSlot s (content_of content)
 from_content s None h = tt
 from_content s (Some n) h = h
 
@@ -117,7 +110,7 @@ one_follows Marking may node f value e held h =
     one_written (Held may) Anything Anything (Carries may) node.object f value
     (suits_reference (Held may) Anything Anything (Carries may) node.object f (kind_of_field node.object f) value e held tt) h
 
-reference_fit : (setup : Setup) (s : State) (n f : ℕ) (value : Value) → IsSound setup s → Root s n
+pub reference_fit : (setup : Setup) (s : State) (n f : ℕ) (value : Value) → IsSound setup s → Root s n
     → is_reference (kind_of_field (node_at s.nodes n).object f) ≡ true → FromSlot s value
     → IsFit setup s n (with_value (node_at s.nodes n) (first_word s n f) value)
 reference_fit setup s n f value g root e from =
@@ -131,31 +124,15 @@ reference_fit setup s n f value g root e from =
       follows = one_follows s.phase s.may node f value e (held_from s value from) (follows_of s.phase s.nodes s.may n g.may root.in_may);
     }
 
-set_from : (setup : Setup) (old new : State) (p f : ℕ) (value : Value) (lines : List Line) → IsSound setup old → FromSlot old value
-    → StepSet old p f value lines new → IsSound setup new
-set_from setup old new p f value lines g from h =
-    field_is is_reference old new p f lines _ (IsSound setup new)
-    (λ n found d.
-    changed_sound setup old new n _ lines g (reference_fit setup old n f value g (slot_is_root setup old p n g found.slot) found.allows from) d)
-    (λ why r. refused_sound setup old new lines why g r) h
-
-pub set_keeps : (setup : Setup) (old new : State) (p f q : ℕ) (lines : List Line) → IsSound setup old
-    → StepSet old p f (content_of (slot_at old q)) lines new → IsSound setup new
-set_keeps setup old new p f q lines g h =
-    set_from setup old new p f (content_of (slot_at old q)) lines g (from_content old (slot_at old q) (slot_root setup old q g)) h
-
-pub set_null_keeps : (setup : Setup) (old new : State) (p f : ℕ) (lines : List Line) → IsSound setup old → StepSet old p f Null lines new → IsSound setup new
-set_null_keeps setup old new p f lines g h = set_from setup old new p f Null lines g tt h
-
 -- ---- pair
 
 -- the words of a pair are null both, or both from slots
-record ArePartsOf (s : State) (key value : Value) : Type 0 where
+pub record ArePartsOf (s : State) (key value : Value) : Type 0 where
   key_from : FromSlot s key
   value_from : FromSlot s value
   paired : ArePaired key value
 
-parts_of : (s : State) (key value : Option ℕ) → SlotNames (Root s) key → SlotNames (Root s) value → ArePartsOf s (part_of key value) (part_of value key)
+pub parts_of : (s : State) (key value : Option ℕ) → SlotNames (Root s) key → SlotNames (Root s) value → ArePartsOf s (part_of key value) (part_of value key)
 parts_of s None None h k = record { key_from = tt; value_from = tt; paired = refl }
 parts_of s None (Some m) h k = record { key_from = tt; value_from = tt; paired = refl }
 parts_of s (Some n) None h k = record { key_from = tt; value_from = tt; paired = refl }
@@ -173,7 +150,7 @@ pair_follows Sweeping may node f key value e held h = tt
 pair_follows Marking may node f key value e held h =
     pair_written (Held may) Anything Anything (Carries may) node.object f key value e (carries_from may key value held) h
 
-pair_fit : (setup : Setup) (s : State) (n f : ℕ) (key value : Value) → IsSound setup s → Root s n
+pub pair_fit : (setup : Setup) (s : State) (n f : ℕ) (key value : Value) → IsSound setup s → Root s n
     → is_pair (kind_of_field (node_at s.nodes n).object f) ≡ true → ArePartsOf s key value
     → IsFit setup s n (with_pair (node_at s.nodes n) (first_word s n f) key value)
 pair_fit setup s n f key value g root e from =
@@ -187,15 +164,6 @@ pair_fit setup s n f key value g root e from =
       follows = pair_follows s.phase s.may node f key value e (held_from s value from.value_from) (follows_of s.phase s.nodes s.may n g.may root.in_may);
     }
 
-pub pair_keeps : (setup : Setup) (old new : State) (p f : ℕ) (key value : Option ℕ) (lines : List Line) → IsSound setup old
-    → SlotNames (Root old) key → SlotNames (Root old) value → StepPair old p f key value lines new → IsSound setup new
-pair_keeps setup old new p f key value lines g k v h =
-    field_is is_pair old new p f lines _ (IsSound setup new)
-    (λ n found d.
-    changed_sound setup old new n _ lines g
-    (pair_fit setup old n f (part_of key value) (part_of value key) g (slot_is_root setup old p n g found.slot) found.allows (parts_of old key value k v)) d)
-    (λ why r. refused_sound setup old new lines why g r) h
-
 -- ---- put
 
 plain_follows : (phase : Phase) (may : List Bool) (node : Node) (f w : ℕ) → is_plain (kind_of_field node.object f) ≡ true
@@ -206,7 +174,7 @@ plain_follows Marking may node f w e h =
     one_written (Held may) Anything Anything (Carries may) node.object f (Word w)
     (suits_plain (Held may) Anything Anything (Carries may) node.object f (kind_of_field node.object f) (Word w) e tt) h
 
-plain_fit : (setup : Setup) (s : State) (n f w : ℕ) → IsSound setup s → Root s n → is_plain (kind_of_field (node_at s.nodes n).object f) ≡ true
+pub plain_fit : (setup : Setup) (s : State) (n f w : ℕ) → IsSound setup s → Root s n → is_plain (kind_of_field (node_at s.nodes n).object f) ≡ true
     → IsFit setup s n (with_value (node_at s.nodes n) (first_word s n f) (Word w))
 plain_fit setup s n f w g root e =
     let node : Node = node_at s.nodes n in
@@ -218,9 +186,3 @@ plain_fit setup s n f w g root e =
       names = All-set (NamesLive s.nodes) node.object.values (first_word s n f) (Word w) tt (g.heap.named n root.live);
       follows = plain_follows s.phase s.may node f w e (follows_of s.phase s.nodes s.may n g.may root.in_may);
     }
-
-pub put_keeps : (setup : Setup) (old new : State) (p f w : ℕ) (lines : List Line) → IsSound setup old → StepPut old p f w lines new → IsSound setup new
-put_keeps setup old new p f w lines g h =
-    field_is is_plain old new p f lines _ (IsSound setup new)
-    (λ n found d. changed_sound setup old new n _ lines g (plain_fit setup old n f w g (slot_is_root setup old p n g found.slot) found.allows) d)
-    (λ why r. refused_sound setup old new lines why g r) h
