@@ -1,5 +1,5 @@
 -- The numbers of the lines of whole runs.
-use Rattle.std.proofs.Common.{◌≡◌, ℕ, zero, suc, ◌+◌, ◌<◌, ◌≤◌, Bool, true, false, true≢false, List, [], ◌∷◌, length, get_or, take, All, Option, Some, None, refl, sym, ap, ◌∙◌, subst, inl, inr, arith, nat_lt}
+use Rattle.std.proofs.Common.{◌≡◌, ℕ, zero, suc, ◌+◌, ◌<◌, ◌≤◌, Bool, true, false, true≢false, List, [], ◌∷◌, length, get_or, take, All, Some, refl, sym, ap, ◌∙◌, subst, inl, inr, arith}
 use mathlib.Core.Logic.{◌⊎◌}
 use Rattle.std.specs.Prelude.{min}
 use Rattle.std.specs.List.{Contains, slice_get}
@@ -9,36 +9,25 @@ use Rattle.std.proofs.lemmas.List.Elements.{All-nil, All-cons, All-head, All-tai
 use Rattle.std.proofs.lemmas.List.Sums.{count_by-le-length}
 use Rattle.gc_graph.specs.declared.command.Command.{Command}
 use Rattle.gc_graph.specs.declared.command.Command.TheVariants as C
-use Rattle.gc_graph.specs.declared.kind.Value.TheVariants.{Null}
 use Rattle.gc_graph.specs.declared.line.Line.{Line}
 use Rattle.gc_graph.specs.declared.line.Line.TheVariants as L
-use Rattle.gc_graph.specs.declared.line.Refusal.TheVariants as R
 use Rattle.gc_graph.specs.declared.region.Entry.{Entry}
-use Rattle.gc_graph.specs.State.{Setup, State, Node, is_there, IsLive, empty_state, objects_of, used_of}
-use Rattle.gc_graph.specs.State.StackWord.{Number}
-use Rattle.gc_graph.specs.Fields.{content_of}
-use Rattle.gc_graph.specs.Valid.{NamesLive, IsValid}
+use Rattle.gc_graph.specs.State.{Setup, State, Node, is_there, empty_state, objects_of, used_of}
+use Rattle.gc_graph.specs.Valid.{IsValid}
 use Rattle.gc_graph.specs.ValidLaw.{StepKeepsValid}
-use Rattle.gc_graph.specs.Outcomes.{slot_at, weak_slot_at}
-use Rattle.gc_graph.specs.ObjectSteps.{first_word}
 use Rattle.gc_graph.specs.Step.{Step}
 use Rattle.gc_graph.specs.Lawful.{Outcome, Run, last_state, state_after, AreJoined, TellsTotals, IsAllowed}
 use Rattle.gc_graph.specs.Report.{type_lines}
 use Rattle.gc_graph.specs.ReadBack.{IsOf64Bits}
 use Rattle.gc_graph.specs.NumbersLaw.{IsWithinLimits, IsReported, lines_of_outcomes, HaveNumbers, LinesHaveNumbers, RunReadsBack}
-use Rattle.gc_graph.proofs.Sound.{SlotNames, WordNames, IsSound, sound_from}
-use Rattle.gc_graph.proofs.ValidCases.{bool_is}
-use Rattle.gc_graph.proofs.ValidHandles.{Root, slot_names, IfWord, word_names}
+use Rattle.gc_graph.proofs.Sound.{IsSound, sound_from}
 use Rattle.gc_graph.proofs.ValidSteps.{empty_is_valid}
 use Rattle.gc_graph.proofs.Few.{Small, small_one, small_four, empty_few}
-use Rattle.gc_graph.proofs.StepNumbers.{IsCounted, TellsTotalsTo, RunsOn, IsGood, used_within, totals_small, content_small, fine, set_good, pair_good, put_good, word_good, read_good, get_good, part_good, push_good, push_slot_good, peek_good, new_good, refused}
+use Rattle.gc_graph.proofs.StepNumbers.{IsCounted, TellsTotalsTo, RunsOn, IsGood, used_within, totals_small, effect_good, new_good}
+use Rattle.gc_graph.proofs.PlainSteps.{plain_step}
 use Rattle.gc_graph.proofs.CycleNumbers.{start_good, step_good, finish_good, now_good, sweep_good, stat_good, export_good, import_good}
 use Rattle.gc_graph.proofs.ThreadNumbers.{all_flat, at_good, go_good, join_good}
 use Rattle.gc_graph.proofs.ReportsReadBack.{report_reads_back}
-
-content_names : (s : State) (content : Option ℕ) → SlotNames (IsLive s.nodes) content → NamesLive s.nodes (content_of content)
-content_names s None h = tt
-content_names s (Some n) h = h
 
 -- ---- one step
 
@@ -46,30 +35,6 @@ module _ (setup : Setup) (limits : IsWithinLimits setup) (k : ℕ) (low : k < 10
     (h : IsCounted k old) (g : IsSound setup old) where
   pub step_numbers : (command : Command) → IsAllowed (length setup.types) command → Step setup old command piece lines new → IsGood k command old lines new
   step_numbers (C.New p t e) a s = new_good setup limits k low old new (C.New p t e) lines h g p t e a.1 s.1
-  step_numbers (C.Set p f q) a s =
-      set_good setup limits k low old new (C.Set p f q) lines h g p f (content_of (slot_at old q)) (content_small (slot_at old q)) s.1
-  step_numbers (C.SetNull p f) a s = set_good setup limits k low old new (C.SetNull p f) lines h g p f Null tt s.1
-  step_numbers (C.Pair p f key v) a s = pair_good setup limits k low old new (C.Pair p f key v) lines h g p f (slot_at old key) (slot_at old v) s.1
-  step_numbers (C.PairNull p f) a s = pair_good setup limits k low old new (C.PairNull p f) lines h g p f None None s.1
-  step_numbers (C.Put p f n) a s = put_good setup limits k low old new (C.Put p f n) lines h g p f n a.2 s.1
-  step_numbers (C.Word p f) a s = word_good setup limits k low old new (C.Word p f) lines h g p f s.1
-  step_numbers (C.Get p f q) a s = get_good setup limits k low old new (C.Get p f q) lines h g p f q s.1
-  step_numbers (C.Key p f q) a s = part_good setup limits k low old new (C.Key p f q) lines h g p f q (λ n. first_word old n f) s.1
-  step_numbers (C.Val p f q) a s = part_good setup limits k low old new (C.Val p f q) lines h g p f q (λ n. first_word old n f + 1) s.1
-  step_numbers (C.Copy p q) a s = fine setup limits k low old new (C.Copy p q) lines h g _ refl h s.1
-  step_numbers (C.Drop p) a s = fine setup limits k low old new (C.Drop p) lines h g _ refl h s.1
-  step_numbers (C.Weak w p) a s = fine setup limits k low old new (C.Weak w p) lines h g _ refl h s.1
-  step_numbers (C.Read w p) a s =
-      read_good setup limits k low old new (C.Read w p) lines h g true (content_of (weak_slot_at old w)) p
-      (content_names old (weak_slot_at old w) (slot_names (IsLive old.nodes) old.weak w g.weak)) s.1
-  step_numbers (C.Push p o) a s = push_slot_good setup limits k low old new (C.Push p o) lines h g p o s.1
-  step_numbers (C.PushPlain n) a s = push_good setup limits k low old new (C.PushPlain n) lines h g (Number n) s.1
-  step_numbers C.Pop a s =
-      bool_is (nat_lt 0 (length old.stack)) _ _ (IsGood k C.Pop old lines new) (λ e d. fine setup limits k low old new C.Pop lines h g _ refl h d)
-      (λ e r. refused setup limits k low old new C.Pop lines h g R.Empty r) s.1
-  step_numbers (C.Peek i q) a s =
-      peek_good setup limits k low old new (C.Peek i q) lines h g i q
-      (λ word e. subst (IfWord (WordNames (Root old))) e (word_names (WordNames (Root old)) old.stack i g.stack)) s.1
   step_numbers C.GcStart a s = start_good setup limits k low old new C.GcStart piece lines h g s
   step_numbers (C.GcStep n) a s = step_good setup limits k low old new (C.GcStep n) piece lines h g n a.1 s.1
   step_numbers (C.GcFinish want) a s = finish_good setup limits k low old new (C.GcFinish want) piece lines h g want s
@@ -82,6 +47,9 @@ module _ (setup : Setup) (limits : IsWithinLimits setup) (k : ℕ) (low : k < 10
   step_numbers (C.At j order) a s = at_good setup limits k low old new (C.At j order) piece lines h g j order a.2 s.1
   step_numbers C.ThreadsGo a s = go_good setup limits k low old new C.ThreadsGo piece lines h g refl s.1
   step_numbers C.ThreadsJoin a s = join_good setup limits k low old new C.ThreadsJoin piece lines h g refl s
+  step_numbers command a s =
+      let c = plain_step setup old new command piece lines refl s in
+      effect_good setup limits k low old new command lines h g (length setup.types) a c.effect c.fits c.lines_are c.after
 
 -- ---- the steps of a run, by their positions
 

@@ -1,38 +1,35 @@
 -- The numbers of each command's lines, and what the state counts after it.
-use Rattle.std.proofs.Common.{◌≡◌, ℕ, ◌+◌, ◌*◌, ◌<◌, ◌≤◌, Bool, true, false, List, [], ◌∷◌, length, All, Option, Some, None, refl, sym, ap, ◌∙◌, subst, inl, inr, arith, nat_lt, if◌then◌else◌}
+use Rattle.std.proofs.Common.{◌≡◌, ℕ, ◌+◌, ◌*◌, ◌<◌, ◌≤◌, Bool, true, false, List, [], ◌∷◌, length, All, Option, Some, None, refl, sym, ap, ◌∙◌, subst, inl, inr, arith, if◌then◌else◌}
 use mathlib.Core.Logic.{◌⊎◌}
-use Rattle.std.specs.List.{Contains, slice_get}
+use Rattle.std.specs.List.{Contains}
 use Rattle.std.proofs.lemmas.Bool.{cond_both}
 use Rattle.std.proofs.lemmas.List.{length-set, length_push}
 use Rattle.std.proofs.lemmas.List.Elements.{All-nil, All-cons, All-push, All-append, All-map, All-from_get_or}
 use Rattle.std.proofs.lemmas.List.Sums.{count_by-le-length, sum_by-le}
 use Rattle.gc_graph.specs.declared.command.Command.{Command}
 use Rattle.gc_graph.specs.declared.command.Command.TheVariants as C
-use Rattle.gc_graph.specs.declared.kind.Value.{Value}
-use Rattle.gc_graph.specs.declared.kind.Value.TheVariants.{Null, Ref, Word}
+use Rattle.gc_graph.specs.declared.kind.Value.TheVariants.{Word}
 use Rattle.gc_graph.specs.declared.line.Line.{Line}
 use Rattle.gc_graph.specs.declared.line.Line.TheVariants as L
 use Rattle.gc_graph.specs.declared.line.Refusal.{Refusal}
-use Rattle.gc_graph.specs.declared.line.Refusal.TheVariants as R
 use Rattle.gc_graph.specs.declared.phase.Phase.{Phase}
 use Rattle.gc_graph.specs.declared.phase.Phase.TheVariants.{Idle, Marking, Sweeping}
-use Rattle.gc_graph.specs.State.{Setup, State, Node, StackWord, Registration, no_node, node_at, is_there, IsLive, size_of, objects_of, used_of, type_at}
-use Rattle.gc_graph.specs.State.StackWord.{Pointer, Number}
-use Rattle.gc_graph.specs.Fields.{kind_of_field, value_at, with_value, content_of, new_node, size_of_type, is_reference, is_weak, is_pair, is_plain}
+use Rattle.gc_graph.specs.State.{Setup, State, Node, Registration, no_node, node_at, is_there, IsLive, size_of, objects_of, used_of, type_at}
+use Rattle.gc_graph.specs.Fields.{with_value, content_of, new_node, size_of_type}
 use Rattle.gc_graph.specs.Placement.{extents_of, IsPlacement, IsPlaceFor, IsUsedPages}
 use Rattle.gc_graph.specs.Sweep.{SweepsInPhase}
-use Rattle.gc_graph.specs.Outcomes.{answered, IsRefused, IsMemory, finalise_lines, slot_at}
-use Rattle.gc_graph.specs.ObjectSteps.{AtField, registrations_for, first_word, with_node, IsChanged, part_of, IsNumber, IsRead, IsMade, IsFull, IsAllocation, StepNew, StepSet, StepPair, StepPut, StepWord, StepGet}
-use Rattle.gc_graph.specs.HandleSteps.{IsDone, IsPushed, pushed, IsPeeked, StepPush, StepPeek}
-use Rattle.gc_graph.specs.Valid.{NamesLive, word_count}
+use Rattle.gc_graph.specs.Outcomes.{answered, IsRefused, IsMemory, finalise_lines}
+use Rattle.gc_graph.specs.ObjectSteps.{registrations_for, first_word, with_node, IsChanged, part_of, IsMade, IsFull, IsAllocation, StepNew}
+use Rattle.gc_graph.specs.Valid.{word_count}
 use Rattle.gc_graph.specs.ReadBack.{IsOf64Bits}
 use Rattle.gc_graph.specs.NumbersLaw.{IsWithinLimits}
 use Rattle.gc_graph.proofs.NewObjects.{nulls_all}
 use Rattle.gc_graph.proofs.FreePlaces.{IsFreeAt, place_free}
-use Rattle.gc_graph.proofs.Sound.{IsHeap, IsSound, WordNames}
-use Rattle.gc_graph.proofs.ValidCases.{option_is, bool_is, field_is}
-use Rattle.gc_graph.proofs.ValidHandles.{Root, slot_is_root}
-use Rattle.gc_graph.proofs.ValidReads.{names_at}
+use Rattle.gc_graph.proofs.Sound.{IsHeap, IsSound}
+use Rattle.gc_graph.proofs.ValidCases.{option_is}
+use Rattle.gc_graph.specs.Lawful.{IsAllowed}
+use Rattle.gc_graph.proofs.Effects.{Effect, line_of_effect, with_effect, Fits}
+use Rattle.gc_graph.proofs.Effects.Effect.{Refuses, Tells, Empties, Gets, Sets, Puts, Pairs}
 use Rattle.gc_graph.proofs.SmallWords.{IsSmall, HasSmall, small_at, value_small, with_small, set_small}
 use Rattle.gc_graph.proofs.Few.{Small, small_none, small_one, small_two, small_three, IsFew, few_more, live_small, words_within, IsFewSwept, sweep_few, finalise_numbers}
 
@@ -140,10 +137,7 @@ module _ (setup : Setup) (limits : IsWithinLimits setup) (k : ℕ) (low : k < 10
   pub memory : IsMemory old lines new → Good
   memory m = still old L.Memory refl h m.1 m.0 small_none
 
-  pub fine : (x : State) → x.running ≡ old.running → IsCounted k x → IsDone x lines new → Good
-  fine x r few d = still x L.Fine r few d.1 d.0 small_none
-
-  -- ---- writes
+  -- ---- plain commands
 
   written : (n : ℕ) (node : Node) → HasSmall node → IsChanged old n node lines new → Good
   written n node small d =
@@ -158,83 +152,27 @@ module _ (setup : Setup) (limits : IsWithinLimits setup) (k : ℕ) (low : k < 10
       })
       d.1 d.0 small_none
 
-  pub set_good : (p f : ℕ) (value : Value) → IsSmall value → StepSet old p f value lines new → Good
-  set_good p f value small step =
-      field_is is_reference old new p f lines _ Good
-      (λ n found d. written n _ (with_small (node_at old.nodes n) (first_word old n f) value small (small_at old.nodes n h.words)) d) refused step
-
-  pub pair_good : (p f : ℕ) (key value : Option ℕ) → StepPair old p f key value lines new → Good
-  pair_good p f key value step =
-      field_is is_pair old new p f lines _ Good
-      (λ n found d.
-      written n _
-      (with_small (with_value (node_at old.nodes n) (first_word old n f) (part_of key value)) (first_word old n f + 1) (part_of value key) (part_small value key)
-      (with_small (node_at old.nodes n) (first_word old n f) (part_of key value) (part_small key value) (small_at old.nodes n h.words))) d)
-      refused step
-
-  pub put_good : (p f w : ℕ) → Small w → StepPut old p f w lines new → Good
-  put_good p f w small step =
-      field_is is_plain old new p f lines _ Good
-      (λ n found d. written n _ (with_small (node_at old.nodes n) (first_word old n f) (Word w) small (small_at old.nodes n h.words)) d) refused step
-
-  -- ---- reads
-
-  number_good : (value : Value) → IsSmall value → IsNumber old value lines new → Good
-  number_good Null small d = absurd d
-  number_good (Ref n) small d = absurd d
-  number_good (Word w) small d = still old (L.Word w) refl h d.1 d.0 (small_one w small)
-
-  pub word_good : (p f : ℕ) → StepWord old p f lines new → Good
-  word_good p f step =
-      field_is is_plain old new p f lines _ Good
-      (λ n found d. number_good (value_at (node_at old.nodes n) (first_word old n f))
-      (value_small (node_at old.nodes n) (first_word old n f) (small_at old.nodes n h.words)) d)
-      refused step
-
   named : (n : ℕ) → IsLive old.nodes n → Small n
   named n live = live_small setup k k (16777216 * k) (omega arith) old n h live
 
-  pub read_good : (weak : Bool) (value : Value) (q : ℕ) → NamesLive old.nodes value → IsRead weak old value q lines new → Good
-  read_good weak Null q live d = still _ L.Null refl h d.1 d.0 small_none
-  read_good weak (Word w) q live d = absurd d
-  read_good true (Ref n) q live d = still _ (L.Node n) refl h d.1 d.0 (small_one n (named n live))
-  read_good false (Ref n) q live d = still _ (L.Node n) refl h d.1 d.0 (small_one n (named n live))
-
-  pub get_good : (p f q : ℕ) → StepGet old p f q lines new → Good
-  get_good p f q step =
-      field_is is_reference old new p f lines _ Good
-      (λ n found d. read_good (is_weak (kind_of_field (node_at old.nodes n).object f)) (value_at (node_at old.nodes n) (first_word old n f)) q
-      (names_at setup old n (first_word old n f) g (slot_is_root setup old p n g found.slot)) d)
-      refused step
-
-  pub part_good : (p f q : ℕ) (word : ℕ → ℕ)
-      → AtField is_pair old p f lines new (λ n. IsRead true old (value_at (node_at old.nodes n) (word n)) q lines new) → Good
-  part_good p f q word step =
-      field_is is_pair old new p f lines (λ n. IsRead true old (value_at (node_at old.nodes n) (word n)) q lines new) Good
-      (λ n found d. read_good true (value_at (node_at old.nodes n) (word n)) q
-      (names_at setup old n (word n) g (slot_is_root setup old p n g found.slot)) d)
-      refused step
-
-  -- ---- the stack
-
-  pub push_good : (word : StackWord) → IsPushed old word lines new → Good
-  push_good word step =
-      bool_is (nat_lt (length old.stack) 1024) (IsDone (pushed old word) lines new) (IsRefused R.Stack old lines new) Good
-      (λ e d. fine (pushed old word) refl h d) (λ e r. refused R.Stack r) step
-
-  pub push_slot_good : (p o : ℕ) → StepPush old p o lines new → Good
-  push_slot_good p o step =
-      option_is (slot_at old p) _ _ Good (λ r. refused R.Null r)
-      (λ n e m. bool_is (nat_lt o (size_of (node_at old.nodes n))) (IsPushed old (Pointer n o) lines new) (IsRefused R.Field old lines new) Good
-      (λ e d. push_good (Pointer n o) d) (λ e r. refused R.Field r) m) step
-
-  peeked_good : (word : StackWord) (q : ℕ) → WordNames (Root old) word → IsPeeked old word q lines new → Good
-  peeked_good (Pointer n o) q names d = still _ (L.Node n) refl h d.1 d.0 (small_one n (named n names.live))
-  peeked_good (Number w) q names d = refused R.Kind d
-
-  pub peek_good : (i q : ℕ) → ((word : StackWord) → slice_get old.stack i ≡ Some word → WordNames (Root old) word) → StepPeek old i q lines new → Good
-  peek_good i q names step =
-      option_is (slice_get old.stack i) _ _ Good (λ r. refused R.Empty r) (λ word e d. peeked_good word q (names word e) d) step
+  pub effect_good : (types : ℕ) → IsAllowed types command → (effect : Effect) → Fits old command lines effect → lines ≡ line_of_effect effect ∷ []
+      → new ≡ answered (with_effect old effect) → Good
+  effect_good types a (Refuses why) fits is e = refused why (is, e)
+  effect_good types a (Tells w) fits is e =
+      still old (L.Word w) refl h e is
+      (small_one w (subst IsSmall fits.2 (value_small (node_at old.nodes fits.0) fits.1 (small_at old.nodes fits.0 h.words))))
+  effect_good types a (Empties q) fits is e = still _ L.Null refl h e is small_none
+  effect_good types a (Gets true q n) fits is e = still _ (L.Node n) refl h e is (small_one n (named n (fits.node setup g)))
+  effect_good types a (Gets false q n) fits is e = still _ (L.Node n) refl h e is (small_one n (named n (fits.node setup g).live))
+  effect_good types a (Sets n f content) fits is e =
+      written n _ (with_small (node_at old.nodes n) (first_word old n f) (content_of content) (content_small content) (small_at old.nodes n h.words)) (is, e)
+  effect_good types a (Puts n f w) fits is e =
+      written n _ (with_small (node_at old.nodes n) (first_word old n f) (Word w) (fits.1 types a) (small_at old.nodes n h.words)) (is, e)
+  effect_good types a (Pairs n f key value) fits is e =
+      written n _
+      (with_small (with_value (node_at old.nodes n) (first_word old n f) (part_of key value)) (first_word old n f + 1) (part_of value key) (part_small value key)
+      (with_small (node_at old.nodes n) (first_word old n f) (part_of key value) (part_small key value) (small_at old.nodes n h.words))) (is, e)
+  effect_good types a effect fits is e = still (with_effect old effect) L.Fine refl h e is small_none
 
   -- ---- a new object
 
