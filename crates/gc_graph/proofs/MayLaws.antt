@@ -1,33 +1,26 @@
 -- The bound of what may be kept, command by command and over runs.
-use Rattle.std.proofs.Common.{◌≡◌, ◌⊎◌, nat_lt, ℕ, ◌+◌, ◌<◌, true, false, List, [], ◌∷◌, ◌++◌, length, All, None, refl, sym, ap, ◌∙◌, subst, inl, inr, arith, append_assoc}
-use Rattle.std.specs.List.{slice_get}
+use Rattle.std.proofs.Common.{◌≡◌, ◌⊎◌, ℕ, ◌<◌, false, List, [], ◌∷◌, ◌++◌, length, All, refl, sym, ap, ◌∙◌, subst, inl, inr, arith, append_assoc}
 use Rattle.std.proofs.lemmas.List.{append-nil}
 use Rattle.std.proofs.lemmas.List.Elements.{All-head, All-tail}
 use Rattle.gc_graph.specs.declared.command.Command.{Command}
 use Rattle.gc_graph.specs.declared.command.Command.TheVariants as C
-use Rattle.gc_graph.specs.declared.kind.Value.TheVariants.{Null}
 use Rattle.gc_graph.specs.declared.command.Want.{Want}
 use Rattle.gc_graph.specs.declared.line.Line.{Line}
 use Rattle.gc_graph.specs.declared.line.Refusal.TheVariants as R
 use Rattle.gc_graph.specs.declared.phase.Phase.TheVariants.{Idle, Marking}
 use Rattle.gc_graph.specs.declared.region.Entry.{Entry}
-use Rattle.gc_graph.specs.State.{Setup, State, node_at, size_of, IsLive, graph_of, roots_of}
+use Rattle.gc_graph.specs.State.{Setup, State, node_at, graph_of, roots_of}
 use Rattle.gc_graph.specs.Graph.{IsIn}
 use Rattle.gc_graph.specs.Reach.{Reach}
-use Rattle.gc_graph.specs.State.StackWord.{Pointer, Number}
-use Rattle.gc_graph.specs.Fields.{content_of}
-use Rattle.gc_graph.specs.Outcomes.{IsRefused, IsMemory, answered, slot_at, weak_slot_at, took}
-use Rattle.gc_graph.specs.ObjectSteps.{first_word}
-use Rattle.gc_graph.specs.HandleSteps.{IsPushed}
+use Rattle.gc_graph.specs.Outcomes.{IsRefused, IsMemory, answered, took}
 use Rattle.gc_graph.specs.CycleSteps.{is_marking, is_stack_refused, IsStart, IsCollection}
 use Rattle.gc_graph.specs.Step.{Step}
 use Rattle.gc_graph.specs.Valid.{IsValid}
 use Rattle.gc_graph.specs.ValidLaw.{StepKeepsValid}
 use Rattle.gc_graph.specs.Lawful.{Outcome, Run, last_state, IsAllowed}
 use Rattle.gc_graph.specs.MayLaw.{HasStarted, StartsHaveStarted, CollectionsHaveStarted, own_reads, entry_reads, run_reads, MayIsBounded, PauseBoundsMeet}
-use Rattle.gc_graph.proofs.StepCases.{match_option, match_bool}
+use Rattle.gc_graph.proofs.StepCases.{match_bool}
 use Rattle.gc_graph.proofs.Sound.{IsSound, sound_from, valid_from, kinds_at}
-use Rattle.gc_graph.proofs.ValidHandles.{slot_root, slot_names}
 use Rattle.gc_graph.proofs.Since.{own_since}
 use Rattle.gc_graph.proofs.MayBounds.{bounds_meet}
 use Rattle.gc_graph.proofs.ValidRegion.{others_sound, took_phase}
@@ -35,55 +28,14 @@ use Rattle.gc_graph.proofs.ValidCases.{bool_is}
 use Rattle.gc_graph.proofs.ValidSweeps.{ended_phase}
 use Rattle.gc_graph.proofs.ValidCycles.{start_sound, ended_sound}
 use Rattle.gc_graph.proofs.MayEntries.{More, more_first, more_second, more_none, Kept, same_kept, took_kept}
-use Rattle.gc_graph.proofs.MayRuns.{Goes, still, refused, memory, slot_since, parts_since, set_goes, pair_goes, put_goes, word_goes, value_goes, get_goes, part_goes, content_live, push_goes, peek_goes, sweep_goes, start_goes, now_goes, finish_goes, new_goes, export_goes, import_goes, join_goes}
+use Rattle.gc_graph.proofs.PlainSteps.{plain_step}
+use Rattle.gc_graph.proofs.MayRuns.{Goes, still, refused, memory, effect_goes, sweep_goes, start_goes, now_goes, finish_goes, new_goes, export_goes, import_goes, join_goes}
 
 module _ (setup : Setup) (start : State) (begun : HasStarted setup start) where
   step_goes : (old new : State) (command : Command) (piece : List Entry) (lines : List Line) → old.phase ≡ Marking → new.phase ≡ Marking
       → IsSound setup old → Step setup old command piece lines new → Goes setup start begun old command piece lines new
   step_goes old new (C.New p t e) piece lines on over g h =
       new_goes setup start begun old new (C.New p t e) piece lines p t e on g h.1
-  step_goes old new (C.Set p f q) piece lines on over g h =
-      set_goes setup start begun old new (C.Set p f q) piece lines p f (content_of (slot_at old q))
-      (λ o. slot_since setup start begun old new (C.Set p f q) piece lines o (slot_at old q) on (slot_root setup old q g)) h.1
-  step_goes old new (C.SetNull p f) piece lines on over g h =
-      set_goes setup start begun old new (C.SetNull p f) piece lines p f Null (λ o. tt) h.1
-  step_goes old new (C.Pair p f k v) piece lines on over g h =
-      pair_goes setup start begun old new (C.Pair p f k v) piece lines p f (slot_at old k) (slot_at old v)
-      (λ o. parts_since setup start begun old new (C.Pair p f k v) piece lines o (slot_at old k) (slot_at old v) on (slot_root setup old v g)) h.1
-  step_goes old new (C.PairNull p f) piece lines on over g h =
-      pair_goes setup start begun old new (C.PairNull p f) piece lines p f None None (λ o. tt) h.1
-  step_goes old new (C.Put p f w) piece lines on over g h =
-      put_goes setup start begun old new (C.Put p f w) piece lines p f w h.1
-  step_goes old new (C.Word p f) piece lines on over g h =
-      word_goes setup start begun old new (C.Word p f) piece lines p f h.1
-  step_goes old new (C.Get p f q) piece lines on over g h =
-      get_goes setup start begun old new (C.Get p f q) piece lines p f q refl on g h.1
-  step_goes old new (C.Key p f q) piece lines on over g h =
-      part_goes setup start begun old new (C.Key p f q) piece lines p f q (λ n. first_word old n f) on g refl h.1
-  step_goes old new (C.Val p f q) piece lines on over g h =
-      part_goes setup start begun old new (C.Val p f q) piece lines p f q (λ n. first_word old n f + 1) on g refl h.1
-  step_goes old new (C.Copy p q) piece lines on over g h =
-      still setup start begun old new (C.Copy p q) piece lines _ h.1.1 refl refl
-  step_goes old new (C.Drop p) piece lines on over g h =
-      still setup start begun old new (C.Drop p) piece lines _ h.1.1 refl refl
-  step_goes old new (C.Weak w p) piece lines on over g h =
-      still setup start begun old new (C.Weak w p) piece lines _ h.1.1 refl refl
-  step_goes old new (C.Read w p) piece lines on over g h =
-      value_goes setup start begun old new (C.Read w p) piece lines true (content_of (weak_slot_at old w)) p on g
-      (content_live setup start begun old new (C.Read w p) piece lines (weak_slot_at old w) (slot_names (IsLive old.nodes) old.weak w g.weak)) (λ e. refl) h.1
-  step_goes old new (C.Push p o) piece lines on over g h =
-      match_option (slot_at old p) _ _ (Goes setup start begun old (C.Push p o) piece lines new) (λ r. refused setup start begun old new (C.Push p o) piece lines R.Null r)
-      (λ n m. match_bool (nat_lt o (size_of (node_at old.nodes n))) (IsPushed old (Pointer n o) lines new) (IsRefused R.Field old lines new)
-      (Goes setup start begun old (C.Push p o) piece lines new)
-      (λ d. push_goes setup start begun old new (C.Push p o) piece lines (Pointer n o) d) (λ r. refused setup start begun old new (C.Push p o) piece lines R.Field r) m) h.1
-  step_goes old new (C.PushPlain w) piece lines on over g h =
-      push_goes setup start begun old new (C.PushPlain w) piece lines (Number w) h.1
-  step_goes old new C.Pop piece lines on over g h =
-      match_bool (nat_lt 0 (length old.stack)) _ _ (Goes setup start begun old C.Pop piece lines new)
-      (λ d. still setup start begun old new C.Pop piece lines _ d.1 refl refl) (λ r. refused setup start begun old new C.Pop piece lines R.Empty r) h.1
-  step_goes old new (C.Peek i q) piece lines on over g h =
-      match_option (slice_get old.stack i) _ _ (Goes setup start begun old (C.Peek i q) piece lines new) (λ r. refused setup start begun old new (C.Peek i q) piece lines R.Empty r)
-      (λ word m. peek_goes setup start begun old new (C.Peek i q) piece lines word q m) h.1
   step_goes old new C.GcStart piece lines on over g h =
       start_goes setup start begun old new C.GcStart piece lines on h
   step_goes old new (C.GcStep n) piece lines on over g h =
@@ -112,6 +64,9 @@ module _ (setup : Setup) (start : State) (begun : HasStarted setup start) where
       ]
   step_goes old new C.ThreadsJoin piece lines on over g h =
       join_goes setup start begun old new C.ThreadsJoin piece lines on g h
+  step_goes old new command piece lines on over g h =
+      let c = plain_step setup old new command piece lines refl h in
+      effect_goes setup start begun old new command piece lines c.effect on g c.fits c.lines_are c.after
 
   -- ---- runs
 

@@ -1,11 +1,8 @@
 -- What may be kept stays within its bound over whole runs.
-use Rattle.std.proofs.Common.{◌≡◌, nat_lt, ℕ, Bool, true, false, List, [], ◌∷◌, ◌++◌, length, All, Option, Some, None, refl, sym, ap, ◌∙◌, subst, inl, inr}
-use Rattle.std.proofs.lemmas.Bool.{cond-true}
+use Rattle.std.proofs.Common.{◌≡◌, ℕ, Bool, true, false, List, [], ◌∷◌, ◌++◌, All, Option, Some, None, refl, sym, ap, ◌∙◌, subst, inl, inr}
 use Rattle.gc_graph.specs.declared.command.Command.{Command}
-use Rattle.gc_graph.specs.declared.command.Command.TheVariants as C
 use Rattle.gc_graph.specs.declared.command.Want.{Want}
-use Rattle.gc_graph.specs.declared.kind.Value.{Value}
-use Rattle.gc_graph.specs.declared.kind.Value.TheVariants.{Null, Ref, Word}
+use Rattle.gc_graph.specs.declared.kind.Value.TheVariants.{Ref, Word}
 use Rattle.gc_graph.specs.declared.line.Line.{Line}
 use Rattle.gc_graph.specs.declared.line.Refusal.{Refusal}
 use Rattle.gc_graph.specs.declared.line.Refusal.TheVariants as R
@@ -15,26 +12,24 @@ use Rattle.gc_graph.specs.declared.region.Entry.{Entry}
 use Rattle.gc_graph.specs.declared.region.Op.{Op}
 use Rattle.gc_graph.specs.declared.region.Op.TheVariants as O
 use Rattle.gc_graph.specs.Graph.{Object}
-use Rattle.gc_graph.specs.State.{Setup, State, StackWord, Node, node_at, IsLive, graph_of}
-use Rattle.gc_graph.specs.Valid.{NamesLive}
-use Rattle.gc_graph.specs.State.StackWord.{Pointer, Number}
-use Rattle.gc_graph.specs.Fields.{new_node, kind_of_field, value_at, with_value, content_of, is_reference, is_weak, is_pair, is_plain}
+use Rattle.gc_graph.specs.State.{Setup, State, Node, node_at, IsLive, graph_of}
+use Rattle.gc_graph.specs.Fields.{new_node, kind_of_field, with_value, content_of}
 use Rattle.gc_graph.specs.May.{may_with_read, may_with_new}
 use Rattle.gc_graph.specs.Sweep.{SweepsInPhase}
 use Rattle.gc_graph.specs.Outcomes.{answered, IsRefused, IsMemory, took, slot_at, owner_entry, with_entry, AreOthers, IsThreadOp}
-use Rattle.gc_graph.specs.ObjectSteps.{AtField, first_word, part_of, IsChanged, with_node, StepNew, StepSet, StepPair, StepPut, StepWord, StepGet, IsNumber, IsRead}
-use Rattle.gc_graph.specs.HandleSteps.{IsDone, pushed, IsPushed, IsPeeked}
+use Rattle.gc_graph.specs.ObjectSteps.{first_word, part_of, IsChanged, with_node, StepNew, IsRead}
 use Rattle.gc_graph.specs.CycleSteps.{is_marking, is_sweeping, is_stack_refused, StepGcStart, StepGcFinish, StepGcNow, StepSweepTo}
 use Rattle.gc_graph.specs.RegionSteps.{TakesOwn, StepExport, StepImport, StepThreadsJoin}
-use Rattle.gc_graph.specs.MayLaw.{HasStarted, own_reads, entry_reads, told, is_weak_field}
+use Rattle.gc_graph.specs.MayLaw.{HasStarted, own_reads, entry_reads, told}
 use Rattle.gc_graph.proofs.StepCases.{match_option, match_bool}
 use Rattle.gc_graph.proofs.FieldWrites.{with_pair, one_written, pair_written, suits_reference, suits_plain}
 use Rattle.gc_graph.proofs.Follows.{Anything}
 use Rattle.gc_graph.proofs.Since.{Since, StrongSince, PairSince}
 use Rattle.gc_graph.proofs.Sound.{SlotNames, IsSound, IsFollowed}
-use Rattle.gc_graph.proofs.ValidCases.{bool_is, field_is}
-use Rattle.gc_graph.proofs.ValidHandles.{Root, slot_is_root}
-use Rattle.gc_graph.proofs.ValidReads.{names_at}
+use Rattle.gc_graph.proofs.ValidCases.{bool_is}
+use Rattle.gc_graph.proofs.ValidHandles.{Root}
+use Rattle.gc_graph.proofs.Effects.{Effect, line_of_effect, with_effect, Fits}
+use Rattle.gc_graph.proofs.Effects.Effect.{Gets, Sets, Puts, Pairs}
 use Rattle.gc_graph.proofs.ValidRegion.{others_sound, took_own}
 use Rattle.gc_graph.proofs.MayGrows.{IsKeptUp, before}
 use Rattle.gc_graph.proofs.MayEntries.{More, followed, in_may_of, Kept, same_kept, weak_read_kept, took_kept, own_kept, written_kept, new_kept}
@@ -57,10 +52,6 @@ module _ (setup : Setup) (start : State) (begun : HasStarted setup start) where
 
     pub memory : IsMemory old lines new → Goes old command piece lines new
     memory h = still (answered old) h.1 refl refl
-
-    -- a read that isn't weak, or gave null
-    null_read : (weak : Bool) (q : ℕ) → IsRead weak old Null q lines new → Goes old command piece lines new
-    null_read weak q h = still _ h.1 refl refl
 
     weakly : (n q : ℕ) → old.phase ≡ Marking → IsSound setup old → IsLive old.nodes n → own_reads old command lines ≡ told lines
         → IsRead true old (Ref n) q lines new → Goes old command piece lines new
@@ -86,98 +77,46 @@ module _ (setup : Setup) (start : State) (begun : HasStarted setup start) where
 
     -- ---- values that slots hold
 
-    pub slot_since : (o : Object) (content : Option ℕ) → old.phase ≡ Marking → SlotNames (Root old) content → StrongSince old.may o (content_of content)
+    slot_since : (o : Object) (content : Option ℕ) → old.phase ≡ Marking → SlotNames (Root old) content → StrongSince old.may o (content_of content)
     slot_since o None on h = tt
     slot_since o (Some m) on h = inr (in_may_of old.phase old.may m on h.in_may)
 
-    pub parts_since : (o : Object) (key value : Option ℕ) → old.phase ≡ Marking → SlotNames (Root old) value
+    parts_since : (o : Object) (key value : Option ℕ) → old.phase ≡ Marking → SlotNames (Root old) value
         → PairSince old.may o (part_of key value) (part_of value key)
     parts_since o None None on h = tt
     parts_since o None (Some m) on h = tt
     parts_since o (Some k) None on h = tt
     parts_since o (Some k) (Some m) on h = inr (in_may_of old.phase old.may m on h.in_may)
 
-    pub set_goes : (p f : ℕ) (value : Value) → ((o : Object) → StrongSince old.may o value) → StepSet old p f value lines new → Goes old command piece lines new
-    set_goes p f value held h =
-        field_is is_reference old new p f lines _ (Goes old command piece lines new)
-        (λ n found d. writes n (with_value (node_at old.nodes n) (first_word old n f) value) d
-        (λ may edges. one_written (StrongSince old.may (before setup start begun n)) Anything Anything (PairSince old.may (before setup start begun n))
-        (node_at old.nodes n).object f value
-        (suits_reference (StrongSince old.may (before setup start begun n)) Anything Anything (PairSince old.may (before setup start begun n))
-        (node_at old.nodes n).object f (kind_of_field (node_at old.nodes n).object f) value found.allows (held (before setup start begun n)) tt)
+    -- ---- plain commands
+
+    pub effect_goes : (effect : Effect) → old.phase ≡ Marking → IsSound setup old → Fits old command lines effect → lines ≡ line_of_effect effect ∷ []
+        → new ≡ answered (with_effect old effect) → Goes old command piece lines new
+    effect_goes (Gets true q n) on g fits is e = weakly n q on g (fits.node setup g) (fits.reads refl) (is, e)
+    effect_goes (Gets false q n) on g fits is e = still _ e refl refl
+    effect_goes (Sets n f content) on g fits is e =
+        (let o : Object = before setup start begun n in
+        let S = StrongSince old.may o in
+        let P = PairSince old.may o in
+        let object : Object = (node_at old.nodes n).object in
+        writes n (with_value (node_at old.nodes n) (first_word old n f) (content_of content)) (is, e)
+        (λ may edges. one_written S Anything Anything P object f (content_of content)
+        (suits_reference S Anything Anything P object f (kind_of_field object f) (content_of content) fits.0.allows (slot_since o content on (fits.1 setup g)) tt)
         (edges n)))
-        refused h
-
-    pub pair_goes : (p f : ℕ) (key value : Option ℕ) → ((o : Object) → PairSince old.may o (part_of key value) (part_of value key))
-        → StepPair old p f key value lines new → Goes old command piece lines new
-    pair_goes p f key value held h =
-        field_is is_pair old new p f lines _ (Goes old command piece lines new)
-        (λ n found d. writes n (with_pair (node_at old.nodes n) (first_word old n f) (part_of key value) (part_of value key)) d
-        (λ may edges. pair_written (StrongSince old.may (before setup start begun n)) Anything Anything (PairSince old.may (before setup start begun n))
-        (node_at old.nodes n).object f (part_of key value) (part_of value key) found.allows (held (before setup start begun n)) (edges n)))
-        refused h
-
-    pub put_goes : (p f w : ℕ) → StepPut old p f w lines new → Goes old command piece lines new
-    put_goes p f w h =
-        field_is is_plain old new p f lines _ (Goes old command piece lines new)
-        (λ n found d. writes n (with_value (node_at old.nodes n) (first_word old n f) (Word w)) d
-        (λ may edges. one_written (StrongSince old.may (before setup start begun n)) Anything Anything (PairSince old.may (before setup start begun n))
-        (node_at old.nodes n).object f (Word w)
-        (suits_plain (StrongSince old.may (before setup start begun n)) Anything Anything (PairSince old.may (before setup start begun n))
-        (node_at old.nodes n).object f (kind_of_field (node_at old.nodes n).object f) (Word w) found.allows tt)
-        (edges n)))
-        refused h
-
-    number_goes : (value : Value) → IsNumber old value lines new → Goes old command piece lines new
-    number_goes Null h = absurd h
-    number_goes (Ref n) h = absurd h
-    number_goes (Word w) h = still (answered old) h.1 refl refl
-
-    pub word_goes : (p f : ℕ) → StepWord old p f lines new → Goes old command piece lines new
-    word_goes p f h =
-        field_is is_plain old new p f lines _ (Goes old command piece lines new)
-        (λ n found d. number_goes (value_at (node_at old.nodes n) (first_word old n f)) d) refused h
-
-    -- ---- reads
-
-    pub value_goes : (weak : Bool) (value : Value) (q : ℕ) → old.phase ≡ Marking → IsSound setup old → NamesLive old.nodes value
-        → (weak ≡ true → own_reads old command lines ≡ told lines) → IsRead weak old value q lines new → Goes old command piece lines new
-    value_goes weak Null q on g live own h = null_read weak q h
-    value_goes weak (Word w) q on g live own h = absurd h
-    value_goes true (Ref n) q on g live own h = weakly n q on g live (own refl) h
-    value_goes false (Ref n) q on g live own h = still _ h.1 refl refl
-
-    pub get_goes : (p f q : ℕ) → command ≡ C.Get p f q → old.phase ≡ Marking → IsSound setup old → StepGet old p f q lines new → Goes old command piece lines new
-    get_goes p f q is on g h =
-        field_is is_reference old new p f lines _ (Goes old command piece lines new)
-        (λ n found d. value_goes (is_weak (kind_of_field (node_at old.nodes n).object f)) (value_at (node_at old.nodes n) (first_word old n f)) q on g
-        (names_at setup old n (first_word old n f) g (slot_is_root setup old p n g found.slot))
-        (λ weak. ap (λ c. own_reads old c lines) is
-        ∙ cond-true (is_weak_field old (slot_at old p) f) (told lines) [] (ap (λ s. is_weak_field old s f) found.slot ∙ weak)) d)
-        refused h
-
-    pub part_goes : (p f q : ℕ) (word : ℕ → ℕ) → old.phase ≡ Marking → IsSound setup old → own_reads old command lines ≡ told lines
-        → AtField is_pair old p f lines new (λ n. IsRead true old (value_at (node_at old.nodes n) (word n)) q lines new) → Goes old command piece lines new
-    part_goes p f q word on g own h =
-        field_is is_pair old new p f lines (λ n. IsRead true old (value_at (node_at old.nodes n) (word n)) q lines new) (Goes old command piece lines new)
-        (λ n found d. value_goes true (value_at (node_at old.nodes n) (word n)) q on g
-        (names_at setup old n (word n) g (slot_is_root setup old p n g found.slot)) (λ weak. own) d)
-        refused h
-
-    pub content_live : (content : Option ℕ) → SlotNames (IsLive old.nodes) content → NamesLive old.nodes (content_of content)
-    content_live None h = tt
-    content_live (Some n) h = h
-
-    -- ---- the stack
-
-    pub push_goes : (word : StackWord) → IsPushed old word lines new → Goes old command piece lines new
-    push_goes word h =
-        match_bool (nat_lt (length old.stack) 1024) (IsDone (pushed old word) lines new) (IsRefused R.Stack old lines new) (Goes old command piece lines new)
-        (λ d. still (answered (pushed old word)) d.1 refl refl) (λ r. refused R.Stack r) h
-
-    pub peek_goes : (word : StackWord) (q : ℕ) → IsPeeked old word q lines new → Goes old command piece lines new
-    peek_goes (Pointer n o) q h = still _ h.1 refl refl
-    peek_goes (Number w) q h = refused R.Kind h
+    effect_goes (Puts n f w) on g fits is e =
+        (let o : Object = before setup start begun n in
+        let S = StrongSince old.may o in
+        let P = PairSince old.may o in
+        let object : Object = (node_at old.nodes n).object in
+        writes n (with_value (node_at old.nodes n) (first_word old n f) (Word w)) (is, e)
+        (λ may edges. one_written S Anything Anything P object f (Word w)
+        (suits_plain S Anything Anything P object f (kind_of_field object f) (Word w) fits.0.allows tt) (edges n)))
+    effect_goes (Pairs n f key value) on g fits is e =
+        (let o : Object = before setup start begun n in
+        writes n (with_pair (node_at old.nodes n) (first_word old n f) (part_of key value) (part_of value key)) (is, e)
+        (λ may edges. pair_written (StrongSince old.may o) Anything Anything (PairSince old.may o) (node_at old.nodes n).object f (part_of key value)
+        (part_of value key) fits.0.allows (parts_since o key value on (fits.1 setup g).1) (edges n)))
+    effect_goes effect on g fits is e = still (answered (with_effect old effect)) e refl refl
 
     -- ---- what doesn't go on while marking does
 
