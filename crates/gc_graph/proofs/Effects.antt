@@ -1,5 +1,5 @@
 -- The ways in which a plain command comes out: one on fields, on slots or on the stack.
-use Rattle.std.proofs.Common.{◌≡◌, ℕ, ◌+◌, Bool, true, false, List, [], ◌∷◌, length, set, All, Option, Some, None, refl, ◌∙◌}
+use Rattle.std.proofs.Common.{◌≡◌, ℕ, ◌+◌, Bool, ◌||◌, true, false, List, [], ◌∷◌, length, set, All, Option, Some, None, refl, ◌∙◌}
 use Rattle.std.specs.Prelude.{⊤}
 use Rattle.std.proofs.lemmas.List.{length-set}
 use Rattle.gc_graph.specs.declared.command.Command.{Command}
@@ -17,6 +17,7 @@ use Rattle.gc_graph.specs.Outcomes.{answered, with_slot}
 use Rattle.gc_graph.specs.ObjectSteps.{first_word, with_node, part_of}
 use Rattle.gc_graph.specs.Lawful.{IsAllowed}
 use Rattle.gc_graph.specs.FrameLaw.{WritesSlot, WritesWeakSlot, WritesStack, IsWordOf, WritesWord}
+use Rattle.gc_graph.specs.AnswersLaw.{tells_that_nothing_was_done, is_of_kind}
 use Rattle.gc_graph.specs.MayLaw.{own_reads, told}
 use Rattle.gc_graph.proofs.Sound.{SlotNames, WordNames, IsSound}
 use Rattle.gc_graph.proofs.FieldWrites.{with_pair, with_values}
@@ -103,6 +104,10 @@ Fits old command lines (Puts n f w) = WritesField is_plain old command n f × ((
 Fits old command lines (Pairs n f key value) =
     WritesField is_pair old command n f × WhereSound old (SlotNames (Root old) key × SlotNames (Root old) value)
 
+-- the line is one of the command's, or says that nothing was done
+abbrev pub IsInKind : Command → Line → Type 0
+IsInKind command line = (tells_that_nothing_was_done line || is_of_kind command line) ≡ true
+
 -- the command came out in this way
 pub record ComesOut (old : State) (command : Command) (piece : List Entry) (lines : List Line) (new : State) : Type 0 where
   pub effect : Effect
@@ -110,6 +115,7 @@ pub record ComesOut (old : State) (command : Command) (piece : List Entry) (line
   pub lines_are : lines ≡ line_of_effect effect ∷ []
   pub after : new ≡ answered (with_effect old effect)
   pub fits : Fits old command lines effect
+  pub kind : IsInKind command (line_of_effect effect)
 
 -- ---- what all ways have in common
 
