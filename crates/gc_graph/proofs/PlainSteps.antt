@@ -95,7 +95,8 @@ module _ (old new : State) (command : Command) (piece : List Entry) (lines : Lis
   refused : (why : Refusal) → IsRefused why old lines new → Comes
   refused why h = comes (Refuses why) refl tt h
 
-  fill : (q : ℕ) (content : Option ℕ) → IsInKind command L.Fine → WritesSlot command q → WhereSound old (SlotNames (Root old) content) → Has (Fills q content) → Comes
+  fill : (q : ℕ) (content : Option ℕ) → IsInKind command L.Fine → WritesSlot command q → WhereSound old (SlotNames (Root old) content)
+      → Has (Fills q content) → Comes
   fill q content kind writes names h = comes (Fills q content) kind (writes, names) h
 
   -- a field that was found is written
@@ -107,8 +108,8 @@ module _ (old new : State) (command : Command) (piece : List Entry) (lines : Lis
     words = λ word at. words n word (found.slot, at);
   }
 
-  at : (allowed : Kind → Bool) (p f : ℕ) (effect : ℕ → Effect) → ((n : ℕ) → IsInKind command (line_of_effect (effect n))) → ((n : ℕ) → IsFound allowed old p f n → Fits old command lines (effect n))
-      → AtField allowed old p f lines new (λ n. Has (effect n)) → Comes
+  at : (allowed : Kind → Bool) (p f : ℕ) (effect : ℕ → Effect) → ((n : ℕ) → IsInKind command (line_of_effect (effect n)))
+      → ((n : ℕ) → IsFound allowed old p f n → Fits old command lines (effect n)) → AtField allowed old p f lines new (λ n. Has (effect n)) → Comes
   at allowed p f effect kind fits h =
       field_is allowed old new p f lines (λ n. Has (effect n)) Comes (λ n found d. comes (effect n) (kind n) (fits n found) d) refused h
 
@@ -123,13 +124,14 @@ module _ (old new : State) (command : Command) (piece : List Entry) (lines : Lis
   pair p f key value kind words names h =
       at is_pair p f (λ n. Pairs n f key value) (λ n. kind) (λ n found. (writes_field is_pair p f n found words, names)) h
 
-  read : (weak : Bool) (value : Value) (q : ℕ) → IsInKind command L.Null → ((n : ℕ) → IsInKind command (L.Node n)) → WritesSlot command q → Gives weak old value → (weak ≡ true → own_reads old command lines ≡ told lines)
-      → IsRead weak old value q lines new → Comes
+  read : (weak : Bool) (value : Value) (q : ℕ) → IsInKind command L.Null → ((n : ℕ) → IsInKind command (L.Node n)) → WritesSlot command q
+      → Gives weak old value → (weak ≡ true → own_reads old command lines ≡ told lines) → IsRead weak old value q lines new → Comes
   read weak Null q null node writes gives reads h = comes (Empties q) null writes h
   read weak (Ref n) q null node writes gives reads h = comes (Gets weak q n) (node n) (record { writes = writes; node = gives n refl; reads = reads }) h
   read weak (Word w) q null node writes gives reads h = absurd h
 
-  read_at : (allowed : Kind → Bool) (p f q : ℕ) (weak : ℕ → Bool) (value : ℕ → Value) → IsInKind command L.Null → ((n : ℕ) → IsInKind command (L.Node n)) → WritesSlot command q
+  read_at : (allowed : Kind → Bool) (p f q : ℕ) (weak : ℕ → Bool) (value : ℕ → Value) → IsInKind command L.Null
+      → ((n : ℕ) → IsInKind command (L.Node n)) → WritesSlot command q
       → ((n : ℕ) → IsFound allowed old p f n → Gives (weak n) old (value n))
       → ((n : ℕ) → IsFound allowed old p f n → weak n ≡ true → own_reads old command lines ≡ told lines)
       → AtField allowed old p f lines new (λ n. IsRead (weak n) old (value n) q lines new) → Comes
@@ -137,20 +139,23 @@ module _ (old new : State) (command : Command) (piece : List Entry) (lines : Lis
       field_is allowed old new p f lines (λ n. IsRead (weak n) old (value n) q lines new) Comes
       (λ n found d. read (weak n) (value n) q null node writes (gives n found) (reads n found) d) refused h
 
-  tell : (n word : ℕ) (value : Value) → ((w : ℕ) → IsInKind command (L.Word w)) → value_at (node_at old.nodes n) word ≡ value → IsNumber old value lines new → Comes
+  tell : (n word : ℕ) (value : Value) → ((w : ℕ) → IsInKind command (L.Word w)) → value_at (node_at old.nodes n) word ≡ value
+      → IsNumber old value lines new → Comes
   tell n word Null word_kind is h = absurd h
   tell n word (Ref m) word_kind is h = absurd h
   tell n word (Word w) word_kind is h = comes (Tells w) (word_kind w) (n, word, is) h
 
   -- ---- the stack
 
-  push : (word : StackWord) → IsInKind command L.Fine → WritesStack command → WhereSound old (WordNames (Root old) word) → IsPushed old word lines new → Comes
+  push : (word : StackWord) → IsInKind command L.Fine → WritesStack command → WhereSound old (WordNames (Root old) word)
+      → IsPushed old word lines new → Comes
   push word kind writes names h =
       bool_is (nat_lt (length old.stack) 1024) (IsDone (pushed old word) lines new) (IsRefused R.Stack old lines new) Comes
       (λ e d. comes (Stacks (word ∷ old.stack)) kind (writes, λ setup g. All-cons (WordNames (Root old)) word old.stack (names setup g) g.stack) d)
       (λ e r. refused R.Stack r) h
 
-  peek : (word : StackWord) (q : ℕ) → ((n : ℕ) → IsInKind command (L.Node n)) → WritesSlot command q → WhereSound old (WordNames (Root old) word) → IsPeeked old word q lines new → Comes
+  peek : (word : StackWord) (q : ℕ) → ((n : ℕ) → IsInKind command (L.Node n)) → WritesSlot command q → WhereSound old (WordNames (Root old) word)
+      → IsPeeked old word q lines new → Comes
   peek (Pointer n offset) q node writes names h =
       comes (Gets false q n) (node n) (record { writes = writes; node = names; reads = λ e. absurd (true≢false (sym e)) }) h
   peek (Number w) q node writes names h = refused R.Kind h
