@@ -18,11 +18,12 @@ use Rattle.gc_graph.specs.State.Life.{Live, Dead, Gone}
 use Rattle.gc_graph.specs.May.{is_hit, hits_for}
 use Rattle.gc_graph.specs.Outcomes.{finalise_lines, took, with_entry}
 use Rattle.gc_graph.specs.Pause.{dies, run_order, is_dead_at, with_cleared, clear_node, prefinalise_lines}
-use Rattle.gc_graph.specs.CycleSteps.{is_marking, is_stack_refused, IsStart, IsPause}
+use Rattle.gc_graph.specs.CycleSteps.{is_marking, is_stack_refused, IsStart, IsPause, IsFinished, StepGcFinish, IsCollection, StepGcNow}
 use Rattle.gc_graph.specs.CycleLaw.{CyclesGoInOrder, IsStepTold, StepsTellWhatIsLeft, FinishCountsOnce, NowCountsOnce, HitsAreKept, ClearsLiveHolders, LastRegisteredRunsFirst}
 use Rattle.gc_graph.specs.Valid.{IsValid}
 use Rattle.gc_graph.specs.Members.{to_range, stays_in, Contains-cons_cases}
 use Rattle.gc_graph.proofs.StepCases.{match_bool}
+use Rattle.gc_graph.proofs.ValidCases.{bool_is}
 use Rattle.gc_graph.proofs.Sound.{sound_from, valid_from}
 use Rattle.gc_graph.proofs.ValidRegion.{others_sound, took_nodes, took_phase}
 use Rattle.gc_graph.proofs.MayBounds.{of_second, least_law}
@@ -161,14 +162,30 @@ pub no_pause : (lines : List Line) (line told : Line) → is_pause line ≡ fals
 no_pause lines line told other is e there =
     true≢false (sym is ∙ All-contains IsOther (line ∷ []) told (All-cons IsOther line [] other (All-nil IsOther)) (subst (λ ls. Contains ls told) e there))
 
+-- where a line tells a pause, `gc finish` was carried out
+pub finish_told : (setup : Setup) (want : Want) (old new : State) (piece : List Entry) (lines : List Line) (told : Line) (Q : Type 0) → is_pause told ≡ true
+    → Contains lines told → (is_marking old.phase ≡ true → IsFinished setup want old piece lines new → Q) → StepGcFinish setup want old piece lines new → Q
+finish_told setup want old new piece lines told Q is there finished h =
+    bool_is (is_marking old.phase) _ _ Q
+    (λ on rest. bool_is (is_stack_refused want old.stack) _ _ Q (λ e r. absurd (no_pause lines (L.Refused R.Stack) told refl is r.1.0 there))
+    (λ e f. finished on f) rest)
+    (λ e r. absurd (no_pause lines (L.Refused R.Phase) told refl is r.1.0 there)) h
+
+-- and so was `gc now`
+pub now_told : (setup : Setup) (want : Want) (old new : State) (piece : List Entry) (lines : List Line) (told : Line) (Q : Type 0) → is_pause told ≡ true
+    → Contains lines told → (is_marking old.phase ≡ false → IsCollection setup want old piece lines new → Q) → StepGcNow setup want old piece lines new → Q
+now_told setup want old new piece lines told Q is there collected h =
+    bool_is (is_marking old.phase) _ _ Q (λ e r. absurd (no_pause lines (L.Refused R.Phase) told refl is r.1.0 there))
+    (λ off rest. bool_is (is_stack_refused want old.stack) _ _ Q (λ e r. absurd (no_pause lines (L.Refused R.Stack) told refl is r.1.0 there))
+    (λ e more. elim more [
+      | inl m ↦ absurd (no_pause lines L.Memory told refl is m.1.0 there)
+      | inr c ↦ collected off c
+    ]) rest) h
+
 pub finish_counts_once : FinishCountsOnce
 finish_counts_once setup old new want piece lines live dead crew traced walked h there =
-    let told : Line = L.Pause live dead crew traced walked in
-    let Told : Type 0 = (old.traced + crew + traced ≡ live) × (setup.markers ≡ 0 → crew ≡ 0) in
-    match_bool (is_marking old.phase) _ _ Told
-    (λ rest. match_bool (is_stack_refused want old.stack) _ _ Told (λ r. absurd (no_pause lines (L.Refused R.Stack) told refl refl r.1.0 there))
-    (λ f. counts setup setup.markers want old f.0 piece [] lines lines live dead crew traced walked f.1 refl there) rest)
-    (λ r. absurd (no_pause lines (L.Refused R.Phase) told refl refl r.1.0 there)) h
+    finish_told setup want old new piece lines (L.Pause live dead crew traced walked) ((old.traced + crew + traced ≡ live) × (setup.markers ≡ 0 → crew ≡ 0)) refl there
+    (λ on f. counts setup setup.markers want old f.0 piece [] lines lines live dead crew traced walked f.1 refl there) h
 
 -- a collection that has just started has traced nothing
 none_traced : (setup : Setup) (swept new : State) (piece : List Entry) → IsStart setup swept piece new → new.traced ≡ 0
@@ -176,18 +193,11 @@ none_traced setup swept new piece h = ap (λ (s : State). s.traced) h.after
 
 pub now_counts_once : NowCountsOnce
 now_counts_once setup old new want piece lines live dead crew traced walked h there =
-    let told : Line = L.Pause live dead crew traced walked in
-    let Told : Type 0 = (traced ≡ live) × (crew ≡ 0) in
-    match_bool (is_marking old.phase) _ _ Told (λ r. absurd (no_pause lines (L.Refused R.Phase) told refl refl r.1.0 there))
-    (λ rest. match_bool (is_stack_refused want old.stack) _ _ Told (λ r. absurd (no_pause lines (L.Refused R.Stack) told refl refl r.1.0 there))
-    (λ more. elim more [
-      | inl m ↦ absurd (no_pause lines L.Memory told refl refl m.1.0 there)
-      | inr c ↦
-          let both = counts setup 0 want c.started c.paused c.second c.numbers c.pause_lines lines live dead crew traced walked c.pause c.lines_are there in
-          let none : crew ≡ 0 = both.1 refl in
-          let first = none_traced setup c.swept c.started c.first c.start in
-          (omega (arith, both.0, none, first), none)
-    ]) rest) h
+    now_told setup want old new piece lines (L.Pause live dead crew traced walked) ((traced ≡ live) × (crew ≡ 0)) refl there
+    (λ off c. (let both = counts setup 0 want c.started c.paused c.second c.numbers c.pause_lines lines live dead crew traced walked c.pause c.lines_are there in
+    let none : crew ≡ 0 = both.1 refl in
+    let first = none_traced setup c.swept c.started c.first c.start in
+    (omega (arith, both.0, none, first), none))) h
 
 -- ---- the hits of the stack
 

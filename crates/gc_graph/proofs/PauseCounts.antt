@@ -6,7 +6,6 @@ use Rattle.std.proofs.lemmas.List.Sums.{sum_by-cons}
 use Rattle.gc_graph.specs.declared.command.Want.{Want}
 use Rattle.gc_graph.specs.declared.line.Line.{Line}
 use Rattle.gc_graph.specs.declared.line.Line.TheVariants as L
-use Rattle.gc_graph.specs.declared.line.Refusal.TheVariants as R
 use Rattle.gc_graph.specs.declared.phase.Phase.{Phase}
 use Rattle.gc_graph.specs.declared.phase.Phase.TheVariants.{Idle, Marking, Sweeping}
 use Rattle.gc_graph.specs.declared.region.Entry.{Entry}
@@ -15,18 +14,16 @@ use Rattle.gc_graph.specs.State.Life.{Live, Dead, Gone}
 use Rattle.gc_graph.specs.Sweep.{buried, finalise, SweepsInPhase}
 use Rattle.gc_graph.specs.Outcomes.{finalise_lines, took}
 use Rattle.gc_graph.specs.Pause.{condemn, live_count, dead_count, run_order}
-use Rattle.gc_graph.specs.CycleSteps.{is_marking, is_stack_refused, IsPause, StepGcFinish, StepGcNow}
+use Rattle.gc_graph.specs.CycleSteps.{is_marking, IsPause}
 use Rattle.gc_graph.specs.Valid.{IsSettled}
 use Rattle.gc_graph.specs.CountsLaw.{AreJudged, PausesCountNodes}
-use Rattle.gc_graph.proofs.ValidCases.{bool_is}
 use Rattle.gc_graph.proofs.Sound.{IsSound, sound_from}
 use Rattle.gc_graph.proofs.NodeWrites.{LookSame}
 use Rattle.gc_graph.proofs.NodeCounts.{same_count, paused_weights}
 use Rattle.gc_graph.proofs.ValidRegion.{took_nodes}
-use Rattle.gc_graph.proofs.ValidSweeps.{ended_phase}
-use Rattle.gc_graph.proofs.ValidCycles.{start_sound, ended_sound}
+use Rattle.gc_graph.proofs.ValidCycles.{collection_begins}
 use Rattle.gc_graph.proofs.Collections.{paused_look}
-use Rattle.gc_graph.proofs.CycleLaws.{others_finalised, others_run, the_one, no_pause}
+use Rattle.gc_graph.proofs.CycleLaws.{others_finalised, others_run, the_one, finish_told, now_told}
 
 -- ---- counts of lives
 
@@ -137,41 +134,20 @@ judged_same old other after new kept dead same e h = record {
 
 -- ---- the commands
 
-module _ (setup : Setup) (old new : State) (want : Want) (piece : List Entry) (lines : List Line) (kept dead crew traced : ℕ) (walked : Bool)
-    (g : IsSound setup old) (there : Contains lines (L.Pause kept dead crew traced walked)) where
-  abbrev Told : Line
-  Told = L.Pause kept dead crew traced walked
-
-  finish_judges : StepGcFinish setup want old piece lines new → AreJudged old kept dead new
-  finish_judges h =
-      bool_is (is_marking old.phase) _ _ (AreJudged old kept dead new)
-      (λ on rest. bool_is (is_stack_refused want old.stack) _ _ (AreJudged old kept dead new)
-      (λ e r. absurd (no_pause lines (L.Refused R.Stack) Told refl refl r.1.0 there))
-      (λ e f. judged_same old old f.0 new kept dead refl (ap (λ (s : State). s.nodes) f.2)
-      (judges setup setup.markers want old f.0 piece [] lines lines kept dead crew traced walked g (on_mark old.phase on) f.1 refl there)) rest)
-      (λ e r. absurd (no_pause lines (L.Refused R.Phase) Told refl refl r.1.0 there)) h
-
-  now_judges : StepGcNow setup want old piece lines new → AreJudged old kept dead new
-  now_judges h =
-      bool_is (is_marking old.phase) _ _ (AreJudged old kept dead new)
-      (λ e r. absurd (no_pause lines (L.Refused R.Phase) Told refl refl r.1.0 there))
-      (λ off rest. bool_is (is_stack_refused want old.stack) _ _ (AreJudged old kept dead new)
-      (λ e r. absurd (no_pause lines (L.Refused R.Stack) Told refl refl r.1.0 there))
-      (λ e more. elim more [
-        | inl m ↦ absurd (no_pause lines L.Memory Told refl refl m.1.0 there)
-        | inr c ↦
-            let started : IsSound setup c.started =
-            start_sound setup c.swept c.started c.first (ended_sound setup old c.swept c.numbers g c.ended)
-            (ended_phase setup.shape old c.swept old.phase c.numbers refl off c.ended) c.start in
-            let nodes : c.started.nodes ≡ c.swept.nodes = ap (λ (s : State). s.nodes) c.start.after ∙ took_nodes c.swept c.first in
-            judged_same old c.started c.paused new kept dead
-            (ap live_count nodes ∙ live_in old.phase setup.shape old c.swept setup.shape.pages c.numbers c.ended) (ap (λ (s : State). s.nodes) c.after)
-            (judges setup 0 want c.started c.paused c.second c.numbers c.pause_lines lines kept dead crew traced walked started
-            (ap (λ (s : State). s.phase) c.start.after) c.pause c.lines_are there)
-      ]) rest) h
-
 pub pauses_count_nodes : PausesCountNodes
-pauses_count_nodes setup old new want piece lines kept dead crew traced walked valid step there = elim step [
-  | inl h ↦ finish_judges setup old new want piece lines kept dead crew traced walked (sound_from setup old valid) there h
-  | inr h ↦ now_judges setup old new want piece lines kept dead crew traced walked (sound_from setup old valid) there h
-]
+pauses_count_nodes setup old new want piece lines kept dead crew traced walked valid step there =
+    let told : Line = L.Pause kept dead crew traced walked in
+    let g : IsSound setup old = sound_from setup old valid in
+    elim step [
+      | inl h ↦
+          finish_told setup want old new piece lines told (AreJudged old kept dead new) refl there
+          (λ on f. judged_same old old f.0 new kept dead refl (ap (λ (s : State). s.nodes) f.2)
+          (judges setup setup.markers want old f.0 piece [] lines lines kept dead crew traced walked g (on_mark old.phase on) f.1 refl there)) h
+      | inr h ↦
+          now_told setup want old new piece lines told (AreJudged old kept dead new) refl there
+          (λ off c. (let nodes : c.started.nodes ≡ c.swept.nodes = ap (λ (s : State). s.nodes) c.start.after ∙ took_nodes c.swept c.first in
+          judged_same old c.started c.paused new kept dead
+          (ap live_count nodes ∙ live_in old.phase setup.shape old c.swept setup.shape.pages c.numbers c.ended) (ap (λ (s : State). s.nodes) c.after)
+          (judges setup 0 want c.started c.paused c.second c.numbers c.pause_lines lines kept dead crew traced walked
+          (collection_begins setup want old new piece lines off g c) (ap (λ (s : State). s.phase) c.start.after) c.pause c.lines_are there))) h
+    ]

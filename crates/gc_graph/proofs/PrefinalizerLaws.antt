@@ -4,24 +4,21 @@ use Rattle.std.proofs.lemmas.List.Elements.{filter-append}
 use Rattle.gc_graph.specs.declared.command.Want.{Want}
 use Rattle.gc_graph.specs.declared.line.Line.{Line}
 use Rattle.gc_graph.specs.declared.line.Line.TheVariants as L
-use Rattle.gc_graph.specs.declared.line.Refusal.TheVariants as R
 use Rattle.gc_graph.specs.declared.region.Entry.{Entry}
 use Rattle.gc_graph.specs.State.{Setup, State, Node, Registration, node_at, type_at, is_dead}
 use Rattle.gc_graph.specs.Outcomes.{finalise_lines, took}
 use Rattle.gc_graph.specs.Actions.{shown_words, action_of, acted}
 use Rattle.gc_graph.specs.Pause.{condemn, clear_fields, dies, kind_of_callback, prefinalised, prefinalise_lines}
-use Rattle.gc_graph.specs.CycleSteps.{is_marking, is_stack_refused, IsPause, StepGcFinish, StepGcNow}
+use Rattle.gc_graph.specs.CycleSteps.{IsPause}
 use Rattle.gc_graph.specs.PrefinalizerLaw.{NewObjectsAreRegistered, tells_prefinalizer, is_of_the_dead, last_first, RunsThoseOfTheDead, PausesRunThoseOfTheDead, CallbacksMeetWhatIsLeft}
 use Rattle.gc_graph.proofs.StepCases.{match_option}
-use Rattle.gc_graph.proofs.ValidCases.{bool_is}
 use Rattle.gc_graph.proofs.Sound.{IsSound, sound_from}
 use Rattle.gc_graph.proofs.NodeWrites.{LookSame}
 use Rattle.gc_graph.proofs.ValidRegion.{took_nodes}
-use Rattle.gc_graph.proofs.ValidSweeps.{ended_phase}
-use Rattle.gc_graph.proofs.ValidCycles.{start_sound, ended_sound}
+use Rattle.gc_graph.proofs.ValidCycles.{collection_begins}
 use Rattle.gc_graph.proofs.Condemned.{condemned_at}
 use Rattle.gc_graph.proofs.Collections.{paused_look}
-use Rattle.gc_graph.proofs.CycleLaws.{no_pause}
+use Rattle.gc_graph.proofs.CycleLaws.{finish_told, now_told}
 use Rattle.gc_graph.proofs.StepFrames.{Keeps, keeps_more, keeps_same, keeps_took, keeps_start, keeps_sweep}
 use Rattle.gc_graph.proofs.NewLaws.{no_place, told_last}
 
@@ -97,44 +94,24 @@ runs_after setup old after new lines same also h = record {
 
 -- ---- the commands
 
-module _ (setup : Setup) (old new : State) (want : Want) (piece : List Entry) (lines : List Line) (kept dead crew traced : ℕ) (walked : Bool)
-    (g : IsSound setup old) (there : Contains lines (L.Pause kept dead crew traced walked)) where
-  abbrev Told : Line
-  Told = L.Pause kept dead crew traced walked
-
-  finish_runs : StepGcFinish setup want old piece lines new → RunsThoseOfTheDead setup old lines new
-  finish_runs h =
-      bool_is (is_marking old.phase) _ _ (RunsThoseOfTheDead setup old lines new)
-      (λ on rest. bool_is (is_stack_refused want old.stack) _ _ (RunsThoseOfTheDead setup old lines new)
-      (λ e r. absurd (no_pause lines (L.Refused R.Stack) Told refl refl r.1.0 there))
-      (λ e f. runs_after setup old f.0 new lines (ap (λ (s : State). s.nodes) f.2) (ap (λ (s : State). s.registrations) f.2)
-      (runs setup setup.markers want old old f.0 piece [] lines lines g (keeps_same old) f.1 refl)) rest)
-      (λ e r. absurd (no_pause lines (L.Refused R.Phase) Told refl refl r.1.0 there)) h
-
-  now_runs : StepGcNow setup want old piece lines new → RunsThoseOfTheDead setup old lines new
-  now_runs h =
-      bool_is (is_marking old.phase) _ _ (RunsThoseOfTheDead setup old lines new)
-      (λ e r. absurd (no_pause lines (L.Refused R.Phase) Told refl refl r.1.0 there))
-      (λ off rest. bool_is (is_stack_refused want old.stack) _ _ (RunsThoseOfTheDead setup old lines new)
-      (λ e r. absurd (no_pause lines (L.Refused R.Stack) Told refl refl r.1.0 there))
-      (λ e more. elim more [
-        | inl m ↦ absurd (no_pause lines L.Memory Told refl refl m.1.0 there)
-        | inr c ↦
-            let started : IsSound setup c.started =
-            start_sound setup c.swept c.started c.first (ended_sound setup old c.swept c.numbers g c.ended)
-            (ended_phase setup.shape old c.swept old.phase c.numbers refl off c.ended) c.start in
-            let k : Keeps old c.started =
-            keeps_more old c.swept c.started (keeps_sweep setup.shape old c.swept setup.shape.pages c.numbers c.ended)
-            (keeps_start setup c.swept c.started c.first c.start) in
-            runs_after setup old c.paused new lines (ap (λ (s : State). s.nodes) c.after) (ap (λ (s : State). s.registrations) c.after)
-            (runs setup 0 want old c.started c.paused c.second c.numbers c.pause_lines lines started k c.pause c.lines_are)
-      ]) rest) h
-
 pub pauses_run_those_of_the_dead : PausesRunThoseOfTheDead
-pauses_run_those_of_the_dead setup old new want piece lines kept dead crew traced walked valid step there = elim step [
-  | inl h ↦ finish_runs setup old new want piece lines kept dead crew traced walked (sound_from setup old valid) there h
-  | inr h ↦ now_runs setup old new want piece lines kept dead crew traced walked (sound_from setup old valid) there h
-]
+pauses_run_those_of_the_dead setup old new want piece lines kept dead crew traced walked valid step there =
+    let told : Line = L.Pause kept dead crew traced walked in
+    let g : IsSound setup old = sound_from setup old valid in
+    elim step [
+      | inl h ↦
+          finish_told setup want old new piece lines told (RunsThoseOfTheDead setup old lines new) refl there
+          (λ on f. runs_after setup old f.0 new lines (ap (λ (s : State). s.nodes) f.2) (ap (λ (s : State). s.registrations) f.2)
+          (runs setup setup.markers want old old f.0 piece [] lines lines g (keeps_same old) f.1 refl)) h
+      | inr h ↦
+          now_told setup want old new piece lines told (RunsThoseOfTheDead setup old lines new) refl there
+          (λ off c. (let k : Keeps old c.started =
+          keeps_more old c.swept c.started (keeps_sweep setup.shape old c.swept setup.shape.pages c.numbers c.ended)
+          (keeps_start setup c.swept c.started c.first c.start) in
+          runs_after setup old c.paused new lines (ap (λ (s : State). s.nodes) c.after) (ap (λ (s : State). s.registrations) c.after)
+          (runs setup 0 want old c.started c.paused c.second c.numbers c.pause_lines lines (collection_begins setup want old new piece lines off g c) k c.pause
+          c.lines_are))) h
+    ]
 
 -- ---- what a callback meets
 

@@ -137,13 +137,18 @@ gc_finish_keeps setup want old new piece lines pages g h =
     (λ e f. landed setup new (answered f.0) f.2 (pause_keeps setup setup.markers want old f.0 piece lines pages g f.1)) d)
     (λ e r. refused_sound setup old new lines R.Phase g r.1) h
 
+-- what a collection starts with is sound
+pub collection_begins : (setup : Setup) (want : Want) (old new : State) (piece : List Entry) (lines : List Line) → is_marking old.phase ≡ false → IsSound setup old
+    → (h : IsCollection setup want old piece lines new) → IsSound setup h.started
+collection_begins setup want old new piece lines e g h =
+    start_sound setup h.swept h.started h.first (ended_sound setup old h.swept h.numbers g h.ended)
+    (ended_phase setup.shape old h.swept old.phase h.numbers refl e h.ended) h.start
+
 collected_sound : (setup : Setup) (want : Want) (old new : State) (piece : List Entry) (lines : List Line) → 0 < setup.shape.pages → is_marking old.phase ≡ false
     → IsSound setup old → IsCollection setup want old piece lines new → IsSound setup new
 collected_sound setup want old new piece lines pages e g h =
-    let started : IsSound setup h.started =
-    start_sound setup h.swept h.started h.first (ended_sound setup old h.swept h.numbers g h.ended)
-    (ended_phase setup.shape old h.swept old.phase h.numbers refl e h.ended) h.start in
-    landed setup new (answered h.paused) h.after (pause_keeps setup 0 want h.started h.paused h.second h.pause_lines pages started h.pause)
+    landed setup new (answered h.paused) h.after
+    (pause_keeps setup 0 want h.started h.paused h.second h.pause_lines pages (collection_begins setup want old new piece lines e g h) h.pause)
 
 pub gc_now_keeps : (setup : Setup) (want : Want) (old new : State) (piece : List Entry) (lines : List Line) → 0 < setup.shape.pages → IsSound setup old
     → StepGcNow setup want old piece lines new → IsSound setup new
