@@ -24,6 +24,8 @@ mod ValidWrites
 mod ValidReads
 mod Effects
 mod PlainSteps
+mod PlainFrames
+mod FamilyFrames
 mod Condemned
 mod Prefinalising
 mod AccessLaws

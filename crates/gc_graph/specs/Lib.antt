@@ -29,6 +29,7 @@ pub mod Valid
 pub mod ReadBack
 pub mod ValidLaw
 pub mod AccessLaw
+pub mod Families
 pub mod FrameLaw
 pub mod ActionLaw
 pub mod MayLaw
@@ -64,6 +65,7 @@ pub mod Checking
 pub mod Members
 pub mod AnyBelow
 pub mod ReachLength
+pub mod FamilyLines
 pub mod Replays
 pub mod Leading
 pub mod NodeNumbers

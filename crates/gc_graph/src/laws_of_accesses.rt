@@ -2,6 +2,7 @@
 
 ghost use Rattle.gc_graph.specs.AccessLaw.{NewObjectsAreEmpty, SlotsAreCopied, WrittenIsReadBack};
 ghost use Rattle.gc_graph.specs.AnswersLaw.{CommandsAreAnsweredInKind};
+ghost use Rattle.gc_graph.specs.Families.{StepsStayInTheirFamily};
 ghost use Rattle.gc_graph.specs.FrameLaw.{FieldsTakeTurns, StepsLeaveRest};
 
 /// A command is answered by lines of its own kind, and by one at least.
@@ -31,4 +32,11 @@ pub fn new_objects_are_empty()
 pub fn steps_leave_the_rest()
     ensures rest { StepsLeaveRest }
     ensures fields { FieldsTakeTurns }
+{}
+
+/// A command is of one of nine families. It changes no part of the state but those of its family, takes
+/// what its family takes of the region's history, and has one line that answers it, with those that its
+/// family tells before and after.
+pub fn steps_stay_in_their_family()
+    ensures { StepsStayInTheirFamily }
 {}

@@ -56,7 +56,7 @@ pub use laws::{
 };
 pub use laws_of_accesses::{
     commands_are_answered_in_kind, new_objects_are_empty, slots_are_copied, steps_leave_the_rest,
-    written_is_read_back,
+    steps_stay_in_their_family, written_is_read_back,
 };
 pub use laws_of_cycles::{
     cycles_go_in_order, hits_are_kept, last_registered_runs_first, live_holders_are_cleared,
