@@ -33,12 +33,12 @@ use Rattle.gc_graph.proofs.PlainSteps.{plain_step}
 abbrev pub IsUncounted : Line → Type 0
 IsUncounted told = (tells_pause told ≡ false) × (tells_finalisation told ≡ false) × (tells_full told ≡ false)
 
-one_more : (test : Line → Bool) (told : Line) (lines : List Line) (b : Bool) → test told ≡ b
+pub one_more : (test : Line → Bool) (told : Line) (lines : List Line) (b : Bool) → test told ≡ b
     → count_by test (told ∷ lines) ≡ (if b then 1 else 0) + count_by test lines
 one_more test told lines b e =
     sum_by-cons (λ x. if test x then 1 else 0) told lines ∙ ap (λ flag. (if flag then 1 else 0) + count_by test lines) e
 
-none_counted : (test : Line → Bool) (lines : List Line) → All (λ told. test told ≡ false) lines → count_by test lines ≡ 0
+pub none_counted : (test : Line → Bool) (lines : List Line) → All (λ told. test told ≡ false) lines → count_by test lines ≡ 0
 none_counted test [] h = refl
 none_counted test (told ∷ lines) h =
     let first = one_more test told lines false (All-head (λ x. test x ≡ false) told lines h) in

@@ -16,7 +16,7 @@ use Rattle.gc_graph.specs.Step.{Step}
 use Rattle.gc_graph.specs.JoinLaw.{AreThreads}
 use Rattle.gc_graph.specs.OrderLaw.{Does, IsOfItsThread, EntriesAreOfTheirThreads}
 use Rattle.gc_graph.proofs.StepCases.{match_option, match_bool}
-use Rattle.gc_graph.proofs.CycleMoves.{sweep_moves, start_moves}
+use Rattle.gc_graph.proofs.FamilyFrames.{swept_runs, start_runs}
 
 -- ---- one entry
 
@@ -71,7 +71,7 @@ module _ (running : List ℕ) (threads : AreThreads running) where
       (λ rest. elim rest [
         | inl memory ↦ none_taken piece memory.0
         | inr b ↦
-            with_own b.swept O.Start b.start.before piece ((sweep_moves setup.shape old b.swept setup.shape.pages b.numbers b.ended).running ∙ same)
+            with_own b.swept O.Start b.start.before piece (swept_runs setup.shape old b.swept setup.shape.pages b.numbers b.ended ∙ same)
             (λ t. t) b.start.others b.start.piece_is
       ]) h
   of_step setup old new (C.GcFinish want) piece lines same h =
@@ -85,8 +85,8 @@ module _ (running : List ℕ) (threads : AreThreads running) where
       (λ more. elim more [
         | inl memory ↦ none_taken piece memory.0
         | inr c ↦
-            (let swept : c.swept.running ≡ running = (sweep_moves setup.shape old c.swept setup.shape.pages c.numbers c.ended).running ∙ same in
-            let started : c.started.running ≡ running = (start_moves setup c.swept c.started c.first c.start).running ∙ swept in
+            (let swept : c.swept.running ≡ running = swept_runs setup.shape old c.swept setup.shape.pages c.numbers c.ended ∙ same in
+            let started : c.started.running ≡ running = start_runs setup c.swept c.started c.first c.start ∙ swept in
             subst (All (IsOfItsThread running)) (sym c.piece_is)
             (All-append (IsOfItsThread running) c.first c.second (with_own c.swept O.Start c.start.before c.first swept (λ t. t) c.start.others c.start.piece_is)
             (with_own c.started _ c.pause.before c.second started (λ t. t) c.pause.others c.pause.piece_is)))

@@ -1,6 +1,6 @@
 -- Orders wait in order, the threads that have some are started, a join tells all answers, and each entry is told once.
-use Rattle.std.proofs.Common.{◌≡◌, ◌≢◌, ℕ, ◌+◌, ◌-◌, ◌<◌, ◌≤◌, ◌==◌, nat_lt, Bool, true, false, List, [], ◌∷◌, ◌++◌, length, map, filter, get_or, set, refl, sym, ap, ◌∙◌, subst, inl, inr, arith, Contains, All, cond}
-use Rattle.std.specs.List.{filter_map, flat_map, list_any, range_with_len}
+use Rattle.std.proofs.Common.{◌≡◌, ◌≢◌, ℕ, ◌+◌, ◌-◌, ◌<◌, ◌≤◌, nat_lt, Bool, true, false, List, [], ◌∷◌, ◌++◌, length, map, filter, get_or, set, refl, sym, ap, ◌∙◌, subst, inl, inr, arith, Contains, All, cond}
+use Rattle.std.specs.List.{filter_map, flat_map, range_with_len}
 use Rattle.std.specs.List.Sorted.{IsNonDecreasingBy}
 use Rattle.std.proofs.lemmas.Bool.{lt-ltb, ltb-true}
 use Rattle.std.proofs.lemmas.List.{append_assoc, append-nil, get_or-set_same, get_or-set_other, get_or_default}
@@ -21,8 +21,10 @@ use Rattle.gc_graph.specs.Lawful.{Outcome, Run, last_state, history_of}
 use Rattle.gc_graph.specs.Members.{was_in, has_passed, stays_in, in_range, to_range, holds_from, in_from_holds}
 use Rattle.gc_graph.specs.JoinLaw.{IsThread, OrdersWaitInOrder, AreThreads, AreStarted, ThreadsWithOrdersGo, is_answer_of, tells_totals, reply_told, stand_of, TellsAnswers, LeavesNone, JoinsTellAll, entries_in, EntriesAreToldOnce}
 use Rattle.gc_graph.specs.ThreadLaw.{is_of_threads}
-use Rattle.gc_graph.proofs.StepMoves.{Moves, took_moves}
-use Rattle.gc_graph.proofs.ThreadLaws.{step_way}
+use Rattle.gc_graph.proofs.FamilyFrames.{took_else}
+use Rattle.gc_graph.proofs.FamilyRests.{nothing_more}
+use Rattle.gc_graph.proofs.ThreadLaws.{owners_leave}
+use Rattle.std.proofs.lemmas.Bool.{cases_Bool}
 use Rattle.gc_graph.proofs.JoinLines.{kinds_of_answers, replies_of_answers, none_of_entries, up_from, told, none_told, all_told, join_rises, entries_in-append, entries_told, all_tell_none}
 
 -- ---- orders
@@ -151,14 +153,14 @@ is_false false out = refl
 join_leaves : (old new : State) (piece : List Entry) (lines : List Line) → StepThreadsJoin old piece lines new → LeavesNone old new
 join_leaves old new piece lines h =
     let mid : State = took old piece in
-    let taken : Moves 0 old piece mid = took_moves old piece in
-    let running : (j : ℕ) → is_running mid j ≡ is_running old j = (λ j. ap (λ js. list_any (λ k. k == j) js) taken.running) in
+    let taken = took_else old piece in
+    let running : (j : ℕ) → is_running mid j ≡ is_running old j = (λ j. ap (λ (s : State). is_running s j) taken) in
     let at : (j : ℕ) → IsThread j → queue_of new j ≡ cond (is_running old j) [] (queue_of old j) =
     (λ j thread.
     ap (λ (s : State). queue_of s j) h.after
     ∙ get_or-map-range_with_len (λ k. cond (is_running mid k) [] (queue_of mid k)) 1 8 (j - 1) j [] (let l = thread.0 in let m = thread.1 in omega arith)
     (let l = thread.0 in omega arith)
-    ∙ ap (λ b. cond b [] (queue_of mid j)) (running j) ∙ ap (λ qs. cond (is_running old j) [] (get_or qs (j - 1) [])) taken.queues) in
+    ∙ ap (λ b. cond b [] (queue_of mid j)) (running j) ∙ ap (λ (s : State). cond (is_running old j) [] (queue_of s j)) taken) in
     record {
       emptied = λ j thread c. at j thread ∙ ap (λ b. cond b [] (queue_of old j)) (holds_from old.running j c);
       kept = λ j thread out.
@@ -182,33 +184,30 @@ quietly : (old new : State) (piece : List Entry) (lines : List Line) → entries
     → Accounts old piece lines new
 quietly old new piece lines quiet e = sym e ∙ ap (λ es. es ++ new.unprinted) (sym quiet)
 
-nothing_taken : (old new : State) (piece : List Entry) → piece ≡ [] → new.unprinted ≡ old.unprinted → new.unprinted ≡ old.unprinted ++ piece
-nothing_taken old new piece none e = e ∙ sym (append-nil old.unprinted) ∙ ap (λ es. old.unprinted ++ es) (sym none)
-
 thread_accounts : (setup : Setup) (old new : State) (command : Command) (piece : List Entry) (lines : List Line) → is_of_threads command ≡ true
     → Step setup old command piece lines new → Accounts old piece lines new
 thread_accounts setup old new (C.At j order) piece lines its h = elim h.1 [
-  | inl memory ↦ quietly old new piece lines (ap entries_in memory.0) (nothing_taken old new piece h.0 (ap (λ (s : State). s.unprinted) memory.1))
-  | inr done ↦ quietly old new piece lines (ap entries_in done.0) (nothing_taken old new piece h.0 (ap (λ (s : State). s.unprinted) done.1))
+  | inl memory ↦ quietly old new piece lines (ap entries_in memory.0) (nothing_more old new piece h.0 (ap (λ (s : State). s.unprinted) memory.1))
+  | inr done ↦ quietly old new piece lines (ap entries_in done.0) (nothing_more old new piece h.0 (ap (λ (s : State). s.unprinted) done.1))
 ]
 thread_accounts setup old new C.ThreadsGo piece lines its h = elim h.1 [
-  | inl memory ↦ quietly old new piece lines (ap entries_in memory.0) (nothing_taken old new piece h.0 (ap (λ (s : State). s.unprinted) memory.1))
-  | inr done ↦ quietly old new piece lines (ap entries_in done.0) (nothing_taken old new piece h.0 (ap (λ (s : State). s.unprinted) done.1))
+  | inl memory ↦ quietly old new piece lines (ap entries_in memory.0) (nothing_more old new piece h.0 (ap (λ (s : State). s.unprinted) memory.1))
+  | inr done ↦ quietly old new piece lines (ap entries_in done.0) (nothing_more old new piece h.0 (ap (λ (s : State). s.unprinted) done.1))
 ]
 thread_accounts setup old new C.ThreadsJoin piece lines its h =
     let mid : State = took old piece in
-    let taken : Moves 0 old piece mid = took_moves old piece in
     let all : entries_in lines ≡ mid.unprinted = join_entries old new piece lines h in
-    sym taken.unprinted ∙ sym all ∙ sym (append-nil (entries_in lines))
+    sym (ap (λ (s : State). s.unprinted) (took_else old piece)) ∙ sym all ∙ sym (append-nil (entries_in lines))
     ∙ ap (λ es. entries_in lines ++ es) (sym (ap (λ (s : State). s.unprinted) h.after))
 thread_accounts setup old new command piece lines its h = cc
 
 step_accounts : (setup : Setup) (old new : State) (command : Command) (piece : List Entry) (lines : List Line) → Step setup old command piece lines new
     → Accounts old piece lines new
 step_accounts setup old new command piece lines h =
-    elim (step_way setup old new command piece lines h) [
-      | inl own ↦ quietly old new piece lines own.1.quiet (ap (λ (s : State). s.unprinted) own.1.after ∙ own.1.moves.unprinted)
-      | inr its ↦ thread_accounts setup old new command piece lines its h
+    elim (cases_Bool (is_of_threads command)) [
+      | inl its ↦ thread_accounts setup old new command piece lines its h
+      | inr none ↦
+          (let own = owners_leave setup old new command piece lines none h in quietly old new piece lines own.1 own.0.unprinted)
     ]
 
 abbrev all_entries : List Outcome → List Entry

@@ -26,6 +26,7 @@ mod Effects
 mod PlainSteps
 mod PlainFrames
 mod FamilyFrames
+mod FamilyRests
 mod Condemned
 mod Prefinalising
 mod AccessLaws
@@ -59,8 +60,7 @@ mod SweepLaws
 mod Lives
 mod StepLives
 mod NodeCounts
-mod StepMoves
-mod CycleMoves
+mod Balances
 mod ThreadLaws
 mod JoinLines
 mod JoinLaws

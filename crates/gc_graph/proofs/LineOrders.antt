@@ -1,6 +1,6 @@
 -- The lines of each command, in order: nodes that were finalised, and then the answer.
-use Rattle.std.proofs.Common.{◌≡◌, ℕ, nat_lt, true, false, true≢false, List, [], ◌∷◌, ◌++◌, length, map, Option, None, Some, refl, sym, ◌∙◌, subst, inl, inr, All}
-use Rattle.std.proofs.lemmas.List.Elements.{All-nil, All-cons, All-append, All-map}
+use Rattle.std.proofs.Common.{◌≡◌, ℕ, true, false, true≢false, List, [], ◌∷◌, ◌++◌, length, refl, sym, ap, ◌∙◌, ◌||◌, subst, inl, inr, All}
+use Rattle.std.proofs.lemmas.List.Elements.{All-nil, All-cons, All-append}
 use Rattle.gc_graph.specs.declared.command.Command.{Command}
 use Rattle.gc_graph.specs.declared.command.Command.TheVariants as C
 use Rattle.gc_graph.specs.declared.command.Want.{Want}
@@ -8,187 +8,141 @@ use Rattle.gc_graph.specs.declared.line.Line.{Line}
 use Rattle.gc_graph.specs.declared.line.Line.TheVariants as L
 use Rattle.gc_graph.specs.declared.line.Refusal.{Refusal}
 use Rattle.gc_graph.specs.declared.region.Entry.{Entry}
-use Rattle.gc_graph.specs.State.{Setup, State, Registration}
-use Rattle.gc_graph.specs.Outcomes.{IsRefused, finalise_lines, slot_at, took}
+use Rattle.gc_graph.specs.State.{Setup, State}
+use Rattle.gc_graph.specs.Outcomes.{IsRefused, finalise_lines}
 use Rattle.gc_graph.specs.Pause.{prefinalise_lines}
-use Rattle.gc_graph.specs.ObjectSteps.{StepNew}
-use Rattle.gc_graph.specs.CycleSteps.{IsPause, is_marking, is_sweeping, is_stack_refused, StepGcStart, StepGcFinish, StepGcNow, StepSweepTo}
-use Rattle.gc_graph.specs.RegionSteps.{Answer, reply_line, line_of_content, StepExport, StepImport, StepThreadsJoin}
-use Rattle.gc_graph.specs.RegionSteps.Answer.{Replied, Told}
+use Rattle.gc_graph.specs.CycleSteps.{is_marking, is_stack_refused, StepGcStart, StepGcFinish}
 use Rattle.gc_graph.specs.Step.{Step}
 use Rattle.gc_graph.specs.LineOrderLaw.{tells_finalised, may_sweep, may_tell_more, AreFinalisedFirst, FinalisedAreToldFirst}
-use Rattle.gc_graph.proofs.StepCases.{match_option, match_bool}
-use Rattle.gc_graph.proofs.Effects.{line_of_effect, told_by, ComesOut}
-use Rattle.gc_graph.proofs.PlainSteps.{plain_step}
-use Rattle.gc_graph.proofs.ThreadNumbers.{all_flat}
+use Rattle.gc_graph.proofs.StepCases.{match_bool}
+use Rattle.gc_graph.specs.declared.line.Refusal.TheVariants as R
+use Rattle.gc_graph.specs.AnswersLaw.{tells_that_nothing_was_done}
+use Rattle.gc_graph.specs.Families.{Family, family_of, tells_of_orders, answers, AreFinalised, TellsAfter, IsAnsweredOnce}
+use Rattle.gc_graph.specs.Families.Family.{Objects, Cycle, Sweeps, Threads}
+use Rattle.gc_graph.specs.FamilyLines.{tells_one, all_told}
+use Rattle.gc_graph.proofs.FamilyFrames.{steps_stay_in_their_family}
+use Rattle.gc_graph.proofs.FamilyRests.{none_after}
 
 abbrev IsOther : Line → Type 0
 IsOther line = tells_finalised line ≡ false
 
 -- ---- forms of lines
 
--- one line, of no finalised node
-abbrev Says : List Line → Type 0
-Says lines = (answer : Line) × IsOther answer × (lines ≡ answer ∷ [])
-
 one : (answer : Line) → IsOther answer → All IsOther (answer ∷ [])
 one answer other = All-cons IsOther answer [] other (All-nil IsOther)
 
-said : (command : Command) (lines : List Line) → Says lines → AreFinalisedFirst command lines
-said command lines says = record {
+-- one line, of no finalised node
+said : (command : Command) (lines : List Line) (answer : Line) → IsOther answer → lines ≡ answer ∷ [] → AreFinalisedFirst command lines
+said command lines answer other is = record {
   numbers = [];
-  answer = says.0 ∷ [];
-  lines_are = says.2;
-  none_later = one says.0 says.1;
+  answer = answer ∷ [];
+  lines_are = is;
+  none_later = one answer other;
   none_without_sweep = λ none. refl;
   one_answer = λ few. refl;
 }
 
--- nodes that were finalised, and one line
-said_after : (command : Command) (lines : List Line) (numbers : List ℕ) (answer : Line) → may_sweep command ≡ true → IsOther answer
-    → lines ≡ finalise_lines numbers ++ answer ∷ [] → AreFinalisedFirst command lines
-said_after command lines numbers answer sweeps other is = record {
-  numbers = numbers;
-  answer = answer ∷ [];
-  lines_are = is;
-  none_later = one answer other;
+refused : (command : Command) (old new : State) (lines : List Line) (why : Refusal) → IsRefused why old lines new → AreFinalisedFirst command lines
+refused command old new lines why r = said command lines (L.Refused why) refl r.0
+
+-- nodes that were finalised, and then other lines: one, where the command tells no more
+swept : (command : Command) (lines before after : List Line) (answer : Line) → may_sweep command ≡ true → AreFinalised before → IsOther answer
+    → All IsOther after → (may_tell_more command ≡ false → after ≡ []) → lines ≡ before ++ answer ∷ after → AreFinalisedFirst command lines
+swept command lines before after answer sweeps first other then few is = record {
+  numbers = first.0;
+  answer = answer ∷ after;
+  lines_are = is ∙ ap (λ told. told ++ answer ∷ after) first.1;
+  none_later = All-cons IsOther answer after other then;
   none_without_sweep = λ none. absurd (true≢false (sym sweeps ∙ none));
-  one_answer = λ few. refl;
+  one_answer = λ alone. ap (λ told. length (answer ∷ told)) (few alone);
 }
 
--- ---- commands that answer with one line
+-- lines of no finalised node, of a command that may tell more
+others : (command : Command) (lines : List Line) → may_tell_more command ≡ true → All IsOther lines → AreFinalisedFirst command lines
+others command lines more all = record {
+  numbers = [];
+  answer = lines;
+  lines_are = refl;
+  none_later = all;
+  none_without_sweep = λ none. refl;
+  one_answer = λ few. absurd (true≢false (sym more ∙ few));
+}
 
-refused : (old new : State) (lines : List Line) (why : Refusal) → IsRefused why old lines new → Says lines
-refused old new lines why r = (L.Refused why, refl, r.0)
+-- ---- by families
 
-plain : (old new : State) (command : Command) (piece : List Entry) (lines : List Line) → ComesOut old command piece lines new → Says lines
-plain old new command piece lines c =
-    (line_of_effect c.effect, told_by IsOther (λ why. refl) refl refl (λ n. refl) (λ w. refl) c.effect, c.lines_are)
+answers_other : (family : Family) (n : ℕ) → answers family (L.Finalise n) ≡ false
+answers_other Objects n = refl
+answers_other family n = refl
 
-content_other : (content : Option ℕ) → IsOther (line_of_content content)
-content_other None = refl
-content_other (Some n) = refl
+-- no answer tells a finalised node
+answer_other : (family : Family) (answer : Line) → (tells_that_nothing_was_done answer || answers family answer) ≡ true → IsOther answer
+answer_other family (L.Finalise n) fits = absurd (true≢false (sym fits ∙ answers_other family n))
+answer_other family answer fits = refl
 
-exported : (old new : State) (p x : ℕ) (piece : List Entry) (lines : List Line) → StepExport old p x piece lines new → Says lines
-exported old new p x piece lines h =
-    match_option (slot_at old p) _ _ (Says lines) (λ r. refused old new lines _ r.1)
-    (λ n done. elim done [ inl memory ↦ (L.Memory, refl, memory.1.0) | inr e ↦ (L.Fine, refl, e.lines_are) ]) h
+order_other : (line : Line) → tells_of_orders line ≡ true → IsOther line
+order_other (L.Finalise n) is = absurd (true≢false (sym is))
+order_other other is = refl
 
-imported : (old new : State) (x p : ℕ) (piece : List Entry) (lines : List Line) → StepImport old x p piece lines new → Says lines
-imported old new x p piece lines h = elim h [ inl memory ↦ (L.Memory, refl, memory.1.0) | inr i ↦ (_, content_other _, i.lines_are) ]
+after_other : (family : Family) (told : List Line) → TellsAfter family told → All IsOther told
+after_other family told h = none_after tells_finalised (λ n c. refl) family told h
 
--- ---- commands that sweep
+-- a command whose family tells one line
+tells_alone : (command : Command) (lines : List Line) → tells_one (family_of command) ≡ true → IsAnsweredOnce (family_of command) lines → AreFinalisedFirst command lines
+tells_alone command lines its h = said command lines h.answer (answer_other (family_of command) h.answer h.fits) (all_told (family_of command) lines its h)
 
-new_lines : (setup : Setup) (old new : State) (p t e : ℕ) (lines : List Line) → StepNew setup old p t e lines new → AreFinalisedFirst (C.New p t e) lines
-new_lines setup old new p t e lines h = elim h [
-  | inl memory ↦ said (C.New p t e) lines (L.Memory, refl, memory.1.0)
-  | inr made ↦
-      match_option made.place _ _ (AreFinalisedFirst (C.New p t e) lines) (λ full. said_after (C.New p t e) lines made.numbers L.Full refl refl full.lines_are)
-      (λ a done. said_after (C.New p t e) lines made.numbers (L.Placed (length made.mid.nodes) a) refl refl done.lines_are) made.done
-]
-
-sweep_lines : (setup : Setup) (old new : State) (command : Command) (pages : ℕ) (lines : List Line) → may_sweep command ≡ true
-    → StepSweepTo setup old pages lines new → AreFinalisedFirst command lines
-sweep_lines setup old new command pages lines sweeps h =
-    match_bool (is_sweeping old.phase) _ _ _ (λ s. said_after command lines s.numbers (L.Swept pages) sweeps refl s.lines_are)
-    (λ r. said command lines (refused old new lines _ r)) h
+-- ---- commands of the cycle, and a join
 
 start_lines : (setup : Setup) (old new : State) (piece : List Entry) (lines : List Line) → StepGcStart setup old piece lines new → AreFinalisedFirst C.GcStart lines
 start_lines setup old new piece lines h =
-    match_bool (is_marking old.phase) _ _ _ (λ r. said C.GcStart lines (refused old new lines _ r.1))
+    match_bool (is_marking old.phase) _ _ _ (λ r. refused C.GcStart old new lines R.Phase r.1)
     (λ rest. elim rest [
-      | inl memory ↦ said C.GcStart lines (L.Memory, refl, memory.1.0)
-      | inr b ↦ said_after C.GcStart lines b.numbers L.Started refl refl b.lines_are
+      | inl memory ↦ said C.GcStart lines L.Memory refl memory.1.0
+      | inr b ↦ swept C.GcStart lines (finalise_lines b.numbers) [] L.Started refl (b.numbers, refl) refl (All-nil IsOther) (λ few. refl) b.lines_are
     ]) h
-
--- ---- pauses and joins
-
-pause_others : (setup : Setup) (markers : ℕ) (want : Want) (old new : State) (piece : List Entry) (lines : List Line)
-    → IsPause setup markers want old piece lines new → All IsOther lines
-pause_others setup markers want old new piece lines pause =
-    subst (All IsOther) (sym pause.done.lines_are)
-    (All-cons IsOther _ (prefinalise_lines _) refl (All-map IsOther (λ (r : Registration). L.Prefinalise r.node r.callback) _ (λ i d low. refl)))
 
 finish_lines : (setup : Setup) (want : Want) (old new : State) (piece : List Entry) (lines : List Line) → StepGcFinish setup want old piece lines new
     → AreFinalisedFirst (C.GcFinish want) lines
 finish_lines setup want old new piece lines h =
     match_bool (is_marking old.phase) _ _ _
-    (λ rest. match_bool (is_stack_refused want old.stack) _ _ _ (λ r. said (C.GcFinish want) lines (refused old new lines _ r.1))
-    (λ f. record {
-      numbers = [];
-      answer = lines;
-      lines_are = refl;
-      none_later = pause_others setup setup.markers want old f.0 piece lines f.1;
-      none_without_sweep = λ none. refl;
-      one_answer = λ few. absurd (true≢false few);
-    }) rest)
-    (λ r. said (C.GcFinish want) lines (refused old new lines _ r.1)) h
+    (λ rest. match_bool (is_stack_refused want old.stack) _ _ _ (λ r. refused (C.GcFinish want) old new lines R.Stack r.1)
+    (λ f. others (C.GcFinish want) lines refl (subst (All IsOther) (sym f.1.done.lines_are)
+    (All-cons IsOther _ (prefinalise_lines _) refl (after_other Cycle (prefinalise_lines _) (_, refl))))) rest)
+    (λ r. refused (C.GcFinish want) old new lines R.Phase r.1) h
 
-now_lines : (setup : Setup) (want : Want) (old new : State) (piece : List Entry) (lines : List Line) → StepGcNow setup want old piece lines new
-    → AreFinalisedFirst (C.GcNow want) lines
-now_lines setup want old new piece lines h =
-    match_bool (is_marking old.phase) _ _ _ (λ r. said (C.GcNow want) lines (refused old new lines _ r.1))
-    (λ rest. match_bool (is_stack_refused want old.stack) _ _ _ (λ r. said (C.GcNow want) lines (refused old new lines _ r.1))
-    (λ more. elim more [
-      | inl memory ↦ said (C.GcNow want) lines (L.Memory, refl, memory.1.0)
-      | inr c ↦ record {
-        numbers = c.numbers;
-        answer = c.pause_lines;
-        lines_are = c.lines_are;
-        none_later = pause_others setup 0 want c.started c.paused c.second c.pause_lines c.pause;
-        none_without_sweep = λ none. absurd (true≢false none);
-        one_answer = λ few. absurd (true≢false few);
-      }
-    ]) rest) h
-
-reply_other : (j : ℕ) (answer : Answer) → IsOther (reply_line j answer)
-reply_other j (Replied reply) = refl
-reply_other j (Told o n u f) = refl
-
-join_lines : (old new : State) (piece : List Entry) (lines : List Line) → StepThreadsJoin old piece lines new → AreFinalisedFirst C.ThreadsJoin lines
-join_lines old new piece lines h =
-    let entries : List Line = map (λ entry. L.Entry entry) (took old piece).unprinted in
-    let answers = all_flat IsOther (λ j. map (reply_line j) (h.answers j)) old.running
-    (λ i d low. All-map IsOther (reply_line _) (h.answers _) (λ k e below. reply_other _ _)) in
-    let told : All IsOther entries = All-map IsOther (λ entry. L.Entry entry) (took old piece).unprinted (λ i d low. refl) in
-    record {
-      numbers = [];
-      answer = lines;
-      lines_are = refl;
-      none_later =
-          subst (All IsOther) (sym h.lines_are) (All-append IsOther _ (L.Joined (length old.running) ∷ []) (All-append IsOther _ entries answers told) (one _ refl));
-      none_without_sweep = λ none. refl;
-      one_answer = λ few. absurd (true≢false few);
-    }
+join_lines : (lines : List Line) → IsAnsweredOnce Threads lines → AreFinalisedFirst C.ThreadsJoin lines
+join_lines lines h =
+    others C.ThreadsJoin lines refl (subst (All IsOther) (sym h.lines_are)
+    (All-append IsOther h.before (h.answer ∷ h.after) (λ i d low. order_other _ (h.first i d low))
+    (All-cons IsOther h.answer h.after (answer_other Threads h.answer h.fits) (after_other Threads h.after h.then))))
 
 -- ---- every command
 
-one_line : (setup : Setup) (old new : State) (command : Command) (piece : List Entry) (lines : List Line) → may_sweep command ≡ false
-    → may_tell_more command ≡ false → Step setup old command piece lines new → Says lines
-one_line setup old new (C.GcStep n) piece lines a b h =
-    match_bool (is_marking old.phase) _ _ (Says lines) (λ t. (L.Step t.count (nat_lt t.count n), refl, t.lines_are)) (refused old new lines _) h.1
-one_line setup old new C.Stat piece lines a b h = (_, refl, h.1.2)
-one_line setup old new (C.Export p x) piece lines a b h = exported old new p x piece lines h
-one_line setup old new (C.Import x p) piece lines a b h = imported old new x p piece lines h
-one_line setup old new (C.At j order) piece lines a b h =
-    elim h.1 [ inl memory ↦ (L.Memory, refl, memory.0) | inr d ↦ (L.Queued, refl, d.0) ]
-one_line setup old new C.ThreadsGo piece lines a b h =
-    elim h.1 [ inl memory ↦ (L.Memory, refl, memory.0) | inr d ↦ (_, refl, d.0) ]
-one_line setup old new (C.GcFinish want) piece lines a b h = absurd (true≢false b)
-one_line setup old new C.ThreadsJoin piece lines a b h = absurd (true≢false b)
-one_line setup old new (C.New p t e) piece lines a b h = absurd (true≢false a)
-one_line setup old new C.GcStart piece lines a b h = absurd (true≢false a)
-one_line setup old new (C.GcNow want) piece lines a b h = absurd (true≢false a)
-one_line setup old new (C.Sweep n) piece lines a b h = absurd (true≢false a)
-one_line setup old new C.SweepAll piece lines a b h = absurd (true≢false a)
-one_line setup old new command piece lines a b h = plain old new command piece lines (plain_step setup old new command piece lines refl h)
+first_told : (setup : Setup) (old new : State) (command : Command) (piece : List Entry) (lines : List Line) → Step setup old command piece lines new
+    → IsAnsweredOnce (family_of command) lines → AreFinalisedFirst command lines
+first_told setup old new (C.New p t e) piece lines h told =
+    swept (C.New p t e) lines told.before told.after told.answer refl told.first (answer_other Objects told.answer told.fits) (after_other Objects told.after told.then)
+    (λ few. told.then) told.lines_are
+first_told setup old new (C.Sweep n) piece lines h told =
+    swept (C.Sweep n) lines told.before told.after told.answer refl told.first (answer_other Sweeps told.answer told.fits) (after_other Sweeps told.after told.then)
+    (λ few. told.then) told.lines_are
+first_told setup old new C.SweepAll piece lines h told =
+    swept C.SweepAll lines told.before told.after told.answer refl told.first (answer_other Sweeps told.answer told.fits) (after_other Sweeps told.after told.then)
+    (λ few. told.then) told.lines_are
+first_told setup old new (C.GcNow want) piece lines h told =
+    swept (C.GcNow want) lines told.before told.after told.answer refl told.first (answer_other Cycle told.answer told.fits) (after_other Cycle told.after told.then)
+    (λ few. absurd (true≢false few)) told.lines_are
+first_told setup old new C.Stat piece lines h told = said C.Stat lines _ refl h.1.2
+first_told setup old new C.GcStart piece lines h told = start_lines setup old new piece lines h
+first_told setup old new (C.GcStep n) piece lines h told =
+    match_bool (is_marking old.phase) _ _ _ (λ t. said (C.GcStep n) lines _ refl t.lines_are) (refused (C.GcStep n) old new lines R.Phase) h.1
+first_told setup old new (C.GcFinish want) piece lines h told = finish_lines setup want old new piece lines h
+first_told setup old new (C.At j order) piece lines h told =
+    elim h.1 [ inl memory ↦ said (C.At j order) lines L.Memory refl memory.0 | inr d ↦ said (C.At j order) lines L.Queued refl d.0 ]
+first_told setup old new C.ThreadsGo piece lines h told =
+    elim h.1 [ inl memory ↦ said C.ThreadsGo lines L.Memory refl memory.0 | inr d ↦ said C.ThreadsGo lines _ refl d.0 ]
+first_told setup old new C.ThreadsJoin piece lines h told = join_lines lines told
+first_told setup old new command piece lines h told = tells_alone command lines refl told
 
 pub finalised_are_told_first : FinalisedAreToldFirst
-finalised_are_told_first setup old new (C.New p t e) piece lines h = new_lines setup old new p t e lines h.1
-finalised_are_told_first setup old new C.GcStart piece lines h = start_lines setup old new piece lines h
-finalised_are_told_first setup old new (C.GcFinish want) piece lines h = finish_lines setup want old new piece lines h
-finalised_are_told_first setup old new (C.GcNow want) piece lines h = now_lines setup want old new piece lines h
-finalised_are_told_first setup old new (C.Sweep n) piece lines h = sweep_lines setup old new (C.Sweep n) _ lines refl h.1
-finalised_are_told_first setup old new C.SweepAll piece lines h = sweep_lines setup old new C.SweepAll _ lines refl h.1
-finalised_are_told_first setup old new C.ThreadsJoin piece lines h = join_lines old new piece lines h
-finalised_are_told_first setup old new command piece lines h = said command lines (one_line setup old new command piece lines refl refl h)
+finalised_are_told_first setup old new command piece lines h =
+    first_told setup old new command piece lines h (steps_stay_in_their_family setup old command piece lines new h).told

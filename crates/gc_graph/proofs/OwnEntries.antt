@@ -20,7 +20,7 @@ use Rattle.gc_graph.specs.Step.{Step}
 use Rattle.gc_graph.specs.JoinLaw.{AreThreads}
 use Rattle.gc_graph.specs.OwnEntryLaw.{IsOfThread, EndsWithOwn, EndsWithPause, may_take, StepsMakeOwnEntries}
 use Rattle.gc_graph.proofs.StepCases.{match_bool}
-use Rattle.gc_graph.proofs.CycleMoves.{sweep_moves, start_moves}
+use Rattle.gc_graph.proofs.FamilyFrames.{swept_runs, start_runs}
 
 -- a line that is alone is the one that is there
 alone : (line other : Line) (lines : List Line) → lines ≡ line ∷ [] → Contains lines other → line ≡ other
@@ -83,7 +83,7 @@ module _ (running : List ℕ) (threads : AreThreads running) where
       (λ rest. elim rest [
         | inl memory ↦ undone _ L.Memory L.Started lines refl refl memory.1.0 c
         | inr b ↦
-            own b.swept O.Start b.start.before piece ((sweep_moves setup.shape old b.swept setup.shape.pages b.numbers b.ended).running ∙ same) b.start.others
+            own b.swept O.Start b.start.before piece (swept_runs setup.shape old b.swept setup.shape.pages b.numbers b.ended ∙ same) b.start.others
             b.start.piece_is
       ]) h
 
@@ -106,8 +106,8 @@ module _ (running : List ℕ) (threads : AreThreads running) where
       (λ more. elim more [
         | inl memory ↦ undone _ L.Memory told lines refl off memory.1.0 c
         | inr k ↦
-            (let swept : k.swept.running ≡ running = (sweep_moves setup.shape old k.swept setup.shape.pages k.numbers k.ended).running ∙ same in
-            let begun : k.started.running ≡ running = (start_moves setup k.swept k.started k.first k.start).running ∙ swept in (
+            (let swept : k.swept.running ≡ running = swept_runs setup.shape old k.swept setup.shape.pages k.numbers k.ended ∙ same in
+            let begun : k.started.running ≡ running = start_runs setup k.swept k.started k.first k.start ∙ swept in (
               k.first,
               k.second,
               k.piece_is,

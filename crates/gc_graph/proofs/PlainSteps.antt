@@ -21,6 +21,8 @@ use Rattle.gc_graph.specs.Outcomes.{answered, IsRefused, slot_at, weak_slot_at}
 use Rattle.gc_graph.specs.ObjectSteps.{AtField, first_word, IsNumber, IsRead}
 use Rattle.gc_graph.specs.HandleSteps.{IsDone, pushed, IsPushed, IsPeeked}
 use Rattle.gc_graph.specs.Step.{Step}
+use Rattle.gc_graph.specs.Families.{family_of}
+use Rattle.gc_graph.specs.FamilyLines as F
 use Rattle.gc_graph.specs.FrameLaw.{WritesSlot, WritesStack, IsWordAt, WritesWord}
 use Rattle.gc_graph.specs.MayLaw.{own_reads, told, is_weak_field}
 use Rattle.gc_graph.proofs.Sound.{SlotNames, WordNames, slot_weaker, IsSound}
@@ -30,23 +32,6 @@ use Rattle.gc_graph.proofs.ValidWrites.{follows_of}
 use Rattle.gc_graph.proofs.ValidReads.{names_at, value_live, value_root, strong_held}
 use Rattle.gc_graph.proofs.Effects.{Effect, line_of_effect, with_effect, WhereSound, IsReadable, WritesField, Fits, IsInKind, ComesOut}
 use Rattle.gc_graph.proofs.Effects.Effect.{Refuses, Tells, Fills, Empties, Gets, Weakens, Stacks, Sets, Puts, Pairs}
-
--- the commands on fields, on slots and on the stack
-abbrev pub is_plain_command : Command → Bool
-is_plain_command (C.New p t e) = false
-is_plain_command C.GcStart = false
-is_plain_command (C.GcStep n) = false
-is_plain_command (C.GcFinish want) = false
-is_plain_command (C.GcNow want) = false
-is_plain_command (C.Sweep n) = false
-is_plain_command C.SweepAll = false
-is_plain_command C.Stat = false
-is_plain_command (C.Export p x) = false
-is_plain_command (C.Import x p) = false
-is_plain_command (C.At j order) = false
-is_plain_command C.ThreadsGo = false
-is_plain_command C.ThreadsJoin = false
-is_plain_command command = true
 
 -- ---- what a read gives
 
@@ -162,7 +147,7 @@ module _ (old new : State) (command : Command) (piece : List Entry) (lines : Lis
 
 -- ---- every plain command
 
-pub plain_step : (setup : Setup) (old new : State) (command : Command) (piece : List Entry) (lines : List Line) → is_plain_command command ≡ true
+pub plain_step : (setup : Setup) (old new : State) (command : Command) (piece : List Entry) (lines : List Line) → F.is_plain (family_of command) ≡ true
     → Step setup old command piece lines new → ComesOut old command piece lines new
 plain_step setup old new (C.Set p f q) piece lines its h =
     set old new (C.Set p f q) piece lines h.0 p f (slot_at old q) refl (λ n word at. at) (λ s g. slot_root s old q g) h.1

@@ -1,5 +1,5 @@
 -- Each step's piece of the history is legal, and the region's slots follow it.
-use Rattle.std.proofs.Common.{◌≡◌, ℕ, Bool, true, false, List, [], refl, sym, ap, ◌∙◌, subst, inl, inr}
+use Rattle.std.proofs.Common.{◌≡◌, ℕ, Bool, true, false, true≢false, List, [], refl, sym, ap, ◌∙◌, subst, inl, inr}
 use Rattle.gc_graph.specs.declared.command.Command.{Command}
 use Rattle.gc_graph.specs.declared.command.Command.TheVariants as C
 use Rattle.gc_graph.specs.declared.command.Want.{Want}
@@ -14,14 +14,15 @@ use Rattle.gc_graph.specs.State.{Setup, State}
 use Rattle.gc_graph.specs.Sweep.{SweepsTo}
 use Rattle.gc_graph.specs.History.{IsLegalFrom, replayed, started_after, started_through}
 use Rattle.gc_graph.specs.Outcomes.{answered, IsRefused, IsMemory, took, slot_at}
-use Rattle.gc_graph.specs.ObjectSteps.{StepNew}
-use Rattle.gc_graph.specs.CycleSteps.{is_marking, is_sweeping, is_stack_refused, IsStart, IsBegun, StepGcStart, IsPause, StepGcFinish, IsCollection, StepGcNow, StepSweepTo}
+use Rattle.gc_graph.specs.CycleSteps.{is_marking, is_stack_refused, IsStart, IsBegun, StepGcStart, IsPause, StepGcFinish, IsCollection, StepGcNow}
 use Rattle.gc_graph.specs.RegionSteps.{TakesOwn, StepExport, StepImport, StepThreadsJoin}
 use Rattle.gc_graph.specs.Step.{Step}
 use Rattle.gc_graph.proofs.ValidRegion.{took_own}
 use Rattle.gc_graph.proofs.StepCases.{match_option, match_bool}
-use Rattle.gc_graph.proofs.Effects.{with_effect, same_else, ComesOut}
-use Rattle.gc_graph.proofs.PlainSteps.{plain_step}
+use Rattle.gc_graph.specs.Families.{Family, family_of, StaysInFamily}
+use Rattle.gc_graph.specs.Families.Family.{Objects, Fields, Pairs, Slots, Stack, Sweeps}
+use Rattle.gc_graph.specs.FamilyLines.{takes_none}
+use Rattle.gc_graph.proofs.FamilyFrames.{steps_stay_in_their_family}
 use Rattle.gc_graph.specs.HistoryLaw.{Follows, StepsFollow}
 use Rattle.gc_graph.proofs.HistoryLaws.{quiet, follows-append, owned, took-region, took-phase, others_start_nothing, sweep_follows}
 
@@ -36,35 +37,22 @@ refused_follows old new piece lines why p h = from_state old new (answered old) 
 memory_follows : (old new : State) (piece : List Entry) (lines : List Line) → piece ≡ [] → IsMemory old lines new → Follows old piece new
 memory_follows old new piece lines p h = from_state old new (answered old) piece p h.1 refl refl
 
--- a plain command
-plain_follows : (old new : State) (command : Command) (piece : List Entry) (lines : List Line) → ComesOut old command piece lines new → Follows old piece new
-plain_follows old new command piece lines c =
-    let same = same_else old c.effect in
-    from_state old new (answered (with_effect old c.effect)) piece c.none c.after (ap (λ (s : State). s.region) same) (ap (λ (s : State). s.phase) same)
-
 sweeps : (setup : Setup) (old mid : State) (pages : ℕ) (numbers : List ℕ) → SweepsTo setup.shape old pages numbers mid
     → (mid.region ≡ old.region) × (is_marking mid.phase ≡ is_marking old.phase)
 sweeps setup old mid pages numbers h =
     let both = sweep_follows old.phase setup.shape old pages numbers mid h in
     (both.0, both.1 refl)
 
-after_sweep : (setup : Setup) (old mid new x : State) (pages : ℕ) (numbers : List ℕ) (piece : List Entry) → piece ≡ []
-    → SweepsTo setup.shape old pages numbers mid → new ≡ x → x.region ≡ mid.region → x.phase ≡ mid.phase → Follows old piece new
-after_sweep setup old mid new x pages numbers piece p h e r f =
-    let s = sweeps setup old mid pages numbers h in
-    quiet old new piece p (ap (λ (s : State). s.region) e ∙ r ∙ s.0) (ap (λ (s : State). is_marking s.phase) e ∙ ap is_marking f ∙ s.1)
-
-new_follows : (setup : Setup) (old new : State) (p t e : ℕ) (piece : List Entry) (lines : List Line) → piece ≡ [] → StepNew setup old p t e lines new
-    → Follows old piece new
-new_follows setup old new p t e piece lines none h =
-    elim h [
-      | inl memory ↦ memory_follows old new piece lines none memory.1
-      | inr made ↦
-          match_option made.place _ _ _
-          (λ full. after_sweep setup old made.mid new _ made.placed.pages made.numbers piece none made.placed.swept full.after refl refl)
-          (λ a done. after_sweep setup old made.mid new _ made.placed.pages made.numbers piece none made.placed.swept done.after refl refl)
-          made.done
-    ]
+-- a command of a family that takes nothing of the history
+family_follows : (family : Family) (old : State) (piece : List Entry) (lines : List Line) (new : State) → takes_none family ≡ true
+    → StaysInFamily family old piece lines new → Follows old piece new
+family_follows Objects old piece lines new none h = quiet old new piece h.takes (ap (λ (s : State). s.region) h.rest.1) h.rest.0
+family_follows Fields old piece lines new none h = from_state old new _ piece h.takes h.rest refl refl
+family_follows Pairs old piece lines new none h = from_state old new _ piece h.takes h.rest refl refl
+family_follows Slots old piece lines new none h = from_state old new _ piece h.takes h.rest refl refl
+family_follows Stack old piece lines new none h = from_state old new _ piece h.takes h.rest refl refl
+family_follows Sweeps old piece lines new none h = quiet old new piece h.takes (ap (λ (s : State). s.region) h.rest.1) h.rest.0
+family_follows family old piece lines new none h = absurd (true≢false (sym none))
 
 -- ---- the cycle
 
@@ -143,12 +131,6 @@ gc_now_follows setup want old new piece lines h =
       | inr c ↦ collection_follows setup want old new piece lines off c
     ]) rest) h
 
-sweep_to_follows : (setup : Setup) (old new : State) (pages : ℕ) (piece : List Entry) (lines : List Line) → piece ≡ [] → StepSweepTo setup old pages lines new
-    → Follows old piece new
-sweep_to_follows setup old new pages piece lines none h =
-    match_bool (is_sweeping old.phase) _ _ _ (λ s. after_sweep setup old s.swept new _ pages s.numbers piece none s.goes s.after refl refl)
-    (refused_follows old new piece lines R.Phase none) h
-
 -- ---- the region
 
 own_follows : (old new : State) (op : Op) (piece before : List Entry) → TakesOwn old op piece before → started_after (is_marking old.phase) op ≡ is_marking old.phase
@@ -188,15 +170,11 @@ join_follows old new piece lines h = record {
 
 pub step_follows : (setup : Setup) (old new : State) (command : Command) (piece : List Entry) (lines : List Line) → Step setup old command piece lines new
     → Follows old piece new
-step_follows setup old new (C.New p t e) piece lines h = new_follows setup old new p t e piece lines h.0 h.1
 step_follows setup old new C.GcStart piece lines h = gc_start_follows setup old new piece lines h
 step_follows setup old new (C.GcStep n) piece lines h =
     match_bool (is_marking old.phase) _ _ _ (λ t. from_state old new _ piece h.0 t.after refl refl) (refused_follows old new piece lines R.Phase h.0) h.1
 step_follows setup old new (C.GcFinish want) piece lines h = gc_finish_follows setup want old new piece lines h
 step_follows setup old new (C.GcNow want) piece lines h = gc_now_follows setup want old new piece lines h
-step_follows setup old new (C.Sweep n) piece lines h = sweep_to_follows setup old new _ piece lines h.0 h.1
-step_follows setup old new C.SweepAll piece lines h = sweep_to_follows setup old new _ piece lines h.0 h.1
-step_follows setup old new C.Stat piece lines h = from_state old new _ piece h.0 h.1.3 refl refl
 step_follows setup old new (C.Export p x) piece lines h = export_follows old new p x piece lines h
 step_follows setup old new (C.Import x p) piece lines h = import_follows old new x p piece lines h
 step_follows setup old new (C.At j order) piece lines h =
@@ -204,7 +182,8 @@ step_follows setup old new (C.At j order) piece lines h =
 step_follows setup old new C.ThreadsGo piece lines h =
     elim h.1 [ inl d ↦ from_state old new _ piece h.0 d.1 refl refl | inr d ↦ from_state old new _ piece h.0 d.1 refl refl ]
 step_follows setup old new C.ThreadsJoin piece lines h = join_follows old new piece lines h
-step_follows setup old new command piece lines h = plain_follows old new command piece lines (plain_step setup old new command piece lines refl h)
+step_follows setup old new command piece lines h =
+    family_follows (family_of command) old piece lines new refl (steps_stay_in_their_family setup old command piece lines new h)
 
 pub steps_follow : StepsFollow
 steps_follow setup old command piece lines new h = step_follows setup old new command piece lines h

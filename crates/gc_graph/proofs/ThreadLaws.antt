@@ -1,71 +1,62 @@
 -- What each command leaves of the threads, and that what is counted stays in bounds.
-use Rattle.std.proofs.Common.{◌≡◌, ◌+◌, ◌≤◌, Bool, true, false, true≢false, List, [], ◌++◌, refl, sym, ap, ◌∙◌, subst, inl, inr, arith}
-use mathlib.Core.Logic.{◌⊎◌}
-use Rattle.std.proofs.lemmas.List.{append-nil}
+use Rattle.std.proofs.Common.{◌≡◌, ℕ, ◌+◌, ◌≤◌, Bool, true, false, true≢false, List, [], ◌∷◌, refl, sym, ap, ◌∙◌, inl, inr, arith}
+use Rattle.std.specs.Prelude.{count_by, if◌then◌else◌}
+use Rattle.std.proofs.lemmas.Bool.{cases_Bool}
+use Rattle.std.proofs.lemmas.List.Sums.{sum_by-append}
 use Rattle.gc_graph.specs.declared.command.Command.{Command}
 use Rattle.gc_graph.specs.declared.command.Command.TheVariants as C
 use Rattle.gc_graph.specs.declared.line.Line.{Line}
-use Rattle.gc_graph.specs.declared.line.Refusal.TheVariants as R
+use Rattle.gc_graph.specs.declared.line.Line.TheVariants as L
 use Rattle.gc_graph.specs.declared.region.Entry.{Entry}
 use Rattle.gc_graph.specs.State.{Setup, State}
-use Rattle.gc_graph.specs.Outcomes.{answered, took}
-use Rattle.gc_graph.specs.CycleSteps.{is_marking}
+use Rattle.gc_graph.specs.Outcomes.{answered}
 use Rattle.gc_graph.specs.Sections.{awaiting_after}
 use Rattle.gc_graph.specs.Step.{Step}
-use Rattle.gc_graph.specs.ThreadLaw.{is_of_threads, LeavesThreads, StepsLeaveThreads, IsCounted, StepsCount}
+use Rattle.gc_graph.specs.ThreadLaw.{is_of_threads, LeavesThreads, StepsLeaveThreads, StepsCount}
+use Rattle.gc_graph.specs.CountsLaw.{tells_pause, tells_full}
 use Rattle.gc_graph.specs.JoinLaw.{entries_in}
-use Rattle.gc_graph.proofs.StepCases.{match_bool}
-use Rattle.gc_graph.proofs.PlainSteps.{plain_step}
-use Rattle.gc_graph.proofs.StepMoves.{IsBalanced, Moves, Answers, took_moves, refused_answers, plain_answers, stat_answers, traced_answers}
-use Rattle.gc_graph.proofs.CycleMoves.{sweep_to_answers, new_answers, gc_start_answers, gc_finish_answers, gc_now_answers, export_answers, import_answers}
+use Rattle.gc_graph.specs.Families.{Family, family_of, tells_of_orders, IsAnsweredOnce}
+use Rattle.gc_graph.specs.Families.Family.{Threads}
+use Rattle.gc_graph.proofs.FamilyFrames.{steps_stay_in_their_family}
+use Rattle.gc_graph.proofs.FamilyRests.{LeavesQueues, leaves_queues, nothing_more, none_before, none_after, tells_no_entry}
+use Rattle.gc_graph.proofs.CountedLines.{one_more, none_counted, steps_count_lines}
+use Rattle.gc_graph.proofs.Balances.{step_balances}
 
 -- ---- the commands that are none of threads
 
--- no join is awaited after the command where none was before
-abbrev pub IsOwners : Command → Type 0
-IsOwners command = (is_of_threads command ≡ false) × ((awaiting : Bool) → awaiting_after awaiting command ≡ awaiting)
+owners : (command : Command) → is_of_threads command ≡ false → family_of command ≡ Threads → ⊥
+owners (C.At j order) none = absurd (true≢false none)
+owners C.ThreadsGo none = absurd (true≢false none)
+owners C.ThreadsJoin none = absurd (true≢false none)
+owners command none = λ e. cc
 
-abbrev pub Way : State → Command → List Entry → List Line → State → Type 0
-Way old command piece lines new = (IsOwners command × Answers old piece lines new) ⊎ (is_of_threads command ≡ true)
+-- no join is awaited after such a command where none was before
+none_awaited : (command : Command) (awaiting : Bool) → is_of_threads command ≡ false → awaiting_after awaiting command ≡ awaiting
+none_awaited (C.At j order) awaiting none = absurd (true≢false none)
+none_awaited C.ThreadsGo awaiting none = absurd (true≢false none)
+none_awaited C.ThreadsJoin awaiting none = absurd (true≢false none)
+none_awaited command awaiting none = refl
 
-owners : (old new : State) (command : Command) (piece : List Entry) (lines : List Line) → is_of_threads command ≡ false
-    → ((awaiting : Bool) → awaiting_after awaiting command ≡ awaiting) → Answers old piece lines new → Way old command piece lines new
-owners old new command piece lines none same answers = inl ((none, same), answers)
+pub owners_leave : (setup : Setup) (old new : State) (command : Command) (piece : List Entry) (lines : List Line) → is_of_threads command ≡ false
+    → Step setup old command piece lines new → LeavesQueues old piece new × (entries_in lines ≡ [])
+owners_leave setup old new command piece lines none h =
+    let stays = steps_stay_in_their_family setup old command piece lines new h in (
+      leaves_queues (family_of command) old piece lines new (owners command none) stays,
+      tells_no_entry (family_of command) lines (owners command none) stays.told,
+    )
 
-pub step_way : (setup : Setup) (old new : State) (command : Command) (piece : List Entry) (lines : List Line) → Step setup old command piece lines new
-    → Way old command piece lines new
-step_way setup old new (C.New p t e) piece lines h = owners old new (C.New p t e) piece lines refl (λ b. refl) (new_answers setup old new p t e piece lines h.0 h.1)
-step_way setup old new C.GcStart piece lines h = owners old new C.GcStart piece lines refl (λ b. refl) (gc_start_answers setup old new piece lines h)
-step_way setup old new (C.GcStep n) piece lines h =
-    owners old new (C.GcStep n) piece lines refl (λ b. refl)
-    (match_bool (is_marking old.phase) _ _ _ (λ t. traced_answers old new piece lines t.count (ap entries_in t.lines_are) h.0 t.after) (refused_answers old new piece lines R.Phase h.0) h.1)
-step_way setup old new (C.GcFinish want) piece lines h = owners old new (C.GcFinish want) piece lines refl (λ b. refl) (gc_finish_answers setup want old new piece lines h)
-step_way setup old new (C.GcNow want) piece lines h = owners old new (C.GcNow want) piece lines refl (λ b. refl) (gc_now_answers setup want old new piece lines h)
-step_way setup old new (C.Sweep n) piece lines h = owners old new (C.Sweep n) piece lines refl (λ b. refl) (sweep_to_answers setup old new _ piece lines h.0 h.1)
-step_way setup old new C.SweepAll piece lines h = owners old new C.SweepAll piece lines refl (λ b. refl) (sweep_to_answers setup old new _ piece lines h.0 h.1)
-step_way setup old new C.Stat piece lines h = owners old new C.Stat piece lines refl (λ b. refl) (stat_answers old new piece lines (ap entries_in h.1.2) h.0 h.1.3)
-step_way setup old new (C.Export p x) piece lines h = owners old new (C.Export p x) piece lines refl (λ b. refl) (export_answers old new p x piece lines h)
-step_way setup old new (C.Import x p) piece lines h = owners old new (C.Import x p) piece lines refl (λ b. refl) (import_answers old new x p piece lines h)
-step_way setup old new (C.At j order) piece lines h = inr refl
-step_way setup old new C.ThreadsGo piece lines h = inr refl
-step_way setup old new C.ThreadsJoin piece lines h = inr refl
-step_way setup old new command piece lines h =
-    owners old new command piece lines refl (λ b. refl) (plain_answers old new command piece lines (plain_step setup old new command piece lines refl h))
-
--- ---- what is left of the threads
-
-nothing_more : (old new : State) (piece : List Entry) → piece ≡ [] → new.unprinted ≡ old.unprinted → new.unprinted ≡ old.unprinted ++ piece
-nothing_more old new piece none e = e ∙ sym (append-nil old.unprinted) ∙ ap (λ es. old.unprinted ++ es) (sym none)
-
-own_leave : (old new : State) (command : Command) (piece : List Entry) (lines : List Line) → IsOwners command → Answers old piece lines new → LeavesThreads old command piece new
-own_leave old new command piece lines own a = record {
-  awaiting = ap (λ (s : State). s.awaiting) a.after ∙ a.moves.awaiting ∙ sym (own.1 old.awaiting);
-  queues = λ none. ap (λ (s : State). s.queues) a.after ∙ a.moves.queues;
-  running = λ none. ap (λ (s : State). s.running) a.after ∙ a.moves.running;
-  unprinted = λ more. ap (λ (s : State). s.unprinted) a.after ∙ a.moves.unprinted;
+own_leave : (old new : State) (command : Command) (piece : List Entry) → is_of_threads command ≡ false → LeavesQueues old piece new
+    → LeavesThreads old command piece new
+own_leave old new command piece none h = record {
+  awaiting = h.awaiting ∙ sym (none_awaited command old.awaiting none);
+  queues = λ same. h.queues;
+  running = λ same. h.running;
+  unprinted = λ more. h.unprinted;
 }
 
--- a command of threads, from the state whose answer was counted
+-- ---- commands of threads
+
+-- from the state whose answer was counted
 left : (old new x : State) (command : Command) (piece : List Entry) → is_of_threads command ≡ true → piece ≡ [] → new ≡ answered x
     → x.awaiting ≡ awaiting_after old.awaiting command → x.unprinted ≡ old.unprinted → LeavesThreads old command piece new
 left old new x command piece its none e awaiting unprinted = record {
@@ -91,38 +82,42 @@ thread_leave setup old new command piece lines its h = cc
 
 pub steps_leave_threads : StepsLeaveThreads
 steps_leave_threads setup old command piece lines new h =
-    elim (step_way setup old new command piece lines h) [
-      | inl own ↦ own_leave old new command piece lines own.0 own.1
-      | inr its ↦ thread_leave setup old new command piece lines its h
+    elim (cases_Bool (is_of_threads command)) [
+      | inl its ↦ thread_leave setup old new command piece lines its h
+      | inr none ↦ own_leave old new command piece none (owners_leave setup old new command piece lines none h).0
     ]
 
 -- ---- what is counted
 
-counted : (old x new : State) → new ≡ answered x → x.ordinal ≡ old.ordinal → x.pauses ≤ old.pauses + 1 → x.full ≤ old.full + 1
-    → (IsBalanced old → IsBalanced x) → IsCounted old → IsCounted new
-counted old x new e ordinal pauses full balance h =
-    subst IsCounted (sym e)
-    (record { pauses = omega (arith, ordinal, pauses, h.pauses); full = omega (arith, ordinal, full, h.full); finalised = balance h.finalised })
+at_most_one : (test : Line → Bool) → ((n : ℕ) → test (L.Finalise n) ≡ false) → ((n c : ℕ) → test (L.Prefinalise n c) ≡ false)
+    → ((line : Line) → tells_of_orders line ≡ true → test line ≡ false) → (family : Family) (lines : List Line) → IsAnsweredOnce family lines
+    → count_by test lines ≤ 1
+at_most_one test gone runs orders family lines h =
+    let first = none_counted test h.before (none_before test gone orders family h.before h.first) in
+    let last = none_counted test h.after (none_after test runs family h.after h.then) in
+    let all : count_by test lines ≡ count_by test h.before + count_by test (h.answer ∷ h.after) =
+    ap (count_by test) h.lines_are ∙ sum_by-append (λ x. if test x then 1 else 0) h.before (h.answer ∷ h.after) in
+    elim (cases_Bool (test h.answer)) [
+      | inl on ↦ (let one = one_more test h.answer h.after true on in omega (arith, first, last, all, one))
+      | inr off ↦ (let one = one_more test h.answer h.after false off in omega (arith, first, last, all, one))
+    ]
 
-thread_counts : (setup : Setup) (old new : State) (command : Command) (piece : List Entry) (lines : List Line) → is_of_threads command ≡ true
-    → Step setup old command piece lines new → IsCounted old → IsCounted new
-thread_counts setup old new (C.At j order) piece lines its h = elim h.1 [
-  | inl memory ↦ counted old old new memory.1 refl (omega arith) (omega arith) (λ b. b)
-  | inr d ↦ counted old _ new d.1 refl (omega arith) (omega arith) (λ b. b)
-]
-thread_counts setup old new C.ThreadsGo piece lines its h = elim h.1 [
-  | inl d ↦ counted old _ new d.1 refl (omega arith) (omega arith) (λ b. b)
-  | inr d ↦ counted old _ new d.1 refl (omega arith) (omega arith) (λ b. b)
-]
-thread_counts setup old new C.ThreadsJoin piece lines its h =
-    let taken : Moves 0 old piece (took old piece) = took_moves old piece in
-    counted old _ new h.after taken.ordinal (omega (arith, taken.pauses)) (omega (arith, taken.full)) taken.balance
-thread_counts setup old new command piece lines its h = cc
+order_no_pause : (line : Line) → tells_of_orders line ≡ true → tells_pause line ≡ false
+order_no_pause (L.Pause kept dead crew traced walked) is = absurd (true≢false (sym is))
+order_no_pause other is = refl
+
+order_not_full : (line : Line) → tells_of_orders line ≡ true → tells_full line ≡ false
+order_not_full L.Full is = absurd (true≢false (sym is))
+order_not_full other is = refl
 
 pub steps_count : StepsCount
-steps_count setup old command piece lines new h =
-    elim (step_way setup old new command piece lines h) [
-      | inl own ↦
-          counted old own.1.before new own.1.after own.1.moves.ordinal own.1.moves.pauses own.1.moves.full own.1.moves.balance
-      | inr its ↦ thread_counts setup old new command piece lines its h
-    ]
+steps_count setup old command piece lines new h before =
+    let told = (steps_stay_in_their_family setup old command piece lines new h).told in
+    let counts = steps_count_lines setup old command piece lines new h in
+    let pauses = at_most_one tells_pause (λ n. refl) (λ n c. refl) order_no_pause (family_of command) lines told in
+    let full = at_most_one tells_full (λ n. refl) (λ n c. refl) order_not_full (family_of command) lines told in
+    record {
+      pauses = omega (arith, before.pauses, counts.commands, counts.pauses, pauses);
+      full = omega (arith, before.full, counts.commands, counts.full, full);
+      finalised = step_balances setup old new command piece lines h before.finalised;
+    }

@@ -14,34 +14,17 @@ use Rattle.gc_graph.specs.declared.region.Entry.{Entry}
 use Rattle.gc_graph.specs.State.{Setup, State, empty_state}
 use Rattle.gc_graph.specs.Step.{Step}
 use Rattle.gc_graph.specs.Lawful.{Outcome, Run, last_state, AreJoined, TotalsWerePublished, TotalsNeverFall}
-use Rattle.gc_graph.specs.ThreadLaw.{is_of_threads}
 use Rattle.gc_graph.specs.TotalsLaw.{RunsCountCommands, tells_totals_to, commands_told, AreOfTheirTime, JoinsTellTheirTime}
-use Rattle.gc_graph.proofs.StepMoves.{took_moves}
-use Rattle.gc_graph.proofs.ThreadLaws.{step_way}
+use Rattle.gc_graph.specs.Families.{family_of}
+use Rattle.gc_graph.proofs.FamilyFrames.{steps_stay_in_their_family}
+use Rattle.gc_graph.proofs.FamilyRests.{counted_one}
 
 -- ---- each command is counted
-
-thread_counts_one : (setup : Setup) (old new : State) (command : Command) (piece : List Entry) (lines : List Line) → is_of_threads command ≡ true
-    → Step setup old command piece lines new → new.ordinal ≡ old.ordinal + 1
-thread_counts_one setup old new (C.At j order) piece lines its h = elim h.1 [
-  | inl memory ↦ ap (λ (s : State). s.ordinal) memory.1
-  | inr d ↦ ap (λ (s : State). s.ordinal) d.1
-]
-thread_counts_one setup old new C.ThreadsGo piece lines its h = elim h.1 [
-  | inl d ↦ ap (λ (s : State). s.ordinal) d.1
-  | inr d ↦ ap (λ (s : State). s.ordinal) d.1
-]
-thread_counts_one setup old new C.ThreadsJoin piece lines its h =
-    ap (λ (s : State). s.ordinal) h.after ∙ ap (λ n. n + 1) (took_moves old piece).ordinal
-thread_counts_one setup old new command piece lines its h = cc
 
 counts_one : (setup : Setup) (old new : State) (command : Command) (piece : List Entry) (lines : List Line) → Step setup old command piece lines new
     → new.ordinal ≡ old.ordinal + 1
 counts_one setup old new command piece lines h =
-    elim (step_way setup old new command piece lines h) [
-      | inl own ↦ ap (λ (s : State). s.ordinal) own.1.after ∙ ap (λ n. n + 1) own.1.moves.ordinal
-      | inr its ↦ thread_counts_one setup old new command piece lines its h
-    ]
+    counted_one (family_of command) old piece lines new (steps_stay_in_their_family setup old command piece lines new h)
 
 counted_from : (setup : Setup) (first : State) (commands : List Command) (outcomes : List Outcome) (k : ℕ) → Run setup first commands outcomes
     → k ≤ length outcomes → (last_state first (take k outcomes)).ordinal ≡ first.ordinal + k

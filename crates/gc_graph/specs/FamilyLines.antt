@@ -45,16 +45,17 @@ takes_nothing law setup old command piece lines new is h = none_taken (family_of
 alone : (lines before after : List Line) (answer : Line) → lines ≡ before ++ answer ∷ after → before ≡ [] → after ≡ [] → lines ≡ answer ∷ []
 alone lines before after answer are first then = are ∙ ap (λ told. told ++ answer ∷ after) first ∙ ap (λ told. answer ∷ told) then
 
--- where a family tells one line, that is all of them
-pub one_line : (family : Family) (lines : List Line) → tells_one family ≡ true → IsAnsweredOnce family lines → (line : Line) × (lines ≡ line ∷ [])
-one_line Fields lines is h = (h.answer, alone lines h.before h.after h.answer h.lines_are h.first h.then)
-one_line Pairs lines is h = (h.answer, alone lines h.before h.after h.answer h.lines_are h.first h.then)
-one_line Slots lines is h = (h.answer, alone lines h.before h.after h.answer h.lines_are h.first h.then)
-one_line Stack lines is h = (h.answer, alone lines h.before h.after h.answer h.lines_are h.first h.then)
-one_line Region lines is h = (h.answer, alone lines h.before h.after h.answer h.lines_are h.first h.then)
-one_line family lines is h = absurd (true≢false (sym is))
+-- where a family tells one line, its answer is all of them
+pub all_told : (family : Family) (lines : List Line) → tells_one family ≡ true → (h : IsAnsweredOnce family lines) → lines ≡ h.answer ∷ []
+all_told Fields lines is h = alone lines h.before h.after h.answer h.lines_are h.first h.then
+all_told Pairs lines is h = alone lines h.before h.after h.answer h.lines_are h.first h.then
+all_told Slots lines is h = alone lines h.before h.after h.answer h.lines_are h.first h.then
+all_told Stack lines is h = alone lines h.before h.after h.answer h.lines_are h.first h.then
+all_told Region lines is h = alone lines h.before h.after h.answer h.lines_are h.first h.then
+all_told family lines is h = absurd (true≢false (sym is))
 
 -- a command of such a family tells one line
 pub tells_one_line : StepsStayInTheirFamily → (setup : Setup) (old : State) (command : Command) (piece : List Entry) (lines : List Line) (new : State)
     → tells_one (family_of command) ≡ true → Step setup old command piece lines new → (line : Line) × (lines ≡ line ∷ [])
-tells_one_line law setup old command piece lines new is h = one_line (family_of command) lines is (law setup old command piece lines new h).told
+tells_one_line law setup old command piece lines new is h =
+    let told = (law setup old command piece lines new h).told in (told.answer, all_told (family_of command) lines is told)
