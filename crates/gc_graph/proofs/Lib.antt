@@ -43,6 +43,7 @@ mod ClearingLaws
 mod PrefinalizerLaws
 mod AnswersLaws
 mod ActionsStay
+mod ActionWrites
 mod MayBounds
 mod Since
 mod MayGrows

@@ -1,5 +1,6 @@
 // The laws of prefinalizers in a run, as in laws.rt.
 
+ghost use Rattle.gc_graph.specs.ActionLaw.{ActionsWriteOneField};
 ghost use Rattle.gc_graph.specs.PrefinalizerLaw.{
   CallbacksMeetWhatIsLeft,
   NewObjectsAreRegistered,
@@ -17,4 +18,10 @@ pub fn new_objects_are_registered()
 pub fn pauses_run_prefinalizers()
     ensures runs { PausesRunThoseOfTheDead }
     ensures meets { CallbacksMeetWhatIsLeft }
+{}
+
+/// What a prefinalizer clears reads null, and what it adds to is the sum modulo 2^64. No other word of
+/// the object that its link names, and no other object, has changed.
+pub fn actions_write_one_field()
+    ensures { ActionsWriteOneField }
 {}

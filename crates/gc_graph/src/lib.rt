@@ -65,7 +65,9 @@ pub use laws_of_cycles::{
 };
 pub use laws_of_lives::{lives_end_once, nodes_stay_put};
 pub use laws_of_marking::{kept_is_accounted_for, precise_collection_is_exact};
-pub use laws_of_prefinalizers::{new_objects_are_registered, pauses_run_prefinalizers};
+pub use laws_of_prefinalizers::{
+    actions_write_one_field, new_objects_are_registered, pauses_run_prefinalizers,
+};
 pub use laws_of_regions::{calls_change_their_slot, steps_follow_the_history};
 pub use laws_of_reports::{lines_have_numbers, run_reads_back, summary_reads_back};
 pub use laws_of_sweeping::{
