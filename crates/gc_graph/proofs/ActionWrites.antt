@@ -9,7 +9,7 @@ use Rattle.gc_graph.specs.declared.kind.Value.TheVariants.{Null, Ref, Word}
 use Rattle.gc_graph.specs.State.{Node, no_node, node_at}
 use Rattle.gc_graph.specs.Fields.{words_of_kind, field_count, kind_of_field, word_of_field, value_at, target_of}
 use Rattle.gc_graph.specs.Actions.{cleared_field, added, added_field, at_field, cleared_at, added_at, linked_by, linked, change_linked}
-use Rattle.gc_graph.specs.FrameLaw.{IsWordOf}
+use Rattle.gc_graph.specs.Commands.{IsWordOf}
 use Rattle.gc_graph.specs.ActionLaw.{Links, LeavesOthers, IsCleared, IsAdded, ActionsWriteOneField}
 
 -- ---- words of a node

@@ -14,7 +14,8 @@ use Rattle.gc_graph.specs.Pause.{condemn, run_order}
 use Rattle.gc_graph.specs.ObjectSteps.{StepNew}
 use Rattle.gc_graph.specs.CycleSteps.{IsStart, IsPause, is_marking, is_sweeping, is_stack_refused, StepGcStart, StepGcFinish, StepGcNow, StepSweepTo}
 use Rattle.gc_graph.specs.Step.{Step}
-use Rattle.gc_graph.specs.Families.{family_of, StaysInFamily}
+use Rattle.gc_graph.specs.Families.{StaysInFamily}
+use Rattle.gc_graph.specs.Commands.{family_of}
 use Rattle.gc_graph.proofs.StepCases.{match_option, match_bool}
 use Rattle.gc_graph.proofs.FieldWrites.{with_values}
 use Rattle.gc_graph.proofs.NodeCounts.{weights, same_count, weights_written, paused_weights, one_more, swept_count}

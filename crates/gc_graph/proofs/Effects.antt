@@ -16,9 +16,8 @@ use Rattle.gc_graph.specs.May.{read_node}
 use Rattle.gc_graph.specs.Outcomes.{answered, with_slot}
 use Rattle.gc_graph.specs.ObjectSteps.{first_word, with_node, part_of}
 use Rattle.gc_graph.specs.Lawful.{IsAllowed}
-use Rattle.gc_graph.specs.FrameLaw.{WritesSlot, WritesWeakSlot, WritesStack, IsWordOf, WritesWord}
-use Rattle.gc_graph.specs.AnswersLaw.{tells_that_nothing_was_done, is_of_kind}
-use Rattle.gc_graph.specs.MayLaw.{own_reads, told}
+use Rattle.gc_graph.specs.Commands.{WritesSlot, WritesWeakSlot, WritesStack, IsWordOf, WritesWord, is_of_kind, own_reads, told}
+use Rattle.gc_graph.specs.LineKinds.{tells_that_nothing_was_done}
 use Rattle.gc_graph.proofs.Sound.{SlotNames, WordNames, IsSound}
 use Rattle.gc_graph.proofs.FieldWrites.{with_pair, with_values}
 use Rattle.gc_graph.proofs.ValidHandles.{Root}

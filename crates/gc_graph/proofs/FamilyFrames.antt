@@ -24,10 +24,10 @@ use Rattle.gc_graph.specs.CycleSteps.{IsStart, IsPause, is_marking, is_sweeping,
 use Rattle.gc_graph.specs.RegionSteps.{Answer, reply_line, line_of_content, joined, StepExport, StepImport, StepThreadsJoin}
 use Rattle.gc_graph.specs.RegionSteps.Answer.{Replied, Told}
 use Rattle.gc_graph.specs.Step.{Step}
-use Rattle.gc_graph.specs.AnswersLaw.{tells_that_nothing_was_done}
-use Rattle.gc_graph.specs.MayLaw.{told}
-use Rattle.gc_graph.specs.Families.{Family, family_of, StaysElse, EndsWithOwners, TakesPiece, tells_of_orders, answers, TellsBefore, StaysInFamily, StepsStayInTheirFamily}
-use Rattle.gc_graph.specs.Families.Family.{Objects, Cycle, Sweeps, Region, Threads}
+use Rattle.gc_graph.specs.Commands.{told, Family, family_of}
+use Rattle.gc_graph.specs.LineKinds.{tells_that_nothing_was_done, tells_of_orders}
+use Rattle.gc_graph.specs.Families.{StaysElse, EndsWithOwners, TakesPiece, answers, TellsBefore, StaysInFamily, StepsStayInTheirFamily}
+use Rattle.gc_graph.specs.Commands.Family.{Objects, Cycle, Sweeps, Region, Threads}
 use Rattle.gc_graph.proofs.StepCases.{match_option, match_bool}
 use Rattle.gc_graph.proofs.PlainSteps.{plain_step}
 use Rattle.gc_graph.proofs.HistoryLaws.{sweep_follows}

@@ -8,10 +8,11 @@ use Rattle.gc_graph.specs.declared.region.Entry.{Entry}
 use Rattle.gc_graph.specs.State.{State, Registration}
 use Rattle.gc_graph.specs.Outcomes.{finalise_lines}
 use Rattle.gc_graph.specs.Pause.{prefinalise_lines}
-use Rattle.gc_graph.specs.AnswersLaw.{tells_that_nothing_was_done}
+use Rattle.gc_graph.specs.Commands.{Family}
+use Rattle.gc_graph.specs.LineKinds.{tells_that_nothing_was_done, tells_of_orders}
 use Rattle.gc_graph.specs.JoinLaw.{entries_in}
-use Rattle.gc_graph.specs.Families.{Family, tells_of_orders, answers, TellsBefore, TellsAfter, IsAnsweredOnce, StaysInFamily}
-use Rattle.gc_graph.specs.Families.Family.{Objects, Fields, Pairs, Slots, Stack, Cycle, Sweeps, Region, Threads}
+use Rattle.gc_graph.specs.Families.{answers, TellsBefore, TellsAfter, IsAnsweredOnce, StaysInFamily}
+use Rattle.gc_graph.specs.Commands.Family.{Objects, Fields, Pairs, Slots, Stack, Cycle, Sweeps, Region, Threads}
 
 -- ---- the state
 

@@ -26,7 +26,8 @@ use Rattle.gc_graph.specs.HandleSteps.{IsPeeked, StepPush, StepPushPlain, StepPo
 use Rattle.gc_graph.specs.CycleSteps.{is_marking, is_sweeping, is_stack_refused, StepGcStart, StepGcStep, StepGcFinish, StepGcNow, HasSwept, StepSweepTo}
 use Rattle.gc_graph.specs.RegionSteps.{line_of_content, StepExport}
 use Rattle.gc_graph.specs.Step.{Step}
-use Rattle.gc_graph.specs.RefusalsExactLaw.{IsOutOfPhase, SpeaksOf, PeeksNumber, IsStopped, LacksWord, HasReason, RefusedForTheFirstReason}
+use Rattle.gc_graph.specs.RefusalsExactLaw.{RefusedForTheFirstReason}
+use Rattle.gc_graph.specs.Commands.{IsOutOfPhase, SpeaksOf, PeeksNumber, IsStopped, LacksWord, HasReason}
 use Rattle.gc_graph.proofs.StepCases.{match_option}
 use Rattle.gc_graph.proofs.ValidCases.{bool_is}
 use Rattle.gc_graph.proofs.Verdicts.{either_way, other_line, after_lines, Verdict, exactly, first_of_all, done}

@@ -21,7 +21,8 @@ use Rattle.gc_graph.specs.ObjectSteps.{first_word, with_node, with_new, part_of,
 use Rattle.gc_graph.specs.CycleSteps.{IsPause, is_marking, is_sweeping, is_stack_refused, StepGcStart, StepGcFinish, StepGcNow, StepSweepTo}
 use Rattle.gc_graph.specs.RegionSteps.{StepExport, StepImport, StepThreadsJoin}
 use Rattle.gc_graph.specs.Step.{Step}
-use Rattle.gc_graph.specs.FrameLaw.{WritesSlot, WritesWeakSlot, WritesStack, WritesRegistrations, WritesWord, MovesCycle, IsSameCycle, LeavesRest, StepsLeaveRest, FieldsTakeTurns}
+use Rattle.gc_graph.specs.FrameLaw.{IsSameCycle, LeavesRest, StepsLeaveRest, FieldsTakeTurns}
+use Rattle.gc_graph.specs.Commands.{WritesSlot, WritesWeakSlot, WritesStack, WritesRegistrations, WritesWord, MovesCycle}
 use Rattle.gc_graph.proofs.StepCases.{match_option, match_bool}
 use Rattle.gc_graph.proofs.Shapes.{word_at, word_at_is}
 use Rattle.gc_graph.proofs.FieldWrites.{with_pair, with_values}

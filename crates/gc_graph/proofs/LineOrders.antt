@@ -13,12 +13,13 @@ use Rattle.gc_graph.specs.Outcomes.{IsRefused, finalise_lines}
 use Rattle.gc_graph.specs.Pause.{prefinalise_lines}
 use Rattle.gc_graph.specs.CycleSteps.{is_marking, is_stack_refused, StepGcStart, StepGcFinish}
 use Rattle.gc_graph.specs.Step.{Step}
-use Rattle.gc_graph.specs.LineOrderLaw.{tells_finalised, may_sweep, may_tell_more, AreFinalisedFirst, FinalisedAreToldFirst}
+use Rattle.gc_graph.specs.LineOrderLaw.{tells_finalised, AreFinalisedFirst, FinalisedAreToldFirst}
+use Rattle.gc_graph.specs.Commands.{may_sweep, may_tell_more, Family, family_of}
+use Rattle.gc_graph.specs.LineKinds.{tells_that_nothing_was_done, tells_of_orders}
 use Rattle.gc_graph.proofs.StepCases.{match_bool}
 use Rattle.gc_graph.specs.declared.line.Refusal.TheVariants as R
-use Rattle.gc_graph.specs.AnswersLaw.{tells_that_nothing_was_done}
-use Rattle.gc_graph.specs.Families.{Family, family_of, tells_of_orders, answers, AreFinalised, TellsAfter, IsAnsweredOnce}
-use Rattle.gc_graph.specs.Families.Family.{Objects, Cycle, Sweeps, Threads}
+use Rattle.gc_graph.specs.Families.{answers, AreFinalised, TellsAfter, IsAnsweredOnce}
+use Rattle.gc_graph.specs.Commands.Family.{Objects, Cycle, Sweeps, Threads}
 use Rattle.gc_graph.specs.FamilyLines.{tells_one, all_told}
 use Rattle.gc_graph.proofs.FamilyFrames.{steps_stay_in_their_family}
 use Rattle.gc_graph.proofs.FamilyRests.{none_after}

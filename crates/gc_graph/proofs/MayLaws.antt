@@ -18,7 +18,8 @@ use Rattle.gc_graph.specs.Step.{Step}
 use Rattle.gc_graph.specs.Valid.{IsValid}
 use Rattle.gc_graph.specs.ValidLaw.{StepKeepsValid}
 use Rattle.gc_graph.specs.Lawful.{Outcome, Run, last_state, IsAllowed}
-use Rattle.gc_graph.specs.MayLaw.{HasStarted, StartsHaveStarted, CollectionsHaveStarted, own_reads, entry_reads, run_reads, MayIsBounded, PauseBoundsMeet}
+use Rattle.gc_graph.specs.MayLaw.{HasStarted, StartsHaveStarted, CollectionsHaveStarted, entry_reads, run_reads, MayIsBounded, PauseBoundsMeet}
+use Rattle.gc_graph.specs.Commands.{own_reads}
 use Rattle.gc_graph.proofs.StepCases.{match_bool}
 use Rattle.gc_graph.proofs.Sound.{IsSound, sound_from, valid_from, kinds_at}
 use Rattle.gc_graph.proofs.Since.{own_since}

@@ -20,7 +20,8 @@ use Rattle.gc_graph.specs.Outcomes.{answered, IsRefused, IsMemory, took, slot_at
 use Rattle.gc_graph.specs.ObjectSteps.{first_word, part_of, IsChanged, with_node, StepNew, IsRead}
 use Rattle.gc_graph.specs.CycleSteps.{is_marking, is_sweeping, is_stack_refused, StepGcStart, StepGcFinish, StepGcNow, StepSweepTo}
 use Rattle.gc_graph.specs.RegionSteps.{TakesOwn, StepExport, StepImport, StepThreadsJoin}
-use Rattle.gc_graph.specs.MayLaw.{HasStarted, own_reads, entry_reads, told}
+use Rattle.gc_graph.specs.MayLaw.{HasStarted, entry_reads}
+use Rattle.gc_graph.specs.Commands.{own_reads, told}
 use Rattle.gc_graph.proofs.StepCases.{match_option, match_bool}
 use Rattle.gc_graph.proofs.FieldWrites.{with_pair, one_written, pair_written, suits_reference, suits_plain}
 use Rattle.gc_graph.proofs.Follows.{Anything}

@@ -18,7 +18,8 @@ use Rattle.gc_graph.specs.CycleSteps.{WantsMemory, IsPause, is_marking, is_stack
 use Rattle.gc_graph.specs.RegionSteps.{IsExported, StepExport, StepImport}
 use Rattle.gc_graph.specs.Step.{Step}
 use Rattle.gc_graph.specs.JoinLaw.{AreThreads}
-use Rattle.gc_graph.specs.OwnEntryLaw.{IsOfThread, EndsWithOwn, EndsWithPause, may_take, StepsMakeOwnEntries}
+use Rattle.gc_graph.specs.OwnEntryLaw.{IsOfThread, EndsWithOwn, EndsWithPause, StepsMakeOwnEntries}
+use Rattle.gc_graph.specs.Commands.{may_take}
 use Rattle.gc_graph.proofs.StepCases.{match_bool}
 use Rattle.gc_graph.proofs.FamilyFrames.{swept_runs, start_runs}
 

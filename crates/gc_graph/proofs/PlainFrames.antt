@@ -14,11 +14,10 @@ use Rattle.gc_graph.specs.Fields.{kind_of_field, is_reference, is_pair}
 use Rattle.gc_graph.specs.Fields as P
 use Rattle.gc_graph.specs.Outcomes.{answered, IsRefused, with_slot}
 use Rattle.gc_graph.specs.ObjectSteps.{first_word, with_node}
-use Rattle.gc_graph.specs.FrameLaw.{WritesWeakSlot, WritesStack, WritesWord}
-use Rattle.gc_graph.specs.AnswersLaw.{tells_that_nothing_was_done}
-use Rattle.gc_graph.specs.MayLaw.{told}
-use Rattle.gc_graph.specs.Families.{Family, family_of, StaysElse, TakesPiece, answers, TellsBefore, TellsAfter, StaysInFamily}
-use Rattle.gc_graph.specs.Families.Family.{Objects, Fields, Pairs, Slots, Stack, Cycle, Sweeps, Region, Threads}
+use Rattle.gc_graph.specs.Commands.{WritesWeakSlot, WritesStack, WritesWord, told, Family, family_of}
+use Rattle.gc_graph.specs.LineKinds.{tells_that_nothing_was_done}
+use Rattle.gc_graph.specs.Families.{StaysElse, TakesPiece, answers, TellsBefore, TellsAfter, StaysInFamily}
+use Rattle.gc_graph.specs.Commands.Family.{Objects, Fields, Pairs, Slots, Stack, Cycle, Sweeps, Region, Threads}
 use Rattle.gc_graph.specs.FamilyLines.{is_plain}
 use Rattle.gc_graph.proofs.AccessLaws.{one_or_more}
 use Rattle.gc_graph.proofs.Effects.{Effect, line_of_effect, with_effect, told_by, WritesField, ReadsNode, Fits, IsInKind, ComesOut}

@@ -21,10 +21,8 @@ use Rattle.gc_graph.specs.Outcomes.{answered, IsRefused, slot_at, weak_slot_at}
 use Rattle.gc_graph.specs.ObjectSteps.{AtField, first_word, IsNumber, IsRead}
 use Rattle.gc_graph.specs.HandleSteps.{IsDone, pushed, IsPushed, IsPeeked}
 use Rattle.gc_graph.specs.Step.{Step}
-use Rattle.gc_graph.specs.Families.{family_of}
+use Rattle.gc_graph.specs.Commands.{family_of, WritesSlot, WritesStack, IsWordAt, WritesWord, own_reads, told, is_weak_field}
 use Rattle.gc_graph.specs.FamilyLines as F
-use Rattle.gc_graph.specs.FrameLaw.{WritesSlot, WritesStack, IsWordAt, WritesWord}
-use Rattle.gc_graph.specs.MayLaw.{own_reads, told, is_weak_field}
 use Rattle.gc_graph.proofs.Sound.{SlotNames, WordNames, slot_weaker, IsSound}
 use Rattle.gc_graph.proofs.ValidCases.{option_is, bool_is, IsFound, field_is}
 use Rattle.gc_graph.proofs.ValidHandles.{Root, slot_names, slot_root, slot_is_root, ValueLive, ValueRoot, content_live, IfWord, word_names}

@@ -17,7 +17,8 @@ use Rattle.gc_graph.specs.ObjectSteps.{StepNew}
 use Rattle.gc_graph.specs.CycleSteps.{is_marking, is_sweeping, is_stack_refused, StepGcStart, StepGcFinish, StepGcNow, StepSweepTo}
 use Rattle.gc_graph.specs.RegionSteps.{Answer, reply_line, line_of_content, StepExport, StepImport, StepThreadsJoin}
 use Rattle.gc_graph.specs.RegionSteps.Answer.{Replied, Told}
-use Rattle.gc_graph.specs.RefusalLaw.{RefusedLeavesAll, MemoryLeavesAll, MayWantMemory, IsLeftAlone, told_to_go}
+use Rattle.gc_graph.specs.RefusalLaw.{RefusedLeavesAll, MemoryLeavesAll, IsLeftAlone, told_to_go}
+use Rattle.gc_graph.specs.Commands.{MayWantMemory}
 use Rattle.gc_graph.specs.Step.{Step}
 use Rattle.gc_graph.proofs.StepCases.{match_option, match_bool}
 use Rattle.gc_graph.proofs.Effects.{Effect, line_of_effect, with_effect}

@@ -15,7 +15,7 @@ use Rattle.gc_graph.specs.State.{State, StackWord, Node, node_at}
 use Rattle.gc_graph.specs.Fields.{field_count, kind_of_field, is_reference, is_pair, is_plain}
 use Rattle.gc_graph.specs.Outcomes.{slot_at}
 use Rattle.gc_graph.specs.ObjectSteps.{AtField}
-use Rattle.gc_graph.specs.RefusalsExactLaw.{IsOutOfPhase, SpeaksOf, IsMissing, IsOfOtherKind, PeeksNumber, IsStopped, LacksWord, HasReason}
+use Rattle.gc_graph.specs.Commands.{IsOutOfPhase, SpeaksOf, IsMissing, IsOfOtherKind, PeeksNumber, IsStopped, LacksWord, HasReason}
 use Rattle.gc_graph.proofs.ValidCases.{bool_is}
 use Rattle.gc_graph.proofs.Verdicts.{either_way, Verdict, first_of_all, done}
 

@@ -19,8 +19,9 @@ use Rattle.gc_graph.specs.RegionSteps.{TakesOwn, StepExport, StepImport, StepThr
 use Rattle.gc_graph.specs.Step.{Step}
 use Rattle.gc_graph.proofs.ValidRegion.{took_own}
 use Rattle.gc_graph.proofs.StepCases.{match_option, match_bool}
-use Rattle.gc_graph.specs.Families.{Family, family_of, StaysInFamily}
-use Rattle.gc_graph.specs.Families.Family.{Objects, Fields, Pairs, Slots, Stack, Sweeps}
+use Rattle.gc_graph.specs.Families.{StaysInFamily}
+use Rattle.gc_graph.specs.Commands.{Family, family_of}
+use Rattle.gc_graph.specs.Commands.Family.{Objects, Fields, Pairs, Slots, Stack, Sweeps}
 use Rattle.gc_graph.specs.FamilyLines.{takes_none}
 use Rattle.gc_graph.proofs.FamilyFrames.{steps_stay_in_their_family}
 use Rattle.gc_graph.specs.HistoryLaw.{Follows, StepsFollow}

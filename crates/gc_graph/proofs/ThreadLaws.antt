@@ -15,8 +15,10 @@ use Rattle.gc_graph.specs.Step.{Step}
 use Rattle.gc_graph.specs.ThreadLaw.{is_of_threads, LeavesThreads, StepsLeaveThreads, StepsCount}
 use Rattle.gc_graph.specs.CountsLaw.{tells_pause, tells_full}
 use Rattle.gc_graph.specs.JoinLaw.{entries_in}
-use Rattle.gc_graph.specs.Families.{Family, family_of, tells_of_orders, IsAnsweredOnce}
-use Rattle.gc_graph.specs.Families.Family.{Threads}
+use Rattle.gc_graph.specs.Families.{IsAnsweredOnce}
+use Rattle.gc_graph.specs.Commands.{Family, family_of}
+use Rattle.gc_graph.specs.LineKinds.{tells_of_orders}
+use Rattle.gc_graph.specs.Commands.Family.{Threads}
 use Rattle.gc_graph.proofs.FamilyFrames.{steps_stay_in_their_family}
 use Rattle.gc_graph.proofs.FamilyRests.{LeavesQueues, leaves_queues, nothing_more, none_before, none_after, tells_no_entry}
 use Rattle.gc_graph.proofs.CountedLines.{one_more, none_counted, steps_count_lines}

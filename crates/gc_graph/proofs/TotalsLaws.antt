@@ -15,7 +15,7 @@ use Rattle.gc_graph.specs.State.{Setup, State, empty_state}
 use Rattle.gc_graph.specs.Step.{Step}
 use Rattle.gc_graph.specs.Lawful.{Outcome, Run, last_state, AreJoined, TotalsWerePublished, TotalsNeverFall}
 use Rattle.gc_graph.specs.TotalsLaw.{RunsCountCommands, tells_totals_to, commands_told, AreOfTheirTime, JoinsTellTheirTime}
-use Rattle.gc_graph.specs.Families.{family_of}
+use Rattle.gc_graph.specs.Commands.{family_of}
 use Rattle.gc_graph.proofs.FamilyFrames.{steps_stay_in_their_family}
 use Rattle.gc_graph.proofs.FamilyRests.{counted_one}
 

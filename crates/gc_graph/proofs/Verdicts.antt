@@ -9,7 +9,8 @@ use Rattle.gc_graph.specs.declared.line.Refusal.TheVariants as R
 use Rattle.gc_graph.specs.State.{State}
 use Rattle.gc_graph.specs.Members.{Contains-head, Contains-cons_cases}
 use Rattle.std.proofs.lemmas.List.Elements.{Contains-append_right}
-use Rattle.gc_graph.specs.RefusalsExactLaw.{HasReason, rank, IsFirstReason}
+use Rattle.gc_graph.specs.RefusalsExactLaw.{rank, IsFirstReason}
+use Rattle.gc_graph.specs.Commands.{HasReason}
 
 -- ---- cases, each with what was found
 

@@ -7,7 +7,7 @@ use Rattle.gc_graph.specs.declared.kind.Value.TheVariants.{Null, Ref, Word}
 use Rattle.gc_graph.specs.State.{Setup, Node, node_at}
 use Rattle.gc_graph.specs.Fields.{field_count, kind_of_field, word_of_field, value_at}
 use Rattle.gc_graph.specs.Actions.{acted}
-use Rattle.gc_graph.specs.FrameLaw.{IsWordOf}
+use Rattle.gc_graph.specs.Commands.{IsWordOf}
 use Rattle.gc_graph.specs.Valid.{IsTyped}
 
 -- the nodes have the places and the lives that they had

@@ -1,10 +1,8 @@
 -- The families of commands, and the frame of each: which parts of the state its commands may change, what they take of the
 -- region's history, and the shape of their lines.
-use Rattle.std.specs.Prelude.{◌≡◌, ◌⊎◌, ℕ, ◌+◌, ◌||◌, Bool, true, false, List, [], ◌∷◌, ◌++◌, All}
+use Rattle.std.specs.Prelude.{◌≡◌, ◌⊎◌, ℕ, ◌+◌, ◌||◌, Bool, true, List, [], ◌∷◌, ◌++◌, All}
 use Rattle.gc_graph.specs.declared.command.Command.{Command}
-use Rattle.gc_graph.specs.declared.command.Command.TheVariants as C
 use Rattle.gc_graph.specs.declared.line.Line.{Line}
-use Rattle.gc_graph.specs.declared.line.Line.TheVariants as L
 use Rattle.gc_graph.specs.declared.region.Entry.{Entry}
 use Rattle.gc_graph.specs.State.{Setup, State, Registration}
 use Rattle.gc_graph.specs.Pause.{prefinalise_lines}
@@ -12,53 +10,11 @@ use Rattle.gc_graph.specs.CycleSteps.{is_marking}
 use Rattle.gc_graph.specs.History.{replayed}
 use Rattle.gc_graph.specs.Outcomes.{finalise_lines, AreOthers}
 use Rattle.gc_graph.specs.CountsLaw.{tells_pause}
-use Rattle.gc_graph.specs.AnswersLaw.{tells_that_nothing_was_done, tells_node, tells_ok, tells_place, tells_word, tells_start, tells_step, tells_sweep, tells_objects, tells_queued, tells_going}
+use Rattle.gc_graph.specs.LineKinds.{tells_that_nothing_was_done, tells_node, tells_ok, tells_place, tells_word, tells_start, tells_step, tells_sweep, tells_objects, tells_queued, tells_going}
 use Rattle.gc_graph.specs.Step.{Step}
-
--- what commands have to do with
-pub data Family : Type 0 where
-  Objects : Family
-  Fields : Family
-  Pairs : Family
-  Slots : Family
-  Stack : Family
-  Cycle : Family
-  Sweeps : Family
-  Region : Family
-  Threads : Family
-
--- the family of each command
-abbrev pub family_of : Command → Family
-family_of (C.New p t e) = Objects
-family_of (C.Set p f q) = Fields
-family_of (C.SetNull p f) = Fields
-family_of (C.Get p f q) = Fields
-family_of (C.Put p f n) = Fields
-family_of (C.Word p f) = Fields
-family_of (C.Pair p f k v) = Pairs
-family_of (C.PairNull p f) = Pairs
-family_of (C.Key p f q) = Pairs
-family_of (C.Val p f q) = Pairs
-family_of (C.Copy p q) = Slots
-family_of (C.Drop p) = Slots
-family_of (C.Weak w p) = Slots
-family_of (C.Read w p) = Slots
-family_of (C.Push p o) = Stack
-family_of (C.PushPlain n) = Stack
-family_of C.Pop = Stack
-family_of (C.Peek i q) = Stack
-family_of C.GcStart = Cycle
-family_of (C.GcStep n) = Cycle
-family_of (C.GcFinish want) = Cycle
-family_of (C.GcNow want) = Cycle
-family_of (C.Sweep n) = Sweeps
-family_of C.SweepAll = Sweeps
-family_of C.Stat = Sweeps
-family_of (C.Export p x) = Region
-family_of (C.Import x p) = Region
-family_of (C.At j order) = Threads
-family_of C.ThreadsGo = Threads
-family_of C.ThreadsJoin = Threads
+use Rattle.gc_graph.specs.Commands.{Family, family_of}
+use Rattle.gc_graph.specs.Commands.Family.{Objects, Fields, Pairs, Slots, Stack, Cycle, Sweeps, Region, Threads}
+use Rattle.gc_graph.specs.LineKinds.{tells_of_orders, tells_joined}
 
 -- ---- the state
 
@@ -140,18 +96,6 @@ TakesPiece Region old piece = (piece ≡ []) ⊎ EndsWithOwners old piece
 TakesPiece Threads old piece = AreOthers old piece
 
 -- ---- the lines
-
--- an order's reply, or an entry of the history
-abbrev pub tells_of_orders : Line → Bool
-tells_of_orders (L.Reply j reply) = true
-tells_of_orders (L.ReplyTotals j o n u f) = true
-tells_of_orders (L.Entry entry) = true
-tells_of_orders other = false
-
--- how many were joined
-abbrev pub tells_joined : Line → Bool
-tells_joined (L.Joined m) = true
-tells_joined other = false
 
 -- the line by which a command of the family is answered, where something was done
 abbrev pub answers : Family → Line → Bool

@@ -5,8 +5,9 @@ use Rattle.gc_graph.specs.declared.line.Line.{Line}
 use Rattle.gc_graph.specs.declared.region.Entry.{Entry}
 use Rattle.gc_graph.specs.State.{Setup, State}
 use Rattle.gc_graph.specs.Step.{Step}
-use Rattle.gc_graph.specs.Families.{Family, family_of, TakesPiece, IsAnsweredOnce, StepsStayInTheirFamily}
-use Rattle.gc_graph.specs.Families.Family.{Objects, Fields, Pairs, Slots, Stack, Cycle, Sweeps, Region, Threads}
+use Rattle.gc_graph.specs.Families.{TakesPiece, IsAnsweredOnce, StepsStayInTheirFamily}
+use Rattle.gc_graph.specs.Commands.{Family, family_of}
+use Rattle.gc_graph.specs.Commands.Family.{Objects, Fields, Pairs, Slots, Stack, Cycle, Sweeps, Region, Threads}
 
 -- commands on fields, pairs, slots and the stack
 abbrev pub is_plain : Family → Bool

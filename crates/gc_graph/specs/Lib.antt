@@ -29,6 +29,8 @@ pub mod Valid
 pub mod ReadBack
 pub mod ValidLaw
 pub mod AccessLaw
+pub mod LineKinds
+pub mod Commands
 pub mod Families
 pub mod FrameLaw
 pub mod ActionLaw

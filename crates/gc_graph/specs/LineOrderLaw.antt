@@ -1,33 +1,17 @@
 -- The law of the order of a command's lines: first the nodes that were finalised, then one answer, but for pauses and joins.
 use Rattle.std.specs.Prelude.{◌≡◌, ℕ, Bool, true, false, List, [], ◌++◌, length, map, All}
 use Rattle.gc_graph.specs.declared.command.Command.{Command}
-use Rattle.gc_graph.specs.declared.command.Command.TheVariants as C
 use Rattle.gc_graph.specs.declared.line.Line.{Line}
 use Rattle.gc_graph.specs.declared.line.Line.TheVariants as L
 use Rattle.gc_graph.specs.declared.region.Entry.{Entry}
 use Rattle.gc_graph.specs.State.{Setup, State}
 use Rattle.gc_graph.specs.Step.{Step}
+use Rattle.gc_graph.specs.Commands.{may_sweep, may_tell_more}
 
 -- the line tells that a node was finalised
 abbrev pub tells_finalised : Line → Bool
 tells_finalised (L.Finalise n) = true
 tells_finalised other = false
-
--- the command may sweep: it makes an object, begins a collection, or goes on with a sweep
-abbrev pub may_sweep : Command → Bool
-may_sweep (C.New p t e) = true
-may_sweep C.GcStart = true
-may_sweep (C.GcNow want) = true
-may_sweep (C.Sweep n) = true
-may_sweep C.SweepAll = true
-may_sweep other = false
-
--- the command may answer with more than one line: a pause, with its prefinalizers, and a join
-abbrev pub may_tell_more : Command → Bool
-may_tell_more (C.GcFinish want) = true
-may_tell_more (C.GcNow want) = true
-may_tell_more C.ThreadsJoin = true
-may_tell_more other = false
 
 -- the nodes that were finalised come first, where the command may sweep, and no others come later; one more line answers the
 -- command, or more of them where it may tell more

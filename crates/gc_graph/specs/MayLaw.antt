@@ -1,26 +1,25 @@
 -- The laws of what may be kept.
-use Rattle.std.specs.Prelude.{◌≡◌, ◌⊎◌, ℕ, ◌<◌, ◌≤◌, nat_lt, Bool, false, List, [], ◌∷◌, ◌++◌, length, filter, Option, Some, None, if◌then◌else◌, All}
+use Rattle.std.specs.Prelude.{◌≡◌, ◌⊎◌, ℕ, ◌<◌, ◌≤◌, nat_lt, Bool, List, [], ◌∷◌, ◌++◌, length, filter, All}
 use Rattle.std.specs.Option.{option_to_list}
 use Rattle.gc_graph.specs.declared.command.Command.{Command}
 use Rattle.gc_graph.specs.declared.command.Command.TheVariants as C
 use Rattle.gc_graph.specs.declared.command.Want.{Want}
 use Rattle.gc_graph.specs.declared.line.Line.{Line}
-use Rattle.gc_graph.specs.declared.line.Line.TheVariants as L
 use Rattle.gc_graph.specs.declared.line.Refusal.TheVariants as R
 use Rattle.gc_graph.specs.declared.phase.Phase.TheVariants.{Marking}
 use Rattle.gc_graph.specs.declared.region.Entry.{Entry}
 use Rattle.gc_graph.specs.Graph.{IsIn, IsWithin}
 use Rattle.gc_graph.specs.Reach.{Reach}
-use Rattle.gc_graph.specs.State.{Setup, State, RegionSlot, node_at, graph_of, roots_of}
-use Rattle.gc_graph.specs.Fields.{kind_of_field, is_weak}
+use Rattle.gc_graph.specs.State.{Setup, State, RegionSlot, graph_of, roots_of}
 use Rattle.gc_graph.specs.May.{hits_for}
 use Rattle.gc_graph.specs.History.{region_after, read_by}
 use Rattle.gc_graph.specs.Pause.{least_kept, most_kept}
-use Rattle.gc_graph.specs.Outcomes.{IsRefused, IsMemory, slot_at, took, AreOthers}
+use Rattle.gc_graph.specs.Outcomes.{IsRefused, IsMemory, took, AreOthers}
 use Rattle.gc_graph.specs.CycleSteps.{IsCollection}
 use Rattle.gc_graph.specs.Step.{Step}
 use Rattle.gc_graph.specs.Valid.{IsMay, IsValid}
 use Rattle.gc_graph.specs.Lawful.{Outcome, Run, last_state, IsAllowed}
+use Rattle.gc_graph.specs.Commands.{own_reads}
 
 -- what may be kept is closed, holds the roots and has live nodes alone; the least that a pause keeps lies within the most
 -- that it keeps; and where the stack hits nothing, the most is just what may be kept
@@ -36,24 +35,6 @@ PauseBoundsMeet =
     → BoundsMeet (took s before) want
 
 -- ---- the nodes that were read weakly
-
--- the node that a read told
-abbrev pub told : List Line → List ℕ
-told (L.Node n ∷ []) = n ∷ []
-told lines = []
-
--- whether field f of the slot's object is weak
-abbrev pub is_weak_field : State → Option ℕ → ℕ → Bool
-is_weak_field s None f = false
-is_weak_field s (Some n) f = is_weak (kind_of_field (node_at s.nodes n).object f)
-
--- through a weak field, a pair or a weak slot
-abbrev pub own_reads : State → Command → List Line → List ℕ
-own_reads old (C.Get p f q) lines = if is_weak_field old (slot_at old p) f then told lines else []
-own_reads old (C.Key p f q) lines = told lines
-own_reads old (C.Val p f q) lines = told lines
-own_reads old (C.Read w p) lines = told lines
-own_reads old command lines = []
 
 -- through a weak slot of the region
 abbrev pub entry_reads : List RegionSlot → List Entry → List ℕ

@@ -1,5 +1,5 @@
 -- The law of the owner's entries: which command makes which of them, and that it comes after those of threads.
-use Rattle.std.specs.Prelude.{◌≡◌, ◌≢◌, ℕ, Bool, true, false, List, [], ◌∷◌, ◌++◌, Some, All, Contains}
+use Rattle.std.specs.Prelude.{◌≡◌, ◌≢◌, ℕ, Bool, false, List, [], ◌∷◌, ◌++◌, Some, All, Contains}
 use Rattle.gc_graph.specs.declared.command.Command.{Command}
 use Rattle.gc_graph.specs.declared.command.Command.TheVariants as C
 use Rattle.gc_graph.specs.declared.command.Want.{Want}
@@ -12,6 +12,7 @@ use Rattle.gc_graph.specs.State.{Setup, State}
 use Rattle.gc_graph.specs.Outcomes.{slot_at}
 use Rattle.gc_graph.specs.Step.{Step}
 use Rattle.gc_graph.specs.JoinLaw.{AreThreads}
+use Rattle.gc_graph.specs.Commands.{may_take}
 
 -- the entry is of a thread, and not of the owner
 abbrev pub IsOfThread : Entry → Type 0
@@ -29,16 +30,6 @@ pub record EndsWithOwn (op : Op) (entries : List Entry) : Type 0 where
 -- the entries end with a pause of the owner
 abbrev pub EndsWithPause : List Entry → Type 0
 EndsWithPause entries = (cleared : ℕ) × EndsWithOwn (O.Pause cleared) entries
-
--- the command may take entries of the history
-abbrev pub may_take : Command → Bool
-may_take C.GcStart = true
-may_take (C.GcFinish want) = true
-may_take (C.GcNow want) = true
-may_take (C.Export p x) = true
-may_take (C.Import x p) = true
-may_take C.ThreadsJoin = true
-may_take other = false
 
 -- an export that is done ends with its entry, and so do an import, a start and a pause; a whole collection makes those of a
 -- start and then of a pause; a join takes entries of threads alone, and the other commands take none

@@ -1,32 +1,22 @@
 -- The laws of refusals, of want of memory and of a full heap: what they leave as it was.
-use Rattle.std.specs.Prelude.{◌≡◌, ◌≢◌, ℕ, ◌+◌, true, List, [], ◌∷◌, ◌++◌, Contains, ⊤}
+use Rattle.std.specs.Prelude.{◌≡◌, ℕ, ◌+◌, true, List, [], ◌∷◌, ◌++◌, Contains}
 use Rattle.gc_graph.specs.declared.command.Command.{Command}
 use Rattle.gc_graph.specs.declared.command.Command.TheVariants as C
 use Rattle.gc_graph.specs.declared.line.Line.{Line}
 use Rattle.gc_graph.specs.declared.line.Line.TheVariants as L
 use Rattle.gc_graph.specs.declared.line.Refusal.{Refusal}
 use Rattle.gc_graph.specs.declared.region.Entry.{Entry}
-use Rattle.gc_graph.specs.State.{Setup, State, type_at}
+use Rattle.gc_graph.specs.State.{Setup, State}
 use Rattle.gc_graph.specs.Outcomes.{answered, finalise_lines}
 use Rattle.gc_graph.specs.Sweep.{SweepsToEnd}
 use Rattle.gc_graph.specs.Step.{Step}
+use Rattle.gc_graph.specs.Commands.{MayWantMemory}
 
 -- a refused command takes nothing of the history, and changes nothing but the count of commands
 abbrev pub RefusedLeavesAll : Type 0
 RefusedLeavesAll =
     (setup : Setup) (old new : State) (command : Command) (piece : List Entry) (lines : List Line) (why : Refusal)
     → Step setup old command piece lines new → lines ≡ L.Refused why ∷ [] → (piece ≡ []) × (new ≡ answered old)
-
--- the commands that may want memory
-abbrev pub MayWantMemory : Setup → Command → Type 0
-MayWantMemory setup (C.New p t e) = (type_at setup t).prefinalizers ≢ []
-MayWantMemory setup C.GcStart = ⊤
-MayWantMemory setup (C.GcNow want) = ⊤
-MayWantMemory setup (C.Export p x) = ⊤
-MayWantMemory setup (C.Import x p) = ⊤
-MayWantMemory setup (C.At j order) = ⊤
-MayWantMemory setup C.ThreadsGo = ⊤
-MayWantMemory setup command = ⊥
 
 -- after `threads go` the threads are awaited, though none was started
 abbrev pub told_to_go : Command → State → State
